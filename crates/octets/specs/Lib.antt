@@ -1,0 +1,5 @@
+pub mod Pick
+pub mod Octets
+pub mod Examples
+pub mod OctetsLaws
+pub mod PutLaws
