@@ -1,0 +1,10 @@
+pub mod Number
+pub mod Encoding
+pub mod Floats
+pub mod FloatLaws
+pub mod Unique
+pub mod Rounding
+pub mod Counts
+pub mod Readings
+pub mod NumberLaws
+pub mod EncodingLaws
