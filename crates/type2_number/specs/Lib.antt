@@ -8,3 +8,4 @@ pub mod Counts
 pub mod Readings
 pub mod NumberLaws
 pub mod EncodingLaws
+pub mod NumberRound

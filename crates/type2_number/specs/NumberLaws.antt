@@ -14,10 +14,10 @@ use borrow.Author.Tests.{lt-ltb, le-ltb, eq-eqb, ne-eqb}
 use Rattle.type2_number.specs.Number.{Read, cut, operator, number, taken, numberAt, whole, fixed, sixteen, rounded}
 
 module _ (s : List ℕ) (at : ℕ) where
-  short : (n : ℕ) (z : lib.IntN.ℤ) → length s - at < n → taken s at n z ≡ cut
+  pub short : (n : ℕ) (z : lib.IntN.ℤ) → length s - at < n → taken s at n z ≡ cut
   short n z h = simp (lt-ltb (length s - at) n h)
 
-  long : (n : ℕ) (z : lib.IntN.ℤ) → n ≤ length s - at → taken s at n z ≡ number (rounded z) (at + n)
+  pub long : (n : ℕ) (z : lib.IntN.ℤ) → n ≤ length s - at → taken s at n z ≡ number (rounded z) (at + n)
   long n z h = simp (le-ltb (length s - at) n h)
 
   pub form-28 : getD s at 0 ≡ 28 → numberAt s at ≡ taken s at 3 (sixteen (getD s (at + 1) 0 * 256 + getD s (at + 2) 0))
