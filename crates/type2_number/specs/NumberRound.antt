@@ -143,6 +143,7 @@ integer-up i h r = go (decLe i 107) (decLe i 1131)
   where
     z : ℤ
     z = pos (i * 65536)
+
     go : Dec (i ≤ 107) → Dec (i ≤ 1131) → Reads z (integerBytes false i)
     go (yes p) q = subst (Reads z) (one-pos false i refl p) (reads-one (139 + i) z (omega arith) (omega arith) (diff-up ((139 + i) * 65536) (139 * 65536) (i * 65536) (omega arith)) r)
     go (no p) (yes q) =
@@ -156,6 +157,7 @@ integer-down i o h r = go (decLe i 107) (decLe i 1131)
   where
     z : ℤ
     z = negℤ (pos (i * 65536))
+
     go : Dec (i ≤ 107) → Dec (i ≤ 1131) → Reads z (integerBytes true i)
     go (yes p) q = subst (Reads z) (one-neg true i refl p) (reads-one (139 - i) z (omega arith) (omega arith) (diff-down ((139 - i) * 65536) (139 * 65536) (i * 65536) (omega arith) (omega arith)) r)
     go (no p) (yes q) =
@@ -178,6 +180,7 @@ above n h r = go (decLt 0 (n % 65536)) (decLt n 2147483648)
   where
     z : ℤ
     z = pos n
+
     go : Dec (0 < n % 65536) → Dec (n < 2147483648) → Reads z (encoded z)
     go (yes p) q =
         subst (Reads z) (fixed-pos false n refl (omega arith) ∙ encoded-fraction z false n refl refl (λ e. omega arith))
@@ -197,6 +200,7 @@ below n o h z f t m r = go (decLt 0 (n % 65536)) (decLt n 2147483648)
   where
     minus : Reads z (255 ∷ bytesOf 4 (4294967296 - n))
     minus = reads-ff (4294967296 - n) z z (omega arith) (fixed-high (4294967296 - n) n o h (omega arith) ∙ sym f) r
+
     go : Dec (0 < n % 65536) → Dec (n < 2147483648) → Reads z (encoded z)
     go (yes p) q = subst (Reads z) (fixed-neg true n refl ∙ encoded-fraction z true n t m (λ e. omega arith)) minus
     go (no p) (yes q) =

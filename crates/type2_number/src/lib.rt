@@ -9,7 +9,6 @@ ghost use Rattle.octets.specs.Octets.{bytesOf, Wrote};
 ghost use Rattle.type2_number.specs.Number.{isNeg, mag, whole, fixed, sixteen, rounded, numberAt};
 ghost use Rattle.type2_number.specs.Encoding.{integerBytes, fixedBytes, encoded};
 ghost use Rattle.type2_number.specs.Floats.{floatOf, scaledOf, HoldsReading, numberOf};
-
 use octets::wide;
 
 // The f32 of the integer up - down.

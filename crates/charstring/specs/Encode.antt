@@ -1,0 +1,16 @@
+-- Tokens written back (the Rust's `encode`): numbers in the form of `encoded`, everything else as it was read.
+use Prim.Native.Nat.{ℕ}
+use mathlib.Core.List.{List, [], _∷_, _++_}
+use Rattle.type2_number.specs.Encoding.{encoded}
+use Rattle.charstring.specs.Token.{Tok, num, op, esc, mask, Body, bad, tokens}
+
+-- the bytes of a token
+abbrev pub tokBytes : Tok → List ℕ
+tokBytes (num z) = encoded z
+tokBytes (op b) = b ∷ []
+tokBytes (esc b) = 12 ∷ b ∷ []
+tokBytes (mask bs) = bs
+
+unfoldable pub encode : List Tok → List ℕ
+encode [] = []
+encode (t ∷ ts) = tokBytes t ++ encode ts

@@ -1,0 +1,5 @@
+pub mod Bias
+pub mod Token
+pub mod Encode
+pub mod Answers
+pub mod TokenLaws
