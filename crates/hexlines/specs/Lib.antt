@@ -1,0 +1,4 @@
+pub mod Hexlines
+pub mod Examples
+pub mod HexlinesLaws
+pub mod HexlinesRound

@@ -1,0 +1,51 @@
+//! Prints answers of the original Rust, one case a line, for the replay programs of crates/.
+//! The sources under docs/src are compiled here as they are.
+
+mod cases;
+mod charstring_cases;
+mod generator;
+mod stubs;
+
+// `rustfmt::skip` keeps cargo fmt out of docs/src.
+#[rustfmt::skip]
+#[allow(dead_code)]
+#[path = "../../../docs/src/crates/efterscript-fonts/src/cff/mod.rs"]
+mod cff;
+#[rustfmt::skip]
+#[allow(dead_code)]
+#[path = "../../../docs/src/crates/efterscript-fonts/src/encoding.rs"]
+mod encoding;
+#[rustfmt::skip]
+#[allow(dead_code)]
+#[path = "../../../docs/src/crates/efterscript-fonts/src/outline.rs"]
+mod outline;
+#[rustfmt::skip]
+#[allow(dead_code)]
+#[path = "../../../docs/src/crates/efterscript-fonts/src/program.rs"]
+mod program;
+
+use cases::Cases;
+use generator::Generator;
+use std::process::ExitCode;
+use stubs::{cidfont, truetype, type1};
+
+fn main() -> ExitCode {
+    let mut words = std::env::args().skip(1);
+    let part = words.next().unwrap_or_default();
+    let seed = words.next().unwrap_or_else(|| "1".to_string());
+    let Ok(seed) = seed.parse() else {
+        eprintln!("the seed is a decimal number, not {seed}");
+        return ExitCode::FAILURE;
+    };
+    let mut cases = Cases::new();
+    let mut random = Generator::new(seed);
+    match part.as_str() {
+        "charstring" => charstring_cases::all(&mut cases, &mut random),
+        _ => {
+            eprintln!("usage: tools/oracle/run charstring [SEED]");
+            return ExitCode::FAILURE;
+        }
+    }
+    cases.print();
+    ExitCode::SUCCESS
+}
