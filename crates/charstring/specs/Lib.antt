@@ -3,3 +3,4 @@ pub mod Token
 pub mod Encode
 pub mod Answers
 pub mod TokenLaws
+pub mod TokensLaws

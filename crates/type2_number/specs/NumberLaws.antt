@@ -10,7 +10,8 @@ use Rattle.type2_number.specs.Floats.{numberOf}
 use Rattle.type2_number.specs.declared.Number.the-variants.{Num, Cut, Operator}
 use lib.ListN.{length, getD}
 use lib.Dec.{ltb, eqb}
-use borrow.Author.Tests.{lt-ltb, le-ltb, eq-eqb, ne-eqb}
+use borrow.Author.Tests.{lt-ltb, le-ltb, eq-eqb, ne-eqb, ltb-false}
+use Rattle.octets.specs.Pick.{pick, pick-ind}
 use Rattle.type2_number.specs.Number.{Read, cut, operator, number, taken, numberAt, whole, fixed, sixteen, rounded}
 
 module _ (s : List ℕ) (at : ℕ) where
@@ -80,3 +81,27 @@ module _ (s : List ℕ) (at : ℕ) where
       → (r : Float) → r ≡ floatOf (rounded (fixed a b)) → Num r (at + 5) ≡ numberOf (numberAt s at)
   got-ff v a b e h k f g r q =
       rw (form-ff (omega arith), long 5 (fixed (getD s (at + 1) 0 * 256 + getD s (at + 2) 0) (getD s (at + 3) 0 * 256 + getD s (at + 4) 0)) k, q, f, g)
+
+-- ---- a number ends further on, and within the body
+
+abbrev pub Further : List ℕ → ℕ → Read → Type 0
+Further s at cut = Unit
+Further s at operator = Unit
+Further s at (number z n) = (at < n) × (n ≤ length s)
+
+taken-further : (s : List ℕ) (at k : ℕ) (z : lib.IntN.ℤ) → at < length s → 0 < k → Further s at (taken s at k z)
+taken-further s at k z h p =
+    pick-ind (Further s at) (ltb (length s - at) k) cut (number (rounded z) (at + k)) (λ e. tt)
+    (λ e. let l = ltb-false (length s - at) k e in omega arith)
+
+pub further : (s : List ℕ) (at : ℕ) → at < length s → Further s at (numberAt s at)
+unfolding numberAt
+further s at h =
+    pick-ind (Further s at) (ltb (getD s at 0) 32) _ _
+    (λ e. pick-ind (Further s at) (eqb (getD s at 0) 28) _ operator (λ e. taken-further s at 3 (sixteen (getD s (at + 1) 0 * 256 + getD s (at + 2) 0)) h (omega arith)) (λ e. tt))
+    (λ e. pick-ind (Further s at) (ltb (getD s at 0) 247) (number (rounded (whole (getD s at 0) 139)) (at + 1)) _ (λ e. omega arith)
+    (λ e. pick-ind (Further s at) (ltb (getD s at 0) 255) _ _
+    (λ e. pick-ind (Further s at) (ltb (getD s at 0) 251) _ _
+    (λ e. taken-further s at 2 (whole ((getD s at 0 - 247) * 256 + getD s (at + 1) 0 + 108) 0) h (omega arith))
+    (λ e. taken-further s at 2 (whole 0 ((getD s at 0 - 251) * 256 + getD s (at + 1) 0 + 108)) h (omega arith)))
+    (λ e. taken-further s at 5 (fixed (getD s (at + 1) 0 * 256 + getD s (at + 2) 0) (getD s (at + 3) 0 * 256 + getD s (at + 4) 0)) h (omega arith))))
