@@ -1,16 +1,25 @@
 -- The code's answers for what the definitions say: its tokens hold an f32 and the place of a mask, theirs a reading and its bytes.
-use Prim.Native.Nat.{ℕ, _+_, _≤_, _<_}
+use Prim.Native.Nat.{ℕ, _+_, _-_, _≤_, _<_}
 use mathlib.Core.Path.{_≡_}
 use mathlib.Core.Bool.{Bool, true, false}
 use mathlib.Core.List.{List}
 use lib.ListN.{length, take, drop}
+use lib.Dec.{leb}
+use Rattle.octets.specs.Pick.{pick}
+use Rattle.octets.specs.Octets.{put}
 use Rattle.type2_number.specs.Encoding.{encoded}
 use Rattle.type2_number.specs.Floats.{floatOf, scaledOf, HoldsReading}
-use Rattle.charstring.specs.Token.{Tok, num, op, esc, mask, Lexeme, lost, gotNum, gotOp, gotEsc, gotMask, Body, bad, tokens}
+use Rattle.charstring.specs.Token.{Tok, num, op, esc, mask, Lexeme, lost, gotNum, gotOp, gotEsc, gotMask, Body, bad, tokens, lookup}
 use Rattle.charstring.specs.Encode.{tokBytes, encode}
 use Rattle.charstring.specs.declared.Token.{Token}
 use Rattle.charstring.specs.declared.Token.the-variants.{Num, Op, Esc, Mask}
 use Rattle.charstring.specs.declared.Cursor.{Cursor}
+use Rattle.charstring.specs.declared.MaskLen.{MaskLen}
+use Rattle.charstring.specs.declared.MaskLen.the-variants.{Own}
+use Rattle.charstring.specs.declared.Measured.{Measured}
+use Rattle.charstring.specs.declared.Measured.the-variants.{Unread, Length}
+use Rattle.charstring.specs.declared.Recoded.{Recoded}
+use Rattle.charstring.specs.declared.Recoded.the-variants.{Cut, Full, Done}
 use Rattle.charstring.specs.declared.Step.{Step}
 use Rattle.charstring.specs.declared.Step.the-variants.{Tok as TokAt, Lost}
 
@@ -59,3 +68,25 @@ pub record Within (s : List ℕ) (c : Cursor) : Type 0 where
   pub inside : c .at ≤ length s
   pub counted : c .stems + c .args ≤ c .at
   pub behind : c .due ≡ true → 0 < c .at
+
+-- the length that is passed on for the token at a cursor: only a mask that is due asks for one
+abbrev pub givenAt : (ℕ → MaskLen) → Cursor → MaskLen
+givenAt given c = pick (c .due) (given (c .at - 1)) Own
+
+-- how long a body is once it is written back
+abbrev pub measuredOf : Body → Measured
+measuredOf bad = Unread
+measuredOf (tokens ts) = Length (length (encode ts))
+
+-- what writing a body back from a place of old on answers, and what it leaves
+abbrev pub recodedOf : List ℕ → ℕ → Body → Recoded
+recodedOf old to bad = Cut
+recodedOf old to (tokens ts) = pick (leb (to + length (encode ts)) (length old)) (Done (to + length (encode ts))) Full
+
+abbrev pub recodedIn : List ℕ → ℕ → Body → List ℕ
+recodedIn old to bad = old
+recodedIn old to (tokens ts) = pick (leb (to + length (encode ts)) (length old)) (put old to (encode ts)) old
+
+pub record Recodes (old : List ℕ) (to : ℕ) (body : Body) (new : List ℕ) (r : Recoded) : Type 0 where
+  pub answer : r ≡ recodedOf old to body
+  pub leaves : new ≡ recodedIn old to body

@@ -1,5 +1,6 @@
 -- Tokens written back (the Rust's `encode`): numbers in the form of `encoded`, everything else as it was read.
 use Prim.Native.Nat.{ℕ}
+use mathlib.Core.Bool.{Bool, true, false}
 use mathlib.Core.List.{List, [], _∷_, _++_}
 use Rattle.type2_number.specs.Encoding.{encoded}
 use Rattle.charstring.specs.Token.{Tok, num, op, esc, mask, Body, bad, tokens}
@@ -14,3 +15,13 @@ tokBytes (mask bs) = bs
 unfoldable pub encode : List Tok → List ℕ
 encode [] = []
 encode (t ∷ ts) = tokBytes t ++ encode ts
+
+-- whether a body was read to its end
+abbrev pub isWhole : Body → Bool
+isWhole bad = false
+isWhole (tokens ts) = true
+
+-- a body written back
+abbrev pub bodyBytes : Body → List ℕ
+bodyBytes bad = []
+bodyBytes (tokens ts) = encode ts

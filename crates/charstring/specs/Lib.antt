@@ -4,3 +4,4 @@ pub mod Encode
 pub mod Answers
 pub mod TokenLaws
 pub mod TokensLaws
+pub mod EncodeLaws

@@ -70,12 +70,14 @@ module _ (s : List ℕ) (c : Cursor) (w : Within s c) where
       pick-ind (Fine s c) (ltb (length s - c .at) n) lost _ (λ f. tt)
       (λ f. let l = ltb-false (length s - c .at) n f in
       let one : bit (c .due) ≡ 1 = ap bit e in
-      let p = w .behind e in
-      (omega (arith, w .inside), record {
-        within = record { inside = omega (arith, w .inside); counted = omega (arith, w .counted); behind = λ x. absurd (false≢true x) };
-        shorter = omega (arith, w .inside);
-        grows = omega arith;
-      }))
+      let p = w .behind e in (
+        omega (arith, w .inside),
+        record {
+          within = record { inside = omega (arith, w .inside); counted = omega (arith, w .counted); behind = λ x. absurd (false≢true x) };
+          shorter = omega (arith, w .inside);
+          grows = omega arith;
+        },
+      ))
 
   module _ (h : c .at < length s) (e : c .due ≡ false) where
     nothing-due : bit (c .due) ≡ 0
@@ -103,12 +105,14 @@ module _ (s : List ℕ) (c : Cursor) (w : Within s c) where
     fine-plain cut f r = tt
     fine-plain operator f r = fine-op (getD s (c .at) 0)
     fine-plain (number z n) f r =
-        let o = nothing-due in
-        (r, record {
-          within = record { inside = f .1; counted = omega (arith, w .counted, f .0); behind = λ x. absurd (false≢true x) };
-          shorter = omega (arith, f .0, f .1);
-          grows = omega (arith, f .0);
-        })
+        let o = nothing-due in (
+          r,
+          record {
+            within = record { inside = f .1; counted = omega (arith, w .counted, f .0); behind = λ x. absurd (false≢true x) };
+            shorter = omega (arith, f .0, f .1);
+            grows = omega (arith, f .0);
+          },
+        )
 
   fine-due : (b : Octets s) (len : MaskLen) (t : Bool) → c .due ≡ t → more s c ≡ true → Fine s c (tokenAt s len c)
   unfolding tokenAt

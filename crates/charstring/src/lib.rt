@@ -7,8 +7,9 @@ ghost use Prim.Native.Nat.{_+_, _≤_, _<_};
 ghost use lib.ListN.{length, getD};
 ghost use Rattle.octets.specs.Octets.{Wrote};
 ghost use Rattle.charstring.specs.Bias.{biasOf};
-ghost use Rattle.charstring.specs.Token.{isMask, isStem, stemsAfter, maskLen, maskAt, operatorAt, more, tokenAt, start};
-ghost use Rattle.charstring.specs.Answers.{stepOf, tokenBytes, tokenLen, Measurable, Writable, Within};
+ghost use Rattle.charstring.specs.Token.{isMask, isStem, stemsAfter, maskLen, maskAt, operatorAt, more, tokenAt, tokensOf, lookup, start};
+ghost use Rattle.charstring.specs.Encode.{isWhole, bodyBytes};
+ghost use Rattle.charstring.specs.Answers.{stepOf, tokenBytes, tokenLen, Measurable, Writable, Within, givenAt, measuredOf, Recodes};
 use type2_number::Number;
 use type2_number::number_len;
 use type2_number::put_number;
@@ -252,4 +253,117 @@ fn put_escape(b: u8, out: &mut [u8], to: usize) -> usize
 {
     let p = octets::put_byte(out, to, 12);
     octets::put_byte(out, p, b)
+}
+
+// A number of a pair, widened.
+fn wide(x: u32) -> usize
+    ensures { λ r. ⌜ r ≡ x ⌝ }
+{
+    x as usize
+}
+
+// The length that a list of pairs, offset and length, gives for the mask operator at an offset: the first pair counts.
+pub fn lookup(pairs: &[u32], at: usize) -> MaskLen
+    ensures { λ r. ⌜ r ≡ lookup (now (pairs .entry)) at ⌝ }
+{
+    let n = pairs.len();
+    let mut i = 0;
+    while i + 1 < n {
+        let offset = wide(pairs[i]);
+        let len = wide(pairs[i + 1]);
+        if offset == at {
+            return MaskLen::Given(len);
+        }
+        i += 2;
+    }
+    MaskLen::Own
+}
+
+// The length to pass on for the token at a cursor.
+fn given_at(pairs: &[u32], c: Cursor) -> MaskLen
+    requires { ⌜ (c .due ≡ true → 0 < c .at) ⌝ }
+    ensures { λ r. ⌜ r ≡ givenAt (lookup (now (pairs .entry))) c ⌝ }
+{
+    let due = c.due;
+    let at = c.at;
+    if due {
+        return lookup(pairs, at - 1);
+    }
+    MaskLen::Own
+}
+
+// How long a body is once it is written back, or that the end cuts off a token.
+pub enum Measured {
+    Unread,
+    Length(usize),
+}
+
+pub fn measure(code: &[u8], pairs: &[u32]) -> Measured
+    requires { ⌜ length (now code) ≤ 67108864 ⌝ }
+    ensures { λ r. ⌜ r ≡ measuredOf (tokensOf (lookup (now (pairs .entry))) (now (code .entry))) ⌝ }
+{
+    let mut c = start();
+    let mut len: usize = 0;
+    while more(code, c) {
+        let given = given_at(pairs, c);
+        match next_token(code, c, given) {
+            Step::Tok { token, next } => {
+                len += token_len(token);
+                c = next;
+            }
+            Step::Lost => {
+                return Measured::Unread;
+            }
+        }
+    }
+    Measured::Length(len)
+}
+
+// The tokens of a body that can be read to its end, written from `to` on; the place after them.
+fn put_body(code: &[u8], pairs: &[u32], out: &mut [u8], to: usize) -> usize
+    requires { ⌜ (isWhole (tokensOf (lookup (now pairs)) (now code)) ≡ true)
+        × (to + length (bodyBytes (tokensOf (lookup (now pairs)) (now code))) ≤ length (now out)) ⌝ }
+    ensures { λ r. ⌜ Wrote (now (out .entry)) to (bodyBytes (tokensOf (lookup (now (pairs .entry))) (now (code .entry)))) (now (out .exit)) r ⌝ }
+{
+    let mut c = start();
+    let mut p = to;
+    while more(code, c) {
+        let given = given_at(pairs, c);
+        match next_token(code, c, given) {
+            Step::Tok { token, next } => {
+                p = put_token(code, token, &mut *out, p);
+                c = next;
+            }
+            Step::Lost => {
+                return p;
+            }
+        }
+    }
+    p
+}
+
+// What writing a body back comes to: a token that the end cuts off, no room, or the place after it.
+pub enum Recoded {
+    Cut,
+    Full,
+    Done(usize),
+}
+
+// A whole body through its tokens and back: measured first, then written; where that fails the output is as it was.
+pub fn recode(code: &[u8], pairs: &[u32], out: &mut [u8], to: usize) -> Recoded
+    requires { ⌜ length (now code) ≤ 67108864 ⌝ }
+    ensures { λ r. ⌜ Recodes (now (out .entry)) to (tokensOf (lookup (now (pairs .entry))) (now (code .entry))) (now (out .exit)) r ⌝ }
+{
+    match measure(code, pairs) {
+        Measured::Unread => Recoded::Cut,
+        Measured::Length(n) => {
+            if out.len() < to {
+                return Recoded::Full;
+            }
+            if out.len() - to < n {
+                return Recoded::Full;
+            }
+            Recoded::Done(put_body(code, pairs, out, to))
+        }
+    }
 }
