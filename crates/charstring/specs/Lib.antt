@@ -5,3 +5,5 @@ pub mod Answers
 pub mod TokenLaws
 pub mod TokensLaws
 pub mod EncodeLaws
+pub mod Proper
+pub mod TokensRound

@@ -10,7 +10,7 @@ use Rattle.type2_number.specs.Floats.{numberOf}
 use Rattle.type2_number.specs.declared.Number.the-variants.{Num, Cut, Operator}
 use lib.ListN.{length, getD}
 use lib.Dec.{ltb, eqb}
-use borrow.Author.Tests.{lt-ltb, le-ltb, eq-eqb, ne-eqb, ltb-false}
+use borrow.Author.Tests.{lt-ltb, le-ltb, eq-eqb, ne-eqb, ltb-true, ltb-false, eqb-false}
 use Rattle.octets.specs.Pick.{pick, pick-ind}
 use Rattle.type2_number.specs.Number.{Read, cut, operator, number, taken, numberAt, whole, fixed, sixteen, rounded}
 
@@ -105,3 +105,46 @@ further s at h =
     (λ e. taken-further s at 2 (whole ((getD s at 0 - 247) * 256 + getD s (at + 1) 0 + 108) 0) h (omega arith))
     (λ e. taken-further s at 2 (whole 0 ((getD s at 0 - 251) * 256 + getD s (at + 1) 0 + 108)) h (omega arith)))
     (λ e. taken-further s at 5 (fixed (getD s (at + 1) 0 * 256 + getD s (at + 2) 0) (getD s (at + 3) 0 * 256 + getD s (at + 4) 0)) h (omega arith))))
+
+-- ---- a byte that begins no number is below 32 and is not 28
+
+pub record OperatorByte (v : ℕ) : Type 0 where
+  pub low : v < 32
+  pub other : v ≡ 28 → ⊥
+
+-- what follows if there is an operator
+IfOperator : ℕ → Read → Type 0
+IfOperator v q = q ≡ operator → OperatorByte v
+
+cut-not : (v : ℕ) → IfOperator v cut
+unfolding IfOperator
+cut-not v e = absurd (let z : _≡_ {A = ℕ} 0 1 = cc in (let y : ⊥ = omega arith in y))
+
+number-not : (v : ℕ) (z : lib.IntN.ℤ) (n : ℕ) → IfOperator v (number z n)
+unfolding IfOperator
+number-not v z n e = absurd (let z : _≡_ {A = ℕ} 0 1 = cc in (let y : ⊥ = omega arith in y))
+
+taken-not : (v : ℕ) (s : List ℕ) (at k : ℕ) (z : lib.IntN.ℤ) → IfOperator v (taken s at k z)
+taken-not v s at k z = pick-ind (IfOperator v) (ltb (length s - at) k) cut (number (rounded z) (at + k)) (λ e. cut-not v) (λ e. number-not v (rounded z) (at + k))
+
+is-operator : (v : ℕ) → v < 32 → (v ≡ 28 → ⊥) → IfOperator v operator
+unfolding IfOperator
+is-operator v h k e = record { low = h; other = k }
+
+if-operator : (s : List ℕ) (at : ℕ) → IfOperator (getD s at 0) (numberAt s at)
+unfolding numberAt
+if-operator s at =
+    let v = getD s at 0 in
+    pick-ind (IfOperator v) (ltb v 32) _ _
+    (λ e. pick-ind (IfOperator v) (eqb v 28) _ operator (λ f. taken-not v s at 3 (sixteen (getD s (at + 1) 0 * 256 + getD s (at + 2) 0)))
+    (λ f. is-operator v (ltb-true v 32 e) (eqb-false v 28 f)))
+    (λ e. pick-ind (IfOperator v) (ltb v 247) (number (rounded (whole v 139)) (at + 1)) _ (λ f. number-not v (rounded (whole v 139)) (at + 1))
+    (λ f. pick-ind (IfOperator v) (ltb v 255) _ _
+    (λ g. pick-ind (IfOperator v) (ltb v 251) _ _
+    (λ h. taken-not v s at 2 (whole ((v - 247) * 256 + getD s (at + 1) 0 + 108) 0))
+    (λ h. taken-not v s at 2 (whole 0 ((v - 251) * 256 + getD s (at + 1) 0 + 108))))
+    (λ g. taken-not v s at 5 (fixed (getD s (at + 1) 0 * 256 + getD s (at + 2) 0) (getD s (at + 3) 0 * 256 + getD s (at + 4) 0)))))
+
+pub operator-byte : (s : List ℕ) (at : ℕ) → numberAt s at ≡ operator → OperatorByte (getD s at 0)
+unfolding IfOperator
+operator-byte s at e = if-operator s at e
