@@ -5,5 +5,6 @@ pub mod TableTest
 pub mod Examples
 pub mod TextLaws
 pub mod TableLaws
+pub mod NamesLaws
 pub mod StringsLaws
 pub mod SearchLaws

@@ -1,11 +1,10 @@
 -- Why halving the names in byte order finds the id of a text: what each comparison leaves out, and what is left at the end.
 use Prim.Native.Nat.{ℕ, _+_, _≤_, _<_}
-use mathlib.Core.Path.{_≡_, refl, sym, ap, _∙_, subst}
+use mathlib.Core.Path.{_≡_, refl, sym, _∙_, subst}
 use mathlib.Core.Bool.{Bool, true, false}
 use mathlib.Core.List.{List}
 use mathlib.Core.Logic.{⊎-elim}
 use native.Mathlib.Nat.{eq-or-lt-of-le, not-suc-le-zero}
-use native.Mathlib.Numerals.{add-one}
 use native.Mathlib.Omega.{arith}
 use borrow.Author.Count.{below-more}
 use borrow.Author.Tests.{ltb-true, ltb-false}
@@ -15,8 +14,9 @@ use Rattle.strings.specs.Table.{standardOrder}
 use Rattle.strings.specs.Text.{orderOf}
 use Rattle.strings.specs.TextLaws.{order-refl, order-same, order-trans, order-flip}
 use Rattle.strings.specs.Strings.{standardString, sidOf}
-use Rattle.strings.specs.TableLaws.{order-length, inOrder, order-within, order-rises, rankOf, rank-within, rank-name}
-use Rattle.strings.specs.StringsLaws.{sid-standard, sid-none}
+use Rattle.strings.specs.TableLaws.{order-length}
+use Rattle.strings.specs.NamesLaws.{inOrder, order-within, order-rises, rankOf, rank-within, rank-name}
+use Rattle.strings.specs.StringsLaws.{sid-is, sid-none}
 use Rattle.strings.specs.declared.Order.{Order}
 use Rattle.strings.specs.declared.Order.the-variants.{Less, Same, More}
 use Rattle.strings.specs.declared.Sid.the-variants.{Standard, Other}
@@ -65,7 +65,7 @@ module _ (order : List ℕ) (e : order ≡ standardOrder) (i : ℕ) (h : i < 391
   -- a name that is neither less nor more is the text
   pub searched-same : (text : List ℕ) → orderOf (inOrder i) text ≡ Same → Standard (getD order i 0) ≡ sidOf text
   unfolding inOrder
-  searched-same text f = rw e (sym (ap sidOf (sym (order-same (inOrder i) text f)) ∙ sid-standard (getD standardOrder i 0) (order-within i h)))
+  searched-same text f = rw e (sym (sid-is text (getD standardOrder i 0) (order-within i h) (order-same (inOrder i) text f)))
 
 -- no name is the text where none is left
 left-out : (text : List ℕ) (low high : ℕ) → Narrowed text low high → high ≤ low → (i : ℕ) → i < 391 → inOrder i ≡ text → (t : Bool) → ltb i low ≡ t → ⊥

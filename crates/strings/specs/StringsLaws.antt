@@ -1,18 +1,17 @@
 -- Laws of string ids: which text an id names, and that the id of a text is the one standard id that names it, or none does.
 use Prim.Native.Nat.{ℕ, zero, suc, _+_, _-_, _≤_, _<_}
-use mathlib.Core.Path.{_≡_, refl, sym, ap, _∙_}
-use mathlib.Core.Bool.{Bool, true, false}
+use mathlib.Core.Path.{_≡_, refl, ap, _∙_}
 use mathlib.Core.List.{List, [], _∷_}
 use native.Mathlib.Nat.{le-of-suc-le-suc, not-suc-le-zero}
 use native.Mathlib.Omega.{arith}
 use borrow.Author.Tests.{lt-ltb, le-ltb}
-use lib.Dec.{ltb}
 use lib.ListN.{length, getD, List·getD-eq-default}
-use Rattle.octets.specs.Pick.{pick, pick-ind}
+use Rattle.octets.specs.Pick.{pick-ind}
 use Rattle.strings.specs.Text.{sameText}
 use Rattle.strings.specs.TextLaws.{same-true, same-false}
 use Rattle.strings.specs.Strings.{standardStrings, standardString, stringText, sidIn, sidOf}
-use Rattle.strings.specs.TableLaws.{strings-length, names-differ}
+use Rattle.strings.specs.TableLaws.{strings-length}
+use Rattle.strings.specs.NamesLaws.{names-differ}
 use Rattle.strings.specs.declared.Sid.{Sid}
 use Rattle.strings.specs.declared.Sid.the-variants.{Standard, Other}
 
@@ -89,6 +88,9 @@ none-as text f Other e = refl
 
 pub sid-standard : (k : ℕ) → k < 391 → sidOf (standardString k) ≡ Standard k
 sid-standard k h = found-as k h (sidOf (standardString k)) refl
+
+pub sid-is : (text : List ℕ) (k : ℕ) → k < 391 → standardString k ≡ text → sidOf text ≡ Standard k
+sid-is text k h e = rw e at (sid-standard k h)
 
 pub sid-none : (text : List ℕ) → ((k : ℕ) → k < 391 → standardString k ≡ text → ⊥) → sidOf text ≡ Other
 sid-none text f = none-as text f (sidOf text) refl

@@ -1,7 +1,7 @@
 -- Laws of texts: the test of equality holds exactly of equal texts, byte order is a strict order, and what each says from a place
 -- on, one byte after the other.
-use Prim.Native.Nat.{ℕ, suc, _+_, _≤_, _<_}
-use mathlib.Core.Path.{_≡_, refl, sym, ap, _∙_, subst}
+use Prim.Native.Nat.{ℕ, _+_, _≤_, _<_}
+use mathlib.Core.Path.{_≡_, refl, sym, ap, _∙_}
 use mathlib.Core.Bool.{Bool, true, false}
 use mathlib.Core.List.{List, [], _∷_}
 use mathlib.Core.Logic.{_⊎_, inl, inr, ⊎-elim}
@@ -13,7 +13,6 @@ use lib.ListN.{length, drop, getD, drop-of-length-le}
 use lib.Seq.{drop-cons}
 use Rattle.octets.specs.Pick.{pick, pick-ind}
 use Rattle.strings.specs.Text.{sameText, orderOf}
-use Rattle.strings.specs.declared.Order.{Order}
 use Rattle.strings.specs.declared.Order.the-variants.{Less, Same, More}
 
 -- ---- equality

@@ -8,7 +8,7 @@ ghost use Rattle.strings.specs.Table.{standardOffsets, standardOrder};
 ghost use Rattle.strings.specs.Text.{sameText, orderOf};
 ghost use Rattle.strings.specs.Strings.{standardText, standardString, sidOf};
 
-mod table;
+pub mod table;
 
 // How a text stands to another in byte order.
 pub enum Order {
@@ -31,7 +31,7 @@ pub fn same_text(a: &[u8], b: &[u8]) -> bool
     if n != b.len() {
         return false;
     }
-    let mut i = 0;
+    let mut i: usize = 0;
     while i < n {
         if a[i] != b[i] {
             return false;
@@ -66,9 +66,9 @@ pub fn order_of(a: &[u8], b: &[u8]) -> Order
     Order::Same
 }
 
-// The name of a standard id, a part of the text of all names. A part of a constant cannot be returned, so the caller lends the
-// tables.
-fn name_at<'a>(names: &'a [u8], offsets: &[u16], k: usize) -> &'a [u8]
+// The standard string of an id: a part of the text of all names. A function cannot return a part of a constant, which lives only
+// until the function returns, so the caller lends its copies of the two tables.
+pub fn standard_string<'a>(names: &'a [u8], offsets: &[u16], k: usize) -> &'a [u8]
     requires { ⌜ (now names ≡ standardText) × (now offsets ≡ standardOffsets) × (k < 391) ⌝ }
     ensures { λ r. ⌜ now r ≡ standardString k ⌝ }
 {
@@ -77,7 +77,7 @@ fn name_at<'a>(names: &'a [u8], offsets: &[u16], k: usize) -> &'a [u8]
     &names[start..end]
 }
 
-// The length of the name of a standard id.
+// The length of the standard string of an id, by the offsets that the caller lends.
 fn len_at(offsets: &[u16], k: usize) -> usize
     requires { ⌜ (now offsets ≡ standardOffsets) × (k < 391) ⌝ }
     ensures { λ r. ⌜ r ≡ length (standardString k) ⌝ }
@@ -87,7 +87,7 @@ fn len_at(offsets: &[u16], k: usize) -> usize
     end - start
 }
 
-// The length of the name of a standard id.
+// The length of the standard string of an id.
 pub fn standard_len(k: usize) -> usize
     requires { ⌜ k < 391 ⌝ }
     ensures { λ r. ⌜ r ≡ length (standardString k) ⌝ }
@@ -96,27 +96,27 @@ pub fn standard_len(k: usize) -> usize
     len_at(&offsets, k)
 }
 
-// Whether a text is the name of a standard id.
+// Whether a text is the standard string of an id.
 pub fn is_standard(k: usize, text: &[u8]) -> bool
     requires { ⌜ k < 391 ⌝ }
     ensures { λ r. ⌜ r ≡ sameText (standardString k) (now (text .entry)) ⌝ }
 {
     let names = table::STANDARD_TEXT;
     let offsets = table::STANDARD_OFFSETS;
-    same_text(name_at(&names, &offsets, k), text)
+    same_text(standard_string(&names, &offsets, k), text)
 }
 
-// Writes the name of a standard id at a place; returns the place after it.
+// Writes the standard string of an id at a place; returns the place after it.
 pub fn put_standard(out: &mut [u8], at: usize, k: usize) -> usize
     requires { ⌜ (k < 391) × (at + length (standardString k) ≤ length (now out)) ⌝ }
     ensures { λ r. ⌜ Wrote (now (out .entry)) at (standardString k) (now (out .exit)) r ⌝ }
 {
     let names = table::STANDARD_TEXT;
     let offsets = table::STANDARD_OFFSETS;
-    octets::put_bytes(out, at, name_at(&names, &offsets, k))
+    octets::put_bytes(out, at, standard_string(&names, &offsets, k))
 }
 
-// The id of a text, by halving the names in byte order.
+// The id of a text among the standard strings, by halving their byte order; the caller lends the three tables.
 fn search(names: &[u8], offsets: &[u16], order: &[u16], text: &[u8]) -> Sid
     requires { ⌜ (now names ≡ standardText) × (now offsets ≡ standardOffsets) × (now order ≡ standardOrder) ⌝ }
     ensures { λ r. ⌜ r ≡ sidOf (now (text .entry)) ⌝ }
@@ -126,7 +126,7 @@ fn search(names: &[u8], offsets: &[u16], order: &[u16], text: &[u8]) -> Sid
     while low < high {
         let middle = low + (high - low) / 2;
         let k = order[middle] as usize;
-        let found = order_of(name_at(names, offsets, k), text);
+        let found = order_of(standard_string(names, offsets, k), text);
         match found {
             Order::Same => return Sid::Standard(k),
             Order::Less => low = middle + 1,

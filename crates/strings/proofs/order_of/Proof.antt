@@ -1,16 +1,13 @@
 -- `strings::order_of` meets its contract. The invariant: from i on the texts stand to each other as the whole texts do.
-use Prim.Native.Nat.{ℕ, _≤_, _<_, _-_, _+_}
+use Prim.Native.Nat.{_≤_, _-_}
 use mathlib.Core.Path.{_≡_, refl, sym, _∙_}
 use native.Mathlib.Omega.{arith}
 use borrow.Author.Needs.{needs}
 use lib.ListN.{length, drop}
-use denote.Ref.{now}
 use Rattle.strings.specs.Text.{orderOf}
 use Rattle.strings.specs.TextLaws.{order-less, order-more, order-on, order-longer, order-shorter, order-ends}
 use Rattle.strings.proofs.order_of.Statement.{statement}
 use Rattle.strings.proofs.order_of.Tie as tie
-use Rattle.strings.proofs.order_of.Reads as reads
-use Rattle.strings.proofs.order_of.Lts as lts
 
 abbrev Inv-loop : tie.InvT-loop
 Inv-loop a b i₀ i = (i ≤ length a) × (orderOf (drop i a) (drop i b) ≡ orderOf a b)
@@ -18,53 +15,42 @@ Inv-loop a b i₀ i = (i ≤ length a) × (orderOf (drop i a) (drop i b) ≡ ord
 abbrev μ-loop : tie.MeasureT-loop
 μ-loop a b i₀ i = length a - i
 
--- src/lib.rt:46:5
 loop-holds : tie.Need-loop-holds Inv-loop μ-loop
 loop-holds c = (search needs, refl)
 
--- src/lib.rt:48:13
 returns : tie.Need-returns Inv-loop μ-loop
 returns c = sym (sym (c .before .before .loop .inv .1) ∙ order-longer _ _ (c .before .before .loop .i) (c .before .loop-test .taken) (c .if1 .taken))
 
--- src/lib.rt:50:17
 shared-slice-read-x : tie.Need-shared-slice-read-x Inv-loop μ-loop
 shared-slice-read-x c = search needs
 
--- src/lib.rt:51:17
 shared-slice-read-y : tie.Need-shared-slice-read-y Inv-loop μ-loop
 shared-slice-read-y c = search needs
 
--- src/lib.rt:53:13
 returns-2 : tie.Need-returns-2 Inv-loop μ-loop
 returns-2 c =
     let l = c .before .before .before .before .before .loop in
     sym (sym (l .inv .1) ∙ order-less _ _ (l .i) (omega arith) (omega arith) (c .if2 .taken))
 
--- src/lib.rt:56:13
 returns-3 : tie.Need-returns-3 Inv-loop μ-loop
 returns-3 c =
     let l = c .before .before .before .before .before .before .loop in
     sym (sym (l .inv .1) ∙ order-more _ _ (l .i) (omega arith) (omega arith) (c .if3 .taken))
 
--- src/lib.rt:58:9
 add-i : tie.Need-add-i Inv-loop μ-loop
 add-i c = search needs
 
--- src/lib.rt:46:5
 loop-less : tie.Need-loop-less Inv-loop μ-loop
 loop-less c = search needs
 
--- src/lib.rt:46:5
 loop-again : tie.Need-loop-again Inv-loop μ-loop
 loop-again c =
     let l = c .before .before .before .before .before .before .loop in
     (omega arith, order-on _ _ (l .i) (omega arith) (omega arith) (c .before .if2 .left) (c .if3 .left) ∙ l .inv .1)
 
--- src/lib.rt:61:9
 returns-4 : tie.Need-returns-4 Inv-loop μ-loop
 returns-4 c = sym (sym (c .before .before .loop .inv .1) ∙ order-shorter _ _ (c .before .before .loop .i) (c .before .loop-test .left) (c .if4 .taken))
 
--- src/lib.rt:42:1
 returns-5 : tie.Need-returns-5 Inv-loop μ-loop
 returns-5 c = sym (sym (c .before .before .loop .inv .1) ∙ order-ends _ _ (c .before .before .loop .i) (c .before .loop-test .left) (c .if4 .left))
 

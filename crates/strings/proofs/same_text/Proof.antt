@@ -1,16 +1,13 @@
 -- `strings::same_text` meets its contract. The invariant: from i on the texts are equal exactly where the whole texts are.
-use Prim.Native.Nat.{ℕ, _≤_, _<_, _-_, _+_}
+use Prim.Native.Nat.{_≤_, _-_}
 use mathlib.Core.Path.{_≡_, refl, sym, _∙_}
 use native.Mathlib.Omega.{arith}
 use borrow.Author.Needs.{needs}
 use lib.ListN.{length, drop}
-use denote.Ref.{now}
 use Rattle.strings.specs.Text.{sameText}
 use Rattle.strings.specs.TextLaws.{same-lengths, same-more, same-differs, same-ends}
 use Rattle.strings.proofs.same_text.Statement.{statement}
 use Rattle.strings.proofs.same_text.Tie as tie
-use Rattle.strings.proofs.same_text.Reads as reads
-use Rattle.strings.proofs.same_text.Lts as lts
 
 abbrev Inv-loop : tie.InvT-loop
 Inv-loop a b n i₀ i = (n ≡ length a) × (length a ≡ length b) × (i ≤ length a) × (sameText (drop i a) (drop i b) ≡ sameText a b)
@@ -18,43 +15,34 @@ Inv-loop a b n i₀ i = (n ≡ length a) × (length a ≡ length b) × (i ≤ le
 abbrev μ-loop : tie.MeasureT-loop
 μ-loop a b n i₀ i = length a - i
 
--- src/lib.rt:29:9
 returns : tie.Need-returns Inv-loop μ-loop
 returns c = sym (same-lengths _ _ (c .if1 .taken))
 
--- src/lib.rt:32:5
 loop-holds : tie.Need-loop-holds Inv-loop μ-loop
 loop-holds c = (refl, search needs, search needs, refl)
 
--- src/lib.rt:33:12
 shared-slice-read-if2 : tie.Need-shared-slice-read-if2 Inv-loop μ-loop
 shared-slice-read-if2 c = search needs
 
--- src/lib.rt:33:20
 shared-slice-read-if2-2 : tie.Need-shared-slice-read-if2-2 Inv-loop μ-loop
 shared-slice-read-if2-2 c = search needs
 
--- src/lib.rt:34:13
 returns-2 : tie.Need-returns-2 Inv-loop μ-loop
 returns-2 c =
     let l = c .before .before .before .before .loop in
     sym (sym (l .inv .3) ∙ same-differs _ _ (l .i) (omega arith) (omega arith) (c .if2 .taken))
 
--- src/lib.rt:36:9
 add-i : tie.Need-add-i Inv-loop μ-loop
 add-i c = search needs
 
--- src/lib.rt:32:5
 loop-less : tie.Need-loop-less Inv-loop μ-loop
 loop-less c = search needs
 
--- src/lib.rt:32:5
 loop-again : tie.Need-loop-again Inv-loop μ-loop
 loop-again c =
     let l = c .before .before .before .before .loop in
     (refl, l .inv .1, omega arith, same-more _ _ (l .i) (omega arith) (omega arith) (c .if2 .left) ∙ l .inv .3)
 
--- src/lib.rt:24:1
 returns-3 : tie.Need-returns-3 Inv-loop μ-loop
 returns-3 c = sym (sym (c .before .loop .inv .3) ∙ same-ends _ _ (c .before .loop .i) (omega arith) (omega arith))
 

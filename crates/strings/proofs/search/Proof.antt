@@ -1,20 +1,15 @@
 -- `strings::search` meets its contract. The invariant: the names before low are less than the text, and those from high on more.
 use Prim.Native.Nat.{ℕ, _≤_, _<_, _-_, _+_, _/_}
-use mathlib.Core.Path.{_≡_, refl, sym, ap, _∙_}
+use mathlib.Core.Path.{_≡_, _∙_}
 use native.Mathlib.Omega.{arith}
 use borrow.Author.Needs.{needs}
-use lib.ListN.{length, getD}
 use denote.Ref.{now}
 use Rattle.strings.specs.Table.{standardOrder}
 use Rattle.strings.specs.Text.{orderOf}
-use Rattle.strings.specs.TableLaws.{inOrder}
+use Rattle.strings.specs.NamesLaws.{inOrder}
 use Rattle.strings.specs.SearchLaws.{Narrowed, narrowed-not, narrowed-up, narrowed-down, listed, listed-below, compared, searched-same, searched-none}
 use Rattle.strings.proofs.search.Statement.{statement}
 use Rattle.strings.proofs.search.Tie as tie
-use Rattle.strings.proofs.search.Reads as reads
-use Rattle.strings.proofs.search.Lts as lts
-use Rattle.strings.proofs.name_at.Reads as name-at-reads
-use Rattle.strings.proofs.order_of.Reads as order-of-reads
 
 abbrev Inv-loop : tie.InvT-loop
 Inv-loop names offsets order text low₀ high₀ low high = (low ≤ high) × (high ≤ 391) × Narrowed text low high
@@ -39,85 +34,67 @@ said : (c : tie.After-order-of Inv-loop μ-loop)
     ≡ c .order-of .result
 said c =
     let d = c .before .before .before in
-    compared _ (order-is d) (middle d) (middle-within d) _ _ _ (c .before .name-at .ensures) (c .order-of .ensures)
+    compared _ (order-is d) (middle d) (middle-within d) _ _ _ (c .before .standard-string .ensures) (c .order-of .ensures)
 
--- src/lib.rt:118:5
 loop-holds : tie.Need-loop-holds Inv-loop μ-loop
 loop-holds c = (search needs, search needs, narrowed-not _)
 
--- src/lib.rt:119:29
 sub-middle : tie.Need-sub-middle Inv-loop μ-loop
 sub-middle c = search needs
 
--- src/lib.rt:119:22
 add-middle : tie.Need-add-middle Inv-loop μ-loop
 add-middle c = omega arith
 
--- src/lib.rt:120:17
 mul-k : tie.Need-mul-k Inv-loop μ-loop
 mul-k c = omega arith
 
--- src/lib.rt:120:17
 shared-slice-read-k : tie.Need-shared-slice-read-k Inv-loop μ-loop
 shared-slice-read-k c = listed _ (order-is (c .before)) (middle (c .before)) (middle-within (c .before))
 
--- src/lib.rt:120:17
 cast-k : tie.Need-cast-k Inv-loop μ-loop
 cast-k c = omega (arith, listed-below _ (order-is (c .before)) (middle (c .before)) (middle-within (c .before)))
 
--- src/lib.rt:121:30
-name-at-requires : tie.Need-name-at-requires Inv-loop μ-loop
-name-at-requires c κs =
+standard-string-requires : tie.Need-standard-string-requires Inv-loop μ-loop
+standard-string-requires c κs =
     let p = c .before .before .before .before .before .before .before .pre in
     (p .0, p .1, listed-below _ (order-is (c .before)) (middle (c .before)) (middle-within (c .before)))
 
--- src/lib.rt:121:13
 order-of-requires : tie.Need-order-of-requires Inv-loop μ-loop
 order-of-requires c κs = search needs
 
--- src/lib.rt:123:28
 enum-told : tie.Need-enum-told Inv-loop μ-loop
 enum-told c = search needs
 
--- src/lib.rt:123:28
 returns : tie.Need-returns Inv-loop μ-loop
 returns c =
     let d = c .before .before .before .before .before in
     searched-same _ (order-is d) (middle d) (middle-within d) _ (said (c .before .before) ∙ c .enum-told .given .1)
 
--- src/lib.rt:124:34
 enum-told-2 : tie.Need-enum-told-2 Inv-loop μ-loop
 enum-told-2 c = search needs
 
--- src/lib.rt:124:34
 add-low : tie.Need-add-low Inv-loop μ-loop
 add-low c = omega arith
 
--- src/lib.rt:118:5
 loop-less : tie.Need-loop-less Inv-loop μ-loop
 loop-less c = omega arith
 
--- src/lib.rt:118:5
 loop-again : tie.Need-loop-again Inv-loop μ-loop
 loop-again c =
     let d = c .before .before .before .before .before in
     (omega arith, omega arith, narrowed-up _ _ _ (middle d) (d .before .loop .inv .2) (middle-within d) (said (c .before .before) ∙ c .enum-told2 .given .1))
 
--- src/lib.rt:125:28
 enum-told-3 : tie.Need-enum-told-3 Inv-loop μ-loop
 enum-told-3 c = search needs
 
--- src/lib.rt:118:5
 loop-less-2 : tie.Need-loop-less-2 Inv-loop μ-loop
 loop-less-2 c = omega arith
 
--- src/lib.rt:118:5
 loop-again-2 : tie.Need-loop-again-2 Inv-loop μ-loop
 loop-again-2 c =
     let d = c .before .before .before .before .before in
     (omega arith, omega arith, narrowed-down _ _ _ (middle d) (d .before .loop .inv .2) (middle-within d) (said (c .before .before) ∙ c .enum-told3 .given .1))
 
--- src/lib.rt:112:1
 returns-2 : tie.Need-returns-2 Inv-loop μ-loop
 returns-2 c = searched-none _ (c .before .loop .low) (c .before .loop .high) (c .before .loop .inv .2) (c .loop-test .left)
 
@@ -133,7 +110,7 @@ search-spec =
     mul-k
     shared-slice-read-k
     cast-k
-    name-at-requires
+    standard-string-requires
     order-of-requires
     enum-told
     returns

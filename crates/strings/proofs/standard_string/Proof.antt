@@ -1,63 +1,50 @@
--- `strings::name_at` meets its contract: the table's law says that the part between the two offsets is the name.
+-- `strings::standard_string` meets its contract: the table's law says that the part between the two offsets is the name.
 use native.Mathlib.Omega.{arith}
 use denote.Ref.{now}
 use Rattle.strings.specs.TableLaws.{Named, named}
 use borrow.Author.Needs.{needs}
-use Rattle.strings.proofs.name_at.Statement.{statement}
-use Rattle.strings.proofs.name_at.Tie as tie
-use Rattle.strings.proofs.name_at.Reads as reads
-use Rattle.strings.proofs.name_at.Lts as lts
+use Rattle.strings.proofs.standard_string.Statement.{statement}
+use Rattle.strings.proofs.standard_string.Tie as tie
 
 -- the two offsets of the name
 of-name : (c : tie.Start) → Named (now (c .args .names)) (now (c .args .offsets)) (c .args .k)
 of-name c = named _ _ _ (c .pre .0) (c .pre .1) (c .pre .2)
 
--- src/lib.rt:75:17
 mul-start : tie.Need-mul-start
 mul-start c = search needs
 
--- src/lib.rt:75:17
 shared-slice-read-start : tie.Need-shared-slice-read-start
 shared-slice-read-start c = let n = of-name (c .before) in omega arith
 
--- src/lib.rt:75:17
 cast-start : tie.Need-cast-start
 cast-start c = let n = of-name (c .before) in omega arith
 
--- src/lib.rt:76:23
 add-end : tie.Need-add-end
 add-end c = search needs
 
--- src/lib.rt:76:15
 mul-end : tie.Need-mul-end
 mul-end c = search needs
 
--- src/lib.rt:76:15
 shared-slice-read-end : tie.Need-shared-slice-read-end
 shared-slice-read-end c = let n = of-name (c .before .before) in omega arith
 
--- src/lib.rt:76:15
 cast-end : tie.Need-cast-end
 cast-end c = let n = of-name (c .before .before) in omega arith
 
--- src/lib.rt:77:5
 sub-result : tie.Need-sub-result
 sub-result c = let n = of-name (c .before .before) in omega arith
 
--- src/lib.rt:77:5
 part-result-start : tie.Need-part-result-start
 part-result-start c = let n = of-name (c .before .before) in omega arith
 
--- src/lib.rt:77:5
 part-result-end : tie.Need-part-result-end
 part-result-end c = let n = of-name (c .before .before) in omega arith
 
--- src/lib.rt:71:1
 returns : tie.Need-returns
 returns c = of-name (c .before .before .before) .is
 
-pub name-at-spec : {M : Type 1} → statement M
-name-at-spec =
+pub standard-string-spec : {M : Type 1} → statement M
+standard-string-spec =
     tie.close
     (tie.spec
     mul-start
