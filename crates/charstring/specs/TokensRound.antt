@@ -111,3 +111,72 @@ module _ (given : ℕ → MaskLen) (b : List ℕ) where
       turned k c _ (ap (λ (x : Bool). pick x true (ltb (c .at) (length b))) e) (due c (length bs) e f ∙ q)
       ∙ ap (λ (x : List ℕ). join (mask x ∷ []) (tokensFrom k given b (record { at = c .at + length bs; args = 0; stems = c .stems; due = false }))) t
       ∙ ap (join (mask bs ∷ [])) (back k _ ts false refl p (g .1) (on c bs (encode ts) lies) (omega arith))
+
+-- every token but a mask has a byte, and a mask has its operator's
+few : (d : Bool) (ts : List Tok) → Proper d ts → length ts ≤ 2 * length (encode ts) + bit d
+unfolding encode
+few true [] p = absurd p
+few false [] p = omega arith
+few true (num z ∷ ts) p = absurd p
+few false (num z ∷ ts) p =
+    let s = number-short (isNeg z) (mag z) in
+    let h = few false ts (p .1) in
+    rw length-append (omega (arith, s .some))
+few true (op x ∷ ts) p = absurd p
+few false (op x ∷ ts) p = let h = few (isMask x) ts (p .1) in omega (arith, bit-small (isMask x))
+  where
+    bit-small : (t : Bool) → bit t ≤ 1
+    bit-small true = omega arith
+    bit-small false = omega arith
+few true (esc x ∷ ts) p = absurd p
+few false (esc x ∷ ts) p = let h = few false ts p in omega arith
+few false (mask bs ∷ ts) p = absurd p
+few true (mask bs ∷ ts) p = let h = few false ts p in rw length-append (omega arith)
+
+-- THE THEOREM: tokens that were written read as the same tokens, where each mask's length is given for its operator's new place
+pub tokens-back : (given : ℕ → MaskLen) (ts : List Tok) → Proper false ts → Gives given 0 ts → tokensOf given (encode ts) ≡ tokens ts
+unfolding tokensOf
+tokens-back given ts p g = let h = few false ts p in back given (encode ts) (2 * length (encode ts)) start ts false refl p g refl (omega arith)
+
+-- ---- the lengths of the list itself are such a lookup
+
+-- lookups that agree from the place of the first operator on
+gives-as : (f g : ℕ → MaskLen) (at : ℕ) (d : Bool) (ts : List Tok) → Proper d ts → ((o : ℕ) → at ≤ o + bit d → f o ≡ g o) → (d ≡ true → 0 < at) → Gives f at ts → Gives g at ts
+gives-as f g at true [] p e z h = absurd p
+gives-as f g at false [] p e z h = tt
+gives-as f g at true (num x ∷ ts) p e z h = absurd p
+gives-as f g at false (num x ∷ ts) p e z h = gives-as f g (at + length (tokBytes (num x))) false ts (p .1) (λ o l. e o (omega arith)) (λ q. absurd (false≢true q)) h
+gives-as f g at true (op x ∷ ts) p e z h = absurd p
+gives-as f g at false (op x ∷ ts) p e z h = gives-as f g (at + 1) (isMask x) ts (p .1) (λ o l. e o (within (isMask x) o l)) (λ q. omega arith) h
+  where
+    within : (t : Bool) (o : ℕ) → at + 1 ≤ o + bit t → at ≤ o + 0
+    within true o l = omega arith
+    within false o l = omega arith
+gives-as f g at true (esc x ∷ ts) p e z h = absurd p
+gives-as f g at false (esc x ∷ ts) p e z h = gives-as f g (at + 2) false ts p (λ o l. e o (omega arith)) (λ q. absurd (false≢true q)) h
+gives-as f g at false (mask bs ∷ ts) p e z h = absurd p
+gives-as f g at true (mask bs ∷ ts) p e z h =
+    let y = z refl in
+    (sym (e (at - 1) (omega arith)) ∙ h .0, gives-as f g (at + length bs) false ts p (λ o l. e o (omega arith)) (λ q. absurd (false≢true q)) (h .1))
+
+lengths-give : (at : ℕ) (d : Bool) (ts : List Tok) → Proper d ts → (d ≡ true → 0 < at) → Gives (lengthsOf at ts) at ts
+unfolding lengthsOf
+lengths-give at true [] p z = absurd p
+lengths-give at false [] p z = tt
+lengths-give at true (num x ∷ ts) p z = absurd p
+lengths-give at false (num x ∷ ts) p z = lengths-give (at + length (tokBytes (num x))) false ts (p .1) (λ q. absurd (false≢true q))
+lengths-give at true (op x ∷ ts) p z = absurd p
+lengths-give at false (op x ∷ ts) p z = lengths-give (at + 1) (isMask x) ts (p .1) (λ q. omega arith)
+lengths-give at true (esc x ∷ ts) p z = absurd p
+lengths-give at false (esc x ∷ ts) p z = lengths-give (at + 2) false ts p (λ q. absurd (false≢true q))
+lengths-give at false (mask bs ∷ ts) p z = absurd p
+lengths-give at true (mask bs ∷ ts) p z =
+    let y = z refl in
+    let here : at - 1 + 1 ≡ at = omega arith in
+    (rw (eq-eqb (at - 1 + 1) at here),
+      gives-as (lengthsOf (at + length bs) ts) (λ o. pick (eqb (o + 1) at) (Given (length bs)) (lengthsOf (at + length bs) ts o)) (at + length bs) false ts p
+      (λ o l. let n : o + 1 ≡ at → ⊥ = λ q. omega arith in rw (ne-eqb (o + 1) at n)) (λ q. absurd (false≢true q))
+      (lengths-give (at + length bs) false ts p (λ q. absurd (false≢true q))))
+
+pub lengths-back : (ts : List Tok) → Proper false ts → tokensOf (lengthsOf 0 ts) (encode ts) ≡ tokens ts
+lengths-back ts p = tokens-back (lengthsOf 0 ts) ts p (lengths-give 0 false ts p (λ q. absurd (false≢true q)))

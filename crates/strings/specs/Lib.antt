@@ -1,0 +1,10 @@
+pub mod Table
+pub mod Text
+pub mod Strings
+pub mod TableTest
+pub mod Examples
+pub mod TextLaws
+pub mod TableLaws
+pub mod NamesLaws
+pub mod StringsLaws
+pub mod SearchLaws
