@@ -7,3 +7,4 @@ pub mod TokensLaws
 pub mod EncodeLaws
 pub mod Proper
 pub mod TokensRound
+pub mod ProperLaws

@@ -49,7 +49,7 @@ pub record Next (s : List ℕ) (c : Cursor) (q : Lexeme) (t : Token) (d : Cursor
   pub goes : (rest : Cursor → Body) → onward s q rest ≡ join (told s t ∷ []) (rest d)
 
 -- what holds of a lexeme: its number is a reading, its mask lies in the body, and the cursor after it is further on
-Fine : List ℕ → Cursor → Lexeme → Type 0
+abbrev pub Fine : List ℕ → Cursor → Lexeme → Type 0
 Fine s c lost = Unit
 Fine s c (gotNum z d) = Reading z × Moves s c d 5
 Fine s c (gotOp b d) = Moves s c d 1
@@ -65,7 +65,6 @@ due-bit false = omega arith
 
 module _ (s : List ℕ) (c : Cursor) (w : Within s c) where
   fine-mask : (n : ℕ) → c .due ≡ true → Fine s c (maskAt s c n)
-  unfolding Fine
   fine-mask n e =
       pick-ind (Fine s c) (ltb (length s - c .at) n) lost _ (λ f. tt)
       (λ f. let l = ltb-false (length s - c .at) n f in
@@ -84,7 +83,6 @@ module _ (s : List ℕ) (c : Cursor) (w : Within s c) where
     nothing-due = ap bit e
 
     fine-op : (b : ℕ) → Fine s c (operatorAt s c b)
-    unfolding Fine
     fine-op b =
         let z = nothing-due in
         pick-ind (Fine s c) (eqb b 12) _ _
@@ -101,7 +99,6 @@ module _ (s : List ℕ) (c : Cursor) (w : Within s c) where
         })
 
     fine-plain : (q : Read) → Further s (c .at) q → ReadingRead q → Fine s c (plainAt s c q)
-    unfolding Fine
     fine-plain cut f r = tt
     fine-plain operator f r = fine-op (getD s (c .at) 0)
     fine-plain (number z n) f r =
@@ -124,7 +121,7 @@ module _ (s : List ℕ) (c : Cursor) (w : Within s c) where
       subst (λ (x : Bool). Fine s c (pick x (maskAt s c (maskLen len (c .stems))) (plainAt s c (numberAt s (c .at))))) (sym e)
       (fine-plain h e (numberAt s (c .at)) (further s (c .at) h) (reading-at s (c .at) b))
 
-  fine : Octets s → (len : MaskLen) → more s c ≡ true → Fine s c (tokenAt s len c)
+  pub fine : Octets s → (len : MaskLen) → more s c ≡ true → Fine s c (tokenAt s len c)
   fine b len m = fine-due b len (c .due) refl m
 
 -- the step's answer, taken apart
@@ -141,7 +138,6 @@ next-as : (s : List ℕ) (c : Cursor) (q : Lexeme) (t u : Token) (d e : Cursor) 
 next-as s c q t u d e f g n = subst (λ (x : Cursor). Next s c q u x) g (subst (λ (x : Token). Next s c q x d) f n)
 
 next-fine : (s : List ℕ) (c : Cursor) (q : Lexeme) → Fine s c q → (t : Token) (d : Cursor) → stepOf q ≡ TokAt t d → Next s c q t d
-unfolding Fine
 next-fine s c lost f t d e = absurd (no cc)
 next-fine s c (gotNum z x) f t d e = next-as s c (gotNum z x) (Num (floatOf z)) t x d (cc) (cc) (next-num s c x z (f .0) (f .1))
 next-fine s c (gotOp b x) f t d e = next-as s c (gotOp b x) (Op b) t x d (cc) (cc) (record { moves = f; writable = tt; goes = λ rest. refl })
@@ -174,7 +170,6 @@ join-none (tokens ts) = refl
 
 same-onward : (s : List ℕ) (c : Cursor) (q : Lexeme) → Fine s c q → (f g : Cursor → Body)
     → ((d : Cursor) → Within s d → fuelOf s d < fuelOf s c → f d ≡ g d) → onward s q f ≡ onward s q g
-unfolding Fine
 same-onward s c lost h f g e = refl
 same-onward s c (gotNum z d) h f g e = ap (join (num z ∷ [])) (e d (h .1 .within) (h .1 .shorter))
 same-onward s c (gotOp b d) h f g e = ap (join (op b ∷ [])) (e d (h .within) (h .shorter))
