@@ -1,6 +1,7 @@
 pub mod Bias
 pub mod Token
 pub mod Encode
+pub mod Examples
 pub mod Answers
 pub mod TokenLaws
 pub mod TokensLaws

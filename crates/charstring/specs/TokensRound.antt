@@ -172,11 +172,12 @@ lengths-give at false (esc x ∷ ts) p z = lengths-give (at + 2) false ts p (λ 
 lengths-give at false (mask bs ∷ ts) p z = absurd p
 lengths-give at true (mask bs ∷ ts) p z =
     let y = z refl in
-    let here : at - 1 + 1 ≡ at = omega arith in
-    (rw (eq-eqb (at - 1 + 1) at here),
+    let here : at - 1 + 1 ≡ at = omega arith in (
+      rw (eq-eqb (at - 1 + 1) at here),
       gives-as (lengthsOf (at + length bs) ts) (λ o. pick (eqb (o + 1) at) (Given (length bs)) (lengthsOf (at + length bs) ts o)) (at + length bs) false ts p
-      (λ o l. let n : o + 1 ≡ at → ⊥ = λ q. omega arith in rw (ne-eqb (o + 1) at n)) (λ q. absurd (false≢true q))
-      (lengths-give (at + length bs) false ts p (λ q. absurd (false≢true q))))
+          (λ o l. let n : o + 1 ≡ at → ⊥ = λ q. omega arith in rw (ne-eqb (o + 1) at n)) (λ q. absurd (false≢true q))
+          (lengths-give (at + length bs) false ts p (λ q. absurd (false≢true q))),
+    )
 
 pub lengths-back : (ts : List Tok) → Proper false ts → tokensOf (lengthsOf 0 ts) (encode ts) ≡ tokens ts
 lengths-back ts p = tokens-back (lengthsOf 0 ts) ts p (lengths-give 0 false ts p (λ q. absurd (false≢true q)))

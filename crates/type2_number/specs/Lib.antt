@@ -1,6 +1,7 @@
 pub mod Number
 pub mod Encoding
 pub mod Floats
+pub mod Examples
 pub mod FloatLaws
 pub mod Unique
 pub mod Rounding

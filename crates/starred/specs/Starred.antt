@@ -1,0 +1,35 @@
+-- The cases that document 01 marks with a star, each a theorem about the definitions. Bytes are hexadecimal, as there.
+use mathlib.Core.Path.{_≡_, refl}
+use mathlib.Core.List.{List, [], _∷_}
+use Prim.Native.Nat.{ℕ}
+use Rattle.octets.specs.Octets.{bytesOf}
+use Rattle.type2_number.specs.Number.{keep24, rounded, numberAt}
+use Rattle.type2_number.specs.Encoding.{integerBytes, fixedBytes, numberBytes}
+use Rattle.charstring.specs.Bias.{biasOf}
+use Rattle.charstring.specs.Token.{tokenAt, tokensFrom, tokensOf}
+use Rattle.charstring.specs.Encode.{encode, bodyBytes}
+use Rattle.charstring.specs.declared.MaskLen.the-variants.{Own}
+
+-- ---- 'Corners in charstring.rs'
+
+bias-1239 : biasOf 1239 ≡ 107
+bias-1239 = refl
+
+bias-1240 : biasOf 1240 ≡ 1131
+bias-1240 = refl
+
+-- a body through its tokens and back
+abbrev rewritten : List ℕ → List ℕ
+rewritten code = bodyBytes (tokensOf (λ o. Own) code)
+
+number-1c-80-00 : rewritten (0x1c ∷ 0x80 ∷ 0x00 ∷ []) ≡ 0xff ∷ 0x80 ∷ 0x00 ∷ 0x00 ∷ 0x00 ∷ []
+unfolding tokensOf tokensFrom tokenAt numberAt rounded keep24 encode numberBytes integerBytes fixedBytes bytesOf
+number-1c-80-00 = refl
+
+number-ff-00-05-00-00 : rewritten (0xff ∷ 0x00 ∷ 0x05 ∷ 0x00 ∷ 0x00 ∷ []) ≡ 0x90 ∷ []
+unfolding tokensOf tokensFrom tokenAt numberAt rounded keep24 encode numberBytes integerBytes fixedBytes bytesOf
+number-ff-00-05-00-00 = refl
+
+number-ff-01-00-00-01 : rewritten (0xff ∷ 0x01 ∷ 0x00 ∷ 0x00 ∷ 0x01 ∷ []) ≡ 0xf7 ∷ 0x94 ∷ []
+unfolding tokensOf tokensFrom tokenAt numberAt rounded keep24 encode numberBytes integerBytes fixedBytes bytesOf
+number-ff-01-00-00-01 = refl

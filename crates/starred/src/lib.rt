@@ -1,0 +1,1 @@
+// Document 01's starred cases: the theorems of specs/Starred.antt. No code.
