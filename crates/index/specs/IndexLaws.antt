@@ -29,9 +29,9 @@ places (suc m) size h = rw (suc-mul, sub-one) (omega arith)
 pub table-size : (count size : ℕ) → count < 65536 → size ≤ 4 → (count + 1) * size ≤ 262144
 table-size count size h k = mul-le-mul {n₁ = count + 1} {m₁ = size} {n₂ = 65536} {m₂ = 4} (omega arith) k
 
--- the place of offset k is within the table
-pub place-in : (k count size : ℕ) → k ≤ count → k * size + size ≤ (count + 1) * size
-place-in k count size h = omega (arith, mul-le-mul-right {m = k + 1} {n = count + 1} size (omega arith), add-mul k 1 size)
+-- place k of n is within them
+pub place-in : (k n size : ℕ) → k < n → k * size + size ≤ n * size
+place-in k n size h = omega (arith, mul-le-mul-right {m = k + 1} {n = n} size (omega arith), add-mul k 1 size)
 
 pub offsets-none : (size : ℕ) (bs : List ℕ) → offsets 0 size bs ≡ []
 unfolding offsets
@@ -191,7 +191,7 @@ items-length b ix = rw (pieces-length, offsets-length)
 
 -- offset k has its bytes
 pub offset-in : {n : ℕ} {ix : Index} → Lies n ix → (k : ℕ) → k ≤ ix .count → ix .table + k * ix .size + ix .size ≤ n
-offset-in {n} {ix} l k h = omega (arith, l, place-in k (ix .count) (ix .size) h)
+offset-in {n} {ix} l k h = omega (arith, l, place-in k (ix .count + 1) (ix .size) (omega arith))
 
 module _ (b : List ℕ) (ix : Index) (g : Good b ix) (k : ℕ) (h : k < ix .count) where
   start-at : getD (firstOf b (ix .table) (ix .size) ∷ endsOf b (ix .table) (ix .size) (ix .count)) k 0 ≡ offsetOf b ix k

@@ -142,3 +142,108 @@ pub fn item_len(font: &[u8], ix: Index, k: usize) -> usize
 {
     offset(font, ix, k + 1) - offset(font, ix, k)
 }
+
+// The smallest offset size that holds a number.
+pub fn offset_size(v: usize) -> usize
+    ensures { λ r. ⌜ r ≡ sizeFor v ⌝ }
+{
+    if v < 256 {
+        return 1;
+    }
+    if v < 65536 {
+        return 2;
+    }
+    if v < 16777216 {
+        return 3;
+    }
+    4
+}
+
+// How long an INDEX of count items is that have total bytes together.
+pub fn index_len(count: usize, total: usize) -> usize
+    requires { ⌜ (count < 65536) × (total < 4294967295) ⌝ }
+    ensures { λ r. ⌜ r ≡ indexLen count total ⌝ }
+{
+    if count == 0 {
+        return 2;
+    }
+    3 + ((count + 1) * offset_size(total + 1) + total)
+}
+
+// Where the parts of an INDEX go that is written at a place: what reading it back will find.
+pub fn index_for(at: usize, count: usize, total: usize) -> Index
+    requires { ⌜ (at < 4294967296) × (count < 65536) × (total < 4294967295) ⌝ }
+    ensures { λ r. ⌜ r ≡ indexFor at count total ⌝ }
+{
+    if count == 0 {
+        return Index {
+            count: 0,
+            size: 1,
+            table: at + 1,
+            base: at + 1,
+            end: at + 2,
+        };
+    }
+    let size = offset_size(total + 1);
+    let table = at + 3;
+    let past = table + (count + 1) * size;
+    Index {
+        count,
+        size,
+        table,
+        base: past - 1,
+        end: past + total,
+    }
+}
+
+// Writes an INDEX of no item.
+pub fn put_empty(out: &mut [u8], at: usize) -> usize
+    requires { ⌜ at + 2 ≤ length (now out) ⌝ }
+    ensures { λ r. ⌜ Wrote (now (out .entry)) at (indexBytes []) (now (out .exit)) r ⌝ }
+{
+    octets::put_num(out, at, 0, 2)
+}
+
+// Writes what stands before the ends of an INDEX: its count and, where there are items, the offset size and the first offset, 1.
+pub fn put_head(out: &mut [u8], at: usize, count: usize, total: usize) -> usize
+    requires { ⌜ (total < 4294967295) × (at + length (headBytes count (sizeFor (total + 1))) ≤ length (now out)) ⌝ }
+    ensures { λ r. ⌜ Wrote (now (out .entry)) at (headBytes count (sizeFor (total + 1))) (now (out .exit)) r ⌝ }
+{
+    if count == 0 {
+        return octets::put_num(out, at, 0, 2);
+    }
+    let size = offset_size(total + 1);
+    let p = octets::put_num(out, at, count, 2);
+    let q = octets::put_num(out, p, size, 1);
+    octets::put_num(out, q, 1, size)
+}
+
+// Writes an INDEX of one item.
+pub fn put_single(out: &mut [u8], at: usize, item: &[u8]) -> usize
+    requires { ⌜ (length (now item) < 4294967295) × (at + length (indexBytes (now item ∷ [])) ≤ length (now out)) ⌝ }
+    ensures { λ r. ⌜ Wrote (now (out .entry)) at (indexBytes (now (item .entry) ∷ [])) (now (out .exit)) r ⌝ }
+{
+    let n = item.len();
+    let p = put_head(out, at, 1, n);
+    let q = octets::put_num(out, p, n + 1, offset_size(n + 1));
+    octets::put_bytes(out, q, item)
+}
+
+// Stores the offset of item k's end, of an INDEX that is being written, for the place after the item.
+pub fn put_end(out: &mut [u8], ix: Index, k: usize, next: usize) -> usize
+    requires { ⌜ (Lies (length (now out)) ix) × (k < ix .count) × (ix .base ≤ next) ⌝ }
+    ensures { λ r. ⌜ Wrote (now (out .entry)) (endPlace ix k) (bytesOf (ix .size) (next - ix .base)) (now (out .exit)) r ⌝ }
+{
+    let size = ix.size;
+    octets::put_num(out, ix.table + (k + 1) * size, next - ix.base, size)
+}
+
+// Copies item k of an INDEX that is being written to its place, and stores the offset of its end; returns the place after it.
+pub fn put_item(out: &mut [u8], ix: Index, k: usize, at: usize, item: &[u8]) -> usize
+    requires { ⌜ (Lies (length (now out)) ix) × (k < ix .count) × (ix .base ≤ at) × (at + length (now item) ≤ length (now out)) ⌝ }
+    ensures { λ r. ⌜ WroteItem (now (out .entry)) ix k at (now (item .entry)) (now (out .exit)) r ⌝ }
+{
+    let next = octets::put_bytes(out, at, item);
+    put_end(out, ix, k, next);
+    next
+}
