@@ -1,20 +1,20 @@
 -- What holds of an INDEX that was read: its items can be had, and lie one behind the other within the bytes.
-use Prim.Native.Nat.{ℕ, zero, suc, _+_, _-_, _*_, _≤_, _<_}
+use Prim.Native.Nat.{ℕ, suc, _+_, _-_, _*_, _≤_, _<_}
 use mathlib.Core.Path.{_≡_, refl, sym, ap, _∙_, subst}
 use mathlib.Core.List.{List, [], _∷_}
 use mathlib.Core.Bool.{Bool, true, false}
-use native.Mathlib.Nat.{add-mul, not-suc-le-zero}
+use native.Mathlib.Nat.{add-mul, add-zero, zero-mul}
 use native.Mathlib.Omega.{arith}
-use borrow.Author.Tests.{ltb-true, ltb-false, eqb-false, eqb-true}
+use borrow.Author.Tests.{ltb-true, ltb-false, eqb-false}
 use lib.Dec.{eqb, ltb, lit<, lit≤}
 use lib.ListN.{length, take, drop, getD, length-take, length-drop, List·getD-eq-default}
-use lib.Seq.{getD-take, getD-drop}
+use lib.Seq.{getD-take, getD-drop, length-take-le}
 use Rattle.octets.specs.Pick.{pick}
 use Rattle.octets.specs.Octets.{Octets, numAt}
 use Rattle.octets.specs.OctetsLaws.{num-two}
-use Rattle.index.specs.Index.{offsets, firstOf, endsOf, runOf, judged, dataAt, tableAt, emptyAt, indexAt, pieces, itemsOf, Read, refused, found, told, readIndex}
-use Rattle.index.specs.Good.{Lies, Good, offsetOf}
-use Rattle.index.specs.IndexLaws.{Passes, run-passes, run-rises, last-within, item-is}
+use Rattle.index.specs.Index.{offsets, firstOf, endsOf, firstBad, runOf, judged, dataAt, tableAt, emptyAt, indexAt, pieces, itemsOf, refused, found, told, readIndex}
+use Rattle.index.specs.Good.{Good, offsetOf}
+use Rattle.index.specs.IndexLaws.{first-good, run-passes, run-rises, run-last, last-within, offsets-length, offsets-first, offsets-at, items-length, item-is}
 use Rattle.index.specs.Write.{total}
 use Rattle.index.specs.declared.Index.{Index}
 use Rattle.index.specs.declared.IndexAt.{IndexAt}
@@ -65,7 +65,7 @@ record Table (b : List ℕ) (table count size : ℕ) (ix : Index) : Type 0 where
   low : 1 ≤ size
   high : size ≤ 4
   fits : table + (count + 1) * size ≤ length b
-  some : firstOf b table size ≡ 0 → ⊥
+  starts : firstBad (firstOf b table size) ≡ false
   last : ℕ
   run : runOf (length b - (table + (count + 1) * size - 1)) (firstOf b table size) (endsOf b table size count) ≡ Last last
   is : _≡_ {A = Index} (record { count = count; size = size; table = table; base = table + (count + 1) * size - 1; end = table + (count + 1) * size - 1 + last }) ix
@@ -76,13 +76,13 @@ table-tests b table count size ix h =
     let p = past (ltb size 1) 2 ix _ h in
     let q = past (ltb 4 size) 2 ix _ (p .1) in
     let r = past (ltb (length b) (table + (count + 1) * size)) 1 ix _ (q .1) in
-    let s = past (eqb (firstOf b table size) 0) 2 ix _ (r .1) in
+    let s = past (firstBad (firstOf b table size)) 2 ix _ (r .1) in
     let j = judged-found count size table _ _ ix (s .1) in
     record {
       low = ltb-false size 1 (p .0);
       high = ltb-false 4 size (q .0);
       fits = ltb-false (length b) (table + (count + 1) * size) (r .0);
-      some = eqb-false _ _ (s .0);
+      starts = s .0;
       last = j .0;
       run = j .1;
       is = j .2;
@@ -121,7 +121,7 @@ table-good : (b : List ℕ) (table count size : ℕ) (ix : Index) → 0 < count 
 table-good b table count size ix n t =
     let w = last-within _ _ count size _ (t .last) n (t .run) in
     let u = run-rises _ _ _ (t .last) (t .run) in
-    let z : 1 ≤ firstOf b table size = let s = t .some in omega arith in
+    let z = first-good (firstOf b table size) (t .starts) in
     subst (λ (i : Index). Good b i) (t .is)
     (record {
       lies =
@@ -178,7 +178,65 @@ pub items-total : (b : List ℕ) (ix : Index) → Good b ix → total (itemsOf b
 unfolding itemsOf
 items-total b ix g = omega (arith, pieces-total (drop (ix .base) b) _ _ _ (g .last) (g .run))
 
+-- they have as many bytes together as the last offset is behind the first
+pieces-long : (d : List ℕ) (s : ℕ) (es : List ℕ) (l : ℕ) → runOf (length d) s es ≡ Last l → total (pieces d s es) ≡ getD (s ∷ es) (length es) 0 - s
+unfolding pieces total
+pieces-long d s [] l h = omega arith
+pieces-long d s (e ∷ es) l h =
+    let p = run-passes (length d) s e es l h in
+    let n : length (take (e - s) (drop s d)) ≡ e - s = length-take-le (e - s) (drop s d) (rw length-drop (omega arith)) in
+    let r = run-last (length d) e es l (p .rest) in
+    let u = run-rises (length d) e es l (p .rest) in
+    omega (arith, pieces-long d e es l (p .rest))
+
+-- the first offset, and the last
+first-is : (b : List ℕ) (ix : Index) → firstOf b (ix .table) (ix .size) ≡ offsetOf b ix 0
+first-is b ix = rw (zero-mul, add-zero)
+
+last-is : (b : List ℕ) (ix : Index) → getD (firstOf b (ix .table) (ix .size) ∷ endsOf b (ix .table) (ix .size) (ix .count)) (ix .count) 0 ≡ offsetOf b ix (ix .count)
+last-is b ix = rw offsets-first (offsets-at (suc (ix .count)) (ix .size) (ix .table) b (ix .count) (omega arith))
+
+pub items-long : (b : List ℕ) (ix : Index) → Good b ix → total (itemsOf b ix) ≡ offsetOf b ix (ix .count) - offsetOf b ix 0
+unfolding itemsOf
+items-long b ix g =
+    let r = subst (λ (n : ℕ). runOf n (firstOf b (ix .table) (ix .size)) (endsOf b (ix .table) (ix .size) (ix .count)) ≡ Last (g .last)) (sym (length-drop (ix .base) b)) (g .run) in
+    pieces-long (drop (ix .base) b) _ (endsOf b (ix .table) (ix .size) (ix .count)) (g .last) r
+    ∙ rw (offsets-length, last-is b ix) (ap (λ (n : ℕ). offsetOf b ix (ix .count) - n) (first-is b ix))
+
+-- which it is never before
+pub offsets-rise : (b : List ℕ) (ix : Index) → Good b ix → offsetOf b ix 0 ≤ offsetOf b ix (ix .count)
+offsets-rise b ix g =
+    let l = run-last _ _ _ (g .last) (g .run) in
+    let e : getD (firstOf b (ix .table) (ix .size) ∷ endsOf b (ix .table) (ix .size) (ix .count)) (ix .count) 0 ≡ g .last = rw offsets-length at l in
+    omega (arith, run-rises _ _ _ (g .last) (g .run), first-is b ix, last-is b ix)
+
 -- an item has bytes
 pub item-octets : (b : List ℕ) (ix : Index) → Good b ix → (k : ℕ) → k < ix .count → Octets b → Octets (getD (itemsOf b ix) k [])
 item-octets b ix g k h o i =
     rw (item-is b ix g k h) (part-octets b (offsetOf b ix (k + 1) - offsetOf b ix k) (ix .base + offsetOf b ix k) o i)
+
+-- ---- what a reader gets
+
+-- it is what the code found
+told-found : (b : List ℕ) (r : IndexAt) (items : List (List ℕ)) (end : ℕ) → told b r ≡ found items end
+    → (ix : Index) × (r ≡ Found ix) × (itemsOf b ix ≡ items) × (ix .end ≡ end)
+unfolding told
+told-found b (Refused e) items end h = absurd (let z : _≡_ {A = ℕ} 0 1 = cc in omega arith)
+told-found b (Found ix) items end h = (ix, refl, cc, cc)
+
+pub found-read : (b : List ℕ) (at : ℕ) (items : List (List ℕ)) (end : ℕ) → readIndex b at ≡ found items end
+    → (ix : Index) × (indexAt b at ≡ Found ix) × (itemsOf b ix ≡ items) × (ix .end ≡ end)
+unfolding readIndex
+found-read b at items end h = told-found b (indexAt b at) items end h
+
+-- it can be written: few items, few bytes, and an end within the bytes
+pub read-bounds : (b : List ℕ) (at : ℕ) (items : List (List ℕ)) (end : ℕ) → Octets b → readIndex b at ≡ found items end
+    → (length items < 65536) × (total items ≤ length b) × (end ≤ length b)
+read-bounds b at items end o h =
+    let f = found-read b at items end h in
+    let ix = f .0 in
+    let g = found-good b at ix (f .1) in (
+      omega (arith, found-count b at ix o (f .1), items-length b ix, ap length (f .2)),
+      omega (arith, items-total b ix g, ap total (f .2)),
+      omega (arith, found-end b at ix (f .1), f .3),
+    )

@@ -1,7 +1,6 @@
 -- An INDEX of TN5176, section 5: a count of two bytes; where it is not 0, an offset size, count + 1 offsets and the data.
 -- Offsets are counted from the byte before the data. Tests stand in the order of the Rust's read_index.
-use Prim.Native.Nat.{ℕ, zero, suc, _+_, _-_, _*_, _≤_, _<_}
-use mathlib.Core.Path.{_≡_}
+use Prim.Native.Nat.{ℕ, zero, suc, _+_, _-_, _*_}
 use mathlib.Core.List.{List, [], _∷_}
 use mathlib.Core.Bool.{Bool}
 use lib.ListN.{length, take, drop, getD}

@@ -6,13 +6,13 @@ use mathlib.Core.Bool.{Bool, true, false}
 use native.Mathlib.Nat.{suc-mul, not-suc-le-zero, mul-le-mul, mul-le-mul-right, add-mul, zero-mul, add-zero}
 use native.Mathlib.Numerals.{sub-one}
 use native.Mathlib.Omega.{arith}
-use borrow.Author.Tests.{lt-ltb, le-ltb, ne-eqb, ltb-false}
+use borrow.Author.Tests.{lt-ltb, le-ltb, ne-eqb, ltb-false, eqb-false}
 use lib.Dec.{ltb}
 use lib.ListN.{length, take, drop, getD, length-drop}
 use lib.Seq.{drop-drop, length-take-le}
 use Rattle.octets.specs.Pick.{pick}
 use Rattle.octets.specs.Octets.{be, numAt}
-use Rattle.index.specs.Index.{offsets, firstOf, endsOf, runOf, judged, dataAt, tableAt, indexAt, pieces, itemsOf}
+use Rattle.index.specs.Index.{offsets, firstOf, endsOf, firstBad, runOf, judged, dataAt, tableAt, indexAt, pieces, itemsOf}
 use Rattle.index.specs.Good.{Lies, Good, offsetOf}
 use Rattle.index.specs.declared.Index.{Index}
 use Rattle.index.specs.declared.Run.{Run}
@@ -60,6 +60,10 @@ offsets-at (suc n) size p b (suc k) h =
 pub offsets-first : (n size p : ℕ) (b : List ℕ) → numAt b p size ∷ offsets n size (drop (p + size) b) ≡ offsets (suc n) size (drop p b)
 unfolding offsets numAt
 offsets-first n size p b = rw drop-drop
+
+-- a first offset that passes is past the byte before the data
+pub first-good : (first : ℕ) → firstBad first ≡ false → 1 ≤ first
+first-good first h = let n = eqb-false first 0 h in omega arith
 
 -- ---- a run
 
@@ -132,10 +136,20 @@ run-within room s (e ∷ []) l n h =
     omega (arith, p .within)
 run-within room s (e ∷ f ∷ es) l n h = run-within room e (f ∷ es) l (omega arith) (run-passes room s e (f ∷ es) l h .rest)
 
+pub last-within : (room s count size : ℕ) (bs : List ℕ) (l : ℕ) → 0 < count → runOf room s (offsets count size bs) ≡ Last l → l ≤ room
+last-within room s count size bs l some h =
+    let n : 0 < length (offsets count size bs) = rw offsets-length some in
+    run-within room s (offsets count size bs) l n h
+
 pub run-rises : (room s : ℕ) (es : List ℕ) (l : ℕ) → runOf room s es ≡ Last l → s ≤ l
 unfolding runOf
 run-rises room s [] l h = let z : s ≡ l = cc in omega arith
 run-rises room s (e ∷ es) l h = let p = run-passes room s e es l h in omega (arith, p .rises, run-rises room e es l (p .rest))
+
+pub run-last : (room s : ℕ) (es : List ℕ) (l : ℕ) → runOf room s es ≡ Last l → getD (s ∷ es) (length es) 0 ≡ l
+unfolding runOf
+run-last room s [] l h = cc
+run-last room s (e ∷ es) l h = run-last room e es l (run-passes room s e es l h .rest)
 
 -- a pair of a run that passes
 pub run-pair : (room s : ℕ) (es : List ℕ) (l : ℕ) → runOf room s es ≡ Last l → (k : ℕ) → k < length es
@@ -144,20 +158,14 @@ run-pair room s [] l h k n = absurd (not-suc-le-zero n)
 run-pair room s (e ∷ es) l h zero n = let p = run-passes room s e es l h in (p .rises, p .within)
 run-pair room s (e ∷ es) l h (suc k) n = run-pair room e es l (run-passes room s e es l h .rest) k (omega arith)
 
--- the same of count offsets
-pub last-within : (room s count size : ℕ) (bs : List ℕ) (l : ℕ) → 0 < count → runOf room s (offsets count size bs) ≡ Last l → l ≤ room
-last-within room s count size bs l some h =
-    let n : 0 < length (offsets count size bs) = rw offsets-length some in
-    run-within room s (offsets count size bs) l n h
-
 -- past the tests of a table the run decides
 pub table-judged : (b : List ℕ) (table count size first : ℕ) (run : Run)
-    → 1 ≤ size → size ≤ 4 → table + (count + 1) * size ≤ length b → first ≡ firstOf b table size → (first ≡ 0 → ⊥)
+    → 1 ≤ size → size ≤ 4 → table + (count + 1) * size ≤ length b → first ≡ firstOf b table size → firstBad first ≡ false
     → run ≡ runOf (length b - (table + (count + 1) * size - 1)) first (endsOf b table size count)
     → tableAt b table count size ≡ judged count size table (table + (count + 1) * size - 1) run
 unfolding tableAt dataAt
-table-judged b table count size first run low high fits read some is =
-    simp (le-ltb size 1 low, le-ltb 4 size high, le-ltb (length b) (table + (count + 1) * size) fits, ne-eqb (firstOf b table size) 0 (λ e. some (read ∙ e)))
+table-judged b table count size first run low high fits read good is =
+    simp (le-ltb size 1 low, le-ltb 4 size high, le-ltb (length b) (table + (count + 1) * size) fits, ap firstBad (sym read) ∙ good)
     (ap (judged count size table (table + (count + 1) * size - 1))
     (sym (is ∙ ap (λ (s : ℕ). runOf (length b - (table + (count + 1) * size - 1)) s (endsOf b table size count)) read)))
 

@@ -7,3 +7,5 @@ pub mod PutApart
 pub mod FoundLaws
 pub mod Begun
 pub mod BegunLaws
+pub mod IndexRound
+pub mod Examples

@@ -1,10 +1,10 @@
 -- Two writes into parts that lie apart may be done in either order.
 use Prim.Native.Nat.{ℕ, _+_, _-_, _≤_}
-use mathlib.Core.Path.{_≡_, refl, sym, ap, _∙_}
-use mathlib.Core.List.{List, [], _∷_, _++_, append-assoc}
+use mathlib.Core.Path.{_≡_, sym, ap, _∙_}
+use mathlib.Core.List.{List, _++_, append-assoc}
 use native.Mathlib.Omega.{arith}
-use lib.ListN.{length, take, drop, length-append, length-drop}
-use lib.Seq.{take-append-le, drop-append-le, take-at, drop-at, drop-drop, take-take, length-take-le, take-add}
+use lib.ListN.{length, take, drop}
+use lib.Seq.{take-append-le, drop-append-le, drop-at, drop-drop, take-take, length-take-le, take-add}
 use Rattle.octets.specs.Octets.{put}
 use Rattle.octets.specs.PutLaws.{put-is, take-put, drop-put}
 

@@ -37,13 +37,17 @@ tableBytes size (v ∷ vs) = bytesOf size v ++ tableBytes size vs
 unfoldable pub headBytes : ℕ → ℕ → List ℕ
 headBytes count size = bytesOf 2 count ++ pick (eqb count 0) [] (size ∷ bytesOf size 1)
 
+-- what stands behind them: where each item ends, and the data
+unfoldable pub itemsBytes : ℕ → List (List ℕ) → List ℕ
+itemsBytes size items = tableBytes size (ends 1 items) ++ join items
+
 -- the offset size of an INDEX of some items
 abbrev pub sizeOf : List (List ℕ) → ℕ
 sizeOf items = sizeFor (total items + 1)
 
 -- an INDEX of some items
 unfoldable pub indexBytes : List (List ℕ) → List ℕ
-indexBytes items = headBytes (length items) (sizeOf items) ++ (tableBytes (sizeOf items) (ends 1 items) ++ join items)
+indexBytes items = headBytes (length items) (sizeOf items) ++ itemsBytes (sizeOf items) items
 
 -- how long an INDEX of count items is that have t bytes together
 unfoldable pub indexLen : ℕ → ℕ → ℕ
@@ -63,3 +67,7 @@ partsAt table count size t =
 -- where the parts of an INDEX go that is written at a place
 unfoldable pub indexFor : ℕ → ℕ → ℕ → Index
 indexFor at count t = pick (eqb count 0) (emptyAt at) (partsAt (at + 3) count (sizeFor (t + 1)) t)
+
+-- the same, of the items
+abbrev pub layout : ℕ → List (List ℕ) → Index
+layout at items = indexFor at (length items) (total items)

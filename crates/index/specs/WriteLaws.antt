@@ -1,23 +1,20 @@
 -- Laws of writing an INDEX: sizes, lengths, the parts over `++`, and what the written offsets give.
-use Prim.Native.Nat.{ℕ, zero, suc, _+_, _-_, _*_, _%_, _^_, _≤_, _<_}
+use Prim.Native.Nat.{ℕ, zero, suc, _+_, _*_, _%_, _^_, _≤_, _<_}
 use mathlib.Core.Path.{_≡_, refl, sym, ap, _∙_}
 use mathlib.Core.List.{List, [], _∷_, _++_, append-assoc, append-nil}
-use native.Mathlib.Nat.{suc-mul, zero-mul, add-zero, zero-add, add-assoc, add-mul, mul-le-mul, not-suc-le-zero}
+use native.Mathlib.Nat.{suc-mul, zero-mul, add-zero, zero-add, add-assoc, add-mul}
 use native.Mathlib.Numerals.{add-one}
 use native.Mathlib.Omega.{arith}
-use borrow.Author.Tests.{ltb-true, eq-eqb, ne-eqb}
-use lib.Dec.{ltb, eqb, lit<, lit≤}
+use borrow.Author.Tests.{ltb-true, ne-eqb}
+use lib.Dec.{ltb, lit≤}
 use lib.ListN.{length, take, drop, getD, length-append, take-append-drop}
-use lib.Seq.{take-at, drop-at, drop-drop, take-suc, take-all}
-use Rattle.octets.specs.Pick.{pick, pick-ind}
+use lib.Seq.{take-suc}
+use Rattle.octets.specs.Pick.{pick-ind}
 use Rattle.octets.specs.Octets.{bytesOf}
-use Rattle.octets.specs.OctetsLaws.{length-bytes, be-front, drop-front}
-use Rattle.index.specs.Index.{offsets, runOf, pieces, emptyAt}
+use Rattle.octets.specs.OctetsLaws.{length-bytes}
 use Rattle.index.specs.Good.{Lies}
-use Rattle.index.specs.IndexLaws.{run-on, run-none, table-size}
-use Rattle.index.specs.Write.{total, join, sizeFor, ends, tableBytes, headBytes, sizeOf, indexBytes, indexLen, partsAt, indexFor}
-use Rattle.index.specs.declared.Index.{Index}
-use Rattle.index.specs.declared.Run.the-variants.{Last}
+use Rattle.index.specs.IndexLaws.{table-size}
+use Rattle.index.specs.Write.{total, join, sizeFor, ends, tableBytes, headBytes, itemsBytes, sizeOf, indexBytes, indexLen, partsAt, indexFor}
 
 -- ---- an offset size
 
@@ -137,17 +134,28 @@ pub for-some : (at count t : ℕ) → (count ≡ 0 → ⊥) → indexFor at coun
 unfolding indexFor
 for-some at count t n = simp (ne-eqb count 0 n)
 
+-- what stands behind the head
+pub length-items : (size : ℕ) (items : List (List ℕ)) → length (itemsBytes size items) ≡ length items * size + total items
+unfolding itemsBytes
+length-items size items = rw (length-append, length-table, length-ends, length-join)
+
 -- an INDEX's length is known from its count and the length of its data
 length-some : (items : List (List ℕ)) → (length items ≡ 0 → ⊥) → length (indexBytes items) ≡ indexLen (length items) (total items)
 unfolding indexBytes
 length-some items n =
-    rw (length-append, head-length (length items) (sizeOf items) n, length-append, length-table, length-ends, length-join, len-some (length items) (total items) n)
+    rw (length-append, head-length (length items) (sizeOf items) n, length-items, len-some (length items) (total items) n)
     (omega (arith, add-mul (length items) 1 (sizeOf items)))
 
 pub length-index : (items : List (List ℕ)) → length (indexBytes items) ≡ indexLen (length items) (total items)
-unfolding indexBytes headBytes tableBytes ends join indexLen bytesOf
+unfolding indexBytes headBytes itemsBytes tableBytes ends join indexLen bytesOf
 length-index [] = refl
 length-index (x ∷ xs) = length-some (x ∷ xs) (λ e. omega arith)
+
+-- where an INDEX has room, its head has
+pub head-room : (n at count t : ℕ) (items : List (List ℕ)) → count ≡ length items → t ≡ total items → at + length (indexBytes items) ≤ n
+    → at + length (headBytes count (sizeFor (t + 1))) ≤ n
+unfolding indexBytes
+head-room n at count t items many sum h = rw (many, sum) (omega (arith, length-append (headBytes (length items) (sizeOf items)) (itemsBytes (sizeOf items) items)))
 
 -- the offsets of an INDEX that is written are few bytes
 pub ends-small : (count size v : ℕ) → count < 65536 → size ≡ sizeFor v → (count + 1) * size ≤ 262144
@@ -155,13 +163,13 @@ ends-small count size v h e = table-size count size h (omega (arith, size-high v
 
 -- an INDEX of no item
 pub index-none : indexBytes [] ≡ bytesOf 2 0
-unfolding indexBytes headBytes tableBytes ends join bytesOf
+unfolding indexBytes headBytes itemsBytes tableBytes ends join bytesOf
 index-none = refl
 
 -- an INDEX of one item, part by part
 pub index-single : (x : List ℕ) (size : ℕ) → size ≡ sizeFor (length x + 1)
     → (headBytes 1 (sizeFor (length x + 1)) ++ bytesOf size (length x + 1)) ++ x ≡ indexBytes (x ∷ [])
-unfolding indexBytes tableBytes ends join total
+unfolding indexBytes itemsBytes tableBytes ends join total
 index-single x size e =
     let o : 1 + length x ≡ length x + 1 = omega arith in
     rw (add-zero, ← e, o) (simp (append-assoc, append-nil))
@@ -193,10 +201,27 @@ unfolding indexLen indexFor
 for-end at zero t = refl
 for-end at (suc m) t = rw (for-some at (suc m) t (some-suc m)) (omega (arith, len-some (suc m) t (some-suc m)))
 
--- the data behind the head and the ends
-pub for-data : (at count t : ℕ) → indexFor at count t .base + 1 ≡ at + (length (headBytes count (sizeFor (t + 1))) + count * sizeFor (t + 1))
+-- the ends behind the head, and the data up to the end
+pub for-head : (at count t : ℕ) → indexFor at count t .table + indexFor at count t .size ≡ at + length (headBytes count (sizeFor (t + 1)))
 unfolding indexFor headBytes bytesOf
-for-data at zero t = rw zero-mul (omega arith)
-for-data at (suc m) t =
-    rw (for-some at (suc m) t (some-suc m))
-    (omega (arith, head-length (suc m) (sizeFor (t + 1)) (some-suc m), add-mul (suc m) 1 (sizeFor (t + 1)), size-low (t + 1)))
+for-head at zero t = omega arith
+for-head at (suc m) t = rw (for-some at (suc m) t (some-suc m)) (omega (arith, head-length (suc m) (sizeFor (t + 1)) (some-suc m)))
+
+pub for-data : (at : ℕ) (items : List (List ℕ)) → indexFor at (length items) (total items) .base + 1 + total items ≡ at + length (indexBytes items)
+unfolding indexFor total
+for-data at [] = rw index-none (omega (arith, length-bytes 2 0))
+for-data at (x ∷ xs) =
+    let n = some-suc (length xs) in
+    let size = sizeOf (x ∷ xs) in
+    rw (length-index (x ∷ xs), len-some (length (x ∷ xs)) (total (x ∷ xs)) n, for-some at (length (x ∷ xs)) (total (x ∷ xs)) n)
+    (omega (arith, size-low (total (x ∷ xs) + 1), add-mul (suc (length xs)) 1 size))
+
+pub for-count : (at count t : ℕ) → indexFor at count t .count ≡ count
+unfolding indexFor
+for-count at zero t = refl
+for-count at (suc m) t = rw (for-some at (suc m) t (some-suc m))
+
+pub for-size : (at : ℕ) (items : List (List ℕ)) → indexFor at (length items) (total items) .size ≡ sizeOf items
+unfolding indexFor total sizeFor
+for-size at [] = refl
+for-size at (x ∷ xs) = rw (for-some at (length (x ∷ xs)) (total (x ∷ xs)) (some-suc (length xs)))

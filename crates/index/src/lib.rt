@@ -5,9 +5,9 @@ ghost use mathlib.Core.List.{[], _∷_};
 ghost use Prim.Native.Nat.{_+_, _*_, _-_, _≤_, _<_};
 ghost use lib.ListN.{length, drop, getD};
 ghost use Rattle.octets.specs.Octets.{bytesOf, Wrote};
-ghost use Rattle.index.specs.Index.{indexAt, tableAt, offsets, runOf, itemsOf};
+ghost use Rattle.index.specs.Index.{offsets, runOf, tableAt, emptyAt, indexAt, itemsOf};
 ghost use Rattle.index.specs.Good.{Lies, Good, offsetOf};
-ghost use Rattle.index.specs.Write.{sizeFor, headBytes, indexBytes, indexLen, indexFor};
+ghost use Rattle.index.specs.Write.{total, sizeFor, headBytes, indexBytes, indexLen, indexFor};
 ghost use Rattle.index.specs.Begun.{WroteItem, endPlace};
 
 // An INDEX in a font: how many items, the bytes of an offset, where the offsets stand, the byte before the data, and the end.
@@ -88,6 +88,20 @@ fn table_at(font: &[u8], table: usize, count: usize, size: usize) -> IndexAt
     }
 }
 
+// An INDEX of no item at a place: its count alone.
+fn empty_at(at: usize) -> Index
+    requires { ⌜ at < 18446744073709551614 ⌝ }
+    ensures { λ r. ⌜ r ≡ emptyAt at ⌝ }
+{
+    Index {
+        count: 0,
+        size: 1,
+        table: at + 1,
+        base: at + 1,
+        end: at + 2,
+    }
+}
+
 // The INDEX at a place of a font, any place.
 pub fn read_index(font: &[u8], at: usize) -> IndexAt
     ensures { λ r. ⌜ r ≡ indexAt (now (font .entry)) at ⌝ }
@@ -101,13 +115,7 @@ pub fn read_index(font: &[u8], at: usize) -> IndexAt
     }
     let count = octets::u16_at(font, at);
     if count == 0 {
-        return IndexAt::Found(Index {
-            count: 0,
-            size: 1,
-            table: at + 1,
-            base: at + 1,
-            end: at + 2,
-        });
+        return IndexAt::Found(empty_at(at));
     }
     if n - 2 == at {
         return IndexAt::Refused(1);
@@ -143,6 +151,14 @@ pub fn item_len(font: &[u8], ix: Index, k: usize) -> usize
     offset(font, ix, k + 1) - offset(font, ix, k)
 }
 
+// How many bytes the items of an INDEX have together.
+pub fn items_total(font: &[u8], ix: Index) -> usize
+    requires { ⌜ Good (now font) ix ⌝ }
+    ensures { λ r. ⌜ r ≡ total (itemsOf (now (font .entry)) ix) ⌝ }
+{
+    offset(font, ix, ix.count) - offset(font, ix, 0)
+}
+
 // The smallest offset size that holds a number.
 pub fn offset_size(v: usize) -> usize
     ensures { λ r. ⌜ r ≡ sizeFor v ⌝ }
@@ -176,13 +192,7 @@ pub fn index_for(at: usize, count: usize, total: usize) -> Index
     ensures { λ r. ⌜ r ≡ indexFor at count total ⌝ }
 {
     if count == 0 {
-        return Index {
-            count: 0,
-            size: 1,
-            table: at + 1,
-            base: at + 1,
-            end: at + 2,
-        };
+        return empty_at(at);
     }
     let size = offset_size(total + 1);
     let table = at + 3;
@@ -246,4 +256,23 @@ pub fn put_item(out: &mut [u8], ix: Index, k: usize, at: usize, item: &[u8]) -> 
     let next = octets::put_bytes(out, at, item);
     put_end(out, ix, k, next);
     next
+}
+
+// Writes an INDEX of all items of another.
+pub fn copy_index(out: &mut [u8], at: usize, font: &[u8], from: Index) -> usize
+    requires { ⌜ (Good (now font) from) × (from .count < 65536) × (length (now font) < 4294967295) × (at < 4294967296)
+        × (at + length (indexBytes (itemsOf (now font) from)) ≤ length (now out)) ⌝ }
+    ensures { λ r. ⌜ Wrote (now (out .entry)) at (indexBytes (itemsOf (now (font .entry)) from)) (now (out .exit)) r ⌝ }
+{
+    let n = from.count;
+    let total = items_total(font, from);
+    let ix = index_for(at, n, total);
+    put_head(out, at, n, total);
+    let mut p = ix.base + 1;
+    let mut k = 0;
+    while k < n {
+        p = put_item(out, ix, k, p, item(font, from, k));
+        k += 1;
+    }
+    p
 }

@@ -3,7 +3,7 @@ use Prim.Native.Nat.{_+_, _*_, _≤_}
 use native.Mathlib.Omega.{arith}
 use borrow.Author.Needs.{needs}
 use borrow.Author.Tests.{eq-eqb}
-use mathlib.Core.Path.{_≡_, sym}
+use mathlib.Core.Path.{sym}
 use Rattle.index.specs.Write.{indexFor}
 use Rattle.index.specs.WriteLaws.{ends-small, for-some}
 use Rattle.index.proofs.index_for.Statement.{statement}
@@ -13,18 +13,12 @@ use Rattle.index.proofs.index_for.Tie as tie
 small : (c : tie.After-offset-size) → (c .before .before .args .count + 1) * c .offset-size .result ≤ 262144
 small c = ends-small _ _ _ (c .before .before .pre .1) (c .offset-size .ensures)
 
-add-t8 : tie.Need-add-t8
-add-t8 c = search needs
-
-add-t9 : tie.Need-add-t9
-add-t9 c = search needs
-
-add-t10 : tie.Need-add-t10
-add-t10 c = search needs
+empty-at-requires : tie.Need-empty-at-requires
+empty-at-requires c κs = search needs
 
 returns : tie.Need-returns
 unfolding indexFor
-returns c = simp (eq-eqb _ 0 (c .if1 .taken))
+returns c = simp (eq-eqb _ 0 (c .before .if1 .taken), c .empty-at .ensures)
 
 add-offset-size : tie.Need-add-offset-size
 add-offset-size c = search needs
@@ -44,11 +38,11 @@ mul-past c = omega (arith, small c)
 add-past-2 : tie.Need-add-past-2
 add-past-2 c = omega (arith, small c)
 
-sub-t11 : tie.Need-sub-t11
-sub-t11 c = search needs
+sub-t8 : tie.Need-sub-t8
+sub-t8 c = search needs
 
-add-t12 : tie.Need-add-t12
-add-t12 c = omega (arith, small c)
+add-t9 : tie.Need-add-t9
+add-t9 c = omega (arith, small c)
 
 returns-2 : tie.Need-returns-2
 returns-2 c =
@@ -59,9 +53,7 @@ pub index-for-spec : {M : Type 1} → statement M
 index-for-spec =
     tie.close
     (tie.spec
-    add-t8
-    add-t9
-    add-t10
+    empty-at-requires
     returns
     add-offset-size
     offset-size-requires
@@ -69,6 +61,6 @@ index-for-spec =
     add-past
     mul-past
     add-past-2
-    sub-t11
-    add-t12
+    sub-t8
+    add-t9
     returns-2)

@@ -3,7 +3,7 @@ use Prim.Native.Nat.{_+_, _*_, _≤_}
 use native.Mathlib.Omega.{arith}
 use borrow.Author.Needs.{needs}
 use borrow.Author.Tests.{eq-eqb}
-use mathlib.Core.Path.{_≡_, ap, sym, _∙_}
+use mathlib.Core.Path.{sym}
 use Rattle.index.specs.Write.{indexLen}
 use Rattle.index.specs.WriteLaws.{ends-small, len-some}
 use Rattle.index.proofs.index_len.Statement.{statement}

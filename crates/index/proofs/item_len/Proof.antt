@@ -1,5 +1,4 @@
 -- `index::item_len` meets its contract: an item is as long as its two offsets are apart.
-use mathlib.Core.Path.{sym}
 use native.Mathlib.Omega.{arith}
 use borrow.Author.Needs.{needs}
 use Rattle.index.specs.IndexLaws.{item-within, item-long}

@@ -9,7 +9,7 @@ use denote.Ref.{now}
 use Rattle.octets.specs.Octets.{bytesOf, Wrote}
 use Rattle.octets.specs.OctetsLaws.{length-bytes}
 use Rattle.octets.specs.PutLaws.{wrote-then, wrote-as}
-use Rattle.index.specs.Write.{sizeFor, headBytes}
+use Rattle.index.specs.Write.{sizeFor}
 use Rattle.index.specs.WriteLaws.{head-none, head-length, head-parts}
 use Rattle.index.proofs.put_head.Statement.{statement}
 use Rattle.index.proofs.put_head.Tie as tie

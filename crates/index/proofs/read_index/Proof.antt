@@ -1,6 +1,6 @@
 -- `index::read_index` meets its contract: at each return the tests that led there say which case of `indexAt` holds.
-use Prim.Native.Nat.{ℕ, _+_}
-use mathlib.Core.Path.{_≡_, sym, ap, _∙_}
+use Prim.Native.Nat.{_+_}
+use mathlib.Core.Path.{sym, _∙_}
 use native.Mathlib.Omega.{arith}
 use borrow.Author.Needs.{needs}
 use borrow.Author.Tests.{lt-ltb, le-ltb, eq-eqb, ne-eqb}
@@ -27,22 +27,18 @@ returns-2 c =
 u16-at-requires : tie.Need-u16-at-requires
 u16-at-requires c κs = search needs
 
-add-t8 : tie.Need-add-t8
-add-t8 c = search needs
-
-add-t9 : tie.Need-add-t9
-add-t9 c = search needs
-
-add-t10 : tie.Need-add-t10
-add-t10 c = search needs
+empty-at-requires : tie.Need-empty-at-requires
+empty-at-requires c κs = search needs
 
 returns-3 : tie.Need-returns-3
 unfolding indexAt
 returns-3 c =
-    let a = c .before .before .before .before .before .args in
+    let d = c .before in
+    let a = d .before .before .before .before .before .args in
     simp (
       le-ltb (length (now (a .font))) (a .at + 2) (omega arith),
-      eq-eqb (numAt (now (a .font)) (a .at) 2) 0 (sym (c .before .u16-at .ensures .0) ∙ c .if3 .taken),
+      eq-eqb (numAt (now (a .font)) (a .at) 2) 0 (sym (d .before .u16-at .ensures .0) ∙ d .if3 .taken),
+      c .empty-at .ensures,
     )
 
 returns-4 : tie.Need-returns-4
@@ -81,9 +77,7 @@ read-index-spec =
     returns
     returns-2
     u16-at-requires
-    add-t8
-    add-t9
-    add-t10
+    empty-at-requires
     returns-3
     returns-4
     add-u8-at

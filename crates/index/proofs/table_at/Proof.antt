@@ -1,12 +1,11 @@
 -- `index::table_at` meets its contract: at each return the tests that led there say which case of `tableAt` holds.
-use Prim.Native.Nat.{ℕ, _≤_, _<_, _-_, _+_, _*_}
-use mathlib.Core.Path.{_≡_, refl, sym, ap, _∙_}
+use Prim.Native.Nat.{_≤_, _-_, _+_, _*_}
+use mathlib.Core.Path.{_≡_, sym, ap, _∙_}
 use native.Mathlib.Omega.{arith}
 use borrow.Author.Needs.{needs}
 use borrow.Author.Tests.{lt-ltb, le-ltb, eq-eqb, ne-eqb}
-use lib.ListN.{length, drop}
 use denote.Ref.{now}
-use Rattle.index.specs.Index.{runOf, endsOf, judged, dataAt, tableAt}
+use Rattle.index.specs.Index.{judged, dataAt, tableAt}
 use Rattle.index.specs.IndexLaws.{last-within, table-judged, table-size}
 use Rattle.index.proofs.table_at.Statement.{statement}
 use Rattle.index.proofs.table_at.Tie as tie
@@ -24,7 +23,7 @@ full c =
     let d = c .before .before in
     let s = d .before .before .before .before .before in
     table-judged (now (s .args .font)) (s .args .table) (s .args .count) (s .args .size) _ _ (d .before .before .before .if1 .left)
-    (d .before .before .if2 .left) (d .before .if3 .left) (d .num-at .ensures .0) (c .before .if4 .left) (c .judge .ensures)
+    (d .before .before .if2 .left) (d .before .if3 .left) (d .num-at .ensures .0) (ne-eqb _ 0 (c .before .if4 .left)) (c .judge .ensures)
 
 returns : tie.Need-returns
 unfolding tableAt
