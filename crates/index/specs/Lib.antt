@@ -1,0 +1,11 @@
+pub mod Index
+pub mod Good
+pub mod IndexLaws
+pub mod Write
+pub mod WriteLaws
+pub mod PutApart
+pub mod FoundLaws
+pub mod Begun
+pub mod BegunLaws
+pub mod IndexRound
+pub mod Examples
