@@ -2,7 +2,6 @@
 // A body is read one token at a time, in place; a cursor by value holds what the Rust's loop holds.
 ghost use mathlib.Core.Path.{_≡_};
 ghost use mathlib.Core.Bool.{false, true};
-ghost use mathlib.Core.List.{[], _∷_};
 ghost use Prim.Native.Nat.{_+_, _≤_, _<_};
 ghost use lib.ListN.{length, getD};
 ghost use Rattle.octets.specs.Octets.{Wrote};
@@ -238,21 +237,12 @@ pub fn put_token(code: &[u8], t: Token, out: &mut [u8], to: usize) -> usize
     match t {
         Token::Num(v) => put_number(v, out, to),
         Token::Op(b) => octets::put_byte(out, to, b),
-        Token::Esc(b) => put_escape(b, out, to),
+        Token::Esc(b) => octets::put_pair(out, to, 12, b),
         Token::Mask { start, len } => {
             let end = start + len;
             octets::put_bytes(out, to, &code[start..end])
         }
     }
-}
-
-// An escape: 12 and its byte.
-fn put_escape(b: u8, out: &mut [u8], to: usize) -> usize
-    requires { ⌜ to + 2 ≤ length (now out) ⌝ }
-    ensures { λ r. ⌜ Wrote (now (out .entry)) to (12 ∷ b ∷ []) (now (out .exit)) r ⌝ }
-{
-    let p = octets::put_byte(out, to, 12);
-    octets::put_byte(out, p, b)
 }
 
 // A number of a pair, widened.

@@ -60,6 +60,15 @@ pub fn put_byte(out: &mut [u8], at: usize, b: u8) -> usize
     at + 1
 }
 
+// Stores two bytes at a place; returns the place after them.
+pub fn put_pair(out: &mut [u8], at: usize, a: u8, b: u8) -> usize
+    requires { ⌜ at + 2 ≤ length (now out) ⌝ }
+    ensures { λ r. ⌜ Wrote (now (out .entry)) at (a ∷ b ∷ []) (now (out .exit)) r ⌝ }
+{
+    let p = put_byte(out, at, a);
+    put_byte(out, p, b)
+}
+
 // Stores the low size bytes of a number at a place, the highest first; returns the place after them.
 pub fn put_num(out: &mut [u8], at: usize, value: usize, size: usize) -> usize
     requires { ⌜ at + size ≤ length (now out) ⌝ }

@@ -139,15 +139,6 @@ pub fn count_of(v: f32) -> Scaled
     }
 }
 
-// Stores two bytes.
-fn put_pair(out: &mut [u8], at: usize, a: u8, b: u8) -> usize
-    requires { ⌜ at + 2 ≤ length (now out) ⌝ }
-    ensures { λ r. ⌜ Wrote (now (out .entry)) at (a ∷ b ∷ []) (now (out .exit)) r ⌝ }
-{
-    let p = octets::put_byte(out, at, a);
-    octets::put_byte(out, p, b)
-}
-
 // Stores a byte and then the low size bytes of a number.
 fn put_tagged(out: &mut [u8], at: usize, tag: u8, value: usize, size: usize) -> usize
     requires { ⌜ at + (1 + size) ≤ length (now out) ⌝ }
@@ -171,9 +162,9 @@ pub fn encode_number(neg: bool, v: usize, out: &mut [u8], at: usize) -> usize
     if v <= 1131 {
         let w = v - 108;
         if neg {
-            return put_pair(out, at, (w / 256 + 251) as u8, (w % 256) as u8);
+            return octets::put_pair(out, at, (w / 256 + 251) as u8, (w % 256) as u8);
         }
-        return put_pair(out, at, (w / 256 + 247) as u8, (w % 256) as u8);
+        return octets::put_pair(out, at, (w / 256 + 247) as u8, (w % 256) as u8);
     }
     if neg {
         return put_tagged(out, at, 28, 65536 - v, 2);

@@ -23,8 +23,8 @@ put-byte-requires c κs = let p = c .before .before .before .before .before .bef
 enum-known-t-3 : tie.Need-enum-known-t-3
 enum-known-t-3 c = search needs
 
-put-escape-requires : tie.Need-put-escape-requires
-put-escape-requires c κs = let p = c .before .before .before .before .before .before .pre in room-as _ _ _ (c .before .before .t3 .given .1) _ _ (p .1)
+put-pair-requires : tie.Need-put-pair-requires
+put-pair-requires c κs = let p = c .before .before .before .before .before .before .pre in room-as _ _ _ (c .before .before .t3 .given .1) _ _ (p .1)
 
 enum-known-t-4 : tie.Need-enum-known-t-4
 enum-known-t-4 c = search needs
@@ -60,7 +60,7 @@ same-length-3 : tie.Need-same-length-3
 same-length-3 c = search needs
 
 returns-3 : tie.Need-returns-3
-returns-3 c = wrote-token _ _ (Esc _) (c .before .before .before .before .before .t3 .given .1) (c .before .before .put-escape .ensures)
+returns-3 c = wrote-token _ _ (Esc _) (c .before .before .before .before .before .t3 .given .1) (c .before .before .put-pair .ensures)
 
 same-length-4 : tie.Need-same-length-4
 same-length-4 c = search needs
@@ -77,7 +77,7 @@ put-token-spec =
     enum-known-t-2
     put-byte-requires
     enum-known-t-3
-    put-escape-requires
+    put-pair-requires
     enum-known-t-4
     add-end
     sub-put-bytes

@@ -1,9 +1,9 @@
--- `charstring::put_escape` meets its contract: one write after the other.
+-- `octets::put_pair` meets its contract: one write after the other.
 use native.Mathlib.Omega.{arith}
 use Rattle.octets.specs.PutLaws.{wrote-then}
 use borrow.Author.Needs.{needs}
-use Rattle.charstring.proofs.put_escape.Statement.{statement}
-use Rattle.charstring.proofs.put_escape.Tie as tie
+use Rattle.octets.proofs.put_pair.Statement.{statement}
+use Rattle.octets.proofs.put_pair.Tie as tie
 
 put-byte-requires : tie.Need-put-byte-requires
 put-byte-requires c κs = search needs
@@ -17,5 +17,5 @@ same-length c = search needs
 returns : tie.Need-returns
 returns c = wrote-then (omega arith) (c .before .before .before .before .before .before .put-byte .ensures) (c .before .before .put-byte2 .ensures)
 
-pub put-escape-spec : {M : Type 1} → statement M
-put-escape-spec = tie.close (tie.spec put-byte-requires put-byte-requires-2 same-length returns)
+pub put-pair-spec : {M : Type 1} → statement M
+put-pair-spec = tie.close (tie.spec put-byte-requires put-byte-requires-2 same-length returns)
