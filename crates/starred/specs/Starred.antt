@@ -9,6 +9,9 @@ use Rattle.charstring.specs.Bias.{biasOf}
 use Rattle.charstring.specs.Token.{tokenAt, tokensFrom, tokensOf}
 use Rattle.charstring.specs.Encode.{encode, bodyBytes}
 use Rattle.charstring.specs.declared.MaskLen.the-variants.{Own}
+use Rattle.prune.specs.Renumber.{New, none, new, oldOf, operandOf, renumber, bytes, renumberCharstring}
+use lib.Dec.{eqb}
+use Rattle.octets.specs.Pick.{pick}
 
 -- ---- 'Corners in charstring.rs'
 
@@ -33,3 +36,13 @@ number-ff-00-05-00-00 = refl
 number-ff-01-00-00-01 : rewritten (0xff ∷ 0x01 ∷ 0x00 ∷ 0x00 ∷ 0x01 ∷ []) ≡ 0xf7 ∷ 0x94 ∷ []
 unfolding tokensOf tokensFrom tokenAt numberAt rounded keep24 encode numberBytes integerBytes fixedBytes bytesOf
 number-ff-01-00-00-01 = refl
+
+-- ---- 'Corners in write.rs'
+
+-- three local subroutines, the third reached: it is the first of one
+abbrev third : ℕ → New
+third i = pick (eqb i 2) (new 0) none
+
+renumbered-third : renumberCharstring (λ b z. operandOf third (biasOf 3) (biasOf 1) z) (λ o. Own) (0x22 ∷ 0x0a ∷ 0x0e ∷ []) ≡ bytes (0x20 ∷ 0x0a ∷ 0x0e ∷ [])
+unfolding renumberCharstring renumber oldOf tokensOf tokensFrom tokenAt numberAt rounded keep24 encode numberBytes integerBytes fixedBytes bytesOf
+renumbered-third = refl
