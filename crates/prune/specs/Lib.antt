@@ -3,4 +3,8 @@ pub mod Bodies
 pub mod StepLaws
 pub mod AlikeLaws
 pub mod SameLaws
+pub mod LeftLaws
+pub mod RenumberLaws
+pub mod BesideLaws
+pub mod WalkLaws
 pub mod Unfolds

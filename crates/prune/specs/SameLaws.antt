@@ -100,3 +100,24 @@ module _ (globals locals globals' locals' : List (List ℕ)) (fd fd' : ℕ) (lis
       same-walk (λ t b x. broken) (λ t b x. broken) (λ t t' b x q i f g. absurd (subst (Listed listed) (sym f) g)) site site' kind s (length s) 0 none st r e h
   same-body (suc d) site site' s st r kind e h =
       same-walk (runBody globals locals fd d) (runBody globals' locals' fd' d) (same-body d) site site' kind s (length s) 0 none st r e h
+
+-- ---- a font beside itself: the rows with which a walk starts are among those it ends with
+
+module _ (globals locals : List (List ℕ)) (fd : ℕ) (listed : Row → Type 0) where
+  itself : Same globals locals globals locals fd listed
+  itself = record { locals-length = refl; globals-length = refl; local-body = λ i h. refl; global-body = λ i h. refl }
+
+  -- walks that end with listed rows start with listed rows
+  abbrev pub Backs : (Site → List ℕ → State → Run) → Type 0
+  Backs enter =
+      (k : ℕ) (site : Site) (s : List ℕ) (at : ℕ) (l : Last) (st : State) (r : Run) → walk globals locals fd enter k site s at l st ≡ r → Listed listed r → All listed (st .met)
+
+  pub backs-none : Backs (λ t b x. broken)
+  backs-none k site s at l st r e h =
+      same-walk globals locals globals locals fd fd listed itself (λ t b x. broken) (λ t b x. broken)
+      (λ t t' b x q i f g. absurd (subst (Listed listed) (sym f) g)) site site refl s k at l st r e h .before
+
+  pub backs-body : (d : ℕ) → Backs (runBody globals locals fd d)
+  backs-body d k site s at l st r e h =
+      same-walk globals locals globals locals fd fd listed itself (runBody globals locals fd d) (runBody globals locals fd d)
+      (same-body globals locals globals locals fd fd listed itself d) site site refl s k at l st r e h .before

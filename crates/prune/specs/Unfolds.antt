@@ -1,13 +1,20 @@
--- What a plain glyph unfolds to stays: over subroutines that stay where they are listed.
+-- What a plain glyph unfolds to (document 01, demand 3 and 'Plain glyphs') stays the same in a subset, if the record lists the rows that the
+-- glyph meets: over subroutines that stay as they are where they are listed, and over charstrings and subroutines that are renumbered.
 use Prim.Native.Nat.{ℕ}
 use mathlib.Core.Path.{_≡_, refl, sym, ap, _∙_, subst}
 use mathlib.Core.List.{List, [], _∷_}
 use native.Mathlib.Omega.{arith}
 use lib.ListN.{length, getD}
-use Rattle.unfold.specs.Unfold.{Tok, Row, glyph, local, global, entered, State, Run, broken, returned, ended, runBody, Glyph, plain, glyphOf, fresh, unfoldGlyph}
-use Rattle.prune.specs.Bodies.{All, none}
+use Rattle.unfold.specs.Unfold.{Tok, Row, Site, glyph, local, global, entered, State, Run, broken, returned, ended, walk, runBody, Glyph, plain, glyphOf, fresh, unfoldGlyph}
+use Rattle.octets.specs.Octets.{Octets}
+use Rattle.charstring.specs.Token.{tokensFrom, tokensOf}
+use Rattle.charstring.specs.Encode.{encode}
+use Rattle.charstring.specs.declared.MaskLen.{MaskLen}
+use Rattle.prune.specs.Renumber.{Calls, renumber, Bytes, bytes, renumberCharstring}
+use Rattle.prune.specs.Bodies.{All, Renumbers}
 use Rattle.prune.specs.AlikeLaws.{Listed, Alike}
 use Rattle.prune.specs.SameLaws.{Same, same-body}
+use Rattle.prune.specs.WalkLaws.{Bodies, renumbered-body}
 
 no : _≡_ {A = ℕ} 0 1 → ⊥
 no h = omega arith
@@ -23,6 +30,17 @@ alike-glyph listed (ended st) other ts rows e h alike =
     let a = alike (subst (All listed) (sym m) h) in
     (a .0, ap glyphOf (a .1) ∙ ap (λ (x : List Tok). plain x (a .0)) o)
 
+-- a body that ends has bytes
+run-glyph : (globals locals : List (List ℕ)) (fd g : ℕ) (s : List ℕ) (ts : List Tok) (rows : List Row)
+    → glyphOf (runBody globals locals fd 10 (glyph g) s fresh) ≡ plain ts rows → unfoldGlyph globals locals fd g s ≡ plain ts rows
+unfolding unfoldGlyph runBody walk
+run-glyph globals locals fd g [] ts rows e = absurd (no cc)
+run-glyph globals locals fd g (b ∷ bs) ts rows e = e
+
+renumbered-nothing : (calls : Calls) (given : ℕ → MaskLen) (s' : List ℕ) → renumberCharstring calls given [] ≡ bytes s' → [] ≡ s'
+unfolding renumberCharstring tokensOf tokensFrom renumber encode
+renumbered-nothing calls given s' e = cc
+
 -- THE THEOREM for stubbed and copied subroutines
 pub same-unfolds : (globals locals globals' locals' : List (List ℕ)) (fd fd' g g' : ℕ) (listed : Row → Type 0)
     → length locals' ≡ length locals → length globals' ≡ length globals
@@ -37,3 +55,18 @@ same-unfolds globals locals globals' locals' fd fd' g g' listed ll gl lb gb (b �
     = record { locals-length = ll; globals-length = gl; local-body = lb; global-body = gb } in
     alike-glyph listed (runBody globals locals fd 10 (glyph g) (b ∷ bs) fresh) (runBody globals' locals' fd' 10 (glyph g') (b ∷ bs) fresh) ts rows e h
     (λ l. same-body globals locals globals' locals' fd fd' listed same 10 (glyph g) (glyph g') (b ∷ bs) fresh _ refl refl l .alike [])
+
+-- THE THEOREM for renumbered charstrings and subroutines
+pub renumbered-unfolds : (globals locals globals' locals' : List (List ℕ)) (fd fd' g g' : ℕ) (listed : Row → Type 0) (given : Site → ℕ → MaskLen) (calls : Site → Calls)
+    (isLocal isGlobal : ℕ → ℕ → Type 0) → Renumbers globals locals globals' locals' fd listed given calls isLocal isGlobal
+    → (s s' : List ℕ) → Octets s → renumberCharstring (calls (glyph g)) (given (glyph g)) s ≡ bytes s'
+    → (ts : List Tok) (rows : List Row) → unfoldGlyph globals locals fd g s ≡ plain ts rows → All listed rows
+    → (rows' : List Row) × (unfoldGlyph globals' locals' fd' g' s' ≡ plain ts rows')
+unfolding unfoldGlyph
+renumbered-unfolds globals locals globals' locals' fd fd' g g' listed given calls isLocal isGlobal renumbers [] s' o q ts rows e h =
+    (rows, ap (unfoldGlyph globals' locals' fd' g') (sym (renumbered-nothing (calls (glyph g)) (given (glyph g)) s' q)) ∙ e)
+renumbered-unfolds globals locals globals' locals' fd fd' g g' listed given calls isLocal isGlobal renumbers (b ∷ bs) s' o q ts rows e h =
+    let x = alike-glyph listed (runBody globals locals fd 10 (glyph g) (b ∷ bs) fresh) (runBody globals' locals' fd' 10 (glyph g') s' fresh) ts rows e h
+    (λ l. renumbered-body globals locals globals' locals' fd fd' listed given calls isLocal isGlobal renumbers 10 (glyph g) (glyph g') (b ∷ bs) s'
+    (record { kind = refl; octets = o; is = q }) fresh _ refl l .alike []) in
+    (x .0, run-glyph globals' locals' fd' g' s' ts (x .0) (x .1))
