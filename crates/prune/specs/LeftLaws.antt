@@ -17,10 +17,7 @@ use Rattle.charstring.specs.TokensLaws.{bit, fuelOf, Fine, Moves, fine, start-w
 use Rattle.charstring.specs.declared.MaskLen.{MaskLen}
 use Rattle.charstring.specs.declared.MaskLen.the-variants.{Given}
 use Rattle.charstring.specs.declared.Cursor.{Cursor}
-use Rattle.prune.specs.StepLaws.{Operator}
-
-no : _≡_ {A = ℕ} 0 1 → ⊥
-no h = omega arith
+use Rattle.prune.specs.StepLaws.{zero-one, Operator}
 
 -- the tokens from a place on, read by some cursor there; `due` where a mask's bytes come next
 pub record Left (given : ℕ → MaskLen) (s : List ℕ) (at : ℕ) (due : Bool) (ts : List Tok) : Type 0 where
@@ -40,7 +37,7 @@ pub record Then (given : ℕ → MaskLen) (s : List ℕ) (t : Tok) (at : ℕ) (d
 
 -- a token before the others
 join-tokens : (t : Tok) (x : Body) (ts : List Tok) → join (t ∷ []) x ≡ tokens ts → (us : List Tok) × (x ≡ tokens us) × (ts ≡ t ∷ us)
-join-tokens t bad ts e = absurd (no cc)
+join-tokens t bad ts e = absurd (zero-one cc)
 join-tokens t (tokens us) ts e = (us, refl, cc)
 
 module _ (given : ℕ → MaskLen) (s : List ℕ) (octets : Octets s) where
@@ -60,7 +57,7 @@ module _ (given : ℕ → MaskLen) (s : List ℕ) (octets : Octets s) where
       → tokenAt s (given (c .at - 1)) c ≡ q → tokensFrom k given s c ≡ tokens ts
       → (j : ℕ) × (fuelOf s c ≤ suc j) × (onward s q (tokensFrom j given s) ≡ tokens ts) × Fine s c q
   unfolding tokensFrom
-  turn c zero q ts w h o m f e = absurd (no (omega arith))
+  turn c zero q ts w h o m f e = absurd (zero-one (omega arith))
   turn c (suc j) q ts w h o m f e = (
     j,
     h,

@@ -8,3 +8,4 @@ pub mod RenumberLaws
 pub mod BesideLaws
 pub mod WalkLaws
 pub mod Unfolds
+pub mod OperandLaws

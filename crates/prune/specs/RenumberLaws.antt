@@ -11,9 +11,7 @@ use Rattle.charstring.specs.Token.{Tok, num, op, esc, mask, Body, bad, tokens, 
 use Rattle.charstring.specs.Encode.{encode}
 use Rattle.charstring.specs.declared.MaskLen.{MaskLen}
 use Rattle.prune.specs.Renumber.{Operand, fails, becomes, Calls, isCall, Renumbered, failed, done, before, called, Waiting, nobody, waits, kept, calledAfter, renumber, Bytes, bytes, writtenBack, renumberedTokens, renumberCharstring}
-
-no : _≡_ {A = ℕ} 0 1 → ⊥
-no h = omega arith
+use Rattle.prune.specs.StepLaws.{zero-one}
 
 -- the tokens with the number that waited before them
 abbrev pub keptBefore : Waiting → List Tok → List Tok
@@ -21,7 +19,7 @@ keptBefore nobody ts = ts
 keptBefore (waits z) ts = num z ∷ ts
 
 before-done : (t : Tok) (r : Renumbered) (us : List Tok) → before t r ≡ done us → (vs : List Tok) × (r ≡ done vs) × (us ≡ t ∷ vs)
-before-done t failed us e = absurd (no cc)
+before-done t failed us e = absurd (zero-one cc)
 before-done t (done vs) us e = (vs, refl, cc)
 
 kept-done : (w : Waiting) (r : Renumbered) (us : List Tok) → kept w r ≡ done us → (vs : List Tok) × (r ≡ done vs) × (us ≡ keptBefore w vs)
@@ -30,7 +28,7 @@ kept-done (waits z) r us e = before-done (num z) r us e
 
 called-done : (b : ℕ) (o : Operand) (r : Renumbered) (us : List Tok) → called b o r ≡ done us
     → (y : ℤ) × (vs : List Tok) × (o ≡ becomes y) × (r ≡ done vs) × (us ≡ num y ∷ op b ∷ vs)
-called-done b fails r us e = absurd (no cc)
+called-done b fails r us e = absurd (zero-one cc)
 called-done b (becomes y) r us e =
     let p = before-done (num y) (before (op b) r) us e in
     let q = before-done (op b) r (p .0) (p .1) in
@@ -77,11 +75,11 @@ pub record Whole (calls : Calls) (given : ℕ → MaskLen) (s s' : List ℕ) : T
 
 whole-done : (calls : Calls) (given : ℕ → MaskLen) (s s' : List ℕ) (ts : List Tok) → tokensOf given s ≡ tokens ts
     → (r : Renumbered) → renumber calls nobody ts ≡ r → writtenBack r ≡ bytes s' → Whole calls given s s'
-whole-done calls given s s' ts f failed g h = absurd (no cc)
+whole-done calls given s s' ts f failed g h = absurd (zero-one cc)
 whole-done calls given s s' ts f (done us) g h = record { old = ts; new = us; reads = f; turns = g; writes = cc }
 
 whole-tokens : (calls : Calls) (given : ℕ → MaskLen) (s s' : List ℕ) (x : Body) → tokensOf given s ≡ x → renumberedTokens calls x ≡ bytes s' → Whole calls given s s'
-whole-tokens calls given s s' bad f h = absurd (no cc)
+whole-tokens calls given s s' bad f h = absurd (zero-one cc)
 whole-tokens calls given s s' (tokens ts) f h = whole-done calls given s s' ts f (renumber calls nobody ts) refl h
 
 pub renumbered-whole : (calls : Calls) (given : ℕ → MaskLen) (s s' : List ℕ) → renumberCharstring calls given s ≡ bytes s' → Whole calls given s s'

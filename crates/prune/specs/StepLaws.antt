@@ -3,6 +3,7 @@ use Prim.Native.Nat.{ℕ, zero, suc, _+_, _-_, _/_}
 use mathlib.Core.Path.{_≡_, refl, sym, ap, _∙_, subst}
 use mathlib.Core.Bool.{Bool, true, false}
 use mathlib.Core.List.{List, [], _∷_, _++_}
+use native.Mathlib.Omega.{arith}
 use lib.Dec.{ltb, eqb}
 use lib.IntN.{ℤ}
 use lib.ListN.{length, take, drop, getD}
@@ -10,6 +11,10 @@ use borrow.Author.Tests.{eqb-true}
 use Rattle.octets.specs.Pick.{pick}
 use Rattle.type2_number.specs.Number.{Read, cut, operator, number as aNumber, numberAt}
 use Rattle.unfold.specs.Unfold.{Tok, num, op, esc, mask, Site, local, global, masked, isGlyph, State, Run, broken, returned, ended, Last, none, last, leave, calling, Target, nowhere, target, targetOf, after, isStem, isMask, isPath, meeting, callTo, stemAt, maskAt, escapeAt, operatorAt, stepAt, walk}
+
+-- two constructors that would be equal
+pub zero-one : _≡_ {A = ℕ} 0 1 → ⊥
+zero-one h = omega arith
 
 -- a run that is not broken
 abbrev pub Unbroken : Run → Type 0

@@ -12,18 +12,16 @@ use Rattle.charstring.specs.Encode.{encode}
 use Rattle.charstring.specs.declared.MaskLen.{MaskLen}
 use Rattle.prune.specs.Renumber.{Calls, renumber, Bytes, bytes, renumberCharstring}
 use Rattle.prune.specs.Bodies.{All, Renumbers}
+use Rattle.prune.specs.StepLaws.{zero-one}
 use Rattle.prune.specs.AlikeLaws.{Listed, Alike}
 use Rattle.prune.specs.SameLaws.{Same, same-body}
 use Rattle.prune.specs.WalkLaws.{Bodies, renumbered-body}
 
-no : _≡_ {A = ℕ} 0 1 → ⊥
-no h = omega arith
-
 -- runs that are alike give glyphs that are alike
 alike-glyph : (listed : Row → Type 0) (r other : Run) (ts : List Tok) (rows : List Row) → glyphOf r ≡ plain ts rows → All listed rows
     → (Listed listed r → Alike r other) → (rows' : List Row) × (glyphOf other ≡ plain ts rows')
-alike-glyph listed broken other ts rows e h alike = absurd (no cc)
-alike-glyph listed (returned st) other ts rows e h alike = absurd (no cc)
+alike-glyph listed broken other ts rows e h alike = absurd (zero-one cc)
+alike-glyph listed (returned st) other ts rows e h alike = absurd (zero-one cc)
 alike-glyph listed (ended st) other ts rows e h alike =
     let o : st .out ≡ ts = cc in
     let m : st .met ≡ rows = cc in
@@ -34,7 +32,7 @@ alike-glyph listed (ended st) other ts rows e h alike =
 run-glyph : (globals locals : List (List ℕ)) (fd g : ℕ) (s : List ℕ) (ts : List Tok) (rows : List Row)
     → glyphOf (runBody globals locals fd 10 (glyph g) s fresh) ≡ plain ts rows → unfoldGlyph globals locals fd g s ≡ plain ts rows
 unfolding unfoldGlyph runBody walk
-run-glyph globals locals fd g [] ts rows e = absurd (no cc)
+run-glyph globals locals fd g [] ts rows e = absurd (zero-one cc)
 run-glyph globals locals fd g (b ∷ bs) ts rows e = e
 
 renumbered-nothing : (calls : Calls) (given : ℕ → MaskLen) (s' : List ℕ) → renumberCharstring calls given [] ≡ bytes s' → [] ≡ s'

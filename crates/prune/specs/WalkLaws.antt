@@ -16,13 +16,10 @@ use Rattle.charstring.specs.declared.MaskLen.the-variants.{Given}
 use Rattle.unfold.specs.Unfold.{Tok, num, op, esc, mask, Row, Site, glyph, local, global, entered, masked, isGlyph, isMask, State, Run, broken, returned, ended, Last, none, last, but, calling, meeting, Target, nowhere, target, targetOf, after, walk, runBody}
 use Rattle.prune.specs.Renumber.{Operand, becomes, Calls, isCall, Waiting, nobody, waits, Bytes, bytes, renumberCharstring}
 use Rattle.prune.specs.Bodies.{All, Renumbers}
-use Rattle.prune.specs.StepLaws.{leaving, stemsNow, maskNow, Clearing, Operator, Step, Stepped, reads, callsLocal, callsGlobal, returns, ends, escapes, masks, clears, walk-was, walk-goes}
+use Rattle.prune.specs.StepLaws.{zero-one, leaving, stemsNow, maskNow, Clearing, Operator, Step, Stepped, reads, callsLocal, callsGlobal, returns, ends, escapes, masks, clears, walk-was, walk-goes}
 use Rattle.prune.specs.AlikeLaws.{rowed, Listed, Alike, Follows, unbroken, all-front, all-last, follows-after}
 use Rattle.prune.specs.SameLaws.{Backs, backs-none, backs-body}
 use Rattle.prune.specs.BesideLaws.{Number, Beside, Caught, Met, beside-start, beside-number, beside-operator, beside-escape, beside-mask, beside-call}
-
-no : _≡_ {A = ℕ} 0 1 → ⊥
-no h = omega arith
 
 -- the state with the number that waits, and what a call finds before it
 abbrev waiting : Waiting → State → State
@@ -60,7 +57,7 @@ no-call b c = rw (c .not10) (c .not29)
 
 no-target : (n i : ℕ) → targetOf n none ≡ target i → ⊥
 unfolding targetOf
-no-target n i e = no cc
+no-target n i e = zero-one cc
 
 module _ (globals locals globals' locals' : List (List ℕ)) (fd fd' : ℕ) (listed : Row → Type 0) (given : Site → ℕ → MaskLen) (calls : Site → Calls)
     (isLocal isGlobal : ℕ → ℕ → Type 0) (renumbers : Renumbers globals locals globals' locals' fd listed given calls isLocal isGlobal) where
@@ -97,7 +94,7 @@ module _ (globals locals globals' locals' : List (List ℕ)) (fd fd' : ℕ) (lis
     caught-up : (w : Waiting) (st : State) (at' p k' : ℕ) (l' : Last) → Caught (given site) (calls site) s s' w at' p → Room w st → length s' ≤ at' + k'
         → (j : ℕ) × (length s' ≤ p + j) × ((rows : List Row) → walk' k' at' l' (rowed rows st) ≡ walk' j p (lastAfter w l') (rowed rows (waiting w st)))
     caught-up nobody st at' p k' l' c room h = (k', omega arith, λ rows. ap (λ (n : ℕ). walk' k' n l' (rowed rows st)) c)
-    caught-up (waits z) st at' p zero l' c room h = absurd (no (omega (arith, c .inside)))
+    caught-up (waits z) st at' p zero l' c room h = absurd (zero-one (omega (arith, c .inside)))
     caught-up (waits z) st at' p (suc j) l' c room h = (
       j,
       omega (arith, c .further),
@@ -105,7 +102,7 @@ module _ (globals locals globals' locals' : List (List ℕ)) (fd fd' : ℕ) (lis
     )
 
     fuelled : (p j : ℕ) → p < length s' → length s' ≤ p + j → (i : ℕ) × (j ≡ suc i) × (length s' ≤ p + 1 + i)
-    fuelled p zero h k = absurd (no (omega arith))
+    fuelled p zero h k = absurd (zero-one (omega arith))
     fuelled p (suc i) h k = (i, refl, omega arith)
 
     -- and takes a step
