@@ -1,6 +1,5 @@
 -- Two runs that end the same way, in states that differ in the rows met only: how this goes through a call.
-use Prim.Native.Nat.{ℕ}
-use mathlib.Core.Path.{_≡_, refl, sym, ap, _∙_, subst}
+use mathlib.Core.Path.{_≡_, sym, ap, subst}
 use mathlib.Core.List.{List, [], _∷_, _++_}
 use Rattle.unfold.specs.Unfold.{Row, State, Run, broken, returned, ended, after}
 use Rattle.prune.specs.Bodies.{All, none, one}

@@ -1,6 +1,6 @@
 -- A place in a body beside the place in the renumbered body: what stands in the one stands in the other, a number that waits excepted,
 -- which the renumbered body has still before it: as it was, or another one if a call takes it.
-use Prim.Native.Nat.{ℕ, zero, suc, _+_, _-_, _≤_, _<_}
+use Prim.Native.Nat.{ℕ, _+_, _-_, _≤_, _<_}
 use mathlib.Core.Path.{_≡_, refl, sym, ap, _∙_, subst}
 use mathlib.Core.Bool.{Bool, true, false}
 use mathlib.Core.List.{List, [], _∷_, _++_}
@@ -10,8 +10,7 @@ use lib.Dec.{ltb, eqb}
 use lib.IntN.{ℤ}
 use lib.ListN.{length, take, drop, getD, length-append, length-drop}
 use lib.Seq.{getD-drop, drop-drop, take-at, drop-at, length-take-le}
-use borrow.Author.Tests.{lt-ltb, le-ltb, ltb-false, ltb-true}
-use Rattle.octets.specs.Pick.{pick}
+use borrow.Author.Tests.{le-ltb, ltb-false}
 use Rattle.octets.specs.Octets.{Octets}
 use Rattle.type2_number.specs.Number.{mag, isNeg, operator, number, numberAt, Reading}
 use Rattle.type2_number.specs.Encoding.{encoded}
@@ -20,13 +19,13 @@ use Rattle.type2_number.specs.NumberLaws.{OperatorByte, operator-byte, form-op}
 use Rattle.type2_number.specs.NumberRound.{number-back}
 use Rattle.type2_number.specs.Readings.{ReadingRead, reading-at}
 use Rattle.charstring.specs.Token.{Tok, num, op, esc, mask, isMask}
-use Rattle.charstring.specs.Encode.{tokBytes, encode}
+use Rattle.charstring.specs.Encode.{encode}
 use Rattle.charstring.specs.declared.MaskLen.{MaskLen}
 use Rattle.charstring.specs.declared.MaskLen.the-variants.{Given}
-use Rattle.prune.specs.Renumber.{Operand, becomes, Calls, isCall, done, Waiting, nobody, waits, renumber, Bytes, bytes, renumberCharstring}
+use Rattle.prune.specs.Renumber.{becomes, Calls, isCall, done, Waiting, nobody, waits, renumber, bytes, renumberCharstring}
 use Rattle.prune.specs.StepLaws.{Operator}
-use Rattle.prune.specs.LeftLaws.{Left, Then, left-number, left-op, left-escape, left-mask, left-start}
-use Rattle.prune.specs.RenumberLaws.{keptBefore, renumber-num, renumber-op, renumber-esc, renumber-mask, renumber-call, Whole, renumbered-whole}
+use Rattle.prune.specs.LeftLaws.{Left, left-number, left-op, left-escape, left-mask, left-start}
+use Rattle.prune.specs.RenumberLaws.{keptBefore, renumber-num, renumber-op, renumber-esc, renumber-mask, renumber-call, renumbered-whole}
 
 -- ---- what was written stands there
 

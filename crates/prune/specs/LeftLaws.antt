@@ -2,7 +2,7 @@
 use Prim.Native.Nat.{ℕ, zero, suc, _+_, _-_, _*_, _≤_, _<_}
 use mathlib.Core.Path.{_≡_, refl, sym, ap, _∙_, subst}
 use mathlib.Core.Bool.{Bool, true, false}
-use mathlib.Core.List.{List, [], _∷_, _++_}
+use mathlib.Core.List.{List, [], _∷_}
 use native.Mathlib.Omega.{arith}
 use lib.Dec.{ltb, eqb}
 use lib.IntN.{ℤ}
@@ -11,7 +11,7 @@ use borrow.Author.Tests.{lt-ltb}
 use Rattle.octets.specs.Pick.{pick}
 use Rattle.octets.specs.Octets.{Octets}
 use Rattle.type2_number.specs.Number.{Read, operator, number, numberAt}
-use Rattle.charstring.specs.Token.{Tok, num, op, esc, mask, isMask, stemsAfter, maskLen, Lexeme, lost, gotNum, gotOp, gotEsc, gotMask, maskAt, operatorAt, plainAt, tokenAt, Body, bad, tokens, join, onward, more, tokensFrom, tokensOf, start}
+use Rattle.charstring.specs.Token.{Tok, num, op, esc, mask, isMask, stemsAfter, maskLen, Lexeme, lost, gotOp, gotEsc, gotMask, maskAt, operatorAt, plainAt, tokenAt, Body, bad, tokens, join, onward, more, tokensFrom, tokensOf, start}
 use Rattle.charstring.specs.Answers.{Within}
 use Rattle.charstring.specs.TokensLaws.{bit, fuelOf, Fine, Moves, fine, start-within}
 use Rattle.charstring.specs.declared.MaskLen.{MaskLen}

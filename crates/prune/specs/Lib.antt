@@ -9,3 +9,5 @@ pub mod BesideLaws
 pub mod WalkLaws
 pub mod Unfolds
 pub mod OperandLaws
+pub mod BelongsLaws
+pub mod Examples

@@ -1,6 +1,6 @@
 -- A call's operand (document 01, 'Corners in write.rs'; TN5177, section 4.7): what `operandOf` makes of it calls the subroutine with the new
 -- number, and is a reading.
-use Prim.Native.Nat.{ℕ, zero, suc, _+_, _-_, _*_, _/_, _%_, _^_, _≤_, _<_}
+use Prim.Native.Nat.{ℕ, suc, _+_, _-_, _*_, _/_, _%_, _≤_, _<_}
 use mathlib.Core.Path.{_≡_, refl, sym, ap, _∙_, subst}
 use mathlib.Core.Bool.{Bool, true, false}
 use native.Mathlib.Nat.{eq-of-mul-eq-mul-right}
@@ -11,13 +11,13 @@ use lib.IntN.{ℤ, pos, negsuc, negℤ}
 use lib.Ieee.{Float, nan, inf, fin, binary32, round, down}
 use lib.Ieee.Exact.{HasValue}
 use lib.Ieee.Fits.{down-pos}
-use borrow.Author.Tests.{lt-ltb, le-leb, lt-leb, eq-eqb, ltb-true, ltb-false}
+use borrow.Author.Tests.{lt-ltb, le-leb, lt-leb, eq-eqb, ltb-true}
 use Rattle.octets.specs.Pick.{pick, pick-ind}
-use Rattle.type2_number.specs.Number.{mag, keep24, rounded, whole, Reading}
+use Rattle.type2_number.specs.Number.{keep24, rounded, whole, Reading}
 use Rattle.type2_number.specs.Rounding.{kept-val, keep-val, rounded-pos}
 use Rattle.charstring.specs.Bias.{biasOf}
-use Rattle.unfold.specs.Unfold.{Last, last, Target, nowhere, target, targetOf}
-use Rattle.prune.specs.Renumber.{New, none, new, Operand, fails, becomes, Old, nothing, old, oldOf, newOf, operandFor, operandOf}
+use Rattle.unfold.specs.Unfold.{last, nowhere, target, targetOf}
+use Rattle.prune.specs.Renumber.{New, none, new, becomes, Old, nothing, old, oldOf, newOf, operandFor, operandOf}
 use Rattle.prune.specs.StepLaws.{zero-one}
 
 -- ---- a whole number stands for itself

@@ -1,16 +1,13 @@
 -- A list of tokens that is renumbered, by its first token: what the renumbered list begins with, and what becomes of the rest.
 use Prim.Native.Nat.{ℕ}
-use mathlib.Core.Path.{_≡_, refl, sym, ap, _∙_, subst}
-use mathlib.Core.Bool.{Bool, true, false}
-use mathlib.Core.List.{List, [], _∷_}
-use native.Mathlib.Omega.{arith}
-use lib.Dec.{eqb}
+use mathlib.Core.Path.{_≡_, refl, ap, _∙_}
+use mathlib.Core.Bool.{true, false}
+use mathlib.Core.List.{List, _∷_}
 use lib.IntN.{ℤ}
-use Rattle.octets.specs.Pick.{pick}
 use Rattle.charstring.specs.Token.{Tok, num, op, esc, mask, Body, bad, tokens, tokensOf}
 use Rattle.charstring.specs.Encode.{encode}
 use Rattle.charstring.specs.declared.MaskLen.{MaskLen}
-use Rattle.prune.specs.Renumber.{Operand, fails, becomes, Calls, isCall, Renumbered, failed, done, before, called, Waiting, nobody, waits, kept, calledAfter, renumber, Bytes, bytes, writtenBack, renumberedTokens, renumberCharstring}
+use Rattle.prune.specs.Renumber.{Operand, fails, becomes, Calls, isCall, Renumbered, failed, done, before, called, Waiting, nobody, waits, kept, renumber, bytes, writtenBack, renumberedTokens, renumberCharstring}
 use Rattle.prune.specs.StepLaws.{zero-one}
 
 -- the tokens with the number that waited before them

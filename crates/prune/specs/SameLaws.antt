@@ -1,13 +1,13 @@
 -- Subroutines that stay as they are, where the record lists them: a walk goes the same way over them. For stubbed and copied subroutines.
 use Prim.Native.Nat.{ℕ, zero, suc, _+_}
 use mathlib.Core.Path.{_≡_, refl, sym, ap, _∙_, subst}
-use mathlib.Core.Bool.{Bool, true, false}
+use mathlib.Core.Bool.{true}
 use mathlib.Core.List.{List, [], _∷_, _++_}
 use lib.Dec.{ltb}
 use lib.ListN.{length, getD}
-use Rattle.unfold.specs.Unfold.{op, Row, Site, glyph, local, global, entered, isGlyph, State, Run, broken, returned, ended, Last, none, last, calling, Target, target, targetOf, after, masked, walk, runBody}
+use Rattle.unfold.specs.Unfold.{op, Row, Site, local, global, entered, isGlyph, State, Run, broken, returned, ended, Last, none, last, calling, targetOf, after, masked, walk, runBody}
 use Rattle.prune.specs.Bodies.{All}
-use Rattle.prune.specs.StepLaws.{leaving, maskNow, Step, Stepped, reads, callsLocal, callsGlobal, returns, ends, escapes, masks, clears, walk-was, walk-goes}
+use Rattle.prune.specs.StepLaws.{leaving, maskNow, Step, reads, callsLocal, callsGlobal, returns, ends, escapes, masks, clears, walk-was, walk-goes}
 use Rattle.prune.specs.AlikeLaws.{rowed, Listed, Alike, Follows, unbroken, all-front, all-last, follows-after}
 
 -- the subroutines of a font and of its subset: as many, and those that are listed are the same
@@ -121,3 +121,7 @@ module _ (globals locals : List (List ℕ)) (fd : ℕ) (listed : Row → Type 0)
   backs-body d k site s at l st r e h =
       same-walk globals locals globals locals fd fd listed itself (runBody globals locals fd d) (runBody globals locals fd d)
       (same-body globals locals globals locals fd fd listed itself d) site site refl s k at l st r e h .before
+
+  -- and so do bodies
+  pub body-starts : (d : ℕ) (site : Site) (s : List ℕ) (st : State) (r : Run) → runBody globals locals fd d site s st ≡ r → Listed listed r → All listed (st .met)
+  body-starts d site s st r e h = same-body globals locals globals locals fd fd listed itself d site site s st r refl e h .before

@@ -3,19 +3,18 @@
 use Prim.Native.Nat.{ℕ}
 use mathlib.Core.Path.{_≡_, refl, sym, ap, _∙_, subst}
 use mathlib.Core.List.{List, [], _∷_}
-use native.Mathlib.Omega.{arith}
 use lib.ListN.{length, getD}
-use Rattle.unfold.specs.Unfold.{Tok, Row, Site, glyph, local, global, entered, State, Run, broken, returned, ended, walk, runBody, Glyph, plain, glyphOf, fresh, unfoldGlyph}
+use Rattle.unfold.specs.Unfold.{Tok, Row, Site, glyph, local, global, entered, Run, broken, returned, ended, walk, runBody, plain, glyphOf, fresh, unfoldGlyph}
 use Rattle.octets.specs.Octets.{Octets}
 use Rattle.charstring.specs.Token.{tokensFrom, tokensOf}
 use Rattle.charstring.specs.Encode.{encode}
 use Rattle.charstring.specs.declared.MaskLen.{MaskLen}
-use Rattle.prune.specs.Renumber.{Calls, renumber, Bytes, bytes, renumberCharstring}
+use Rattle.prune.specs.Renumber.{Calls, renumber, bytes, renumberCharstring}
 use Rattle.prune.specs.Bodies.{All, Renumbers}
 use Rattle.prune.specs.StepLaws.{zero-one}
 use Rattle.prune.specs.AlikeLaws.{Listed, Alike}
 use Rattle.prune.specs.SameLaws.{Same, same-body}
-use Rattle.prune.specs.WalkLaws.{Bodies, renumbered-body}
+use Rattle.prune.specs.WalkLaws.{renumbered-body}
 
 -- runs that are alike give glyphs that are alike
 alike-glyph : (listed : Row → Type 0) (r other : Run) (ts : List Tok) (rows : List Row) → glyphOf r ≡ plain ts rows → All listed rows

@@ -2,24 +2,22 @@
 -- where one waits, and call by call.
 use Prim.Native.Nat.{ℕ, zero, suc, _+_, _-_, _≤_, _<_}
 use mathlib.Core.Path.{_≡_, refl, sym, ap, _∙_, subst}
-use mathlib.Core.Bool.{Bool, true, false}
+use mathlib.Core.Bool.{true, false}
 use mathlib.Core.List.{List, [], _∷_, _++_}
 use native.Mathlib.Omega.{arith}
 use lib.Dec.{ltb, eqb}
 use lib.IntN.{ℤ}
-use lib.ListN.{length, take, drop, getD}
+use lib.ListN.{length, getD}
 use borrow.Author.Tests.{lt-ltb, ltb-true}
-use Rattle.octets.specs.Pick.{pick}
 use Rattle.octets.specs.Octets.{Octets}
 use Rattle.charstring.specs.declared.MaskLen.{MaskLen}
-use Rattle.charstring.specs.declared.MaskLen.the-variants.{Given}
-use Rattle.unfold.specs.Unfold.{Tok, num, op, esc, mask, Row, Site, glyph, local, global, entered, masked, isGlyph, isMask, State, Run, broken, returned, ended, Last, none, last, but, calling, meeting, Target, nowhere, target, targetOf, after, walk, runBody}
-use Rattle.prune.specs.Renumber.{Operand, becomes, Calls, isCall, Waiting, nobody, waits, Bytes, bytes, renumberCharstring}
+use Rattle.unfold.specs.Unfold.{Tok, num, op, mask, Row, Site, glyph, local, global, entered, masked, isGlyph, isMask, State, Run, broken, returned, ended, Last, none, last, but, calling, meeting, target, targetOf, after, walk, runBody}
+use Rattle.prune.specs.Renumber.{becomes, Calls, isCall, Waiting, nobody, waits, bytes, renumberCharstring}
 use Rattle.prune.specs.Bodies.{All, Renumbers}
-use Rattle.prune.specs.StepLaws.{zero-one, leaving, stemsNow, maskNow, Clearing, Operator, Step, Stepped, reads, callsLocal, callsGlobal, returns, ends, escapes, masks, clears, walk-was, walk-goes}
+use Rattle.prune.specs.StepLaws.{zero-one, leaving, stemsNow, maskNow, Clearing, Operator, Step, reads, callsLocal, callsGlobal, returns, ends, escapes, masks, clears, walk-was, walk-goes}
 use Rattle.prune.specs.AlikeLaws.{rowed, Listed, Alike, Follows, unbroken, all-front, all-last, follows-after}
 use Rattle.prune.specs.SameLaws.{Backs, backs-none, backs-body}
-use Rattle.prune.specs.BesideLaws.{Number, Beside, Caught, Met, beside-start, beside-number, beside-operator, beside-escape, beside-mask, beside-call}
+use Rattle.prune.specs.BesideLaws.{Beside, Caught, Met, beside-start, beside-number, beside-operator, beside-escape, beside-mask, beside-call}
 
 -- the state with the number that waits, and what a call finds before it
 abbrev waiting : Waiting → State → State
