@@ -3,6 +3,7 @@
 
 mod cases;
 mod charstring_cases;
+mod decimals;
 mod generator;
 mod stubs;
 
@@ -37,12 +38,17 @@ fn main() -> ExitCode {
         eprintln!("the seed is a decimal number, not {seed}");
         return ExitCode::FAILURE;
     };
+    if part == "decimals" {
+        let count = words.next().and_then(|w| w.parse().ok()).unwrap_or(1_000_000);
+        let same = decimals::run(&mut Generator::new(seed), count);
+        return if same { ExitCode::SUCCESS } else { ExitCode::FAILURE };
+    }
     let mut cases = Cases::new();
     let mut random = Generator::new(seed);
     match part.as_str() {
         "charstring" => charstring_cases::all(&mut cases, &mut random),
         _ => {
-            eprintln!("usage: tools/oracle/run charstring [SEED]");
+            eprintln!("usage: tools/oracle/run charstring [SEED] | decimals [SEED] [COUNT]");
             return ExitCode::FAILURE;
         }
     }
