@@ -149,7 +149,7 @@ module _ (b : List ℕ) (at count first gid low high : ℕ) (s : Searches b at c
 -- ---- by the kind of the FDSelect
 
 -- format 0: each range is one glyph
-each-at : (b : List ℕ) (q k first j : ℕ) → j < k → rangesRefusal 0 k first (drop q b) ≡ 0
+pub each-at : (b : List ℕ) (q k first j : ℕ) → j < k → rangesRefusal 0 k first (drop q b) ≡ 0
     → (q + j < length b) × (getD b (q + j) 0 ≡ fdIn 0 k first (drop q b) (first + j))
 each-at b q k first zero m h =
     let e = end-one 0 first (drop q b) refl in

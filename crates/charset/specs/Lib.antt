@@ -11,3 +11,4 @@ pub mod FdCursorLaws
 pub mod FdSearchLaws
 pub mod ListedLaws
 pub mod FdBelowLaws
+pub mod FdFound
