@@ -17,3 +17,6 @@ pub mod EncodingLaws
 pub mod CharsetBytes
 pub mod CharsetBytesLaws
 pub mod CharsetRound
+pub mod FdSelectBytes
+pub mod FdWriter
+pub mod FdWriterLaws
