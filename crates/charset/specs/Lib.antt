@@ -20,3 +20,4 @@ pub mod CharsetRound
 pub mod FdSelectBytes
 pub mod FdWriter
 pub mod FdWriterLaws
+pub mod FdSelectBytesLaws
