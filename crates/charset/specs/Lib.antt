@@ -21,3 +21,4 @@ pub mod FdSelectBytes
 pub mod FdWriter
 pub mod FdWriterLaws
 pub mod FdSelectBytesLaws
+pub mod FdSelectRound
