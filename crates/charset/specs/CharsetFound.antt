@@ -12,12 +12,20 @@ use lib.Dec.{ltb}
 use Rattle.octets.specs.Pick.{pick}
 use Rattle.charset.specs.Listed.{Listed, refused, listed, onward, numbersOf, listOf}
 use Rattle.charset.specs.Charset.{idsFrom, idsIn, charsetAt, isoAdobe, tableAt, predefined, idsOf, GoodCharset, charsetAnswer, charsetStart, nextId, StandsId, ReadyId}
+use Rattle.octets.specs.Octets.{Octets, numAt}
+use Rattle.octets.specs.OctetsLaws.{num-two}
 use Rattle.charset.specs.CharsetLaws.{range-cut}
+use Rattle.charset.specs.IdLaws.{own-id}
+use Rattle.charset.specs.CharsetBytes.{Ids}
 use Rattle.charset.specs.IdCursorLaws.{no, test-passed, id-on, id-met, ready, step-id, step-next}
 use Rattle.charset.specs.declared.Charset.{Charset}
 use Rattle.charset.specs.declared.CharsetAt.{CharsetAt}
 use Rattle.charset.specs.declared.CharsetAt.the-variants.{Refused, Found}
 use Rattle.charset.specs.declared.CharsetCursor.{CharsetCursor}
+
+at-front : (x : ℕ) (l : List ℕ) → x < 65536 → Ids l → Ids (x ∷ l)
+at-front x l h k zero = h
+at-front x l h k (suc j) = k j
 
 -- there is an id for each glyph
 pub ids-length : (w k i left : ℕ) (bs l : List ℕ) → idsFrom w k i left bs ≡ listed l → length l ≡ k
@@ -112,3 +120,24 @@ module _ (b : List ℕ) (u : CharsetCursor) (ids : List ℕ) (k : ℕ) (h : k < 
 
   pub id-next : StandsId b (nextId b u .next) (drop (k + 1) ids)
   id-next = rw add-one (step-next b u (getD ids k 0) (drop (suc k) ids) at-glyph)
+
+-- ---- the ids themselves
+
+-- ids fit two bytes
+ids-small : (b : List ℕ) → Octets b → (w k i left q : ℕ) (l : List ℕ) → idsFrom w k i left (drop q b) ≡ listed l → Ids l
+unfolding idsFrom
+ids-small b o w zero i left q l h j = let e : l ≡ [] = cc in rw e (omega arith)
+ids-small b o w (suc k) i (suc left) q l h j =
+    let r = id-on w k i left (drop q b) l h in
+    rw (r .1) (at-front i (drop 1 l) (r .0) (ids-small b o w k (i + 1) left q (drop 1 l) (r .2)) j)
+ids-small b o w (suc k) i zero q l h j =
+    let r = id-met b q w k i l h in
+    let n : numAt b q 2 < 65536 = omega (arith, num-two b q (omega (arith, r .0)), o q, o (q + 1)) in
+    rw (r .1) (at-front (numAt b q 2) (drop 1 l) n (ids-small b o w k (numAt b q 2 + 1) (numAt b (q + 2) w) (q + 2 + w) (drop 1 l) (r .2)) j)
+
+pub good-small : (b : List ℕ) (c : Charset) (n : ℕ) → Octets b → GoodCharset b c n → Ids (idsOf b c n)
+good-small b c n o g = ids-small b o (c .width) n 0 (c .own) (c .at) (idsOf b c n) (g .sound)
+
+-- glyph 0 has id 0
+pub good-first : (b : List ℕ) (c : Charset) (n : ℕ) → GoodCharset b c n → 0 < c .own → 0 < n → getD (idsOf b c n) 0 0 ≡ 0
+good-first b c n g h m = sym (own-id b c n 0 g m h)

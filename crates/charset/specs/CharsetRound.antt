@@ -11,11 +11,7 @@ use Rattle.octets.specs.Octets.{be, bytesOf}
 use Rattle.octets.specs.OctetsLaws.{length-bytes, be-front, drop-front}
 use Rattle.charset.specs.Listed.{Listed, refused, listed, onward}
 use Rattle.charset.specs.Charset.{idsFrom, idsIn, charsetAt}
-use Rattle.charset.specs.CharsetBytes.{idBytes, charsetBytes}
-
--- ids of two bytes
-abbrev pub Ids : List ℕ → Type 0
-Ids l = (i : ℕ) → getD l i 0 < 65536
+use Rattle.charset.specs.CharsetBytes.{Ids, idBytes, charsetBytes}
 
 each-back : (ids : List ℕ) (i : ℕ) (post : List ℕ) → Ids ids → idsFrom 0 (length ids) i 0 (idBytes ids ++ post) ≡ listed ids
 unfolding idsFrom idBytes be

@@ -6,16 +6,17 @@ use mathlib.Core.List.{List, [], _∷_}
 use native.Mathlib.Nat.{not-suc-le-zero, add-zero}
 use native.Mathlib.Numerals.{add-one, sub-one}
 use native.Mathlib.Omega.{arith}
-use borrow.Author.Tests.{eq-eqb, ne-eqb, le-ltb, ltb-false, eqb-true, eqb-false}
+use borrow.Author.Tests.{eq-eqb, ne-eqb, le-ltb, ltb-true, ltb-false, eqb-true, eqb-false}
 use lib.ListN.{length, take, drop, getD, length-drop}
 use lib.Seq.{drop-cons, drop-drop, length-take-le, getD-take, getD-drop, ext-getD}
 use lib.Dec.{ltb, eqb}
 use Rattle.octets.specs.Pick.{pick, pick-ind}
-use Rattle.octets.specs.Octets.{be, numAt}
+use Rattle.octets.specs.Octets.{Octets, be, numAt}
 use Rattle.charset.specs.Listed.{Listed, refused, listed, numbersOf, listOf}
-use Rattle.charset.specs.ListedLaws.{list-length, list-at, list-same}
+use Rattle.charset.specs.ListedLaws.{list-length, list-at, list-same, list-below}
 use Rattle.charset.specs.FdSelect.{rangeEnd, fdIn, rangesRefusal, judged, rangeFds, fdSelectAt, noFds}
 use Rattle.charset.specs.FdPlaces.{noSelect, eachAt, rangesAt, selectAt, selectAnswer, fdOf, fdsOf, GoodSelect}
+use Rattle.charset.specs.FdSelectBytes.{Fds}
 use Rattle.charset.specs.FdLaws.{end-one, range-on, fd-none}
 use Rattle.charset.specs.FdSearchLaws.{each-at}
 use Rattle.charset.specs.IdCursorLaws.{no, test-passed}
@@ -125,3 +126,19 @@ no-select-good b = record { narrow = omega arith; even = λ h. omega arith; soun
 pub no-select-fds : (b : List ℕ) (n : ℕ) → fdsOf b noSelect n ≡ noFds n
 unfolding fdOf
 no-select-fds b n = list-same (fdOf b noSelect) (λ g. 0) 0 n (λ i. fd-none 0 0 b i)
+
+-- ---- the FDs themselves
+
+-- FDs fit a byte
+fd-small : (b : List ℕ) → Octets b → (w k first q g : ℕ) → fdIn w k first (drop q b) g < 256
+unfolding fdIn
+fd-small b o w zero first q g = omega arith
+fd-small b o w (suc k) first q g =
+    let end = rangeEnd w first (drop q b) in
+    pick-ind (λ (x : ℕ). x < 256) (ltb g first) _ _ (λ t. omega arith)
+    (λ t. pick-ind (λ (x : ℕ). x < 256) (ltb g end) _ _ (λ u. omega (arith, getD-drop q b 0 0, o (q + 0)))
+    (λ u. rw drop-drop (fd-small b o w k end (q + (1 + w)) g)))
+
+pub fds-small : (b : List ℕ) (s : FdSelect) (n : ℕ) → Octets b → Fds (fdsOf b s n)
+unfolding fdOf
+fds-small b s n o i = list-below (fdOf b s) 256 0 n i (omega arith) (fd-small b o (s .wide) (s .count) (s .first) (s .at))

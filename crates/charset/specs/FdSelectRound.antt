@@ -15,7 +15,7 @@ use Rattle.octets.specs.OctetsLaws.{length-bytes, be-front, drop-front}
 use Rattle.charset.specs.Listed.{Listed, refused, listed, listOf}
 use Rattle.charset.specs.ListedLaws.{list-length, list-at}
 use Rattle.charset.specs.FdSelect.{rangeFd, rangeEnd, fdIn, rangesRefusal, judged, rangeFds, fdsIn, fdSelectAt}
-use Rattle.charset.specs.FdSelectBytes.{changes, fdRanges, entryBytes, fdSelectBytes}
+use Rattle.charset.specs.FdSelectBytes.{Fds, changes, fdRanges, entryBytes, fdSelectBytes}
 use Rattle.charset.specs.FdSelectBytesLaws.{changes-few, select-length}
 
 -- what stands behind the FD of a range under way: the ranges that start among glyphs with these FDs, from glyph g on, the count of all
@@ -88,10 +88,6 @@ back last g (x ∷ fds) post h =
     (λ t. rw append-assoc (back-new last g x fds _ _ (omega arith) (rw e at (back x (g + 1) fds post (omega arith)))))
 
 -- ---- the whole table
-
--- FDs of one byte
-abbrev pub Fds : List ℕ → Type 0
-Fds l = (i : ℕ) → getD l i 0 < 256
 
 -- before the first range there is no glyph of FD 256
 not-before : (t : Bool) (x fd : ℕ) → fd < 256 → pick t 256 x ≡ fd → x ≡ fd

@@ -22,3 +22,4 @@ pub mod FdWriter
 pub mod FdWriterLaws
 pub mod FdSelectBytesLaws
 pub mod FdSelectRound
+pub mod Examples

@@ -34,3 +34,9 @@ pub list-same : (f g : ℕ → ℕ) (s n : ℕ) → ((i : ℕ) → f i ≡ g i) 
 unfolding listOf
 list-same f g s zero e = refl
 list-same f g s (suc n) e = ap (λ (x : ℕ). x ∷ listOf f (s + 1) n) (e s) ∙ ap (λ (l : List ℕ). g s ∷ l) (list-same f g (s + 1) n e)
+
+pub list-below : (f : ℕ → ℕ) (m s n i : ℕ) → 0 < m → ((j : ℕ) → f j < m) → getD (listOf f s n) i 0 < m
+unfolding listOf
+list-below f m s zero i h k = h
+list-below f m s (suc n) zero h k = k s
+list-below f m s (suc n) (suc i) h k = list-below f m (s + 1) n i h k
