@@ -1,0 +1,6 @@
+pub mod Decimal
+pub mod Real
+pub mod Number
+pub mod Values
+pub mod Written
+pub mod Examples
