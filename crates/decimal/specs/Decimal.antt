@@ -26,12 +26,14 @@ unfoldable pub stripped : ℕ → ℕ
 unfolding zeros
 stripped n = n / 10 ^ zeros n
 
--- ± n × 10 ^ a / 10 ^ b, normalised: no zero at the end of the digits, no power both up and down
+-- ± m × 10 ^ a / 10 ^ b, with one of the powers 0
+abbrev pub scaled : Bool → ℕ → ℕ → ℕ → Decimal
+scaled s m a b = record { neg = s; digits = m; up = a - b; down = b - a }
+
+-- ± n × 10 ^ a / 10 ^ b, normalised: no zero at the end of the digits, one of the powers 0, and zero without a sign
 unfoldable pub normal : Bool → ℕ → ℕ → ℕ → Decimal
 unfolding zeros stripped
-normal s n a b =
-    pick (eqb n 0) nought
-    (record { neg = s; digits = stripped n; up = (a + zeros n) - b; down = b - (a + zeros n) })
+normal s n a b = pick (eqb n 0) nought (scaled s (stripped n) (a + zeros n) b)
 
 -- a decimal that normalising leaves as it is, within the limits of refusal 5: every number that a DICT holds
 pub record Normal (d : Decimal) : Type 0 where

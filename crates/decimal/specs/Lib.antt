@@ -4,3 +4,8 @@ pub mod Number
 pub mod Values
 pub mod Written
 pub mod Examples
+pub mod DecimalLaws
+pub mod Stage
+pub mod StageLaws
+pub mod RealLaws
+pub mod RunLaws
