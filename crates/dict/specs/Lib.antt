@@ -4,3 +4,6 @@ pub mod Lookup
 pub mod Written
 pub mod Places
 pub mod Examples
+pub mod TokenLaws
+
+pub mod EntryLaws
