@@ -4,8 +4,13 @@ ghost use mathlib.Core.Path.{_≡_};
 ghost use Prim.Native.Nat.{_+_, _≤_, _<_};
 ghost use lib.ListN.{length, getD};
 ghost use Rattle.dict.specs.Op.{copiedTopEntries, copiedTopStrings};
+ghost use Rattle.dict.specs.Dict.{operatorAt, tokenAt, entryAt, dictOf};
+ghost use Rattle.dict.specs.Places.{tokenTold, entryTold, refusalOf, placeOf};
 use decimal::Decimal;
+use decimal::NumberAt;
 use decimal::Signed;
+use decimal::number_at;
+use octets::wide;
 
 // The operators that reader and writer name: the byte of a one-byte operator, or 3072 + e for the escape `12 e`.
 pub struct Op;
@@ -212,4 +217,124 @@ pub fn copied_top_string(k: usize) -> usize
     ensures { λ r. ⌜ r ≡ getD copiedTopStrings k 0 ⌝ }
 {
     COPIED_TOP_STRINGS[k]
+}
+
+// The operator at a position: 12 with the byte after it, else 0 to 21.
+fn operator_at(d: &[u8], at: usize) -> TokenAt
+    requires { ⌜ at < length (now d) ⌝ }
+    ensures { λ r. ⌜ r ≡ tokenTold (operatorAt (now (d .entry)) at) ⌝ }
+{
+    let v = wide(d[at]);
+    if v == 12 {
+        if d.len() - at < 2 {
+            return TokenAt::Refused(1);
+        }
+        let e = wide(d[at + 1]);
+        return TokenAt::Operator {
+            op: Op::ESCAPE + e,
+            next: at + 2,
+        };
+    }
+    if v < 22 {
+        return TokenAt::Operator {
+            op: v,
+            next: at + 1,
+        };
+    }
+    TokenAt::Refused(2)
+}
+
+// What stands at a position.
+fn token_at(d: &[u8], at: usize) -> TokenAt
+    requires { ⌜ at < length (now d) ⌝ }
+    ensures { λ r. ⌜ r ≡ tokenTold (tokenAt (now (d .entry)) at) ⌝ }
+{
+    match number_at(d, at) {
+        NumberAt::Refused(n) => TokenAt::Refused(n),
+        NumberAt::Num { value: _, next } => TokenAt::Operand(next),
+        NumberAt::NotNumber => operator_at(d, at),
+    }
+}
+
+// The entry at a position.
+pub fn read_entry(d: &[u8], start: usize) -> EntryAt
+    requires { ⌜ start < length (now d) ⌝ }
+    ensures { λ r. ⌜ r ≡ entryTold 0 (entryAt (now (d .entry)) start) ⌝ }
+{
+    let mut at = start;
+    let mut count: usize = 0;
+    while at < d.len() {
+        match token_at(d, at) {
+            TokenAt::Operand(next) => {
+                count += 1;
+                at = next;
+            }
+            TokenAt::Operator { op, next } => {
+                return EntryAt::Entry {
+                    op,
+                    end: at,
+                    count,
+                    next,
+                };
+            }
+            TokenAt::Refused(n) => {
+                return EntryAt::Refused(n);
+            }
+        }
+    }
+    EntryAt::Refused(2)
+}
+
+// The refusal of a DICT, or 0: one pass.
+pub fn check_dict(d: &[u8]) -> u8
+    ensures { λ r. ⌜ r ≡ refusalOf (dictOf (now (d .entry))) ⌝ }
+{
+    let mut at: usize = 0;
+    while at < d.len() {
+        match read_entry(d, at) {
+            EntryAt::Entry {
+                op: _,
+                end: _,
+                count: _,
+                next,
+            } => {
+                at = next;
+            }
+            EntryAt::Refused(n) => {
+                return n;
+            }
+        }
+    }
+    0
+}
+
+// Where the last entry of an operator stands: one pass.
+pub fn find_entry(d: &[u8], op: usize) -> Found
+    ensures { λ r. ⌜ r ≡ placeOf op (now (d .entry)) ⌝ }
+{
+    let mut found = Found::Absent;
+    let mut at: usize = 0;
+    while at < d.len() {
+        match read_entry(d, at) {
+            EntryAt::Entry {
+                op: o,
+                end,
+                count,
+                next,
+            } => {
+                if o == op {
+                    found = Found::Entry {
+                        start: at,
+                        end,
+                        count,
+                    };
+                }
+                at = next;
+            }
+            EntryAt::Refused(_) => {
+                return found;
+            }
+        }
+    }
+    found
 }
