@@ -9,3 +9,5 @@ pub mod TokenLaws
 pub mod EntryLaws
 
 pub mod WalkLaws
+
+pub mod LookupLaws

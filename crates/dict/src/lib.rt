@@ -3,9 +3,10 @@
 ghost use mathlib.Core.Path.{_≡_};
 ghost use Prim.Native.Nat.{_+_, _≤_, _<_};
 ghost use lib.ListN.{length, getD};
+ghost use Rattle.decimal.specs.Decimal.{nought};
 ghost use Rattle.dict.specs.Op.{copiedTopEntries, copiedTopStrings};
 ghost use Rattle.dict.specs.Dict.{operatorAt, tokenAt, entryAt, dictOf};
-ghost use Rattle.dict.specs.Places.{tokenTold, entryTold, refusalOf, placeOf};
+ghost use Rattle.dict.specs.Places.{tokenTold, entryTold, refusalOf, placeOf, operandsAt};
 use decimal::Decimal;
 use decimal::NumberAt;
 use decimal::Signed;
@@ -182,6 +183,14 @@ pub enum RosIn {
     },
 }
 
+// Zero is one value.
+const NOUGHT: Decimal = Decimal {
+    neg: false,
+    digits: 0,
+    up: 0,
+    down: 0,
+};
+
 // The entries of the top DICT that a subset carries over as they are, in the order in which it writes them.
 pub const COPIED_TOP_ENTRIES: [usize; 8] = [
     Op::FONT_BBOX,
@@ -337,4 +346,30 @@ pub fn find_entry(d: &[u8], op: usize) -> Found
         }
     }
     found
+}
+
+// The k-th operand from a position on, the first being the 0th; zero where there are not so many.
+pub fn operand(d: &[u8], start: usize, k: usize) -> Decimal
+    ensures { λ r. ⌜ r ≡ getD (operandsAt (k + 1) (now (d .entry)) start) k nought ⌝ }
+{
+    let mut at = start;
+    let mut left = k;
+    while at < d.len() {
+        match number_at(d, at) {
+            NumberAt::Num { value, next } => {
+                if left == 0 {
+                    return value;
+                }
+                left -= 1;
+                at = next;
+            }
+            NumberAt::NotNumber => {
+                return NOUGHT;
+            }
+            NumberAt::Refused(_) => {
+                return NOUGHT;
+            }
+        }
+    }
+    NOUGHT
 }
