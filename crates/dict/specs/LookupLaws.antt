@@ -9,7 +9,7 @@ use native.Mathlib.Omega.{arith}
 use lib.Dec.{ltb, eqb}
 use lib.ListN.{length, getD, List·getD-eq-default}
 use borrow.Author.Tests.{eq-eqb, ne-eqb}
-use Rattle.octets.specs.Pick.{pick}
+use Rattle.octets.specs.Pick.{pick, pick-ind}
 use Rattle.decimal.specs.declared.Decimal.{Decimal}
 use Rattle.decimal.specs.declared.NumberAt.{NumberAt}
 use Rattle.decimal.specs.declared.NumberAt.the-variants.{Refused as RefusedAt, NotNumber, Num}
@@ -20,11 +20,12 @@ use Rattle.dict.specs.Dict.{Entry, Reading, stopped, got, entryAt, follo
 use Rattle.dict.specs.Lookup.{Operands, absent, operands, lastFrom, lastOf, only, oneOf, isThere}
 use Rattle.dict.specs.Places.{refusalOf, listed, entriesOf, Good, lastPlace, placeOf, orNone, operandsAt}
 use Rattle.dict.specs.TokenLaws.{Further, further}
+use Rattle.dict.specs.WalkLaws.{before-refusal}
 use Rattle.dict.specs.EntryLaws.{Stands, Entered, entered}
 use Rattle.dict.specs.declared.Found.{Found}
 use Rattle.dict.specs.declared.Found.the-variants.{Absent, Entry as FoundAt}
 use Rattle.dict.specs.declared.One.{One}
-use Rattle.dict.specs.declared.One.the-variants.{Number as One·Number, Absent as NoNumber}
+use Rattle.dict.specs.declared.One.the-variants.{Number as The, Absent as NoNumber}
 
 no : _≡_ {A = ℕ} 0 1 → ⊥
 no h = omega arith
@@ -101,3 +102,147 @@ module _ (b : List ℕ) (start k at left : ℕ) (w : Skipping b start k at left)
           let p : left ≡ suc (left - 1) = omega arith in
           let q : left - 1 + 1 ≡ left = omega arith in
           record { rest = ap (λ (m : ℕ). getD (operandsAt m b next) (left - 1) nought) q ∙ second (left - 1) p }
+
+-- ---- what was read stands where it was read
+
+unfoldable Chain : List ℕ → ℕ → List Reading → Type 0
+Chain b at [] = Unit
+Chain b at (stopped n ∷ rs) = 0 < n
+Chain b at (got op ds end next ∷ rs) = (operandsAt (length ds) b at ≡ ds) × Chain b next rs
+
+module _ (b : List ℕ) where
+  followed-chain : (at : ℕ) (r : Reading) → Entered b at r → (f : ℕ → List Reading) → ((next : ℕ) → Chain b next (f next)) → Chain b at (followed r f)
+  unfolding Chain
+  followed-chain at (stopped n) p f h = p
+  followed-chain at (got op ds end next) p f h = (p .here, h next)
+
+  from-chain : (k at : ℕ) → Chain b at (readingsFrom k b at)
+  unfolding Chain readingsFrom
+  from-chain zero at = tt
+  from-chain (suc k) at =
+      pick-ind (Chain b at) (ltb at (length b)) _ _ (λ e. followed-chain at (entryAt b at) (entered b at) (readingsFrom k b) (from-chain k)) (λ e. tt)
+
+  chain : (at : ℕ) → Chain b at (readingsAt b at)
+  unfolding readingsAt
+  chain at = from-chain (length b) at
+
+-- a place holds these operands
+pub record Held (b : List ℕ) (start count : ℕ) (ds : List Decimal) : Type 0 where
+  pub counted : count ≡ length ds
+  pub here : operandsAt (length ds) b start ≡ ds
+
+abbrev Matches : List ℕ → Found → Operands → Type 0
+Matches b Absent absent = Unit
+Matches b Absent (operands ds) = ⊥
+Matches b (FoundAt start end count) absent = ⊥
+Matches b (FoundAt start end count) (operands ds) = Held b start count ds
+
+module _ (b : List ℕ) (op : ℕ) where
+  pick-matches : (t : Bool) (f g : Found) (o p : Operands) → Matches b f o → Matches b g p → Matches b (pick t f g) (pick t o p)
+  pick-matches true f g o p m n = m
+  pick-matches false f g o p m n = n
+
+  last-matches : (rs : List Reading) (at : ℕ) (found : Found) (o : Operands) → Chain b at rs → Matches b found o → Matches b (lastPlace op at found rs) (lastFrom op o (listed rs))
+  unfolding Chain lastPlace lastFrom listed
+  last-matches [] at found o c m = m
+  last-matches (stopped n ∷ rs) at found o c m = m
+  last-matches (got p ds end next ∷ rs) at found o c m =
+      last-matches rs next (pick (eqb p op) (FoundAt at end (length ds)) found) (pick (eqb p op) (operands ds) o) (c .1)
+      (pick-matches (eqb p op) (FoundAt at end (length ds)) found (operands ds) o (record { counted = refl; here = c .0 }) m)
+
+  place-matches : Matches b (placeOf op b) (lastOf op (entriesOf b))
+  unfolding lastOf
+  place-matches = last-matches (readingsAt b 0) 0 Absent absent (chain b 0) tt
+
+-- the operands at the place that was found are those of the last entry
+pub record Last (b : List ℕ) (op start count : ℕ) : Type 0 where
+  pub numbers : List Decimal
+  pub last : lastOf op (entriesOf b) ≡ operands numbers
+  pub held : Held b start count numbers
+
+absent-of : (b : List ℕ) (o : Operands) → Matches b Absent o → o ≡ absent
+absent-of b absent m = refl
+absent-of b (operands ds) m = absurd m
+
+last-of : (b : List ℕ) (op start end count : ℕ) (o : Operands) → lastOf op (entriesOf b) ≡ o → Matches b (FoundAt start end count) o → Last b op start count
+last-of b op start end count absent e m = absurd m
+last-of b op start end count (operands ds) e m = record { numbers = ds; last = e; held = m }
+
+module _ (b : List ℕ) (op : ℕ) (r : Found) (e : r ≡ placeOf op b) where
+  found-matches : (f : Found) → r ≡ f → Matches b f (lastOf op (entriesOf b))
+  found-matches f q = subst (λ (x : Found). Matches b x (lastOf op (entriesOf b))) (sym e ∙ q) (place-matches b op)
+
+  pub none-last : r ≡ Absent → lastOf op (entriesOf b) ≡ absent
+  none-last q = absent-of b (lastOf op (entriesOf b)) (found-matches Absent q)
+
+  pub found-last : (start end count : ℕ) → r ≡ FoundAt start end count → Last b op start count
+  found-last start end count q = last-of b op start end count (lastOf op (entriesOf b)) refl (found-matches (FoundAt start end count) q)
+
+-- ---- the k-th of them
+
+module _ (b : List ℕ) where
+  operand-same : (k n m at : ℕ) (q : Number) → numberAt b at ≡ q → k < n → k < m → getD (operandsAt n b at) k nought ≡ getD (operandsAt m b at) k nought
+  unfolding operandsAt
+  operand-same k zero m at q e h l = absurd (not-suc-le-zero h)
+  operand-same k (suc n) zero at q e h l = absurd (not-suc-le-zero l)
+  operand-same k (suc n) (suc m) at (refusedNumber x) e h l = rw e
+  operand-same k (suc n) (suc m) at notNumber e h l = rw e
+  operand-same zero (suc n) (suc m) at (number d next) e h l = rw e
+  operand-same (suc k) (suc n) (suc m) at (number d next) e h l = rw e (operand-same k n m next (numberAt b next) refl (omega arith) (omega arith))
+
+  held-operand : (start count : ℕ) (ds : List Decimal) → Held b start count ds → (k : ℕ) → k < count → getD (operandsAt (k + 1) b start) k nought ≡ getD ds k nought
+  held-operand start count ds h k l =
+      operand-same k (k + 1) (length ds) start (numberAt b start) refl (omega arith) (omega (arith, h .counted)) ∙ ap (λ (x : List Decimal). getD x k nought) (h .here)
+
+  pub last-operand : (op start count : ℕ) (l : Last b op start count) (k : ℕ) (v : Decimal) → k < count → v ≡ getD (operandsAt (k + 1) b start) k nought → v ≡ getD (l .numbers) k nought
+  last-operand op start count l k v h e = e ∙ held-operand start count (l .numbers) (l .held) k h
+
+-- ---- one operand
+
+only-one : (ds : List Decimal) → length ds ≡ 1 → The (getD ds 0 nought) ≡ only (operands ds)
+only-one [] e = absurd (no e)
+only-one (d ∷ []) e = refl
+only-one (d ∷ f ∷ ds) e = absurd (no (omega arith))
+
+only-other : (ds : List Decimal) → (length ds ≡ 1 → ⊥) → NoNumber ≡ only (operands ds)
+only-other [] e = refl
+only-other (d ∷ []) e = absurd (e refl)
+only-other (d ∷ f ∷ ds) e = refl
+
+module _ (b : List ℕ) (op : ℕ) (r : Found) (e : r ≡ placeOf op b) where
+  pub one-absent : r ≡ Absent → NoNumber ≡ oneOf op (entriesOf b)
+  one-absent q = sym (ap only (none-last b op r e q))
+
+  module _ (start end count : ℕ) (q : r ≡ FoundAt start end count) where
+    pub one-other : (count ≡ 1 → ⊥) → NoNumber ≡ oneOf op (entriesOf b)
+    one-other n =
+        let l = found-last b op r e start end count q in
+        only-other (l .numbers) (λ z. n (l .held .counted ∙ z)) ∙ sym (ap only (l .last))
+
+    pub one-is : count ≡ 1 → (v : Decimal) → v ≡ getD (operandsAt 1 b start) 0 nought → The v ≡ oneOf op (entriesOf b)
+    one-is n v f =
+        let l = found-last b op r e start end count q in
+        ap The (last-operand b op start count l 0 v (omega arith) f) ∙ only-one (l .numbers) (sym (l .held .counted) ∙ n) ∙ sym (ap only (l .last))
+
+  pub there-not : r ≡ Absent → false ≡ isThere (lastOf op (entriesOf b))
+  there-not q = sym (ap isThere (none-last b op r e q))
+
+  pub there-is : (start end count : ℕ) → r ≡ FoundAt start end count → true ≡ isThere (lastOf op (entriesOf b))
+  there-is start end count q = sym (ap isThere (found-last b op r e start end count q .last))
+
+-- ---- a DICT that is not refused holds the entries that were read
+
+gathered-listed : (b : List ℕ) (at : ℕ) (rs : List Reading) → Chain b at rs → refusalOf (gathered rs) ≡ 0 → gathered rs ≡ entries (listed rs)
+unfolding Chain gathered listed
+gathered-listed b at [] c e = refl
+gathered-listed b at (stopped n ∷ rs) c e = absurd (no (omega arith))
+gathered-listed b at (got op ds end next ∷ rs) c e =
+    ap (before (record { op = op; operands = ds }))
+    (gathered-listed b next rs (c .1) (sym (before-refusal (record { op = op; operands = ds }) (gathered rs)) ∙ e))
+
+pub good-entries : (b : List ℕ) → Good b → dictOf b ≡ entries (entriesOf b)
+unfolding dictOf
+good-entries b g = gathered-listed b 0 (readingsAt b 0) (chain b 0) (g .accepted)
+
+pub entries-are : (b : List ℕ) (es : List Entry) → dictOf b ≡ entries es → entriesOf b ≡ es
+entries-are b es e = let g = good-entries b (record { accepted = ap refusalOf e }) in cc
