@@ -8,16 +8,27 @@ use native.Mathlib.Numerals.{add-one, sub-one}
 use native.Mathlib.Omega.{arith}
 use lib.Dec.{ltb, eqb}
 use lib.ListN.{length, getD, List·getD-eq-default}
-use borrow.Author.Tests.{eq-eqb, ne-eqb}
+use borrow.Author.Tests.{ltb-true, ltb-false}
 use Rattle.octets.specs.Pick.{pick, pick-ind}
+use Rattle.octets.specs.Octets.{Octets}
 use Rattle.decimal.specs.declared.Decimal.{Decimal}
 use Rattle.decimal.specs.declared.NumberAt.{NumberAt}
 use Rattle.decimal.specs.declared.NumberAt.the-variants.{Refused as RefusedAt, NotNumber, Num}
-use Rattle.decimal.specs.Decimal.{nought}
+use Rattle.decimal.specs.declared.IdOf.{IdOf}
+use Rattle.decimal.specs.declared.IdOf.the-variants.{Absent as NoId}
+use Rattle.decimal.specs.declared.OffsetOf.{OffsetOf}
+use Rattle.decimal.specs.declared.OffsetOf.the-variants.{Refused as RefusedOffset, Offset}
+use Rattle.decimal.specs.declared.Signed.{Signed}
+use Rattle.decimal.specs.Decimal.{nought, Normal}
+use Rattle.decimal.specs.DecimalLaws.{normal-nought}
+use Rattle.decimal.specs.TakenLaws.{whole-normal, number-taken}
+use Rattle.decimal.specs.Values.{truncOf, clamped, i32Of, idOf, offsetOf, isTwo}
 use Rattle.decimal.specs.Number.{Number, refused as refusedNumber, notNumber, number, numberAt, answerOf}
 use Rattle.decimal.specs.NumberLaws.{form-none}
 use Rattle.dict.specs.Dict.{Entry, Reading, stopped, got, entryAt, followed, readingsFrom, readingsAt, Dict, refused, entries, before, gathered, dictOf}
-use Rattle.dict.specs.Lookup.{Operands, absent, operands, lastFrom, lastOf, only, oneOf, isThere}
+use Rattle.dict.specs.Lookup.{Operands, absent, operands, lastFrom, lastOf, only, oneOf, offsetTold, offsetAs, offsetIn, privateAs, privateIn, idAs, idIn, isThere, rosAs, rosIn, countAs, cidCountIn, typeAs, charstringTypeIn}
+use Rattle.dict.specs.Op.{private, charstringType, ros, cidCount}
+use Rattle.dict.specs.Written.{AllNormal}
 use Rattle.dict.specs.Places.{refusalOf, listed, entriesOf, Good, lastPlace, placeOf, orNone, operandsAt}
 use Rattle.dict.specs.TokenLaws.{Further, further}
 use Rattle.dict.specs.WalkLaws.{before-refusal}
@@ -26,6 +37,11 @@ use Rattle.dict.specs.declared.Found.{Found}
 use Rattle.dict.specs.declared.Found.the-variants.{Absent, Entry as FoundAt}
 use Rattle.dict.specs.declared.One.{One}
 use Rattle.dict.specs.declared.One.the-variants.{Number as The, Absent as NoNumber}
+use Rattle.dict.specs.declared.OffsetIn.the-variants.{Refused as RefusedIn, At, Absent as NoOffset}
+use Rattle.dict.specs.declared.PrivateIn.{PrivateIn}
+use Rattle.dict.specs.declared.PrivateIn.the-variants.{Refused as RefusedPrivate, Private, Absent as NoPrivate}
+use Rattle.dict.specs.declared.RosIn.{RosIn}
+use Rattle.dict.specs.declared.RosIn.the-variants.{Ros, None}
 
 no : _≡_ {A = ℕ} 0 1 → ⊥
 no h = omega arith
@@ -229,6 +245,155 @@ module _ (b : List ℕ) (op : ℕ) (r : Found) (e : r ≡ placeOf op b) where
 
   pub there-is : (start end count : ℕ) → r ≡ FoundAt start end count → true ≡ isThere (lastOf op (entriesOf b))
   there-is start end count q = sym (ap isThere (found-last b op r e start end count q .last))
+
+-- ---- its numbers are normal
+
+module _ (b : List ℕ) (o : Octets b) where
+  none-normal : (q : Number) (f : ℕ → List Decimal) → ((d : Decimal) (next : ℕ) → q ≡ number d next → Normal d) → ((next : ℕ) → AllNormal (f next)) → AllNormal (orNone q f)
+  unfolding AllNormal
+  none-normal (refusedNumber n) f h l = tt
+  none-normal notNumber f h l = tt
+  none-normal (number d next) f h l = (h d next refl, l next)
+
+  number-normal : (at : ℕ) (d : Decimal) (next : ℕ) → numberAt b at ≡ number d next → (t : Bool) → ltb at (length b) ≡ t → Normal d
+  number-normal at d next e true h = number-taken b at d next o (ltb-true at (length b) h) e .normal
+  number-normal at d next e false h = absurd (no (let f = number-out b at (ltb-false at (length b) h) in cc))
+
+  pub operands-normal : (n at : ℕ) → AllNormal (operandsAt n b at)
+  unfolding operandsAt AllNormal
+  operands-normal zero at = tt
+  operands-normal (suc n) at =
+      none-normal (numberAt b at) (operandsAt n b) (λ d next e. number-normal at d next e (ltb at (length b)) refl) (operands-normal n)
+
+  pub nought-normal : Normal nought
+  nought-normal = subst Normal (normal-nought false 0 0) (whole-normal false 0 (omega arith))
+
+  one-of : (ds : List Decimal) (k : ℕ) → AllNormal ds → Normal (getD ds k nought)
+  unfolding AllNormal
+  one-of [] k h = nought-normal
+  one-of (d ∷ ds) zero h = h .0
+  one-of (d ∷ ds) (suc k) h = one-of ds k (h .1)
+
+  pub operand-normal : (n at k : ℕ) (v : Decimal) → v ≡ getD (operandsAt n b at) k nought → Normal v
+  operand-normal n at k v e = subst Normal (sym e) (one-of (operandsAt n b at) k (operands-normal n at))
+
+  only-normal : (f : Found) (p : Operands) → Matches b f p → (v : Decimal) → only p ≡ The v → Normal v
+  only-normal f absent m v e = absurd (no cc)
+  only-normal f (operands []) m v e = absurd (no cc)
+  only-normal Absent (operands (d ∷ [])) m v e = absurd m
+  only-normal (FoundAt start end count) (operands (d ∷ [])) m v e =
+      let k : d ≡ v = cc in
+      let l = subst AllNormal (m .here) (operands-normal 1 start) in
+      subst Normal k (one-of (d ∷ []) 0 l)
+  only-normal f (operands (d ∷ x ∷ ds)) m v e = absurd (no cc)
+
+  pub one-normal : (op : ℕ) (r : One) (v : Decimal) → r ≡ oneOf op (entriesOf b) → r ≡ The v → Normal v
+  one-normal op r v e f = only-normal (placeOf op b) (lastOf op (entriesOf b)) (place-matches b op) v (sym e ∙ f)
+
+-- ---- what the one operand says
+
+module _ (es : List Entry) (op : ℕ) (r : One) (e : r ≡ oneOf op es) where
+  pub offset-absent : r ≡ NoNumber → NoOffset ≡ offsetIn op es
+  offset-absent f = ap offsetAs (sym f ∙ e)
+
+  module _ (v : Decimal) (f : r ≡ The v) (q : OffsetOf) (g : q ≡ offsetOf v) where
+    pub offset-refused : (n : ℕ) → q ≡ RefusedOffset n → RefusedIn n ≡ offsetIn op es
+    offset-refused n h = ap offsetTold (sym h ∙ g) ∙ ap offsetAs (sym f ∙ e)
+
+    pub offset-at : (at : ℕ) → q ≡ Offset at → At at ≡ offsetIn op es
+    offset-at at h = ap offsetTold (sym h ∙ g) ∙ ap offsetAs (sym f ∙ e)
+
+  pub id-absent : r ≡ NoNumber → NoId ≡ idIn op es
+  id-absent f = ap idAs (sym f ∙ e)
+
+  pub id-is : (v : Decimal) (q : IdOf) → r ≡ The v → q ≡ idOf v → q ≡ idIn op es
+  id-is v q f g = g ∙ ap idAs (sym f ∙ e)
+
+module _ (es : List Entry) (r : One) where
+  pub count-absent : r ≡ oneOf cidCount es → r ≡ NoNumber → 8720 ≡ cidCountIn es
+  count-absent e f = ap countAs (sym f ∙ e)
+
+  pub count-is : (v : Decimal) (n : ℕ) → r ≡ oneOf cidCount es → r ≡ The v → n ≡ clamped 4294967295 v → n ≡ cidCountIn es
+  count-is v n e f g = g ∙ ap countAs (sym f ∙ e)
+
+  pub type-absent : r ≡ oneOf charstringType es → r ≡ NoNumber → 0 ≡ charstringTypeIn es
+  type-absent e f = ap typeAs (sym f ∙ e)
+
+  module _ (v : Decimal) (t : Bool) (e : r ≡ oneOf charstringType es) (f : r ≡ The v) (g : t ≡ isTwo v) where
+    pub type-two : t ≡ true → 0 ≡ charstringTypeIn es
+    type-two h = ap (λ (x : Bool). pick x 0 3) (sym h ∙ g) ∙ ap typeAs (sym f ∙ e)
+
+    pub type-other : t ≡ false → 3 ≡ charstringTypeIn es
+    type-other h = ap (λ (x : Bool). pick x 0 3) (sym h ∙ g) ∙ ap typeAs (sym f ∙ e)
+
+-- ---- two operands, and three
+
+private-two : (ds : List Decimal) → length ds ≡ 2 → privateAs (operands (getD ds 0 nought ∷ getD ds 1 nought ∷ [])) ≡ privateAs (operands ds)
+private-two [] e = absurd (no (omega arith))
+private-two (s ∷ []) e = absurd (no (omega arith))
+private-two (s ∷ o ∷ []) e = refl
+private-two (s ∷ o ∷ d ∷ ds) e = absurd (no (omega arith))
+
+private-other : (ds : List Decimal) → (length ds ≡ 2 → ⊥) → RefusedPrivate 2 ≡ privateAs (operands ds)
+private-other [] n = refl
+private-other (s ∷ []) n = refl
+private-other (s ∷ o ∷ []) n = absurd (n refl)
+private-other (s ∷ o ∷ d ∷ ds) n = refl
+
+ros-three : (ds : List Decimal) → length ds ≡ 3 → rosAs (operands (getD ds 0 nought ∷ getD ds 1 nought ∷ getD ds 2 nought ∷ [])) ≡ rosAs (operands ds)
+ros-three [] e = absurd (no (omega arith))
+ros-three (r ∷ []) e = absurd (no (omega arith))
+ros-three (r ∷ o ∷ []) e = absurd (no (omega arith))
+ros-three (r ∷ o ∷ s ∷ []) e = refl
+ros-three (r ∷ o ∷ s ∷ d ∷ ds) e = absurd (no (omega arith))
+
+ros-other : (ds : List Decimal) → (length ds ≡ 3 → ⊥) → None ≡ rosAs (operands ds)
+ros-other [] n = refl
+ros-other (r ∷ []) n = refl
+ros-other (r ∷ o ∷ []) n = refl
+ros-other (r ∷ o ∷ s ∷ []) n = absurd (n refl)
+ros-other (r ∷ o ∷ s ∷ d ∷ ds) n = refl
+
+module _ (b : List ℕ) (r : Found) where
+  module _ (e : r ≡ placeOf private b) where
+    pub private-absent : r ≡ Absent → NoPrivate ≡ privateIn (entriesOf b)
+    private-absent q = sym (ap privateAs (none-last b private r e q))
+
+    module _ (start end count : ℕ) (q : r ≡ FoundAt start end count) where
+      pub private-wrong : (count ≡ 2 → ⊥) → RefusedPrivate 2 ≡ privateIn (entriesOf b)
+      private-wrong n =
+          let l = found-last b private r e start end count q in
+          private-other (l .numbers) (λ z. n (l .held .counted ∙ z)) ∙ sym (ap privateAs (l .last))
+
+      pub private-is : count ≡ 2 → (s o : Decimal) → s ≡ getD (operandsAt 1 b start) 0 nought → o ≡ getD (operandsAt 2 b start) 1 nought
+          → (x : PrivateIn) → x ≡ privateAs (operands (s ∷ o ∷ [])) → x ≡ privateIn (entriesOf b)
+      private-is n s o f g x h =
+          let l = found-last b private r e start end count q in
+          let u = last-operand b private start count l 0 s (omega arith) f in
+          let v = last-operand b private start count l 1 o (omega arith) g in
+          h ∙ ap (λ (y : Decimal). privateAs (operands (y ∷ o ∷ []))) u ∙ ap (λ (y : Decimal). privateAs (operands (getD (l .numbers) 0 nought ∷ y ∷ []))) v
+          ∙ private-two (l .numbers) (sym (l .held .counted) ∙ n) ∙ sym (ap privateAs (l .last))
+
+  module _ (e : r ≡ placeOf ros b) where
+    pub ros-absent : r ≡ Absent → None ≡ rosIn (entriesOf b)
+    ros-absent q = sym (ap rosAs (none-last b ros r e q))
+
+    module _ (start end count : ℕ) (q : r ≡ FoundAt start end count) where
+      pub ros-wrong : (count ≡ 3 → ⊥) → None ≡ rosIn (entriesOf b)
+      ros-wrong n =
+          let l = found-last b ros r e start end count q in
+          ros-other (l .numbers) (λ z. n (l .held .counted ∙ z)) ∙ sym (ap rosAs (l .last))
+
+      pub ros-is : count ≡ 3 → (g o s : Decimal) → g ≡ getD (operandsAt 1 b start) 0 nought → o ≡ getD (operandsAt 2 b start) 1 nought
+          → s ≡ getD (operandsAt 3 b start) 2 nought → (x : RosIn) → x ≡ rosAs (operands (g ∷ o ∷ s ∷ [])) → x ≡ rosIn (entriesOf b)
+      ros-is n g o s h i j x k =
+          let l = found-last b ros r e start end count q in
+          let u = last-operand b ros start count l 0 g (omega arith) h in
+          let v = last-operand b ros start count l 1 o (omega arith) i in
+          let w = last-operand b ros start count l 2 s (omega arith) j in
+          k ∙ ap (λ (y : Decimal). rosAs (operands (y ∷ o ∷ s ∷ []))) u ∙ ap (λ (y : Decimal). rosAs (operands (getD (l .numbers) 0 nought ∷ y ∷ s ∷ []))) v
+          ∙ ap (λ (y : Decimal). rosAs (operands (getD (l .numbers) 0 nought ∷ getD (l .numbers) 1 nought ∷ y ∷ []))) w
+          ∙ ros-three (l .numbers) (sym (l .held .counted) ∙ n) ∙ sym (ap rosAs (l .last))
 
 -- ---- a DICT that is not refused holds the entries that were read
 
