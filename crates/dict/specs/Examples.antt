@@ -2,19 +2,17 @@
 use Prim.Native.Nat.{ℕ}
 use mathlib.Core.Path.{_≡_, refl}
 use mathlib.Core.Bool.{Bool, true, false}
-use mathlib.Core.List.{List, [], _∷_, _++_}
-use Rattle.octets.specs.Octets.{be, numAt, bytesOf}
+use mathlib.Core.List.{List, [], _∷_}
+use Rattle.octets.specs.Octets.{be, numAt}
 use Rattle.decimal.specs.declared.Decimal.{Decimal}
 use Rattle.decimal.specs.declared.IdOf.the-variants.{Id, Absent as NoId}
 use Rattle.decimal.specs.Decimal.{nought, zerosOf, zeros, stripped, normal}
 use Rattle.decimal.specs.Real.{nibbles, textOf, expDigits, exponent, mantissa, formOf, valueOf}
 use Rattle.decimal.specs.Number.{realAt, numberAt}
 use Rattle.decimal.specs.Values.{truncOf}
-use Rattle.decimal.specs.Written.{int5Bytes, intBytes, digitsOf, widthIn, widthOf, realText, packed, realBytes, numberBytes}
-use Rattle.dict.specs.Op.{esc, subrs}
+use Rattle.dict.specs.Op.{esc}
 use Rattle.dict.specs.Dict.{Entry, Dict, refused, entries, operatorAt, tokenAt, entryFrom, entryAt, readingsFrom, readingsAt, gathered, dictOf}
 use Rattle.dict.specs.Lookup.{Operands, absent, operands, lastFrom, lastOf, oneOf, offsetIn, privateIn, idIn, cidKeyed, rosIn, cidCountIn, charstringTypeIn}
-use Rattle.dict.specs.Written.{opBytes, operandsBytes, entryBytes, entriesBytes, offsetEntry, privateEntry, without, privateBytes}
 use Rattle.dict.specs.Places.{listed, entriesOf, lastPlace, placeOf, operandsAt}
 use Rattle.dict.specs.declared.One.the-variants.{Number, Absent as NoNumber}
 use Rattle.dict.specs.declared.OffsetIn.the-variants.{Refused, At, Absent as NoOffset}
@@ -102,16 +100,6 @@ others :
     × (charstringTypeIn (entry (esc 6) (whole 1 ∷ []) ∷ []) ≡ 3)
 unfolding truncOf lastFrom lastOf twice
 others = (refl, refl, refl, refl, refl, refl, refl, refl, refl, refl, refl, refl)
-
--- an entry copied in its shortest form, an escape, offsets in five bytes, and a Private DICT without its Subrs
-written :
-    (entryBytes 5 (nought ∷ record { neg = true; digits = 108; up = 0; down = 0 } ∷ []) ≡ 0x8b ∷ 0xfb ∷ 0x00 ∷ 0x05 ∷ [])
-    × (opBytes (esc 7) ≡ 0x0c ∷ 0x07 ∷ [])
-    × (offsetEntry 17 258 ≡ 0x1d ∷ 0x00 ∷ 0x00 ∷ 0x01 ∷ 0x02 ∷ 0x11 ∷ [])
-    × (privateEntry 1 2 ≡ 0x1d ∷ 0x00 ∷ 0x00 ∷ 0x00 ∷ 0x01 ∷ 0x1d ∷ 0x00 ∷ 0x00 ∷ 0x00 ∷ 0x02 ∷ 0x12 ∷ [])
-    × (privateBytes (entry 20 (whole 1 ∷ []) ∷ entry 19 (whole 2 ∷ []) ∷ entry 20 (whole 3 ∷ []) ∷ []) ≡ 0x8c ∷ 0x14 ∷ 0x8e ∷ 0x14 ∷ [])
-unfolding bytesOf int5Bytes intBytes digitsOf widthIn widthOf truncOf realText packed realBytes numberBytes operandsBytes entriesBytes without
-written = (refl, refl, refl, refl, refl)
 
 -- where the last CharStrings stands in two, and the operand there
 places :

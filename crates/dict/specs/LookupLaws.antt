@@ -28,7 +28,7 @@ use Rattle.decimal.specs.NumberLaws.{form-none}
 use Rattle.dict.specs.Dict.{Entry, Reading, stopped, got, entryAt, followed, readingsFrom, readingsAt, Dict, refused, entries, before, gathered, dictOf}
 use Rattle.dict.specs.Lookup.{Operands, absent, operands, lastFrom, lastOf, only, oneOf, offsetTold, offsetAs, offsetIn, privateAs, privateIn, idAs, idIn, isThere, rosAs, rosIn, countAs, cidCountIn, typeAs, charstringTypeIn}
 use Rattle.dict.specs.Op.{private, charstringType, ros, cidCount}
-use Rattle.dict.specs.Written.{AllNormal}
+use Rattle.dict.specs.Proper.{AllNormal}
 use Rattle.dict.specs.Places.{refusalOf, listed, entriesOf, Good, lastPlace, placeOf, orNone, operandsAt}
 use Rattle.dict.specs.TokenLaws.{Further, further}
 use Rattle.dict.specs.WalkLaws.{before-refusal}
@@ -121,7 +121,7 @@ module _ (b : List ℕ) (start k at left : ℕ) (w : Skipping b start k at left)
 
 -- ---- what was read stands where it was read
 
-unfoldable Chain : List ℕ → ℕ → List Reading → Type 0
+unfoldable pub Chain : List ℕ → ℕ → List Reading → Type 0
 Chain b at [] = Unit
 Chain b at (stopped n ∷ rs) = 0 < n
 Chain b at (got op ds end next ∷ rs) = (operandsAt (length ds) b at ≡ ds) × Chain b next rs
@@ -138,7 +138,7 @@ module _ (b : List ℕ) where
   from-chain (suc k) at =
       pick-ind (Chain b at) (ltb at (length b)) _ _ (λ e. followed-chain at (entryAt b at) (entered b at) (readingsFrom k b) (from-chain k)) (λ e. tt)
 
-  chain : (at : ℕ) → Chain b at (readingsAt b at)
+  pub chain : (at : ℕ) → Chain b at (readingsAt b at)
   unfolding readingsAt
   chain at = from-chain (length b) at
 
