@@ -1,3 +1,5 @@
 pub mod Written
 pub mod Examples
 pub mod OpLaws
+pub mod EntryLaws
+pub mod PrivateLaws
