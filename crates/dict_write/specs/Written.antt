@@ -9,6 +9,7 @@ use Rattle.decimal.specs.declared.Decimal.{Decimal}
 use Rattle.decimal.specs.Written.{numberBytes, int5Bytes}
 use Rattle.dict.specs.Op.{private, subrs}
 use Rattle.dict.specs.Dict.{Entry}
+use Rattle.dict.specs.Lookup.{Operands, absent, operands}
 
 -- one byte, or 12 and the escape's
 abbrev pub opBytes : ℕ → List ℕ
@@ -32,6 +33,11 @@ offsetEntry op value = int5Bytes false value ++ opBytes op
 -- Private: the size and the offset in the five-byte form
 abbrev pub privateEntry : ℕ → ℕ → List ℕ
 privateEntry size offset = int5Bytes false size ++ offsetEntry private offset
+
+-- the last entry of an operator copied, where there is one
+abbrev pub copiedEntry : ℕ → Operands → List ℕ
+copiedEntry op absent = []
+copiedEntry op (operands ds) = entryBytes op ds
 
 -- the entries of other operators
 unfoldable pub without : ℕ → List Entry → List Entry
