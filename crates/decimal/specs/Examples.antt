@@ -13,7 +13,7 @@ use Rattle.decimal.specs.Decimal.{nought, zerosOf, zeros, stripped, norm
 use Rattle.decimal.specs.Real.{nibbles, textOf, expDigits, exponent, mantissa, formOf, valueOf}
 use Rattle.decimal.specs.Number.{Number, refused, notNumber, number, realAt, numberAt}
 use Rattle.decimal.specs.Values.{truncOf, clamped, i32Of, idOf, offsetOf, isTwo}
-use Rattle.decimal.specs.Written.{int5Bytes, intBytes, digitsOf, widthIn, widthOf, realText, packed, realBytes, numberBytes}
+use Rattle.decimal.specs.Written.{int5Bytes, intBytes, digitsOf, widthIn, widthOf, bareText, realText, packed, realBytes, numberBytes}
 
 -- a decimal, its sign first
 abbrev dec : Bool → ℕ → ℕ → ℕ → Decimal
@@ -145,7 +145,7 @@ written-integers :
     × (numberBytes nought ≡ 0x8b ∷ [])
     × (int5Bytes false 1 ≡ 0x1d ∷ 0x00 ∷ 0x00 ∷ 0x00 ∷ 0x01 ∷ [])
     × (int5Bytes true 1 ≡ 0x1d ∷ 0xff ∷ 0xff ∷ 0xff ∷ 0xff ∷ [])
-unfolding bytesOf int5Bytes intBytes digitsOf widthIn widthOf truncOf realText packed realBytes numberBytes
+unfolding bytesOf int5Bytes intBytes digitsOf widthIn widthOf truncOf bareText realText packed realBytes numberBytes
 written-integers = (refl, refl, refl, refl, refl, refl, refl, refl, refl, refl, refl, refl, refl, refl)
 
 -- reals without exponent: 0.001, -2.25, 0.5, -12.5 and 1E10
@@ -155,7 +155,7 @@ written-reals :
     × (numberBytes (dec false 5 0 1) ≡ 0x1e ∷ 0x0a ∷ 0x5f ∷ [])
     × (numberBytes (dec true 125 0 1) ≡ 0x1e ∷ 0xe1 ∷ 0x2a ∷ 0x5f ∷ [])
     × (numberBytes (dec false 1 10 0) ≡ 0x1e ∷ 0x10 ∷ 0x00 ∷ 0x00 ∷ 0x00 ∷ 0x00 ∷ 0x0f ∷ [])
-unfolding bytesOf int5Bytes intBytes digitsOf widthIn widthOf truncOf realText packed realBytes numberBytes
+unfolding bytesOf int5Bytes intBytes digitsOf widthIn widthOf truncOf bareText realText packed realBytes numberBytes
 written-reals = (refl, refl, refl, refl, refl)
 
 -- fractions are dropped towards zero: -0.5 is the id 0, -1 is none; an offset must be whole

@@ -37,13 +37,15 @@ unfoldable pub widthOf : ℕ → ℕ
 unfolding widthIn
 widthOf n = widthIn n n
 
--- the nibbles of a real: a minus where it is negative, the integer part, and where there is a fraction the point and its digits
-unfoldable pub realText : Decimal → List ℕ
+-- the nibbles of a real without its sign: the integer part, and where there is a fraction the point and its digits
+unfoldable pub bareText : Decimal → List ℕ
 unfolding digitsOf widthOf truncOf
-realText d =
-    pick (d .neg) (14 ∷ []) []
-    ++ (digitsOf (widthOf (truncOf d)) (truncOf d)
-    ++ pick (eqb (d .down) 0) [] (10 ∷ digitsOf (d .down) (d .digits)))
+bareText d = digitsOf (widthOf (truncOf d)) (truncOf d) ++ pick (eqb (d .down) 0) [] (10 ∷ digitsOf (d .down) (d .digits))
+
+-- the nibbles of a real: a minus where it is negative
+unfoldable pub realText : Decimal → List ℕ
+unfolding bareText
+realText d = pick (d .neg) (14 ∷ []) [] ++ bareText d
 
 -- two nibbles to a byte, with one or two ends
 unfoldable pub packed : List ℕ → List ℕ

@@ -528,7 +528,7 @@ pub fn number_at(d: &[u8], at: usize) -> NumberAt
 }
 
 // m / 10 ^ k.
-fn scaled_down(m: usize, k: usize) -> usize
+pub fn scaled_down(m: usize, k: usize) -> usize
     ensures { λ r. ⌜ r ≡ m / 10 ^ k ⌝ }
 {
     let mut n = m;
