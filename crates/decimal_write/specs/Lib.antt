@@ -1,0 +1,3 @@
+pub mod IntLaws
+pub mod TextLaws
+pub mod WrittenLaws

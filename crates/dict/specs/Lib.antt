@@ -1,0 +1,11 @@
+pub mod Op
+pub mod Dict
+pub mod Lookup
+pub mod Places
+pub mod Proper
+pub mod Examples
+pub mod TokenLaws
+pub mod EntryLaws
+pub mod WalkLaws
+pub mod LookupLaws
+pub mod ProperLaws

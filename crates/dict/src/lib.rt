@@ -1,0 +1,536 @@
+// A DICT of TN5176, section 4, read in place on a slice that is exactly its bytes (the Rust's Dict and module op in mod.rs), and its
+// entries written (dict_op and DictWriter in write.rs).
+ghost use mathlib.Core.Path.{_≡_};
+ghost use mathlib.Core.List.{[], _∷_};
+ghost use Prim.Native.Nat.{_+_, _≤_, _<_};
+ghost use lib.ListN.{length, getD};
+ghost use Rattle.decimal.specs.Decimal.{nought, Normal};
+ghost use Rattle.dict.specs.Op.{copiedTopEntries, copiedTopStrings};
+ghost use Rattle.dict.specs.Dict.{operatorAt, tokenAt, entryAt, dictOf};
+ghost use Rattle.dict.specs.Lookup.{operands, oneOf, offsetIn, privateAs, privateIn, idIn, cidKeyed, rosAs, rosIn, cidCountIn, charstringTypeIn};
+ghost use Rattle.dict.specs.Places.{tokenTold, entryTold, refusalOf, entriesOf, placeOf, operandsAt};
+use decimal::Decimal;
+use decimal::IdOf;
+use decimal::NumberAt;
+use decimal::OffsetOf;
+use decimal::Signed;
+use decimal::id_of;
+use decimal::is_two;
+use decimal::number_at;
+use decimal::offset_of;
+use decimal::to_i32;
+use decimal::to_u16;
+use decimal::to_u32;
+use decimal::trunc;
+use octets::wide;
+
+// The operators that reader and writer name: the byte of a one-byte operator, or 3072 + e for the escape `12 e`.
+pub struct Op;
+
+impl Op {
+    pub const VERSION: usize = 0;
+
+    pub const NOTICE: usize = 1;
+
+    pub const FULL_NAME: usize = 2;
+
+    pub const FAMILY_NAME: usize = 3;
+
+    pub const WEIGHT: usize = 4;
+
+    pub const FONT_BBOX: usize = 5;
+
+    pub const BLUE_VALUES: usize = 6;
+
+    pub const OTHER_BLUES: usize = 7;
+
+    pub const FAMILY_BLUES: usize = 8;
+
+    pub const FAMILY_OTHER_BLUES: usize = 9;
+
+    pub const STD_HW: usize = 10;
+
+    pub const STD_VW: usize = 11;
+
+    pub const UNIQUE_ID: usize = 13;
+
+    pub const XUID: usize = 14;
+
+    pub const CHARSET: usize = 15;
+
+    pub const ENCODING: usize = 16;
+
+    pub const CHARSTRINGS: usize = 17;
+
+    pub const PRIVATE: usize = 18;
+
+    pub const SUBRS: usize = 19;
+
+    pub const DEFAULT_WIDTH_X: usize = 20;
+
+    pub const NOMINAL_WIDTH_X: usize = 21;
+    // What an escape is counted from: the Rust's 0x0c00, which its byte is or-ed to.
+    pub const ESCAPE: usize = 3072;
+
+    pub const COPYRIGHT: usize = Op::ESCAPE;
+
+    pub const IS_FIXED_PITCH: usize = Op::ESCAPE + 1;
+
+    pub const ITALIC_ANGLE: usize = Op::ESCAPE + 2;
+
+    pub const UNDERLINE_POSITION: usize = Op::ESCAPE + 3;
+
+    pub const UNDERLINE_THICKNESS: usize = Op::ESCAPE + 4;
+
+    pub const PAINT_TYPE: usize = Op::ESCAPE + 5;
+
+    pub const CHARSTRING_TYPE: usize = Op::ESCAPE + 6;
+
+    pub const FONT_MATRIX: usize = Op::ESCAPE + 7;
+
+    pub const STROKE_WIDTH: usize = Op::ESCAPE + 8;
+
+    pub const BLUE_SCALE: usize = Op::ESCAPE + 9;
+
+    pub const BLUE_SHIFT: usize = Op::ESCAPE + 10;
+
+    pub const BLUE_FUZZ: usize = Op::ESCAPE + 11;
+
+    pub const STEM_SNAP_H: usize = Op::ESCAPE + 12;
+
+    pub const STEM_SNAP_V: usize = Op::ESCAPE + 13;
+
+    pub const FORCE_BOLD: usize = Op::ESCAPE + 14;
+
+    pub const LANGUAGE_GROUP: usize = Op::ESCAPE + 17;
+
+    pub const EXPANSION_FACTOR: usize = Op::ESCAPE + 18;
+
+    pub const INITIAL_RANDOM_SEED: usize = Op::ESCAPE + 19;
+
+    pub const SYNTHETIC_BASE: usize = Op::ESCAPE + 20;
+
+    pub const POSTSCRIPT: usize = Op::ESCAPE + 21;
+
+    pub const BASE_FONT_NAME: usize = Op::ESCAPE + 22;
+
+    pub const BASE_FONT_BLEND: usize = Op::ESCAPE + 23;
+
+    pub const ROS: usize = Op::ESCAPE + 30;
+
+    pub const CID_FONT_VERSION: usize = Op::ESCAPE + 31;
+
+    pub const CID_FONT_REVISION: usize = Op::ESCAPE + 32;
+
+    pub const CID_FONT_TYPE: usize = Op::ESCAPE + 33;
+
+    pub const CID_COUNT: usize = Op::ESCAPE + 34;
+
+    pub const UID_BASE: usize = Op::ESCAPE + 35;
+
+    pub const FD_ARRAY: usize = Op::ESCAPE + 36;
+
+    pub const FD_SELECT: usize = Op::ESCAPE + 37;
+
+    pub const FONT_NAME: usize = Op::ESCAPE + 38;
+}
+
+// What stands at a position of a DICT: a refusal's number, an operand, or an operator, with the position after it.
+pub enum TokenAt {
+    Refused(u8),
+    Operand(usize),
+    Operator { op: usize, next: usize },
+}
+
+// The entry at a position: a refusal's number; or its operator, where that stands, how many operands are before it, and the position
+// after it.
+pub enum EntryAt {
+    Refused(u8),
+    Entry {
+        op: usize,
+        end: usize,
+        count: usize,
+        next: usize,
+    },
+}
+
+// Where the operands of the last entry of an operator stand, and how many they are.
+pub enum Found {
+    Absent,
+    Entry {
+        start: usize,
+        end: usize,
+        count: usize,
+    },
+}
+
+// The one operand of an entry.
+pub enum One {
+    Absent,
+    Number(Decimal),
+}
+
+// An entry that is an offset: not there, a refusal's number, or the offset.
+pub enum OffsetIn {
+    Absent,
+    Refused(u8),
+    At(usize),
+}
+
+// A Private entry: not there, a refusal's number, or where the Private DICT is.
+pub enum PrivateIn {
+    Absent,
+    Refused(u8),
+    Private { size: usize, offset: usize },
+}
+
+// A ROS entry: two string ids and a number, or none that can be used.
+pub enum RosIn {
+    None,
+    Ros {
+        registry: usize,
+        ordering: usize,
+        supplement: Signed,
+    },
+}
+
+// Zero is one value.
+const NOUGHT: Decimal = Decimal {
+    neg: false,
+    digits: 0,
+    up: 0,
+    down: 0,
+};
+
+// The entries of the top DICT that a subset carries over as they are, in the order in which it writes them.
+pub const COPIED_TOP_ENTRIES: [usize; 8] = [
+    Op::FONT_BBOX,
+    Op::IS_FIXED_PITCH,
+    Op::ITALIC_ANGLE,
+    Op::UNDERLINE_POSITION,
+    Op::UNDERLINE_THICKNESS,
+    Op::PAINT_TYPE,
+    Op::STROKE_WIDTH,
+    Op::FONT_MATRIX,
+];
+
+// The entries of the top DICT that name a string, which a subset writes under its own ids.
+pub const COPIED_TOP_STRINGS: [usize; 6] = [
+    Op::VERSION,
+    Op::NOTICE,
+    Op::COPYRIGHT,
+    Op::FULL_NAME,
+    Op::FAMILY_NAME,
+    Op::WEIGHT,
+];
+
+// The k-th of them.
+pub fn copied_top_entry(k: usize) -> usize
+    requires { ⌜ k < 8 ⌝ }
+    ensures { λ r. ⌜ r ≡ getD copiedTopEntries k 0 ⌝ }
+{
+    COPIED_TOP_ENTRIES[k]
+}
+
+pub fn copied_top_string(k: usize) -> usize
+    requires { ⌜ k < 6 ⌝ }
+    ensures { λ r. ⌜ r ≡ getD copiedTopStrings k 0 ⌝ }
+{
+    COPIED_TOP_STRINGS[k]
+}
+
+// The operator at a position: 12 with the byte after it, else 0 to 21.
+fn operator_at(d: &[u8], at: usize) -> TokenAt
+    requires { ⌜ at < length (now d) ⌝ }
+    ensures { λ r. ⌜ r ≡ tokenTold (operatorAt (now (d .entry)) at) ⌝ }
+{
+    let v = wide(d[at]);
+    if v == 12 {
+        if d.len() - at < 2 {
+            return TokenAt::Refused(1);
+        }
+        let e = wide(d[at + 1]);
+        return TokenAt::Operator {
+            op: Op::ESCAPE + e,
+            next: at + 2,
+        };
+    }
+    if v < 22 {
+        return TokenAt::Operator {
+            op: v,
+            next: at + 1,
+        };
+    }
+    TokenAt::Refused(2)
+}
+
+// What stands at a position.
+fn token_at(d: &[u8], at: usize) -> TokenAt
+    requires { ⌜ at < length (now d) ⌝ }
+    ensures { λ r. ⌜ r ≡ tokenTold (tokenAt (now (d .entry)) at) ⌝ }
+{
+    match number_at(d, at) {
+        NumberAt::Refused(n) => TokenAt::Refused(n),
+        NumberAt::Num { value: _, next } => TokenAt::Operand(next),
+        NumberAt::NotNumber => operator_at(d, at),
+    }
+}
+
+// The entry at a position.
+pub fn read_entry(d: &[u8], start: usize) -> EntryAt
+    requires { ⌜ start < length (now d) ⌝ }
+    ensures { λ r. ⌜ r ≡ entryTold 0 (entryAt (now (d .entry)) start) ⌝ }
+{
+    let mut at = start;
+    let mut count: usize = 0;
+    while at < d.len() {
+        match token_at(d, at) {
+            TokenAt::Operand(next) => {
+                count += 1;
+                at = next;
+            }
+            TokenAt::Operator { op, next } => {
+                return EntryAt::Entry {
+                    op,
+                    end: at,
+                    count,
+                    next,
+                };
+            }
+            TokenAt::Refused(n) => {
+                return EntryAt::Refused(n);
+            }
+        }
+    }
+    EntryAt::Refused(2)
+}
+
+// The refusal of a DICT, or 0: one pass.
+pub fn check_dict(d: &[u8]) -> u8
+    ensures { λ r. ⌜ r ≡ refusalOf (dictOf (now (d .entry))) ⌝ }
+{
+    let mut at: usize = 0;
+    while at < d.len() {
+        match read_entry(d, at) {
+            EntryAt::Entry {
+                op: _,
+                end: _,
+                count: _,
+                next,
+            } => {
+                at = next;
+            }
+            EntryAt::Refused(n) => {
+                return n;
+            }
+        }
+    }
+    0
+}
+
+// Where the last entry of an operator stands: one pass.
+pub fn find_entry(d: &[u8], op: usize) -> Found
+    ensures { λ r. ⌜ r ≡ placeOf op (now (d .entry)) ⌝ }
+{
+    let mut found = Found::Absent;
+    let mut at: usize = 0;
+    while at < d.len() {
+        match read_entry(d, at) {
+            EntryAt::Entry {
+                op: o,
+                end,
+                count,
+                next,
+            } => {
+                if o == op {
+                    found = Found::Entry {
+                        start: at,
+                        end,
+                        count,
+                    };
+                }
+                at = next;
+            }
+            EntryAt::Refused(_) => {
+                return found;
+            }
+        }
+    }
+    found
+}
+
+// The k-th operand from a position on, the first being the 0th; zero where there are not so many.
+pub fn operand(d: &[u8], start: usize, k: usize) -> Decimal
+    ensures { λ r. ⌜ r ≡ getD (operandsAt (k + 1) (now (d .entry)) start) k nought ⌝ }
+{
+    let mut at = start;
+    let mut left = k;
+    while at < d.len() {
+        match number_at(d, at) {
+            NumberAt::Num { value, next } => {
+                if left == 0 {
+                    return value;
+                }
+                left -= 1;
+                at = next;
+            }
+            NumberAt::NotNumber => {
+                return NOUGHT;
+            }
+            NumberAt::Refused(_) => {
+                return NOUGHT;
+            }
+        }
+    }
+    NOUGHT
+}
+
+// The one operand of an operator's last entry.
+pub fn number(d: &[u8], op: usize) -> One
+    ensures { λ r. ⌜ r ≡ oneOf op (entriesOf (now (d .entry))) ⌝ }
+{
+    match find_entry(d, op) {
+        Found::Absent => One::Absent,
+        Found::Entry {
+            start,
+            end: _,
+            count,
+        } => {
+            if count == 1 {
+                return One::Number(operand(d, start, 0));
+            }
+            One::Absent
+        }
+    }
+}
+
+// Whether a font of this top DICT is CID-keyed: ROS is there, with whatever operands.
+pub fn is_cid_keyed(d: &[u8]) -> bool
+    ensures { λ r. ⌜ r ≡ cidKeyed (entriesOf (now (d .entry))) ⌝ }
+{
+    match find_entry(d, Op::ROS) {
+        Found::Absent => false,
+        Found::Entry {
+            start: _,
+            end: _,
+            count: _,
+        } => true,
+    }
+}
+
+// The offset that an entry holds.
+pub fn offset(d: &[u8], op: usize) -> OffsetIn
+    ensures { λ r. ⌜ r ≡ offsetIn op (entriesOf (now (d .entry))) ⌝ }
+{
+    match number(d, op) {
+        One::Absent => OffsetIn::Absent,
+        One::Number(v) => match offset_of(v) {
+            OffsetOf::Refused(n) => OffsetIn::Refused(n),
+            OffsetOf::Offset(at) => OffsetIn::At(at),
+        },
+    }
+}
+
+// The string id that an entry holds.
+pub fn string_id(d: &[u8], op: usize) -> IdOf
+    ensures { λ r. ⌜ r ≡ idIn op (entriesOf (now (d .entry))) ⌝ }
+{
+    match number(d, op) {
+        One::Absent => IdOf::Absent,
+        One::Number(v) => id_of(v),
+    }
+}
+
+// CIDCount.
+pub fn cid_count(d: &[u8]) -> usize
+    ensures { λ r. ⌜ r ≡ cidCountIn (entriesOf (now (d .entry))) ⌝ }
+{
+    match number(d, Op::CID_COUNT) {
+        One::Absent => 8720,
+        One::Number(v) => to_u32(v),
+    }
+}
+
+// The refusal of a CharstringType other than 2, or 0.
+pub fn charstring_type(d: &[u8]) -> u8
+    ensures { λ r. ⌜ r ≡ charstringTypeIn (entriesOf (now (d .entry))) ⌝ }
+{
+    match number(d, Op::CHARSTRING_TYPE) {
+        One::Absent => 0,
+        One::Number(v) => {
+            if is_two(v) {
+                return 0;
+            }
+            3
+        }
+    }
+}
+
+// The size and the offset of a Private entry: the signs are tested first, then the fractions dropped.
+fn private_at(size: Decimal, offset: Decimal) -> PrivateIn
+    requires { ⌜ (Normal size) × (Normal offset) ⌝ }
+    ensures { λ r. ⌜ r ≡ privateAs (operands (size ∷ offset ∷ [])) ⌝ }
+{
+    let s = size.neg;
+    let o = offset.neg;
+    if s {
+        return PrivateIn::Refused(2);
+    }
+    if o {
+        return PrivateIn::Refused(2);
+    }
+    PrivateIn::Private {
+        size: trunc(size),
+        offset: trunc(offset),
+    }
+}
+
+// Where the Private DICT is, as the Rust's private_of takes it.
+pub fn private_of(d: &[u8]) -> PrivateIn
+    ensures { λ r. ⌜ r ≡ privateIn (entriesOf (now (d .entry))) ⌝ }
+{
+    match find_entry(d, Op::PRIVATE) {
+        Found::Absent => PrivateIn::Absent,
+        Found::Entry {
+            start,
+            end: _,
+            count,
+        } => {
+            if count == 2 {
+                return private_at(operand(d, start, 0), operand(d, start, 1));
+            }
+            PrivateIn::Refused(2)
+        }
+    }
+}
+
+// The three operands of ROS.
+fn ros_at(registry: Decimal, ordering: Decimal, supplement: Decimal) -> RosIn
+    requires { ⌜ (Normal registry) × (Normal ordering) × (Normal supplement) ⌝ }
+    ensures { λ r. ⌜ r ≡ rosAs (operands (registry ∷ ordering ∷ supplement ∷ [])) ⌝ }
+{
+    RosIn::Ros {
+        registry: to_u16(registry),
+        ordering: to_u16(ordering),
+        supplement: to_i32(supplement),
+    }
+}
+
+// The registry, ordering and supplement of a CID-keyed font.
+pub fn ros(d: &[u8]) -> RosIn
+    ensures { λ r. ⌜ r ≡ rosIn (entriesOf (now (d .entry))) ⌝ }
+{
+    match find_entry(d, Op::ROS) {
+        Found::Absent => RosIn::None,
+        Found::Entry {
+            start,
+            end: _,
+            count,
+        } => {
+            if count == 3 {
+                return ros_at(operand(d, start, 0), operand(d, start, 1), operand(d, start, 2));
+            }
+            RosIn::None
+        }
+    }
+}
