@@ -1,5 +1,6 @@
 -- The cases that document 01 marks with a star, each a theorem about the definitions. Bytes are hexadecimal, as there.
 use mathlib.Core.Path.{_≡_, refl}
+use mathlib.Core.Bool.{Bool, true, false}
 use mathlib.Core.List.{List, [], _∷_}
 use Prim.Native.Nat.{ℕ}
 use Rattle.octets.specs.Octets.{bytesOf}
@@ -9,6 +10,11 @@ use Rattle.charstring.specs.Bias.{biasOf}
 use Rattle.charstring.specs.Token.{tokenAt, tokensFrom, tokensOf}
 use Rattle.charstring.specs.Encode.{encode, bodyBytes}
 use Rattle.charstring.specs.declared.MaskLen.the-variants.{Own}
+use Rattle.decimal.specs.Decimal.{zerosOf, zeros, stripped, normal}
+use Rattle.decimal.specs.Values.{truncOf}
+use Rattle.decimal.specs.Written.{int5Bytes, intBytes, digitsOf, widthIn, widthOf, realText, packed, realBytes}
+use Rattle.decimal.specs.Written as written
+use Rattle.charset.specs.FdSelectBytes.{changes, entryBytes, fdSelectBytes}
 use Rattle.prune.specs.Renumber.{New, none, new, oldOf, operandOf, renumber, bytes, renumberCharstring}
 use lib.Dec.{eqb}
 use Rattle.octets.specs.Pick.{pick}
@@ -46,3 +52,35 @@ third i = pick (eqb i 2) (new 0) none
 renumbered-third : renumberCharstring (λ b z. operandOf third (biasOf 3) (biasOf 1) z) (λ o. Own) (0x22 ∷ 0x0a ∷ 0x0e ∷ []) ≡ bytes (0x20 ∷ 0x0a ∷ 0x0e ∷ [])
 unfolding renumberCharstring renumber oldOf tokensOf tokensFrom tokenAt numberAt rounded keep24 encode numberBytes integerBytes fixedBytes bytesOf
 renumbered-third = refl
+
+-- DICT integers; 2147483647 is a real
+
+dict-108 : written.numberBytes (normal false 108 0 0) ≡ 0xf7 ∷ 0x00 ∷ []
+unfolding written.numberBytes intBytes int5Bytes realBytes packed realText widthOf widthIn digitsOf truncOf normal stripped zeros zerosOf bytesOf
+dict-108 = refl
+
+dict-1131 : written.numberBytes (normal false 1131 0 0) ≡ 0xfa ∷ 0xff ∷ []
+unfolding written.numberBytes intBytes int5Bytes realBytes packed realText widthOf widthIn digitsOf truncOf normal stripped zeros zerosOf bytesOf
+dict-1131 = refl
+
+dict-1132 : written.numberBytes (normal false 1132 0 0) ≡ 0x1c ∷ 0x04 ∷ 0x6c ∷ []
+unfolding written.numberBytes intBytes int5Bytes realBytes packed realText widthOf widthIn digitsOf truncOf normal stripped zeros zerosOf bytesOf
+dict-1132 = refl
+
+dict-minus-1132 : written.numberBytes (normal true 1132 0 0) ≡ 0x1c ∷ 0xfb ∷ 0x94 ∷ []
+unfolding written.numberBytes intBytes int5Bytes realBytes packed realText widthOf widthIn digitsOf truncOf normal stripped zeros zerosOf bytesOf
+dict-minus-1132 = refl
+
+dict-2147483647 : written.numberBytes (normal false 2147483647 0 0) ≡ 0x1e ∷ 0x21 ∷ 0x47 ∷ 0x48 ∷ 0x36 ∷ 0x47 ∷ 0xff ∷ []
+unfolding written.numberBytes intBytes int5Bytes realBytes packed realText widthOf widthIn digitsOf truncOf normal stripped zeros zerosOf bytesOf
+dict-2147483647 = refl
+
+-- reals carry no exponent
+real-thousandth : written.numberBytes (normal false 1 0 3) ≡ 0x1e ∷ 0x0a ∷ 0x00 ∷ 0x1f ∷ []
+unfolding written.numberBytes intBytes int5Bytes realBytes packed realText widthOf widthIn digitsOf truncOf normal stripped zeros zerosOf bytesOf
+real-thousandth = refl
+
+-- FDSelect format 3 of FDs 0 0 1
+fd-select : fdSelectBytes (0 ∷ 0 ∷ 1 ∷ []) ≡ 0x03 ∷ 0x00 ∷ 0x02 ∷ 0x00 ∷ 0x00 ∷ 0x00 ∷ 0x00 ∷ 0x02 ∷ 0x01 ∷ 0x00 ∷ 0x03 ∷ []
+unfolding fdSelectBytes entryBytes changes bytesOf
+fd-select = refl
