@@ -1,17 +1,18 @@
 //! Prints answers of the original Rust, one case a line, for the replay programs of crates/.
-//! The sources under docs/src are compiled here as they are.
+//! The sources under docs/src are compiled here as they are; of cff/ build.rs makes a copy, so that src/opened.rs reaches
+//! its private functions.
 
 mod cases;
 mod charstring_cases;
 mod decimals;
+mod format_cases;
+mod format_dicts;
 mod generator;
 mod stubs;
 
+// `mod cff`, of the copy.
+include!(concat!(env!("OUT_DIR"), "/cff.rs"));
 // `rustfmt::skip` keeps cargo fmt out of docs/src.
-#[rustfmt::skip]
-#[allow(dead_code)]
-#[path = "../../../docs/src/crates/efterscript-fonts/src/cff/mod.rs"]
-mod cff;
 #[rustfmt::skip]
 #[allow(dead_code)]
 #[path = "../../../docs/src/crates/efterscript-fonts/src/encoding.rs"]
@@ -47,8 +48,12 @@ fn main() -> ExitCode {
     let mut random = Generator::new(seed);
     match part.as_str() {
         "charstring" => charstring_cases::all(&mut cases, &mut random),
+        "format" => {
+            format_cases::all(&mut cases, &mut random);
+            format_dicts::all(&mut cases, &mut random);
+        }
         _ => {
-            eprintln!("usage: tools/oracle/run charstring [SEED] | decimals [SEED] [COUNT]");
+            eprintln!("usage: tools/oracle/run charstring [SEED] | format [SEED] | decimals [SEED] [COUNT]");
             return ExitCode::FAILURE;
         }
     }
