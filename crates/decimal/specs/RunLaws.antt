@@ -102,7 +102,7 @@ counted-step spoilt x k h = tt
 
 -- ---- the next nibble
 
-text-end : (x : ℕ) (xs : List ℕ) → x ≡ 15 → textOf (x ∷ xs) ≡ text []
+pub text-end : (x : ℕ) (xs : List ℕ) → x ≡ 15 → textOf (x ∷ xs) ≡ text []
 unfolding textOf
 text-end x xs e = rw (eq-eqb x 15 e)
 
@@ -110,7 +110,7 @@ text-wrong : (x : ℕ) (xs : List ℕ) → x ≡ 13 → textOf (x ∷ xs) ≡ wr
 unfolding textOf
 text-wrong x xs e = rw e
 
-text-more : (x : ℕ) (xs : List ℕ) → (x ≡ 15 → ⊥) → (x ≡ 13 → ⊥) → textOf (x ∷ xs) ≡ before x (textOf xs)
+pub text-more : (x : ℕ) (xs : List ℕ) → (x ≡ 15 → ⊥) → (x ≡ 13 → ⊥) → textOf (x ∷ xs) ≡ before x (textOf xs)
 unfolding textOf
 text-more x xs e f = rw (ne-eqb x 15 e, ne-eqb x 13 f)
 

@@ -1,3 +1,4 @@
 pub mod IntLaws
 pub mod TextLaws
 pub mod WrittenLaws
+pub mod WrittenRound
