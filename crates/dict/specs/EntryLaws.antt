@@ -85,7 +85,7 @@ module _ (b : List ℕ) where
   onward-entered at (operand d next) p f h = after-entered at next d (p .0) (p .1) (f next) (h next)
   onward-entered at (operator op next) p f h = record { here = refl; further = p .0; inside = p .1 }
 
-  from-entered : (k at : ℕ) → Entered b at (entryFrom k b at)
+  pub from-entered : (k at : ℕ) → Entered b at (entryFrom k b at)
   unfolding entryFrom
   from-entered zero at = omega arith
   from-entered (suc k) at =

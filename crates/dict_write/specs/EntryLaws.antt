@@ -31,6 +31,10 @@ one-operand d = append-nil (numberBytes d)
 
 -- ---- the operand at a position, of those that are left
 
+pub none-left : (b : List ℕ) (at left : ℕ) → left ≤ 0 → operandsAt left b at ≡ []
+unfolding operandsAt
+none-left b at left h = let e : left ≡ 0 = omega arith in ap (λ (n : ℕ). operandsAt n b at) e
+
 module _ (b : List ℕ) (at left : ℕ) (r : NumberAt) (e : r ≡ answerOf (numberAt b at)) where
   pub none-refused : (n : ℕ) → r ≡ Refused n → operandsAt left b at ≡ []
   none-refused n f = operands-none b at left r e (λ d next g. no cc)
@@ -78,10 +82,11 @@ pub record Copying (b : List ℕ) (start count : ℕ) (old : List ℕ) (to at le
   pub done : List Decimal
   pub whole : operandsAt count b start ≡ done ++ operandsAt left b at
   pub wrote : Wrote old to (operandsBytes done) new p
+  pub size : length new ≡ length old
 
 pub copying-start : (b : List ℕ) (start count : ℕ) (old : List ℕ) (to : ℕ) → Copying b start count old to start count old to
 unfolding operandsBytes
-copying-start b start count old to = record { done = []; whole = refl; wrote = wrote-none old to }
+copying-start b start count old to = record { done = []; whole = refl; wrote = wrote-none old to; size = refl }
 
 module _ (b : List ℕ) (start count : ℕ) (old : List ℕ) (to at left : ℕ) (new : List ℕ) (p : ℕ) (w : Copying b start count old to at left new p) where
   pub copying-end : operandsAt left b at ≡ [] → Wrote old to (operandsBytes (operandsAt count b start)) new p
@@ -105,9 +110,7 @@ module _ (b : List ℕ) (start count : ℕ) (old : List ℕ) (to at left : ℕ) 
         omega arith
 
     pub copying-room : p + length (numberBytes v) ≤ length new
-    copying-room =
-        let n : length new ≡ length old = wrote-length (w .wrote) (omega (arith, fits)) in
-        omega (arith, fits, w .wrote .behind)
+    copying-room = omega (arith, fits, w .wrote .behind, w .size)
 
     pub copying-turn : (newer : List ℕ) (q : ℕ) → Wrote new p (numberBytes v) newer q → Copying b start count old to next (left - 1) newer q
     copying-turn newer q x =
@@ -115,4 +118,5 @@ module _ (b : List ℕ) (start count : ℕ) (old : List ℕ) (to at left : ℕ) 
           done = w .done ++ (v ∷ []);
           whole = further;
           wrote = wrote-as (wrote-then (omega (arith, fits)) (w .wrote) x) (sym more);
+          size = wrote-length x copying-room ∙ w .size;
         }

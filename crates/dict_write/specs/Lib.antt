@@ -4,4 +4,5 @@ pub mod Examples
 pub mod OpLaws
 pub mod EntryLaws
 pub mod PrivateLaws
+pub mod ShortLaws
 pub mod DictRound

@@ -103,10 +103,11 @@ pub record Copying (b old : List ℕ) (to at : ℕ) (new : List ℕ) (p : ℕ) :
   pub done : List Entry
   pub whole : without subrs (entriesOf b) ≡ done ++ copiedFrom b at
   pub wrote : Wrote old to (entriesBytes done) new p
+  pub size : length new ≡ length old
 
 pub copying-start : (b old : List ℕ) (to : ℕ) → Copying b old to 0 old to
 unfolding entriesBytes
-copying-start b old to = record { inside = omega arith; done = []; whole = refl; wrote = wrote-none old to }
+copying-start b old to = record { inside = omega arith; done = []; whole = refl; wrote = wrote-none old to; size = refl }
 
 module _ (b old : List ℕ) (to at : ℕ) (new : List ℕ) (p : ℕ) (w : Copying b old to at new p) where
   pub copying-end : copiedFrom b at ≡ [] → Wrote old to (privateBytes (entriesOf b)) new p
@@ -121,6 +122,7 @@ module _ (b old : List ℕ) (to at : ℕ) (new : List ℕ) (p : ℕ) (w : Copyin
           done = w .done;
           whole = w .whole ∙ ap (λ (l : List Entry). w .done ++ l) (copied-left-out b at h r e op end count next f q);
           wrote = w .wrote;
+          size = w .size;
         }
 
     module _ (q : op ≡ subrs → ⊥) (room : to + length (privateBytes (entriesOf b)) ≤ length old) where
@@ -151,9 +153,7 @@ module _ (b old : List ℕ) (to at : ℕ) (new : List ℕ) (p : ℕ) (w : Copyin
           omega arith
 
       pub copying-room : p + length (entryBytes op (operandsAt count b at)) ≤ length new
-      copying-room =
-          let n : length new ≡ length old = wrote-length (w .wrote) (omega (arith, fits)) in
-          omega (arith, fits, w .wrote .behind)
+      copying-room = omega (arith, fits, w .wrote .behind, w .size)
 
       pub copying-turn : (newer : List ℕ) (y : ℕ) → Wrote new p (entryBytes op (operandsAt count b at)) newer y → Copying b old to next newer y
       copying-turn newer y x =
@@ -162,4 +162,5 @@ module _ (b old : List ℕ) (to at : ℕ) (new : List ℕ) (p : ℕ) (w : Copyin
             done = w .done ++ (this ∷ []);
             whole = further;
             wrote = wrote-as (wrote-then (omega (arith, fits)) (w .wrote) x) (sym more);
+            size = wrote-length x copying-room ∙ w .size;
           }

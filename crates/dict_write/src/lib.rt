@@ -6,8 +6,19 @@ ghost use Prim.Native.Nat.{_+_, _≤_, _<_};
 ghost use lib.ListN.{length};
 ghost use Rattle.octets.specs.Octets.{Wrote};
 ghost use Rattle.dict.specs.Op.{isOperator};
-ghost use Rattle.dict_write.specs.Written.{opBytes};
+ghost use Rattle.dict.specs.Lookup.{lastOf};
+ghost use Rattle.dict.specs.Places.{entriesOf, operandsAt};
+ghost use Rattle.dict_write.specs.Written.{opBytes, operandsBytes, entryBytes, offsetEntry, privateEntry, copiedEntry, privateBytes};
+use decimal::NumberAt;
+use decimal::number_at;
+use decimal_write::number_len;
+use decimal_write::put_int5;
+use decimal_write::put_number;
+use dict::EntryAt;
+use dict::Found;
 use dict::Op;
+use dict::find_entry;
+use dict::read_entry;
 
 // How many bytes an operator takes: one, or two for an escape.
 pub fn op_len(op: usize) -> usize
@@ -19,10 +30,85 @@ pub fn op_len(op: usize) -> usize
     2
 }
 
-// The operator, from `at` on; the place after it. The number of an escape is that of its two bytes.
-pub fn put_op(op: usize, out: &mut [u8], at: usize) -> usize
-    requires { ⌜ (isOperator op ≡ true) × (at + length (opBytes op) ≤ length (now out)) ⌝ }
-    ensures { λ r. ⌜ Wrote (now (out .entry)) at (opBytes op) (now (out .exit)) r ⌝ }
+// The operator, from `to` on; the place after it. The number of an escape is that of its two bytes.
+pub fn put_op(op: usize, out: &mut [u8], to: usize) -> usize
+    requires { ⌜ (isOperator op ≡ true) × (to + length (opBytes op) ≤ length (now out)) ⌝ }
+    ensures { λ r. ⌜ Wrote (now (out .entry)) to (opBytes op) (now (out .exit)) r ⌝ }
 {
-    octets::put_num(out, at, op, op_len(op))
+    octets::put_num(out, to, op, op_len(op))
+}
+
+// How many bytes the operands take that stand from a position on.
+fn operands_len(d: &[u8], start: usize, count: usize) -> usize
+    requires { ⌜ length (now d) ≤ 67108864 ⌝ }
+    ensures { λ r. ⌜ r ≡ length (operandsBytes (operandsAt count (now (d .entry)) start)) ⌝ }
+{
+    let mut at = start;
+    let mut left = count;
+    let mut len: usize = 0;
+    while 0 < left {
+        if d.len() <= at {
+            return len;
+        }
+        match number_at(d, at) {
+            NumberAt::Num { value, next } => {
+                len += number_len(value);
+                at = next;
+                left -= 1;
+            }
+            NumberAt::NotNumber => {
+                return len;
+            }
+            NumberAt::Refused(_) => {
+                return len;
+            }
+        }
+    }
+    len
+}
+
+// The operands that stand from a position on, each in its shortest form, from `to` on; the place after them.
+fn put_operands(d: &[u8], start: usize, count: usize, out: &mut [u8], to: usize) -> usize
+    requires { ⌜ to + length (operandsBytes (operandsAt count (now d) start)) ≤ length (now out) ⌝ }
+    ensures { λ r. ⌜ Wrote (now (out .entry)) to (operandsBytes (operandsAt count (now (d .entry)) start)) (now (out .exit)) r ⌝ }
+{
+    let mut at = start;
+    let mut left = count;
+    let mut p = to;
+    while 0 < left {
+        if d.len() <= at {
+            return p;
+        }
+        match number_at(d, at) {
+            NumberAt::Num { value, next } => {
+                p = put_number(value, &mut *out, p);
+                at = next;
+                left -= 1;
+            }
+            NumberAt::NotNumber => {
+                return p;
+            }
+            NumberAt::Refused(_) => {
+                return p;
+            }
+        }
+    }
+    p
+}
+
+// How many bytes an entry takes whose operands stand from a position on.
+pub fn entry_len(d: &[u8], start: usize, count: usize, op: usize) -> usize
+    requires { ⌜ length (now d) ≤ 67108864 ⌝ }
+    ensures { λ r. ⌜ r ≡ length (entryBytes op (operandsAt count (now (d .entry)) start)) ⌝ }
+{
+    operands_len(d, start, count) + op_len(op)
+}
+
+// An entry whose operands stand from a position on, from `to` on; the place after it.
+pub fn put_entry(d: &[u8], start: usize, count: usize, op: usize, out: &mut [u8], to: usize) -> usize
+    requires { ⌜ (isOperator op ≡ true) × (to + length (entryBytes op (operandsAt count (now d) start)) ≤ length (now out)) ⌝ }
+    ensures { λ r. ⌜ Wrote (now (out .entry)) to (entryBytes op (operandsAt count (now (d .entry)) start)) (now (out .exit)) r ⌝ }
+{
+    let p = put_operands(d, start, count, out, to);
+    put_op(op, out, p)
 }
