@@ -1,0 +1,125 @@
+-- Laws of normalising: the zeros that a number ends in, and what is left without them.
+use Prim.Native.Nat.{ℕ, zero, suc, _+_, _-_, _*_, _/_, _%_, _^_, _≤_, _<_}
+use mathlib.Core.Path.{_≡_, refl, sym, ap, _∙_, subst}
+use mathlib.Core.Logic.{_⊎_, inl, inr}
+use mathlib.Core.Bool.{Bool, true, false}
+use native.Mathlib.Nat.{pow-suc, pow-zero, one-le-pow, mul-one, mul-assoc, mul-pos, zero-mul, mul-div-cancel, mul-div-mul-right, div-one, div-add-mod', eq-zero-or-pos, lt-irrefl, not-suc-le-zero, mul-mod-left}
+use native.Mathlib.Numerals.{add-one}
+use native.Mathlib.Decide.{ℕ-discrete}
+use native.Mathlib.Omega.{arith}
+use lib.Dec.{eqb, lit<}
+use borrow.Author.Tests.{eq-eqb, ne-eqb}
+use Rattle.octets.specs.Pick.{pick}
+use Rattle.decimal.specs.declared.Decimal.{Decimal}
+use Rattle.decimal.specs.Decimal.{nought, zerosOf, zeros, stripped, scaled, normal}
+
+pub ten-pos : (k : ℕ) → 0 < 10 ^ k
+ten-pos k = one-le-pow k 10 (lit< tt)
+
+-- ---- one zero more, or none
+
+zeros-more : (k n : ℕ) → n % 10 ≡ 0 → zerosOf (suc k) n ≡ suc (zerosOf k (n / 10))
+unfolding zerosOf
+zeros-more k n h = rw (eq-eqb (n % 10) 0 h)
+
+zeros-none : (k n : ℕ) → (n % 10 ≡ 0 → ⊥) → zerosOf k n ≡ 0
+unfolding zerosOf
+zeros-none zero n h = refl
+zeros-none (suc k) n h = rw (ne-eqb (n % 10) 0 h)
+
+-- fuel as large as the number is enough
+fuel : (k m n : ℕ) → 0 < n → n ≤ k → n ≤ m → zerosOf k n ≡ zerosOf m n
+fuel zero m n p h j = absurd (lt-irrefl 0 (omega arith))
+fuel (suc k) zero n p h j = absurd (lt-irrefl 0 (omega arith))
+fuel (suc k) (suc m) n p h j = go (ℕ-discrete (n % 10) 0) (fuel k m (n / 10))
+  where
+    go : Dec (n % 10 ≡ 0) → (0 < n / 10 → n / 10 ≤ k → n / 10 ≤ m → zerosOf k (n / 10) ≡ zerosOf m (n / 10)) → zerosOf (suc k) n ≡ zerosOf (suc m) n
+    go (yes e) less = zeros-more k n e ∙ ap suc (less (omega arith) (omega arith) (omega arith)) ∙ sym (zeros-more m n e)
+    go (no e) less = zeros-none (suc k) n e ∙ sym (zeros-none (suc m) n e)
+
+pub zeros-ten : (n : ℕ) → 0 < n → zeros (n * 10) ≡ suc (zeros n)
+unfolding zeros
+zeros-ten n p =
+    let k = n * 10 - 1 in
+    let e : n * 10 ≡ suc k = omega arith in
+    let d : n * 10 / 10 ≡ n = mul-div-cancel n (lit< tt) in
+    ap (λ (f : ℕ). zerosOf f (n * 10)) e ∙ zeros-more k (n * 10) (mul-mod-left n 10) ∙ ap (λ (m : ℕ). suc (zerosOf k m)) d ∙ ap suc (fuel k n n p (omega arith) (omega arith))
+
+pub zeros-digit : (n : ℕ) → (n % 10 ≡ 0 → ⊥) → zeros n ≡ 0
+unfolding zeros
+zeros-digit n h = zeros-none n n h
+
+pub zeros-nought : zeros 0 ≡ 0
+unfolding zeros zerosOf
+zeros-nought = refl
+
+-- ---- what is left
+
+pub stripped-digit : (n : ℕ) → (n % 10 ≡ 0 → ⊥) → stripped n ≡ n
+unfolding stripped
+stripped-digit n h = rw (zeros-digit n h, pow-zero) (div-one n)
+
+pub stripped-nought : stripped 0 ≡ 0
+unfolding stripped zeros zerosOf
+stripped-nought = refl
+
+pub stripped-ten : (n : ℕ) → stripped (n * 10) ≡ stripped n
+unfolding stripped
+stripped-ten n = go (eq-zero-or-pos n)
+  where
+    go : (n ≡ 0) ⊎ (0 < n) → n * 10 / 10 ^ zeros (n * 10) ≡ n / 10 ^ zeros n
+    go (inl e) = let z : n * 10 ≡ n = omega arith in rw z
+    go (inr p) = rw (zeros-ten n p, pow-suc) (mul-div-mul-right n (10 ^ zeros n) (lit< tt))
+
+-- nothing but zeros is dropped
+exact : (k n : ℕ) → n / 10 ^ zerosOf k n * 10 ^ zerosOf k n ≡ n
+unfolding zerosOf
+exact zero n = rw pow-zero (mul-one (n / 1) ∙ div-one n)
+exact (suc k) n = go (ℕ-discrete (n % 10) 0) (exact k (n / 10))
+  where
+    go : Dec (n % 10 ≡ 0) → n / 10 / 10 ^ zerosOf k (n / 10) * 10 ^ zerosOf k (n / 10) ≡ n / 10 → n / 10 ^ zerosOf (suc k) n * 10 ^ zerosOf (suc k) n ≡ n
+    go (no e) less = rw (zeros-none (suc k) n e, pow-zero) (mul-one (n / 1) ∙ div-one n)
+    go (yes e) less =
+        let z = zerosOf k (n / 10) in
+        let t : n / 10 * 10 ≡ n = omega arith in
+        let q : n / (10 ^ z * 10) ≡ n / 10 / 10 ^ z = subst (λ (m : ℕ). m / (10 ^ z * 10) ≡ n / 10 / 10 ^ z) t (mul-div-mul-right (n / 10) (10 ^ z) (lit< tt)) in
+        rw (zeros-more k n e, pow-suc, q, ← mul-assoc, less) t
+
+pub stripped-exact : (n : ℕ) → stripped n * 10 ^ zeros n ≡ n
+unfolding stripped zeros
+stripped-exact n = exact n n
+
+pub stripped-pos : (n : ℕ) → 0 < n → 0 < stripped n
+stripped-pos n p = go (eq-zero-or-pos (stripped n))
+  where
+    go : (stripped n ≡ 0) ⊎ (0 < stripped n) → 0 < stripped n
+    go (inr h) = h
+    go (inl e) = let z : n ≡ 0 = sym (stripped-exact n) ∙ ap (λ (m : ℕ). m * 10 ^ zeros n) e ∙ zero-mul (10 ^ zeros n) in absurd (lt-irrefl 0 (omega arith))
+
+-- a number that does not end in a zero, with k zeros behind it
+pub zeros-times : (m k : ℕ) → (m % 10 ≡ 0 → ⊥) → zeros (m * 10 ^ k) ≡ k
+zeros-times m zero h = rw (pow-zero, mul-one) (zeros-digit m h)
+zeros-times m (suc k) h =
+    let p : 0 < m = omega arith in
+    rw (pow-suc, ← mul-assoc) (zeros-ten (m * 10 ^ k) (mul-pos p (ten-pos k)) ∙ ap suc (zeros-times m k h))
+
+pub stripped-times : (m k : ℕ) → (m % 10 ≡ 0 → ⊥) → stripped (m * 10 ^ k) ≡ m
+stripped-times m zero h = rw (pow-zero, mul-one) (stripped-digit m h)
+stripped-times m (suc k) h = rw (pow-suc, ← mul-assoc) (stripped-ten (m * 10 ^ k) ∙ stripped-times m k h)
+
+-- ---- normalised
+
+pub normal-nought : (s : Bool) (a b : ℕ) → normal s 0 a b ≡ nought
+unfolding normal
+normal-nought s a b = refl
+
+pub normal-pos : (s : Bool) (n a b : ℕ) → 0 < n
+    → normal s n a b ≡ scaled s (stripped n) (a + zeros n) b
+unfolding normal
+normal-pos s n a b p = rw (ne-eqb n 0 (λ e. omega arith))
+
+pub normal-times : (s : Bool) (m k a b : ℕ) → (m % 10 ≡ 0 → ⊥)
+    → normal s (m * 10 ^ k) a b ≡ scaled s m (a + k) b
+normal-times s m k a b h =
+    let p : 0 < m = omega arith in
+    normal-pos s (m * 10 ^ k) a b (mul-pos p (ten-pos k)) ∙ rw (stripped-times m k h, zeros-times m k h)

@@ -1,0 +1,11 @@
+pub mod Decimal
+pub mod Real
+pub mod Number
+pub mod Values
+pub mod Written
+pub mod Examples
+pub mod DecimalLaws
+pub mod Stage
+pub mod StageLaws
+pub mod RealLaws
+pub mod RunLaws

@@ -1,0 +1,356 @@
+// The numbers of a DICT (TN5176, section 4, tables 3 to 5) as exact decimals. The Rust holds an f64; within the limits of refusal 5 of
+// document 01 the decimal and the f64 print, truncate, compare and clamp alike.
+ghost use mathlib.Core.Path.{_≡_};
+ghost use mathlib.Core.Bool.{Bool};
+ghost use Prim.Native.Nat.{ℕ, _+_, _*_, _^_, _≤_, _<_, min};
+ghost use lib.Dec.{ltb};
+ghost use lib.ListN.{length};
+ghost use Rattle.octets.specs.Pick.{pick};
+ghost use Rattle.decimal.specs.Decimal.{scaled, normal};
+ghost use Rattle.decimal.specs.Real.{limited};
+ghost use Rattle.decimal.specs.Number.{placed, realAt, numberAt, answerOf};
+ghost use Rattle.decimal.specs.Stage.{Exact, stepOf, mantissaStep, exponentStep, heldOf, stageOf, Finished, Ended, Stopped};
+use octets::wide;
+
+// ± digits × 10 ^ up / 10 ^ down; normalised, so that two equal numbers are one value.
+pub struct Decimal {
+    pub neg: bool,
+    pub digits: usize,
+    pub up: usize,
+    pub down: usize,
+}
+
+// What stands at a position of a DICT: a refusal's number, no number, or a number and the position after it.
+pub enum NumberAt {
+    Refused(u8),
+    NotNumber,
+    Num { value: Decimal, next: usize },
+}
+
+// A number cut to 32 bits: its sign and its size.
+pub struct Signed {
+    pub neg: bool,
+    pub size: usize,
+}
+
+// A string id, or that the number is none.
+pub enum IdOf {
+    Id(usize),
+    Absent,
+}
+
+// An offset, or the refusal's number.
+pub enum OffsetOf {
+    Refused(u8),
+    Offset(usize),
+}
+
+// The digits of a real so far: without the zeros at their end, how many zeros that were, and how many digits stand behind the point.
+pub struct Held {
+    pub neg: bool,
+    pub digits: usize,
+    pub zeros: usize,
+    pub behind: usize,
+}
+
+// How far the text of a real was read.
+pub enum Stage {
+    Start,
+    Mantissa {
+        any: bool,
+        point: bool,
+        held: Held,
+    },
+    Exponent {
+        held: Held,
+    },
+    Power {
+        held: Held,
+        eneg: bool,
+        any: bool,
+        exp: usize,
+    },
+    Malformed,
+}
+
+// Refusal 5: digits that are too many.
+const TOO_MANY: usize = 1000000000000000;
+// A count past every limit.
+const PAST: usize = 1000;
+
+// m × 10 ^ k, but cap at most.
+fn scaled_up(m: usize, k: usize, cap: usize) -> usize
+    requires { ⌜ cap ≤ 1000000000000000000 ⌝ }
+    ensures { λ r. ⌜ r ≡ min (m * 10 ^ k) cap ⌝ }
+{
+    let mut n = m;
+    let mut i = k;
+    while 0 < i {
+        if cap <= n {
+            return cap;
+        }
+        n *= 10;
+        i -= 1;
+    }
+    if cap <= n {
+        return cap;
+    }
+    n
+}
+
+// One more, but 1000 at most.
+fn raised(n: usize) -> usize
+    ensures { λ r. ⌜ r ≡ min (n + 1) 1000 ⌝ }
+{
+    if n < PAST {
+        return n + 1;
+    }
+    PAST
+}
+
+// One more where it counts, but 1000 at most.
+fn counted(n: usize, counts: bool) -> usize
+    ensures { λ r. ⌜ r ≡ pick counts (min (n + 1) 1000) n ⌝ }
+{
+    if counts {
+        return raised(n);
+    }
+    n
+}
+
+// The exponent with one digit more, but 1000 at most.
+fn raised_exponent(e: usize, x: usize) -> usize
+    requires { ⌜ x < 10 ⌝ }
+    ensures { λ r. ⌜ r ≡ min (e * 10 + x) 1000 ⌝ }
+{
+    if PAST <= e {
+        return PAST;
+    }
+    let v = e * 10 + x;
+    if v < PAST {
+        return v;
+    }
+    PAST
+}
+
+// The digits with one more, which stands behind the point where there was one.
+fn digit(h: Held, point: bool, x: usize) -> Held
+    requires { ⌜ x < 10 ⌝ }
+    ensures { λ r. ⌜ ((s : Bool) (n f : ℕ) → h ≡ heldOf s n f → r ≡ heldOf s (n * 10 + x) (pick point (f + 1) f)) ⌝ }
+{
+    let neg = h.neg;
+    let digits = h.digits;
+    let zeros = raised(h.zeros);
+    let behind = counted(h.behind, point);
+    if x == 0 {
+        if digits == 0 {
+            return Held { neg, digits: 0, zeros: 0, behind };
+        }
+        return Held { neg, digits, zeros, behind };
+    }
+    let more = scaled_up(digits, zeros, TOO_MANY) + x;
+    if more < TOO_MANY {
+        return Held { neg, digits: more, zeros: 0, behind };
+    }
+    Held { neg, digits: TOO_MANY, zeros: 0, behind }
+}
+
+// A nibble of the mantissa.
+fn mantissa_step(any: bool, point: bool, held: Held, x: usize) -> Stage
+    ensures { λ r. ⌜ ((s : Bool) (n f : ℕ) → held ≡ heldOf s n f → r ≡ stageOf (mantissaStep s any point n f x)) ⌝ }
+{
+    if x < 10 {
+        let more = digit(held, point, x);
+        return Stage::Mantissa { any: true, point, held: more };
+    }
+    if x == 10 {
+        if point {
+            return Stage::Malformed;
+        }
+        return Stage::Mantissa { any, point: true, held };
+    }
+    if x == 11 {
+        if any {
+            return Stage::Exponent { held };
+        }
+        return Stage::Malformed;
+    }
+    if x == 12 {
+        if any {
+            return Stage::Power { held, eneg: true, any: false, exp: 0 };
+        }
+        return Stage::Malformed;
+    }
+    Stage::Malformed
+}
+
+// A nibble of the exponent.
+fn exponent_step(held: Held, eneg: bool, exp: usize, x: usize) -> Stage
+    ensures { λ r. ⌜ ((s : Bool) (n f e : ℕ) → held ≡ heldOf s n f → exp ≡ min e 1000 → r ≡ stageOf (exponentStep s n f eneg e x)) ⌝ }
+{
+    if x < 10 {
+        let more = raised_exponent(exp, x);
+        return Stage::Power { held, eneg, any: true, exp: more };
+    }
+    Stage::Malformed
+}
+
+// A nibble, wherever the text stands.
+fn step(stage: Stage, x: usize) -> Stage
+    ensures { λ r. ⌜ ((g : Exact) → stage ≡ stageOf g → r ≡ stageOf (stepOf g x)) ⌝ }
+{
+    match stage {
+        Stage::Start => {
+            if x == 14 {
+                return Stage::Mantissa { any: false, point: false, held: Held { neg: true, digits: 0, zeros: 0, behind: 0 } };
+            }
+            mantissa_step(false, false, Held { neg: false, digits: 0, zeros: 0, behind: 0 }, x)
+        }
+        Stage::Mantissa { any, point, held } => mantissa_step(any, point, held, x),
+        Stage::Exponent { held } => {
+            if x == 14 {
+                return Stage::Power { held, eneg: true, any: false, exp: 0 };
+            }
+            exponent_step(held, false, 0, x)
+        }
+        Stage::Power { held, eneg, any: _, exp } => exponent_step(held, eneg, exp, x),
+        Stage::Malformed => Stage::Malformed,
+    }
+}
+
+// ± digits × 10 ^ up / 10 ^ down, with the position after it; refusal 5 past its powers of ten.
+fn limited(neg: bool, digits: usize, up: usize, down: usize, next: usize) -> NumberAt
+    requires { ⌜ digits < 10 ^ 15 ⌝ }
+    ensures { λ r. ⌜ r ≡ answerOf (placed next (limited (scaled neg digits up down))) ⌝ }
+{
+    if down <= up {
+        let over = up - down;
+        if 30 < over {
+            return NumberAt::Refused(5);
+        }
+        return NumberAt::Num {
+            value: Decimal {
+                neg,
+                digits,
+                up: over,
+                down: 0,
+            },
+            next,
+        };
+    }
+    let under = down - up;
+    if 30 < under {
+        return NumberAt::Refused(5);
+    }
+    NumberAt::Num {
+        value: Decimal {
+            neg,
+            digits,
+            up: 0,
+            down: under,
+        },
+        next,
+    }
+}
+
+// A well formed text of so many bytes: 64 nibbles with the end are 32 bytes.
+fn finished(held: Held, eneg: bool, exp: usize, bytes: usize, next: usize) -> NumberAt
+    requires { ⌜ (held .zeros ≤ 1000) × (held .behind ≤ 1000) × (exp ≤ 1000) ⌝ }
+    ensures { λ r. ⌜ Finished bytes next held eneg exp r ⌝ }
+{
+    let neg = held.neg;
+    let digits = held.digits;
+    let zeros = held.zeros;
+    let behind = held.behind;
+    if 32 < bytes {
+        return NumberAt::Refused(5);
+    }
+    if digits == 0 {
+        return NumberAt::Num {
+            value: Decimal {
+                neg: false,
+                digits: 0,
+                up: 0,
+                down: 0,
+            },
+            next,
+        };
+    }
+    if TOO_MANY <= digits {
+        return NumberAt::Refused(5);
+    }
+    if eneg {
+        return limited(neg, digits, zeros, behind + exp, next);
+    }
+    limited(neg, digits, exp + zeros, behind, next)
+}
+
+// A text that has ended: malformed where the grammar wants more.
+fn ended(stage: Stage, bytes: usize, next: usize) -> NumberAt
+    requires { ⌜ Stopped stage ⌝ }
+    ensures { λ r. ⌜ Ended stage bytes next r ⌝ }
+{
+    match stage {
+        Stage::Start => finished(
+            Held {
+                neg: false,
+                digits: 0,
+                zeros: 0,
+                behind: 0,
+            },
+            false,
+            0,
+            bytes,
+            next,
+        ),
+        Stage::Mantissa { any, point: _, held } => {
+            if any {
+                return finished(held, false, 0, bytes, next);
+            }
+            NumberAt::Refused(2)
+        }
+        Stage::Exponent { held: _ } => NumberAt::Refused(2),
+        Stage::Power {
+            held,
+            eneg,
+            any,
+            exp,
+        } => {
+            if any {
+                return finished(held, eneg, exp, bytes, next);
+            }
+            NumberAt::Refused(2)
+        }
+        Stage::Malformed => NumberAt::Refused(2),
+    }
+}
+
+// The Rust's `parse_real`: the real whose first byte, 30, stands at `at`.
+fn parse_real(d: &[u8], at: usize) -> NumberAt
+    requires { ⌜ at < length (now d) ⌝ }
+    ensures { λ r. ⌜ r ≡ answerOf (realAt (now (d .entry)) at) ⌝ }
+{
+    let mut stage = Stage::Start;
+    let mut p = at + 1;
+    while p < d.len() {
+        let b = wide(d[p]);
+        let high = b / 16;
+        if high == 15 {
+            return ended(stage, p - at, p + 1);
+        }
+        if high == 13 {
+            return NumberAt::Refused(2);
+        }
+        stage = step(stage, high);
+        let low = b % 16;
+        if low == 15 {
+            return ended(stage, p - at, p + 1);
+        }
+        if low == 13 {
+            return NumberAt::Refused(2);
+        }
+        stage = step(stage, low);
+        p += 1;
+    }
+    NumberAt::Refused(1)
+}

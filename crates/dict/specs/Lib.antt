@@ -1,0 +1,6 @@
+pub mod Op
+pub mod Dict
+pub mod Lookup
+pub mod Written
+pub mod Places
+pub mod Examples
