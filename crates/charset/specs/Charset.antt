@@ -50,21 +50,21 @@ unfoldable pub idsOf : List ℕ → Charset → ℕ → List ℕ
 idsOf b c n = numbersOf (idsFrom (c .width) n 0 (c .own) (drop (c .at) b))
 
 -- a charset for n glyphs that reading does not refuse
-pub record Good (b : List ℕ) (c : Charset) (n : ℕ) : Type 0 where
+pub record GoodCharset (b : List ℕ) (c : Charset) (n : ℕ) : Type 0 where
   pub narrow : c .width ≤ 2
   pub few : n < 65536
   pub sound : idsFrom (c .width) n 0 (c .own) (drop (c .at) b) ≡ listed (idsOf b c n)
 
 -- what reading answers: the charset where the ids are not refused
-abbrev pub answered : Charset → Listed → CharsetAt
-answered c (refused e) = Refused e
-answered c (listed l) = Found c
+abbrev pub charsetAnswer : Charset → Listed → CharsetAt
+charsetAnswer c (refused e) = Refused e
+charsetAnswer c (listed l) = Found c
 
 -- ---- glyph after glyph
 
 -- before glyph 0
-abbrev pub startOf : Charset → CharsetCursor
-startOf c = record { id = 0; left = c .own; width = c .width; at = c .at }
+abbrev pub charsetStart : Charset → CharsetCursor
+charsetStart c = record { id = 0; left = c .own; width = c .width; at = c .at }
 
 -- the id where a cursor stands, and the cursor behind it
 unfoldable pub nextId : List ℕ → CharsetCursor → IdStep
@@ -77,12 +77,12 @@ nextId b u =
     (record { id = u .id; next = record { id = u .id + 1; left = u .left - 1; width = u .width; at = u .at } })
 
 -- a cursor that stands before glyphs with these ids
-pub record Stands (b : List ℕ) (u : CharsetCursor) (ids : List ℕ) : Type 0 where
+pub record StandsId (b : List ℕ) (u : CharsetCursor) (ids : List ℕ) : Type 0 where
   pub narrow : u .width ≤ 2
   pub gives : idsFrom (u .width) (length ids) (u .id) (u .left) (drop (u .at) b) ≡ listed ids
 
 -- what the next step asks: a range, where none is under way
-pub record Ready (b : List ℕ) (u : CharsetCursor) : Type 0 where
+pub record ReadyId (b : List ℕ) (u : CharsetCursor) : Type 0 where
   pub narrow : u .width ≤ 2
   pub small : 0 < u .left → u .id < 65536
   pub room : u .left ≡ 0 → u .at + 2 + u .width ≤ length b

@@ -11,7 +11,7 @@ use lib.Seq.{drop-cons}
 use lib.Dec.{ltb}
 use Rattle.octets.specs.Pick.{pick}
 use Rattle.charset.specs.Listed.{Listed, refused, listed, onward, numbersOf, listOf}
-use Rattle.charset.specs.Charset.{idsFrom, idsIn, charsetAt, isoAdobe, tableAt, predefined, idsOf, Good, answered, startOf, nextId, Stands, Ready}
+use Rattle.charset.specs.Charset.{idsFrom, idsIn, charsetAt, isoAdobe, tableAt, predefined, idsOf, GoodCharset, charsetAnswer, charsetStart, nextId, StandsId, ReadyId}
 use Rattle.charset.specs.CharsetLaws.{range-cut}
 use Rattle.charset.specs.CursorLaws.{no, test-passed, id-on, id-met, ready, step-id, step-next}
 use Rattle.charset.specs.declared.Charset.{Charset}
@@ -32,7 +32,7 @@ ids-length w (suc k) i zero bs l h =
 
 -- ---- what reading found
 
-found-listed : (c d : Charset) (r : Listed) → answered c r ≡ Found d → (c ≡ d) × (r ≡ listed (numbersOf r))
+found-listed : (c d : Charset) (r : Listed) → charsetAnswer c r ≡ Found d → (c ≡ d) × (r ≡ listed (numbersOf r))
 found-listed c d (refused e) h = absurd (no cc)
 found-listed c d (listed l) h = (cc, refl)
 
@@ -52,19 +52,19 @@ table-ids b at n l h =
     let t = test-passed (ltb 2 (getD b at 0)) 2 _ l k in
     (ltb-false 2 (getD b at 0) (t .0), rw add-one (t .1))
 
-module _ (b : List ℕ) (at n : ℕ) (c : Charset) (few : n < 65536) (found : answered (tableAt b at) (charsetAt b at n) ≡ Found c) where
+module _ (b : List ℕ) (at n : ℕ) (c : Charset) (few : n < 65536) (found : charsetAnswer (tableAt b at) (charsetAt b at n) ≡ Found c) where
   is : (tableAt b at ≡ c) × (charsetAt b at n ≡ listed (numbersOf (charsetAt b at n)))
   is = found-listed (tableAt b at) c (charsetAt b at n) found
 
-  table-good : Good b (tableAt b at) n
+  table-good : GoodCharset b (tableAt b at) n
   unfolding idsOf
   table-good =
       let t = table-ids b at n _ (is .1) in
       record { narrow = t .0; few = few; sound = t .1 ∙ ap listed (sym (ap numbersOf (t .1))) }
 
   -- the charset serves to look ids up
-  pub found-good : Good b c n
-  found-good = subst (λ (d : Charset). Good b d n) (is .0) table-good
+  pub found-good : GoodCharset b c n
+  found-good = subst (λ (d : Charset). GoodCharset b d n) (is .0) table-good
 
   -- and its ids are those of the table
   pub found-ids : charsetAt b at n ≡ listed (idsOf b c n)
@@ -83,32 +83,32 @@ module _ (b : List ℕ) (n : ℕ) (few : n < 65536) where
   unfolding idsOf
   predefined-ids = ap numbersOf own-numbers
 
-  pub predefined-good : Good b predefined n
+  pub predefined-good : GoodCharset b predefined n
   predefined-good = record { narrow = omega arith; few = few; sound = own-numbers ∙ ap listed (sym predefined-ids) }
 
 -- ---- glyph after glyph
 
-pub good-length : (b : List ℕ) (c : Charset) (n : ℕ) → Good b c n → length (idsOf b c n) ≡ n
+pub good-length : (b : List ℕ) (c : Charset) (n : ℕ) → GoodCharset b c n → length (idsOf b c n) ≡ n
 good-length b c n g = ids-length (c .width) n 0 (c .own) (drop (c .at) b) (idsOf b c n) (g .sound)
 
 -- a cursor begins before all glyphs
-pub stands-start : (b : List ℕ) (c : Charset) (n : ℕ) → Good b c n → Stands b (startOf c) (idsOf b c n)
-stands-start b c n g =
+pub id-start : (b : List ℕ) (c : Charset) (n : ℕ) → GoodCharset b c n → StandsId b (charsetStart c) (idsOf b c n)
+id-start b c n g =
     record {
       narrow = g .narrow;
       gives = subst (λ (k : ℕ). idsFrom (c .width) k 0 (c .own) (drop (c .at) b) ≡ listed (idsOf b c n)) (sym (good-length b c n g)) (g .sound);
     }
 
 -- before glyph k a step can be taken, gives its id, and ends before glyph k + 1
-module _ (b : List ℕ) (u : CharsetCursor) (ids : List ℕ) (k : ℕ) (h : k < length ids) (s : Stands b u (drop k ids)) where
-  at-glyph : Stands b u (getD ids k 0 ∷ drop (suc k) ids)
-  at-glyph = subst (Stands b u) (drop-cons ids k 0 h) s
+module _ (b : List ℕ) (u : CharsetCursor) (ids : List ℕ) (k : ℕ) (h : k < length ids) (s : StandsId b u (drop k ids)) where
+  at-glyph : StandsId b u (getD ids k 0 ∷ drop (suc k) ids)
+  at-glyph = subst (StandsId b u) (drop-cons ids k 0 h) s
 
-  pub stands-ready : Ready b u
-  stands-ready = ready b u (getD ids k 0) (drop (suc k) ids) at-glyph
+  pub id-ready : ReadyId b u
+  id-ready = ready b u (getD ids k 0) (drop (suc k) ids) at-glyph
 
-  pub stands-id : nextId b u .id ≡ getD ids k 0
-  stands-id = step-id b u (getD ids k 0) (drop (suc k) ids) at-glyph
+  pub id-step : nextId b u .id ≡ getD ids k 0
+  id-step = step-id b u (getD ids k 0) (drop (suc k) ids) at-glyph
 
-  pub stands-next : Stands b (nextId b u .next) (drop (k + 1) ids)
-  stands-next = rw add-one (step-next b u (getD ids k 0) (drop (suc k) ids) at-glyph)
+  pub id-next : StandsId b (nextId b u .next) (drop (k + 1) ids)
+  id-next = rw add-one (step-next b u (getD ids k 0) (drop (suc k) ids) at-glyph)

@@ -14,7 +14,7 @@ use Rattle.octets.specs.Pick.{pick, pick-ind}
 use Rattle.octets.specs.Octets.{be, numAt}
 use Rattle.octets.specs.OctetsLaws.{pow-below}
 use Rattle.charset.specs.Listed.{Listed, refused, listed, onward, numbersOf, listOf}
-use Rattle.charset.specs.Charset.{idsFrom, charsetAt, tableAt, answered}
+use Rattle.charset.specs.Charset.{idsFrom, charsetAt, tableAt, charsetAnswer}
 use Rattle.charset.specs.declared.Charset.{Charset}
 use Rattle.charset.specs.declared.CharsetAt.{CharsetAt}
 use Rattle.charset.specs.declared.CharsetAt.the-variants.{Refused, Found}
@@ -77,41 +77,41 @@ range-past w (suc k) i (suc left) (suc m) bs z h s p =
 
 -- ---- what the check of the ranges answers
 
-pub answered-on : (c : Charset) (x : ℕ) (r : Listed) → answered c (onward x r) ≡ answered c r
-answered-on c x (refused e) = refl
-answered-on c x (listed l) = refl
+pub answer-on : (c : Charset) (x : ℕ) (r : Listed) → charsetAnswer c (onward x r) ≡ charsetAnswer c r
+answer-on c x (refused e) = refl
+answer-on c x (listed l) = refl
 
-answered-joined : (c : Charset) (xs : List ℕ) (r : Listed) → answered c (joined xs r) ≡ answered c r
-answered-joined c [] r = refl
-answered-joined c (x ∷ xs) r = answered-on c x (joined xs r) ∙ answered-joined c xs r
+answer-joined : (c : Charset) (xs : List ℕ) (r : Listed) → charsetAnswer c (joined xs r) ≡ charsetAnswer c r
+answer-joined c [] r = refl
+answer-joined c (x ∷ xs) r = answer-on c x (joined xs r) ∙ answer-joined c xs r
 
-pub check-lost : (b : List ℕ) (q w k : ℕ) (c : Charset) → 0 < k → length b - q < 2 + w → Refused 1 ≡ answered c (idsFrom w k 0 0 (drop q b))
-check-lost b q w k c h s = sym (ap (answered c) (range-lost b q w k 0 h s))
+pub check-lost : (b : List ℕ) (q w k : ℕ) (c : Charset) → 0 < k → length b - q < 2 + w → Refused 1 ≡ charsetAnswer c (idsFrom w k 0 0 (drop q b))
+check-lost b q w k c h s = sym (ap (charsetAnswer c) (range-lost b q w k 0 h s))
 
 module _ (b : List ℕ) (q w k first left : ℕ) (c : Charset) (some : 0 < k) (there : q + 2 + w ≤ length b) (f : first ≡ numAt b q 2) (l : left ≡ numAt b (q + 2) w) where
-  met : answered c (idsFrom w k 0 0 (drop q b)) ≡ answered c (idsFrom w (k - 1) (first + 1) left (drop (q + 2 + w) b))
+  met : charsetAnswer c (idsFrom w k 0 0 (drop q b)) ≡ charsetAnswer c (idsFrom w (k - 1) (first + 1) left (drop (q + 2 + w) b))
   met =
-      ap (answered c) (range-met b q w k 0 some there) ∙ answered-on c (numAt b q 2) (idsFrom w (k - 1) (numAt b q 2 + 1) (numAt b (q + 2) w) (drop (q + 2 + w) b))
-      ∙ ap (λ (x : ℕ). answered c (idsFrom w (k - 1) (x + 1) (numAt b (q + 2) w) (drop (q + 2 + w) b))) (sym f)
-      ∙ ap (λ (x : ℕ). answered c (idsFrom w (k - 1) (first + 1) x (drop (q + 2 + w) b))) (sym l)
+      ap (charsetAnswer c) (range-met b q w k 0 some there) ∙ answer-on c (numAt b q 2) (idsFrom w (k - 1) (numAt b q 2 + 1) (numAt b (q + 2) w) (drop (q + 2 + w) b))
+      ∙ ap (λ (x : ℕ). charsetAnswer c (idsFrom w (k - 1) (x + 1) (numAt b (q + 2) w) (drop (q + 2 + w) b))) (sym f)
+      ∙ ap (λ (x : ℕ). charsetAnswer c (idsFrom w (k - 1) (first + 1) x (drop (q + 2 + w) b))) (sym l)
 
-  pub check-last : k ≤ left → first + k ≤ 65536 → Found c ≡ answered c (idsFrom w k 0 0 (drop q b))
-  check-last h s = sym (met ∙ ap (answered c) (range-cut w (k - 1) (first + 1) left _ (omega arith) (omega arith)))
+  pub check-last : k ≤ left → first + k ≤ 65536 → Found c ≡ charsetAnswer c (idsFrom w k 0 0 (drop q b))
+  check-last h s = sym (met ∙ ap (charsetAnswer c) (range-cut w (k - 1) (first + 1) left _ (omega arith) (omega arith)))
 
-  pub check-last-past : first < 65536 → k ≤ left → 65536 < first + k → Refused 2 ≡ answered c (idsFrom w k 0 0 (drop q b))
+  pub check-last-past : first < 65536 → k ≤ left → 65536 < first + k → Refused 2 ≡ charsetAnswer c (idsFrom w k 0 0 (drop q b))
   check-last-past z h s =
-      sym (met ∙ ap (answered c) (range-past w (k - 1) (first + 1) left (k - 1) _ (omega arith) (omega arith) (omega arith) (omega arith)))
+      sym (met ∙ ap (charsetAnswer c) (range-past w (k - 1) (first + 1) left (k - 1) _ (omega arith) (omega arith) (omega arith) (omega arith)))
 
-  pub check-past : first < 65536 → left < k → 65535 < first + left → Refused 2 ≡ answered c (idsFrom w k 0 0 (drop q b))
+  pub check-past : first < 65536 → left < k → 65535 < first + left → Refused 2 ≡ charsetAnswer c (idsFrom w k 0 0 (drop q b))
   check-past z h s =
-      sym (met ∙ ap (answered c) (range-past w (k - 1) (first + 1) left left _ (omega arith) (omega arith) (omega arith) (omega arith)))
+      sym (met ∙ ap (charsetAnswer c) (range-past w (k - 1) (first + 1) left left _ (omega arith) (omega arith) (omega arith) (omega arith)))
 
-  pub check-on : left < k → first + left ≤ 65535 → answered c (idsFrom w (k - 1 - left) 0 0 (drop (q + 2 + w) b)) ≡ answered c (idsFrom w k 0 0 (drop q b))
+  pub check-on : left < k → first + left ≤ 65535 → charsetAnswer c (idsFrom w (k - 1 - left) 0 0 (drop (q + 2 + w) b)) ≡ charsetAnswer c (idsFrom w k 0 0 (drop q b))
   check-on h s =
-      sym (met ∙ ap (answered c) (range-whole w (k - 1) (first + 1) left _ (omega arith) (omega arith))
-      ∙ answered-joined c (listOf (λ g. g) (first + 1) left) _)
+      sym (met ∙ ap (charsetAnswer c) (range-whole w (k - 1) (first + 1) left _ (omega arith) (omega arith))
+      ∙ answer-joined c (listOf (λ g. g) (first + 1) left) _)
 
-pub check-done : (b : List ℕ) (q w k : ℕ) (c : Charset) → k ≡ 0 → Found c ≡ answered c (idsFrom w k 0 0 (drop q b))
+pub check-done : (b : List ℕ) (q w k : ℕ) (c : Charset) → k ≡ 0 → Found c ≡ charsetAnswer c (idsFrom w k 0 0 (drop q b))
 unfolding idsFrom
 check-done b q w k c e = rw e
 
@@ -121,25 +121,25 @@ left-small left w h s = pow-below left w 2 s h
 
 -- ---- a table by its format
 
-pub read-lost : (b : List ℕ) (at n : ℕ) (c : Charset) → length b ≤ at → Refused 1 ≡ answered c (charsetAt b at n)
+pub read-lost : (b : List ℕ) (at n : ℕ) (c : Charset) → length b ≤ at → Refused 1 ≡ charsetAnswer c (charsetAt b at n)
 unfolding charsetAt
 read-lost b at n c h = rw (drop-of-length-le b h)
 
 -- glyph 0 has no entry
-glyph-0 : (c : Charset) (w n : ℕ) (bs : List ℕ) → 0 < n → answered c (idsFrom w (n - 1) 0 0 bs) ≡ answered c (idsFrom w n 0 1 bs)
+glyph-0 : (c : Charset) (w n : ℕ) (bs : List ℕ) → 0 < n → charsetAnswer c (idsFrom w (n - 1) 0 0 bs) ≡ charsetAnswer c (idsFrom w n 0 1 bs)
 unfolding idsFrom
 glyph-0 c w zero bs h = absurd (not-suc-le-zero h)
-glyph-0 c w (suc n) bs h = simp sub-one (ap (answered c) (range-none w n 0 1 bs) ∙ sym (answered-on c 0 (idsFrom w n 1 0 bs)))
+glyph-0 c w (suc n) bs h = simp sub-one (ap (charsetAnswer c) (range-none w n 0 1 bs) ∙ sym (answer-on c 0 (idsFrom w n 1 0 bs)))
 
 module _ (b : List ℕ) (at n : ℕ) (c : Charset) (there : at < length b) where
-  pub read-unknown : (format : ℕ) → format ≡ getD b at 0 → 2 < format → Refused 2 ≡ answered c (charsetAt b at n)
+  pub read-unknown : (format : ℕ) → format ≡ getD b at 0 → 2 < format → Refused 2 ≡ charsetAnswer c (charsetAt b at n)
   unfolding charsetAt
   read-unknown format e h =
       let k : 2 < getD b at 0 = omega arith in
       rw (drop-cons b at 0 there) (simp (lt-ltb 2 (getD b at 0) k))
 
   pub read-ranges : (format : ℕ) → format ≡ getD b at 0 → format ≤ 2 → 0 < n
-      → answered c (idsFrom format (n - 1) 0 0 (drop (at + 1) b)) ≡ answered c (charsetAt b at n)
+      → charsetAnswer c (idsFrom format (n - 1) 0 0 (drop (at + 1) b)) ≡ charsetAnswer c (charsetAt b at n)
   unfolding charsetAt
   read-ranges format e h some =
       let k : getD b at 0 ≤ 2 = omega arith in
@@ -155,26 +155,26 @@ each-lost (suc k) i bs h =
     let m : length (drop 2 bs) < 2 * k = rw length-drop (omega arith) in
     ap (onward _) (each-lost k _ (drop 2 bs) m))
 
-each-there : (c : Charset) (k i : ℕ) (bs : List ℕ) → 2 * k ≤ length bs → answered c (idsFrom 0 k i 0 bs) ≡ Found c
+each-there : (c : Charset) (k i : ℕ) (bs : List ℕ) → 2 * k ≤ length bs → charsetAnswer c (idsFrom 0 k i 0 bs) ≡ Found c
 unfolding idsFrom be
 each-there c zero i bs h = refl
 each-there c (suc k) i bs h =
     let n : 2 ≤ length bs = omega arith in
     let m : 2 * k ≤ length (drop 2 bs) = rw length-drop (omega arith) in
-    simp (le-ltb (length bs) 2 n) (answered-on c _ (idsFrom 0 k _ 0 (drop 2 bs)) ∙ each-there c k _ (drop 2 bs) m)
+    simp (le-ltb (length bs) 2 n) (answer-on c _ (idsFrom 0 k _ 0 (drop 2 bs)) ∙ each-there c k _ (drop 2 bs) m)
 
 module _ (b : List ℕ) (at n : ℕ) (c : Charset) (there : at < length b) (some : 0 < n) (e : 0 ≡ getD b at 0) where
-  pub read-each-lost : (length b - (at + 1)) / 2 < n - 1 → Refused 1 ≡ answered c (charsetAt b at n)
+  pub read-each-lost : (length b - (at + 1)) / 2 < n - 1 → Refused 1 ≡ charsetAnswer c (charsetAt b at n)
   read-each-lost h =
       let m : length (drop (at + 1) b) < 2 * (n - 1) = rw length-drop (omega arith) in
-      sym (ap (answered c) (each-lost (n - 1) 0 (drop (at + 1) b) m)) ∙ read-ranges b at n c there 0 e (omega arith) some
+      sym (ap (charsetAnswer c) (each-lost (n - 1) 0 (drop (at + 1) b) m)) ∙ read-ranges b at n c there 0 e (omega arith) some
 
-  pub read-each : n - 1 ≤ (length b - (at + 1)) / 2 → Found c ≡ answered c (charsetAt b at n)
+  pub read-each : n - 1 ≤ (length b - (at + 1)) / 2 → Found c ≡ charsetAnswer c (charsetAt b at n)
   read-each h =
       let m : 2 * (n - 1) ≤ length (drop (at + 1) b) = rw length-drop (omega arith) in
       sym (each-there c (n - 1) 0 (drop (at + 1) b) m) ∙ read-ranges b at n c there 0 e (omega arith) some
 
 -- the charset that the code makes of the format it read
 pub table-is : (b : List ℕ) (at format : ℕ) → format ≡ getD b at 0 → (r : Listed)
-    → answered (record { own = 1; width = format; at = at + 1 }) r ≡ answered (tableAt b at) r
-table-is b at format e r = ap (λ (w : ℕ). answered (record { own = 1; width = w; at = at + 1 }) r) e
+    → charsetAnswer (record { own = 1; width = format; at = at + 1 }) r ≡ charsetAnswer (tableAt b at) r
+table-is b at format e r = ap (λ (w : ℕ). charsetAnswer (record { own = 1; width = w; at = at + 1 }) r) e

@@ -13,7 +13,7 @@ use lib.Dec.{eqb, ltb}
 use Rattle.octets.specs.Pick.{pick}
 use Rattle.octets.specs.Octets.{be, numAt}
 use Rattle.charset.specs.Listed.{Listed, refused, listed, onward, numbersOf, listOf}
-use Rattle.charset.specs.Charset.{idsFrom, charsetAt, isoAdobe, tableAt, predefined, idsOf, Good, answered, startOf, nextId, Stands, Ready}
+use Rattle.charset.specs.Charset.{idsFrom, charsetAt, isoAdobe, tableAt, predefined, idsOf, GoodCharset, charsetAnswer, charsetStart, nextId, StandsId, ReadyId}
 use Rattle.charset.specs.CharsetLaws.{range-met, range-lost, range-cut}
 use Rattle.charset.specs.declared.Charset.{Charset}
 use Rattle.charset.specs.declared.CharsetAt.{CharsetAt}
@@ -79,14 +79,14 @@ id-met b q w k i l h =
 
 -- the code can take a step where a glyph is left
 ready-at : (b : List ℕ) (i left w q k : ℕ) (l : List ℕ) → w ≤ 2 → idsFrom w (suc k) i left (drop q b) ≡ listed l
-    → Ready b (record { id = i; left = left; width = w; at = q })
+    → ReadyId b (record { id = i; left = left; width = w; at = q })
 ready-at b i zero w q k l n h = record { narrow = n; small = λ z. absurd (not-suc-le-zero z); room = λ z. id-met b q w k i l h .0 }
 ready-at b i (suc left) w q k l n h =
     record { narrow = n; small = λ z. id-on w k i left (drop q b) l h .0; room = λ z. absurd (omega arith) }
 
 step-at : (b : List ℕ) (i left w q x : ℕ) (l : List ℕ) → w ≤ 2 → idsFrom w (suc (length l)) i left (drop q b) ≡ listed (x ∷ l)
     → (nextId b (record { id = i; left = left; width = w; at = q }) .id ≡ x)
-    × Stands b (nextId b (record { id = i; left = left; width = w; at = q }) .next) l
+    × StandsId b (nextId b (record { id = i; left = left; width = w; at = q }) .next) l
 unfolding nextId
 step-at b i zero w q x l n h =
     let o = id-met b q w (length l) i (x ∷ l) h in
@@ -98,13 +98,13 @@ step-at b i (suc left) w q x l n h =
     let z : suc left ≡ 0 → ⊥ = λ y. omega arith in
     simp (ne-eqb (suc left) 0 z, sub-one) (e, record { narrow = n; gives = o .2 })
 
-module _ (b : List ℕ) (u : CharsetCursor) (x : ℕ) (l : List ℕ) (s : Stands b u (x ∷ l)) where
-  pub ready : Ready b u
+module _ (b : List ℕ) (u : CharsetCursor) (x : ℕ) (l : List ℕ) (s : StandsId b u (x ∷ l)) where
+  pub ready : ReadyId b u
   ready = ready-at b (u .id) (u .left) (u .width) (u .at) (length l) (x ∷ l) (s .narrow) (s .gives)
 
   -- the next glyph's id, and the cursor behind it
   pub step-id : nextId b u .id ≡ x
   step-id = step-at b (u .id) (u .left) (u .width) (u .at) x l (s .narrow) (s .gives) .0
 
-  pub step-next : Stands b (nextId b u .next) l
+  pub step-next : StandsId b (nextId b u .next) l
   step-next = step-at b (u .id) (u .left) (u .width) (u .at) x l (s .narrow) (s .gives) .1

@@ -10,7 +10,7 @@ use lib.Seq.{drop-drop, getD-drop}
 use Rattle.octets.specs.Octets.{be, numAt}
 use Rattle.octets.specs.OctetsLaws.{num-none}
 use Rattle.charset.specs.Listed.{Listed, refused, listed, onward, numbersOf}
-use Rattle.charset.specs.Charset.{idsFrom, idsOf, Good}
+use Rattle.charset.specs.Charset.{idsFrom, idsOf, GoodCharset}
 use Rattle.charset.specs.CharsetLaws.{range-none, range-met}
 use Rattle.charset.specs.CursorLaws.{id-on, id-met}
 use Rattle.charset.specs.declared.Charset.{Charset}
@@ -136,7 +136,7 @@ each-at b q k l (suc g) h m =
 read-is : (r : Listed) (l : List ℕ) → r ≡ listed l → r ≡ listed (numbersOf r)
 read-is r l h = h ∙ ap listed (sym (ap numbersOf h))
 
-module _ (b : List ℕ) (c : Charset) (n gid : ℕ) (good : Good b c n) (h : gid < n) where
+module _ (b : List ℕ) (c : Charset) (n gid : ℕ) (good : GoodCharset b c n) (h : gid < n) where
   -- a glyph whose id is its own number
   pub own-id : gid < c .own → gid ≡ getD (idsOf b c n) gid 0
   own-id m = let e : 0 + gid ≡ gid = omega arith in sym (run-at (c .width) n 0 (c .own) (drop (c .at) b) (idsOf b c n) gid (good .sound) h m ∙ e)

@@ -4,3 +4,11 @@ pub mod CharsetLaws
 pub mod CursorLaws
 pub mod IdLaws
 pub mod CharsetFound
+pub mod FdSelect
+pub mod FdPlaces
+pub mod FdLaws
+pub mod FdCursorLaws
+pub mod FdSearchLaws
+pub mod ListedLaws
+pub mod FdBelowLaws
+pub mod FdFound

@@ -1,10 +1,12 @@
 // The numbers that a font gives each glyph: its string id or CID (the charset, here), its font dictionary (`fd_select`), and the checks of
 // its code (`encoding`). Tables are read in place, with positions by value; a pass over all glyphs goes by a cursor.
+pub mod fd_select;
+
 ghost use mathlib.Core.Path.{_≡_};
 ghost use Prim.Native.Nat.{_+_, _≤_, _<_};
 ghost use lib.ListN.{length, drop, getD};
 ghost use Rattle.charset.specs.Listed.{listed, numbersOf};
-ghost use Rattle.charset.specs.Charset.{idsFrom, charsetAt, tableAt, predefined, idsOf, Good, answered, startOf, nextId, Ready};
+ghost use Rattle.charset.specs.Charset.{idsFrom, charsetAt, tableAt, predefined, idsOf, GoodCharset, charsetAnswer, charsetStart, nextId, ReadyId};
 
 // A charset of a font: the first `own` glyphs have their own numbers as ids, glyph 0 alone where there is a table, all of them where the
 // charset is the predefined one; the others stand in ranges from `at` on, whose nLeft has `width` bytes.
@@ -48,7 +50,7 @@ pub fn predefined() -> Charset
 // Checks the ranges of a charset for count glyphs: each range is there, and no id of them is above 65535.
 fn check_ranges(font: &[u8], c: Charset, count: usize) -> CharsetAt
     requires { ⌜ (c .width ≤ 2) × (count < 65536) × (c .at ≤ length (now font)) ⌝ }
-    ensures { λ r. ⌜ r ≡ answered c (idsFrom (c .width) count 0 0 (drop (c .at) (now (font .entry)))) ⌝ }
+    ensures { λ r. ⌜ r ≡ charsetAnswer c (idsFrom (c .width) count 0 0 (drop (c .at) (now (font .entry)))) ⌝ }
 {
     let len = font.len();
     let width = c.width;
@@ -78,7 +80,7 @@ fn check_ranges(font: &[u8], c: Charset, count: usize) -> CharsetAt
 // The charset of a font of n glyphs, at a place.
 pub fn read_charset(font: &[u8], at: usize, n: usize) -> CharsetAt
     requires { ⌜ (0 < n) × (n < 65536) ⌝ }
-    ensures { λ r. ⌜ r ≡ answered (tableAt (now (font .entry)) at) (charsetAt (now (font .entry)) at n) ⌝ }
+    ensures { λ r. ⌜ r ≡ charsetAnswer (tableAt (now (font .entry)) at) (charsetAt (now (font .entry)) at n) ⌝ }
 {
     let len = font.len();
     if len <= at {
@@ -105,7 +107,7 @@ pub fn read_charset(font: &[u8], at: usize, n: usize) -> CharsetAt
 
 // Where a charset begins: before glyph 0.
 pub fn charset_start(c: Charset) -> CharsetCursor
-    ensures { λ r. ⌜ r ≡ startOf c ⌝ }
+    ensures { λ r. ⌜ r ≡ charsetStart c ⌝ }
 {
     CharsetCursor {
         id: 0,
@@ -117,7 +119,7 @@ pub fn charset_start(c: Charset) -> CharsetCursor
 
 // The id where a cursor stands, and the cursor behind it.
 pub fn next_id(font: &[u8], u: CharsetCursor) -> IdStep
-    requires { ⌜ Ready (now font) u ⌝ }
+    requires { ⌜ ReadyId (now font) u ⌝ }
     ensures { λ r. ⌜ (r ≡ nextId (now (font .entry)) u) × (r .id < 65536) ⌝ }
 {
     let at = u.at;
@@ -167,7 +169,7 @@ fn id_in_ranges(font: &[u8], at: usize, width: usize, n: usize, g: usize) -> usi
 
 // The id of a glyph.
 pub fn id_of(font: &[u8], c: Charset, n: usize, gid: usize) -> usize
-    requires { ⌜ (Good (now font) c n) × (gid < n) ⌝ }
+    requires { ⌜ (GoodCharset (now font) c n) × (gid < n) ⌝ }
     ensures { λ r. ⌜ (r ≡ getD (idsOf (now (font .entry)) c n) gid 0) × (r < 65536) ⌝ }
 {
     let own = c.own;

@@ -5,7 +5,7 @@ use native.Mathlib.Omega.{arith}
 use borrow.Author.Needs.{needs}
 use lib.ListN.{length, drop}
 use denote.Ref.{now}
-use Rattle.charset.specs.Charset.{idsFrom, answered}
+use Rattle.charset.specs.Charset.{idsFrom, charsetAnswer}
 use Rattle.charset.specs.CharsetLaws.{check-lost, check-last, check-last-past, check-past, check-on, check-done, left-small}
 use Rattle.charset.proofs.check_ranges.Statement.{statement}
 use Rattle.charset.proofs.check_ranges.Tie as tie
@@ -13,7 +13,7 @@ use Rattle.charset.proofs.check_ranges.Tie as tie
 abbrev Inv-loop : tie.InvT-loop
 Inv-loop font c count len width q₀ k₀ q k =
     (len ≡ length font) × (width ≡ c .width) × (q ≤ length font) × (k ≤ count)
-    × (answered c (idsFrom width k 0 0 (drop q font)) ≡ answered c (idsFrom width count 0 0 (drop (c .at) font)))
+    × (charsetAnswer c (idsFrom width k 0 0 (drop q font)) ≡ charsetAnswer c (idsFrom width count 0 0 (drop (c .at) font)))
 
 abbrev μ-loop : tie.MeasureT-loop
 μ-loop font c count len width q₀ k₀ q k = k

@@ -1,4 +1,4 @@
--- `charset::next_id` meets its contract: the one test of `nextId`, and the bytes are there by `Ready`.
+-- `charset::next_id` meets its contract: the one test of `nextId`, and the bytes are there by `ReadyId`.
 use native.Mathlib.Omega.{arith}
 use Rattle.charset.specs.CursorLaws.{step-met, step-on}
 use Rattle.charset.specs.CharsetLaws.{left-small}
