@@ -3,7 +3,7 @@ use Prim.Native.Nat.{ℕ, zero, suc, _+_, _-_, _*_, _/_, _%_, _^_, _≤_, _<_}
 use mathlib.Core.Path.{_≡_, refl, sym, ap, _∙_, subst}
 use mathlib.Core.Logic.{_⊎_, inl, inr}
 use mathlib.Core.Bool.{Bool, true, false}
-use native.Mathlib.Nat.{pow-suc, pow-zero, one-le-pow, mul-one, mul-assoc, mul-pos, zero-mul, mul-div-cancel, mul-div-mul-right, div-one, div-add-mod', eq-zero-or-pos, lt-irrefl, not-suc-le-zero, mul-mod-left}
+use native.Mathlib.Nat.{pow-suc, pow-succ', pow-zero, one-le-pow, mul-one, mul-assoc, mul-pos, zero-mul, mul-div-cancel, mul-div-mul-right, div-one, div-add-mod', eq-zero-or-pos, lt-irrefl, not-suc-le-zero, mul-mod-left}
 use native.Mathlib.Numerals.{add-one}
 use native.Mathlib.Decide.{ℕ-discrete}
 use native.Mathlib.Omega.{arith}
@@ -123,3 +123,20 @@ pub normal-times : (s : Bool) (m k a b : ℕ) → (m % 10 ≡ 0 → ⊥)
 normal-times s m k a b h =
     let p : 0 < m = omega arith in
     normal-pos s (m * 10 ^ k) a b (mul-pos p (ten-pos k)) ∙ rw (stripped-times m k h, zeros-times m k h)
+
+-- ---- an integer's zeros dropped one by one
+
+pub whole-step : (m up n : ℕ) → m * 10 ^ up ≡ n → m % 10 ≡ 0 → m / 10 * 10 ^ (up + 1) ≡ n
+whole-step m up n e h =
+    let t : m / 10 * 10 ≡ m = omega arith in
+    rw (add-one, pow-succ', ← mul-assoc, t) e
+
+pub whole-done : (s : Bool) (m up n : ℕ) → m * 10 ^ up ≡ n → (m % 10 ≡ 0 → ⊥) → record { neg = s; digits = m; up = up; down = 0 } ≡ normal s n 0 0
+whole-done s m up n e h =
+    let a : up ≡ 0 + up - 0 = omega arith in
+    let b : 0 ≡ 0 - (0 + up) = omega arith in
+    ap (λ (u : ℕ). record { neg = s; digits = m; up = u; down = 0 }) a ∙ ap (λ (d : ℕ). record { neg = s; digits = m; up = 0 + up - 0; down = d }) b
+    ∙ sym (normal-times s m up 0 0 h) ∙ ap (λ (k : ℕ). normal s k 0 0) e
+
+pub whole-nought : (s : Bool) (n : ℕ) → n ≡ 0 → nought ≡ normal s n 0 0
+whole-nought s n e = rw e (sym (normal-nought s 0 0))

@@ -9,3 +9,4 @@ pub mod Stage
 pub mod StageLaws
 pub mod RealLaws
 pub mod RunLaws
+pub mod NumberLaws

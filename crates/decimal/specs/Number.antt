@@ -27,6 +27,12 @@ integerAt b at width s n = pick (ltb (length b) (at + width)) (refused 1) (numbe
 abbrev pub twosAt : List ℕ → ℕ → ℕ → ℕ → ℕ → Number
 twosAt b at width half v = pick (ltb v half) (integerAt b at width false v) (integerAt b at width true (half * 2 - v))
 
+-- the first byte v, 247 to 254, and one byte more
+abbrev pub pairAt : List ℕ → ℕ → ℕ → Number
+pairAt b at v =
+    let w = getD b (at + 1) 0 in
+    pick (ltb v 251) (integerAt b at 2 false ((v - 247) * 256 + w + 108)) (integerAt b at 2 true ((v - 251) * 256 + w + 108))
+
 -- a real's value with the position after its last byte
 abbrev pub placed : ℕ → Value → Number
 placed next (refusedText n) = refused n
@@ -48,15 +54,13 @@ unfoldable pub numberAt : List ℕ → ℕ → Number
 unfolding numAt normal realAt
 numberAt b at =
     let v = getD b at 0 in
-    let w = getD b (at + 1) 0 in
     pick (eqb v 28) (twosAt b at 3 32768 (numAt b (at + 1) 2))
     (pick (eqb v 29) (twosAt b at 5 2147483648 (numAt b (at + 1) 4))
     (pick (eqb v 30) (realAt b at)
     (pick (ltb v 32) notNumber
     (pick (ltb v 139) (integerAt b at 1 true (139 - v))
     (pick (ltb v 247) (integerAt b at 1 false (v - 139))
-    (pick (ltb v 251) (integerAt b at 2 false ((v - 247) * 256 + w + 108))
-    (pick (ltb v 255) (integerAt b at 2 true ((v - 251) * 256 + w + 108)) notNumber)))))))
+    (pick (ltb v 255) (pairAt b at v) notNumber))))))
 
 -- the code's answer for it
 abbrev pub answerOf : Number → NumberAt

@@ -1,15 +1,16 @@
 // The numbers of a DICT (TN5176, section 4, tables 3 to 5) as exact decimals. The Rust holds an f64; within the limits of refusal 5 of
 // document 01 the decimal and the f64 print, truncate, compare and clamp alike.
 ghost use mathlib.Core.Path.{_≡_};
-ghost use mathlib.Core.Bool.{Bool};
-ghost use Prim.Native.Nat.{ℕ, _+_, _*_, _^_, _≤_, _<_, min};
+ghost use mathlib.Core.Bool.{Bool, true, false};
+ghost use Prim.Native.Nat.{ℕ, _+_, _-_, _*_, _^_, _≤_, _<_, min};
 ghost use lib.Dec.{ltb};
 ghost use lib.ListN.{length};
 ghost use Rattle.octets.specs.Pick.{pick};
 ghost use Rattle.decimal.specs.Decimal.{scaled, normal};
 ghost use Rattle.decimal.specs.Real.{limited};
-ghost use Rattle.decimal.specs.Number.{placed, realAt, numberAt, answerOf};
+ghost use Rattle.decimal.specs.Number.{placed, realAt, pairAt, numberAt, answerOf};
 ghost use Rattle.decimal.specs.Stage.{Exact, stepOf, mantissaStep, exponentStep, heldOf, stageOf, Finished, Ended, Stopped};
+ghost use Rattle.decimal.specs.declared.NumberAt.the-variants.{Num};
 use octets::wide;
 
 // ± digits × 10 ^ up / 10 ^ down; normalised, so that two equal numbers are one value.
@@ -353,4 +354,101 @@ fn parse_real(d: &[u8], at: usize) -> NumberAt
         p += 1;
     }
     NumberAt::Refused(1)
+}
+
+// The integer n, or -n where neg, without the zeros at its end.
+pub fn whole(neg: bool, n: usize) -> Decimal
+    ensures { λ r. ⌜ r ≡ normal neg n 0 0 ⌝ }
+{
+    if n == 0 {
+        return Decimal {
+            neg: false,
+            digits: 0,
+            up: 0,
+            down: 0,
+        };
+    }
+    let mut digits = n;
+    let mut up = 0;
+    while digits % 10 == 0 {
+        digits /= 10;
+        up += 1;
+    }
+    Decimal {
+        neg,
+        digits,
+        up,
+        down: 0,
+    }
+}
+
+// The integer with the sign and the size, and the position after it.
+fn integer(neg: bool, size: usize, next: usize) -> NumberAt
+    ensures { λ r. ⌜ r ≡ Num (normal neg size 0 0) next ⌝ }
+{
+    let value = whole(neg, size);
+    NumberAt::Num { value, next }
+}
+
+// The integer with the bits v in two's complement, half being the least that is negative.
+fn twos(v: usize, half: usize, next: usize) -> NumberAt
+    requires { ⌜ (half ≤ 2147483648) × (v < half * 2) ⌝ }
+    ensures { λ r. ⌜ r ≡ pick (ltb v half) (Num (normal false v 0 0) next) (Num (normal true (half * 2 - v) 0 0) next) ⌝ }
+{
+    if v < half {
+        return integer(false, v, next);
+    }
+    integer(true, half * 2 - v, next)
+}
+
+// The integer of two bytes whose first, 247 to 254, is v.
+fn pair(d: &[u8], at: usize, v: usize) -> NumberAt
+    requires { ⌜ (at < length (now d)) × (247 ≤ v) × (v < 255) ⌝ }
+    ensures { λ r. ⌜ r ≡ answerOf (pairAt (now (d .entry)) at v) ⌝ }
+{
+    if d.len() - at < 2 {
+        return NumberAt::Refused(1);
+    }
+    let w = wide(d[at + 1]);
+    if v < 251 {
+        return integer(false, (v - 247) * 256 + w + 108, at + 2);
+    }
+    integer(true, (v - 251) * 256 + w + 108, at + 2)
+}
+
+// The number at a position of a DICT, as in the Rust's `Dict::parse`.
+pub fn number_at(d: &[u8], at: usize) -> NumberAt
+    requires { ⌜ at < length (now d) ⌝ }
+    ensures { λ r. ⌜ r ≡ answerOf (numberAt (now (d .entry)) at) ⌝ }
+{
+    let left = d.len() - at;
+    let v = wide(d[at]);
+    if v == 28 {
+        if left < 3 {
+            return NumberAt::Refused(1);
+        }
+        return twos(octets::u16_at(d, at + 1), 32768, at + 3);
+    }
+    if v == 29 {
+        if left < 5 {
+            return NumberAt::Refused(1);
+        }
+        return twos(octets::u32_at(d, at + 1), 2147483648, at + 5);
+    }
+    if v == 30 {
+        return parse_real(d, at);
+    }
+    if v < 32 {
+        return NumberAt::NotNumber;
+    }
+    if v < 139 {
+        return integer(true, 139 - v, at + 1);
+    }
+    if v < 247 {
+        return integer(false, v - 139, at + 1);
+    }
+    if v < 255 {
+        return pair(d, at, v);
+    }
+    NumberAt::NotNumber
 }

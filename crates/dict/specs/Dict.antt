@@ -79,10 +79,10 @@ unfolding entryAt
 readingsFrom zero b at = []
 readingsFrom (suc k) b at = let more = followed (entryAt b at) (readingsFrom k b) in pick (ltb at (length b)) more []
 
--- all that is read: each entry has a byte
-unfoldable pub readingsOf : List ℕ → List Reading
+-- all entries from a position on: each has a byte
+unfoldable pub readingsAt : List ℕ → ℕ → List Reading
 unfolding readingsFrom
-readingsOf b = readingsFrom (length b) b 0
+readingsAt b at = readingsFrom (length b) b at
 
 -- an entry before those of a DICT
 abbrev pub before : Entry → Dict → Dict
@@ -97,5 +97,5 @@ gathered (got op ds end next ∷ rs) = before (record { op = op; operands = ds }
 
 -- the DICT of these bytes
 unfoldable pub dictOf : List ℕ → Dict
-unfolding readingsOf gathered
-dictOf b = gathered (readingsOf b)
+unfolding readingsAt gathered
+dictOf b = gathered (readingsAt b 0)

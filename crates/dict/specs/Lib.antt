@@ -4,3 +4,8 @@ pub mod Lookup
 pub mod Written
 pub mod Places
 pub mod Examples
+pub mod TokenLaws
+
+pub mod EntryLaws
+
+pub mod WalkLaws

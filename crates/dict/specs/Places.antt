@@ -8,7 +8,7 @@ use Rattle.octets.specs.Pick.{pick}
 use Rattle.decimal.specs.declared.Decimal.{Decimal}
 use Rattle.decimal.specs.Decimal.{nought}
 use Rattle.decimal.specs.Number.{Number, refused as refusedNumber, notNumber, number, numberAt}
-use Rattle.dict.specs.Dict.{Entry, Dict, refused, entries, Token, bad, operand, operator, Reading, stopped, got, readingsOf, dictOf}
+use Rattle.dict.specs.Dict.{Entry, Dict, refused, entries, Token, bad, operand, operator, Reading, stopped, got, readingsAt, dictOf}
 use Rattle.dict.specs.declared.TokenAt.{TokenAt}
 use Rattle.dict.specs.declared.TokenAt.the-variants.{Refused, Operand, Operator}
 use Rattle.dict.specs.declared.EntryAt.{EntryAt}
@@ -39,7 +39,7 @@ listed (stopped n ∷ rs) = []
 listed (got op ds end next ∷ rs) = record { op = op; operands = ds } ∷ listed rs
 
 abbrev pub entriesOf : List ℕ → List Entry
-entriesOf b = listed (readingsOf b)
+entriesOf b = listed (readingsAt b 0)
 
 -- a DICT that is not refused
 pub record Good (b : List ℕ) : Type 0 where
@@ -53,7 +53,7 @@ lastPlace op at found (got o ds end next ∷ rs) =
     lastPlace op next (pick (eqb o op) (FoundAt at end (length ds)) found) rs
 
 abbrev pub placeOf : ℕ → List ℕ → Found
-placeOf op b = lastPlace op 0 Absent (readingsOf b)
+placeOf op b = lastPlace op 0 Absent (readingsAt b 0)
 
 -- n operands from a position on
 abbrev pub orNone : Number → (ℕ → List Decimal) → List Decimal
