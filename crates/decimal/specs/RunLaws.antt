@@ -135,8 +135,8 @@ module _ (b : List ℕ) (at : ℕ) (st : Stage) (k x : ℕ) (xs : List ℕ) (goi
         held = t (going .exact) (going .held);
         counted = counted-step (going .exact) x k (going .counted);
         rest =
-          sym (from-before (going .exact) k (at + 1) x (textOf xs))
-          ∙ ap (realFrom (going .exact) k (at + 1)) (sym (text-more x xs e f)) ∙ going .rest;
+            sym (from-before (going .exact) k (at + 1) x (textOf xs))
+            ∙ ap (realFrom (going .exact) k (at + 1)) (sym (text-more x xs e f)) ∙ going .rest;
       }
 
 going-cut : (b : List ℕ) (at : ℕ) (st : Stage) (k : ℕ) → Going b at st k [] → Refused 1 ≡ answerOf (realAt b at)

@@ -100,7 +100,7 @@ ten-under n d z e h = go (eq-zero-or-pos n) (decLe (10 ^ 15) (stripped n)) (decL
         rw (m, q, ← ten-times n)
 
 module _ (h : Held) (point : Bool) (x z b : ℕ) (low : x < 10) (zs : z ≡ min (h .zeros + 1) 1000) (bs : b ≡ pick point (min (h .behind + 1) 1000) (h .behind))
-  (s : Bool) (n f : ℕ) (e : h ≡ heldOf s n f) where
+    (s : Bool) (n f : ℕ) (e : h ≡ heldOf s n f) where
   after : (d k : ℕ) → d ≡ min (stripped (n * 10 + x)) (10 ^ 15) → k ≡ min (zeros (n * 10 + x)) 1000
       → _≡_ {A = Held} (record { neg = h .neg; digits = d; zeros = k; behind = b }) (heldOf s (n * 10 + x) (pick point (f + 1) f))
   after d k p q = held-is (h .neg) s d k b _ _ _ (ap (λ (o : Held). o .neg) e) p q (more-behind point f (h .behind) b (ap (λ (o : Held). o .behind) e) bs)

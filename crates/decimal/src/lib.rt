@@ -145,15 +145,35 @@ fn digit(h: Held, point: bool, x: usize) -> Held
     let behind = counted(h.behind, point);
     if x == 0 {
         if digits == 0 {
-            return Held { neg, digits: 0, zeros: 0, behind };
+            return Held {
+                neg,
+                digits: 0,
+                zeros: 0,
+                behind,
+            };
         }
-        return Held { neg, digits, zeros, behind };
+        return Held {
+            neg,
+            digits,
+            zeros,
+            behind,
+        };
     }
     let more = scaled_up(digits, zeros, TOO_MANY) + x;
     if more < TOO_MANY {
-        return Held { neg, digits: more, zeros: 0, behind };
+        return Held {
+            neg,
+            digits: more,
+            zeros: 0,
+            behind,
+        };
     }
-    Held { neg, digits: TOO_MANY, zeros: 0, behind }
+    Held {
+        neg,
+        digits: TOO_MANY,
+        zeros: 0,
+        behind,
+    }
 }
 
 // A nibble of the mantissa.
@@ -162,13 +182,21 @@ fn mantissa_step(any: bool, point: bool, held: Held, x: usize) -> Stage
 {
     if x < 10 {
         let more = digit(held, point, x);
-        return Stage::Mantissa { any: true, point, held: more };
+        return Stage::Mantissa {
+            any: true,
+            point,
+            held: more,
+        };
     }
     if x == 10 {
         if point {
             return Stage::Malformed;
         }
-        return Stage::Mantissa { any, point: true, held };
+        return Stage::Mantissa {
+            any,
+            point: true,
+            held,
+        };
     }
     if x == 11 {
         if any {
@@ -178,7 +206,12 @@ fn mantissa_step(any: bool, point: bool, held: Held, x: usize) -> Stage
     }
     if x == 12 {
         if any {
-            return Stage::Power { held, eneg: true, any: false, exp: 0 };
+            return Stage::Power {
+                held,
+                eneg: true,
+                any: false,
+                exp: 0,
+            };
         }
         return Stage::Malformed;
     }
@@ -191,7 +224,12 @@ fn exponent_step(held: Held, eneg: bool, exp: usize, x: usize) -> Stage
 {
     if x < 10 {
         let more = raised_exponent(exp, x);
-        return Stage::Power { held, eneg, any: true, exp: more };
+        return Stage::Power {
+            held,
+            eneg,
+            any: true,
+            exp: more,
+        };
     }
     Stage::Malformed
 }
@@ -203,18 +241,47 @@ fn step(stage: Stage, x: usize) -> Stage
     match stage {
         Stage::Start => {
             if x == 14 {
-                return Stage::Mantissa { any: false, point: false, held: Held { neg: true, digits: 0, zeros: 0, behind: 0 } };
+                return Stage::Mantissa {
+                    any: false,
+                    point: false,
+                    held: Held {
+                        neg: true,
+                        digits: 0,
+                        zeros: 0,
+                        behind: 0,
+                    },
+                };
             }
-            mantissa_step(false, false, Held { neg: false, digits: 0, zeros: 0, behind: 0 }, x)
+            mantissa_step(
+                false,
+                false,
+                Held {
+                    neg: false,
+                    digits: 0,
+                    zeros: 0,
+                    behind: 0,
+                },
+                x,
+            )
         }
         Stage::Mantissa { any, point, held } => mantissa_step(any, point, held, x),
         Stage::Exponent { held } => {
             if x == 14 {
-                return Stage::Power { held, eneg: true, any: false, exp: 0 };
+                return Stage::Power {
+                    held,
+                    eneg: true,
+                    any: false,
+                    exp: 0,
+                };
             }
             exponent_step(held, false, 0, x)
         }
-        Stage::Power { held, eneg, any: _, exp } => exponent_step(held, eneg, exp, x),
+        Stage::Power {
+            held,
+            eneg,
+            any: _,
+            exp,
+        } => exponent_step(held, eneg, exp, x),
         Stage::Malformed => Stage::Malformed,
     }
 }
@@ -304,7 +371,11 @@ fn ended(stage: Stage, bytes: usize, next: usize) -> NumberAt
             bytes,
             next,
         ),
-        Stage::Mantissa { any, point: _, held } => {
+        Stage::Mantissa {
+            any,
+            point: _,
+            held,
+        } => {
             if any {
                 return finished(held, false, 0, bytes, next);
             }

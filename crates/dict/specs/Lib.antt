@@ -5,7 +5,5 @@ pub mod Written
 pub mod Places
 pub mod Examples
 pub mod TokenLaws
-
 pub mod EntryLaws
-
 pub mod WalkLaws

@@ -1,0 +1,3 @@
+pub mod Font
+pub mod Find
+pub mod Examples
