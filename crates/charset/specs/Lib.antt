@@ -12,3 +12,5 @@ pub mod FdSearchLaws
 pub mod ListedLaws
 pub mod FdBelowLaws
 pub mod FdFound
+pub mod Encoding
+pub mod EncodingLaws

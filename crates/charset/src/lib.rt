@@ -1,5 +1,6 @@
 // The numbers that a font gives each glyph: its string id or CID (the charset, here), its font dictionary (`fd_select`), and the checks of
 // its code (`encoding`). Tables are read in place, with positions by value; a pass over all glyphs goes by a cursor.
+pub mod encoding;
 pub mod fd_select;
 
 ghost use mathlib.Core.Path.{_≡_};
