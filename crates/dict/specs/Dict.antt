@@ -26,7 +26,7 @@ pub data Token : Type 0 where
   operator : ℕ → ℕ → Token
 
 -- an operator: 12 with the byte after it, else 0 to 21; the bytes 22 to 27, 31 and 255 start nothing
-abbrev pub operatorAt : List ℕ → ℕ → Token
+unfoldable pub operatorAt : List ℕ → ℕ → Token
 operatorAt b at =
     pick (eqb (getD b at 0) 12)
     (pick (ltb (length b) (at + 2)) (bad 1) (operator (esc (getD b (at + 1) 0)) (at + 2)))
@@ -38,7 +38,6 @@ tokenOf b at notNumber = operatorAt b at
 tokenOf b at (number d next) = operand d next
 
 unfoldable pub tokenAt : List ℕ → ℕ → Token
-unfolding numberAt
 tokenAt b at = tokenOf b at (numberAt b at)
 
 -- an entry read from a position on: a refusal; or its operator, its operands, where the operator stands, and the position after it
@@ -59,13 +58,11 @@ onward at (operator op next) rest = got op [] at next
 
 -- an entry of at most k tokens; operands that no operator follows are malformed
 unfoldable pub entryFrom : ℕ → List ℕ → ℕ → Reading
-unfolding tokenAt
 entryFrom zero b at = stopped 2
 entryFrom (suc k) b at = let more = onward at (tokenAt b at) (entryFrom k b) in pick (ltb at (length b)) more (stopped 2)
 
 -- the entry at a position: each token has a byte, so that there are no more tokens than bytes
 unfoldable pub entryAt : List ℕ → ℕ → Reading
-unfolding entryFrom
 entryAt b at = entryFrom (length b) b at
 
 -- an entry, and what follows it
@@ -75,13 +72,11 @@ followed (got op ds end next) rest = got op ds end next ∷ rest next
 
 -- at most k entries from a position on, up to the end or to a refusal
 unfoldable pub readingsFrom : ℕ → List ℕ → ℕ → List Reading
-unfolding entryAt
 readingsFrom zero b at = []
 readingsFrom (suc k) b at = let more = followed (entryAt b at) (readingsFrom k b) in pick (ltb at (length b)) more []
 
 -- all entries from a position on: each has a byte
 unfoldable pub readingsAt : List ℕ → ℕ → List Reading
-unfolding readingsFrom
 readingsAt b at = readingsFrom (length b) b at
 
 -- an entry before those of a DICT
@@ -97,5 +92,4 @@ gathered (got op ds end next ∷ rs) = before (record { op = op; operands = ds }
 
 -- the DICT of these bytes
 unfoldable pub dictOf : List ℕ → Dict
-unfolding readingsAt gathered
 dictOf b = gathered (readingsAt b 0)

@@ -12,7 +12,7 @@ use Rattle.decimal.specs.Number.{realAt, numberAt}
 use Rattle.decimal.specs.Values.{truncOf}
 use Rattle.decimal.specs.Written.{int5Bytes, intBytes, digitsOf, widthIn, widthOf, realText, packed, realBytes, numberBytes}
 use Rattle.dict.specs.Op.{esc, subrs}
-use Rattle.dict.specs.Dict.{Entry, Dict, refused, entries, tokenAt, entryFrom, entryAt, readingsFrom, readingsAt, gathered, dictOf}
+use Rattle.dict.specs.Dict.{Entry, Dict, refused, entries, operatorAt, tokenAt, entryFrom, entryAt, readingsFrom, readingsAt, gathered, dictOf}
 use Rattle.dict.specs.Lookup.{Operands, absent, operands, lastFrom, lastOf, oneOf, offsetIn, privateIn, idIn, cidKeyed, rosIn, cidCountIn, charstringTypeIn}
 use Rattle.dict.specs.Written.{opBytes, operandsBytes, entryBytes, entriesBytes, offsetEntry, privateEntry, without, privateBytes}
 use Rattle.dict.specs.Places.{listed, entriesOf, lastPlace, placeOf, operandsAt}
@@ -36,7 +36,7 @@ read :
     × (dictOf (0x8d ∷ 0x0c ∷ 0x06 ∷ []) ≡ entries (entry (esc 6) (whole 2 ∷ []) ∷ []))
     × (dictOf (0x15 ∷ 0x8c ∷ 0x8d ∷ 0x12 ∷ []) ≡ entries (entry 21 [] ∷ entry 18 (whole 1 ∷ whole 2 ∷ []) ∷ []))
 unfolding be numAt zerosOf zeros stripped normal nibbles textOf expDigits exponent mantissa formOf valueOf realAt numberAt
-    tokenAt entryFrom entryAt readingsFrom readingsAt gathered dictOf
+    operatorAt tokenAt entryFrom entryAt readingsFrom readingsAt gathered dictOf
 read = (refl, refl, refl, refl)
 
 -- operands left over; 12 at the end; the bytes 22, 27, 31 and 255; a number cut off; a real past the limits; the first refusal counts
@@ -54,7 +54,7 @@ refusals :
     × (dictOf (0x8b ∷ 0x11 ∷ 0x1e ∷ 0xaf ∷ 0x16 ∷ []) ≡ refused 2)
     × (dictOf (0x1e ∷ 0x1b ∷ 0x31 ∷ 0xff ∷ 0x1d ∷ []) ≡ refused 5)
 unfolding be numAt zerosOf zeros stripped normal nibbles textOf expDigits exponent mantissa formOf valueOf realAt numberAt
-    tokenAt entryFrom entryAt readingsFrom readingsAt gathered dictOf
+    operatorAt tokenAt entryFrom entryAt readingsFrom readingsAt gathered dictOf
 refusals = (refl, refl, refl, refl, refl, refl, refl, refl, refl, refl, refl, refl)
 
 -- CharStrings 1, then 2: the last counts
@@ -119,5 +119,5 @@ places :
     × (placeOf 18 (0x8c ∷ 0x11 ∷ []) ≡ NotFound)
     × (operandsAt 1 (0x8c ∷ 0x11 ∷ 0x8d ∷ 0x11 ∷ []) 2 ≡ whole 2 ∷ [])
 unfolding be numAt zerosOf zeros stripped normal nibbles textOf expDigits exponent mantissa formOf valueOf realAt numberAt
-    tokenAt entryFrom entryAt readingsFrom readingsAt lastPlace operandsAt
+    operatorAt tokenAt entryFrom entryAt readingsFrom readingsAt lastPlace operandsAt
 places = (refl, refl, refl)

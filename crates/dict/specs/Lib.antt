@@ -7,3 +7,5 @@ pub mod Examples
 pub mod TokenLaws
 pub mod EntryLaws
 pub mod WalkLaws
+
+pub mod LookupLaws

@@ -34,7 +34,6 @@ lastFrom op o (e ∷ es) = lastFrom op (pick (eqb (e .op) op) (operands (e .oper
 
 -- the operands of the last entry of an operator
 unfoldable pub lastOf : ℕ → List Entry → Operands
-unfolding lastFrom
 lastOf op es = lastFrom op absent es
 
 -- the operand where there is exactly one

@@ -62,6 +62,5 @@ orNone notNumber rest = []
 orNone (number d next) rest = d ∷ rest next
 
 unfoldable pub operandsAt : ℕ → List ℕ → ℕ → List Decimal
-unfolding numberAt
 operandsAt zero b at = []
 operandsAt (suc n) b at = orNone (numberAt b at) (operandsAt n b)

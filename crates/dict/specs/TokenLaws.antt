@@ -6,15 +6,20 @@ use mathlib.Core.List.{List, [], _∷_, _++_}
 use native.Mathlib.Omega.{arith}
 use lib.Dec.{ltb, leb, eqb}
 use lib.ListN.{length, drop, getD, length-drop}
-use borrow.Author.Tests.{ltb-true, ltb-false, eqb-true, eqb-false, lt-ltb, le-ltb, ne-eqb}
+use borrow.Author.Tests.{ltb-true, ltb-false, eqb-false, lt-ltb, le-ltb, eq-eqb, ne-eqb}
 use Rattle.octets.specs.Pick.{pick, pick-ind}
 use Rattle.octets.specs.Octets.{Octets, numAt}
 use Rattle.decimal.specs.declared.Decimal.{Decimal}
 use Rattle.decimal.specs.Decimal.{normal}
 use Rattle.decimal.specs.Real.{nibbles, Text, cut, wrong, text, before, textOf, Form, bad as badForm, form, formOf, Value, refused as refusedText, value, limited, valueOf}
-use Rattle.decimal.specs.Number.{Number, refused as refusedNumber, notNumber, number, integerAt, twosAt, placed, realOf, realAt, numberAt}
+use Rattle.decimal.specs.Number.{Number, refused as refusedNumber, notNumber, number, integerAt, twosAt, pairAt, placed, realOf, realAt, numberAt, answerOf}
 use Rattle.dict.specs.Op.{esc, isOperator}
 use Rattle.dict.specs.Dict.{Token, bad, operand, operator, operatorAt, tokenOf, tokenAt}
+use Rattle.dict.specs.Places.{tokenTold}
+use Rattle.decimal.specs.declared.NumberAt.{NumberAt}
+use Rattle.decimal.specs.declared.NumberAt.the-variants.{Refused as RefusedAt, NotNumber, Num}
+use Rattle.dict.specs.declared.TokenAt.{TokenAt}
+use Rattle.dict.specs.declared.TokenAt.the-variants.{Refused, Operand, Operator}
 
 -- what holds of a number at a position
 abbrev pub Further : List ℕ → ℕ → Number → Type 0
@@ -81,6 +86,11 @@ module _ (b : List ℕ) (at : ℕ) (h : at < length b) where
   twos-further width half v p =
       pick-ind (Further b at) (ltb v half) _ _ (λ e. integer-further width false v p) (λ e. integer-further width true (half * 2 - v) p)
 
+  pair-further : (v : ℕ) → Further b at (pairAt b at v)
+  pair-further v =
+      pick-ind (Further b at) (ltb v 251) _ _ (λ e. integer-further 2 false ((v - 247) * 256 + getD b (at + 1) 0 + 108) (omega arith))
+      (λ e. integer-further 2 true ((v - 251) * 256 + getD b (at + 1) 0 + 108) (omega arith))
+
   pub further : Further b at (numberAt b at)
   unfolding numberAt realAt
   further =
@@ -92,8 +102,7 @@ module _ (b : List ℕ) (at : ℕ) (h : at < length b) where
       (λ g. pick-ind P (ltb v 32) _ _ (λ i. tt)
       (λ i. pick-ind P (ltb v 139) _ _ (λ j. integer-further 1 true (139 - v) (omega arith))
       (λ j. pick-ind P (ltb v 247) _ _ (λ k. integer-further 1 false (v - 139) (omega arith))
-      (λ k. pick-ind P (ltb v 251) _ _ (λ l. integer-further 2 false ((v - 247) * 256 + getD b (at + 1) 0 + 108) (omega arith))
-      (λ l. pick-ind P (ltb v 255) _ _ (λ m. integer-further 2 true ((v - 251) * 256 + getD b (at + 1) 0 + 108) (omega arith)) (λ m. tt))))))))
+      (λ k. pick-ind P (ltb v 255) _ _ (λ l. pair-further v) (λ l. tt)))))))
 
 -- what holds of a token at a position: an operand is a number, both end further on, and a refusal is not 0
 abbrev pub Passes : List ℕ → ℕ → Token → Type 0
@@ -103,6 +112,7 @@ Passes b at (operator op next) = (at < next) × (next ≤ length b)
 
 module _ (b : List ℕ) (at : ℕ) (h : at < length b) where
   operator-passes : Passes b at (operatorAt b at)
+  unfolding operatorAt
   operator-passes =
       pick-ind (Passes b at) (eqb (getD b at 0) 12) _ _
       (λ e. pick-ind (Passes b at) (ltb (length b) (at + 2)) _ _ (λ f. omega arith)
@@ -133,6 +143,7 @@ byte-is v n h = simp (ne-eqb v 12 n, lt-ltb v 22 h)
 
 module _ (b : List ℕ) (at : ℕ) (o : Octets b) where
   operator-named : Named (operatorAt b at)
+  unfolding operatorAt
   operator-named =
       pick-ind Named (eqb (getD b at 0) 12) _ _
       (λ e. pick-ind Named (ltb (length b) (at + 2)) _ _ (λ f. tt) (λ f. escape-is (getD b (at + 1) 0) (o (at + 1))))
@@ -149,3 +160,53 @@ module _ (b : List ℕ) (at : ℕ) (o : Octets b) where
 
   pub operator-is : (op next : ℕ) → tokenAt b at ≡ operator op next → isOperator op ≡ true
   operator-is op next e = subst Named e token-named
+
+-- ---- the code's answers
+
+module _ (b : List ℕ) (at : ℕ) (h : at < length b) (v : ℕ) (e : v ≡ getD b at 0) where
+  pub operator-cut : v ≡ 12 → length b - at < 2 → Refused 1 ≡ tokenTold (operatorAt b at)
+  unfolding operatorAt
+  operator-cut f k = rw (← e, eq-eqb v 12 f, lt-ltb (length b) (at + 2) (omega arith))
+
+  pub operator-escape : v ≡ 12 → 2 ≤ length b - at → (w : ℕ) → w ≡ getD b (at + 1) 0 → Operator (3072 + w) (at + 2) ≡ tokenTold (operatorAt b at)
+  unfolding operatorAt
+  operator-escape f k w g = rw (← e, ← g, eq-eqb v 12 f, le-ltb (length b) (at + 2) (omega arith))
+
+  pub operator-byte : (v ≡ 12 → ⊥) → v < 22 → Operator v (at + 1) ≡ tokenTold (operatorAt b at)
+  unfolding operatorAt
+  operator-byte f k = rw (← e, ne-eqb v 12 f, lt-ltb v 22 k)
+
+  pub operator-none : (v ≡ 12 → ⊥) → 22 ≤ v → Refused 2 ≡ tokenTold (operatorAt b at)
+  unfolding operatorAt
+  operator-none f k = rw (← e, ne-eqb v 12 f, le-ltb v 22 k)
+
+no : _≡_ {A = ℕ} 0 1 → ⊥
+no h = omega arith
+
+told-refused : (b : List ℕ) (at : ℕ) (q : Number) (n : ℕ) → answerOf q ≡ RefusedAt n → Refused n ≡ tokenTold (tokenOf b at q)
+told-refused b at (refusedNumber m) n e = let k : m ≡ n = cc in ap Refused (sym k)
+told-refused b at notNumber n e = absurd (no cc)
+told-refused b at (number d m) n e = absurd (no cc)
+
+told-operand : (b : List ℕ) (at : ℕ) (q : Number) (d : Decimal) (next : ℕ) → answerOf q ≡ Num d next → Operand next ≡ tokenTold (tokenOf b at q)
+told-operand b at (refusedNumber m) d next e = absurd (no cc)
+told-operand b at notNumber d next e = absurd (no cc)
+told-operand b at (number x m) d next e = let k : m ≡ next = cc in ap Operand (sym k)
+
+told-operator : (b : List ℕ) (at : ℕ) (q : Number) → answerOf q ≡ NotNumber → tokenTold (operatorAt b at) ≡ tokenTold (tokenOf b at q)
+told-operator b at (refusedNumber m) e = absurd (no cc)
+told-operator b at notNumber e = refl
+told-operator b at (number x m) e = absurd (no cc)
+
+module _ (b : List ℕ) (at : ℕ) (q : NumberAt) (e : q ≡ answerOf (numberAt b at)) where
+  pub token-refused : (n : ℕ) → q ≡ RefusedAt n → Refused n ≡ tokenTold (tokenAt b at)
+  unfolding tokenAt
+  token-refused n f = told-refused b at (numberAt b at) n (sym e ∙ f)
+
+  pub token-operand : (d : Decimal) (next : ℕ) → q ≡ Num d next → Operand next ≡ tokenTold (tokenAt b at)
+  unfolding tokenAt
+  token-operand d next f = told-operand b at (numberAt b at) d next (sym e ∙ f)
+
+  pub token-operator : (r : TokenAt) → q ≡ NotNumber → r ≡ tokenTold (operatorAt b at) → r ≡ tokenTold (tokenAt b at)
+  unfolding tokenAt
+  token-operator r f g = g ∙ told-operator b at (numberAt b at) (sym e ∙ f)

@@ -15,7 +15,6 @@ abbrev pub opBytes : ℕ → List ℕ
 opBytes op = pick (ltb op 3072) (op ∷ []) (12 ∷ (op - 3072) ∷ [])
 
 unfoldable pub operandsBytes : List Decimal → List ℕ
-unfolding numberBytes
 operandsBytes [] = []
 operandsBytes (d ∷ ds) = numberBytes d ++ operandsBytes ds
 
@@ -23,7 +22,6 @@ abbrev pub entryBytes : ℕ → List Decimal → List ℕ
 entryBytes op ds = operandsBytes ds ++ opBytes op
 
 unfoldable pub entriesBytes : List Entry → List ℕ
-unfolding operandsBytes
 entriesBytes [] = []
 entriesBytes (e ∷ es) = entryBytes (e .op) (e .operands) ++ entriesBytes es
 

@@ -3,9 +3,15 @@
 ghost use mathlib.Core.Path.{_≡_};
 ghost use Prim.Native.Nat.{_+_, _≤_, _<_};
 ghost use lib.ListN.{length, getD};
+ghost use Rattle.decimal.specs.Decimal.{nought};
 ghost use Rattle.dict.specs.Op.{copiedTopEntries, copiedTopStrings};
+ghost use Rattle.dict.specs.Dict.{operatorAt, tokenAt, entryAt, dictOf};
+ghost use Rattle.dict.specs.Places.{tokenTold, entryTold, refusalOf, placeOf, operandsAt};
 use decimal::Decimal;
+use decimal::NumberAt;
 use decimal::Signed;
+use decimal::number_at;
+use octets::wide;
 
 // The operators that reader and writer name: the byte of a one-byte operator, or 3072 + e for the escape `12 e`.
 pub struct Op;
@@ -177,6 +183,14 @@ pub enum RosIn {
     },
 }
 
+// Zero is one value.
+const NOUGHT: Decimal = Decimal {
+    neg: false,
+    digits: 0,
+    up: 0,
+    down: 0,
+};
+
 // The entries of the top DICT that a subset carries over as they are, in the order in which it writes them.
 pub const COPIED_TOP_ENTRIES: [usize; 8] = [
     Op::FONT_BBOX,
@@ -212,4 +226,150 @@ pub fn copied_top_string(k: usize) -> usize
     ensures { λ r. ⌜ r ≡ getD copiedTopStrings k 0 ⌝ }
 {
     COPIED_TOP_STRINGS[k]
+}
+
+// The operator at a position: 12 with the byte after it, else 0 to 21.
+fn operator_at(d: &[u8], at: usize) -> TokenAt
+    requires { ⌜ at < length (now d) ⌝ }
+    ensures { λ r. ⌜ r ≡ tokenTold (operatorAt (now (d .entry)) at) ⌝ }
+{
+    let v = wide(d[at]);
+    if v == 12 {
+        if d.len() - at < 2 {
+            return TokenAt::Refused(1);
+        }
+        let e = wide(d[at + 1]);
+        return TokenAt::Operator {
+            op: Op::ESCAPE + e,
+            next: at + 2,
+        };
+    }
+    if v < 22 {
+        return TokenAt::Operator {
+            op: v,
+            next: at + 1,
+        };
+    }
+    TokenAt::Refused(2)
+}
+
+// What stands at a position.
+fn token_at(d: &[u8], at: usize) -> TokenAt
+    requires { ⌜ at < length (now d) ⌝ }
+    ensures { λ r. ⌜ r ≡ tokenTold (tokenAt (now (d .entry)) at) ⌝ }
+{
+    match number_at(d, at) {
+        NumberAt::Refused(n) => TokenAt::Refused(n),
+        NumberAt::Num { value: _, next } => TokenAt::Operand(next),
+        NumberAt::NotNumber => operator_at(d, at),
+    }
+}
+
+// The entry at a position.
+pub fn read_entry(d: &[u8], start: usize) -> EntryAt
+    requires { ⌜ start < length (now d) ⌝ }
+    ensures { λ r. ⌜ r ≡ entryTold 0 (entryAt (now (d .entry)) start) ⌝ }
+{
+    let mut at = start;
+    let mut count: usize = 0;
+    while at < d.len() {
+        match token_at(d, at) {
+            TokenAt::Operand(next) => {
+                count += 1;
+                at = next;
+            }
+            TokenAt::Operator { op, next } => {
+                return EntryAt::Entry {
+                    op,
+                    end: at,
+                    count,
+                    next,
+                };
+            }
+            TokenAt::Refused(n) => {
+                return EntryAt::Refused(n);
+            }
+        }
+    }
+    EntryAt::Refused(2)
+}
+
+// The refusal of a DICT, or 0: one pass.
+pub fn check_dict(d: &[u8]) -> u8
+    ensures { λ r. ⌜ r ≡ refusalOf (dictOf (now (d .entry))) ⌝ }
+{
+    let mut at: usize = 0;
+    while at < d.len() {
+        match read_entry(d, at) {
+            EntryAt::Entry {
+                op: _,
+                end: _,
+                count: _,
+                next,
+            } => {
+                at = next;
+            }
+            EntryAt::Refused(n) => {
+                return n;
+            }
+        }
+    }
+    0
+}
+
+// Where the last entry of an operator stands: one pass.
+pub fn find_entry(d: &[u8], op: usize) -> Found
+    ensures { λ r. ⌜ r ≡ placeOf op (now (d .entry)) ⌝ }
+{
+    let mut found = Found::Absent;
+    let mut at: usize = 0;
+    while at < d.len() {
+        match read_entry(d, at) {
+            EntryAt::Entry {
+                op: o,
+                end,
+                count,
+                next,
+            } => {
+                if o == op {
+                    found = Found::Entry {
+                        start: at,
+                        end,
+                        count,
+                    };
+                }
+                at = next;
+            }
+            EntryAt::Refused(_) => {
+                return found;
+            }
+        }
+    }
+    found
+}
+
+// The k-th operand from a position on, the first being the 0th; zero where there are not so many.
+pub fn operand(d: &[u8], start: usize, k: usize) -> Decimal
+    ensures { λ r. ⌜ r ≡ getD (operandsAt (k + 1) (now (d .entry)) start) k nought ⌝ }
+{
+    let mut at = start;
+    let mut left = k;
+    while at < d.len() {
+        match number_at(d, at) {
+            NumberAt::Num { value, next } => {
+                if left == 0 {
+                    return value;
+                }
+                left -= 1;
+                at = next;
+            }
+            NumberAt::NotNumber => {
+                return NOUGHT;
+            }
+            NumberAt::Refused(_) => {
+                return NOUGHT;
+            }
+        }
+    }
+    NOUGHT
 }
