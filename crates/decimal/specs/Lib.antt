@@ -10,3 +10,5 @@ pub mod StageLaws
 pub mod RealLaws
 pub mod RunLaws
 pub mod NumberLaws
+pub mod TakenLaws
+pub mod ValuesLaws

@@ -2,13 +2,14 @@
 // document 01 the decimal and the f64 print, truncate, compare and clamp alike.
 ghost use mathlib.Core.Path.{_≡_};
 ghost use mathlib.Core.Bool.{Bool, true, false};
-ghost use Prim.Native.Nat.{ℕ, _+_, _-_, _*_, _^_, _≤_, _<_, min};
+ghost use Prim.Native.Nat.{ℕ, _+_, _-_, _*_, _/_, _^_, _≤_, _<_, min};
 ghost use lib.Dec.{ltb};
 ghost use lib.ListN.{length};
 ghost use Rattle.octets.specs.Pick.{pick};
-ghost use Rattle.decimal.specs.Decimal.{scaled, normal};
+ghost use Rattle.decimal.specs.Decimal.{scaled, normal, Normal};
 ghost use Rattle.decimal.specs.Real.{limited};
 ghost use Rattle.decimal.specs.Number.{placed, realAt, pairAt, numberAt, answerOf};
+ghost use Rattle.decimal.specs.Values.{truncOf, clamped, i32Of, idOf, offsetOf, isTwo};
 ghost use Rattle.decimal.specs.Stage.{Exact, stepOf, mantissaStep, exponentStep, heldOf, stageOf, Finished, Ended, Stopped};
 ghost use Rattle.decimal.specs.declared.NumberAt.the-variants.{Num};
 use octets::wide;
@@ -74,6 +75,8 @@ pub enum Stage {
     Malformed,
 }
 
+// An offset past every font: more is not told apart.
+const FAR: usize = 4294967296;
 // Refusal 5: digits that are too many.
 const TOO_MANY: usize = 1000000000000000;
 // A count past every limit.
@@ -522,4 +525,157 @@ pub fn number_at(d: &[u8], at: usize) -> NumberAt
         return pair(d, at, v);
     }
     NumberAt::NotNumber
+}
+
+// m / 10 ^ k.
+fn scaled_down(m: usize, k: usize) -> usize
+    ensures { λ r. ⌜ r ≡ m / 10 ^ k ⌝ }
+{
+    let mut n = m;
+    let mut i = k;
+    while 0 < i {
+        n /= 10;
+        i -= 1;
+    }
+    n
+}
+
+// The size with the fraction dropped, 4294967296 for all that is larger.
+pub fn trunc(d: Decimal) -> usize
+    requires { ⌜ Normal d ⌝ }
+    ensures { λ r. ⌜ r ≡ min (truncOf d) 4294967296 ⌝ }
+{
+    let digits = d.digits;
+    let up = d.up;
+    let down = d.down;
+    if down == 0 {
+        return scaled_up(digits, up, FAR);
+    }
+    let n = scaled_down(digits, down);
+    if n < FAR {
+        return n;
+    }
+    FAR
+}
+
+// Clamped to 0 .. most, the fraction dropped.
+fn clamped(d: Decimal, most: usize) -> usize
+    requires { ⌜ (Normal d) × (most < 4294967296) ⌝ }
+    ensures { λ r. ⌜ r ≡ clamped most d ⌝ }
+{
+    let neg = d.neg;
+    if neg {
+        return 0;
+    }
+    let n = trunc(d);
+    if n < most {
+        return n;
+    }
+    most
+}
+
+// Clamped to 16 bits: the ids of ROS.
+pub fn to_u16(d: Decimal) -> usize
+    requires { ⌜ Normal d ⌝ }
+    ensures { λ r. ⌜ r ≡ clamped 65535 d ⌝ }
+{
+    clamped(d, 65535)
+}
+
+// Clamped to 32 bits: CIDCount.
+pub fn to_u32(d: Decimal) -> usize
+    requires { ⌜ Normal d ⌝ }
+    ensures { λ r. ⌜ r ≡ clamped 4294967295 d ⌝ }
+{
+    clamped(d, 4294967295)
+}
+
+// Clamped to 32 bits with a sign: the supplement of ROS.
+pub fn to_i32(d: Decimal) -> Signed
+    requires { ⌜ Normal d ⌝ }
+    ensures { λ r. ⌜ r ≡ i32Of d ⌝ }
+{
+    let neg = d.neg;
+    let n = trunc(d);
+    if n == 0 {
+        return Signed {
+            neg: false,
+            size: 0,
+        };
+    }
+    if neg {
+        if n < 2147483648 {
+            return Signed { neg: true, size: n };
+        }
+        return Signed {
+            neg: true,
+            size: 2147483648,
+        };
+    }
+    if n < 2147483647 {
+        return Signed {
+            neg: false,
+            size: n,
+        };
+    }
+    Signed {
+        neg: false,
+        size: 2147483647,
+    }
+}
+
+// The string id of a string entry.
+pub fn id_of(d: Decimal) -> IdOf
+    requires { ⌜ Normal d ⌝ }
+    ensures { λ r. ⌜ r ≡ idOf d ⌝ }
+{
+    let neg = d.neg;
+    let n = trunc(d);
+    if n == 0 {
+        return IdOf::Id(0);
+    }
+    if neg {
+        return IdOf::Absent;
+    }
+    if n < 65536 {
+        return IdOf::Id(n);
+    }
+    IdOf::Absent
+}
+
+// The Rust's `Dict::offset`: whole and not negative, or malformed.
+pub fn offset_of(d: Decimal) -> OffsetOf
+    requires { ⌜ Normal d ⌝ }
+    ensures { λ r. ⌜ r ≡ offsetOf d ⌝ }
+{
+    let neg = d.neg;
+    let down = d.down;
+    if neg {
+        return OffsetOf::Refused(2);
+    }
+    if down == 0 {
+        let n = trunc(d);
+        return OffsetOf::Offset(n);
+    }
+    OffsetOf::Refused(2)
+}
+
+// Exactly 2: the charstring type that is supported.
+pub fn is_two(d: Decimal) -> bool
+    ensures { λ r. ⌜ r ≡ isTwo d ⌝ }
+{
+    let neg = d.neg;
+    let digits = d.digits;
+    let up = d.up;
+    let down = d.down;
+    if neg {
+        return false;
+    }
+    if digits != 2 {
+        return false;
+    }
+    if up != 0 {
+        return false;
+    }
+    down == 0
 }

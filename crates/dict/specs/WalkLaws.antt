@@ -127,7 +127,7 @@ module _ (b : List ℕ) (at : ℕ) (h : at < length b) (r : EntryAt) (e : r ≡ 
 
 -- ---- checking: what is left is refused as the whole is
 
-before-refusal : (e : Entry) (d : Dict) → refusalOf (before e d) ≡ refusalOf d
+pub before-refusal : (e : Entry) (d : Dict) → refusalOf (before e d) ≡ refusalOf d
 before-refusal e (refused n) = refl
 before-refusal e (entries es) = refl
 

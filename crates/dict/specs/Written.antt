@@ -1,13 +1,15 @@
 -- Entries as a subset writes them (dict_op and DictWriter of the Rust's write.rs; TN5176, section 4): the operands, each in the form that
 -- a number is written in, and then the operator.
 use Prim.Native.Nat.{ℕ, _-_}
-use mathlib.Core.Bool.{false}
+use mathlib.Core.Path.{_≡_}
+use mathlib.Core.Bool.{true, false}
 use mathlib.Core.List.{List, [], _∷_, _++_}
 use lib.Dec.{ltb, eqb}
 use Rattle.octets.specs.Pick.{pick}
 use Rattle.decimal.specs.declared.Decimal.{Decimal}
 use Rattle.decimal.specs.Written.{numberBytes, int5Bytes}
-use Rattle.dict.specs.Op.{private, subrs}
+use Rattle.decimal.specs.Decimal.{Normal}
+use Rattle.dict.specs.Op.{isOperator, private, subrs}
 use Rattle.dict.specs.Dict.{Entry}
 
 -- one byte, or 12 and the escape's
@@ -41,3 +43,17 @@ without op (e ∷ es) = let kept = without op es in pick (eqb (e .op) op) kept (
 -- a Private DICT is copied but for Subrs, which is written anew where a subroutine is left
 abbrev pub privateBytes : List Entry → List ℕ
 privateBytes es = entriesBytes (without subrs es)
+
+-- each is a number that a DICT can hold
+unfoldable pub AllNormal : List Decimal → Type 0
+AllNormal [] = Unit
+AllNormal (d ∷ ds) = Normal d × AllNormal ds
+
+-- an entry that a DICT can hold
+pub record Proper (e : Entry) : Type 0 where
+  pub operator : isOperator (e .op) ≡ true
+  pub numbers : AllNormal (e .operands)
+
+unfoldable pub AllProper : List Entry → Type 0
+AllProper [] = Unit
+AllProper (e ∷ es) = Proper e × AllProper es

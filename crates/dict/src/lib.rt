@@ -6,7 +6,8 @@ ghost use lib.ListN.{length, getD};
 ghost use Rattle.decimal.specs.Decimal.{nought};
 ghost use Rattle.dict.specs.Op.{copiedTopEntries, copiedTopStrings};
 ghost use Rattle.dict.specs.Dict.{operatorAt, tokenAt, entryAt, dictOf};
-ghost use Rattle.dict.specs.Places.{tokenTold, entryTold, refusalOf, placeOf, operandsAt};
+ghost use Rattle.dict.specs.Lookup.{oneOf, cidKeyed};
+ghost use Rattle.dict.specs.Places.{tokenTold, entryTold, refusalOf, entriesOf, placeOf, operandsAt};
 use decimal::Decimal;
 use decimal::NumberAt;
 use decimal::Signed;
@@ -372,4 +373,37 @@ pub fn operand(d: &[u8], start: usize, k: usize) -> Decimal
         }
     }
     NOUGHT
+}
+
+// The one operand of an operator's last entry.
+pub fn number(d: &[u8], op: usize) -> One
+    ensures { λ r. ⌜ r ≡ oneOf op (entriesOf (now (d .entry))) ⌝ }
+{
+    match find_entry(d, op) {
+        Found::Absent => One::Absent,
+        Found::Entry {
+            start,
+            end: _,
+            count,
+        } => {
+            if count == 1 {
+                return One::Number(operand(d, start, 0));
+            }
+            One::Absent
+        }
+    }
+}
+
+// Whether a font of this top DICT is CID-keyed: ROS is there, with whatever operands.
+pub fn is_cid_keyed(d: &[u8]) -> bool
+    ensures { λ r. ⌜ r ≡ cidKeyed (entriesOf (now (d .entry))) ⌝ }
+{
+    match find_entry(d, Op::ROS) {
+        Found::Absent => false,
+        Found::Entry {
+            start: _,
+            end: _,
+            count: _,
+        } => true,
+    }
 }
