@@ -1,17 +1,27 @@
 // A DICT of TN5176, section 4, read in place on a slice that is exactly its bytes (the Rust's Dict and module op in mod.rs), and its
 // entries written (dict_op and DictWriter in write.rs).
 ghost use mathlib.Core.Path.{_≡_};
+ghost use mathlib.Core.List.{[], _∷_};
 ghost use Prim.Native.Nat.{_+_, _≤_, _<_};
 ghost use lib.ListN.{length, getD};
-ghost use Rattle.decimal.specs.Decimal.{nought};
+ghost use Rattle.decimal.specs.Decimal.{nought, Normal};
 ghost use Rattle.dict.specs.Op.{copiedTopEntries, copiedTopStrings};
 ghost use Rattle.dict.specs.Dict.{operatorAt, tokenAt, entryAt, dictOf};
-ghost use Rattle.dict.specs.Lookup.{oneOf, cidKeyed};
+ghost use Rattle.dict.specs.Lookup.{operands, oneOf, offsetIn, privateAs, privateIn, idIn, cidKeyed, rosAs, rosIn, cidCountIn, charstringTypeIn};
 ghost use Rattle.dict.specs.Places.{tokenTold, entryTold, refusalOf, entriesOf, placeOf, operandsAt};
 use decimal::Decimal;
+use decimal::IdOf;
 use decimal::NumberAt;
+use decimal::OffsetOf;
 use decimal::Signed;
+use decimal::id_of;
+use decimal::is_two;
 use decimal::number_at;
+use decimal::offset_of;
+use decimal::to_i32;
+use decimal::to_u16;
+use decimal::to_u32;
+use decimal::trunc;
 use octets::wide;
 
 // The operators that reader and writer name: the byte of a one-byte operator, or 3072 + e for the escape `12 e`.
@@ -405,5 +415,122 @@ pub fn is_cid_keyed(d: &[u8]) -> bool
             end: _,
             count: _,
         } => true,
+    }
+}
+
+// The offset that an entry holds.
+pub fn offset(d: &[u8], op: usize) -> OffsetIn
+    ensures { λ r. ⌜ r ≡ offsetIn op (entriesOf (now (d .entry))) ⌝ }
+{
+    match number(d, op) {
+        One::Absent => OffsetIn::Absent,
+        One::Number(v) => match offset_of(v) {
+            OffsetOf::Refused(n) => OffsetIn::Refused(n),
+            OffsetOf::Offset(at) => OffsetIn::At(at),
+        },
+    }
+}
+
+// The string id that an entry holds.
+pub fn string_id(d: &[u8], op: usize) -> IdOf
+    ensures { λ r. ⌜ r ≡ idIn op (entriesOf (now (d .entry))) ⌝ }
+{
+    match number(d, op) {
+        One::Absent => IdOf::Absent,
+        One::Number(v) => id_of(v),
+    }
+}
+
+// CIDCount.
+pub fn cid_count(d: &[u8]) -> usize
+    ensures { λ r. ⌜ r ≡ cidCountIn (entriesOf (now (d .entry))) ⌝ }
+{
+    match number(d, Op::CID_COUNT) {
+        One::Absent => 8720,
+        One::Number(v) => to_u32(v),
+    }
+}
+
+// The refusal of a CharstringType other than 2, or 0.
+pub fn charstring_type(d: &[u8]) -> u8
+    ensures { λ r. ⌜ r ≡ charstringTypeIn (entriesOf (now (d .entry))) ⌝ }
+{
+    match number(d, Op::CHARSTRING_TYPE) {
+        One::Absent => 0,
+        One::Number(v) => {
+            if is_two(v) {
+                return 0;
+            }
+            3
+        }
+    }
+}
+
+// The size and the offset of a Private entry: the signs are tested first, then the fractions dropped.
+fn private_at(size: Decimal, offset: Decimal) -> PrivateIn
+    requires { ⌜ (Normal size) × (Normal offset) ⌝ }
+    ensures { λ r. ⌜ r ≡ privateAs (operands (size ∷ offset ∷ [])) ⌝ }
+{
+    let s = size.neg;
+    let o = offset.neg;
+    if s {
+        return PrivateIn::Refused(2);
+    }
+    if o {
+        return PrivateIn::Refused(2);
+    }
+    PrivateIn::Private {
+        size: trunc(size),
+        offset: trunc(offset),
+    }
+}
+
+// Where the Private DICT is, as the Rust's private_of takes it.
+pub fn private_of(d: &[u8]) -> PrivateIn
+    ensures { λ r. ⌜ r ≡ privateIn (entriesOf (now (d .entry))) ⌝ }
+{
+    match find_entry(d, Op::PRIVATE) {
+        Found::Absent => PrivateIn::Absent,
+        Found::Entry {
+            start,
+            end: _,
+            count,
+        } => {
+            if count == 2 {
+                return private_at(operand(d, start, 0), operand(d, start, 1));
+            }
+            PrivateIn::Refused(2)
+        }
+    }
+}
+
+// The three operands of ROS.
+fn ros_at(registry: Decimal, ordering: Decimal, supplement: Decimal) -> RosIn
+    requires { ⌜ (Normal registry) × (Normal ordering) × (Normal supplement) ⌝ }
+    ensures { λ r. ⌜ r ≡ rosAs (operands (registry ∷ ordering ∷ supplement ∷ [])) ⌝ }
+{
+    RosIn::Ros {
+        registry: to_u16(registry),
+        ordering: to_u16(ordering),
+        supplement: to_i32(supplement),
+    }
+}
+
+// The registry, ordering and supplement of a CID-keyed font.
+pub fn ros(d: &[u8]) -> RosIn
+    ensures { λ r. ⌜ r ≡ rosIn (entriesOf (now (d .entry))) ⌝ }
+{
+    match find_entry(d, Op::ROS) {
+        Found::Absent => RosIn::None,
+        Found::Entry {
+            start,
+            end: _,
+            count,
+        } => {
+            if count == 3 {
+                return ros_at(operand(d, start, 0), operand(d, start, 1), operand(d, start, 2));
+            }
+            RosIn::None
+        }
     }
 }
