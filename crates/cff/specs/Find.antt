@@ -1,12 +1,13 @@
 -- What is asked of a program (document 01, 'Entries and their refusals'): counts, the glyph of a name or a CID, an INDEX item.
-use Prim.Native.Nat.{ℕ, zero, suc, _+_, _*_}
+use Prim.Native.Nat.{ℕ, _+_, _*_}
 use mathlib.Core.Bool.{Bool, true, false}
 use mathlib.Core.List.{List, [], _∷_}
-use lib.Dec.{ltb, eqb}
+use lib.Dec.{ltb}
 use lib.ListN.{length, getD}
 use Rattle.octets.specs.Pick.{pick}
-use Rattle.strings.specs.Text.{sameText}
-use Rattle.strings.specs.Strings.{stringText}
+use Rattle.find.specs.Find.{glyphWithId, glyphWithText}
+use Rattle.find.specs.declared.Found.{Found}
+use Rattle.find.specs.declared.Found.the-variants.{Absent as NoGlyph, Glyph as TheGlyph}
 use Rattle.dict.specs.Lookup.{cidKeyed}
 use Rattle.cff.specs.Font.{Got, refused, got, Private, Program}
 use Rattle.cff.specs.declared.Counts.{Counts}
@@ -41,22 +42,17 @@ abbrev pub readAs : Got Program → ReadAs
 readAs (refused n) = RefusedRead n
 readAs (got p) = Font (countsOf p)
 
--- the first glyph from g on, of those with these ids, that has the id
-unfoldable pub glyphWithId : ℕ → ℕ → List ℕ → FoundAs
-glyphWithId id g [] = Absent
-glyphWithId id g (x ∷ xs) = pick (eqb x id) (Glyph g) (glyphWithId id (g + 1) xs)
-
--- the first glyph from g on whose string is the text
-unfoldable pub glyphWithText : List (List ℕ) → List ℕ → ℕ → List ℕ → FoundAs
-glyphWithText strings text g [] = Absent
-glyphWithText strings text g (x ∷ xs) = pick (sameText (stringText strings x) text) (Glyph g) (glyphWithText strings text (g + 1) xs)
+-- a glyph that was looked for
+abbrev pub foundAs : Found → FoundAs
+foundAs NoGlyph = Absent
+foundAs (TheGlyph g) = Glyph g
 
 -- by name in a name-keyed font, by CID in a CID-keyed one; absent with the other keying
 abbrev pub findName : Program → List ℕ → FoundAs
-findName p name = pick (cidKeyed (p .top)) Absent (glyphWithText (p .strings) name 0 (p .ids))
+findName p name = pick (cidKeyed (p .top)) Absent (foundAs (glyphWithText (p .strings) name 0 (p .ids)))
 
 abbrev pub findCid : Program → ℕ → FoundAs
-findCid p cid = pick (cidKeyed (p .top)) (glyphWithId cid 0 (p .ids)) Absent
+findCid p cid = pick (cidKeyed (p .top)) (foundAs (glyphWithId cid 0 (p .ids))) Absent
 
 abbrev pub nameAs : Got Program → List ℕ → FoundAs
 nameAs (refused n) name = RefusedFind n
