@@ -54,8 +54,8 @@ module _ (b : List ℕ) where
   pub entry-ends : (at : ℕ) → length b ≤ at → entryAt b at ≡ stopped 2
   unfolding entryAt
   entry-ends at h = entry-over (length b) at h
-
   -- ---- what an entry is: its operands stand from there on, it ends further on, and a refusal is not 0
+
 pub record Stands (b : List ℕ) (at : ℕ) (ds : List Decimal) (next : ℕ) : Type 0 where
   pub here : operandsAt (length ds) b at ≡ ds
   pub further : at < next

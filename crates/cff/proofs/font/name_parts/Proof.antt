@@ -1,0 +1,47 @@
+-- `cff::font::name_parts` meets its contract: its steps are those of `nameParts`.
+use Rattle.dict.specs.Places.{entriesOf}
+use Rattle.cff.specs.FontLaws.{name-unencoded, name-unread, name-found}
+use borrow.Author.Needs.{needs}
+use Rattle.cff.proofs.font.name_parts.Statement.{statement}
+use Rattle.cff.proofs.font.name_parts.Tie as tie
+
+private-at-requires : tie.Need-private-at-requires
+private-at-requires c κs = search needs
+
+enum-known-read : tie.Need-enum-known-read
+enum-known-read c = search needs
+
+enum-known-read-2 : tie.Need-enum-known-read-2
+enum-known-read-2 c = search needs
+
+check-encoding-of-requires : tie.Need-check-encoding-of-requires
+check-encoding-of-requires c κs = search needs
+
+returns : tie.Need-returns
+returns c = name-unencoded (c .before .before .before .before .before .before .before .before .args .font .now) (entriesOf (c .before .before .before .before .before .before .before .before .args .d .now)) (c .before .before .before .before .before .before .before .before .args .n) _ (c .before .before .before .before .before .private-at .ensures) _ (c .before .before .before .read2 .given .1) _ (c .before .check-encoding-of .ensures) (c .if1 .taken)
+
+no-items-requires : tie.Need-no-items-requires
+no-items-requires c κs = search needs
+
+no-fd-select-requires : tie.Need-no-fd-select-requires
+no-fd-select-requires c κs = search needs
+
+returns-2 : tie.Need-returns-2
+returns-2 c = name-unread (c .before .before .before .before .before .before .args .font .now) (entriesOf (c .before .before .before .before .before .before .args .d .now)) (c .before .before .before .before .before .before .args .n) _ (c .before .before .before .private-at .ensures) _ (c .before .read .given .1)
+
+returns-3 : tie.Need-returns-3
+returns-3 c = name-found (c .before .before .before .before .before .before .before .before .before .before .before .args .font .now) (entriesOf (c .before .before .before .before .before .before .before .before .before .before .before .args .d .now)) (c .before .before .before .before .before .before .before .before .before .before .before .args .n) _ (c .before .before .before .before .before .before .before .before .private-at .ensures) _ (c .before .before .before .before .before .before .read2 .given .1) _ (c .before .before .before .before .check-encoding-of .ensures) (c .before .before .before .if1 .left) (c .before .before .before .before .before .before .before .before .before .before .before .pre) _ (c .before .no-items .ensures) _ (c .no-fd-select .ensures)
+
+pub name-parts-spec : {M : Type 1} → statement M
+name-parts-spec =
+    tie.close
+    (tie.spec
+    private-at-requires
+    enum-known-read
+    enum-known-read-2
+    check-encoding-of-requires
+    returns
+    no-items-requires
+    no-fd-select-requires
+    returns-2
+    returns-3)

@@ -1,0 +1,53 @@
+-- Worked examples, computed: the font of document 01, 'One sheet, whole', and what its damaged copies answer.
+use Prim.Native.Nat.{ℕ}
+use mathlib.Core.Path.{_≡_, refl}
+use mathlib.Core.Bool.{true, false}
+use mathlib.Core.List.{List, [], _∷_, _++_}
+use lib.ListN.{take}
+use Rattle.octets.specs.Octets.{be, numAt}
+use Rattle.index.specs.Index.{offsets, runOf, judged, dataAt, tableAt, indexAt, pieces, itemsOf, told, readIndex}
+use Rattle.decimal.specs.Decimal.{zerosOf, zeros, stripped, normal}
+use Rattle.decimal.specs.Number.{realAt, numberAt}
+use Rattle.decimal.specs.Values.{truncOf}
+use Rattle.dict.specs.Dict.{tokenAt, operatorAt, entryFrom, entryAt, readingsFrom, readingsAt, gathered, dictOf}
+use Rattle.dict.specs.Lookup.{lastFrom, lastOf}
+use Rattle.charset.specs.Listed.{listOf}
+use Rattle.strings.specs.Strings.{stringText, standardString, standardStrings}
+use Rattle.cff.specs.Font.{Got, refused, got, localsAt, privateData, privateAt, privatesAt, idsAt, fdsAt, encodingGot, cidParts, nameParts, fontAt, fontsAt, setAt, readFont}
+use Rattle.cff.specs.Find.{localsTotal, readAs, itemOf}
+use Rattle.cff.specs.declared.ReadAs.the-variants.{Refused, Font}
+use Rattle.cff.specs.declared.ItemKind.the-variants.{Charstring, Global, Text}
+
+-- header, the name X, a top DICT with CharStrings at 21, no strings, no globals, and two charstrings
+abbrev sheet : List ℕ
+sheet =
+    0x01 ∷ 0x00 ∷ 0x04 ∷ 0x01 ∷ 0x00 ∷ 0x01 ∷ 0x01 ∷ 0x01 ∷ 0x02 ∷ 0x58 ∷ 0x00 ∷ 0x01 ∷ 0x01 ∷ 0x01 ∷ 0x03 ∷ 0xa0 ∷ 0x11 ∷ 0x00 ∷ 0x00 ∷ 0x00 ∷ 0x00
+    ∷ 0x00 ∷ 0x02 ∷ 0x01 ∷ 0x01 ∷ 0x02 ∷ 0x03 ∷ 0x0e ∷ 0x0e ∷ []
+
+sheet-read : readAs (readFont sheet) ≡ Font (record { glyphs = 2; globals = 0; strings = 0; cid = false; work = 4 })
+unfolding
+    readFont setAt fontsAt fontAt nameParts privateAt idsAt encodingGot readIndex told indexAt tableAt dataAt runOf judged offsets pieces itemsOf numAt be dictOf
+    gathered readingsAt readingsFrom entryAt entryFrom tokenAt operatorAt numberAt realAt normal zeros zerosOf stripped lastOf lastFrom truncOf listOf localsTotal
+sheet-read = refl
+
+-- item 1 of the charstrings, and 6 where there is none
+sheet-item : itemOf (readFont sheet) Charstring 1 ≡ 0x0e ∷ []
+unfolding
+    readFont setAt fontsAt fontAt nameParts privateAt idsAt encodingGot readIndex told indexAt tableAt dataAt runOf judged offsets pieces itemsOf numAt be dictOf
+    gathered readingsAt readingsFrom entryAt entryFrom tokenAt operatorAt numberAt realAt normal zeros zerosOf stripped lastOf lastFrom truncOf listOf localsTotal
+sheet-item = refl
+
+-- cut off in the last charstring, in the header; another version; nothing
+sheet-cut : readAs (readFont (take 28 sheet)) ≡ Refused 1
+unfolding
+    readFont setAt fontsAt fontAt nameParts privateAt idsAt encodingGot readIndex told indexAt tableAt dataAt runOf judged offsets pieces itemsOf numAt be dictOf
+    gathered readingsAt readingsFrom entryAt entryFrom tokenAt operatorAt numberAt realAt normal zeros zerosOf stripped lastOf lastFrom truncOf listOf localsTotal
+sheet-cut = refl
+
+version-2 : readAs (readFont (2 ∷ 0 ∷ 4 ∷ 1 ∷ [])) ≡ Refused 3
+unfolding readFont
+version-2 = refl
+
+short : readAs (readFont (2 ∷ 0 ∷ 4 ∷ [])) ≡ Refused 1
+unfolding readFont
+short = refl

@@ -1,0 +1,198 @@
+-- Reading a font (TN5176; the Rust's parse_fonts, from_top, private_of and PrivateDict::parse): from its bytes to a refusal number or a
+-- program, in exactly the Rust's order of steps. 4 above 67,108,864 bytes comes first; 5 stands where a real is met.
+use Prim.Native.Nat.{ℕ, _+_}
+use mathlib.Core.Bool.{Bool, true, false}
+use mathlib.Core.List.{List, [], _∷_}
+use lib.Dec.{ltb, eqb}
+use lib.ListN.{length, take, drop, getD}
+use Rattle.octets.specs.Pick.{pick}
+use Rattle.index.specs.Index.{Read, refused as refusedIndex, found, readIndex}
+use Rattle.dict.specs.Dict.{Entry, Dict, refused as refusedDict, entries, dictOf}
+use Rattle.dict.specs.Op.{esc, subrs}
+use Rattle.dict.specs.Lookup.{offsetIn, privateIn, cidKeyed, charstringTypeIn}
+use Rattle.dict.specs.declared.OffsetIn.{OffsetIn}
+use Rattle.dict.specs.declared.OffsetIn.the-variants.{Refused as RefusedOffset, At, Absent as NoOffset}
+use Rattle.dict.specs.declared.PrivateIn.{PrivateIn}
+use Rattle.dict.specs.declared.PrivateIn.the-variants.{Refused as RefusedPrivate, Private as PrivateEntry, Absent as NoPrivate}
+use Rattle.charset.specs.Listed.{Listed, refused as refusedList, listed}
+use Rattle.charset.specs.Charset.{charsetAt, isoAdobe}
+use Rattle.charset.specs.FdSelect.{fdSelectAt, noFds, allBelow}
+use Rattle.charset.specs.Encoding.{encodingAt}
+
+-- the operators of the offsets that reading follows
+abbrev pub charset : ℕ
+charset = 15
+
+abbrev pub encoding : ℕ
+encoding = 16
+
+abbrev pub charStrings : ℕ
+charStrings = 17
+
+abbrev pub fdArray : ℕ
+fdArray = esc 36
+
+abbrev pub fdSelect : ℕ
+fdSelect = esc 37
+
+-- a step of reading: its refusal, or what it found
+pub data Got (A : Type 0) : Type 0 where
+  refused : ℕ → Got A
+  got : A → Got A
+
+-- one step and then the next
+abbrev pub then : {A B : Type 0} → Got A → (A → Got B) → Got B
+then (refused n) f = refused n
+then (got a) f = f a
+
+-- a Private DICT: its entries, and the local subroutines
+pub record Private : Type 0 where
+  pub entries : List Entry
+  pub locals : List (List ℕ)
+
+-- a font: the entries of its top DICT; strings, global subroutines and charstrings; the id of each glyph, a string id or a CID; the
+-- Private DICT of each FD, in a name-keyed font the one; and the FD of each glyph
+pub record Program : Type 0 where
+  pub top : List Entry
+  pub strings : List (List ℕ)
+  pub globals : List (List ℕ)
+  pub charstrings : List (List ℕ)
+  pub ids : List ℕ
+  pub privates : List Private
+  pub fds : List ℕ
+
+-- ---- the parts' answers as steps
+
+abbrev pub indexGot : Read → Got (List (List ℕ))
+indexGot (refusedIndex n) = refused n
+indexGot (found items end) = got items
+
+abbrev pub dictGot : Dict → Got (List Entry)
+dictGot (refusedDict n) = refused n
+dictGot (entries es) = got es
+
+abbrev pub listGot : Listed → Got (List ℕ)
+listGot (refusedList n) = refused n
+listGot (listed l) = got l
+
+-- a refusal's number, or 0
+abbrev pub unless : ℕ → Got Unit
+unless n = pick (eqb n 0) (got tt) (refused n)
+
+-- an offset that must be there: malformed without it
+abbrev pub needed : OffsetIn → Got ℕ
+needed NoOffset = refused 2
+needed (RefusedOffset n) = refused n
+needed (At v) = got v
+
+-- an offset that is 0 where it is absent
+abbrev pub orZero : OffsetIn → Got ℕ
+orZero NoOffset = got 0
+orZero (RefusedOffset n) = refused n
+orZero (At v) = got v
+
+-- ---- Private DICTs
+
+-- the local subroutines: Subrs is counted from the Private DICT
+unfoldable pub localsAt : List ℕ → ℕ → OffsetIn → Got (List (List ℕ))
+localsAt b offset NoOffset = got []
+localsAt b offset (RefusedOffset n) = refused n
+localsAt b offset (At relative) = indexGot (readIndex b (offset + relative))
+
+-- the Private DICT of a size at an offset
+unfoldable pub privateData : List ℕ → ℕ → ℕ → Got Private
+privateData b size offset =
+    pick (ltb (length b) (offset + size)) (refused 1)
+    (then (dictGot (dictOf (take size (drop offset b)))) (λ es.
+    then (localsAt b offset (offsetIn subrs es)) (λ subrs.
+    got (record { entries = es; locals = subrs }))))
+
+-- the Private DICT that a DICT names; empty where it names none
+unfoldable pub privateAt : List ℕ → PrivateIn → Got Private
+privateAt b NoPrivate = got (record { entries = []; locals = [] })
+privateAt b (RefusedPrivate n) = refused n
+privateAt b (PrivateEntry size offset) = privateData b size offset
+
+-- those of the FDs, one after the other
+unfoldable pub privatesAt : List ℕ → List (List ℕ) → Got (List Private)
+privatesAt b [] = got []
+privatesAt b (d ∷ ds) =
+    then (dictGot (dictOf d)) (λ es.
+    then (privateAt b (privateIn es)) (λ p.
+    then (privatesAt b ds) (λ ps. got (p ∷ ps))))
+
+-- ---- a font of the set
+
+-- the ids of n glyphs: the charset at an offset, of which 0 is ISOAdobe and 1 and 2, the expert ones, are unsupported
+unfoldable pub idsAt : List ℕ → ℕ → ℕ → Got (List ℕ)
+idsAt b n v = pick (eqb v 0) (got (isoAdobe n)) (pick (ltb v 3) (refused 3) (listGot (charsetAt b v n)))
+
+-- the FDs of n glyphs: FDSelect, where it is there
+unfoldable pub fdsAt : List ℕ → ℕ → OffsetIn → Got (List ℕ)
+fdsAt b n NoOffset = got (noFds n)
+fdsAt b n (RefusedOffset e) = refused e
+fdsAt b n (At v) = listGot (fdSelectAt b v n)
+
+-- the encoding's checks: 0 is the standard one, 1, the expert one, is unsupported
+unfoldable pub encodingGot : List ℕ → ℕ → Got Unit
+encodingGot b v = pick (eqb v 0) (got tt) (pick (eqb v 1) (refused 3) (unless (encodingAt b v)))
+
+-- what a CID-keyed font adds: the Private DICTs of its FDs, which must be there, and FDs that exist
+unfoldable pub cidParts : List ℕ → List Entry → ℕ → Got (List Private × List ℕ)
+cidParts b es n =
+    then (then (needed (offsetIn fdArray es)) (λ at. indexGot (readIndex b at))) (λ dicts.
+    then (privatesAt b dicts) (λ ps.
+    then (unless (pick (eqb (length ps) 0) 2 0)) (λ u.
+    then (fdsAt b n (offsetIn fdSelect es)) (λ l.
+    pick (allBelow (length ps) l) (got (ps, l)) (refused 2)))))
+
+-- what a name-keyed font adds: its Private DICT, and the encoding's checks
+unfoldable pub nameParts : List ℕ → List Entry → ℕ → Got (List Private × List ℕ)
+nameParts b es n =
+    then (privateAt b (privateIn es)) (λ p.
+    then (then (orZero (offsetIn encoding es)) (encodingGot b)) (λ u.
+    got (p ∷ [], noFds n)))
+
+-- a font by the bytes of its top DICT
+unfoldable pub fontAt : List ℕ → List (List ℕ) → List (List ℕ) → List ℕ → Got Program
+fontAt b strings globals top =
+    then (dictGot (dictOf top)) (λ es.
+    then (unless (charstringTypeIn es)) (λ u.
+    then (then (needed (offsetIn charStrings es)) (λ at. indexGot (readIndex b at))) (λ charstrings.
+    then (unless (pick (eqb (length charstrings) 0) 2 0)) (λ u.
+    then (then (orZero (offsetIn charset es)) (idsAt b (length charstrings))) (λ ids.
+    then (pick (cidKeyed es) (cidParts b es (length charstrings)) (nameParts b es (length charstrings))) (λ parts.
+    got (record { top = es; strings = strings; globals = globals; charstrings = charstrings; ids = ids; privates = parts .0; fds = parts .1 })))))))
+
+-- every font of the set
+unfoldable pub fontsAt : List ℕ → List (List ℕ) → List (List ℕ) → List (List ℕ) → Got (List Program)
+fontsAt b strings globals [] = got []
+fontsAt b strings globals (t ∷ ts) = then (fontAt b strings globals t) (λ p. then (fontsAt b strings globals ts) (λ ps. got (p ∷ ps)))
+
+-- the first of them is used; a set of none is malformed
+abbrev pub firstOf : List Program → Got Program
+firstOf [] = refused 2
+firstOf (p ∷ ps) = got p
+
+-- ---- the whole
+
+-- an INDEX, and what stands after it
+abbrev pub indexThen : {B : Type 0} → Read → (List (List ℕ) → ℕ → Got B) → Got B
+indexThen (refusedIndex n) f = refused n
+indexThen (found items end) f = f items end
+
+-- from the end of the header: names, top DICTs, strings and global subroutines
+unfoldable pub setAt : List ℕ → ℕ → Got Program
+setAt b at =
+    indexThen (readIndex b at) (λ names at₁.
+    indexThen (readIndex b at₁) (λ tops at₂.
+    indexThen (readIndex b at₂) (λ strings at₃.
+    indexThen (readIndex b at₃) (λ globals at₄.
+    pick (eqb (length names) (length tops)) (then (fontsAt b strings globals tops) firstOf) (refused 2)))))
+
+-- the header: four bytes, major version 1, its size in the third
+unfoldable pub readFont : List ℕ → Got Program
+readFont b =
+    pick (ltb 67108864 (length b)) (refused 4)
+    (pick (ltb (length b) 4) (refused 1)
+    (pick (eqb (getD b 0 0) 1) (setAt b (getD b 2 0)) (refused 3)))

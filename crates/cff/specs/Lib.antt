@@ -1,0 +1,7 @@
+pub mod Font
+pub mod Find
+pub mod Examples
+pub mod Reads
+pub mod ReadsLaws
+pub mod FontLaws
+pub mod SetLaws

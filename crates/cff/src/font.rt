@@ -1,0 +1,291 @@
+// A font of a set, read in place from the bytes of its top DICT: the Rust's CffProgram::from_top, in its order.
+ghost use mathlib.Core.Path.{_≡_};
+ghost use mathlib.Core.Bool.{true, false};
+ghost use Prim.Native.Nat.{_+_, _≤_, _<_};
+ghost use lib.ListN.{length};
+ghost use Rattle.dict.specs.Lookup.{offsetIn};
+ghost use Rattle.dict.specs.Places.{entriesOf};
+ghost use Rattle.cff.specs.Font.{fdSelect, unless, idsAt, fdsAt, encodingGot, cidParts, nameParts};
+ghost use Rattle.cff.specs.Reads.{ReadsItems, namedIndex, namedIds, namedEncoding, ReadsIds, ReadsFds, ReadsParts, HasDicts, HasLocals, partsBy, HasTop, HasGlyphs, fontOf, ReadsFont};
+use crate::private::LocalsRead;
+use crate::private::PrivateAt;
+use crate::private::PrivateRead;
+use charset::Charset;
+use charset::CharsetAt;
+use charset::fd_select::FdSelect;
+use charset::fd_select::FdSelectAt;
+use dict::OffsetIn;
+use dict::Op;
+use index::Index;
+use index::IndexAt;
+use refusal::Refusal;
+
+// The font dictionaries of a font. Of a CID-keyed font: the DICTs of its FDs, and its FDSelect. Of a name-keyed one: its Private DICT.
+// And the local subroutines of all Private DICTs together.
+pub struct Parts {
+    pub dicts: Index,
+    pub private: PrivateAt,
+    pub select: FdSelect,
+    pub locals: usize,
+}
+
+// What reading them finds: a refusal, or the parts.
+pub enum PartsRead {
+    Refused(u8),
+    Found(Parts),
+}
+
+// A font, by positions: whether it is CID-keyed, its top DICT, its INDEXes, the ids of its glyphs, and its font dictionaries.
+pub struct Font {
+    pub cid: bool,
+    pub top: usize,
+    pub top_end: usize,
+    pub strings: Index,
+    pub globals: Index,
+    pub charstrings: Index,
+    pub charset: Charset,
+    pub dicts: Index,
+    pub private: PrivateAt,
+    pub select: FdSelect,
+    pub locals: usize,
+}
+
+// What reading a font finds: a refusal, or the font.
+pub enum FontRead {
+    Refused(u8),
+    Found(Font),
+}
+
+// The INDEX that an operator of the DICT with bytes d names, which must be there.
+fn named_index(font: &[u8], d: &[u8], op: usize) -> IndexAt
+    ensures { λ r. ⌜ ReadsItems (now (font .entry)) (namedIndex (now (font .entry)) (entriesOf (now (d .entry))) op) r ⌝ }
+{
+    let at = dict::offset(d, op);
+    match at {
+        OffsetIn::Absent => IndexAt::Refused(Refusal::MALFORMED),
+        OffsetIn::Refused(n) => IndexAt::Refused(n),
+        OffsetIn::At(v) => index::read_index(font, v),
+    }
+}
+
+// The ids of n glyphs by the charset at an offset; 0 is ISOAdobe, and 1 and 2 are the expert ones.
+fn ids_at(font: &[u8], v: usize, n: usize) -> CharsetAt
+    requires { ⌜ (0 < n) × (n < 65536) ⌝ }
+    ensures { λ r. ⌜ ReadsIds (now (font .entry)) n (idsAt (now (font .entry)) n v) r ⌝ }
+{
+    if v == 0 {
+        return CharsetAt::Found(charset::predefined());
+    }
+    if v < 3 {
+        return CharsetAt::Refused(Refusal::UNSUPPORTED);
+    }
+    charset::read_charset(font, v, n)
+}
+
+// The ids of n glyphs of the font whose top DICT has the bytes d.
+fn read_ids(font: &[u8], d: &[u8], n: usize) -> CharsetAt
+    requires { ⌜ (0 < n) × (n < 65536) ⌝ }
+    ensures { λ r. ⌜ ReadsIds (now (font .entry)) n (namedIds (now (font .entry)) (entriesOf (now (d .entry))) n) r ⌝ }
+{
+    let at = dict::offset(d, Op::CHARSET);
+    match at {
+        OffsetIn::Absent => ids_at(font, 0, n),
+        OffsetIn::Refused(e) => CharsetAt::Refused(e),
+        OffsetIn::At(v) => ids_at(font, v, n),
+    }
+}
+
+// The FDs of n glyphs of the font whose top DICT has the bytes d.
+fn read_fds(font: &[u8], d: &[u8], n: usize) -> FdSelectAt
+    requires { ⌜ n < 65536 ⌝ }
+    ensures { λ r. ⌜ ReadsFds (now (font .entry)) n (fdsAt (now (font .entry)) n (offsetIn fdSelect (entriesOf (now (d .entry))))) r ⌝ }
+{
+    let at = dict::offset(d, Op::FD_SELECT);
+    match at {
+        OffsetIn::Absent => FdSelectAt::Found(charset::fd_select::no_fd_select()),
+        OffsetIn::Refused(e) => FdSelectAt::Refused(e),
+        OffsetIn::At(v) => charset::fd_select::read_fd_select(font, v, n),
+    }
+}
+
+// The refusal of the encoding at an offset, or 0; 0 is the standard encoding, and 1 the expert one.
+fn encoding_at(font: &[u8], v: usize) -> u8
+    ensures { λ r. ⌜ encodingGot (now (font .entry)) v ≡ unless r ⌝ }
+{
+    if v == 0 {
+        return 0;
+    }
+    if v == 1 {
+        return Refusal::UNSUPPORTED;
+    }
+    charset::encoding::check_encoding(font, v)
+}
+
+// The refusal of the encoding of the font whose top DICT has the bytes d, or 0.
+fn check_encoding_of(font: &[u8], d: &[u8]) -> u8
+    ensures { λ r. ⌜ namedEncoding (now (font .entry)) (entriesOf (now (d .entry))) ≡ unless r ⌝ }
+{
+    let at = dict::offset(d, Op::ENCODING);
+    match at {
+        OffsetIn::Absent => encoding_at(font, 0),
+        OffsetIn::Refused(e) => e,
+        OffsetIn::At(v) => encoding_at(font, v),
+    }
+}
+
+// The parts of a CID-keyed font whose FD array and Private DICTs were read: its FDSelect, and that no FD is past the array.
+fn fd_parts(font: &[u8], d: &[u8], n: usize, dicts: Index, total: usize) -> PartsRead
+    requires { ⌜ (2 ≤ length (now font)) × (n < 65536) × HasLocals (now font) (entriesOf (now d)) dicts total ⌝ }
+    ensures { λ r. ⌜ ReadsParts (now (font .entry)) true n (cidParts (now (font .entry)) (entriesOf (now (d .entry))) n) r ⌝ }
+{
+    let count = dicts.count;
+    let read = read_fds(font, d, n);
+    match read {
+        FdSelectAt::Refused(e) => PartsRead::Refused(e),
+        FdSelectAt::Found(select) => {
+            if charset::fd_select::fds_below(font, select, n, count) {
+                return PartsRead::Found(Parts {
+                    dicts,
+                    private: crate::private::no_private(),
+                    select,
+                    locals: total,
+                });
+            }
+            PartsRead::Refused(Refusal::MALFORMED)
+        }
+    }
+}
+
+// The parts of a CID-keyed font whose FD array was read.
+fn dict_parts(font: &[u8], d: &[u8], n: usize, dicts: Index) -> PartsRead
+    requires { ⌜ (2 ≤ length (now font)) × (n < 65536) × HasDicts (now font) (entriesOf (now d)) dicts ⌝ }
+    ensures { λ r. ⌜ ReadsParts (now (font .entry)) true n (cidParts (now (font .entry)) (entriesOf (now (d .entry))) n) r ⌝ }
+{
+    let count = dicts.count;
+    let read = crate::private::read_privates(font, dicts);
+    match read {
+        LocalsRead::Refused(e) => PartsRead::Refused(e),
+        LocalsRead::Total(total) => {
+            if count == 0 {
+                return PartsRead::Refused(Refusal::MALFORMED);
+            }
+            fd_parts(font, d, n, dicts, total)
+        }
+    }
+}
+
+// The parts of the CID-keyed font whose top DICT has the bytes d.
+fn cid_parts(font: &[u8], d: &[u8], n: usize) -> PartsRead
+    requires { ⌜ (2 ≤ length (now font)) × (n < 65536) ⌝ }
+    ensures { λ r. ⌜ ReadsParts (now (font .entry)) true n (cidParts (now (font .entry)) (entriesOf (now (d .entry))) n) r ⌝ }
+{
+    let read = named_index(font, d, Op::FD_ARRAY);
+    match read {
+        IndexAt::Refused(e) => PartsRead::Refused(e),
+        IndexAt::Found(dicts) => dict_parts(font, d, n, dicts),
+    }
+}
+
+// The parts of the name-keyed font whose top DICT has the bytes d.
+fn name_parts(font: &[u8], d: &[u8], n: usize) -> PartsRead
+    requires { ⌜ 2 ≤ length (now font) ⌝ }
+    ensures { λ r. ⌜ ReadsParts (now (font .entry)) false n (nameParts (now (font .entry)) (entriesOf (now (d .entry))) n) r ⌝ }
+{
+    let read = crate::private::private_at(font, d);
+    match read {
+        PrivateRead::Refused(e) => PartsRead::Refused(e),
+        PrivateRead::Found(q) => {
+            let e = check_encoding_of(font, d);
+            if 0 < e {
+                return PartsRead::Refused(e);
+            }
+            let locals = q.locals;
+            PartsRead::Found(Parts {
+                dicts: crate::private::no_items(),
+                private: q,
+                select: charset::fd_select::no_fd_select(),
+                locals: locals.count,
+            })
+        }
+    }
+}
+
+// The parts of a font, by its keying.
+fn read_parts(font: &[u8], d: &[u8], n: usize, cid: bool) -> PartsRead
+    requires { ⌜ (2 ≤ length (now font)) × (n < 65536) ⌝ }
+    ensures { λ r. ⌜ ReadsParts (now (font .entry)) cid n (partsBy cid (now (font .entry)) (entriesOf (now (d .entry))) n) r ⌝ }
+{
+    if cid {
+        return cid_parts(font, d, n);
+    }
+    name_parts(font, d, n)
+}
+
+// The font whose top DICT lies from top to end, and whose charstrings were read.
+fn glyphs_at(
+    font: &[u8],
+    top: usize,
+    end: usize,
+    strings: Index,
+    globals: Index,
+    charstrings: Index,
+) -> FontRead
+    requires { ⌜ HasTop (now font) top end strings globals × HasGlyphs (now font) top end charstrings ⌝ }
+    ensures { λ r. ⌜ ReadsFont (now (font .entry)) (fontOf (now (font .entry)) strings globals top end) r ⌝ }
+{
+    let d = &font[top..end];
+    let n = charstrings.count;
+    if n == 0 {
+        return FontRead::Refused(Refusal::MALFORMED);
+    }
+    let ids = read_ids(font, d, n);
+    match ids {
+        CharsetAt::Refused(e) => FontRead::Refused(e),
+        CharsetAt::Found(charset) => {
+            let cid = dict::is_cid_keyed(d);
+            let read = read_parts(font, d, n, cid);
+            match read {
+                PartsRead::Refused(e) => FontRead::Refused(e),
+                PartsRead::Found(parts) => {
+                    let dicts = parts.dicts;
+                    let private = parts.private;
+                    let select = parts.select;
+                    FontRead::Found(Font {
+                        cid,
+                        top,
+                        top_end: end,
+                        strings,
+                        globals,
+                        charstrings,
+                        charset,
+                        dicts,
+                        private,
+                        select,
+                        locals: parts.locals,
+                    })
+                }
+            }
+        }
+    }
+}
+
+// The font whose top DICT lies from top to end.
+pub fn font_at(font: &[u8], top: usize, end: usize, strings: Index, globals: Index) -> FontRead
+    requires { ⌜ HasTop (now font) top end strings globals ⌝ }
+    ensures { λ r. ⌜ ReadsFont (now (font .entry)) (fontOf (now (font .entry)) strings globals top end) r ⌝ }
+{
+    let d = &font[top..end];
+    let n = dict::check_dict(d);
+    if 0 < n {
+        return FontRead::Refused(n);
+    }
+    let t = dict::charstring_type(d);
+    if 0 < t {
+        return FontRead::Refused(t);
+    }
+    let read = named_index(font, d, Op::CHARSTRINGS);
+    match read {
+        IndexAt::Refused(e) => FontRead::Refused(e),
+        IndexAt::Found(charstrings) => glyphs_at(font, top, end, strings, globals, charstrings),
+    }
+}

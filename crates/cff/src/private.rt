@@ -1,0 +1,207 @@
+// Private DICTs (TN5176, section 15) and their local subroutines (section 16), read in place: the Rust's private_of and PrivateDict::parse.
+ghost use mathlib.Core.Path.{_≡_};
+ghost use Prim.Native.Nat.{_+_, _≤_, _<_};
+ghost use lib.ListN.{length};
+ghost use Rattle.index.specs.Index.{emptyAt, itemsOf};
+ghost use Rattle.dict.specs.Op.{subrs};
+ghost use Rattle.dict.specs.Lookup.{offsetIn, privateIn};
+ghost use Rattle.dict.specs.Places.{entriesOf};
+ghost use Rattle.cff.specs.Font.{localsAt, privateData, privateAt, privatesAt};
+ghost use Rattle.cff.specs.Reads.{Holds, ReadsItems, noPrivate, ReadsPrivate, Known, fdPrivate, ReadsNext, ReadsLocals};
+use dict::OffsetIn;
+use dict::Op;
+use dict::PrivateIn;
+use index::Index;
+use index::IndexAt;
+use refusal::Refusal;
+
+// A Private DICT in a font: where it starts, its bytes, and its local subroutines.
+pub struct PrivateAt {
+    pub start: usize,
+    pub size: usize,
+    pub locals: Index,
+}
+
+// What reading a Private DICT finds: a refusal, or the Private DICT.
+pub enum PrivateRead {
+    Refused(u8),
+    Found(PrivateAt),
+}
+
+// The Private DICT that was read last, by its size and offset, and how many local subroutines it has.
+pub struct LastPrivate {
+    pub size: usize,
+    pub offset: usize,
+    pub locals: usize,
+}
+
+// What reading the Private DICT of the next FD finds: a refusal, or that Private DICT.
+pub enum NextPrivate {
+    Refused(u8),
+    Read(LastPrivate),
+}
+
+// What reading the Private DICTs of all FDs finds: a refusal, or how many local subroutines they have together.
+pub enum LocalsRead {
+    Refused(u8),
+    Total(usize),
+}
+
+// An INDEX of no item.
+pub fn no_items() -> Index
+    ensures { λ r. ⌜ r ≡ emptyAt 0 ⌝ }
+{
+    Index {
+        count: 0,
+        size: 1,
+        table: 1,
+        base: 1,
+        end: 2,
+    }
+}
+
+// An empty Private DICT, with no local subroutines.
+pub fn no_private() -> PrivateAt
+    ensures { λ r. ⌜ r ≡ noPrivate ⌝ }
+{
+    PrivateAt {
+        start: 0,
+        size: 0,
+        locals: no_items(),
+    }
+}
+
+// The local subroutines of the Private DICT at an offset, whose bytes are d.
+fn locals_at(font: &[u8], offset: usize, d: &[u8]) -> IndexAt
+    requires { ⌜ (2 ≤ length (now font)) × (offset ≤ 4294967296) ⌝ }
+    ensures { λ r. ⌜ ReadsItems (now (font .entry)) (localsAt (now (font .entry)) offset (offsetIn subrs (entriesOf (now (d .entry))))) r ⌝ }
+{
+    let subrs = dict::offset(d, Op::SUBRS);
+    match subrs {
+        OffsetIn::Absent => IndexAt::Found(no_items()),
+        OffsetIn::Refused(n) => IndexAt::Refused(n),
+        OffsetIn::At(relative) => index::read_index(font, offset + relative),
+    }
+}
+
+// The Private DICT of a size at an offset.
+fn private_data(font: &[u8], size: usize, offset: usize) -> PrivateRead
+    requires { ⌜ (2 ≤ length (now font)) × (size ≤ 4294967296) × (offset ≤ 4294967296) ⌝ }
+    ensures { λ r. ⌜ ReadsPrivate (now (font .entry)) (privateData (now (font .entry)) size offset) r ⌝ }
+{
+    let end = offset + size;
+    if font.len() < end {
+        return PrivateRead::Refused(Refusal::TRUNCATED);
+    }
+    let d = &font[offset..end];
+    let n = dict::check_dict(d);
+    if 0 < n {
+        return PrivateRead::Refused(n);
+    }
+    let subrs = locals_at(font, offset, d);
+    match subrs {
+        IndexAt::Refused(e) => PrivateRead::Refused(e),
+        IndexAt::Found(locals) => PrivateRead::Found(PrivateAt {
+            start: offset,
+            size,
+            locals,
+        }),
+    }
+}
+
+// The Private DICT that a DICT names; an empty one where it names none.
+pub fn private_at(font: &[u8], d: &[u8]) -> PrivateRead
+    requires { ⌜ 2 ≤ length (now font) ⌝ }
+    ensures { λ r. ⌜ ReadsPrivate (now (font .entry)) (privateAt (now (font .entry)) (privateIn (entriesOf (now (d .entry))))) r ⌝ }
+{
+    let named = dict::private_of(d);
+    match named {
+        PrivateIn::Absent => PrivateRead::Found(no_private()),
+        PrivateIn::Refused(n) => PrivateRead::Refused(n),
+        PrivateIn::Private { size, offset } => private_data(font, size, offset),
+    }
+}
+
+// The next FD's Private DICT, as the FD's bytes d name it: where it is of the size and at the offset of the one before, it is not read again.
+fn next_private(font: &[u8], d: &[u8], last: LastPrivate) -> NextPrivate
+    requires { ⌜ (2 ≤ length (now font)) × Known (now font) last ⌝ }
+    ensures { λ r. ⌜ ReadsNext (now (font .entry)) (privateAt (now (font .entry)) (privateIn (entriesOf (now (d .entry))))) r ⌝ }
+{
+    let named = dict::private_of(d);
+    match named {
+        PrivateIn::Absent => NextPrivate::Read(LastPrivate {
+            size: 0,
+            offset: 0,
+            locals: 0,
+        }),
+        PrivateIn::Refused(n) => NextPrivate::Refused(n),
+        PrivateIn::Private { size, offset } => {
+            if size == last.size {
+                if offset == last.offset {
+                    return NextPrivate::Read(last);
+                }
+            }
+            locals_of(font, size, offset)
+        }
+    }
+}
+
+// The Private DICT of a size at an offset, read for its refusal and its count of local subroutines.
+fn locals_of(font: &[u8], size: usize, offset: usize) -> NextPrivate
+    requires { ⌜ (2 ≤ length (now font)) × (size ≤ 4294967296) × (offset ≤ 4294967296) ⌝ }
+    ensures { λ r. ⌜ ReadsNext (now (font .entry)) (privateData (now (font .entry)) size offset) r ⌝ }
+{
+    let read = private_data(font, size, offset);
+    match read {
+        PrivateRead::Refused(n) => NextPrivate::Refused(n),
+        PrivateRead::Found(q) => {
+            let locals = q.locals;
+            NextPrivate::Read(LastPrivate {
+                size,
+                offset,
+                locals: locals.count,
+            })
+        }
+    }
+}
+
+// The Private DICT of the FD whose bytes are d.
+fn fd_private(font: &[u8], d: &[u8], last: LastPrivate) -> NextPrivate
+    requires { ⌜ (2 ≤ length (now font)) × Known (now font) last ⌝ }
+    ensures { λ r. ⌜ ReadsNext (now (font .entry)) (fdPrivate (now (font .entry)) (now (d .entry))) r ⌝ }
+{
+    let n = dict::check_dict(d);
+    if 0 < n {
+        return NextPrivate::Refused(n);
+    }
+    next_private(font, d, last)
+}
+
+// The Private DICTs of the FDs, whose DICTs are the items of an INDEX: one after the other.
+pub fn read_privates(font: &[u8], dicts: Index) -> LocalsRead
+    requires { ⌜ (2 ≤ length (now font)) × Holds (now font) dicts ⌝ }
+    ensures { λ r. ⌜ ReadsLocals (privatesAt (now (font .entry)) (itemsOf (now (font .entry)) dicts)) r ⌝ }
+{
+    let n = dicts.count;
+    let mut last = LastPrivate {
+        size: 0,
+        offset: 0,
+        locals: 0,
+    };
+    let mut total: usize = 0;
+    let mut k: usize = 0;
+    while k < n {
+        let next = fd_private(font, index::item(font, dicts, k), last);
+        match next {
+            NextPrivate::Refused(e) => {
+                return LocalsRead::Refused(e);
+            }
+            NextPrivate::Read(l) => {
+                total += l.locals;
+                last = l;
+                k += 1;
+            }
+        }
+    }
+    LocalsRead::Total(total)
+}
