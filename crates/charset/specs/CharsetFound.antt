@@ -13,7 +13,7 @@ use Rattle.octets.specs.Pick.{pick}
 use Rattle.charset.specs.Listed.{Listed, refused, listed, onward, numbersOf, listOf}
 use Rattle.charset.specs.Charset.{idsFrom, idsIn, charsetAt, isoAdobe, tableAt, predefined, idsOf, GoodCharset, charsetAnswer, charsetStart, nextId, StandsId, ReadyId}
 use Rattle.charset.specs.CharsetLaws.{range-cut}
-use Rattle.charset.specs.CursorLaws.{no, test-passed, id-on, id-met, ready, step-id, step-next}
+use Rattle.charset.specs.IdCursorLaws.{no, test-passed, id-on, id-met, ready, step-id, step-next}
 use Rattle.charset.specs.declared.Charset.{Charset}
 use Rattle.charset.specs.declared.CharsetAt.{CharsetAt}
 use Rattle.charset.specs.declared.CharsetAt.the-variants.{Refused, Found}

@@ -18,7 +18,7 @@ use Rattle.charset.specs.FdSelect.{rangeEnd, fdIn, rangesRefusal, judged
 use Rattle.charset.specs.FdPlaces.{noSelect, eachAt, rangesAt, selectAt, selectAnswer, fdOf, fdsOf, GoodSelect}
 use Rattle.charset.specs.FdLaws.{end-one, range-on, fd-none}
 use Rattle.charset.specs.FdSearchLaws.{each-at}
-use Rattle.charset.specs.CursorLaws.{no, test-passed}
+use Rattle.charset.specs.IdCursorLaws.{no, test-passed}
 use Rattle.charset.specs.declared.fd_select.FdSelect.{FdSelect}
 use Rattle.charset.specs.declared.fd_select.FdSelectAt.{FdSelectAt}
 use Rattle.charset.specs.declared.fd_select.FdSelectAt.the-variants.{Refused, Found}

@@ -12,7 +12,7 @@ use Rattle.octets.specs.OctetsLaws.{num-none}
 use Rattle.charset.specs.Listed.{Listed, refused, listed, onward, numbersOf}
 use Rattle.charset.specs.Charset.{idsFrom, idsOf, GoodCharset}
 use Rattle.charset.specs.CharsetLaws.{range-none, range-met}
-use Rattle.charset.specs.CursorLaws.{id-on, id-met}
+use Rattle.charset.specs.IdCursorLaws.{id-on, id-met}
 use Rattle.charset.specs.declared.Charset.{Charset}
 
 -- the i-th id of the range under way

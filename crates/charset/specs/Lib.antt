@@ -1,7 +1,7 @@
 pub mod Listed
 pub mod Charset
 pub mod CharsetLaws
-pub mod CursorLaws
+pub mod IdCursorLaws
 pub mod IdLaws
 pub mod CharsetFound
 pub mod FdSelect
@@ -14,3 +14,9 @@ pub mod FdBelowLaws
 pub mod FdFound
 pub mod Encoding
 pub mod EncodingLaws
+pub mod CharsetBytes
+pub mod CharsetBytesLaws
+pub mod CharsetRound
+pub mod FdSelectBytes
+pub mod FdWriter
+pub mod FdWriterLaws

@@ -2,6 +2,7 @@
 // its code (`encoding`). Tables are read in place, with positions by value; a pass over all glyphs goes by a cursor.
 pub mod encoding;
 pub mod fd_select;
+pub mod fd_writer;
 
 ghost use mathlib.Core.Path.{_≡_};
 ghost use Prim.Native.Nat.{_+_, _≤_, _<_};
