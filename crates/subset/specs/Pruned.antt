@@ -1,0 +1,141 @@
+-- What becomes of charstrings and subroutines (the Rust's prune and prune_cid, renumber and renumber_cid, stubbed): renumbered, or stubbed,
+-- or copied. A name-keyed font has one FD, 0.
+use Prim.Native.Nat.{ℕ, zero, suc, _+_}
+use mathlib.Core.Bool.{Bool, true, false}
+use mathlib.Core.List.{List, [], _∷_}
+use lib.Dec.{eqb}
+use lib.IntN.{ℤ}
+use lib.ListN.{length, getD}
+use Rattle.octets.specs.Pick.{pick}
+use Rattle.charstring.specs.Bias.{biasOf}
+use Rattle.unfold.specs.Unfold.{Row, Site, glyph, local, global, entered}
+use Rattle.prune.specs.Renumber.{New, none, new, Operand, fails, operandOf, Calls, Bytes, failed, bytes, renumberCharstring}
+use Rattle.record.specs.Record.{lists, givenIn, twoLengths}
+use Rattle.cff.specs.Font.{Private, Program}
+use Rattle.subset.specs.Kept.{those, usedFds}
+
+-- the global subroutines, the local ones of each FD in use, and the charstrings as they are written
+pub record Bodies : Type 0 where
+  pub globals : List (List ℕ)
+  pub locals : List (List (List ℕ))
+  pub charstrings : List (List ℕ)
+
+-- ---- ranks
+
+-- how many numbers below n are in a set
+unfoldable pub countBelow : (ℕ → Bool) → ℕ → ℕ
+countBelow set zero = 0
+countBelow set (suc n) = countBelow set n + pick (set n) 1 0
+
+-- the new number of a subroutine: how many reached ones are below it
+abbrev pub rank : (ℕ → Bool) → ℕ → New
+rank set i = pick (set i) (new (countBelow set i)) none
+
+-- how many are reached; a row's number has two bytes
+abbrev pub reached : (ℕ → Bool) → ℕ
+reached set = countBelow set 65536
+
+-- ---- one step and the next, either of which fails
+
+pub data May (A : Type 0) : Type 0 where
+  fail : May A
+  yes : A → May A
+
+abbrev pub and : {A B : Type 0} → May A → (A → May B) → May B
+and fail f = fail
+and (yes a) f = f a
+
+abbrev pub whole : Bytes → May (List ℕ)
+whole failed = fail
+whole (bytes bs) = yes bs
+
+-- each of a list
+unfoldable pub each : {A : Type 0} → (ℕ → May A) → List ℕ → May (List A)
+each f [] = yes []
+each f (k ∷ ks) = and (f k) (λ b. and (each f ks) (λ bs. yes (b ∷ bs)))
+
+module _ (p : Program) (rows : List Row) (kept order : List ℕ) where
+  -- the local subroutines of an FD, and what of them and of the globals the record has
+  abbrev pub localsOf : ℕ → List (List ℕ)
+  localsOf f = getD (p .privates) f (record { entries = []; locals = [] }) .locals
+
+  abbrev pub localSet : ℕ → ℕ → Bool
+  localSet f k = lists rows (entered (local f k))
+
+  abbrev pub globalSet : ℕ → Bool
+  globalSet k = lists rows (entered (global k))
+
+  -- ---- renumbered
+
+  abbrev pub localOperand : ℕ → ℤ → Operand
+  localOperand f z = operandOf (rank (localSet f)) (biasOf (length (localsOf f))) (biasOf (reached (localSet f))) z
+
+  abbrev pub globalOperand : ℤ → Operand
+  globalOperand z = operandOf (rank globalSet) (biasOf (length (p .globals))) (biasOf (reached globalSet)) z
+
+  -- the calls of a glyph or a local subroutine of an FD; those of a global one, which may call a local one only where one FD is in use
+  abbrev pub callsIn : ℕ → Calls
+  callsIn f b z = pick (eqb b 10) (localOperand f z) (globalOperand z)
+
+  abbrev pub callsAcross : List ℕ → Calls
+  callsAcross [] b z = pick (eqb b 10) fails (globalOperand z)
+  callsAcross (f ∷ []) b z = callsIn f b z
+  callsAcross (f ∷ g ∷ fs) b z = pick (eqb b 10) fails (globalOperand z)
+
+  -- a body, with the lengths that the record gives for its masks; two lengths at one offset fail
+  unfoldable pub renumberedBody : Calls → Site → List ℕ → May (List ℕ)
+  renumberedBody calls site s = pick (twoLengths rows site) fail (whole (renumberCharstring calls (givenIn rows site) s))
+
+  -- the reached ones of some subroutines; a number without a subroutine fails
+  unfoldable pub renumberedSubrs : (ℕ → Bool) → Calls → (ℕ → Site) → List (List ℕ) → May (List (List ℕ))
+  renumberedSubrs set calls site subrs =
+      pick (eqb (reached set) (countBelow set (length subrs)))
+      (each (λ k. renumberedBody calls (site k) (getD subrs k [])) (those set (length subrs) 0)) fail
+
+  unfoldable pub renumbered : May Bodies
+  renumbered =
+      and (renumberedSubrs globalSet (callsAcross (usedFds p kept)) global (p .globals)) (λ gs.
+      and (each (λ f. renumberedSubrs (localSet f) (callsIn f) (local f) (localsOf f)) (usedFds p kept)) (λ ls.
+      and (each (λ g. renumberedBody (callsIn (getD (p .fds) g 0)) (glyph g) (getD (p .charstrings) g [])) order) (λ cs.
+      yes (record { globals = gs; locals = ls; charstrings = cs }))))
+
+  -- ---- stubbed: each unreached subroutine is a return
+
+  unfoldable pub stubbedFrom : (ℕ → Bool) → ℕ → List (List ℕ) → List (List ℕ)
+  stubbedFrom set k [] = []
+  stubbedFrom set k (s ∷ ss) = pick (set k) s (11 ∷ []) ∷ stubbedFrom set (k + 1) ss
+
+  unfoldable pub mapped : {A : Type 0} → (ℕ → A) → List ℕ → List A
+  mapped f [] = []
+  mapped f (x ∷ xs) = f x ∷ mapped f xs
+
+  abbrev pub charstringsOf : List (List ℕ)
+  charstringsOf = mapped (λ g. getD (p .charstrings) g []) order
+
+  unfoldable pub stubbed : Bodies
+  stubbed =
+      record {
+        globals = stubbedFrom globalSet 0 (p .globals);
+        locals = mapped (λ f. stubbedFrom (localSet f) 0 (localsOf f)) (usedFds p kept);
+        charstrings = charstringsOf;
+      }
+
+  -- ---- copied
+
+  unfoldable pub copied : Bodies
+  copied = record { globals = p .globals; locals = mapped localsOf (usedFds p kept); charstrings = charstringsOf }
+
+-- ---- the way: 0 renumbered, 1 stubbed where that fails, 2 copied where the glyphs could not be traced
+
+pub record Pruned : Type 0 where
+  pub way : ℕ
+  pub bodies : Bodies
+
+abbrev pub orStubbed : May Bodies → Bodies → Pruned
+orStubbed fail s = record { way = 1; bodies = s }
+orStubbed (yes b) s = record { way = 0; bodies = b }
+
+unfoldable pub pruned : Program → List Row → List ℕ → List ℕ → ℕ → Pruned
+pruned p rows kept order flag =
+    pick (eqb flag 0) (record { way = 2; bodies = copied p rows kept order })
+    (orStubbed (renumbered p rows kept order) (stubbed p rows kept order))

@@ -1,0 +1,154 @@
+-- The subset's bytes (the Rust's subset and subset_cid; document 01, 'Layout'): header, names, top DICT, strings, globals, charset format 0,
+-- for CID FDSelect, charstrings, for CID the FD INDEX, then each Private with its local subroutines. Offsets have the five-byte form, so
+-- that the top DICT's length does not depend on them.
+use Prim.Native.Nat.{ℕ, _+_}
+use mathlib.Core.Bool.{Bool, true, false}
+use mathlib.Core.List.{List, [], _∷_, _++_}
+use lib.Dec.{eqb}
+use lib.ListN.{length, getD}
+use Rattle.octets.specs.Pick.{pick}
+use Rattle.decimal.specs.declared.Decimal.{Decimal}
+use Rattle.decimal.specs.declared.Signed.{Signed}
+use Rattle.decimal.specs.Decimal.{normal}
+use Rattle.dict.specs.Op.{esc, subrs, ros, cidCount, copiedTopEntries, copiedTopStrings}
+use Rattle.dict.specs.Dict.{Entry}
+use Rattle.dict.specs.Lookup.{Operands, absent, operands, lastOf, rosIn, cidCountIn, cidKeyed}
+use Rattle.dict.specs.declared.RosIn.{RosIn}
+use Rattle.dict.specs.declared.RosIn.the-variants.{Ros, None}
+use Rattle.dict.specs.Written.{entryBytes, offsetEntry, privateEntry, privateBytes}
+use Rattle.index.specs.Write.{sizeFor, indexBytes}
+use Rattle.charset.specs.CharsetBytes.{charsetBytes}
+use Rattle.charset.specs.FdSelectBytes.{fdSelectBytes}
+use Rattle.strings.specs.Strings.{stringText}
+use Rattle.cff.specs.Font.{Private, Program, charset, charStrings, fdArray, fdSelect}
+use Rattle.subset.specs.Kept.{usedFds, newFd}
+use Rattle.subset.specs.Texts.{Named, namedEntries, textsOf, namesOf, ownStrings, newId}
+use Rattle.subset.specs.Pruned.{Bodies}
+
+-- ---- entries of the top DICT
+
+abbrev pub numberOf : ℕ → Decimal
+numberOf n = normal false n 0 0
+
+unfoldable pub namedBytes : List (List ℕ) → List Named → List ℕ
+namedBytes own [] = []
+namedBytes own (n ∷ ns) = entryBytes (n .op) (numberOf (newId own (n .text)) ∷ []) ++ namedBytes own ns
+
+abbrev pub copiedEntry : ℕ → Operands → List ℕ
+copiedEntry op absent = []
+copiedEntry op (operands ds) = entryBytes op ds
+
+-- the last entry of each of these operators that is there, as it is
+unfoldable pub copiedBytes : List Entry → List ℕ → List ℕ
+copiedBytes es [] = []
+copiedBytes es (op ∷ ops) = copiedEntry op (lastOf op es) ++ copiedBytes es ops
+
+abbrev pub rosEntry : Program → List (List ℕ) → RosIn → List ℕ
+rosEntry p own None = []
+rosEntry p own (Ros registry ordering s) =
+    entryBytes ros (numberOf (newId own (stringText (p .strings) registry)) ∷ numberOf (newId own (stringText (p .strings) ordering)) ∷ normal (s .neg) (s .size) 0 0 ∷ [])
+
+abbrev pub rosTexts : Program → RosIn → List (List ℕ)
+rosTexts p None = []
+rosTexts p (Ros registry ordering s) = stringText (p .strings) registry ∷ stringText (p .strings) ordering ∷ []
+
+-- ---- Privates
+
+-- a Private DICT, with Subrs where a local subroutine is left: it stands directly behind
+abbrev pub privateDict : Private → List (List ℕ) → List ℕ
+privateDict q ls = privateBytes (q .entries) ++ pick (eqb (length ls) 0) [] (offsetEntry subrs (length (privateBytes (q .entries)) + 6))
+
+-- and its local subroutines
+abbrev pub privatePart : Private → List (List ℕ) → List ℕ
+privatePart q ls = privateDict q ls ++ pick (eqb (length ls) 0) [] (indexBytes ls)
+
+-- those of the FDs in use, one behind the other; and their Font DICTs, the first Private standing at a place
+abbrev pub privateOf : Program → ℕ → Private
+privateOf p f = getD (p .privates) f (record { entries = []; locals = [] })
+
+unfoldable pub privateParts : Program → List ℕ → List (List (List ℕ)) → List ℕ
+privateParts p [] lss = []
+privateParts p (f ∷ fs) [] = []
+privateParts p (f ∷ fs) (ls ∷ lss) = privatePart (privateOf p f) ls ++ privateParts p fs lss
+
+unfoldable pub fontDicts : Program → ℕ → List ℕ → List (List (List ℕ)) → List (List ℕ)
+fontDicts p at [] lss = []
+fontDicts p at (f ∷ fs) [] = []
+fontDicts p at (f ∷ fs) (ls ∷ lss) =
+    privateEntry (length (privateDict (privateOf p f) ls)) at ∷ fontDicts p (at + length (privatePart (privateOf p f) ls)) fs lss
+
+-- ---- name-keyed
+
+module _ (p : Program) (name : List ℕ) (kept order : List ℕ) (b : Bodies) where
+  abbrev pub named : List Named
+  named = namedEntries p copiedTopStrings
+
+  abbrev pub ownByName : List (List ℕ)
+  ownByName = ownStrings [] (textsOf named ++ namesOf p order)
+
+  abbrev pub topByName : ℕ → ℕ → ℕ → ℕ → List ℕ
+  topByName at₁ at₂ size at₃ =
+      namedBytes ownByName named ++ (copiedBytes (p .top) copiedTopEntries
+      ++ (offsetEntry charset at₁ ++ (offsetEntry charStrings at₂ ++ privateEntry size at₃)))
+
+  unfoldable pub newIds : List (List ℕ) → List (List ℕ) → List ℕ
+  newIds own [] = []
+  newIds own (t ∷ ts) = newId own t ∷ newIds own ts
+
+  abbrev pub oneLocal : List (List ℕ)
+  oneLocal = getD (b .locals) 0 []
+
+  unfoldable pub subsetByName : List ℕ
+  subsetByName =
+      let names = indexBytes (name ∷ []) in
+      let strings = indexBytes ownByName in
+      let globals = indexBytes (b .globals) in
+      let ids = charsetBytes (newIds ownByName (namesOf p order)) in
+      let charstrings = indexBytes (b .charstrings) in
+      let private = privatePart (privateOf p 0) oneLocal in
+      let size = length (privateDict (privateOf p 0) oneLocal) in
+      let at₁ = 4 + length names + length (indexBytes (topByName 0 0 0 0 ∷ [])) + length strings + length globals in
+      let at₂ = at₁ + length ids in
+      let at₃ = at₂ + length charstrings in
+      1 ∷ 0 ∷ 4 ∷ sizeFor (at₃ + length private) ∷ (names ++ (indexBytes (topByName at₁ at₂ size at₃ ∷ [])
+      ++ (strings ++ (globals ++ (ids ++ (charstrings ++ private))))))
+
+  -- ---- CID-keyed
+
+  abbrev pub ownByCid : List (List ℕ)
+  ownByCid = ownStrings [] (rosTexts p (rosIn (p .top)) ++ textsOf named)
+
+  abbrev pub topByCid : ℕ → ℕ → ℕ → ℕ → List ℕ
+  topByCid at₁ at₂ at₃ at₄ =
+      rosEntry p ownByCid (rosIn (p .top)) ++ (namedBytes ownByCid named ++ (copiedBytes (p .top) copiedTopEntries
+      ++ (entryBytes cidCount (numberOf (cidCountIn (p .top)) ∷ [])
+      ++ (offsetEntry charset at₁ ++ (offsetEntry fdSelect at₂ ++ (offsetEntry charStrings at₃ ++ offsetEntry fdArray at₄))))))
+
+  unfoldable pub idsAt : List ℕ → List ℕ
+  idsAt [] = []
+  idsAt (g ∷ gs) = getD (p .ids) g 0 ∷ idsAt gs
+
+  unfoldable pub newFds : List ℕ → List ℕ
+  newFds [] = []
+  newFds (g ∷ gs) = newFd (usedFds p kept) (getD (p .fds) g 0) ∷ newFds gs
+
+  unfoldable pub subsetByCid : List ℕ
+  subsetByCid =
+      let names = indexBytes (name ∷ []) in
+      let strings = indexBytes ownByCid in
+      let globals = indexBytes (b .globals) in
+      let ids = charsetBytes (idsAt order) in
+      let select = fdSelectBytes (newFds order) in
+      let charstrings = indexBytes (b .charstrings) in
+      let used = usedFds p kept in
+      let at₁ = 4 + length names + length (indexBytes (topByCid 0 0 0 0 ∷ [])) + length strings + length globals in
+      let at₂ = at₁ + length ids in
+      let at₃ = at₂ + length select in
+      let at₄ = at₃ + length charstrings in
+      let at₅ = at₄ + length (indexBytes (fontDicts p 0 used (b .locals))) in
+      let privates = privateParts p used (b .locals) in
+      1 ∷ 0 ∷ 4 ∷ sizeFor (at₅ + length privates) ∷ (names ++ (indexBytes (topByCid at₁ at₂ at₃ at₄ ∷ [])
+      ++ (strings ++ (globals ++ (ids ++ (select ++ (charstrings ++ (indexBytes (fontDicts p at₅ used (b .locals)) ++ privates))))))))
+
+  unfoldable pub subsetBytes : List ℕ
+  subsetBytes = pick (cidKeyed (p .top)) subsetByCid subsetByName

@@ -1,0 +1,1 @@
+// The subset (write.rs): the definitions of specs/. No code yet.
