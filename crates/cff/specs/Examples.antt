@@ -9,11 +9,7 @@ use Rattle.index.specs.Index.{offsets, runOf, judged, dataAt, tableAt, indexAt,
 use Rattle.decimal.specs.Decimal.{zerosOf, zeros, stripped, normal}
 use Rattle.decimal.specs.Number.{realAt, numberAt}
 use Rattle.decimal.specs.Values.{truncOf}
-<<<<<<< HEAD
 use Rattle.dict.specs.Dict.{tokenAt, operatorAt, entryFrom, entryAt, readingsFrom, readingsAt, gathered, dictOf}
-=======
-use Rattle.dict.specs.Dict.{operatorAt, tokenAt, entryFrom, entryAt, readingsFrom, readingsAt, gathered, dictOf}
->>>>>>> subset
 use Rattle.dict.specs.Lookup.{lastFrom, lastOf}
 use Rattle.charset.specs.Listed.{listOf}
 use Rattle.strings.specs.Strings.{stringText, standardString, standardStrings}
@@ -31,33 +27,21 @@ sheet =
 sheet-read : readAs (readFont sheet) ≡ Font (record { glyphs = 2; globals = 0; strings = 0; cid = false; work = 4 })
 unfolding
     readFont setAt fontsAt fontAt nameParts privateAt idsAt encodingGot readIndex told indexAt tableAt dataAt runOf judged offsets pieces itemsOf numAt be dictOf
-<<<<<<< HEAD
     gathered readingsAt readingsFrom entryAt entryFrom tokenAt operatorAt numberAt realAt normal zeros zerosOf stripped lastOf lastFrom truncOf listOf localsTotal
-=======
-    gathered readingsAt readingsFrom entryAt entryFrom operatorAt tokenAt numberAt normal zeros zerosOf stripped lastOf lastFrom truncOf listOf localsTotal
->>>>>>> subset
 sheet-read = refl
 
 -- item 1 of the charstrings, and 6 where there is none
 sheet-item : itemOf (readFont sheet) Charstring 1 ≡ 0x0e ∷ []
 unfolding
     readFont setAt fontsAt fontAt nameParts privateAt idsAt encodingGot readIndex told indexAt tableAt dataAt runOf judged offsets pieces itemsOf numAt be dictOf
-<<<<<<< HEAD
     gathered readingsAt readingsFrom entryAt entryFrom tokenAt operatorAt numberAt realAt normal zeros zerosOf stripped lastOf lastFrom truncOf listOf localsTotal
-=======
-    gathered readingsAt readingsFrom entryAt entryFrom operatorAt tokenAt numberAt normal zeros zerosOf stripped lastOf lastFrom truncOf listOf localsTotal
->>>>>>> subset
 sheet-item = refl
 
 -- cut off in the last charstring, in the header; another version; nothing
 sheet-cut : readAs (readFont (take 28 sheet)) ≡ Refused 1
 unfolding
     readFont setAt fontsAt fontAt nameParts privateAt idsAt encodingGot readIndex told indexAt tableAt dataAt runOf judged offsets pieces itemsOf numAt be dictOf
-<<<<<<< HEAD
     gathered readingsAt readingsFrom entryAt entryFrom tokenAt operatorAt numberAt realAt normal zeros zerosOf stripped lastOf lastFrom truncOf listOf localsTotal
-=======
-    gathered readingsAt readingsFrom entryAt entryFrom operatorAt tokenAt numberAt normal zeros zerosOf stripped lastOf lastFrom truncOf listOf localsTotal
->>>>>>> subset
 sheet-cut = refl
 
 version-2 : readAs (readFont (2 ∷ 0 ∷ 4 ∷ 1 ∷ [])) ≡ Refused 3
