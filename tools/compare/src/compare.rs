@@ -1,0 +1,471 @@
+//! One font compared: the library against the original, and a model of document 01 against both.
+
+use crate::cases::{Case, mixed};
+use crate::cff::{CffProgram, STANDARD_STRINGS};
+use crate::generator::Generator;
+use crate::library::{ABSENT, Answer, Checked, Counts, Library};
+use crate::model::{self, Font, NO_SUCH_ITEM, PAST_LIMITS, Refused, TOO_LONG};
+use crate::original::{self, Outcome};
+use crate::program::FontError;
+use crate::tally::{Difference, Tally};
+use std::fmt::Debug;
+
+/// The original is not asked where it would take more memory than this, in bytes.
+pub const MEMORY: u64 = 1 << 29;
+
+/// Names, and CIDs, for each font.
+const NAMES: usize = 20;
+
+/// Messages kept of one font.
+const MESSAGES: usize = 4;
+
+struct Compared<'a> {
+    library: &'a Library,
+    font: &'a [u8],
+    read: Result<&'a Font, u8>,
+    program: Option<CffProgram>,
+    tally: &'a mut Tally,
+    messages: Vec<String>,
+}
+
+pub fn compare(library: &Library, case: &Case, seed: u64, tally: &mut Tally) {
+    let reading = model::read(&case.font);
+    let refusal = reading.font.as_ref().err().map_or(0, |r| r.number);
+    tally.font(case, &reading);
+    let mut compared = Compared {
+        library,
+        font: &case.font,
+        read: reading.font.as_ref().map_err(|r| r.number),
+        program: None,
+        tally,
+        messages: Vec::new(),
+    };
+    if refusal == TOO_LONG {
+        // Added by document 01; the original has no such rule.
+    } else if reading.memory > MEMORY {
+        compared.tally.heavy += 1;
+    } else {
+        compared.original(reading.font.as_ref().err());
+    }
+    compared.entries(seed, case.number as u64);
+    let mut messages = compared.messages;
+    if !messages.is_empty() {
+        if let Err(refused) = &reading.font {
+            messages.push(format!("model: {refused:?}"));
+        }
+        tally.difference(Difference {
+            place: (case.file.clone(), case.number),
+            case: case.label(seed),
+            messages,
+            font: case.font.clone(),
+        });
+    }
+}
+
+impl Compared<'_> {
+    fn report(&mut self, message: impl FnOnce() -> String) {
+        if self.messages.len() < MESSAGES {
+            self.messages.push(message());
+        }
+    }
+
+    /// The model against the original.
+    fn original(&mut self, refused: Option<&Refused>) {
+        let outcome = original::read(self.font);
+        if let Outcome::Panicked(message) = &outcome {
+            self.tally.panics += 1;
+            self.report(|| format!("the original panics: {message}"));
+        }
+        match (refused, outcome) {
+            (Some(r), _) if r.number == PAST_LIMITS => self.place_of_real(r.at),
+            (Some(r), Outcome::Refused(error)) => {
+                if original::number(&error) != r.number {
+                    self.report(|| format!("the model refuses by {r:?}, the original: {error}"));
+                }
+            }
+            (None, Outcome::Program(program)) => {
+                if let Some(what) = self.unlike(&program) {
+                    self.report(|| format!("the model and the original differ in {what}"));
+                }
+                self.program = Some(program);
+            }
+            (Some(r), Outcome::Program(_)) => {
+                self.report(|| format!("the model refuses by {r:?}, the original reads the font"));
+            }
+            (None, Outcome::Refused(error)) => {
+                self.report(|| format!("the model reads the font, the original: {error}"));
+            }
+            (_, Outcome::Panicked(_)) => {}
+        }
+    }
+
+    /// Whether a real past the limits stands where the original's parse comes by: with a reserved
+    /// nibble at its start the original must say that this real is malformed. (It may say another
+    /// thing where the same byte is read as a part of something else.)
+    fn place_of_real(&mut self, at: usize) {
+        let mut copy = self.font.to_vec();
+        copy[at] = 0xdf;
+        match original::read(&copy) {
+            Outcome::Refused(FontError::Malformed("real operand")) => self.tally.confirmed += 1,
+            _ => self.tally.unconfirmed += 1,
+        }
+    }
+
+    /// Where the model's font and the original's differ.
+    fn unlike(&self, program: &CffProgram) -> Option<String> {
+        let Ok(font) = self.read else { return None };
+        if font.cid_keyed != program.is_cid_keyed() {
+            return Some("keying".to_string());
+        }
+        if font.charset != program.charset() {
+            return Some("charset".to_string());
+        }
+        if font.locals != original::locals(program) {
+            return Some("local subroutines".to_string());
+        }
+        for kind in 0..3 {
+            let index = font.index(kind);
+            for k in 0..index.count + 1 {
+                let mine = font.item(self.font, kind, k as u64).ok();
+                let mine = mine.map(|span| &self.font[span]);
+                if mine != original::item(program, kind, k as u64) {
+                    return Some(format!("item {k} of kind {kind}"));
+                }
+            }
+        }
+        None
+    }
+
+    /// The library's entries, each with its answers.
+    fn entries(&mut self, seed: u64, number: u64) {
+        let mut g = Generator::new(mixed(seed ^ 0x5851_f42d_4c95_7f2d, number));
+        let want = self.read.map(counts);
+        let got = self.library.read(self.font);
+        self.tally.call("read", &want);
+        self.same("read", &want, got);
+
+        let names = names(&mut g, self.read.ok(), self.font);
+        for name in names {
+            let want = self
+                .read
+                .map(|f| f.find_name(self.font, &name).map_or(ABSENT, u64::from));
+            if let Some(program) = &self.program {
+                let theirs = Ok(program.gid(&name).map_or(ABSENT, u64::from));
+                if theirs != want {
+                    self.report(|| {
+                        format!("name {name:02x?}: model {want:?}, original {theirs:?}")
+                    });
+                }
+            }
+            let got = self.library.find_name(self.font, &name);
+            self.tally.found("find_name", &want);
+            self.same_of("find_name", &name, &want, got);
+        }
+
+        for cid in cids(&mut g, self.read.ok()) {
+            let want = self.read.map(|f| f.find_cid(cid).map_or(ABSENT, u64::from));
+            if let Some(program) = &self.program {
+                let theirs = Ok(program.gid_of_cid(cid).map_or(ABSENT, u64::from));
+                if theirs != want {
+                    self.report(|| format!("CID {cid}: model {want:?}, original {theirs:?}"));
+                }
+            }
+            let got = self.library.find_cid(self.font, cid);
+            self.tally.found("find_cid", &want);
+            self.same_of("find_cid", &cid, &want, got);
+        }
+
+        for kind in 0..3u8 {
+            let count = self.read.map_or(0, |f| f.index(kind).count as u64);
+            for number in item_numbers(&mut g, count) {
+                let want = self
+                    .read
+                    .and_then(|f| f.item(self.font, kind, number))
+                    .map(|span| self.font[span].to_vec());
+                if let Some(program) = &self.program {
+                    let theirs = original::item(program, kind, number).ok_or(NO_SUCH_ITEM);
+                    if theirs != want.as_ref().map(Vec::as_slice).map_err(|&r| r) {
+                        self.report(|| format!("item {number} of kind {kind}: model and original"));
+                    }
+                }
+                let room = want.as_ref().map_or(4, Vec::len);
+                let got = self.library.item(self.font, kind, number, room);
+                self.tally
+                    .call(["charstring", "global", "string"][usize::from(kind)], &want);
+                self.same_of("item", &(kind, number), &want, got);
+                let refusal = want.err().unwrap_or(0);
+                let got = self.library.item_refusal(self.font, kind, number);
+                self.tally.call(
+                    "item_refusal",
+                    &if refusal == 0 { Ok(()) } else { Err(refusal) },
+                );
+                if got != refusal {
+                    self.report(|| {
+                        format!("item_refusal {kind} {number}: wanted {refusal}, library {got}")
+                    });
+                }
+            }
+        }
+    }
+
+    fn same<T: PartialEq + Debug>(&mut self, entry: &str, want: &Answer<T>, got: Checked<T>) {
+        self.same_of(entry, &(), want, got);
+    }
+
+    fn same_of<I: Debug, T: PartialEq + Debug>(
+        &mut self,
+        entry: &str,
+        input: &I,
+        want: &Answer<T>,
+        got: Checked<T>,
+    ) {
+        match got {
+            Err(fault) => self.report(|| format!("{entry} {input:02x?}: {fault}")),
+            Ok(got) if got != *want => {
+                self.report(|| {
+                    format!("{entry} {input:02x?}: wanted {want:02x?}, library {got:02x?}")
+                });
+            }
+            Ok(_) => {}
+        }
+    }
+}
+
+pub fn counts(font: &Font) -> Counts {
+    Counts {
+        glyphs: font.charstrings.count as u64,
+        globals: font.globals.count as u64,
+        strings: font.strings.count as u64,
+        cid_keyed: u64::from(font.cid_keyed),
+        work: font.work(),
+    }
+}
+
+/// Names to find: of the font's glyphs, near to them, standard ones, its strings, any others.
+pub fn names(g: &mut Generator, font: Option<&Font>, bytes: &[u8]) -> Vec<Vec<u8>> {
+    let mut names = vec![Vec::new(), b".notdef".to_vec()];
+    while names.len() < NAMES {
+        let name = match (font, g.below(8)) {
+            (Some(f), 0..=3) => {
+                let glyph = match g.below(4) {
+                    0 => f.charset.len() - 1,
+                    _ => g.below(f.charset.len()),
+                };
+                let mut name = f.text(bytes, f.charset[glyph]).to_vec();
+                match g.below(10) {
+                    0 => name.push(b'a'),
+                    1 => {
+                        name.pop();
+                    }
+                    2 if !name.is_empty() => {
+                        let k = g.below(name.len());
+                        name[k] ^= 1 << g.below(8);
+                    }
+                    _ => {}
+                }
+                name
+            }
+            (Some(f), 4) if f.strings.count > 0 => {
+                let k = g.below(f.strings.count);
+                bytes[f.strings.span(bytes, k)].to_vec()
+            }
+            (_, 5) => {
+                let n = if g.once_in(4) { 300 } else { g.below(6) };
+                g.bytes(n)
+            }
+            _ => STANDARD_STRINGS[g.below(STANDARD_STRINGS.len())]
+                .as_bytes()
+                .to_vec(),
+        };
+        names.push(name);
+    }
+    names
+}
+
+/// CIDs to find: of the font's glyphs, next to them, the smallest and the largest, any others.
+pub fn cids(g: &mut Generator, font: Option<&Font>) -> Vec<u16> {
+    let mut cids = vec![0, 1, 65535];
+    while cids.len() < NAMES {
+        let cid = match (font, g.below(6)) {
+            (Some(f), 0..=3) => {
+                let id = match g.below(4) {
+                    0 => f.charset[f.charset.len() - 1],
+                    _ => f.charset[g.below(f.charset.len())],
+                };
+                match g.below(6) {
+                    0 => id.wrapping_add(1),
+                    1 => id.wrapping_sub(1),
+                    _ => id,
+                }
+            }
+            (_, 4) => g.below(600) as u16,
+            _ => g.word() as u16,
+        };
+        cids.push(cid);
+    }
+    cids
+}
+
+/// Numbers around every boundary of an INDEX of `count` items, those whose low half or low word
+/// is an item's among them.
+pub fn item_numbers(g: &mut Generator, count: u64) -> Vec<u64> {
+    let mut numbers = vec![
+        0,
+        1,
+        255,
+        256,
+        65535,
+        65536,
+        65536 + count.saturating_sub(1),
+        1 << 32,
+        (1 << 32) + count.saturating_sub(1),
+        u64::MAX,
+    ];
+    if count <= 12 {
+        numbers.extend(0..count + 2);
+    } else {
+        numbers.extend(count - 2..count + 2);
+        numbers.extend((0..4).map(|_| g.word() % count));
+    }
+    numbers.sort_unstable();
+    numbers.dedup();
+    numbers
+}
+
+#[cfg(test)]
+mod tests {
+    use super::*;
+    use crate::cases::Made;
+    use crate::stub;
+
+    /// How many of 4,000 fonts show a difference.
+    fn differences(library: &Library) -> u64 {
+        let mut tally = Tally::default();
+        for case in Made::new(11)
+            .take(4000)
+            .filter(|case| case.font.len() < 2000)
+        {
+            compare(library, &case, 11, &mut tally);
+        }
+        tally.differences()
+    }
+
+    #[test]
+    fn the_stub_shows_none() {
+        assert_eq!(differences(&stub::library()), 0);
+    }
+
+    unsafe extern "C" fn read_wrong_work(
+        font: *const u8,
+        len: usize,
+        a: *mut u64,
+        b: *mut u64,
+        c: *mut u64,
+        d: *mut u64,
+        work: *mut u64,
+    ) -> u8 {
+        // SAFETY: as for the stub.
+        let refusal = unsafe { (stub::library().read)(font, len, a, b, c, d, work) };
+        if refusal == 0 {
+            unsafe { *work = *work / 2 * 2 };
+        }
+        refusal
+    }
+
+    unsafe extern "C" fn read_writes_when_refused(
+        font: *const u8,
+        len: usize,
+        a: *mut u64,
+        b: *mut u64,
+        c: *mut u64,
+        d: *mut u64,
+        e: *mut u64,
+    ) -> u8 {
+        // SAFETY: as for the stub.
+        let refusal = unsafe { (stub::library().read)(font, len, a, b, c, d, e) };
+        if refusal == 5 {
+            unsafe { *e = 0 };
+        }
+        refusal
+    }
+
+    /// A name that is absent is glyph 0.
+    unsafe extern "C" fn name_absent_is_0(
+        font: *const u8,
+        len: usize,
+        name: *const u8,
+        name_len: usize,
+        glyph: *mut u64,
+    ) -> u8 {
+        // SAFETY: as for the stub.
+        let refusal = unsafe { (stub::library().find_name)(font, len, name, name_len, glyph) };
+        if refusal == 0 {
+            unsafe { *glyph %= ABSENT };
+        }
+        refusal
+    }
+
+    /// A CID above 32767 is taken as another.
+    unsafe extern "C" fn cid_halved(font: *const u8, len: usize, cid: u16, glyph: *mut u64) -> u8 {
+        // SAFETY: as for the stub.
+        unsafe { (stub::library().find_cid)(font, len, cid & 0x7fff, glyph) }
+    }
+
+    /// Only 32 bits of the number count.
+    unsafe extern "C" fn item_of_low_word(
+        font: *const u8,
+        len: usize,
+        kind: u8,
+        number: u64,
+        out: *mut u8,
+        out_len: usize,
+        item_len: *mut u64,
+    ) -> u8 {
+        let number = number & 0xffff_ffff;
+        // SAFETY: as for the stub.
+        unsafe { (stub::library().item)(font, len, kind, number, out, out_len, item_len) }
+    }
+
+    /// Refusal 1 where it is 2.
+    unsafe extern "C" fn wrong_refusal(font: *const u8, len: usize, kind: u8, number: u64) -> u8 {
+        // SAFETY: as for the stub.
+        match unsafe { (stub::library().item_refusal)(font, len, kind, number) } {
+            2 => 1,
+            refusal => refusal,
+        }
+    }
+
+    #[test]
+    fn a_fault_shows() {
+        let good = stub::library();
+        let faulty = [
+            Library {
+                read: read_wrong_work,
+                ..good
+            },
+            Library {
+                read: read_writes_when_refused,
+                ..good
+            },
+            Library {
+                find_name: name_absent_is_0,
+                ..good
+            },
+            Library {
+                find_cid: cid_halved,
+                ..good
+            },
+            Library {
+                item: item_of_low_word,
+                ..good
+            },
+            Library {
+                item_refusal: wrong_refusal,
+                ..good
+            },
+        ];
+        for (k, library) in faulty.iter().enumerate() {
+            assert!(differences(library) > 0, "fault {k}");
+        }
+    }
+}

@@ -1,0 +1,90 @@
+//! Fonts for which the original takes memory out of proportion: parts that many others share are
+//! copied for each of them.
+
+use crate::layout::{Entry, Fault, Layout, Num, Part, Shape};
+use crate::numbers::Form;
+
+const SHAPE: Shape = Shape {
+    offset_size: 1,
+    gap: 0,
+    fault: Fault::None,
+};
+
+/// The header and, within its size, an INDEX of one empty charstring at 4.
+const HEADER: [u8; 9] = [1, 0, 9, 1, 0, 1, 1, 1, 1];
+
+fn entry(operands: Vec<Num>, operator: &[u8]) -> Entry {
+    Entry {
+        operands,
+        operator: operator.to_vec(),
+    }
+}
+
+fn place(part: usize) -> Num {
+    Num::Place(part, 0, Form::Shortest)
+}
+
+/// `fonts` fonts without names, each with the one charstring and the same entries; `strings`
+/// empty strings; no global subroutine.
+fn set(fonts: usize, strings: usize, entries: Vec<Entry>) -> Layout {
+    let mut layout = Layout {
+        parts: Vec::new(),
+        order: Vec::new(),
+    };
+    // 143 is the number 4.
+    let charstrings = entry(vec![Num::Bytes(vec![143])], &[17]);
+    let top = Part::Dict([vec![charstrings], entries].concat());
+    let empty = || Part::Bytes(Vec::new());
+    layout.add(Part::Bytes(HEADER.to_vec()));
+    layout.add(Part::Index(SHAPE, vec![empty(); fonts]));
+    layout.add(Part::Index(SHAPE, vec![top; fonts]));
+    layout.add(Part::Index(SHAPE, vec![empty(); strings]));
+    layout.add(Part::Index(SHAPE, Vec::new()));
+    layout
+}
+
+/// The number of the first part that is added to a set.
+const FIRST: usize = 5;
+
+/// CID-keyed fonts that share an FD array, whose FDs share a Private of `entries` entries.
+pub fn entries(fonts: usize, fds: usize, entries: usize) -> Vec<u8> {
+    let private = FIRST + 1;
+    let mut layout = set(
+        fonts,
+        0,
+        vec![
+            entry(Vec::new(), &[12, 30]),
+            entry(vec![place(FIRST)], &[12, 36]),
+        ],
+    );
+    let size = Num::Length(private, 0, Form::Shortest);
+    let fd = Part::Dict(vec![entry(vec![size, place(private)], &[18])]);
+    layout.add(Part::Index(SHAPE, vec![fd; fds]));
+    layout.add(Part::Bytes(vec![0; entries]));
+    layout.bytes()
+}
+
+/// A CID-keyed font whose FDs share a Private with `locals` empty local subroutines.
+pub fn locals(fds: usize, locals: usize) -> Vec<u8> {
+    let (private, subrs) = (FIRST + 1, FIRST + 2);
+    let mut layout = set(
+        1,
+        0,
+        vec![
+            entry(Vec::new(), &[12, 30]),
+            entry(vec![place(FIRST)], &[12, 36]),
+        ],
+    );
+    let size = Num::Length(private, 0, Form::Shortest);
+    let fd = Part::Dict(vec![entry(vec![size, place(private)], &[18])]);
+    layout.add(Part::Index(SHAPE, vec![fd; fds]));
+    let distance = Num::Distance(private, subrs, Form::Shortest);
+    layout.add(Part::Dict(vec![entry(vec![distance], &[19])]));
+    layout.add(Part::Index(SHAPE, vec![Part::Bytes(Vec::new()); locals]));
+    layout.bytes()
+}
+
+/// Name-keyed fonts that share `strings` empty strings.
+pub fn strings(fonts: usize, strings: usize) -> Vec<u8> {
+    set(fonts, strings, Vec::new()).bytes()
+}

@@ -1,0 +1,272 @@
+//! Compares the library with the original Rust at scale: reading a font, finding, items.
+//! The sources under docs/src are compiled here as they are. See README.md.
+
+mod cases;
+mod compare;
+mod damage;
+mod decimal;
+mod fonts;
+mod heavy;
+mod layout;
+mod library;
+mod model;
+mod numbers;
+mod opentype;
+mod original;
+mod store;
+#[cfg_attr(feature = "linked", allow(dead_code))]
+mod stub;
+mod tally;
+
+#[allow(dead_code)]
+#[path = "../../oracle/src/generator.rs"]
+mod generator;
+#[allow(dead_code)]
+#[path = "../../oracle/src/stubs.rs"]
+mod stubs;
+
+// `rustfmt::skip` keeps cargo fmt out of docs/src.
+#[rustfmt::skip]
+#[allow(dead_code)]
+#[path = "../../../docs/src/crates/efterscript-fonts/src/cff/mod.rs"]
+mod cff;
+#[rustfmt::skip]
+#[allow(dead_code)]
+#[path = "../../../docs/src/crates/efterscript-fonts/src/encoding.rs"]
+mod encoding;
+#[rustfmt::skip]
+#[allow(dead_code)]
+#[path = "../../../docs/src/crates/efterscript-fonts/src/outline.rs"]
+mod outline;
+#[rustfmt::skip]
+#[allow(dead_code)]
+#[path = "../../../docs/src/crates/efterscript-fonts/src/program.rs"]
+mod program;
+
+use cases::Case;
+use std::fmt::Write as _;
+use std::io::Write as _;
+use std::path::{Path, PathBuf};
+use std::process::ExitCode;
+use std::sync::{Arc, Mutex, mpsc};
+use std::{env, fs, thread};
+use stubs::{cidfont, truetype, type1};
+use tally::Tally;
+
+const USAGE: &str = "usage: tools/compare/run cff SEED COUNT
+       tools/compare/run store-cff SEED COUNT
+       tools/compare/run case SEED NUMBER
+       tools/compare/run ask original|model|library FILE
+       tools/compare/run heavy entries FONTS FDS ENTRIES
+       tools/compare/run heavy locals FDS LOCALS
+       tools/compare/run heavy strings FONTS STRINGS
+       tools/compare/run extract FOLDER FILE...";
+
+/// The stack of a thread that runs the original.
+const STACK: usize = 256 << 20;
+
+/// Where built files and tables are.
+fn target() -> PathBuf {
+    PathBuf::from(env::var_os("COMPARE_TARGET").unwrap_or_else(|| "target".into()))
+}
+
+fn main() -> ExitCode {
+    let words: Vec<String> = env::args().skip(1).collect();
+    let words: Vec<&str> = words.iter().map(String::as_str).collect();
+    original::keep_panics_silent();
+    match words.as_slice() {
+        ["cff", seed, count] => match (seed.parse(), count.parse()) {
+            (Ok(seed), Ok(count)) => cff(seed, count),
+            _ => usage(),
+        },
+        ["store-cff", seed, count] => match (seed.parse(), count.parse()) {
+            (Ok(seed), Ok(count)) => store(seed, count),
+            _ => usage(),
+        },
+        ["case", seed, number] => match (seed.parse(), number.parse()) {
+            (Ok(seed), Ok(number)) => case(seed, number),
+            _ => usage(),
+        },
+        ["ask", who, file] => ask(who, file),
+        ["heavy", kind, numbers @ ..] => {
+            let numbers: Vec<usize> = numbers.iter().flat_map(|n| n.parse()).collect();
+            match (*kind, numbers.as_slice()) {
+                ("entries", &[fonts, fds, entries]) => write(&heavy::entries(fonts, fds, entries)),
+                ("locals", &[fds, locals]) => write(&heavy::locals(fds, locals)),
+                ("strings", &[fonts, strings]) => write(&heavy::strings(fonts, strings)),
+                _ => usage(),
+            }
+        }
+        ["extract", folder, files @ ..] => extract(Path::new(folder), files),
+        _ => usage(),
+    }
+}
+
+fn usage() -> ExitCode {
+    eprintln!("{USAGE}");
+    ExitCode::from(2)
+}
+
+/// `count` made fonts, the long ones, and the tables in target/fonts with damaged copies.
+fn cff(seed: u64, count: usize) -> ExitCode {
+    let (sender, receiver) = mpsc::sync_channel::<Case>(16);
+    let receiver = Arc::new(Mutex::new(receiver));
+    let threads = thread::available_parallelism().map_or(1, |n| n.get());
+    let workers: Vec<_> = (0..threads)
+        .map(|_| {
+            let receiver = Arc::clone(&receiver);
+            let work = move || {
+                let library = library::library();
+                let mut tally = Tally::default();
+                loop {
+                    let next = receiver.lock().expect("no thread fails").recv();
+                    let Ok(case) = next else { return tally };
+                    compare::compare(&library, &case, seed, &mut tally);
+                }
+            };
+            let thread = thread::Builder::new().stack_size(STACK);
+            thread.spawn(work).expect("a thread")
+        })
+        .collect();
+    let send = |case| sender.send(case).expect("a thread that takes cases");
+    cases::Made::new(seed).take(count).for_each(send);
+    cases::fixed().into_iter().for_each(send);
+    let tables = cases::tables(&target().join("fonts"), seed);
+    for table in &tables {
+        table.cases().for_each(send);
+    }
+    drop(sender);
+    let mut tally = Tally::default();
+    for worker in workers {
+        tally.merge(worker.join().expect("no thread fails"));
+    }
+    println!("seed {seed}, {count} made fonts, {} tables of real fonts\n", tables.len());
+    print!("{}", tally.report(&target().join("compare")));
+    if tally.differences() > 0 {
+        ExitCode::FAILURE
+    } else {
+        ExitCode::SUCCESS
+    }
+}
+
+/// One made font, and what model and original say of it.
+fn case(seed: u64, number: usize) -> ExitCode {
+    let case = cases::Made::new(seed).nth(number).expect("cases do not end");
+    println!("{}\n{}", case.label(seed), hex(&case.font));
+    let reading = model::read(&case.font);
+    println!("memory of the original, about: {}", reading.memory);
+    match &reading.font {
+        Ok(font) => println!("model: {font:?}"),
+        Err(refused) => println!("model: {refused:?}"),
+    }
+    match original::read(&case.font) {
+        original::Outcome::Program(program) => println!("original: {program:?}"),
+        original::Outcome::Refused(error) => println!("original: {error:?}"),
+        original::Outcome::Panicked(message) => println!("original panics: {message}"),
+    }
+    ExitCode::SUCCESS
+}
+
+/// Cases for the gate, a line each, to standard output.
+fn store(seed: u64, count: usize) -> ExitCode {
+    let lines = store::lines(seed, count);
+    let text: String = lines.iter().flat_map(|line| [line, "\n"]).collect();
+    print!("{text}");
+    for kind in ["r", "n", "c", "i"] {
+        let n = lines.iter().filter(|line| line.starts_with(kind)).count();
+        eprintln!("{kind} {n}");
+    }
+    eprintln!("{} cases, {} bytes", lines.len(), text.len());
+    if lines.len() < count {
+        eprintln!("no more cases than these");
+        return ExitCode::FAILURE;
+    }
+    ExitCode::SUCCESS
+}
+
+fn write(bytes: &[u8]) -> ExitCode {
+    let mut out = std::io::stdout().lock();
+    match out.write_all(bytes).and_then(|()| out.flush()) {
+        Ok(()) => ExitCode::SUCCESS,
+        Err(error) => {
+            eprintln!("{error}");
+            ExitCode::FAILURE
+        }
+    }
+}
+
+/// What one of the three says of reading a file, its time and the memory that was taken.
+fn ask(who: &str, file: &str) -> ExitCode {
+    let font = match fs::read(file) {
+        Ok(font) => font,
+        Err(error) => {
+            eprintln!("{file}: {error}");
+            return ExitCode::FAILURE;
+        }
+    };
+    let start = std::time::Instant::now();
+    let answer = match who {
+        "original" => match original::read(&font) {
+            original::Outcome::Program(program) => format!("{program:?}"),
+            original::Outcome::Refused(error) => format!("{error:?}"),
+            original::Outcome::Panicked(message) => message,
+        },
+        "model" => {
+            let reading = model::read(&font);
+            let answer = match &reading.font {
+                Ok(font) => format!("{:?}", compare::counts(font)),
+                Err(refused) => format!("{refused:?}"),
+            };
+            format!("{answer}, memory of the original about {}", reading.memory)
+        }
+        "library" => format!("{:?}", library::library().read(&font)),
+        _ => return usage(),
+    };
+    let time = start.elapsed();
+    let status = fs::read_to_string("/proc/self/status").unwrap_or_default();
+    let peak = status.lines().find(|line| line.starts_with("VmHWM")).unwrap_or("");
+    println!("{} bytes: {answer}\n{time:?} {peak}", font.len());
+    ExitCode::SUCCESS
+}
+
+/// The `CFF ` tables of files, each to a file of its own.
+fn extract(folder: &Path, files: &[&str]) -> ExitCode {
+    fs::create_dir_all(folder).expect("a folder for the tables");
+    let mut count = 0;
+    for file in files {
+        let path = Path::new(file);
+        let stem = path.file_stem().unwrap_or_default().to_string_lossy();
+        let bytes = match fs::read(path) {
+            Ok(bytes) => bytes,
+            Err(error) => {
+                eprintln!("{file}: {error}");
+                return ExitCode::FAILURE;
+            }
+        };
+        match opentype::tables(&bytes) {
+            None => eprintln!("{file}: no OpenType file"),
+            Some(tables) if tables.is_empty() => eprintln!("{file}: no CFF table"),
+            Some(tables) => {
+                for (k, table) in tables.iter().enumerate() {
+                    let name = folder.join(format!("{stem}.{k}.cff"));
+                    fs::write(name, table).expect("a table can be written");
+                    count += 1;
+                }
+            }
+        }
+    }
+    eprintln!("{count} tables in {}", folder.display());
+    ExitCode::SUCCESS
+}
+
+/// Lower-case hexadecimal; `-` for nothing.
+fn hex(bytes: &[u8]) -> String {
+    if bytes.is_empty() {
+        return "-".to_string();
+    }
+    let mut text = String::with_capacity(2 * bytes.len());
+    for b in bytes {
+        write!(text, "{b:02x}").expect("writing to a string");
+    }
+    text
+}

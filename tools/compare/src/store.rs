@@ -1,0 +1,237 @@
+//! Cases to store: lines of fonts, inputs and answers for a program of the gate.
+
+use crate::cases::{Made, mixed};
+use crate::compare::{self, counts};
+use crate::generator::Generator;
+use crate::library::Counts;
+use crate::model::{self, Font, PAST_LIMITS};
+use crate::original::{self, Outcome};
+use crate::{fonts, hex};
+use std::collections::{BTreeMap, BTreeSet, VecDeque};
+
+/// The longest font of a stored case.
+const LONGEST: usize = 400;
+
+/// How many fonts are looked at for cases.
+const LOOKED_AT: usize = 150_000;
+
+/// Fonts kept for each step that refuses and for each thing that a font may have: the shortest,
+/// and as many as they come.
+const SHORTEST: usize = 6;
+const ANY: usize = 10;
+
+#[derive(Default)]
+struct Kept {
+    shortest: BTreeSet<(usize, Vec<u8>)>,
+    any: Vec<Vec<u8>>,
+}
+
+/// `count` lines, or as many as there are.
+pub fn lines(seed: u64, count: usize) -> Vec<String> {
+    let mut kept: BTreeMap<String, Kept> = BTreeMap::new();
+    let mut keep = |key: String, font: &[u8]| {
+        let entry = kept.entry(key).or_default();
+        entry.shortest.insert((font.len(), font.to_vec()));
+        if entry.shortest.len() > SHORTEST {
+            entry.shortest.pop_last();
+        }
+        if entry.any.len() < ANY {
+            entry.any.push(font.to_vec());
+        }
+    };
+    for case in Made::new(seed).take(LOOKED_AT) {
+        if case.font.len() > LONGEST {
+            continue;
+        }
+        let reading = model::read(&case.font);
+        match &reading.font {
+            Err(r) => {
+                let later = if reading.fonts > 1 {
+                    ", later font"
+                } else {
+                    ""
+                };
+                keep(
+                    format!("{} {} {}{later}", r.number, r.part, r.fault),
+                    &case.font,
+                );
+            }
+            Ok(font) => {
+                let kind = if font.cid_keyed {
+                    fonts::CID_KEYED
+                } else {
+                    fonts::NAME_KEYED
+                };
+                for note in reading.notes {
+                    keep(format!("0 {kind}, {note}"), &case.font);
+                }
+            }
+        }
+    }
+    let mut kept: Vec<VecDeque<Vec<u8>>> = kept
+        .into_values()
+        .map(|kept| {
+            // A short one and any other, in turn.
+            let mut short = kept.shortest.into_iter().map(|(_, font)| font);
+            let mut any = kept.any.into_iter();
+            let mut all = VecDeque::new();
+            for _ in 0..SHORTEST.max(ANY) {
+                all.extend(short.next());
+                all.extend(any.next());
+            }
+            all
+        })
+        .collect();
+    let mut lines = Vec::new();
+    let mut seen = BTreeSet::new();
+    let mut used = BTreeSet::new();
+    while lines.len() < count && kept.iter().any(|fonts| !fonts.is_empty()) {
+        for fonts in &mut kept {
+            // Fonts come under several heads; each is used once.
+            while let Some(font) = fonts.pop_front() {
+                if used.insert(font.clone()) {
+                    let k = used.len() as u64;
+                    for line in lines_of(&font, &mut Generator::new(mixed(seed, k))) {
+                        if seen.insert(line.clone()) {
+                            lines.push(line);
+                        }
+                    }
+                    break;
+                }
+            }
+        }
+    }
+    lines.truncate(count);
+    lines
+}
+
+/// Some lines of one font: two of a refused one.
+fn lines_of(bytes: &[u8], g: &mut Generator) -> Vec<String> {
+    let reading = model::read(bytes);
+    let font = reading.font.as_ref().map_err(|r| r.number);
+    checked(bytes, font);
+    let mut lines = vec![format!("r {} {}", hex(bytes), hex(&read_answer(font)))];
+    let mut names = Vec::new();
+    let mut cids = Vec::new();
+    let mut items = Vec::new();
+    match font {
+        Err(_) => match g.below(3) {
+            0 => names.push(any(g, |g| compare::names(g, None, bytes))),
+            1 => cids.push(any(g, |g| compare::cids(g, None))),
+            _ => items.push((g.below(3) as u8, any(g, |g| compare::item_numbers(g, 0)))),
+        },
+        Ok(f) => {
+            let glyphs = f.charset.len();
+            // The last glyph, one that there is, and any other.
+            for glyph in [glyphs - 1, g.below(glyphs)] {
+                let id = f.charset[glyph];
+                if f.cid_keyed {
+                    cids.push(id);
+                } else {
+                    names.push(f.text(bytes, id).to_vec());
+                }
+            }
+            if !f.cid_keyed || g.once_in(3) {
+                names.push(any(g, |g| compare::names(g, Some(f), bytes)));
+            }
+            if f.cid_keyed || g.once_in(3) {
+                cids.push(any(g, |g| compare::cids(g, Some(f))));
+            }
+            // The last item of a kind, the number after the last of one, and any others.
+            let count = |kind| f.index(kind).count as u64;
+            let kind = g.below(3) as u8;
+            items.push((kind, count(kind).saturating_sub(1)));
+            let kind = g.below(3) as u8;
+            items.push((kind, count(kind)));
+            let kind = g.below(3) as u8;
+            items.push((kind, g.word() % count(kind).max(1)));
+            if g.once_in(3) {
+                let kind = g.below(3) as u8;
+                items.push((kind, any(g, |g| compare::item_numbers(g, count(kind)))));
+            }
+        }
+    }
+    names.retain(|name| name.len() < 40);
+    items.retain(|&(_, number)| number <= u64::from(u32::MAX));
+    lines.extend(names.iter().map(|name| name_line(bytes, font, name)));
+    lines.extend(cids.iter().map(|&cid| cid_line(bytes, font, cid)));
+    lines.extend(items.iter().map(|&item| item_line(bytes, font, item)));
+    lines
+}
+
+/// One of a list.
+fn any<T>(g: &mut Generator, list: impl Fn(&mut Generator) -> Vec<T>) -> T {
+    let mut list = list(g);
+    let k = g.below(list.len());
+    list.swap_remove(k)
+}
+
+/// The model's answers are the original's, refusal 5 apart.
+fn checked(bytes: &[u8], font: Result<&Font, u8>) {
+    match (original::read(bytes), font) {
+        (_, Err(PAST_LIMITS)) => {}
+        (Outcome::Refused(error), Err(number)) => assert_eq!(original::number(&error), number),
+        (Outcome::Program(program), Ok(font)) => {
+            assert_eq!(program.charset(), font.charset);
+            assert_eq!(program.is_cid_keyed(), font.cid_keyed);
+            assert_eq!(original::locals(&program), font.locals);
+            for kind in 0..3 {
+                for k in 0..font.index(kind).count as u64 + 1 {
+                    let mine = font.item(bytes, kind, k).ok().map(|span| &bytes[span]);
+                    assert_eq!(original::item(&program, kind, k), mine);
+                }
+            }
+            for name in program.glyph_names() {
+                assert_eq!(program.gid(name), font.find_name(bytes, name));
+            }
+        }
+        _ => panic!("model and original differ on {}", hex(bytes)),
+    }
+}
+
+fn read_answer(font: Result<&Font, u8>) -> Vec<u8> {
+    let font = match font {
+        Err(refusal) => return vec![refusal],
+        Ok(font) => font,
+    };
+    let Counts {
+        glyphs,
+        globals,
+        strings,
+        cid_keyed,
+        work,
+    } = counts(font);
+    let mut out = vec![0];
+    for n in [glyphs, globals, strings] {
+        out.extend_from_slice(&(n as u32).to_be_bytes());
+    }
+    out.push(cid_keyed as u8);
+    out.extend_from_slice(&work.to_be_bytes());
+    out
+}
+
+fn found(answer: Result<Option<u16>, u8>) -> Vec<u8> {
+    match answer {
+        Err(refusal) => vec![refusal],
+        Ok(None) => vec![0, 0, 0, 0],
+        Ok(Some(glyph)) => [vec![0, 1], glyph.to_be_bytes().to_vec()].concat(),
+    }
+}
+
+fn name_line(bytes: &[u8], font: Result<&Font, u8>, name: &[u8]) -> String {
+    let answer = found(font.map(|f| f.find_name(bytes, name)));
+    format!("n {} {} {}", hex(bytes), hex(name), hex(&answer))
+}
+
+fn cid_line(bytes: &[u8], font: Result<&Font, u8>, cid: u16) -> String {
+    let answer = found(font.map(|f| f.find_cid(cid)));
+    format!("c {} {cid:04x} {}", hex(bytes), hex(&answer))
+}
+
+fn item_line(bytes: &[u8], font: Result<&Font, u8>, (kind, number): (u8, u64)) -> String {
+    let answer = match font.and_then(|f| f.item(bytes, kind, number)) {
+        Err(refusal) => vec![refusal],
+        Ok(span) => [&[0], &bytes[span]].concat(),
+    };
+    format!("i {} {kind:02x} {number:08x} {}", hex(bytes), hex(&answer))
+}

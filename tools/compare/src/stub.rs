@@ -1,0 +1,176 @@
+//! Stands in for the library: the original's answers, and the model's where document 01 adds a
+//! refusal or the original would take too much memory. It tests the harness, and nothing else.
+
+use crate::cff::CffProgram;
+use crate::compare::MEMORY;
+use crate::library::{ABSENT, Library};
+use crate::{model, original};
+use std::cell::RefCell;
+use std::rc::Rc;
+use std::slice;
+
+pub fn library() -> Library {
+    Library {
+        read,
+        find_name,
+        find_cid,
+        item,
+        item_refusal,
+    }
+}
+
+enum Font {
+    Original(CffProgram),
+    Model(model::Font),
+}
+
+type Parsed = Result<Rc<Font>, u8>;
+
+thread_local! {
+    /// The last font and what it was: one font is asked many times.
+    static LAST: RefCell<Option<(Vec<u8>, Parsed)>> = const { RefCell::new(None) };
+}
+
+/// The `len` bytes at `at`.
+///
+/// # Safety
+/// They are lent for as long as the result is used.
+unsafe fn lent<'a>(at: *const u8, len: usize) -> &'a [u8] {
+    // SAFETY: the caller's.
+    unsafe { slice::from_raw_parts(at, len) }
+}
+
+fn parse(bytes: &[u8]) -> Parsed {
+    LAST.with_borrow_mut(|last| match last {
+        Some((font, parsed)) if font == bytes => parsed.clone(),
+        _ => {
+            let parsed = parse_anew(bytes).map(Rc::new);
+            *last = Some((bytes.to_vec(), parsed.clone()));
+            parsed
+        }
+    })
+}
+
+fn parse_anew(bytes: &[u8]) -> Result<Font, u8> {
+    let reading = model::read(bytes);
+    match reading.font {
+        Err(refused) if [4, 5].contains(&refused.number) => return Err(refused.number),
+        Ok(font) if reading.memory > MEMORY => return Ok(Font::Model(font)),
+        Err(refused) if reading.memory > MEMORY => return Err(refused.number),
+        _ => {}
+    }
+    match CffProgram::parse(bytes) {
+        Ok(program) => Ok(Font::Original(program)),
+        Err(error) => Err(original::number(&error)),
+    }
+}
+
+unsafe extern "C" fn read(
+    font: *const u8,
+    len: usize,
+    glyphs: *mut u64,
+    globals: *mut u64,
+    strings: *mut u64,
+    cid: *mut u64,
+    work: *mut u64,
+) -> u8 {
+    // SAFETY: the caller's, here and below.
+    let parsed = match parse(unsafe { lent(font, len) }) {
+        Err(refusal) => return refusal,
+        Ok(parsed) => parsed,
+    };
+    let counts = match &*parsed {
+        Font::Model(f) => [
+            f.charstrings.count as u64,
+            f.globals.count as u64,
+            f.strings.count as u64,
+            u64::from(f.cid_keyed),
+            f.work(),
+        ],
+        Font::Original(p) => {
+            let glyphs = u64::from(p.glyph_count());
+            let globals = p.global_subrs().len() as u64;
+            [
+                glyphs,
+                globals,
+                p.strings().len() as u64,
+                u64::from(p.is_cid_keyed()),
+                2 * glyphs + globals + original::locals(p),
+            ]
+        }
+    };
+    for (out, count) in [glyphs, globals, strings, cid, work]
+        .into_iter()
+        .zip(counts)
+    {
+        unsafe { *out = count };
+    }
+    0
+}
+
+unsafe extern "C" fn find_name(
+    font: *const u8,
+    len: usize,
+    name: *const u8,
+    name_len: usize,
+    glyph: *mut u64,
+) -> u8 {
+    // SAFETY: the caller's, here and below.
+    let (bytes, name) = unsafe { (lent(font, len), lent(name, name_len)) };
+    let found = match parse(bytes).as_deref() {
+        Err(&refusal) => return refusal,
+        Ok(Font::Model(f)) => f.find_name(bytes, name),
+        Ok(Font::Original(p)) => p.gid(name),
+    };
+    unsafe { *glyph = found.map_or(ABSENT, u64::from) };
+    0
+}
+
+unsafe extern "C" fn find_cid(font: *const u8, len: usize, cid: u16, glyph: *mut u64) -> u8 {
+    // SAFETY: the caller's, here and below.
+    let found = match parse(unsafe { lent(font, len) }).as_deref() {
+        Err(&refusal) => return refusal,
+        Ok(Font::Model(f)) => f.find_cid(cid),
+        Ok(Font::Original(p)) => p.gid_of_cid(cid),
+    };
+    unsafe { *glyph = found.map_or(ABSENT, u64::from) };
+    0
+}
+
+/// The item's bytes, or the refusal.
+fn lookup(bytes: &[u8], kind: u8, number: u64) -> Result<Vec<u8>, u8> {
+    match &*parse(bytes)? {
+        Font::Model(f) => Ok(bytes[f.item(bytes, kind, number)?].to_vec()),
+        Font::Original(p) => original::item(p, kind, number)
+            .map(<[u8]>::to_vec)
+            .ok_or(model::NO_SUCH_ITEM),
+    }
+}
+
+unsafe extern "C" fn item(
+    font: *const u8,
+    len: usize,
+    kind: u8,
+    number: u64,
+    out: *mut u8,
+    out_len: usize,
+    item_len: *mut u64,
+) -> u8 {
+    // SAFETY: the caller's, here and below.
+    let bytes = match lookup(unsafe { lent(font, len) }, kind, number) {
+        Err(refusal) => return refusal,
+        Ok(bytes) => bytes,
+    };
+    let out = unsafe { slice::from_raw_parts_mut(out, out_len) };
+    let n = bytes.len().min(out_len);
+    out[..n].copy_from_slice(&bytes[..n]);
+    unsafe { *item_len = bytes.len() as u64 };
+    0
+}
+
+unsafe extern "C" fn item_refusal(font: *const u8, len: usize, kind: u8, number: u64) -> u8 {
+    // SAFETY: the caller's.
+    lookup(unsafe { lent(font, len) }, kind, number)
+        .err()
+        .unwrap_or(0)
+}

@@ -1,0 +1,204 @@
+//! What a run met, and its report.
+
+use crate::cases::Case;
+use crate::library::{ABSENT, Answer};
+use crate::model::Reading;
+use std::collections::BTreeMap;
+use std::fmt::Write;
+
+/// Differences printed.
+const PRINTED: usize = 20;
+
+/// Fonts up to this length are printed, longer ones are written to a file.
+const LONGEST_PRINTED: usize = 4000;
+
+pub struct Difference {
+    /// Its place in the run: made fonts, then files by name.
+    pub place: (String, usize),
+    pub case: String,
+    pub messages: Vec<String>,
+    pub font: Vec<u8>,
+}
+
+/// By refusal: 0 none, then 1 to 6.
+type ByRefusal = [u64; 7];
+
+#[derive(Default)]
+pub struct Tally {
+    pub fonts: BTreeMap<(&'static str, &'static str), ByRefusal>,
+    calls: BTreeMap<&'static str, ByRefusal>,
+    found: BTreeMap<&'static str, u64>,
+    steps: BTreeMap<(u8, &'static str, &'static str), u64>,
+    /// What fonts that are read have.
+    notes: BTreeMap<&'static str, u64>,
+    /// Refused in a font of a set that is not the first.
+    later: u64,
+    /// Fonts for which the original would take too much memory.
+    pub heavy: u64,
+    pub panics: u64,
+    /// Reals past the limits at a place that the original comes by, and others.
+    pub confirmed: u64,
+    pub unconfirmed: u64,
+    differences: Vec<Difference>,
+    different: u64,
+}
+
+impl Tally {
+    pub fn font(&mut self, case: &Case, reading: &Reading) {
+        let refusal = reading.font.as_ref().err().map_or(0, |r| r.number);
+        self.fonts.entry((case.kind, case.state)).or_default()[usize::from(refusal)] += 1;
+        if let Err(r) = &reading.font {
+            *self.steps.entry((r.number, r.part, r.fault)).or_default() += 1;
+            if reading.fonts > 1 {
+                self.later += 1;
+            }
+        } else {
+            for note in &reading.notes {
+                *self.notes.entry(note).or_default() += 1;
+            }
+        }
+    }
+
+    pub fn call<T>(&mut self, entry: &'static str, answer: &Answer<T>) {
+        let refusal = answer.as_ref().err().map_or(0, |&r| r);
+        self.calls.entry(entry).or_default()[usize::from(refusal)] += 1;
+    }
+
+    pub fn found(&mut self, entry: &'static str, answer: &Answer<u64>) {
+        self.call(entry, answer);
+        if answer.is_ok_and(|glyph| glyph != ABSENT) {
+            *self.found.entry(entry).or_default() += 1;
+        }
+    }
+
+    pub fn difference(&mut self, difference: Difference) {
+        self.different += 1;
+        if self.differences.len() < PRINTED {
+            self.differences.push(difference);
+        }
+    }
+
+    pub fn differences(&self) -> u64 {
+        self.different
+    }
+
+    pub fn merge(&mut self, other: Tally) {
+        for (key, counts) in other.fonts {
+            add(self.fonts.entry(key).or_default(), counts);
+        }
+        for (key, counts) in other.calls {
+            add(self.calls.entry(key).or_default(), counts);
+        }
+        for (key, n) in other.found {
+            *self.found.entry(key).or_default() += n;
+        }
+        for (key, n) in other.steps {
+            *self.steps.entry(key).or_default() += n;
+        }
+        for (key, n) in other.notes {
+            *self.notes.entry(key).or_default() += n;
+        }
+        self.later += other.later;
+        self.heavy += other.heavy;
+        self.panics += other.panics;
+        self.confirmed += other.confirmed;
+        self.unconfirmed += other.unconfirmed;
+        self.different += other.different;
+        self.differences.extend(other.differences);
+    }
+
+    /// The report; long fonts of differences go to the folder.
+    pub fn report(&mut self, folder: &std::path::Path) -> String {
+        let mut out = String::new();
+        let mut total = ByRefusal::default();
+        let _ = writeln!(
+            out,
+            "Fonts by kind, state and reading's answer (0 read, else the refusal)"
+        );
+        header(&mut out, "");
+        for ((kind, state), counts) in &self.fonts {
+            row(&mut out, &format!("{kind}, {state}"), counts);
+            add(&mut total, *counts);
+        }
+        row(&mut out, "all", &total);
+        let _ = writeln!(out, "\nCalls by entry and answer");
+        header(&mut out, "   found");
+        let mut all = ByRefusal::default();
+        for (entry, counts) in &self.calls {
+            row(&mut out, entry, counts);
+            if let Some(n) = self.found.get(entry) {
+                out.pop();
+                let _ = writeln!(out, " {n:>8}");
+            }
+            add(&mut all, *counts);
+        }
+        row(&mut out, "all", &all);
+        let _ = writeln!(out, "\nRefusals by the step that gives them");
+        for ((number, part, fault), n) in &self.steps {
+            let _ = writeln!(out, "{number} {:<54}{n:>9}", format!("{part}: {fault}"));
+        }
+        let _ = writeln!(
+            out,
+            "  {:<54}{:>9}",
+            "of these in a later font of a set", self.later
+        );
+        let _ = writeln!(out, "\nFonts that are read, by what they have");
+        for (note, n) in &self.notes {
+            let _ = writeln!(out, "  {note:<54}{n:>9}");
+        }
+        let _ = writeln!(out);
+        let _ = writeln!(out, "original not asked, for its memory: {}", self.heavy);
+        let _ = writeln!(out, "original panicked: {}", self.panics);
+        let _ = writeln!(
+            out,
+            "refusal 5 where the original, given a reserved nibble there, stops: {} of {}",
+            self.confirmed,
+            self.confirmed + self.unconfirmed
+        );
+        let _ = writeln!(out, "differences: {}", self.different);
+        self.differences.sort_by(|a, b| a.place.cmp(&b.place));
+        for (k, difference) in self.differences.iter().take(PRINTED).enumerate() {
+            let _ = writeln!(out, "\n{}", difference.case);
+            for message in &difference.messages {
+                let _ = writeln!(out, "  {message}");
+            }
+            if difference.font.len() <= LONGEST_PRINTED {
+                let _ = writeln!(out, "  {}", crate::hex(&difference.font));
+            } else {
+                let path = folder.join(format!("difference-{k}.cff"));
+                let written = std::fs::create_dir_all(folder)
+                    .and_then(|()| std::fs::write(&path, &difference.font));
+                let said = written.map_or_else(|e| e.to_string(), |()| "written".to_string());
+                let _ = writeln!(
+                    out,
+                    "  {} bytes, {}: {said}",
+                    difference.font.len(),
+                    path.display()
+                );
+            }
+        }
+        out
+    }
+}
+
+fn add(sum: &mut ByRefusal, more: ByRefusal) {
+    for (n, m) in sum.iter_mut().zip(more) {
+        *n += m;
+    }
+}
+
+fn header(out: &mut String, last: &str) {
+    let _ = write!(out, "{:<46}", "");
+    for k in 0..7 {
+        let _ = write!(out, " {k:>8}");
+    }
+    let _ = writeln!(out, "      all {last}");
+}
+
+fn row(out: &mut String, label: &str, counts: &ByRefusal) {
+    let _ = write!(out, "{label:<46}");
+    for n in counts {
+        let _ = write!(out, " {n:>8}");
+    }
+    let _ = writeln!(out, " {:>8}", counts.iter().sum::<u64>());
+}
