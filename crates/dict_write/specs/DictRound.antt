@@ -52,7 +52,7 @@ module _ (b : List ℕ) (at op : ℕ) (post : List ℕ) where
       ap (tokenOf b at) (form-none b at (λ q. omega arith) (λ q. omega arith) (λ q. omega arith) (omega arith))
 
   one-byte : OneByte op → drop at b ≡ opBytes op ++ post → tokenAt b at ≡ operator op (at + length (opBytes op))
-  unfolding operatorAt
+  unfolding operatorAt opBytes
   one-byte k lies =
       let s = lt-ltb op 3072 (omega (arith, k .low)) in
       let l : drop at b ≡ op ∷ post = lies ∙ ap (λ (t : Bool). pick t (op ∷ []) (12 ∷ (op - 3072) ∷ []) ++ post) s in
@@ -60,7 +60,7 @@ module _ (b : List ℕ) (at op : ℕ) (post : List ℕ) where
       no-number op post l (k .low) ∙ rw (e, ne-eqb op 12 (k .other), lt-ltb op 22 (k .low), s)
 
   escaped : Escape op → drop at b ≡ opBytes op ++ post → tokenAt b at ≡ operator op (at + length (opBytes op))
-  unfolding operatorAt
+  unfolding operatorAt opBytes
   escaped k lies =
       let s = le-ltb op 3072 (k .from) in
       let l : drop at b ≡ 12 ∷ (op - 3072) ∷ post = lies ∙ ap (λ (t : Bool). pick t (op ∷ []) (12 ∷ (op - 3072) ∷ []) ++ post) s in
@@ -79,6 +79,7 @@ module _ (b : List ℕ) (at op : ℕ) (post : List ℕ) where
       go (inr k) = escaped k lies
 
   op-there : drop at b ≡ opBytes op ++ post → at < length b
+  unfolding opBytes
   op-there lies = go (ltb op 3072) lies
     where
       go : (t : Bool) → drop at b ≡ pick t (op ∷ []) (12 ∷ (op - 3072) ∷ []) ++ post → at < length b

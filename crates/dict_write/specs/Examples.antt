@@ -26,5 +26,5 @@ written :
     × (offsetEntry 17 258 ≡ 0x1d ∷ 0x00 ∷ 0x00 ∷ 0x01 ∷ 0x02 ∷ 0x11 ∷ [])
     × (privateEntry 1 2 ≡ 0x1d ∷ 0x00 ∷ 0x00 ∷ 0x00 ∷ 0x01 ∷ 0x1d ∷ 0x00 ∷ 0x00 ∷ 0x00 ∷ 0x02 ∷ 0x12 ∷ [])
     × (privateBytes (entry 20 (whole 1 ∷ []) ∷ entry 19 (whole 2 ∷ []) ∷ entry 20 (whole 3 ∷ []) ∷ []) ≡ 0x8c ∷ 0x14 ∷ 0x8e ∷ 0x14 ∷ [])
-unfolding bytesOf int5Bytes intBytes digitsOf widthIn widthOf truncOf bareText realText packed realBytes numberBytes operandsBytes entriesBytes without
+unfolding bytesOf int5Bytes intBytes digitsOf widthIn widthOf truncOf bareText realText packed realBytes numberBytes opBytes operandsBytes entryBytes entriesBytes offsetEntry privateEntry without
 written = (refl, refl, refl, refl, refl)

@@ -2,6 +2,7 @@ pub mod Written
 pub mod Parts
 pub mod Examples
 pub mod OpLaws
+pub mod WriteLaws
 pub mod EntryLaws
 pub mod PrivateLaws
 pub mod ShortLaws

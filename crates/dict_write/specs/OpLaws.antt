@@ -15,9 +15,11 @@ use Rattle.dict.specs.Op.{isOperator}
 use Rattle.dict_write.specs.Written.{opBytes}
 
 pub op-one : (op : ℕ) → op < 3072 → 1 ≡ length (opBytes op)
+unfolding opBytes
 op-one op h = rw (lt-ltb op 3072 h)
 
 pub op-two : (op : ℕ) → 3072 ≤ op → 2 ≡ length (opBytes op)
+unfolding opBytes
 op-two op h = rw (le-ltb op 3072 h)
 
 -- the two kinds of operators
@@ -40,7 +42,7 @@ op-kind op h = go (eqb op 12) (ltb op 22) (ltb op 3072) refl refl refl h
 
 -- the number of an escape is that of its two bytes, 12 and its own
 pub op-bytes : (op : ℕ) → isOperator op ≡ true → bytesOf (length (opBytes op)) op ≡ opBytes op
-unfolding bytesOf
+unfolding bytesOf opBytes
 op-bytes op h = go (op-kind op h)
   where
     go : OneByte op ⊎ Escape op → bytesOf (length (opBytes op)) op ≡ opBytes op

@@ -42,6 +42,7 @@ number-short d n =
     pick-ind (λ (l : List ℕ). length l ≤ 101) (asInteger d) _ _ (λ e. omega (arith, int-short (d .neg) (truncOf d))) (λ e. omega (arith, packed-small d n))
 
 pub op-short : (op : ℕ) → length (opBytes op) ≤ 2
+unfolding opBytes
 op-short op = pick-ind (λ (l : List ℕ). length l ≤ 2) (ltb op 3072) _ _ (λ e. omega arith) (λ e. omega arith)
 
 -- ---- operands: at most 101 bytes for each byte read
@@ -66,6 +67,7 @@ module _ (b : List ℕ) (o : Octets b) where
   operands-short (suc n) at = one-short n at (operands-short n) (numberAt b at) refl
 
   pub entry-short : (op n at : ℕ) → length (entryBytes op (operandsAt n b at)) ≤ 101 * length b + 2
+  unfolding entryBytes
   entry-short op n at = rw length-append (omega (arith, operands-short n at, op-short op))
 
   -- ---- entries: at most 103 bytes for each byte read
@@ -75,7 +77,7 @@ module _ (b : List ℕ) (o : Octets b) where
   Short at (got op ds end next) = length (entryBytes op ds) ≤ 103 * (next - at)
 
   after-short : (at next : ℕ) (d : Decimal) → Normal d → at < next → (r : Reading) → Entered b next r → Short next r → Short at (after d r)
-  unfolding Short operandsBytes
+  unfolding Short operandsBytes entryBytes
   after-short at next d n l (stopped m) e h = tt
   after-short at next d n l (got op ds end last) e h =
       let k : length (numberBytes d ++ operandsBytes ds ++ opBytes op) ≡ length (numberBytes d) + length (operandsBytes ds ++ opBytes op)
@@ -84,7 +86,7 @@ module _ (b : List ℕ) (o : Octets b) where
 
   onward-short : (at : ℕ) → at < length b → (t : Token) → Passes b at t → (f : ℕ → Reading) → ((next : ℕ) → Entered b next (f next)) → ((next : ℕ) → Short next (f next))
       → Short at (onward at t f)
-  unfolding Short operandsBytes
+  unfolding Short operandsBytes entryBytes
   onward-short at i (bad n) p f g h = tt
   onward-short at i (operand d next) p f g h = after-short at next d (number-taken b at d next o i (p .0) .normal) (p .1) (f next) (g next) (h next)
   onward-short at i (operator op next) p f g h = omega (arith, op-short op, p .0)

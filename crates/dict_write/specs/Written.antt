@@ -12,14 +12,14 @@ use Rattle.dict.specs.Dict.{Entry}
 use Rattle.dict.specs.Lookup.{Operands, absent, operands}
 
 -- one byte, or 12 and the escape's
-abbrev pub opBytes : ℕ → List ℕ
+unfoldable pub opBytes : ℕ → List ℕ
 opBytes op = pick (ltb op 3072) (op ∷ []) (12 ∷ (op - 3072) ∷ [])
 
 unfoldable pub operandsBytes : List Decimal → List ℕ
 operandsBytes [] = []
 operandsBytes (d ∷ ds) = numberBytes d ++ operandsBytes ds
 
-abbrev pub entryBytes : ℕ → List Decimal → List ℕ
+unfoldable pub entryBytes : ℕ → List Decimal → List ℕ
 entryBytes op ds = operandsBytes ds ++ opBytes op
 
 unfoldable pub entriesBytes : List Entry → List ℕ
@@ -27,15 +27,15 @@ entriesBytes [] = []
 entriesBytes (e ∷ es) = entryBytes (e .op) (e .operands) ++ entriesBytes es
 
 -- an offset in the five-byte form, whose length does not depend on it, and then its operator
-abbrev pub offsetEntry : ℕ → ℕ → List ℕ
+unfoldable pub offsetEntry : ℕ → ℕ → List ℕ
 offsetEntry op value = int5Bytes false value ++ opBytes op
 
 -- Private: the size and the offset in the five-byte form
-abbrev pub privateEntry : ℕ → ℕ → List ℕ
+unfoldable pub privateEntry : ℕ → ℕ → List ℕ
 privateEntry size offset = int5Bytes false size ++ offsetEntry private offset
 
 -- the last entry of an operator copied, where there is one
-abbrev pub copiedEntry : ℕ → Operands → List ℕ
+unfoldable pub copiedEntry : ℕ → Operands → List ℕ
 copiedEntry op absent = []
 copiedEntry op (operands ds) = entryBytes op ds
 

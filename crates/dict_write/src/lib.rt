@@ -2,7 +2,7 @@
 // operands stand.
 ghost use mathlib.Core.Path.{_≡_};
 ghost use mathlib.Core.Bool.{true};
-ghost use Prim.Native.Nat.{_+_, _≤_, _<_};
+ghost use Prim.Native.Nat.{ℕ, _+_, _≤_, _<_};
 ghost use lib.ListN.{length};
 ghost use Rattle.octets.specs.Octets.{Wrote};
 ghost use Rattle.dict.specs.Op.{isOperator};
@@ -111,4 +111,122 @@ pub fn put_entry(d: &[u8], start: usize, count: usize, op: usize, out: &mut [u8]
 {
     let p = put_operands(d, start, count, out, to);
     put_op(op, out, p)
+}
+
+// How many bytes the last entry of an operator takes, 0 where there is none.
+pub fn copied_len(d: &[u8], op: usize) -> usize
+    requires { ⌜ length (now d) ≤ 67108864 ⌝ }
+    ensures { λ r. ⌜ r ≡ length (copiedEntry op (lastOf op (entriesOf (now (d .entry))))) ⌝ }
+{
+    match find_entry(d, op) {
+        Found::Absent => 0,
+        Found::Entry {
+            start,
+            end: _,
+            count,
+        } => entry_len(d, start, count, op),
+    }
+}
+
+// The last entry of an operator, where there is one, from `to` on; the place after it.
+pub fn put_copied(d: &[u8], op: usize, out: &mut [u8], to: usize) -> usize
+    requires { ⌜ (isOperator op ≡ true) × (to + length (copiedEntry op (lastOf op (entriesOf (now d)))) ≤ length (now out)) ⌝ }
+    ensures { λ r. ⌜ Wrote (now (out .entry)) to (copiedEntry op (lastOf op (entriesOf (now (d .entry))))) (now (out .exit)) r ⌝ }
+{
+    match find_entry(d, op) {
+        Found::Absent => to,
+        Found::Entry {
+            start,
+            end: _,
+            count,
+        } => put_entry(d, start, count, op, out, to),
+    }
+}
+
+// How many bytes an offset and its operator take, whatever the offset.
+pub fn offset_entry_len(op: usize) -> usize
+    ensures { λ r. ⌜ ((value : ℕ) → r ≡ length (offsetEntry op value)) ⌝ }
+{
+    5 + op_len(op)
+}
+
+// An offset in the five-byte form and its operator, from `to` on; the place after them.
+pub fn put_offset_entry(op: usize, value: usize, out: &mut [u8], to: usize) -> usize
+    requires { ⌜ (isOperator op ≡ true) × (value < 2147483648) × (to + length (offsetEntry op value) ≤ length (now out)) ⌝ }
+    ensures { λ r. ⌜ Wrote (now (out .entry)) to (offsetEntry op value) (now (out .exit)) r ⌝ }
+{
+    let p = put_int5(false, value, out, to);
+    put_op(op, out, p)
+}
+
+// How many bytes a Private entry takes.
+pub fn private_entry_len() -> usize
+    ensures { λ r. ⌜ ((size offset : ℕ) → r ≡ length (privateEntry size offset)) ⌝ }
+{
+    11
+}
+
+// A Private entry, size and offset in the five-byte form, from `to` on; the place after it.
+pub fn put_private_entry(size: usize, offset: usize, out: &mut [u8], to: usize) -> usize
+    requires { ⌜ (size < 2147483648) × (offset < 2147483648) × (to + length (privateEntry size offset) ≤ length (now out)) ⌝ }
+    ensures { λ r. ⌜ Wrote (now (out .entry)) to (privateEntry size offset) (now (out .exit)) r ⌝ }
+{
+    let p = put_int5(false, size, out, to);
+    put_offset_entry(Op::PRIVATE, offset, out, p)
+}
+
+// How many bytes a Private DICT takes without its Subrs.
+pub fn private_len(d: &[u8]) -> usize
+    requires { ⌜ length (now d) ≤ 67108864 ⌝ }
+    ensures { λ r. ⌜ r ≡ length (privateBytes (entriesOf (now (d .entry)))) ⌝ }
+{
+    let mut at: usize = 0;
+    let mut len: usize = 0;
+    while at < d.len() {
+        match read_entry(d, at) {
+            EntryAt::Entry {
+                op,
+                end: _,
+                count,
+                next,
+            } => {
+                if op != Op::SUBRS {
+                    len += entry_len(d, at, count, op);
+                }
+                at = next;
+            }
+            EntryAt::Refused(_) => {
+                return len;
+            }
+        }
+    }
+    len
+}
+
+// A Private DICT without its Subrs, its other entries in order, from `to` on; the place after it.
+pub fn put_private(d: &[u8], out: &mut [u8], to: usize) -> usize
+    requires { ⌜ to + length (privateBytes (entriesOf (now d))) ≤ length (now out) ⌝ }
+    ensures { λ r. ⌜ Wrote (now (out .entry)) to (privateBytes (entriesOf (now (d .entry)))) (now (out .exit)) r ⌝ }
+{
+    let mut at: usize = 0;
+    let mut p = to;
+    while at < d.len() {
+        match read_entry(d, at) {
+            EntryAt::Entry {
+                op,
+                end: _,
+                count,
+                next,
+            } => {
+                if op != Op::SUBRS {
+                    p = put_entry(d, at, count, op, &mut *out, p);
+                }
+                at = next;
+            }
+            EntryAt::Refused(_) => {
+                return p;
+            }
+        }
+    }
+    p
 }
