@@ -17,7 +17,7 @@ use Rattle.decimal.specs.Values.{truncOf}
 use Rattle.decimal.specs.Written as decw
 use Rattle.dict.specs.Dict as dict
 use Rattle.dict.specs.Lookup.{lastFrom, lastOf}
-use Rattle.dict.specs.Written.{operandsBytes, entriesBytes, without}
+use Rattle.dict_write.specs.Written.{operandsBytes, entriesBytes, without}
 use Rattle.charset.specs.Listed.{listOf}
 use Rattle.charset.specs.CharsetBytes.{idBytes, charsetBytes}
 use Rattle.strings.specs.Table.{standardNames}

@@ -15,7 +15,7 @@ use Rattle.dict.specs.Dict.{Entry}
 use Rattle.dict.specs.Lookup.{Operands, absent, operands, lastOf, rosIn, cidCountIn, cidKeyed}
 use Rattle.dict.specs.declared.RosIn.{RosIn}
 use Rattle.dict.specs.declared.RosIn.the-variants.{Ros, None}
-use Rattle.dict.specs.Written.{entryBytes, offsetEntry, privateEntry, privateBytes}
+use Rattle.dict_write.specs.Written.{entryBytes, offsetEntry, privateEntry, privateBytes}
 use Rattle.index.specs.Write.{sizeFor, indexBytes}
 use Rattle.charset.specs.CharsetBytes.{charsetBytes}
 use Rattle.charset.specs.FdSelectBytes.{fdSelectBytes}
