@@ -2,14 +2,13 @@
 use Prim.Native.Nat.{ℕ, zero, suc, _+_, _-_, _*_, _/_, _%_, _^_, _≤_, _<_}
 use mathlib.Core.Path.{_≡_, refl, sym, ap, _∙_, subst}
 use mathlib.Core.Logic.{_⊎_, inl, inr}
-use mathlib.Core.Bool.{Bool, true, false}
-use native.Mathlib.Nat.{pow-suc, pow-succ', pow-zero, one-le-pow, mul-one, mul-assoc, mul-pos, zero-mul, mul-div-cancel, mul-div-mul-right, div-one, div-add-mod', eq-zero-or-pos, lt-irrefl, not-suc-le-zero, mul-mod-left, mul-le-mul-right, pow-le-pow-right, div-le-self, pos-of-ne-zero}
+use mathlib.Core.Bool.{Bool, false}
+use native.Mathlib.Nat.{pow-suc, pow-succ', pow-zero, one-le-pow, mul-one, mul-assoc, mul-pos, zero-mul, mul-div-cancel, mul-div-mul-right, div-one, eq-zero-or-pos, lt-irrefl, mul-mod-left, mul-le-mul-right, pow-le-pow-right, div-le-self, pos-of-ne-zero}
 use native.Mathlib.Numerals.{add-one}
 use native.Mathlib.Decide.{ℕ-discrete, decLt}
 use native.Mathlib.Omega.{arith}
-use lib.Dec.{eqb, lit<}
+use lib.Dec.{lit<}
 use borrow.Author.Tests.{eq-eqb, ne-eqb}
-use Rattle.octets.specs.Pick.{pick}
 use Rattle.decimal.specs.declared.Decimal.{Decimal}
 use Rattle.decimal.specs.Decimal.{nought, zerosOf, zeros, stripped, scaled, normal, Normal}
 

@@ -1,15 +1,15 @@
 -- The number at a position of a DICT: TN5176, section 4, tables 3 and 4, and for reals table 5.
-use Prim.Native.Nat.{ℕ, _+_, _-_, _*_, _/_}
+use Prim.Native.Nat.{ℕ, _+_, _-_, _*_, _/_, _≤_, _<_}
 use mathlib.Core.Bool.{Bool, true, false}
 use mathlib.Core.List.{List}
-use lib.Dec.{ltb, leb, eqb}
+use lib.Dec.{ltb, eqb}
 use lib.ListN.{length, drop, getD}
 use Rattle.octets.specs.Pick.{pick}
 use Rattle.octets.specs.Octets.{numAt}
 use Rattle.decimal.specs.declared.Decimal.{Decimal}
 use Rattle.decimal.specs.declared.NumberAt.{NumberAt}
 use Rattle.decimal.specs.declared.NumberAt.the-variants.{Refused, NotNumber, Num}
-use Rattle.decimal.specs.Decimal.{normal}
+use Rattle.decimal.specs.Decimal.{normal, Normal}
 use Rattle.decimal.specs.Real.{nibbles, Text, cut, wrong, text, textOf, Value, refused as refusedText, value, formOf, valueOf}
 
 -- what stands there: a refusal; no number, but an operator or a byte that is neither, the caller's matter; or a number and the
@@ -67,3 +67,9 @@ abbrev pub answerOf : Number → NumberAt
 answerOf (refused n) = Refused n
 answerOf notNumber = NotNumber
 answerOf (number d next) = Num d next
+
+-- a number that was read: within the limits, and within the bytes
+pub record Taken (b : List ℕ) (at : ℕ) (d : Decimal) (next : ℕ) : Type 0 where
+  pub normal : Normal d
+  pub past : at < next
+  pub within : next ≤ length b

@@ -1,30 +1,25 @@
 -- Laws of reals: the limits of refusal 5 by what the code holds, and a text read to its end.
-use Prim.Native.Nat.{ℕ, zero, suc, _+_, _-_, _*_, _/_, _%_, _^_, _≤_, _<_, min}
+use Prim.Native.Nat.{ℕ, _+_, _-_, _/_, _^_, _≤_, _<_, min}
 use mathlib.Core.Path.{_≡_, refl, sym, ap, _∙_, subst}
 use mathlib.Core.Logic.{_⊎_, inl, inr}
 use mathlib.Core.Bool.{Bool, true, false, false≢true}
-use mathlib.Core.List.{List, [], _∷_}
-use native.Mathlib.Nat.{eq-zero-or-pos, lt-irrefl, add-zero}
-use native.Mathlib.Numerals.{add-one}
-use native.Mathlib.Decide.{decLe, decLt}
+use native.Mathlib.Nat.{eq-zero-or-pos, lt-irrefl}
+use native.Mathlib.Decide.{decLe}
 use native.Mathlib.Omega.{arith}
-use lib.Dec.{ltb, leb, eqb}
-use lib.ListN.{length, drop, getD}
-use lib.Seq.{drop-cons, drop-length}
-use borrow.Author.Tests.{lt-ltb, le-ltb, le-leb, lt-leb, eq-eqb, ne-eqb}
+use lib.Dec.{ltb, leb}
+use borrow.Author.Tests.{lt-ltb, le-ltb, le-leb, lt-leb}
 use Rattle.octets.specs.Pick.{pick}
 use Rattle.decimal.specs.declared.Decimal.{Decimal}
 use Rattle.decimal.specs.declared.NumberAt.{NumberAt}
-use Rattle.decimal.specs.declared.NumberAt.the-variants.{Refused, NotNumber, Num}
+use Rattle.decimal.specs.declared.NumberAt.the-variants.{Refused, Num}
 use Rattle.decimal.specs.declared.Held.{Held}
 use Rattle.decimal.specs.declared.Stage.{Stage}
 use Rattle.decimal.specs.declared.Stage.the-variants.{Start, Mantissa, Exponent, Power, Malformed}
 use Rattle.decimal.specs.Decimal.{nought, zeros, stripped, scaled, normal}
-use Rattle.decimal.specs.DecimalLaws.{zeros-ten, zeros-digit, zeros-nought, stripped-nought, stripped-pos, normal-nought, normal-pos}
-use Rattle.decimal.specs.Real.{nibbles, Text, cut, wrong, text, before, textOf, Form, bad, form, expDigits, exponent, mantissa, formOf, Value, refused as refusedText, value, limited, valueOf}
-use Rattle.decimal.specs.Number.{Number, refused, number, placed, realAt, answerOf}
-use Rattle.decimal.specs.Stage.{Exact, begun, inMantissa, afterE, inExponent, spoilt, mantissaStep, exponentStep, stepOf, formFrom, realFrom, heldOf, stageOf, Few, Counted, Finished, Ended, Going, Stopped}
-use Rattle.decimal.specs.StageLaws.{held-none}
+use Rattle.decimal.specs.DecimalLaws.{zeros-nought, stripped-nought, stripped-pos, normal-nought, normal-pos}
+use Rattle.decimal.specs.Real.{bad, form, expDigits, exponent, mantissa, formOf, Value, refused as refusedText, value, limited, valueOf}
+use Rattle.decimal.specs.Number.{placed, answerOf}
+use Rattle.decimal.specs.Stage.{begun, inMantissa, afterE, inExponent, spoilt, heldOf, Few, Finished, Ended, Stopped}
 
 -- ---- the limits
 
@@ -158,13 +153,13 @@ none-few : (k : ℕ) → Few 0 0 k
 none-few k = (omega (arith, zeros-nought), omega arith)
 
 module _ (st : Stage) (bytes next : ℕ) where
-  pub ended-start : (r : NumberAt) → st ≡ Start → Finished bytes next (record { neg = false; digits = 0; zeros = 0; behind = 0 }) false 0 r → Ended st bytes next r
+  pub ended-start : (held : Held) (r : NumberAt) → st ≡ Start → held ≡ heldOf false 0 0 → Finished bytes next held false 0 r → Ended st bytes next r
   unfolding formOf
-  ended-start r e t begun k h c b = t false 0 0 0 k (held-none false) refl (none-few k) b
-  ended-start r e t (inMantissa s any point n f) k h c b = absurd (no cc)
-  ended-start r e t (afterE s n f) k h c b = absurd (no cc)
-  ended-start r e t (inExponent s n f es any q) k h c b = absurd (no cc)
-  ended-start r e t spoilt k h c b = absurd (no cc)
+  ended-start held r e q t begun k h c b = t false 0 0 0 k q refl (none-few k) b
+  ended-start held r e q t (inMantissa s any point n f) k h c b = absurd (no cc)
+  ended-start held r e q t (afterE s n f) k h c b = absurd (no cc)
+  ended-start held r e q t (inExponent s n f es any p) k h c b = absurd (no cc)
+  ended-start held r e q t spoilt k h c b = absurd (no cc)
 
   module _ (any point : Bool) (held : Held) (e : st ≡ Mantissa any point held) where
     pub ended-mantissa : (r : NumberAt) → any ≡ true → Finished bytes next held false 0 r → Ended st bytes next r
@@ -226,3 +221,6 @@ module _ (st : Stage) (bytes next : ℕ) where
 -- the counts of a stage, by its variant
 pub stopped-as : (st : Stage) (u : Stage) → st ≡ u → Stopped st → Stopped u
 stopped-as st u e h = subst Stopped e h
+
+pub held-stopped : (h : Held) (s : Bool) (n f : ℕ) → h ≡ heldOf s n f → (h .zeros ≤ 1000) × (h .behind ≤ 1000)
+held-stopped h s n f e = (omega (arith, ap (λ (o : Held). o .zeros) e), omega (arith, ap (λ (o : Held). o .behind) e))

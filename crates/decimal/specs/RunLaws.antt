@@ -1,5 +1,5 @@
 -- Laws of a real that is read nibble by nibble: what is left gives what the whole gave.
-use Prim.Native.Nat.{ℕ, zero, suc, _+_, _-_, _*_, _/_, _%_, _^_, _≤_, _<_, min}
+use Prim.Native.Nat.{ℕ, suc, _+_, _-_, _*_, _/_, _%_, _≤_, _<_}
 use mathlib.Core.Path.{_≡_, refl, sym, ap, _∙_, subst}
 use mathlib.Core.Logic.{_⊎_, inl, inr}
 use mathlib.Core.Bool.{Bool, true, false}
@@ -18,8 +18,8 @@ use Rattle.decimal.specs.declared.Stage.{Stage}
 use Rattle.decimal.specs.declared.Stage.the-variants.{Start}
 use Rattle.decimal.specs.Decimal.{zeros}
 use Rattle.decimal.specs.DecimalLaws.{zeros-ten, zeros-digit, zeros-nought}
-use Rattle.decimal.specs.Real.{nibbles, Text, cut, wrong, text, before, textOf, Form, expDigits, exponent, mantissa, formOf, Value, valueOf}
-use Rattle.decimal.specs.Number.{Number, placed, realOf, realAt, answerOf}
+use Rattle.decimal.specs.Real.{nibbles, Text, cut, wrong, text, before, textOf, expDigits, exponent, mantissa, formOf, valueOf}
+use Rattle.decimal.specs.Number.{placed, realOf, realAt, answerOf}
 use Rattle.decimal.specs.Stage.{Exact, begun, inMantissa, afterE, inExponent, spoilt, mantissaStep, exponentStep, stepOf, formFrom, realFrom, stageOf, Few, Counted, Ended, Going, Running, Stopped}
 
 -- ---- a nibble more of the grammar
@@ -102,7 +102,7 @@ counted-step spoilt x k h = tt
 
 -- ---- the next nibble
 
-text-end : (x : ℕ) (xs : List ℕ) → x ≡ 15 → textOf (x ∷ xs) ≡ text []
+pub text-end : (x : ℕ) (xs : List ℕ) → x ≡ 15 → textOf (x ∷ xs) ≡ text []
 unfolding textOf
 text-end x xs e = rw (eq-eqb x 15 e)
 
@@ -110,7 +110,7 @@ text-wrong : (x : ℕ) (xs : List ℕ) → x ≡ 13 → textOf (x ∷ xs) ≡ wr
 unfolding textOf
 text-wrong x xs e = rw e
 
-text-more : (x : ℕ) (xs : List ℕ) → (x ≡ 15 → ⊥) → (x ≡ 13 → ⊥) → textOf (x ∷ xs) ≡ before x (textOf xs)
+pub text-more : (x : ℕ) (xs : List ℕ) → (x ≡ 15 → ⊥) → (x ≡ 13 → ⊥) → textOf (x ∷ xs) ≡ before x (textOf xs)
 unfolding textOf
 text-more x xs e f = rw (ne-eqb x 15 e, ne-eqb x 13 f)
 

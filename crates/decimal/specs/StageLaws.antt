@@ -1,13 +1,13 @@
 -- Laws of the stages: what the code holds follows what was read, nibble by nibble.
-use Prim.Native.Nat.{ℕ, zero, suc, _+_, _-_, _*_, _/_, _%_, _^_, _≤_, _<_, min}
-use mathlib.Core.Path.{_≡_, refl, sym, ap, _∙_, subst}
+use Prim.Native.Nat.{ℕ, zero, suc, _+_, _-_, _*_, _%_, _^_, _≤_, _<_, min}
+use mathlib.Core.Path.{_≡_, refl, sym, ap, _∙_}
 use mathlib.Core.Logic.{_⊎_, inl, inr}
 use mathlib.Core.Bool.{Bool, true, false}
-use native.Mathlib.Nat.{pow-suc, pow-succ', mul-assoc, mul-one, zero-mul, le-mul-of-pos-right, mul-le-mul-right, pow-le-pow-right, le-trans, eq-zero-or-pos, lt-irrefl, not-suc-le-zero}
+use native.Mathlib.Nat.{pow-suc, pow-succ', mul-assoc, mul-one, zero-mul, le-mul-of-pos-right, mul-le-mul-right, pow-le-pow-right, eq-zero-or-pos, lt-irrefl, not-suc-le-zero}
 use native.Mathlib.Decide.{decLe}
-use native.Mathlib.Numerals.{add-one, sub-one}
+use native.Mathlib.Numerals.{sub-one}
 use native.Mathlib.Omega.{arith}
-use lib.Dec.{ltb, eqb, lit<}
+use lib.Dec.{lit<}
 use borrow.Author.Tests.{lt-ltb, le-ltb, eq-eqb, ne-eqb}
 use Rattle.octets.specs.Pick.{pick}
 use Rattle.decimal.specs.declared.Held.{Held}
@@ -179,21 +179,21 @@ no : _≡_ {A = ℕ} 0 1 → ⊥
 no h = omega arith
 
 module _ (st : Stage) (x : ℕ) where
-  pub start-minus : st ≡ Start → x ≡ 14 → (g : Exact) → st ≡ stageOf g → Mantissa false false (record { neg = true; digits = 0; zeros = 0; behind = 0 }) ≡ stageOf (stepOf g x)
-  start-minus e h begun k = rw (eq-eqb x 14 h) (ap (Mantissa false false) (held-none true))
-  start-minus e h (inMantissa s any point n f) k = absurd (no cc)
-  start-minus e h (afterE s n f) k = absurd (no cc)
-  start-minus e h (inExponent s n f es any q) k = absurd (no cc)
-  start-minus e h spoilt k = absurd (no cc)
+  pub start-minus : (held : Held) → st ≡ Start → x ≡ 14 → held ≡ heldOf true 0 0 → (g : Exact) → st ≡ stageOf g → Mantissa false false held ≡ stageOf (stepOf g x)
+  start-minus held e h q begun k = rw (eq-eqb x 14 h) (ap (Mantissa false false) q)
+  start-minus held e h q (inMantissa s any point n f) k = absurd (no cc)
+  start-minus held e h q (afterE s n f) k = absurd (no cc)
+  start-minus held e h q (inExponent s n f es any p) k = absurd (no cc)
+  start-minus held e h q spoilt k = absurd (no cc)
 
-  pub start-other : (r : Stage) → st ≡ Start → (x ≡ 14 → ⊥)
-      → ((s : Bool) (n f : ℕ) → _≡_ {A = Held} (record { neg = false; digits = 0; zeros = 0; behind = 0 }) (heldOf s n f) → r ≡ stageOf (mantissaStep s false false n f x))
+  pub start-other : (held : Held) (r : Stage) → st ≡ Start → (x ≡ 14 → ⊥) → held ≡ heldOf false 0 0
+      → ((s : Bool) (n f : ℕ) → held ≡ heldOf s n f → r ≡ stageOf (mantissaStep s false false n f x))
       → (g : Exact) → st ≡ stageOf g → r ≡ stageOf (stepOf g x)
-  start-other r e h t begun k = rw (ne-eqb x 14 h) (t false 0 0 (held-none false))
-  start-other r e h t (inMantissa s any point n f) k = absurd (no cc)
-  start-other r e h t (afterE s n f) k = absurd (no cc)
-  start-other r e h t (inExponent s n f es any q) k = absurd (no cc)
-  start-other r e h t spoilt k = absurd (no cc)
+  start-other held r e h q t begun k = rw (ne-eqb x 14 h) (t false 0 0 q)
+  start-other held r e h q t (inMantissa s any point n f) k = absurd (no cc)
+  start-other held r e h q t (afterE s n f) k = absurd (no cc)
+  start-other held r e h q t (inExponent s n f es any p) k = absurd (no cc)
+  start-other held r e h q t spoilt k = absurd (no cc)
 
   pub step-mantissa : (any point : Bool) (held : Held) (r : Stage) → st ≡ Mantissa any point held
       → ((s : Bool) (n f : ℕ) → held ≡ heldOf s n f → r ≡ stageOf (mantissaStep s any point n f x))

@@ -1,5 +1,5 @@
 -- A number that was read: it is normalised and within the limits, and it stands within the bytes.
-use Prim.Native.Nat.{ℕ, zero, suc, _+_, _-_, _*_, _/_, _%_, _^_, _≤_, _<_}
+use Prim.Native.Nat.{ℕ, _+_, _-_, _*_, _/_, _^_, _≤_, _<_}
 use mathlib.Core.Path.{_≡_, refl, sym, ap, _∙_, subst}
 use mathlib.Core.Logic.{_⊎_, inl, inr}
 use mathlib.Core.Bool.{Bool, true, false}
@@ -8,23 +8,16 @@ use native.Mathlib.Nat.{eq-zero-or-pos}
 use native.Mathlib.Omega.{arith}
 use lib.Dec.{ltb, leb, eqb}
 use lib.ListN.{length, drop, getD, length-drop}
-use borrow.Author.Tests.{ltb-true, ltb-false, leb-false}
+use borrow.Author.Tests.{ltb-false, leb-false}
 use Rattle.octets.specs.Pick.{pick, pick-ind}
 use Rattle.octets.specs.Octets.{Octets, numAt}
 use Rattle.octets.specs.OctetsLaws.{num-two, num-four}
 use Rattle.decimal.specs.declared.Decimal.{Decimal}
-use Rattle.decimal.specs.declared.NumberAt.{NumberAt}
-use Rattle.decimal.specs.declared.NumberAt.the-variants.{Refused, NotNumber, Num}
+use Rattle.decimal.specs.declared.NumberAt.the-variants.{Num}
 use Rattle.decimal.specs.Decimal.{nought, zeros, stripped, scaled, normal, Normal}
 use Rattle.decimal.specs.DecimalLaws.{stripped-le, zeros-below, normal-nought, normal-pos, normal-again}
 use Rattle.decimal.specs.Real.{nibbles, Text, cut, wrong, text, before, textOf, Form, bad, form, formOf, Value, refused as refusedText, value, limited, valueOf}
-use Rattle.decimal.specs.Number.{Number, refused, notNumber, number, integerAt, twosAt, pairAt, placed, realOf, realAt, numberAt, answerOf}
-
--- a number d at `at`, and the position after it
-pub record Taken (b : List ℕ) (at : ℕ) (d : Decimal) (next : ℕ) : Type 0 where
-  pub normal : Normal d
-  pub past : at < next
-  pub within : next ≤ length b
+use Rattle.decimal.specs.Number.{Number, refused, notNumber, number, integerAt, twosAt, pairAt, placed, realOf, realAt, numberAt, answerOf, Taken}
 
 -- ---- within the limits
 
@@ -35,16 +28,16 @@ no h = omega arith
 pub whole-normal : (s : Bool) (n : ℕ) → n < 10 ^ 15 → Normal (normal s n 0 0)
 whole-normal s n h = go (eq-zero-or-pos n)
   where
-    at-nought : (d : Decimal) → normal s n 0 0 ≡ d → (d .digits < 10 ^ 15) × (d .up ≤ 30) × (d .down ≤ 30) → Normal (normal s n 0 0)
-    at-nought d e l =
+    bounded : (d : Decimal) → normal s n 0 0 ≡ d → (d .digits < 10 ^ 15) × (d .up ≤ 30) × (d .down ≤ 30) → Normal (normal s n 0 0)
+    bounded d e l =
         let q = subst (λ (c : Decimal). (c .digits < 10 ^ 15) × (c .up ≤ 30) × (c .down ≤ 30)) (sym e) l in
         record { same = normal-again s n 0 0 (normal s n 0 0) refl; few = q .0; high = q .1; low = q .2 }
 
     go : (n ≡ 0) ⊎ (0 < n) → Normal (normal s n 0 0)
-    go (inl o) = at-nought nought (ap (λ (m : ℕ). normal s m 0 0) o ∙ normal-nought s 0 0) (omega arith, omega arith, omega arith)
+    go (inl o) = bounded nought (ap (λ (m : ℕ). normal s m 0 0) o ∙ normal-nought s 0 0) (omega arith, omega arith, omega arith)
     go (inr p) =
         let z : zeros n < 15 = zeros-below n 15 p h in
-        at-nought (scaled s (stripped n) (0 + zeros n) 0) (normal-pos s n 0 0 p) (omega (arith, stripped-le n), omega arith, omega arith)
+        bounded (scaled s (stripped n) (0 + zeros n) 0) (normal-pos s n 0 0 p) (omega (arith, stripped-le n), omega arith, omega arith)
 
 limits : (t u v : Bool) (d c : Decimal) → pick t (refusedText 5) (pick u (refusedText 5) (pick v (refusedText 5) (value d))) ≡ value c
     → (t ≡ false) × (u ≡ false) × (v ≡ false) × (d ≡ c)

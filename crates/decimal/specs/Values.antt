@@ -1,6 +1,6 @@
 -- What a DICT's number is taken for (document 01, 'Corners in mod.rs'): fractions are dropped towards zero, as the Rust's casts do.
 use Prim.Native.Nat.{ℕ, _*_, _/_, _^_, min}
-use mathlib.Core.Bool.{Bool, true, false}
+use mathlib.Core.Bool.{Bool, false}
 use lib.Dec.{ltb, eqb}
 use Rattle.octets.specs.Pick.{pick}
 use Rattle.decimal.specs.declared.Decimal.{Decimal}

@@ -1,18 +1,15 @@
 -- What numbers are taken for, by the cases in which the code takes them: a size that is capped at 4294967296 is enough.
-use Prim.Native.Nat.{ℕ, zero, suc, _+_, _-_, _*_, _/_, _^_, _≤_, _<_, min}
-use mathlib.Core.Path.{_≡_, refl, sym, ap, _∙_}
+use Prim.Native.Nat.{ℕ, zero, suc, _-_, _*_, _/_, _^_, _≤_, _<_, min}
+use mathlib.Core.Path.{_≡_, sym, ap, _∙_}
 use mathlib.Core.Bool.{Bool, true, false}
 use native.Mathlib.Nat.{pow-zero, pow-succ', mul-one, div-one, div-div-eq-div-mul, not-suc-le-zero}
 use native.Mathlib.Numerals.{sub-one}
 use native.Mathlib.Omega.{arith}
-use lib.Dec.{ltb, eqb}
+use lib.Dec.{eqb}
 use borrow.Author.Tests.{lt-ltb, le-ltb, eq-eqb, ne-eqb}
 use Rattle.octets.specs.Pick.{pick}
 use Rattle.decimal.specs.declared.Decimal.{Decimal}
-use Rattle.decimal.specs.declared.Signed.{Signed}
-use Rattle.decimal.specs.declared.IdOf.{IdOf}
 use Rattle.decimal.specs.declared.IdOf.the-variants.{Id, Absent}
-use Rattle.decimal.specs.declared.OffsetOf.{OffsetOf}
 use Rattle.decimal.specs.declared.OffsetOf.the-variants.{Refused, Offset}
 use Rattle.decimal.specs.Decimal.{Normal}
 use Rattle.decimal.specs.DecimalLaws.{one-power}

@@ -1,7 +1,7 @@
 -- A number written into a DICT (document 01, 'Corners in write.rs'): an integer below 2147483647 in size in the shortest form of
 -- TN5176, section 4, table 3; any other number as a real without exponent, as Rust prints an f64.
 use Prim.Native.Nat.{ℕ, zero, suc, _+_, _-_, _*_, _/_, _%_}
-use mathlib.Core.Bool.{Bool, true, false}
+use mathlib.Core.Bool.{Bool, false}
 use mathlib.Core.List.{List, [], _∷_, _++_}
 use lib.Dec.{ltb, leb, eqb}
 use Rattle.octets.specs.Pick.{pick}

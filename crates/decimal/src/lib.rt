@@ -48,7 +48,7 @@ pub enum OffsetOf {
 }
 
 // The digits of a real so far: without the zeros at their end, how many zeros that were, and how many digits stand behind the point.
-pub struct Held {
+struct Held {
     pub neg: bool,
     pub digits: usize,
     pub zeros: usize,
@@ -56,7 +56,7 @@ pub struct Held {
 }
 
 // How far the text of a real was read.
-pub enum Stage {
+enum Stage {
     Start,
     Mantissa {
         any: bool,
@@ -135,6 +135,18 @@ fn raised_exponent(e: usize, x: usize) -> usize
         return v;
     }
     PAST
+}
+
+// Before the first digit.
+fn no_digits(neg: bool) -> Held
+    ensures { λ r. ⌜ r ≡ heldOf neg 0 0 ⌝ }
+{
+    Held {
+        neg,
+        digits: 0,
+        zeros: 0,
+        behind: 0,
+    }
 }
 
 // The digits with one more, which stands behind the point where there was one.
@@ -244,28 +256,14 @@ fn step(stage: Stage, x: usize) -> Stage
     match stage {
         Stage::Start => {
             if x == 14 {
+                let held = no_digits(true);
                 return Stage::Mantissa {
                     any: false,
                     point: false,
-                    held: Held {
-                        neg: true,
-                        digits: 0,
-                        zeros: 0,
-                        behind: 0,
-                    },
+                    held,
                 };
             }
-            mantissa_step(
-                false,
-                false,
-                Held {
-                    neg: false,
-                    digits: 0,
-                    zeros: 0,
-                    behind: 0,
-                },
-                x,
-            )
+            mantissa_step(false, false, no_digits(false), x)
         }
         Stage::Mantissa { any, point, held } => mantissa_step(any, point, held, x),
         Stage::Exponent { held } => {
@@ -362,18 +360,7 @@ fn ended(stage: Stage, bytes: usize, next: usize) -> NumberAt
     ensures { λ r. ⌜ Ended stage bytes next r ⌝ }
 {
     match stage {
-        Stage::Start => finished(
-            Held {
-                neg: false,
-                digits: 0,
-                zeros: 0,
-                behind: 0,
-            },
-            false,
-            0,
-            bytes,
-            next,
-        ),
+        Stage::Start => finished(no_digits(false), false, 0, bytes, next),
         Stage::Mantissa {
             any,
             point: _,

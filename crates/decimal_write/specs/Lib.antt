@@ -1,3 +1,5 @@
 pub mod IntLaws
 pub mod TextLaws
 pub mod WrittenLaws
+pub mod IntRound
+pub mod WrittenRound

@@ -4,11 +4,11 @@ use mathlib.Core.Path.{_≡_, refl, sym, ap, _∙_, subst}
 use mathlib.Core.Logic.{_⊎_, inl, inr}
 use mathlib.Core.Bool.{Bool, true, false}
 use mathlib.Core.List.{List, [], _∷_, _++_}
-use native.Mathlib.Nat.{pow-zero, pow-suc, pow-succ', one-le-pow, mul-one, mul-pos, mul-assoc, zero-mul, div-one, div-lt-iff-lt-mul, mul-div-cancel, div-div-eq-div-mul, eq-zero-or-pos, lt-irrefl, not-suc-le-zero, add-zero, mul-mod-left, mod-lt, mul-div-mul-right, div-le-self, pos-of-ne-zero}
+use native.Mathlib.Nat.{pow-zero, pow-suc, pow-succ', mul-one, mul-pos, mul-assoc, div-one, div-lt-iff-lt-mul, mul-div-cancel, div-div-eq-div-mul, eq-zero-or-pos, lt-irrefl, not-suc-le-zero, add-zero, mul-mod-left, mul-div-mul-right, div-le-self, pos-of-ne-zero}
 use native.Mathlib.Numerals.{add-one, lt-of-le-of-ne}
-use native.Mathlib.Decide.{decLt, decLe}
+use native.Mathlib.Decide.{decLt}
 use native.Mathlib.Omega.{arith}
-use lib.Dec.{ltb, eqb, lit<}
+use lib.Dec.{eqb, lit<}
 use lib.Pow.{pow-add}
 use lib.ListN.{length, take, getD, set, length-append, List·getD-append, List·getD-eq-default}
 use lib.Seq.{getD-append-add, getD-at}

@@ -9,6 +9,9 @@ ghost use Rattle.decimal.specs.Values.{truncOf};
 ghost use Rattle.decimal.specs.Written.{intBytes, int5Bytes, widthOf, bareText, realText, packed, realBytes, numberBytes};
 use decimal::Decimal;
 
+// The least whole size that is written as a real: `dict_number` compares with i32::MAX.
+const LEAST_REAL: usize = 2147483647;
+
 // Stores two bytes.
 fn put_pair(out: &mut [u8], at: usize, a: u8, b: u8) -> usize
     requires { ⌜ at + 2 ≤ length (now out) ⌝ }
@@ -231,7 +234,7 @@ pub fn number_len(d: Decimal) -> usize
     let down = d.down;
     let size = decimal::trunc(d);
     if down == 0 {
-        if size < 2147483647 {
+        if size < LEAST_REAL {
             return int_len(neg, size);
         }
         return real_len(d);
@@ -248,7 +251,7 @@ pub fn put_number(d: Decimal, out: &mut [u8], at: usize) -> usize
     let down = d.down;
     let size = decimal::trunc(d);
     if down == 0 {
-        if size < 2147483647 {
+        if size < LEAST_REAL {
             return put_int(neg, size, out, at);
         }
         return put_real(d, out, at);

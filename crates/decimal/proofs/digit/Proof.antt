@@ -3,41 +3,28 @@ use borrow.Author.Needs.{needs}
 use Rattle.decimal.specs.StageLaws.{digit-nought, digit-zero, digit-more, digit-many}
 use Rattle.decimal.proofs.digit.Statement.{statement}
 use Rattle.decimal.proofs.digit.Tie as tie
-use Rattle.decimal.proofs.digit.Reads as reads
-use Rattle.decimal.proofs.digit.Lts as lts
-use Rattle.decimal.proofs.counted.Reads as counted-reads
-use Rattle.decimal.proofs.raised.Reads as raised-reads
-use Rattle.decimal.proofs.scaled_up.Reads as scaled-up-reads
 
--- src/lib.rt:143:9
 raised-requires : tie.Need-raised-requires
 raised-requires c κs = search needs
 
--- src/lib.rt:144:9
 counted-requires : tie.Need-counted-requires
 counted-requires c κs = search needs
 
--- src/lib.rt:147:13
 returns : tie.Need-returns
 returns c s n f e = let a = c .before .before .before .before .args in digit-nought (a .h) (a .point) (a .x) _ _ (c .before .before .before .before .pre) (c .before .before .before .raised .ensures) (c .before .before .counted .ensures) s n f e (c .before .if1 .taken) (c .if2 .taken)
 
--- src/lib.rt:149:9
 returns-2 : tie.Need-returns-2
 returns-2 c s n f e = let a = c .before .before .before .before .args in digit-zero (a .h) (a .point) (a .x) _ _ (c .before .before .before .before .pre) (c .before .before .before .raised .ensures) (c .before .before .counted .ensures) s n f e (c .before .if1 .taken) (c .if2 .left)
 
--- src/lib.rt:151:16
 scaled-up-requires : tie.Need-scaled-up-requires
 scaled-up-requires c κs = search needs
 
--- src/lib.rt:151:16
 add-more : tie.Need-add-more
 add-more c = search needs
 
--- src/lib.rt:153:9
 returns-3 : tie.Need-returns-3
 returns-3 c s n f e = let a = c .before .before .before .before .before .args in digit-more (a .h) (a .point) (a .x) _ _ (c .before .before .before .before .before .pre) (c .before .before .before .before .raised .ensures) (c .before .before .before .counted .ensures) s n f e _ (c .before .scaled-up .ensures) (c .before .before .if1 .left) (c .if3 .taken)
 
--- src/lib.rt:137:1
 returns-4 : tie.Need-returns-4
 returns-4 c s n f e = let a = c .before .before .before .before .before .args in digit-many (a .h) (a .point) (a .x) _ _ (c .before .before .before .before .before .pre) (c .before .before .before .before .raised .ensures) (c .before .before .before .counted .ensures) s n f e _ (c .before .scaled-up .ensures) (c .before .before .if1 .left) (c .if3 .left)
 

@@ -1,7 +1,6 @@
 -- `decimal::ended` meets its contract: each arm of the match is a case of `formFrom` with no nibble left.
-use mathlib.Core.Path.{refl}
 use native.Mathlib.Omega.{arith}
-use Rattle.decimal.specs.RealLaws.{ended-start, ended-mantissa, ended-bare, ended-exponent, ended-power, ended-e, ended-malformed, stopped-as}
+use Rattle.decimal.specs.RealLaws.{ended-start, ended-mantissa, ended-bare, ended-exponent, ended-power, ended-e, ended-malformed, stopped-as, held-stopped}
 use borrow.Author.Needs.{needs}
 use Rattle.decimal.proofs.ended.Statement.{statement}
 use Rattle.decimal.proofs.ended.Tie as tie
@@ -9,8 +8,11 @@ use Rattle.decimal.proofs.ended.Tie as tie
 enum-told : tie.Need-enum-told
 enum-told c = search needs
 
+no-digits-requires : tie.Need-no-digits-requires
+no-digits-requires c κs = search needs
+
 finished-requires : tie.Need-finished-requires
-finished-requires c κs = search needs
+finished-requires c κs = let h = held-stopped _ _ 0 0 (c .no-digits .ensures) in (h .0, h .1, omega arith)
 
 enum-known-stage : tie.Need-enum-known-stage
 enum-known-stage c = search needs
@@ -37,7 +39,7 @@ enum-told-3 : tie.Need-enum-told-3
 enum-told-3 c = search needs
 
 returns-3 : tie.Need-returns-3
-returns-3 c = let a = c .before .before .before .args in ended-start (a .stage) (a .bytes) (a .next) _ (c .before .enum-told .given .1) (c .finished .ensures)
+returns-3 c = let a = c .before .before .before .before .args in ended-start (a .stage) (a .bytes) (a .next) _ _ (c .before .before .enum-told .given .1) (c .before .no-digits .ensures) (c .finished .ensures)
 
 returns-4 : tie.Need-returns-4
 returns-4 c = let a = c .before .before .before .before .args in ended-bare (a .stage) (a .bytes) (a .next) _ _ _ (c .before .before .stage .given .1) (c .if1 .left)
@@ -56,6 +58,7 @@ ended-spec =
     tie.close
     (tie.spec
     enum-told
+    no-digits-requires
     finished-requires
     enum-known-stage
     finished-requires-2

@@ -1,6 +1,5 @@
 -- `decimal::number_at` meets its contract: each `return` is a case of `numberAt`.
 use Rattle.decimal.specs.NumberLaws.{cut-28, got-28, cut-29, got-29, got-30, got-none, got-below, got-above, got-pair, got-high}
-use native.Mathlib.Omega.{arith}
 use borrow.Author.Needs.{needs}
 use Rattle.decimal.proofs.number_at.Statement.{statement}
 use Rattle.decimal.proofs.number_at.Tie as tie

@@ -1,8 +1,6 @@
 -- `decimal::scaled_up` meets its contract. The invariant: what is left to multiply gives the whole product.
 use Prim.Native.Nat.{_*_, _^_}
-use mathlib.Core.Path.{_≡_, refl, _∙_, ap}
-use native.Mathlib.Nat.{pow-zero, mul-one}
-use native.Mathlib.Omega.{arith}
+use mathlib.Core.Path.{_≡_, refl, _∙_}
 use borrow.Author.Needs.{needs}
 use Rattle.decimal.specs.StageLaws.{scaled-step, scaled-cap, scaled-done}
 use Rattle.decimal.proofs.scaled_up.Statement.{statement}

@@ -7,8 +7,14 @@ use Rattle.decimal.proofs.step.Tie as tie
 enum-told : tie.Need-enum-told
 enum-told c = search needs
 
+no-digits-requires : tie.Need-no-digits-requires
+no-digits-requires c κs = search needs
+
 returns : tie.Need-returns
-returns c = let a = c .before .before .before .args in start-minus (a .stage) (a .x) (c .before .enum-told .given .1) (c .if1 .taken)
+returns c = let a = c .before .before .before .before .args in start-minus (a .stage) (a .x) _ (c .before .before .enum-told .given .1) (c .before .if1 .taken) (c .no-digits .ensures)
+
+no-digits-requires-2 : tie.Need-no-digits-requires-2
+no-digits-requires-2 c κs = search needs
 
 mantissa-step-requires : tie.Need-mantissa-step-requires
 mantissa-step-requires c κs = search needs
@@ -38,7 +44,7 @@ enum-told-2 : tie.Need-enum-told-2
 enum-told-2 c = search needs
 
 returns-3 : tie.Need-returns-3
-returns-3 c = let a = c .before .before .before .before .args in start-other (a .stage) (a .x) _ (c .before .before .enum-told .given .1) (c .before .if1 .left) (c .mantissa-step .ensures)
+returns-3 c = let a = c .before .before .before .before .before .args in start-other (a .stage) (a .x) _ _ (c .before .before .before .enum-told .given .1) (c .before .before .if1 .left) (c .before .no-digits2 .ensures) (c .mantissa-step .ensures)
 
 returns-4 : tie.Need-returns-4
 returns-4 c = let a = c .before .before .before .before .args in step-mantissa (a .stage) (a .x) _ _ _ _ (c .before .before .stage .given .1) (c .mantissa-step2 .ensures)
@@ -57,7 +63,9 @@ step-spec =
     tie.close
     (tie.spec
     enum-told
+    no-digits-requires
     returns
+    no-digits-requires-2
     mantissa-step-requires
     enum-known-stage
     mantissa-step-requires-2

@@ -1,6 +1,5 @@
 -- `decimal_write::real_len` meets its contract: half the nibbles, the end and the first byte.
 use native.Mathlib.Omega.{arith}
-use mathlib.Core.Path.{sym}
 use Rattle.decimal_write.specs.TextLaws.{whole-width, length-real}
 use borrow.Author.Needs.{needs}
 use Rattle.decimal_write.proofs.real_len.Statement.{statement}
