@@ -102,3 +102,7 @@ module _ (b : List ℕ) (op : ℕ) (r : Found) (e : r ≡ placeOf op b) where
   copied-found start end count f =
       let l = found-last b op r e start end count f in
       ap (entryBytes op) (ap (λ (n : ℕ). operandsAt n b start) (l .held .counted) ∙ l .held .here) ∙ sym (ap (copiedEntry op) (l .last))
+
+  pub copied-room : (start end count : ℕ) → r ≡ FoundAt start end count → (size to : ℕ) → to + length (copiedEntry op (lastOf op (entriesOf b))) ≤ size
+      → to + length (entryBytes op (operandsAt count b start)) ≤ size
+  copied-room start end count f size to h = let k = ap length (copied-found start end count f) in omega arith
