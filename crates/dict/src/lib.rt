@@ -528,7 +528,11 @@ pub fn ros(d: &[u8]) -> RosIn
             count,
         } => {
             if count == 3 {
-                return ros_at(operand(d, start, 0), operand(d, start, 1), operand(d, start, 2));
+                return ros_at(
+                    operand(d, start, 0),
+                    operand(d, start, 1),
+                    operand(d, start, 2),
+                );
             }
             RosIn::None
         }

@@ -105,7 +105,7 @@ module _ (b : List ℕ) (start count : ℕ) (old : List ℕ) (to at left : ℕ) 
     fits : to + (length (operandsBytes (w .done)) + length (numberBytes v)) ≤ length old
     fits =
         let k : length (operandsBytes (operandsAt count b start))
-            ≡ length (operandsBytes (w .done)) + length (numberBytes v) + length (operandsBytes (operandsAt (left - 1) b next))
+        ≡ length (operandsBytes (w .done)) + length (numberBytes v) + length (operandsBytes (operandsAt (left - 1) b next))
         = ap (λ (l : List Decimal). length (operandsBytes l)) further ∙ rw (operands-append, length-append, more, length-append) in
         omega arith
 

@@ -144,12 +144,12 @@ module _ (b old : List ℕ) (to at : ℕ) (new : List ℕ) (p : ℕ) (w : Copyin
       fits : to + (length (entriesBytes (w .done)) + length (entryBytes op (operandsAt count b at))) ≤ length old
       fits =
           let k : length (privateBytes (entriesOf b))
-              ≡ length (entriesBytes (w .done)) + length (entryBytes op (operandsAt count b at)) + length (entriesBytes (copiedFrom b next))
+          ≡ length (entriesBytes (w .done)) + length (entryBytes op (operandsAt count b at)) + length (entriesBytes (copiedFrom b next))
           = ap (λ (l : List Entry). length (entriesBytes l)) further
-              ∙ ap length (entries-append (w .done ++ (this ∷ [])) (copiedFrom b next))
-              ∙ length-append (entriesBytes (w .done ++ (this ∷ []))) (entriesBytes (copiedFrom b next))
-              ∙ ap (λ (l : List ℕ). length l + length (entriesBytes (copiedFrom b next))) more
-              ∙ ap (λ (n : ℕ). n + length (entriesBytes (copiedFrom b next))) (length-append (entriesBytes (w .done)) (entryBytes op (operandsAt count b at))) in
+          ∙ ap length (entries-append (w .done ++ (this ∷ [])) (copiedFrom b next))
+          ∙ length-append (entriesBytes (w .done ++ (this ∷ []))) (entriesBytes (copiedFrom b next))
+          ∙ ap (λ (l : List ℕ). length l + length (entriesBytes (copiedFrom b next))) more
+          ∙ ap (λ (n : ℕ). n + length (entriesBytes (copiedFrom b next))) (length-append (entriesBytes (w .done)) (entryBytes op (operandsAt count b at))) in
           omega arith
 
       pub copying-room : p + length (entryBytes op (operandsAt count b at)) ≤ length new

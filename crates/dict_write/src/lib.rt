@@ -105,7 +105,14 @@ pub fn entry_len(d: &[u8], start: usize, count: usize, op: usize) -> usize
 }
 
 // An entry whose operands stand from a position on, from `to` on; the place after it.
-pub fn put_entry(d: &[u8], start: usize, count: usize, op: usize, out: &mut [u8], to: usize) -> usize
+pub fn put_entry(
+    d: &[u8],
+    start: usize,
+    count: usize,
+    op: usize,
+    out: &mut [u8],
+    to: usize,
+) -> usize
     requires { ⌜ (isOperator op ≡ true) × (to + length (entryBytes op (operandsAt count (now d) start)) ≤ length (now out)) ⌝ }
     ensures { λ r. ⌜ Wrote (now (out .entry)) to (entryBytes op (operandsAt count (now (d .entry)) start)) (now (out .exit)) r ⌝ }
 {

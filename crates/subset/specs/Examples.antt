@@ -4,7 +4,7 @@ use mathlib.Core.Path.{_≡_, refl}
 use mathlib.Core.Bool.{true, false}
 use mathlib.Core.List.{List, [], _∷_, _++_}
 use Rattle.octets.specs.Octets.{be, numAt, bytesOf}
-use Rattle.type2_number.specs.Number.{keep24, rounded} 
+use Rattle.type2_number.specs.Number.{keep24, rounded}
 use Rattle.type2_number.specs.Number as t2
 use Rattle.type2_number.specs.Encoding as t2e
 use Rattle.charstring.specs.Token as tok
