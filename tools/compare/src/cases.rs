@@ -76,6 +76,10 @@ impl Made {
     fn next_family(&mut self) {
         let mut g = Generator::new(mixed(self.seed, self.family));
         self.family += 1;
+        if g.once_in(100) {
+            self.noise(&mut g);
+            return;
+        }
         let made = fonts::make(&mut g);
         let font = made.bytes;
         self.push(made.kind, INTACT, font.clone());
@@ -114,9 +118,34 @@ impl Made {
             _ => {
                 for _ in 0..g.below(4) {
                     let (state, copy) = damage::damaged(&mut g, &font, &marks);
-                    self.push(made.kind, state, copy);
+                    if g.once_in(6) {
+                        let (_, copy) = damage::damaged(&mut g, &copy, &marks);
+                        self.push(made.kind, "damaged twice", copy);
+                    } else {
+                        self.push(made.kind, state, copy);
+                    }
                 }
             }
+        }
+    }
+}
+
+impl Made {
+    /// Bytes that are no font, most of them few.
+    fn noise(&mut self, g: &mut Generator) {
+        for _ in 0..4 {
+            let n = if g.once_in(2) {
+                g.below(8)
+            } else {
+                g.below(80)
+            };
+            let mut bytes = g.bytes(n);
+            for (k, b) in [1, 0, 4].into_iter().enumerate() {
+                if k < n && g.once_in(2) {
+                    bytes[k] = b;
+                }
+            }
+            self.push("noise", INTACT, bytes);
         }
     }
 }

@@ -45,7 +45,7 @@ pub fn compare(library: &Library, case: &Case, seed: u64, tally: &mut Tally) {
     } else if reading.memory > MEMORY {
         compared.tally.heavy += 1;
     } else {
-        compared.original(reading.font.as_ref().err());
+        compared.original(reading.font.as_ref().err(), case, seed);
     }
     compared.entries(seed, case.number as u64);
     let mut messages = compared.messages;
@@ -70,14 +70,20 @@ impl Compared<'_> {
     }
 
     /// The model against the original.
-    fn original(&mut self, refused: Option<&Refused>) {
+    fn original(&mut self, refused: Option<&Refused>, case: &Case, seed: u64) {
         let outcome = original::read(self.font);
         if let Outcome::Panicked(message) = &outcome {
             self.tally.panics += 1;
             self.report(|| format!("the original panics: {message}"));
         }
         match (refused, outcome) {
-            (Some(r), _) if r.number == PAST_LIMITS => self.place_of_real(r.at),
+            (Some(r), _) if r.number == PAST_LIMITS => {
+                if self.comes_by(r.at) {
+                    self.tally.confirmed += 1;
+                } else {
+                    self.tally.unconfirmed.push(case.label(seed));
+                }
+            }
             (Some(r), Outcome::Refused(error)) => {
                 if original::number(&error) != r.number {
                     self.report(|| format!("the model refuses by {r:?}, the original: {error}"));
@@ -102,13 +108,13 @@ impl Compared<'_> {
     /// Whether a real past the limits stands where the original's parse comes by: with a reserved
     /// nibble at its start the original must say that this real is malformed. (It may say another
     /// thing where the same byte is read as a part of something else.)
-    fn place_of_real(&mut self, at: usize) {
+    fn comes_by(&self, at: usize) -> bool {
         let mut copy = self.font.to_vec();
         copy[at] = 0xdf;
-        match original::read(&copy) {
-            Outcome::Refused(FontError::Malformed("real operand")) => self.tally.confirmed += 1,
-            _ => self.tally.unconfirmed += 1,
-        }
+        matches!(
+            original::read(&copy),
+            Outcome::Refused(FontError::Malformed("real operand"))
+        )
     }
 
     /// Where the model's font and the original's differ.

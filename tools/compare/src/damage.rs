@@ -47,9 +47,9 @@ pub fn damaged(g: &mut Generator, font: &[u8], marks: &[usize]) -> (&'static str
             // Two pieces of one length change places.
             let other = spot(g, font.len(), marks);
             let (first, second) = (at.min(other), at.max(other));
-            let n = (1 + g.below(8))
-                .min(second - first)
-                .min(font.len() - second);
+            let most = if g.once_in(2) { 8 } else { 64 };
+            let n = 1 + g.below(most);
+            let n = n.min(second - first).min(font.len() - second);
             for k in 0..n {
                 copy.swap(first + k, second + k);
             }

@@ -258,6 +258,18 @@ impl Maker<'_> {
         if let Some(operands) = self.charset(glyphs, cid_keyed) {
             top.push(entry(operands, &[15]));
         }
+        if self.g.once_in(8) {
+            // Entries of the other keying are passed over, whatever they say.
+            let operators: [&[u8]; 2] = if cid_keyed {
+                [&[16], &[18]]
+            } else {
+                [&[12, 36], &[12, 37]]
+            };
+            for operator in operators {
+                let operands = self.senseless();
+                top.push(entry(operands, operator));
+            }
+        }
         if cid_keyed || self.g.once_in(40) {
             self.fds(glyphs, &mut top);
         }
@@ -407,6 +419,20 @@ impl Maker<'_> {
         vec![Num::Place(part, 0, form)]
     }
 
+    /// Operands that are numbers, and refused wherever an offset or a Private is wanted.
+    fn senseless(&mut self) -> Vec<Num> {
+        let form = form(self.g);
+        let word = self.g.word();
+        let number = match self.g.below(5) {
+            0 => self.small(1),
+            1 => self.small(-1),
+            2 => Num::Bytes(numbers::write(3, Form::Fraction(word))),
+            3 => Num::Bytes(numbers::write(i64::from(i32::MAX), form)),
+            _ => return vec![self.small(-2), self.small(-1)],
+        };
+        vec![number]
+    }
+
     /// Offsets that are no place, or another's place, or around the end.
     fn wrong_offset(&mut self) -> Vec<Num> {
         let form = form(self.g);
@@ -466,7 +492,7 @@ impl Maker<'_> {
             2 => return Some(vec![self.small(0)]),
             _ => {}
         }
-        if self.wrong() {
+        if self.odds != 0 && self.g.once_in(25) {
             let value = self.g.one_of(&[1, 2]);
             return Some(vec![self.small(value)]);
         }
@@ -520,7 +546,7 @@ impl Maker<'_> {
             3 => return Some(vec![self.small(0)]),
             _ => {}
         }
-        if self.wrong() {
+        if self.odds != 0 && self.g.once_in(12) {
             return Some(vec![self.small(1)]);
         }
         let mut format = self.g.below(2) as u8;

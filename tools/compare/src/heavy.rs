@@ -66,21 +66,33 @@ pub fn entries(fonts: usize, fds: usize, entries: usize) -> Vec<u8> {
 
 /// A CID-keyed font whose FDs share a Private with `locals` empty local subroutines.
 pub fn locals(fds: usize, locals: usize) -> Vec<u8> {
+    shared_locals(fds, locals, Vec::new()).bytes()
+}
+
+fn shared_locals(fds: usize, locals: usize, more: Vec<Entry>) -> Layout {
     let (private, subrs) = (FIRST + 1, FIRST + 2);
-    let mut layout = set(
-        1,
-        0,
-        vec![
-            entry(Vec::new(), &[12, 30]),
-            entry(vec![place(FIRST)], &[12, 36]),
-        ],
-    );
+    let cid = vec![
+        entry(Vec::new(), &[12, 30]),
+        entry(vec![place(FIRST)], &[12, 36]),
+    ];
+    let mut layout = set(1, 0, [cid, more].concat());
     let size = Num::Length(private, 0, Form::Shortest);
     let fd = Part::Dict(vec![entry(vec![size, place(private)], &[18])]);
     layout.add(Part::Index(SHAPE, vec![fd; fds]));
     let distance = Num::Distance(private, subrs, Form::Shortest);
     layout.add(Part::Dict(vec![entry(vec![distance], &[19])]));
     layout.add(Part::Index(SHAPE, vec![Part::Bytes(Vec::new()); locals]));
+    layout
+}
+
+/// The same with `glyphs` empty charstrings and `globals` empty global subroutines: with 65,535
+/// of each the work size is 4,295,032,830, the largest there is.
+pub fn work(glyphs: usize, globals: usize, fds: usize, locals: usize) -> Vec<u8> {
+    let charstrings = entry(vec![place(FIRST + 3)], &[17]);
+    let mut layout = shared_locals(fds, locals, vec![charstrings]);
+    let empty = Part::Bytes(Vec::new());
+    layout.parts[FIRST - 1] = Part::Index(SHAPE, vec![empty.clone(); globals]);
+    layout.add(Part::Index(SHAPE, vec![empty; glyphs]));
     layout.bytes()
 }
 

@@ -60,6 +60,7 @@ const USAGE: &str = "usage: tools/compare/run cff SEED COUNT
        tools/compare/run heavy entries FONTS FDS ENTRIES
        tools/compare/run heavy locals FDS LOCALS
        tools/compare/run heavy strings FONTS STRINGS
+       tools/compare/run heavy work GLYPHS GLOBALS FDS LOCALS
        tools/compare/run extract FOLDER FILE...";
 
 /// The stack of a thread that runs the original.
@@ -94,6 +95,9 @@ fn main() -> ExitCode {
                 ("entries", &[fonts, fds, entries]) => write(&heavy::entries(fonts, fds, entries)),
                 ("locals", &[fds, locals]) => write(&heavy::locals(fds, locals)),
                 ("strings", &[fonts, strings]) => write(&heavy::strings(fonts, strings)),
+                ("work", &[glyphs, globals, fds, locals]) => {
+                    write(&heavy::work(glyphs, globals, fds, locals))
+                }
                 _ => usage(),
             }
         }

@@ -92,17 +92,8 @@ impl Font {
         2 * self.charstrings.count as u64 + self.globals.count as u64 + self.locals
     }
 
-    /// The text of a string id.
     pub fn text<'a>(&self, bytes: &'a [u8], id: u16) -> &'a [u8] {
-        let id = usize::from(id);
-        if id < STANDARD_STRINGS.len() {
-            return STANDARD_STRINGS[id].as_bytes();
-        }
-        let own = id - STANDARD_STRINGS.len();
-        if own < self.strings.count {
-            return &bytes[self.strings.span(bytes, own)];
-        }
-        b""
+        text(bytes, &self.strings, id)
     }
 
     pub fn find_name(&self, bytes: &[u8], name: &[u8]) -> Option<u16> {
@@ -140,6 +131,19 @@ impl Font {
             Err(NO_SUCH_ITEM)
         }
     }
+}
+
+/// The text of a string id: a standard string, one of the font's, or the empty one.
+fn text<'a>(bytes: &'a [u8], strings: &Index, id: u16) -> &'a [u8] {
+    let id = usize::from(id);
+    if id < STANDARD_STRINGS.len() {
+        return STANDARD_STRINGS[id].as_bytes();
+    }
+    let own = id - STANDARD_STRINGS.len();
+    if own < strings.count {
+        return &bytes[strings.span(bytes, own)];
+    }
+    b""
 }
 
 /// A reading: the font or the refusal, and what else was learnt.
@@ -475,7 +479,7 @@ impl Reader<'_> {
             at => self.charset(at, glyphs)?,
         };
         let cid_keyed = top.last(operator::ROS).is_some();
-        self.note_ids(&charset, cid_keyed, strings.count);
+        self.note_ids(&charset, cid_keyed, strings);
         let locals = if cid_keyed {
             let Some(at) = top.place(operator::FD_ARRAY, "FDArray entry")? else {
                 return refuse(MALFORMED, "FDArray entry", "absent", 0);
@@ -526,18 +530,27 @@ impl Reader<'_> {
         })
     }
 
-    fn note_ids(&mut self, ids: &[u16], cid_keyed: bool, strings: usize) {
-        let mut seen = BTreeSet::new();
-        if !ids.iter().all(|id| seen.insert(id)) {
-            self.note(if cid_keyed {
-                "CID twice"
-            } else {
-                "string id twice"
-            });
+    fn note_ids(&mut self, ids: &[u16], cid_keyed: bool, strings: Index) {
+        let different = ids.iter().collect::<BTreeSet<_>>().len();
+        if cid_keyed {
+            if different < ids.len() {
+                self.note("CID twice");
+            }
+            return;
         }
-        let past = STANDARD_STRINGS.len() + strings;
-        if !cid_keyed && ids.iter().any(|&id| usize::from(id) >= past) {
+        if different < ids.len() {
+            self.note("string id twice");
+        }
+        let past = STANDARD_STRINGS.len() + strings.count;
+        if ids.iter().any(|&id| usize::from(id) >= past) {
             self.note("string id past the strings");
+        }
+        let texts: BTreeSet<_> = ids
+            .iter()
+            .map(|&id| text(self.bytes, &strings, id))
+            .collect();
+        if texts.len() < different {
+            self.note("one name by two string ids");
         }
     }
 

@@ -40,7 +40,9 @@ pub fn write(value: i64, form: Form) -> Vec<u8> {
         Form::Real(shape) => {
             let mut g = Generator::new(shape);
             let (digits, power) = normal(value.unsigned_abs());
-            packed(&decorated(&mut g, value < 0, &digits, power), 15)
+            // Minus zero is zero.
+            let negative = value < 0 || value == 0 && g.once_in(3);
+            packed(&decorated(&mut g, negative, &digits, power), 15)
         }
         Form::Fraction(shape) => {
             let mut g = Generator::new(shape);

@@ -36,9 +36,9 @@ pub struct Tally {
     /// Fonts for which the original would take too much memory.
     pub heavy: u64,
     pub panics: u64,
-    /// Reals past the limits at a place that the original comes by, and others.
+    /// Reals past the limits at a place that the original comes by, and other cases.
     pub confirmed: u64,
-    pub unconfirmed: u64,
+    pub unconfirmed: Vec<String>,
     differences: Vec<Difference>,
     different: u64,
 }
@@ -102,7 +102,7 @@ impl Tally {
         self.heavy += other.heavy;
         self.panics += other.panics;
         self.confirmed += other.confirmed;
-        self.unconfirmed += other.unconfirmed;
+        self.unconfirmed.extend(other.unconfirmed);
         self.different += other.different;
         self.differences.extend(other.differences);
     }
@@ -151,10 +151,13 @@ impl Tally {
         let _ = writeln!(out, "original panicked: {}", self.panics);
         let _ = writeln!(
             out,
-            "refusal 5 where the original, given a reserved nibble there, stops: {} of {}",
+            "refusal 5 where the original, given a reserved nibble there, stops: {}, elsewhere: {}",
             self.confirmed,
-            self.confirmed + self.unconfirmed
+            self.unconfirmed.len()
         );
+        for case in self.unconfirmed.iter().take(PRINTED) {
+            let _ = writeln!(out, "  {case}");
+        }
         let _ = writeln!(out, "differences: {}", self.different);
         self.differences.sort_by(|a, b| a.place.cmp(&b.place));
         for (k, difference) in self.differences.iter().take(PRINTED).enumerate() {
