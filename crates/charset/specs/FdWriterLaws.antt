@@ -190,3 +190,15 @@ push-finished {old} {mid} {new} {at} {r} {w} fds p room f =
           ∙ parts old at head (entryBytes (fdRanges fds)) end (at + 3) (v .next) (omega arith) (omega arith) (omega arith) ∙ ap (put old at) (whole fds);
       behind = omega (arith, f .behind, ap (λ (x : FdSelectWriter). x .next) (p .state));
     }
+
+-- there is room to finish
+pub finish-room : {old mid : List ℕ} {at : ℕ} {w : FdSelectWriter} (fds : List ℕ) → Pushed old at fds mid w → at + length (fdSelectBytes fds) ≤ length old
+    → (w .start + 3 ≤ length mid) × (w .next + 2 ≤ length mid)
+finish-room {old} {mid} {at} {w} fds p room =
+    let s = select-length fds in
+    let e = entry-length (fdRanges fds) in
+    let m : at + 3 + length (entryBytes (fdRanges fds)) ≤ length old = omega arith in
+    let n = wrote-length (p .wrote) m in
+    let a = ap (λ (x : FdSelectWriter). x .start) (p .state) in
+    let b = ap (λ (x : FdSelectWriter). x .next) (p .state) in
+    (omega arith, omega arith)
