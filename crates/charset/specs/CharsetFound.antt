@@ -1,6 +1,6 @@
 -- A charset that was read: its ids are those of the table, a glyph's lookup and a cursor are at home in it, and a cursor goes through
 -- them one after the other.
-use Prim.Native.Nat.{ℕ, zero, suc, _+_, _-_, _≤_, _<_}
+use Prim.Native.Nat.{ℕ, zero, suc, _+_, _≤_, _<_}
 use mathlib.Core.Path.{_≡_, refl, sym, ap, _∙_, subst}
 use mathlib.Core.List.{List, [], _∷_}
 use native.Mathlib.Numerals.{add-one}
@@ -9,9 +9,9 @@ use borrow.Author.Tests.{ltb-false}
 use lib.ListN.{length, drop, getD}
 use lib.Seq.{drop-cons}
 use lib.Dec.{ltb}
-use Rattle.octets.specs.Pick.{pick}
-use Rattle.charset.specs.Listed.{Listed, refused, listed, onward, numbersOf, listOf}
-use Rattle.charset.specs.Charset.{idsFrom, idsIn, charsetAt, isoAdobe, tableAt, predefined, idsOf, GoodCharset, charsetAnswer, charsetStart, nextId, StandsId, ReadyId}
+use Rattle.charset.specs.Listed.{Listed, refused, listed, numbersOf}
+use Rattle.charset.specs.Charset.{idsFrom, charsetAt, isoAdobe}
+use Rattle.charset.specs.CharsetPlaces.{tableAt, predefined, idsOf, GoodCharset, charsetAnswer, charsetStart, nextId, StandsId, ReadyId}
 use Rattle.octets.specs.Octets.{Octets, numAt}
 use Rattle.octets.specs.OctetsLaws.{num-two}
 use Rattle.charset.specs.CharsetLaws.{range-cut}
@@ -19,7 +19,6 @@ use Rattle.charset.specs.IdLaws.{own-id}
 use Rattle.charset.specs.CharsetBytes.{Ids}
 use Rattle.charset.specs.IdCursorLaws.{no, test-passed, id-on, id-met, ready, step-id, step-next}
 use Rattle.charset.specs.declared.Charset.{Charset}
-use Rattle.charset.specs.declared.CharsetAt.{CharsetAt}
 use Rattle.charset.specs.declared.CharsetAt.the-variants.{Refused, Found}
 use Rattle.charset.specs.declared.CharsetCursor.{CharsetCursor}
 
@@ -43,6 +42,10 @@ ids-length w (suc k) i zero bs l h =
 found-listed : (c d : Charset) (r : Listed) → charsetAnswer c r ≡ Found d → (c ≡ d) × (r ≡ listed (numbersOf r))
 found-listed c d (refused e) h = absurd (no cc)
 found-listed c d (listed l) h = (cc, refl)
+
+pub refused-is : (c : Charset) (r : Listed) (e : ℕ) → charsetAnswer c r ≡ Refused e → r ≡ refused e
+refused-is c (refused d) e h = cc
+refused-is c (listed l) e h = absurd (no cc)
 
 -- a table that is not refused has its format byte
 format-there : (b : List ℕ) (at n : ℕ) (l : List ℕ) → charsetAt b at n ≡ listed l → at < length b

@@ -1,22 +1,21 @@
 -- Laws of the ids of a charset: a range met, its ids one by one and all at once, as the code takes them.
 use Prim.Native.Nat.{ℕ, zero, suc, _+_, _-_, _*_, _/_, _≤_, _<_, _^_}
-use mathlib.Core.Path.{_≡_, refl, sym, ap, _∙_, subst}
-use mathlib.Core.Bool.{Bool, true, false}
-use mathlib.Core.List.{List, [], _∷_, _++_}
-use native.Mathlib.Nat.{not-suc-le-zero, add-zero, add-assoc}
+use mathlib.Core.Path.{_≡_, refl, sym, ap, _∙_}
+use mathlib.Core.List.{List, [], _∷_}
+use native.Mathlib.Nat.{not-suc-le-zero}
 use native.Mathlib.Numerals.{add-one, sub-one}
 use native.Mathlib.Omega.{arith}
-use borrow.Author.Tests.{eq-eqb, ne-eqb, lt-ltb, le-ltb, ltb-true, ltb-false}
-use lib.ListN.{length, take, drop, getD, length-drop, drop-of-length-le}
+use borrow.Author.Tests.{lt-ltb, le-ltb, ltb-false}
+use lib.ListN.{length, drop, getD, length-drop, drop-of-length-le}
 use lib.Seq.{drop-drop, drop-cons}
-use lib.Dec.{eqb, ltb}
-use Rattle.octets.specs.Pick.{pick, pick-ind}
+use lib.Dec.{ltb}
+use Rattle.octets.specs.Pick.{pick-ind}
 use Rattle.octets.specs.Octets.{be, numAt}
 use Rattle.octets.specs.OctetsLaws.{pow-below}
-use Rattle.charset.specs.Listed.{Listed, refused, listed, onward, numbersOf, listOf}
-use Rattle.charset.specs.Charset.{idsFrom, charsetAt, tableAt, charsetAnswer}
+use Rattle.charset.specs.Listed.{Listed, refused, listed, onward, listOf}
+use Rattle.charset.specs.Charset.{idsFrom, charsetAt}
+use Rattle.charset.specs.CharsetPlaces.{tableAt, charsetAnswer}
 use Rattle.charset.specs.declared.Charset.{Charset}
-use Rattle.charset.specs.declared.CharsetAt.{CharsetAt}
 use Rattle.charset.specs.declared.CharsetAt.the-variants.{Refused, Found}
 
 -- where no range is under way its next id says nothing

@@ -1,16 +1,15 @@
 -- A charset that was written reads back.
-use Prim.Native.Nat.{ℕ, zero, suc, _+_, _≤_, _<_}
-use mathlib.Core.Path.{_≡_, refl, sym, ap, _∙_, subst}
+use Prim.Native.Nat.{ℕ, suc, _+_, _≤_, _<_}
+use mathlib.Core.Path.{_≡_, refl, sym, ap, _∙_}
 use mathlib.Core.List.{List, [], _∷_, _++_, append-assoc}
 use native.Mathlib.Nat.{not-suc-le-zero}
 use native.Mathlib.Omega.{arith}
 use borrow.Author.Tests.{le-ltb}
 use lib.ListN.{length, take, drop, getD, length-append}
-use Rattle.octets.specs.Pick.{pick}
 use Rattle.octets.specs.Octets.{be, bytesOf}
 use Rattle.octets.specs.OctetsLaws.{length-bytes, be-front, drop-front}
-use Rattle.charset.specs.Listed.{Listed, refused, listed, onward}
-use Rattle.charset.specs.Charset.{idsFrom, idsIn, charsetAt}
+use Rattle.charset.specs.Listed.{listed, onward}
+use Rattle.charset.specs.Charset.{idsFrom, charsetAt}
 use Rattle.charset.specs.CharsetBytes.{Ids, idBytes, charsetBytes}
 
 each-back : (ids : List ℕ) (i : ℕ) (post : List ℕ) → Ids ids → idsFrom 0 (length ids) i 0 (idBytes ids ++ post) ≡ listed ids

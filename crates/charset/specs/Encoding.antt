@@ -6,7 +6,7 @@ use lib.ListN.{length, drop}
 use lib.Dec.{ltb, eqb}
 use Rattle.octets.specs.Pick.{pick}
 
--- a count and that many entries of a size: truncated, 1, or what follows says
+-- a count and that many entries of a size: 1 where bytes are missing, else what the rest gives
 abbrev pub entries : ℕ → List ℕ → (List ℕ → ℕ) → ℕ
 entries size [] rest = 1
 entries size (count ∷ bs) rest = pick (ltb (length bs) (count * size)) 1 (rest (drop (count * size) bs))

@@ -1,16 +1,14 @@
 -- Laws of the checks of an encoding, one for each test of the code.
-use Prim.Native.Nat.{ℕ, suc, _+_, _-_, _*_, _/_, _%_, _≤_, _<_}
-use mathlib.Core.Path.{_≡_, refl, sym, ap, _∙_}
-use mathlib.Core.List.{List, [], _∷_}
+use Prim.Native.Nat.{ℕ, suc, _+_, _*_, _/_, _%_, _≤_, _<_}
+use mathlib.Core.Path.{_≡_, ap}
+use mathlib.Core.List.{List}
 use native.Mathlib.Nat.{mul-le-mul}
 use native.Mathlib.Numerals.{add-one}
 use native.Mathlib.Omega.{arith}
 use borrow.Author.Tests.{eq-eqb, ne-eqb, lt-ltb, le-ltb}
 use lib.ListN.{length, drop, getD, length-drop, drop-of-length-le}
 use lib.Seq.{drop-cons, drop-drop}
-use lib.Dec.{ltb, eqb}
-use Rattle.octets.specs.Pick.{pick}
-use Rattle.charset.specs.Encoding.{entries, supplements, encodingIn, encodingAt}
+use Rattle.charset.specs.Encoding.{entries, supplements, encodingAt}
 
 -- ---- a count and its entries at a place
 

@@ -1,22 +1,19 @@
 -- Laws of a cursor through an FDSelect: it begins before glyph 0, and each step gives the next glyph's FD.
 use Prim.Native.Nat.{ℕ, zero, suc, _+_, _-_, _≤_, _<_}
 use mathlib.Core.Path.{_≡_, refl, sym, ap, _∙_, subst}
-use mathlib.Core.Bool.{Bool, true, false}
-use mathlib.Core.List.{List, [], _∷_}
-use mathlib.Core.Logic.{⊎-elim}
-use native.Mathlib.Nat.{not-suc-le-zero, add-zero}
-use native.Mathlib.Numerals.{add-one, sub-one}
+use mathlib.Core.List.{List}
+use native.Mathlib.Nat.{not-suc-le-zero}
+use native.Mathlib.Numerals.{sub-one}
 use native.Mathlib.Omega.{arith}
-use borrow.Author.Tests.{eq-eqb, ne-eqb, lt-ltb, le-ltb, ltb-true, ltb-false}
-use lib.ListN.{length, take, drop, getD}
-use lib.Dec.{eqb, ltb}
+use borrow.Author.Tests.{lt-ltb, le-ltb, ltb-true, ltb-false}
+use lib.ListN.{length, drop, getD}
+use lib.Dec.{ltb}
 use Rattle.octets.specs.Pick.{pick, pick-ind}
 use Rattle.charset.specs.FdSelect.{rangeEnd, fdIn, rangesRefusal}
 use Rattle.charset.specs.FdPlaces.{fdOf, selectStart, intoNext, intoRange, stepped, nextFd, fdFrom, GoodSelect, ReadyFd, StandsFd}
-use Rattle.charset.specs.FdLaws.{Rises, ranges-rise, fd-none, fd-before, fd-here, fd-behind}
+use Rattle.charset.specs.FdLaws.{ranges-rise, fd-none, fd-before, fd-here, fd-behind}
 use Rattle.charset.specs.declared.fd_select.FdSelect.{FdSelect}
 use Rattle.charset.specs.declared.fd_select.FdCursor.{FdCursor}
-use Rattle.charset.specs.declared.fd_select.FdStep.{FdStep}
 
 -- ---- the way into a glyph's range, as the code goes it
 
@@ -25,7 +22,7 @@ unfolding intoRange
 into-here b zero u some h = absurd (not-suc-le-zero some)
 into-here b (suc m) u some h = simp (lt-ltb (u .gid) (u .end) h)
 
-pub into-next : (b : List ℕ) (m : ℕ) (u : FdCursor) → 0 < m → u .end ≤ u .gid → intoRange b (m - 1) (intoNext b u) ≡ intoRange b m u
+into-next : (b : List ℕ) (m : ℕ) (u : FdCursor) → 0 < m → u .end ≤ u .gid → intoRange b (m - 1) (intoNext b u) ≡ intoRange b m u
 unfolding intoRange
 into-next b zero u some h = absurd (not-suc-le-zero some)
 into-next b (suc m) u some h = simp (le-ltb (u .gid) (u .end) h, sub-one)
@@ -34,13 +31,22 @@ pub into-last : (b : List ℕ) (m : ℕ) (u : FdCursor) → m ≡ 0 → u ≡ in
 unfolding intoRange
 into-last b m u e = rw e
 
--- a turn: the next range's entry is there, and behind it the cursor is ready again
+-- a turn: the next range's entry is there, behind it the cursor is ready again, and the way from there ends where the whole way ends
 module _ (b : List ℕ) (u : FdCursor) (r : ReadyFd b u) (some : 0 < u .count) where
   pub entry-there : u .at + 1 + u .wide ≤ length b
   entry-there = ranges-rise b (u .at) (u .wide) (u .count) (u .end) some (r .sound) .there
 
-  pub ready-next : ReadyFd b (intoNext b u)
-  ready-next = record { narrow = r .narrow; low = r .low; sound = ranges-rise b (u .at) (u .wide) (u .count) (u .end) some (r .sound) .rest }
+  module _ (end : ℕ) (e : end ≡ rangeEnd (u .wide) (u .end) (drop (u .at) b)) where
+    abbrev entered : ℕ → FdCursor
+    entered x = record { gid = u .gid; fd = getD b (u .at) 0; end = x; count = u .count - 1; wide = u .wide; at = u .at + 1 + u .wide }
+
+    pub turn-ready : ReadyFd b (entered end)
+    turn-ready =
+        subst (λ (x : ℕ). ReadyFd b (entered x)) (sym e)
+        (record { narrow = r .narrow; low = r .low; sound = ranges-rise b (u .at) (u .wide) (u .count) (u .end) some (r .sound) .rest })
+
+    pub turn-same : u .end ≤ u .gid → intoRange b (u .count - 1) (entered end) ≡ intoRange b (u .count) u
+    turn-same h = ap (λ (x : ℕ). intoRange b (u .count - 1) (entered x)) e ∙ into-next b (u .count) u some h
 
 -- ---- the step
 
@@ -131,7 +137,8 @@ module _ (b : List ℕ) (s : FdSelect) (g : ℕ) (u : FdCursor) (st : StandsFd b
   own-fd v arrived =
       pick-ind (λ (x : ℕ). pick (ltb (v .gid) (v .end)) (v .fd) 0 ≡ x) (ltb (v .gid) (v .end)) (v .fd) (fdIn (v .wide) (v .count) (v .end) (drop (v .at) b) (v .gid))
       (λ t. rw t)
-      (λ t. rw t (sym (ap (λ (k : ℕ). fdIn (v .wide) k (v .end) (drop (v .at) b) (v .gid)) (arrived (ltb-false (v .gid) (v .end) t)) ∙ fd-none (v .wide) (v .end) (drop (v .at) b) (v .gid))))
+      (λ t. let z = arrived (ltb-false (v .gid) (v .end) t) in
+      rw t (sym (ap (λ (k : ℕ). fdIn (v .wide) k (v .end) (drop (v .at) b) (v .gid)) z ∙ fd-none (v .wide) (v .end) (drop (v .at) b) (v .gid))))
 
   pub fd-step : nextFd b u .fd ≡ fdOf b s g
   unfolding nextFd

@@ -3,10 +3,9 @@ use Prim.Native.Nat.{ℕ, zero, suc, _+_, _-_, _≤_, _<_}
 use mathlib.Core.Path.{_≡_, refl, sym, ap, _∙_, subst}
 use mathlib.Core.Bool.{Bool, true, false}
 use mathlib.Core.List.{List, [], _∷_}
-use native.Mathlib.Nat.{not-suc-le-zero, add-zero}
 use native.Mathlib.Numerals.{add-one, sub-one}
 use native.Mathlib.Omega.{arith}
-use borrow.Author.Tests.{eq-eqb, ne-eqb, le-ltb, ltb-true, ltb-false, eqb-true, eqb-false}
+use borrow.Author.Tests.{ltb-false}
 use lib.ListN.{length, take, drop, getD, length-drop}
 use lib.Seq.{drop-cons, drop-drop, length-take-le, getD-take, getD-drop, ext-getD}
 use lib.Dec.{ltb, eqb}
@@ -21,7 +20,6 @@ use Rattle.charset.specs.FdLaws.{end-one, range-on, fd-none}
 use Rattle.charset.specs.FdSearchLaws.{each-at}
 use Rattle.charset.specs.IdCursorLaws.{no, test-passed}
 use Rattle.charset.specs.declared.fd_select.FdSelect.{FdSelect}
-use Rattle.charset.specs.declared.fd_select.FdSelectAt.{FdSelectAt}
 use Rattle.charset.specs.declared.fd_select.FdSelectAt.the-variants.{Refused, Found}
 
 -- a glyph's FD in the list of all
@@ -104,6 +102,10 @@ table-fds b at n l h =
 found-listed : (s d : FdSelect) (r : Listed) → selectAnswer s r ≡ Found d → (s ≡ d) × (r ≡ listed (numbersOf r))
 found-listed s d (refused e) h = absurd (no cc)
 found-listed s d (listed l) h = (cc, refl)
+
+pub refused-is : (s : FdSelect) (r : Listed) (e : ℕ) → selectAnswer s r ≡ Refused e → r ≡ refused e
+refused-is s (refused d) e h = cc
+refused-is s (listed l) e h = absurd (no cc)
 
 module _ (b : List ℕ) (at n : ℕ) (s : FdSelect) (found : selectAnswer (selectAt b at n) (fdSelectAt b at n) ≡ Found s) where
   is : (selectAt b at n ≡ s) × (fdSelectAt b at n ≡ listed (numbersOf (fdSelectAt b at n)))

@@ -1,19 +1,19 @@
 -- Laws of the ranges of an FDSelect: one range met, as the code takes it.
 use Prim.Native.Nat.{ℕ, zero, suc, _+_, _-_, _≤_, _<_}
-use mathlib.Core.Path.{_≡_, refl, sym, ap, _∙_, subst}
+use mathlib.Core.Path.{_≡_, refl, sym, ap, _∙_}
 use mathlib.Core.Bool.{Bool, true, false}
-use mathlib.Core.List.{List, [], _∷_}
+use mathlib.Core.List.{List}
 use native.Mathlib.Nat.{not-suc-le-zero, add-zero}
 use native.Mathlib.Numerals.{add-one, sub-one}
 use native.Mathlib.Omega.{arith}
-use borrow.Author.Tests.{eq-eqb, ne-eqb, lt-ltb, le-ltb, ltb-true, ltb-false}
-use lib.ListN.{length, take, drop, getD, length-drop, drop-of-length-le}
+use borrow.Author.Tests.{eq-eqb, ne-eqb, lt-ltb, le-ltb, ltb-false}
+use lib.ListN.{length, drop, getD, length-drop, drop-of-length-le}
 use lib.Seq.{drop-drop, drop-cons, getD-drop}
-use lib.Dec.{eqb, ltb}
-use Rattle.octets.specs.Pick.{pick, pick-ind}
-use Rattle.octets.specs.Octets.{be, numAt}
-use Rattle.charset.specs.Listed.{Listed, refused, listed, listOf}
-use Rattle.charset.specs.FdSelect.{rangeFd, rangeEnd, fdIn, rangesRefusal, judged, rangeFds, fdSelectAt}
+use lib.Dec.{ltb}
+use Rattle.octets.specs.Pick.{pick}
+use Rattle.octets.specs.Octets.{numAt}
+use Rattle.charset.specs.Listed.{listOf}
+use Rattle.charset.specs.FdSelect.{rangeEnd, fdIn, rangesRefusal, judged, rangeFds, fdSelectAt}
 use Rattle.charset.specs.FdPlaces.{eachAt, rangesAt, selectAt, selectAnswer, rangesAnswer}
 use Rattle.charset.specs.declared.fd_select.FdSelect.{FdSelect}
 use Rattle.charset.specs.declared.fd_select.FdSelectAt.{FdSelectAt}

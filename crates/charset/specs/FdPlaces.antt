@@ -1,4 +1,4 @@
--- An FDSelect in place, as the code holds it: by its ranges, and by a cursor that goes from glyph to glyph.
+-- An FDSelect (TN5176, section 19) in place, as the code holds it: by its ranges, and by a cursor that goes from glyph to glyph.
 use Prim.Native.Nat.{ℕ, zero, suc, _+_, _-_, _≤_, _<_}
 use mathlib.Core.Path.{_≡_}
 use mathlib.Core.List.{List}
@@ -14,16 +14,19 @@ use Rattle.charset.specs.declared.fd_select.FdSelectAt.the-variants.{Ref
 use Rattle.charset.specs.declared.fd_select.FdCursor.{FdCursor}
 use Rattle.charset.specs.declared.fd_select.FdStep.{FdStep}
 
--- no FDSelect, and those of format 0 and format 3 whose parts behind the format byte stand at a place
+-- no FDSelect: no range, so that each glyph has FD 0
 abbrev pub noSelect : FdSelect
 noSelect = record { count = 0; first = 0; wide = 0; at = 0 }
 
+-- format 0, whose FDs stand at a place: a range for each glyph
 abbrev pub eachAt : ℕ → ℕ → FdSelect
 eachAt n at = record { count = n; first = 0; wide = 0; at = at }
 
+-- format 3, whose count of ranges stands at a place
 abbrev pub rangesAt : List ℕ → ℕ → FdSelect
 rangesAt b at = record { count = numAt b at 2; first = numAt b (at + 2) 2; wide = 2; at = at + 4 }
 
+-- the FDSelect at a place, by its format
 abbrev pub selectAt : List ℕ → ℕ → ℕ → FdSelect
 selectAt b at n = pick (eqb (getD b at 0) 0) (eachAt n (at + 1)) (rangesAt b (at + 1))
 
@@ -32,14 +35,16 @@ abbrev pub selectAnswer : FdSelect → Listed → FdSelectAt
 selectAnswer s (refused e) = Refused e
 selectAnswer s (listed l) = Found s
 
+-- the same by the refusal of the ranges
 abbrev pub rangesAnswer : FdSelect → ℕ → FdSelectAt
 rangesAnswer s zero = Found s
 rangesAnswer s (suc e) = Refused (suc e)
 
--- the FD of a glyph, and of n glyphs
+-- the FD of a glyph
 unfoldable pub fdOf : List ℕ → FdSelect → ℕ → ℕ
 fdOf b s g = fdIn (s .wide) (s .count) (s .first) (drop (s .at) b) g
 
+-- the FDs of n glyphs
 abbrev pub fdsOf : List ℕ → FdSelect → ℕ → List ℕ
 fdsOf b s n = listOf (fdOf b s) 0 n
 
@@ -72,7 +77,7 @@ unfoldable pub intoRange : List ℕ → ℕ → FdCursor → FdCursor
 intoRange b zero u = u
 intoRange b (suc m) u = pick (ltb (u .gid) (u .end)) u (intoRange b m (intoNext b u))
 
--- the glyph's FD, and the cursor behind it
+-- the FD of the glyph whose range a cursor is in, and the cursor behind the glyph
 abbrev pub stepped : FdCursor → FdStep
 stepped u =
     record {
@@ -80,6 +85,7 @@ stepped u =
       next = record { gid = u .gid + 1; fd = u .fd; end = u .end; count = u .count; wide = u .wide; at = u .at };
     }
 
+-- the FD of the glyph that a cursor stands before, and the cursor behind it
 unfoldable pub nextFd : List ℕ → FdCursor → FdStep
 nextFd b u = stepped (intoRange b (u .count) u)
 

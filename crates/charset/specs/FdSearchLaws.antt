@@ -1,15 +1,15 @@
 -- Laws of the search by halves through the ranges of an FDSelect of format 3, whose ends never fall, and of format 0's direct way.
 use Prim.Native.Nat.{ℕ, zero, suc, _+_, _-_, _*_, _≤_, _<_}
 use mathlib.Core.Path.{_≡_, refl, sym, ap, _∙_, subst}
-use mathlib.Core.List.{List, [], _∷_}
-use native.Mathlib.Nat.{not-suc-le-zero, add-zero}
+use mathlib.Core.List.{List}
+use native.Mathlib.Nat.{add-zero}
 use native.Mathlib.Numerals.{sub-one}
 use native.Mathlib.Omega.{arith}
 use lib.ListN.{length, drop, getD}
 use Rattle.octets.specs.Octets.{numAt}
 use Rattle.charset.specs.FdSelect.{rangeEnd, fdIn, rangesRefusal}
 use Rattle.charset.specs.FdPlaces.{fdOf, GoodSelect}
-use Rattle.charset.specs.FdLaws.{end-one, end-two, Rises, ranges-rise, fd-none, fd-before, fd-here, fd-behind}
+use Rattle.charset.specs.FdLaws.{end-one, end-two, ranges-rise, fd-none, fd-before, fd-here, fd-behind}
 use Rattle.charset.specs.declared.fd_select.FdSelect.{FdSelect}
 
 -- where the j-th of the ranges from p on ends

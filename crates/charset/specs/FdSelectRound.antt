@@ -1,22 +1,22 @@
 -- An FDSelect that was written reads back.
-use Prim.Native.Nat.{ℕ, zero, suc, _+_, _-_, _*_, _≤_, _<_}
-use mathlib.Core.Path.{_≡_, refl, sym, ap, _∙_, subst}
+use Prim.Native.Nat.{ℕ, zero, suc, _+_, _≤_, _<_}
+use mathlib.Core.Path.{_≡_, refl, sym, ap, _∙_}
 use mathlib.Core.Bool.{Bool, true, false}
 use mathlib.Core.List.{List, [], _∷_, _++_, append-assoc}
 use native.Mathlib.Nat.{not-suc-le-zero, add-zero}
 use native.Mathlib.Omega.{arith}
-use borrow.Author.Tests.{lt-ltb, le-ltb, ltb-true, ltb-false, eqb-true, eqb-false}
+use borrow.Author.Tests.{lt-ltb, le-ltb, eqb-true}
 use lib.ListN.{length, take, drop, getD, length-append}
 use lib.Seq.{ext-getD, drop-drop}
 use lib.Dec.{ltb, eqb}
 use Rattle.octets.specs.Pick.{pick, pick-ind}
 use Rattle.octets.specs.Octets.{be, bytesOf}
 use Rattle.octets.specs.OctetsLaws.{length-bytes, be-front, drop-front}
-use Rattle.charset.specs.Listed.{Listed, refused, listed, listOf}
+use Rattle.charset.specs.Listed.{listed, listOf}
 use Rattle.charset.specs.ListedLaws.{list-length, list-at}
-use Rattle.charset.specs.FdSelect.{rangeFd, rangeEnd, fdIn, rangesRefusal, judged, rangeFds, fdsIn, fdSelectAt}
+use Rattle.charset.specs.FdSelect.{rangeEnd, fdIn, rangesRefusal, rangeFds, fdSelectAt}
 use Rattle.charset.specs.FdSelectBytes.{Fds, changes, fdRanges, entryBytes, fdSelectBytes}
-use Rattle.charset.specs.FdSelectBytesLaws.{changes-few, select-length}
+use Rattle.charset.specs.FdSelectBytesLaws.{changes-few}
 
 -- what stands behind the FD of a range under way: the ranges that start among glyphs with these FDs, from glyph g on, the count of all
 -- glyphs, and what follows the table

@@ -1,6 +1,6 @@
--- An FDSelect written glyph by glyph: what its writer holds after some glyphs, and what each step writes. The format and the count of ranges
+-- An FDSelect (TN5176, section 19) written glyph by glyph: what its writer holds after some glyphs, and what each step writes. The format and the count of ranges
 -- are written last, into the three bytes left free in front.
-use Prim.Native.Nat.{ℕ, _+_, _*_, _≤_, _<_}
+use Prim.Native.Nat.{ℕ, _+_, _*_, _<_}
 use mathlib.Core.Path.{_≡_}
 use mathlib.Core.List.{List, [], _∷_, _++_}
 use lib.ListN.{length}
@@ -20,12 +20,13 @@ abbrev pub writerOf : ℕ → List ℕ → FdSelectWriter
 writerOf at fds =
     record { start = at; last = lastFd 256 fds; ranges = length (fdRanges fds); next = at + 3 + 3 * length (fdRanges fds); glyphs = length fds }
 
--- one FD more: the writer, and the range that is written where the FD changes
+-- the writer after one FD more
 unfoldable pub pushed : FdSelectWriter → ℕ → FdSelectWriter
 pushed w fd =
     pick (eqb fd (w .last)) (record { start = w .start; last = w .last; ranges = w .ranges; next = w .next; glyphs = w .glyphs + 1 })
     (record { start = w .start; last = fd; ranges = w .ranges + 1; next = w .next + 3; glyphs = w .glyphs + 1 })
 
+-- the range that is written where the FD changes
 unfoldable pub pushedBytes : FdSelectWriter → ℕ → List ℕ
 pushedBytes w fd = pick (eqb fd (w .last)) [] (bytesOf 2 (w .glyphs) ++ (fd ∷ []))
 

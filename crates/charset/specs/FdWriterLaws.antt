@@ -1,20 +1,19 @@
 -- Laws of an FDSelect written glyph by glyph: the steps that the code takes, and that they give the whole.
-use Prim.Native.Nat.{ℕ, zero, suc, _+_, _-_, _*_, _≤_, _<_}
+use Prim.Native.Nat.{ℕ, _+_, _*_, _≤_, _<_}
 use mathlib.Core.Path.{_≡_, refl, sym, ap, _∙_, subst}
-use mathlib.Core.Bool.{Bool, true, false}
 use mathlib.Core.List.{List, [], _∷_, _++_, append-assoc, append-nil}
-use native.Mathlib.Nat.{not-suc-le-zero, add-zero}
+use native.Mathlib.Nat.{add-zero}
 use native.Mathlib.Numerals.{add-one}
 use native.Mathlib.Omega.{arith}
 use borrow.Author.Tests.{eq-eqb, ne-eqb, eqb-true, eqb-false}
 use lib.ListN.{length, take, drop, getD, length-append, take-append-drop}
-use lib.Seq.{take-suc, take-all, take-take, take-append-le, length-take-le}
+use lib.Seq.{take-suc, take-take, take-append-le, length-take-le}
 use lib.Dec.{eqb}
-use Rattle.octets.specs.Pick.{pick, pick-ind}
+use Rattle.octets.specs.Pick.{pick-ind}
 use Rattle.octets.specs.Octets.{bytesOf, put, Wrote}
 use Rattle.octets.specs.OctetsLaws.{length-bytes}
-use Rattle.octets.specs.PutLaws.{put-nil, put-is, put-put, put-length, drop-put-at, wrote-none, wrote-then, wrote-as, wrote-length}
-use Rattle.charset.specs.FdSelectBytes.{changes, fdRanges, entryBytes, fdSelectBytes, fdSelectLen}
+use Rattle.octets.specs.PutLaws.{put-is, put-put, drop-put-at, wrote-none, wrote-then, wrote-as, wrote-length}
+use Rattle.charset.specs.FdSelectBytes.{changes, fdRanges, entryBytes, fdSelectBytes}
 use Rattle.charset.specs.FdSelectBytesLaws.{entry-append, select-length, last-snoc, ranges-same, ranges-new, changes-few, changes-grow, entry-length}
 use Rattle.charset.specs.FdWriter.{lastFd, writerOf, pushed, pushedBytes, CanCount, Pushed, Finished}
 use Rattle.charset.specs.declared.fd_writer.FdSelectWriter.{FdSelectWriter}

@@ -1,25 +1,21 @@
 -- Laws of a cursor through a charset: it begins before glyph 0, and each step gives the next glyph's id.
 use Prim.Native.Nat.{ℕ, zero, suc, _+_, _-_, _≤_, _<_}
-use mathlib.Core.Path.{_≡_, refl, sym, ap, _∙_, subst}
+use mathlib.Core.Path.{_≡_, refl, sym, ap, _∙_}
 use mathlib.Core.Bool.{Bool, true, false}
-use mathlib.Core.List.{List, [], _∷_}
+use mathlib.Core.List.{List, _∷_}
 use native.Mathlib.Nat.{not-suc-le-zero}
-use native.Mathlib.Numerals.{add-one, sub-one}
+use native.Mathlib.Numerals.{sub-one}
 use native.Mathlib.Omega.{arith}
 use borrow.Author.Tests.{eq-eqb, ne-eqb, ltb-false}
-use lib.ListN.{length, take, drop, getD, length-drop}
-use lib.Seq.{drop-cons, drop-drop}
-use lib.Dec.{eqb, ltb}
+use lib.ListN.{length, drop, length-drop}
+use lib.Dec.{ltb}
 use Rattle.octets.specs.Pick.{pick}
-use Rattle.octets.specs.Octets.{be, numAt}
-use Rattle.charset.specs.Listed.{Listed, refused, listed, onward, numbersOf, listOf}
-use Rattle.charset.specs.Charset.{idsFrom, charsetAt, isoAdobe, tableAt, predefined, idsOf, GoodCharset, charsetAnswer, charsetStart, nextId, StandsId, ReadyId}
-use Rattle.charset.specs.CharsetLaws.{range-met, range-lost, range-cut}
-use Rattle.charset.specs.declared.Charset.{Charset}
-use Rattle.charset.specs.declared.CharsetAt.{CharsetAt}
-use Rattle.charset.specs.declared.CharsetAt.the-variants.{Refused, Found}
+use Rattle.octets.specs.Octets.{numAt}
+use Rattle.charset.specs.Listed.{Listed, refused, listed, onward}
+use Rattle.charset.specs.Charset.{idsFrom}
+use Rattle.charset.specs.CharsetPlaces.{nextId, StandsId, ReadyId}
+use Rattle.charset.specs.CharsetLaws.{range-met}
 use Rattle.charset.specs.declared.CharsetCursor.{CharsetCursor}
-use Rattle.charset.specs.declared.IdStep.{IdStep}
 
 -- ---- the step that the code takes
 
@@ -58,8 +54,9 @@ unfolding idsFrom
 id-on w k i left bs l h =
     let t = test-passed (ltb 65535 i) 2 _ l h in
     let n : i ≤ 65535 = ltb-false 65535 i (t .0) in
-    let o = on-listed i _ l (t .1) in
-    (omega arith, o .0, o .1)
+    let m : i < 65536 = omega arith in
+    let o = on-listed i (idsFrom w k (i + 1) left bs) l (t .1) in
+    (m, o .0, o .1)
 
 -- the first id of a range that is met
 pub id-met : (b : List ℕ) (q w k i : ℕ) (l : List ℕ) → idsFrom w (suc k) i 0 (drop q b) ≡ listed l

@@ -1,17 +1,18 @@
 -- Laws of one glyph's id: the ranges before its own are passed, and its id is counted from the first of its range.
 use Prim.Native.Nat.{ℕ, zero, suc, _+_, _-_, _*_, _≤_, _<_}
-use mathlib.Core.Path.{_≡_, refl, sym, ap, _∙_, subst}
-use mathlib.Core.List.{List, [], _∷_}
+use mathlib.Core.Path.{_≡_, sym, ap, _∙_, subst}
+use mathlib.Core.List.{List, _∷_}
 use native.Mathlib.Nat.{not-suc-le-zero, add-zero}
-use native.Mathlib.Numerals.{add-one, sub-one}
+use native.Mathlib.Numerals.{sub-one}
 use native.Mathlib.Omega.{arith}
-use lib.ListN.{length, take, drop, getD}
+use lib.ListN.{length, drop, getD}
 use lib.Seq.{drop-drop, getD-drop}
-use Rattle.octets.specs.Octets.{be, numAt}
+use Rattle.octets.specs.Octets.{numAt}
 use Rattle.octets.specs.OctetsLaws.{num-none}
-use Rattle.charset.specs.Listed.{Listed, refused, listed, onward, numbersOf}
-use Rattle.charset.specs.Charset.{idsFrom, idsOf, GoodCharset}
-use Rattle.charset.specs.CharsetLaws.{range-none, range-met}
+use Rattle.charset.specs.Listed.{Listed, listed, numbersOf}
+use Rattle.charset.specs.Charset.{idsFrom}
+use Rattle.charset.specs.CharsetPlaces.{idsOf, GoodCharset}
+use Rattle.charset.specs.CharsetLaws.{range-none}
 use Rattle.charset.specs.IdCursorLaws.{id-on, id-met}
 use Rattle.charset.specs.declared.Charset.{Charset}
 

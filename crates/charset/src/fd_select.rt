@@ -1,7 +1,7 @@
 // The font dictionary of each glyph of a CID font: FDSelect, read in place.
 ghost use mathlib.Core.Path.{_≡_};
 ghost use Prim.Native.Nat.{_+_, _*_, _≤_, _<_};
-ghost use lib.ListN.{length, drop, getD};
+ghost use lib.ListN.{length, drop};
 ghost use Rattle.charset.specs.FdSelect.{rangeEnd, fdIn, rangesRefusal, rangeFds, fdSelectAt, allBelow};
 ghost use Rattle.charset.specs.FdPlaces.{noSelect, rangesAt, selectAt, selectAnswer, rangesAnswer, fdOf, fdsOf, GoodSelect, selectStart, intoRange, nextFd, ReadyFd};
 

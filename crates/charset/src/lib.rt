@@ -8,7 +8,8 @@ ghost use mathlib.Core.Path.{_≡_};
 ghost use Prim.Native.Nat.{_+_, _≤_, _<_};
 ghost use lib.ListN.{length, drop, getD};
 ghost use Rattle.charset.specs.Listed.{listed, numbersOf};
-ghost use Rattle.charset.specs.Charset.{idsFrom, charsetAt, tableAt, predefined, idsOf, GoodCharset, charsetAnswer, charsetStart, nextId, ReadyId};
+ghost use Rattle.charset.specs.Charset.{idsFrom, charsetAt};
+ghost use Rattle.charset.specs.CharsetPlaces.{tableAt, predefined, idsOf, GoodCharset, charsetAnswer, charsetStart, nextId, ReadyId};
 
 // A charset of a font: the first `own` glyphs have their own numbers as ids, glyph 0 alone where there is a table, all of them where the
 // charset is the predefined one; the others stand in ranges from `at` on, whose nLeft has `width` bytes.

@@ -1,11 +1,12 @@
 -- `charset::check_ranges` meets its contract. The invariant: what the ranges that are left give for the glyphs that are left is what all give.
-use Prim.Native.Nat.{ℕ, _+_, _-_, _≤_, _<_}
-use mathlib.Core.Path.{_≡_, refl, sym, _∙_}
+use Prim.Native.Nat.{_+_, _≤_, _<_}
+use mathlib.Core.Path.{_≡_, refl, _∙_}
 use native.Mathlib.Omega.{arith}
 use borrow.Author.Needs.{needs}
 use lib.ListN.{length, drop}
 use denote.Ref.{now}
-use Rattle.charset.specs.Charset.{idsFrom, charsetAnswer}
+use Rattle.charset.specs.Charset.{idsFrom}
+use Rattle.charset.specs.CharsetPlaces.{charsetAnswer}
 use Rattle.charset.specs.CharsetLaws.{check-lost, check-last, check-last-past, check-past, check-on, check-done, left-small}
 use Rattle.charset.proofs.check_ranges.Statement.{statement}
 use Rattle.charset.proofs.check_ranges.Tie as tie

@@ -1,5 +1,5 @@
 -- `charset::id_in_ranges` meets its contract. The invariant: the glyph is the i-th from the range at q on.
-use Prim.Native.Nat.{ℕ, _+_, _-_, _≤_, _<_}
+use Prim.Native.Nat.{_+_, _≤_}
 use native.Mathlib.Omega.{arith}
 use borrow.Author.Needs.{needs}
 use lib.ListN.{length, drop}
@@ -52,7 +52,9 @@ loop-less : tie.Need-loop-less Inv-loop μ-loop
 loop-less c = search needs
 
 loop-again : tie.Need-loop-again Inv-loop μ-loop
-loop-again c = reach-next _ _ _ _ _ _ _ _ (c .before .before .loop .inv) (c .before .before .before .before .before .pre .2) (c .before .loop-test .taken) _ (c .num-at2 .ensures .0)
+loop-again c =
+    let d = c .before in
+    reach-next _ _ _ _ _ _ _ _ (d .before .loop .inv) (d .before .before .before .before .pre .2) (d .loop-test .taken) _ (c .num-at2 .ensures .0)
 
 u16-at-requires : tie.Need-u16-at-requires Inv-loop μ-loop
 u16-at-requires c κs = omega (arith, reach-there _ _ _ _ _ _ _ _ (c .before .loop .inv) (c .before .before .before .before .pre .2))

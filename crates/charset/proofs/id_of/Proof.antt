@@ -19,7 +19,9 @@ u16-at-requires : tie.Need-u16-at-requires
 u16-at-requires c κs = each-there _ _ _ _ (c .before .before .before .pre .0) (c .before .before .before .pre .1) (c .before .if1 .left) (c .if2 .taken)
 
 returns-2 : tie.Need-returns-2
-returns-2 c = (c .u16-at .ensures .0 ∙ each-id _ _ _ _ (c .before .before .before .before .pre .0) (c .before .before .before .before .pre .1) (c .before .before .if1 .left) (c .before .if2 .taken), c .u16-at .ensures .1)
+returns-2 c =
+    let p = c .before .before .before .before .pre in
+    (c .u16-at .ensures .0 ∙ each-id _ _ _ _ (p .0) (p .1) (c .before .before .if1 .left) (c .before .if2 .taken), c .u16-at .ensures .1)
 
 sub-id-in-ranges : tie.Need-sub-id-in-ranges
 sub-id-in-ranges c = search needs
@@ -30,7 +32,9 @@ id-in-ranges-requires c κs =
     (p .0 .narrow, omega (arith, p .0 .few), omega arith, ranges-read _ _ _ _ (p .0) (p .1) (c .before .if1 .left))
 
 returns-3 : tie.Need-returns-3
-returns-3 c = (c .id-in-ranges .ensures .0 ∙ ranges-id _ _ _ _ (c .before .before .before .before .pre .0) (c .before .before .before .before .pre .1) (c .before .before .if1 .left), c .id-in-ranges .ensures .1)
+returns-3 c =
+    let p = c .before .before .before .before .pre in
+    (c .id-in-ranges .ensures .0 ∙ ranges-id _ _ _ _ (p .0) (p .1) (c .before .before .if1 .left), c .id-in-ranges .ensures .1)
 
 pub id-of-spec : {M : Type 1} → statement M
 id-of-spec =

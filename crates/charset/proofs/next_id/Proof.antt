@@ -1,7 +1,6 @@
 -- `charset::next_id` meets its contract: the one test of `nextId`, and the bytes are there by `ReadyId`.
 use native.Mathlib.Omega.{arith}
 use Rattle.charset.specs.IdCursorLaws.{step-met, step-on}
-use Rattle.charset.specs.CharsetLaws.{left-small}
 use borrow.Author.Needs.{needs}
 use Rattle.charset.proofs.next_id.Statement.{statement}
 use Rattle.charset.proofs.next_id.Tie as tie

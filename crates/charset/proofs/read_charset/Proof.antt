@@ -1,8 +1,7 @@
 -- `charset::read_charset` meets its contract: each return is a case of `charsetAt` by the format; format 0 is a test of the length.
-use mathlib.Core.Path.{_≡_, sym, _∙_}
-use native.Mathlib.Omega.{arith}
+use mathlib.Core.Path.{sym, _∙_}
 use denote.Ref.{now}
-use Rattle.charset.specs.Charset.{charsetAt, tableAt}
+use Rattle.charset.specs.Charset.{charsetAt}
 use Rattle.charset.specs.CharsetLaws.{read-lost, read-unknown, read-ranges, read-each-lost, read-each, table-is}
 use borrow.Author.Needs.{needs}
 use Rattle.charset.proofs.read_charset.Statement.{statement}

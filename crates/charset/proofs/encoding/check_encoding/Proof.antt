@@ -1,7 +1,6 @@
 -- `charset::encoding::check_encoding` meets its contract: each test is one of `encodingAt`, in its order.
 use Prim.Native.Nat.{ℕ, _+_, _*_, _%_, _≤_}
 use mathlib.Core.Path.{_≡_, _∙_}
-use mathlib.Core.List.{List}
 use native.Mathlib.Omega.{arith}
 use lib.ListN.{drop}
 use denote.Ref.{now}

@@ -1,5 +1,5 @@
 -- `charset::fd_select::check_ends` meets its contract. The invariant: what the ranges that are left give is what all give.
-use Prim.Native.Nat.{ℕ, _+_, _-_, _≤_, _<_}
+use Prim.Native.Nat.{_≤_}
 use mathlib.Core.Path.{_≡_, refl, _∙_}
 use native.Mathlib.Omega.{arith}
 use borrow.Author.Needs.{needs}

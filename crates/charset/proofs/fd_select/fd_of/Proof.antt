@@ -12,10 +12,14 @@ add-result : tie.Need-add-result
 add-result c = omega (arith, each-there _ _ _ (c .before .before .before .before .pre) (c .before .before .if1 .left) (c .before .if2 .taken) (c .if3 .taken))
 
 shared-slice-read-result : tie.Need-shared-slice-read-result
-shared-slice-read-result c = each-there _ _ _ (c .before .before .before .before .before .pre) (c .before .before .before .if1 .left) (c .before .before .if2 .taken) (c .before .if3 .taken)
+shared-slice-read-result c =
+    let d = c .before in
+    each-there _ _ _ (d .before .before .before .before .pre) (d .before .before .if1 .left) (d .before .if2 .taken) (d .if3 .taken)
 
 returns-2 : tie.Need-returns-2
-returns-2 c = each-fd _ _ _ (c .before .before .before .before .before .pre) (c .before .before .before .if1 .left) (c .before .before .if2 .taken) (c .before .if3 .taken)
+returns-2 c =
+    let d = c .before in
+    each-fd _ _ _ (d .before .before .before .before .pre) (d .before .before .if1 .left) (d .before .if2 .taken) (d .if3 .taken)
 
 returns-3 : tie.Need-returns-3
 returns-3 c = each-none _ _ _ (c .before .before .before .before .pre) (c .before .before .if1 .left) (c .before .if2 .taken) (c .if3 .left)

@@ -1,12 +1,12 @@
 -- `charset::fd_select::fds_below` meets its contract. The invariant: the cursor stands before glyph g, and the glyphs from there on give what all give.
-use Prim.Native.Nat.{ℕ, _+_, _-_, _≤_, _<_}
-use mathlib.Core.Path.{_≡_, refl, sym, ap, _∙_, subst}
+use Prim.Native.Nat.{ℕ, _+_, _-_, _≤_}
+use mathlib.Core.Path.{_≡_, sym, ap, _∙_, subst}
 use native.Mathlib.Omega.{arith}
 use borrow.Author.Needs.{needs}
 use denote.Ref.{now}
 use Rattle.charset.specs.Listed.{listOf}
 use Rattle.charset.specs.FdSelect.{allBelow}
-use Rattle.charset.specs.FdPlaces.{fdOf, fdsOf, selectStart, StandsFd}
+use Rattle.charset.specs.FdPlaces.{fdOf, fdsOf, StandsFd}
 use Rattle.charset.specs.FdCursorLaws.{fd-start, fd-ready, fd-step, fd-next}
 use Rattle.charset.specs.FdBelowLaws.{below-stops, below-goes-on, below-done}
 use Rattle.charset.specs.declared.fd_select.FdSelect.{FdSelect}

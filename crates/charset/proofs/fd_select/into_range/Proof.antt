@@ -1,13 +1,12 @@
 -- `charset::fd_select::into_range` meets its contract. The invariant: the way that is left from here ends where the whole way ends.
-use Prim.Native.Nat.{ℕ, _+_, _-_, _≤_, _<_}
-use mathlib.Core.Path.{_≡_, refl, sym, ap, _∙_, subst}
+use Prim.Native.Nat.{_+_, _≤_}
+use mathlib.Core.Path.{_≡_, refl, _∙_}
 use native.Mathlib.Omega.{arith}
 use borrow.Author.Needs.{needs}
-use lib.ListN.{length, drop, getD}
+use lib.ListN.{length}
 use denote.Ref.{now}
-use Rattle.charset.specs.FdSelect.{rangeEnd}
-use Rattle.charset.specs.FdPlaces.{intoNext, intoRange, ReadyFd}
-use Rattle.charset.specs.FdCursorLaws.{into-here, into-next, into-last, entry-there, ready-next}
+use Rattle.charset.specs.FdPlaces.{intoRange, ReadyFd}
+use Rattle.charset.specs.FdCursorLaws.{into-here, into-last, entry-there, turn-ready, turn-same}
 use Rattle.charset.specs.declared.fd_select.FdCursor.{FdCursor}
 use Rattle.charset.proofs.fd_select.into_range.Statement.{statement}
 use Rattle.charset.proofs.fd_select.into_range.Tie as tie
@@ -64,19 +63,17 @@ loop-again c =
     let e = c .before in
     let d = e .before .before in
     let b = now (d .before .before .before .args .font) in
-    let l = d .before .loop in
-    let q = sym (e .range-end .ensures) in (
-      subst (λ (x : ℕ). ReadyFd b (record { gid = here d .gid; fd = getD b (l .at) 0; end = x; count = l .count - 1; wide = here d .wide; at = l .at + 1 + here d .wide })) q
-          (ready-next b (here d) (l .inv .0) (d .loop-test .taken)),
-      ap (λ (x : ℕ). intoRange b (l .count - 1) (record { gid = here d .gid; fd = getD b (l .at) 0; end = x; count = l .count - 1; wide = here d .wide; at = l .at + 1 + here d .wide })) (e .range-end .ensures)
-          ∙ into-next b (l .count) (here d) (d .loop-test .taken) (e .before .if1 .left) ∙ l .inv .1,
+    let l = d .before .loop in (
+      turn-ready b (here d) (l .inv .0) (d .loop-test .taken) _ (e .range-end .ensures),
+      turn-same b (here d) (l .inv .0) (d .loop-test .taken) _ (e .range-end .ensures) (e .before .if1 .left) ∙ l .inv .1,
     )
 
 returns-2 : tie.Need-returns-2 Inv-loop μ-loop
 returns-2 c =
     let a = c .before .before .before .args in
     let l = c .before .loop in
-    into-last (now (a .font)) (l .count) (record { gid = a .u .gid; fd = l .fd; end = l .end; count = l .count; wide = a .u .wide; at = l .at }) (omega arith) ∙ l .inv .1
+    let u : FdCursor = record { gid = a .u .gid; fd = l .fd; end = l .end; count = l .count; wide = a .u .wide; at = l .at } in
+    into-last (now (a .font)) (l .count) u (omega arith) ∙ l .inv .1
 
 pub into-range-spec : {M : Type 1} → statement M
 into-range-spec =

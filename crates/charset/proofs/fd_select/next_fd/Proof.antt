@@ -1,5 +1,4 @@
 -- `charset::fd_select::next_fd` meets its contract: in its glyph's range the FD is the range's, past the last range it is 0.
-use mathlib.Core.Path.{_∙_}
 use native.Mathlib.Omega.{arith}
 use Rattle.charset.specs.FdCursorLaws.{step-low, step-in, step-out}
 use borrow.Author.Needs.{needs}

@@ -1,5 +1,4 @@
 -- `charset::fd_select::read_fd_select` meets its contract: each return is a case of `fdSelectAt` by the format.
-use mathlib.Core.Path.{_∙_}
 use Rattle.charset.specs.FdLaws.{read-lost, read-each-lost, read-each, read-three, read-unknown}
 use borrow.Author.Needs.{needs}
 use Rattle.charset.proofs.fd_select.read_fd_select.Statement.{statement}

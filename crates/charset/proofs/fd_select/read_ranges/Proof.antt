@@ -1,5 +1,4 @@
 -- `charset::fd_select::read_ranges` meets its contract: the count and the first glyph are read, and the ranges are checked.
-use mathlib.Core.Path.{_∙_}
 use native.Mathlib.Omega.{arith}
 use denote.Ref.{now}
 use Rattle.charset.specs.FdPlaces.{rangesAt}
