@@ -7,7 +7,7 @@ use lib.Dec.{eqb}
 use Rattle.octets.specs.Pick.{pick}
 use Rattle.decimal.specs.declared.Decimal.{Decimal}
 
--- zero is one value
+-- zero, which is one value
 abbrev pub nought : Decimal
 nought = record { neg = false; digits = 0; up = 0; down = 0 }
 

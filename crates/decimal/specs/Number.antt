@@ -44,12 +44,13 @@ realOf p cut = refused 1
 realOf p wrong = refused 2
 realOf p (text ns) = placed (p + (length ns / 2 + 1)) (valueOf (length ns + 1) (formOf ns))
 
+-- the real whose first byte, 30, stands at `at`
 unfoldable pub realAt : List ℕ → ℕ → Number
 unfolding nibbles textOf valueOf formOf
 realAt b at = realOf (at + 1) (textOf (nibbles (drop (at + 1) b)))
 
--- by the first byte: 28 and two bytes, 29 and four, both in two's complement; 30 and a real; 32 to 246 by itself; 247 to 254 with one
--- byte more
+-- the number at `at`, by its first byte: 28 and two bytes, 29 and four, both in two's complement; 30 and a real; 32 to 246 by
+-- itself; 247 to 254 with one byte more
 unfoldable pub numberAt : List ℕ → ℕ → Number
 unfolding numAt normal realAt
 numberAt b at =

@@ -26,6 +26,7 @@ before x cut = cut
 before x wrong = wrong
 before x (text xs) = text (x ∷ xs)
 
+-- the text that nibbles start with
 unfoldable pub textOf : List ℕ → Text
 textOf [] = cut
 textOf (x ∷ xs) = pick (eqb x 15) (text []) (pick (eqb x 13) wrong (before x (textOf xs)))

@@ -62,6 +62,7 @@ realFrom g k p (text ns) = placed (p + ((k + length ns) / 2 + 1)) (valueOf (k + 
 abbrev pub heldOf : Bool → ℕ → ℕ → Held
 heldOf s n f = record { neg = s; digits = min (stripped n) (10 ^ 15); zeros = min (zeros n) 1000; behind = min f 1000 }
 
+-- the stage as the code holds it
 abbrev pub stageOf : Exact → Stage
 stageOf begun = Start
 stageOf (inMantissa s any point n f) = Mantissa any point (heldOf s n f)
@@ -73,6 +74,7 @@ stageOf spoilt = Malformed
 abbrev pub Few : ℕ → ℕ → ℕ → Type 0
 Few n f k = (zeros n ≤ k) × (f ≤ k)
 
+-- the same of a stage, after k nibbles
 abbrev pub Counted : Exact → ℕ → Type 0
 Counted begun k = Unit
 Counted (inMantissa s any point n f) k = Few n f k

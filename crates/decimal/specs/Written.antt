@@ -53,6 +53,7 @@ packed [] = 255 ∷ []
 packed (x ∷ []) = (x * 16 + 15) ∷ []
 packed (x ∷ y ∷ xs) = (x * 16 + y) ∷ packed xs
 
+-- a real: 30 and its nibbles
 unfoldable pub realBytes : Decimal → List ℕ
 unfolding packed realText
 realBytes d = 30 ∷ packed (realText d)
@@ -61,6 +62,7 @@ realBytes d = 30 ∷ packed (realText d)
 abbrev pub asInteger : Decimal → Bool
 asInteger d = pick (eqb (d .down) 0) (ltb (truncOf d) 2147483647) false
 
+-- the bytes of a number
 unfoldable pub numberBytes : Decimal → List ℕ
 unfolding intBytes realBytes truncOf
 numberBytes d = pick (asInteger d) (intBytes (d .neg) (truncOf d)) (realBytes d)
