@@ -25,7 +25,8 @@ use Rattle.dict.specs.declared.One.the-variants.{Number, Absent as NoNumber}
 use Rattle.dict.specs.declared.OffsetIn.{OffsetIn}
 use Rattle.dict.specs.declared.OffsetIn.the-variants.{Refused as RefusedOffset, At, Absent as NoOffset}
 use Rattle.charset.specs.Listed.{Listed, refused as refusedList, listed}
-use Rattle.charset.specs.Charset.{charsetAt, isoAdobe, tableAt, predefined, idsOf, GoodCharset, charsetAnswer}
+use Rattle.charset.specs.Charset.{charsetAt, isoAdobe}
+use Rattle.charset.specs.CharsetPlaces.{tableAt, predefined, idsOf, GoodCharset, charsetAnswer}
 use Rattle.charset.specs.CharsetFound.{found-good as charset-good, found-ids, predefined-ids, predefined-good}
 use Rattle.charset.specs.FdSelect.{fdSelectAt, noFds, allBelow}
 use Rattle.charset.specs.FdPlaces.{noSelect, selectAt, selectAnswer, fdsOf, GoodSelect}

@@ -15,7 +15,7 @@ use Rattle.index.specs.declared.IndexAt.the-variants.{Refused as RefusedIndex, 
 use Rattle.dict.specs.Places.{entriesOf, Good as GoodDict}
 use Rattle.dict.specs.Dict.{Entry, dictOf}
 use Rattle.dict.specs.Lookup.{offsetIn, privateIn, cidKeyed, charstringTypeIn}
-use Rattle.charset.specs.Charset.{idsOf, GoodCharset}
+use Rattle.charset.specs.CharsetPlaces.{idsOf, GoodCharset}
 use Rattle.charset.specs.FdSelect.{allBelow}
 use Rattle.charset.specs.FdPlaces.{fdsOf, GoodSelect}
 use Rattle.charset.specs.declared.CharsetAt.{CharsetAt}

@@ -18,7 +18,7 @@ use Rattle.index.specs.FoundLaws.{found-good, found-count, read-found, read-ref
 use Rattle.index.specs.declared.Index.{Index}
 use Rattle.index.specs.declared.IndexAt.{IndexAt}
 use Rattle.index.specs.declared.IndexAt.the-variants.{Refused as RefusedIndex, Found as FoundIndex}
-use Rattle.charset.specs.Charset.{idsOf}
+use Rattle.charset.specs.CharsetPlaces.{idsOf}
 use Rattle.find.specs.Find.{glyphWithId, glyphWithText}
 use Rattle.find.specs.declared.Found.{Found}
 use Rattle.find.specs.declared.Found.the-variants.{Absent as NoGlyph, Glyph as TheGlyph}

@@ -18,7 +18,8 @@ use Rattle.strings.specs.StringsLaws.{string-standard, string-own, string-none,
 use Rattle.strings.specs.declared.Sid.{Sid}
 use Rattle.strings.specs.declared.Sid.the-variants.{Standard, Other}
 use Rattle.charset.specs.Listed.{numbersOf}
-use Rattle.charset.specs.Charset.{idsFrom, idsOf, GoodCharset, charsetStart, nextId, StandsId, ReadyId}
+use Rattle.charset.specs.Charset.{idsFrom}
+use Rattle.charset.specs.CharsetPlaces.{idsOf, GoodCharset, charsetStart, nextId, StandsId, ReadyId}
 use Rattle.charset.specs.CharsetFound.{good-length, id-start, id-ready, id-step, id-next}
 use Rattle.charset.specs.declared.Charset.{Charset}
 use Rattle.charset.specs.declared.CharsetCursor.{CharsetCursor}

@@ -5,7 +5,7 @@ ghost use Rattle.index.specs.Index.{itemsOf};
 ghost use Rattle.index.specs.Good.{Good};
 ghost use Rattle.strings.specs.Text.{sameText};
 ghost use Rattle.strings.specs.Strings.{stringText, sidOf};
-ghost use Rattle.charset.specs.Charset.{idsOf, GoodCharset};
+ghost use Rattle.charset.specs.CharsetPlaces.{idsOf, GoodCharset};
 ghost use Rattle.find.specs.Find.{glyphWithId, glyphWithText, hasId};
 use charset::Charset;
 use index::Index;
