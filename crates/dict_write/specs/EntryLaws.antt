@@ -10,8 +10,8 @@ use Rattle.decimal.specs.declared.Decimal.{Decimal}
 use Rattle.decimal.specs.declared.NumberAt.{NumberAt}
 use Rattle.decimal.specs.declared.NumberAt.the-variants.{Refused, NotNumber, Num}
 use Rattle.decimal.specs.Decimal.{Normal}
-use Rattle.decimal.specs.Number.{number, numberAt, answerOf}
-use Rattle.decimal.specs.TakenLaws.{Taken, number-taken, answer-number}
+use Rattle.decimal.specs.Number.{number, numberAt, answerOf, Taken}
+use Rattle.decimal.specs.TakenLaws.{number-taken, answer-number}
 use Rattle.decimal.specs.Written.{numberBytes}
 use Rattle.dict.specs.Places.{operandsAt}
 use Rattle.dict.specs.LookupLaws.{operands-next, operands-none, operands-out}
