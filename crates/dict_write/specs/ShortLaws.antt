@@ -47,7 +47,7 @@ op-short op = pick-ind (λ (l : List ℕ). length l ≤ 2) (ltb op 3072) _ _ (λ
 
 -- ---- operands: at most 101 bytes for each byte read
 
-number-there : (b : List ℕ) (at : ℕ) (d : Decimal) (next : ℕ) → numberAt b at ≡ number d next → (t : Bool) → ltb at (length b) ≡ t → at < length b
+pub number-there : (b : List ℕ) (at : ℕ) (d : Decimal) (next : ℕ) → numberAt b at ≡ number d next → (t : Bool) → ltb at (length b) ≡ t → at < length b
 number-there b at d next e true h = ltb-true at (length b) h
 number-there b at d next e false h = absurd (no (let f = number-out b at (ltb-false at (length b) h) in cc))
 
