@@ -7,3 +7,4 @@ pub mod EntryLaws
 pub mod PrivateLaws
 pub mod ShortLaws
 pub mod DictRound
+pub mod EntriesRound
