@@ -270,7 +270,7 @@ pub fn lookup(pairs: &[u32], at: usize) -> MaskLen
 }
 
 // The length to pass on for the token at a cursor.
-fn given_at(pairs: &[u32], c: Cursor) -> MaskLen
+pub fn given_at(pairs: &[u32], c: Cursor) -> MaskLen
     requires { ⌜ (c .due ≡ true → 0 < c .at) ⌝ }
     ensures { λ r. ⌜ r ≡ givenAt (lookup (now (pairs .entry))) c ⌝ }
 {

@@ -1,9 +1,9 @@
 //! Cases of cff/charstring.rs: numbers read (`n`), integers and 16.16 numbers written (`i`, `f`),
-//! tokens (`t`), and tokens written back (`e`).
+//! tokens (`t`), tokens written back (`e`), and the subroutine bias (`b`).
 
 use crate::cases::Cases;
 use crate::cff::charstring::{
-    Token, encode, encode_fixed, encode_number, number, tokens_with_masks,
+    Token, bias, encode, encode_fixed, encode_number, number, tokens_with_masks,
 };
 use crate::generator::Generator;
 
@@ -25,6 +25,11 @@ pub fn all(cases: &mut Cases, random: &mut Generator) {
     for _ in 0..380 {
         let (pairs, code) = stream(random);
         encoded(cases, &pairs, &code);
+    }
+    for count in [
+        0, 1, 107, 1131, 1238, 1239, 1240, 1241, 32768, 33898, 33899, 33900, 33901, 65535,
+    ] {
+        biased(cases, count);
     }
 }
 
@@ -89,6 +94,11 @@ fn encoded(cases: &mut Cases, pairs: &[Pair], code: &[u8]) {
         }
     };
     cases.add('e', &stream_input(pairs, code), &answer);
+}
+
+fn biased(cases: &mut Cases, count: u32) {
+    let answer = bias(count as usize) as u32;
+    cases.add('b', &count.to_be_bytes(), &answer.to_be_bytes());
 }
 
 // ---- the fields
@@ -236,7 +246,6 @@ fn integers_written(cases: &mut Cases, random: &mut Generator) {
         integer(cases, size);
         integer(cases, -size);
     }
-    integer(cases, -32768);
 }
 
 fn fixed_written(cases: &mut Cases, random: &mut Generator) {

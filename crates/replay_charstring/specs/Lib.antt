@@ -1,0 +1,10 @@
+pub mod Numbers
+pub mod Streams
+pub mod Answers
+pub mod Lines
+pub mod Report
+pub mod ReportLaws
+pub mod LinesLaws
+pub mod AnswersLaws
+pub mod StreamLaws
+pub mod TextLaws
