@@ -15,7 +15,7 @@ use Rattle.cff.specs.Font.{Got, refused as refusedFont, got, Program, readFont}
 use Rattle.cff.specs.Find.{workSize, findName, findCid}
 use Rattle.cff.specs.declared.FoundAs.{FoundAs}
 use Rattle.cff.specs.declared.FoundAs.the-variants.{Refused, Absent, Glyph}
-use Rattle.subset.specs.Kept.{keptOf, writtenOrder}
+use Rattle.subset.specs.Kept.{keptOf, writtenOrder, usedFds}
 use Rattle.subset.specs.Texts.{nameOf}
 use Rattle.subset.specs.Pruned.{Pruned, pruned}
 use Rattle.subset.specs.Subset.{ownByName, ownByCid, subsetBytes}
@@ -56,13 +56,13 @@ sameBool false b = not b
 -- ---- the outcome
 
 -- the own strings of the subset
-abbrev pub ownOf : Program → List ℕ → List ℕ → List ℕ → Pruned → List (List ℕ)
-ownOf p name kept order q = pick (cidKeyed (p .top)) (ownByCid p name kept order (q .bodies)) (ownByName p name kept order (q .bodies))
+abbrev pub ownOf : Program → List ℕ → List (List ℕ)
+ownOf p order = pick (cidKeyed (p .top)) (ownByCid p) (ownByName p order)
 
 -- from 9 passed on: 12 a string id above 64,999, 10 a subset above 67,108,864 bytes, 11 above the room
 abbrev pub written : Program → List ℕ → List ℕ → List ℕ → ℕ → Pruned → Outcome
 written p name kept order room q =
-    pick (ltb 64609 (length (ownOf p name kept order q))) (refused 12)
+    pick (ltb 64609 (length (ownOf p order))) (refused 12)
     (pick (ltb 67108864 (length (subsetBytes p name kept order (q .bodies)))) (refused 10)
     (pick (ltb room (length (subsetBytes p name kept order (q .bodies)))) (refused 11)
     (subset (q .way) (subsetBytes p name kept order (q .bodies)))))
@@ -80,7 +80,7 @@ cutProgram cid p name keep rec flag words room =
     (pick (allFound p kept)
     (pick (recordFine cid rec flag)
     (pick (ltb words (workSize p)) (refused 9)
-    (written p name kept order room (pruned p (rowsOf rec) kept order flag)))
+    (written p name kept order room (pruned p (rowsOf rec) (usedFds p kept) order flag)))
     (refused 8)) (refused 7)) (refused 6))) (refused 2)) (refused 3)
 
 abbrev pub cutRead : Bool → Got Program → List ℕ → List ℕ → List ℕ → ℕ → ℕ → ℕ → Outcome

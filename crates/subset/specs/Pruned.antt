@@ -11,8 +11,8 @@ use Rattle.charstring.specs.Bias.{biasOf}
 use Rattle.unfold.specs.Unfold.{Row, Site, glyph, local, global, entered}
 use Rattle.prune.specs.Renumber.{New, none, new, Operand, fails, operandOf, Calls, Bytes, failed, bytes, renumberCharstring}
 use Rattle.record.specs.Record.{lists, givenIn, twoLengths}
-use Rattle.cff.specs.Font.{Private, Program}
-use Rattle.subset.specs.Kept.{those, usedFds}
+use Rattle.cff.specs.Font.{Program}
+use Rattle.subset.specs.Kept.{those, localsOf}
 
 -- the global subroutines, the local ones of each FD in use, and the charstrings as they are written
 pub record Bodies : Type 0 where
@@ -54,24 +54,41 @@ unfoldable pub each : {A : Type 0} → (ℕ → May A) → List ℕ → May (Lis
 each f [] = yes []
 each f (k ∷ ks) = and (f k) (λ b. and (each f ks) (λ bs. yes (b ∷ bs)))
 
-module _ (p : Program) (rows : List Row) (kept order : List ℕ) where
-  -- the local subroutines of an FD, and what of them and of the globals the record has
-  abbrev pub localsOf : ℕ → List (List ℕ)
-  localsOf f = getD (p .privates) f (record { entries = []; locals = [] }) .locals
+-- what a record has of the local subroutines of an FD, and of the globals
+abbrev pub localSet : List Row → ℕ → ℕ → Bool
+localSet rows f k = lists rows (entered (local f k))
 
-  abbrev pub localSet : ℕ → ℕ → Bool
-  localSet f k = lists rows (entered (local f k))
+abbrev pub globalSet : List Row → ℕ → Bool
+globalSet rows k = lists rows (entered (global k))
 
-  abbrev pub globalSet : ℕ → Bool
-  globalSet k = lists rows (entered (global k))
+-- a body, with the lengths that the record gives for its masks; two lengths at one offset fail
+unfoldable pub renumberedBody : List Row → Calls → Site → List ℕ → May (List ℕ)
+renumberedBody rows calls site s = pick (twoLengths rows site) fail (whole (renumberCharstring calls (givenIn rows site) s))
 
-  -- ---- renumbered
+-- the reached ones of some subroutines; a number without a subroutine fails
+unfoldable pub renumberedSubrs : List Row → (ℕ → Bool) → Calls → (ℕ → Site) → List (List ℕ) → May (List (List ℕ))
+renumberedSubrs rows set calls site subrs =
+    pick (eqb (reached set) (countBelow set (length subrs)))
+    (each (λ k. renumberedBody rows calls (site k) (getD subrs k [])) (those set (length subrs) 0)) fail
 
+-- each unreached subroutine is a return
+unfoldable pub stubbedFrom : (ℕ → Bool) → ℕ → List (List ℕ) → List (List ℕ)
+stubbedFrom set k [] = []
+stubbedFrom set k (s ∷ ss) = pick (set k) s (11 ∷ []) ∷ stubbedFrom set (k + 1) ss
+
+unfoldable pub mapped : {A : Type 0} → (ℕ → A) → List ℕ → List A
+mapped f [] = []
+mapped f (x ∷ xs) = f x ∷ mapped f xs
+
+-- ---- a font's
+
+module _ (p : Program) (rows : List Row) where
+  -- what becomes of the operand of a call of a local subroutine of an FD, and of a global one
   abbrev pub localOperand : ℕ → ℤ → Operand
-  localOperand f z = operandOf (rank (localSet f)) (biasOf (length (localsOf f))) (biasOf (reached (localSet f))) z
+  localOperand f z = operandOf (rank (localSet rows f)) (biasOf (length (localsOf p f))) (biasOf (reached (localSet rows f))) z
 
   abbrev pub globalOperand : ℤ → Operand
-  globalOperand z = operandOf (rank globalSet) (biasOf (length (p .globals))) (biasOf (reached globalSet)) z
+  globalOperand z = operandOf (rank (globalSet rows)) (biasOf (length (p .globals))) (biasOf (reached (globalSet rows))) z
 
   -- the calls of a glyph or a local subroutine of an FD; those of a global one, which may call a local one only where one FD is in use
   abbrev pub callsIn : ℕ → Calls
@@ -82,48 +99,27 @@ module _ (p : Program) (rows : List Row) (kept order : List ℕ) where
   callsAcross (f ∷ []) b z = callsIn f b z
   callsAcross (f ∷ g ∷ fs) b z = pick (eqb b 10) fails (globalOperand z)
 
-  -- a body, with the lengths that the record gives for its masks; two lengths at one offset fail
-  unfoldable pub renumberedBody : Calls → Site → List ℕ → May (List ℕ)
-  renumberedBody calls site s = pick (twoLengths rows site) fail (whole (renumberCharstring calls (givenIn rows site) s))
+-- renumbered: the FDs in use, and the order in which the glyphs are written
+unfoldable pub renumbered : Program → List Row → List ℕ → List ℕ → May Bodies
+renumbered p rows used order =
+    and (renumberedSubrs rows (globalSet rows) (callsAcross p rows used) global (p .globals)) (λ gs.
+    and (each (λ f. renumberedSubrs rows (localSet rows f) (callsIn p rows f) (local f) (localsOf p f)) used) (λ ls.
+    and (each (λ g. renumberedBody rows (callsIn p rows (getD (p .fds) g 0)) (glyph g) (getD (p .charstrings) g [])) order) (λ cs.
+    yes (record { globals = gs; locals = ls; charstrings = cs }))))
 
-  -- the reached ones of some subroutines; a number without a subroutine fails
-  unfoldable pub renumberedSubrs : (ℕ → Bool) → Calls → (ℕ → Site) → List (List ℕ) → May (List (List ℕ))
-  renumberedSubrs set calls site subrs =
-      pick (eqb (reached set) (countBelow set (length subrs)))
-      (each (λ k. renumberedBody calls (site k) (getD subrs k [])) (those set (length subrs) 0)) fail
+abbrev pub charstringsOf : Program → List ℕ → List (List ℕ)
+charstringsOf p order = mapped (λ g. getD (p .charstrings) g []) order
 
-  unfoldable pub renumbered : May Bodies
-  renumbered =
-      and (renumberedSubrs globalSet (callsAcross (usedFds p kept)) global (p .globals)) (λ gs.
-      and (each (λ f. renumberedSubrs (localSet f) (callsIn f) (local f) (localsOf f)) (usedFds p kept)) (λ ls.
-      and (each (λ g. renumberedBody (callsIn (getD (p .fds) g 0)) (glyph g) (getD (p .charstrings) g [])) order) (λ cs.
-      yes (record { globals = gs; locals = ls; charstrings = cs }))))
+unfoldable pub stubbed : Program → List Row → List ℕ → List ℕ → Bodies
+stubbed p rows used order =
+    record {
+      globals = stubbedFrom (globalSet rows) 0 (p .globals);
+      locals = mapped (λ f. stubbedFrom (localSet rows f) 0 (localsOf p f)) used;
+      charstrings = charstringsOf p order;
+    }
 
-  -- ---- stubbed: each unreached subroutine is a return
-
-  unfoldable pub stubbedFrom : (ℕ → Bool) → ℕ → List (List ℕ) → List (List ℕ)
-  stubbedFrom set k [] = []
-  stubbedFrom set k (s ∷ ss) = pick (set k) s (11 ∷ []) ∷ stubbedFrom set (k + 1) ss
-
-  unfoldable pub mapped : {A : Type 0} → (ℕ → A) → List ℕ → List A
-  mapped f [] = []
-  mapped f (x ∷ xs) = f x ∷ mapped f xs
-
-  abbrev pub charstringsOf : List (List ℕ)
-  charstringsOf = mapped (λ g. getD (p .charstrings) g []) order
-
-  unfoldable pub stubbed : Bodies
-  stubbed =
-      record {
-        globals = stubbedFrom globalSet 0 (p .globals);
-        locals = mapped (λ f. stubbedFrom (localSet f) 0 (localsOf f)) (usedFds p kept);
-        charstrings = charstringsOf;
-      }
-
-  -- ---- copied
-
-  unfoldable pub copied : Bodies
-  copied = record { globals = p .globals; locals = mapped localsOf (usedFds p kept); charstrings = charstringsOf }
+unfoldable pub copied : Program → List ℕ → List ℕ → Bodies
+copied p used order = record { globals = p .globals; locals = mapped (localsOf p) used; charstrings = charstringsOf p order }
 
 -- ---- the way: 0 renumbered, 1 stubbed where that fails, 2 copied where the glyphs could not be traced
 
@@ -136,6 +132,5 @@ orStubbed fail s = record { way = 1; bodies = s }
 orStubbed (yes b) s = record { way = 0; bodies = b }
 
 unfoldable pub pruned : Program → List Row → List ℕ → List ℕ → ℕ → Pruned
-pruned p rows kept order flag =
-    pick (eqb flag 0) (record { way = 2; bodies = copied p rows kept order })
-    (orStubbed (renumbered p rows kept order) (stubbed p rows kept order))
+pruned p rows used order flag =
+    pick (eqb flag 0) (record { way = 2; bodies = copied p used order }) (orStubbed (renumbered p rows used order) (stubbed p rows used order))

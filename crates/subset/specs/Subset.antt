@@ -21,7 +21,7 @@ use Rattle.charset.specs.CharsetBytes.{charsetBytes}
 use Rattle.charset.specs.FdSelectBytes.{fdSelectBytes}
 use Rattle.strings.specs.Strings.{stringText}
 use Rattle.cff.specs.Font.{Private, Program, charset, charStrings, fdArray, fdSelect}
-use Rattle.subset.specs.Kept.{usedFds, newFd}
+use Rattle.subset.specs.Kept.{usedFds, newFd, privateOf}
 use Rattle.subset.specs.Texts.{Named, namedEntries, textsOf, namesOf, ownStrings, newId}
 use Rattle.subset.specs.Pruned.{Bodies}
 
@@ -63,9 +63,6 @@ abbrev pub privatePart : Private → List (List ℕ) → List ℕ
 privatePart q ls = privateDict q ls ++ pick (eqb (length ls) 0) [] (indexBytes ls)
 
 -- those of the FDs in use, one behind the other; and their Font DICTs, the first Private standing at a place
-abbrev pub privateOf : Program → ℕ → Private
-privateOf p f = getD (p .privates) f (record { entries = []; locals = [] })
-
 unfoldable pub privateParts : Program → List ℕ → List (List (List ℕ)) → List ℕ
 privateParts p [] lss = []
 privateParts p (f ∷ fs) [] = []
@@ -79,76 +76,79 @@ fontDicts p at (f ∷ fs) (ls ∷ lss) =
 
 -- ---- name-keyed
 
-module _ (p : Program) (name : List ℕ) (kept order : List ℕ) (b : Bodies) where
-  abbrev pub named : List Named
-  named = namedEntries p copiedTopStrings
+abbrev pub named : Program → List Named
+named p = namedEntries p copiedTopStrings
 
-  abbrev pub ownByName : List (List ℕ)
-  ownByName = ownStrings [] (textsOf named ++ namesOf p order)
+abbrev pub ownByName : Program → List ℕ → List (List ℕ)
+ownByName p order = ownStrings [] (textsOf (named p) ++ namesOf p order)
 
-  abbrev pub topByName : ℕ → ℕ → ℕ → ℕ → List ℕ
-  topByName at₁ at₂ size at₃ =
-      namedBytes ownByName named ++ (copiedBytes (p .top) copiedTopEntries
-      ++ (offsetEntry charset at₁ ++ (offsetEntry charStrings at₂ ++ privateEntry size at₃)))
+abbrev pub topByName : Program → List (List ℕ) → ℕ → ℕ → ℕ → ℕ → List ℕ
+topByName p own at₁ at₂ size at₃ =
+    namedBytes own (named p) ++ (copiedBytes (p .top) copiedTopEntries
+    ++ (offsetEntry charset at₁ ++ (offsetEntry charStrings at₂ ++ privateEntry size at₃)))
 
-  unfoldable pub newIds : List (List ℕ) → List (List ℕ) → List ℕ
-  newIds own [] = []
-  newIds own (t ∷ ts) = newId own t ∷ newIds own ts
+-- the ids of texts
+unfoldable pub newIds : List (List ℕ) → List (List ℕ) → List ℕ
+newIds own [] = []
+newIds own (t ∷ ts) = newId own t ∷ newIds own ts
 
-  abbrev pub oneLocal : List (List ℕ)
-  oneLocal = getD (b .locals) 0 []
+abbrev pub oneLocal : Bodies → List (List ℕ)
+oneLocal b = getD (b .locals) 0 []
 
-  unfoldable pub subsetByName : List ℕ
-  subsetByName =
-      let names = indexBytes (name ∷ []) in
-      let strings = indexBytes ownByName in
-      let globals = indexBytes (b .globals) in
-      let ids = charsetBytes (newIds ownByName (namesOf p order)) in
-      let charstrings = indexBytes (b .charstrings) in
-      let private = privatePart (privateOf p 0) oneLocal in
-      let size = length (privateDict (privateOf p 0) oneLocal) in
-      let at₁ = 4 + length names + length (indexBytes (topByName 0 0 0 0 ∷ [])) + length strings + length globals in
-      let at₂ = at₁ + length ids in
-      let at₃ = at₂ + length charstrings in
-      1 ∷ 0 ∷ 4 ∷ sizeFor (at₃ + length private) ∷ (names ++ (indexBytes (topByName at₁ at₂ size at₃ ∷ [])
-      ++ (strings ++ (globals ++ (ids ++ (charstrings ++ private))))))
+unfoldable pub subsetByName : Program → List ℕ → List ℕ → Bodies → List ℕ
+subsetByName p name order b =
+    let own = ownByName p order in
+    let names = indexBytes (name ∷ []) in
+    let strings = indexBytes own in
+    let globals = indexBytes (b .globals) in
+    let ids = charsetBytes (newIds own (namesOf p order)) in
+    let charstrings = indexBytes (b .charstrings) in
+    let private = privatePart (privateOf p 0) (oneLocal b) in
+    let size = length (privateDict (privateOf p 0) (oneLocal b)) in
+    let at₁ = 4 + length names + length (indexBytes (topByName p own 0 0 0 0 ∷ [])) + length strings + length globals in
+    let at₂ = at₁ + length ids in
+    let at₃ = at₂ + length charstrings in
+    1 ∷ 0 ∷ 4 ∷ sizeFor (at₃ + length private) ∷ (names ++ (indexBytes (topByName p own at₁ at₂ size at₃ ∷ [])
+    ++ (strings ++ (globals ++ (ids ++ (charstrings ++ private))))))
 
-  -- ---- CID-keyed
+-- ---- CID-keyed
 
-  abbrev pub ownByCid : List (List ℕ)
-  ownByCid = ownStrings [] (rosTexts p (rosIn (p .top)) ++ textsOf named)
+abbrev pub ownByCid : Program → List (List ℕ)
+ownByCid p = ownStrings [] (rosTexts p (rosIn (p .top)) ++ textsOf (named p))
 
-  abbrev pub topByCid : ℕ → ℕ → ℕ → ℕ → List ℕ
-  topByCid at₁ at₂ at₃ at₄ =
-      rosEntry p ownByCid (rosIn (p .top)) ++ (namedBytes ownByCid named ++ (copiedBytes (p .top) copiedTopEntries
-      ++ (entryBytes cidCount (numberOf (cidCountIn (p .top)) ∷ [])
-      ++ (offsetEntry charset at₁ ++ (offsetEntry fdSelect at₂ ++ (offsetEntry charStrings at₃ ++ offsetEntry fdArray at₄))))))
+abbrev pub topByCid : Program → List (List ℕ) → ℕ → ℕ → ℕ → ℕ → List ℕ
+topByCid p own at₁ at₂ at₃ at₄ =
+    rosEntry p own (rosIn (p .top)) ++ (namedBytes own (named p) ++ (copiedBytes (p .top) copiedTopEntries
+    ++ (entryBytes cidCount (numberOf (cidCountIn (p .top)) ∷ [])
+    ++ (offsetEntry charset at₁ ++ (offsetEntry fdSelect at₂ ++ (offsetEntry charStrings at₃ ++ offsetEntry fdArray at₄))))))
 
-  unfoldable pub idsAt : List ℕ → List ℕ
-  idsAt [] = []
-  idsAt (g ∷ gs) = getD (p .ids) g 0 ∷ idsAt gs
+-- the CIDs of glyphs, and their FDs by the new numbers
+unfoldable pub cidsOf : Program → List ℕ → List ℕ
+cidsOf p [] = []
+cidsOf p (g ∷ gs) = getD (p .ids) g 0 ∷ cidsOf p gs
 
-  unfoldable pub newFds : List ℕ → List ℕ
-  newFds [] = []
-  newFds (g ∷ gs) = newFd (usedFds p kept) (getD (p .fds) g 0) ∷ newFds gs
+unfoldable pub newFds : Program → List ℕ → List ℕ → List ℕ
+newFds p used [] = []
+newFds p used (g ∷ gs) = newFd used (getD (p .fds) g 0) ∷ newFds p used gs
 
-  unfoldable pub subsetByCid : List ℕ
-  subsetByCid =
-      let names = indexBytes (name ∷ []) in
-      let strings = indexBytes ownByCid in
-      let globals = indexBytes (b .globals) in
-      let ids = charsetBytes (idsAt order) in
-      let select = fdSelectBytes (newFds order) in
-      let charstrings = indexBytes (b .charstrings) in
-      let used = usedFds p kept in
-      let at₁ = 4 + length names + length (indexBytes (topByCid 0 0 0 0 ∷ [])) + length strings + length globals in
-      let at₂ = at₁ + length ids in
-      let at₃ = at₂ + length select in
-      let at₄ = at₃ + length charstrings in
-      let at₅ = at₄ + length (indexBytes (fontDicts p 0 used (b .locals))) in
-      let privates = privateParts p used (b .locals) in
-      1 ∷ 0 ∷ 4 ∷ sizeFor (at₅ + length privates) ∷ (names ++ (indexBytes (topByCid at₁ at₂ at₃ at₄ ∷ [])
-      ++ (strings ++ (globals ++ (ids ++ (select ++ (charstrings ++ (indexBytes (fontDicts p at₅ used (b .locals)) ++ privates))))))))
+unfoldable pub subsetByCid : Program → List ℕ → List ℕ → List ℕ → Bodies → List ℕ
+subsetByCid p name used order b =
+    let own = ownByCid p in
+    let names = indexBytes (name ∷ []) in
+    let strings = indexBytes own in
+    let globals = indexBytes (b .globals) in
+    let ids = charsetBytes (cidsOf p order) in
+    let select = fdSelectBytes (newFds p used order) in
+    let charstrings = indexBytes (b .charstrings) in
+    let at₁ = 4 + length names + length (indexBytes (topByCid p own 0 0 0 0 ∷ [])) + length strings + length globals in
+    let at₂ = at₁ + length ids in
+    let at₃ = at₂ + length select in
+    let at₄ = at₃ + length charstrings in
+    let at₅ = at₄ + length (indexBytes (fontDicts p 0 used (b .locals))) in
+    let privates = privateParts p used (b .locals) in
+    1 ∷ 0 ∷ 4 ∷ sizeFor (at₅ + length privates) ∷ (names ++ (indexBytes (topByCid p own at₁ at₂ at₃ at₄ ∷ [])
+    ++ (strings ++ (globals ++ (ids ++ (select ++ (charstrings ++ (indexBytes (fontDicts p at₅ used (b .locals)) ++ privates))))))))
 
-  unfoldable pub subsetBytes : List ℕ
-  subsetBytes = pick (cidKeyed (p .top)) subsetByCid subsetByName
+-- the subset of the glyphs kept, written in an order
+unfoldable pub subsetBytes : Program → List ℕ → List ℕ → List ℕ → Bodies → List ℕ
+subsetBytes p name kept order b = pick (cidKeyed (p .top)) (subsetByCid p name (usedFds p kept) order b) (subsetByName p name order b)
