@@ -48,7 +48,7 @@ pub record Holds (p : Program) (g : ℕ) (ts : List Tok) (bs : List ℕ) : Type 
   pub unfolds : unfolded program new ≡ plain ts met
 
 -- demand 3, of a font's bytes, a keep list, a record, a flag, and the outcome of the call
-pub Faithful : List ℕ → List ℕ → List ℕ → ℕ → Outcome → Type 0
+abbrev pub Faithful : List ℕ → List ℕ → List ℕ → ℕ → Outcome → Type 0
 Faithful font keep rec flag (refused n) = Unit
 Faithful font keep rec flag (subset way bs) =
     (p : Program) → readFont font ≡ got p → (g : ℕ) → IsKept p keep g
