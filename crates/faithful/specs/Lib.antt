@@ -1,2 +1,4 @@
 pub mod Faithful
+pub mod GoodLaws
+pub mod GoodPartsLaws
 pub mod Laid
