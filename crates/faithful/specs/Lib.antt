@@ -1,2 +1,5 @@
 pub mod Faithful
 pub mod Laid
+pub mod WholeLaws
+pub mod LiesLaws
+pub mod PrivateBack
