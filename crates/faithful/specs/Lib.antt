@@ -1,4 +1,7 @@
 pub mod Faithful
 pub mod Laid
+pub mod WholeLaws
+pub mod LiesLaws
+pub mod PrivateBack
 pub mod TopParts
 pub mod TopFitLaws
