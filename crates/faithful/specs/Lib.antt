@@ -5,3 +5,4 @@ pub mod LiesLaws
 pub mod PrivateBack
 pub mod TopParts
 pub mod TopFitLaws
+pub mod TopLaws
