@@ -6,3 +6,5 @@ pub mod PrivateBack
 pub mod TopParts
 pub mod TopFitLaws
 pub mod TopLaws
+pub mod SetBack
+pub mod ByName
