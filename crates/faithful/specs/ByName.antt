@@ -1,7 +1,7 @@
 -- A name-keyed subset reads back (document 01, 'Layout'): the font with the strings, ids and bodies that were written.
 use Prim.Native.Nat.{ℕ, zero, suc, _+_, _≤_, _<_}
-use mathlib.Core.Path.{_≡_, refl, sym, ap, _∙_, subst}
-use mathlib.Core.Bool.{Bool, true, false}
+use mathlib.Core.Path.{_≡_, refl, sym, ap, _∙_}
+use mathlib.Core.Bool.{false}
 use mathlib.Core.List.{List, [], _∷_, _++_, append-nil}
 use native.Mathlib.Omega.{arith}
 use borrow.Author.Tests.{le-ltb, ne-eqb}
@@ -16,10 +16,10 @@ use Rattle.charset.specs.CharsetBytes.{Ids, charsetBytes}
 use Rattle.charset.specs.CharsetRound.{charset-round}
 use Rattle.charset.specs.FdSelect.{noFds}
 use Rattle.dict.specs.Dict.{Entry, entries, dictOf}
-use Rattle.cff.specs.Font.{Got, got, Private, Program, charStrings, privateData, privateAt, idsAt, encodingGot, nameParts, fontAt, readFont}
+use Rattle.cff.specs.Font.{got, Private, Program, privateData, privateAt, idsAt, encodingGot, nameParts, fontAt}
 use Rattle.cff.specs.ReadsLaws.{no}
-use Rattle.subset.specs.Kept.{privateOf, localsOf}
-use Rattle.subset.specs.Texts.{namesOf, newId}
+use Rattle.subset.specs.Kept.{privateOf}
+use Rattle.subset.specs.Texts.{namesOf}
 use Rattle.subset.specs.Pruned.{Bodies}
 use Rattle.subset.specs.Subset.{privateDict, privatePart, ownByName, topByName, newIds, oneLocal, subsetByName}
 use Rattle.faithful.specs.Laid.{GoodProgram, Fitting, ReadsAs}
@@ -54,17 +54,21 @@ ids-small own (t ∷ ts) few (suc i) = ids-small own ts few i
 
 module _ (bs top : List ℕ) (own globals charstrings : List (List ℕ)) (ids : List ℕ) (q : Private) (es : List Entry) (at₁ at₂ size at₃ end : ℕ)
     (dict : dictOf top ≡ entries es) (looked : NameTop es at₁ at₂ size at₃) where
+  -- the font with these parts
   abbrev namedFont : Program
   namedFont = record { top = es; strings = own; globals = globals; charstrings = charstrings; ids = ids; privates = q ∷ []; fds = noFds (length charstrings) }
 
+  -- its Private DICT, without an encoding
   name-parts : privateData bs size at₃ ≡ got q → nameParts bs es (length charstrings) ≡ got (q ∷ [], noFds (length charstrings))
   unfolding nameParts privateAt encodingGot
   name-parts d = rw (looked .privateAt, d, looked .encodingNone)
 
+  -- its charset, which is no predefined one
   ids-read : 3 ≤ at₁ → charsetAt bs at₁ (length charstrings) ≡ listed ids → idsAt bs (length charstrings) at₁ ≡ got ids
   unfolding idsAt
   ids-read h e = rw (ne-eqb at₁ 0 (λ z. omega arith), le-ltb at₁ 3 h, e)
 
+  -- all of it is read
   name-font : readIndex bs at₂ ≡ found charstrings end → 0 < length charstrings → 3 ≤ at₁ → charsetAt bs at₁ (length charstrings) ≡ listed ids
       → privateData bs size at₃ ≡ got q → fontAt bs own globals top ≡ got namedFont
   unfolding fontAt
@@ -96,6 +100,7 @@ one-local es lss e (suc k) h = absurd (no (omega arith))
 -- ---- the subset
 
 module _ (p : Program) (name order : List ℕ) (b : Bodies) where
+  -- its own strings and ids, its Private DICT, where its parts stand, and what stands behind the globals
   abbrev own : List (List ℕ)
   own = ownByName p order
 
@@ -135,6 +140,7 @@ module _ (p : Program) (name order : List ℕ) (b : Bodies) where
       omega arith
 
   module _ (bs : List ℕ) (is : bs ≡ 1 ∷ 0 ∷ 4 ∷ sizeFor (at₃ + length private) ∷ setBytes name top own (b .globals) rest) where
+    -- the parts stand where the top DICT says, within the bytes
     ids-lie : drop at₁ bs ≡ charsetBytes ids ++ (indexBytes (b .charstrings) ++ private)
     ids-lie = ap (λ (n : ℕ). drop n bs) (sym end-is) ∙ rest-lies bs _ name top own (b .globals) rest is
 
@@ -155,9 +161,11 @@ module _ (p : Program) (name order : List ℕ) (b : Bodies) where
 
     module _ (good : GoodProgram p) (fit : Fitting (length order) (0 ∷ []) b) (some : 0 < length order) (first : getD ids 0 0 ≡ 0)
         (few : length own ≤ 64609) (count : length order < 65536) (short : length bs ≤ 67108864) where
+      -- there is an id for each charstring
       counted : length ids ≡ length (b .charstrings)
       counted = ids-length own (namesOf p order) ∙ names-length p order ∙ sym (fit .glyphs)
 
+      -- the charset and the charstrings read back
       charset-back : charsetAt bs at₁ (length (b .charstrings)) ≡ listed ids
       charset-back =
           let n : 0 < length ids = omega (arith, counted, fit .glyphs) in
@@ -166,6 +174,7 @@ module _ (p : Program) (name order : List ℕ) (b : Bodies) where
       glyphs-back : readIndex bs at₂ ≡ found (b .charstrings) at₃
       glyphs-back = index-back bs at₂ (b .charstrings) private (omega (arith, fit .glyphs)) short charstrings-lie
 
+      -- and so does the whole
       reads-back : ReadsAs false own ids (noFds (length order)) b bs
       reads-back =
           let q = private-back bs at₃ (privateOf p 0) (oneLocal b) [] (good .privates 0) (fit .locals 0) short within₃ private-lies in

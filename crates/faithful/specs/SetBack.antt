@@ -1,15 +1,13 @@
 -- What every subset begins with (document 01, 'Layout') reads back: the header, the name, the top DICT, the strings and the global subroutines,
 -- each INDEX directly behind the one before.
 use Prim.Native.Nat.{ℕ, _+_, _≤_, _<_}
-use mathlib.Core.Path.{_≡_, refl, sym, ap, _∙_}
-use mathlib.Core.Bool.{Bool, true, false}
+use mathlib.Core.Path.{_≡_, ap}
 use mathlib.Core.List.{List, [], _∷_, _++_}
 use native.Mathlib.Omega.{arith}
 use borrow.Author.Tests.{le-ltb}
-use lib.ListN.{length, drop, getD, length-append}
-use Rattle.index.specs.Index.{Read, found, readIndex}
+use lib.ListN.{length, drop, getD}
 use Rattle.index.specs.Write.{indexBytes}
-use Rattle.cff.specs.Font.{Got, refused, got, then, Program, indexThen, fontAt, fontsAt, firstOf, setAt, readFont}
+use Rattle.cff.specs.Font.{got, Program, fontAt, fontsAt, setAt, readFont}
 use Rattle.faithful.specs.LiesLaws.{lies-behind, lies-within, index-back}
 
 -- what stands behind the header, up to the global subroutines, before the rest
@@ -22,6 +20,7 @@ setEnd name top own globals = 4 + length (indexBytes (name ∷ [])) + length (in
 
 module _ (bs : List ℕ) (size : ℕ) (name top : List ℕ) (own globals : List (List ℕ)) (rest : List ℕ)
     (is : bs ≡ 1 ∷ 0 ∷ 4 ∷ size ∷ setBytes name top own globals rest) where
+  -- where the top DICTs, the strings and the globals stand
   abbrev at₁ : ℕ
   at₁ = 4 + length (indexBytes (name ∷ []))
 
@@ -31,6 +30,7 @@ module _ (bs : List ℕ) (size : ℕ) (name top : List ℕ) (own globals : List 
   abbrev at₃ : ℕ
   at₃ = at₂ + length (indexBytes own)
 
+  -- each is directly behind the one before
   names-lie : drop 4 bs ≡ setBytes name top own globals rest
   names-lie = ap (drop 4) is
 
@@ -47,6 +47,7 @@ module _ (bs : List ℕ) (size : ℕ) (name top : List ℕ) (own globals : List 
   pub rest-lies : drop (setEnd name top own globals) bs ≡ rest
   rest-lies = lies-behind bs at₃ (indexBytes globals) rest globals-lie
 
+  -- the header has four bytes
   header-within : 4 ≤ length bs
   header-within = let k = ap length is in omega arith
 
@@ -69,6 +70,7 @@ module _ (bs : List ℕ) (size : ℕ) (name top : List ℕ) (own globals : List 
           e,
         )
 
+    -- and so is the whole
     pub font-back : (p : Program) → fontAt bs own globals top ≡ got p → readFont bs ≡ got p
     unfolding readFont
     font-back p e =
