@@ -1,22 +1,19 @@
 -- A name-keyed subset reads back (document 01, 'Layout'): the font with the strings, ids and bodies that were written.
 use Prim.Native.Nat.{ℕ, zero, suc, _+_, _≤_, _<_}
-use mathlib.Core.Path.{_≡_, refl, sym, ap, _∙_}
-use mathlib.Core.Bool.{false}
+use mathlib.Core.Path.{_≡_, refl, sym, ap, _∙_, subst}
+use mathlib.Core.Bool.{Bool, false}
 use mathlib.Core.List.{List, [], _∷_, _++_, append-nil}
 use native.Mathlib.Omega.{arith}
-use borrow.Author.Tests.{le-ltb, ne-eqb}
 use lib.Dec.{eqb, lit<}
 use lib.ListN.{length, drop, getD, length-append}
 use Rattle.octets.specs.Pick.{pick}
 use Rattle.index.specs.Index.{found, readIndex}
 use Rattle.index.specs.Write.{sizeFor, indexBytes}
-use Rattle.charset.specs.Listed.{listed}
 use Rattle.charset.specs.Charset.{charsetAt}
 use Rattle.charset.specs.CharsetBytes.{Ids, charsetBytes}
-use Rattle.charset.specs.CharsetRound.{charset-round}
 use Rattle.charset.specs.FdSelect.{noFds}
 use Rattle.dict.specs.Dict.{Entry, entries, dictOf}
-use Rattle.cff.specs.Font.{got, Private, Program, privateData, privateAt, idsAt, encodingGot, nameParts, fontAt}
+use Rattle.cff.specs.Font.{got, Private, Program, privateData, privateAt, idsAt, encodingGot, cidParts, nameParts, fontAt, readFont}
 use Rattle.cff.specs.ReadsLaws.{no}
 use Rattle.subset.specs.Kept.{privateOf}
 use Rattle.subset.specs.Texts.{namesOf}
@@ -27,7 +24,8 @@ use Rattle.faithful.specs.LiesLaws.{lies-behind, lies-within, index-back
 use Rattle.faithful.specs.PrivateBack.{private-back}
 use Rattle.faithful.specs.TopFitLaws.{new-below}
 use Rattle.faithful.specs.TopLaws.{NameTop, name-top-back, name-top-length, single-length}
-use Rattle.faithful.specs.SetBack.{setBytes, setEnd, rest-lies, end-within, font-back}
+use Rattle.faithful.specs.SetBack.{setBytes, restAt, rest-lies, rest-within, set-back}
+use Rattle.faithful.specs.FontBack.{ids-back, fontOf, font-back}
 
 -- ---- the ids of the names
 
@@ -50,42 +48,13 @@ ids-small own [] few i = lit< tt
 ids-small own (t ∷ ts) few zero = new-below own t few
 ids-small own (t ∷ ts) few (suc i) = ids-small own ts few i
 
--- ---- a font whose parts stand where its top DICT says
-
-module _ (bs top : List ℕ) (own globals charstrings : List (List ℕ)) (ids : List ℕ) (q : Private) (es : List Entry) (at₁ at₂ size at₃ end : ℕ)
-    (dict : dictOf top ≡ entries es) (looked : NameTop es at₁ at₂ size at₃) where
-  -- the font with these parts
-  abbrev namedFont : Program
-  namedFont = record { top = es; strings = own; globals = globals; charstrings = charstrings; ids = ids; privates = q ∷ []; fds = noFds (length charstrings) }
-
-  -- its Private DICT, without an encoding
-  name-parts : privateData bs size at₃ ≡ got q → nameParts bs es (length charstrings) ≡ got (q ∷ [], noFds (length charstrings))
-  unfolding nameParts privateAt encodingGot
-  name-parts d = rw (looked .privateAt, d, looked .encodingNone)
-
-  -- its charset, which is no predefined one
-  ids-read : 3 ≤ at₁ → charsetAt bs at₁ (length charstrings) ≡ listed ids → idsAt bs (length charstrings) at₁ ≡ got ids
-  unfolding idsAt
-  ids-read h e = rw (ne-eqb at₁ 0 (λ z. omega arith), le-ltb at₁ 3 h, e)
-
-  -- all of it is read
-  name-font : readIndex bs at₂ ≡ found charstrings end → 0 < length charstrings → 3 ≤ at₁ → charsetAt bs at₁ (length charstrings) ≡ listed ids
-      → privateData bs size at₃ ≡ got q → fontAt bs own globals top ≡ got namedFont
-  unfolding fontAt
-  name-font c some h i d =
-      rw (
-        dict,
-        looked .charstringTypeNone,
-        looked .charStringsAt,
-        c,
-        ne-eqb (length charstrings) 0 (λ z. omega arith),
-        looked .charsetAt,
-        ids-read h i,
-        looked .keying,
-        name-parts d,
-      )
-
 -- ---- the one Private DICT
+
+-- what a name-keyed font adds: that Private DICT, and no encoding
+name-parts-back : (bs : List ℕ) (es : List Entry) (n at₁ at₂ size at₃ : ℕ) (q : Private) → NameTop es at₁ at₂ size at₃ → privateData bs size at₃ ≡ got q
+    → nameParts bs es n ≡ got (q ∷ [], noFds n)
+unfolding nameParts privateAt encodingGot
+name-parts-back bs es n at₁ at₂ size at₃ q t d = rw (t .privateAt, d, t .encodingNone)
 
 -- it is within its part
 dict-within : (q : Private) (ls : List (List ℕ)) → length (privateDict q ls) ≤ length (privatePart q ls)
@@ -97,103 +66,106 @@ one-local : (es : List Entry) (lss : List (List (List ℕ))) → length lss ≡ 
 one-local es lss e zero h = refl
 one-local es lss e (suc k) h = absurd (no (omega arith))
 
--- ---- the subset
+-- ---- the parts behind the globals, at₁ being the place of the charset
 
-module _ (p : Program) (name order : List ℕ) (b : Bodies) where
-  -- its own strings and ids, its Private DICT, where its parts stand, and what stands behind the globals
-  abbrev own : List (List ℕ)
-  own = ownByName p order
-
+module _ (p : Program) (order : List ℕ) (b : Bodies) (at₁ : ℕ) where
+  -- the ids, the Private DICT, and the places of the charstrings and of Private
   abbrev ids : List ℕ
   ids = newIds (ownByName p order) (namesOf p order)
 
   abbrev dict : List ℕ
   dict = privateDict (privateOf p 0) (oneLocal b)
 
-  abbrev private : List ℕ
-  private = privatePart (privateOf p 0) (oneLocal b)
+  abbrev part : List ℕ
+  part = privatePart (privateOf p 0) (oneLocal b)
 
-  abbrev at₁ : ℕ
-  at₁ = setEnd name (topByName p (ownByName p order) 0 0 0 0) (ownByName p order) (b .globals)
+  abbrev glyphsPlace : ℕ
+  glyphsPlace = at₁ + length (charsetBytes ids)
 
-  abbrev at₂ : ℕ
-  at₂ = at₁ + length (charsetBytes ids)
+  abbrev privatePlace : ℕ
+  privatePlace = glyphsPlace + length (indexBytes (b .charstrings))
 
-  abbrev at₃ : ℕ
-  at₃ = at₂ + length (indexBytes (b .charstrings))
+  -- all that stands behind the globals
+  abbrev behindGlobals : List ℕ
+  behindGlobals = charsetBytes ids ++ (indexBytes (b .charstrings) ++ part)
 
-  abbrev top : List ℕ
-  top = topByName p (ownByName p order) at₁ at₂ (length dict) at₃
+  module _ (bs : List ℕ) (within₁ : at₁ ≤ length bs) (lies₁ : drop at₁ bs ≡ behindGlobals) where
+    lies₂ : drop glyphsPlace bs ≡ indexBytes (b .charstrings) ++ part
+    lies₂ = lies-behind bs at₁ (charsetBytes ids) _ lies₁
 
-  abbrev rest : List ℕ
-  rest = charsetBytes ids ++ (indexBytes (b .charstrings) ++ private)
+    lies₃ : drop privatePlace bs ≡ part ++ []
+    lies₃ = lies-behind bs glyphsPlace (indexBytes (b .charstrings)) part lies₂ ∙ sym (append-nil part)
 
-  -- the subset's bytes, by these names
-  whole-is : subsetByName p name order b ≡ 1 ∷ 0 ∷ 4 ∷ sizeFor (at₃ + length private) ∷ setBytes name top own (b .globals) rest
-  unfolding subsetByName
-  whole-is = refl
-
-  -- the top DICT with the offsets has the length that they were counted with
-  end-is : setEnd name top own (b .globals) ≡ at₁
-  end-is =
-      let k = single-length top (topByName p own 0 0 0 0) (name-top-length p own at₁ at₂ (length dict) at₃) in
-      omega arith
-
-  module _ (bs : List ℕ) (is : bs ≡ 1 ∷ 0 ∷ 4 ∷ sizeFor (at₃ + length private) ∷ setBytes name top own (b .globals) rest) where
-    -- the parts stand where the top DICT says, within the bytes
-    ids-lie : drop at₁ bs ≡ charsetBytes ids ++ (indexBytes (b .charstrings) ++ private)
-    ids-lie = ap (λ (n : ℕ). drop n bs) (sym end-is) ∙ rest-lies bs _ name top own (b .globals) rest is
-
-    charstrings-lie : drop at₂ bs ≡ indexBytes (b .charstrings) ++ private
-    charstrings-lie = lies-behind bs at₁ (charsetBytes ids) _ ids-lie
-
-    private-lies : drop at₃ bs ≡ private ++ []
-    private-lies = lies-behind bs at₂ (indexBytes (b .charstrings)) private charstrings-lie ∙ sym (append-nil private)
-
-    within₁ : at₁ ≤ length bs
-    within₁ = let h = end-within bs _ name top own (b .globals) rest is in omega (arith, end-is)
-
-    within₃ : at₃ ≤ length bs
-    within₃ = lies-within bs at₂ (indexBytes (b .charstrings)) private charstrings-lie (lies-within bs at₁ (charsetBytes ids) _ ids-lie within₁)
+    within₃ : privatePlace ≤ length bs
+    within₃ = lies-within bs glyphsPlace (indexBytes (b .charstrings)) part lies₂ (lies-within bs at₁ (charsetBytes ids) _ lies₁ within₁)
 
     size-within : length dict ≤ length bs
-    size-within = omega (arith, lies-within bs at₃ private [] private-lies within₃, dict-within (privateOf p 0) (oneLocal b))
+    size-within = omega (arith, lies-within bs privatePlace part [] lies₃ within₃, dict-within (privateOf p 0) (oneLocal b))
 
-    module _ (good : GoodProgram p) (fit : Fitting (length order) (0 ∷ []) b) (some : 0 < length order) (first : getD ids 0 0 ≡ 0)
-        (few : length own ≤ 64609) (count : length order < 65536) (short : length bs ≤ 67108864) where
-      -- there is an id for each charstring
-      counted : length ids ≡ length (b .charstrings)
-      counted = ids-length own (namesOf p order) ∙ names-length p order ∙ sym (fit .glyphs)
+    module _ (good : GoodProgram p) (fit : Fitting (length order) (0 ∷ []) b) (short : length bs ≤ 67108864)
+        (some : 0 < length order) (count : length order < 65536) (first : getD ids 0 0 ≡ 0) (few : length (ownByName p order) ≤ 64609) where
+      -- the charset, the charstrings and Private read back
+      ids-read : 3 ≤ at₁ → idsAt bs (length (b .charstrings)) at₁ ≡ got ids
+      ids-read far =
+          let n : length ids ≡ length order = ids-length (ownByName p order) (namesOf p order) ∙ names-length p order in
+          ap (λ (k : ℕ). idsAt bs k at₁) (fit .glyphs ∙ sym n) ∙ ids-back bs at₁ ids _ far lies₁ (omega arith) first (ids-small (ownByName p order) (namesOf p order) few)
 
-      -- the charset and the charstrings read back
-      charset-back : charsetAt bs at₁ (length (b .charstrings)) ≡ listed ids
-      charset-back =
-          let n : 0 < length ids = omega (arith, counted, fit .glyphs) in
-          ap (charsetAt bs at₁) (sym counted) ∙ charset-round bs at₁ ids (indexBytes (b .charstrings) ++ private) ids-lie n first (ids-small own (namesOf p order) few)
+      glyphs-read : readIndex bs glyphsPlace ≡ found (b .charstrings) privatePlace
+      glyphs-read = index-back bs glyphsPlace (b .charstrings) part (omega (arith, fit .glyphs)) short lies₂
 
-      glyphs-back : readIndex bs at₂ ≡ found (b .charstrings) at₃
-      glyphs-back = index-back bs at₂ (b .charstrings) private (omega (arith, fit .glyphs)) short charstrings-lie
+      private-read : (es : List Entry) × (privateData bs (length dict) privatePlace ≡ got (record { entries = es; locals = oneLocal b }))
+      private-read = private-back bs privatePlace (privateOf p 0) (oneLocal b) [] (good .privates 0) (fit .locals 0) short within₃ lies₃
 
-      -- and so does the whole
-      reads-back : ReadsAs false own ids (noFds (length order)) b bs
-      reads-back =
-          let q = private-back bs at₃ (privateOf p 0) (oneLocal b) [] (good .privates 0) (fit .locals 0) short within₃ private-lies in
-          let t = name-top-back p own at₁ at₂ (length dict) at₃ good few (omega (arith, within₁)) (omega (arith, within₃)) (omega (arith, size-within)) (omega (arith, within₃)) in
-          let font : Program = namedFont bs top own (b .globals) (b .charstrings) ids (record { entries = q .0; locals = oneLocal b }) (t .0) at₁ at₂ (length dict) at₃ at₃ (t .1) (t .2) in
-          let n : 0 < length (b .charstrings) = omega (arith, fit .glyphs) in
-          let f = name-font bs top own (b .globals) (b .charstrings) ids (record { entries = q .0; locals = oneLocal b }) (t .0) at₁ at₂ (length dict) at₃ at₃ (t .1) (t .2)
-          glyphs-back n (omega arith) charset-back (q .1) in
-          record {
-            program = font;
-            reads = font-back bs _ name top own (b .globals) rest is (omega arith) (fit .globals) short font f;
-            keying = t .2 .keying;
-            strings = refl;
-            globals = refl;
-            charstrings = refl;
-            ids = refl;
-            fds = ap noFds (fit .glyphs);
-            locals = one-local (q .0) (b .locals) (fit .fds);
-          }
+      -- the font that is read, by the entries of its top DICT
+      abbrev fontRead : List Entry → Program
+      fontRead es =
+          fontOf (ownByName p order) (b .globals) es (b .charstrings) ids (record { entries = private-read .0; locals = oneLocal b } ∷ []) (noFds (length (b .charstrings)))
+
+      font-read : (top : List ℕ) (es : List Entry) → dictOf top ≡ entries es → NameTop es at₁ glyphsPlace (length dict) privatePlace → 3 ≤ at₁
+          → fontAt bs (ownByName p order) (b .globals) top ≡ got (fontRead es)
+      font-read top es d t far =
+          let n = length (b .charstrings) in
+          font-back bs (ownByName p order) (b .globals) top es (b .charstrings) ids _ _ d (t .charstringTypeNone) at₁ glyphsPlace privatePlace (t .charsetAt) (t .charStringsAt)
+          glyphs-read (omega (arith, fit .glyphs)) (ids-read far)
+          (ap (λ (k : Bool). pick k (cidParts bs es n) (nameParts bs es n)) (t .keying)
+          ∙ name-parts-back bs es n at₁ glyphsPlace (length dict) privatePlace _ t (private-read .1))
+
+-- ---- the whole
+
+module _ (p : Program) (name order : List ℕ) (b : Bodies) where
+  -- the place of the charset, and the top DICT as it is written
+  abbrev charsetPlace : ℕ
+  charsetPlace = restAt name (topByName p (ownByName p order) 0 0 0 0) (ownByName p order) (b .globals)
+
+  abbrev topWritten : List ℕ
+  topWritten =
+      topByName p (ownByName p order) charsetPlace (glyphsPlace p order b charsetPlace) (length (dict p order b charsetPlace)) (privatePlace p order b charsetPlace)
+
+  abbrev sizeWritten : ℕ
+  sizeWritten = sizeFor (privatePlace p order b charsetPlace + length (part p order b charsetPlace))
+
+  -- the top DICT is as long as with other offsets
+  place-is : restAt name topWritten (ownByName p order) (b .globals) ≡ charsetPlace
+  place-is =
+      let k = single-length topWritten (topByName p (ownByName p order) 0 0 0 0) (name-top-length p (ownByName p order) _ _ _ _) in
+      omega arith
+
+  -- the charset and what follows it stand there
+  rest-place : (charsetPlace ≤ length (subsetByName p name order b)) × (drop charsetPlace (subsetByName p name order b) ≡ behindGlobals p order b charsetPlace)
+  unfolding subsetByName
+  rest-place =
+      let rest : List ℕ = behindGlobals p order b charsetPlace in
+      let bs : List ℕ = setBytes sizeWritten name topWritten (ownByName p order) (b .globals) rest in (
+        subst (λ (k : ℕ). k ≤ length bs) place-is (rest-within sizeWritten name topWritten (ownByName p order) (b .globals) rest),
+        ap (λ (k : ℕ). drop k bs) (sym place-is) ∙ rest-lies sizeWritten name topWritten (ownByName p order) (b .globals) rest,
+      )
+
+  -- it is read as the font that its top DICT gives
+  subset-back : length (ownByName p order) < 65536 → length (b .globals) < 65536 → length (subsetByName p name order b) ≤ 67108864 → (font : Program)
+      → fontAt (subsetByName p name order b) (ownByName p order) (b .globals) topWritten ≡ got font → readFont (subsetByName p name order b) ≡ got font
+  unfolding subsetByName
+  subset-back fewStrings fewGlobals short font e =
+      set-back sizeWritten name topWritten (ownByName p order) (b .globals) (behindGlobals p order b charsetPlace) fewStrings fewGlobals short font e
 
 -- a name-keyed subset reads back
 pub by-name : (p : Program) (name order : List ℕ) (b : Bodies) → GoodProgram p → Fitting (length order) (0 ∷ []) b
@@ -201,4 +173,23 @@ pub by-name : (p : Program) (name order : List ℕ) (b : Bodies) → GoodProgram
     → length (ownByName p order) ≤ 64609 → length (subsetByName p name order b) ≤ 67108864
     → ReadsAs false (ownByName p order) (newIds (ownByName p order) (namesOf p order)) (noFds (length order)) b (subsetByName p name order b)
 by-name p name order b good fit some count first few short =
-    reads-back p name order b (subsetByName p name order b) (whole-is p name order b) good fit some first few count short
+    let bs = subsetByName p name order b in
+    let at₁ = charsetPlace p name order b in
+    let r = rest-place p name order b in
+    let within = within₃ p order b at₁ bs (r .0) (r .1) in
+    let sized = size-within p order b at₁ bs (r .0) (r .1) in
+    let top = name-top-back p (ownByName p order) at₁ (glyphsPlace p order b at₁) (length (dict p order b at₁)) (privatePlace p order b at₁) good few
+    (omega arith) (omega arith) (omega arith) (omega arith) in
+    let q = private-read p order b at₁ bs (r .0) (r .1) good fit short some count first few in
+    let font = font-read p order b at₁ bs (r .0) (r .1) good fit short some count first few (topWritten p name order b) (top .0) (top .1) (top .2) (omega arith) in
+    record {
+      program = fontRead p order b at₁ bs (r .0) (r .1) good fit short some count first few (top .0);
+      reads = subset-back p name order b (omega arith) (fit .globals) short _ font;
+      keying = top .2 .keying;
+      strings = refl;
+      globals = refl;
+      charstrings = refl;
+      ids = refl;
+      fds = ap noFds (fit .glyphs);
+      locals = one-local (q .0) (b .locals) (fit .fds);
+    }

@@ -7,4 +7,5 @@ pub mod TopParts
 pub mod TopFitLaws
 pub mod TopLaws
 pub mod SetBack
+pub mod FontBack
 pub mod ByName

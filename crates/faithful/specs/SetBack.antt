@@ -1,79 +1,79 @@
--- What every subset begins with (document 01, 'Layout') reads back: the header, the name, the top DICT, the strings and the global subroutines,
--- each INDEX directly behind the one before.
+-- A font set of one font that was written (document 01, 'Layout'): header, names, top DICT, strings, globals and the rest. It is read as the
+-- font that its top DICT gives.
 use Prim.Native.Nat.{ℕ, _+_, _≤_, _<_}
-use mathlib.Core.Path.{_≡_, ap}
+use mathlib.Core.Path.{_≡_, refl, ap, _∙_}
+use mathlib.Core.Bool.{Bool}
 use mathlib.Core.List.{List, [], _∷_, _++_}
 use native.Mathlib.Omega.{arith}
 use borrow.Author.Tests.{le-ltb}
-use lib.ListN.{length, drop, getD}
+use lib.Dec.{ltb}
+use lib.ListN.{length, drop, length-append}
+use Rattle.octets.specs.Pick.{pick}
+use Rattle.index.specs.Index.{Read, found}
 use Rattle.index.specs.Write.{indexBytes}
-use Rattle.cff.specs.Font.{got, Program, fontAt, fontsAt, setAt, readFont}
-use Rattle.faithful.specs.LiesLaws.{lies-behind, lies-within, index-back}
+use Rattle.cff.specs.Font.{Got, refused, got, then, Program, fontAt, fontsAt, firstOf, indexThen, setAt, readFont}
+use Rattle.faithful.specs.LiesLaws.{lies-behind, index-back}
 
--- what stands behind the header, up to the global subroutines, before the rest
-abbrev pub setBytes : List ℕ → List ℕ → List (List ℕ) → List (List ℕ) → List ℕ → List ℕ
-setBytes name top own globals rest = indexBytes (name ∷ []) ++ (indexBytes (top ∷ []) ++ (indexBytes own ++ (indexBytes globals ++ rest)))
+-- an INDEX that is found, and what stands after it
+pub read-then : {B : Type 0} {r : Read} {items : List (List ℕ)} {end : ℕ} (f : List (List ℕ) → ℕ → Got B) → r ≡ found items end → indexThen r f ≡ f items end
+read-then f e = ap (λ (x : Read). indexThen x f) e
 
--- where the rest stands
-abbrev pub setEnd : List ℕ → List ℕ → List (List ℕ) → List (List ℕ) → ℕ
-setEnd name top own globals = 4 + length (indexBytes (name ∷ [])) + length (indexBytes (top ∷ [])) + length (indexBytes own) + length (indexBytes globals)
+-- a font set of one font
+abbrev pub setBytes : ℕ → List ℕ → List ℕ → List (List ℕ) → List (List ℕ) → List ℕ → List ℕ
+setBytes offSize name top own globals rest =
+    1 ∷ 0 ∷ 4 ∷ offSize ∷ (indexBytes (name ∷ []) ++ (indexBytes (top ∷ []) ++ (indexBytes own ++ (indexBytes globals ++ rest))))
 
-module _ (bs : List ℕ) (size : ℕ) (name top : List ℕ) (own globals : List (List ℕ)) (rest : List ℕ)
-    (is : bs ≡ 1 ∷ 0 ∷ 4 ∷ size ∷ setBytes name top own globals rest) where
-  -- where the top DICTs, the strings and the globals stand
-  abbrev at₁ : ℕ
-  at₁ = 4 + length (indexBytes (name ∷ []))
+-- where its top DICT, its strings, its globals and the rest stand
+abbrev pub topAt : List ℕ → ℕ
+topAt name = 4 + length (indexBytes (name ∷ []))
 
-  abbrev at₂ : ℕ
-  at₂ = at₁ + length (indexBytes (top ∷ []))
+abbrev pub stringsAt : List ℕ → List ℕ → ℕ
+stringsAt name top = topAt name + length (indexBytes (top ∷ []))
 
-  abbrev at₃ : ℕ
-  at₃ = at₂ + length (indexBytes own)
+abbrev pub globalsAt : List ℕ → List ℕ → List (List ℕ) → ℕ
+globalsAt name top own = stringsAt name top + length (indexBytes own)
 
-  -- each is directly behind the one before
-  names-lie : drop 4 bs ≡ setBytes name top own globals rest
-  names-lie = ap (drop 4) is
+abbrev pub restAt : List ℕ → List ℕ → List (List ℕ) → List (List ℕ) → ℕ
+restAt name top own globals = globalsAt name top own + length (indexBytes globals)
 
-  tops-lie : drop at₁ bs ≡ indexBytes (top ∷ []) ++ (indexBytes own ++ (indexBytes globals ++ rest))
-  tops-lie = lies-behind bs 4 (indexBytes (name ∷ [])) _ names-lie
+module _ (offSize : ℕ) (name top : List ℕ) (own globals : List (List ℕ)) (rest : List ℕ) where
+  abbrev bs : List ℕ
+  bs = setBytes offSize name top own globals rest
 
-  own-lie : drop at₂ bs ≡ indexBytes own ++ (indexBytes globals ++ rest)
-  own-lie = lies-behind bs at₁ (indexBytes (top ∷ [])) _ tops-lie
+  names-lie : drop 4 bs ≡ indexBytes (name ∷ []) ++ (indexBytes (top ∷ []) ++ (indexBytes own ++ (indexBytes globals ++ rest)))
+  names-lie = refl
 
-  globals-lie : drop at₃ bs ≡ indexBytes globals ++ rest
-  globals-lie = lies-behind bs at₂ (indexBytes own) _ own-lie
+  top-lies : drop (topAt name) bs ≡ indexBytes (top ∷ []) ++ (indexBytes own ++ (indexBytes globals ++ rest))
+  top-lies = lies-behind bs 4 (indexBytes (name ∷ [])) _ names-lie
 
-  -- the rest stands behind them
-  pub rest-lies : drop (setEnd name top own globals) bs ≡ rest
-  rest-lies = lies-behind bs at₃ (indexBytes globals) rest globals-lie
+  strings-lie : drop (stringsAt name top) bs ≡ indexBytes own ++ (indexBytes globals ++ rest)
+  strings-lie = lies-behind bs (topAt name) (indexBytes (top ∷ [])) _ top-lies
 
-  -- the header has four bytes
-  header-within : 4 ≤ length bs
-  header-within = let k = ap length is in omega arith
+  globals-lie : drop (globalsAt name top own) bs ≡ indexBytes globals ++ rest
+  globals-lie = lies-behind bs (stringsAt name top) (indexBytes own) _ strings-lie
 
-  -- within the bytes
-  pub end-within : setEnd name top own globals ≤ length bs
-  end-within =
-      lies-within bs at₃ (indexBytes globals) _ globals-lie
-      (lies-within bs at₂ (indexBytes own) _ own-lie (lies-within bs at₁ (indexBytes (top ∷ [])) _ tops-lie (lies-within bs 4 (indexBytes (name ∷ [])) _ names-lie header-within)))
+  -- the rest stands behind
+  pub rest-lies : drop (restAt name top own globals) bs ≡ rest
+  rest-lies = lies-behind bs (globalsAt name top own) (indexBytes globals) rest globals-lie
 
-  module _ (fewOwn : length own < 65536) (fewGlobals : length globals < 65536) (short : length bs ≤ 67108864) where
-    -- the one font is read by its top DICT
-    set-back : (p : Program) → fontAt bs own globals top ≡ got p → setAt bs 4 ≡ got p
-    unfolding setAt fontsAt
+  -- and within the bytes
+  pub rest-within : restAt name top own globals ≤ length bs
+  rest-within = simp length-append (omega arith)
+
+  module _ (manyStrings : length own < 65536) (manyGlobals : length globals < 65536) (short : length bs ≤ 67108864) where
+    set-read : setAt bs 4 ≡ then (fontsAt bs own globals (top ∷ [])) firstOf
+    unfolding setAt
+    set-read =
+        read-then _ (index-back bs 4 (name ∷ []) _ (omega arith) short names-lie)
+        ∙ read-then _ (index-back bs (topAt name) (top ∷ []) _ (omega arith) short top-lies)
+        ∙ read-then _ (index-back bs (stringsAt name top) own _ manyStrings short strings-lie)
+        ∙ read-then _ (index-back bs (globalsAt name top own) globals _ manyGlobals short globals-lie)
+
+    -- it is read as its one font
+    pub set-back : (p : Program) → fontAt bs own globals top ≡ got p → readFont bs ≡ got p
+    unfolding readFont fontsAt
     set-back p e =
-        rw (
-          index-back bs 4 (name ∷ []) _ (omega arith) short names-lie,
-          index-back bs at₁ (top ∷ []) _ (omega arith) short tops-lie,
-          index-back bs at₂ own _ fewOwn short own-lie,
-          index-back bs at₃ globals rest fewGlobals short globals-lie,
-          e,
-        )
-
-    -- and so is the whole
-    pub font-back : (p : Program) → fontAt bs own globals top ≡ got p → readFont bs ≡ got p
-    unfolding readFont
-    font-back p e =
-        let major : getD bs 0 0 ≡ 1 = ap (λ (l : List ℕ). getD l 0 0) is in
-        let header : getD bs 2 0 ≡ 4 = ap (λ (l : List ℕ). getD l 2 0) is in
-        rw (le-ltb 67108864 (length bs) short, le-ltb (length bs) 4 header-within, major, header) (set-back p e)
+        ap (λ (t : Bool). pick t (refused 4) (pick (ltb (length bs) 4) (refused 1) (setAt bs 4))) (le-ltb 67108864 (length bs) short)
+        ∙ ap (λ (t : Bool). pick t (refused 1) (setAt bs 4)) (le-ltb (length bs) 4 (omega arith))
+        ∙ set-read
+        ∙ ap (λ (g : Got Program). then (then g (λ p. then (fontsAt bs own globals []) (λ ps. got (p ∷ ps)))) firstOf) e
