@@ -3,3 +3,4 @@ pub mod Laid
 pub mod WholeLaws
 pub mod LiesLaws
 pub mod PrivateBack
+pub mod SetBack
