@@ -4,3 +4,4 @@ pub mod WholeLaws
 pub mod LiesLaws
 pub mod PrivateBack
 pub mod SetBack
+pub mod FontBack
