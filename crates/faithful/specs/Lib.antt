@@ -5,3 +5,6 @@ pub mod LiesLaws
 pub mod PrivateBack
 pub mod SetBack
 pub mod FontBack
+pub mod TopParts
+pub mod TopFitLaws
+pub mod TopLaws
