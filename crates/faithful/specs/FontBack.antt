@@ -1,20 +1,20 @@
 -- A font is read as its parts are (TN5176, section 9; document 01, 'Layout'): from the entries of its top DICT, the charstrings, the ids of the
 -- glyphs, and what its keying adds.
 use Prim.Native.Nat.{ℕ, _+_, _≤_, _<_}
-use mathlib.Core.Path.{_≡_, refl, sym, ap, _∙_}
-use mathlib.Core.Bool.{Bool, true, false}
-use mathlib.Core.List.{List, [], _∷_, _++_}
+use mathlib.Core.Path.{_≡_, ap, _∙_}
+use mathlib.Core.Bool.{Bool, true}
+use mathlib.Core.List.{List, _++_}
 use native.Mathlib.Omega.{arith}
 use borrow.Author.Tests.{le-ltb, ne-eqb}
 use lib.Dec.{ltb, eqb}
 use lib.ListN.{length, drop, getD}
 use Rattle.octets.specs.Pick.{pick}
-use Rattle.index.specs.Index.{Read, found, readIndex}
-use Rattle.dict.specs.Dict.{Entry, Dict, entries, dictOf}
+use Rattle.index.specs.Index.{found, readIndex}
+use Rattle.dict.specs.Dict.{Entry, entries, dictOf}
 use Rattle.dict.specs.Lookup.{offsetIn, cidKeyed, charstringTypeIn}
 use Rattle.dict.specs.declared.OffsetIn.{OffsetIn}
 use Rattle.dict.specs.declared.OffsetIn.the-variants.{At}
-use Rattle.charset.specs.Listed.{Listed, listed}
+use Rattle.charset.specs.Listed.{listed}
 use Rattle.charset.specs.Charset.{charsetAt, isoAdobe}
 use Rattle.charset.specs.CharsetBytes.{Ids, charsetBytes}
 use Rattle.charset.specs.CharsetRound.{charset-round}
@@ -42,24 +42,24 @@ ids-back b at ids post far lies some first small =
     ∙ ap (λ (t : Bool). pick t (refused 3) answer) (le-ltb at 3 far)
     ∙ ap listGot (charset-round b at ids post lies some first small)
 
--- what the parts of a font are read as
-module _ (b : List ℕ) (own globals : List (List ℕ)) (top : List ℕ) (es : List Entry) (cs : List (List ℕ)) (ids : List ℕ) (ps : List Private) (fds : List ℕ) where
-  -- the whole font
-  abbrev pub readParts : Program
-  readParts = record { top = es; strings = own; globals = globals; charstrings = cs; ids = ids; privates = ps; fds = fds }
+-- the font of these parts
+abbrev pub fontOf : List (List ℕ) → List (List ℕ) → List Entry → List (List ℕ) → List ℕ → List Private → List ℕ → Program
+fontOf own globals es cs ids ps fds = record { top = es; strings = own; globals = globals; charstrings = cs; ids = ids; privates = ps; fds = fds }
 
-  module _ (dict : dictOf top ≡ entries es) (type2 : charstringTypeIn es ≡ 0) (at₁ at₂ end : ℕ)
-      (ofCharset : offsetIn charset es ≡ At at₁) (ofCharStrings : offsetIn charStrings es ≡ At at₂)
-      (read : readIndex b at₂ ≡ found cs end) (some : 0 < length cs) (named : idsAt b (length cs) at₁ ≡ got ids) where
-    ids-got : then (orZero (offsetIn charset es)) (idsAt b (length cs)) ≡ got ids
-    ids-got = ap (λ (o : OffsetIn). then (orZero o) (idsAt b (length cs))) ofCharset ∙ named
+module _ (b : List ℕ) (own globals : List (List ℕ)) (top : List ℕ) (es : List Entry) (cs : List (List ℕ)) (ids : List ℕ) (ps : List Private) (fds : List ℕ)
+    (dict : dictOf top ≡ entries es) (type2 : charstringTypeIn es ≡ 0) (at₁ at₂ end : ℕ)
+    (ofCharset : offsetIn charset es ≡ At at₁) (ofCharStrings : offsetIn charStrings es ≡ At at₂)
+    (read : readIndex b at₂ ≡ found cs end) (some : 0 < length cs) (named : idsAt b (length cs) at₁ ≡ got ids) where
+  ids-got : then (orZero (offsetIn charset es)) (idsAt b (length cs)) ≡ got ids
+  ids-got = ap (λ (o : OffsetIn). then (orZero o) (idsAt b (length cs))) ofCharset ∙ named
 
-    -- a font whose keying adds these parts
-    pub font-back : pick (cidKeyed es) (cidParts b es (length cs)) (nameParts b es (length cs)) ≡ got (ps, fds) → fontAt b own globals top ≡ got readParts
-    unfolding fontAt
-    font-back parts =
-        then-got _ _ es (ap dictGot dict) ∙ then-got _ _ tt (ap unless type2) ∙ then-got _ _ cs (named-index b charStrings es at₂ cs end ofCharStrings read)
-        ∙ then-got _ _ tt (some-passes (length cs) some) ∙ then-got _ _ ids ids-got ∙ then-got _ _ (ps, fds) parts
+  -- a font whose keying adds these parts
+  pub font-back : pick (cidKeyed es) (cidParts b es (length cs)) (nameParts b es (length cs)) ≡ got (ps, fds)
+      → fontAt b own globals top ≡ got (fontOf own globals es cs ids ps fds)
+  unfolding fontAt
+  font-back parts =
+      then-got _ _ es (ap dictGot dict) ∙ then-got _ _ tt (ap unless type2) ∙ then-got _ _ cs (named-index b charStrings es at₂ cs end ofCharStrings read)
+      ∙ then-got _ _ tt (some-passes (length cs) some) ∙ then-got _ _ ids ids-got ∙ then-got _ _ (ps, fds) parts
 
 -- what a CID-keyed font adds, by its parts
 pub cid-parts-back : (b : List ℕ) (es : List Entry) (n at₁ at₂ end : ℕ) (dicts : List (List ℕ)) (ps : List Private) (fds : List ℕ)

@@ -8,3 +8,4 @@ pub mod FontBack
 pub mod TopParts
 pub mod TopFitLaws
 pub mod TopLaws
+pub mod ByCid

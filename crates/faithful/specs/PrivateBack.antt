@@ -2,7 +2,7 @@
 -- behind it; and those of the FDs in use, which their Font DICTs name.
 use Prim.Native.Nat.{ℕ, zero, suc, _+_, _≤_, _<_}
 use mathlib.Core.Path.{_≡_, refl, sym, ap, _∙_}
-use mathlib.Core.Bool.{Bool, true, false}
+use mathlib.Core.Bool.{Bool, false}
 use mathlib.Core.List.{List, [], _∷_, _++_, append-assoc, append-nil}
 use native.Mathlib.Nat.{not-suc-le-zero}
 use native.Mathlib.Omega.{arith}
@@ -16,7 +16,6 @@ use Rattle.dict.specs.Op.{private, subrs}
 use Rattle.dict.specs.Dict.{Entry, Dict, entries, dictOf}
 use Rattle.dict.specs.Lookup.{Operands, absent, operands, lastFrom, lastOf, only, offsetTold, offsetAs, offsetIn, privateIn}
 use Rattle.dict.specs.Proper.{AllProper}
-use Rattle.dict.specs.declared.OffsetIn.{OffsetIn}
 use Rattle.dict.specs.declared.OffsetIn.the-variants.{At, Absent}
 use Rattle.dict.specs.declared.PrivateIn.{PrivateIn}
 use Rattle.dict.specs.declared.PrivateIn.the-variants.{Private as PrivateEntry}

@@ -1,15 +1,15 @@
 -- A font set of one font that was written (document 01, 'Layout'): header, names, top DICT, strings, globals and the rest. It is read as the
 -- font that its top DICT gives.
-use Prim.Native.Nat.{ℕ, suc, _+_, _≤_, _<_}
-use mathlib.Core.Path.{_≡_, refl, sym, ap, _∙_}
-use mathlib.Core.Bool.{Bool, true, false}
+use Prim.Native.Nat.{ℕ, _+_, _≤_, _<_}
+use mathlib.Core.Path.{_≡_, refl, ap, _∙_}
+use mathlib.Core.Bool.{Bool}
 use mathlib.Core.List.{List, [], _∷_, _++_}
 use native.Mathlib.Omega.{arith}
 use borrow.Author.Tests.{le-ltb}
 use lib.Dec.{ltb}
-use lib.ListN.{length, drop}
+use lib.ListN.{length, drop, length-append}
 use Rattle.octets.specs.Pick.{pick}
-use Rattle.index.specs.Index.{Read, found, readIndex}
+use Rattle.index.specs.Index.{Read, found}
 use Rattle.index.specs.Write.{indexBytes}
 use Rattle.cff.specs.Font.{Got, refused, got, then, Program, fontAt, fontsAt, firstOf, indexThen, setAt, readFont}
 use Rattle.faithful.specs.LiesLaws.{lies-behind, index-back}
@@ -55,6 +55,10 @@ module _ (offSize : ℕ) (name top : List ℕ) (own globals : List (List ℕ)) (
   -- the rest stands behind
   pub rest-lies : drop (restAt name top own globals) bs ≡ rest
   rest-lies = lies-behind bs (globalsAt name top own) (indexBytes globals) rest globals-lie
+
+  -- and within the bytes
+  pub rest-within : restAt name top own globals ≤ length bs
+  rest-within = simp length-append (omega arith)
 
   module _ (manyStrings : length own < 65536) (manyGlobals : length globals < 65536) (short : length bs ≤ 67108864) where
     set-read : setAt bs 4 ≡ then (fontsAt bs own globals (top ∷ [])) firstOf
