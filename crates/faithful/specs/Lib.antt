@@ -3,9 +3,10 @@ pub mod Laid
 pub mod WholeLaws
 pub mod LiesLaws
 pub mod PrivateBack
+pub mod SetBack
+pub mod FontBack
 pub mod TopParts
 pub mod TopFitLaws
 pub mod TopLaws
-pub mod SetBack
-pub mod FontBack
 pub mod ByName
+pub mod ByCid

@@ -3,7 +3,7 @@
 use Prim.Native.Nat.{ℕ, _+_, _-_, _*_, _^_, _<_, min}
 use mathlib.Core.Path.{_≡_, refl, sym, ap, _∙_, subst}
 use mathlib.Core.Logic.{_⊎_, inl, inr}
-use mathlib.Core.Bool.{Bool, true, false}
+use mathlib.Core.Bool.{Bool, false}
 use mathlib.Core.List.{List, [], _∷_, _++_}
 use native.Mathlib.Nat.{eq-zero-or-pos}
 use native.Mathlib.Omega.{arith}
@@ -11,15 +11,13 @@ use borrow.Author.Tests.{eq-eqb}
 use lib.Dec.{eqb}
 use Rattle.octets.specs.Pick.{pick, pick-ind}
 use Rattle.decimal.specs.declared.Decimal.{Decimal}
-use Rattle.decimal.specs.Decimal.{nought, zeros, stripped, scaled, normal}
+use Rattle.decimal.specs.Decimal.{nought, zeros, stripped, scaled}
 use Rattle.decimal.specs.DecimalLaws.{normal-nought, normal-pos, stripped-exact}
 use Rattle.decimal.specs.Values.{truncOf, offsetOf}
 use Rattle.decimal.specs.ValuesLaws.{trunc-whole}
-use Rattle.decimal.specs.declared.OffsetOf.{OffsetOf}
 use Rattle.decimal.specs.declared.OffsetOf.the-variants.{Refused, Offset}
 use Rattle.dict.specs.Dict.{Entry}
 use Rattle.dict.specs.Lookup.{Operands, operands, lastFrom, privateAs}
-use Rattle.dict.specs.declared.PrivateIn.{PrivateIn}
 use Rattle.dict.specs.declared.PrivateIn.the-variants.{Refused as RefusedPrivate, Private}
 use Rattle.dict_write.specs.Written.{without}
 use Rattle.dict_write.specs.Parts.{whole}
