@@ -2,3 +2,13 @@ pub mod Faithful
 pub mod GoodLaws
 pub mod GoodPartsLaws
 pub mod Laid
+pub mod WholeLaws
+pub mod LiesLaws
+pub mod PrivateBack
+pub mod SetBack
+pub mod FontBack
+pub mod TopParts
+pub mod TopFitLaws
+pub mod TopLaws
+pub mod ByName
+pub mod ByCid
