@@ -8,4 +8,5 @@ pub mod FontBack
 pub mod TopParts
 pub mod TopFitLaws
 pub mod TopLaws
+pub mod ByName
 pub mod ByCid

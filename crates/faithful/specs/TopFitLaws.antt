@@ -1,8 +1,8 @@
 -- The top DICT of a subset is its parts, and each part fits a DICT: operators that there are, and numbers within the limits.
-use Prim.Native.Nat.{ℕ, _+_, _^_, _≤_, _<_, min}
-use mathlib.Core.Path.{_≡_, refl, sym, ap, _∙_}
-use mathlib.Core.Bool.{Bool, true, false}
-use mathlib.Core.List.{List, [], _∷_, _++_, append-assoc, append-nil}
+use Prim.Native.Nat.{ℕ, _+_, _≤_, _<_, min}
+use mathlib.Core.Path.{_≡_, refl, ap, _∙_}
+use mathlib.Core.Bool.{true, false}
+use mathlib.Core.List.{List, [], _∷_, _++_, append-nil}
 use native.Mathlib.Omega.{arith}
 use lib.Dec.{eqb}
 use lib.ListN.{length}
@@ -11,9 +11,9 @@ use Rattle.decimal.specs.declared.Decimal.{Decimal}
 use Rattle.decimal.specs.declared.Signed.{Signed}
 use Rattle.decimal.specs.declared.IdOf.{IdOf}
 use Rattle.decimal.specs.declared.IdOf.the-variants.{Id, Absent}
-use Rattle.decimal.specs.Decimal.{normal, Normal}
+use Rattle.decimal.specs.Decimal.{Normal}
 use Rattle.decimal.specs.TakenLaws.{whole-normal}
-use Rattle.decimal.specs.Values.{truncOf, clamped, i32Of}
+use Rattle.decimal.specs.Values.{truncOf, i32Of}
 use Rattle.strings.specs.Text.{sameText}
 use Rattle.strings.specs.Strings.{stringText, sidOf}
 use Rattle.strings.specs.StringsLaws.{sid-below}
@@ -22,13 +22,13 @@ use Rattle.strings.specs.declared.Sid.the-variants.{Standard, Other}
 use Rattle.dict.specs.Op.{isOperator, ros, cidCount, copiedTopEntries, copiedTopStrings}
 use Rattle.dict.specs.Dict.{Entry}
 use Rattle.dict.specs.Proper.{AllNormal, Proper, AllProper}
-use Rattle.dict.specs.Lookup.{Operands, absent, operands, lastFrom, lastOf, only, oneOf, idIn, rosAs, rosIn, countAs, cidCountIn}
+use Rattle.dict.specs.Lookup.{Operands, absent, operands, lastFrom, lastOf, oneOf, idIn, rosAs, rosIn, countAs, cidCountIn}
 use Rattle.dict.specs.declared.One.{One}
 use Rattle.dict.specs.declared.One.the-variants.{Number, Absent as NoNumber}
 use Rattle.dict.specs.declared.RosIn.{RosIn}
 use Rattle.dict.specs.declared.RosIn.the-variants.{Ros, None}
 use Rattle.dict_write.specs.Written.{entryBytes, offsetEntry, privateEntry}
-use Rattle.dict_write.specs.Parts.{Part, plain, offset, privatePart, partBytes, partsBytes, Fits, AllFit}
+use Rattle.dict_write.specs.Parts.{Part, plain, offset, privatePart, partBytes, partsBytes, AllFit}
 use Rattle.dict_write.specs.EntriesRound.{parts-append, fit-append}
 use Rattle.cff.specs.Font.{Program, charset, charStrings, fdArray, fdSelect}
 use Rattle.subset.specs.Texts.{Named, namedBy, namedEntries, placeIn, idAfter, newId}
@@ -38,27 +38,32 @@ use Rattle.faithful.specs.TopParts.{namedParts, copiedPart, copiedParts,
 
 -- ---- the bytes
 
+-- of the string entries
 pub named-bytes : (own : List (List ℕ)) (ns : List Named) → partsBytes (namedParts own ns) ≡ namedBytes own ns
 unfolding namedParts partsBytes namedBytes
 named-bytes own [] = refl
 named-bytes own (n ∷ ns) = ap (λ (l : List ℕ). entryBytes (n .op) (numberOf (newId own (n .text)) ∷ []) ++ l) (named-bytes own ns)
 
+-- of one copied entry
 copied-one : (op : ℕ) (o : Operands) (ps : List Part) → partsBytes (copiedPart op o ++ ps) ≡ copiedEntry op o ++ partsBytes ps
 unfolding partsBytes
 copied-one op absent ps = refl
 copied-one op (operands ds) ps = refl
 
+-- of the copied entries
 pub copied-bytes : (es : List Entry) (ops : List ℕ) → partsBytes (copiedParts es ops) ≡ copiedBytes es ops
 unfolding copiedParts partsBytes copiedBytes
 copied-bytes es [] = refl
 copied-bytes es (op ∷ ops) =
     copied-one op (lastOf op es) (copiedParts es ops) ∙ ap (λ (l : List ℕ). copiedEntry op (lastOf op es) ++ l) (copied-bytes es ops)
 
+-- of ROS
 ros-bytes : (p : Program) (own : List (List ℕ)) (r : RosIn) (ps : List Part) → partsBytes (rosParts p own r ++ ps) ≡ rosEntry p own r ++ partsBytes ps
 unfolding partsBytes
 ros-bytes p own None ps = refl
 ros-bytes p own (Ros registry ordering s) ps = refl
 
+-- of what both keyings share
 shared-bytes : (p : Program) (own : List (List ℕ)) (ps : List Part)
     → partsBytes (sharedParts p own ps) ≡ namedBytes own (named p) ++ (copiedBytes (p .top) copiedTopEntries ++ partsBytes ps)
 shared-bytes p own ps =
@@ -97,6 +102,7 @@ place-within t [] = omega arith
 place-within t (x ∷ xs) =
     pick-ind (λ (n : ℕ). n ≤ length (x ∷ xs)) (sameText x t) 0 (placeIn t xs + 1) (λ e. omega arith) (λ e. omega (arith, place-within t xs))
 
+-- by the kind of the text
 after-below : (own : List (List ℕ)) (t : List ℕ) → length own ≤ 64609 → (s : Sid) → sidOf t ≡ s → idAfter s t own < 65536
 after-below own t h (Standard k) e = omega (arith, sid-below t k e)
 after-below own t h Other e = omega (arith, place-within t own)
@@ -113,20 +119,24 @@ unfoldable pub Operators : List ℕ → Type 0
 Operators [] = Unit
 Operators (op ∷ ops) = (isOperator op ≡ true) × Operators ops
 
+-- a number of 32 bits is one that a DICT can hold
 number-normal : (n : ℕ) → n < 4294967296 → Normal (numberOf n)
 number-normal n h = whole-normal false n (omega arith)
 
+-- and so is an entry of it alone
 one-proper : (op n : ℕ) → isOperator op ≡ true → n < 4294967296 → Proper (record { op = op; operands = numberOf n ∷ [] })
 unfolding AllNormal
 one-proper op n o h = record { operator = o; numbers = (number-normal n h, tt) }
 
 module _ (p : Program) (own : List (List ℕ)) (few : length own ≤ 64609) where
+  -- a string entry
   named-one-fits : (op : ℕ) → isOperator op ≡ true → (i : IdOf) (ns : List Named) → AllFit (namedParts own ns) → AllFit (namedParts own (namedBy p op i ns))
   unfolding namedParts AllFit
   named-one-fits op o Absent ns h = h
   named-one-fits op o (Id sid) ns h =
       let t = stringText (p .strings) sid in (one-proper op (newId own t) o (omega (arith, new-below own t few)), h)
 
+  -- the string entries
   pub named-fit : (ops : List ℕ) → Operators ops → AllFit (namedParts own (namedEntries p ops))
   unfolding namedEntries namedParts AllFit Operators
   named-fit [] o = tt
@@ -137,6 +147,7 @@ abbrev NormalOperands : Operands → Type 0
 NormalOperands absent = Unit
 NormalOperands (operands ds) = AllNormal ds
 
+-- of the last entry
 last-normal : (op : ℕ) (o : Operands) (es : List Entry) → AllProper es → NormalOperands o → NormalOperands (lastFrom op o es)
 unfolding lastFrom AllProper
 last-normal op o [] h n = n
@@ -144,11 +155,13 @@ last-normal op o (e ∷ es) h n =
     last-normal op (pick (eqb (e .op) op) (operands (e .operands)) o) es (h .1)
     (pick-ind NormalOperands (eqb (e .op) op) (operands (e .operands)) o (λ t. h .0 .numbers) (λ t. n))
 
+-- a copied entry
 copied-one-fits : (op : ℕ) → isOperator op ≡ true → (o : Operands) → NormalOperands o → AllFit (copiedPart op o)
 unfolding AllFit
 copied-one-fits op h absent n = tt
 copied-one-fits op h (operands ds) n = (record { operator = h; numbers = n }, tt)
 
+-- the copied entries
 pub copied-fit : (es : List Entry) → AllProper es → (ops : List ℕ) → Operators ops → AllFit (copiedParts es ops)
 unfolding copiedParts AllFit Operators lastOf
 copied-fit es h [] o = tt
@@ -161,11 +174,13 @@ abbrev SmallRos : RosIn → Type 0
 SmallRos None = Unit
 SmallRos (Ros registry ordering s) = s .size ≤ 2147483648
 
+-- of any number
 supplement-small : (d : Decimal) → i32Of d .size ≤ 2147483648
 supplement-small d =
     pick-ind (λ (s : Signed). s .size ≤ 2147483648) (eqb (truncOf d) 0) _ _ (λ e. omega arith)
     (λ e. pick-ind (λ (n : ℕ). min (truncOf d) n ≤ 2147483648) (d .neg) 2147483648 2147483647 (λ t. omega arith) (λ t. omega arith))
 
+-- of any operands
 ros-small : (o : Operands) → SmallRos (rosAs o)
 ros-small absent = tt
 ros-small (operands []) = tt
@@ -174,6 +189,7 @@ ros-small (operands (r ∷ o ∷ [])) = tt
 ros-small (operands (r ∷ o ∷ s ∷ [])) = supplement-small s
 ros-small (operands (r ∷ o ∷ s ∷ d ∷ ds)) = tt
 
+-- ROS
 ros-fits : (p : Program) (own : List (List ℕ)) → length own ≤ 64609 → (r : RosIn) → SmallRos r → AllFit (rosParts p own r)
 unfolding AllFit AllNormal
 ros-fits p own few None h = tt
@@ -188,6 +204,7 @@ count-small NoNumber = omega arith
 count-small (Number d) = pick-ind (λ (n : ℕ). n < 4294967296) (d .neg) 0 (min (truncOf d) 4294967295) (λ t. omega arith) (λ t. omega arith)
 
 module _ (p : Program) (own : List (List ℕ)) (good : GoodProgram p) (few : length own ≤ 64609) where
+  -- what both keyings share
   shared-fit : (ps : List Part) → AllFit ps → AllFit (sharedParts p own ps)
   unfolding Operators
   shared-fit ps h =

@@ -15,22 +15,20 @@ use Rattle.index.specs.WriteLaws.{length-index}
 use Rattle.dict.specs.Op.{private, charstringType, ros, cidCount, copiedTopEntries, copiedTopStrings}
 use Rattle.dict.specs.Dict.{Entry, entries, dictOf}
 use Rattle.dict.specs.Lookup.{Operands, absent, operands, lastFrom, lastOf, only, offsetTold, offsetAs, offsetIn, privateAs, privateIn, idIn, isThere, cidKeyed, rosIn, cidCountIn, typeAs, charstringTypeIn}
-use Rattle.dict.specs.declared.OffsetIn.{OffsetIn}
 use Rattle.dict.specs.declared.OffsetIn.the-variants.{At, Absent as NoOffset}
-use Rattle.dict.specs.declared.PrivateIn.{PrivateIn}
 use Rattle.dict.specs.declared.PrivateIn.the-variants.{Private as PrivateEntry}
 use Rattle.dict.specs.declared.RosIn.{RosIn}
 use Rattle.dict.specs.declared.RosIn.the-variants.{Ros, None}
-use Rattle.dict_write.specs.Written.{opBytes, entryBytes, offsetEntry, privateEntry}
+use Rattle.dict_write.specs.Written.{opBytes, offsetEntry}
 use Rattle.dict_write.specs.WriteLaws.{offset-length, private-length}
-use Rattle.dict_write.specs.Parts.{Part, plain, offset, privatePart, whole, partsBytes, partsEntries, AllFit}
+use Rattle.dict_write.specs.Parts.{Part, plain, offset, privatePart, whole, partsEntries}
 use Rattle.dict_write.specs.DictRound.{parts-read}
 use Rattle.cff.specs.ReadsLaws.{no}
 use Rattle.cff.specs.Font.{Program, charset, encoding, charStrings, fdArray, fdSelect}
 use Rattle.subset.specs.Kept.{isIn}
 use Rattle.subset.specs.Cut.{hasRos}
 use Rattle.subset.specs.Texts.{Named, namedBy, namedEntries}
-use Rattle.subset.specs.Subset.{numberOf, named, namedBytes, copiedBytes, rosEntry, topByName, topByCid}
+use Rattle.subset.specs.Subset.{numberOf, topByName, topByCid}
 use Rattle.faithful.specs.Laid.{GoodProgram}
 use Rattle.faithful.specs.WholeLaws.{offset-whole, private-whole}
 use Rattle.faithful.specs.TopParts.{namedParts, copiedPart, copiedParts, rosParts, sharedParts, nameTopParts, cidTopParts}
@@ -48,6 +46,7 @@ module _ (op : ℕ) (o : Operands) (rest : List Part) where
   other-leaves : (q : ℕ) → eqb q op ≡ false → (ds : Operands) → pick (eqb q op) ds o ≡ o
   other-leaves q e ds = ap (λ (t : Bool). pick t ds o) e
 
+  -- a string entry leaves it
   named-one-leaves : (p : Program) (own : List (List ℕ)) (q : ℕ) → eqb q op ≡ false → (i : IdOf) (ns : List Named)
       → lastFrom op o (partsEntries (namedParts own ns ++ rest)) ≡ lastFrom op o (partsEntries rest)
       → lastFrom op o (partsEntries (namedParts own (namedBy p q i ns) ++ rest)) ≡ lastFrom op o (partsEntries rest)
@@ -65,6 +64,7 @@ module _ (op : ℕ) (o : Operands) (rest : List Part) where
       let n = not-in (eqb q op) (isIn op ops) h in
       named-one-leaves p own q (n .0) (idIn q (p .top)) (namedEntries p ops) (named-leave p own ops (n .1))
 
+  -- a copied entry leaves it
   copied-one-leaves : (q : ℕ) → eqb q op ≡ false → (x : Operands) (ps : List Part)
       → lastFrom op o (partsEntries (ps ++ rest)) ≡ lastFrom op o (partsEntries rest)
       → lastFrom op o (partsEntries ((copiedPart q x ++ ps) ++ rest)) ≡ lastFrom op o (partsEntries rest)
@@ -122,16 +122,19 @@ at-offset op v es h e = ap (λ (o : Operands). offsetAs (only o)) e ∙ ap offse
 
 module _ (p : Program) (own : List (List ℕ)) (at₁ at₂ size at₃ : ℕ)
     (h₁ : at₁ < 2147483648) (h₂ : at₂ < 2147483648) (h : size < 2147483648) (h₃ : at₃ < 2147483648) where
+  -- the entries of a name-keyed subset's top DICT, and the parts at its end
   abbrev nameEntries : List Entry
   nameEntries = partsEntries (nameTopParts p own at₁ at₂ size at₃)
 
   abbrev nameTail : List Part
   nameTail = offset charset at₁ ∷ offset charStrings at₂ ∷ privatePart size at₃ ∷ []
 
+  -- what is not among the copied operators is looked up at the end
   name-last : (op : ℕ) → isIn op copiedTopStrings ≡ false → isIn op copiedTopEntries ≡ false → lastOf op nameEntries ≡ lastFrom op absent (partsEntries nameTail)
   unfolding lastOf
   name-last op h k = shared-leave op absent nameTail p own h k
 
+  -- so that each lookup gives what was written
   name-top : NameTop nameEntries at₁ at₂ size at₃
   unfolding lastFrom partsEntries isIn
   name-top =
@@ -146,6 +149,7 @@ module _ (p : Program) (own : List (List ℕ)) (at₁ at₂ size at₃ : ℕ)
 
 module _ (p : Program) (own : List (List ℕ)) (there : hasRos (rosIn (p .top)) ≡ true) (at₁ at₂ at₃ at₄ : ℕ)
     (h₁ : at₁ < 2147483648) (h₂ : at₂ < 2147483648) (h₃ : at₃ < 2147483648) (h₄ : at₄ < 2147483648) where
+  -- the entries of a CID-keyed subset's top DICT, and the parts at its end
   abbrev cidEntries : List Entry
   cidEntries = partsEntries (cidTopParts p own at₁ at₂ at₃ at₄)
 
@@ -154,6 +158,7 @@ module _ (p : Program) (own : List (List ℕ)) (there : hasRos (rosIn (p .top)) 
       plain (record { op = cidCount; operands = numberOf (cidCountIn (p .top)) ∷ [] })
       ∷ offset charset at₁ ∷ offset fdSelect at₂ ∷ offset charStrings at₃ ∷ offset fdArray at₄ ∷ []
 
+  -- what is not among the copied operators, and not ROS, is looked up at the end
   cid-last : (op : ℕ) → eqb ros op ≡ false → isIn op copiedTopStrings ≡ false → isIn op copiedTopEntries ≡ false
       → lastOf op cidEntries ≡ lastFrom op absent (partsEntries cidTail)
   unfolding lastOf
@@ -165,6 +170,7 @@ module _ (p : Program) (own : List (List ℕ)) (there : hasRos (rosIn (p .top)) 
   ros-stays None e = absurd (no cc)
   ros-stays (Ros registry ordering s) e = ap isThere (shared-leave ros _ cidTail p own refl refl)
 
+  -- so that each lookup gives what was written
   cid-top : CidTop cidEntries at₁ at₂ at₃ at₄
   unfolding lastOf lastFrom partsEntries isIn
   cid-top =
@@ -179,6 +185,7 @@ module _ (p : Program) (own : List (List ℕ)) (there : hasRos (rosIn (p .top)) 
 
 -- ---- the top DICT reads back
 
+-- of a name-keyed subset
 pub name-top-back : (p : Program) (own : List (List ℕ)) (at₁ at₂ size at₃ : ℕ) → GoodProgram p → length own ≤ 64609
     → at₁ < 2147483648 → at₂ < 2147483648 → size < 2147483648 → at₃ < 2147483648
     → (es : List Entry) × (dictOf (topByName p own at₁ at₂ size at₃) ≡ entries es) × NameTop es at₁ at₂ size at₃
@@ -188,6 +195,7 @@ name-top-back p own at₁ at₂ size at₃ good few h₁ h₂ h h₃ = (
   name-top p own at₁ at₂ size at₃ h₁ h₂ h h₃,
 )
 
+-- of a CID-keyed subset
 pub cid-top-back : (p : Program) (own : List (List ℕ)) (at₁ at₂ at₃ at₄ : ℕ) → GoodProgram p → hasRos (rosIn (p .top)) ≡ true → length own ≤ 64609
     → at₁ < 2147483648 → at₂ < 2147483648 → at₃ < 2147483648 → at₄ < 2147483648
     → (es : List Entry) × (dictOf (topByCid p own at₁ at₂ at₃ at₄) ≡ entries es) × CidTop es at₁ at₂ at₃ at₄
@@ -199,14 +207,17 @@ cid-top-back p own at₁ at₂ at₃ at₄ good there few h₁ h₂ h₃ h₄ = 
 
 -- ---- its length does not depend on its offsets
 
+-- nor does that of an offset's entry
 same-offset : (op v w : ℕ) → length (offsetEntry op v) ≡ length (offsetEntry op w)
 same-offset op v w = sym (offset-length op v (length (opBytes op)) refl) ∙ offset-length op w (length (opBytes op)) refl
 
 module _ (p : Program) (own : List (List ℕ)) where
+  -- of a name-keyed subset
   pub name-top-length : (at₁ at₂ size at₃ : ℕ) → length (topByName p own at₁ at₂ size at₃) ≡ length (topByName p own 0 0 0 0)
   name-top-length at₁ at₂ size at₃ =
       simp length-append (omega (arith, same-offset charset at₁ 0, same-offset charStrings at₂ 0, private-length size at₃, private-length 0 0))
 
+  -- of a CID-keyed subset
   pub cid-top-length : (at₁ at₂ at₃ at₄ : ℕ) → length (topByCid p own at₁ at₂ at₃ at₄) ≡ length (topByCid p own 0 0 0 0)
   cid-top-length at₁ at₂ at₃ at₄ =
       simp length-append (omega (arith, same-offset charset at₁ 0, same-offset fdSelect at₂ 0, same-offset charStrings at₃ 0, same-offset fdArray at₄ 0))

@@ -2,7 +2,6 @@
 -- the offsets, and for a name-keyed subset Private.
 use Prim.Native.Nat.{ℕ}
 use mathlib.Core.List.{List, [], _∷_, _++_}
-use Rattle.decimal.specs.declared.Signed.{Signed}
 use Rattle.decimal.specs.Decimal.{normal}
 use Rattle.dict.specs.Op.{ros, cidCount, copiedTopEntries}
 use Rattle.dict.specs.Dict.{Entry}
