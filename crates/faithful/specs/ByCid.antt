@@ -31,6 +31,7 @@ use Rattle.faithful.specs.TopLaws.{CidTop, cid-top-back, cid-top-length,
 
 -- ---- counts
 
+-- a CID and an FD for each glyph
 cids-length : (p : Program) (order : List ℕ) → length (cidsOf p order) ≡ length order
 unfolding cidsOf
 cids-length p [] = refl
@@ -96,62 +97,65 @@ module _ (p : Program) (used order : List ℕ) (b : Bodies) (at₁ : ℕ) where
       charsetBytes (cidsOf p order) ++ (fdSelectBytes (newFds p used order)
       ++ (indexBytes (b .charstrings) ++ (indexBytes dictsWritten ++ privateParts p used (b .locals))))
 
-  module _ (fitting : Fitting (length order) used b) (bs : List ℕ) (within₁ : at₁ ≤ length bs) (lies₁ : drop at₁ bs ≡ behindGlobals) where
-    within₂ : selectPlace ≤ length bs
-    within₂ = lies-within bs at₁ (charsetBytes (cidsOf p order)) _ lies₁ within₁
+  module _ (fitting : Fitting (length order) used b) (bs : List ℕ) (charset-within : at₁ ≤ length bs) (charset-lies : drop at₁ bs ≡ behindGlobals) where
+    -- each of these places is within the bytes, and what was written stands there
+    select-within : selectPlace ≤ length bs
+    select-within = lies-within bs at₁ (charsetBytes (cidsOf p order)) _ charset-lies charset-within
 
-    lies₂ : drop selectPlace bs ≡ fdSelectBytes (newFds p used order) ++ (indexBytes (b .charstrings) ++ (indexBytes dictsWritten ++ privateParts p used (b .locals)))
-    lies₂ = lies-behind bs at₁ (charsetBytes (cidsOf p order)) _ lies₁
+    select-lies : drop selectPlace bs ≡ fdSelectBytes (newFds p used order) ++ (indexBytes (b .charstrings) ++ (indexBytes dictsWritten ++ privateParts p used (b .locals)))
+    select-lies = lies-behind bs at₁ (charsetBytes (cidsOf p order)) _ charset-lies
 
-    within₃ : glyphsPlace ≤ length bs
-    within₃ = lies-within bs selectPlace (fdSelectBytes (newFds p used order)) _ lies₂ within₂
+    glyphs-within : glyphsPlace ≤ length bs
+    glyphs-within = lies-within bs selectPlace (fdSelectBytes (newFds p used order)) _ select-lies select-within
 
-    lies₃ : drop glyphsPlace bs ≡ indexBytes (b .charstrings) ++ (indexBytes dictsWritten ++ privateParts p used (b .locals))
-    lies₃ = lies-behind bs selectPlace (fdSelectBytes (newFds p used order)) _ lies₂
+    glyphs-lie : drop glyphsPlace bs ≡ indexBytes (b .charstrings) ++ (indexBytes dictsWritten ++ privateParts p used (b .locals))
+    glyphs-lie = lies-behind bs selectPlace (fdSelectBytes (newFds p used order)) _ select-lies
 
-    within₄ : arrayPlace ≤ length bs
-    within₄ = lies-within bs glyphsPlace (indexBytes (b .charstrings)) _ lies₃ within₃
+    array-within : arrayPlace ≤ length bs
+    array-within = lies-within bs glyphsPlace (indexBytes (b .charstrings)) _ glyphs-lie glyphs-within
 
-    lies₄ : drop arrayPlace bs ≡ indexBytes dictsWritten ++ privateParts p used (b .locals)
-    lies₄ = lies-behind bs glyphsPlace (indexBytes (b .charstrings)) _ lies₃
+    array-lies : drop arrayPlace bs ≡ indexBytes dictsWritten ++ privateParts p used (b .locals)
+    array-lies = lies-behind bs glyphsPlace (indexBytes (b .charstrings)) _ glyphs-lie
 
-    -- the FD INDEX as long as where the Private DICTs stand at 0
+    -- the FD INDEX is as long as where the Private DICTs stand at 0
     array-length : arrayPlace + length (indexBytes dictsWritten) ≡ privatesPlace
     array-length =
         ap (λ (n : ℕ). arrayPlace + n) (dicts-length p privatesPlace used (b .locals) (fitting .fds) ∙ sym (dicts-length p 0 used (b .locals) (fitting .fds)))
 
-    within₅ : privatesPlace ≤ length bs
-    within₅ = subst (λ (n : ℕ). n ≤ length bs) array-length (lies-within bs arrayPlace (indexBytes dictsWritten) _ lies₄ within₄)
+    privates-within : privatesPlace ≤ length bs
+    privates-within = subst (λ (n : ℕ). n ≤ length bs) array-length (lies-within bs arrayPlace (indexBytes dictsWritten) _ array-lies array-within)
 
-    lies₅ : drop privatesPlace bs ≡ privateParts p used (b .locals) ++ []
-    lies₅ =
-        ap (λ (n : ℕ). drop n bs) (sym array-length) ∙ lies-behind bs arrayPlace (indexBytes dictsWritten) _ lies₄
+    privates-lie : drop privatesPlace bs ≡ privateParts p used (b .locals) ++ []
+    privates-lie =
+        ap (λ (n : ℕ). drop n bs) (sym array-length) ∙ lies-behind bs arrayPlace (indexBytes dictsWritten) _ array-lies
         ∙ sym (append-nil (privateParts p used (b .locals)))
 
     module _ (good : GoodProgram p) (short : length bs ≤ 67108864) (few : length order < 65536) (fewFds : length used < 65536) (someFds : 0 < length used)
         (below : allBelow (length used) (newFds p used order) ≡ true) (small : Fds (newFds p used order)) where
+      -- the charstrings, the FD INDEX, FDSelect and the charset read back
       glyphs-read : readIndex bs glyphsPlace ≡ found (b .charstrings) (glyphsPlace + length (indexBytes (b .charstrings)))
-      glyphs-read = index-back bs glyphsPlace (b .charstrings) _ (omega (arith, fitting .glyphs)) short lies₃
+      glyphs-read = index-back bs glyphsPlace (b .charstrings) _ (omega (arith, fitting .glyphs)) short glyphs-lie
 
       array-read : readIndex bs arrayPlace ≡ found dictsWritten (arrayPlace + length (indexBytes dictsWritten))
-      array-read = index-back bs arrayPlace dictsWritten _ (omega (arith, dicts-count p privatesPlace used (b .locals) (fitting .fds))) short lies₄
+      array-read = index-back bs arrayPlace dictsWritten _ (omega (arith, dicts-count p privatesPlace used (b .locals) (fitting .fds))) short array-lies
 
       select-read : fdSelectAt bs selectPlace (length (b .charstrings)) ≡ listed (newFds p used order)
       select-read =
           let n : length (b .charstrings) ≡ length (newFds p used order) = fitting .glyphs ∙ sym (fds-length p used order) in
-          ap (fdSelectAt bs selectPlace) n ∙ select-round bs selectPlace (newFds p used order) _ lies₂ (omega (arith, fds-length p used order)) small
+          ap (fdSelectAt bs selectPlace) n ∙ select-round bs selectPlace (newFds p used order) _ select-lies (omega (arith, fds-length p used order)) small
 
       ids-read : 3 ≤ at₁ → 0 < length order → getD (cidsOf p order) 0 0 ≡ 0 → idsAt bs (length (b .charstrings)) at₁ ≡ got (cidsOf p order)
       ids-read far some first =
           let n : length (b .charstrings) ≡ length (cidsOf p order) = fitting .glyphs ∙ sym (cids-length p order) in
           ap (λ (k : ℕ). idsAt bs k at₁) n
-          ∙ ids-back bs at₁ (cidsOf p order) _ far lies₁ (omega (arith, cids-length p order)) first (cids-small p (good .ids) order)
+          ∙ ids-back bs at₁ (cidsOf p order) _ far charset-lies (omega (arith, cids-length p order)) first (cids-small p (good .ids) order)
 
-      -- the Private DICTs, and the font that is read, by the entries of its top DICT
+      -- and the Private DICTs
       private-dicts : (ps : List Private) × (privatesAt bs dictsWritten ≡ got ps) × (length ps ≡ length used)
           × ((k : ℕ) → k < length used → getD ps k (record { entries = []; locals = [] }) .locals ≡ getD (b .locals) k [])
-      private-dicts = privates-back bs privatesPlace p used (b .locals) [] good (fitting .fds) (fitting .locals) short within₅ lies₅
+      private-dicts = privates-back bs privatesPlace p used (b .locals) [] good (fitting .fds) (fitting .locals) short privates-within privates-lie
 
+      -- the font that is read, by the entries of its top DICT
       abbrev fontRead : List Entry → Program
       fontRead es = fontOf (ownByCid p) (b .globals) es (b .charstrings) (cidsOf p order) (private-dicts .0) (newFds p used order)
 
@@ -170,7 +174,7 @@ module _ (p : Program) (used order : List ℕ) (b : Bodies) (at₁ : ℕ) where
 -- ---- the whole
 
 module _ (p : Program) (name used order : List ℕ) (b : Bodies) where
-  -- the place of the charset, and the top DICT as it is written
+  -- the place of the charset, the top DICT and the header's offset size as they are written
   abbrev charsetPlace : ℕ
   charsetPlace = restAt name (topByCid p (ownByCid p) 0 0 0 0) (ownByCid p) (b .globals)
 
@@ -214,9 +218,9 @@ by-cid p name used order b good there fitting some few first someFds fewFds belo
     let bs = subsetByCid p name used order b in
     let at₁ = charsetPlace p name used order b in
     let r = rest-place p name used order b in
-    let w₂ = within₂ p used order b at₁ fitting bs (r .0) (r .1) in
-    let w₃ = within₃ p used order b at₁ fitting bs (r .0) (r .1) in
-    let w₄ = within₄ p used order b at₁ fitting bs (r .0) (r .1) in
+    let w₂ = select-within p used order b at₁ fitting bs (r .0) (r .1) in
+    let w₃ = glyphs-within p used order b at₁ fitting bs (r .0) (r .1) in
+    let w₄ = array-within p used order b at₁ fitting bs (r .0) (r .1) in
     let top = cid-top-back p (ownByCid p) at₁ (selectPlace p used order b at₁) (glyphsPlace p used order b at₁) (arrayPlace p used order b at₁) good there fewStrings
     (omega arith) (omega arith) (omega arith) (omega arith) in
     let ps = private-dicts p used order b at₁ fitting bs (r .0) (r .1) good short few fewFds someFds below small in

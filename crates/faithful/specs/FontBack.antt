@@ -50,6 +50,7 @@ module _ (b : List ℕ) (own globals : List (List ℕ)) (top : List ℕ) (es : L
     (dict : dictOf top ≡ entries es) (type2 : charstringTypeIn es ≡ 0) (at₁ at₂ end : ℕ)
     (ofCharset : offsetIn charset es ≡ At at₁) (ofCharStrings : offsetIn charStrings es ≡ At at₂)
     (read : readIndex b at₂ ≡ found cs end) (some : 0 < length cs) (named : idsAt b (length cs) at₁ ≡ got ids) where
+  -- the ids that the top DICT names
   ids-got : then (orZero (offsetIn charset es)) (idsAt b (length cs)) ≡ got ids
   ids-got = ap (λ (o : OffsetIn). then (orZero o) (idsAt b (length cs))) ofCharset ∙ named
 

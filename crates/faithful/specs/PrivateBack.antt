@@ -79,6 +79,7 @@ module _ (bs : List ℕ) (at : ℕ) (es : List Entry) (proper : AllProper es) (s
   written = without subrs es ++ (record { op = subrs; operands = whole (length (privateBytes es) + 6) ∷ [] } ∷ [])
 
   module _ (ls : List (List ℕ)) (post : List ℕ) (few : length ls < 65536) (lies : drop at bs ≡ withSubrs ++ (indexBytes ls ++ post)) where
+    -- its size, and the local subroutines behind it
     size-is : length withSubrs ≡ length (privateBytes es) + 6
     size-is = length-append (privateBytes es) _ ∙ ap (λ (n : ℕ). length (privateBytes es) + n) (subrs-length (length (privateBytes es) + 6))
 
@@ -127,6 +128,7 @@ font-dict-back : (size at : ℕ) → size < 2147483648 → at < 2147483648
 unfolding partsBytes partsEntries AllFit
 font-dict-back size at h k = ap dictOf (sym (append-nil (privateEntry size at))) ∙ parts-read (Part.privatePart size at ∷ []) ((h, k), tt)
 
+-- where it was written
 private-named : (size at : ℕ) → size < 2147483648 → at < 2147483648
     → privateIn (record { op = private; operands = whole size ∷ whole at ∷ [] } ∷ []) ≡ PrivateEntry size at
 unfolding lastOf lastFrom
@@ -143,12 +145,14 @@ record Back (bs : List ℕ) (dicts : List (List ℕ)) (lss : List (List (List �
   many : length privates ≡ length lss
   locals : (k : ℕ) → k < length lss → getD privates k noPrivate .locals ≡ getD lss k []
 
+-- no Font DICT
 back-none : (bs : List ℕ) → Back bs [] []
 unfolding privatesAt
 back-none bs = record { privates = []; read = refl; many = refl; locals = λ k h. absurd (not-suc-le-zero h) }
 
 module _ (bs : List ℕ) (size at : ℕ) (h : size < 2147483648) (k : at < 2147483648) (p : Private) (is : privateData bs size at ≡ got p)
     (dicts : List (List ℕ)) (lss : List (List (List ℕ))) (more : Back bs dicts lss) where
+  -- one Font DICT more
   first-read : privatesAt bs (privateEntry size at ∷ dicts) ≡ got (p ∷ more .privates)
   unfolding privatesAt privateAt
   first-read =
@@ -166,6 +170,7 @@ module _ (bs : List ℕ) (size at : ℕ) (h : size < 2147483648) (k : at < 21474
       each (suc j) g = more .locals j (omega arith)
 
 module _ (bs : List ℕ) (p : Program) (good : GoodProgram p) (short : length bs ≤ 67108864) where
+  -- all of them
   all-back : (at : ℕ) (used : List ℕ) (lss : List (List (List ℕ))) (post : List ℕ) → length lss ≡ length used → ((k : ℕ) → length (getD lss k []) < 65536)
       → at ≤ length bs → drop at bs ≡ privateParts p used lss ++ post → Back bs (fontDicts p at used lss) lss
   unfolding privateParts fontDicts

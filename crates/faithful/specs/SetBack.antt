@@ -37,9 +37,11 @@ abbrev pub restAt : List ℕ → List ℕ → List (List ℕ) → List (List ℕ
 restAt name top own globals = globalsAt name top own + length (indexBytes globals)
 
 module _ (offSize : ℕ) (name top : List ℕ) (own globals : List (List ℕ)) (rest : List ℕ) where
+  -- the bytes
   abbrev bs : List ℕ
   bs = setBytes offSize name top own globals rest
 
+  -- each part stands at its place
   names-lie : drop 4 bs ≡ indexBytes (name ∷ []) ++ (indexBytes (top ∷ []) ++ (indexBytes own ++ (indexBytes globals ++ rest)))
   names-lie = refl
 
@@ -61,6 +63,7 @@ module _ (offSize : ℕ) (name top : List ℕ) (own globals : List (List ℕ)) (
   rest-within = simp length-append (omega arith)
 
   module _ (manyStrings : length own < 65536) (manyGlobals : length globals < 65536) (short : length bs ≤ 67108864) where
+    -- the INDEXes read back
     set-read : setAt bs 4 ≡ then (fontsAt bs own globals (top ∷ [])) firstOf
     unfolding setAt
     set-read =
