@@ -2,3 +2,4 @@ pub mod Faithful
 pub mod Laid
 pub mod RankLaws
 pub mod EachLaws
+pub mod RecordLaws
