@@ -3,3 +3,4 @@ pub mod Laid
 pub mod RankLaws
 pub mod EachLaws
 pub mod RecordLaws
+pub mod RenumberedLaws

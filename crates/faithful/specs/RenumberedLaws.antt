@@ -1,0 +1,120 @@
+-- Charstrings and subroutines that are renumbered (the Rust's renumber and renumber_cid): each reached subroutine stands at its rank, each
+-- body without two lengths is turned, and a kept glyph unfolds to what it did.
+use Prim.Native.Nat.{ℕ, zero, suc, _+_, _≤_, _<_}
+use mathlib.Core.Path.{_≡_, refl, sym, ap, _∙_, subst}
+use mathlib.Core.Bool.{Bool, true, false}
+use mathlib.Core.List.{List, [], _∷_}
+use native.Mathlib.Omega.{arith}
+use lib.Dec.{eqb}
+use lib.IntN.{ℤ}
+use lib.ListN.{length, getD}
+use borrow.Author.Tests.{eqb-true}
+use Rattle.octets.specs.Pick.{pick}
+use Rattle.octets.specs.Octets.{Octets}
+use Rattle.type2_number.specs.Number.{Reading}
+use Rattle.charstring.specs.Bias.{biasOf}
+use Rattle.charstring.specs.declared.MaskLen.{MaskLen}
+use Rattle.charstring.specs.declared.MaskLen.the-variants.{Given}
+use Rattle.unfold.specs.Unfold.{Tok, Row, Site, glyph, local, global, entered, masked, last, target, targetOf, plain, unfoldGlyph}
+use Rattle.prune.specs.Renumber.{new, fails, becomes, operandOf, Calls, Bytes, failed, bytes, renumberCharstring}
+use Rattle.prune.specs.Bodies.{All, Renumbers}
+use Rattle.prune.specs.Unfolds.{renumbered-unfolds}
+use Rattle.prune.specs.BelongsLaws.{Belongs, rows-belong}
+use Rattle.prune.specs.OperandLaws.{operand-target, operand-reading}
+use Rattle.prune.specs.StepLaws.{zero-one}
+use Rattle.record.specs.Record.{lists, givenIn, twoLengths}
+use Rattle.cff.specs.Font.{Private, Program}
+use Rattle.subset.specs.Kept.{isIn, those, newFd, localsOf}
+use Rattle.subset.specs.Pruned.{Bodies, countBelow, rank, reached, May, fail, yes as done, and, whole, each, localSet, globalSet, renumberedBody, renumberedSubrs, localOperand, globalOperand, callsIn, callsAcross, renumbered}
+use Rattle.faithful.specs.Laid.{GoodBodies, GoodProgram}
+use Rattle.faithful.specs.EachLaws.{and-yes, length-each, each-at}
+use Rattle.faithful.specs.RankLaws.{count-few, count-below, count-bound, rank-new, length-those, those-at, new-fd-at}
+use Rattle.faithful.specs.RecordLaws.{given-listed}
+
+-- ---- a body
+
+-- a body that is turned has no two lengths
+pub record Turned (rows : List Row) (calls : Calls) (site : Site) (s s' : List ℕ) : Type 0 where
+  pub one : twoLengths rows site ≡ false
+  pub is : renumberCharstring calls (givenIn rows site) s ≡ bytes s'
+
+whole-yes : (q : Bytes) (s' : List ℕ) → whole q ≡ done s' → q ≡ bytes s'
+whole-yes failed s' e = absurd (zero-one cc)
+whole-yes (bytes bs) s' e = let f : bs ≡ s' = cc in ap bytes f
+
+pub body-turned : (rows : List Row) (calls : Calls) (site : Site) (s s' : List ℕ) → renumberedBody rows calls site s ≡ done s' → Turned rows calls site s s'
+unfolding renumberedBody
+body-turned rows calls site s s' e = go (twoLengths rows site) refl e
+  where
+    go : (t : Bool) → twoLengths rows site ≡ t → pick t fail (whole (renumberCharstring calls (givenIn rows site) s)) ≡ done s' → Turned rows calls site s s'
+    go true f h = absurd (zero-one cc)
+    go false f h = record { one = f; is = whole-yes (renumberCharstring calls (givenIn rows site) s) s' h }
+
+-- ---- subroutines
+
+-- a reached subroutine and its rank
+pub record Ranked (set : ℕ → Bool) (subrs : List (List ℕ)) (i n : ℕ) : Type 0 where
+  pub member : set i ≡ true
+  pub there : i < length subrs
+  pub at : n ≡ countBelow set i
+
+module _ (rows : List Row) (set : ℕ → Bool) (calls : Calls) (site : ℕ → Site) (subrs l : List (List ℕ)) (e : renumberedSubrs rows set calls site subrs ≡ done l) where
+  abbrev body : ℕ → May (List ℕ)
+  body k = renumberedBody rows calls (site k) (getD subrs k [])
+
+  -- no number without a subroutine is reached, and each reached one is turned
+  subrs-told : (reached set ≡ countBelow set (length subrs)) × (each body (those set (length subrs) 0) ≡ done l)
+  unfolding renumberedSubrs
+  subrs-told = go (eqb (reached set) (countBelow set (length subrs))) refl e
+    where
+      go : (t : Bool) → eqb (reached set) (countBelow set (length subrs)) ≡ t → pick t (each body (those set (length subrs) 0)) fail ≡ done l
+          → (reached set ≡ countBelow set (length subrs)) × (each body (those set (length subrs) 0) ≡ done l)
+      go true f h = (eqb-true (reached set) (countBelow set (length subrs)) f, h)
+      go false f h = absurd (zero-one cc)
+
+  length-of-those : length (those set (length subrs) 0) ≡ countBelow set (length subrs)
+  length-of-those =
+      let q : 0 + length subrs ≡ length subrs = omega arith in
+      let c : countBelow set (0 + length subrs) ≡ countBelow set (length subrs) = ap (countBelow set) q in
+      omega (arith, length-those set (length subrs) 0, count-few set 0)
+
+  -- as many as are reached
+  pub subrs-length : length l ≡ reached set
+  subrs-length = length-each body (those set (length subrs) 0) l (subrs-told .1) ∙ length-of-those ∙ sym (subrs-told .0)
+
+  pub subrs-few : length l ≤ length subrs
+  subrs-few =
+      let c : length l ≡ countBelow set (length subrs) = subrs-length ∙ subrs-told .0 in
+      omega (arith, count-few set (length subrs))
+
+  -- each stands at its rank
+  pub subrs-body : (i n : ℕ) → Ranked set subrs i n → Turned rows calls (site i) (getD subrs i []) (getD l n [])
+  subrs-body i n r =
+      let c : countBelow set i < countBelow set (length subrs) = count-below set i (length subrs) (r .member) (r .there) in
+      let b = each-at body (those set (length subrs) 0) l (subrs-told .1) (countBelow set i) [] (omega (arith, length-of-those)) in
+      let q : body i ≡ done (getD l (countBelow set i) []) = ap body (sym (those-at set (length subrs) i (r .there) (r .member))) ∙ b in
+      body-turned rows calls (site i) (getD subrs i []) (getD l n []) (q ∙ ap (λ (m : ℕ). done (getD l m [])) (sym (r .at)))
+
+  module _ (small : (i : ℕ) → set i ≡ true → i < 65536) where
+    -- a reached subroutine is there
+    pub subrs-there : (i : ℕ) → set i ≡ true → i < length subrs
+    subrs-there i h = count-bound set 65536 (length subrs) i (subrs-told .0) h (small i h)
+
+    rank-below : (i n : ℕ) → rank set i ≡ new n → n < reached set
+    rank-below i n h =
+        let r = rank-new set i n h in
+        let c = count-below set i 65536 (r .0) (small i (r .0)) in
+        subst (λ (m : ℕ). m < reached set) (sym (r .1)) c
+
+    module _ (z y : ℤ) (o : operandOf (rank set) (biasOf (length subrs)) (biasOf (reached set)) z ≡ becomes y) where
+      -- a call that is rewritten calls the subroutine at the rank
+      pub subrs-call : (i : ℕ) → targetOf (length subrs) (last z) ≡ target i → (n : ℕ) × (targetOf (length l) (last y) ≡ target n) × Ranked set subrs i n
+      subrs-call i t =
+          let q = operand-target (rank set) (length subrs) (reached set) rank-below z y o i t in
+          let r = rank-new set i (q .0) (q .2) in
+          (q .0, ap (λ (m : ℕ). targetOf m (last y)) subrs-length ∙ q .1, record { member = r .0; there = subrs-there i (r .0); at = r .1 })
+
+      pub subrs-reading : length subrs < 65536 → Reading y
+      subrs-reading few =
+          let c : reached set ≡ length l = sym subrs-length in
+          operand-reading (rank set) (length subrs) (reached set) rank-below z y o (subst (λ (m : ℕ). m < 65536) subrs-length (omega (arith, subrs-few)))
