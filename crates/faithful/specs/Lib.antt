@@ -4,3 +4,4 @@ pub mod RankLaws
 pub mod EachLaws
 pub mod RecordLaws
 pub mod RenumberedLaws
+pub mod RenumberedGlyphLaws

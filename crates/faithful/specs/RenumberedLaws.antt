@@ -118,3 +118,58 @@ module _ (rows : List Row) (set : ℕ → Bool) (calls : Calls) (site : ℕ → 
       subrs-reading few =
           let c : reached set ≡ length l = sym subrs-length in
           operand-reading (rank set) (length subrs) (reached set) rank-below z y o (subst (λ (m : ℕ). m < 65536) subrs-length (omega (arith, subrs-few)))
+
+-- ---- calls
+
+-- what becomes of the calls of a body that a glyph of the FD can run
+abbrev pub callsOf : Program → List Row → List ℕ → ℕ → Site → Calls
+callsOf p rows used fd (glyph n) = callsIn p rows fd
+callsOf p rows used fd (local f k) = callsIn p rows fd
+callsOf p rows used fd (global k) = callsAcross p rows used
+
+-- where a local call fails, one that is rewritten is of a global subroutine
+across-global : (p : Program) (rows : List Row) (f b : ℕ) (z y : ℤ) → pick (eqb b 10) fails (globalOperand p rows z) ≡ becomes y → callsIn p rows f b z ≡ becomes y
+across-global p rows f b z y e = go (eqb b 10) e
+  where
+    go : (t : Bool) → pick t fails (globalOperand p rows z) ≡ becomes y → pick t (localOperand p rows f z) (globalOperand p rows z) ≡ becomes y
+    go true h = absurd (zero-one cc)
+    go false h = h
+
+-- the one FD in use is the glyph's own
+only-fd : (f fd : ℕ) → isIn fd (f ∷ []) ≡ true → f ≡ fd
+unfolding isIn
+only-fd f fd e = go (eqb f fd) refl e
+  where
+    go : (t : Bool) → eqb f fd ≡ t → pick t true false ≡ true → f ≡ fd
+    go true h q = eqb-true f fd h
+    go false h q = absurd (zero-one cc)
+
+-- calls in a global subroutine are rewritten as the glyph's own
+across-in : (p : Program) (rows : List Row) (used : List ℕ) (fd : ℕ) → isIn fd used ≡ true → (b : ℕ) (z y : ℤ) → callsAcross p rows used b z ≡ becomes y
+    → callsIn p rows fd b z ≡ becomes y
+across-in p rows [] fd h b z y e = across-global p rows fd b z y e
+across-in p rows (f ∷ []) fd h b z y e = subst (λ (x : ℕ). callsIn p rows x b z ≡ becomes y) (only-fd f fd h) e
+across-in p rows (f ∷ g ∷ fs) fd h b z y e = across-global p rows fd b z y e
+
+pub calls-in : (p : Program) (rows : List Row) (used : List ℕ) (fd : ℕ) → isIn fd used ≡ true → (site : Site) (b : ℕ) (z y : ℤ) → callsOf p rows used fd site b z ≡ becomes y
+    → callsIn p rows fd b z ≡ becomes y
+calls-in p rows used fd h (glyph n) b z y e = e
+calls-in p rows used fd h (local f k) b z y e = e
+calls-in p rows used fd h (global k) b z y e = across-in p rows used fd h b z y e
+
+-- ---- a font's
+
+-- the bodies of a font that are renumbered
+pub record Renews (p : Program) (rows : List Row) (used order : List ℕ) (b : Bodies) : Type 0 where
+  pub globals : renumberedSubrs rows (globalSet rows) (callsAcross p rows used) global (p .globals) ≡ done (b .globals)
+  pub locals : each (λ f. renumberedSubrs rows (localSet rows f) (callsIn p rows f) (local f) (localsOf p f)) used ≡ done (b .locals)
+  pub charstrings : each (λ g. renumberedBody rows (callsIn p rows (getD (p .fds) g 0)) (glyph g) (getD (p .charstrings) g [])) order ≡ done (b .charstrings)
+
+pub renews : (p : Program) (rows : List Row) (used order : List ℕ) (b : Bodies) → renumbered p rows used order ≡ done b → Renews p rows used order b
+unfolding renumbered
+renews p rows used order b e =
+    let gs = and-yes (renumberedSubrs rows (globalSet rows) (callsAcross p rows used) global (p .globals)) _ b e in
+    let ls = and-yes (each (λ f. renumberedSubrs rows (localSet rows f) (callsIn p rows f) (local f) (localsOf p f)) used) _ b (gs .2) in
+    let cs = and-yes (each (λ g. renumberedBody rows (callsIn p rows (getD (p .fds) g 0)) (glyph g) (getD (p .charstrings) g [])) order) _ b (ls .2) in
+    let q : record { globals = gs .0; locals = ls .0; charstrings = cs .0 } ≡ b = cc in
+    subst (Renews p rows used order) q (record { globals = gs .1; locals = ls .1; charstrings = cs .1 })
