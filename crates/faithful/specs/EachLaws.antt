@@ -4,20 +4,20 @@ use Prim.Native.Nat.{ℕ, zero, suc, _+_, _<_}
 use mathlib.Core.Path.{_≡_, refl, sym, ap, _∙_}
 use mathlib.Core.Bool.{Bool, true}
 use mathlib.Core.List.{List, [], _∷_}
-use native.Mathlib.Numerals.{add-one}
 use native.Mathlib.Omega.{arith}
 use lib.ListN.{length, getD}
-use Rattle.octets.specs.Pick.{pick}
 use Rattle.prune.specs.StepLaws.{zero-one}
 use Rattle.subset.specs.Pruned.{May, fail, yes as done, and, each, stubbedFrom, mapped}
 
 -- ---- mapped
 
+-- as many as there were
 pub length-mapped : {A : Type 0} (f : ℕ → A) (l : List ℕ) → length (mapped f l) ≡ length l
 unfolding mapped
 length-mapped f [] = refl
 length-mapped f (x ∷ l) = ap suc (length-mapped f l)
 
+-- at a place stands what the element there is mapped to
 pub mapped-at : {A : Type 0} (f : ℕ → A) (l : List ℕ) (i : ℕ) (d : A) → i < length l → getD (mapped f l) i d ≡ f (getD l i 0)
 unfolding mapped
 mapped-at f [] i d h = absurd (zero-one (omega arith))
@@ -42,6 +42,7 @@ module _ {A : Type 0} (f : ℕ → May A) where
       let q = and-yes (each f ks) _ l (p .2) in
       (p .0, q .0, p .1, q .1, cc)
 
+  -- as many as there were
   pub length-each : (ks : List ℕ) (l : List A) → each f ks ≡ done l → length l ≡ length ks
   unfolding each
   length-each [] l e = let m : [] ≡ l = cc in ap length (sym m)
@@ -49,6 +50,7 @@ module _ {A : Type 0} (f : ℕ → May A) where
       let p = each-more k ks l e in
       ap length (p .4) ∙ ap suc (length-each ks (p .1) (p .3))
 
+  -- at a place stands what became of the element there
   pub each-at : (ks : List ℕ) (l : List A) → each f ks ≡ done l → (i : ℕ) (d : A) → i < length ks → f (getD ks i 0) ≡ done (getD l i d)
   each-at [] l e i d h = absurd (zero-one (omega arith))
   each-at (k ∷ ks) l e zero d h = let p = each-more k ks l e in p .2 ∙ ap (λ (x : List A). done (getD x 0 d)) (sym (p .4))
@@ -58,6 +60,7 @@ module _ {A : Type 0} (f : ℕ → May A) where
 
 -- ---- stubbed
 
+-- as many as there were
 pub length-stubbed : (set : ℕ → Bool) (k : ℕ) (l : List (List ℕ)) → length (stubbedFrom set k l) ≡ length l
 unfolding stubbedFrom
 length-stubbed set k [] = refl

@@ -5,3 +5,4 @@ pub mod EachLaws
 pub mod RecordLaws
 pub mod RenumberedLaws
 pub mod RenumberedGlyphLaws
+pub mod PrunedLaws

@@ -12,15 +12,11 @@ use lib.ListN.{length, getD}
 use borrow.Author.Tests.{eqb-true, eq-eqb, leb-false}
 use Rattle.octets.specs.Pick.{pick, pick-ind}
 use Rattle.charset.specs.FdSelect.{allBelow}
-use Rattle.cff.specs.Font.{Private, Program}
-use Rattle.prune.specs.Renumber.{none, new}
+use Rattle.cff.specs.Font.{Program}
+use Rattle.prune.specs.Renumber.{new}
 use Rattle.prune.specs.StepLaws.{zero-one}
 use Rattle.subset.specs.Kept.{isIn, those, fdsOf, usedFds, newFd}
 use Rattle.subset.specs.Pruned.{countBelow, rank}
-
--- a test that is not both
-pub not-both : {P : Type 0} (t : Bool) → t ≡ true → t ≡ false → P
-not-both t e f = absurd (zero-one cc)
 
 -- ---- how many are below
 
@@ -29,6 +25,7 @@ pick-few : (t : Bool) → pick t 1 0 ≤ 1
 pick-few true = omega arith
 pick-few false = omega arith
 
+-- no more are counted than there are numbers
 pub count-few : (set : ℕ → Bool) (n : ℕ) → countBelow set n ≤ n
 unfolding countBelow
 count-few set zero = omega arith
@@ -49,6 +46,7 @@ pub count-next : (set : ℕ → Bool) (i : ℕ) → countBelow set (i + 1) ≡ c
 unfolding countBelow
 count-next set i = rw add-one
 
+-- fewer are below a number of the set than below a greater one
 pub count-below : (set : ℕ → Bool) (i n : ℕ) → set i ≡ true → i < n → countBelow set i < countBelow set n
 count-below set i n e h =
     let m : countBelow set (i + 1) ≡ countBelow set i + 1 = count-next set i ∙ rw e in
@@ -77,6 +75,7 @@ length-pick : (t : Bool) (x : ℕ) (xs : List ℕ) → length (pick t (x ∷ xs)
 length-pick true x xs = omega arith
 length-pick false x xs = omega arith
 
+-- what stands behind an element that is there or not
 at-pick : (t : Bool) (x : ℕ) (xs : List ℕ) (k : ℕ) → getD (pick t (x ∷ xs) xs) (k + pick t 1 0) 0 ≡ getD xs k 0
 at-pick true x xs k = rw add-one
 at-pick false x xs k = let e : k + 0 ≡ k = omega arith in rw e
@@ -107,6 +106,7 @@ those-from test (suc n) g j h l e = go (decLe (g + 1) j) (λ m. those-from test 
         let t : test g ≡ true = ap test i ∙ e in
         (0, omega arith, rw t i)
 
+-- those from 0 on
 pub those-at : (test : ℕ → Bool) (n j : ℕ) → j < n → test j ≡ true → getD (those test n 0) (countBelow test j) 0 ≡ j
 those-at test n j h e =
     let q = those-from test n 0 j (omega arith) (omega arith) e in
@@ -127,6 +127,7 @@ is-in-at (x ∷ l) (suc k) h = is-in-more (eqb x (getD l k 0)) (isIn (getD l k 0
     is-in-more true u e = refl
     is-in-more false u e = e
 
+-- a number that passes is among those
 pub is-in-those : (test : ℕ → Bool) (n j : ℕ) → j < n → test j ≡ true → isIn j (those test n 0) ≡ true
 is-in-those test n j h e =
     let c : countBelow test j < countBelow test (0 + n) = count-below test j (0 + n) e (omega arith) in

@@ -1,19 +1,18 @@
 -- What a reach record says (document 01, 'Reach record'): the length of a listed mask is the one given, where its body has no two lengths at
 -- one offset; and the number of a listed row has two bytes.
-use Prim.Native.Nat.{ℕ, zero, suc, _+_, _*_, _/_, _<_}
+use Prim.Native.Nat.{ℕ, zero, suc, _+_, _/_, _<_}
 use mathlib.Core.Path.{_≡_, refl, sym, ap, _∙_, subst}
 use mathlib.Core.Bool.{Bool, true, false, _&&_, not}
 use mathlib.Core.List.{List, [], _∷_}
 use native.Mathlib.Omega.{arith}
 use lib.Dec.{eqb}
-use lib.ListN.{length, take, drop, getD}
+use lib.ListN.{length, take, drop}
 use lib.Seq.{getD-drop}
 use borrow.Author.Tests.{eqb-true, not-false}
 use Rattle.octets.specs.Pick.{pick}
 use Rattle.octets.specs.Octets.{Octets, be, numAt}
 use Rattle.strings.specs.TableLaws.{and-left, and-right}
-use Rattle.charstring.specs.declared.MaskLen.{MaskLen}
-use Rattle.charstring.specs.declared.MaskLen.the-variants.{Own, Given}
+use Rattle.charstring.specs.declared.MaskLen.the-variants.{Given}
 use Rattle.unfold.specs.Unfold.{Row, Site, glyph, local, global, masked}
 use Rattle.prune.specs.StepLaws.{zero-one}
 use Rattle.record.specs.Record.{rowOf, rowsFrom, rowsOf, sameRow, lists, atPlace, givenIn, ofBody, disagrees, twoLengths}
@@ -62,11 +61,13 @@ place-length r (glyph g) offset len = refl
 place-length r (local fd k) offset len = refl
 place-length r (global k) offset len = refl
 
+-- a row at the place of a mask is of its body
 place-body : (r : Row) (site : Site) (offset : ℕ) → atPlace r (masked site offset 0) ≡ true → ofBody r site ≡ true
 place-body r (glyph g) offset e = and-left (ofBody r (glyph g)) (eqb (r .offset) offset) e
 place-body r (local fd k) offset e = and-left (ofBody r (local fd k)) (eqb (r .offset) offset) e
 place-body r (global k) offset e = and-left (ofBody r (global k)) (eqb (r .offset) offset) e
 
+-- the length in a mask's row
 masked-length : (site : Site) (offset len : ℕ) → masked site offset len .len ≡ len
 masked-length (glyph g) offset len = refl
 masked-length (local fd k) offset len = refl
@@ -116,15 +117,18 @@ given-listed (r ∷ rows) site offset len e h =
 
 -- ---- numbers of two bytes
 
+-- a number of two bytes
 two-below : (l : List ℕ) → Octets l → be 0 (take 2 l) < 65536
 unfolding be
 two-below [] o = omega arith
 two-below (x ∷ []) o = omega (arith, o 0)
 two-below (x ∷ y ∷ l) o = omega (arith, o 0, o 1)
 
+-- bytes behind a place
 drop-octets : (n : ℕ) (b : List ℕ) → Octets b → Octets (drop n b)
 drop-octets n b o i = rw (getD-drop n b i 0) (o (n + i))
 
+-- the number of a row among the first n
 listed-below : (n : ℕ) (b : List ℕ) (q : Row) → Octets b → lists (rowsFrom n b) q ≡ true → q .number < 65536
 unfolding rowsFrom lists numAt
 listed-below zero b q o h = absurd (zero-one cc)

@@ -1,28 +1,25 @@
 -- A kept glyph of a font whose charstrings and subroutines are renumbered unfolds to what it did, if the record lists the rows that it meets
 -- (document 01, demand 3).
-use Prim.Native.Nat.{ℕ, _≤_, _<_}
-use mathlib.Core.Path.{_≡_, refl, sym, ap, _∙_, subst}
+use Prim.Native.Nat.{ℕ, _<_}
+use mathlib.Core.Path.{_≡_, refl, ap, _∙_, subst}
 use mathlib.Core.Bool.{Bool, true, false}
 use mathlib.Core.List.{List, []}
-use native.Mathlib.Omega.{arith}
 use lib.Dec.{eqb}
 use lib.IntN.{ℤ}
 use lib.ListN.{length, getD}
 use Rattle.octets.specs.Pick.{pick}
-use Rattle.octets.specs.Octets.{Octets}
 use Rattle.type2_number.specs.Number.{Reading}
-use Rattle.charstring.specs.declared.MaskLen.{MaskLen}
 use Rattle.charstring.specs.declared.MaskLen.the-variants.{Given}
-use Rattle.unfold.specs.Unfold.{Tok, Row, Site, glyph, local, global, entered, masked, last, target, targetOf, plain, unfoldGlyph}
-use Rattle.prune.specs.Renumber.{becomes, Calls, bytes, renumberCharstring}
+use Rattle.unfold.specs.Unfold.{Tok, Row, Site, glyph, local, global, entered, masked, plain, unfoldGlyph}
+use Rattle.prune.specs.Renumber.{becomes}
 use Rattle.prune.specs.Bodies.{All, Renumbers}
 use Rattle.prune.specs.Unfolds.{renumbered-unfolds}
 use Rattle.prune.specs.BelongsLaws.{Belongs, rows-belong}
 use Rattle.record.specs.Record.{lists, givenIn, twoLengths}
-use Rattle.cff.specs.Font.{Private, Program}
+use Rattle.cff.specs.Font.{Program}
 use Rattle.subset.specs.Kept.{isIn, newFd, localsOf}
 use Rattle.subset.specs.Pruned.{Bodies, yes as done, localSet, globalSet, renumberedSubrs, localOperand, globalOperand, callsIn, callsAcross}
-use Rattle.faithful.specs.Laid.{GoodBodies, GoodProgram}
+use Rattle.faithful.specs.Laid.{GoodProgram}
 use Rattle.faithful.specs.EachLaws.{each-at}
 use Rattle.faithful.specs.RankLaws.{new-fd-at}
 use Rattle.faithful.specs.RecordLaws.{given-listed}
@@ -34,26 +31,30 @@ IsListed rows r = lists rows r ≡ true
 
 module _ (p : Program) (good : GoodProgram p) (rows : List Row) (small : (q : Row) → lists rows q ≡ true → q .number < 65536)
     (used order : List ℕ) (b : Bodies) (new : Renews p rows used order b) (i : ℕ) (there : i < length order) where
+  -- the glyph, and its FD
   abbrev g : ℕ
   g = getD order i 0
 
   abbrev fd : ℕ
   fd = getD (p .fds) g 0
 
-  -- the glyph's charstring and its FD's subroutines
+  -- its charstring is turned
   glyph-turned : Turned rows (callsIn p rows fd) (glyph g) (getD (p .charstrings) g []) (getD (b .charstrings) i [])
   glyph-turned = body-turned rows (callsIn p rows fd) (glyph g) (getD (p .charstrings) g []) (getD (b .charstrings) i []) (each-at _ order (b .charstrings) (new .charstrings) i [] there)
 
   module _ (inUse : isIn fd used ≡ true) where
+    -- the FD's local subroutines in the subset
     abbrev ls : List (List ℕ)
     ls = getD (b .locals) (newFd used fd) []
 
+    -- they are those of the font, renumbered
     locals-turned : renumberedSubrs rows (localSet rows fd) (callsIn p rows fd) (local fd) (localsOf p fd) ≡ done ls
     locals-turned =
         let k = new-fd-at used fd inUse in
         subst (λ (f : ℕ). renumberedSubrs rows (localSet rows f) (callsIn p rows f) (local f) (localsOf p f) ≡ done ls) (k .1)
         (each-at (λ f. renumberedSubrs rows (localSet rows f) (callsIn p rows f) (local f) (localsOf p f)) used (b .locals) (new .locals) (newFd used fd) [] (k .0))
 
+    -- a listed subroutine's number has two bytes
     small-local : (n : ℕ) → localSet rows fd n ≡ true → n < 65536
     small-local n h = small (entered (local fd n)) h
 
@@ -87,6 +88,7 @@ module _ (p : Program) (good : GoodProgram p) (rows : List Row) (small : (q : Ro
         go false h =
             subrs-reading rows (globalSet rows) (callsAcross p rows used) global (p .globals) (b .globals) (new .globals) small-global z y h (good .globals .count)
 
+    -- the bodies stand to each other as the theorem over bodies asks
     renumbers : Renumbers (p .globals) (localsOf p fd) (b .globals) ls fd (Belongs (IsListed rows) fd g) (givenIn rows) (callsOf p rows used fd)
         (Ranked (localSet rows fd) (localsOf p fd)) (Ranked (globalSet rows) (p .globals))
     renumbers =

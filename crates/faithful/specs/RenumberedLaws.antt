@@ -1,6 +1,6 @@
 -- Charstrings and subroutines that are renumbered (the Rust's renumber and renumber_cid): each reached subroutine stands at its rank, each
 -- body without two lengths is turned, and a kept glyph unfolds to what it did.
-use Prim.Native.Nat.{ℕ, zero, suc, _+_, _≤_, _<_}
+use Prim.Native.Nat.{ℕ, _+_, _≤_, _<_}
 use mathlib.Core.Path.{_≡_, refl, sym, ap, _∙_, subst}
 use mathlib.Core.Bool.{Bool, true, false}
 use mathlib.Core.List.{List, [], _∷_}
@@ -10,26 +10,18 @@ use lib.IntN.{ℤ}
 use lib.ListN.{length, getD}
 use borrow.Author.Tests.{eqb-true}
 use Rattle.octets.specs.Pick.{pick}
-use Rattle.octets.specs.Octets.{Octets}
 use Rattle.type2_number.specs.Number.{Reading}
 use Rattle.charstring.specs.Bias.{biasOf}
-use Rattle.charstring.specs.declared.MaskLen.{MaskLen}
-use Rattle.charstring.specs.declared.MaskLen.the-variants.{Given}
-use Rattle.unfold.specs.Unfold.{Tok, Row, Site, glyph, local, global, entered, masked, last, target, targetOf, plain, unfoldGlyph}
+use Rattle.unfold.specs.Unfold.{Row, Site, glyph, local, global, last, target, targetOf}
 use Rattle.prune.specs.Renumber.{new, fails, becomes, operandOf, Calls, Bytes, failed, bytes, renumberCharstring}
-use Rattle.prune.specs.Bodies.{All, Renumbers}
-use Rattle.prune.specs.Unfolds.{renumbered-unfolds}
-use Rattle.prune.specs.BelongsLaws.{Belongs, rows-belong}
 use Rattle.prune.specs.OperandLaws.{operand-target, operand-reading}
 use Rattle.prune.specs.StepLaws.{zero-one}
-use Rattle.record.specs.Record.{lists, givenIn, twoLengths}
-use Rattle.cff.specs.Font.{Private, Program}
-use Rattle.subset.specs.Kept.{isIn, those, newFd, localsOf}
-use Rattle.subset.specs.Pruned.{Bodies, countBelow, rank, reached, May, fail, yes as done, and, whole, each, localSet, globalSet, renumberedBody, renumberedSubrs, localOperand, globalOperand, callsIn, callsAcross, renumbered}
-use Rattle.faithful.specs.Laid.{GoodBodies, GoodProgram}
+use Rattle.record.specs.Record.{givenIn, twoLengths}
+use Rattle.cff.specs.Font.{Program}
+use Rattle.subset.specs.Kept.{isIn, those, localsOf}
+use Rattle.subset.specs.Pruned.{Bodies, countBelow, rank, reached, May, fail, yes as done, whole, each, localSet, globalSet, renumberedBody, renumberedSubrs, localOperand, globalOperand, callsIn, callsAcross, renumbered}
 use Rattle.faithful.specs.EachLaws.{and-yes, length-each, each-at}
-use Rattle.faithful.specs.RankLaws.{count-few, count-below, count-bound, rank-new, length-those, those-at, new-fd-at}
-use Rattle.faithful.specs.RecordLaws.{given-listed}
+use Rattle.faithful.specs.RankLaws.{count-few, count-below, count-bound, rank-new, length-those, those-at}
 
 -- ---- a body
 
@@ -38,10 +30,12 @@ pub record Turned (rows : List Row) (calls : Calls) (site : Site) (s s' : List �
   pub one : twoLengths rows site ≡ false
   pub is : renumberCharstring calls (givenIn rows site) s ≡ bytes s'
 
+-- bytes that are whole
 whole-yes : (q : Bytes) (s' : List ℕ) → whole q ≡ done s' → q ≡ bytes s'
 whole-yes failed s' e = absurd (zero-one cc)
 whole-yes (bytes bs) s' e = let f : bs ≡ s' = cc in ap bytes f
 
+-- a body that does not fail is turned
 pub body-turned : (rows : List Row) (calls : Calls) (site : Site) (s s' : List ℕ) → renumberedBody rows calls site s ≡ done s' → Turned rows calls site s s'
 unfolding renumberedBody
 body-turned rows calls site s s' e = go (twoLengths rows site) refl e
@@ -59,6 +53,7 @@ pub record Ranked (set : ℕ → Bool) (subrs : List (List ℕ)) (i n : ℕ) : T
   pub at : n ≡ countBelow set i
 
 module _ (rows : List Row) (set : ℕ → Bool) (calls : Calls) (site : ℕ → Site) (subrs l : List (List ℕ)) (e : renumberedSubrs rows set calls site subrs ≡ done l) where
+  -- what becomes of a subroutine
   abbrev body : ℕ → May (List ℕ)
   body k = renumberedBody rows calls (site k) (getD subrs k [])
 
@@ -72,6 +67,7 @@ module _ (rows : List Row) (set : ℕ → Bool) (calls : Calls) (site : ℕ → 
       go true f h = (eqb-true (reached set) (countBelow set (length subrs)) f, h)
       go false f h = absurd (zero-one cc)
 
+  -- the reached subroutines are as many as are in the set
   length-of-those : length (those set (length subrs) 0) ≡ countBelow set (length subrs)
   length-of-those =
       let q : 0 + length subrs ≡ length subrs = omega arith in
@@ -82,6 +78,7 @@ module _ (rows : List Row) (set : ℕ → Bool) (calls : Calls) (site : ℕ → 
   pub subrs-length : length l ≡ reached set
   subrs-length = length-each body (those set (length subrs) 0) l (subrs-told .1) ∙ length-of-those ∙ sym (subrs-told .0)
 
+  -- no more than there were
   pub subrs-few : length l ≤ length subrs
   subrs-few =
       let c : length l ≡ countBelow set (length subrs) = subrs-length ∙ subrs-told .0 in
@@ -100,6 +97,7 @@ module _ (rows : List Row) (set : ℕ → Bool) (calls : Calls) (site : ℕ → 
     pub subrs-there : (i : ℕ) → set i ≡ true → i < length subrs
     subrs-there i h = count-bound set 65536 (length subrs) i (subrs-told .0) h (small i h)
 
+    -- a rank is below the count of those reached
     rank-below : (i n : ℕ) → rank set i ≡ new n → n < reached set
     rank-below i n h =
         let r = rank-new set i n h in
@@ -114,9 +112,9 @@ module _ (rows : List Row) (set : ℕ → Bool) (calls : Calls) (site : ℕ → 
           let r = rank-new set i (q .0) (q .2) in
           (q .0, ap (λ (m : ℕ). targetOf m (last y)) subrs-length ∙ q .1, record { member = r .0; there = subrs-there i (r .0); at = r .1 })
 
+      -- its operand is a reading
       pub subrs-reading : length subrs < 65536 → Reading y
       subrs-reading few =
-          let c : reached set ≡ length l = sym subrs-length in
           operand-reading (rank set) (length subrs) (reached set) rank-below z y o (subst (λ (m : ℕ). m < 65536) subrs-length (omega (arith, subrs-few)))
 
 -- ---- calls
@@ -151,6 +149,7 @@ across-in p rows [] fd h b z y e = across-global p rows fd b z y e
 across-in p rows (f ∷ []) fd h b z y e = subst (λ (x : ℕ). callsIn p rows x b z ≡ becomes y) (only-fd f fd h) e
 across-in p rows (f ∷ g ∷ fs) fd h b z y e = across-global p rows fd b z y e
 
+-- calls in every body that the glyph runs are rewritten as its own
 pub calls-in : (p : Program) (rows : List Row) (used : List ℕ) (fd : ℕ) → isIn fd used ≡ true → (site : Site) (b : ℕ) (z y : ℤ) → callsOf p rows used fd site b z ≡ becomes y
     → callsIn p rows fd b z ≡ becomes y
 calls-in p rows used fd h (glyph n) b z y e = e
@@ -165,6 +164,7 @@ pub record Renews (p : Program) (rows : List Row) (used order : List ℕ) (b : B
   pub locals : each (λ f. renumberedSubrs rows (localSet rows f) (callsIn p rows f) (local f) (localsOf p f)) used ≡ done (b .locals)
   pub charstrings : each (λ g. renumberedBody rows (callsIn p rows (getD (p .fds) g 0)) (glyph g) (getD (p .charstrings) g [])) order ≡ done (b .charstrings)
 
+-- bodies whose renumbering does not fail
 pub renews : (p : Program) (rows : List Row) (used order : List ℕ) (b : Bodies) → renumbered p rows used order ≡ done b → Renews p rows used order b
 unfolding renumbered
 renews p rows used order b e =
