@@ -12,3 +12,9 @@ pub mod TopFitLaws
 pub mod TopLaws
 pub mod ByName
 pub mod ByCid
+pub mod RankLaws
+pub mod EachLaws
+pub mod RecordLaws
+pub mod RenumberedLaws
+pub mod RenumberedGlyphLaws
+pub mod PrunedLaws
