@@ -1,2 +1,4 @@
 pub mod Faithful
 pub mod Laid
+pub mod KeptListLaws
+pub mod KeptLaws
