@@ -2,3 +2,4 @@ pub mod Faithful
 pub mod Laid
 pub mod KeptListLaws
 pub mod KeptLaws
+pub mod TextsLaws
