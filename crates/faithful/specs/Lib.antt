@@ -3,3 +3,4 @@ pub mod Laid
 pub mod KeptListLaws
 pub mod KeptLaws
 pub mod TextsLaws
+pub mod FoundLaws
