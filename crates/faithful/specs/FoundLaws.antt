@@ -1,22 +1,19 @@
 -- Finding in a subset (document 01, 'Entries and their refusals', refusal 7): where finding gives each kept glyph of the font for its own name or
 -- CID, kept names and CIDs differ, and finding in the subset gives the glyph at the place where it was written.
-use Prim.Native.Nat.{ℕ, zero, suc, _+_, _≤_, _<_}
+use Prim.Native.Nat.{ℕ, zero, suc, _+_, _<_}
 use mathlib.Core.Path.{_≡_, refl, sym, ap, _∙_}
-use mathlib.Core.Bool.{Bool, true, false}
+use mathlib.Core.Bool.{true, false}
 use mathlib.Core.List.{List, [], _∷_, _++_}
 use mathlib.Core.Logic.{⊎-elim}
 use native.Mathlib.Nat.{le-of-suc-le-suc, not-suc-le-zero, add-zero}
 use native.Mathlib.Omega.{arith}
 use borrow.Author.Tests.{eqb-true, eq-eqb, ne-eqb}
-use lib.Dec.{eqb}
 use lib.ListN.{length, getD}
 use Rattle.octets.specs.Pick.{pick, pick-ind}
 use Rattle.prune.specs.StepLaws.{zero-one}
-use Rattle.strings.specs.Text.{sameText}
 use Rattle.strings.specs.TextLaws.{same-refl, same-not}
 use Rattle.strings.specs.Strings.{stringText}
 use Rattle.find.specs.Find.{glyphWithId, glyphWithText}
-use Rattle.find.specs.declared.Found.{Found}
 use Rattle.find.specs.declared.Found.the-variants.{Glyph as TheGlyph}
 use Rattle.dict.specs.Lookup.{cidKeyed}
 use Rattle.cff.specs.Font.{Program}
@@ -27,7 +24,7 @@ use Rattle.subset.specs.Kept.{isIn, keptOf, sortedBy}
 use Rattle.subset.specs.Texts.{newId, textsOf, nameOf, namesOf}
 use Rattle.subset.specs.Subset.{named, ownByName, newIds, cidsOf}
 use Rattle.subset.specs.Cut.{isGlyph, isFound, allFound}
-use Rattle.faithful.specs.KeptListLaws.{in-none, in-head, in-more, in-cases, in-at, Distinct, none, one, sorted-in, sorted-distinct}
+use Rattle.faithful.specs.KeptListLaws.{in-none, in-head, in-more, in-cases, in-at, Distinct, one, sorted-in, sorted-distinct}
 use Rattle.faithful.specs.KeptLaws.{kept-distinct}
 use Rattle.faithful.specs.TextsLaws.{has-right, new-text, names-has}
 
@@ -50,22 +47,24 @@ all-found p (x ∷ kept) g a h =
     a
 
 module _ (p : Program) (kept : List ℕ) (all : allFound p kept ≡ true) where
-  -- finding its own name in the font gives a kept glyph, and so for its CID
+  -- finding its own name in the font gives a kept glyph
   name-found : cidKeyed (p .top) ≡ false → (g : ℕ) → isIn g kept ≡ true → findName p (nameOf p g) ≡ Glyph g
   name-found k g h =
       is-glyph g (findName p (nameOf p g))
       (ap (λ t. pick t (isGlyph g (findCid p (getD (p .ids) g 0))) (isGlyph g (findName p (nameOf p g)))) (sym k) ∙ all-found p kept g all h)
 
+  -- finding its own CID gives it
   cid-found : cidKeyed (p .top) ≡ true → (g : ℕ) → isIn g kept ≡ true → findCid p (getD (p .ids) g 0) ≡ Glyph g
   cid-found k g h =
       is-glyph g (findCid p (getD (p .ids) g 0))
       (ap (λ t. pick t (isGlyph g (findCid p (getD (p .ids) g 0))) (isGlyph g (findName p (nameOf p g)))) (sym k) ∙ all-found p kept g all h)
 
-  -- kept glyphs of one name, or of one CID, are one glyph
+  -- kept glyphs of one name are one glyph
   pub names-differ : cidKeyed (p .top) ≡ false → (g h : ℕ) → isIn g kept ≡ true → isIn h kept ≡ true → nameOf p g ≡ nameOf p h → g ≡ h
   names-differ k g h a b e =
       let s : Glyph g ≡ Glyph h = sym (name-found k g a) ∙ ap (findName p) e ∙ name-found k h b in cc
 
+  -- kept glyphs of one CID are one glyph
   pub cids-differ : cidKeyed (p .top) ≡ true → (g h : ℕ) → isIn g kept ≡ true → isIn h kept ≡ true → getD (p .ids) g 0 ≡ getD (p .ids) h 0 → g ≡ h
   cids-differ k g h a b e =
       let s : Glyph g ≡ Glyph h = sym (cid-found k g a) ∙ ap (findCid p) e ∙ cid-found k h b in cc
@@ -76,7 +75,7 @@ module _ (p : Program) (kept : List ℕ) (all : allFound p kept ≡ true) where
 other : (x : ℕ) (xs : List ℕ) (i : ℕ) → (isIn x xs ≡ true → ⊥) → i < length xs → x ≡ getD xs i 0 → ⊥
 other x xs i f h e = f (ap (λ (k : ℕ). isIn k xs) e ∙ in-at xs i h)
 
--- the glyphs of the order have different CIDs
+-- by CID, where different glyphs of the order have different CIDs
 with-id : (p : Program) (order : List ℕ) (k i : ℕ) → Distinct order
     → ((g h : ℕ) → isIn g order ≡ true → isIn h order ≡ true → getD (p .ids) g 0 ≡ getD (p .ids) h 0 → g ≡ h) → i < length order
     → glyphWithId (getD (p .ids) (getD order i 0) 0) k (cidsOf p order) ≡ TheGlyph (k + i)
@@ -92,7 +91,7 @@ with-id p (x ∷ xs) k (suc i) (one n d) f h =
     simp (ne-eqb (getD (p .ids) x 0) (getD (p .ids) y 0) m)
     (with-id p xs (k + 1) i d (λ g h a c e. f g h (in-more x g xs a) (in-more x h xs c) e) (le-of-suc-le-suc h) ∙ ap TheGlyph z)
 
--- they have different names, and their new ids name them
+-- by name, where they have different names, and their new ids name them
 with-text : (p : Program) (own : List (List ℕ)) (order : List ℕ) (k i : ℕ) → Distinct order
     → ((g h : ℕ) → isIn g order ≡ true → isIn h order ≡ true → nameOf p g ≡ nameOf p h → g ≡ h)
     → ((g : ℕ) → isIn g order ≡ true → stringText own (newId own (nameOf p g)) ≡ nameOf p g) → i < length order

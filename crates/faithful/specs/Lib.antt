@@ -4,3 +4,4 @@ pub mod KeptListLaws
 pub mod KeptLaws
 pub mod TextsLaws
 pub mod FoundLaws
+pub mod UsedLaws

@@ -1,7 +1,7 @@
 -- The strings of a subset (document 01, 'Layout'): each text that is used has an id that names it, and the id of the first glyph stays 0.
-use Prim.Native.Nat.{ℕ, zero, suc, _+_, _-_, _≤_, _<_}
-use mathlib.Core.Path.{_≡_, refl, sym, ap, _∙_}
-use mathlib.Core.Bool.{Bool, true, false}
+use Prim.Native.Nat.{ℕ, zero, suc, _+_, _-_, _<_}
+use mathlib.Core.Path.{_≡_, refl, ap, _∙_}
+use mathlib.Core.Bool.{true}
 use mathlib.Core.List.{List, [], _∷_, _++_}
 use mathlib.Core.Logic.{⊎-elim}
 use native.Mathlib.Nat.{not-suc-le-zero}
@@ -12,7 +12,7 @@ use Rattle.octets.specs.Pick.{pick, pick-ind}
 use Rattle.prune.specs.StepLaws.{zero-one}
 use Rattle.strings.specs.Text.{sameText}
 use Rattle.strings.specs.TextLaws.{same-refl, same-true}
-use Rattle.strings.specs.Strings.{standardString, stringText, sidOf}
+use Rattle.strings.specs.Strings.{stringText, sidOf}
 use Rattle.strings.specs.StringsLaws.{string-standard, string-own, sid-text, sid-below, sid-standard}
 use Rattle.strings.specs.declared.Sid.{Sid}
 use Rattle.strings.specs.declared.Sid.the-variants.{Standard, Other}
@@ -36,7 +36,7 @@ has-more : (x t : List ℕ) (xs : List (List ℕ)) → hasText t xs ≡ true →
 unfolding hasText
 has-more x t xs h = pick-ind (λ s. s ≡ true) (sameText x t) true (hasText t xs) (λ s. refl) (λ s. h)
 
--- one that is in the first list, or in the second, is in both together
+-- one that is in the first of two lists is in both together
 has-left : (t : List ℕ) (xs ys : List (List ℕ)) → hasText t xs ≡ true → hasText t (xs ++ ys) ≡ true
 unfolding hasText
 has-left t [] ys h = absurd (zero-one cc)
@@ -46,6 +46,7 @@ has-left t (x ∷ xs) ys h =
     (λ s e. has-more x t (xs ++ ys) (has-left t xs ys e))
     h
 
+-- and so is one that is in the second
 pub has-right : (t : List ℕ) (xs ys : List (List ℕ)) → hasText t ys ≡ true → hasText t (xs ++ ys) ≡ true
 has-right t [] ys h = h
 has-right t (x ∷ xs) ys h = has-more x t (xs ++ ys) (has-right t xs ys h)
@@ -62,7 +63,7 @@ place-is t (x ∷ xs) h =
 
 -- ---- the own strings
 
--- a text that is there stays
+-- a text that is there stays when another is used
 with-keeps : (t : List ℕ) (s : Sid) (u : List ℕ) (own : List (List ℕ)) → hasText t own ≡ true → hasText t (withText s u own) ≡ true
 with-keeps t (Standard k) u own h = h
 with-keeps t Other u own h =
@@ -70,6 +71,7 @@ with-keeps t Other u own h =
     (λ s. h)
     (λ s. has-left t own (u ∷ []) h)
 
+-- and when more are used
 own-keeps : (t : List ℕ) (ts own : List (List ℕ)) → hasText t own ≡ true → hasText t (ownStrings own ts) ≡ true
 unfolding ownStrings
 own-keeps t [] own h = h
@@ -83,6 +85,7 @@ with-has t Other own e =
     (λ s. s)
     (λ s. has-right t own (t ∷ []) (has-head t t [] refl))
 
+-- and after the use of all
 own-has : (t : List ℕ) (ts own : List (List ℕ)) → sidOf t ≡ Other → hasText t ts ≡ true → hasText t (ownStrings own ts) ≡ true
 unfolding ownStrings hasText
 own-has t [] own o h = absurd (zero-one cc)
@@ -127,29 +130,33 @@ notdef-id p own e =
     ap (λ (k : ℕ). sidOf (stringText (p .strings) k)) e ∙ ap sidOf (string-standard (p .strings) 0 (omega arith)) ∙ sid-standard 0 (omega arith) in
     rw s
 
--- of n glyphs by name, and by CID
+-- where the id of glyph 0 is 0
 module _ (p : Program) (keep : List ℕ) (z : getD (p .ids) 0 0 ≡ 0) where
+  -- the first id of n glyphs kept by name
   first-name-of : (n : ℕ) (own : List (List ℕ)) → 0 < n → getD (newIds own (namesOf p (keptOf n keep))) 0 0 ≡ 0
   unfolding namesOf newIds
   first-name-of zero own h = absurd (not-suc-le-zero h)
   first-name-of (suc n) own h = ap (λ (l : List ℕ). getD (newIds own (namesOf p l)) 0 0) (kept-front n keep) ∙ notdef-id p own z
 
+  -- the first CID where glyph 0 stands first
   cid-at : (l : List ℕ) → getD l 0 0 ≡ 0 → getD (cidsOf p l) 0 0 ≡ 0
   unfolding cidsOf
   cid-at [] e = refl
   cid-at (g ∷ gs) e = ap (λ (k : ℕ). getD (p .ids) k 0) e ∙ z
 
+  -- the first CID of n glyphs kept by CID
   first-cid-of : (n : ℕ) → 0 < n → getD (cidsOf p (sortedBy (λ g. getD (p .ids) g 0) (keptOf n keep))) 0 0 ≡ 0
   first-cid-of zero h = absurd (not-suc-le-zero h)
   first-cid-of (suc n) h =
       ap (λ (l : List ℕ). getD (cidsOf p (sortedBy (λ g. getD (p .ids) g 0) l)) 0 0) (kept-front n keep)
       ∙ cid-at (sortedBy (λ g. getD (p .ids) g 0) (0 ∷ those (keeps keep) n 1)) (sorted-first (λ g. getD (p .ids) g 0) 0 (those (keeps keep) n 1) z)
 
--- the first glyph's id is 0 in the subset too
+-- the first glyph's string id is 0 in the subset too
 pub first-name : (p : Program) (keep : List ℕ) → GoodProgram p → (own : List (List ℕ))
     → getD (newIds own (namesOf p (keptOf (length (p .charstrings)) keep))) 0 0 ≡ 0
 first-name p keep good own = first-name-of p keep (good .notdef) (length (p .charstrings)) own (good .some)
 
+-- and so is its CID
 pub first-cid : (p : Program) (keep : List ℕ) → GoodProgram p
     → getD (cidsOf p (sortedBy (λ g. getD (p .ids) g 0) (keptOf (length (p .charstrings)) keep))) 0 0 ≡ 0
 first-cid p keep good = first-cid-of p keep (good .notdef) (length (p .charstrings)) (good .some)
