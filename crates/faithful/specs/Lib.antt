@@ -18,3 +18,8 @@ pub mod RecordLaws
 pub mod RenumberedLaws
 pub mod RenumberedGlyphLaws
 pub mod PrunedLaws
+pub mod KeptListLaws
+pub mod KeptLaws
+pub mod TextsLaws
+pub mod FoundLaws
+pub mod UsedLaws
