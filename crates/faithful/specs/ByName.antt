@@ -90,12 +90,14 @@ module _ (p : Program) (order : List ℕ) (b : Bodies) (at₁ : ℕ) where
   behindGlobals = charsetBytes ids ++ (indexBytes (b .charstrings) ++ part)
 
   module _ (bs : List ℕ) (within₁ : at₁ ≤ length bs) (lies₁ : drop at₁ bs ≡ behindGlobals) where
+    -- the charstrings stand behind the charset, and Private behind them
     lies₂ : drop glyphsPlace bs ≡ indexBytes (b .charstrings) ++ part
     lies₂ = lies-behind bs at₁ (charsetBytes ids) _ lies₁
 
     lies₃ : drop privatePlace bs ≡ part ++ []
     lies₃ = lies-behind bs glyphsPlace (indexBytes (b .charstrings)) part lies₂ ∙ sym (append-nil part)
 
+    -- all within the bytes
     within₃ : privatePlace ≤ length bs
     within₃ = lies-within bs glyphsPlace (indexBytes (b .charstrings)) part lies₂ (lies-within bs at₁ (charsetBytes ids) _ lies₁ within₁)
 
@@ -121,6 +123,7 @@ module _ (p : Program) (order : List ℕ) (b : Bodies) (at₁ : ℕ) where
       fontRead es =
           fontOf (ownByName p order) (b .globals) es (b .charstrings) ids (record { entries = private-read .0; locals = oneLocal b } ∷ []) (noFds (length (b .charstrings)))
 
+      -- it is what its top DICT gives
       font-read : (top : List ℕ) (es : List Entry) → dictOf top ≡ entries es → NameTop es at₁ glyphsPlace (length dict) privatePlace → 3 ≤ at₁
           → fontAt bs (ownByName p order) (b .globals) top ≡ got (fontRead es)
       font-read top es d t far =
