@@ -23,3 +23,5 @@ pub mod KeptLaws
 pub mod TextsLaws
 pub mod FoundLaws
 pub mod UsedLaws
+pub mod Held
+pub mod Theorem

@@ -1,0 +1,213 @@
+-- Demand 3 for a font that was read and a subset that is written: the subset reads back, finding gives each kept glyph, and it unfolds to what
+-- it did. The parts: a font that was read (GoodLaws), glyphs kept and found (KeptLaws, FoundLaws, UsedLaws), bodies (PrunedLaws), bytes that read
+-- back (ByName, ByCid).
+use Prim.Native.Nat.{ℕ, _+_, _<_, _≤_}
+use mathlib.Core.Path.{_≡_, refl, sym, ap, _∙_, subst}
+use mathlib.Core.Bool.{Bool, true, false}
+use mathlib.Core.List.{List, [], _∷_}
+use native.Mathlib.Omega.{arith}
+use lib.ListN.{length, getD}
+use Rattle.octets.specs.Pick.{pick}
+use Rattle.octets.specs.Octets.{Octets}
+use Rattle.unfold.specs.Unfold.{Tok, Row, plain, unfoldGlyph}
+use Rattle.record.specs.Record.{rowsOf}
+use Rattle.dict.specs.Lookup.{cidKeyed, rosIn}
+use Rattle.charset.specs.ListedLaws.{list-at}
+use Rattle.charset.specs.FdSelect.{noFds}
+use Rattle.cff.specs.Font.{Got, Program, readFont}
+use Rattle.cff.specs.Find.{foundAs, nameAs, cidAs}
+use Rattle.cff.specs.declared.FoundAs.the-variants.{Absent}
+use Rattle.find.specs.Find.{glyphWithId, glyphWithText}
+use Rattle.subset.specs.Kept.{isIn, keptOf, localsOf, sortedBy, writtenOrder, usedFds, newFd}
+use Rattle.subset.specs.Texts.{nameOf, namesOf}
+use Rattle.subset.specs.Pruned.{Bodies, pruned}
+use Rattle.subset.specs.Subset.{ownByName, ownByCid, newIds, cidsOf, newFds, subsetByName, subsetByCid, subsetBytes}
+use Rattle.subset.specs.Cut.{allFound, hasRos, ownOf}
+use Rattle.faithful.specs.Faithful.{unfolded, IsKept, Recorded, Holds}
+use Rattle.faithful.specs.Laid.{GoodProgram, Fitting, ReadsAs}
+use Rattle.faithful.specs.KeptListLaws.{in-at}
+use Rattle.faithful.specs.KeptLaws.{kept-is, kept-below, kept-some, order-count, order-has, order-in}
+use Rattle.faithful.specs.TextsLaws.{first-name, first-cid}
+use Rattle.faithful.specs.FoundLaws.{found-name, found-cid}
+use Rattle.faithful.specs.UsedLaws.{used-has, used-some, used-count, used-one, new-fds-there, new-fds-fit, new-fds-at}
+use Rattle.faithful.specs.RankLaws.{new-fd-at}
+use Rattle.faithful.specs.PrunedLaws.{pruned-fits, pruned-unfolds}
+use Rattle.faithful.specs.ByName.{by-name}
+use Rattle.faithful.specs.ByCid.{by-cid}
+
+-- ---- numbers of the glyphs kept
+
+abbrev pub keptIn : Program → List ℕ → List ℕ
+keptIn p keep = keptOf (length (p .charstrings)) keep
+
+abbrev byCid : Program → List ℕ → List ℕ
+byCid p keep = sortedBy (λ g. getD (p .ids) g 0) (keptIn p keep)
+
+-- a glyph of a subset that reads back: what finding gives, and what it unfolds to
+module _ (p : Program) (keep rec : List ℕ) (flag : ℕ) (good : GoodProgram p) (octets : Octets rec) where
+  abbrev kept : List ℕ
+  kept = keptIn p keep
+
+  abbrev used : List ℕ
+  used = usedFds p kept
+
+  module _ (order : List ℕ) (inside : (i : ℕ) → i < length order → isIn (getD order i 0) kept ≡ true) where
+    abbrev bodies : Bodies
+    bodies = pruned p (rowsOf rec) used order flag .bodies
+
+    -- a glyph of the order is below the count
+    below : (i : ℕ) → i < length order → getD order i 0 < length (p .charstrings)
+    below i h = kept-below (length (p .charstrings)) keep (getD order i 0) (inside i h)
+
+    -- the i-th glyph of the subset unfolds as the glyph that it was
+    new-unfolds : (cid : Bool) (own : List (List ℕ)) (ids fds : List ℕ) (bs : List ℕ) (r : ReadsAs cid own ids fds bodies bs) (i : ℕ) → i < length order
+        → getD fds i 0 ≡ newFd used (getD (p .fds) (getD order i 0) 0)
+        → (ts : List Tok) (met : List Row) → unfolded p (getD order i 0) ≡ plain ts met → Recorded rec flag met
+        → (met' : List Row) × (unfolded (r .program) i ≡ plain ts met')
+    new-unfolds cid own ids fds bs r i h fd ts met e listed =
+        let f = newFd used (getD (p .fds) (getD order i 0) 0) in
+        let u = used-has p kept (getD order i 0) good (inside i h) (below i h) in
+        let n : f < length (bodies .locals) = subst (λ (k : ℕ). f < k) (sym (pruned-fits p (rowsOf rec) used order flag good .fds)) (new-fd-at used (getD (p .fds) (getD order i 0) 0) u .0) in
+        let w = pruned-unfolds p rec kept order flag good octets i h (inside i h) (below i h) f i ts met e listed in
+        let d : getD (r .program .fds) i 0 ≡ f = ap (λ (l : List ℕ). getD l i 0) (r .fds) ∙ fd in (
+          w .0,
+          ap (λ (k : ℕ). unfoldGlyph (r .program .globals) (localsOf (r .program) k) k i (getD (r .program .charstrings) i [])) d
+              ∙ ap (λ (l : List (List ℕ)). unfoldGlyph (r .program .globals) l f i (getD (r .program .charstrings) i [])) (r .locals f n)
+              ∙ ap (λ (l : List (List ℕ)). unfoldGlyph l (getD (bodies .locals) f []) f i (getD (r .program .charstrings) i [])) (r .globals)
+              ∙ ap (λ (l : List (List ℕ)). unfoldGlyph (bodies .globals) (getD (bodies .locals) f []) f i (getD l i [])) (r .charstrings)
+              ∙ w .1,
+        )
+
+  -- the glyphs kept are below the count
+  kept-inside : (i : ℕ) → i < length kept → isIn (getD kept i 0) kept ≡ true
+  kept-inside = in-at kept
+
+  some : (0 < length kept) × (length kept ≤ length (p .charstrings)) × (getD kept 0 0 ≡ 0)
+  some = kept-some (length (p .charstrings)) keep (good .some)
+
+  few : length kept < 65536
+  few = omega (arith, some .1, good .charstrings .count)
+
+  -- ---- name-keyed
+
+  module _ (name : List ℕ) (named : cidKeyed (p .top) ≡ false) (found : allFound p kept ≡ true) (strings : length (ownByName p kept) ≤ 64609) where
+    abbrev byName : List ℕ
+    byName = subsetByName p name kept (bodies kept kept-inside)
+
+    name-reads : length byName ≤ 67108864
+        → ReadsAs false (ownByName p kept) (newIds (ownByName p kept) (namesOf p kept)) (noFds (length kept)) (bodies kept kept-inside) byName
+    name-reads size =
+        by-name p name kept (bodies kept kept-inside) good
+        (subst (λ (l : List ℕ). Fitting (length kept) l (bodies kept kept-inside)) (used-one p kept good named (some .0) (below kept kept-inside))
+        (pruned-fits p (rowsOf rec) used kept flag good))
+        (some .0) few (first-name p keep good (ownByName p kept)) strings size
+
+    -- the one FD
+    name-fd : (i : ℕ) → i < length kept → getD (noFds (length kept)) i 0 ≡ newFd used (getD (p .fds) (getD kept i 0) 0)
+    name-fd i h =
+        let l = new-fd-at used (getD (p .fds) (getD kept i 0) 0) (used-has p kept (getD kept i 0) good (kept-inside i h) (below kept kept-inside i h)) .0 in
+        let u : length used ≡ 1 = ap length (used-one p kept good named (some .0) (below kept kept-inside)) in
+        let z : newFd used (getD (p .fds) (getD kept i 0) 0) ≡ 0 = omega arith in
+        list-at (λ g. 0) 0 (length kept) i h ∙ sym z
+
+    name-held : (size : length byName ≤ 67108864) (i : ℕ) → i < length kept → (ts : List Tok) (met : List Row) → unfolded p (getD kept i 0) ≡ plain ts met → Recorded rec flag met
+        → Holds p (getD kept i 0) ts byName
+    name-held size i h ts met e listed =
+        let r = name-reads size in
+        let u = new-unfolds kept kept-inside false (ownByName p kept) (newIds (ownByName p kept) (namesOf p kept)) (noFds (length kept)) byName r i h (name-fd i h) ts met e listed in
+        let text = nameOf p (getD kept i 0) in
+        record {
+          program = r .program;
+          reads = r .reads;
+          new = i;
+          found =
+              ap (λ (t : Bool). pick t (cidAs (readFont byName) (getD (p .ids) (getD kept i 0) 0)) (nameAs (readFont byName) text)) named
+              ∙ ap (λ (q : Got Program). nameAs q text) (r .reads)
+              ∙ ap (λ (t : Bool). pick t Absent (foundAs (glyphWithText (r .program .strings) text 0 (r .program .ids)))) (r .keying)
+              ∙ ap (λ (l : List (List ℕ)). foundAs (glyphWithText l text 0 (r .program .ids))) (r .strings)
+              ∙ ap (λ (l : List ℕ). foundAs (glyphWithText (ownByName p kept) text 0 l)) (r .ids)
+              ∙ found-name p (length (p .charstrings)) keep named found i h;
+          met = u .0;
+          unfolds = u .1;
+        }
+
+  -- ---- CID-keyed
+
+  abbrev sorted : List ℕ
+  sorted = byCid p keep
+
+  module _ (name : List ℕ) (keyed : cidKeyed (p .top) ≡ true) (ros : hasRos (rosIn (p .top)) ≡ true) (found : allFound p kept ≡ true) (strings : length (ownByCid p) ≤ 64609) where
+    -- what is true of the order of a CID-keyed subset
+    order-is : writtenOrder p kept ≡ sorted
+    order-is = ap (λ (t : Bool). pick t sorted kept) keyed
+
+    sorted-inside : (i : ℕ) → i < length sorted → isIn (getD sorted i 0) kept ≡ true
+    sorted-inside = subst (λ (l : List ℕ). (i : ℕ) → i < length l → isIn (getD l i 0) kept ≡ true) order-is (order-in p kept)
+
+    sorted-count : length sorted ≡ length kept
+    sorted-count = ap length (sym order-is) ∙ order-count p kept
+
+    abbrev ofCid : List ℕ
+    ofCid = subsetByCid p name used sorted (bodies sorted sorted-inside)
+
+    cid-reads : length ofCid ≤ 67108864 → ReadsAs true (ownByCid p) (cidsOf p sorted) (newFds p used sorted) (bodies sorted sorted-inside) ofCid
+    cid-reads size =
+        let n = sorted-count in
+        by-cid p name used sorted (bodies sorted sorted-inside) good ros (pruned-fits p (rowsOf rec) used sorted flag good)
+        (omega (arith, some .0)) (omega (arith, few)) (first-cid p keep good) (used-some p kept (getD kept 0 0) good (kept-inside 0 (some .0)) (below kept kept-inside 0 (some .0))) (used-count p kept good)
+        (new-fds-there p kept good sorted sorted-inside (below sorted sorted-inside)) (new-fds-fit p kept good sorted sorted-inside (below sorted sorted-inside)) strings size
+
+    cid-held : (size : length ofCid ≤ 67108864) (i : ℕ) → i < length sorted → (ts : List Tok) (met : List Row) → unfolded p (getD sorted i 0) ≡ plain ts met → Recorded rec flag met
+        → Holds p (getD sorted i 0) ts ofCid
+    cid-held size i h ts met e listed =
+        let r = cid-reads size in
+        let u = new-unfolds sorted sorted-inside true (ownByCid p) (cidsOf p sorted) (newFds p used sorted) ofCid r i h (new-fds-at p used sorted i h) ts met e listed in
+        let id = getD (p .ids) (getD sorted i 0) 0 in
+        record {
+          program = r .program;
+          reads = r .reads;
+          new = i;
+          found =
+              ap (λ (t : Bool). pick t (cidAs (readFont ofCid) id) (nameAs (readFont ofCid) (nameOf p (getD sorted i 0)))) keyed
+              ∙ ap (λ (q : Got Program). cidAs q id) (r .reads)
+              ∙ ap (λ (t : Bool). pick t (foundAs (glyphWithId id 0 (r .program .ids))) Absent) (r .keying)
+              ∙ ap (λ (l : List ℕ). foundAs (glyphWithId id 0 l)) (r .ids)
+              ∙ found-cid p (length (p .charstrings)) keep keyed found i h;
+          met = u .0;
+          unfolds = u .1;
+        }
+
+  -- ---- both
+
+  -- the order and the subset's bytes, by the keying
+  abbrev orderBy : Bool → List ℕ
+  orderBy cid = pick cid sorted kept
+
+  abbrev bodiesBy : Bool → Bodies
+  bodiesBy cid = pruned p (rowsOf rec) used (orderBy cid) flag .bodies
+
+  abbrev bytesBy : Bool → List ℕ → List ℕ
+  bytesBy cid name = pick cid (subsetByCid p name used (orderBy cid) (bodiesBy cid)) (subsetByName p name (orderBy cid) (bodiesBy cid))
+
+  held : (cid : Bool) (name : List ℕ) → cidKeyed (p .top) ≡ cid → pick cid (hasRos (rosIn (p .top))) true ≡ true → allFound p kept ≡ true
+      → length (pick cid (ownByCid p) (ownByName p (orderBy cid))) ≤ 64609 → length (bytesBy cid name) ≤ 67108864
+      → (i : ℕ) → i < length (orderBy cid) → (ts : List Tok) (met : List Row) → unfolded p (getD (orderBy cid) i 0) ≡ plain ts met → Recorded rec flag met
+      → Holds p (getD (orderBy cid) i 0) ts (bytesBy cid name)
+  held true name k ros found strings size i h ts met e listed = cid-held name k ros found strings size i h ts met e listed
+  held false name k ros found strings size i h ts met e listed = name-held name k found strings size i h ts met e listed
+
+  -- a glyph kept stands in the order
+  placed : (g : ℕ) → IsKept p keep g → (i : ℕ) × (i < length (orderBy (cidKeyed (p .top)))) × (getD (orderBy (cidKeyed (p .top))) i 0 ≡ g)
+  placed g k = order-has p kept g (kept-is p keep g k)
+
+  -- demand 3 for a font that was read, and that is not refused
+  pub glyph-held : (name : List ℕ) → pick (cidKeyed (p .top)) (hasRos (rosIn (p .top))) true ≡ true → allFound p kept ≡ true
+      → length (ownOf p (writtenOrder p kept)) ≤ 64609
+      → length (subsetBytes p name kept (writtenOrder p kept) (pruned p (rowsOf rec) used (writtenOrder p kept) flag .bodies)) ≤ 67108864
+      → (g : ℕ) → IsKept p keep g → (ts : List Tok) (met : List Row) → unfolded p g ≡ plain ts met → Recorded rec flag met
+      → Holds p g ts (subsetBytes p name kept (writtenOrder p kept) (pruned p (rowsOf rec) used (writtenOrder p kept) flag .bodies))
+  unfolding subsetBytes
+  glyph-held name ros found strings size g k ts met e listed =
+      let at = placed g k in
+      subst (λ (h : ℕ). Holds p h ts (bytesBy (cidKeyed (p .top)) name)) (at .2)
+      (held (cidKeyed (p .top)) name refl ros found strings size (at .0) (at .1) ts met (ap (unfolded p) (at .2) ∙ e) listed)
