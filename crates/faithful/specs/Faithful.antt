@@ -3,7 +3,7 @@
 use Prim.Native.Nat.{ℕ, _<_}
 use mathlib.Core.Path.{_≡_}
 use mathlib.Core.Logic.{_⊎_}
-use mathlib.Core.Bool.{Bool, true, false}
+use mathlib.Core.Bool.{true}
 use mathlib.Core.List.{List, []}
 use lib.ListN.{length, getD}
 use Rattle.octets.specs.Pick.{pick}
@@ -11,7 +11,7 @@ use Rattle.unfold.specs.Unfold.{Tok, Row, Glyph, plain, unfoldGlyph}
 use Rattle.prune.specs.Bodies.{All}
 use Rattle.record.specs.Record.{rowsOf, lists}
 use Rattle.dict.specs.Lookup.{cidKeyed}
-use Rattle.cff.specs.Font.{Got, got, Private, Program, readFont}
+use Rattle.cff.specs.Font.{got, Program, readFont}
 use Rattle.cff.specs.Find.{nameAs, cidAs}
 use Rattle.cff.specs.declared.FoundAs.{FoundAs}
 use Rattle.cff.specs.declared.FoundAs.the-variants.{Glyph as TheGlyph}

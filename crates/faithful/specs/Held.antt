@@ -1,10 +1,10 @@
 -- Demand 3 for a font that was read and a subset that is written: the subset reads back, finding gives each kept glyph, and it unfolds to what
 -- it did. The parts: a font that was read (GoodLaws), glyphs kept and found (KeptLaws, FoundLaws, UsedLaws), bodies (PrunedLaws), bytes that read
 -- back (ByName, ByCid).
-use Prim.Native.Nat.{ℕ, _+_, _<_, _≤_}
+use Prim.Native.Nat.{ℕ, _<_, _≤_}
 use mathlib.Core.Path.{_≡_, refl, sym, ap, _∙_, subst}
 use mathlib.Core.Bool.{Bool, true, false}
-use mathlib.Core.List.{List, [], _∷_}
+use mathlib.Core.List.{List, []}
 use native.Mathlib.Omega.{arith}
 use lib.ListN.{length, getD}
 use Rattle.octets.specs.Pick.{pick}
@@ -29,8 +29,7 @@ use Rattle.faithful.specs.KeptListLaws.{in-at}
 use Rattle.faithful.specs.KeptLaws.{kept-is, kept-below, kept-some, order-count, order-has, order-in}
 use Rattle.faithful.specs.TextsLaws.{first-name, first-cid}
 use Rattle.faithful.specs.FoundLaws.{found-name, found-cid}
-use Rattle.faithful.specs.UsedLaws.{used-has, used-some, used-count, used-one, new-fds-there, new-fds-fit, new-fds-at}
-use Rattle.faithful.specs.RankLaws.{new-fd-at}
+use Rattle.faithful.specs.UsedLaws.{used-has, used-some, used-count, used-one, new-fd-at, new-fds-there, new-fds-fit, new-fds-at}
 use Rattle.faithful.specs.PrunedLaws.{pruned-fits, pruned-unfolds}
 use Rattle.faithful.specs.ByName.{by-name}
 use Rattle.faithful.specs.ByCid.{by-cid}

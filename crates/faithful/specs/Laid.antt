@@ -10,7 +10,7 @@ use Rattle.dict.specs.Proper.{AllProper}
 use Rattle.charset.specs.CharsetBytes.{Ids}
 use Rattle.charset.specs.FdSelectBytes.{Fds}
 use Rattle.charset.specs.FdSelect.{allBelow}
-use Rattle.cff.specs.Font.{got, Private, Program, readFont}
+use Rattle.cff.specs.Font.{got, Program, readFont}
 use Rattle.subset.specs.Kept.{privateOf, localsOf}
 use Rattle.subset.specs.Pruned.{Bodies}
 

@@ -23,7 +23,7 @@ use Rattle.subset.specs.Pruned.{Bodies, May, fail, yes as done, localSet, globa
 use Rattle.faithful.specs.Faithful.{unfolded, Recorded}
 use Rattle.faithful.specs.Laid.{GoodProgram, Fitting}
 use Rattle.faithful.specs.EachLaws.{length-mapped, mapped-at, length-each, each-at, length-stubbed, stubbed-at}
-use Rattle.faithful.specs.RankLaws.{new-fd-at, fd-used}
+use Rattle.faithful.specs.UsedLaws.{used-has, new-fd-at}
 use Rattle.faithful.specs.RecordLaws.{number-below}
 use Rattle.faithful.specs.RenumberedLaws.{subrs-few, Renews, renews}
 use Rattle.faithful.specs.RenumberedGlyphLaws.{IsListed, renumbered-glyph}
@@ -166,7 +166,7 @@ pub pruned-unfolds : (p : Program) (rec kept order : List ℕ) (flag : ℕ) → 
     → let b = pruned p (rowsOf rec) (usedFds p kept) order flag .bodies in
     (met' : List Row) × (unfoldGlyph (b .globals) (getD (b .locals) (newFd (usedFds p kept) (getD (p .fds) (getD order i 0) 0)) []) fd' g' (getD (b .charstrings) i []) ≡ plain ts met')
 pruned-unfolds p rec kept order flag good octets i there isKept inFont fd' g' ts met e recorded =
-    let inUse = fd-used p kept (getD order i 0) isKept (subst (λ (n : ℕ). getD order i 0 < n) (sym (good .fdsCount)) inFont) (good .fdsThere) in
+    let inUse = used-has p kept (getD order i 0) good isKept inFont in
     pruned-ways p (rowsOf rec) (usedFds p kept) order flag (Unfolds p (usedFds p kept) order i fd' g' ts)
     (λ z. copied-unfolds p (rowsOf rec) (usedFds p kept) order i there inUse fd' g' ts met e)
     (λ n. stubbed-unfolds p (rowsOf rec) (usedFds p kept) order i there inUse fd' g' ts met e (recorded-listed rec flag met n recorded))

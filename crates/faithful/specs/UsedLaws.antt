@@ -99,19 +99,19 @@ used-one p kept good k some below =
 -- ---- new numbers
 
 -- an FD of a list stands there at its new number
-pub new-fd-is : (l : List ℕ) (f : ℕ) → isIn f l ≡ true → (newFd l f < length l) × (getD l (newFd l f) 0 ≡ f)
+pub new-fd-at : (l : List ℕ) (f : ℕ) → isIn f l ≡ true → (newFd l f < length l) × (getD l (newFd l f) 0 ≡ f)
 unfolding newFd isIn
-new-fd-is [] f h = absurd (in-none f h)
-new-fd-is (x ∷ xs) f h =
+new-fd-at [] f h = absurd (in-none f h)
+new-fd-at (x ∷ xs) f h =
     pick-ind (λ (k : ℕ). pick (eqb x f) true (isIn f xs) ≡ true → (k < length (x ∷ xs)) × (getD (x ∷ xs) k 0 ≡ f)) (eqb x f) 0 (newFd xs f + 1)
     (λ t e. (omega arith, eqb-true x f t))
-    (λ t e. let r = new-fd-is xs f (rw t at e) in (omega arith, rw add-one (r .1)))
+    (λ t e. let r = new-fd-at xs f (rw t at e) in (omega arith, rw add-one (r .1)))
     h
 
 -- the new number of an FD in use is not above the old one
 pub new-fd-low : (p : Program) (kept : List ℕ) (f : ℕ) → isIn f (usedFds p kept) ≡ true → newFd (usedFds p kept) f ≤ f
 new-fd-low p kept f h =
-    let r = new-fd-is (usedFds p kept) f h in
+    let r = new-fd-at (usedFds p kept) f h in
     omega (arith, those-high (uses p kept) (length (p .privates)) 0 (newFd (usedFds p kept) f) (r .0))
 
 -- the i-th glyph that is written has the new number of its FD
@@ -129,7 +129,7 @@ module _ (p : Program) (kept : List ℕ) (good : GoodProgram p) where
   new-fds-there [] a b = refl
   new-fds-there (g ∷ gs) a b =
       let used = usedFds p kept in
-      let r = new-fd-is used (getD (p .fds) g 0) (used-has p kept g good (a 0 (omega arith)) (b 0 (omega arith))) in
+      let r = new-fd-at used (getD (p .fds) g 0) (used-has p kept g good (a 0 (omega arith)) (b 0 (omega arith))) in
       simp (lt-leb (length used) (newFd used (getD (p .fds) g 0)) (r .0))
       (new-fds-there gs (λ i h. a (suc i) (omega arith)) (λ i h. b (suc i) (omega arith)))
 
