@@ -1,0 +1,239 @@
+-- The outcome of a call from its steps: a refusal before the work words are used leaves all as it was, and the cut behind it uses them.
+use Prim.Native.Nat.{ℕ, _+_, _*_, _≤_, _<_}
+use mathlib.Core.Path.{_≡_, refl, sym, ap, _∙_, subst}
+use mathlib.Core.Bool.{Bool, true, false}
+use mathlib.Core.List.{List, _++_}
+use native.Mathlib.Omega.{arith}
+use borrow.Author.Tests.{lt-ltb, le-ltb, ne-eqb, eq-eqb, ltb-false}
+use Rattle.prune.specs.StepLaws.{zero-one}
+use lib.Dec.{ltb, eqb}
+use lib.ListN.{length, drop}
+use Rattle.octets.specs.Pick.{pick, pick-ind}
+use Rattle.octets.specs.Octets.{Octets}
+use Rattle.record.specs.Record.{rowsOf, recordFine}
+use Rattle.dict.specs.Lookup.{rosIn, cidKeyed}
+use Rattle.cff.specs.Font.{Got, refused as refusedFont, got, Program, readFont}
+use Rattle.cff.specs.Find.{workSize}
+use Rattle.cff.specs.Reads.{programOf, GoodFont}
+use Rattle.cff.specs.SetLaws.{counts-are}
+use Rattle.cff.specs.declared.Counts.{Counts}
+use Rattle.cff.specs.declared.font.Font.{Font}
+use Rattle.index.specs.IndexLaws.{items-length}
+use Rattle.subset.specs.Kept.{keptOf, writtenOrder, usedFds}
+use Rattle.subset.specs.Pruned.{Pruned, pruned}
+use Rattle.subset.specs.Subset.{subsetBytes}
+use Rattle.subset.specs.Cut.{Outcome, refused, subset, allBelow, allFound, hasRos, sameBool, ownOf, written, cutProgram, cutRead, cutOf, leavesOut, zeros, usesWork, leavesWork}
+use Rattle.faithful.specs.Theorem.{faithful}
+use Rattle.write.specs.Entry.{answerOf, workIn, Cuts, refusalOf, Cut, Passed}
+use Rattle.write.specs.declared.Answer.{Answer}
+use Rattle.write.specs.declared.Answer.the-variants.{Refused, Subset}
+
+-- the cut of a font that passes all refusals before it
+abbrev pub cutBehind : Program → List ℕ → List ℕ → List ℕ → ℕ → ℕ → Outcome
+cutBehind p name keep rec flag room =
+    let kept = keptOf (length (p .charstrings)) keep in
+    written p name kept (writtenOrder p kept) room (pruned p (rowsOf rec) (usedFds p kept) (writtenOrder p kept) flag)
+
+-- ---- refusals
+
+chain : (a b c d e f g : Bool) (o : Outcome)
+    → pick a (pick b (pick c (refused 4) (pick d (pick e (pick f (pick g (refused 9) o) (refused 8)) (refused 7)) (refused 6))) (refused 2)) (refused 3)
+    ≡ pick (eqb (pick a (pick b (pick c 4 (pick d (pick e (pick f (pick g 9 0) 8) 7) 6)) 2) 3) 0) o
+    (refused (pick a (pick b (pick c 4 (pick d (pick e (pick f (pick g 9 0) 8) 7) 6)) 2) 3))
+chain false b c d e f g o = refl
+chain true false c d e f g o = refl
+chain true true true d e f g o = refl
+chain true true false false e f g o = refl
+chain true true false true false f g o = refl
+chain true true false true true false g o = refl
+chain true true false true true true true o = refl
+chain true true false true true true false o = refl
+
+low : (a b c d e f g : Bool) → pick a (pick b (pick c 4 (pick d (pick e (pick f (pick g 9 0) 8) 7) 6)) 2) 3 ≤ 9
+low false b c d e f g = omega arith
+low true false c d e f g = omega arith
+low true true true d e f g = omega arith
+low true true false false e f g = omega arith
+low true true false true false f g = omega arith
+low true true false true true false g = omega arith
+low true true false true true true true = omega arith
+low true true false true true true false = omega arith
+
+module _ (cid : Bool) (p : Program) (name keep rec : List ℕ) (flag words room : ℕ) where
+  abbrev number : ℕ
+  number = refusalOf cid p (length name) keep rec flag words
+
+  -- a font that was read: refused, or cut
+  pub program-cut : cutProgram cid p name keep rec flag words room ≡ pick (eqb number 0) (cutBehind p name keep rec flag room) (refused number)
+  unfolding refusalOf
+  program-cut =
+      chain (sameBool cid (cidKeyed (p .top))) (pick cid (hasRos (rosIn (p .top))) true) (ltb 65535 (length name)) (allBelow (length (p .charstrings)) keep)
+      (allFound p (keptOf (length (p .charstrings)) keep)) (recordFine cid rec flag) (ltb words (workSize p)) (cutBehind p name keep rec flag room)
+
+  number-low : number ≤ 9
+  unfolding refusalOf
+  number-low =
+      low (sameBool cid (cidKeyed (p .top))) (pick cid (hasRos (rosIn (p .top))) true) (ltb 65535 (length name)) (allBelow (length (p .charstrings)) keep)
+      (allFound p (keptOf (length (p .charstrings)) keep)) (recordFine cid rec flag) (ltb words (workSize p))
+
+-- what a cut leaves: the words are used, whatever its outcome is
+pub written-uses : (p : Program) (name kept order : List ℕ) (room : ℕ) (q : Pruned) → usesWork (written p name kept order room q) ≡ true
+written-uses p name kept order room q =
+    let bs = subsetBytes p name kept order (q .bodies) in
+    pick-used (ltb 64609 (length (ownOf p order))) 12 (pick (ltb 67108864 (length bs)) (refused 10) (pick (ltb room (length bs)) (refused 11) (subset (q .way) bs))) refl
+    (pick-used (ltb 67108864 (length bs)) 10 (pick (ltb room (length bs)) (refused 11) (subset (q .way) bs)) refl
+    (pick-used (ltb room (length bs)) 11 (subset (q .way) bs) refl refl))
+  where
+    pick-used : (t : Bool) (n : ℕ) (o : Outcome) → usesWork (refused n) ≡ true → usesWork o ≡ true → usesWork (pick t (refused n) o) ≡ true
+    pick-used true n o h k = h
+    pick-used false n o h k = k
+
+pick-same : (t : Bool) (l : List ℕ) → pick t l l ≡ l
+pick-same true l = refl
+pick-same false l = refl
+
+-- ---- calls
+
+module _ (cid : Bool) (font name keep rec : List ℕ) (flag : ℕ) (work out : List ℕ) (bytes : Octets font) (octets : Octets rec) where
+  abbrev outcome : Outcome
+  outcome = cutOf cid font name keep rec flag (length work) (length out)
+
+  -- a refusal that leaves the words leaves all as it was
+  refused-cuts : (n : ℕ) → outcome ≡ refused n → leavesWork (refused n) (workIn (readFont font)) work ≡ work → Cuts cid font name keep rec flag work out work out (Refused n)
+  refused-cuts n e l =
+      record {
+        answers = ap answerOf (sym e);
+        output = ap (λ (o : Outcome). leavesOut o out) (sym e);
+        words = sym (ap (λ (o : Outcome). leavesWork o (workIn (readFont font)) work) e ∙ l);
+        faithful = faithful cid font name keep rec flag (length work) (length out) bytes octets;
+      }
+
+  -- a font that is not read has no W
+  pub unread-cuts : (n : ℕ) → readFont font ≡ refusedFont n → Cuts cid font name keep rec flag work out work out (Refused n)
+  unfolding cutOf zeros
+  unread-cuts n e =
+      refused-cuts n (ap (λ (x : Got Program). cutRead cid x name keep rec flag (length work) (length out)) e)
+      (ap (λ (x : Got Program). leavesWork (refused n) (workIn x) work) e ∙ pick-same (ltb 9 n) work)
+
+  module _ (p : Program) (is : readFont font ≡ got p) where
+    abbrev refusal : ℕ
+    refusal = refusalOf cid p (length name) keep rec flag (length work)
+
+    outcome-is : outcome ≡ pick (eqb refusal 0) (cutBehind p name keep rec flag (length out)) (refused refusal)
+    unfolding cutOf
+    outcome-is =
+        ap (λ (x : Got Program). cutRead cid x name keep rec flag (length work) (length out)) is
+        ∙ program-cut cid p name keep rec flag (length work) (length out)
+
+    -- refused before the words are used
+    pub early-cuts : (0 < refusal) → Cuts cid font name keep rec flag work out work out (Refused refusal)
+    early-cuts h =
+        let t : eqb refusal 0 ≡ false = ne-eqb refusal 0 (λ e. omega arith) in
+        refused-cuts refusal (outcome-is ∙ ap (λ (b : Bool). pick b (cutBehind p name keep rec flag (length out)) (refused refusal)) t)
+        (ap (λ (t : Bool). pick t (zeros (workIn (readFont font)) ++ drop (workIn (readFont font)) work) work)
+        (le-ltb 9 refusal (number-low cid p name keep rec flag (length work) (length out))))
+
+    -- cut, the first W words then cleared
+    pub late-cuts : (work' work'' out' : List ℕ) (r : Answer) → refusal ≡ 0 → Cut (cutBehind p name keep rec flag (length out)) (workSize p) work out work' out' r
+        → work'' ≡ zeros (workSize p) ++ drop (workSize p) work' → Cuts cid font name keep rec flag work out work'' out' r
+    late-cuts work' work'' out' r z k c =
+        let o = cutBehind p name keep rec flag (length out) in
+        let e : outcome ≡ o = outcome-is ∙ ap (λ (b : Bool). pick b o (refused refusal)) (eq-eqb refusal 0 z) in
+        let kept = keptOf (length (p .charstrings)) keep in
+        let u : usesWork outcome ≡ true
+        = ap usesWork e ∙ written-uses p name kept (writtenOrder p kept) (length out) (pruned p (rowsOf rec) (usedFds p kept) (writtenOrder p kept) flag) in
+        record {
+          answers = k .answers ∙ ap answerOf (sym e);
+          output = k .output ∙ ap (λ (x : Outcome). leavesOut x out) (sym e);
+          words =
+              c ∙ ap (λ (l : List ℕ). zeros (workSize p) ++ l) (k .behind)
+              ∙ ap (λ (w : ℕ). zeros w ++ drop w work) (sym (ap workIn is))
+              ∙ sym (ap (λ (t : Bool). pick t (zeros (workIn (readFont font)) ++ drop (workIn (readFont font)) work) work) u);
+          faithful = faithful cid font name keep rec flag (length work) (length out) bytes octets;
+        }
+
+-- ---- what refusal 0 says
+
+same-bool : (a b : Bool) → sameBool a b ≡ true → a ≡ b
+same-bool true b e = sym e
+same-bool false true e = absurd (zero-one cc)
+same-bool false false e = refl
+
+passes : (a b c d e f g : Bool) → _≡_ {A = ℕ} (pick a (pick b (pick c 4 (pick d (pick e (pick f (pick g 9 0) 8) 7) 6)) 2) 3) 0
+    → (a ≡ true) × (b ≡ true) × (c ≡ false) × (d ≡ true) × (e ≡ true) × (f ≡ true) × (g ≡ false)
+passes false b c d e f g h = absurd (zero-one (omega arith))
+passes true false c d e f g h = absurd (zero-one (omega arith))
+passes true true true d e f g h = absurd (zero-one (omega arith))
+passes true true false false e f g h = absurd (zero-one (omega arith))
+passes true true false true false f g h = absurd (zero-one (omega arith))
+passes true true false true true false g h = absurd (zero-one (omega arith))
+passes true true false true true true true h = absurd (zero-one (omega arith))
+passes true true false true true true false h = (refl, refl, refl, refl, refl, refl, refl)
+
+pub not-refused : (cid : Bool) (p : Program) (name : ℕ) (keep rec : List ℕ) (flag words : ℕ) → refusalOf cid p name keep rec flag words ≡ 0
+    → Passed cid p name keep rec flag words
+unfolding refusalOf
+not-refused cid p name keep rec flag words z =
+    let h =
+    passes (sameBool cid (cidKeyed (p .top))) (pick cid (hasRos (rosIn (p .top))) true) (ltb 65535 name) (allBelow (length (p .charstrings)) keep)
+    (allFound p (keptOf (length (p .charstrings)) keep)) (recordFine cid rec flag) (ltb words (workSize p)) z in
+    record {
+      keying = same-bool cid (cidKeyed (p .top)) (h .0);
+      ros = h .1;
+      named = ltb-false 65535 name (h .2);
+      below = h .3;
+      found = h .4;
+      recorded = h .5;
+      room = ltb-false words (workSize p) (h .6);
+    }
+
+-- ---- the refusal, test by test
+
+module _ (cid : Bool) (p : Program) (name : ℕ) (keep rec : List ℕ) (flag words : ℕ) where
+  abbrev numbered : ℕ
+  numbered = refusalOf cid p name keep rec flag words
+
+  pub refusal-keying : sameBool cid (cidKeyed (p .top)) ≡ false → 3 ≡ numbered
+  unfolding refusalOf
+  refusal-keying a = rw a
+
+  module _ (a : sameBool cid (cidKeyed (p .top)) ≡ true) where
+    pub refusal-ros : pick cid (hasRos (rosIn (p .top))) true ≡ false → 2 ≡ numbered
+    unfolding refusalOf
+    refusal-ros b = rw (a, b)
+
+    module _ (b : pick cid (hasRos (rosIn (p .top))) true ≡ true) where
+      pub refusal-name : 65535 < name → 4 ≡ numbered
+      unfolding refusalOf
+      refusal-name h = rw (a, b, lt-ltb 65535 name h)
+
+      module _ (c : name ≤ 65535) where
+        pub refusal-number : allBelow (length (p .charstrings)) keep ≡ false → 6 ≡ numbered
+        unfolding refusalOf
+        refusal-number d = rw (a, b, le-ltb 65535 name c, d)
+
+        module _ (d : allBelow (length (p .charstrings)) keep ≡ true) where
+          pub refusal-found : allFound p (keptOf (length (p .charstrings)) keep) ≡ false → 7 ≡ numbered
+          unfolding refusalOf
+          refusal-found e = rw (a, b, le-ltb 65535 name c, d, e)
+
+          module _ (e : allFound p (keptOf (length (p .charstrings)) keep) ≡ true) where
+            pub refusal-record : recordFine cid rec flag ≡ false → 8 ≡ numbered
+            unfolding refusalOf
+            refusal-record f = rw (a, b, le-ltb 65535 name c, d, e, f)
+
+            pub refusal-work : recordFine cid rec flag ≡ true → words < workSize p → 9 ≡ numbered
+            unfolding refusalOf
+            refusal-work f h = rw (a, b, le-ltb 65535 name c, d, e, f, lt-ltb words (workSize p) h)
+
+            pub refusal-none : recordFine cid rec flag ≡ true → workSize p ≤ words → 0 ≡ numbered
+            unfolding refusalOf
+            refusal-none f h = rw (a, b, le-ltb 65535 name c, d, e, f, le-ltb words (workSize p) h)
+
+-- a font's counts
+module _ (b : List ℕ) (f : Font) (good : GoodFont b f) where
+  pub glyphs-are : length (programOf b f .charstrings) ≡ f .charstrings .count
+  glyphs-are = items-length b (f .charstrings)
+
+  pub work-is : 2 * f .charstrings .count + f .globals .count + f .locals ≡ workSize (programOf b f)
+  work-is = let e = counts-are b f good in ap (λ (c : Counts). c .work) e
