@@ -52,7 +52,7 @@ fn rank_rows(rows: &[u8], kind: usize, fd: usize, marks: &mut [u32]) -> Ranked
 }
 
 // Sets all words to 0.
-fn clear(marks: &mut [u32])
+pub fn clear(marks: &mut [u32])
     ensures { λ r. ⌜ now (marks .exit) ≡ replicate (length (now (marks .entry))) 0 ⌝ }
 {
     let n = marks.len();

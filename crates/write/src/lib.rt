@@ -3,16 +3,15 @@ mod stubs;
 
 ghost use mathlib.Core.Path.{_≡_};
 ghost use mathlib.Core.Bool.{true, false};
-ghost use mathlib.Core.List.{_++_};
 ghost use Prim.Native.Nat.{_+_, _*_, _≤_, _<_};
-ghost use lib.ListN.{length, drop};
+ghost use lib.ListN.{length};
 ghost use Rattle.dict.specs.Lookup.{rosIn};
 ghost use Rattle.dict.specs.Places.{entriesOf};
 ghost use Rattle.cff.specs.Font.{got, readFont};
 ghost use Rattle.cff.specs.Find.{workSize};
 ghost use Rattle.cff.specs.Reads.{programOf, GoodFont};
 ghost use Rattle.octets.specs.Pick.{pick};
-ghost use Rattle.subset.specs.Cut.{hasRos, sameBool, zeros};
+ghost use Rattle.subset.specs.Cut.{hasRos, sameBool};
 ghost use Rattle.write.specs.Entry.{Cuts, refusalOf, Cut, Passed};
 ghost use Rattle.write.specs.EntryLaws.{cutBehind};
 use cff::font::Font;
@@ -71,9 +70,9 @@ fn work_size(f: Font) -> usize
 }
 
 // The refusal of a font that was read, before the work words are used, or 0.
-fn refusal(cid: bool, font: &[u8], f: Font, name: usize, keep: &[u16], record: &[u8], traced: u8, words: usize) -> u8
+fn refusal(cid: bool, font: &[u8], f: Font, name: usize, keep: &[u16], rows: &[u8], traced: u8, words: usize) -> u8
     requires { ⌜ GoodFont (now font) f ⌝ }
-    ensures { λ r. ⌜ r ≡ refusalOf cid (programOf (now (font .entry)) f) name (now (keep .entry)) (now («record» .entry)) traced words ⌝ }
+    ensures { λ r. ⌜ r ≡ refusalOf cid (programOf (now (font .entry)) f) name (now (keep .entry)) (now (rows .entry)) traced words ⌝ }
 {
     let charstrings = f.charstrings;
     let top = f.top;
@@ -93,25 +92,13 @@ fn refusal(cid: bool, font: &[u8], f: Font, name: usize, keep: &[u16], record: &
     if !stubs::all_found(font, f, keep) {
         return Refusal::NOT_FOUND;
     }
-    if !stubs::check_record(cid, record, traced) {
+    if !reach::check_record(cid, rows, traced) {
         return Refusal::RECORD;
     }
     if words < work_size(f) {
         return Refusal::WORK;
     }
     0
-}
-
-// Sets the first w words to 0.
-fn clear(words: &mut [u32], w: usize)
-    requires { ⌜ w ≤ length (now words) ⌝ }
-    ensures { λ r. ⌜ now (words .exit) ≡ zeros w ++ drop w (now (words .entry)) ⌝ }
-{
-    let mut i = 0;
-    while i < w {
-        words[i] = 0;
-        i += 1;
-    }
 }
 
 // Cuts a font that was read.
@@ -121,21 +108,21 @@ fn cut_font(
     f: Font,
     name: &[u8],
     keep: &[u16],
-    record: &[u8],
+    rows: &[u8],
     traced: u8,
     work: &mut [u32],
     out: &mut [u8],
 ) -> Answer
     requires { ⌜ GoodFont (now font) f × (readFont (now font) ≡ got (programOf (now font) f)) ⌝ }
-    ensures { λ r. ⌜ Cuts cid (now (font .entry)) (now (name .entry)) (now (keep .entry)) (now («record» .entry)) traced (now (work .entry)) (now (out .entry)) (now (work .exit)) (now (out .exit)) r ⌝ }
+    ensures { λ r. ⌜ Cuts cid (now (font .entry)) (now (name .entry)) (now (keep .entry)) (now (rows .entry)) traced (now (work .entry)) (now (out .entry)) (now (work .exit)) (now (out .exit)) r ⌝ }
 {
-    let n = refusal(cid, font, f, name.len(), keep, record, traced, work.len());
+    let n = refusal(cid, font, f, name.len(), keep, rows, traced, work.len());
     if 0 < n {
         return Answer::Refused(n);
     }
     let w = work_size(f);
-    let r = stubs::cut_glyphs(cid, font, f, name, keep, record, traced, &mut *work, &mut *out);
-    clear(work, w);
+    let r = stubs::cut_glyphs(cid, font, f, name, keep, rows, traced, &mut *work, &mut *out);
+    reach::ranks::clear(&mut work[..w]);
     r
 }
 
@@ -145,16 +132,16 @@ fn cut(
     font: &[u8],
     name: &[u8],
     keep: &[u16],
-    record: &[u8],
+    rows: &[u8],
     traced: u8,
     work: &mut [u32],
     out: &mut [u8],
 ) -> Answer
-    ensures { λ r. ⌜ Cuts cid (now (font .entry)) (now (name .entry)) (now (keep .entry)) (now («record» .entry)) traced (now (work .entry)) (now (out .entry)) (now (work .exit)) (now (out .exit)) r ⌝ }
+    ensures { λ r. ⌜ Cuts cid (now (font .entry)) (now (name .entry)) (now (keep .entry)) (now (rows .entry)) traced (now (work .entry)) (now (out .entry)) (now (work .exit)) (now (out .exit)) r ⌝ }
 {
     match cff::set::read_font(font) {
         FontRead::Refused(n) => Answer::Refused(n),
-        FontRead::Found(f) => cut_font(cid, font, f, name, keep, record, traced, work, out),
+        FontRead::Found(f) => cut_font(cid, font, f, name, keep, rows, traced, work, out),
     }
 }
 
@@ -164,14 +151,14 @@ pub fn subset(
     font: &[u8],
     name: &[u8],
     keep: &[u16],
-    record: &[u8],
+    rows: &[u8],
     traced: u8,
     work: &mut [u32],
     out: &mut [u8],
 ) -> Answer
-    ensures { λ r. ⌜ Cuts false (now (font .entry)) (now (name .entry)) (now (keep .entry)) (now («record» .entry)) traced (now (work .entry)) (now (out .entry)) (now (work .exit)) (now (out .exit)) r ⌝ }
+    ensures { λ r. ⌜ Cuts false (now (font .entry)) (now (name .entry)) (now (keep .entry)) (now (rows .entry)) traced (now (work .entry)) (now (out .entry)) (now (work .exit)) (now (out .exit)) r ⌝ }
 {
-    cut(false, font, name, keep, record, traced, work, out)
+    cut(false, font, name, keep, rows, traced, work, out)
 }
 
 // The same of a CID-keyed font.
@@ -179,12 +166,12 @@ pub fn subset_cid(
     font: &[u8],
     name: &[u8],
     keep: &[u16],
-    record: &[u8],
+    rows: &[u8],
     traced: u8,
     work: &mut [u32],
     out: &mut [u8],
 ) -> Answer
-    ensures { λ r. ⌜ Cuts true (now (font .entry)) (now (name .entry)) (now (keep .entry)) (now («record» .entry)) traced (now (work .entry)) (now (out .entry)) (now (work .exit)) (now (out .exit)) r ⌝ }
+    ensures { λ r. ⌜ Cuts true (now (font .entry)) (now (name .entry)) (now (keep .entry)) (now (rows .entry)) traced (now (work .entry)) (now (out .entry)) (now (work .exit)) (now (out .exit)) r ⌝ }
 {
-    cut(true, font, name, keep, record, traced, work, out)
+    cut(true, font, name, keep, rows, traced, work, out)
 }

@@ -5,7 +5,6 @@ ghost use Prim.Native.Nat.{_≤_, _<_};
 ghost use lib.ListN.{length};
 ghost use Rattle.cff.specs.Find.{workSize};
 ghost use Rattle.cff.specs.Reads.{programOf, GoodFont};
-ghost use Rattle.record.specs.Record.{recordFine};
 ghost use Rattle.subset.specs.Kept.{keptOf};
 ghost use Rattle.subset.specs.Cut.{allBelow, allFound};
 ghost use Rattle.write.specs.Entry.{Cut, Passed};
@@ -26,25 +25,19 @@ pub fn all_found(font: &[u8], f: Font, keep: &[u16]) -> bool
     f.cid
 }
 
-pub fn check_record(cid: bool, record: &[u8], flag: u8) -> bool
-    ensures { λ r. ⌜ r ≡ recordFine cid (now («record» .entry)) flag ⌝ }
-{
-    cid
-}
-
 pub fn cut_glyphs(
     cid: bool,
     font: &[u8],
     f: Font,
     name: &[u8],
     keep: &[u16],
-    record: &[u8],
+    rows: &[u8],
     traced: u8,
     work: &mut [u32],
     out: &mut [u8],
 ) -> Answer
-    requires { ⌜ GoodFont (now font) f × Passed cid (programOf (now font) f) (length (now name)) (now keep) (now «record») traced (length (now work)) ⌝ }
-    ensures { λ r. ⌜ Cut (cutBehind (programOf (now (font .entry)) f) (now (name .entry)) (now (keep .entry)) (now («record» .entry)) traced (length (now (out .entry)))) (workSize (programOf (now (font .entry)) f)) (now (work .entry)) (now (out .entry)) (now (work .exit)) (now (out .exit)) r ⌝ }
+    requires { ⌜ GoodFont (now font) f × Passed cid (programOf (now font) f) (length (now name)) (now keep) (now rows) traced (length (now work)) ⌝ }
+    ensures { λ r. ⌜ Cut (cutBehind (programOf (now (font .entry)) f) (now (name .entry)) (now (keep .entry)) (now (rows .entry)) traced (length (now (out .entry)))) (workSize (programOf (now (font .entry)) f)) (now (work .entry)) (now (out .entry)) (now (work .exit)) (now (out .exit)) r ⌝ }
 {
     Answer::Refused(0)
 }
