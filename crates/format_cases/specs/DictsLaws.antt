@@ -7,8 +7,8 @@ use native.Mathlib.Omega.{arith}
 use lib.Dec.{ltb}
 use lib.ListN.{length, length-append}
 use borrow.Author.Tests.{lt-ltb, le-ltb, ltb-true}
-use Rattle.octets.specs.Pick.{pick, pick-ind}
-use Rattle.octets.specs.Octets.{bytesOf, Wrote}
+use Rattle.octets.specs.Pick.{pick-ind}
+use Rattle.octets.specs.Octets.{Wrote}
 use Rattle.octets.specs.OctetsLaws.{length-bytes}
 use Rattle.octets.specs.PutLaws.{wrote-then, wrote-as}
 use Rattle.decimal.specs.declared.Decimal.{Decimal}
@@ -129,8 +129,12 @@ module _ (b : List ℕ) (at : ℕ) (new : List ℕ) (p : ℕ) (w : Listing b at 
       placed : Answered b at op end count next
       placed = answered b at h r e op end count next f
 
-      pub listing-spans : at + count < next
+      listing-spans : at + count < next
       listing-spans = omega (arith, entry-spans b at op (placed .operands) end next (placed .entry), placed .counted)
+
+      -- room for an entry, in the answer to a DICT of up to 100 bytes
+      pub listing-room : p + (3 + 11 * count) ≤ 1 + 11 * length b
+      listing-room = omega (arith, listing-spans, w .room, placed .stands .inside)
 
       pub listing-further : (at < next) × (next ≤ length b)
       listing-further = (placed .stands .further, placed .stands .inside)

@@ -1,15 +1,13 @@
 // Cases of a DICT, and of a number written into one.
 ghost use Prim.Native.Nat.{_+_, _*_, _≤_};
 ghost use mathlib.Core.Path.{_≡_};
-ghost use mathlib.Core.List.{[]};
+ghost use mathlib.Core.List.{[], _++_};
 ghost use lib.ListN.{length};
-ghost use Rattle.octets.specs.Octets.{Wrote};
+ghost use Rattle.octets.specs.Octets.{bytesOf, Wrote};
 ghost use Rattle.dict.specs.Dict.{dictOf};
 ghost use Rattle.dict.specs.Places.{operandsAt};
 ghost use Rattle.cases.specs.Answers.{Starts, Gives};
 ghost use Rattle.format_cases.specs.Dicts.{decimalBytes, operandsBytes, entryBytes, behind, dictAnswer, decimalAt, isDecimal, numberAnswer};
-ghost use Rattle.octets.specs.Octets.{bytesOf};
-ghost use mathlib.Core.List.{_++_};
 use cases::Answered;
 use decimal::Decimal;
 use decimal::NumberAt;

@@ -5,6 +5,9 @@ use mathlib.Core.Option.{Option, none}
 use Rattle.octets.specs.Pick.{pick}
 use Rattle.cases.specs.Tally.{isOneOf}
 use Rattle.charstring_cases.specs.Answers.{kinds as charstringKinds, answerTo as charstringAnswer}
+use Rattle.format_cases.specs.Answers.{kinds as formatKinds, answerTo as formatAnswer}
 
 unfoldable pub answerTo : ℕ → List ℕ → Option (List ℕ)
-answerTo kind s = pick (isOneOf charstringKinds kind) (charstringAnswer kind s) none
+answerTo kind s =
+    pick (isOneOf charstringKinds kind) (charstringAnswer kind s)
+    (pick (isOneOf formatKinds kind) (formatAnswer kind s) none)

@@ -1,6 +1,5 @@
 -- `dicts::is_zero` meets its contract: its tests are those of `isDecimal`.
 use Rattle.format_cases.specs.DecimalsLaws.{zero-neg, zero-up, zero-down}
-use borrow.Author.Needs.{needs}
 use Rattle.format_cases.proofs.dicts.is_zero.Statement.{statement}
 use Rattle.format_cases.proofs.dicts.is_zero.Tie as tie
 

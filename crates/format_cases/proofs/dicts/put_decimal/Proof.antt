@@ -1,6 +1,6 @@
 -- `dicts::put_decimal` meets its contract: one write after the other.
 use mathlib.Core.Path.{ap}
-use mathlib.Core.List.{List, [], _∷_}
+use mathlib.Core.List.{[], _∷_}
 use Prim.Native.Nat.{ℕ}
 use native.Mathlib.Omega.{arith}
 use Rattle.octets.specs.OctetsLaws.{length-bytes}

@@ -1,6 +1,5 @@
 -- `dicts::put_operands` meets its contract. The invariant: writing the operands that are left gives what writing all of them gives.
 use Prim.Native.Nat.{_≤_, _+_, _*_}
-use mathlib.Core.Path.{_≡_, ap, _∙_}
 use native.Mathlib.Omega.{arith}
 use borrow.Author.Needs.{needs}
 use lib.ListN.{length}

@@ -1,7 +1,6 @@
 -- `glyphs::put_fds` meets its contract. The invariant: the cursor stands before glyph g, and writing the FDs from there on gives what writing all gives.
-use Prim.Native.Nat.{ℕ, _≤_, _<_, _-_, _+_, _*_}
+use Prim.Native.Nat.{_≤_, _<_, _-_, _+_}
 use mathlib.Core.Path.{_≡_, sym, ap, _∙_, subst}
-use mathlib.Core.List.{List}
 use native.Mathlib.Omega.{arith}
 use borrow.Author.Needs.{needs}
 use lib.ListN.{length, drop}
@@ -9,7 +8,7 @@ use denote.Ref.{now}
 use Rattle.octets.specs.Octets.{Wrote}
 use Rattle.octets.specs.OctetsLaws.{length-bytes}
 use Rattle.charset.specs.ListedLaws.{list-length}
-use Rattle.charset.specs.FdPlaces.{fdOf, fdsOf, GoodSelect, StandsFd}
+use Rattle.charset.specs.FdPlaces.{fdOf, fdsOf, StandsFd}
 use Rattle.charset.specs.FdCursorLaws.{fd-start, fd-ready, fd-step, fd-next}
 use Rattle.charset.specs.FdFound.{fd-at}
 use Rattle.charset.specs.declared.fd_select.FdSelect.{FdSelect}

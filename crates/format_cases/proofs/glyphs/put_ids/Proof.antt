@@ -1,14 +1,13 @@
 -- `glyphs::put_ids` meets its contract. The invariant: the cursor stands before glyph g, and writing the ids from there on gives what writing all gives.
-use Prim.Native.Nat.{ℕ, _≤_, _<_, _-_, _+_, _*_}
+use Prim.Native.Nat.{_≤_, _<_, _-_, _+_, _*_}
 use mathlib.Core.Path.{_≡_, sym, ap, _∙_, subst}
-use mathlib.Core.List.{List}
 use native.Mathlib.Omega.{arith}
 use borrow.Author.Needs.{needs}
 use lib.ListN.{length, drop}
 use denote.Ref.{now}
 use Rattle.octets.specs.Octets.{Wrote}
 use Rattle.octets.specs.OctetsLaws.{length-bytes}
-use Rattle.charset.specs.CharsetPlaces.{idsOf, GoodCharset, charsetStart, StandsId}
+use Rattle.charset.specs.CharsetPlaces.{idsOf, StandsId}
 use Rattle.charset.specs.CharsetFound.{good-length, id-start, id-ready, id-step, id-next}
 use Rattle.charset.specs.declared.Charset.{Charset}
 use Rattle.charset.specs.declared.CharsetCursor.{CharsetCursor}

@@ -38,9 +38,12 @@ loop-again c =
     let w = c .before .before .put-item .ensures in
     let a = c .before .before .before .before .before .before .before .before .args in
     let n = items-length (a .font .now) (a .ix) 0 (a .ix .count) in
-    let m = item-length (a .font .now) (a .ix) (l .k) in
-    (l .inv .0, omega arith, omega (arith, w .behind),
-      writing-turn (l .inv .3) _ _ (items-next (a .font .now) (a .ix) (l .k) (a .ix .count) (omega arith)) (omega (arith, c .before .before .before .before .before .before .before .before .pre .1)) _ _ w)
+    let m = item-length (a .font .now) (a .ix) (l .k) in (
+      l .inv .0,
+      omega arith,
+      omega (arith, w .behind),
+      writing-turn (l .inv .3) _ _ (items-next (a .font .now) (a .ix) (l .k) (a .ix .count) (omega arith)) (omega (arith, c .before .before .before .before .before .before .before .before .pre .1)) _ _ w,
+    )
 
 same-length : tie.Need-same-length Inv-loop μ-loop
 same-length c = c .before .loop .inv .3 .size
