@@ -17,7 +17,7 @@ use refusal::Refusal;
 const ABSENT: u64 = 65536;
 
 // 1 for a CID-keyed font, 0 for a name-keyed one.
-fn keying(cid: bool) -> u64
+pub fn keying(cid: bool) -> u64
     ensures { λ r. ⌜ r ≡ pick cid 1 0 ⌝ }
 {
     if cid {
@@ -93,7 +93,7 @@ pub extern "C" fn cff_find_cid(font: &[u8], cid: u16, answer: &mut [u64]) -> u8
 }
 
 // The kind of items of a number below 3.
-fn kind_of(kind: u8) -> ItemKind
+pub fn kind_of(kind: u8) -> ItemKind
     ensures { λ r. ⌜ r ≡ kindOf kind ⌝ }
 {
     match kind {
