@@ -1,0 +1,36 @@
+-- `answers::answer` meets its contract: a letter is answered by the crate that has it.
+use mathlib.Core.Path.{sym, _∙_}
+use Rattle.cases.specs.AnswersLaws.{gives-none, gives-as}
+use Rattle.replay.specs.AnswersLaws.{answer-charstring, answer-none}
+use borrow.Author.Needs.{needs}
+use Rattle.replay.proofs.answers.answer.Statement.{statement}
+use Rattle.replay.proofs.answers.answer.Tie as tie
+
+slice-aggregate-is-one-of : tie.Need-slice-aggregate-is-one-of
+slice-aggregate-is-one-of c = search needs
+
+is-one-of-requires : tie.Need-is-one-of-requires
+is-one-of-requires c κs = search needs
+
+answer-requires : tie.Need-answer-requires
+answer-requires c κs = search needs
+
+same-length : tie.Need-same-length
+same-length c = search needs
+
+returns : tie.Need-returns
+returns c = gives-as _ _ _ _ (c .before .before .answer .ensures) (answer-charstring _ _ (sym (c .before .before .before .before .before .is-one-of .ensures) ∙ c .before .before .before .before .if1 .taken))
+
+returns-2 : tie.Need-returns-2
+returns-2 c = gives-none _ _ (answer-none _ _ (sym (c .before .is-one-of .ensures) ∙ c .if1 .left))
+
+pub answer-spec : {M : Type 1} → statement M
+answer-spec =
+    tie.close
+    (tie.spec
+    slice-aggregate-is-one-of
+    is-one-of-requires
+    answer-requires
+    same-length
+    returns
+    returns-2)

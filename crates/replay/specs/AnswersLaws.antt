@@ -1,0 +1,19 @@
+-- The answer by the code's tests of a kind's letter.
+use Prim.Native.Nat.{ℕ}
+use mathlib.Core.Path.{_≡_}
+use mathlib.Core.Bool.{true, false}
+use mathlib.Core.List.{List}
+use mathlib.Core.Option.{none}
+use Rattle.cases.specs.Tally.{isOneOf}
+use Rattle.charstring_cases.specs.Answers.{kinds as charstringKinds, answerTo as charstringAnswer}
+use Rattle.replay.specs.Answers.{answerTo}
+
+module _ (kind : ℕ) (s : List ℕ) where
+  pub answer-charstring : isOneOf charstringKinds kind ≡ true → answerTo kind s ≡ charstringAnswer kind s
+  unfolding answerTo
+  answer-charstring e = rw e
+
+  module _ (n : isOneOf charstringKinds kind ≡ false) where
+    pub answer-none : answerTo kind s ≡ none
+    unfolding answerTo
+    answer-none = rw n
