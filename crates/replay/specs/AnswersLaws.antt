@@ -6,6 +6,7 @@ use mathlib.Core.List.{List}
 use mathlib.Core.Option.{none}
 use Rattle.cases.specs.Tally.{isOneOf}
 use Rattle.charstring_cases.specs.Answers.{kinds as charstringKinds, answerTo as charstringAnswer}
+use Rattle.cff_cases.specs.CffCases.{kinds as cffKinds, cffAnswer}
 use Rattle.replay.specs.Answers.{answerTo}
 
 module _ (kind : ℕ) (s : List ℕ) where
@@ -14,6 +15,10 @@ module _ (kind : ℕ) (s : List ℕ) where
   answer-charstring e = rw e
 
   module _ (n : isOneOf charstringKinds kind ≡ false) where
-    pub answer-none : answerTo kind s ≡ none
+    pub answer-cff : isOneOf cffKinds kind ≡ true → answerTo kind s ≡ cffAnswer kind s
     unfolding answerTo
-    answer-none = rw n
+    answer-cff e = rw (n, e)
+
+    pub answer-none : isOneOf cffKinds kind ≡ false → answerTo kind s ≡ none
+    unfolding answerTo
+    answer-none e = rw (n, e)
