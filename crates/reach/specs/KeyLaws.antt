@@ -19,7 +19,7 @@ use Rattle.reach.specs.declared.Site.the-variants.{Glyph, Local, Global}
 use Rattle.reach.specs.Reach.{Fits, SiteFits, siteOf, keyOf}
 use Rattle.reach.specs.Masks.{bodyOf, lenAt, clashes, otherLen, clashAt, twoOf}
 use Rattle.reach.specs.RowLaws.{AllFit, all-fit}
-use Rattle.reach.specs.CountLaws.{by-number}
+use Rattle.reach.specs.Cases.{by-number}
 
 -- two digits to a base are equal exactly where the numbers are
 both-digits : (n a b x y : ℕ) → b < n → y < n → eqb a x && eqb b y ≡ eqb (a * n + b) (x * n + y)

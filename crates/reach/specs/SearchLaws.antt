@@ -15,7 +15,7 @@ use Rattle.record.specs.Record.{rowsOf}
 use Rattle.reach.specs.Reach.{keyOf, rises, rowNo, restOf}
 use Rattle.reach.specs.Masks.{lenAt, FirstAt}
 use Rattle.reach.specs.RowLaws.{rest-all, rest-next}
-use Rattle.reach.specs.CountLaws.{by-order}
+use Rattle.reach.specs.Cases.{by-order}
 use Rattle.reach.specs.MaskLaws.{given-here, given-on, given-end}
 
 -- ---- rows that rise are sorted

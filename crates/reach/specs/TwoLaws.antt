@@ -14,7 +14,7 @@ use Rattle.record.specs.Record.{rowsOf}
 use Rattle.reach.specs.Reach.{Fits, keyOf, rises, rowNo, restOf}
 use Rattle.reach.specs.Masks.{bodyOf, clashes, otherLen, clashAt, twoOf, FirstAt}
 use Rattle.reach.specs.RowLaws.{rest-all, rest-next, rest-none, row-fits}
-use Rattle.reach.specs.CountLaws.{by-number, by-order}
+use Rattle.reach.specs.Cases.{by-number, by-order}
 use Rattle.reach.specs.MaskLaws.{other-here, other-on, other-end, two-here, two-on, two-end}
 use Rattle.reach.specs.SearchLaws.{sorted}
 
