@@ -6,15 +6,15 @@ use mathlib.Core.Bool.{Bool, true, false, _&&_}
 use mathlib.Core.List.{List, [], _∷_}
 use native.Mathlib.Nat.{add-zero}
 use native.Mathlib.Omega.{arith}
-use borrow.Author.Tests.{lt-ltb, le-ltb, eq-eqb, ne-eqb, eqb-true, eqb-false, ltb-true, ltb-false}
+use borrow.Author.Tests.{le-ltb, eq-eqb, ne-eqb, ltb-false}
 use lib.Dec.{ltb, eqb}
-use lib.ListN.{length, getD, set, replicate, length-set, length-replicate, getD-replicate}
+use lib.ListN.{length, getD, set}
 use lib.Seq.{getD-set-same, getD-set-other}
 use Rattle.octets.specs.Pick.{pick}
 use Rattle.unfold.specs.Unfold.{Row}
 use Rattle.record.specs.Record.{sameRow, lists}
 use Rattle.subset.specs.Pruned.{countBelow, reached}
-use Rattle.reach.specs.Reach.{Fits, ranksOf}
+use Rattle.reach.specs.Reach.{ranksOf}
 use Rattle.reach.specs.Ranks.{reachedRow, reachedIn, tells, markRow, marked, pastRow, pastOf, rankFor, countFor, ranked, counted}
 use Rattle.reach.specs.Cases.{by-number}
 use Rattle.reach.specs.RowLaws.{AllFit}

@@ -1,9 +1,9 @@
 -- Marks and ranks as the code makes them, for the subroutines of a kind and an FD: each reached one is marked by 1, and the marks are counted.
 use Prim.Native.Nat.{ℕ, _+_, _-_}
-use mathlib.Core.Bool.{Bool, true, false}
+use mathlib.Core.Bool.{Bool}
 use mathlib.Core.List.{List, [], _∷_}
 use lib.Dec.{ltb, eqb}
-use lib.ListN.{length, set}
+use lib.ListN.{set}
 use Rattle.octets.specs.Pick.{pick}
 use Rattle.unfold.specs.Unfold.{Row}
 use Rattle.prune.specs.Renumber.{New, none, new}

@@ -5,19 +5,19 @@ use mathlib.Core.Bool.{Bool, true, false}
 use mathlib.Core.List.{List, [], _∷_}
 use native.Mathlib.Nat.{add-zero}
 use native.Mathlib.Omega.{arith}
-use borrow.Author.Tests.{eq-eqb, ne-eqb, eqb-true}
+use borrow.Author.Tests.{ne-eqb, eqb-true}
 use lib.Dec.{eqb}
 use lib.ListN.{length, take, drop, getD, List·getD-append}
-use lib.Seq.{getD-drop, getD-take, take-at, length-take-le}
+use lib.Seq.{getD-drop, getD-take, length-take-le}
 use Rattle.octets.specs.Octets.{put}
 use Rattle.octets.specs.Pick.{pick}
 use Rattle.octets.specs.PutLaws.{put-length, drop-put, drop-put-at}
 use Rattle.unfold.specs.Unfold.{Row}
-use Rattle.prune.specs.Renumber.{New, none, new}
+use Rattle.prune.specs.Renumber.{none, new}
 use Rattle.record.specs.Record.{lists}
 use Rattle.subset.specs.Pruned.{countBelow, reached, rank}
 use Rattle.reach.specs.Reach.{ranksOf, setOf}
-use Rattle.reach.specs.Ranks.{reachedRow, reachedIn, numberOf}
+use Rattle.reach.specs.Ranks.{reachedIn, numberOf}
 use Rattle.reach.specs.Cases.{by-order}
 use Rattle.reach.specs.RowLaws.{AllFit}
 use Rattle.reach.specs.CountLaws.{other-row, length-ranks, count-more}
