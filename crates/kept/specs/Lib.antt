@@ -5,3 +5,4 @@ pub mod SlotLaws
 pub mod FdsLaws
 pub mod FoundLaws
 pub mod OrderLaws
+pub mod FdsOrderLaws
