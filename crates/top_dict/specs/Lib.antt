@@ -1,0 +1,4 @@
+pub mod Top
+pub mod Writing
+pub mod TopLaws
+pub mod Slotted
