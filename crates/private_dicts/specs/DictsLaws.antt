@@ -43,11 +43,8 @@ at (s ∷ ss) (l ∷ ls) from (suc k) h q =
 
 take-take : (k n : ℕ) (l : List ℕ) → k ≤ n → take k (take n l) ≡ take k l
 take-take zero n l h = refl
-take-take (suc k) n [] h = go n
-  where
-    go : (m : ℕ) → take (suc k) (take m []) ≡ take (suc k) []
-    go zero = refl
-    go (suc m) = refl
+take-take (suc k) zero [] h = refl
+take-take (suc k) (suc n) [] h = refl
 take-take (suc k) zero (x ∷ l) h = absurd (no (omega arith))
 take-take (suc k) (suc n) (x ∷ l) h = ap (λ (t : List ℕ). x ∷ t) (take-take k n l (omega arith))
 
@@ -55,7 +52,15 @@ pub sum-next : (l : List ℕ) (k : ℕ) → k < length l → sum (take (k + 1) l
 unfolding sum
 sum-next [] k h = absurd (no (omega arith))
 sum-next (x ∷ l) zero h = omega arith
-sum-next (x ∷ l) (suc k) h = omega (arith, sum-next l k (omega arith))
+sum-next (x ∷ l) (suc k) h =
+    let e : suc k + 1 ≡ suc (k + 1) = omega arith in
+    let f : sum (take (suc k + 1) (x ∷ l)) ≡ x + sum (take (k + 1) l) = ap (λ (n : ℕ). sum (take n (x ∷ l))) e in
+    omega (arith, sum-next l k (omega arith))
+
+-- no part is before the first
+pub start-place : (l : List ℕ) (from : ℕ) → from ≡ from + sum (take 0 l)
+unfolding sum
+start-place l from = omega arith
 
 pub sum-part : (l : List ℕ) (k n : ℕ) → k ≤ n → sum (take k l) ≤ sum (take n l)
 unfolding sum

@@ -1,14 +1,15 @@
 -- Laws of the Private DICTs: the one of an FD is what reading got, and one that is written is that of the subset.
-use Prim.Native.Nat.{ℕ, zero, suc, _+_, _*_, _≤_, _<_}
+use Prim.Native.Nat.{ℕ, zero, suc, _+_, _-_, _≤_, _<_, min}
 use mathlib.Core.Path.{_≡_, refl, sym, ap, _∙_, subst}
-use mathlib.Core.Bool.{Bool, true, false}
+use mathlib.Core.Bool.{Bool, true, false, true≢false}
 use mathlib.Core.List.{List, [], _∷_, _++_, append-nil}
+use native.Mathlib.Nat.{min-le-right}
 use native.Mathlib.Omega.{arith}
 use borrow.Author.Tests.{eq-eqb, ne-eqb}
 use lib.Dec.{eqb}
-use lib.ListN.{length, take, drop, getD, length-append}
+use lib.ListN.{length, take, drop, getD, length-append, length-take, length-drop}
 use Rattle.octets.specs.Pick.{pick}
-use Rattle.octets.specs.Octets.{Octets, Wrote}
+use Rattle.octets.specs.Octets.{Wrote}
 use Rattle.octets.specs.PutLaws.{wrote-as, wrote-then, wrote-length}
 use Rattle.index.specs.Index.{itemsOf}
 use Rattle.index.specs.IndexLaws.{items-length}
@@ -22,7 +23,7 @@ use Rattle.dict_write.specs.WriteLaws.{offset-length}
 use Rattle.cff.specs.Font.{Got, refused, got, then, Private, Program, dictGot, privateAt, privatesAt}
 use Rattle.cff.specs.Reads.{partOf, fdPrivate, ReadsPrivate, GoodPrivate, GoodFont, GoodParts, privatesOf, orNone, programOf}
 use Rattle.cff.specs.Reads as reads
-use Rattle.cff.specs.ReadsLaws.{privates-split}
+use Rattle.cff.specs.ReadsLaws.{privates-split, part-sized}
 use Rattle.cff.specs.declared.font.Font.{Font}
 use Rattle.cff.specs.declared.private.PrivateAt.{PrivateAt}
 use Rattle.cff.specs.declared.private.PrivateRead.{PrivateRead}
@@ -119,7 +120,7 @@ module _ (b : List ℕ) (f : Font) (g : GoodFont b f) (fd : ℕ) (h : fd < lengt
   -- in a name-keyed one
   only-one : (cid : Bool) → cid ≡ false → (n : ℕ) → n < length (privatesOf b cid (f .dicts) (f .private))
       → reads.privateOf b (f .private) ≡ getD (privatesOf b cid (f .dicts) (f .private)) n none
-  only-one true e n k = absurd (no (let z : true ≡ false = e in cc))
+  only-one true e n k = absurd (true≢false e)
   only-one false e zero k = refl
   only-one false e (suc n) k = absurd (no (omega arith))
 
@@ -155,3 +156,40 @@ module _ (es : List Entry) (left : ℕ) where
   some-length h =
       sym (ap length (sym (some-left h)) ∙ length-append (privateBytes es) (offsetEntry subrs (length (privateBytes es) + 6))
       ∙ ap (λ (n : ℕ). length (privateBytes es) + n) (subrs-length (length (privateBytes es) + 6)))
+
+  -- there is room for its entries
+  pub bytes-room : (n at : ℕ) → at + length (privateDictBy es left) ≤ n → at + length (privateBytes es) ≤ n
+  unfolding privateDictBy
+  bytes-room n at h = omega (arith, length-append (privateBytes es) (subrsEntry left (length (privateBytes es))))
+
+  module _ (some : left ≡ 0 → ⊥) (old mid : List ℕ) (at p : ℕ) (room : at + length (privateDictBy es left) ≤ length old) (w : Wrote old at (privateBytes es) mid p) where
+    -- the offset of the local subroutines, behind Subrs
+    pub subrs-offset : p - at + 6 ≡ length (privateBytes es) + 6
+    subrs-offset = omega (arith, w .behind)
+
+    pub subrs-small : length (privateDictBy es left) < 2147483648 → p - at + 6 < 2147483648
+    subrs-small h = omega (arith, subrs-offset, some-length some)
+
+    -- there is room for Subrs, and then the DICT is whole
+    pub subrs-room : p + length (offsetEntry subrs (p - at + 6)) ≤ length mid
+    subrs-room =
+        omega (arith, subrs-length (p - at + 6), w .behind, some-length some, wrote-length w (bytes-room (length old) at room))
+
+    pub subrs-wrote : (new : List ℕ) (q : ℕ) → Wrote mid p (offsetEntry subrs (p - at + 6)) new q → Wrote old at (privateDictBy es left) new q
+    subrs-wrote new q v =
+        let h : at ≤ length old = omega arith in
+        wrote-as (wrote-then h w (wrote-as v (ap (offsetEntry subrs) subrs-offset))) (some-left some)
+
+-- ---- the bytes of a Private DICT are a part of the font
+
+pub part-few : (b : List ℕ) (start n most : ℕ) → length b ≤ most → length (take n (drop start b)) ≤ most
+part-few b start n most h = omega (arith, length-take n (drop start b), length-drop start b, min-le-right n (length (drop start b)))
+
+pub part-asked : (b : List ℕ) (start size left at n : ℕ) → length (privateDictBy (entriesOf (partOf b start size)) left) < 2147483648
+    → at + length (privateDictBy (entriesOf (partOf b start size)) left) ≤ n
+    → (length (privateDictBy (entriesOf (take (start + size - start) (drop start b))) left) < 2147483648)
+    × (at + length (privateDictBy (entriesOf (take (start + size - start) (drop start b))) left) ≤ n)
+part-asked b start size left at n h k =
+    let e : length (privateDictBy (entriesOf (take (start + size - start) (drop start b))) left) ≡ length (privateDictBy (entriesOf (partOf b start size)) left)
+    = ap (λ (d : List ℕ). length (privateDictBy (entriesOf d) left)) (part-sized b start size) in
+    (omega arith, omega arith)

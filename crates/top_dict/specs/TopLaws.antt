@@ -1,26 +1,24 @@
 -- Laws of the top DICT's parts, as the code measures and writes them one behind the other.
-use Prim.Native.Nat.{ℕ, zero, suc, _+_, _*_, _≤_, _<_, min}
+use Prim.Native.Nat.{ℕ, zero, suc, _+_, _≤_, _<_, min}
 use mathlib.Core.Path.{_≡_, refl, sym, ap, _∙_, subst}
 use mathlib.Core.Bool.{Bool, true, false}
-use mathlib.Core.List.{List, [], _∷_, _++_, append-assoc, append-nil}
+use mathlib.Core.List.{List, [], _∷_, _++_}
 use native.Mathlib.Nat.{min-le-right}
-use native.Mathlib.Numerals.{add-one}
 use native.Mathlib.Omega.{arith}
 use borrow.Author.Tests.{lt-ltb, le-ltb}
 use lib.Dec.{ltb, eqb, lit≤, lit<}
 use lib.ListN.{length, drop, getD, length-append, drop-of-length-le}
 use lib.Seq.{drop-cons}
-use Rattle.octets.specs.Pick.{pick, pick-ind}
-use Rattle.octets.specs.Octets.{Octets, bytesOf}
-use Rattle.decimal.specs.declared.Decimal.{Decimal}
+use Rattle.octets.specs.Pick.{pick}
+use Rattle.octets.specs.Octets.{Octets}
 use Rattle.decimal.specs.declared.Signed.{Signed}
 use Rattle.decimal.specs.Decimal.{normal}
-use Rattle.decimal.specs.Values.{truncOf, i32Of, clamped}
+use Rattle.decimal.specs.Values.{truncOf, i32Of}
 use Rattle.decimal.specs.Written.{numberBytes}
 use Rattle.decimal.specs.TakenLaws.{whole-normal}
 use Rattle.dict.specs.Op.{isOperator, ros, cidCount, copiedTopEntries, copiedTopStrings}
 use Rattle.dict.specs.Dict.{Entry}
-use Rattle.dict.specs.Lookup.{Operands, absent, operands, lastOf, only, oneOf, rosAs, rosIn, countAs, cidCountIn}
+use Rattle.dict.specs.Lookup.{Operands, absent, operands, lastOf, oneOf, rosAs, rosIn, countAs, cidCountIn}
 use Rattle.dict.specs.Places.{entriesOf, placeOf}
 use Rattle.dict.specs.declared.Found.{Found}
 use Rattle.dict.specs.declared.Found.the-variants.{Absent, Entry as FoundAt}
@@ -28,28 +26,19 @@ use Rattle.dict.specs.declared.One.{One}
 use Rattle.dict.specs.declared.One.the-variants.{Number, Absent as NoNumber}
 use Rattle.dict.specs.declared.RosIn.{RosIn}
 use Rattle.dict.specs.declared.RosIn.the-variants.{Ros, None}
-use Rattle.dict_write.specs.Written.{opBytes, operandsBytes, entryBytes, offsetEntry, privateEntry}
+use Rattle.dict_write.specs.Written.{opBytes}
 use Rattle.dict_write.specs.Written as written
 use Rattle.dict_write.specs.WriteLaws.{offset-length, private-length, copied-absent, copied-found}
 use Rattle.dict_write.specs.ShortLaws.{number-short, op-short, entry-short}
-use Rattle.index.specs.Write.{sizeFor, headBytes, indexBytes}
-use Rattle.index.specs.WriteLaws.{index-single}
-use Rattle.cff.specs.Font.{charset, charStrings, fdArray, fdSelect}
 use Rattle.subset.specs.Subset.{numberOf, copiedEntry, copiedBytes}
-use Rattle.top_dict.specs.Top.{Filled, valueEntry, slotEntry, slotEntries, stringEntries, idsBytes, rosOf, carried, namedOffsets, glyphOffsets, cidOffsets, topNamed, cidFront, topCid, topLen, singleHead}
+use Rattle.top_dict.specs.Top.{Filled, valueEntry, slotEntry, slotEntries, stringEntries, idsBytes, rosOf, carried, namedOffsets, glyphOffsets, cidOffsets, topNamed, cidFront, topCid, topLen}
 use Rattle.top_dict.specs.Writing.{Split, split-append, split-length}
+use Rattle.top_dict.specs.TopParts.{ids-parts}
 
 no : _≡_ {A = ℕ} 0 1 → ⊥
 no h = omega arith
 
--- ---- an entry of one number
-
-pub value-bytes : (op n : ℕ) → valueEntry op n ≡ numberBytes (numberOf n) ++ opBytes op
-unfolding entryBytes operandsBytes
-value-bytes op n = ap (λ (l : List ℕ). l ++ opBytes op) (append-nil (numberBytes (numberOf n)))
-
-pub value-length : (op n : ℕ) → length (valueEntry op n) ≡ length (numberBytes (numberOf n)) + length (opBytes op)
-value-length op n = ap length (value-bytes op n) ∙ length-append (numberBytes (numberOf n)) (opBytes op)
+-- ---- an integer
 
 pub whole-short : (s : Bool) (n : ℕ) → n < 1000000000000000 → length (numberBytes (normal s n 0 0)) ≤ 101
 whole-short s n h = number-short (normal s n 0 0) (whole-normal s n h)
@@ -155,70 +144,6 @@ module _ (b : List ℕ) (o : Octets b) (few : length b ≤ 67108864) where
 
   pub copied-short : (op : ℕ) → length (written.copiedEntry op (lastOf op (entriesOf b))) ≤ 7000000000
   copied-short op = found-short op (placeOf op b) refl
-
--- ---- the parts of each group, one behind the other
-
-pub value-parts : (op n : ℕ) → Split (valueEntry op n) (numberBytes (numberOf n)) (opBytes op)
-value-parts op n = record { is = value-bytes op n }
-
-pub ids-parts : (slots : List ℕ) → Split (idsBytes slots) (numberBytes (numberOf (getD slots 8 0))) (numberBytes (numberOf (getD slots 9 0)))
-unfolding idsBytes
-ids-parts slots = record { is = refl }
-
-pub carried-parts : (es : List Entry) (slots : List ℕ) → Split (carried es slots) (stringEntries slots) (copiedBytes es copiedTopEntries)
-unfolding carried
-carried-parts es slots = record { is = refl }
-
-pub named-parts : (at₁ at₂ size at₃ : ℕ) → Split (namedOffsets at₁ at₂ size at₃) (offsetEntry charset at₁) (offsetEntry charStrings at₂ ++ privateEntry size at₃)
-unfolding namedOffsets
-named-parts at₁ at₂ size at₃ = record { is = refl }
-
-pub named-rest : (at₂ size at₃ : ℕ) → Split (offsetEntry charStrings at₂ ++ privateEntry size at₃) (offsetEntry charStrings at₂) (privateEntry size at₃)
-named-rest at₂ size at₃ = split-append (offsetEntry charStrings at₂) (privateEntry size at₃)
-
-pub glyph-parts : (at₁ at₂ : ℕ) → Split (glyphOffsets at₁ at₂) (offsetEntry charset at₁) (offsetEntry fdSelect at₂)
-unfolding glyphOffsets
-glyph-parts at₁ at₂ = record { is = refl }
-
-pub cid-parts : (at₁ at₂ at₃ at₄ : ℕ) → Split (cidOffsets at₁ at₂ at₃ at₄) (glyphOffsets at₁ at₂) (offsetEntry charStrings at₃ ++ offsetEntry fdArray at₄)
-unfolding cidOffsets
-cid-parts at₁ at₂ at₃ at₄ = record { is = refl }
-
-pub cid-rest : (at₃ at₄ : ℕ) → Split (offsetEntry charStrings at₃ ++ offsetEntry fdArray at₄) (offsetEntry charStrings at₃) (offsetEntry fdArray at₄)
-cid-rest at₃ at₄ = split-append (offsetEntry charStrings at₃) (offsetEntry fdArray at₄)
-
-pub top-named-parts : (es : List Entry) (slots : List ℕ) (at₁ at₂ size at₃ : ℕ)
-    → Split (topNamed es slots at₁ at₂ size at₃) (carried es slots) (namedOffsets at₁ at₂ size at₃)
-unfolding topNamed
-top-named-parts es slots at₁ at₂ size at₃ = record { is = refl }
-
-pub front-parts : (es : List Entry) (slots : List ℕ)
-    → Split (cidFront es slots) (rosOf slots (rosIn es)) (carried es slots ++ valueEntry cidCount (cidCountIn es))
-unfolding cidFront
-front-parts es slots = record { is = refl }
-
-pub front-rest : (es : List Entry) (slots : List ℕ)
-    → Split (carried es slots ++ valueEntry cidCount (cidCountIn es)) (carried es slots) (valueEntry cidCount (cidCountIn es))
-front-rest es slots = split-append (carried es slots) (valueEntry cidCount (cidCountIn es))
-
-pub top-cid-parts : (es : List Entry) (slots : List ℕ) (at₁ at₂ at₃ at₄ : ℕ)
-    → Split (topCid es slots at₁ at₂ at₃ at₄) (cidFront es slots) (cidOffsets at₁ at₂ at₃ at₄)
-unfolding topCid
-top-cid-parts es slots at₁ at₂ at₃ at₄ = record { is = refl }
-
-pub head-parts : (n : ℕ) → Split (singleHead n) (headBytes 1 (sizeFor (n + 1))) (bytesOf (sizeFor (n + 1)) (n + 1))
-unfolding singleHead
-head-parts n = record { is = refl }
-
--- an INDEX of one item: what stands before the item, and the item
-pub single-parts : (n : ℕ) (x : List ℕ) → n ≡ length x → Split (indexBytes (x ∷ [])) (singleHead n) x
-unfolding singleHead
-single-parts n x e =
-    record {
-      is =
-          sym (ap (λ (m : ℕ). headBytes 1 (sizeFor (m + 1)) ++ bytesOf (sizeFor (m + 1)) (m + 1) ++ x) e
-          ∙ index-single x (sizeFor (length x + 1)) refl);
-    }
 
 -- ---- ROS and CIDCount
 

@@ -1,7 +1,7 @@
 -- `top_dict::put_carried` meets its contract: the string entries, and then the others.
 use Rattle.dict.specs.Places.{entriesOf}
 use Rattle.top_dict.specs.Writing.{split-room, writing-start, writing-turn, writing-left, writing-last}
-use Rattle.top_dict.specs.TopLaws.{carried-parts}
+use Rattle.top_dict.specs.TopParts.{carried-parts}
 use borrow.Author.Needs.{needs}
 use Rattle.top_dict.proofs.put_carried.Statement.{statement}
 use Rattle.top_dict.proofs.put_carried.Tie as tie

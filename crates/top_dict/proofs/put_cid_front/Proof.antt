@@ -1,7 +1,7 @@
 -- `top_dict::put_cid_front` meets its contract: ROS, what is carried over, and CIDCount, one behind the other.
 use Rattle.dict.specs.Places.{entriesOf}
 use Rattle.top_dict.specs.Writing.{split-room, writing-start, writing-room, writing-turn, writing-left, writing-last}
-use Rattle.top_dict.specs.TopLaws.{front-parts, front-rest}
+use Rattle.top_dict.specs.TopParts.{front-parts, front-rest}
 use borrow.Author.Needs.{needs}
 use Rattle.top_dict.proofs.put_cid_front.Statement.{statement}
 use Rattle.top_dict.proofs.put_cid_front.Tie as tie

@@ -1,7 +1,7 @@
 -- `top_dict::put_glyph_offsets` meets its contract: the one offset behind the other.
 use mathlib.Core.Path.{refl}
 use Rattle.top_dict.specs.Writing.{split-room, writing-start, writing-turn, writing-left, writing-last}
-use Rattle.top_dict.specs.TopLaws.{glyph-parts}
+use Rattle.top_dict.specs.TopParts.{glyph-parts}
 use borrow.Author.Needs.{needs}
 use Rattle.top_dict.proofs.put_glyph_offsets.Statement.{statement}
 use Rattle.top_dict.proofs.put_glyph_offsets.Tie as tie

@@ -1,6 +1,7 @@
 -- `top_dict::put_ids` meets its contract: the one id behind the other.
 use Rattle.top_dict.specs.Writing.{split-room, writing-start, writing-turn, writing-left, writing-last}
-use Rattle.top_dict.specs.TopLaws.{registry-small, ordering-small, ids-parts}
+use Rattle.top_dict.specs.TopParts.{ids-parts}
+use Rattle.top_dict.specs.TopLaws.{registry-small, ordering-small}
 use borrow.Author.Needs.{needs}
 use Rattle.top_dict.proofs.put_ids.Statement.{statement}
 use Rattle.top_dict.proofs.put_ids.Tie as tie

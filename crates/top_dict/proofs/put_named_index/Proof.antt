@@ -3,7 +3,8 @@ use Prim.Native.Nat.{ℕ, _<_}
 use mathlib.Core.Path.{sym, subst, _∙_}
 use Rattle.dict.specs.Places.{entriesOf}
 use Rattle.top_dict.specs.Writing.{split-room, writing-start, writing-turn, writing-left, writing-last}
-use Rattle.top_dict.specs.TopLaws.{single-parts, named-measured}
+use Rattle.top_dict.specs.TopParts.{single-parts}
+use Rattle.top_dict.specs.TopLaws.{named-measured}
 use Rattle.top_dict.specs.Top.{topNamed}
 use borrow.Author.Needs.{needs}
 use Rattle.top_dict.proofs.put_named_index.Statement.{statement}

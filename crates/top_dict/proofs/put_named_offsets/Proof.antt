@@ -1,7 +1,7 @@
 -- `top_dict::put_named_offsets` meets its contract: the three entries, one behind the other.
 use mathlib.Core.Path.{refl}
 use Rattle.top_dict.specs.Writing.{split-room, writing-start, writing-room, writing-turn, writing-left, writing-last}
-use Rattle.top_dict.specs.TopLaws.{named-parts, named-rest}
+use Rattle.top_dict.specs.TopParts.{named-parts, named-rest}
 use borrow.Author.Needs.{needs}
 use Rattle.top_dict.proofs.put_named_offsets.Statement.{statement}
 use Rattle.top_dict.proofs.put_named_offsets.Tie as tie

@@ -7,7 +7,7 @@ use native.Mathlib.Omega.{arith}
 use Rattle.octets.specs.Octets.{bytesOf}
 use Rattle.octets.specs.OctetsLaws.{length-bytes}
 use Rattle.top_dict.specs.Writing.{split-room, writing-start, writing-turn, writing-left, writing-last}
-use Rattle.top_dict.specs.TopLaws.{head-parts}
+use Rattle.top_dict.specs.TopParts.{head-parts}
 use borrow.Author.Needs.{needs}
 use Rattle.top_dict.proofs.put_single_head.Statement.{statement}
 use Rattle.top_dict.proofs.put_single_head.Tie as tie

@@ -1,7 +1,7 @@
 -- `top_dict::put_top_cid` meets its contract: what stands before the offsets, and then they.
 use Rattle.dict.specs.Places.{entriesOf}
 use Rattle.top_dict.specs.Writing.{split-room, writing-start, writing-turn, writing-left, writing-last}
-use Rattle.top_dict.specs.TopLaws.{top-cid-parts}
+use Rattle.top_dict.specs.TopParts.{top-cid-parts}
 use borrow.Author.Needs.{needs}
 use Rattle.top_dict.proofs.put_top_cid.Statement.{statement}
 use Rattle.top_dict.proofs.put_top_cid.Tie as tie

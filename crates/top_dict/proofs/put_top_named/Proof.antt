@@ -1,7 +1,7 @@
 -- `top_dict::put_top_named` meets its contract: what is carried over, and then the offsets.
 use Rattle.dict.specs.Places.{entriesOf}
 use Rattle.top_dict.specs.Writing.{split-room, writing-start, writing-turn, writing-left, writing-last}
-use Rattle.top_dict.specs.TopLaws.{top-named-parts}
+use Rattle.top_dict.specs.TopParts.{top-named-parts}
 use borrow.Author.Needs.{needs}
 use Rattle.top_dict.proofs.put_top_named.Statement.{statement}
 use Rattle.top_dict.proofs.put_top_named.Tie as tie

@@ -1,6 +1,6 @@
 -- `top_dict::put_value` meets its contract: a number, and then the operator.
 use Rattle.top_dict.specs.Writing.{split-room, writing-start, writing-turn, writing-left, writing-last}
-use Rattle.top_dict.specs.TopLaws.{value-parts}
+use Rattle.top_dict.specs.TopParts.{value-parts}
 use borrow.Author.Needs.{needs}
 use Rattle.top_dict.proofs.put_value.Statement.{statement}
 use Rattle.top_dict.proofs.put_value.Tie as tie

@@ -1,6 +1,6 @@
 -- `top_dict::value_len` meets its contract: a number and an operator.
 use native.Mathlib.Omega.{arith}
-use Rattle.top_dict.specs.TopLaws.{value-length}
+use Rattle.top_dict.specs.TopParts.{value-length}
 use Rattle.dict_write.specs.ShortLaws.{op-short}
 use borrow.Author.Needs.{needs}
 use Rattle.top_dict.proofs.value_len.Statement.{statement}
