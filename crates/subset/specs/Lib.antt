@@ -8,3 +8,5 @@ pub mod Examples
 pub mod CidFont
 pub mod BodiesExample
 pub mod CidExample
+pub mod NameExample
+pub mod BiasExample
