@@ -26,15 +26,15 @@ order = 0 ∷ 4 ∷ 3 ∷ 1 ∷ []
 
 -- ---- counts of what the records list
 
-few-reached : reached (globalSet reachRows) ≡ countBelow (globalSet reachRows) 2
+pub few-reached : reached (globalSet reachRows) ≡ countBelow (globalSet reachRows) 2
 unfolding numbersBelow
 few-reached = count-past (globalSet reachRows) 2 65536 (λ k h. lists-past 2 reachRows (entered (global k)) refl h) (omega arith)
 
-below-two : countBelow (globalSet reachRows) 2 ≡ 1
+pub below-two : countBelow (globalSet reachRows) 2 ≡ 1
 unfolding countBelow lists
 below-two = refl
 
-below-one : countBelow (globalSet reachRows) 1 ≡ 0
+pub below-one : countBelow (globalSet reachRows) 1 ≡ 0
 unfolding countBelow lists
 below-one = refl
 

@@ -10,3 +10,4 @@ pub mod BodiesExample
 pub mod CidExample
 pub mod NameExample
 pub mod BiasExample
+pub mod RecordExample
