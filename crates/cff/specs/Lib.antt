@@ -6,3 +6,5 @@ pub mod Reads
 pub mod ReadsLaws
 pub mod FontLaws
 pub mod SetLaws
+pub mod PartRefusals
+pub mod ReadingRefusals
