@@ -147,7 +147,7 @@ twos-refusal : (b : List ℕ) (at width half v : ℕ) → OfNumber (twosAt b at 
 twos-refusal b at width half v = of-both OfNumber (ltb v half) (integer-refusal b at width false v) (integer-refusal b at width true (half * 2 - v))
 
 pair-refusal : (b : List ℕ) (at v : ℕ) → OfNumber (pairAt b at v)
-pair-refusal b at v = 
+pair-refusal b at v =
     let w = getD b (at + 1) 0 in
     of-both OfNumber (ltb v 251) (integer-refusal b at 2 false ((v - 247) * 256 + w + 108)) (integer-refusal b at 2 true ((v - 251) * 256 + w + 108))
 
