@@ -1,13 +1,13 @@
 -- Laws of finding (document 01, refusal 7): a glyph is found where no glyph before it has its id or name.
 use Prim.Native.Nat.{ℕ, zero, suc, _+_, _-_, _≤_, _<_}
-use mathlib.Core.Path.{_≡_, refl, sym, ap, _∙_, subst}
+use mathlib.Core.Path.{_≡_, refl, sym, ap, _∙_}
 use mathlib.Core.Bool.{Bool, true, false}
 use mathlib.Core.List.{List, [], _∷_}
 use native.Mathlib.Nat.{not-suc-le-zero}
 use native.Mathlib.Omega.{arith}
 use borrow.Author.Tests.{eq-eqb, ne-eqb, eqb-true, eqb-false}
 use lib.Dec.{eqb}
-use lib.ListN.{length, drop, getD, set, length-set}
+use lib.ListN.{length, getD, set, length-set}
 use Rattle.octets.specs.Pick.{pick, pick-ind}
 use Rattle.prune.specs.StepLaws.{zero-one}
 use Rattle.strings.specs.Strings.{stringText}

@@ -1,5 +1,5 @@
 -- `kept::keep_below` meets its contract. The invariant: the numbers that are left pass exactly where all pass.
-use Prim.Native.Nat.{_≤_, _-_, _+_}
+use Prim.Native.Nat.{_≤_, _-_}
 use mathlib.Core.Path.{_≡_, refl, sym, _∙_}
 use native.Mathlib.Omega.{arith}
 use borrow.Author.Needs.{needs}

@@ -1,5 +1,4 @@
 -- `kept::put_order` meets its contract: the kept glyphs are marked, gathered, and by CID put in order.
-use Prim.Native.Nat.{ℕ}
 use denote.Ref.{now}
 use Rattle.kept.specs.OrderLaws.{order-count, order-fits, order-named, order-apart, order-sorted}
 use borrow.Author.Needs.{needs}

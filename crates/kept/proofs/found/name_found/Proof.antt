@@ -1,5 +1,5 @@
 -- `found::name_found` meets its contract: by the kind of id: standard, own, or past the strings.
-use mathlib.Core.Path.{refl, sym, ap, _∙_}
+use mathlib.Core.Path.{refl, sym, _∙_}
 use native.Mathlib.Omega.{arith}
 use denote.Ref.{now}
 use Rattle.index.specs.Index.{itemsOf}

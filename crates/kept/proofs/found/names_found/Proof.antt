@@ -1,5 +1,5 @@
 -- `found::names_found` meets its contract. The invariant: the glyphs that are left are found exactly where all are.
-use Prim.Native.Nat.{ℕ, _≤_, _<_, _-_, _+_}
+use Prim.Native.Nat.{_≤_, _-_}
 use mathlib.Core.Path.{_≡_, sym, _∙_}
 use native.Mathlib.Omega.{arith}
 use borrow.Author.Needs.{needs}
