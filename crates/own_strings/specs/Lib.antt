@@ -1,3 +1,8 @@
 pub mod Slots
+pub mod Ready
 pub mod OwnLaws
 pub mod SlotLaws
+pub mod TurnLaws
+pub mod StageLaws
+pub mod IdsLaws
+pub mod WriteLaws

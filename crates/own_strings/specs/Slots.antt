@@ -1,11 +1,11 @@
 -- The string ids that the top DICT of a subset uses (document 01, 'Layout'): eight slots, registry and ordering of ROS and then the six
 -- string entries; 65536, which is no string id, stands where there is none. And what the code gives and counts as it passes over string ids.
-use Prim.Native.Nat.{ℕ, _+_, _*_, _/_, _≤_, _<_}
+use Prim.Native.Nat.{ℕ, _+_, _-_, _/_, _<_}
 use mathlib.Core.Path.{_≡_}
 use mathlib.Core.Bool.{Bool, true, false}
 use mathlib.Core.List.{List, [], _∷_, _++_}
 use lib.Dec.{ltb, eqb}
-use lib.ListN.{length, take, drop, getD}
+use lib.ListN.{length, take, getD}
 use Rattle.octets.specs.Pick.{pick}
 use Rattle.decimal.specs.declared.IdOf.{IdOf}
 use Rattle.decimal.specs.declared.IdOf.the-variants.{Id, Absent}
@@ -21,6 +21,7 @@ use Rattle.strings.specs.declared.Sid.{Sid}
 use Rattle.strings.specs.declared.Sid.the-variants.{Standard, Other}
 use Rattle.subset.specs.Texts.{hasText, ownStrings, newId}
 use Rattle.own_strings.specs.declared.Own.{Own}
+use Rattle.own_strings.specs.declared.Use.{Use}
 
 -- ---- slots
 
@@ -68,6 +69,11 @@ unfoldable pub wordNames : List (List ℕ) → List ℕ → List (List ℕ)
 wordNames strings [] = []
 wordNames strings (w ∷ ws) = stringText strings (w / 65536) ∷ wordNames strings ws
 
+-- their string ids
+unfoldable pub wordIds : List ℕ → List ℕ
+wordIds [] = []
+wordIds (w ∷ ws) = (w / 65536) ∷ wordIds ws
+
 -- no text stands before among them
 pub record Different (ts : List (List ℕ)) : Type 0 where
   pub apart : (i : ℕ) → i < length ts → hasText (getD ts i []) (take i ts) ≡ false
@@ -85,11 +91,6 @@ slotsOwn strings slots = ownStrings [] (slotTexts strings (take 8 slots))
 -- and with the names of glyphs behind them
 abbrev pub allOwn : List (List ℕ) → List ℕ → List ℕ → List (List ℕ)
 allOwn strings slots ws = ownStrings (slotsOwn strings slots) (wordNames strings ws)
-
--- the new ids of eight slots stand behind them
-pub record Given (strings : List (List ℕ)) (slots : List ℕ) : Type 0 where
-  pub room : 16 ≤ length slots
-  pub ids : take 8 (drop 8 slots) ≡ slotIds (slotsOwn strings slots) strings (take 8 slots)
 
 -- ---- what the code finds for one string id
 
@@ -123,3 +124,9 @@ unfoldable pub counted : List (List ℕ) → Own → ℕ → ℕ → Own
 counted strings own x id =
     pick (ltb x 391) own
     (pick (eqb id (391 + own .count)) (record { count = own .count + 1; total = own .total + length (stringText strings x) }) own)
+
+-- a string id that is used and its new id: a slot, or the word of a glyph
+abbrev pub useAt : List ℕ → List ℕ → ℕ → ℕ → Use
+useAt slots words n j =
+    pick (ltb j 8) (record { sid = getD slots j 0; id = getD slots (8 + j) 0 })
+    (record { sid = getD words (j - 8) 0 / 65536; id = getD words (n + (j - 8)) 0 })

@@ -2,7 +2,7 @@
 // that it uses, and its String INDEX. The texts are used in order: those of eight slots of the top DICT, then the names of the glyphs.
 ghost use mathlib.Core.Path.{_≡_};
 ghost use mathlib.Core.List.{[], _∷_};
-ghost use Prim.Native.Nat.{_+_, _*_, _≤_, _<_};
+ghost use Prim.Native.Nat.{_+_, _-_, _≤_, _<_};
 ghost use lib.ListN.{length, take, drop};
 ghost use Rattle.octets.specs.Octets.{put, Wrote};
 ghost use Rattle.index.specs.Index.{itemsOf};
@@ -13,7 +13,8 @@ ghost use Rattle.dict.specs.Places.{entriesOf};
 ghost use Rattle.strings.specs.Strings.{stringText, sidOf};
 ghost use Rattle.strings.specs.declared.Sid.the-variants.{Other};
 ghost use Rattle.subset.specs.Subset.{newIds};
-ghost use Rattle.own_strings.specs.Slots.{slotOf, firstSlots, slotsOf, slotIds, wordNames, Different, ownOf, slotsOwn, allOwn, Given, slotHas, slotWith, givenId, counted};
+ghost use Rattle.own_strings.specs.Slots.{slotOf, firstSlots, slotsOf, slotIds, wordNames, ownOf, slotsOwn, allOwn, slotHas, slotWith, givenId, counted, useAt};
+ghost use Rattle.own_strings.specs.Ready.{HasStrings, SlotsGiven, NamesReady, NamesGiven, IndexRoom};
 use decimal::IdOf;
 use dict::RosIn;
 use index::Index;
@@ -23,6 +24,12 @@ use strings::Sid;
 pub struct Own {
     pub count: usize,
     pub total: usize,
+}
+
+// A string id that is used, and its new id.
+pub struct Use {
+    pub sid: usize,
+    pub id: usize,
 }
 
 // The slot of an entry: its string id, or 65536.
@@ -141,7 +148,7 @@ fn given_id(font: &[u8], strings: Index, slots: &[usize], n: usize, count: usize
 
 // The own strings counted, once a slot with a new id was passed.
 fn count_one(font: &[u8], strings: Index, own: Own, x: usize, id: usize) -> Own
-    requires { ⌜ (Good (now font) strings) × (length (now font) ≤ 67108864) × (own .count < 4294967296) × (own .total < 4611686018427387904) ⌝ }
+    requires { ⌜ (HasStrings (now font) strings) × (own .count < 4294967296) × (own .total < 4611686018427387904) ⌝ }
     ensures { λ r. ⌜ r ≡ counted (itemsOf (now (font .entry)) strings) own x id ⌝ }
 {
     let count = own.count;
@@ -161,7 +168,7 @@ fn count_one(font: &[u8], strings: Index, own: Own, x: usize, id: usize) -> Own
 
 // Puts the new ids of eight slots behind them; the own strings so far.
 pub fn put_slot_ids(font: &[u8], strings: Index, slots: &mut [usize]) -> Own
-    requires { ⌜ (Good (now font) strings) × (length (now font) ≤ 67108864) × (16 ≤ length (now slots)) ⌝ }
+    requires { ⌜ (HasStrings (now font) strings) × (16 ≤ length (now slots)) ⌝ }
     ensures { λ r. ⌜ (now (slots .exit) ≡ put (now (slots .entry)) 8
         (slotIds (slotsOwn (itemsOf (now (font .entry)) strings) (now (slots .entry))) (itemsOf (now (font .entry)) strings) (take 8 (now (slots .entry)))))
         × (r ≡ ownOf (slotsOwn (itemsOf (now (font .entry)) strings) (now (slots .entry)))) ⌝ }
@@ -176,4 +183,81 @@ pub fn put_slot_ids(font: &[u8], strings: Index, slots: &mut [usize]) -> Own
         j += 1;
     }
     own
+}
+
+// Puts the new ids of k glyph names, whose string ids the first k words hold, from n on; the own strings then.
+pub fn put_ids(font: &[u8], strings: Index, slots: &[usize], own: Own, words: &mut [u32], n: usize, k: usize) -> Own
+    requires { ⌜ (HasStrings (now font) strings) × (SlotsGiven (itemsOf (now font) strings) (now slots))
+        × (own ≡ ownOf (slotsOwn (itemsOf (now font) strings) (now slots))) × (NamesReady (itemsOf (now font) strings) (now words) n k) ⌝ }
+    ensures { λ r. ⌜ (now (words .exit) ≡ put (now (words .entry)) n
+        (newIds (allOwn (itemsOf (now (font .entry)) strings) (now (slots .entry)) (take k (now (words .entry))))
+        (wordNames (itemsOf (now (font .entry)) strings) (take k (now (words .entry))))))
+        × (r ≡ ownOf (allOwn (itemsOf (now (font .entry)) strings) (now (slots .entry)) (take k (now (words .entry))))) ⌝ }
+{
+    let mut all = own;
+    let mut i = 0;
+    while i < k {
+        let x = words[i] as usize / 65536;
+        let id = given_id(font, strings, slots, 8, all.count, x);
+        all = count_one(font, strings, all, x, id);
+        words[n + i] = id as u32;
+        i += 1;
+    }
+    all
+}
+
+// The string id that is used j-th, and its new id: that of a slot, or of a glyph's name.
+fn use_at(slots: &[usize], words: &[u32], n: usize, j: usize) -> Use
+    requires { ⌜ (16 ≤ length (now slots)) × (8 ≤ j → (j - 8 ≤ n) × (n + (j - 8) < length (now words))) ⌝ }
+    ensures { λ r. ⌜ r ≡ useAt (now (slots .entry)) (now (words .entry)) n j ⌝ }
+{
+    if j < 8 {
+        return Use {
+            sid: slots[j],
+            id: slots[8 + j],
+        };
+    }
+    let i = j - 8;
+    Use {
+        sid: words[i] as usize / 65536,
+        id: words[n + i] as usize,
+    }
+}
+
+// Writes the String INDEX from `at` on; the place after it. A CID-keyed subset uses no glyph name: k is 0.
+pub fn put_strings(
+    font: &[u8],
+    strings: Index,
+    slots: &[usize],
+    own: Own,
+    words: &[u32],
+    n: usize,
+    k: usize,
+    out: &mut [u8],
+    at: usize,
+) -> usize
+    requires { ⌜ (HasStrings (now font) strings) × (SlotsGiven (itemsOf (now font) strings) (now slots))
+        × (NamesGiven (itemsOf (now font) strings) (now slots) (now words) n k)
+        × (IndexRoom (now out) at (allOwn (itemsOf (now font) strings) (now slots) (take k (now words))) own) ⌝ }
+    ensures { λ r. ⌜ Wrote (now (out .entry)) at (indexBytes (allOwn (itemsOf (now (font .entry)) strings) (now (slots .entry)) (take k (now (words .entry)))))
+        (now (out .exit)) r ⌝ }
+{
+    let count = own.count;
+    let total = own.total;
+    let ix = index::index_for(at, count, total);
+    index::put_head(&mut *out, at, count, total);
+    let mut p = ix.base + 1;
+    let mut c = 0;
+    let mut j = 0;
+    while j < 8 + k {
+        let u = use_at(slots, words, n, j);
+        let sid = u.sid;
+        let id = u.id;
+        if id == 391 + c {
+            p = index::put_item(&mut *out, ix, c, p, own_text(font, strings, sid));
+            c += 1;
+        }
+        j += 1;
+    }
+    p
 }
