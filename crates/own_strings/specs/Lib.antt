@@ -1,5 +1,6 @@
 pub mod Slots
 pub mod Ready
+pub mod SlotTexts
 pub mod OwnLaws
 pub mod SlotLaws
 pub mod TurnLaws

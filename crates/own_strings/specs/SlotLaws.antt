@@ -281,7 +281,6 @@ module _ (strings : List (List ℕ)) (t : List ℕ) where
 module _ (strings own : List (List ℕ)) (slots ids : List ℕ) (x : ℕ) (ts all : List (List ℕ)) (grows : all ≡ ownStrings (used strings own x) ts)
     (among : sidOf (stringText strings x) ≡ Other → hasText (stringText strings x) own ≡ hasText (stringText strings x) (slotTexts strings slots))
     (known : (j : ℕ) → j < length slots → getD ids j 0 ≡ slotId all strings (getD slots j 0)) where
-
   abbrev text : List ℕ
   text = stringText strings x
 

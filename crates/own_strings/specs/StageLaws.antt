@@ -194,7 +194,6 @@ module _ (strings own : List (List ℕ)) (xs : List ℕ) (j : ℕ) (h : j < leng
     (known : (i : ℕ) → i < length before → getD ids i 0 ≡ slotId (ownStrings own (slotTexts strings xs)) strings (getD before i 0))
     (so : Own) (counts : so ≡ ownOf (ownStrings own (slotTexts strings (take j xs)))) (y : ℕ) (reads : y ≡ getD xs j 0) (id : ℕ)
     (gives : id ≡ givenId strings before ids (so .count) y) where
-
   abbrev stage : List (List ℕ)
   stage = ownStrings own (slotTexts strings (take j xs))
 

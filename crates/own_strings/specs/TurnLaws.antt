@@ -116,7 +116,6 @@ text-short b ix g sid h = short (ltb (sid - 391) (ix .count)) refl
 
 module _ (strings : List (List ℕ)) (t slots : List ℕ) (n j : ℕ) (all : n ≤ length slots)
     (inv : slotWith strings t (take n slots) ≡ j + slotWith strings t (drop j (take n slots))) where
-
   many : length (take n slots) ≡ n
   many = length-take-le n slots all
 

@@ -186,7 +186,15 @@ pub fn put_slot_ids(font: &[u8], strings: Index, slots: &mut [usize]) -> Own
 }
 
 // Puts the new ids of k glyph names, whose string ids the first k words hold, from n on; the own strings then.
-pub fn put_ids(font: &[u8], strings: Index, slots: &[usize], own: Own, words: &mut [u32], n: usize, k: usize) -> Own
+pub fn put_ids(
+    font: &[u8],
+    strings: Index,
+    slots: &[usize],
+    own: Own,
+    words: &mut [u32],
+    n: usize,
+    k: usize,
+) -> Own
     requires { ⌜ (HasStrings (now font) strings) × (SlotsGiven (itemsOf (now font) strings) (now slots))
         × (own ≡ ownOf (slotsOwn (itemsOf (now font) strings) (now slots))) × (NamesReady (itemsOf (now font) strings) (now words) n k) ⌝ }
     ensures { λ r. ⌜ (now (words .exit) ≡ put (now (words .entry)) n

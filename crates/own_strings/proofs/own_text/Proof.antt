@@ -4,9 +4,6 @@ use Rattle.own_strings.specs.TurnLaws.{text-item, text-none}
 use borrow.Author.Needs.{needs}
 use Rattle.own_strings.proofs.own_text.Statement.{statement}
 use Rattle.own_strings.proofs.own_text.Tie as tie
-use Rattle.own_strings.proofs.own_text.Reads as reads
-use Rattle.own_strings.proofs.own_text.Lts as lts
-use Rattle.index.proofs.item.Reads as item-reads
 
 sub-k : tie.Need-sub-k
 sub-k c = search needs

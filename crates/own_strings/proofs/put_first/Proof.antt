@@ -3,10 +3,6 @@ use Rattle.own_strings.specs.TurnLaws.{first-none, first-ros, first-name
 use borrow.Author.Needs.{needs}
 use Rattle.own_strings.proofs.put_first.Statement.{statement}
 use Rattle.own_strings.proofs.put_first.Tie as tie
-use Rattle.own_strings.proofs.put_first.Reads as reads
-use Rattle.own_strings.proofs.put_first.Lts as lts
-use Rattle.dict.proofs.ros.Reads as ros-reads
-use Rattle.own_strings.proofs.put_two.Reads as put-two-reads
 
 ros-requires : tie.Need-ros-requires
 ros-requires c κs = search needs

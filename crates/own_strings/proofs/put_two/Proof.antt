@@ -3,8 +3,6 @@ use Rattle.own_strings.specs.TurnLaws.{put-two}
 use borrow.Author.Needs.{needs}
 use Rattle.own_strings.proofs.put_two.Statement.{statement}
 use Rattle.own_strings.proofs.put_two.Tie as tie
-use Rattle.own_strings.proofs.put_two.Reads as reads
-use Rattle.own_strings.proofs.put_two.Lts as lts
 
 slice-write-slots : tie.Need-slice-write-slots
 slice-write-slots c = search needs

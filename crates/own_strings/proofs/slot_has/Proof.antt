@@ -3,9 +3,6 @@ use mathlib.Core.Path.{_≡_, refl, sym, ap, _∙_}
 use borrow.Author.Tests.{eq-eqb, ne-eqb}
 use Rattle.own_strings.proofs.slot_has.Statement.{statement}
 use Rattle.own_strings.proofs.slot_has.Tie as tie
-use Rattle.own_strings.proofs.slot_has.Reads as reads
-use Rattle.own_strings.proofs.slot_has.Lts as lts
-use Rattle.find.proofs.is_named.Reads as is-named-reads
 
 returns : tie.Need-returns
 returns c = rw (eq-eqb _ _ (c .if1 .taken))

@@ -4,9 +4,6 @@ use Rattle.own_strings.specs.Slots.{slotOf}
 use borrow.Author.Needs.{needs}
 use Rattle.own_strings.proofs.slot_of.Statement.{statement}
 use Rattle.own_strings.proofs.slot_of.Tie as tie
-use Rattle.own_strings.proofs.slot_of.Reads as reads
-use Rattle.own_strings.proofs.slot_of.Lts as lts
-use Rattle.dict.proofs.string_id.Reads as string-id-reads
 
 string-id-requires : tie.Need-string-id-requires
 string-id-requires c κs = search needs
