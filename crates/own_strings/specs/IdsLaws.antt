@@ -260,12 +260,19 @@ module _ (b : List ℕ) (ix : Index) (has : HasStrings b ix) (slots : List ℕ) 
             counts = turn-own T first xs i name-inside (take 8 slots) (drop 8 slots) name-among name-known own (t .counts) (getD now i 0 / 65536) name-reads id gives after e;
           }
 
+new-ids-length : (own ts : List (List ℕ)) → length (newIds own ts) ≡ length ts
+unfolding newIds
+new-ids-length own [] = refl
+new-ids-length own (t ∷ ts) = ap suc (new-ids-length own ts)
+
 -- what stands then
 pub names-given : (strings : List (List ℕ)) (slots old now : List ℕ) (n k : ℕ) → NamesReady strings old n k
-    → now ≡ put old n (newIds (allOwn strings slots (take k old)) (wordNames strings (take k old))) → length (newIds (allOwn strings slots (take k old)) (wordNames strings (take k old))) ≡ k
+    → now ≡ put old n (newIds (allOwn strings slots (take k old)) (wordNames strings (take k old)))
     → NamesGiven strings slots now n k × (take k now ≡ take k old)
-names-given strings slots old now n k ready e m =
+names-given strings slots old now n k ready e =
     let ids = newIds (allOwn strings slots (take k old)) (wordNames strings (take k old)) in
+    let m : length ids ≡ k = new-ids-length (allOwn strings slots (take k old)) (wordNames strings (take k old)) ∙ names-length strings (take k old)
+    ∙ length-take-le k old (omega (arith, ready .room)) in
     let within : n ≤ length old = omega (arith, ready .room) in
     let f : take k now ≡ take k old = ap (take k) e ∙ take-front old n ids within k (ready .front) in
     let l : length now ≡ length old = ap length e ∙ put-length old n ids (omega (arith, m, ready .room)) in
