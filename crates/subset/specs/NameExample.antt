@@ -31,7 +31,7 @@ use Rattle.find.specs.Find.{glyphWithText}
 use Rattle.unfold.specs.Unfold.{Row, local, entered}
 use Rattle.record.specs.Record.{rowsFrom, rowsOf, rowsFine, recordFine, lists, givenIn, disagrees, twoLengths}
 use Rattle.prune.specs.Renumber.{oldOf, renumber, renumberCharstring}
-use Rattle.cff.specs.Font.{got, Private, Program, charset, charStrings, readFont, setAt, fontsAt, fontAt, nameParts, idsAt, privateAt, privateData, localsAt, encodingGot}
+use Rattle.cff.specs.Font.{got, Program, charset, charStrings, readFont, setAt, fontsAt, fontAt, nameParts, idsAt, privateAt, privateData, localsAt, encodingGot}
 use Rattle.cff.specs.Find.{localsTotal}
 use Rattle.subset.specs.Kept.{isIn, those, fdsOf}
 use Rattle.subset.specs.Pruned.{Bodies, Pruned, countBelow, reached, localSet, each, renumberedBody, renumberedSubrs, renumbered, pruned}
@@ -40,6 +40,7 @@ use Rattle.subset.specs.Subset.{numberOf, namedBytes, copiedBytes, newId
 use Rattle.subset.specs.Cut.{Outcome, subset, allBelow, allFound, written, cutRead, cutOf}
 use Rattle.subset.specs.ReachedLaws.{numbersBelow, lists-past, count-past}
 
+-- the font's bytes
 abbrev nameFont : List ℕ
 nameFont =
     -- header
@@ -47,7 +48,8 @@ nameFont =
     -- names
     ∷ 0x00 ∷ 0x01 ∷ 0x01 ∷ 0x01 ∷ 0x02 ∷ 0x58
     -- top DICT: FullName, charset, CharStrings, Private
-    ∷ 0x00 ∷ 0x01 ∷ 0x01 ∷ 0x01 ∷ 0x11 ∷ 0xf8 ∷ 0x1c ∷ 0x02 ∷ 0x1c ∷ 0x00 ∷ 0x2a ∷ 0x0f ∷ 0x1c ∷ 0x00 ∷ 0x2f ∷ 0x11 ∷ 0x8f ∷ 0x1c ∷ 0x00 ∷ 0x3d ∷ 0x12
+    ∷ 0x00 ∷ 0x01 ∷ 0x01 ∷ 0x01 ∷ 0x11 ∷ 0xf8 ∷ 0x1c ∷ 0x02 ∷ 0x1c ∷ 0x00 ∷ 0x2a ∷ 0x0f ∷ 0x1c ∷ 0x00 ∷ 0x2f ∷ 0x11 ∷ 0x8f ∷ 0x1c ∷ 0x00 ∷ 0x3d
+    ∷ 0x12
     -- strings: A, Qx
     ∷ 0x00 ∷ 0x02 ∷ 0x01 ∷ 0x01 ∷ 0x02 ∷ 0x04 ∷ 0x41 ∷ 0x51 ∷ 0x78
     -- global subroutines: none
@@ -59,6 +61,7 @@ nameFont =
     -- Private DICT and local subroutines
     ∷ 0x8d ∷ 0x14 ∷ 0x8f ∷ 0x13 ∷ 0x00 ∷ 0x04 ∷ 0x01 ∷ 0x01 ∷ 0x02 ∷ 0x05 ∷ 0x06 ∷ 0x09 ∷ 0x0b ∷ 0x8d ∷ 0x16 ∷ 0x0b ∷ 0x0b ∷ 0x21 ∷ 0x0a ∷ 0x0b ∷ []
 
+-- what it holds
 abbrev nameProgram : Program
 nameProgram =
     record {
@@ -81,6 +84,7 @@ nameProgram =
       fds = 0 ∷ 0 ∷ 0 ∷ [];
     }
 
+-- and that reading gives it
 reads : readFont nameFont ≡ got nameProgram
 unfolding
     readFont setAt fontsAt fontAt nameParts idsAt privateAt privateData localsAt encodingGot readIndex told itemsOf pieces indexAt tableAt dataAt judged runOf offsets
@@ -94,6 +98,7 @@ reach =
     0x00 ∷ 0x00 ∷ 0x00 ∷ 0x01 ∷ 0x00 ∷ 0x00 ∷ 0x00 ∷ 0x00 ∷ 0x00 ∷ 0x00
     ∷ 0x00 ∷ 0x00 ∷ 0x00 ∷ 0x03 ∷ 0x00 ∷ 0x00 ∷ 0x00 ∷ 0x00 ∷ 0x00 ∷ 0x00 ∷ []
 
+-- its rows
 abbrev reachRows : List Row
 reachRows = entered (local 0 1) ∷ entered (local 0 3) ∷ []
 
@@ -101,12 +106,14 @@ reach-rows : rowsOf reach ≡ reachRows
 unfolding rowsOf rowsFrom numAt be
 reach-rows = refl
 
+-- it has the right form
 fine-reach : recordFine false reach 1 ≡ true
 unfolding recordFine rowsFine rowsOf rowsFrom numAt be
 fine-reach = refl
 
 -- ---- the bodies: the second subroutine is the first, the fourth the second
 
+-- numbers below 4 alone are listed, of them 1 and 3; no global
 few-reached : reached (localSet reachRows 0) ≡ countBelow (localSet reachRows 0) 4
 unfolding numbersBelow
 few-reached = count-past (localSet reachRows 0) 4 65536 (λ k h. lists-past 4 reachRows (entered (local 0 k)) refl h) (omega arith)
@@ -131,6 +138,7 @@ below-none : countBelow (λ k. false) 0 ≡ 0
 unfolding countBelow
 below-none = refl
 
+-- what becomes of the bodies
 abbrev renumberedBodies : Bodies
 renumberedBodies =
     record {
@@ -139,6 +147,7 @@ renumberedBodies =
       charstrings = (0x0e ∷ []) ∷ (0x20 ∷ 0x0a ∷ 0x0e ∷ []) ∷ (0x21 ∷ 0x0a ∷ 0x0e ∷ []) ∷ [];
     }
 
+-- way 0
 bodies-renumbered : pruned nameProgram reachRows (0 ∷ []) (0 ∷ 1 ∷ 2 ∷ []) 1 ≡ record { way = 0; bodies = renumberedBodies }
 unfolding
     pruned renumbered renumberedSubrs renumberedBody each those lists givenIn twoLengths disagrees renumberCharstring renumber oldOf encode t2.numberAt t2.keep24
@@ -147,12 +156,15 @@ bodies-renumbered = simp (few-reached, below-four, below-three, below-one, no-gl
 
 -- ---- the whole
 
+-- the call, with a record and a flag
 abbrev cut : List ℕ → ℕ → Outcome
 cut rec flag = cutOf false nameFont (0x4e ∷ []) (1 ∷ 2 ∷ []) rec flag 8192 32768
 
+-- what is written of bodies
 abbrev writtenOf : Pruned → Outcome
 writtenOf q = written nameProgram (0x4e ∷ []) (0 ∷ 1 ∷ 2 ∷ []) (0 ∷ 1 ∷ 2 ∷ []) 32768 q
 
+-- a call whose record and flag are of the right form is not refused before it is written
 cut-written : (rec : List ℕ) (flag : ℕ) → recordFine false rec flag ≡ true
     → cut rec flag ≡ writtenOf (pruned nameProgram (rowsOf rec) (0 ∷ []) (0 ∷ 1 ∷ 2 ∷ []) flag)
 unfolding
@@ -160,6 +172,7 @@ unfolding
     normal stripped zeros zerosOf
 cut-written rec flag fine = ap (λ g. cutRead false g (0x4e ∷ []) (1 ∷ 2 ∷ []) rec flag 8192 32768) reads ∙ rw fine
 
+-- the subset
 abbrev renumberedBytes : List ℕ
 renumberedBytes =
     -- header
@@ -167,8 +180,8 @@ renumberedBytes =
     -- names
     ∷ 0x00 ∷ 0x01 ∷ 0x01 ∷ 0x01 ∷ 0x02 ∷ 0x4e
     -- top DICT: FullName, charset, CharStrings, Private
-    ∷ 0x00 ∷ 0x01 ∷ 0x01 ∷ 0x01 ∷ 0x1b ∷ 0xf8 ∷ 0x1b ∷ 0x02 ∷ 0x1d ∷ 0x00 ∷ 0x00 ∷ 0x00 ∷ 0x32 ∷ 0x0f ∷ 0x1d ∷ 0x00 ∷ 0x00 ∷ 0x00 ∷ 0x37 ∷ 0x11 ∷ 0x1d ∷ 0x00 ∷ 0x00 ∷ 0x00 ∷ 0x08 ∷ 0x1d
-    ∷ 0x00 ∷ 0x00 ∷ 0x00 ∷ 0x45 ∷ 0x12
+    ∷ 0x00 ∷ 0x01 ∷ 0x01 ∷ 0x01 ∷ 0x1b ∷ 0xf8 ∷ 0x1b ∷ 0x02 ∷ 0x1d ∷ 0x00 ∷ 0x00 ∷ 0x00 ∷ 0x32 ∷ 0x0f ∷ 0x1d ∷ 0x00 ∷ 0x00 ∷ 0x00 ∷ 0x37 ∷ 0x11
+    ∷ 0x1d ∷ 0x00 ∷ 0x00 ∷ 0x00 ∷ 0x08 ∷ 0x1d ∷ 0x00 ∷ 0x00 ∷ 0x00 ∷ 0x45 ∷ 0x12
     -- strings: Qx
     ∷ 0x00 ∷ 0x01 ∷ 0x01 ∷ 0x01 ∷ 0x03 ∷ 0x51 ∷ 0x78
     -- global subroutines: none
@@ -180,6 +193,7 @@ renumberedBytes =
     -- Private DICT and local subroutines
     ∷ 0x8d ∷ 0x14 ∷ 0x1d ∷ 0x00 ∷ 0x00 ∷ 0x00 ∷ 0x08 ∷ 0x13 ∷ 0x00 ∷ 0x02 ∷ 0x01 ∷ 0x01 ∷ 0x04 ∷ 0x07 ∷ 0x8d ∷ 0x16 ∷ 0x0b ∷ 0x20 ∷ 0x0a ∷ 0x0b ∷ []
 
+-- what is written of the renumbered bodies
 written-renumbered : writtenOf (record { way = 0; bodies = renumberedBodies }) ≡ subset 0 renumberedBytes
 unfolding
     subsetBytes subsetByName newIds copiedBytes namedBytes namesOf textsOf namedEntries newId placeIn ownStrings hasText stringText standardString standardStrings sidOf
@@ -187,6 +201,7 @@ unfolding
     stripped zeros zerosOf int5Bytes numberBytes intBytes indexBytes itemsBytes headBytes tableBytes ends sizeFor join total bytesOf numAt be
 written-renumbered = refl
 
+-- the whole call
 renumbers : cut reach 1 ≡ subset 0 renumberedBytes
 renumbers =
     cut-written reach 1 fine-reach ∙ ap (λ rs. writtenOf (pruned nameProgram rs (0 ∷ []) (0 ∷ 1 ∷ 2 ∷ []) 1)) reach-rows ∙ ap (λ q. writtenOf q) bodies-renumbered

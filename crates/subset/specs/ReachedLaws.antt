@@ -1,7 +1,7 @@
 -- Counting what a record lists (document 01, 'Reach record'): `reached` counts over all numbers that a row can have. Where the numbers of a
 -- record are below n, counting below n gives the same.
 use Prim.Native.Nat.{ℕ, zero, suc, _+_, _≤_, _<_}
-use mathlib.Core.Path.{_≡_, refl, sym, ap, _∙_, subst}
+use mathlib.Core.Path.{_≡_, refl}
 use mathlib.Core.Bool.{Bool, true, false, _&&_}
 use mathlib.Core.List.{List, [], _∷_}
 use native.Mathlib.Decide.{decLe}

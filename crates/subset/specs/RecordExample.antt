@@ -1,6 +1,5 @@
 -- What a record makes of the renumbering (document 01, 'Corners in write.rs' and 'Reach record'), on `cidProgram`. The Rust's renumber_cid
 -- gives the same for each of these records.
-use Prim.Native.Nat.{ℕ}
 use mathlib.Core.Path.{_≡_, refl}
 use mathlib.Core.List.{List, [], _∷_}
 use Rattle.octets.specs.Octets.{be, numAt, bytesOf}
