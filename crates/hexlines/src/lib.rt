@@ -34,7 +34,7 @@ pub fn hex_value(b: u8) -> usize
 }
 
 // The place of the first b in at..end, and end where there is none.
-fn place_of(s: &[u8], at: usize, end: usize, b: u8) -> usize
+pub fn place_of(s: &[u8], at: usize, end: usize, b: u8) -> usize
     requires { ⌜ (at ≤ end) × (end ≤ length (now s)) ⌝ }
     ensures { λ r. ⌜ (r ≡ at + before b (slice at end (now (s .entry)))) × (at ≤ r) × (r ≤ end) ⌝ }
 {

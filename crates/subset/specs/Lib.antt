@@ -3,4 +3,11 @@ pub mod Pruned
 pub mod Texts
 pub mod Subset
 pub mod Cut
+pub mod ReachedLaws
 pub mod Examples
+pub mod CidFont
+pub mod BodiesExample
+pub mod CidExample
+pub mod NameExample
+pub mod BiasExample
+pub mod RecordExample

@@ -86,10 +86,10 @@ fn refusal(cid: bool, font: &[u8], f: Font, name: usize, keep: &[u16], rows: &[u
     if 65535 < name {
         return Refusal::TOO_LONG;
     }
-    if !stubs::keep_below(keep, charstrings.count) {
+    if !kept::keep_below(keep, charstrings.count) {
         return Refusal::NO_SUCH_NUMBER;
     }
-    if !stubs::all_found(font, f, keep) {
+    if !kept::all_found(font, f, keep) {
         return Refusal::NOT_FOUND;
     }
     if !reach::check_record(cid, rows, traced) {

@@ -12,19 +12,6 @@ ghost use Rattle.write.specs.EntryLaws.{cutBehind};
 use cff::font::Font;
 use crate::Answer;
 
-pub fn keep_below(keep: &[u16], n: usize) -> bool
-    ensures { λ r. ⌜ r ≡ allBelow n (now (keep .entry)) ⌝ }
-{
-    n < keep.len()
-}
-
-pub fn all_found(font: &[u8], f: Font, keep: &[u16]) -> bool
-    requires { ⌜ GoodFont (now font) f × (allBelow (f .charstrings .count) (now keep) ≡ true) ⌝ }
-    ensures { λ r. ⌜ r ≡ allFound (programOf (now (font .entry)) f) (keptOf (f .charstrings .count) (now (keep .entry))) ⌝ }
-{
-    f.cid
-}
-
 pub fn cut_glyphs(
     cid: bool,
     font: &[u8],

@@ -3,7 +3,7 @@
 use crate::cases::{Case, mixed};
 use crate::cff::{CffProgram, STANDARD_STRINGS};
 use crate::generator::Generator;
-use crate::library::{ABSENT, Answer, Checked, Counts, Library};
+use crate::library::{ABSENT, Answer, COUNTS, Checked, Counts, Library, NO_ROOM, ONE};
 use crate::model::{self, Font, NO_SUCH_ITEM, PAST_LIMITS, Refused, TOO_LONG};
 use crate::original::{self, Outcome};
 use crate::program::FontError;
@@ -146,7 +146,7 @@ impl Compared<'_> {
     fn entries(&mut self, seed: u64, number: u64) {
         let mut g = Generator::new(mixed(seed ^ 0x5851_f42d_4c95_7f2d, number));
         let want = self.read.map(counts);
-        let got = self.library.read(self.font);
+        let got = self.library.read(self.font, COUNTS);
         self.tally.call("read", &want);
         self.same("read", &want, got);
 
@@ -163,7 +163,7 @@ impl Compared<'_> {
                     });
                 }
             }
-            let got = self.library.find_name(self.font, &name);
+            let got = self.library.find_name(self.font, &name, ONE);
             self.tally.found("find_name", &want);
             self.same_of("find_name", &name, &want, got);
         }
@@ -176,7 +176,7 @@ impl Compared<'_> {
                     self.report(|| format!("CID {cid}: model {want:?}, original {theirs:?}"));
                 }
             }
-            let got = self.library.find_cid(self.font, cid);
+            let got = self.library.find_cid(self.font, cid, ONE);
             self.tally.found("find_cid", &want);
             self.same_of("find_cid", &cid, &want, got);
         }
@@ -195,7 +195,7 @@ impl Compared<'_> {
                     }
                 }
                 let room = want.as_ref().map_or(4, Vec::len);
-                let got = self.library.item(self.font, kind, number, room);
+                let got = self.library.item(self.font, (kind, number), room, ONE);
                 self.tally
                     .call(["charstring", "global", "string"][usize::from(kind)], &want);
                 self.same_of("item", &(kind, number), &want, got);
@@ -212,6 +212,50 @@ impl Compared<'_> {
                 }
             }
         }
+        self.without_room(&mut g);
+    }
+
+    /// Too few words or bytes lent, which is refused last; and a kind of items that there is not.
+    fn without_room(&mut self, g: &mut Generator) {
+        let refusal = self.read.err().unwrap_or(NO_ROOM);
+        let words = g.below(COUNTS);
+        let got = self.library.read(self.font, words);
+        self.same_of("read with words", &words, &Err(refusal), got);
+        let got = self.library.find_name(self.font, b".notdef", 0);
+        self.same("find_name without a word", &Err(refusal), got);
+        let got = self.library.find_cid(self.font, 0, 0);
+        self.same("find_cid without a word", &Err(refusal), got);
+        self.tally.roomless += 3;
+
+        let kind = g.below(3) as u8;
+        let count = self.read.map_or(0, |f| f.index(kind).count as u64);
+        let number = g.word() % (count + 1);
+        let item = self.read.and_then(|f| f.item(self.font, kind, number));
+        let refusal = item.as_ref().map_or_else(|&r| r, |_| NO_ROOM);
+        let length = item.as_ref().map_or(4, |span| span.len());
+        let got = self.library.item(self.font, (kind, number), length, 0);
+        self.same_of("item without a word", &(kind, number), &Err(refusal), got);
+        self.tally.roomless += 1;
+        if length > 0 {
+            let got = self
+                .library
+                .item(self.font, (kind, number), length - 1, ONE);
+            self.same_of("item without room", &(kind, number), &Err(refusal), got);
+            self.tally.roomless += 1;
+        }
+
+        let kind = 3 + g.below(253) as u8;
+        let refusal = self.read.err().unwrap_or(NO_SUCH_ITEM);
+        let got = self.library.item(self.font, (kind, number), length, ONE);
+        self.same_of("item of no kind", &(kind, number), &Err(refusal), got);
+        let got = self.library.item_refusal(self.font, kind, number);
+        self.same_of(
+            "item_refusal of no kind",
+            &(kind, number),
+            &Ok(refusal),
+            Ok(Ok(got)),
+        );
+        self.tally.roomless += 2;
     }
 
     fn same<T: PartialEq + Debug>(&mut self, entry: &str, want: &Answer<T>, got: Checked<T>) {
@@ -361,38 +405,48 @@ mod tests {
         assert_eq!(differences(&stub::library()), 0);
     }
 
+    /// An odd W is one less.
     unsafe extern "C" fn read_wrong_work(
         font: *const u8,
         len: usize,
-        a: *mut u64,
-        b: *mut u64,
-        c: *mut u64,
-        d: *mut u64,
-        work: *mut u64,
+        answer: *mut u64,
+        words: usize,
     ) -> u8 {
         // SAFETY: as for the stub.
-        let refusal = unsafe { (stub::library().read)(font, len, a, b, c, d, work) };
+        let refusal = unsafe { (stub::library().read)(font, len, answer, words) };
         if refusal == 0 {
-            unsafe { *work = *work / 2 * 2 };
+            unsafe { *answer.add(4) = *answer.add(4) / 2 * 2 };
         }
         refusal
     }
 
+    /// Refusal 5 writes a word.
     unsafe extern "C" fn read_writes_when_refused(
         font: *const u8,
         len: usize,
-        a: *mut u64,
-        b: *mut u64,
-        c: *mut u64,
-        d: *mut u64,
-        e: *mut u64,
+        answer: *mut u64,
+        words: usize,
     ) -> u8 {
         // SAFETY: as for the stub.
-        let refusal = unsafe { (stub::library().read)(font, len, a, b, c, d, e) };
-        if refusal == 5 {
-            unsafe { *e = 0 };
+        let refusal = unsafe { (stub::library().read)(font, len, answer, words) };
+        if refusal == 5 && words == COUNTS {
+            unsafe { *answer.add(4) = 0 };
         }
         refusal
+    }
+
+    /// Too few words are found before the font is read.
+    unsafe extern "C" fn read_room_first(
+        font: *const u8,
+        len: usize,
+        answer: *mut u64,
+        words: usize,
+    ) -> u8 {
+        if words < COUNTS {
+            return NO_ROOM;
+        }
+        // SAFETY: as for the stub.
+        unsafe { (stub::library().read)(font, len, answer, words) }
     }
 
     /// A name that is absent is glyph 0.
@@ -401,20 +455,28 @@ mod tests {
         len: usize,
         name: *const u8,
         name_len: usize,
-        glyph: *mut u64,
+        answer: *mut u64,
+        words: usize,
     ) -> u8 {
         // SAFETY: as for the stub.
-        let refusal = unsafe { (stub::library().find_name)(font, len, name, name_len, glyph) };
+        let refusal =
+            unsafe { (stub::library().find_name)(font, len, name, name_len, answer, words) };
         if refusal == 0 {
-            unsafe { *glyph %= ABSENT };
+            unsafe { *answer %= ABSENT };
         }
         refusal
     }
 
     /// A CID above 32767 is taken as another.
-    unsafe extern "C" fn cid_halved(font: *const u8, len: usize, cid: u16, glyph: *mut u64) -> u8 {
+    unsafe extern "C" fn cid_halved(
+        font: *const u8,
+        len: usize,
+        cid: u16,
+        answer: *mut u64,
+        words: usize,
+    ) -> u8 {
         // SAFETY: as for the stub.
-        unsafe { (stub::library().find_cid)(font, len, cid & 0x7fff, glyph) }
+        unsafe { (stub::library().find_cid)(font, len, cid & 0x7fff, answer, words) }
     }
 
     /// Only 32 bits of the number count.
@@ -424,12 +486,13 @@ mod tests {
         kind: u8,
         number: u64,
         out: *mut u8,
-        out_len: usize,
-        item_len: *mut u64,
+        room: usize,
+        size: *mut u64,
+        words: usize,
     ) -> u8 {
         let number = number & 0xffff_ffff;
         // SAFETY: as for the stub.
-        unsafe { (stub::library().item)(font, len, kind, number, out, out_len, item_len) }
+        unsafe { (stub::library().item)(font, len, kind, number, out, room, size, words) }
     }
 
     /// Refusal 1 where it is 2.
@@ -451,6 +514,10 @@ mod tests {
             },
             Library {
                 read: read_writes_when_refused,
+                ..good
+            },
+            Library {
+                read: read_room_first,
                 ..good
             },
             Library {

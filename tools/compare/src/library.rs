@@ -1,25 +1,21 @@
 //! The library under test by its C interface, and a stub in its place until it is linked.
 
-/// The functions of the crate `capi`.
+/// The functions of the crate `capi`: a slice is a pointer and a length.
 #[derive(Clone, Copy)]
 pub struct Library {
-    pub read: unsafe extern "C" fn(
-        *const u8,
-        usize,
-        *mut u64,
-        *mut u64,
-        *mut u64,
-        *mut u64,
-        *mut u64,
-    ) -> u8,
-    pub find_name: unsafe extern "C" fn(*const u8, usize, *const u8, usize, *mut u64) -> u8,
-    pub find_cid: unsafe extern "C" fn(*const u8, usize, u16, *mut u64) -> u8,
-    pub item: unsafe extern "C" fn(*const u8, usize, u8, u64, *mut u8, usize, *mut u64) -> u8,
+    pub read: unsafe extern "C" fn(*const u8, usize, *mut u64, usize) -> u8,
+    pub find_name: unsafe extern "C" fn(*const u8, usize, *const u8, usize, *mut u64, usize) -> u8,
+    pub find_cid: unsafe extern "C" fn(*const u8, usize, u16, *mut u64, usize) -> u8,
+    pub item:
+        unsafe extern "C" fn(*const u8, usize, u8, u64, *mut u8, usize, *mut u64, usize) -> u8,
     pub item_refusal: unsafe extern "C" fn(*const u8, usize, u8, u64) -> u8,
 }
 
 /// What `find_name` and `find_cid` give for a glyph that is absent.
 pub const ABSENT: u64 = 65536;
+
+/// The refusal where fewer words or bytes are lent than the answer has.
+pub const NO_ROOM: u8 = 11;
 
 /// What reading answers.
 #[derive(Clone, Copy, Debug, PartialEq, Eq)]
@@ -41,22 +37,16 @@ const BYTE: u8 = 0xa5;
 /// A call that wrote where it must not.
 pub type Checked<T> = Result<Answer<T>, String>;
 
+/// The words of an answer of reading, and of another.
+pub const COUNTS: usize = 5;
+pub const ONE: usize = 1;
+
 impl Library {
-    pub fn read(&self, font: &[u8]) -> Checked<Counts> {
-        let mut out = [WORD; 5];
-        let [glyphs, globals, strings, cid_keyed, work] = &mut out;
-        // SAFETY: the font is lent for the call, and the five words are distinct.
-        let refusal = unsafe {
-            (self.read)(
-                font.as_ptr(),
-                font.len(),
-                glyphs,
-                globals,
-                strings,
-                cid_keyed,
-                work,
-            )
-        };
+    /// Lends `lent` words of `COUNTS`.
+    pub fn read(&self, font: &[u8], lent: usize) -> Checked<Counts> {
+        let mut out = [WORD; COUNTS];
+        // SAFETY: the font and the first `lent` words are lent for the call.
+        let refusal = unsafe { (self.read)(font.as_ptr(), font.len(), out.as_mut_ptr(), lent) };
         if refusal != 0 {
             return untouched(refusal, &out);
         }
@@ -70,40 +60,50 @@ impl Library {
         }))
     }
 
-    pub fn find_name(&self, font: &[u8], name: &[u8]) -> Checked<u64> {
-        let mut glyph = WORD;
-        // SAFETY: font and name are lent for the call.
+    /// Lends `lent` words of one.
+    pub fn find_name(&self, font: &[u8], name: &[u8], lent: usize) -> Checked<u64> {
+        let mut glyph = [WORD; ONE];
+        // SAFETY: font, name and the first `lent` words are lent for the call.
         let refusal = unsafe {
             (self.find_name)(
                 font.as_ptr(),
                 font.len(),
                 name.as_ptr(),
                 name.len(),
-                &mut glyph,
+                glyph.as_mut_ptr(),
+                lent,
             )
         };
         if refusal != 0 {
-            return untouched(refusal, &[glyph]);
+            return untouched(refusal, &glyph);
         }
-        Ok(Ok(glyph))
+        Ok(Ok(glyph[0]))
     }
 
-    pub fn find_cid(&self, font: &[u8], cid: u16) -> Checked<u64> {
-        let mut glyph = WORD;
-        // SAFETY: the font is lent for the call.
-        let refusal = unsafe { (self.find_cid)(font.as_ptr(), font.len(), cid, &mut glyph) };
+    /// Lends `lent` words of one.
+    pub fn find_cid(&self, font: &[u8], cid: u16, lent: usize) -> Checked<u64> {
+        let mut glyph = [WORD; ONE];
+        // SAFETY: the font and the first `lent` words are lent for the call.
+        let refusal =
+            unsafe { (self.find_cid)(font.as_ptr(), font.len(), cid, glyph.as_mut_ptr(), lent) };
         if refusal != 0 {
-            return untouched(refusal, &[glyph]);
+            return untouched(refusal, &glyph);
         }
-        Ok(Ok(glyph))
+        Ok(Ok(glyph[0]))
     }
 
-    /// The item, with room for `room` bytes lent and some more, which must stay as they are.
-    pub fn item(&self, font: &[u8], kind: u8, number: u64, room: usize) -> Checked<Vec<u8>> {
+    /// The item, with `room` bytes lent, and some more that must stay as they are, and `lent` words of one.
+    pub fn item(
+        &self,
+        font: &[u8],
+        (kind, number): (u8, u64),
+        room: usize,
+        lent: usize,
+    ) -> Checked<Vec<u8>> {
         const BEYOND: usize = 8;
         let mut out = vec![BYTE; room + BEYOND];
-        let mut length = WORD;
-        // SAFETY: the font and the first `room` bytes of `out` are lent for the call.
+        let mut length = [WORD; ONE];
+        // SAFETY: the font, the first `room` bytes of `out` and `lent` words are lent for the call.
         let refusal = unsafe {
             (self.item)(
                 font.as_ptr(),
@@ -112,26 +112,22 @@ impl Library {
                 number,
                 out.as_mut_ptr(),
                 room,
-                &mut length,
+                length.as_mut_ptr(),
+                lent,
             )
         };
-        // A refused lookup is an empty part: its length may stay or be 0.
-        let given = if refusal == 0 || length == 0 {
-            length
-        } else {
-            0
-        };
-        if refusal != 0 && length != WORD && length != 0 {
-            return Err(format!("refusal {refusal} gave the length {length}"));
+        if refusal != 0 {
+            if out.iter().any(|&b| b != BYTE) {
+                return Err(format!("refusal {refusal} wrote bytes"));
+            }
+            return untouched(refusal, &length);
         }
+        let [given] = length;
         if given > room as u64 {
             return Err(format!("an item of {given} bytes, with {room} lent"));
         }
         if out[given as usize..].iter().any(|&b| b != BYTE) {
             return Err("bytes past the item were written".to_string());
-        }
-        if refusal != 0 {
-            return Ok(Err(refusal));
         }
         out.truncate(given as usize);
         Ok(Ok(out))
@@ -153,33 +149,33 @@ fn untouched<T>(refusal: u8, out: &[u64]) -> Checked<T> {
 #[cfg(feature = "linked")]
 mod linked {
     unsafe extern "C" {
-        pub fn mogdivash_read(
-            font: *const u8,
-            len: usize,
-            glyphs: *mut u64,
-            globals: *mut u64,
-            strings: *mut u64,
-            cid: *mut u64,
-            work: *mut u64,
-        ) -> u8;
-        pub fn mogdivash_find_name(
+        pub fn cff_read(font: *const u8, len: usize, answer: *mut u64, words: usize) -> u8;
+        pub fn cff_find_name(
             font: *const u8,
             len: usize,
             name: *const u8,
             name_len: usize,
-            glyph: *mut u64,
+            answer: *mut u64,
+            words: usize,
         ) -> u8;
-        pub fn mogdivash_find_cid(font: *const u8, len: usize, cid: u16, glyph: *mut u64) -> u8;
-        pub fn mogdivash_item(
+        pub fn cff_find_cid(
+            font: *const u8,
+            len: usize,
+            cid: u16,
+            answer: *mut u64,
+            words: usize,
+        ) -> u8;
+        pub fn cff_item(
             font: *const u8,
             len: usize,
             kind: u8,
             number: u64,
             out: *mut u8,
-            out_len: usize,
-            item_len: *mut u64,
+            room: usize,
+            size: *mut u64,
+            words: usize,
         ) -> u8;
-        pub fn mogdivash_item_refusal(font: *const u8, len: usize, kind: u8, number: u64) -> u8;
+        pub fn cff_item_refusal(font: *const u8, len: usize, kind: u8, number: u64) -> u8;
     }
 }
 
@@ -187,11 +183,11 @@ mod linked {
 #[cfg(feature = "linked")]
 pub fn library() -> Library {
     Library {
-        read: linked::mogdivash_read,
-        find_name: linked::mogdivash_find_name,
-        find_cid: linked::mogdivash_find_cid,
-        item: linked::mogdivash_item,
-        item_refusal: linked::mogdivash_item_refusal,
+        read: linked::cff_read,
+        find_name: linked::cff_find_name,
+        find_cid: linked::cff_find_cid,
+        item: linked::cff_item,
+        item_refusal: linked::cff_item_refusal,
     }
 }
 

@@ -144,7 +144,10 @@ fn cff(seed: u64, count: usize) -> ExitCode {
     for worker in workers {
         tally.merge(worker.join().expect("no thread fails"));
     }
-    println!("seed {seed}, {count} made fonts, {} tables of real fonts\n", tables.len());
+    println!(
+        "seed {seed}, {count} made fonts, {} tables of real fonts\n",
+        tables.len()
+    );
     print!("{}", tally.report(&target().join("compare")));
     if tally.differences() > 0 {
         ExitCode::FAILURE
@@ -155,7 +158,9 @@ fn cff(seed: u64, count: usize) -> ExitCode {
 
 /// One made font, and what model and original say of it.
 fn case(seed: u64, number: usize) -> ExitCode {
-    let case = cases::Made::new(seed).nth(number).expect("cases do not end");
+    let case = cases::Made::new(seed)
+        .nth(number)
+        .expect("cases do not end");
     println!("{}\n{}", case.label(seed), hex(&case.font));
     let reading = model::read(&case.font);
     println!("memory of the original, about: {}", reading.memory);
@@ -176,7 +181,7 @@ fn store(seed: u64, count: usize) -> ExitCode {
     let lines = store::lines(seed, count);
     let text: String = lines.iter().flat_map(|line| [line, "\n"]).collect();
     print!("{text}");
-    for kind in ["r", "n", "c", "i"] {
+    for kind in ["R", "N", "C", "I"] {
         let n = lines.iter().filter(|line| line.starts_with(kind)).count();
         eprintln!("{kind} {n}");
     }
@@ -223,12 +228,15 @@ fn ask(who: &str, file: &str) -> ExitCode {
             };
             format!("{answer}, memory of the original about {}", reading.memory)
         }
-        "library" => format!("{:?}", library::library().read(&font)),
+        "library" => format!("{:?}", library::library().read(&font, library::COUNTS)),
         _ => return usage(),
     };
     let time = start.elapsed();
     let status = fs::read_to_string("/proc/self/status").unwrap_or_default();
-    let peak = status.lines().find(|line| line.starts_with("VmHWM")).unwrap_or("");
+    let peak = status
+        .lines()
+        .find(|line| line.starts_with("VmHWM"))
+        .unwrap_or("");
     println!("{} bytes: {answer}\n{time:?} {peak}", font.len());
     ExitCode::SUCCESS
 }

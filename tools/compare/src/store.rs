@@ -110,7 +110,7 @@ fn lines_of(bytes: &[u8], g: &mut Generator) -> Vec<String> {
     let reading = model::read(bytes);
     let font = reading.font.as_ref().map_err(|r| r.number);
     checked(bytes, font);
-    let mut lines = vec![format!("r {} {}", hex(bytes), hex(&read_answer(font)))];
+    let mut lines = vec![line('R', bytes, &[], &read_answer(font))];
     let mut names = Vec::new();
     let mut cids = Vec::new();
     let mut items = Vec::new();
@@ -218,14 +218,21 @@ fn found(answer: Result<Option<u16>, u8>) -> Vec<u8> {
     }
 }
 
+/// A case: its kind, its input and its answer. The input is the font's length, the font, and what is asked of it.
+fn line(kind: char, font: &[u8], asked: &[u8], answer: &[u8]) -> String {
+    let length = u16::try_from(font.len()).expect("a short font");
+    let input = [&length.to_be_bytes(), font, asked].concat();
+    format!("{kind} {} {}", hex(&input), hex(answer))
+}
+
 fn name_line(bytes: &[u8], font: Result<&Font, u8>, name: &[u8]) -> String {
     let answer = found(font.map(|f| f.find_name(bytes, name)));
-    format!("n {} {} {}", hex(bytes), hex(name), hex(&answer))
+    line('N', bytes, name, &answer)
 }
 
 fn cid_line(bytes: &[u8], font: Result<&Font, u8>, cid: u16) -> String {
     let answer = found(font.map(|f| f.find_cid(cid)));
-    format!("c {} {cid:04x} {}", hex(bytes), hex(&answer))
+    line('C', bytes, &cid.to_be_bytes(), &answer)
 }
 
 fn item_line(bytes: &[u8], font: Result<&Font, u8>, (kind, number): (u8, u64)) -> String {
@@ -233,5 +240,7 @@ fn item_line(bytes: &[u8], font: Result<&Font, u8>, (kind, number): (u8, u64)) -
         Err(refusal) => vec![refusal],
         Ok(span) => [&[0], &bytes[span]].concat(),
     };
-    format!("i {} {kind:02x} {number:08x} {}", hex(bytes), hex(&answer))
+    let number = u32::try_from(number).expect("a number of four bytes");
+    let asked = [&[kind][..], &number.to_be_bytes()].concat();
+    line('I', bytes, &asked, &answer)
 }

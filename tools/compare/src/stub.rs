@@ -3,7 +3,7 @@
 
 use crate::cff::CffProgram;
 use crate::compare::MEMORY;
-use crate::library::{ABSENT, Library};
+use crate::library::{ABSENT, Library, NO_ROOM};
 use crate::{model, original};
 use std::cell::RefCell;
 use std::rc::Rc;
@@ -65,15 +65,22 @@ fn parse_anew(bytes: &[u8]) -> Result<Font, u8> {
     }
 }
 
-unsafe extern "C" fn read(
-    font: *const u8,
-    len: usize,
-    glyphs: *mut u64,
-    globals: *mut u64,
-    strings: *mut u64,
-    cid: *mut u64,
-    work: *mut u64,
-) -> u8 {
+/// Writes an answer to the lent words: refusal 11 where they are too few.
+///
+/// # Safety
+/// The `words` words at `answer` are lent.
+unsafe fn answered(counts: &[u64], answer: *mut u64, words: usize) -> u8 {
+    if words < counts.len() {
+        return NO_ROOM;
+    }
+    for (k, &count) in counts.iter().enumerate() {
+        // SAFETY: the caller's.
+        unsafe { *answer.add(k) = count };
+    }
+    0
+}
+
+unsafe extern "C" fn read(font: *const u8, len: usize, answer: *mut u64, words: usize) -> u8 {
     // SAFETY: the caller's, here and below.
     let parsed = match parse(unsafe { lent(font, len) }) {
         Err(refusal) => return refusal,
@@ -99,13 +106,7 @@ unsafe extern "C" fn read(
             ]
         }
     };
-    for (out, count) in [glyphs, globals, strings, cid, work]
-        .into_iter()
-        .zip(counts)
-    {
-        unsafe { *out = count };
-    }
-    0
+    unsafe { answered(&counts, answer, words) }
 }
 
 unsafe extern "C" fn find_name(
@@ -113,7 +114,8 @@ unsafe extern "C" fn find_name(
     len: usize,
     name: *const u8,
     name_len: usize,
-    glyph: *mut u64,
+    answer: *mut u64,
+    words: usize,
 ) -> u8 {
     // SAFETY: the caller's, here and below.
     let (bytes, name) = unsafe { (lent(font, len), lent(name, name_len)) };
@@ -122,24 +124,29 @@ unsafe extern "C" fn find_name(
         Ok(Font::Model(f)) => f.find_name(bytes, name),
         Ok(Font::Original(p)) => p.gid(name),
     };
-    unsafe { *glyph = found.map_or(ABSENT, u64::from) };
-    0
+    unsafe { answered(&[found.map_or(ABSENT, u64::from)], answer, words) }
 }
 
-unsafe extern "C" fn find_cid(font: *const u8, len: usize, cid: u16, glyph: *mut u64) -> u8 {
+unsafe extern "C" fn find_cid(
+    font: *const u8,
+    len: usize,
+    cid: u16,
+    answer: *mut u64,
+    words: usize,
+) -> u8 {
     // SAFETY: the caller's, here and below.
     let found = match parse(unsafe { lent(font, len) }).as_deref() {
         Err(&refusal) => return refusal,
         Ok(Font::Model(f)) => f.find_cid(cid),
         Ok(Font::Original(p)) => p.gid_of_cid(cid),
     };
-    unsafe { *glyph = found.map_or(ABSENT, u64::from) };
-    0
+    unsafe { answered(&[found.map_or(ABSENT, u64::from)], answer, words) }
 }
 
 /// The item's bytes, or the refusal.
 fn lookup(bytes: &[u8], kind: u8, number: u64) -> Result<Vec<u8>, u8> {
     match &*parse(bytes)? {
+        _ if kind > 2 => Err(model::NO_SUCH_ITEM),
         Font::Model(f) => Ok(bytes[f.item(bytes, kind, number)?].to_vec()),
         Font::Original(p) => original::item(p, kind, number)
             .map(<[u8]>::to_vec)
@@ -153,19 +160,21 @@ unsafe extern "C" fn item(
     kind: u8,
     number: u64,
     out: *mut u8,
-    out_len: usize,
-    item_len: *mut u64,
+    room: usize,
+    size: *mut u64,
+    words: usize,
 ) -> u8 {
     // SAFETY: the caller's, here and below.
     let bytes = match lookup(unsafe { lent(font, len) }, kind, number) {
         Err(refusal) => return refusal,
         Ok(bytes) => bytes,
     };
-    let out = unsafe { slice::from_raw_parts_mut(out, out_len) };
-    let n = bytes.len().min(out_len);
-    out[..n].copy_from_slice(&bytes[..n]);
-    unsafe { *item_len = bytes.len() as u64 };
-    0
+    if room < bytes.len() || words < 1 {
+        return NO_ROOM;
+    }
+    let out = unsafe { slice::from_raw_parts_mut(out, room) };
+    out[..bytes.len()].copy_from_slice(&bytes);
+    unsafe { answered(&[bytes.len() as u64], size, words) }
 }
 
 unsafe extern "C" fn item_refusal(font: *const u8, len: usize, kind: u8, number: u64) -> u8 {

@@ -36,6 +36,8 @@ pub struct Tally {
     /// Fonts for which the original would take too much memory.
     pub heavy: u64,
     pub panics: u64,
+    /// Calls with too little room, or of a kind of items that there is not.
+    pub roomless: u64,
     /// Reals past the limits at a place that the original comes by, and other cases.
     pub confirmed: u64,
     pub unconfirmed: Vec<String>,
@@ -101,6 +103,7 @@ impl Tally {
         self.later += other.later;
         self.heavy += other.heavy;
         self.panics += other.panics;
+        self.roomless += other.roomless;
         self.confirmed += other.confirmed;
         self.unconfirmed.extend(other.unconfirmed);
         self.different += other.different;
@@ -133,6 +136,11 @@ impl Tally {
             add(&mut all, *counts);
         }
         row(&mut out, "all", &all);
+        let _ = writeln!(
+            out,
+            "and with too little room, or of a kind of items that there is not: {}",
+            self.roomless
+        );
         let _ = writeln!(out, "\nRefusals by the step that gives them");
         for ((number, part, fault), n) in &self.steps {
             let _ = writeln!(out, "{number} {:<54}{n:>9}", format!("{part}: {fault}"));

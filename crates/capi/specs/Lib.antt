@@ -1,0 +1,2 @@
+pub mod Capi
+pub mod CapiLaws

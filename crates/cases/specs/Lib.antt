@@ -1,0 +1,11 @@
+pub mod Answers
+pub mod AnswersLaws
+pub mod Fields
+pub mod FieldsLaws
+pub mod Lines
+pub mod LinesLaws
+pub mod Tally
+pub mod TallyLaws
+pub mod Report
+pub mod ReportLaws
+pub mod Writing

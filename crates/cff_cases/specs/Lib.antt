@@ -1,0 +1,2 @@
+pub mod CffCases
+pub mod CffCasesLaws

@@ -1,0 +1,5 @@
+pub mod Numbers
+pub mod Streams
+pub mod Answers
+pub mod AnswersLaws
+pub mod StreamLaws

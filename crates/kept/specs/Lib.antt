@@ -1,0 +1,8 @@
+pub mod Packed
+pub mod MarkLaws
+pub mod GatherLaws
+pub mod SlotLaws
+pub mod FdsLaws
+pub mod FoundLaws
+pub mod OrderLaws
+pub mod FdsOrderLaws

@@ -1,0 +1,3 @@
+pub mod Privates
+pub mod PrivatesLaws
+pub mod DictsLaws
