@@ -1,13 +1,14 @@
 -- The outcome of a call from its steps: a refusal before the work words are used leaves all as it was, and the cut behind it uses them.
-use Prim.Native.Nat.{ℕ, _+_, _*_, _≤_, _<_}
+use Prim.Native.Nat.{ℕ, zero, suc, _+_, _*_, _≤_, _<_}
 use mathlib.Core.Path.{_≡_, refl, sym, ap, _∙_, subst}
-use mathlib.Core.Bool.{Bool, true, false}
-use mathlib.Core.List.{List, _++_}
+use mathlib.Core.Bool.{Bool, true, false, not}
+use mathlib.Core.List.{List, _∷_, _++_}
 use native.Mathlib.Omega.{arith}
 use borrow.Author.Tests.{lt-ltb, le-ltb, ne-eqb, eq-eqb, ltb-false}
 use Rattle.prune.specs.StepLaws.{zero-one}
 use lib.Dec.{ltb, eqb}
-use lib.ListN.{length, drop}
+use lib.ListN.{length, take, drop, replicate}
+use lib.Seq.{length-take-le}
 use Rattle.octets.specs.Pick.{pick, pick-ind}
 use Rattle.octets.specs.Octets.{Octets}
 use Rattle.record.specs.Record.{rowsOf, recordFine}
@@ -187,49 +188,6 @@ not-refused cid p name keep rec flag words z =
       room = ltb-false words (workSize p) (h .6);
     }
 
--- ---- the refusal, test by test
-
-module _ (cid : Bool) (p : Program) (name : ℕ) (keep rec : List ℕ) (flag words : ℕ) where
-  abbrev numbered : ℕ
-  numbered = refusalOf cid p name keep rec flag words
-
-  pub refusal-keying : sameBool cid (cidKeyed (p .top)) ≡ false → 3 ≡ numbered
-  unfolding refusalOf
-  refusal-keying a = rw a
-
-  module _ (a : sameBool cid (cidKeyed (p .top)) ≡ true) where
-    pub refusal-ros : pick cid (hasRos (rosIn (p .top))) true ≡ false → 2 ≡ numbered
-    unfolding refusalOf
-    refusal-ros b = rw (a, b)
-
-    module _ (b : pick cid (hasRos (rosIn (p .top))) true ≡ true) where
-      pub refusal-name : 65535 < name → 4 ≡ numbered
-      unfolding refusalOf
-      refusal-name h = rw (a, b, lt-ltb 65535 name h)
-
-      module _ (c : name ≤ 65535) where
-        pub refusal-number : allBelow (length (p .charstrings)) keep ≡ false → 6 ≡ numbered
-        unfolding refusalOf
-        refusal-number d = rw (a, b, le-ltb 65535 name c, d)
-
-        module _ (d : allBelow (length (p .charstrings)) keep ≡ true) where
-          pub refusal-found : allFound p (keptOf (length (p .charstrings)) keep) ≡ false → 7 ≡ numbered
-          unfolding refusalOf
-          refusal-found e = rw (a, b, le-ltb 65535 name c, d, e)
-
-          module _ (e : allFound p (keptOf (length (p .charstrings)) keep) ≡ true) where
-            pub refusal-record : recordFine cid rec flag ≡ false → 8 ≡ numbered
-            unfolding refusalOf
-            refusal-record f = rw (a, b, le-ltb 65535 name c, d, e, f)
-
-            pub refusal-work : recordFine cid rec flag ≡ true → words < workSize p → 9 ≡ numbered
-            unfolding refusalOf
-            refusal-work f h = rw (a, b, le-ltb 65535 name c, d, e, f, lt-ltb words (workSize p) h)
-
-            pub refusal-none : recordFine cid rec flag ≡ true → workSize p ≤ words → 0 ≡ numbered
-            unfolding refusalOf
-            refusal-none f h = rw (a, b, le-ltb 65535 name c, d, e, f, le-ltb words (workSize p) h)
-
 -- a font's counts
 module _ (b : List ℕ) (f : Font) (good : GoodFont b f) where
   pub glyphs-are : length (programOf b f .charstrings) ≡ f .charstrings .count
@@ -237,3 +195,132 @@ module _ (b : List ℕ) (f : Font) (good : GoodFont b f) where
 
   pub work-is : 2 * f .charstrings .count + f .globals .count + f .locals ≡ workSize (programOf b f)
   work-is = let e = counts-are b f good in ap (λ (c : Counts). c .work) e
+
+-- ---- the refusal, test by test: what each test of the code answered
+
+was-false : (r : Bool) → not r ≡ true → r ≡ false
+was-false true e = absurd (zero-one cc)
+was-false false e = refl
+
+was-true : (r : Bool) → not r ≡ false → r ≡ true
+was-true true e = refl
+was-true false e = absurd (zero-one cc)
+
+module _ (b : List ℕ) (f : Font) (good : GoodFont b f) (cid : Bool) (name : ℕ) (keep rec : List ℕ) (flag words : ℕ) where
+  abbrev p : Program
+  p = programOf b f
+
+  abbrev numbered : ℕ
+  numbered = refusalOf cid p name keep rec flag words
+
+  module _ (r₁ : Bool) (e₁ : r₁ ≡ sameBool cid (f .cid)) where
+    same : (t : Bool) → r₁ ≡ t → sameBool cid (cidKeyed (p .top)) ≡ t
+    same t h = ap (sameBool cid) (sym (good .cid)) ∙ sym e₁ ∙ h
+
+    pub read-keying : not r₁ ≡ true → 3 ≡ numbered
+    unfolding refusalOf
+    read-keying t = rw (same false (was-false r₁ t))
+
+    module _ (t₁ : not r₁ ≡ false) (r₂ : Bool) (e₂ : r₂ ≡ pick cid (hasRos (rosIn (p .top))) true) where
+      a : sameBool cid (cidKeyed (p .top)) ≡ true
+      a = same true (was-true r₁ t₁)
+
+      pub read-ros : not r₂ ≡ true → 2 ≡ numbered
+      unfolding refusalOf
+      read-ros t = rw (a, sym e₂ ∙ was-false r₂ t)
+
+      module _ (t₂ : not r₂ ≡ false) where
+        c : pick cid (hasRos (rosIn (p .top))) true ≡ true
+        c = sym e₂ ∙ was-true r₂ t₂
+
+        pub read-name : 65535 < name → 4 ≡ numbered
+        unfolding refusalOf
+        read-name h = rw (a, c, lt-ltb 65535 name h)
+
+        module _ (t₃ : name ≤ 65535) (r₄ : Bool) (e₄ : r₄ ≡ allBelow (f .charstrings .count) keep) where
+          below : (t : Bool) → r₄ ≡ t → allBelow (length (p .charstrings)) keep ≡ t
+          below t h = ap (λ (n : ℕ). allBelow n keep) (glyphs-are b f good) ∙ sym e₄ ∙ h
+
+          pub read-number : not r₄ ≡ true → 6 ≡ numbered
+          unfolding refusalOf
+          read-number t = rw (a, c, le-ltb 65535 name t₃, below false (was-false r₄ t))
+
+          -- what finding asks
+          pub read-below : not r₄ ≡ false → allBelow (f .charstrings .count) keep ≡ true
+          read-below t = sym e₄ ∙ was-true r₄ t
+
+          module _ (t₄ : not r₄ ≡ false) (r₅ : Bool) (e₅ : r₅ ≡ allFound p (keptOf (f .charstrings .count) keep)) where
+            d : allBelow (length (p .charstrings)) keep ≡ true
+            d = below true (was-true r₄ t₄)
+
+            found : (t : Bool) → r₅ ≡ t → allFound p (keptOf (length (p .charstrings)) keep) ≡ t
+            found t h = ap (λ (n : ℕ). allFound p (keptOf n keep)) (glyphs-are b f good) ∙ sym e₅ ∙ h
+
+            pub read-found : not r₅ ≡ true → 7 ≡ numbered
+            unfolding refusalOf
+            read-found t = rw (a, c, le-ltb 65535 name t₃, d, found false (was-false r₅ t))
+
+            module _ (t₅ : not r₅ ≡ false) (r₆ : Bool) (e₆ : r₆ ≡ recordFine cid rec flag) where
+              e : allFound p (keptOf (length (p .charstrings)) keep) ≡ true
+              e = found true (was-true r₅ t₅)
+
+              pub read-record : not r₆ ≡ true → 8 ≡ numbered
+              unfolding refusalOf
+              read-record t = rw (a, c, le-ltb 65535 name t₃, d, e, sym e₆ ∙ was-false r₆ t)
+
+              module _ (t₆ : not r₆ ≡ false) (w : ℕ) (e₇ : w ≡ 2 * f .charstrings .count + f .globals .count + f .locals) where
+                g : recordFine cid rec flag ≡ true
+                g = sym e₆ ∙ was-true r₆ t₆
+
+                size : w ≡ workSize p
+                size = e₇ ∙ work-is b f good
+
+                pub read-work : words < w → 9 ≡ numbered
+                unfolding refusalOf
+                read-work h = rw (a, c, le-ltb 65535 name t₃, d, e, g, lt-ltb words (workSize p) (subst (λ (n : ℕ). words < n) size h))
+
+                pub read-passed : w ≤ words → 0 ≡ numbered
+                unfolding refusalOf
+                read-passed h = rw (a, c, le-ltb 65535 name t₃, d, e, g, le-ltb words (workSize p) (subst (λ (n : ℕ). n ≤ words) size h))
+
+-- ---- the entries' code
+
+zeros-are : (n : ℕ) → replicate n 0 ≡ zeros n
+unfolding zeros
+zeros-are zero = refl
+zeros-are (suc n) = ap (λ (l : List ℕ). 0 ∷ l) (zeros-are n)
+
+module _ (cid : Bool) (font : List ℕ) (f : Font) (name keep rec : List ℕ) (flag : ℕ) (work out : List ℕ) (bytes : Octets font) (octets : Octets rec)
+    (good : GoodFont font f) (is : readFont font ≡ got (programOf font f)) (n : ℕ)
+    (number : n ≡ refusalOf cid (programOf font f) (length name) keep rec flag (length work)) where
+  -- refused before the cut
+  pub early-read : 0 < n → Cuts cid font name keep rec flag work out work out (Refused n)
+  early-read h =
+      subst (λ (m : ℕ). Cuts cid font name keep rec flag work out work out (Refused m)) (sym number)
+      (early-cuts cid font name keep rec flag work out bytes octets (programOf font f) is (subst (λ (m : ℕ). 0 < m) number h))
+
+  module _ (l : n ≤ 0) where
+    none : refusalOf cid (programOf font f) (length name) keep rec flag (length work) ≡ 0
+    none = let z : n ≡ 0 = omega arith in sym number ∙ z
+
+    -- what the cut asks
+    pub passed-read : Passed cid (programOf font f) (length name) keep rec flag (length work)
+    passed-read = not-refused cid (programOf font f) (length name) keep rec flag (length work) none
+
+    module _ (w : ℕ) (size : w ≡ 2 * f .charstrings .count + f .globals .count + f .locals) (work' out' : List ℕ) (r : Answer)
+        (k : Cut (cutBehind (programOf font f) name keep rec flag (length out)) (workSize (programOf font f)) work out work' out' r) where
+      wide : w ≡ workSize (programOf font f)
+      wide = size ∙ work-is font f good
+
+      -- the first W words can be cleared
+      pub words-room : w ≤ length work'
+      words-room = let e = k .size in omega (arith, wide, passed-read .room)
+
+      pub words-taken : w ≡ length (take w work')
+      words-taken = sym (length-take-le w work' words-room)
+
+      pub late-read : (cleared : List ℕ) → cleared ≡ replicate (length (take w work')) 0 → Cuts cid font name keep rec flag work out (cleared ++ drop w work') out' r
+      late-read cleared e =
+          late-cuts cid font name keep rec flag work out bytes octets (programOf font f) is work' (cleared ++ drop w work') out' r none k
+          (ap (λ (x : List ℕ). x ++ drop w work') (e ∙ ap (λ (m : ℕ). replicate m 0) (sym words-taken) ∙ zeros-are w)
+          ∙ ap (λ (m : ℕ). zeros m ++ drop m work') wide)

@@ -5,15 +5,15 @@ use Rattle.write.proofs.ros_fine.Reads as reads
 use Rattle.write.proofs.ros_fine.Lts as lts
 use Rattle.write.proofs.has_ros.Reads as has-ros-reads
 
--- src/lib.rt:58:9
+-- src/lib.rt:57:9
 has-ros-requires : tie.Need-has-ros-requires
 has-ros-requires c κs = search needs
 
--- src/lib.rt:58:9
+-- src/lib.rt:57:9
 returns : tie.Need-returns
-returns c = ?
+returns c = rw (c .before .if1 .taken) (c .has-ros .ensures)
 
--- src/lib.rt:54:1
+-- src/lib.rt:53:1
 returns-2 : tie.Need-returns-2
 returns-2 c = search needs
 
