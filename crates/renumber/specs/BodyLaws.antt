@@ -121,6 +121,7 @@ module _ (calls : Calls) (reads : (b : ℕ) (z y : ℤ) → calls b z ≡ become
           let g : encode (sent ++ us) ≡ bs = cc in
           let k : length bs ≡ length (encode sent) + length (encode us) = ap length (sym g) ∙ ap length (encode-append sent us) ∙ length-append (encode sent) (encode us) in
           omega arith
+
       go : (x : Body) → renumberedTokens calls (join (w .read) x) ≡ bytes bs → length (encode sent) ≤ length bs
       go bad f = absurd (zero-one cc)
       go (tokens us) f = more-written (renumber calls (waitingIn h) us) (ap writtenBack (sym (w .carries us)) ∙ f)

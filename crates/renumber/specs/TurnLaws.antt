@@ -130,11 +130,10 @@ module _ (calls : Calls) (reads : (b : ℕ) (z y : ℤ) → calls b z ≡ become
   called-turn b z v r fails f e = absurd (stuck-sends v e)
   called-turn b z v r (becomes y) f e =
       let k = reads b z y f in
-      let g : Number (floatOf y) ≡ v = sends-same (Number (floatOf y)) v e in
-      (
+      let g : Number (floatOf y) ≡ v = sends-same (Number (floatOf y)) v e in (
         ap (λ (x : ℤ). before (num x) (before (op b) r)) (sym (back-reading y k))
-        ∙ kept-own (Number (floatOf y)) (op b) r
-        ∙ ap (λ (x : Held). ahead (heldToks x ++ (op b ∷ [])) r) g,
+            ∙ kept-own (Number (floatOf y)) (op b) r
+            ∙ ap (λ (x : Held). ahead (heldToks x ++ (op b ∷ [])) r) g,
         subst HoldsHeld g (holds y k),
       )
 

@@ -15,21 +15,21 @@ ghost use Rattle.subset.specs.Pruned.{whole, renumberedBody};
 ghost use Rattle.reach.specs.Reach.{siteOf, SiteFits, rises};
 ghost use Rattle.renumber.specs.Ranks.{rankIn, rankAt, numbersIn, callsBy, Ranked};
 ghost use Rattle.renumber.specs.Turn.{HoldsHeld, turnFor, callTurn, turnOf, turnedAt, after, heldBytes, ownBytes, sentBytes, heldLen, ownLen, Inputs, sizedOf, bodyOf, isYes};
-use type2_number::count_of;
-use type2_number::integer;
-use type2_number::number_len;
-use type2_number::put_number;
+use charstring::Cursor;
+use charstring::MaskLen;
+use charstring::Step;
+use charstring::Token;
 use charstring::bias;
 use charstring::more;
 use charstring::next_token;
 use charstring::put_token;
 use charstring::start;
 use charstring::token_len;
-use charstring::Cursor;
-use charstring::MaskLen;
-use charstring::Step;
-use charstring::Token;
 use reach::Site;
+use type2_number::count_of;
+use type2_number::integer;
+use type2_number::number_len;
+use type2_number::put_number;
 
 // Where the ranks of some subroutines stand in the work words, how many subroutines there are, and how many of them are reached.
 pub struct Ranks {
@@ -234,7 +234,17 @@ pub enum Turned {
     },
 }
 
-fn turn_at(code: &[u8], words: &[u32], locals: Ranks, globals: Ranks, rows: &[u8], rising: bool, site: Site, c: Cursor, h: Held) -> Turned
+fn turn_at(
+    code: &[u8],
+    words: &[u32],
+    locals: Ranks,
+    globals: Ranks,
+    rows: &[u8],
+    rising: bool,
+    site: Site,
+    c: Cursor,
+    h: Held,
+) -> Turned
     requires { ⌜ (Inputs (now code) (now words) locals globals (rowsOf (now rows)) rising site)
         × (Within (now code) c) × (more (now code) c ≡ true) × (HoldsHeld h) ⌝ }
     ensures { λ r. ⌜ r ≡ turnedAt (callsBy (now (words .entry)) locals globals) h
@@ -261,7 +271,15 @@ pub enum Sized {
 }
 
 // The same without regard to two lengths at one offset.
-fn body_len(code: &[u8], words: &[u32], locals: Ranks, globals: Ranks, rows: &[u8], rising: bool, site: Site) -> Sized
+fn body_len(
+    code: &[u8],
+    words: &[u32],
+    locals: Ranks,
+    globals: Ranks,
+    rows: &[u8],
+    rising: bool,
+    site: Site,
+) -> Sized
     requires { ⌜ Inputs (now code) (now words) locals globals (rowsOf (now rows)) rising site ⌝ }
     ensures { λ r. ⌜ r ≡ sizedOf (whole (renumberCharstring (callsBy (now (words .entry)) locals globals)
         (givenIn (rowsOf (now (rows .entry))) (siteOf site)) (now (code .entry)))) ⌝ }
@@ -289,7 +307,15 @@ fn body_len(code: &[u8], words: &[u32], locals: Ranks, globals: Ranks, rows: &[u
 }
 
 // The length of a body renumbered, or that this fails: two lengths at one offset fail too.
-pub fn renumbered_len(code: &[u8], words: &[u32], locals: Ranks, globals: Ranks, rows: &[u8], rising: bool, site: Site) -> Sized
+pub fn renumbered_len(
+    code: &[u8],
+    words: &[u32],
+    locals: Ranks,
+    globals: Ranks,
+    rows: &[u8],
+    rising: bool,
+    site: Site,
+) -> Sized
     requires { ⌜ Inputs (now code) (now words) locals globals (rowsOf (now rows)) rising site ⌝ }
     ensures { λ r. ⌜ r ≡ sizedOf (renumberedBody (rowsOf (now (rows .entry))) (callsBy (now (words .entry)) locals globals)
         (siteOf site) (now (code .entry))) ⌝ }
@@ -301,7 +327,17 @@ pub fn renumbered_len(code: &[u8], words: &[u32], locals: Ranks, globals: Ranks,
 }
 
 // A body renumbered, from `at` on; the place after it.
-pub fn put_renumbered(code: &[u8], words: &[u32], locals: Ranks, globals: Ranks, rows: &[u8], rising: bool, site: Site, out: &mut [u8], at: usize) -> usize
+pub fn put_renumbered(
+    code: &[u8],
+    words: &[u32],
+    locals: Ranks,
+    globals: Ranks,
+    rows: &[u8],
+    rising: bool,
+    site: Site,
+    out: &mut [u8],
+    at: usize,
+) -> usize
     requires { ⌜ (Inputs (now code) (now words) locals globals (rowsOf (now rows)) rising site)
         × (isYes (renumberedBody (rowsOf (now rows)) (callsBy (now words) locals globals) (siteOf site) (now code)) ≡ true)
         × (at + length (bodyOf (renumberedBody (rowsOf (now rows)) (callsBy (now words) locals globals) (siteOf site) (now code))) ≤ length (now out)) ⌝ }

@@ -4,6 +4,7 @@ use Rattle.renumber.specs.Turn.{after}
 use borrow.Author.Needs.{needs}
 use Rattle.renumber.proofs.after.Statement.{statement}
 use Rattle.renumber.proofs.after.Tie as tie
+
 enum-known-t : tie.Need-enum-known-t
 enum-known-t c = search needs
 

@@ -17,6 +17,7 @@ use Rattle.renumber.specs.BodyLaws.{Sizing, own-small, turning-next, tur
 use borrow.Author.Needs.{needs}
 use Rattle.renumber.proofs.body_len.Statement.{statement}
 use Rattle.renumber.proofs.body_len.Tie as tie
+
 abbrev Inv-loop : tie.InvT-loop
 Inv-loop code words locals globals rows rising site c₀ h₀ len₀ c h len = Sizing (callsBy words locals globals) (givenIn (rowsOf rows) (siteOf site)) code c h len
 

@@ -3,6 +3,7 @@ use Rattle.renumber.specs.CodeLaws.{held-as, call-held}
 use borrow.Author.Needs.{needs}
 use Rattle.renumber.proofs.call.Statement.{statement}
 use Rattle.renumber.proofs.call.Tie as tie
+
 enum-told : tie.Need-enum-told
 enum-told c = search needs
 

@@ -5,6 +5,7 @@ use Rattle.renumber.specs.CodeLaws.{held-as}
 use borrow.Author.Needs.{needs}
 use Rattle.renumber.proofs.held_len.Statement.{statement}
 use Rattle.renumber.proofs.held_len.Tie as tie
+
 enum-told : tie.Need-enum-told
 enum-told c = search needs
 

@@ -4,6 +4,7 @@ use Rattle.renumber.specs.OperandLaws.{bias-few, rank-small, operand-stu
 use borrow.Author.Needs.{needs}
 use Rattle.renumber.proofs.new_operand.Statement.{statement}
 use Rattle.renumber.proofs.new_operand.Tie as tie
+
 rank-at-requires : tie.Need-rank-at-requires
 rank-at-requires c κs = search needs
 

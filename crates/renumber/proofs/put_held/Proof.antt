@@ -3,6 +3,7 @@ use Rattle.renumber.specs.CodeLaws.{held-as, held-room, wrote-held, wrot
 use borrow.Author.Needs.{needs}
 use Rattle.renumber.proofs.put_held.Statement.{statement}
 use Rattle.renumber.proofs.put_held.Tie as tie
+
 enum-told : tie.Need-enum-told
 enum-told c = search needs
 

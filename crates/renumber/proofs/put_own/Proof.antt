@@ -6,6 +6,7 @@ use Rattle.renumber.specs.CodeLaws.{own-room, wrote-own, wrote-number}
 use borrow.Author.Needs.{needs}
 use Rattle.renumber.proofs.put_own.Statement.{statement}
 use Rattle.renumber.proofs.put_own.Tie as tie
+
 enum-told : tie.Need-enum-told
 enum-told c = search needs
 

@@ -18,6 +18,7 @@ use Rattle.renumber.specs.BodyLaws.{Putting, turning-next, turning-held,
 use borrow.Author.Needs.{needs}
 use Rattle.renumber.proofs.put_renumbered.Statement.{statement}
 use Rattle.renumber.proofs.put_renumbered.Tie as tie
+
 abbrev Inv-loop : tie.InvT-loop
 Inv-loop code words locals globals rows rising site out₀ at c₀ h₀ p₀ out c h p = Putting (callsBy words locals globals) (givenIn (rowsOf rows) (siteOf site)) code out₀ at c h out p × (length out ≡ length out₀)
 

@@ -4,6 +4,7 @@ use Rattle.renumber.specs.CodeLaws.{front-room, back-room, wrote-both}
 use borrow.Author.Needs.{needs}
 use Rattle.renumber.proofs.put_sent.Statement.{statement}
 use Rattle.renumber.proofs.put_sent.Tie as tie
+
 put-held-requires : tie.Need-put-held-requires
 put-held-requires c κs = (c .before .before .before .pre .0, front-room (c .before .before .before .args .out .now) (heldBytes (c .before .before .before .args .h)) (ownBytes (c .before .before .before .args .code .now) (c .before .before .before .args .t)) _ (c .before .before .before .pre .2))
 

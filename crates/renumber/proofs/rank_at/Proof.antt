@@ -4,6 +4,7 @@ use Rattle.renumber.specs.OperandLaws.{bias-few, rank-fraction, rank-bef
 use borrow.Author.Needs.{needs}
 use Rattle.renumber.proofs.rank_at.Statement.{statement}
 use Rattle.renumber.proofs.rank_at.Tie as tie
+
 count-of-requires : tie.Need-count-of-requires
 count-of-requires c κs = search needs
 

@@ -3,6 +3,7 @@ use borrow.Author.Tests.{lt-ltb, le-ltb}
 use borrow.Author.Needs.{needs}
 use Rattle.renumber.proofs.rank_in.Statement.{statement}
 use Rattle.renumber.proofs.rank_in.Tie as tie
+
 returns : tie.Need-returns
 returns c = simp (le-ltb _ _ (c .if1 .taken))
 

@@ -4,6 +4,7 @@ use Rattle.renumber.specs.BodyLaws.{held-few}
 use borrow.Author.Needs.{needs}
 use Rattle.renumber.proofs.sent_len.Statement.{statement}
 use Rattle.renumber.proofs.sent_len.Tie as tie
+
 held-len-requires : tie.Need-held-len-requires
 held-len-requires c κs = search needs
 

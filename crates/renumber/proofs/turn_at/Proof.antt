@@ -3,6 +3,7 @@ use Rattle.renumber.specs.CodeLaws.{turned-lost, turned-stuck, turned-se
 use borrow.Author.Needs.{needs}
 use Rattle.renumber.proofs.turn_at.Statement.{statement}
 use Rattle.renumber.proofs.turn_at.Tie as tie
+
 given-at-requires : tie.Need-given-at-requires
 given-at-requires c κs = search needs
 

@@ -3,6 +3,7 @@ use Rattle.renumber.specs.CodeLaws.{turn-local, turn-global, turn-other,
 use borrow.Author.Needs.{needs}
 use Rattle.renumber.proofs.turn_of.Statement.{statement}
 use Rattle.renumber.proofs.turn_of.Tie as tie
+
 enum-known-t : tie.Need-enum-known-t
 enum-known-t c = search needs
 
