@@ -28,9 +28,9 @@ use Rattle.prune.specs.Renumber.{Operand, becomes, Calls, isCall, Renumbered, f
 use Rattle.subset.specs.Pruned.{fail, whole, renumberedBody}
 use Rattle.renumber.specs.Turn.{waitingIn, HoldsHeld, callTurn, turnOf, after, turnedAt, heldBytes, sentBytes, heldLen, ownLen, sizedOf, bodyOf, isYes}
 use Rattle.renumber.specs.TurnLaws.{ahead, ahead-none, ahead-ahead, heldToks, sentToks, sent-bytes, held-bytes, held-length, sent-length, stuck-sends, sends-same, turn-sends, turn-stuck, Onward, onward-of, failed-of}
-use Rattle.renumber.specs.declared.Held.{Held}
-use Rattle.renumber.specs.declared.Held.the-variants.{Nothing, Number}
-use Rattle.renumber.specs.declared.Turn.the-variants.{Stuck, Sends}
+use Rattle.renumber.specs.declared.turns.Held.{Held}
+use Rattle.renumber.specs.declared.turns.Held.the-variants.{Nothing, Number}
+use Rattle.renumber.specs.declared.turns.Turn.the-variants.{Stuck, Sends}
 use Rattle.renumber.specs.declared.Turned.{Turned}
 use Rattle.renumber.specs.declared.Turned.the-variants.{Failed as FailedAt, On}
 use Rattle.renumber.specs.declared.Sized.the-variants.{Failed, Len}

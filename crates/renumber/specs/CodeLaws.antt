@@ -25,10 +25,10 @@ use Rattle.prune.specs.Renumber.{Operand, Calls, operandOf}
 use Rattle.renumber.specs.Ranks.{numbersIn, callsBy}
 use Rattle.renumber.specs.Turn.{HoldsHeld, turnFor, callTurn, turnOf, turnedBy, turnedAt, heldBytes, ownBytes}
 use Rattle.renumber.specs.declared.Ranks.{Ranks}
-use Rattle.renumber.specs.declared.Held.{Held}
-use Rattle.renumber.specs.declared.Held.the-variants.{Nothing, Number}
-use Rattle.renumber.specs.declared.Turn.{Turn}
-use Rattle.renumber.specs.declared.Turn.the-variants.{Stuck, Sends}
+use Rattle.renumber.specs.declared.turns.Held.{Held}
+use Rattle.renumber.specs.declared.turns.Held.the-variants.{Nothing, Number}
+use Rattle.renumber.specs.declared.turns.Turn.{Turn}
+use Rattle.renumber.specs.declared.turns.Turn.the-variants.{Stuck, Sends}
 use Rattle.renumber.specs.declared.Turned.{Turned}
 use Rattle.renumber.specs.declared.Turned.the-variants.{Failed as FailedAt, On}
 

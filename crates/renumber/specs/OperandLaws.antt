@@ -19,9 +19,9 @@ use Rattle.prune.specs.OperandLaws.{operand-reading}
 use Rattle.renumber.specs.Ranks.{rankIn, rankAt, newIn, numbersIn, callsBy, Ranked}
 use Rattle.renumber.specs.Turn.{turnFor}
 use Rattle.renumber.specs.declared.Ranks.{Ranks}
-use Rattle.renumber.specs.declared.Held.the-variants.{Number}
-use Rattle.renumber.specs.declared.Turn.{Turn}
-use Rattle.renumber.specs.declared.Turn.the-variants.{Stuck, Sends}
+use Rattle.renumber.specs.declared.turns.Held.the-variants.{Number}
+use Rattle.renumber.specs.declared.turns.Turn.{Turn}
+use Rattle.renumber.specs.declared.turns.Turn.the-variants.{Stuck, Sends}
 
 bias-small : (count : ℕ) → biasOf count ≤ 32768
 bias-small count =

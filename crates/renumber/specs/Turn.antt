@@ -21,10 +21,10 @@ use Rattle.reach.specs.declared.Site.{Site}
 use Rattle.reach.specs.Reach.{SiteFits, rises}
 use Rattle.renumber.specs.Ranks.{Ranked}
 use Rattle.renumber.specs.declared.Ranks.{Ranks}
-use Rattle.renumber.specs.declared.Held.{Held}
-use Rattle.renumber.specs.declared.Held.the-variants.{Nothing, Number}
-use Rattle.renumber.specs.declared.Turn.{Turn}
-use Rattle.renumber.specs.declared.Turn.the-variants.{Stuck, Sends}
+use Rattle.renumber.specs.declared.turns.Held.{Held}
+use Rattle.renumber.specs.declared.turns.Held.the-variants.{Nothing, Number}
+use Rattle.renumber.specs.declared.turns.Turn.{Turn}
+use Rattle.renumber.specs.declared.turns.Turn.the-variants.{Stuck, Sends}
 use Rattle.renumber.specs.declared.Turned.{Turned}
 use Rattle.renumber.specs.declared.Turned.the-variants.{Failed as FailedAt, On}
 use Rattle.renumber.specs.declared.Sized.{Sized}

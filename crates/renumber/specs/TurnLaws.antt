@@ -28,10 +28,10 @@ use Rattle.charstring.specs.EncodeLaws.{encode-append, Walk, walk-start, walk-n
 use Rattle.prune.specs.StepLaws.{zero-one}
 use Rattle.prune.specs.Renumber.{Operand, fails, becomes, Calls, isCall, Renumbered, failed, done, before, called, calledAfter, Waiting, nobody, waits, kept, renumber, Bytes, bytes, writtenBack, renumberedTokens, renumberCharstring}
 use Rattle.renumber.specs.Turn.{waitingIn, HoldsHeld, turnFor, callTurn, turnOf, after, turnedBy, turnedAt, heldBytes, ownBytes, sentBytes, heldLen, ownLen}
-use Rattle.renumber.specs.declared.Held.{Held}
-use Rattle.renumber.specs.declared.Held.the-variants.{Nothing, Number}
-use Rattle.renumber.specs.declared.Turn.{Turn}
-use Rattle.renumber.specs.declared.Turn.the-variants.{Stuck, Sends}
+use Rattle.renumber.specs.declared.turns.Held.{Held}
+use Rattle.renumber.specs.declared.turns.Held.the-variants.{Nothing, Number}
+use Rattle.renumber.specs.declared.turns.Turn.{Turn}
+use Rattle.renumber.specs.declared.turns.Turn.the-variants.{Stuck, Sends}
 use Rattle.renumber.specs.declared.Turned.{Turned}
 use Rattle.renumber.specs.declared.Turned.the-variants.{Failed as FailedAt, On}
 

@@ -1,8 +1,8 @@
--- `renumber::rank_in` meets its contract: the test of the definition.
+-- `renumber::turns::rank_in` meets its contract: the test of the definition.
 use borrow.Author.Tests.{lt-ltb, le-ltb}
 use borrow.Author.Needs.{needs}
-use Rattle.renumber.proofs.rank_in.Statement.{statement}
-use Rattle.renumber.proofs.rank_in.Tie as tie
+use Rattle.renumber.proofs.turns.rank_in.Statement.{statement}
+use Rattle.renumber.proofs.turns.rank_in.Tie as tie
 
 returns : tie.Need-returns
 returns c = simp (le-ltb _ _ (c .if1 .taken))

@@ -1,9 +1,9 @@
--- `renumber::after` meets its contract: the cases of the definition.
+-- `renumber::turns::after` meets its contract: the cases of the definition.
 use mathlib.Core.Path.{_≡_, refl, sym, ap, _∙_}
 use Rattle.renumber.specs.Turn.{after}
 use borrow.Author.Needs.{needs}
-use Rattle.renumber.proofs.after.Statement.{statement}
-use Rattle.renumber.proofs.after.Tie as tie
+use Rattle.renumber.proofs.turns.after.Statement.{statement}
+use Rattle.renumber.proofs.turns.after.Tie as tie
 
 enum-known-t : tie.Need-enum-known-t
 enum-known-t c = search needs

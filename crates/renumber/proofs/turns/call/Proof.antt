@@ -1,8 +1,8 @@
--- `renumber::call` meets its contract: a call takes the number that is held.
+-- `renumber::turns::call` meets its contract: a call takes the number that is held.
 use Rattle.renumber.specs.CodeLaws.{held-as, call-held}
 use borrow.Author.Needs.{needs}
-use Rattle.renumber.proofs.call.Statement.{statement}
-use Rattle.renumber.proofs.call.Tie as tie
+use Rattle.renumber.proofs.turns.call.Statement.{statement}
+use Rattle.renumber.proofs.turns.call.Tie as tie
 
 enum-told : tie.Need-enum-told
 enum-told c = search needs

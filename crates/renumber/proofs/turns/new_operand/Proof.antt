@@ -1,9 +1,9 @@
--- `renumber::new_operand` meets its contract: the new number is the rank less 1.
+-- `renumber::turns::new_operand` meets its contract: the new number is the rank less 1.
 use native.Mathlib.Omega.{arith}
 use Rattle.renumber.specs.OperandLaws.{bias-few, rank-small, operand-stuck, operand-sends}
 use borrow.Author.Needs.{needs}
-use Rattle.renumber.proofs.new_operand.Statement.{statement}
-use Rattle.renumber.proofs.new_operand.Tie as tie
+use Rattle.renumber.proofs.turns.new_operand.Statement.{statement}
+use Rattle.renumber.proofs.turns.new_operand.Tie as tie
 
 rank-at-requires : tie.Need-rank-at-requires
 rank-at-requires c κs = search needs

@@ -1,9 +1,9 @@
--- `renumber::rank_at` meets its contract: the tests of `oldOf`, with the sign and the size of the count.
+-- `renumber::turns::rank_at` meets its contract: the tests of `oldOf`, with the sign and the size of the count.
 use native.Mathlib.Omega.{arith}
 use Rattle.renumber.specs.OperandLaws.{bias-few, rank-fraction, rank-before, rank-down, rank-up}
 use borrow.Author.Needs.{needs}
-use Rattle.renumber.proofs.rank_at.Statement.{statement}
-use Rattle.renumber.proofs.rank_at.Tie as tie
+use Rattle.renumber.proofs.turns.rank_at.Statement.{statement}
+use Rattle.renumber.proofs.turns.rank_at.Tie as tie
 
 count-of-requires : tie.Need-count-of-requires
 count-of-requires c κs = search needs

@@ -1,8 +1,8 @@
--- `renumber::turn_of` meets its contract: the cases of `turnOf`.
+-- `renumber::turns::turn_of` meets its contract: the cases of `turnOf`.
 use Rattle.renumber.specs.CodeLaws.{turn-local, turn-global, turn-other, turn-num, turn-esc, turn-mask}
 use borrow.Author.Needs.{needs}
-use Rattle.renumber.proofs.turn_of.Statement.{statement}
-use Rattle.renumber.proofs.turn_of.Tie as tie
+use Rattle.renumber.proofs.turns.turn_of.Statement.{statement}
+use Rattle.renumber.proofs.turns.turn_of.Tie as tie
 
 enum-known-t : tie.Need-enum-known-t
 enum-known-t c = search needs
