@@ -1,5 +1,5 @@
 -- A body renumbered by a walk over its tokens: the tokens read, those written, and the number that is held.
-use Prim.Native.Nat.{ℕ, zero, suc, _+_, _-_, _*_, _≤_, _<_}
+use Prim.Native.Nat.{ℕ, _+_, _-_, _*_, _≤_}
 use mathlib.Core.Path.{_≡_, refl, sym, ap, _∙_, subst}
 use mathlib.Core.Bool.{Bool, true, false, false≢true}
 use mathlib.Core.List.{List, [], _∷_, _++_, append-assoc, append-nil}
@@ -24,7 +24,7 @@ use Rattle.charstring.specs.EncodeLaws.{encode-append, Walk, walk-start, walk-n
 use Rattle.unfold.specs.Unfold.{Row, Site}
 use Rattle.record.specs.Record.{givenIn, twoLengths}
 use Rattle.prune.specs.StepLaws.{zero-one}
-use Rattle.prune.specs.Renumber.{Operand, becomes, Calls, isCall, Renumbered, failed, done, nobody, renumber, Bytes, bytes, writtenBack, renumberedTokens, renumberCharstring}
+use Rattle.prune.specs.Renumber.{becomes, Calls, isCall, Renumbered, failed, done, nobody, renumber, Bytes, bytes, writtenBack, renumberedTokens, renumberCharstring}
 use Rattle.subset.specs.Pruned.{fail, whole, renumberedBody}
 use Rattle.renumber.specs.Turn.{waitingIn, HoldsHeld, callTurn, turnOf, after, turnedAt, heldBytes, sentBytes, heldLen, ownLen, sizedOf, bodyOf, isYes}
 use Rattle.renumber.specs.TurnLaws.{ahead, ahead-none, ahead-ahead, heldToks, sentToks, sent-bytes, held-bytes, held-length, sent-length, stuck-sends, sends-same, turn-sends, turn-stuck, Onward, onward-of, failed-of}

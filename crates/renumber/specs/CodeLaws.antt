@@ -1,16 +1,14 @@
 -- Laws of one token, by the cases in which the code takes it, and of the bytes written at one.
 use Prim.Native.Nat.{ℕ, _+_, _≤_}
 use mathlib.Core.Path.{_≡_, refl, sym, ap, _∙_, subst}
-use mathlib.Core.Bool.{true, false}
 use mathlib.Core.List.{List, _++_}
 use native.Mathlib.Omega.{arith}
-use lib.Dec.{eqb}
 use lib.IntN.{ℤ}
 use lib.Ieee.{Float}
 use lib.ListN.{length, length-append}
 use borrow.Author.Tests.{ne-eqb}
 use Rattle.octets.specs.Octets.{Wrote}
-use Rattle.octets.specs.PutLaws.{wrote-none, wrote-then, wrote-as, wrote-length}
+use Rattle.octets.specs.PutLaws.{wrote-none, wrote-then, wrote-length}
 use Rattle.type2_number.specs.Floats.{scaledOf}
 use Rattle.charstring.specs.Bias.{biasOf}
 use Rattle.charstring.specs.declared.MaskLen.{MaskLen}
@@ -29,7 +27,6 @@ use Rattle.renumber.specs.declared.turns.Held.{Held}
 use Rattle.renumber.specs.declared.turns.Held.the-variants.{Nothing, Number}
 use Rattle.renumber.specs.declared.turns.Turn.{Turn}
 use Rattle.renumber.specs.declared.turns.Turn.the-variants.{Stuck, Sends}
-use Rattle.renumber.specs.declared.Turned.{Turned}
 use Rattle.renumber.specs.declared.Turned.the-variants.{Failed as FailedAt, On}
 
 -- ---- the number that is held, by its constructor

@@ -1,21 +1,19 @@
 -- What ranking leaves in the work words: the ranks of the subroutines that a record has, where it has no other number.
-use Prim.Native.Nat.{ℕ, zero, suc, _+_, _-_, _≤_, _<_}
-use mathlib.Core.Path.{_≡_, refl, sym, ap, _∙_, subst}
+use Prim.Native.Nat.{ℕ, _+_, _-_, _≤_, _<_}
+use mathlib.Core.Path.{_≡_, sym, ap, _∙_, subst}
 use mathlib.Core.Bool.{Bool, true, false}
-use mathlib.Core.List.{List, [], _∷_, _++_}
+use mathlib.Core.List.{List, _++_}
 use native.Mathlib.Omega.{arith}
-use lib.Dec.{eqb}
 use lib.ListN.{length, take, drop}
 use lib.Seq.{length-take-le, take-at, drop-at}
 use borrow.Author.Tests.{eqb-true}
 use Rattle.octets.specs.Octets.{Octets, put}
 use Rattle.octets.specs.PutLaws.{put-length}
-use Rattle.unfold.specs.Unfold.{Row}
 use Rattle.record.specs.Record.{rowsOf}
 use Rattle.subset.specs.Pruned.{countBelow, reached, localSet, globalSet}
 use Rattle.reach.specs.Reach.{ranksOf, rankedOf}
 use Rattle.reach.specs.Ranks.{reachedIn, pastOf}
-use Rattle.reach.specs.RowLaws.{AllFit, all-fit}
+use Rattle.reach.specs.RowLaws.{all-fit}
 use Rattle.reach.specs.CountLaws.{by-number, length-ranks, none-past, some-past}
 use Rattle.reach.specs.declared.ranks.Ranked as code
 use Rattle.renumber.specs.RanksLaws.{HoldsRanks}

@@ -4,14 +4,14 @@ use mathlib.Core.Path.{_≡_, refl, sym, ap, _∙_, subst}
 use mathlib.Core.Bool.{Bool, true, false, true≢false, false≢true}
 use mathlib.Core.List.{List}
 use native.Mathlib.Omega.{arith}
-use lib.Dec.{ltb, leb, eqb}
+use lib.Dec.{ltb, eqb}
 use lib.IntN.{ℤ, pos, negsuc}
 use lib.Ieee.{Float}
 use lib.ListN.{getD}
 use borrow.Author.Tests.{ltb-true, eq-eqb, ne-eqb, le-leb, lt-leb}
 use Rattle.octets.specs.Pick.{pick, pick-ind}
 use Rattle.type2_number.specs.Number.{isNeg, mag, whole, rounded, Reading}
-use Rattle.type2_number.specs.Floats.{floatOf, scaledOf}
+use Rattle.type2_number.specs.Floats.{floatOf}
 use Rattle.charstring.specs.Bias.{biasOf}
 use Rattle.prune.specs.StepLaws.{zero-one}
 use Rattle.prune.specs.Renumber.{New, none, new, Old, nothing, old, oldOf, newOf, operandFor, operandOf, becomes}
@@ -20,7 +20,6 @@ use Rattle.renumber.specs.Ranks.{rankIn, rankAt, newIn, numbersIn, calls
 use Rattle.renumber.specs.Turn.{turnFor}
 use Rattle.renumber.specs.declared.Ranks.{Ranks}
 use Rattle.renumber.specs.declared.turns.Held.the-variants.{Number}
-use Rattle.renumber.specs.declared.turns.Turn.{Turn}
 use Rattle.renumber.specs.declared.turns.Turn.the-variants.{Stuck, Sends}
 
 bias-small : (count : ℕ) → biasOf count ≤ 32768

@@ -1,7 +1,7 @@
 -- The ranks in the work words are those of crates/subset: renumbering by the words is renumbering by the record.
 use Prim.Native.Nat.{ℕ, zero, suc, _+_, _-_, _≤_, _<_}
 use mathlib.Core.Path.{_≡_, refl, sym, ap, _∙_, subst}
-use mathlib.Core.Bool.{Bool, true, false, false≢true}
+use mathlib.Core.Bool.{Bool, true, false}
 use mathlib.Core.List.{List, [], _∷_}
 use native.Mathlib.Nat.{le-refl}
 use native.Mathlib.Decide.{decLe}
@@ -10,14 +10,14 @@ use lib.Dec.{ltb, eqb}
 use lib.IntN.{ℤ}
 use lib.ListN.{length, take, drop, getD}
 use lib.Seq.{getD-take, getD-drop}
-use borrow.Author.Tests.{ltb-true, ltb-false, lt-ltb, le-ltb}
+use borrow.Author.Tests.{ltb-true, ltb-false, le-ltb}
 use Rattle.octets.specs.Pick.{pick, pick-ind}
 use Rattle.charstring.specs.declared.MaskLen.{MaskLen}
 use Rattle.charstring.specs.Token.{Tok, num, op, esc, mask, Body, bad, tokens, tokensOf}
 use Rattle.charstring.specs.Bias.{biasOf}
 use Rattle.unfold.specs.Unfold.{Row, Site}
 use Rattle.record.specs.Record.{givenIn, twoLengths}
-use Rattle.prune.specs.Renumber.{New, none, new, Old, nothing, old, oldOf, newOf, operandFor, operandOf, Operand, fails, Calls, isCall, Renumbered, failed, before, called, calledAfter, Waiting, nobody, waits, kept, renumber, Bytes, writtenBack, renumberedTokens, renumberCharstring}
+use Rattle.prune.specs.Renumber.{none, new, Old, nothing, old, oldOf, newOf, operandFor, operandOf, Operand, fails, Calls, isCall, Renumbered, before, called, calledAfter, Waiting, nobody, waits, kept, renumber, Bytes, writtenBack, renumberedTokens, renumberCharstring}
 use Rattle.cff.specs.Font.{Program}
 use Rattle.subset.specs.Kept.{localsOf}
 use Rattle.subset.specs.Pruned.{countBelow, rank, reached, fail, whole, localSet, globalSet, renumberedBody, callsIn, callsAcross}

@@ -1,38 +1,32 @@
 -- Laws of a body renumbered token by token: what was written so far and what is left give the whole.
-use Prim.Native.Nat.{ℕ, zero, suc, _+_, _-_, _*_, _≤_, _<_}
+use Prim.Native.Nat.{ℕ, _+_, _-_}
 use mathlib.Core.Path.{_≡_, refl, sym, ap, _∙_, subst}
-use mathlib.Core.Bool.{Bool, true, false, false≢true}
+use mathlib.Core.Bool.{Bool, true, false}
 use mathlib.Core.List.{List, [], _∷_, _++_, append-assoc, append-nil}
 use native.Mathlib.Omega.{arith}
 use lib.IntN.{ℤ}
-use lib.Ieee.{Float}
 use lib.ListN.{length, take, drop, length-append}
 use Rattle.octets.specs.Pick.{pick}
-use Rattle.octets.specs.Octets.{Octets}
-use Rattle.type2_number.specs.Number.{Reading, mag, isNeg}
-use Rattle.type2_number.specs.Floats.{floatOf, scaledOf, HoldsReading}
+use Rattle.type2_number.specs.Number.{Reading}
+use Rattle.type2_number.specs.Floats.{floatOf, scaledOf}
 use Rattle.type2_number.specs.Readings.{back-reading, holds}
-use Rattle.type2_number.specs.EncodingLaws.{number-short}
-use Rattle.charstring.specs.declared.MaskLen.{MaskLen}
 use Rattle.charstring.specs.declared.Token.{Token}
 use Rattle.charstring.specs.declared.Token.the-variants.{Num, Op, Esc, Mask}
 use Rattle.charstring.specs.declared.Cursor.{Cursor}
 use Rattle.charstring.specs.declared.Step.{Step}
 use Rattle.charstring.specs.declared.Step.the-variants.{Tok as TokAt, Lost}
-use Rattle.charstring.specs.Token.{Tok, num, op, esc, mask, Body, bad, tokens, join, more, tokenAt, tokensFrom, tokensOf, start}
+use Rattle.charstring.specs.Token.{Tok, num, op, esc, mask, start}
 use Rattle.charstring.specs.Encode.{encode}
-use Rattle.charstring.specs.Answers.{stepOf, told, tokenLen, Writable, Within, givenAt}
+use Rattle.charstring.specs.Answers.{told, Writable}
 use Rattle.charstring.specs.TokenLaws.{token-length}
-use Rattle.charstring.specs.TokensLaws.{fuelOf, Next}
-use Rattle.charstring.specs.EncodeLaws.{encode-append, Walk, walk-start, walk-next, walk-turn, walk-cut, walk-end}
+use Rattle.charstring.specs.EncodeLaws.{encode-append}
 use Rattle.prune.specs.StepLaws.{zero-one}
-use Rattle.prune.specs.Renumber.{Operand, fails, becomes, Calls, isCall, Renumbered, failed, done, before, called, calledAfter, Waiting, nobody, waits, kept, renumber, Bytes, bytes, writtenBack, renumberedTokens, renumberCharstring}
+use Rattle.prune.specs.Renumber.{Operand, fails, becomes, Calls, isCall, Renumbered, failed, done, before, called, calledAfter, Waiting, nobody, waits, kept, renumber}
 use Rattle.renumber.specs.Turn.{waitingIn, HoldsHeld, turnFor, callTurn, turnOf, after, turnedBy, turnedAt, heldBytes, ownBytes, sentBytes, heldLen, ownLen}
 use Rattle.renumber.specs.declared.turns.Held.{Held}
 use Rattle.renumber.specs.declared.turns.Held.the-variants.{Nothing, Number}
 use Rattle.renumber.specs.declared.turns.Turn.{Turn}
 use Rattle.renumber.specs.declared.turns.Turn.the-variants.{Stuck, Sends}
-use Rattle.renumber.specs.declared.Turned.{Turned}
 use Rattle.renumber.specs.declared.Turned.the-variants.{Failed as FailedAt, On}
 
 -- ---- tokens written before what is left

@@ -8,7 +8,7 @@ ghost use Prim.Native.Nat.{_+_, _≤_, _<_};
 ghost use lib.ListN.{length};
 ghost use Rattle.octets.specs.Octets.{Wrote};
 ghost use Rattle.charstring.specs.Token.{more, tokenAt};
-ghost use Rattle.charstring.specs.Answers.{stepOf, givenAt, Within, Measurable, Writable};
+ghost use Rattle.charstring.specs.Answers.{stepOf, givenAt, Within, Writable};
 ghost use Rattle.prune.specs.Renumber.{renumberCharstring};
 ghost use Rattle.record.specs.Record.{rowsOf, givenIn};
 ghost use Rattle.subset.specs.Pruned.{whole, renumberedBody};
@@ -27,7 +27,6 @@ use charstring::more;
 use charstring::next_token;
 use charstring::put_token;
 use charstring::start;
-use charstring::token_len;
 use reach::Site;
 use type2_number::number_len;
 use type2_number::put_number;
@@ -52,7 +51,6 @@ fn held_len(h: Held) -> usize
 
 // How many bytes a token takes when it is read: a number none, since it is held.
 fn own_len(t: Token) -> usize
-    requires { ⌜ Measurable t ⌝ }
     ensures { λ r. ⌜ r ≡ ownLen t ⌝ }
 {
     match t {
@@ -65,7 +63,7 @@ fn own_len(t: Token) -> usize
 
 // How many bytes are written at a token: the number that was held, and the token.
 fn sent_len(h: Held, t: Token) -> usize
-    requires { ⌜ (HoldsHeld h) × (Measurable t) × (ownLen t ≤ 67108864) ⌝ }
+    requires { ⌜ (HoldsHeld h) × (ownLen t ≤ 67108864) ⌝ }
     ensures { λ r. ⌜ r ≡ heldLen h + ownLen t ⌝ }
 {
     held_len(h) + own_len(t)

@@ -1,12 +1,10 @@
 -- `renumber::body_len` meets its contract: the length so far is that of the tokens written.
-use Prim.Native.Nat.{_+_, _-_, _≤_}
-use mathlib.Core.Path.{_≡_, refl, sym, ap, _∙_}
-use mathlib.Core.Bool.{true, false}
+use Prim.Native.Nat.{_-_}
+use mathlib.Core.Path.{_≡_, refl, sym, _∙_}
+use mathlib.Core.Bool.{true}
 use native.Mathlib.Omega.{arith}
-use lib.ListN.{length}
 use Rattle.octets.specs.Octets.{Octets}
 use Rattle.charstring.specs.Token.{more, tokenAt}
-use Rattle.charstring.specs.TokenLaws.{measurable}
 use Rattle.charstring.specs.TokensLaws.{fuelOf, Next}
 use Rattle.record.specs.Record.{rowsOf, givenIn}
 use Rattle.reach.specs.Reach.{siteOf}
@@ -57,7 +55,7 @@ enum-known-before : tie.Need-enum-known-before Inv-loop μ-loop
 enum-known-before c = search needs
 
 sent-len-requires : tie.Need-sent-len-requires Inv-loop μ-loop
-sent-len-requires c κs = (heldly (c .before), measurable (c .before .before .before .before .before .before .before .before .before .before .before .args .code .now) (c .before .before2 .given .0 .1 .0) (nextly (c .before) .writable), own-small (c .before .before .before .before .before .before .before .before .before .before .before .args .code .now) (c .before .before2 .given .0 .1 .0) (nextly (c .before) .writable) (c .before .before .before .before .before .before .before .before .before .before .before .pre .size))
+sent-len-requires c κs = (heldly (c .before), own-small (c .before .before .before .before .before .before .before .before .before .before .before .args .code .now) (c .before .before2 .given .0 .1 .0) (nextly (c .before) .writable) (c .before .before .before .before .before .before .before .before .before .before .before .pre .size))
 
 add-len : tie.Need-add-len Inv-loop μ-loop
 add-len c = let m = sizing-turn (callsBy (c .before .before .before .before .before .before .before .before .before .before .before .before .args .words .now) (c .before .before .before .before .before .before .before .before .before .before .before .before .args .locals) (c .before .before .before .before .before .before .before .before .before .before .before .before .args .globals)) (calls-read _ _ _ (c .before .before .before .before .before .before .before .before .before .before .before .before .pre .localRanks) (c .before .before .before .before .before .before .before .before .before .before .before .before .pre .globalRanks)) (givenIn (rowsOf (c .before .before .before .before .before .before .before .before .before .before .before .before .args .rows .now)) (siteOf (c .before .before .before .before .before .before .before .before .before .before .before .before .args .site))) (c .before .before .before .before .before .before .before .before .before .before .before .before .args .code .now) (bytes (c .before .before .before .before .before .before .before)) (c .before .before .before .before .before .before .before .loop .c) _ _ (c .before .before .before .before .before .before .before .loop .inv) (going (c .before .before .before .before .before)) _ (c .before .before .before .before .turn-at .ensures) _ _ _ (c .before .before .before2 .given .1) _ (c .sent-len .ensures) _ refl in omega (arith, m .small, m .turning .walk .within .inside, c .before .before .before .before .before .before .before .before .before .before .before .before .pre .size)

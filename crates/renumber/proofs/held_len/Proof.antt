@@ -1,5 +1,5 @@
 -- `renumber::held_len` meets its contract: the cases of the definition.
-use mathlib.Core.Path.{_≡_, refl, sym, ap, _∙_}
+use mathlib.Core.Path.{sym, ap, _∙_}
 use Rattle.renumber.specs.Turn.{heldLen}
 use Rattle.renumber.specs.CodeLaws.{held-as}
 use borrow.Author.Needs.{needs}

@@ -1,5 +1,4 @@
 -- `renumber::put_own` meets its contract: each arm writes the bytes of its kind of token.
-use native.Mathlib.Omega.{arith}
 use Rattle.charstring.specs.TokenLaws.{writable-as}
 use Rattle.charstring.specs.declared.Token.the-variants.{Op, Esc, Mask}
 use Rattle.renumber.specs.CodeLaws.{own-room, wrote-own, wrote-number}

@@ -1,12 +1,10 @@
 -- `renumber::put_renumbered` meets its contract: the tokens written stand in the output; a body that fails is excluded.
-use Prim.Native.Nat.{_+_, _-_, _≤_}
-use mathlib.Core.Path.{_≡_, refl, sym, ap, _∙_}
-use mathlib.Core.Bool.{true, false}
-use native.Mathlib.Omega.{arith}
+use Prim.Native.Nat.{_-_}
+use mathlib.Core.Path.{_≡_, refl, sym, _∙_}
+use mathlib.Core.Bool.{true}
 use lib.ListN.{length}
 use Rattle.octets.specs.Octets.{Octets}
 use Rattle.charstring.specs.Token.{more, tokenAt}
-use Rattle.charstring.specs.TokenLaws.{measurable}
 use Rattle.charstring.specs.TokensLaws.{fuelOf, Next}
 use Rattle.record.specs.Record.{rowsOf, givenIn}
 use Rattle.reach.specs.Reach.{siteOf}

@@ -12,7 +12,7 @@ own-len-requires : tie.Need-own-len-requires
 own-len-requires c κs = search needs
 
 add-result : tie.Need-add-result
-add-result c = let k = held-few (c .before .before .args .h) in omega (arith, c .before .held-len .ensures, c .own-len .ensures, c .before .before .pre .2)
+add-result c = let k = held-few (c .before .before .args .h) in omega (arith, c .before .held-len .ensures, c .own-len .ensures, c .before .before .pre .1)
 
 returns : tie.Need-returns
 returns c = search needs

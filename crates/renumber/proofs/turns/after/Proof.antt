@@ -1,5 +1,5 @@
 -- `renumber::turns::after` meets its contract: the cases of the definition.
-use mathlib.Core.Path.{_≡_, refl, sym, ap, _∙_}
+use mathlib.Core.Path.{sym, ap}
 use Rattle.renumber.specs.Turn.{after}
 use borrow.Author.Needs.{needs}
 use Rattle.renumber.proofs.turns.after.Statement.{statement}
