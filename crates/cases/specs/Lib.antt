@@ -9,3 +9,4 @@ pub mod TallyLaws
 pub mod Report
 pub mod ReportLaws
 pub mod Writing
+pub mod Meaning
