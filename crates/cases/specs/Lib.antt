@@ -10,3 +10,4 @@ pub mod Report
 pub mod ReportLaws
 pub mod Writing
 pub mod Meaning
+pub mod Examples
