@@ -8,3 +8,5 @@ pub mod Tally
 pub mod TallyLaws
 pub mod Report
 pub mod ReportLaws
+pub mod Writing
+pub mod Meaning

@@ -12,8 +12,8 @@ use borrow.Author.Tests.{lt-ltb, le-ltb, leb-true, leb-false, ne-eqb}
 use Rattle.io.specs.Counts.{Counts}
 use Rattle.io.specs.Digits.{glyph, digits, Fewest}
 use Rattle.octets.specs.Pick.{pick-ind}
-use Rattle.octets.specs.Octets.{put, Wrote}
-use Rattle.octets.specs.PutLaws.{put-put, wrote-length}
+use Rattle.octets.specs.Octets.{Wrote}
+use Rattle.octets.specs.PutLaws.{wrote-length}
 use Rattle.cases.specs.Lines.{Answering, linesOf, agrees}
 use Rattle.cases.specs.Tally.{countedAll, firstFailed}
 use Rattle.cases.specs.Report.{decimal, agreedWord, failedWord, allAgreed, firstWord, wordBytes, tallyBytes, rowBytes, rowsBytes, otherBytes, firstBytes, reportBytes, tooLong, reportOf}
@@ -105,11 +105,6 @@ module _ (ks counts : List ℕ) (i : ℕ) where
   pub rows-none : i ≡ length ks → rowsLeft ≡ []
   unfolding rowsBytes
   rows-none e = ap (λ (l : List ℕ). rowsBytes l counts (2 * i)) (ap (λ (j : ℕ). drop j ks) e ∙ drop-length ks)
-
--- a part is written, and the rest is still to be
-pub wrote-on : {old new bs : List ℕ} {p q : ℕ} (left : List ℕ) → p ≤ length old → Wrote old p bs new q → put new q left ≡ put old p (bs ++ left)
-wrote-on {old} {new} {bs} {p} {q} left h w =
-    ap (λ (o : List ℕ). put o q left) (w .is) ∙ ap (λ (k : ℕ). put (put old p bs) k left) (w .behind) ∙ put-put old p bs left h
 
 pub rows-length : (ks counts : List ℕ) (i : ℕ) → length (rowsBytes ks counts i) ≤ 58 * length ks
 unfolding rowsBytes

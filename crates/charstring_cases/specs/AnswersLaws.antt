@@ -3,7 +3,7 @@ use Prim.Native.Nat.{ℕ, zero, suc, _+_, _-_, _*_, _≤_, _<_}
 use mathlib.Core.Path.{_≡_, refl, sym, ap, _∙_, subst}
 use mathlib.Core.Bool.{Bool}
 use mathlib.Core.List.{List, [], _∷_, _++_}
-use mathlib.Core.Option.{Option, none, some}
+use mathlib.Core.Option.{none, some}
 use native.Mathlib.Omega.{arith}
 use lib.Dec.{leb, eqb}
 use lib.Ieee.{Float}
@@ -12,9 +12,8 @@ use lib.ListN.{length, take, drop, getD, length-append, length-drop}
 use lib.Seq.{take-all}
 use borrow.Author.Tests.{eq-eqb, ne-eqb, lt-ltb, le-ltb, le-leb, lt-leb}
 use Rattle.octets.specs.Pick.{pick, pick-ind}
-use Rattle.octets.specs.Octets.{Octets, numAt, bytesOf, put, Wrote}
+use Rattle.octets.specs.Octets.{Octets, numAt, bytesOf, Wrote}
 use Rattle.octets.specs.OctetsLaws.{length-bytes}
-use Rattle.octets.specs.PutLaws.{take-put}
 use Rattle.type2_number.specs.Number.{isNeg, mag, Read, cut, operator, number, numberAt}
 use Rattle.type2_number.specs.Floats.{floatOf, scaledOf, HoldsReading, numberOf}
 use Rattle.type2_number.specs.Encoding.{integerBytes, fixedBytes}

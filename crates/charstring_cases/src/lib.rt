@@ -12,21 +12,13 @@ ghost use Rattle.charstring_cases.specs.Streams.{tokenBytes, tokensBytes
 ghost use Rattle.cases.specs.Answers.{Starts, Gives};
 ghost use Rattle.charstring_cases.specs.Answers.{answerTo};
 use cases::Answered;
+use cases::sign_of;
 use charstring::Recoded;
 use charstring::Step;
 use charstring::Token;
 use octets::put_byte;
 use octets::put_num;
 use type2_number::Number;
-
-fn sign_of(neg: bool) -> u8
-    ensures { λ r. ⌜ r ≡ pick neg 1 0 ⌝ }
-{
-    if neg {
-        return 1;
-    }
-    0
-}
 
 // A number of a case: its sign and its size, the count of 65536ths.
 fn put_count(v: f32, out: &mut [u8], at: usize) -> usize

@@ -5,9 +5,11 @@ use mathlib.Core.Option.{Option, none}
 use Rattle.octets.specs.Pick.{pick}
 use Rattle.cases.specs.Tally.{isOneOf}
 use Rattle.charstring_cases.specs.Answers.{kinds as charstringKinds, answerTo as charstringAnswer}
+use Rattle.format_cases.specs.Answers.{kinds as formatKinds, answerTo as formatAnswer}
 use Rattle.cff_cases.specs.CffCases.{kinds as cffKinds, cffAnswer}
 
 unfoldable pub answerTo : ℕ → List ℕ → Option (List ℕ)
 answerTo kind s =
     pick (isOneOf charstringKinds kind) (charstringAnswer kind s)
-    (pick (isOneOf cffKinds kind) (cffAnswer kind s) none)
+    (pick (isOneOf formatKinds kind) (formatAnswer kind s)
+    (pick (isOneOf cffKinds kind) (cffAnswer kind s) none))

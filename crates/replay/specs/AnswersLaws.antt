@@ -6,6 +6,7 @@ use mathlib.Core.List.{List}
 use mathlib.Core.Option.{none}
 use Rattle.cases.specs.Tally.{isOneOf}
 use Rattle.charstring_cases.specs.Answers.{kinds as charstringKinds, answerTo as charstringAnswer}
+use Rattle.format_cases.specs.Answers.{kinds as formatKinds, answerTo as formatAnswer}
 use Rattle.cff_cases.specs.CffCases.{kinds as cffKinds, cffAnswer}
 use Rattle.replay.specs.Answers.{answerTo}
 
@@ -15,10 +16,15 @@ module _ (kind : ℕ) (s : List ℕ) where
   answer-charstring e = rw e
 
   module _ (n : isOneOf charstringKinds kind ≡ false) where
-    pub answer-cff : isOneOf cffKinds kind ≡ true → answerTo kind s ≡ cffAnswer kind s
+    pub answer-format : isOneOf formatKinds kind ≡ true → answerTo kind s ≡ formatAnswer kind s
     unfolding answerTo
-    answer-cff e = rw (n, e)
+    answer-format e = rw (n, e)
 
-    pub answer-none : isOneOf cffKinds kind ≡ false → answerTo kind s ≡ none
-    unfolding answerTo
-    answer-none e = rw (n, e)
+    module _ (m : isOneOf formatKinds kind ≡ false) where
+      pub answer-cff : isOneOf cffKinds kind ≡ true → answerTo kind s ≡ cffAnswer kind s
+      unfolding answerTo
+      answer-cff e = rw (n, m, e)
+
+      pub answer-none : isOneOf cffKinds kind ≡ false → answerTo kind s ≡ none
+      unfolding answerTo
+      answer-none e = rw (n, m, e)

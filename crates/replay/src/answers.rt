@@ -13,6 +13,9 @@ pub fn answer(kind: u8, input: &[u8], out: &mut [u8]) -> Answered
     if is_one_of(b"nifteb", kind) {
         return charstring_cases::answer(kind, input, out);
     }
+    if is_one_of(b"xdwcs", kind) {
+        return format_cases::answer(kind, input, out);
+    }
     if is_one_of(b"RNCI", kind) {
         return cff_cases::answer(kind, input, out);
     }

@@ -46,5 +46,6 @@ fn main() {
     let mut buffer = [0u8; 1048576];
     replay_file(b"charstring", b"nifteb", &mut buffer);
     replay_file(b"corners", b"nifteb", &mut buffer);
+    replay_file(b"format", b"xdwcs", &mut buffer);
     replay_file(b"cff", b"RNCI", &mut buffer);
 }

@@ -1,23 +1,19 @@
 -- `report::put_rows` meets its contract. The invariant: writing the rows that are left gives what writing all of them gives.
 use Prim.Native.Nat.{ℕ, _≤_, _<_, _-_, _+_, _*_}
-use mathlib.Core.Path.{_≡_, refl, sym, ap, _∙_}
+use mathlib.Core.Path.{_≡_, refl}
 use mathlib.Core.List.{List}
 use native.Mathlib.Omega.{arith}
 use borrow.Author.Needs.{needs}
-use lib.ListN.{length, getD, length-append}
+use lib.ListN.{length, getD}
 use denote.Ref.{now}
-use Rattle.octets.specs.Octets.{put}
-use Rattle.octets.specs.PutLaws.{wrote-length}
-use Rattle.hexlines.specs.HexlinesLaws.{put-done}
-use Rattle.cases.specs.ReportLaws.{rowsLeft, rows-next, rows-none, row-length, wrote-on}
+use Rattle.cases.specs.ReportLaws.{rowsLeft, rows-next, rows-none, row-length, rows-length}
+use Rattle.cases.specs.Writing.{Writing, writing-start, writing-turn, writing-end}
 use Rattle.cases.proofs.report.put_rows.Statement.{statement}
 use Rattle.cases.proofs.report.put_rows.Tie as tie
 
 abbrev Inv-loop : tie.InvT-loop
 Inv-loop kinds counts out₀ n i₀ p₀ out i p =
-    (i ≤ length kinds) × (n ≡ length kinds) × (length out ≡ length out₀) × (p ≤ 58 * i)
-    × (p + length (rowsLeft kinds counts i) ≡ 0 + length (rowsLeft kinds counts 0))
-    × (put out p (rowsLeft kinds counts i) ≡ put out₀ 0 (rowsLeft kinds counts 0))
+    (i ≤ length kinds) × (n ≡ length kinds) × (p ≤ 58 * i) × Writing out₀ 0 (rowsLeft kinds counts 0) out p (rowsLeft kinds counts i)
 
 abbrev μ-loop : tie.MeasureT-loop
 μ-loop kinds counts out₀ n i₀ p₀ out i p = n - i
@@ -30,7 +26,7 @@ abbrev countsOf : tie.After-put-row Inv-loop μ-loop → List ℕ
 countsOf c = c .before .before .before .before .before .before .before .before .before .before .args .counts .now
 
 loop-holds : tie.Need-loop-holds Inv-loop μ-loop
-loop-holds c = (search needs, refl, refl, search needs, refl, refl)
+loop-holds c = (search needs, refl, search needs, writing-start _ _ _)
 
 shared-slice-read-put-row : tie.Need-shared-slice-read-put-row Inv-loop μ-loop
 shared-slice-read-put-row c = search needs
@@ -71,14 +67,11 @@ loop-again c =
     let l = w .before .before .before .before .before .before in
     let h : l .loop .i < length (kindsOf w) = omega arith in
     let e = rows-next (kindsOf w) (countsOf w) (l .loop .i) h in
-    let n = simp length-append at (ap length e) in
     let k = row-length (getD (kindsOf w) (l .loop .i) 0) (getD (countsOf w) (2 * l .loop .i) 0) (getD (countsOf w) (2 * l .loop .i + 1) 0) in (
       omega arith,
       refl,
-      wrote-length (w .put-row .ensures) (omega arith) ∙ l .loop .inv .2,
       omega (arith, w .put-row .ensures .behind),
-      omega (arith, n, w .put-row .ensures .behind),
-      wrote-on _ (omega arith) (w .put-row .ensures) ∙ ap (put (l .loop .out) (l .loop .p)) (sym e) ∙ l .loop .inv .5,
+      writing-turn (l .loop .inv .3) _ _ e (omega (arith, rows-length (kindsOf w) (countsOf w) 0)) _ _ (w .put-row .ensures),
     )
 
 same-length : tie.Need-same-length Inv-loop μ-loop
@@ -88,7 +81,7 @@ returns : tie.Need-returns Inv-loop μ-loop
 returns c =
     let l = c .before in
     let a = l .before .before .before .before .args in
-    put-done _ _ _ _ _ _ (rows-none (now (a .kinds)) (now (a .counts)) (l .loop .i) (omega arith)) (l .loop .inv .4) (l .loop .inv .5)
+    writing-end (l .loop .inv .3) (rows-none (now (a .kinds)) (now (a .counts)) (l .loop .i) (omega arith))
 
 pub put-rows-spec : {M : Type 1} → statement M
 put-rows-spec =

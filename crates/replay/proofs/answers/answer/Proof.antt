@@ -1,7 +1,7 @@
 -- `answers::answer` meets its contract: a letter is answered by the crate that has it.
 use mathlib.Core.Path.{sym, _∙_}
 use Rattle.cases.specs.AnswersLaws.{gives-none, gives-as}
-use Rattle.replay.specs.AnswersLaws.{answer-charstring, answer-cff, answer-none}
+use Rattle.replay.specs.AnswersLaws.{answer-charstring, answer-format, answer-cff, answer-none}
 use borrow.Author.Needs.{needs}
 use Rattle.replay.proofs.answers.answer.Statement.{statement}
 use Rattle.replay.proofs.answers.answer.Tie as tie
@@ -34,10 +34,25 @@ same-length-2 : tie.Need-same-length-2
 same-length-2 c = search needs
 
 returns-2 : tie.Need-returns-2
-returns-2 c = gives-as _ _ _ _ (c .before .before .answer2 .ensures) (answer-cff _ _ (sym (c .before .before .before .before .before .before .before .before .is-one-of .ensures) ∙ c .before .before .before .before .before .before .before .if1 .left) (sym (c .before .before .before .before .before .is-one-of2 .ensures) ∙ c .before .before .before .before .if2 .taken))
+returns-2 c = gives-as _ _ _ _ (c .before .before .answer2 .ensures) (answer-format _ _ (sym (c .before .before .before .before .before .before .before .before .is-one-of .ensures) ∙ c .before .before .before .before .before .before .before .if1 .left) (sym (c .before .before .before .before .before .is-one-of2 .ensures) ∙ c .before .before .before .before .if2 .taken))
+
+slice-aggregate-is-one-of-3 : tie.Need-slice-aggregate-is-one-of-3
+slice-aggregate-is-one-of-3 c = search needs
+
+is-one-of-requires-3 : tie.Need-is-one-of-requires-3
+is-one-of-requires-3 c κs = search needs
+
+answer-requires-3 : tie.Need-answer-requires-3
+answer-requires-3 c κs = search needs
+
+same-length-3 : tie.Need-same-length-3
+same-length-3 c = search needs
 
 returns-3 : tie.Need-returns-3
-returns-3 c = gives-none _ _ (answer-none _ _ (sym (c .before .before .before .before .is-one-of .ensures) ∙ c .before .before .before .if1 .left) (sym (c .before .is-one-of2 .ensures) ∙ c .if2 .left))
+returns-3 c = gives-as _ _ _ _ (c .before .before .answer3 .ensures) (answer-cff _ _ (sym (c .before .before .before .before .before .before .before .before .before .before .before .is-one-of .ensures) ∙ c .before .before .before .before .before .before .before .before .before .before .if1 .left) (sym (c .before .before .before .before .before .before .before .before .is-one-of2 .ensures) ∙ c .before .before .before .before .before .before .before .if2 .left) (sym (c .before .before .before .before .before .is-one-of3 .ensures) ∙ c .before .before .before .before .if3 .taken))
+
+returns-4 : tie.Need-returns-4
+returns-4 c = gives-none _ _ (answer-none _ _ (sym (c .before .before .before .before .before .before .before .is-one-of .ensures) ∙ c .before .before .before .before .before .before .if1 .left) (sym (c .before .before .before .before .is-one-of2 .ensures) ∙ c .before .before .before .if2 .left) (sym (c .before .is-one-of3 .ensures) ∙ c .if3 .left))
 
 pub answer-spec : {M : Type 1} → statement M
 answer-spec =
@@ -53,4 +68,9 @@ answer-spec =
     answer-requires-2
     same-length-2
     returns-2
-    returns-3)
+    slice-aggregate-is-one-of-3
+    is-one-of-requires-3
+    answer-requires-3
+    same-length-3
+    returns-3
+    returns-4)

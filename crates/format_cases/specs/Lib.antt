@@ -1,0 +1,9 @@
+pub mod Indexes
+pub mod Dicts
+pub mod Glyphs
+pub mod Answers
+pub mod IndexesLaws
+pub mod DictsLaws
+pub mod DecimalsLaws
+pub mod GlyphsLaws
+pub mod AnswersLaws
