@@ -1,7 +1,7 @@
 -- Laws of the Font DICTs: how many they are, how long each is, and that they are those of the subset.
 use Prim.Native.Nat.{ℕ, zero, suc, _+_, _*_, _≤_, _<_}
 use mathlib.Core.Path.{_≡_, refl, sym, ap, _∙_}
-use mathlib.Core.List.{List, [], _∷_, _++_}
+use mathlib.Core.List.{List, [], _∷_}
 use native.Mathlib.Omega.{arith}
 use lib.ListN.{length, take, getD}
 use lib.Seq.{length-take-le, getD-take}
@@ -11,7 +11,7 @@ use Rattle.index.specs.Write.{total}
 use Rattle.cff.specs.Font.{Program}
 use Rattle.subset.specs.Kept.{privateOf}
 use Rattle.subset.specs.Subset.{privateDict, privatePart, fontDicts}
-use Rattle.private_dicts.specs.Privates.{privateDictBy, subrsEntry, dictsBy, sum, fontDictsBy, Placed, sizesOf, lensOf}
+use Rattle.private_dicts.specs.Privates.{dictsBy, sum, fontDictsBy, Placed, sizesOf, lensOf}
 
 no : _≡_ {A = ℕ} 0 1 → ⊥
 no h = omega arith

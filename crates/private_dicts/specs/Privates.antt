@@ -10,7 +10,7 @@ use Rattle.octets.specs.Pick.{pick}
 use Rattle.dict.specs.Op.{subrs}
 use Rattle.dict.specs.Dict.{Entry}
 use Rattle.dict_write.specs.Written.{offsetEntry, privateEntry, privateBytes}
-use Rattle.cff.specs.Font.{Got, got, Private, Program}
+use Rattle.cff.specs.Font.{got, Private, Program}
 use Rattle.cff.specs.Reads.{fdPrivate}
 use Rattle.subset.specs.Kept.{privateOf}
 use Rattle.subset.specs.Subset.{privateDict, privatePart}

@@ -1,12 +1,11 @@
 -- Laws of the Private DICTs: the one of an FD is what reading got, and one that is written is that of the subset.
-use Prim.Native.Nat.{ℕ, zero, suc, _+_, _-_, _≤_, _<_, min}
+use Prim.Native.Nat.{ℕ, zero, suc, _+_, _-_, _≤_, _<_}
 use mathlib.Core.Path.{_≡_, refl, sym, ap, _∙_, subst}
 use mathlib.Core.Bool.{Bool, true, false, true≢false}
 use mathlib.Core.List.{List, [], _∷_, _++_, append-nil}
 use native.Mathlib.Nat.{min-le-right}
 use native.Mathlib.Omega.{arith}
 use borrow.Author.Tests.{eq-eqb, ne-eqb}
-use lib.Dec.{eqb}
 use lib.ListN.{length, take, drop, getD, length-append, length-take, length-drop}
 use Rattle.octets.specs.Pick.{pick}
 use Rattle.octets.specs.Octets.{Wrote}
@@ -20,8 +19,8 @@ use Rattle.dict.specs.LookupLaws.{entries-are}
 use Rattle.dict.specs.Places.{entriesOf}
 use Rattle.dict_write.specs.Written.{opBytes, offsetEntry, privateBytes}
 use Rattle.dict_write.specs.WriteLaws.{offset-length}
-use Rattle.cff.specs.Font.{Got, refused, got, then, Private, Program, dictGot, privateAt, privatesAt}
-use Rattle.cff.specs.Reads.{partOf, fdPrivate, ReadsPrivate, GoodPrivate, GoodFont, GoodParts, privatesOf, orNone, programOf}
+use Rattle.cff.specs.Font.{Got, refused, got, then, Private, dictGot, privateAt, privatesAt}
+use Rattle.cff.specs.Reads.{partOf, fdPrivate, ReadsPrivate, GoodPrivate, GoodFont, privatesOf, programOf}
 use Rattle.cff.specs.Reads as reads
 use Rattle.cff.specs.ReadsLaws.{privates-split, part-sized}
 use Rattle.cff.specs.declared.font.Font.{Font}

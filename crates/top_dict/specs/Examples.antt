@@ -1,7 +1,7 @@
 -- Worked examples: the top DICT of document 01's 'One sheet, whole', whose font names no string and has no entry that is copied.
 use Prim.Native.Nat.{ℕ}
 use mathlib.Core.Path.{_≡_, refl}
-use mathlib.Core.List.{List, [], _∷_, _++_}
+use mathlib.Core.List.{List, [], _∷_}
 use Rattle.octets.specs.Octets.{bytesOf}
 use Rattle.decimal.specs.Written.{int5Bytes}
 use Rattle.dict.specs.Lookup.{lastFrom, lastOf}

@@ -1,6 +1,6 @@
 -- The top DICT over slots is the subset's (crates/subset, topByName and topByCid), where the slots hold the string ids that the font's top DICT
 -- names and the ids of those texts in the subset.
-use Prim.Native.Nat.{ℕ, zero, suc, _+_, _≤_, _<_}
+use Prim.Native.Nat.{ℕ, suc, _+_, _<_}
 use mathlib.Core.Path.{_≡_, refl, sym, ap, _∙_}
 use mathlib.Core.Bool.{Bool, true, false}
 use mathlib.Core.List.{List, [], _∷_, _++_, append-assoc, append-nil}

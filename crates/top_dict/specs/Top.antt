@@ -2,7 +2,6 @@
 -- top DICT, and sixteen slots. Slots 0 to 7 are the font's string ids: registry, ordering and the six string entries, 65536 where there is
 -- none; slots 8 to 15 are their ids in the subset.
 use Prim.Native.Nat.{ℕ, _+_, _≤_, _<_}
-use mathlib.Core.Path.{_≡_}
 use mathlib.Core.Bool.{Bool}
 use mathlib.Core.List.{List, [], _∷_, _++_}
 use lib.Dec.{ltb}

@@ -6,7 +6,7 @@ use mathlib.Core.List.{List, [], _∷_, _++_}
 use native.Mathlib.Nat.{min-le-right}
 use native.Mathlib.Omega.{arith}
 use borrow.Author.Tests.{lt-ltb, le-ltb}
-use lib.Dec.{ltb, eqb, lit≤, lit<}
+use lib.Dec.{eqb, lit≤, lit<}
 use lib.ListN.{length, drop, getD, length-append, drop-of-length-le}
 use lib.Seq.{drop-cons}
 use Rattle.octets.specs.Pick.{pick}
@@ -29,9 +29,9 @@ use Rattle.dict.specs.declared.RosIn.the-variants.{Ros, None}
 use Rattle.dict_write.specs.Written.{opBytes}
 use Rattle.dict_write.specs.Written as written
 use Rattle.dict_write.specs.WriteLaws.{offset-length, private-length, copied-absent, copied-found}
-use Rattle.dict_write.specs.ShortLaws.{number-short, op-short, entry-short}
+use Rattle.dict_write.specs.ShortLaws.{number-short, entry-short}
 use Rattle.subset.specs.Subset.{numberOf, copiedEntry, copiedBytes}
-use Rattle.top_dict.specs.Top.{Filled, valueEntry, slotEntry, slotEntries, stringEntries, idsBytes, rosOf, carried, namedOffsets, glyphOffsets, cidOffsets, topNamed, cidFront, topCid, topLen}
+use Rattle.top_dict.specs.Top.{Filled, valueEntry, slotEntry, slotEntries, idsBytes, rosOf, carried, namedOffsets, glyphOffsets, cidOffsets, topNamed, cidFront, topCid, topLen}
 use Rattle.top_dict.specs.Writing.{Split, split-append, split-length}
 use Rattle.top_dict.specs.TopParts.{ids-parts}
 

@@ -1,5 +1,5 @@
 -- Parts that are measured or written one behind the other: what is done and what is left make the whole.
-use Prim.Native.Nat.{ℕ, _+_, _≤_, _<_}
+use Prim.Native.Nat.{ℕ, _+_, _≤_}
 use mathlib.Core.Path.{_≡_, refl, sym, ap, _∙_}
 use mathlib.Core.List.{List, [], _++_, append-assoc, append-nil}
 use native.Mathlib.Omega.{arith}

@@ -8,7 +8,6 @@ use Rattle.dict.specs.Places.{entriesOf}
 use Rattle.cff.specs.ReadsLaws.{part-sized}
 use Rattle.private_dicts.specs.PrivatesLaws.{part-few}
 use Rattle.private_dicts.specs.Privates.{privateDictBy}
-use borrow.Author.Needs.{needs}
 use Rattle.private_dicts.proofs.dict_len.Statement.{statement}
 use Rattle.private_dicts.proofs.dict_len.Tie as tie
 

@@ -1,6 +1,5 @@
 -- `private_dicts::fd_private` meets its contract: the font was read, and with it the Private DICT of each FD.
 use Rattle.private_dicts.specs.PrivatesLaws.{fd-within, fd-read, fd-answer, fd-one}
-use borrow.Author.Needs.{needs}
 use Rattle.private_dicts.proofs.fd_private.Statement.{statement}
 use Rattle.private_dicts.proofs.fd_private.Tie as tie
 

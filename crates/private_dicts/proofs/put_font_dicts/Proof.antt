@@ -1,6 +1,6 @@
 -- `private_dicts::put_font_dicts` meets its contract: the first k Font DICTs are written, with the offsets of their ends.
 use Prim.Native.Nat.{ℕ, _+_, _-_, _*_, _≤_, _<_}
-use mathlib.Core.Path.{_≡_, refl, _∙_}
+use mathlib.Core.Path.{_≡_, _∙_}
 use mathlib.Core.List.{List, []}
 use native.Mathlib.Omega.{arith}
 use lib.ListN.{length, take, getD}

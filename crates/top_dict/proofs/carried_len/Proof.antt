@@ -3,7 +3,6 @@ use native.Mathlib.Omega.{arith}
 use Rattle.dict.specs.Places.{entriesOf}
 use Rattle.top_dict.specs.Writing.{split-length}
 use Rattle.top_dict.specs.TopParts.{carried-parts}
-use borrow.Author.Needs.{needs}
 use Rattle.top_dict.proofs.carried_len.Statement.{statement}
 use Rattle.top_dict.proofs.carried_len.Tie as tie
 

@@ -1,5 +1,5 @@
 -- `top_dict::put_count` meets its contract: CIDCount is below 4294967296.
-use Prim.Native.Nat.{ℕ, _+_, _≤_, _<_}
+use Prim.Native.Nat.{ℕ, _<_}
 use mathlib.Core.Path.{refl, ap, sym, subst}
 use lib.ListN.{length}
 use Rattle.octets.specs.PutLaws.{wrote-as}

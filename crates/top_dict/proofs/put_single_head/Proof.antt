@@ -1,6 +1,6 @@
 -- `top_dict::put_single_head` meets its contract: the head, and then the offset of the item's end.
-use Prim.Native.Nat.{ℕ, _+_, _≤_}
-use mathlib.Core.Path.{ap, sym, subst}
+use Prim.Native.Nat.{ℕ, _+_}
+use mathlib.Core.Path.{ap}
 use lib.ListN.{length}
 use Rattle.octets.specs.PutLaws.{wrote-as}
 use native.Mathlib.Omega.{arith}

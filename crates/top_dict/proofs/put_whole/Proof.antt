@@ -1,6 +1,5 @@
 -- `top_dict::put_whole` meets its contract: the integer is normalised.
-use mathlib.Core.Path.{sym, ap, _∙_, subst}
-use Prim.Native.Nat.{_+_, _≤_}
+use mathlib.Core.Path.{sym, ap, subst}
 use lib.ListN.{length}
 use Rattle.octets.specs.PutLaws.{wrote-as}
 use Rattle.decimal.specs.declared.Decimal.{Decimal}
