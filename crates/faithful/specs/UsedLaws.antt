@@ -20,7 +20,7 @@ use Rattle.cff.specs.Font.{Program}
 use Rattle.subset.specs.Kept.{isIn, those, fdsOf, usedFds, newFd}
 use Rattle.subset.specs.Subset.{newFds}
 use Rattle.faithful.specs.Laid.{GoodProgram}
-use Rattle.faithful.specs.KeptListLaws.{in-none, in-head, in-more, in-cases, in-at, in-some, those-has, those-in, those-few, those-high}
+use Rattle.subset.specs.KeptListLaws.{in-none, in-head, in-more, in-cases, in-at, in-some, those-has, those-in, those-few, those-high}
 
 -- ---- FDs of glyphs
 

@@ -1,8 +1,8 @@
 -- Document 01, 'One sheet, whole', byte for byte.
 use Prim.Native.Nat.{ℕ}
 use mathlib.Core.Path.{_≡_, refl}
-use mathlib.Core.Bool.{true, false}
-use mathlib.Core.List.{List, [], _∷_, _++_}
+use mathlib.Core.Bool.{false}
+use mathlib.Core.List.{List, [], _∷_}
 use Rattle.octets.specs.Octets.{be, numAt, bytesOf}
 use Rattle.type2_number.specs.Number.{keep24, rounded}
 use Rattle.type2_number.specs.Number as t2
@@ -21,18 +21,18 @@ use Rattle.dict_write.specs.Written.{opBytes, operandsBytes, entriesBytes, offs
 use Rattle.charset.specs.Listed.{listOf}
 use Rattle.charset.specs.CharsetBytes.{idBytes, charsetBytes}
 use Rattle.strings.specs.Table.{standardNames}
-use Rattle.strings.specs.Text.{codes, sameText, orderOf}
+use Rattle.strings.specs.Text.{codes, sameText}
 use Rattle.strings.specs.Strings.{stringText, standardString, standardStrings, sidIn, sidOf}
-use Rattle.find.specs.Find.{glyphWithId, glyphWithText}
+use Rattle.find.specs.Find.{glyphWithText}
 use Rattle.prune.specs.Renumber.{renumber, renumberCharstring}
 use Rattle.record.specs.Record.{rowsFrom, rowsOf, rowsFine, recordFine, lists, givenIn, disagrees, twoLengths}
 use Rattle.cff.specs.Font as font
 use Rattle.cff.specs.Find as cfffind
-use Rattle.subset.specs.Kept.{isIn, those, fdsOf, newFd}
+use Rattle.subset.specs.Kept.{isIn, those, fdsOf}
 use Rattle.subset.specs.Pruned.{countBelow, each, renumberedBody, renumberedSubrs, renumbered, pruned}
 use Rattle.subset.specs.Texts.{hasText, ownStrings, placeIn, newId, namedEntries, textsOf, namesOf}
 use Rattle.subset.specs.Subset.{namedBytes, copiedBytes, newIds, subsetByName, subsetBytes}
-use Rattle.subset.specs.Cut.{Outcome, subset, allBelow, allFound, cutOf}
+use Rattle.subset.specs.Cut.{subset, allBelow, allFound, cutOf}
 
 abbrev sheet : List ℕ
 sheet =

@@ -2,15 +2,14 @@
 -- for CID FDSelect, charstrings, for CID the FD INDEX, then each Private with its local subroutines. Offsets have the five-byte form, so
 -- that the top DICT's length does not depend on them.
 use Prim.Native.Nat.{ℕ, _+_}
-use mathlib.Core.Bool.{Bool, true, false}
+use mathlib.Core.Bool.{false}
 use mathlib.Core.List.{List, [], _∷_, _++_}
 use lib.Dec.{eqb}
 use lib.ListN.{length, getD}
 use Rattle.octets.specs.Pick.{pick}
 use Rattle.decimal.specs.declared.Decimal.{Decimal}
-use Rattle.decimal.specs.declared.Signed.{Signed}
 use Rattle.decimal.specs.Decimal.{normal}
-use Rattle.dict.specs.Op.{esc, subrs, ros, cidCount, copiedTopEntries, copiedTopStrings}
+use Rattle.dict.specs.Op.{subrs, ros, cidCount, copiedTopEntries, copiedTopStrings}
 use Rattle.dict.specs.Dict.{Entry}
 use Rattle.dict.specs.Lookup.{Operands, absent, operands, lastOf, rosIn, cidCountIn, cidKeyed}
 use Rattle.dict.specs.declared.RosIn.{RosIn}
