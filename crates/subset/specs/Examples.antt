@@ -17,7 +17,7 @@ use Rattle.decimal.specs.Values.{truncOf}
 use Rattle.decimal.specs.Written as decw
 use Rattle.dict.specs.Dict as dict
 use Rattle.dict.specs.Lookup.{lastFrom, lastOf}
-use Rattle.dict_write.specs.Written.{opBytes, operandsBytes, entriesBytes, offsetEntry, privateEntry, without}
+use Rattle.dict_write.specs.Written.{copiedEntry, opBytes, operandsBytes, entriesBytes, offsetEntry, privateEntry, without}
 use Rattle.charset.specs.Listed.{listOf}
 use Rattle.charset.specs.CharsetBytes.{idBytes, charsetBytes}
 use Rattle.strings.specs.Table.{standardNames}
@@ -48,7 +48,7 @@ the-sheet : cutOf false sheet (0x41 ∷ []) (1 ∷ []) [] 1 8192 32768
 unfolding
     cutOf allBelow allFound subsetBytes subsetByName newIds namedBytes copiedBytes namesOf textsOf namedEntries newId placeIn ownStrings hasText pruned renumbered
     renumberedSubrs renumberedBody each countBelow those isIn fdsOf recordFine rowsFine rowsOf rowsFrom lists givenIn twoLengths disagrees renumberCharstring renumber
-    glyphWithText stringText standardString standardStrings sidOf sidIn codes sameText standardNames charsetBytes idBytes listOf opBytes operandsBytes entriesBytes offsetEntry privateEntry without lastOf lastFrom truncOf
+    glyphWithText stringText standardString standardStrings sidOf sidIn codes sameText standardNames charsetBytes idBytes listOf opBytes operandsBytes entriesBytes offsetEntry copiedEntry privateEntry without lastOf lastFrom truncOf
     normal stripped zeros zerosOf indexBytes itemsBytes headBytes tableBytes ends sizeFor join total readIndex told itemsOf pieces indexAt tableAt dataAt judged runOf
     offsets encode bytesOf numAt be keep24 rounded t2.numberAt t2e.numberBytes t2e.integerBytes t2e.fixedBytes tok.tokensOf tok.tokensFrom tok.tokenAt dec.numberAt dec.realAt
     decw.int5Bytes decw.numberBytes decw.intBytes dict.dictOf dict.gathered dict.readingsAt dict.readingsFrom dict.entryAt dict.entryFrom dict.operatorAt dict.tokenAt

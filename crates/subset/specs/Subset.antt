@@ -14,7 +14,7 @@ use Rattle.dict.specs.Dict.{Entry}
 use Rattle.dict.specs.Lookup.{Operands, absent, operands, lastOf, rosIn, cidCountIn, cidKeyed}
 use Rattle.dict.specs.declared.RosIn.{RosIn}
 use Rattle.dict.specs.declared.RosIn.the-variants.{Ros, None}
-use Rattle.dict_write.specs.Written.{entryBytes, offsetEntry, privateEntry, privateBytes}
+use Rattle.dict_write.specs.Written.{entryBytes, copiedEntry, offsetEntry, privateEntry, privateBytes}
 use Rattle.index.specs.Write.{sizeFor, indexBytes}
 use Rattle.charset.specs.CharsetBytes.{charsetBytes}
 use Rattle.charset.specs.FdSelectBytes.{fdSelectBytes}
@@ -32,10 +32,6 @@ numberOf n = normal false n 0 0
 unfoldable pub namedBytes : List (List ℕ) → List Named → List ℕ
 namedBytes own [] = []
 namedBytes own (n ∷ ns) = entryBytes (n .op) (numberOf (newId own (n .text)) ∷ []) ++ namedBytes own ns
-
-abbrev pub copiedEntry : ℕ → Operands → List ℕ
-copiedEntry op absent = []
-copiedEntry op (operands ds) = entryBytes op ds
 
 -- the last entry of each of these operators that is there, as it is
 unfoldable pub copiedBytes : List Entry → List ℕ → List ℕ
