@@ -1,0 +1,17 @@
+-- `reach::mask_fine` meets its contract, test by test.
+use borrow.Author.Needs.{needs}
+use borrow.Author.Tests.{lt-ltb, le-ltb, eq-eqb, ne-eqb}
+use Rattle.reach.proofs.mask_fine.Statement.{statement}
+use Rattle.reach.proofs.mask_fine.Tie as tie
+
+returns : tie.Need-returns
+returns c = rw (lt-ltb _ _ (c .before .if1 .taken), eq-eqb _ _ (c .if2 .taken))
+
+returns-2 : tie.Need-returns-2
+returns-2 c = rw (lt-ltb _ _ (c .before .if1 .taken), ne-eqb _ _ (c .if2 .left))
+
+returns-3 : tie.Need-returns-3
+returns-3 c = rw (le-ltb _ _ (c .if1 .left))
+
+pub mask-fine-spec : {M : Type 1} → statement M
+mask-fine-spec = tie.close (tie.spec returns returns-2 returns-3)

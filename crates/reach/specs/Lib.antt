@@ -1,0 +1,11 @@
+pub mod Reach
+pub mod Ranks
+pub mod RowLaws
+pub mod MarkLaws
+pub mod CountLaws
+pub mod RankLaws
+pub mod Masks
+pub mod KeyLaws
+pub mod MaskLaws
+pub mod SearchLaws
+pub mod TwoLaws
