@@ -41,7 +41,7 @@ fn glyph_at(words: &[u32], i: usize) -> usize
 
 // Its FD.
 fn fd_at(words: &[u32], cid: bool, n: usize, i: usize) -> usize
-    requires { ⌜ cid ≡ true → n + i < length (now words) ⌝ }
+    requires { ⌜ (cid ≡ true → n + i < length (now words)) ⌝ }
     ensures { λ r. ⌜ r ≡ fdAt cid (now (words .entry)) n i ⌝ }
 {
     if cid {
