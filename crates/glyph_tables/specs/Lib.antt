@@ -1,0 +1,4 @@
+pub mod Tables
+pub mod PartLaws
+pub mod MarkLaws
+pub mod SelectLaws
