@@ -1,7 +1,6 @@
 -- Worked examples: two glyphs by CID, and three glyphs whose FDs 0, 2, 0 are written as 0, 1, 0.
-use Prim.Native.Nat.{ℕ}
 use mathlib.Core.Path.{_≡_, refl}
-use mathlib.Core.List.{List, [], _∷_}
+use mathlib.Core.List.{[], _∷_}
 use Rattle.subset.specs.Kept.{isIn}
 use Rattle.subset.specs.Pruned.{countBelow, mapped}
 use Rattle.reach.specs.Reach.{ranksOf}

@@ -1,5 +1,5 @@
 -- Laws of marking the FDs in use and of their new numbers (document 01, 'Layout').
-use Prim.Native.Nat.{ℕ, zero, suc, _+_, _-_, _≤_, _<_}
+use Prim.Native.Nat.{ℕ, _+_, _-_, _≤_, _<_}
 use mathlib.Core.Path.{_≡_, refl, sym, ap, _∙_}
 use mathlib.Core.Bool.{Bool, true, false}
 use mathlib.Core.List.{List, [], _∷_, _++_}
@@ -7,7 +7,7 @@ use native.Mathlib.Omega.{arith}
 use borrow.Author.Tests.{eqb-true, eqb-false}
 use lib.Dec.{eqb}
 use lib.ListN.{length, take, drop, getD, set, replicate, length-set, length-replicate, getD-replicate, drop-of-length-le}
-use lib.Seq.{getD-set-same, getD-set-other, take-all}
+use lib.Seq.{getD-set-same, getD-set-other}
 use Rattle.octets.specs.Octets.{put}
 use Rattle.octets.specs.Pick.{pick}
 use Rattle.subset.specs.Kept.{isIn}

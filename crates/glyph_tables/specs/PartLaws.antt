@@ -1,6 +1,6 @@
 -- Laws of parts of the work words, and of a charset that is written from one id by one (TN5176, section 13).
-use Prim.Native.Nat.{ℕ, _+_, _*_, _/_, _≤_, _<_}
-use mathlib.Core.Path.{_≡_, refl, sym, ap, _∙_}
+use Prim.Native.Nat.{ℕ, _+_, _/_, _≤_, _<_}
+use mathlib.Core.Path.{_≡_, ap, _∙_}
 use mathlib.Core.List.{List, [], _∷_}
 use native.Mathlib.Omega.{arith}
 use lib.ListN.{length, take, drop, getD, length-drop}
@@ -10,7 +10,6 @@ use Rattle.octets.specs.OctetsLaws.{length-bytes}
 use Rattle.octets.specs.PutLaws.{wrote-length}
 use Rattle.charset.specs.CharsetBytes.{charsetBytes}
 use Rattle.charset.specs.CharsetBytesLaws.{charset-length, charset-begun, charset-more, charset-finished, charset-room}
-use Rattle.subset.specs.Pruned.{mapped}
 use Rattle.faithful.specs.EachLaws.{length-mapped, mapped-at}
 use Rattle.glyph_tables.specs.Tables.{part, highs}
 

@@ -1,7 +1,7 @@
 -- The charset and the FDSelect that are written are those of the subset (document 01, 'Layout'): what the work words hold gives the CIDs and
 -- the new FDs of the definitions, and the table has the FDs in use.
 use Prim.Native.Nat.{ℕ, zero, suc, _+_, _*_, _-_, _/_, _≤_, _<_}
-use mathlib.Core.Path.{_≡_, refl, sym, ap, _∙_, subst, fun-ext}
+use mathlib.Core.Path.{_≡_, refl, sym, ap, _∙_, fun-ext}
 use mathlib.Core.Bool.{Bool, true, false}
 use mathlib.Core.List.{List, [], _∷_}
 use mathlib.Core.Logic.{⊎-elim}
@@ -60,12 +60,13 @@ same-test true t h k = sym (h refl)
 same-test false true h k = k refl
 same-test false false h k = refl
 
--- lists with the same glyphs have the same FDs
+-- an FD of a list is one of any list with the same glyphs
 fds-over : (p : Program) (gs hs : List ℕ) → ((g : ℕ) → isIn g gs ≡ isIn g hs) → (f : ℕ) → isIn f (fdsOf p gs) ≡ true → isIn f (fdsOf p hs) ≡ true
 fds-over p gs hs same f h =
     let r = fds-glyph p gs f h in
     ap (λ (k : ℕ). isIn k (fdsOf p hs)) (sym (r .2)) ∙ fds-has p hs (r .0) (sym (same (r .0)) ∙ r .1)
 
+-- lists with the same glyphs have the same FDs
 pub fds-same : (p : Program) (gs hs : List ℕ) → ((g : ℕ) → isIn g gs ≡ isIn g hs) → (f : ℕ) → isIn f (fdsOf p gs) ≡ isIn f (fdsOf p hs)
 fds-same p gs hs same f = same-test _ _ (fds-over p gs hs same f) (fds-over p hs gs (λ g. sym (same g)) f)
 
@@ -93,6 +94,7 @@ module _ (p : Program) (kept order : List ℕ) (good : GoodProgram p) (same : (g
       let l : r .0 < length (p .charstrings) = omega (arith, below (i .0) (i .1), i .2) in
       omega (arith, fd-there p (r .0) good l, r .2)
 
+  -- and a byte
   uses-small : (f : ℕ) → uses f ≡ true → f < 256
   uses-small f h = fds-fit p order f (good .fds) h
 
@@ -102,6 +104,7 @@ module _ (p : Program) (kept order : List ℕ) (good : GoodProgram p) (same : (g
       ap (λ (t : ℕ → Bool). those t (length (p .privates)) 0) (fun-ext (λ f. sym (fds-same p order kept same f)))
       ∙ those-bounds uses (length (p .privates)) 256 0 (λ f h. omega (arith, uses-there f h)) (λ f h. omega (arith, uses-small f h))
 
+  -- each of them is in use
   used-uses : (f : ℕ) → isIn f (usedFds p kept) ≡ uses f
   used-uses f =
       ap (isIn f) used-those
@@ -114,6 +117,7 @@ module _ (p : Program) (kept order : List ℕ) (good : GoodProgram p) (same : (g
   -- the words from n on are the FDs of the glyphs, and the table was made from them
   module _ (ws : List ℕ) (n k : ℕ) (fds : part ws n k ≡ fdsOf p order) (old table : List ℕ) (room : 256 ≤ length old)
       (ranks : table ≡ put old 0 (ranksOf (λ f. isIn f (part ws n k)) 0 256)) where
+    -- a word by the count of those below it
     word : (f : ℕ) → f < 256 → getD table f 0 ≡ pick (uses f) (countBelow uses f + 1) 0
     word f h =
         let hold : HoldRanks table 0 uses 256
@@ -131,7 +135,8 @@ module _ (p : Program) (kept order : List ℕ) (good : GoodProgram p) (same : (g
 
     -- the FDs in use are those whose word is not 0, in this order
     pub table-used : usedFds p kept ≡ those (marked table) 256 0
-    table-used = used-those ∙ those-agree uses (marked table) 256 0 (λ f h. sym (ap (λ (w : ℕ). pick (eqb w 0) false true) (word f (omega arith)) ∙ go (uses f) (countBelow uses f)))
+    table-used = used-those ∙ those-agree uses (marked table) 256 0
+        (λ f h. sym (ap (λ (w : ℕ). pick (eqb w 0) false true) (word f (omega arith)) ∙ go (uses f) (countBelow uses f)))
       where
         go : (t : Bool) (m : ℕ) → pick (eqb (pick t (m + 1) 0) 0) false true ≡ t
         go true m = rw (ne-eqb (m + 1) 0 (λ e. omega arith))
@@ -155,7 +160,7 @@ module _ (p : Program) (kept order : List ℕ) (good : GoodProgram p) (same : (g
         let u : uses f ≡ true = ap (isIn f) (sym fds) ∙ in-at (part ws n k) i h in
         record { inUse = omega (arith, word-used f u); small = omega (arith, word-used f u, count-few uses f, uses-small f u) }
 
-    -- by which the FDs are those that the subset writes
+    -- by which FDs of some of the glyphs have the new numbers that the subset writes
     news : (gs : List ℕ) → ((i : ℕ) → i < length gs → isIn (getD gs i 0) order ≡ true) → newFdsBy table (fdsOf p gs) ≡ newFds p (usedFds p kept) gs
     unfolding mapped fdsOf newFds
     news [] there = refl
@@ -166,5 +171,6 @@ module _ (p : Program) (kept order : List ℕ) (good : GoodProgram p) (same : (g
         ap (λ (x : ℕ). x ∷ newFdsBy table (fdsOf p gs)) e
         ∙ ap (λ (l : List ℕ). newFd (usedFds p kept) f ∷ l) (news gs (λ i h. there (suc i) (omega arith)))
 
+    -- and those of all
     pub table-new-fds : newFdsBy table (part ws n k) ≡ newFds p (usedFds p kept) order
     table-new-fds = ap (newFdsBy table) fds ∙ news order (λ i h. in-at order i h)

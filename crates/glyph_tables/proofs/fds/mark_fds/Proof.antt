@@ -1,6 +1,6 @@
 -- `fds::mark_fds` meets its contract. The invariant: the FDs of g glyphs are marked.
 use borrow.Author.Needs.{needs}
-use Prim.Native.Nat.{ℕ, _-_, _<_}
+use Prim.Native.Nat.{_-_}
 use mathlib.Core.Path.{_≡_, sym, _∙_}
 use native.Mathlib.Omega.{arith}
 use denote.Ref.{now}

@@ -1,11 +1,10 @@
 -- `select::new_fd` meets its contract: the table has a word for the FD, above 0 and at most 256.
 use borrow.Author.Needs.{needs}
-use Prim.Native.Nat.{ℕ, _-_, _≤_, _<_}
-use mathlib.Core.Path.{_≡_, sym, ap, _∙_, subst}
+use Prim.Native.Nat.{ℕ, _-_}
+use mathlib.Core.Path.{_≡_, ap, _∙_}
 use native.Mathlib.Omega.{arith}
 use lib.ListN.{getD}
 use denote.Ref.{now}
-use Rattle.glyph_tables.specs.Tables.{newFdBy}
 use Rattle.glyph_tables.specs.SelectLaws.{number-there}
 use Rattle.glyph_tables.proofs.select.new_fd.Statement.{statement}
 use Rattle.glyph_tables.proofs.select.new_fd.Tie as tie
