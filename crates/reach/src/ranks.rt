@@ -58,7 +58,7 @@ fn rank_rows(rows: &[u8], kind: usize, fd: usize, marks: &mut [u32]) -> Ranked
 }
 
 // Sets all words to 0.
-fn clear(marks: &mut [u32])
+pub fn clear(marks: &mut [u32])
     ensures { λ r. ⌜ now (marks .exit) ≡ replicate (length (now (marks .entry))) 0 ⌝ }
 {
     let n = marks.len();
@@ -132,7 +132,7 @@ fn rank_mark(marks: &mut [u32], i: usize, reached: usize) -> usize
 }
 
 // Turns marks into ranks, plus 1; returns how many marks there were.
-fn rank_marks(marks: &mut [u32]) -> usize
+pub fn rank_marks(marks: &mut [u32]) -> usize
     requires { ⌜ length (now marks) < 65536 ⌝ }
     ensures { λ r. ⌜ (now (marks .exit) ≡ ranked 0 (now (marks .entry))) × (r ≡ counted 0 (now (marks .entry))) ⌝ }
 {
