@@ -16,8 +16,8 @@ use Rattle.index.specs.declared.Index.{Index}
 use Rattle.prune.specs.StepLaws.{zero-one}
 use Rattle.subset.specs.Kept.{those}
 use Rattle.subset.specs.Pruned.{May, fail, yes, countBelow, each}
-use Rattle.faithful.specs.EachLaws.{length-each, each-at}
-use Rattle.faithful.specs.RankLaws.{count-few, count-rises, count-below, count-next, length-those, those-at}
+use Rattle.subset.specs.EachLaws.{length-each, each-at}
+use Rattle.subset.specs.RankLaws.{count-few, count-rises, count-below, count-next, length-those, those-at}
 use Rattle.renumber.specs.Turn.{bodyOf}
 use Rattle.bodies.specs.Ways.{manyOf, holds, every, Room}
 

@@ -10,7 +10,7 @@ use Rattle.octets.specs.OctetsLaws.{length-bytes}
 use Rattle.octets.specs.PutLaws.{wrote-length}
 use Rattle.charset.specs.CharsetBytes.{charsetBytes}
 use Rattle.charset.specs.CharsetBytesLaws.{charset-length, charset-begun, charset-more, charset-finished, charset-room}
-use Rattle.faithful.specs.EachLaws.{length-mapped, mapped-at}
+use Rattle.subset.specs.EachLaws.{length-mapped, mapped-at}
 use Rattle.glyph_tables.specs.Tables.{part, highs}
 
 -- ---- k words

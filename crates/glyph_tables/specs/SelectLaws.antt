@@ -10,7 +10,7 @@ use Rattle.charset.specs.FdSelectBytes.{fdSelectBytes}
 use Rattle.charset.specs.FdWriter.{writerOf, CanCount, Pushed}
 use Rattle.charset.specs.FdWriterLaws.{writer-counts, writer-length}
 use Rattle.charset.specs.declared.fd_writer.FdSelectWriter.{FdSelectWriter}
-use Rattle.faithful.specs.EachLaws.{length-mapped, mapped-at}
+use Rattle.subset.specs.EachLaws.{length-mapped, mapped-at}
 use Rattle.glyph_tables.specs.Tables.{part, newFdBy, newFdsBy, HasNumber, Numbered}
 use Rattle.glyph_tables.specs.PartLaws.{part-length, part-at}
 

@@ -12,7 +12,7 @@ use Rattle.octets.specs.Pick.{pick, pick-ind}
 use Rattle.prune.specs.StepLaws.{zero-one}
 use Rattle.subset.specs.Kept.{those, newFd}
 use Rattle.subset.specs.Pruned.{countBelow}
-use Rattle.faithful.specs.RankLaws.{count-next, count-few}
+use Rattle.subset.specs.RankLaws.{count-next, count-few}
 
 -- none passes
 those-none : (test : ℕ → Bool) (n g : ℕ) → ((k : ℕ) → test k ≡ true → k < g) → those test n g ≡ []

@@ -17,8 +17,8 @@ use Rattle.subset.specs.Kept.{isIn, those, fdsOf, usedFds, newFd}
 use Rattle.subset.specs.Subset.{cidsOf, newFds}
 use Rattle.subset.specs.Pruned.{countBelow, mapped}
 use Rattle.faithful.specs.Laid.{GoodProgram}
-use Rattle.faithful.specs.KeptListLaws.{in-none, in-head, in-more, in-cases, in-at, in-place, those-has, those-in}
-use Rattle.faithful.specs.RankLaws.{count-few, length-those}
+use Rattle.subset.specs.KeptListLaws.{in-none, in-head, in-more, in-cases, in-at, in-place, those-has, those-in}
+use Rattle.subset.specs.RankLaws.{count-few, length-those}
 use Rattle.faithful.specs.UsedLaws.{fds-has, fds-fit, fd-there}
 use Rattle.kept.specs.Packed.{packed, marked}
 use Rattle.reach.specs.Reach.{ranksOf}

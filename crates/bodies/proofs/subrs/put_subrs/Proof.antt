@@ -14,7 +14,7 @@ use Rattle.index.specs.Begun.{Meant}
 use Rattle.record.specs.Record.{rowsOf}
 use Rattle.subset.specs.Kept.{those}
 use Rattle.subset.specs.Pruned.{May, each, countBelow}
-use Rattle.faithful.specs.RankLaws.{count-few}
+use Rattle.subset.specs.RankLaws.{count-few}
 use Rattle.renumber.specs.Ranks.{callsBy}
 use Rattle.bodies.specs.Ways.{manyOf, reachedIn, siteIn, isKept, subrBy, subrsBy, Room}
 use Rattle.bodies.specs.WritingLaws.{Writing, writing-start, writing-length, writing-skip, writing-room, writing-end, writing-on, head-fits, places-meant, writing-whole}
