@@ -1,2 +1,3 @@
 pub mod Capi
 pub mod CapiLaws
+pub mod Numbers

@@ -77,7 +77,7 @@ module _ (room : ℕ) (t old new : List ℕ) (r : Unhexed) (u : Unhexes (fieldBy
 
 -- ---- the same bytes
 
-same-true : (a b : List ℕ) → same a b ≡ true → a ≡ b
+pub same-true : (a b : List ℕ) → same a b ≡ true → a ≡ b
 unfolding same
 same-true [] [] e = refl
 same-true [] (y ∷ ys) e = absurd (false≢true e)

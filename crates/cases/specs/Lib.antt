@@ -9,3 +9,5 @@ pub mod TallyLaws
 pub mod Report
 pub mod ReportLaws
 pub mod Writing
+pub mod Meaning
+pub mod Examples

@@ -22,7 +22,7 @@ before-le b [] = omega arith
 before-le b (x ∷ xs) = pick-ind (λ (n : ℕ). n ≤ suc (length xs)) (eqb x b) 0 (suc (before b xs)) (λ e. omega arith) (λ e. omega (arith, before-le b xs))
 
 module _ (kinds counts line : List ℕ) where
-  place-small : (t : Bool) → placeOf kinds line t < 2 * length kinds + 2
+  pub place-small : (t : Bool) → placeOf kinds line t < 2 * length kinds + 2
   unfolding placeOf
   place-small true = omega (arith, before-le (getD line 0 0) kinds)
   place-small false = omega (arith, before-le (getD line 0 0) kinds)

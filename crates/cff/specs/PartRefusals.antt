@@ -31,6 +31,7 @@ pub record Refusal (n : ℕ) : Type 0 where
 pub record Refusal? (n : ℕ) : Type 0 where
   pub most : n ≤ 5
 
+-- the five of them
 pub truncated : Refusal 1
 truncated = record { least = omega arith; most = omega arith }
 
@@ -66,6 +67,7 @@ pub data OfRead : Read → Type 0 where
   read-refused : {n : ℕ} → Refusal n → OfRead (refusedRead n)
   read-found : {items : List (List ℕ)} {end : ℕ} → OfRead (found items end)
 
+-- by the steps of reading an INDEX
 run-refusal : (room start : ℕ) (ends : List ℕ) → OfRun (runOf room start ends)
 unfolding runOf
 run-refusal room start [] = of-last
@@ -116,6 +118,7 @@ data OfNumber : Number → Type 0 where
   of-none : OfNumber notNumber
   of-number : {d : Decimal} {next : ℕ} → OfNumber (number d next)
 
+-- by the steps of reading a number
 limited-refusal : (d : Decimal) → OfValue (limited d)
 limited-refusal d =
     of-both OfValue (leb (10 ^ 15) (d .digits)) (of-limit past-limits)
@@ -182,6 +185,7 @@ pub data OfDict : Dict → Type 0 where
   dict-refused : {n : ℕ} → Refusal n → OfDict (refusedDict n)
   dict-entries : {es : _} → OfDict (entries es)
 
+-- by the steps of reading a DICT
 operator-refusal : (b : List ℕ) (at : ℕ) → OfToken (operatorAt b at)
 unfolding operatorAt
 operator-refusal b at =
@@ -247,6 +251,7 @@ pub data OfList : Listed → Type 0 where
   list-refused : {n : ℕ} → Refusal n → OfList (refusedList n)
   list-listed : {l : List ℕ} → OfList (listed l)
 
+-- by the ranges of a charset
 onward-list : (x : ℕ) {l : Listed} → OfList l → OfList (onwardList x l)
 onward-list x (list-refused r) = list-refused r
 onward-list x list-listed = list-listed
@@ -268,12 +273,14 @@ pub charset-refusal : (b : List ℕ) (at n : ℕ) → OfList (charsetAt b at n)
 unfolding charsetAt
 charset-refusal b at n = ids-in-refusal n (drop at b)
 
+-- a number that may be 0
 pub none-refused : Refusal? 0
 none-refused = record { most = omega arith }
 
 pub one-refused : {n : ℕ} → Refusal n → Refusal? n
 one-refused r = record { most = r .most }
 
+-- by the ranges of an FDSelect
 ranges-refusal : (wide count first : ℕ) (bs : List ℕ) → Refusal? (rangesRefusal wide count first bs)
 unfolding rangesRefusal
 ranges-refusal wide zero first bs = none-refused
@@ -302,6 +309,7 @@ pub fd-select-refusal : (b : List ℕ) (at n : ℕ) → OfList (fdSelectAt b at 
 unfolding fdSelectAt
 fd-select-refusal b at n = fds-in-refusal n (drop at b)
 
+-- by the parts of an encoding
 entries-refusal : (size : ℕ) (bs : List ℕ) (rest : List ℕ → ℕ) → ((l : List ℕ) → Refusal? (rest l)) → Refusal? (entriesIn size bs rest)
 entries-refusal size [] rest h = one-refused truncated
 entries-refusal size (count ∷ bs) rest h = of-both Refusal? (ltb (length bs) (count * size)) (one-refused truncated) (h (drop (count * size) bs))

@@ -35,21 +35,24 @@ pub data OfStep {A : Type 0} : Got A → Type 0 where
   step-refused : {n : ℕ} → Refusal n → OfStep (refused n)
   step-passed : {a : A} → OfStep (got a)
 
--- an offset, a Private entry, and a whole number
+-- an offset
 data OfOffset : OffsetIn → Type 0 where
   of-refused : {n : ℕ} → Refusal n → OfOffset (RefusedOffset n)
   of-at : {v : ℕ} → OfOffset (At v)
   of-absent : OfOffset NoOffset
 
+-- a Private entry
 data OfPrivate : PrivateIn → Type 0 where
   of-refused : {n : ℕ} → Refusal n → OfPrivate (RefusedPrivate n)
   of-there : {size offset : ℕ} → OfPrivate (PrivateEntry size offset)
   of-absent : OfPrivate NoPrivate
 
+-- a whole number
 data OfWhole : OffsetOf → Type 0 where
   of-refused : {n : ℕ} → Refusal n → OfWhole (RefusedOffsetOf n)
   of-offset : {v : ℕ} → OfWhole (Offset v)
 
+-- what a DICT says
 whole-refusal : (d : Decimal) → OfWhole (offsetOf d)
 whole-refusal d = of-both OfWhole (d .neg) (of-refused malformed) (of-both OfWhole (eqb (d .down) 0) of-offset (of-refused malformed))
 
@@ -94,6 +97,7 @@ unless-refusal (suc e) h =
     let r : Refusal (suc e) = record { least = omega arith; most = h .most } in
     subst OfStep (sym (unless-refused (suc e) (r .least))) (step-refused r)
 
+-- the parts as steps
 index-step : {r : Read} → OfRead r → OfStep (indexGot r)
 index-step (read-refused r) = step-refused r
 index-step read-found = step-passed
@@ -223,6 +227,7 @@ read-step b =
     (of-both OfStep (ltb (length b) 4) (step-refused truncated)
     (of-both OfStep (eqb (getD b 0 0) 1) (set-refusal b (getD b 2 0)) (step-refused unsupported)))
 
+-- the number of a step that is refused
 refused-number : {A : Type 0} {n : ℕ} → OfStep {A = A} (refused n) → Refusal n
 refused-number (step-refused r) = r
 

@@ -24,9 +24,9 @@ use Rattle.subset.specs.Kept.{isIn, keptOf, sortedBy}
 use Rattle.subset.specs.Texts.{newId, textsOf, nameOf, namesOf}
 use Rattle.subset.specs.Subset.{named, ownByName, newIds, cidsOf}
 use Rattle.subset.specs.Cut.{isGlyph, isFound, allFound}
-use Rattle.faithful.specs.KeptListLaws.{in-none, in-head, in-more, in-cases, in-at, Distinct, one, sorted-in, sorted-distinct}
+use Rattle.subset.specs.KeptListLaws.{in-none, in-head, in-more, in-cases, in-at, Distinct, one, sorted-in, sorted-distinct}
 use Rattle.faithful.specs.KeptLaws.{kept-distinct}
-use Rattle.faithful.specs.TextsLaws.{has-right, new-text, names-has}
+use Rattle.subset.specs.TextsLaws.{has-right, new-text, names-has}
 
 -- ---- refusal 7 passed
 

@@ -25,9 +25,9 @@ use Rattle.subset.specs.Subset.{ownByName, ownByCid, newIds, cidsOf, newFds, su
 use Rattle.subset.specs.Cut.{allFound, hasRos, ownOf}
 use Rattle.faithful.specs.Faithful.{unfolded, IsKept, Recorded, Holds}
 use Rattle.faithful.specs.Laid.{GoodProgram, Fitting, ReadsAs}
-use Rattle.faithful.specs.KeptListLaws.{in-at}
+use Rattle.subset.specs.KeptListLaws.{in-at}
 use Rattle.faithful.specs.KeptLaws.{kept-is, kept-below, kept-some, order-count, order-has, order-in}
-use Rattle.faithful.specs.TextsLaws.{first-name, first-cid}
+use Rattle.faithful.specs.FirstLaws.{first-name, first-cid}
 use Rattle.faithful.specs.FoundLaws.{found-name, found-cid}
 use Rattle.faithful.specs.UsedLaws.{used-has, used-some, used-count, used-one, new-fd-at, new-fds-there, new-fds-fit, new-fds-at}
 use Rattle.faithful.specs.PrunedLaws.{pruned-fits, pruned-unfolds}

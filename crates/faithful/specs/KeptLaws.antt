@@ -15,7 +15,7 @@ use Rattle.dict.specs.Lookup.{cidKeyed}
 use Rattle.cff.specs.Font.{Program}
 use Rattle.subset.specs.Kept.{isIn, those, keptOf, sortedBy, writtenOrder}
 use Rattle.faithful.specs.Faithful.{IsKept}
-use Rattle.faithful.specs.KeptListLaws.{in-at, in-place, those-has, those-in, those-count, Distinct, those-distinct, sorted-in, sorted-count, sorted-distinct}
+use Rattle.subset.specs.KeptListLaws.{in-at, in-place, those-has, those-in, those-count, Distinct, those-distinct, sorted-in, sorted-count, sorted-distinct}
 
 -- ---- kept
 

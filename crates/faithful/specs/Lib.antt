@@ -2,13 +2,10 @@ pub mod Faithful
 pub mod Laid
 pub mod GoodPartsLaws
 pub mod GoodLaws
-pub mod KeptListLaws
 pub mod KeptLaws
-pub mod TextsLaws
+pub mod FirstLaws
 pub mod FoundLaws
 pub mod UsedLaws
-pub mod RankLaws
-pub mod EachLaws
 pub mod RecordLaws
 pub mod RenumberedLaws
 pub mod RenumberedGlyphLaws

@@ -22,7 +22,7 @@ use Rattle.subset.specs.Kept.{isIn, usedFds, newFd, localsOf}
 use Rattle.subset.specs.Pruned.{Bodies, May, fail, yes as done, localSet, globalSet, stubbedFrom, mapped, renumberedSubrs, callsIn, callsAcross, renumbered, charstringsOf, stubbed, copied, Pruned, orStubbed, pruned}
 use Rattle.faithful.specs.Faithful.{unfolded, Recorded}
 use Rattle.faithful.specs.Laid.{GoodProgram, Fitting}
-use Rattle.faithful.specs.EachLaws.{length-mapped, mapped-at, length-each, each-at, length-stubbed, stubbed-at}
+use Rattle.subset.specs.EachLaws.{length-mapped, mapped-at, length-each, each-at, length-stubbed, stubbed-at}
 use Rattle.faithful.specs.UsedLaws.{used-has, new-fd-at}
 use Rattle.faithful.specs.RecordLaws.{number-below}
 use Rattle.faithful.specs.RenumberedLaws.{subrs-few, Renews, renews}

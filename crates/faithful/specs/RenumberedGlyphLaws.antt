@@ -20,7 +20,7 @@ use Rattle.cff.specs.Font.{Program}
 use Rattle.subset.specs.Kept.{isIn, newFd, localsOf}
 use Rattle.subset.specs.Pruned.{Bodies, yes as done, localSet, globalSet, renumberedSubrs, localOperand, globalOperand, callsIn, callsAcross}
 use Rattle.faithful.specs.Laid.{GoodProgram}
-use Rattle.faithful.specs.EachLaws.{each-at}
+use Rattle.subset.specs.EachLaws.{each-at}
 use Rattle.faithful.specs.UsedLaws.{new-fd-at}
 use Rattle.faithful.specs.RecordLaws.{given-listed}
 use Rattle.faithful.specs.RenumberedLaws.{Turned, Ranked, body-turned, subrs-there, subrs-body, subrs-call, subrs-reading, callsOf, calls-in, Renews}

@@ -20,8 +20,8 @@ use Rattle.record.specs.Record.{givenIn, twoLengths}
 use Rattle.cff.specs.Font.{Program}
 use Rattle.subset.specs.Kept.{isIn, those, localsOf}
 use Rattle.subset.specs.Pruned.{Bodies, countBelow, rank, reached, May, fail, yes as done, whole, each, localSet, globalSet, renumberedBody, renumberedSubrs, localOperand, globalOperand, callsIn, callsAcross, renumbered}
-use Rattle.faithful.specs.EachLaws.{and-yes, length-each, each-at}
-use Rattle.faithful.specs.RankLaws.{count-few, count-below, count-bound, rank-new, length-those, those-at}
+use Rattle.subset.specs.EachLaws.{and-yes, length-each, each-at}
+use Rattle.subset.specs.RankLaws.{count-few, count-below, count-bound, rank-new, length-those, those-at}
 
 -- ---- a body
 

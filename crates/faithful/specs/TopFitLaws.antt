@@ -27,12 +27,12 @@ use Rattle.dict.specs.declared.One.{One}
 use Rattle.dict.specs.declared.One.the-variants.{Number, Absent as NoNumber}
 use Rattle.dict.specs.declared.RosIn.{RosIn}
 use Rattle.dict.specs.declared.RosIn.the-variants.{Ros, None}
-use Rattle.dict_write.specs.Written.{entryBytes, offsetEntry, privateEntry}
+use Rattle.dict_write.specs.Written.{copiedEntry, entryBytes, offsetEntry, privateEntry}
 use Rattle.dict_write.specs.Parts.{Part, plain, offset, privatePart, partBytes, partsBytes, AllFit}
 use Rattle.dict_write.specs.EntriesRound.{parts-append, fit-append}
 use Rattle.cff.specs.Font.{Program, charset, charStrings, fdArray, fdSelect}
 use Rattle.subset.specs.Texts.{Named, namedBy, namedEntries, placeIn, idAfter, newId}
-use Rattle.subset.specs.Subset.{numberOf, named, namedBytes, copiedEntry, copiedBytes, rosEntry, topByName, topByCid}
+use Rattle.subset.specs.Subset.{numberOf, named, namedBytes, copiedBytes, rosEntry, topByName, topByCid}
 use Rattle.faithful.specs.Laid.{GoodProgram}
 use Rattle.faithful.specs.TopParts.{namedParts, copiedPart, copiedParts, rosParts, sharedParts, nameTopParts, cidTopParts}
 
@@ -46,7 +46,7 @@ named-bytes own (n ∷ ns) = ap (λ (l : List ℕ). entryBytes (n .op) (numberOf
 
 -- of one copied entry
 copied-one : (op : ℕ) (o : Operands) (ps : List Part) → partsBytes (copiedPart op o ++ ps) ≡ copiedEntry op o ++ partsBytes ps
-unfolding partsBytes
+unfolding partsBytes copiedEntry
 copied-one op absent ps = refl
 copied-one op (operands ds) ps = refl
 

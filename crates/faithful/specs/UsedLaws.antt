@@ -20,7 +20,7 @@ use Rattle.cff.specs.Font.{Program}
 use Rattle.subset.specs.Kept.{isIn, those, fdsOf, usedFds, newFd}
 use Rattle.subset.specs.Subset.{newFds}
 use Rattle.faithful.specs.Laid.{GoodProgram}
-use Rattle.faithful.specs.KeptListLaws.{in-none, in-head, in-more, in-cases, in-at, in-some, those-has, those-in, those-few, those-high}
+use Rattle.subset.specs.KeptListLaws.{in-none, in-head, in-more, in-cases, in-at, in-some, those-has, those-in, those-few, those-high}
 
 -- ---- FDs of glyphs
 
@@ -40,7 +40,7 @@ below-at count (x ∷ xs) (suc i) a h =
     a
 
 -- the FD of a glyph of a list is among theirs
-fds-has : (p : Program) (gs : List ℕ) (g : ℕ) → isIn g gs ≡ true → isIn (getD (p .fds) g 0) (fdsOf p gs) ≡ true
+pub fds-has : (p : Program) (gs : List ℕ) (g : ℕ) → isIn g gs ≡ true → isIn (getD (p .fds) g 0) (fdsOf p gs) ≡ true
 unfolding fdsOf
 fds-has p [] g h = absurd (in-none g h)
 fds-has p (x ∷ gs) g h =
@@ -50,7 +50,7 @@ fds-has p (x ∷ gs) g h =
     (in-cases x g gs h)
 
 -- FDs are bytes
-fds-fit : (p : Program) (gs : List ℕ) (f : ℕ) → Fds (p .fds) → isIn f (fdsOf p gs) ≡ true → f < 256
+pub fds-fit : (p : Program) (gs : List ℕ) (f : ℕ) → Fds (p .fds) → isIn f (fdsOf p gs) ≡ true → f < 256
 unfolding fdsOf
 fds-fit p [] f b h = absurd (in-none f h)
 fds-fit p (x ∷ gs) f b h =
@@ -63,7 +63,7 @@ abbrev pub uses : Program → List ℕ → ℕ → Bool
 uses p kept f = isIn f (fdsOf p kept)
 
 -- the FD of a glyph is one of the font's
-fd-there : (p : Program) (g : ℕ) → GoodProgram p → g < length (p .charstrings) → getD (p .fds) g 0 < length (p .privates)
+pub fd-there : (p : Program) (g : ℕ) → GoodProgram p → g < length (p .charstrings) → getD (p .fds) g 0 < length (p .privates)
 fd-there p g good h = below-at (length (p .privates)) (p .fds) g (good .fdsThere) (omega (arith, good .fdsCount))
 
 -- the FD of a kept glyph is in use

@@ -7,3 +7,4 @@ pub mod DictsLaws
 pub mod DecimalsLaws
 pub mod GlyphsLaws
 pub mod AnswersLaws
+pub mod Examples

@@ -13,9 +13,10 @@ use Rattle.cff.specs.Font.{Program}
 use Rattle.subset.specs.Kept.{keptOf, sortedBy, writtenOrder}
 use Rattle.subset.specs.Cut.{allBelow}
 use Rattle.kept.specs.Packed.{packed, glyphsIn, keeps, Begins}
-use Rattle.kept.specs.GatherLaws.{mapped-length}
+use Rattle.subset.specs.EachLaws.{length-mapped}
+use Rattle.subset.specs.KeptListLaws.{sorted-count}
 use Rattle.kept.specs.FdsLaws.{glyphs-packed}
-use Rattle.kept.specs.OrderLaws.{Below, below-rest, sorted-below, sorted-count, those-at}
+use Rattle.kept.specs.OrderLaws.{Below, below-rest, sorted-below, those-at}
 
 below-all : (n : ℕ) (l : List ℕ) → Below n l → allBelow n l ≡ true
 unfolding allBelow
@@ -47,6 +48,6 @@ module _ (p : Program) (n : ℕ) (keep : List ℕ) where
       → glyphsIn (take k ws) ≡ writtenOrder p (keptOf n keep)
   order-glyphs few old ws k b e =
       let l = writtenOrder p (keptOf n keep) in
-      let c : length (packed p l) ≡ k = mapped-length (λ (x : ℕ). getD (p .ids) x 0 * 65536 + x) l ∙ order-length ∙ sym e in
+      let c : length (packed p l) ≡ k = length-mapped (λ (x : ℕ). getD (p .ids) x 0 * 65536 + x) l ∙ order-length ∙ sym e in
       let f : take k ws ≡ packed p l = subst (λ (j : ℕ). take j ws ≡ packed p l) c (b .front) in
       ap glyphsIn f ∙ glyphs-packed (p .ids) l (order-below-any 65536 (omega arith))

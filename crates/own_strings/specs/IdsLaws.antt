@@ -1,11 +1,11 @@
 -- Laws of the two loops that give new ids: to the eight slots, and to the names of glyphs; and what they leave for later functions.
-use Prim.Native.Nat.{ℕ, zero, suc, _+_, _-_, _*_, _/_, _<_, _≤_}
-use mathlib.Core.Path.{_≡_, refl, sym, ap, _∙_, subst}
+use Prim.Native.Nat.{ℕ, suc, _+_, _-_, _*_, _/_, _<_, _≤_}
+use mathlib.Core.Path.{_≡_, refl, sym, ap, _∙_}
 use mathlib.Core.Bool.{Bool, true, false}
 use mathlib.Core.List.{List, [], _∷_, _++_}
 use native.Mathlib.Omega.{arith}
 use lib.ListN.{length, take, drop, getD, set}
-use lib.Seq.{take-take, take-all, getD-take, getD-drop, length-take-le, take-at}
+use lib.Seq.{take-take, take-all, getD-take, length-take-le, take-at}
 use Rattle.octets.specs.Octets.{put}
 use Rattle.octets.specs.PutLaws.{put-length, put-next, put-all, put-nil, drop-put-at}
 use Rattle.index.specs.Index.{itemsOf}
@@ -13,14 +13,15 @@ use Rattle.index.specs.Write.{total}
 use Rattle.index.specs.declared.Index.{Index}
 use Rattle.strings.specs.Strings.{stringText, sidOf}
 use Rattle.strings.specs.declared.Sid.the-variants.{Other}
-use Rattle.subset.specs.Texts.{hasText, ownStrings, newId}
+use Rattle.subset.specs.Texts.{hasText, ownStrings}
 use Rattle.subset.specs.Subset.{newIds}
 use Rattle.own_strings.specs.declared.Own.{Own}
 use Rattle.own_strings.specs.Slots.{slotTexts, slotId, slotIds, wordNames, wordIds, ownOf, slotsOwn, allOwn, givenId, counted}
 use Rattle.own_strings.specs.Ready.{HasStrings, SlotsGiven, NamesReady, NamesGiven}
-use Rattle.own_strings.specs.OwnLaws.{has-left, has-second, own-append, own-same}
+use Rattle.subset.specs.TextsLaws.{has-left}
+use Rattle.own_strings.specs.OwnLaws.{has-second, own-append, own-same}
 use Rattle.own_strings.specs.TurnLaws.{text-short}
-use Rattle.own_strings.specs.StageLaws.{own-bound, ids-length, ids-at, slot-keeps, Words, words-take, names-slots, new-ids-slots, word-ids-length, word-ids-at, names-at, names-length, names-take, take-front, read-front, read-behind, turn-id, turn-own, turn-below}
+use Rattle.own_strings.specs.StageLaws.{own-bound, ids-length, ids-at, slot-keeps, words-take, names-slots, new-ids-slots, word-ids-length, word-ids-at, names-at, names-length, names-take, take-front, read-front, read-behind, turn-id, turn-own, turn-below}
 
 -- ---- the slots
 

@@ -1,47 +1,23 @@
 -- Laws of the own strings of a subset: they only grow at the end, so that the place of a text that is there stays, and a text that is new
 -- stands behind all others.
-use Prim.Native.Nat.{ℕ, zero, suc, _+_, _<_, _≤_}
+use Prim.Native.Nat.{ℕ, _+_, _<_}
 use mathlib.Core.Path.{_≡_, refl, sym, ap, _∙_}
 use mathlib.Core.Bool.{Bool, true, false}
 use mathlib.Core.List.{List, [], _∷_, _++_, append-assoc, append-nil}
 use native.Mathlib.Omega.{arith}
-use lib.ListN.{length, getD, length-append}
+use lib.ListN.{length}
 use Rattle.octets.specs.Pick.{pick, pick-ind}
 use Rattle.prune.specs.StepLaws.{zero-one}
 use Rattle.strings.specs.Text.{sameText}
-use Rattle.strings.specs.TextLaws.{same-refl, same-true}
+use Rattle.strings.specs.TextLaws.{same-refl}
 use Rattle.strings.specs.Strings.{sidOf}
 use Rattle.strings.specs.StringsLaws.{sid-below}
 use Rattle.strings.specs.declared.Sid.{Sid}
 use Rattle.strings.specs.declared.Sid.the-variants.{Standard, Other}
-use Rattle.subset.specs.Texts.{hasText, withText, ownStrings, placeIn, idAfter, newId}
+use Rattle.subset.specs.TextsLaws.{own-has}
+use Rattle.subset.specs.Texts.{hasText, withText, ownStrings, placeIn, newId}
 
 -- ---- texts among others
-
--- the text at the front is there
-pub has-head : (x t : List ℕ) (xs : List (List ℕ)) → x ≡ t → hasText t (x ∷ xs) ≡ true
-unfolding hasText
-has-head x t xs e = let s : sameText x t ≡ true = rw e (same-refl t) in simp s
-
--- one that is in the rest is there
-has-more : (x t : List ℕ) (xs : List (List ℕ)) → hasText t xs ≡ true → hasText t (x ∷ xs) ≡ true
-unfolding hasText
-has-more x t xs h = pick-ind (λ s. s ≡ true) (sameText x t) true (hasText t xs) (λ s. refl) (λ s. h)
-
--- one that is in the first of two lists is in both together
-pub has-left : (t : List ℕ) (xs ys : List (List ℕ)) → hasText t xs ≡ true → hasText t (xs ++ ys) ≡ true
-unfolding hasText
-has-left t [] ys h = absurd (zero-one cc)
-has-left t (x ∷ xs) ys h =
-    pick-ind (λ s. s ≡ true → hasText t (x ∷ (xs ++ ys)) ≡ true) (sameText x t) true (hasText t xs)
-    (λ s e. has-head x t (xs ++ ys) (same-true x t s))
-    (λ s e. has-more x t (xs ++ ys) (has-left t xs ys e))
-    h
-
--- and so is one that is in the second
-pub has-right : (t : List ℕ) (xs ys : List (List ℕ)) → hasText t ys ≡ true → hasText t (xs ++ ys) ≡ true
-has-right t [] ys h = h
-has-right t (x ∷ xs) ys h = has-more x t (xs ++ ys) (has-right t xs ys h)
 
 -- one that is not in the first is in both together exactly where it is in the second
 pub has-second : (t : List ℕ) (xs ys : List (List ℕ)) → hasText t xs ≡ false → hasText t (xs ++ ys) ≡ hasText t ys
@@ -114,29 +90,6 @@ own-grown own (t ∷ ts) =
       is = f .is ∙ ap (λ (l : List (List ℕ)). l ++ f .rest) (g .is) ∙ append-assoc own (g .rest) (f .rest);
     }
 
--- a text that is there stays
-pub own-keeps : (t : List ℕ) (own ts : List (List ℕ)) → hasText t own ≡ true → hasText t (ownStrings own ts) ≡ true
-own-keeps t own ts h = let g = own-grown own ts in ap (hasText t) (g .is) ∙ has-left t own (g .rest) h
-
--- a text that is not standard is there after its use
-with-has : (t : List ℕ) (s : Sid) (own : List (List ℕ)) → s ≡ Other → hasText t (withText s t own) ≡ true
-with-has t (Standard k) own e = absurd (zero-one cc)
-with-has t Other own e =
-    pick-ind (λ (l : List (List ℕ)). hasText t l ≡ true) (hasText t own) own (own ++ (t ∷ []))
-    (λ s. s)
-    (λ s. has-right t own (t ∷ []) (has-head t t [] refl))
-
--- and after the use of all
-pub own-has : (t : List ℕ) (own ts : List (List ℕ)) → sidOf t ≡ Other → hasText t ts ≡ true → hasText t (ownStrings own ts) ≡ true
-unfolding ownStrings hasText
-own-has t own [] o h = absurd (zero-one cc)
-own-has t own (u ∷ ts) o h =
-    pick-ind (λ s. s ≡ true → hasText t (ownStrings (withText (sidOf u) u own) ts) ≡ true) (sameText u t) true (hasText t ts)
-    (λ s e. own-keeps t (withText (sidOf u) u own) ts
-    (rw (same-true u t s) (with-has t (sidOf t) own o)))
-    (λ s e. own-has t (withText (sidOf u) u own) ts o e)
-    h
-
 -- one that is not used is not new
 with-lacks : (t : List ℕ) (s : Sid) (u : List ℕ) (own : List (List ℕ)) → sameText u t ≡ false → hasText t own ≡ false → hasText t (withText s u own) ≡ false
 unfolding hasText
@@ -158,7 +111,7 @@ own-lacks t own (u ∷ ts) h e =
 -- by cases on the texts
 own-same-as : (t : List ℕ) (ts : List (List ℕ)) → sidOf t ≡ Other → (h : Bool) → hasText t ts ≡ h → hasText t (ownStrings [] ts) ≡ h
 unfolding hasText
-own-same-as t ts o true e = own-has t [] ts o e
+own-same-as t ts o true e = own-has t ts [] o e
 own-same-as t ts o false e = own-lacks t [] ts refl e
 
 -- a text that is not standard is an own string exactly where it is used

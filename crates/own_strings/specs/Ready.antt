@@ -3,7 +3,6 @@ use Prim.Native.Nat.{ℕ, _+_, _≤_, _<_}
 use mathlib.Core.Path.{_≡_}
 use mathlib.Core.List.{List}
 use lib.ListN.{length, take, drop}
-use Rattle.index.specs.Index.{itemsOf}
 use Rattle.index.specs.Good.{Good}
 use Rattle.index.specs.Write.{indexBytes}
 use Rattle.index.specs.declared.Index.{Index}

@@ -1,30 +1,30 @@
 -- Laws of slots that are used one after the other: what the use of one adds to the own strings, that its new id is the next one exactly
 -- where it adds a string, and that the code gives it that id.
-use Prim.Native.Nat.{ℕ, zero, suc, _+_, _*_, _-_, _<_, _≤_}
+use Prim.Native.Nat.{ℕ, suc, _+_, _-_, _<_, _≤_}
 use mathlib.Core.Path.{_≡_, refl, sym, ap, _∙_}
 use mathlib.Core.Bool.{Bool, true, false}
-use mathlib.Core.List.{List, [], _∷_, _++_, append-assoc, append-nil}
+use mathlib.Core.List.{List, [], _∷_, _++_, append-assoc}
 use native.Mathlib.Nat.{add-zero}
 use native.Mathlib.Numerals.{add-one}
 use native.Mathlib.Omega.{arith}
 use borrow.Author.Tests.{ltb-true, ltb-false, eqb-true, eqb-false, lt-ltb, le-ltb, eq-eqb, ne-eqb}
 use lib.Dec.{ltb, eqb}
 use lib.ListN.{length, take, drop, getD, length-append}
-use lib.Seq.{split-at, take-suc, drop-cons, getD-at}
+use lib.Seq.{split-at, take-suc, getD-at}
 use Rattle.octets.specs.Pick.{pick, pick-ind}
 use Rattle.prune.specs.StepLaws.{zero-one}
 use Rattle.index.specs.Write.{total}
 use Rattle.index.specs.WriteLaws.{total-append}
 use Rattle.strings.specs.Text.{sameText}
-use Rattle.strings.specs.TextLaws.{same-refl, same-true}
-use Rattle.strings.specs.Strings.{stringText, sidOf, standardString}
+use Rattle.strings.specs.TextLaws.{same-true}
+use Rattle.strings.specs.Strings.{stringText, sidOf}
 use Rattle.strings.specs.StringsLaws.{string-standard, sid-standard, sid-below}
 use Rattle.strings.specs.declared.Sid.{Sid}
 use Rattle.strings.specs.declared.Sid.the-variants.{Standard, Other}
 use Rattle.subset.specs.Texts.{hasText, withText, ownStrings, placeIn, newId}
 use Rattle.own_strings.specs.declared.Own.{Own}
-use Rattle.own_strings.specs.Slots.{slotTexts, slotId, slotIds, ownOf, slotHas, slotWith, standardOr, givenOr, givenId, counted}
-use Rattle.own_strings.specs.OwnLaws.{has-head, Grown, own-grown, own-append, own-keeps, place-left, place-below, place-new, new-standard, new-other}
+use Rattle.own_strings.specs.Slots.{slotTexts, slotId, ownOf, slotHas, slotWith, givenOr, givenId, counted}
+use Rattle.own_strings.specs.OwnLaws.{own-grown, own-append, place-left, place-below, place-new, new-standard, new-other}
 
 -- ---- slots one after the other
 

@@ -1,8 +1,8 @@
 -- The texts of the slots of a top DICT are the texts that the subset uses before the names of glyphs (document 01, 'Layout'): for a CID-keyed
 -- font registry and ordering of a ROS that can be used, then the string entries that are there.
-use Prim.Native.Nat.{ℕ, _<_, _≤_, min}
-use mathlib.Core.Path.{_≡_, refl, sym, ap, _∙_}
-use mathlib.Core.Bool.{Bool, true, false}
+use Prim.Native.Nat.{ℕ, _<_, min}
+use mathlib.Core.Path.{_≡_, refl, ap, _∙_}
+use mathlib.Core.Bool.{true, false}
 use mathlib.Core.List.{List, [], _∷_, _++_}
 use native.Mathlib.Nat.{min-le-right}
 use native.Mathlib.Omega.{arith}
@@ -10,23 +10,19 @@ use borrow.Author.Tests.{ltb-true, ne-eqb}
 use lib.Dec.{ltb, eqb}
 use Rattle.octets.specs.Pick.{pick, pick-ind}
 use Rattle.prune.specs.StepLaws.{zero-one}
-use Rattle.decimal.specs.Values.{truncOf, clamped, idOf, i32Of}
+use Rattle.decimal.specs.Values.{truncOf, clamped, idOf}
 use Rattle.decimal.specs.declared.Decimal.{Decimal}
-use Rattle.decimal.specs.declared.Signed.{Signed}
 use Rattle.decimal.specs.declared.IdOf.{IdOf}
 use Rattle.decimal.specs.declared.IdOf.the-variants.{Id, Absent}
 use Rattle.dict.specs.Op.{ros, copiedTopStrings}
-use Rattle.dict.specs.Dict.{Entry}
 use Rattle.dict.specs.Lookup.{Operands, absent, operands, lastOf, oneOf, idAs, idIn, rosAs, rosIn}
 use Rattle.dict.specs.declared.One.{One}
 use Rattle.dict.specs.declared.One.the-variants.{Number, Absent as NoNumber}
-use Rattle.dict.specs.declared.RosIn.{RosIn}
-use Rattle.dict.specs.declared.RosIn.the-variants.{Ros, None}
 use Rattle.strings.specs.Strings.{stringText}
 use Rattle.cff.specs.Font.{Program}
 use Rattle.subset.specs.Texts.{Named, namedBy, namedEntries, textsOf}
 use Rattle.subset.specs.Subset.{named, rosTexts}
-use Rattle.own_strings.specs.Slots.{slotOf, rosSlots, firstSlots, entrySlots, slotsOf, slotTexts}
+use Rattle.own_strings.specs.Slots.{slotOf, rosSlots, entrySlots, slotsOf, slotTexts}
 use Rattle.own_strings.specs.SlotLaws.{texts-append}
 
 -- ---- string ids have 16 bits

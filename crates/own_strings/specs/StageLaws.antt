@@ -5,25 +5,24 @@ use mathlib.Core.Path.{_≡_, refl, sym, ap, _∙_, subst}
 use mathlib.Core.Bool.{Bool, true, false}
 use mathlib.Core.List.{List, [], _∷_, _++_}
 use native.Mathlib.Nat.{div-lt-iff-lt-mul, not-suc-le-zero}
-use native.Mathlib.Numerals.{add-one}
 use native.Mathlib.Omega.{arith}
-use borrow.Author.Tests.{eqb-true, eqb-false, eq-eqb, ne-eqb}
-use lib.Dec.{ltb, eqb, lit<}
-use lib.ListN.{length, take, drop, getD, set, length-append}
-use lib.Seq.{take-append-le, take-take, take-append-seam, getD-take, getD-drop, length-take-le, ext-getD}
-use Rattle.octets.specs.Pick.{pick, pick-ind}
+use borrow.Author.Tests.{eqb-true, eqb-false, ne-eqb}
+use lib.Dec.{eqb, lit<}
+use lib.ListN.{length, take, drop, getD, length-append}
+use lib.Seq.{take-append-le, take-take, take-append-seam, getD-take, length-take-le, ext-getD}
+use Rattle.octets.specs.Pick.{pick-ind}
 use Rattle.octets.specs.Octets.{put}
 use Rattle.octets.specs.PutLaws.{drop-put-at}
-use Rattle.prune.specs.StepLaws.{zero-one}
 use Rattle.index.specs.Write.{total}
 use Rattle.index.specs.WriteLaws.{total-append}
 use Rattle.strings.specs.Strings.{stringText, sidOf}
 use Rattle.strings.specs.declared.Sid.the-variants.{Other}
-use Rattle.subset.specs.Texts.{hasText, ownStrings, newId}
+use Rattle.subset.specs.Texts.{hasText, ownStrings}
 use Rattle.subset.specs.Subset.{newIds}
 use Rattle.own_strings.specs.declared.Own.{Own}
-use Rattle.own_strings.specs.Slots.{slotTexts, slotId, slotIds, wordNames, wordIds, ownOf, slotsOwn, allOwn, givenId, counted}
-use Rattle.own_strings.specs.OwnLaws.{has-head, has-left, has-right, has-second, own-append, own-has, own-same, new-keeps}
+use Rattle.own_strings.specs.Slots.{slotTexts, slotId, slotIds, wordNames, wordIds, ownOf, givenId, counted}
+use Rattle.subset.specs.TextsLaws.{has-head, has-right, own-has}
+use Rattle.own_strings.specs.OwnLaws.{new-keeps}
 use Rattle.own_strings.specs.SlotLaws.{used, used-first, stage-more, stage-rest, Using, empty, standard, there, new, use-cases, used-empty, used-standard, used-there, used-new, slot-empty, slot-full, other-high, Step, next, stays, step, counted-is, given-is}
 
 -- ---- how many own strings, and how long
@@ -94,7 +93,7 @@ module _ (strings : List (List ℕ)) (xs : List ℕ) (ts : List (List ℕ)) wher
       let n = eqb-false (getD xs j 0) 65536 e in
       let t = stringText strings (getD xs j 0) in
       slot-full strings (ownStrings of ts) (getD xs j 0) n
-      ∙ new-keeps t of ts (λ o. own-has t [] (slotTexts strings xs) o (text-in strings xs j h n))
+      ∙ new-keeps t of ts (λ o. own-has t (slotTexts strings xs) [] o (text-in strings xs j h n))
       ∙ sym (slot-full strings of (getD xs j 0) n)
 
   pub slot-keeps : (j : ℕ) → j < length xs → slotId (ownStrings of ts) strings (getD xs j 0) ≡ slotId of strings (getD xs j 0)

@@ -1,16 +1,14 @@
 -- Laws for one string id at a time: the text of an id, the slot that has a text, the id that a slot is given and what is counted.
-use Prim.Native.Nat.{ℕ, zero, suc, _+_, _-_, _*_, _<_, _≤_}
+use Prim.Native.Nat.{ℕ, zero, suc, _+_, _-_, _<_, _≤_}
 use mathlib.Core.Path.{_≡_, refl, sym, ap, _∙_}
 use mathlib.Core.Bool.{Bool, true, false}
-use mathlib.Core.List.{List, [], _∷_, _++_}
-use native.Mathlib.Nat.{add-zero}
+use mathlib.Core.List.{List, [], _∷_}
 use native.Mathlib.Numerals.{add-one}
 use native.Mathlib.Omega.{arith}
 use borrow.Author.Tests.{ltb-true, ltb-false, lt-ltb, le-ltb, eq-eqb, ne-eqb}
-use lib.Dec.{ltb, eqb}
-use lib.ListN.{length, take, drop, getD, set, drop-of-length-le, List·getD-eq-default}
+use lib.Dec.{ltb}
+use lib.ListN.{length, take, drop, getD, set, drop-of-length-le}
 use lib.Seq.{drop-cons, getD-take, getD-drop, length-take-le}
-use Rattle.octets.specs.Pick.{pick, pick-ind}
 use Rattle.octets.specs.Octets.{put}
 use Rattle.octets.specs.PutLaws.{put-one, put-snoc, put-put, put-next, put-length}
 use Rattle.index.specs.Index.{itemsOf}
@@ -27,7 +25,7 @@ use Rattle.strings.specs.StringsLaws.{string-own, string-none}
 use Rattle.strings.specs.declared.Sid.{Sid}
 use Rattle.strings.specs.declared.Sid.the-variants.{Standard, Other}
 use Rattle.own_strings.specs.declared.Own.{Own}
-use Rattle.own_strings.specs.Slots.{slotOf, rosSlots, firstSlots, entrySlots, slotsOf, slotHas, slotWith, standardOr, givenOr, givenId, counted}
+use Rattle.own_strings.specs.Slots.{slotOf, rosSlots, firstSlots, entrySlots, slotsOf, slotHas, slotWith, givenOr, givenId, counted}
 use Rattle.own_strings.specs.Ready.{HasStrings}
 
 -- ---- the slots of a top DICT

@@ -14,7 +14,7 @@ use Rattle.index.specs.declared.Index.{Index}
 use Rattle.strings.specs.Strings.{stringText}
 use Rattle.subset.specs.Texts.{ownStrings}
 use Rattle.own_strings.specs.declared.Use.{Use}
-use Rattle.own_strings.specs.Slots.{slotTexts, slotId, slotIds, wordNames, wordIds, slotsOwn, allOwn, useAt}
+use Rattle.own_strings.specs.Slots.{slotTexts, slotId, wordNames, wordIds, slotsOwn, allOwn, useAt}
 use Rattle.own_strings.specs.Ready.{SlotsGiven, NamesGiven}
 use Rattle.own_strings.specs.OwnLaws.{own-append}
 use Rattle.own_strings.specs.SlotLaws.{used, texts-append, stage-more, stage-rest, Next, Stays, Step, next, stays, step}

@@ -2,7 +2,7 @@
 -- where all reached numbers are below it.
 use Prim.Native.Nat.{ℕ, zero, suc, _+_, _-_, _≤_, _<_}
 use mathlib.Core.Path.{_≡_, refl, sym, ap, _∙_, subst}
-use mathlib.Core.Bool.{Bool, true, false, _&&_}
+use mathlib.Core.Bool.{Bool, true, false}
 use mathlib.Core.List.{List, [], _∷_}
 use native.Mathlib.Nat.{add-zero}
 use native.Mathlib.Omega.{arith}
@@ -14,6 +14,8 @@ use Rattle.octets.specs.Pick.{pick}
 use Rattle.unfold.specs.Unfold.{Row}
 use Rattle.record.specs.Record.{sameRow, lists}
 use Rattle.subset.specs.Pruned.{countBelow, reached}
+use Rattle.subset.specs.RankLaws.{count-next}
+use Rattle.subset.specs.ReachedLaws.{third-false}
 use Rattle.reach.specs.Reach.{ranksOf}
 use Rattle.reach.specs.Ranks.{reachedRow, reachedIn, tells, markRow, marked, pastRow, pastOf, rankFor, countFor, ranked, counted}
 use Rattle.reach.specs.Cases.{by-number}
@@ -21,11 +23,6 @@ use Rattle.reach.specs.RowLaws.{AllFit}
 use Rattle.reach.specs.MarkLaws.{mark-length}
 
 -- ---- a row and a subroutine
-
-third-false : (a b c d e : Bool) → c ≡ false → a && b && c && d && e ≡ false
-third-false true true c d e h = rw h
-third-false true false c d e h = refl
-third-false false b c d e h = refl
 
 -- a row of another number
 pub other-row : (kind fd k : ℕ) (r : Row) → (r .number ≡ k → ⊥) → sameRow r (reachedRow kind fd k) ≡ false
@@ -81,10 +78,6 @@ rank-one false n = refl
 count-one : (t : Bool) (n : ℕ) → countFor n (pick t 1 0) ≡ n + pick t 1 0
 count-one true n = refl
 count-one false n = sym (add-zero n)
-
-count-next : (s : ℕ → Bool) (k : ℕ) → countBelow s (k + 1) ≡ countBelow s k + pick (s k) 1 0
-unfolding countBelow
-count-next s k = let e : k + 1 ≡ suc k = omega arith in rw e
 
 pub ranked-ranks : (s : ℕ → Bool) (k : ℕ) (ws : List ℕ) → Marks s k ws
     → (ranked (countBelow s k) ws ≡ ranksOf s k (length ws)) × (counted (countBelow s k) ws ≡ countBelow s (k + length ws))

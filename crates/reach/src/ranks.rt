@@ -132,7 +132,7 @@ fn rank_mark(marks: &mut [u32], i: usize, reached: usize) -> usize
 }
 
 // Turns marks into ranks, plus 1; returns how many marks there were.
-fn rank_marks(marks: &mut [u32]) -> usize
+pub fn rank_marks(marks: &mut [u32]) -> usize
     requires { ⌜ length (now marks) < 65536 ⌝ }
     ensures { λ r. ⌜ (now (marks .exit) ≡ ranked 0 (now (marks .entry))) × (r ≡ counted 0 (now (marks .entry))) ⌝ }
 {

@@ -21,17 +21,13 @@ use Rattle.prune.specs.Renumber.{none, new, Old, nothing, old, oldOf, newOf, op
 use Rattle.cff.specs.Font.{Program}
 use Rattle.subset.specs.Kept.{localsOf}
 use Rattle.subset.specs.Pruned.{countBelow, rank, reached, fail, whole, localSet, globalSet, renumberedBody, callsIn, callsAcross}
+use Rattle.subset.specs.RankLaws.{count-few}
 use Rattle.reach.specs.Reach.{ranksOf}
 use Rattle.reach.specs.CountLaws.{count-more}
 use Rattle.renumber.specs.Ranks.{newIn, numbersIn, callsBy, Ranked}
 use Rattle.renumber.specs.declared.Ranks.{Ranks}
 
 -- ---- how many of a set are below a number
-
-count-few : (set : ℕ → Bool) (n : ℕ) → countBelow set n ≤ n
-unfolding countBelow
-count-few set zero = omega arith
-count-few set (suc n) = let h = count-few set n in pick-ind (λ (k : ℕ). countBelow set n + k ≤ suc n) (set n) 1 0 (λ t. omega arith) (λ t. omega arith)
 
 -- where no more are below m than below n, none is from n on
 none-between : (set : ℕ → Bool) (n m i : ℕ) → countBelow set m ≡ countBelow set n → n ≤ i → i < m → set i ≡ false

@@ -10,7 +10,7 @@ use Rattle.decimal.specs.Decimal.{zerosOf, zeros, stripped, normal}
 use Rattle.decimal.specs.Values.{truncOf}
 use Rattle.decimal.specs.Written.{int5Bytes, numberBytes, intBytes}
 use Rattle.dict.specs.Lookup.{lastFrom, lastOf}
-use Rattle.dict_write.specs.Written.{opBytes, operandsBytes, entryBytes, entriesBytes, offsetEntry, privateEntry, without}
+use Rattle.dict_write.specs.Written.{copiedEntry, opBytes, operandsBytes, entryBytes, entriesBytes, offsetEntry, privateEntry, without}
 use Rattle.charset.specs.CharsetBytes.{idBytes, charsetBytes}
 use Rattle.charset.specs.FdSelectBytes as select
 use Rattle.strings.specs.Table.{standardNames}
@@ -105,7 +105,7 @@ written-renumbered : writtenOf (record { way = 0; bodies = renumberedBodies }) �
 unfolding
     subsetBytes subsetByCid newFds cidsOf fontDicts privateParts copiedBytes namedBytes textsOf namedEntries newId placeIn ownStrings hasText isIn those fdsOf newFd
     stringText standardString standardStrings sidOf sidIn codes sameText standardNames charsetBytes idBytes select.changes select.entryBytes select.fdSelectBytes
-    opBytes operandsBytes entryBytes entriesBytes offsetEntry privateEntry without lastOf lastFrom truncOf normal stripped zeros zerosOf int5Bytes numberBytes intBytes
+    opBytes operandsBytes entryBytes entriesBytes offsetEntry copiedEntry privateEntry without lastOf lastFrom truncOf normal stripped zeros zerosOf int5Bytes numberBytes intBytes
     indexBytes itemsBytes headBytes tableBytes ends sizeFor join total bytesOf numAt be
 written-renumbered = refl
 
@@ -114,7 +114,7 @@ written-unrenumbered : (way unreached : ℕ) → writtenOf (record { way = way; 
 unfolding
     subsetBytes subsetByCid newFds cidsOf fontDicts privateParts copiedBytes namedBytes textsOf namedEntries newId placeIn ownStrings hasText isIn those fdsOf newFd
     stringText standardString standardStrings sidOf sidIn codes sameText standardNames charsetBytes idBytes select.changes select.entryBytes select.fdSelectBytes
-    opBytes operandsBytes entryBytes entriesBytes offsetEntry privateEntry without lastOf lastFrom truncOf normal stripped zeros zerosOf int5Bytes numberBytes intBytes
+    opBytes operandsBytes entryBytes entriesBytes offsetEntry copiedEntry privateEntry without lastOf lastFrom truncOf normal stripped zeros zerosOf int5Bytes numberBytes intBytes
     indexBytes itemsBytes headBytes tableBytes ends sizeFor join total bytesOf numAt be
 written-unrenumbered way unreached = refl
 

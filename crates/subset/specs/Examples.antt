@@ -1,8 +1,8 @@
 -- Document 01, 'One sheet, whole', byte for byte.
 use Prim.Native.Nat.{ℕ}
 use mathlib.Core.Path.{_≡_, refl}
-use mathlib.Core.Bool.{true, false}
-use mathlib.Core.List.{List, [], _∷_, _++_}
+use mathlib.Core.Bool.{false}
+use mathlib.Core.List.{List, [], _∷_}
 use Rattle.octets.specs.Octets.{be, numAt, bytesOf}
 use Rattle.type2_number.specs.Number.{keep24, rounded}
 use Rattle.type2_number.specs.Number as t2
@@ -17,22 +17,22 @@ use Rattle.decimal.specs.Values.{truncOf}
 use Rattle.decimal.specs.Written as decw
 use Rattle.dict.specs.Dict as dict
 use Rattle.dict.specs.Lookup.{lastFrom, lastOf}
-use Rattle.dict_write.specs.Written.{opBytes, operandsBytes, entriesBytes, offsetEntry, privateEntry, without}
+use Rattle.dict_write.specs.Written.{copiedEntry, opBytes, operandsBytes, entriesBytes, offsetEntry, privateEntry, without}
 use Rattle.charset.specs.Listed.{listOf}
 use Rattle.charset.specs.CharsetBytes.{idBytes, charsetBytes}
 use Rattle.strings.specs.Table.{standardNames}
-use Rattle.strings.specs.Text.{codes, sameText, orderOf}
+use Rattle.strings.specs.Text.{codes, sameText}
 use Rattle.strings.specs.Strings.{stringText, standardString, standardStrings, sidIn, sidOf}
-use Rattle.find.specs.Find.{glyphWithId, glyphWithText}
+use Rattle.find.specs.Find.{glyphWithText}
 use Rattle.prune.specs.Renumber.{renumber, renumberCharstring}
 use Rattle.record.specs.Record.{rowsFrom, rowsOf, rowsFine, recordFine, lists, givenIn, disagrees, twoLengths}
 use Rattle.cff.specs.Font as font
 use Rattle.cff.specs.Find as cfffind
-use Rattle.subset.specs.Kept.{isIn, those, fdsOf, newFd}
+use Rattle.subset.specs.Kept.{isIn, those, fdsOf}
 use Rattle.subset.specs.Pruned.{countBelow, each, renumberedBody, renumberedSubrs, renumbered, pruned}
 use Rattle.subset.specs.Texts.{hasText, ownStrings, placeIn, newId, namedEntries, textsOf, namesOf}
 use Rattle.subset.specs.Subset.{namedBytes, copiedBytes, newIds, subsetByName, subsetBytes}
-use Rattle.subset.specs.Cut.{Outcome, subset, allBelow, allFound, cutOf}
+use Rattle.subset.specs.Cut.{subset, allBelow, allFound, cutOf}
 
 abbrev sheet : List ℕ
 sheet =
@@ -48,7 +48,7 @@ the-sheet : cutOf false sheet (0x41 ∷ []) (1 ∷ []) [] 1 8192 32768
 unfolding
     cutOf allBelow allFound subsetBytes subsetByName newIds namedBytes copiedBytes namesOf textsOf namedEntries newId placeIn ownStrings hasText pruned renumbered
     renumberedSubrs renumberedBody each countBelow those isIn fdsOf recordFine rowsFine rowsOf rowsFrom lists givenIn twoLengths disagrees renumberCharstring renumber
-    glyphWithText stringText standardString standardStrings sidOf sidIn codes sameText standardNames charsetBytes idBytes listOf opBytes operandsBytes entriesBytes offsetEntry privateEntry without lastOf lastFrom truncOf
+    glyphWithText stringText standardString standardStrings sidOf sidIn codes sameText standardNames charsetBytes idBytes listOf opBytes operandsBytes entriesBytes offsetEntry copiedEntry privateEntry without lastOf lastFrom truncOf
     normal stripped zeros zerosOf indexBytes itemsBytes headBytes tableBytes ends sizeFor join total readIndex told itemsOf pieces indexAt tableAt dataAt judged runOf
     offsets encode bytesOf numAt be keep24 rounded t2.numberAt t2e.numberBytes t2e.integerBytes t2e.fixedBytes tok.tokensOf tok.tokensFrom tok.tokenAt dec.numberAt dec.realAt
     decw.int5Bytes decw.numberBytes decw.intBytes dict.dictOf dict.gathered dict.readingsAt dict.readingsFrom dict.entryAt dict.entryFrom dict.operatorAt dict.tokenAt

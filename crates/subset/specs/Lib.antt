@@ -3,6 +3,10 @@ pub mod Pruned
 pub mod Texts
 pub mod Subset
 pub mod Cut
+pub mod RankLaws
+pub mod EachLaws
+pub mod KeptListLaws
+pub mod TextsLaws
 pub mod ReachedLaws
 pub mod Examples
 pub mod CidFont

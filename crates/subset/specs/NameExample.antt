@@ -20,7 +20,7 @@ use Rattle.decimal.specs.Written.{int5Bytes, numberBytes, intBytes}
 use Rattle.dict.specs.Dict.{tokenAt, operatorAt, entryFrom, entryAt, readingsFrom, readingsAt, gathered, dictOf}
 use Rattle.dict.specs.Op.{private, subrs}
 use Rattle.dict.specs.Lookup.{lastFrom, lastOf}
-use Rattle.dict_write.specs.Written.{opBytes, operandsBytes, entryBytes, entriesBytes, offsetEntry, privateEntry, without}
+use Rattle.dict_write.specs.Written.{copiedEntry, opBytes, operandsBytes, entryBytes, entriesBytes, offsetEntry, privateEntry, without}
 use Rattle.charset.specs.Listed.{listOf}
 use Rattle.charset.specs.Charset.{idsFrom, charsetAt}
 use Rattle.charset.specs.CharsetBytes.{idBytes, charsetBytes}
@@ -197,7 +197,7 @@ renumberedBytes =
 written-renumbered : writtenOf (record { way = 0; bodies = renumberedBodies }) ≡ subset 0 renumberedBytes
 unfolding
     subsetBytes subsetByName newIds copiedBytes namedBytes namesOf textsOf namedEntries newId placeIn ownStrings hasText stringText standardString standardStrings sidOf
-    sidIn codes sameText standardNames charsetBytes idBytes opBytes operandsBytes entryBytes entriesBytes offsetEntry privateEntry without lastOf lastFrom truncOf normal
+    sidIn codes sameText standardNames charsetBytes idBytes opBytes operandsBytes entryBytes entriesBytes offsetEntry copiedEntry privateEntry without lastOf lastFrom truncOf normal
     stripped zeros zerosOf int5Bytes numberBytes intBytes indexBytes itemsBytes headBytes tableBytes ends sizeFor join total bytesOf numAt be
 written-renumbered = refl
 

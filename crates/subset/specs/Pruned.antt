@@ -1,7 +1,7 @@
 -- What becomes of charstrings and subroutines (the Rust's prune and prune_cid, renumber and renumber_cid, stubbed): renumbered, or stubbed,
 -- or copied. A name-keyed font has one FD, 0.
 use Prim.Native.Nat.{ℕ, zero, suc, _+_}
-use mathlib.Core.Bool.{Bool, true, false}
+use mathlib.Core.Bool.{Bool}
 use mathlib.Core.List.{List, [], _∷_}
 use lib.Dec.{eqb}
 use lib.IntN.{ℤ}

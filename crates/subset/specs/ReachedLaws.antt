@@ -19,7 +19,8 @@ unfoldable pub numbersBelow : ℕ → List Row → Bool
 numbersBelow n [] = true
 numbersBelow n (r ∷ rs) = pick (ltb (r .number) n) (numbersBelow n rs) false
 
-third-false : (a b c d e : Bool) → c ≡ false → a && b && c && d && e ≡ false
+-- three tests that fail at the third
+pub third-false : (a b c d e : Bool) → c ≡ false → a && b && c && d && e ≡ false
 third-false true true c d e h = rw h
 third-false true false c d e h = refl
 third-false false b c d e h = refl

@@ -2,20 +2,19 @@
 -- for CID FDSelect, charstrings, for CID the FD INDEX, then each Private with its local subroutines. Offsets have the five-byte form, so
 -- that the top DICT's length does not depend on them.
 use Prim.Native.Nat.{ℕ, _+_}
-use mathlib.Core.Bool.{Bool, true, false}
+use mathlib.Core.Bool.{false}
 use mathlib.Core.List.{List, [], _∷_, _++_}
 use lib.Dec.{eqb}
 use lib.ListN.{length, getD}
 use Rattle.octets.specs.Pick.{pick}
 use Rattle.decimal.specs.declared.Decimal.{Decimal}
-use Rattle.decimal.specs.declared.Signed.{Signed}
 use Rattle.decimal.specs.Decimal.{normal}
-use Rattle.dict.specs.Op.{esc, subrs, ros, cidCount, copiedTopEntries, copiedTopStrings}
+use Rattle.dict.specs.Op.{subrs, ros, cidCount, copiedTopEntries, copiedTopStrings}
 use Rattle.dict.specs.Dict.{Entry}
 use Rattle.dict.specs.Lookup.{Operands, absent, operands, lastOf, rosIn, cidCountIn, cidKeyed}
 use Rattle.dict.specs.declared.RosIn.{RosIn}
 use Rattle.dict.specs.declared.RosIn.the-variants.{Ros, None}
-use Rattle.dict_write.specs.Written.{entryBytes, offsetEntry, privateEntry, privateBytes}
+use Rattle.dict_write.specs.Written.{entryBytes, copiedEntry, offsetEntry, privateEntry, privateBytes}
 use Rattle.index.specs.Write.{sizeFor, indexBytes}
 use Rattle.charset.specs.CharsetBytes.{charsetBytes}
 use Rattle.charset.specs.FdSelectBytes.{fdSelectBytes}
@@ -33,10 +32,6 @@ numberOf n = normal false n 0 0
 unfoldable pub namedBytes : List (List ℕ) → List Named → List ℕ
 namedBytes own [] = []
 namedBytes own (n ∷ ns) = entryBytes (n .op) (numberOf (newId own (n .text)) ∷ []) ++ namedBytes own ns
-
-abbrev pub copiedEntry : ℕ → Operands → List ℕ
-copiedEntry op absent = []
-copiedEntry op (operands ds) = entryBytes op ds
 
 -- the last entry of each of these operators that is there, as it is
 unfoldable pub copiedBytes : List Entry → List ℕ → List ℕ

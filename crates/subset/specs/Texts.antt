@@ -3,7 +3,7 @@
 use Prim.Native.Nat.{ℕ, _+_}
 use mathlib.Core.Bool.{Bool, true, false}
 use mathlib.Core.List.{List, [], _∷_, _++_}
-use lib.ListN.{length, getD}
+use lib.ListN.{getD}
 use Rattle.octets.specs.Pick.{pick}
 use Rattle.strings.specs.Text.{sameText}
 use Rattle.strings.specs.Strings.{stringText, sidOf}
@@ -11,7 +11,6 @@ use Rattle.strings.specs.declared.Sid.{Sid}
 use Rattle.strings.specs.declared.Sid.the-variants.{Standard, Other}
 use Rattle.decimal.specs.declared.IdOf.{IdOf}
 use Rattle.decimal.specs.declared.IdOf.the-variants.{Id, Absent}
-use Rattle.dict.specs.Dict.{Entry}
 use Rattle.dict.specs.Lookup.{idIn}
 use Rattle.cff.specs.Font.{Program}
 

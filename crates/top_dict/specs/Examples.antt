@@ -5,7 +5,7 @@ use mathlib.Core.List.{List, [], _∷_}
 use Rattle.octets.specs.Octets.{bytesOf}
 use Rattle.decimal.specs.Written.{int5Bytes}
 use Rattle.dict.specs.Lookup.{lastFrom, lastOf}
-use Rattle.dict_write.specs.Written.{opBytes, offsetEntry, privateEntry}
+use Rattle.dict_write.specs.Written.{copiedEntry, opBytes, offsetEntry, privateEntry}
 use Rattle.subset.specs.Subset.{copiedBytes}
 use Rattle.top_dict.specs.Top.{slotEntry, slotEntries, carried, namedOffsets, topNamed}
 
@@ -15,5 +15,5 @@ noStrings = 65536 ∷ 65536 ∷ 65536 ∷ 65536 ∷ 65536 ∷ 65536 ∷ 65536 �
 
 sheet : topNamed [] noStrings 0x2a 0x2d 0 0x35
     ≡ 0x1d ∷ 0 ∷ 0 ∷ 0 ∷ 0x2a ∷ 0x0f ∷ 0x1d ∷ 0 ∷ 0 ∷ 0 ∷ 0x2d ∷ 0x11 ∷ 0x1d ∷ 0 ∷ 0 ∷ 0 ∷ 0 ∷ 0x1d ∷ 0 ∷ 0 ∷ 0 ∷ 0x35 ∷ 0x12 ∷ []
-unfolding noStrings topNamed carried slotEntries slotEntry copiedBytes lastOf lastFrom namedOffsets offsetEntry privateEntry int5Bytes bytesOf opBytes
+unfolding copiedEntry noStrings topNamed carried slotEntries slotEntry copiedBytes lastOf lastFrom namedOffsets offsetEntry privateEntry int5Bytes bytesOf opBytes
 sheet = refl

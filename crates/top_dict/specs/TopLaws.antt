@@ -26,11 +26,10 @@ use Rattle.dict.specs.declared.One.{One}
 use Rattle.dict.specs.declared.One.the-variants.{Number, Absent as NoNumber}
 use Rattle.dict.specs.declared.RosIn.{RosIn}
 use Rattle.dict.specs.declared.RosIn.the-variants.{Ros, None}
-use Rattle.dict_write.specs.Written.{opBytes}
-use Rattle.dict_write.specs.Written as written
+use Rattle.dict_write.specs.Written.{opBytes, copiedEntry}
 use Rattle.dict_write.specs.WriteLaws.{offset-length, private-length, copied-absent, copied-found}
 use Rattle.dict_write.specs.ShortLaws.{number-short, entry-short}
-use Rattle.subset.specs.Subset.{numberOf, copiedEntry, copiedBytes}
+use Rattle.subset.specs.Subset.{numberOf, copiedBytes}
 use Rattle.top_dict.specs.Top.{Filled, valueEntry, slotEntry, slotEntries, idsBytes, rosOf, carried, namedOffsets, glyphOffsets, cidOffsets, topNamed, cidFront, topCid, topLen}
 use Rattle.top_dict.specs.Writing.{Split, split-append, split-length}
 use Rattle.top_dict.specs.TopParts.{ids-parts}
@@ -108,18 +107,12 @@ eight-operators (suc (suc (suc (suc (suc (suc (suc (suc k)))))))) h = absurd (no
 pub eight-operator : (k op : ℕ) → k < 8 → op ≡ getD copiedTopEntries k 0 → isOperator op ≡ true
 eight-operator k op h e = ap isOperator e ∙ eight-operators k h
 
--- an entry copied is the same in both definitions
-pub copied-same : (op : ℕ) (o : Operands) → copiedEntry op o ≡ written.copiedEntry op o
-unfolding written.copiedEntry
-copied-same op absent = refl
-copied-same op (operands ds) = refl
-
 -- those from the k-th on
 abbrev pub copiedFrom : List Entry → ℕ → List ℕ
 copiedFrom es k = copiedBytes es (drop k copiedTopEntries)
 
 pub copied-next : (es : List Entry) (k : ℕ) → k < 8 → (op : ℕ) → op ≡ getD copiedTopEntries k 0
-    → Split (copiedFrom es k) (written.copiedEntry op (lastOf op es)) (copiedFrom es (k + 1))
+    → Split (copiedFrom es k) (copiedEntry op (lastOf op es)) (copiedFrom es (k + 1))
 unfolding copiedBytes
 copied-next es k h op i =
     let e : suc k ≡ k + 1 = omega arith in
@@ -127,8 +120,7 @@ copied-next es k h op i =
       is =
           ap (copiedBytes es) (drop-cons copiedTopEntries k 0 h)
           ∙ ap (λ (n : ℕ). copiedEntry (getD copiedTopEntries k 0) (lastOf (getD copiedTopEntries k 0) es) ++ copiedBytes es (drop n copiedTopEntries)) e
-          ∙ ap (λ (o : ℕ). copiedEntry o (lastOf o es) ++ copiedFrom es (k + 1)) (sym i)
-          ∙ ap (λ (l : List ℕ). l ++ copiedFrom es (k + 1)) (copied-same op (lastOf op es));
+          ∙ ap (λ (o : ℕ). copiedEntry o (lastOf o es) ++ copiedFrom es (k + 1)) (sym i);
     }
 
 pub copied-over : (es : List Entry) (k : ℕ) → 8 ≤ k → copiedFrom es k ≡ []
@@ -138,11 +130,11 @@ copied-over es k h = ap (copiedBytes es) (drop-of-length-le copiedTopEntries {i 
 -- ---- what is copied is not much longer than the DICT
 
 module _ (b : List ℕ) (o : Octets b) (few : length b ≤ 67108864) where
-  found-short : (op : ℕ) (r : Found) → r ≡ placeOf op b → length (written.copiedEntry op (lastOf op (entriesOf b))) ≤ 7000000000
+  found-short : (op : ℕ) (r : Found) → r ≡ placeOf op b → length (copiedEntry op (lastOf op (entriesOf b))) ≤ 7000000000
   found-short op Absent e = omega (arith, ap length (copied-absent b op Absent e refl))
   found-short op (FoundAt start end count) e = omega (arith, ap length (copied-found b op (FoundAt start end count) e start end count refl), entry-short b o op count start)
 
-  pub copied-short : (op : ℕ) → length (written.copiedEntry op (lastOf op (entriesOf b))) ≤ 7000000000
+  pub copied-short : (op : ℕ) → length (copiedEntry op (lastOf op (entriesOf b))) ≤ 7000000000
   copied-short op = found-short op (placeOf op b) refl
 
 -- ---- ROS and CIDCount

@@ -55,4 +55,22 @@ returns-4 : tie.Need-returns-4
 returns-4 c = gives-none _ _ (answer-none _ _ (sym (c .before .before .before .before .before .before .before .is-one-of .ensures) ∙ c .before .before .before .before .before .before .if1 .left) (sym (c .before .before .before .before .is-one-of2 .ensures) ∙ c .before .before .before .if2 .left) (sym (c .before .is-one-of3 .ensures) ∙ c .if3 .left))
 
 pub answer-spec : {M : Type 1} → statement M
-answer-spec = tie.close (tie.spec slice-aggregate-is-one-of is-one-of-requires answer-requires same-length returns slice-aggregate-is-one-of-2 is-one-of-requires-2 answer-requires-2 same-length-2 returns-2 slice-aggregate-is-one-of-3 is-one-of-requires-3 answer-requires-3 same-length-3 returns-3 returns-4)
+answer-spec =
+    tie.close
+    (tie.spec
+    slice-aggregate-is-one-of
+    is-one-of-requires
+    answer-requires
+    same-length
+    returns
+    slice-aggregate-is-one-of-2
+    is-one-of-requires-2
+    answer-requires-2
+    same-length-2
+    returns-2
+    slice-aggregate-is-one-of-3
+    is-one-of-requires-3
+    answer-requires-3
+    same-length-3
+    returns-3
+    returns-4)

@@ -1,43 +1,39 @@
 -- The strings of a subset (document 01, 'Layout'): each text that is used has an id that names it, and the id of the first glyph stays 0.
-use Prim.Native.Nat.{ℕ, zero, suc, _+_, _-_, _<_}
+use Prim.Native.Nat.{ℕ, _+_, _-_}
 use mathlib.Core.Path.{_≡_, refl, ap, _∙_}
 use mathlib.Core.Bool.{true}
 use mathlib.Core.List.{List, [], _∷_, _++_}
 use mathlib.Core.Logic.{⊎-elim}
-use native.Mathlib.Nat.{not-suc-le-zero}
 use native.Mathlib.Numerals.{add-one}
 use native.Mathlib.Omega.{arith}
-use lib.ListN.{length, getD}
+use lib.ListN.{getD}
 use Rattle.octets.specs.Pick.{pick, pick-ind}
 use Rattle.prune.specs.StepLaws.{zero-one}
 use Rattle.strings.specs.Text.{sameText}
 use Rattle.strings.specs.TextLaws.{same-refl, same-true}
 use Rattle.strings.specs.Strings.{stringText, sidOf}
-use Rattle.strings.specs.StringsLaws.{string-standard, string-own, sid-text, sid-below, sid-standard}
+use Rattle.strings.specs.StringsLaws.{string-standard, string-own, sid-text, sid-below}
 use Rattle.strings.specs.declared.Sid.{Sid}
 use Rattle.strings.specs.declared.Sid.the-variants.{Standard, Other}
 use Rattle.cff.specs.Font.{Program}
-use Rattle.subset.specs.Kept.{isIn, those, keptOf, sortedBy}
+use Rattle.subset.specs.Kept.{isIn}
 use Rattle.subset.specs.Texts.{hasText, withText, ownStrings, placeIn, idAfter, newId, nameOf, namesOf}
-use Rattle.subset.specs.Subset.{newIds, cidsOf}
-use Rattle.faithful.specs.Laid.{GoodProgram}
-use Rattle.faithful.specs.KeptListLaws.{in-none, in-cases, sorted-first}
-use Rattle.faithful.specs.KeptLaws.{keeps, kept-front}
+use Rattle.subset.specs.KeptListLaws.{in-none, in-cases}
 
 -- ---- texts among others
 
 -- the text at the front is there
-has-head : (x t : List ℕ) (xs : List (List ℕ)) → x ≡ t → hasText t (x ∷ xs) ≡ true
+pub has-head : (x t : List ℕ) (xs : List (List ℕ)) → x ≡ t → hasText t (x ∷ xs) ≡ true
 unfolding hasText
 has-head x t xs e = let s : sameText x t ≡ true = rw e (same-refl t) in simp s
 
 -- one that is in the rest is there
-has-more : (x t : List ℕ) (xs : List (List ℕ)) → hasText t xs ≡ true → hasText t (x ∷ xs) ≡ true
+pub has-more : (x t : List ℕ) (xs : List (List ℕ)) → hasText t xs ≡ true → hasText t (x ∷ xs) ≡ true
 unfolding hasText
 has-more x t xs h = pick-ind (λ s. s ≡ true) (sameText x t) true (hasText t xs) (λ s. refl) (λ s. h)
 
 -- one that is in the first of two lists is in both together
-has-left : (t : List ℕ) (xs ys : List (List ℕ)) → hasText t xs ≡ true → hasText t (xs ++ ys) ≡ true
+pub has-left : (t : List ℕ) (xs ys : List (List ℕ)) → hasText t xs ≡ true → hasText t (xs ++ ys) ≡ true
 unfolding hasText
 has-left t [] ys h = absurd (zero-one cc)
 has-left t (x ∷ xs) ys h =
@@ -52,7 +48,7 @@ has-right t [] ys h = h
 has-right t (x ∷ xs) ys h = has-more x t (xs ++ ys) (has-right t xs ys h)
 
 -- a text that is there stands at its place
-place-is : (t : List ℕ) (own : List (List ℕ)) → hasText t own ≡ true → getD own (placeIn t own) [] ≡ t
+pub place-is : (t : List ℕ) (own : List (List ℕ)) → hasText t own ≡ true → getD own (placeIn t own) [] ≡ t
 unfolding hasText placeIn
 place-is t [] h = absurd (zero-one cc)
 place-is t (x ∷ xs) h =
@@ -64,7 +60,7 @@ place-is t (x ∷ xs) h =
 -- ---- the own strings
 
 -- a text that is there stays when another is used
-with-keeps : (t : List ℕ) (s : Sid) (u : List ℕ) (own : List (List ℕ)) → hasText t own ≡ true → hasText t (withText s u own) ≡ true
+pub with-keeps : (t : List ℕ) (s : Sid) (u : List ℕ) (own : List (List ℕ)) → hasText t own ≡ true → hasText t (withText s u own) ≡ true
 with-keeps t (Standard k) u own h = h
 with-keeps t Other u own h =
     pick-ind (λ (l : List (List ℕ)). hasText t l ≡ true) (hasText u own) own (own ++ (u ∷ []))
@@ -72,13 +68,13 @@ with-keeps t Other u own h =
     (λ s. has-left t own (u ∷ []) h)
 
 -- and when more are used
-own-keeps : (t : List ℕ) (ts own : List (List ℕ)) → hasText t own ≡ true → hasText t (ownStrings own ts) ≡ true
+pub own-keeps : (t : List ℕ) (ts own : List (List ℕ)) → hasText t own ≡ true → hasText t (ownStrings own ts) ≡ true
 unfolding ownStrings
 own-keeps t [] own h = h
 own-keeps t (u ∷ ts) own h = own-keeps t ts (withText (sidOf u) u own) (with-keeps t (sidOf u) u own h)
 
 -- a text that is not standard is there after its use
-with-has : (t : List ℕ) (s : Sid) (own : List (List ℕ)) → s ≡ Other → hasText t (withText s t own) ≡ true
+pub with-has : (t : List ℕ) (s : Sid) (own : List (List ℕ)) → s ≡ Other → hasText t (withText s t own) ≡ true
 with-has t (Standard k) own e = absurd (zero-one cc)
 with-has t Other own e =
     pick-ind (λ (l : List (List ℕ)). hasText t l ≡ true) (hasText t own) own (own ++ (t ∷ []))
@@ -86,7 +82,7 @@ with-has t Other own e =
     (λ s. has-right t own (t ∷ []) (has-head t t [] refl))
 
 -- and after the use of all
-own-has : (t : List ℕ) (ts own : List (List ℕ)) → sidOf t ≡ Other → hasText t ts ≡ true → hasText t (ownStrings own ts) ≡ true
+pub own-has : (t : List ℕ) (ts own : List (List ℕ)) → sidOf t ≡ Other → hasText t ts ≡ true → hasText t (ownStrings own ts) ≡ true
 unfolding ownStrings hasText
 own-has t [] own o h = absurd (zero-one cc)
 own-has t (u ∷ ts) own o h =
@@ -119,44 +115,3 @@ names-has p (x ∷ gs) g h =
     (λ e. has-head (nameOf p x) (nameOf p g) (namesOf p gs) (ap (nameOf p) e))
     (λ e. has-more (nameOf p x) (nameOf p g) (namesOf p gs) (names-has p gs g e))
     (in-cases x g gs h)
-
--- ---- the first glyph
-
--- its name has the id 0
-notdef-id : (p : Program) (own : List (List ℕ)) → getD (p .ids) 0 0 ≡ 0 → newId own (nameOf p 0) ≡ 0
-unfolding newId
-notdef-id p own e =
-    let s : sidOf (nameOf p 0) ≡ Standard 0 =
-    ap (λ (k : ℕ). sidOf (stringText (p .strings) k)) e ∙ ap sidOf (string-standard (p .strings) 0 (omega arith)) ∙ sid-standard 0 (omega arith) in
-    rw s
-
--- where the id of glyph 0 is 0
-module _ (p : Program) (keep : List ℕ) (z : getD (p .ids) 0 0 ≡ 0) where
-  -- the first id of n glyphs kept by name
-  first-name-of : (n : ℕ) (own : List (List ℕ)) → 0 < n → getD (newIds own (namesOf p (keptOf n keep))) 0 0 ≡ 0
-  unfolding namesOf newIds
-  first-name-of zero own h = absurd (not-suc-le-zero h)
-  first-name-of (suc n) own h = ap (λ (l : List ℕ). getD (newIds own (namesOf p l)) 0 0) (kept-front n keep) ∙ notdef-id p own z
-
-  -- the first CID where glyph 0 stands first
-  cid-at : (l : List ℕ) → getD l 0 0 ≡ 0 → getD (cidsOf p l) 0 0 ≡ 0
-  unfolding cidsOf
-  cid-at [] e = refl
-  cid-at (g ∷ gs) e = ap (λ (k : ℕ). getD (p .ids) k 0) e ∙ z
-
-  -- the first CID of n glyphs kept by CID
-  first-cid-of : (n : ℕ) → 0 < n → getD (cidsOf p (sortedBy (λ g. getD (p .ids) g 0) (keptOf n keep))) 0 0 ≡ 0
-  first-cid-of zero h = absurd (not-suc-le-zero h)
-  first-cid-of (suc n) h =
-      ap (λ (l : List ℕ). getD (cidsOf p (sortedBy (λ g. getD (p .ids) g 0) l)) 0 0) (kept-front n keep)
-      ∙ cid-at (sortedBy (λ g. getD (p .ids) g 0) (0 ∷ those (keeps keep) n 1)) (sorted-first (λ g. getD (p .ids) g 0) 0 (those (keeps keep) n 1) z)
-
--- the first glyph's string id is 0 in the subset too
-pub first-name : (p : Program) (keep : List ℕ) → GoodProgram p → (own : List (List ℕ))
-    → getD (newIds own (namesOf p (keptOf (length (p .charstrings)) keep))) 0 0 ≡ 0
-first-name p keep good own = first-name-of p keep (good .notdef) (length (p .charstrings)) own (good .some)
-
--- and so is its CID
-pub first-cid : (p : Program) (keep : List ℕ) → GoodProgram p
-    → getD (cidsOf p (sortedBy (λ g. getD (p .ids) g 0) (keptOf (length (p .charstrings)) keep))) 0 0 ≡ 0
-first-cid p keep good = first-cid-of p keep (good .notdef) (length (p .charstrings)) (good .some)

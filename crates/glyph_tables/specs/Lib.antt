@@ -1,0 +1,7 @@
+pub mod Tables
+pub mod Examples
+pub mod PartLaws
+pub mod MarkLaws
+pub mod SelectLaws
+pub mod ThoseLaws
+pub mod UsedTableLaws

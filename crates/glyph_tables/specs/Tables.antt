@@ -1,0 +1,36 @@
+-- Charset and FDSelect of a subset as the work words hold them (document 01, 'Layout'; TN5176, sections 13 and 19): ids and FDs of the
+-- glyphs that are written, and the new numbers of the FDs in use.
+use Prim.Native.Nat.{ℕ, _-_, _/_, _≤_, _<_}
+use mathlib.Core.List.{List, [], _∷_}
+use lib.ListN.{length, take, drop, getD, set}
+use Rattle.subset.specs.Pruned.{mapped}
+
+-- k words from a place on: new string ids, or FDs
+abbrev pub part : List ℕ → ℕ → ℕ → List ℕ
+part ws at k = take k (drop at ws)
+
+-- what stands in front of 65536 in the first k words: the CIDs
+abbrev pub highs : List ℕ → ℕ → List ℕ
+highs ws k = mapped (λ w. w / 65536) (take k ws)
+
+-- the words of FDs set to 1
+unfoldable pub markedFds : List ℕ → List ℕ → List ℕ
+markedFds [] marks = marks
+markedFds (f ∷ fs) marks = markedFds fs (set marks f 1)
+
+-- the new number of an FD by a table: 0 there for an FD that is not in use, else the new number plus 1
+abbrev pub newFdBy : List ℕ → ℕ → ℕ
+newFdBy table f = getD table f 0 - 1
+
+-- the new numbers of FDs
+abbrev pub newFdsBy : List ℕ → List ℕ → List ℕ
+newFdsBy table fds = mapped (newFdBy table) fds
+
+-- a table has a new number of one byte for an FD
+pub record HasNumber (table : List ℕ) (f : ℕ) : Type 0 where
+  pub inUse : 0 < getD table f 0
+  pub small : getD table f 0 ≤ 256
+
+-- and for each of some FDs
+abbrev pub Numbered : List ℕ → List ℕ → Type 0
+Numbered table fds = (i : ℕ) → i < length fds → HasNumber table (getD fds i 0)
