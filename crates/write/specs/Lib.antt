@@ -1,2 +1,3 @@
 pub mod Entry
+pub mod RefusalLaws
 pub mod EntryLaws

@@ -1,9 +1,9 @@
 use borrow.Author.Needs.{needs}
-use Rattle.write.proofs.ros_fine.Statement.{statement}
-use Rattle.write.proofs.ros_fine.Tie as tie
-use Rattle.write.proofs.ros_fine.Reads as reads
-use Rattle.write.proofs.ros_fine.Lts as lts
-use Rattle.write.proofs.has_ros.Reads as has-ros-reads
+use Rattle.write.proofs.refusals.ros_fine.Statement.{statement}
+use Rattle.write.proofs.refusals.ros_fine.Tie as tie
+use Rattle.write.proofs.refusals.ros_fine.Reads as reads
+use Rattle.write.proofs.refusals.ros_fine.Lts as lts
+use Rattle.write.proofs.refusals.has_ros.Reads as has-ros-reads
 
 -- src/lib.rt:57:9
 has-ros-requires : tie.Need-has-ros-requires

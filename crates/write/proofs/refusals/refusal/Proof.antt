@@ -1,15 +1,15 @@
 use borrow.Author.Needs.{needs}
-use Rattle.write.specs.EntryLaws.{read-keying, read-ros, read-name, read-number, read-below, read-found, read-record, read-work, read-passed}
-use Rattle.write.proofs.refusal.Statement.{statement}
-use Rattle.write.proofs.refusal.Tie as tie
-use Rattle.write.proofs.refusal.Reads as reads
-use Rattle.write.proofs.refusal.Lts as lts
+use Rattle.write.specs.RefusalLaws.{read-keying, read-ros, read-name, read-number, read-below, read-found, read-record, read-work, read-passed}
+use Rattle.write.proofs.refusals.refusal.Statement.{statement}
+use Rattle.write.proofs.refusals.refusal.Tie as tie
+use Rattle.write.proofs.refusals.refusal.Reads as reads
+use Rattle.write.proofs.refusals.refusal.Lts as lts
 use Rattle.kept.proofs.all_found.Reads as all-found-reads
 use Rattle.kept.proofs.keep_below.Reads as keep-below-reads
 use Rattle.reach.proofs.check_record.Reads as check-record-reads
-use Rattle.write.proofs.ros_fine.Reads as ros-fine-reads
-use Rattle.write.proofs.same_keying.Reads as same-keying-reads
-use Rattle.write.proofs.work_size.Reads as work-size-reads
+use Rattle.write.proofs.refusals.ros_fine.Reads as ros-fine-reads
+use Rattle.write.proofs.refusals.same_keying.Reads as same-keying-reads
+use Rattle.write.proofs.refusals.work_size.Reads as work-size-reads
 
 -- src/lib.rt:80:9
 same-keying-requires : tie.Need-same-keying-requires

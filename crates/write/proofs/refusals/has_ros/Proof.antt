@@ -1,10 +1,10 @@
 use borrow.Author.Needs.{needs}
 use mathlib.Core.Path.{_≡_, sym, ap, _∙_}
 use Rattle.subset.specs.Cut.{hasRos}
-use Rattle.write.proofs.has_ros.Statement.{statement}
-use Rattle.write.proofs.has_ros.Tie as tie
-use Rattle.write.proofs.has_ros.Reads as reads
-use Rattle.write.proofs.has_ros.Lts as lts
+use Rattle.write.proofs.refusals.has_ros.Statement.{statement}
+use Rattle.write.proofs.refusals.has_ros.Tie as tie
+use Rattle.write.proofs.refusals.has_ros.Reads as reads
+use Rattle.write.proofs.refusals.has_ros.Lts as lts
 use Rattle.dict.proofs.ros.Reads as ros-reads
 
 -- src/lib.rt:31:11
