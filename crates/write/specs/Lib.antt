@@ -1,3 +1,4 @@
 pub mod Entry
 pub mod RefusalLaws
 pub mod EntryLaws
+pub mod Layout
