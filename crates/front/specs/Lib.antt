@@ -1,0 +1,7 @@
+pub mod Front
+pub mod OrderLaws
+pub mod SlotLaws
+pub mod PrepareLaws
+pub mod FrontLaws
+pub mod ByNameLaws
+pub mod ByCidLaws
