@@ -14,7 +14,7 @@ use Rattle.cff.specs.declared.font.Font.{Font}
 use Rattle.subset.specs.Texts.{ownStrings}
 use Rattle.subset.specs.Subset.{ownByCid, topByCid, newIds}
 use Rattle.own_strings.specs.declared.Own.{Own}
-use Rattle.own_strings.specs.Slots.{wordNames, ownOf, slotsOwn, allOwn}
+use Rattle.own_strings.specs.Slots.{wordNames, ownOf, allOwn}
 use Rattle.own_strings.specs.Ready.{HasStrings, SlotsGiven, NamesGiven, IndexRoom}
 use Rattle.top_dict.specs.Top.{Filled, Offsets, topLen, topCid}
 use Rattle.top_dict.specs.TopLaws.{cid-measured}
@@ -22,7 +22,7 @@ use Rattle.top_dict.specs.Slotted.{top-cid-is}
 use Rattle.front.specs.Front.{SlotsReady, frontLen, headerBytes, frontBytes, CidFront}
 use Rattle.front.specs.SlotLaws.{slots-slotted}
 use Rattle.front.specs.PrepareLaws.{has-strings, cid-own}
-use Rattle.front.specs.FrontLaws.{names-room, top-room, front-wrote, top-small, ready-filled, measured-front, front-room, top-short, strings-asked}
+use Rattle.front.specs.FrontLaws.{front-sum, names-room, top-room, front-wrote, top-small, ready-filled, measured-front, front-room, top-short, strings-asked}
 
 module _ (p : Program) (slots words : List ℕ) (ready : SlotsReady p true slots) where
   abbrev own : List (List ℕ)
@@ -54,6 +54,12 @@ module _ (p : Program) (slots words : List ℕ) (ready : SlotsReady p true slots
   cid-front-len o e all name at₁ at₂ at₃ at₄ =
       ap length (sym (cid-front all name at₁ at₂ at₃ at₄))
       ∙ measured-front p true slots o all name (topCid (p .top) slots at₁ at₂ at₃ at₄) own (cid-measured (p .top) slots at₁ at₂ at₃ at₄) (cid-own-of o e)
+
+  pub cid-front-sum : (o : Own) → o ≡ ownOf (ownByCid p) → (name : List ℕ) (at₁ at₂ at₃ at₄ : ℕ)
+      → frontLen true (p .top) slots (length name) o
+      ≡ 4 + length (indexBytes (name ∷ [])) + length (indexBytes (topByCid p (ownByCid p) at₁ at₂ at₃ at₄ ∷ [])) + length (indexBytes (ownByCid p))
+  cid-front-sum o e name at₁ at₂ at₃ at₄ =
+      sym (cid-front-len o e 0 name at₁ at₂ at₃ at₄) ∙ front-sum 0 name (topByCid p (ownByCid p) at₁ at₂ at₃ at₄) (ownByCid p)
 
 -- no new id of a name is looked for
 pub none-given : (strings : List (List ℕ)) (slots words : List ℕ) → NamesGiven strings slots words 0 0

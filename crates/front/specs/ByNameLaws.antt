@@ -1,15 +1,17 @@
 -- Laws of the front of a name-keyed subset: what its writers ask is there, and what they write is the subset's.
 use Prim.Native.Nat.{ℕ, _+_, _≤_, _<_}
-use mathlib.Core.Path.{_≡_, refl, sym, ap, _∙_}
+use mathlib.Core.Path.{_≡_, sym, ap, _∙_}
 use mathlib.Core.Bool.{false}
 use mathlib.Core.List.{List, [], _∷_, _++_}
-use lib.ListN.{length, take}
+use native.Mathlib.Omega.{arith}
+use lib.ListN.{length, take, drop}
 use Rattle.octets.specs.Octets.{Wrote}
 use Rattle.octets.specs.PutLaws.{wrote-as}
 use Rattle.index.specs.Write.{indexBytes}
 use Rattle.cff.specs.Font.{Program}
 use Rattle.cff.specs.Reads.{programOf, topOf}
 use Rattle.cff.specs.declared.font.Font.{Font}
+use Rattle.subset.specs.Texts.{namesOf}
 use Rattle.subset.specs.Subset.{ownByName, topByName, newIds}
 use Rattle.kept.specs.Packed.{packed, glyphsIn}
 use Rattle.own_strings.specs.declared.Own.{Own}
@@ -22,7 +24,7 @@ use Rattle.front.specs.Front.{orderIn, Renamed, SlotsReady, frontLen, he
 use Rattle.front.specs.OrderLaws.{words-names}
 use Rattle.front.specs.SlotLaws.{slots-slotted}
 use Rattle.front.specs.PrepareLaws.{has-strings, named-own}
-use Rattle.front.specs.FrontLaws.{names-room, top-room, front-wrote, top-small, ready-filled, measured-front, front-room, top-short, strings-asked}
+use Rattle.front.specs.FrontLaws.{front-sum, names-room, top-room, front-wrote, top-small, ready-filled, measured-front, front-room, top-short, strings-asked}
 
 module _ (p : Program) (slots words : List ℕ) (k : ℕ) (ready : SlotsReady p false slots) (is : take k words ≡ packed p (orderIn k words)) where
   abbrev own : List (List ℕ)
@@ -55,6 +57,25 @@ module _ (p : Program) (slots words : List ℕ) (k : ℕ) (ready : SlotsReady p 
   named-front-len o e all name at₁ at₂ size at₃ =
       ap length (sym (named-front all name at₁ at₂ size at₃))
       ∙ measured-front p false slots o all name (topNamed (p .top) slots at₁ at₂ size at₃) own (named-measured (p .top) slots at₁ at₂ size at₃) (named-own-of o e)
+
+  pub named-front-sum : (o : Own) → o ≡ ownOf (ownByName p (orderIn k words)) → (name : List ℕ) (at₁ at₂ size at₃ : ℕ)
+      → frontLen false (p .top) slots (length name) o
+      ≡ 4 + length (indexBytes (name ∷ [])) + length (indexBytes (topByName p (ownByName p (orderIn k words)) at₁ at₂ size at₃ ∷ []))
+      + length (indexBytes (ownByName p (orderIn k words)))
+  named-front-sum o e name at₁ at₂ size at₃ =
+      sym (named-front-len o e 0 name at₁ at₂ size at₃) ∙ front-sum 0 name (topByName p (ownByName p (orderIn k words)) at₁ at₂ size at₃) (ownByName p (orderIn k words))
+
+-- the words may change but for the glyphs and the new ids of their names
+pub renamed-stays : (p : Program) (n k : ℕ) (old new : List ℕ) → Renamed p n k old → length new ≡ length old → take k new ≡ take k old
+    → take k (drop n new) ≡ take k (drop n old) → Renamed p n k new
+renamed-stays p n k old new r l e d =
+    record {
+      few = r .few;
+      front = r .front;
+      room = omega (arith, r .room, l);
+      is = e ∙ r .is ∙ ap (λ (ws : List ℕ). packed p (glyphsIn ws)) (sym e);
+      ids = d ∙ r .ids ∙ ap (λ (ws : List ℕ). newIds (ownByName p (glyphsIn ws)) (namesOf p (glyphsIn ws))) (sym e);
+    }
 
 -- the new ids of the names stand where writing the strings looks for them
 pub renamed-given : (p : Program) (slots words : List ℕ) (n k : ℕ) → SlotsReady p false slots → Renamed p n k words → NamesGiven (p .strings) slots words n k

@@ -1,7 +1,7 @@
 -- Laws of the front: its length, its parts one behind the other, and what their writers ask.
 use Prim.Native.Nat.{ℕ, _+_, _*_, _-_, _≤_, _<_}
-use mathlib.Core.Path.{_≡_, refl, sym, ap, _∙_, subst}
-use mathlib.Core.Bool.{Bool, true, false}
+use mathlib.Core.Path.{_≡_, refl, sym, ap, _∙_}
+use mathlib.Core.Bool.{Bool}
 use mathlib.Core.List.{List, [], _∷_, _++_}
 use native.Mathlib.Nat.{add-zero, mul-le-mul}
 use native.Mathlib.Omega.{arith}
@@ -53,16 +53,12 @@ header-wrote {old} all size name e w v u =
     wrote-as (wrote-then z (wrote-then z w v) u) (ap (λ (s : ℕ). 1 ∷ 0 ∷ 4 ∷ s ∷ indexBytes (name ∷ [])) e)
 
 module _ (all : ℕ) (name top : List ℕ) (own : List (List ℕ)) where
+  pub front-sum : length (frontBytes all name top own) ≡ 4 + length (indexBytes (name ∷ [])) + length (indexBytes (top ∷ [])) + length (indexBytes own)
+  front-sum =
+      omega (arith, length-append (indexBytes (name ∷ [])) (indexBytes (top ∷ []) ++ indexBytes own), length-append (indexBytes (top ∷ [])) (indexBytes own))
+
   pub front-length : length (frontBytes all name top own) ≡ 4 + indexLen 1 (length name) + indexLen 1 (length top) + indexLen (length own) (total own)
-  front-length =
-      omega (
-        arith,
-        length-append (indexBytes (name ∷ [])) (indexBytes (top ∷ []) ++ indexBytes own),
-        length-append (indexBytes (top ∷ [])) (indexBytes own),
-        single-length name,
-        single-length top,
-        length-index own,
-      )
+  front-length = omega (arith, front-sum, single-length name, single-length top, length-index own)
 
   -- header and names, and what follows them
   front-parts : Split (frontBytes all name top own) (headerBytes all ++ indexBytes (name ∷ [])) (indexBytes (top ∷ []) ++ indexBytes own)
@@ -70,12 +66,10 @@ module _ (all : ℕ) (name top : List ℕ) (own : List (List ℕ)) where
 
   -- the parts are within it
   pub front-top : length top ≤ length (frontBytes all name top own)
-  front-top =
-      omega (arith, length-append (indexBytes (name ∷ [])) (indexBytes (top ∷ []) ++ indexBytes own), length-append (indexBytes (top ∷ [])) (indexBytes own), item-within top)
+  front-top = omega (arith, front-sum, item-within top)
 
   pub front-strings : total own ≤ length (frontBytes all name top own)
-  front-strings =
-      omega (arith, length-append (indexBytes (name ∷ [])) (indexBytes (top ∷ []) ++ indexBytes own), length-append (indexBytes (top ∷ [])) (indexBytes own), total-within own)
+  front-strings = omega (arith, front-sum, total-within own)
 
   module _ (out : List ℕ) (room : 0 + length (frontBytes all name top own) ≤ length out) where
     pub names-room : length (headerBytes all ++ indexBytes (name ∷ [])) ≤ length out

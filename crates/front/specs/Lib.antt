@@ -5,3 +5,4 @@ pub mod PrepareLaws
 pub mod FrontLaws
 pub mod ByNameLaws
 pub mod ByCidLaws
+pub mod Examples

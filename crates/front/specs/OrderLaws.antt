@@ -1,7 +1,7 @@
 -- Laws of the kept glyphs that the work words hold: which they are, and that their names differ.
 use Prim.Native.Nat.{ℕ, zero, suc, _+_, _*_, _/_, _%_, _≤_, _<_}
 use mathlib.Core.Path.{_≡_, refl, sym, ap, _∙_, subst}
-use mathlib.Core.Bool.{true, false}
+use mathlib.Core.Bool.{Bool, true, false}
 use mathlib.Core.List.{List, [], _∷_}
 use native.Mathlib.Nat.{le-of-suc-le-suc, not-suc-le-zero}
 use native.Mathlib.Omega.{arith}
@@ -11,10 +11,12 @@ use Rattle.dict.specs.Lookup.{cidKeyed}
 use Rattle.strings.specs.Strings.{stringText}
 use Rattle.strings.specs.TextLaws.{same-not}
 use Rattle.cff.specs.Font.{Program}
-use Rattle.subset.specs.Kept.{isIn, keptOf}
+use Rattle.subset.specs.Kept.{isIn, keptOf, sortedBy, writtenOrder}
 use Rattle.subset.specs.Texts.{hasText, nameOf, namesOf}
 use Rattle.subset.specs.Pruned.{mapped}
-use Rattle.kept.specs.Packed.{packed, glyphsIn, keeps}
+use Rattle.subset.specs.Cut.{allFound}
+use Rattle.kept.specs.Packed.{packed, glyphsIn, keeps, Begins}
+use Rattle.kept.specs.GatherLaws.{mapped-length}
 use Rattle.kept.specs.FdsLaws.{glyphs-packed}
 use Rattle.kept.specs.FdsOrderLaws.{below-all}
 use Rattle.kept.specs.OrderLaws.{those-at}
@@ -96,3 +98,18 @@ module _ (p : Program) (n k : ℕ) (words : List ℕ) (few : n < 65536) (o : Ord
             subst Different (sym (ordered-names ∙ ap (namesOf p) ordered-kept))
             (names-different p kept (kept-distinct n (o .keep)) (names-differ p kept (o .found) c));
       }
+
+-- what `put_order` leaves in the words of a name-keyed font
+pub begins-ordered : (p : Program) (n k : ℕ) (keep old words : List ℕ) → cidKeyed (p .top) ≡ false → Begins old n (packed p (writtenOrder p (keptOf n keep))) words
+    → k ≡ length (keptOf n keep) → allFound p (keptOf n keep) ≡ true → n + k ≤ length words → Ordered p n k words
+begins-ordered p n k keep old words c b e found room =
+    let w : writtenOrder p (keptOf n keep) ≡ keptOf n keep = ap (λ (t : Bool). pick t (sortedBy (λ g. getD (p .ids) g 0) (keptOf n keep)) (keptOf n keep)) c in
+    let l : length (packed p (writtenOrder p (keptOf n keep))) ≡ k =
+    mapped-length (λ (g : ℕ). getD (p .ids) g 0 * 65536 + g) (writtenOrder p (keptOf n keep)) ∙ ap length w ∙ sym e in
+    record {
+      keep = keep;
+      many = e;
+      is = ap (λ (j : ℕ). take j words) (sym l) ∙ b .front ∙ ap (packed p) w;
+      found = found;
+      room = room;
+    }

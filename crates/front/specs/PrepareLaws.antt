@@ -1,8 +1,8 @@
 -- Laws of the preparing: the own strings that the code counts are the subset's, and what the work words hold then.
-use Prim.Native.Nat.{ℕ, _+_, _*_, _≤_, _<_}
-use mathlib.Core.Path.{_≡_, refl, sym, ap, _∙_, subst}
-use mathlib.Core.Bool.{Bool, true, false}
-use mathlib.Core.List.{List, [], _++_}
+use Prim.Native.Nat.{ℕ, _≤_, _<_}
+use mathlib.Core.Path.{_≡_, sym, ap, _∙_}
+use mathlib.Core.Bool.{true, false}
+use mathlib.Core.List.{List, []}
 use native.Mathlib.Omega.{arith}
 use lib.ListN.{length, take, getD}
 use lib.Seq.{length-take-le}
@@ -10,7 +10,6 @@ use Rattle.octets.specs.Octets.{put}
 use Rattle.index.specs.Index.{itemsOf}
 use Rattle.index.specs.Write.{total}
 use Rattle.index.specs.declared.Index.{Index}
-use Rattle.dict.specs.Lookup.{cidKeyed}
 use Rattle.cff.specs.Font.{Program}
 use Rattle.cff.specs.Reads.{programOf}
 use Rattle.cff.specs.declared.font.Font.{Font}
@@ -19,14 +18,14 @@ use Rattle.subset.specs.Subset.{named, ownByName, ownByCid, newIds}
 use Rattle.kept.specs.Packed.{packed, glyphsIn}
 use Rattle.own_strings.specs.declared.Own.{Own}
 use Rattle.own_strings.specs.Slots.{slotTexts, wordNames, wordIds, ownOf, slotsOwn, allOwn}
-use Rattle.own_strings.specs.Ready.{HasStrings, NamesReady, NamesGiven}
+use Rattle.own_strings.specs.Ready.{HasStrings, NamesReady}
 use Rattle.own_strings.specs.SlotTexts.{cid-texts, name-texts}
 use Rattle.own_strings.specs.OwnLaws.{own-append}
 use Rattle.own_strings.specs.TurnLaws.{text-short}
 use Rattle.own_strings.specs.StageLaws.{own-bound, words-take, names-slots, word-ids-length}
 use Rattle.own_strings.specs.IdsLaws.{names-given}
 use Rattle.front.specs.Front.{SmallFont, orderIn, Ordered, Renamed, SlotsReady, Measured}
-use Rattle.front.specs.OrderLaws.{words-names, ordered-is, ordered-names, ordered-ready}
+use Rattle.front.specs.OrderLaws.{words-names, ordered-is, ordered-ready}
 
 -- the strings of a font can be read
 pub has-strings : (b : List ℕ) (f : Font) → SmallFont b f → HasStrings b (f .strings)

@@ -1,13 +1,13 @@
 -- Laws of the slots: what the two steps that fill them leave, and that it is what the top DICT of the subset is written from.
 use Prim.Native.Nat.{ℕ, _+_, _≤_, _<_}
 use mathlib.Core.Path.{_≡_, refl, sym, ap, _∙_, subst}
-use mathlib.Core.Bool.{Bool, true, false}
+use mathlib.Core.Bool.{Bool, true}
 use mathlib.Core.List.{List, [], _∷_, _++_}
 use native.Mathlib.Omega.{arith}
 use lib.Dec.{eqb}
-use lib.ListN.{length, take, drop, getD, length-append}
+use lib.ListN.{length, take, getD, length-append}
 use lib.Seq.{getD-take, getD-drop, getD-append-add, length-take-le}
-use Rattle.octets.specs.Pick.{pick, pick-ind}
+use Rattle.octets.specs.Pick.{pick-ind}
 use Rattle.octets.specs.Octets.{put}
 use Rattle.octets.specs.PutLaws.{put-length, take-put}
 use Rattle.prune.specs.StepLaws.{zero-one}
@@ -19,19 +19,19 @@ use Rattle.dict.specs.Op.{ros, copiedTopStrings}
 use Rattle.dict.specs.Dict.{Entry}
 use Rattle.dict.specs.Lookup.{Operands, absent, operands, lastOf, oneOf, idIn, rosAs, rosIn}
 use Rattle.dict.specs.declared.RosIn.{RosIn}
-use Rattle.dict.specs.declared.RosIn.the-variants.{Ros, None}
+use Rattle.dict.specs.declared.RosIn.the-variants.{Ros}
 use Rattle.index.specs.Index.{itemsOf}
 use Rattle.index.specs.declared.Index.{Index}
 use Rattle.strings.specs.Strings.{stringText}
 use Rattle.cff.specs.Font.{Program}
 use Rattle.subset.specs.Texts.{ownStrings, newId}
 use Rattle.faithful.specs.TopFitLaws.{new-below}
-use Rattle.own_strings.specs.Slots.{slotOf, rosSlots, firstSlots, entrySlots, slotsOf, slotTexts, slotId, slotIds, slotsOwn}
+use Rattle.own_strings.specs.Slots.{slotOf, rosSlots, firstSlots, entrySlots, slotsOf, slotId, slotIds, slotsOwn}
 use Rattle.own_strings.specs.Ready.{HasStrings, SlotsGiven}
 use Rattle.own_strings.specs.SlotTexts.{one-low, clamped-low}
 use Rattle.own_strings.specs.SlotLaws.{slot-full}
 use Rattle.own_strings.specs.TurnLaws.{first-length, slots-length, slots-at, text-short}
-use Rattle.own_strings.specs.StageLaws.{own-bound, ids-length, take-front}
+use Rattle.own_strings.specs.StageLaws.{own-bound, take-front}
 use Rattle.own_strings.specs.IdsLaws.{slots-given, slots-known}
 use Rattle.top_dict.specs.Top.{Filled}
 use Rattle.top_dict.specs.Slotted.{Slotted}

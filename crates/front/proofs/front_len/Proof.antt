@@ -1,11 +1,8 @@
 -- `front::front_len` meets its contract: the length of each part, the header's 4 bytes among them.
-use mathlib.Core.Path.{_≡_, ap, _∙_}
+use mathlib.Core.Path.{ap, _∙_}
 use native.Mathlib.Omega.{arith}
 use denote.Ref.{now}
 use Rattle.index.specs.Write.{indexLen}
-use Rattle.dict.specs.Places.{entriesOf}
-use Rattle.cff.specs.Reads.{topOf}
-use Rattle.top_dict.specs.Top.{topLen}
 use Rattle.front.specs.FrontLaws.{top-small, ready-filled}
 use borrow.Author.Needs.{needs}
 use Rattle.front.proofs.front_len.Statement.{statement}
