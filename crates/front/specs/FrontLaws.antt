@@ -2,7 +2,7 @@
 use Prim.Native.Nat.{ℕ, _+_, _*_, _-_, _≤_, _<_}
 use mathlib.Core.Path.{_≡_, refl, sym, ap, _∙_}
 use mathlib.Core.Bool.{Bool}
-use mathlib.Core.List.{List, [], _∷_, _++_}
+use mathlib.Core.List.{List, [], _∷_, _++_, append-assoc}
 use native.Mathlib.Nat.{add-zero, mul-le-mul}
 use native.Mathlib.Omega.{arith}
 use lib.ListN.{length, drop, length-append, length-drop}
@@ -53,12 +53,20 @@ header-wrote {old} all size name e w v u =
     wrote-as (wrote-then z (wrote-then z w v) u) (ap (λ (s : ℕ). 1 ∷ 0 ∷ 4 ∷ s ∷ indexBytes (name ∷ [])) e)
 
 module _ (all : ℕ) (name top : List ℕ) (own : List (List ℕ)) where
+  -- its length, of bytes and as it is measured
   pub front-sum : length (frontBytes all name top own) ≡ 4 + length (indexBytes (name ∷ [])) + length (indexBytes (top ∷ [])) + length (indexBytes own)
   front-sum =
       omega (arith, length-append (indexBytes (name ∷ [])) (indexBytes (top ∷ []) ++ indexBytes own), length-append (indexBytes (top ∷ [])) (indexBytes own))
 
   pub front-length : length (frontBytes all name top own) ≡ 4 + indexLen 1 (length name) + indexLen 1 (length top) + indexLen (length own) (total own)
   front-length = omega (arith, front-sum, single-length name, single-length top, length-index own)
+
+  -- the front and the rest of a subset, as crates/subset writes them
+  pub front-then : (rest : List ℕ)
+      → 1 ∷ 0 ∷ 4 ∷ sizeFor all ∷ (indexBytes (name ∷ []) ++ (indexBytes (top ∷ []) ++ (indexBytes own ++ rest))) ≡ frontBytes all name top own ++ rest
+  front-then rest =
+      ap (λ (l : List ℕ). 1 ∷ 0 ∷ 4 ∷ sizeFor all ∷ (indexBytes (name ∷ []) ++ l)) (sym (append-assoc (indexBytes (top ∷ [])) (indexBytes own) rest))
+      ∙ ap (λ (l : List ℕ). 1 ∷ 0 ∷ 4 ∷ sizeFor all ∷ l) (sym (append-assoc (indexBytes (name ∷ [])) (indexBytes (top ∷ []) ++ indexBytes own) rest))
 
   -- header and names, and what follows them
   front-parts : Split (frontBytes all name top own) (headerBytes all ++ indexBytes (name ∷ [])) (indexBytes (top ∷ []) ++ indexBytes own)

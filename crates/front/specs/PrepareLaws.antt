@@ -22,7 +22,7 @@ use Rattle.own_strings.specs.Ready.{HasStrings, NamesReady}
 use Rattle.own_strings.specs.SlotTexts.{cid-texts, name-texts}
 use Rattle.own_strings.specs.OwnLaws.{own-append}
 use Rattle.own_strings.specs.TurnLaws.{text-short}
-use Rattle.own_strings.specs.StageLaws.{own-bound, words-take, names-slots, word-ids-length}
+use Rattle.own_strings.specs.StageLaws.{own-bound, words-take, names-slots, word-ids-length, take-front}
 use Rattle.own_strings.specs.IdsLaws.{names-given}
 use Rattle.front.specs.Front.{SmallFont, orderIn, Ordered, Renamed, SlotsReady, Measured}
 use Rattle.front.specs.OrderLaws.{words-names, ordered-is, ordered-ready}
@@ -42,6 +42,10 @@ named-own p slots ws g e =
     ∙ ap (λ (l : List (List ℕ)). ownStrings (ownStrings [] l) (wordNames (p .strings) ws)) (name-texts p)
     ∙ ap (ownStrings (ownStrings [] (textsOf (named p)))) (words-names p ws e)
     ∙ sym (own-append [] (textsOf (named p)) (namesOf p (glyphsIn ws)))
+
+-- the new ids are put behind the glyphs, which stay
+pub order-after : (words ids : List ℕ) (n k : ℕ) → n ≤ length words → k ≤ n → orderIn k (put words n ids) ≡ orderIn k words
+order-after words ids n k w h = ap glyphsIn (take-front words n ids w k h)
 
 -- ---- how many they are, and how long
 
