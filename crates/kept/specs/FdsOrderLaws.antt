@@ -18,7 +18,7 @@ use Rattle.subset.specs.KeptListLaws.{sorted-count}
 use Rattle.kept.specs.FdsLaws.{glyphs-packed}
 use Rattle.kept.specs.OrderLaws.{Below, below-rest, sorted-below, those-at}
 
-below-all : (n : ℕ) (l : List ℕ) → Below n l → allBelow n l ≡ true
+pub below-all : (n : ℕ) (l : List ℕ) → Below n l → allBelow n l ≡ true
 unfolding allBelow
 below-all n [] h = refl
 below-all n (x ∷ l) h = ap (λ (t : Bool). pick t (allBelow n l) false) (lt-ltb x n (h 0 (omega arith))) ∙ below-all n l (below-rest n x l h)

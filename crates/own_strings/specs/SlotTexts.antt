@@ -37,11 +37,11 @@ id-low d sid =
     (λ u e. let f : truncOf d ≡ sid = cc in omega (arith, ltb-true (truncOf d) 65536 u))
     (λ u e. absurd (zero-one cc))))
 
-one-low : (o : One) (sid : ℕ) → idAs o ≡ Id sid → sid < 65536
+pub one-low : (o : One) (sid : ℕ) → idAs o ≡ Id sid → sid < 65536
 one-low NoNumber sid e = absurd (zero-one cc)
 one-low (Number d) sid e = id-low d sid e
 
-clamped-low : (d : Decimal) → clamped 65535 d < 65536
+pub clamped-low : (d : Decimal) → clamped 65535 d < 65536
 clamped-low d =
     pick-ind (λ (k : ℕ). k < 65536) (d .neg) 0 (min (truncOf d) 65535)
     (λ s. omega arith)

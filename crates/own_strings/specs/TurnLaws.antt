@@ -62,7 +62,7 @@ ros-length : (r : RosIn) → length (rosSlots r) ≡ 2
 ros-length None = refl
 ros-length (Ros registry ordering s) = refl
 
-first-length : (cid : Bool) (es : List Entry) → length (firstSlots cid es) ≡ 2
+pub first-length : (cid : Bool) (es : List Entry) → length (firstSlots cid es) ≡ 2
 first-length true es = ros-length (rosIn es)
 first-length false es = refl
 

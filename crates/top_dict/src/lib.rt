@@ -226,7 +226,7 @@ fn put_count(d: &[u8], out: &mut [u8], at: usize) -> usize
 // The length of the top DICT, whatever its offsets are: 23 bytes for those of a name-keyed subset, 26 for those of a CID-keyed one.
 pub fn top_len(cid: bool, d: &[u8], slots: &[usize]) -> usize
     requires { ⌜ (length (now d) ≤ 67108864) × (Filled (now slots)) ⌝ }
-    ensures { λ r. ⌜ r ≡ topLen cid (entriesOf (now (d .entry))) (now (slots .entry)) ⌝ }
+    ensures { λ r. ⌜ (r ≡ topLen cid (entriesOf (now (d .entry))) (now (slots .entry))) × (r ≤ 60000001052) ⌝ }
 {
     let n = carried_len(d, slots);
     if cid {

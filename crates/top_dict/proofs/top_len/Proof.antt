@@ -1,4 +1,5 @@
 -- `top_dict::top_len` meets its contract: the parts' lengths added up; those of the offsets are fixed.
+use native.Mathlib.Omega.{arith}
 use Rattle.top_dict.specs.TopLaws.{cid-sum, named-sum}
 use borrow.Author.Needs.{needs}
 use Rattle.top_dict.proofs.top_len.Statement.{statement}
@@ -23,13 +24,13 @@ add-result-3 : tie.Need-add-result-3
 add-result-3 c = search needs
 
 returns : tie.Need-returns
-returns c = cid-sum _ _ _ (c .before .before .if1 .taken) _ _ _ (c .before .ros-len .ensures .0) (c .before .before .before .carried-len .ensures .0) (c .count-len .ensures .0)
+returns c = (cid-sum _ _ _ (c .before .before .if1 .taken) _ _ _ (c .before .ros-len .ensures .0) (c .before .before .before .carried-len .ensures .0) (c .count-len .ensures .0), omega (arith, c .before .ros-len .ensures .1, c .before .before .before .carried-len .ensures .1, c .count-len .ensures .1))
 
 add-result-4 : tie.Need-add-result-4
 add-result-4 c = search needs
 
 returns-2 : tie.Need-returns-2
-returns-2 c = named-sum _ _ _ (c .if1 .left) _ (c .before .carried-len .ensures .0)
+returns-2 c = (named-sum _ _ _ (c .if1 .left) _ (c .before .carried-len .ensures .0), omega (arith, c .before .carried-len .ensures .1))
 
 pub top-len-spec : {M : Type 1} → statement M
 top-len-spec =

@@ -1,0 +1,98 @@
+-- The front of a subset over what the code holds (document 01, 'Layout'; crates/subset, subsetByName and subsetByCid): header, names, top DICT
+-- and strings. The font is held by positions; eight slots hold the string ids of its top DICT and eight more the new ones; the first k work
+-- words hold the kept glyphs with their string ids, and k words from the number of glyphs on the new ids of their names.
+use Prim.Native.Nat.{ℕ, _+_, _≤_, _<_}
+use mathlib.Core.Path.{_≡_}
+use mathlib.Core.Bool.{Bool, true, false}
+use mathlib.Core.List.{List, [], _∷_, _++_}
+use lib.ListN.{length, take, drop}
+use Rattle.dict.specs.Dict.{Entry}
+use Rattle.index.specs.Write.{sizeFor, indexBytes, indexLen}
+use Rattle.cff.specs.Font.{Program}
+use Rattle.cff.specs.Reads.{GoodFont, programOf}
+use Rattle.cff.specs.declared.font.Font.{Font}
+use Rattle.subset.specs.Kept.{keptOf}
+use Rattle.subset.specs.Texts.{namesOf}
+use Rattle.subset.specs.Subset.{ownByName, ownByCid, newIds}
+use Rattle.subset.specs.Cut.{allFound}
+use Rattle.kept.specs.Packed.{packed, glyphsIn}
+use Rattle.own_strings.specs.declared.Own.{Own}
+use Rattle.own_strings.specs.Slots.{slotsOf, ownOf}
+use Rattle.own_strings.specs.Ready.{SlotsGiven}
+use Rattle.top_dict.specs.Top.{topLen}
+
+-- a font that was read and is not too long
+pub record SmallFont (b : List ℕ) (f : Font) : Type 0 where
+  pub good : GoodFont b f
+  pub small : length b ≤ 67108864
+
+-- ---- the kept glyphs and their names
+
+-- the glyphs that the first k words hold, in the order in which they are written
+abbrev pub orderIn : ℕ → List ℕ → List ℕ
+orderIn k words = glyphsIn (take k words)
+
+-- the first k words hold the kept ones of n glyphs, by number, each of which finding gives for its name; behind n is room for as many
+pub record Ordered (p : Program) (n k : ℕ) (words : List ℕ) : Type 0 where
+  pub keep : List ℕ
+  pub many : k ≡ length (keptOf n keep)
+  pub is : take k words ≡ packed p (keptOf n keep)
+  pub found : allFound p (keptOf n keep) ≡ true
+  pub room : n + k ≤ length words
+
+-- the first k words hold glyphs, and the new ids of their names stand from n on
+pub record Renamed (p : Program) (n k : ℕ) (words : List ℕ) : Type 0 where
+  pub few : k < 65536
+  pub front : k ≤ n
+  pub room : n + k ≤ length words
+  pub is : take k words ≡ packed p (orderIn k words)
+  pub ids : take k (drop n words) ≡ newIds (ownByName p (orderIn k words)) (namesOf p (orderIn k words))
+
+-- ---- slots and own strings
+
+-- the slots hold the string ids of the top DICT, by the keying of the subset, and behind them their new ids
+pub record SlotsReady (p : Program) (cid : Bool) (slots : List ℕ) : Type 0 where
+  pub front : take 8 slots ≡ slotsOf cid (p .top)
+  pub given : SlotsGiven (p .strings) slots
+
+-- how many own strings there are, and their bytes together
+pub record Measured (all : List (List ℕ)) (own : Own) : Type 0 where
+  pub is : own ≡ ownOf all
+  pub few : own .count ≤ 65544
+  pub short : own .total ≤ 4398583382016
+
+-- ---- the front
+
+-- the length of the front, for a name of so many bytes
+abbrev pub frontLen : Bool → List Entry → List ℕ → ℕ → Own → ℕ
+frontLen cid es slots name own = 4 + indexLen 1 name + indexLen 1 (topLen cid es slots) + indexLen (own .count) (own .total)
+
+-- the header of a subset of so many bytes
+abbrev pub headerBytes : ℕ → List ℕ
+headerBytes total = 1 ∷ 0 ∷ 4 ∷ sizeFor total ∷ []
+
+-- the front of a subset of so many bytes, by its name, its top DICT and its own strings
+abbrev pub frontBytes : ℕ → List ℕ → List ℕ → List (List ℕ) → List ℕ
+frontBytes total name top own = 1 ∷ 0 ∷ 4 ∷ sizeFor total ∷ (indexBytes (name ∷ []) ++ (indexBytes (top ∷ []) ++ indexBytes own))
+
+-- own strings are few, and the front that was measured is not too long and has room
+pub record Fits (cid : Bool) (es : List Entry) (slots : List ℕ) (own : Own) (name out : ℕ) : Type 0 where
+  pub few : own .count ≤ 64609
+  pub short : name ≤ 65535
+  pub small : frontLen cid es slots name own ≤ 67108864
+  pub room : frontLen cid es slots name own ≤ out
+
+-- what is ready when the front of a name-keyed subset is written
+pub record NamedFront (b : List ℕ) (f : Font) (slots : List ℕ) (own : Own) (words : List ℕ) (k name out : ℕ) : Type 0 where
+  pub font : SmallFont b f
+  pub ready : SlotsReady (programOf b f) false slots
+  pub names : Renamed (programOf b f) (f .charstrings .count) k words
+  pub is : own ≡ ownOf (ownByName (programOf b f) (orderIn k words))
+  pub fits : Fits false (programOf b f .top) slots own name out
+
+-- and that of a CID-keyed one
+pub record CidFront (b : List ℕ) (f : Font) (slots : List ℕ) (own : Own) (name out : ℕ) : Type 0 where
+  pub font : SmallFont b f
+  pub ready : SlotsReady (programOf b f) true slots
+  pub is : own ≡ ownOf (ownByCid (programOf b f))
+  pub fits : Fits true (programOf b f .top) slots own name out

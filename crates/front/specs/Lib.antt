@@ -1,0 +1,8 @@
+pub mod Front
+pub mod OrderLaws
+pub mod SlotLaws
+pub mod PrepareLaws
+pub mod FrontLaws
+pub mod ByNameLaws
+pub mod ByCidLaws
+pub mod Examples

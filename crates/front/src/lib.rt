@@ -1,0 +1,164 @@
+// The front of a subset (document 01, 'Layout'; the Rust's subset and subset_cid): its strings prepared, and header, names, top DICT and
+// strings measured and written.
+ghost use mathlib.Core.Path.{_≡_};
+ghost use mathlib.Core.Bool.{true, false};
+ghost use mathlib.Core.List.{[], _∷_, _++_};
+ghost use Prim.Native.Nat.{_+_, _≤_};
+ghost use lib.ListN.{length};
+ghost use Rattle.octets.specs.Octets.{put, Wrote};
+ghost use Rattle.index.specs.Write.{indexBytes, indexLen};
+ghost use Rattle.cff.specs.Reads.{programOf};
+ghost use Rattle.subset.specs.Texts.{namesOf};
+ghost use Rattle.subset.specs.Subset.{ownByName, topByName, ownByCid, topByCid, newIds};
+ghost use Rattle.own_strings.specs.Slots.{ownOf, slotsOwn};
+ghost use Rattle.top_dict.specs.Top.{Offsets};
+ghost use Rattle.front.specs.Front.{SmallFont, orderIn, Ordered, Renamed, SlotsReady, Measured, frontLen, headerBytes, frontBytes, NamedFront, CidFront};
+use cff::font::Font;
+use own_strings::Own;
+use own_strings::put_ids;
+use own_strings::put_slot_ids;
+use own_strings::put_slots;
+use own_strings::put_strings;
+use top_dict::put_cid_index;
+use top_dict::put_named_index;
+use top_dict::top_len;
+
+// The string ids of the top DICT given new ones, by the keying of the subset: slots; the own strings so far.
+fn prepare_slots(font: &[u8], f: Font, cid: bool, slots: &mut [usize]) -> Own
+    requires { ⌜ (SmallFont (now font) f) × (16 ≤ length (now slots)) ⌝ }
+    ensures { λ r. ⌜ (SlotsReady (programOf (now (font .entry)) f) cid (now (slots .exit)))
+        × (r ≡ ownOf (slotsOwn (programOf (now (font .entry)) f .strings) (now (slots .exit)))) ⌝ }
+{
+    let top = f.top;
+    let end = f.top_end;
+    let strings = f.strings;
+    put_slots(&font[top..end], cid, &mut *slots);
+    put_slot_ids(font, strings, slots)
+}
+
+// The string ids of the top DICT and of the k kept glyphs given new ones: slots, and the words from the number of glyphs on; the own strings
+// of a name-keyed subset.
+pub fn prepare_named(font: &[u8], f: Font, slots: &mut [usize], words: &mut [u32], k: usize) -> Own
+    requires { ⌜ (SmallFont (now font) f) × (f .cid ≡ false) × (16 ≤ length (now slots))
+        × (Ordered (programOf (now font) f) (f .charstrings .count) k (now words)) ⌝ }
+    ensures { λ r. ⌜ (Measured (ownByName (programOf (now (font .entry)) f) (orderIn k (now (words .entry)))) r)
+        × (now (words .exit) ≡ put (now (words .entry)) (f .charstrings .count)
+        (newIds (ownByName (programOf (now (font .entry)) f) (orderIn k (now (words .entry)))) (namesOf (programOf (now (font .entry)) f) (orderIn k (now (words .entry))))))
+        × (Renamed (programOf (now (font .entry)) f) (f .charstrings .count) k (now (words .exit)))
+        × (SlotsReady (programOf (now (font .entry)) f) false (now (slots .exit))) ⌝ }
+{
+    let strings = f.strings;
+    let charstrings = f.charstrings;
+    let n = charstrings.count;
+    let own = prepare_slots(font, f, false, &mut *slots);
+    put_ids(font, strings, &*slots, own, words, n, k)
+}
+
+// The string ids of the top DICT given new ones: slots; the own strings of a CID-keyed subset.
+pub fn prepare_cid(font: &[u8], f: Font, slots: &mut [usize]) -> Own
+    requires { ⌜ (SmallFont (now font) f) × (16 ≤ length (now slots)) ⌝ }
+    ensures { λ r. ⌜ (Measured (ownByCid (programOf (now (font .entry)) f)) r)
+        × (SlotsReady (programOf (now (font .entry)) f) true (now (slots .exit))) ⌝ }
+{
+    prepare_slots(font, f, true, slots)
+}
+
+// How long an INDEX of count items is that have total bytes together, also where it is too long to be written.
+fn any_index_len(count: usize, total: usize) -> usize
+    requires { ⌜ (count ≤ 65544) × (total ≤ 281474976710656) ⌝ }
+    ensures { λ r. ⌜ (r ≡ indexLen count total) × (r ≤ 281474977000000) ⌝ }
+{
+    if count == 0 {
+        return 2;
+    }
+    3 + ((count + 1) * index::offset_size(total + 1) + total)
+}
+
+// The length of the front for a new name of so many bytes, whatever the offsets are.
+pub fn front_len(cid: bool, font: &[u8], f: Font, name: usize, slots: &[usize], own: Own) -> usize
+    requires { ⌜ (SmallFont (now font) f) × (SlotsReady (programOf (now font) f) cid (now slots)) × (name ≤ 65535)
+        × (own .count ≤ 65544) × (own .total ≤ 4398583382016) ⌝ }
+    ensures { λ r. ⌜ (r ≡ frontLen cid (programOf (now (font .entry)) f .top) (now (slots .entry)) name own) × (r ≤ 844424931000004) ⌝ }
+{
+    let top = f.top;
+    let end = f.top_end;
+    let count = own.count;
+    let total = own.total;
+    let n = top_len(cid, &font[top..end], slots);
+    4 + any_index_len(1, name) + any_index_len(1, n) + any_index_len(count, total)
+}
+
+// The header of a subset of total bytes and the INDEX of its name, from the start of out on; the place after it.
+fn put_names(name: &[u8], total: usize, out: &mut [u8]) -> usize
+    requires { ⌜ (length (now name) ≤ 65535) × (length (headerBytes total ++ indexBytes (now name ∷ [])) ≤ length (now out)) ⌝ }
+    ensures { λ r. ⌜ Wrote (now (out .entry)) 0 (headerBytes total ++ indexBytes (now (name .entry) ∷ [])) (now (out .exit)) r ⌝ }
+{
+    let p = octets::put_pair(out, 0, 1, 0);
+    let q = octets::put_pair(out, p, 4, index::offset_size(total) as u8);
+    index::put_single(out, q, name)
+}
+
+// The front of a name-keyed subset of total bytes, from the start of out on; the place after it.
+pub fn put_front_named(
+    font: &[u8],
+    f: Font,
+    name: &[u8],
+    slots: &[usize],
+    own: Own,
+    words: &[u32],
+    k: usize,
+    at1: usize,
+    at2: usize,
+    size: usize,
+    at3: usize,
+    total: usize,
+    out: &mut [u8],
+) -> usize
+    requires { ⌜ (NamedFront (now font) f (now slots) own (now words) k (length (now name)) (length (now out))) × (Offsets at1 at2 size at3) ⌝ }
+    ensures { λ r. ⌜ Wrote (now (out .entry)) 0
+        (frontBytes total (now (name .entry))
+        (topByName (programOf (now (font .entry)) f) (ownByName (programOf (now (font .entry)) f) (orderIn k (now (words .entry)))) at1 at2 size at3)
+        (ownByName (programOf (now (font .entry)) f) (orderIn k (now (words .entry)))))
+        (now (out .exit)) r ⌝ }
+{
+    let top = f.top;
+    let end = f.top_end;
+    let strings = f.strings;
+    let charstrings = f.charstrings;
+    let n = charstrings.count;
+    let d = &font[top..end];
+    let p = put_names(name, total, out);
+    let q = put_named_index(d, slots, at1, at2, size, at3, out, p);
+    put_strings(font, strings, slots, own, words, n, k, out, q)
+}
+
+// The front of a CID-keyed subset of total bytes, from the start of out on; the place after it.
+pub fn put_front_cid(
+    font: &[u8],
+    f: Font,
+    name: &[u8],
+    slots: &[usize],
+    own: Own,
+    words: &[u32],
+    at1: usize,
+    at2: usize,
+    at3: usize,
+    at4: usize,
+    total: usize,
+    out: &mut [u8],
+) -> usize
+    requires { ⌜ (CidFront (now font) f (now slots) own (length (now name)) (length (now out))) × (Offsets at1 at2 at3 at4) ⌝ }
+    ensures { λ r. ⌜ Wrote (now (out .entry)) 0
+        (frontBytes total (now (name .entry))
+        (topByCid (programOf (now (font .entry)) f) (ownByCid (programOf (now (font .entry)) f)) at1 at2 at3 at4)
+        (ownByCid (programOf (now (font .entry)) f)))
+        (now (out .exit)) r ⌝ }
+{
+    let top = f.top;
+    let end = f.top_end;
+    let strings = f.strings;
+    let d = &font[top..end];
+    let p = put_names(name, total, out);
+    let q = put_cid_index(d, slots, at1, at2, at3, at4, out, p);
+    put_strings(font, strings, slots, own, words, 0, 0, out, q)
+}
