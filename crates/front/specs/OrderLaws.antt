@@ -20,7 +20,7 @@ use Rattle.kept.specs.GatherLaws.{mapped-length}
 use Rattle.kept.specs.FdsLaws.{glyphs-packed}
 use Rattle.kept.specs.FdsOrderLaws.{below-all}
 use Rattle.kept.specs.OrderLaws.{those-at}
-use Rattle.faithful.specs.KeptListLaws.{in-head, in-more, in-at, those-count, Distinct, one}
+use Rattle.subset.specs.KeptListLaws.{in-head, in-more, in-at, those-count, Distinct, one}
 use Rattle.faithful.specs.KeptLaws.{kept-distinct}
 use Rattle.faithful.specs.FoundLaws.{names-differ}
 use Rattle.own_strings.specs.Slots.{wordNames, Different}

@@ -13,17 +13,14 @@ use Rattle.subset.specs.Kept.{privateOf}
 use Rattle.subset.specs.Texts.{namesOf}
 use Rattle.subset.specs.Pruned.{Bodies}
 use Rattle.subset.specs.Subset.{privateDict, privatePart, privateParts, fontDicts, ownByName, ownByCid, topByName, topByCid, newIds, cidsOf, newFds, oneLocal, subsetByName, subsetByCid}
+use Rattle.front.specs.Front.{frontBytes}
 use Rattle.faithful.specs.TopLaws.{name-top-length, cid-top-length, single-length}
-
--- the front of a subset, which has a length in all
-abbrev pub frontBytes : List ℕ → List ℕ → List (List ℕ) → ℕ → List ℕ
-frontBytes name top own all = 1 ∷ 0 ∷ 4 ∷ sizeFor all ∷ (indexBytes (name ∷ []) ++ (indexBytes (top ∷ []) ++ indexBytes own))
 
 -- its length, which the places in the top DICT do not change
 abbrev pub frontLen : List ℕ → List ℕ → List (List ℕ) → ℕ
 frontLen name top own = 4 + length (indexBytes (name ∷ [])) + length (indexBytes (top ∷ [])) + length (indexBytes own)
 
-pub front-length : (name top : List ℕ) (own : List (List ℕ)) (all : ℕ) → length (frontBytes name top own all) ≡ frontLen name top own
+pub front-length : (name top : List ℕ) (own : List (List ℕ)) (all : ℕ) → length (frontBytes all name top own) ≡ frontLen name top own
 front-length name top own all = rw (length-append, length-append) (omega arith)
 
 -- lists one behind the other
@@ -71,7 +68,7 @@ module _ (p : Program) (name order : List ℕ) (b : Bodies) where
   namedTop = topByName p own namedCharset namedCharstrings (length (privateDict (privateOf p 0) (oneLocal b))) namedPrivate
 
   -- the front, and part behind part
-  pub named-parts : subsetByName p name order b ≡ frontBytes name namedTop own namedEnd ++ (globals ++ (ids ++ (charstrings ++ private)))
+  pub named-parts : subsetByName p name order b ≡ frontBytes namedEnd name namedTop own ++ (globals ++ (ids ++ (charstrings ++ private)))
   unfolding subsetByName
   named-parts =
       ap (λ (l : List ℕ). 1 ∷ 0 ∷ 4 ∷ sizeFor namedEnd ∷ l)
@@ -82,12 +79,12 @@ module _ (p : Program) (name order : List ℕ) (b : Bodies) where
   pub named-length : length (subsetByName p name order b) ≡ namedEnd
   named-length =
       let size = length (privateDict (privateOf p 0) (oneLocal b)) in
-      let front : length (frontBytes name namedTop own namedEnd) ≡ frontLen name (topByName p own 0 0 0 0) own
+      let front : length (frontBytes namedEnd name namedTop own) ≡ frontLen name (topByName p own 0 0 0 0) own
       = front-length name namedTop own namedEnd
       ∙ ap (λ (k : ℕ). 4 + length (indexBytes (name ∷ [])) + k + length (indexBytes own))
       (single-length namedTop (topByName p own 0 0 0 0) (name-top-length p own namedCharset namedCharstrings size namedPrivate)) in
       ap length named-parts
-      ∙ after-one (frontBytes name namedTop own namedEnd) (globals ++ (ids ++ (charstrings ++ private))) _ _ front
+      ∙ after-one (frontBytes namedEnd name namedTop own) (globals ++ (ids ++ (charstrings ++ private))) _ _ front
       (after-one globals (ids ++ (charstrings ++ private)) _ _ refl (after-one ids (charstrings ++ private) _ _ refl (length-append charstrings private)))
       ∙ sums-four (frontLen name (topByName p own 0 0 0 0) own) (length globals) (length ids) (length charstrings) (length private)
 
@@ -141,7 +138,7 @@ module _ (p : Program) (name used order : List ℕ) (b : Bodies) where
   behind = cidGlobals ++ (cids ++ (select ++ (cidCharstrings ++ (dicts cidPrivates ++ privates))))
 
   -- the front, and part behind part
-  pub cid-parts : subsetByCid p name used order b ≡ frontBytes name cidTop cidOwn cidEnd ++ behind
+  pub cid-parts : subsetByCid p name used order b ≡ frontBytes cidEnd name cidTop cidOwn ++ behind
   unfolding subsetByCid
   cid-parts =
       ap (λ (l : List ℕ). 1 ∷ 0 ∷ 4 ∷ sizeFor cidEnd ∷ l)
@@ -151,13 +148,13 @@ module _ (p : Program) (name used order : List ℕ) (b : Bodies) where
   -- so long in all, the FD INDEX being as long wherever the Privates stand
   pub cid-length : length (dicts cidPrivates) ≡ length (dicts 0) → length (subsetByCid p name used order b) ≡ cidEnd
   cid-length same =
-      let front : length (frontBytes name cidTop cidOwn cidEnd) ≡ frontLen name (topByCid p cidOwn 0 0 0 0) cidOwn
+      let front : length (frontBytes cidEnd name cidTop cidOwn) ≡ frontLen name (topByCid p cidOwn 0 0 0 0) cidOwn
       = front-length name cidTop cidOwn cidEnd
       ∙ ap (λ (k : ℕ). 4 + length (indexBytes (name ∷ [])) + k + length (indexBytes cidOwn))
       (single-length cidTop (topByCid p cidOwn 0 0 0 0) (cid-top-length p cidOwn cidCharset cidSelect cidGlyphs cidDicts)) in
       let last = dicts cidPrivates ++ privates in
       ap length cid-parts
-      ∙ after-one (frontBytes name cidTop cidOwn cidEnd) behind _ _ front
+      ∙ after-one (frontBytes cidEnd name cidTop cidOwn) behind _ _ front
       (after-one cidGlobals (cids ++ (select ++ (cidCharstrings ++ last))) _ _ refl
       (after-one cids (select ++ (cidCharstrings ++ last)) _ _ refl
       (after-one select (cidCharstrings ++ last) _ _ refl
