@@ -7,3 +7,4 @@ pub mod SubrsLaws
 pub mod WaysLaws
 pub mod CodeLaws
 pub mod CharstringsLaws
+pub mod RecordLaws
