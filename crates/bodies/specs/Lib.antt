@@ -1,4 +1,5 @@
 pub mod Ways
+pub mod Sources
 pub mod Sizes
 pub mod Pruning
 pub mod SizesLaws
