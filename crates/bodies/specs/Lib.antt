@@ -2,6 +2,7 @@ pub mod Ways
 pub mod Sources
 pub mod Sizes
 pub mod Pruning
+pub mod Examples
 pub mod SizesLaws
 pub mod WritingLaws
 pub mod SubrsLaws

@@ -13,19 +13,18 @@ use lib.ListN.{length, take, drop, getD}
 use lib.Seq.{getD-take, getD-drop}
 use Rattle.octets.specs.Pick.{pick}
 use Rattle.unfold.specs.Unfold.{Row, Site, glyph}
-use Rattle.prune.specs.Renumber.{New, none, new, Calls}
+use Rattle.prune.specs.Renumber.{none, new, Calls}
 use Rattle.prune.specs.StepLaws.{zero-one}
 use Rattle.cff.specs.Font.{Program}
 use Rattle.subset.specs.Kept.{those}
 use Rattle.subset.specs.Pruned.{May, fail, yes as made, and, each, mapped, countBelow, rank, reached, renumberedBody, renumberedSubrs, stubbedFrom, callsIn}
 use Rattle.reach.specs.Reach.{ranksOf}
-use Rattle.renumber.specs.Ranks.{numbersIn}
 use Rattle.renumber.specs.RanksLaws.{HoldsRanks, rank-get, numbers-rank}
 use Rattle.renumber.specs.declared.Ranks.{Ranks}
-use Rattle.bodies.specs.Ways.{manyOf, holds, newBody, bodyBy, newSubrs, subrsBy, reachedIn, glyphAt, every, upTo, callsAt, charstringBy, newCharstrings, charstringsBy}
+use Rattle.bodies.specs.Ways.{holds, newBody, bodyBy, subrsBy, reachedIn, glyphAt, every, callsAt, charstringBy, newCharstrings, charstringsBy}
 use Rattle.bodies.specs.Pruning.{allHold, renumberedGlyph, bodiesBy}
 use Rattle.bodies.specs.SubrsLaws.{reached-none}
-use Rattle.bodies.specs.WaysLaws.{new-subrs-alike, new-body-alike, body-by-alike, subrs-by-alike, holds-each}
+use Rattle.bodies.specs.WaysLaws.{new-body-alike, body-by-alike, subrs-by-alike, holds-each}
 
 -- ---- what is reached
 

@@ -8,12 +8,11 @@ use lib.Dec.{eqb}
 use lib.IntN.{ℤ}
 use lib.ListN.{getD}
 use Rattle.octets.specs.Pick.{pick}
-use Rattle.unfold.specs.Unfold.{Row, Site, glyph, local, global}
+use Rattle.unfold.specs.Unfold.{Row, Site, glyph}
 use Rattle.prune.specs.Renumber.{Calls}
 use Rattle.prune.specs.StepLaws.{zero-one}
 use Rattle.cff.specs.Font.{Program}
-use Rattle.subset.specs.Kept.{localsOf}
-use Rattle.subset.specs.Pruned.{Bodies, May, fail, yes, and, each, mapped, localSet, globalSet, callsIn, callsAcross, renumbered, stubbed, copied, Pruned, orStubbed, pruned}
+use Rattle.subset.specs.Pruned.{Bodies, May, fail, yes, and, each, mapped, renumbered, stubbed, copied, orStubbed, pruned}
 use Rattle.faithful.specs.EachLaws.{and-yes}
 use Rattle.faithful.specs.RenumberedLaws.{renews}
 use Rattle.renumber.specs.Turn.{bodyOf}

@@ -1,14 +1,13 @@
 -- Bodies of numbers that pass a test, written one after the other as the items of an INDEX.
 use Prim.Native.Nat.{ℕ, zero, suc, _+_, _-_, _≤_, _<_}
-use mathlib.Core.Path.{_≡_, refl, sym, ap, _∙_, subst}
+use mathlib.Core.Path.{_≡_, refl, sym, ap, _∙_}
 use mathlib.Core.Bool.{Bool, true, false}
 use mathlib.Core.List.{List, []}
 use native.Mathlib.Omega.{arith}
 use lib.ListN.{length, getD}
-use Rattle.octets.specs.Pick.{pick}
 use Rattle.octets.specs.Octets.{bytesOf, Wrote}
 use Rattle.index.specs.Good.{Lies}
-use Rattle.index.specs.Write.{total, headBytes, sizeFor, indexBytes, indexFor}
+use Rattle.index.specs.Write.{headBytes, sizeFor, indexBytes, indexFor}
 use Rattle.index.specs.WriteLaws.{head-room}
 use Rattle.index.specs.Begun.{Meant, Begun, endPlace}
 use Rattle.index.specs.BegunLaws.{for-meant, wrote-item, begun-none, begun-length, begun-room, begun-end, begun-more, begun-whole}

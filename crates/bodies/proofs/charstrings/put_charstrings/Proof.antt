@@ -3,7 +3,6 @@ use Prim.Native.Nat.{ℕ, _-_}
 use mathlib.Core.Path.{refl, sym, ap, _∙_}
 use mathlib.Core.List.{List}
 use native.Mathlib.Omega.{arith}
-use borrow.Author.Needs.{needs}
 use lib.ListN.{length}
 use denote.Ref.{now}
 use Rattle.octets.specs.PutLaws.{wrote-as}

@@ -16,9 +16,9 @@ use Rattle.subset.specs.Kept.{those}
 use Rattle.subset.specs.Pruned.{May, each, countBelow}
 use Rattle.faithful.specs.RankLaws.{count-few}
 use Rattle.renumber.specs.Ranks.{callsBy}
-use Rattle.bodies.specs.Ways.{manyOf, reachedIn, siteIn, isKept, subrBy, subrsBy, Room}
+use Rattle.bodies.specs.Ways.{manyOf, reachedIn, siteIn, isKept, subrBy, subrsBy}
 use Rattle.bodies.specs.WritingLaws.{Writing, writing-start, writing-length, writing-skip, writing-room, writing-end, writing-on, head-fits, places-meant, writing-whole}
-use Rattle.bodies.specs.Sources.{keptFrom, subrFrom, subrsFrom}
+use Rattle.bodies.specs.Sources.{keptFrom, subrsFrom}
 use Rattle.bodies.specs.SubrsLaws.{index-each, index-many, new-subrs-is}
 use Rattle.bodies.proofs.subrs.put_subrs.Statement.{statement}
 use Rattle.bodies.proofs.subrs.put_subrs.Tie as tie

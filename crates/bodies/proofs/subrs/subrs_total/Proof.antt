@@ -14,7 +14,7 @@ use Rattle.renumber.specs.Ranks.{callsBy}
 use Rattle.bodies.specs.Ways.{measuredOf, reachedIn, siteIn, isKept, subrBy, subrsBy}
 use Rattle.bodies.specs.Sizes.{Adding}
 use Rattle.bodies.specs.SizesLaws.{adding-start, adding-end, adding-failed, adding-on, adding-room}
-use Rattle.bodies.specs.Sources.{keptFrom, subrFrom, subrsFrom}
+use Rattle.bodies.specs.Sources.{keptFrom, subrFrom}
 use Rattle.bodies.specs.SubrsLaws.{index-each}
 use Rattle.bodies.proofs.subrs.subrs_total.Statement.{statement}
 use Rattle.bodies.proofs.subrs.subrs_total.Tie as tie
