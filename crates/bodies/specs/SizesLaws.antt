@@ -149,3 +149,6 @@ module _ (f : ℕ → May (List ℕ)) (test : ℕ → Bool) (n : ℕ) where
     -- the sum stays small
     pub adding-room : k < n → n < 65536 → (l : ℕ) (r : Sized) → AtMost 335544320 r → r ≡ Len l → t + l < 18446744073709551616
     adding-room h few l r m g = let q : l ≤ 335544320 = subst (AtMost 335544320) g m in omega (arith, w .small)
+
+    pub adding-small : n < 65536 → t ≤ 21989897011200
+    adding-small few = omega (arith, w .small, w .among)

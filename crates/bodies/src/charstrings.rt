@@ -10,7 +10,7 @@ ghost use Rattle.record.specs.Record.{rowsOf};
 ghost use Rattle.renumber.specs.Turn.{sizedOf, bodyOf};
 ghost use Rattle.bodies.specs.Ways.{holds, measuredOf, glyphAt, fdAt, ranksIn, Room};
 ghost use Rattle.bodies.specs.Sources.{KeptIn, charstringFrom, charstringsFrom, newCharstringsFrom};
-ghost use Rattle.bodies.specs.Sizes.{AtMost};
+ghost use Rattle.bodies.specs.Sizes.{AtMost, Bounded};
 use crate::Measured;
 use index::Index;
 use reach::Site;
@@ -109,8 +109,8 @@ pub fn charstrings_total(
     rows: &[u8],
 ) -> Measured
     requires { ⌜ KeptIn kept (rowsOf (now rows)) (now words) (now ats) (now counts) (now reacheds) (now font) ⌝ }
-    ensures { λ r. ⌜ r ≡ measuredOf (charstringsFrom kept (rowsOf (now (rows .entry))) (now (words .entry)) (now (ats .entry)) (now (counts .entry))
-        (now (reacheds .entry)) (now (font .entry))) ⌝ }
+    ensures { λ r. ⌜ (r ≡ measuredOf (charstringsFrom kept (rowsOf (now (rows .entry))) (now (words .entry)) (now (ats .entry)) (now (counts .entry))
+        (now (reacheds .entry)) (now (font .entry)))) × (Bounded r) ⌝ }
 {
     let n = kept.count;
     let mut total: usize = 0;

@@ -12,7 +12,7 @@ ghost use Rattle.reach.specs.Reach.{SiteFits, siteOf};
 ghost use Rattle.renumber.specs.Turn.{sizedOf, bodyOf};
 ghost use Rattle.bodies.specs.Ways.{holds, measuredOf, reachedIn, siteIn, SubrsFit, isKept, isStub, keptCount, Room};
 ghost use Rattle.bodies.specs.Sources.{Sourced, keptFrom, subrFrom, subrsFrom, newSubrsFrom};
-ghost use Rattle.bodies.specs.Sizes.{AtMost, lenAt};
+ghost use Rattle.bodies.specs.Sizes.{AtMost, Bounded, lenAt};
 use crate::Measured;
 use index::Index;
 use reach::Site;
@@ -125,7 +125,7 @@ fn subr_len(from: Source, font: &[u8], words: &[u32], rows: &[u8], k: usize) -> 
 // The bytes of some subroutines together, by the way; or that their renumbering fails.
 pub fn subrs_total(from: Source, font: &[u8], words: &[u32], rows: &[u8]) -> Measured
     requires { ⌜ Sourced from (rowsOf (now rows)) (now words) (now font) ⌝ }
-    ensures { λ r. ⌜ r ≡ measuredOf (subrsFrom from (rowsOf (now (rows .entry))) (now (words .entry)) (now (font .entry))) ⌝ }
+    ensures { λ r. ⌜ (r ≡ measuredOf (subrsFrom from (rowsOf (now (rows .entry))) (now (words .entry)) (now (font .entry)))) × (Bounded r) ⌝ }
 {
     let n = from.ix.count;
     let mut total: usize = 0;

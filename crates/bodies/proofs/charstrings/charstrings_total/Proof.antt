@@ -10,7 +10,7 @@ use Rattle.subset.specs.Pruned.{May}
 use Rattle.bodies.specs.Ways.{every, charstringBy}
 use Rattle.bodies.specs.Sizes.{Adding}
 use Rattle.bodies.specs.Sources.{charstringFrom}
-use Rattle.bodies.specs.SizesLaws.{adding-start, adding-end, adding-failed, adding-on, adding-room}
+use Rattle.bodies.specs.SizesLaws.{adding-start, adding-end, adding-failed, adding-on, adding-room, adding-small}
 use Rattle.bodies.proofs.charstrings.charstrings_total.Statement.{statement}
 use Rattle.bodies.proofs.charstrings.charstrings_total.Tie as tie
 
@@ -69,14 +69,18 @@ returns : tie.Need-returns Inv-loop μ-loop
 returns c =
     let d = c .before .before in
     let l = d .before .before in
-    let s = S₁ l in
-    adding-failed (F s) every (s .args .kept .count) (l .loop .i) (l .loop .total) (l .loop .inv) (d .before .loop-test .taken) _ (d .charstring-len .ensures .0) (c .enum-told .given .1)
+    let s = S₁ l in (
+      adding-failed (F s) every (s .args .kept .count) (l .loop .i) (l .loop .total) (l .loop .inv) (d .before .loop-test .taken) _ (d .charstring-len .ensures .0) (c .enum-told .given .1),
+      tt,
+    )
 
 returns-2 : tie.Need-returns-2 Inv-loop μ-loop
 returns-2 c =
     let l = c .before in
-    let s = S₁ l in
-    adding-end (F s) every (s .args .kept .count) (l .loop .i) (l .loop .total) (l .loop .inv) (c .loop-test .left)
+    let s = S₁ l in (
+      adding-end (F s) every (s .args .kept .count) (l .loop .i) (l .loop .total) (l .loop .inv) (c .loop-test .left),
+      adding-small (F s) every (s .args .kept .count) (l .loop .i) (l .loop .total) (l .loop .inv) (s .pre .keptFew),
+    )
 
 pub charstrings-total-spec : {M : Type 1} → statement M
 charstrings-total-spec =

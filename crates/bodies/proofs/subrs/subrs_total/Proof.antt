@@ -13,7 +13,7 @@ use Rattle.subset.specs.Pruned.{May, each}
 use Rattle.renumber.specs.Ranks.{callsBy}
 use Rattle.bodies.specs.Ways.{measuredOf, reachedIn, siteIn, isKept, subrBy, subrsBy}
 use Rattle.bodies.specs.Sizes.{Adding}
-use Rattle.bodies.specs.SizesLaws.{adding-start, adding-end, adding-failed, adding-on, adding-room}
+use Rattle.bodies.specs.SizesLaws.{adding-start, adding-end, adding-failed, adding-on, adding-room, adding-small}
 use Rattle.bodies.specs.Sources.{keptFrom, subrFrom}
 use Rattle.bodies.specs.SubrsLaws.{index-each}
 use Rattle.bodies.proofs.subrs.subrs_total.Statement.{statement}
@@ -84,15 +84,19 @@ returns : tie.Need-returns Inv-loop μ-loop
 returns c =
     let d = c .before .before in
     let l = d .before .before in
-    let s = S₁ l in
-    adding-failed (F s) (T s) (s .args .from .ix .count) (l .loop .k) (l .loop .total) (l .loop .inv) (d .before .loop-test .taken) _ (d .subr-len .ensures .0) (c .enum-told .given .1)
-    ∙ all s
+    let s = S₁ l in (
+      adding-failed (F s) (T s) (s .args .from .ix .count) (l .loop .k) (l .loop .total) (l .loop .inv) (d .before .loop-test .taken) _ (d .subr-len .ensures .0) (c .enum-told .given .1)
+          ∙ all s,
+      tt,
+    )
 
 returns-2 : tie.Need-returns-2 Inv-loop μ-loop
 returns-2 c =
     let l = c .before in
-    let s = S₁ l in
-    adding-end (F s) (T s) (s .args .from .ix .count) (l .loop .k) (l .loop .total) (l .loop .inv) (c .loop-test .left) ∙ all s
+    let s = S₁ l in (
+      adding-end (F s) (T s) (s .args .from .ix .count) (l .loop .k) (l .loop .total) (l .loop .inv) (c .loop-test .left) ∙ all s,
+      adding-small (F s) (T s) (s .args .from .ix .count) (l .loop .k) (l .loop .total) (l .loop .inv) (s .pre .few),
+    )
 
 pub subrs-total-spec : {M : Type 1} → statement M
 subrs-total-spec =
