@@ -6,16 +6,17 @@ use mathlib.Core.Bool.{Bool, true, false, _&&_}
 use mathlib.Core.List.{List, [], _∷_}
 use native.Mathlib.Nat.{add-zero}
 use native.Mathlib.Omega.{arith}
-use borrow.Author.Tests.{lt-ltb, le-ltb, eq-eqb, ne-eqb, eqb-true, eqb-false, ltb-true, ltb-false}
+use borrow.Author.Tests.{le-ltb, eq-eqb, ne-eqb, ltb-false}
 use lib.Dec.{ltb, eqb}
-use lib.ListN.{length, getD, set, replicate, length-set, length-replicate, getD-replicate}
+use lib.ListN.{length, getD, set}
 use lib.Seq.{getD-set-same, getD-set-other}
 use Rattle.octets.specs.Pick.{pick}
 use Rattle.unfold.specs.Unfold.{Row}
 use Rattle.record.specs.Record.{sameRow, lists}
 use Rattle.subset.specs.Pruned.{countBelow, reached}
-use Rattle.reach.specs.Reach.{Fits, ranksOf}
+use Rattle.reach.specs.Reach.{ranksOf}
 use Rattle.reach.specs.Ranks.{reachedRow, reachedIn, tells, markRow, marked, pastRow, pastOf, rankFor, countFor, ranked, counted}
+use Rattle.reach.specs.Cases.{by-number}
 use Rattle.reach.specs.RowLaws.{AllFit}
 use Rattle.reach.specs.MarkLaws.{mark-length}
 
@@ -27,24 +28,8 @@ third-false true false c d e h = refl
 third-false false b c d e h = refl
 
 -- a row of another number
-other-row : (kind fd k : ℕ) (r : Row) → (r .number ≡ k → ⊥) → sameRow r (reachedRow kind fd k) ≡ false
+pub other-row : (kind fd k : ℕ) (r : Row) → (r .number ≡ k → ⊥) → sameRow r (reachedRow kind fd k) ≡ false
 other-row kind fd k r h = third-false (eqb (r .kind) kind) (eqb (r .fd) fd) (eqb (r .number) k) (eqb (r .offset) 0) (eqb (r .len) 0) (ne-eqb _ _ h)
-
--- by whether a row has the number
-pub by-number : {P : Type 0} (m k : ℕ) → (m ≡ k → P) → ((m ≡ k → ⊥) → P) → P
-by-number {P} m k f g = by (eqb m k) refl
-  where
-    by : (t : Bool) → eqb m k ≡ t → P
-    by true e = f (eqb-true m k e)
-    by false e = g (eqb-false m k e)
-
--- by whether a number is below another
-pub by-order : {P : Type 0} (m k : ℕ) → (m < k → P) → (k ≤ m → P) → P
-by-order {P} m k f g = by (ltb m k) refl
-  where
-    by : (t : Bool) → ltb m k ≡ t → P
-    by true e = f (ltb-true m k e)
-    by false e = g (ltb-false m k e)
 
 -- ---- marks
 
@@ -181,7 +166,7 @@ count-stays s n h (suc d) =
     let f : countBelow s (n + suc d) ≡ countBelow s (n + d + 1) = ap (countBelow s) e in
     f ∙ count-next s (n + d) ∙ rw (h (n + d) (omega arith)) (add-zero (countBelow s (n + d)) ∙ count-stays s n h d)
 
-count-more : (s : ℕ → Bool) (n m t : ℕ) → n ≤ m → m < t → s m ≡ true → countBelow s n < countBelow s t
+pub count-more : (s : ℕ → Bool) (n m t : ℕ) → n ≤ m → m < t → s m ≡ true → countBelow s n < countBelow s t
 count-more s n m t h k e =
     let a : countBelow s (n + (m - n)) ≡ countBelow s m = ap (countBelow s) (omega arith) in
     let b : countBelow s (m + 1 + (t - (m + 1))) ≡ countBelow s t = ap (countBelow s) (omega arith) in

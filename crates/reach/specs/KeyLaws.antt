@@ -1,25 +1,24 @@
 -- Laws of keys: rows that fit are at one place exactly where their keys are equal, and of one body exactly where their bodies are.
-use Prim.Native.Nat.{ℕ, zero, suc, _+_, _*_, _/_, _%_, _≤_, _<_}
+use Prim.Native.Nat.{ℕ, _+_, _*_, _/_, _%_, _<_}
 use mathlib.Core.Path.{_≡_, refl, sym, ap, _∙_, subst}
 use mathlib.Core.Bool.{Bool, true, false, _&&_, not}
 use mathlib.Core.List.{List, [], _∷_}
 use native.Mathlib.Omega.{arith}
 use lib.Arith.{digits-div, digits-mod}
-use borrow.Author.Tests.{eq-eqb, ne-eqb, eqb-true, eqb-false}
-use lib.Dec.{ltb, eqb}
+use borrow.Author.Tests.{eq-eqb, ne-eqb}
+use lib.Dec.{eqb}
 use Rattle.octets.specs.Octets.{Octets}
 use Rattle.octets.specs.Pick.{pick}
 use Rattle.charstring.specs.declared.MaskLen.{MaskLen}
-use Rattle.charstring.specs.declared.MaskLen.the-variants.{Own, Given}
+use Rattle.charstring.specs.declared.MaskLen.the-variants.{Given}
 use Rattle.unfold.specs.Unfold.{Row, Site, masked}
-use Rattle.unfold.specs.Unfold as body
 use Rattle.record.specs.Record.{atPlace, ofBody, disagrees, givenIn, twoLengths, rowsOf}
 use Rattle.reach.specs.declared.Site as code
 use Rattle.reach.specs.declared.Site.the-variants.{Glyph, Local, Global}
 use Rattle.reach.specs.Reach.{Fits, SiteFits, siteOf, keyOf}
-use Rattle.reach.specs.Masks.{bodyOf, lenAt, clashes, otherLen, clashAt, twoOf}
+use Rattle.reach.specs.Masks.{bodyOf, lenAt, otherLen, twoOf}
 use Rattle.reach.specs.RowLaws.{AllFit, all-fit}
-use Rattle.reach.specs.CountLaws.{by-number}
+use Rattle.reach.specs.Cases.{by-number}
 
 -- two digits to a base are equal exactly where the numbers are
 both-digits : (n a b x y : ℕ) → b < n → y < n → eqb a x && eqb b y ≡ eqb (a * n + b) (x * n + y)

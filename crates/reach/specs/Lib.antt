@@ -1,10 +1,13 @@
 pub mod Reach
 pub mod Ranks
+pub mod Masks
+pub mod Examples
+pub mod Cases
 pub mod RowLaws
 pub mod MarkLaws
 pub mod CountLaws
 pub mod RankLaws
-pub mod Masks
+pub mod WordLaws
 pub mod KeyLaws
 pub mod MaskLaws
 pub mod SearchLaws

@@ -1,12 +1,11 @@
 -- Laws of the loops that mark and rank: what is left to do gives what the whole gives.
-use Prim.Native.Nat.{ℕ, zero, suc, _+_, _-_, _*_, _/_, _≤_, _<_}
-use mathlib.Core.Path.{_≡_, refl, sym, ap, _∙_, subst}
-use mathlib.Core.Bool.{Bool, true, false}
+use Prim.Native.Nat.{ℕ, suc, _+_, _/_, _≤_, _<_}
+use mathlib.Core.Path.{_≡_, refl, sym, ap, _∙_}
 use mathlib.Core.List.{List, [], _∷_, _++_, append-assoc, append-nil}
 use native.Mathlib.Numerals.{add-one}
 use native.Mathlib.Omega.{arith}
 use lib.Dec.{ltb, eqb}
-use lib.ListN.{length, take, drop, getD, set, replicate, length-set, length-drop, replicate-append-replicate, drop-of-length-le}
+use lib.ListN.{length, take, drop, getD, set, replicate, length-set, replicate-append-replicate, drop-of-length-le}
 use lib.Seq.{drop-cons, take-suc-set, drop-set-lt, take-all}
 use Rattle.octets.specs.Pick.{pick, pick-ind}
 use Rattle.unfold.specs.Unfold.{Row}

@@ -1,11 +1,11 @@
 -- Laws of the passes over the rows: what the rows from the i-th on give is what all give.
-use Prim.Native.Nat.{ℕ, zero, suc, _+_, _-_, _*_, _/_, _≤_, _<_}
+use Prim.Native.Nat.{ℕ, _+_, _/_, _≤_, _<_}
 use mathlib.Core.Path.{_≡_, refl, sym, ap, _∙_}
-use mathlib.Core.Bool.{Bool, true, false, _&&_, not}
+use mathlib.Core.Bool.{Bool, true, false}
 use mathlib.Core.List.{List, [], _∷_}
 use native.Mathlib.Omega.{arith}
 use borrow.Author.Tests.{lt-ltb, le-ltb, eq-eqb, ne-eqb}
-use lib.Dec.{ltb, eqb}
+use lib.Dec.{ltb}
 use lib.ListN.{length}
 use Rattle.octets.specs.Pick.{pick}
 use Rattle.charstring.specs.declared.MaskLen.the-variants.{Own, Given}

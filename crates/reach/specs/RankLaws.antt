@@ -1,14 +1,13 @@
 -- Laws of ranking: words that were cleared, marked and counted hold the new numbers, and so do they as a part of the work words.
-use Prim.Native.Nat.{ℕ, zero, suc, _+_, _-_, _≤_, _<_}
-use mathlib.Core.Path.{_≡_, refl, sym, ap, _∙_, subst}
+use Prim.Native.Nat.{ℕ, _+_, _-_, _≤_, _<_}
+use mathlib.Core.Path.{_≡_, sym, ap, _∙_}
 use mathlib.Core.Bool.{Bool, true, false}
-use mathlib.Core.List.{List, [], _∷_, _++_}
+use mathlib.Core.List.{List, _++_}
 use native.Mathlib.Omega.{arith}
 use lib.Dec.{eqb}
-use lib.ListN.{length, take, drop, getD, replicate, length-replicate, getD-replicate, length-drop}
+use lib.ListN.{length, take, drop, replicate, length-replicate, getD-replicate, length-drop}
 use lib.Seq.{drop-drop, length-take-le}
 use Rattle.octets.specs.Octets.{Octets, put}
-use Rattle.octets.specs.Pick.{pick}
 use Rattle.unfold.specs.Unfold.{Row}
 use Rattle.record.specs.Record.{rowsOf}
 use Rattle.subset.specs.Pruned.{countBelow, reached}

@@ -1,12 +1,15 @@
 -- Marks and ranks as the code makes them, for the subroutines of a kind and an FD: each reached one is marked by 1, and the marks are counted.
-use Prim.Native.Nat.{ℕ, zero, suc, _+_, _<_}
-use mathlib.Core.Bool.{Bool, true, false}
+use Prim.Native.Nat.{ℕ, _+_, _-_}
+use mathlib.Core.Bool.{Bool}
 use mathlib.Core.List.{List, [], _∷_}
 use lib.Dec.{ltb, eqb}
-use lib.ListN.{length, set}
+use lib.ListN.{set}
 use Rattle.octets.specs.Pick.{pick}
 use Rattle.unfold.specs.Unfold.{Row}
+use Rattle.prune.specs.Renumber.{New, none, new}
 use Rattle.record.specs.Record.{sameRow, lists}
+use Rattle.reach.specs.declared.ranks.NewNumber.{NewNumber}
+use Rattle.reach.specs.declared.ranks.NewNumber.the-variants.{Absent, Number}
 
 -- the row that says that subroutine k of a kind and an FD is reached
 abbrev pub reachedRow : ℕ → ℕ → ℕ → Row
@@ -51,3 +54,11 @@ ranked n (w ∷ ws) = rankFor n w ∷ ranked (countFor n w) ws
 unfoldable pub counted : ℕ → List ℕ → ℕ
 counted n [] = n
 counted n (w ∷ ws) = counted (countFor n w) ws
+
+-- the new number that a word stands for, and that the code answers
+abbrev pub numberOf : ℕ → New
+numberOf w = pick (eqb w 0) none (new (w - 1))
+
+abbrev pub newIn : NewNumber → New
+newIn Absent = none
+newIn (Number n) = new n

@@ -1,12 +1,12 @@
 -- Laws of the search by halves through rows that rise, and of what it finds.
-use Prim.Native.Nat.{ℕ, zero, suc, _+_, _-_, _*_, _/_, _≤_, _<_}
+use Prim.Native.Nat.{ℕ, zero, suc, _+_, _-_, _/_, _≤_, _<_}
 use mathlib.Core.Path.{_≡_, refl, sym, ap, _∙_, subst}
 use mathlib.Core.Bool.{Bool, true, false}
 use mathlib.Core.List.{List, [], _∷_}
 use native.Mathlib.Nat.{add-zero}
 use native.Mathlib.Omega.{arith}
 use borrow.Author.Tests.{ltb-false}
-use lib.Dec.{ltb, eqb}
+use lib.Dec.{ltb}
 use lib.ListN.{length}
 use Rattle.octets.specs.Pick.{pick}
 use Rattle.charstring.specs.declared.MaskLen.the-variants.{Own, Given}
@@ -15,7 +15,7 @@ use Rattle.record.specs.Record.{rowsOf}
 use Rattle.reach.specs.Reach.{keyOf, rises, rowNo, restOf}
 use Rattle.reach.specs.Masks.{lenAt, FirstAt}
 use Rattle.reach.specs.RowLaws.{rest-all, rest-next}
-use Rattle.reach.specs.CountLaws.{by-order}
+use Rattle.reach.specs.Cases.{by-order}
 use Rattle.reach.specs.MaskLaws.{given-here, given-on, given-end}
 
 -- ---- rows that rise are sorted

@@ -1,8 +1,8 @@
 -- Laws of two lengths in rows that rise: rows of equal keys stand side by side, so that neighbours tell all.
-use Prim.Native.Nat.{ℕ, zero, suc, _+_, _-_, _*_, _/_, _≤_, _<_}
-use mathlib.Core.Path.{_≡_, refl, sym, ap, _∙_, subst}
+use Prim.Native.Nat.{ℕ, zero, suc, _+_, _*_, _/_, _≤_, _<_}
+use mathlib.Core.Path.{_≡_, refl, sym, ap, _∙_}
 use mathlib.Core.Bool.{Bool, true, false, _&&_, not}
-use mathlib.Core.List.{List, [], _∷_}
+use mathlib.Core.List.{List}
 use native.Mathlib.Omega.{arith}
 use borrow.Author.Tests.{eq-eqb, ne-eqb, eqb-true}
 use lib.Dec.{eqb}
@@ -12,9 +12,9 @@ use Rattle.octets.specs.Pick.{pick}
 use Rattle.unfold.specs.Unfold.{Row}
 use Rattle.record.specs.Record.{rowsOf}
 use Rattle.reach.specs.Reach.{Fits, keyOf, rises, rowNo, restOf}
-use Rattle.reach.specs.Masks.{bodyOf, clashes, otherLen, clashAt, twoOf, FirstAt}
-use Rattle.reach.specs.RowLaws.{rest-all, rest-next, rest-none, row-fits}
-use Rattle.reach.specs.CountLaws.{by-number, by-order}
+use Rattle.reach.specs.Masks.{bodyOf, clashes, otherLen, twoOf, FirstAt}
+use Rattle.reach.specs.RowLaws.{rest-all, rest-next, row-fits}
+use Rattle.reach.specs.Cases.{by-number, by-order}
 use Rattle.reach.specs.MaskLaws.{other-here, other-on, other-end, two-here, two-on, two-end}
 use Rattle.reach.specs.SearchLaws.{sorted}
 

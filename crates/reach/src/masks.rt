@@ -1,12 +1,12 @@
 // The lengths that a reach record gives for masks: found by halves where the rows stand in rising order, else by passing over all rows.
 ghost use mathlib.Core.Path.{_≡_};
 ghost use mathlib.Core.Bool.{true};
-ghost use Prim.Native.Nat.{_+_, _*_, _/_, _≤_, _<_};
+ghost use Prim.Native.Nat.{_+_, _*_, _/_, _<_};
 ghost use lib.ListN.{length};
 ghost use Rattle.unfold.specs.Unfold.{masked};
 ghost use Rattle.record.specs.Record.{rowsOf, givenIn, twoLengths};
 ghost use Rattle.reach.specs.Reach.{Fits, SiteFits, siteOf, rowIn, rowNo, restOf, keyOf, rises};
-ghost use Rattle.reach.specs.Masks.{bodyOf, risesFrom, lenAt, clashes, otherLen, clashAt, twoOf, FirstAt};
+ghost use Rattle.reach.specs.Masks.{bodyOf, lenAt, clashes, otherLen, clashAt, twoOf, FirstAt};
 use crate::Row;
 use crate::Site;
 use charstring::MaskLen;

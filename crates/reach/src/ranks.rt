@@ -6,13 +6,19 @@ ghost use lib.ListN.{length, getD, set, replicate};
 ghost use Rattle.octets.specs.Octets.{put};
 ghost use Rattle.record.specs.Record.{rowsOf};
 ghost use Rattle.reach.specs.Reach.{rowIn, setOf, ranksOf, rankedOf};
-ghost use Rattle.reach.specs.Ranks.{tells, markRow, marked, pastRow, pastOf, rankFor, countFor, ranked, counted, reachedIn};
+ghost use Rattle.reach.specs.Ranks.{tells, markRow, marked, pastRow, pastOf, rankFor, countFor, ranked, counted, reachedIn, newIn, numberOf};
 use crate::Row;
 
 // How many of some subroutines are reached, and whether the record has no other number.
 pub struct Ranked {
     pub reached: usize,
     pub all: bool,
+}
+
+// The new number of a subroutine, or that it has none.
+pub enum NewNumber {
+    Absent,
+    Number(usize),
 }
 
 // Sets the words of count subroutines, from `at` on, to their new numbers plus 1, or 0 where the record has them not: globals, or locals of
@@ -138,4 +144,23 @@ fn rank_marks(marks: &mut [u32]) -> usize
         i += 1;
     }
     reached
+}
+
+// A word as a wider number.
+fn wide(x: u32) -> usize
+    ensures { λ r. ⌜ r ≡ x ⌝ }
+{
+    x as usize
+}
+
+// The new number of subroutine k of those whose words stand from `at` on.
+pub fn new_number(words: &[u32], at: usize, k: usize) -> NewNumber
+    requires { ⌜ at + k < length (now words) ⌝ }
+    ensures { λ r. ⌜ newIn r ≡ numberOf (getD (now (words .entry)) (at + k) 0) ⌝ }
+{
+    let word = wide(words[at + k]);
+    if word == 0 {
+        return NewNumber::Absent;
+    }
+    NewNumber::Number(word - 1)
 }

@@ -14,7 +14,8 @@ use Rattle.subset.specs.Pruned.{countBelow, reached, localSet, globalSet}
 use Rattle.reach.specs.Reach.{ranksOf, rankedOf}
 use Rattle.reach.specs.Ranks.{reachedIn, pastOf}
 use Rattle.reach.specs.RowLaws.{all-fit}
-use Rattle.reach.specs.CountLaws.{by-number, length-ranks, none-past, some-past}
+use Rattle.reach.specs.Cases.{by-number}
+use Rattle.reach.specs.CountLaws.{length-ranks, none-past, some-past}
 use Rattle.reach.specs.declared.ranks.Ranked as code
 use Rattle.renumber.specs.RanksLaws.{HoldsRanks}
 

@@ -22,29 +22,11 @@ use Rattle.cff.specs.Font.{Program}
 use Rattle.subset.specs.Kept.{localsOf}
 use Rattle.subset.specs.Pruned.{countBelow, rank, reached, fail, whole, localSet, globalSet, renumberedBody, callsIn, callsAcross}
 use Rattle.reach.specs.Reach.{ranksOf}
+use Rattle.reach.specs.CountLaws.{count-more}
 use Rattle.renumber.specs.Ranks.{newIn, numbersIn, callsBy, Ranked}
 use Rattle.renumber.specs.declared.Ranks.{Ranks}
 
 -- ---- how many of a set are below a number
-
-count-step : (set : ℕ → Bool) (n : ℕ) → countBelow set n ≤ countBelow set (suc n)
-unfolding countBelow
-count-step set n = omega arith
-
-count-more : (set : ℕ → Bool) (n d : ℕ) → countBelow set n ≤ countBelow set (d + n)
-count-more set n zero = let e : 0 + n ≡ n = omega arith in subst (λ (k : ℕ). countBelow set n ≤ countBelow set k) (sym e) (le-refl _)
-count-more set n (suc d) =
-    let h = count-more set n d in
-    let k = count-step set (d + n) in
-    let e : suc (d + n) ≡ suc d + n = omega arith in
-    subst (λ (j : ℕ). countBelow set n ≤ countBelow set j) e (omega arith)
-
-count-mono : (set : ℕ → Bool) (n m : ℕ) → n ≤ m → countBelow set n ≤ countBelow set m
-count-mono set n m h = let e : m - n + n ≡ m = omega arith in subst (λ (k : ℕ). countBelow set n ≤ countBelow set k) e (count-more set n (m - n))
-
-count-in : (set : ℕ → Bool) (i : ℕ) → set i ≡ true → countBelow set (suc i) ≡ countBelow set i + 1
-unfolding countBelow
-count-in set i e = rw e
 
 count-few : (set : ℕ → Bool) (n : ℕ) → countBelow set n ≤ n
 unfolding countBelow
@@ -57,11 +39,7 @@ none-between set n m i e h k = go (set i) refl
   where
     go : (t : Bool) → set i ≡ t → set i ≡ false
     go false f = f
-    go true f =
-        let a = count-in set i f in
-        let b = count-mono set n i h in
-        let c = count-mono set (suc i) m k in
-        absurd (let y : ⊥ = omega arith in y)
+    go true f = let a = count-more set n i m h k f in absurd (let y : ⊥ = omega arith in y)
 
 -- ---- the words hold the ranks of a set, which has no other number
 pub record HoldsRanks (ws : List ℕ) (q : Ranks) (set : ℕ → Bool) : Type 0 where
@@ -117,7 +95,7 @@ module _ (ws : List ℕ) (q : Ranks) (set : ℕ → Bool) (h : HoldsRanks ws q s
         fewReached = let k = count-few set (q .count) in omega (arith, h .few, h .reaches);
         below = λ i k. subst (λ (n : ℕ). n ≤ q .reached) (sym (word-at i k))
             (pick-ind (λ (n : ℕ). n ≤ q .reached) (set i) (countBelow set i + 1) 0
-            (λ t. let a = count-in set i t in let b = count-mono set (suc i) (q .count) k in omega (arith, h .reaches)) (λ t. omega arith));
+            (λ t. let b = count-more set i i (q .count) (le-refl i) k t in omega (arith, h .reaches)) (λ t. omega arith));
       }
 
   reached-is : q .reached ≡ reached set

@@ -1,7 +1,7 @@
 -- `reach::check_record` meets its contract, test by test.
 use borrow.Author.Needs.{needs}
 use Prim.Native.Nat.{_%_}
-use mathlib.Core.Path.{_≡_, sym, _∙_}
+use mathlib.Core.Path.{sym, _∙_}
 use native.Mathlib.Omega.{arith}
 use borrow.Author.Tests.{eq-eqb, ne-eqb}
 use lib.ListN.{length}

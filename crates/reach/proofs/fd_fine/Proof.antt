@@ -1,6 +1,6 @@
 -- `reach::fd_fine` meets its contract, test by test.
 use borrow.Author.Needs.{needs}
-use mathlib.Core.Path.{_≡_, refl, sym, ap, _∙_}
+use mathlib.Core.Path.{sym, _∙_}
 use Rattle.reach.proofs.fd_fine.Statement.{statement}
 use Rattle.reach.proofs.fd_fine.Tie as tie
 

@@ -1,5 +1,4 @@
 -- `reach::mask_fine` meets its contract, test by test.
-use borrow.Author.Needs.{needs}
 use borrow.Author.Tests.{lt-ltb, le-ltb, eq-eqb, ne-eqb}
 use Rattle.reach.proofs.mask_fine.Statement.{statement}
 use Rattle.reach.proofs.mask_fine.Tie as tie

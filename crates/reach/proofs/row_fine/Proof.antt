@@ -1,7 +1,7 @@
 -- `reach::row_fine` meets its contract, test by test.
 use borrow.Author.Needs.{needs}
-use mathlib.Core.Path.{_≡_, refl, sym, ap, _∙_}
-use borrow.Author.Tests.{lt-ltb, le-ltb, eq-eqb, ne-eqb}
+use mathlib.Core.Path.{sym, _∙_}
+use borrow.Author.Tests.{lt-ltb, le-ltb}
 use Rattle.reach.proofs.row_fine.Statement.{statement}
 use Rattle.reach.proofs.row_fine.Tie as tie
 

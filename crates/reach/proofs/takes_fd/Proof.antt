@@ -1,6 +1,6 @@
 -- `reach::takes_fd` meets its contract, test by test.
 use borrow.Author.Needs.{needs}
-use borrow.Author.Tests.{lt-ltb, le-ltb, eq-eqb, ne-eqb}
+use borrow.Author.Tests.{eq-eqb, ne-eqb}
 use Rattle.reach.proofs.takes_fd.Statement.{statement}
 use Rattle.reach.proofs.takes_fd.Tie as tie
 

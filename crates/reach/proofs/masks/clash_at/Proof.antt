@@ -1,6 +1,6 @@
 -- `reach::masks::clash_at` meets its contract, test by test.
 use borrow.Author.Needs.{needs}
-use mathlib.Core.Path.{_≡_, refl, sym, ap, _∙_}
+use mathlib.Core.Path.{sym, _∙_}
 use denote.Ref.{now}
 use Rattle.reach.specs.Reach.{rowIn}
 use Rattle.reach.specs.MaskLaws.{clash-here, clash-not}

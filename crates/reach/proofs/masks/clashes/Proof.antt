@@ -1,7 +1,7 @@
 -- `reach::masks::clashes` meets its contract, test by test.
 use borrow.Author.Needs.{needs}
-use mathlib.Core.Path.{_≡_, refl, sym, ap, _∙_}
-use borrow.Author.Tests.{lt-ltb, le-ltb, eq-eqb, ne-eqb}
+use mathlib.Core.Path.{sym, _∙_}
+use borrow.Author.Tests.{eq-eqb, ne-eqb}
 use Rattle.reach.proofs.masks.clashes.Statement.{statement}
 use Rattle.reach.proofs.masks.clashes.Tie as tie
 

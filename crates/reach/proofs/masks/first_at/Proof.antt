@@ -1,7 +1,7 @@
 -- `reach::masks::first_at` meets its contract. The invariant: the keys below `low` are below the key, and those from `high` on are not.
 use borrow.Author.Needs.{needs}
 use Prim.Native.Nat.{ℕ, _+_, _-_, _/_}
-use mathlib.Core.Path.{_≡_, refl, sym, ap, _∙_}
+use mathlib.Core.Path.{_≡_, ap, _∙_}
 use native.Mathlib.Omega.{arith}
 use denote.Ref.{now}
 use Rattle.reach.specs.Reach.{keyOf, rowNo}

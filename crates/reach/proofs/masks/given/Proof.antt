@@ -1,6 +1,6 @@
 -- `reach::masks::given` meets its contract: a row is at the place exactly where it has its key.
 use borrow.Author.Needs.{needs}
-use mathlib.Core.Path.{_≡_, refl, sym, ap, _∙_}
+use mathlib.Core.Path.{refl}
 use Rattle.reach.specs.KeyLaws.{given-right}
 use Rattle.reach.proofs.masks.given.Statement.{statement}
 use Rattle.reach.proofs.masks.given.Tie as tie

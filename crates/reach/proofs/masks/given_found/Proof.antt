@@ -1,7 +1,6 @@
 -- `reach::masks::given_found` meets its contract: only the first row whose key is not below can have the key.
 use borrow.Author.Needs.{needs}
-use mathlib.Core.Path.{_≡_, refl, sym, ap, _∙_}
-use native.Mathlib.Omega.{arith}
+use mathlib.Core.Path.{sym, ap, _∙_}
 use Rattle.charstring.specs.declared.MaskLen.the-variants.{Given}
 use Rattle.unfold.specs.Unfold.{Row}
 use Rattle.reach.specs.Reach.{keyOf}

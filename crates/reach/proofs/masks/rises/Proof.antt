@@ -1,7 +1,7 @@
 -- `reach::masks::rises` meets its contract. The invariant: the rows that are left, behind the last key, give what all give.
 use borrow.Author.Needs.{needs}
 use Prim.Native.Nat.{_+_, _-_, _/_, _≤_}
-use mathlib.Core.Path.{_≡_, refl, sym, ap, _∙_}
+use mathlib.Core.Path.{_≡_, refl, ap, _∙_}
 use native.Mathlib.Omega.{arith}
 use lib.ListN.{length}
 use denote.Ref.{now}

@@ -1,6 +1,6 @@
 -- `reach::ranks::clear` meets its contract. The invariant: the first i words are 0.
 use borrow.Author.Needs.{needs}
-use Prim.Native.Nat.{_+_, _-_, _/_, _≤_}
+use Prim.Native.Nat.{_-_, _≤_}
 use mathlib.Core.Path.{_≡_, refl, sym, ap, _∙_}
 use native.Mathlib.Omega.{arith}
 use lib.ListN.{length, take, replicate, length-set}

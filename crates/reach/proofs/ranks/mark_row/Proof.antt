@@ -1,7 +1,7 @@
 -- `reach::ranks::mark_row` meets its contract, test by test; a store past the end would change nothing.
 use borrow.Author.Needs.{needs}
-use mathlib.Core.Path.{_≡_, refl, sym, ap, _∙_}
-use borrow.Author.Tests.{lt-ltb, le-ltb, eq-eqb, ne-eqb}
+use mathlib.Core.Path.{sym, _∙_}
+use borrow.Author.Tests.{lt-ltb, le-ltb}
 use lib.Seq.{set-out}
 use Rattle.reach.proofs.ranks.mark_row.Statement.{statement}
 use Rattle.reach.proofs.ranks.mark_row.Tie as tie

@@ -1,7 +1,7 @@
 -- `reach::ranks::rank_mark` meets its contract: no mark stays 0.
 use borrow.Author.Needs.{needs}
-use mathlib.Core.Path.{_≡_, refl, sym, ap, _∙_}
-use borrow.Author.Tests.{lt-ltb, le-ltb, eq-eqb, ne-eqb}
+use mathlib.Core.Path.{refl, sym, _∙_}
+use borrow.Author.Tests.{eq-eqb, ne-eqb}
 use lib.Seq.{set-getD}
 use Rattle.reach.proofs.ranks.rank_mark.Statement.{statement}
 use Rattle.reach.proofs.ranks.rank_mark.Tie as tie

@@ -1,7 +1,7 @@
 -- `reach::ranks::rank_marks` meets its contract. The invariant: the first i words are ranks.
 use borrow.Author.Needs.{needs}
-use Prim.Native.Nat.{_+_, _-_, _/_, _≤_}
-use mathlib.Core.Path.{_≡_, refl, sym, ap, _∙_}
+use Prim.Native.Nat.{_-_}
+use mathlib.Core.Path.{_≡_, refl}
 use native.Mathlib.Omega.{arith}
 use lib.ListN.{length}
 use Rattle.reach.specs.MarkLaws.{Ranking, ranking-start, ranking-next, ranking-done}

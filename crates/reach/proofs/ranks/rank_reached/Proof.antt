@@ -1,6 +1,5 @@
 -- `reach::ranks::rank_reached` meets its contract: the globals are the rows of kind 1 and FD 0, the locals those of kind 0 and their FD.
 use borrow.Author.Needs.{needs}
-use native.Mathlib.Omega.{arith}
 use Rattle.reach.specs.RankLaws.{globals-set, locals-set, ranked-part}
 use Rattle.reach.proofs.ranks.rank_reached.Statement.{statement}
 use Rattle.reach.proofs.ranks.rank_reached.Tie as tie

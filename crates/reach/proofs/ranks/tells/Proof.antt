@@ -1,7 +1,6 @@
 -- `reach::ranks::tells` meets its contract, test by test; the number is its own.
-use borrow.Author.Needs.{needs}
-use mathlib.Core.Path.{_≡_, refl, sym, ap, _∙_}
-use borrow.Author.Tests.{lt-ltb, le-ltb, eq-eqb, ne-eqb}
+use mathlib.Core.Path.{refl}
+use borrow.Author.Tests.{eq-eqb, ne-eqb}
 use Rattle.reach.proofs.ranks.tells.Statement.{statement}
 use Rattle.reach.proofs.ranks.tells.Tie as tie
 
