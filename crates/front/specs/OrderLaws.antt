@@ -16,7 +16,7 @@ use Rattle.subset.specs.Texts.{hasText, nameOf, namesOf}
 use Rattle.subset.specs.Pruned.{mapped}
 use Rattle.subset.specs.Cut.{allFound}
 use Rattle.kept.specs.Packed.{packed, glyphsIn, keeps, Begins}
-use Rattle.kept.specs.GatherLaws.{mapped-length}
+use Rattle.subset.specs.EachLaws.{length-mapped}
 use Rattle.kept.specs.FdsLaws.{glyphs-packed}
 use Rattle.kept.specs.FdsOrderLaws.{below-all}
 use Rattle.kept.specs.OrderLaws.{those-at}
@@ -105,7 +105,7 @@ pub begins-ordered : (p : Program) (n k : ℕ) (keep old words : List ℕ) → c
 begins-ordered p n k keep old words c b e found room =
     let w : writtenOrder p (keptOf n keep) ≡ keptOf n keep = ap (λ (t : Bool). pick t (sortedBy (λ g. getD (p .ids) g 0) (keptOf n keep)) (keptOf n keep)) c in
     let l : length (packed p (writtenOrder p (keptOf n keep))) ≡ k =
-    mapped-length (λ (g : ℕ). getD (p .ids) g 0 * 65536 + g) (writtenOrder p (keptOf n keep)) ∙ ap length w ∙ sym e in
+    length-mapped (λ (g : ℕ). getD (p .ids) g 0 * 65536 + g) (writtenOrder p (keptOf n keep)) ∙ ap length w ∙ sym e in
     record {
       keep = keep;
       many = e;
