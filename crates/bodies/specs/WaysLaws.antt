@@ -13,7 +13,7 @@ use Rattle.prune.specs.Renumber.{Calls}
 use Rattle.prune.specs.StepLaws.{zero-one}
 use Rattle.cff.specs.Font.{Program}
 use Rattle.subset.specs.Pruned.{Bodies, May, fail, yes, and, each, mapped, renumbered, stubbed, copied, orStubbed, pruned}
-use Rattle.faithful.specs.EachLaws.{and-yes}
+use Rattle.subset.specs.EachLaws.{and-yes}
 use Rattle.faithful.specs.RenumberedLaws.{renews}
 use Rattle.renumber.specs.Turn.{bodyOf}
 use Rattle.bodies.specs.Ways.{manyOf, holds, newBody, bodyBy, newSubrs, subrsBy, callsAt, glyphAt, upTo, charstringBy, newCharstrings, charstringsBy}
