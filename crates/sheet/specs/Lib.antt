@@ -3,6 +3,7 @@ pub mod Examples
 pub mod Printing
 pub mod Reading
 pub mod ReadingLaws
+pub mod PartsLaws
 pub mod Taking
 pub mod TakingLaws
 pub mod SqueezedLaws

@@ -2,12 +2,13 @@
 ghost use mathlib.Core.Path.{_≡_};
 ghost use mathlib.Core.Bool.{true, false};
 ghost use Prim.Native.Nat.{_+_, _*_, _≤_, _<_};
-ghost use lib.ListN.{length, drop};
+ghost use lib.ListN.{length, drop, getD};
 ghost use Rattle.octets.specs.Pick.{pick};
 ghost use Rattle.octets.specs.Octets.{Wrote};
+ghost use Rattle.hexlines.specs.Hexlines.{spelt};
 ghost use Rattle.cases.specs.Lines.{linesOf};
-ghost use Rattle.sheet.specs.Sheet.{hexUpTo, isKept, hexOf, filled, areRows, rowBytes, pairs};
-ghost use Rattle.sheet.specs.Reading.{rowsAfter, part, FourLines, HeadIs, isSheetAt};
+ghost use Rattle.sheet.specs.Sheet.{hexUpTo, isKept, hexOf, filled, areRows, rowBytes, pairs, sheetOf};
+ghost use Rattle.sheet.specs.Reading.{rowsAfter, part, FourLines, HeadIs, isSheetAt, sheetAt, Stands, Reads};
 
 // The first four lines of a text: fewer, or the places where they end.
 pub enum Head {
@@ -179,4 +180,70 @@ fn is_sheet(text: &[u8], a: usize, b: usize, c: usize, d: usize) -> bool
         return false;
     }
     false
+}
+
+// The flag in the two digits from a place on.
+fn flag_at(text: &[u8], at: usize, end: usize) -> u8
+    requires { ⌜ (end ≤ length (now text)) × (hexOf 2 (part at end (now text)) ≡ true) ⌝ }
+    ensures { λ r. ⌜ r ≡ getD (spelt (part at end (now (text .entry)))) 0 0 ⌝ }
+{
+    let high = hexlines::hex_value(text[at]);
+    let low = hexlines::hex_value(text[at + 1]);
+    (high * 16 + low) as u8
+}
+
+// Writes the kept numbers of the line from at to end to the start of keep; returns how many they are.
+fn put_kept(text: &[u8], at: usize, end: usize, keep: &mut [u16]) -> usize
+    requires { ⌜ (at ≤ end) × (end ≤ length (now text)) × (isKept (part at end (now text)) ≡ true) × (1024 ≤ length (now keep)) ⌝ }
+    ensures { λ r. ⌜ Wrote (now (keep .entry)) 0 (pairs (spelt (part at end (now (text .entry))))) (now (keep .exit)) r ⌝ }
+{
+    let mut bytes = [0u8; 2048];
+    let k = hexlines::put_spelt(&mut bytes, 0, text, at, end);
+    put_pairs(&bytes[..k], keep)
+}
+
+// Writes the parts of a sheet, the first four lines of which end at a, b, c and d, to the start of the buffers.
+fn put_parts(
+    text: &[u8],
+    a: usize,
+    b: usize,
+    c: usize,
+    d: usize,
+    font: &mut [u8],
+    name: &mut [u8],
+    keep: &mut [u16],
+    rec: &mut [u8],
+) -> SheetIn
+    requires { ⌜ (FourLines (now text) a b c d) × (isSheetAt (now text) a b c d ≡ true) × (16384 ≤ length (now font)) × (256 ≤ length (now name))
+        × (1024 ≤ length (now keep)) × (5120 ≤ length (now rec)) ⌝ }
+    ensures { λ r. ⌜ Stands (sheetAt (now (text .entry)) a b c d) (now (font .exit)) (now (name .exit)) (now (keep .exit)) (now (rec .exit)) r ⌝ }
+{
+    let m = hexlines::put_spelt(font, 0, text, 0, a);
+    let n = hexlines::put_spelt(name, 0, text, a + 1, b);
+    let k = put_kept(text, b + 1, c, keep);
+    let flag = flag_at(text, c + 1, d);
+    let l = put_rows(text, d + 1, rec);
+    SheetIn::Parts(m, n, k, l, flag)
+}
+
+// Reads the sheet that a text holds into the buffers.
+pub fn read_sheet(
+    text: &[u8],
+    font: &mut [u8],
+    name: &mut [u8],
+    keep: &mut [u16],
+    rec: &mut [u8],
+) -> SheetIn
+    requires { ⌜ (16384 ≤ length (now font)) × (256 ≤ length (now name)) × (1024 ≤ length (now keep)) × (5120 ≤ length (now rec)) ⌝ }
+    ensures { λ r. ⌜ Reads (sheetOf (now (text .entry))) (now (font .exit)) (now (name .exit)) (now (keep .exit)) (now (rec .exit)) r ⌝ }
+{
+    match first_lines(text) {
+        Head::Lines(a, b, c, d) => {
+            if is_sheet(text, a, b, c, d) {
+                return put_parts(text, a, b, c, d, font, name, keep, rec);
+            }
+            SheetIn::Other
+        }
+        Head::Short => SheetIn::Other,
+    }
 }
