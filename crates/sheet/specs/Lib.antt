@@ -7,3 +7,4 @@ pub mod PartsLaws
 pub mod Taking
 pub mod TakingLaws
 pub mod SqueezedLaws
+pub mod TakenLaws

@@ -176,7 +176,7 @@ rows-tens (l ∷ ls) e =
     let n = length-append (spelt l) (rowBytes ls) in
     omega (arith, n, spelt-length l (h .1), h .0, rows-tens ls (p .1))
 
-are-rows : (ls : List (List ℕ)) → areRows ls ≡ true → (length ls ≤ 512) × (allRows ls ≡ true)
+pub are-rows : (ls : List (List ℕ)) → areRows ls ≡ true → (length ls ≤ 512) × (allRows ls ≡ true)
 unfolding areRows
 are-rows ls e = let p = both (leb (length ls) 512) (allRows ls) e in (leb-true (length ls) 512 (p .0), p .1)
 

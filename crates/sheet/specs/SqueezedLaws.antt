@@ -1,16 +1,20 @@
--- The sheet of a text is that of what is kept of it: only line feeds of empty rows are left out.
-use Prim.Native.Nat.{ℕ, zero, suc, _+_, _≤_, _<_}
+-- The sheet of a text is that of what is kept of it: only line feeds of empty rows are left out. A text of which more than 48,134 bytes are kept
+-- holds no sheet.
+use Prim.Native.Nat.{ℕ, zero, suc, _+_, _*_, _%_, _≤_, _<_}
 use mathlib.Core.Path.{_≡_, refl, sym, ap, _∙_, subst}
 use mathlib.Core.Bool.{Bool, true, false}
 use mathlib.Core.List.{List, [], _∷_, _++_}
 use mathlib.Core.Option.{none, some}
 use native.Mathlib.Omega.{arith}
-use borrow.Author.Tests.{ne-eqb, lt-ltb, eqb-true}
-use lib.Dec.{ltb, eqb}
+use borrow.Author.Tests.{ne-eqb, lt-ltb, eqb-true, leb-true}
+use lib.Dec.{leb, eqb}
+use lib.ListN.{length}
 use Rattle.octets.specs.Pick.{pick}
+use Rattle.hexlines.specs.Hexlines.{isHex}
 use Rattle.cases.specs.Lines.{inFront, linesOf}
-use Rattle.sheet.specs.Sheet.{filled, sheetWith, isSheet, sheetIn, sheetOf}
+use Rattle.sheet.specs.Sheet.{hexUpTo, isKept, hexOf, allRows, filled, areRows, sheetWith, isSheet, sheetIn, sheetOf}
 use Rattle.sheet.specs.Taking.{nextMode, endsEmpty, keptOf, squeezed}
+use Rattle.sheet.specs.ReadingLaws.{both, hex-of, are-rows}
 
 -- ---- rows: at the start of one, and within one
 
@@ -130,3 +134,71 @@ sheet-headed (a ∷ (b ∷ (c ∷ (d ∷ ls)))) =
 pub sheet-squeezed : (text : List ℕ) → sheetOf (squeezed 0 text) ≡ sheetOf text
 unfolding sheetOf
 sheet-squeezed text = ap sheetIn (head-lines 4 0 text refl) ∙ sheet-headed (linesOf text)
+
+-- ---- how long it is
+
+-- the bytes of lines with their line feeds
+total : List (List ℕ) → ℕ
+total [] = 0
+total (l ∷ ls) = suc (length l) + total ls
+
+total-front : (x : ℕ) (ls : List (List ℕ)) → suc (total ls) ≤ total (inFront x ls)
+unfolding total
+total-front x [] = omega arith
+total-front x (l ∷ ls) = omega arith
+
+total-byte : (t : Bool) (x : ℕ) (xs : List ℕ) → eqb x 10 ≡ t → length xs ≤ total (linesOf xs) → suc (length xs) ≤ total (linesOf (x ∷ xs))
+unfolding linesOf total
+total-byte true x xs e h = rw e (omega (arith, h))
+total-byte false x xs e h = rw e (omega (arith, h, total-front x (linesOf xs)))
+
+total-lines : (xs : List ℕ) → length xs ≤ total (linesOf xs)
+total-lines [] = omega arith
+total-lines (x ∷ xs) = total-byte (eqb x 10) x xs refl (total-lines xs)
+
+total-rows : (ls : List (List ℕ)) → allRows ls ≡ true → total ls ≡ 21 * length ls
+unfolding allRows total
+total-rows [] e = refl
+total-rows (l ∷ ls) e =
+    let p = both (hexOf 20 l) (allRows ls) e in
+    omega (arith, hex-of l 20 (p .0) .0, total-rows ls (p .1))
+
+up-to-length : (n : ℕ) (l : List ℕ) → hexUpTo n l ≡ true → length l ≤ 2 * n
+unfolding hexUpTo
+up-to-length n l e = leb-true (length l) (2 * n) (both (leb (length l) (2 * n)) (isHex l) e .0)
+
+kept-length : (l : List ℕ) → isKept l ≡ true → length l ≤ 4096
+unfolding isKept
+kept-length l e = omega (arith, up-to-length 2048 l (both (eqb (length l % 4) 0) (hexUpTo 2048 l) e .1))
+
+rows-length : (ls : List (List ℕ)) → areRows ls ≡ true → total ls ≤ 10752
+rows-length ls e = let p = are-rows ls e in omega (arith, p .0, total-rows ls (p .1))
+
+sheet-length : (a b c d : List ℕ) (ls : List (List ℕ)) → isSheet a b c d ls ≡ true → total (a ∷ (b ∷ (c ∷ (d ∷ ls)))) ≤ 48134
+unfolding isSheet total
+sheet-length a b c d ls e =
+    let p = both (hexUpTo 16384 a) _ e in
+    let q = both (hexUpTo 256 b) _ (p .1) in
+    let r = both (isKept c) _ (q .1) in
+    let s = both (hexOf 2 d) _ (r .1) in
+    omega (arith, up-to-length 16384 a (p .0), up-to-length 256 b (q .0), kept-length c (r .0), hex-of d 2 (s .0) .0, rows-length ls (s .1))
+
+sheet-long : (t : Bool) (a b c d : List ℕ) (ls : List (List ℕ)) → isSheet a b c d ls ≡ t → 48134 < total (a ∷ (b ∷ (c ∷ (d ∷ ls))))
+    → pick t (some (sheetWith a b c d ls)) none ≡ none
+sheet-long true a b c d ls e h = absurd (omega (arith, h, sheet-length a b c d ls e))
+sheet-long false a b c d ls e h = refl
+
+lines-long : (ls : List (List ℕ)) → 48134 < total (headed 4 ls) → sheetIn ls ≡ none
+unfolding sheetIn headed
+lines-long [] h = refl
+lines-long (a ∷ []) h = refl
+lines-long (a ∷ (b ∷ [])) h = refl
+lines-long (a ∷ (b ∷ (c ∷ []))) h = refl
+lines-long (a ∷ (b ∷ (c ∷ (d ∷ ls)))) h = sheet-long (isSheet a b c d (filled ls)) a b c d (filled ls) refl h
+
+-- a text of which more than 48,134 bytes are kept holds no sheet
+pub sheet-over : (text : List ℕ) → 48134 < length (squeezed 0 text) → sheetOf text ≡ none
+unfolding sheetOf
+sheet-over text h =
+    let e : total (linesOf (squeezed 0 text)) ≡ total (headed 4 (linesOf text)) = ap total (head-lines 4 0 text refl) in
+    lines-long (linesOf text) (omega (arith, h, total-lines (squeezed 0 text), e))

@@ -1,7 +1,8 @@
 // Reads the lines of a sheet from a text into lent buffers.
 ghost use mathlib.Core.Path.{_≡_};
 ghost use mathlib.Core.Bool.{true, false};
-ghost use Prim.Native.Nat.{_+_, _*_, _≤_, _<_};
+ghost use mathlib.Core.List.{List};
+ghost use Prim.Native.Nat.{ℕ, _+_, _*_, _≤_, _<_};
 ghost use lib.ListN.{length, drop, getD};
 ghost use Rattle.octets.specs.Pick.{pick};
 ghost use Rattle.octets.specs.Octets.{Wrote};
@@ -9,6 +10,7 @@ ghost use Rattle.hexlines.specs.Hexlines.{spelt};
 ghost use Rattle.cases.specs.Lines.{linesOf};
 ghost use Rattle.sheet.specs.Sheet.{hexUpTo, isKept, hexOf, filled, areRows, rowBytes, pairs, sheetOf};
 ghost use Rattle.sheet.specs.Reading.{rowsAfter, part, FourLines, HeadIs, isSheetAt, sheetAt, Stands, Reads};
+ghost use Rattle.sheet.specs.Taking.{Took};
 
 // The first four lines of a text: fewer, or the places where they end.
 pub enum Head {
@@ -246,4 +248,24 @@ pub fn read_sheet(
         }
         Head::Short => SheetIn::Other,
     }
+}
+
+// Reads the sheet of a text that was taken: len bytes in the buffer, or too many.
+pub fn read_taken(
+    buffer: &[u8],
+    len: usize,
+    font: &mut [u8],
+    name: &mut [u8],
+    keep: &mut [u16],
+    rec: &mut [u8],
+) -> SheetIn
+    requires { ⌜ (48134 ≤ length (now buffer)) × (16384 ≤ length (now font)) × (256 ≤ length (now name)) × (1024 ≤ length (now keep))
+        × (5120 ≤ length (now rec)) ⌝ }
+    ensures { λ r. ⌜ ((text : List ℕ) (mode : ℕ) → Took text len mode (now (buffer .entry))
+        → Reads (sheetOf text) (now (font .exit)) (now (name .exit)) (now (keep .exit)) (now (rec .exit)) r) ⌝ }
+{
+    if len <= 48134 {
+        return read_sheet(&buffer[..len], font, name, keep, rec);
+    }
+    SheetIn::Other
 }
