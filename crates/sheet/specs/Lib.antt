@@ -1,0 +1,10 @@
+pub mod Sheet
+pub mod Examples
+pub mod Printing
+pub mod Reading
+pub mod ReadingLaws
+pub mod PartsLaws
+pub mod Taking
+pub mod TakingLaws
+pub mod SqueezedLaws
+pub mod TakenLaws
