@@ -187,28 +187,38 @@ pub fn amount(g: &mut Generator, opened: &Opened<'_>, amount: &str) -> Vec<u16> 
     }
 }
 
+/// Glyphs above which the original's time, a product of glyphs and masks, is too long: there all are copied, and so many are
+/// cut by its record.
+pub const MANY: usize = 6000;
+
 /// Cuts of a real font: each amount with the original's record, the first two with others too.
 pub fn real(g: &mut Generator, opened: &Opened<'_>) -> Vec<Cut> {
     let (Ok(font), Some(program)) = (opened.read, opened.program) else {
         return vec![any(g, opened)];
     };
     let mut cuts = Vec::new();
-    for (k, what) in AMOUNTS.into_iter().enumerate() {
-        let keep = amount(g, opened, what);
-        let kept = cut::glyphs(&keep);
-        let mut records = vec![cut_records::own(program, &kept)];
-        if k < 2 {
-            records.extend((0..3).map(|_| cut_records::any(g, program, &kept)));
+    let mut push = |keep: &[u16], Record { bytes, flag, kind }| {
+        cuts.push(Cut {
+            cid_keyed: font.cid_keyed,
+            name: b"ABCDEF+Subset".to_vec(),
+            keep: keep.to_vec(),
+            record: bytes,
+            flag,
+            record_kind: kind,
+        });
+    };
+    for what in AMOUNTS {
+        let mut keep = amount(g, opened, what);
+        if keep.len() > MANY {
+            push(&keep, cut_records::none());
+            keep.truncate(MANY);
         }
-        for Record { bytes, flag, kind } in records {
-            cuts.push(Cut {
-                cid_keyed: font.cid_keyed,
-                name: b"ABCDEF+Subset".to_vec(),
-                keep: keep.clone(),
-                record: bytes,
-                flag,
-                record_kind: kind,
-            });
+        let kept = cut::glyphs(&keep);
+        push(&keep, cut_records::own(program, &kept));
+        if keep.len() <= 75 {
+            for _ in 0..3 {
+                push(&keep, cut_records::any(g, program, &kept));
+            }
         }
     }
     cuts

@@ -37,7 +37,9 @@ pub fn compare(library: &Library, case: &Case, seed: u64, tally: &mut CutTally, 
         read: reading.font.as_ref().map_err(|r| r.number),
         program: program.as_ref(),
     };
-    let mut g = Generator::new(mixed(seed ^ 0x2545_f491_4f6c_dd1d, case.number as u64));
+    // Copies of one number in several files are asked different things.
+    let file = case.file.bytes().fold(0, |n, b| mixed(n, u64::from(b)));
+    let mut g = Generator::new(mixed(seed ^ file, case.number as u64));
     let mut given = false;
     for cut in asks(&mut g, &opened) {
         let outcome = cut::cut(opened.bytes, opened.read, opened.program, &cut);
@@ -129,7 +131,7 @@ fn same(way: u64, bytes: &[u8], subset: &Subset) -> Result<(), String> {
 }
 
 /// What to lend: as much as is needed or more, and now and then one less of something.
-fn lents(g: &mut Generator, outcome: &Outcome) -> Vec<Lent> {
+pub fn lents(g: &mut Generator, outcome: &Outcome) -> Vec<Lent> {
     let mut all = Vec::new();
     let (work, length) = match outcome {
         Outcome::Ready(work, Ok(subset)) => (*work as usize, subset.bytes.len()),
@@ -195,7 +197,8 @@ pub fn subsets(library: &Library, font: &[u8]) -> Vec<(&'static str, Vec<u8>)> {
     let mut g = Generator::new(1);
     let mut all = Vec::new();
     for amount in cut_cases::AMOUNTS {
-        let keep = cut_cases::amount(&mut g, &opened, amount);
+        let mut keep = cut_cases::amount(&mut g, &opened, amount);
+        keep.truncate(cut_cases::MANY);
         let record = cut_records::own(&program, &cut::glyphs(&keep));
         let cut = Cut {
             cid_keyed: program.is_cid_keyed(),

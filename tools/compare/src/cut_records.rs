@@ -85,15 +85,20 @@ pub fn own(program: &CffProgram, kept: &BTreeSet<u16>) -> Record {
     }
 }
 
+/// The record of a failed trace.
+pub fn none() -> Record {
+    Record {
+        bytes: Vec::new(),
+        flag: 0,
+        kind: "flag 0",
+    }
+}
+
 /// A record for these glyphs.
 pub fn any(g: &mut Generator, program: &CffProgram, kept: &BTreeSet<u16>) -> Record {
     match g.below(20) {
         0..=6 => own(program, kept),
-        7 => Record {
-            bytes: Vec::new(),
-            flag: 0,
-            kind: "flag 0",
-        },
+        7 => none(),
         8 => Record {
             bytes: Vec::new(),
             flag: 1,

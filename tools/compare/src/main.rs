@@ -10,6 +10,8 @@ mod cut_compare;
 mod cut_large;
 mod cut_records;
 mod cut_tally;
+#[cfg(test)]
+mod cut_tests;
 mod damage;
 mod decimal;
 mod fonts;
