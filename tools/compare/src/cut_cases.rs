@@ -143,9 +143,9 @@ fn listed(g: &mut Generator, found: &[u16]) -> Vec<u16> {
 fn name(g: &mut Generator) -> Vec<u8> {
     let n = match g.below(120) {
         0 => LONGEST_NAME,
-        1 | 2 => LONGEST_NAME + 1 + g.below(2),
-        3..=6 => 253 + g.below(4),
-        7..=12 => 0,
+        1..=3 => LONGEST_NAME + 1 + g.below(2),
+        4..=7 => 253 + g.below(4),
+        8..=13 => 0,
         _ => 1 + g.below(20),
     };
     (0..n).map(|k| b'A' + (k % 26) as u8).collect()

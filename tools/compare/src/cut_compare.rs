@@ -9,7 +9,7 @@ use crate::generator::Generator;
 use crate::library::Library;
 use crate::model::{self, Font};
 use crate::original;
-use crate::{cut_cases, cut_records};
+use crate::{cut_cases, cut_model, cut_records};
 
 /// A font, and what the model and the original read in it.
 pub struct Opened<'a> {
@@ -55,6 +55,19 @@ pub fn compare(library: &Library, case: &Case, seed: u64, tally: &mut CutTally, 
             );
             continue;
         }
+        if let (Outcome::Ready(_, Ok(subset)), Ok(font)) = (&outcome, opened.read)
+            && modelled(font, &cut)
+        {
+            tally.modelled += 1;
+            let mine = cut_model::subset(&case.font, font, &cut);
+            let verdict = mine.map_or(Err("none".to_string()), |mine| {
+                same(u64::from(mine.way), &mine.bytes, subset)
+            });
+            if let Err(message) = verdict {
+                let message = format!("the model and the original differ: {message}");
+                differ(case, seed, &cut, "nothing", message, tally);
+            }
+        }
         for lent in lents(&mut g, &outcome) {
             let want = outcome.answer(lent);
             given |= want.subset.is_ok();
@@ -67,6 +80,11 @@ pub fn compare(library: &Library, case: &Case, seed: u64, tally: &mut CutTally, 
     if given {
         reading.notes.into_iter().for_each(|note| tally.note(note));
     }
+}
+
+/// Whether the model is asked too: it looks through the rows for each body.
+fn modelled(font: &Font, cut: &Cut) -> bool {
+    font.work() < 100_000 && cut.keep.len() * cut.record.len() < 100_000_000
 }
 
 fn differ(case: &Case, seed: u64, cut: &Cut, lent: &str, message: String, tally: &mut CutTally) {

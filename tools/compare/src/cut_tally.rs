@@ -42,8 +42,10 @@ pub struct CutTally {
     /// Fonts for which the original would take too much memory.
     pub heavy: u64,
     pub panics: u64,
-    /// Of the subsets with the original's own record: its own words.
+    /// Bytes of the subsets wanted.
     pub bytes: u64,
+    /// Cuts that the model made too.
+    pub modelled: u64,
     differences: Vec<Difference>,
     different: u64,
 }
@@ -126,6 +128,7 @@ impl CutTally {
         }
         let _ = writeln!(out, "\noriginal not asked, for its memory: {}", self.heavy);
         let _ = writeln!(out, "original panicked: {}", self.panics);
+        let _ = writeln!(out, "subsets that the model made too: {}", self.modelled);
         let _ = writeln!(out, "differences: {}", self.different);
         for (k, difference) in self.differences.iter().enumerate() {
             self.tell(&mut out, k, difference, folder);

@@ -48,9 +48,9 @@ pub fn make(g: &mut Generator) -> Made {
 /// A font to cut: its charstrings and subroutines have sense, and it is seldom faulty.
 pub fn make_to_cut(g: &mut Generator) -> Made {
     let odds = match g.below(20) {
-        0..=15 => 0,
-        16 | 17 => 120,
-        18 => 40,
+        0..=14 => 0,
+        15 | 16 => 120,
+        17 | 18 => 40,
         _ => 12,
     };
     let plan = Plan::new(g);

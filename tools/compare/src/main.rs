@@ -8,6 +8,7 @@ mod cut;
 mod cut_cases;
 mod cut_compare;
 mod cut_large;
+mod cut_model;
 mod cut_records;
 mod cut_tally;
 #[cfg(test)]
