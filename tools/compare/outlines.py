@@ -4,16 +4,29 @@
     outlines.py FONTS SUBSETS     folders: SUBSETS/NAME.AMOUNT.cff is a subset of FONTS/NAME.cff
     outlines.py FONT.cff SUBSET.cff
 
-Every glyph of a subset is drawn, and its namesake (name or CID) in the font: operators, points and widths must be the same.
+Every glyph of a subset is drawn, and its namesake (name or CID) in the font: operators, points and widths must be the same, 16.16
+numbers being read as document 01 says, with 24 significant bits.
 Prints a line for each subset, and ends with status 1 if one differs.
 """
 
 import io
+import struct
 import sys
 from pathlib import Path
 
 from fontTools.cffLib import CFFFontSet
+from fontTools.misc import psCharStrings
 from fontTools.pens.recordingPen import RecordingPen
+
+
+def read_rounded(_self, _first, data, index):
+    """A 16.16 number of a charstring, rounded to 24 significant bits, ties to even."""
+    (value,) = struct.unpack(">l", data[index : index + 4])
+    (rounded,) = struct.unpack(">f", struct.pack(">f", value / 65536))
+    return rounded, index + 4
+
+
+psCharStrings.t2OperandEncoding[255] = read_rounded
 
 
 def first_font(path):

@@ -3,12 +3,15 @@
 
 use crate::cff::STANDARD_STRINGS;
 use crate::cut::{Cut, Subset};
+use crate::cut_model_bodies::{Numbers, rewritten};
+use crate::cut_model_dicts::{
+    clamped, decimal, fd_select, five, index, integer, offset_size, operator, private,
+};
 use crate::decimal::Decimal;
-use crate::model::{self, Entries, Font, Parts};
+use crate::model::{self, Font, Parts};
 use crate::record::{self, GLOBAL, GLOBAL_MASK, GLYPH_MASK, LOCAL, LOCAL_MASK, Row};
 use std::collections::{BTreeMap, BTreeSet};
 
-const SUBRS: u16 = 19;
 const ROS: u16 = 12 << 8 | 30;
 const CID_COUNT: u16 = 12 << 8 | 34;
 /// The six string entries and the eight others that a subset copies.
@@ -23,14 +26,6 @@ const ENTRIES: [u16; 8] = [
     12 << 8 | 8,
     12 << 8 | 7,
 ];
-
-/// A unit of a charstring; a number in 65536ths.
-enum Token {
-    Number(i64),
-    Operator(u8),
-    Escape(u8),
-    Mask(Vec<u8>),
-}
 
 /// A font and what is kept of it.
 struct Model<'a> {
@@ -48,20 +43,6 @@ struct Bodies {
     charstrings: BTreeMap<u16, Vec<u8>>,
     globals: Vec<Vec<u8>>,
     locals: Vec<Vec<Vec<u8>>>,
-}
-
-/// New numbers of subroutines of one kind, and how many there were.
-struct Numbers {
-    new: BTreeMap<u16, usize>,
-    old_count: usize,
-}
-
-fn bias(count: usize) -> i64 {
-    match count {
-        0..1240 => 107,
-        1240..33_900 => 1131,
-        _ => 32_768,
-    }
 }
 
 /// The subset, for a cut that nothing refuses.
@@ -362,231 +343,4 @@ impl Model<'_> {
         }
         out
     }
-}
-
-/// A number without its fraction, held between two others.
-fn clamped(n: &Decimal, low: i64, high: i64) -> i64 {
-    let size = Decimal {
-        negative: false,
-        ..*n
-    }
-    .whole_part()
-    .unwrap_or(0)
-    .min(1 << 40) as i64;
-    (if n.negative { -size } else { size }).clamp(low, high)
-}
-
-/// The tokens of a body; nothing where it ends early.
-fn tokens(body: &[u8], lengths: &BTreeMap<usize, usize>) -> Option<Vec<Token>> {
-    let mut out = Vec::new();
-    let (mut at, mut waiting, mut stems) = (0, 0, 0);
-    while at < body.len() {
-        let first = body[at];
-        let mut take = |n: usize| {
-            let bytes = body.get(at + 1..at + 1 + n)?;
-            at += 1 + n;
-            Some(bytes)
-        };
-        let number = match first {
-            28 => {
-                let b = take(2)?;
-                Some(i64::from(i16::from_be_bytes([b[0], b[1]])) * 65_536)
-            }
-            32..=246 => take(0).map(|_| (i64::from(first) - 139) * 65_536),
-            247..=250 => {
-                Some((i64::from(first) * 256 - 247 * 256 + i64::from(take(1)?[0]) + 108) * 65_536)
-            }
-            251..=254 => {
-                Some(-(i64::from(first) * 256 - 251 * 256 + i64::from(take(1)?[0]) + 108) * 65_536)
-            }
-            255 => {
-                let b = take(4)?;
-                // One f32 addition: 24 significant bits.
-                let high = f32::from(i16::from_be_bytes([b[0], b[1]]));
-                let low = f32::from(u16::from_be_bytes([b[2], b[3]])) / 65_536.0;
-                Some((f64::from(high + low) * 65_536.0) as i64)
-            }
-            _ => None,
-        };
-        if let Some(n) = number {
-            out.push(Token::Number(n));
-            waiting += 1;
-            continue;
-        }
-        if first == 12 {
-            out.push(Token::Escape(take(1)?[0]));
-        } else {
-            out.push(Token::Operator(first));
-            if [1, 3, 18, 23, 19, 20].contains(&first) {
-                stems += waiting / 2;
-            }
-            let place = at;
-            at += 1;
-            if [19, 20].contains(&first) {
-                let length = lengths.get(&place).copied().unwrap_or((stems + 7usize) / 8);
-                out.push(Token::Mask(body.get(at..at + length)?.to_vec()));
-                at += length;
-            }
-        }
-        waiting = 0;
-    }
-    Some(out)
-}
-
-/// A body with its calls renumbered; nothing where one cannot be.
-fn rewritten(
-    body: &[u8],
-    lengths: &BTreeMap<usize, usize>,
-    locals: Option<&Numbers>,
-    globals: &Numbers,
-) -> Option<Vec<u8>> {
-    let mut tokens = tokens(body, lengths)?;
-    for k in 0..tokens.len() {
-        let numbers = match tokens[k] {
-            Token::Operator(10) => locals?,
-            Token::Operator(29) => globals,
-            _ => continue,
-        };
-        let Token::Number(n) = tokens[k.checked_sub(1)?] else {
-            return None;
-        };
-        if n % 65_536 != 0 {
-            return None;
-        }
-        let old = u16::try_from(n / 65_536 + bias(numbers.old_count)).ok()?;
-        let new = *numbers.new.get(&old)? as i64 - bias(numbers.new.len());
-        tokens[k - 1] = Token::Number(new * 65_536);
-    }
-    let mut out = Vec::new();
-    for token in tokens {
-        match token {
-            Token::Number(n) if n % 65_536 == 0 && n.abs() < 32_768 * 65_536 => {
-                integer(n / 65_536, &mut out)
-            }
-            Token::Number(n) => {
-                out.push(255);
-                out.extend_from_slice(&(n.min(i64::from(i32::MAX)) as i32).to_be_bytes());
-            }
-            Token::Operator(b) => out.push(b),
-            Token::Escape(b) => out.extend_from_slice(&[12, b]),
-            Token::Mask(bytes) => out.extend(bytes),
-        }
-    }
-    Some(out)
-}
-
-/// A Private with its entries but Subrs, and, where it has subroutines, Subrs and them: the DICT's length, and all.
-fn private(entries: &Entries, locals: &[Vec<u8>]) -> (usize, Vec<u8>) {
-    let mut out = Vec::new();
-    for (entry, operands) in entries.iter().filter(|e| e.0 != SUBRS) {
-        operands.iter().for_each(|n| decimal(n, &mut out));
-        operator(*entry, &mut out);
-    }
-    if locals.is_empty() {
-        return (out.len(), out);
-    }
-    out.extend(five(out.len() + 6));
-    operator(SUBRS, &mut out);
-    (out.len(), [out, index(locals)].concat())
-}
-
-fn five(n: usize) -> Vec<u8> {
-    [&[29], &(n as u32).to_be_bytes()[..]].concat()
-}
-
-fn operator(operator: u16, out: &mut Vec<u8>) {
-    if operator >= 12 << 8 {
-        out.push(12);
-    }
-    out.push(operator as u8);
-}
-
-/// An integer in its shortest form: the same in DICTs and charstrings, but for four bytes.
-fn integer(n: i64, out: &mut Vec<u8>) {
-    let size = n.abs();
-    match size {
-        0..=107 => out.push((n + 139) as u8),
-        108..=1131 => {
-            let first = if n < 0 { 251 } else { 247 };
-            out.push(first + ((size - 108) >> 8) as u8);
-            out.push((size - 108) as u8);
-        }
-        _ if (-32_768..32_768).contains(&n) => {
-            out.push(28);
-            out.extend_from_slice(&(n as i16).to_be_bytes());
-        }
-        _ => {
-            out.push(29);
-            out.extend_from_slice(&(n as i32).to_be_bytes());
-        }
-    }
-}
-
-/// A number of a DICT: an integer, or a real without an exponent.
-fn decimal(n: &Decimal, out: &mut Vec<u8>) {
-    let limit = i64::from(i32::MAX);
-    let whole = clamped(n, -limit, limit);
-    if whole.abs() < limit && n.is(whole) {
-        integer(whole, out);
-        return;
-    }
-    let mut digits: Vec<u8> = n.digits.to_string().bytes().map(|c| c - b'0').collect();
-    if n.power >= 0 {
-        digits.extend(vec![0; n.power as usize]);
-    } else {
-        let behind = n.power.unsigned_abs() as usize;
-        while digits.len() <= behind {
-            digits.insert(0, 0);
-        }
-        digits.insert(digits.len() - behind, 10);
-    }
-    if n.negative {
-        digits.insert(0, 14);
-    }
-    digits.push(15);
-    if digits.len() % 2 == 1 {
-        digits.push(15);
-    }
-    out.push(30);
-    out.extend(digits.chunks(2).map(|pair| pair[0] << 4 | pair[1]));
-}
-
-fn offset_size(n: usize) -> u8 {
-    match n {
-        0..256 => 1,
-        256..65_536 => 2,
-        65_536..16_777_216 => 3,
-        _ => 4,
-    }
-}
-
-fn index(items: &[Vec<u8>]) -> Vec<u8> {
-    let mut out = (items.len() as u16).to_be_bytes().to_vec();
-    if items.is_empty() {
-        return out;
-    }
-    let size = offset_size(1 + items.iter().map(Vec::len).sum::<usize>());
-    out.push(size);
-    let mut offset = 1;
-    for length in [0].into_iter().chain(items.iter().map(Vec::len)) {
-        offset += length;
-        out.extend_from_slice(&(offset as u32).to_be_bytes()[4 - usize::from(size)..]);
-    }
-    items.iter().for_each(|item| out.extend(item));
-    out
-}
-
-/// FDSelect format 3.
-fn fd_select(select: &[u8]) -> Vec<u8> {
-    let starts: Vec<usize> = (0..select.len())
-        .filter(|&k| k == 0 || select[k] != select[k - 1])
-        .collect();
-    let mut out = vec![3];
-    out.extend_from_slice(&(starts.len() as u16).to_be_bytes());
-    for k in starts {
-        out.extend_from_slice(&(k as u16).to_be_bytes());
-        out.push(select[k]);
-    }
-    out.extend_from_slice(&(select.len() as u16).to_be_bytes());
-    out
 }

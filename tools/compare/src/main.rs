@@ -9,6 +9,8 @@ mod cut_cases;
 mod cut_compare;
 mod cut_large;
 mod cut_model;
+mod cut_model_bodies;
+mod cut_model_dicts;
 mod cut_records;
 mod cut_tally;
 #[cfg(test)]
