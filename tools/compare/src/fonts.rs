@@ -1,5 +1,6 @@
 //! Small fonts of every kind that document 01 names, made by chance.
 
+use crate::bodies::{Care, Plan, Role};
 use crate::cff::STANDARD_STRINGS;
 use crate::generator::Generator;
 use crate::layout::{Entry, Fault, Layout, Num, Part, Shape, shape};
@@ -30,6 +31,8 @@ struct Maker<'a> {
     odds: usize,
     /// How many strings the font has.
     strings: usize,
+    /// What charstrings and subroutines have in common; none: they are noise.
+    plan: Option<Plan>,
 }
 
 pub fn make(g: &mut Generator) -> Made {
@@ -39,6 +42,34 @@ pub fn make(g: &mut Generator) -> Made {
         12..=16 => 40,
         _ => 12,
     };
+    made(g, odds, None)
+}
+
+/// A font to cut: its charstrings and subroutines have sense, and it is seldom faulty.
+pub fn make_to_cut(g: &mut Generator) -> Made {
+    let odds = match g.below(20) {
+        0..=14 => 0,
+        15 | 16 => 120,
+        17 | 18 => 40,
+        _ => 12,
+    };
+    let plan = Plan::new(g);
+    made(g, odds, Some(plan))
+}
+
+/// A font to cut that has so many global subroutines, and so many local ones as a rule; every call can be rewritten.
+pub fn make_biased(g: &mut Generator, globals: usize, locals: usize) -> Vec<u8> {
+    let plan = Plan {
+        globals: 0,
+        wanted: Some(globals),
+        locals,
+        stems: 3,
+        care: Care::Sound,
+    };
+    made(g, 0, Some(plan)).bytes
+}
+
+fn made(g: &mut Generator, odds: usize, plan: Option<Plan>) -> Made {
     let mut maker = Maker {
         g,
         layout: Layout {
@@ -47,6 +78,7 @@ pub fn make(g: &mut Generator) -> Made {
         },
         odds,
         strings: 0,
+        plan,
     };
     maker.file()
 }
@@ -128,7 +160,11 @@ impl Maker<'_> {
             1..=60 => 0,
             _ => 1 + self.g.below(5),
         };
-        let globals = self.bodies(globals);
+        let globals = self.plan.and_then(|plan| plan.wanted).unwrap_or(globals);
+        if let Some(plan) = &mut self.plan {
+            plan.globals = globals;
+        }
+        let globals = self.bodies(globals, Role::Global);
         let shape = self.shape();
         self.layout.add(Part::Index(shape, globals));
 
@@ -216,7 +252,12 @@ impl Maker<'_> {
     }
 
     /// Charstrings or subroutines; reading does not look into them.
-    fn bodies(&mut self, count: usize) -> Vec<Part> {
+    fn bodies(&mut self, count: usize, role: Role) -> Vec<Part> {
+        if let Some(plan) = self.plan {
+            return (0..count)
+                .map(|k| Part::Bytes(plan.body(self.g, role, k)))
+                .collect();
+        }
         let longest = match self.g.below(40) {
             0 => 120,
             1..=4 => 40,
@@ -241,16 +282,30 @@ impl Maker<'_> {
         let glyphs = if self.wrong() { 0 } else { glyphs };
         let mut top = Vec::new();
         if cid_keyed {
-            let operands = (0..if self.wrong() { self.g.below(6) } else { 3 })
-                .map(|_| self.other_number())
+            let count = if self.wrong() || self.plan.is_some() && self.g.once_in(25) {
+                self.g.below(6)
+            } else {
+                3
+            };
+            let operands = (0..count)
+                .map(|_| {
+                    if self.plan.is_some() && !self.g.once_in(3) {
+                        self.string_id()
+                    } else {
+                        self.other_number()
+                    }
+                })
                 .collect();
             top.push(entry(operands, &[12, 30]));
+        }
+        if self.plan.is_some() {
+            self.copied_entries(&mut top);
         }
         if self.g.once_in(4) {
             let number = self.charstring_type();
             top.push(entry(vec![number], &[12, 6]));
         }
-        let bodies = self.bodies(glyphs);
+        let bodies = self.bodies(glyphs, Role::Glyph);
         let shape = self.shape();
         let charstrings = self.layout.add(Part::Index(shape, bodies));
         let operands = self.offset_of(charstrings);
@@ -293,6 +348,45 @@ impl Maker<'_> {
         }
         self.disturb(&mut top);
         top
+    }
+
+    /// A string id, one of the font's own as often as not, with a fraction now and then.
+    fn string_id(&mut self) -> Num {
+        let id = match self.g.below(3) {
+            0 => self.g.below(STANDARD_STRINGS.len()),
+            _ => STANDARD_STRINGS.len() + self.g.below(self.strings + 1),
+        };
+        if self.g.once_in(12) {
+            return Num::Bytes(numbers::write(id as i64, Form::Fraction(self.g.word())));
+        }
+        self.small(id as i64)
+    }
+
+    /// Entries that a subset copies.
+    fn copied_entries(&mut self, top: &mut Vec<Entry>) {
+        for operator in [&[0][..], &[1], &[12, 0], &[2], &[3], &[4]] {
+            if self.g.once_in(4) {
+                let id = self.string_id();
+                top.push(entry(vec![id], operator));
+            }
+        }
+        let numbers: [(usize, &[u8]); 9] = [
+            (4, &[5]),
+            (1, &[12, 1]),
+            (1, &[12, 2]),
+            (1, &[12, 3]),
+            (1, &[12, 4]),
+            (1, &[12, 5]),
+            (1, &[12, 8]),
+            (6, &[12, 7]),
+            (1, &[12, 34]),
+        ];
+        for (count, operator) in numbers {
+            if self.g.once_in(5) {
+                let operands = (0..count).map(|_| self.other_number()).collect();
+                top.push(entry(operands, operator));
+            }
+        }
     }
 
     /// A DICT with entries repeated, doubled operands, reserved bytes, operands left over.
@@ -680,7 +774,7 @@ impl Maker<'_> {
 
     /// The operands of a Private entry, and the Private with its local subroutines.
     fn private(&mut self, others: Option<&Vec<Vec<Num>>>) -> Option<Vec<Num>> {
-        if self.g.once_in(7) {
+        if self.g.once_in(if self.plan.is_some() { 15 } else { 7 }) {
             return None;
         }
         let mut dict = Vec::new();
@@ -690,13 +784,17 @@ impl Maker<'_> {
         }
         // The Private, then its subroutines, in the order of the file as often as not.
         let private = self.layout.add(Part::Dict(Vec::new()));
-        if !self.g.once_in(3) {
+        if !self.g.once_in(if self.plan.is_some() { 12 } else { 3 }) {
             let count = match self.g.below(100) {
                 0 => 1230 + self.g.below(20),
                 1..=15 => 0,
                 _ => 1 + self.g.below(4),
             };
-            let bodies = self.bodies(count);
+            let count = match self.plan {
+                Some(plan) if !self.g.once_in(8) => plan.locals,
+                _ => count,
+            };
+            let bodies = self.bodies(count, Role::Local);
             let shape = self.shape();
             let subrs = self.layout.add(Part::Index(shape, bodies));
             let form = form(self.g);

@@ -1,5 +1,26 @@
 //! The library under test by its C interface, and a stub in its place until it is linked.
 
+use crate::cut::{Cut, Lent, WORDS};
+
+/// The slices of a call of subsetting: font, name, kept numbers, record; the flag; work words, output, answer.
+pub type SubsetFn = unsafe extern "C" fn(
+    *const u8,
+    usize,
+    *const u8,
+    usize,
+    *const u16,
+    usize,
+    *const u8,
+    usize,
+    u8,
+    *mut u32,
+    usize,
+    *mut u8,
+    usize,
+    *mut u64,
+    usize,
+) -> u8;
+
 /// The functions of the crate `capi`: a slice is a pointer and a length.
 #[derive(Clone, Copy)]
 pub struct Library {
@@ -9,7 +30,19 @@ pub struct Library {
     pub item:
         unsafe extern "C" fn(*const u8, usize, u8, u64, *mut u8, usize, *mut u64, usize) -> u8,
     pub item_refusal: unsafe extern "C" fn(*const u8, usize, u8, u64) -> u8,
+    pub subset: SubsetFn,
+    pub subset_cid: SubsetFn,
 }
+
+/// What a call of subsetting did: its answer (way and bytes), and how many of the work words, from the first, are zeros
+/// where the others are as found.
+pub struct Subsetted {
+    pub answer: Answer<(u64, Vec<u8>)>,
+    pub zeros: usize,
+}
+
+/// Elements behind what is lent, which must stay as they are.
+const BEYOND: usize = 8;
 
 /// What `find_name` and `find_cid` give for a glyph that is absent.
 pub const ABSENT: u64 = 65536;
@@ -100,7 +133,6 @@ impl Library {
         room: usize,
         lent: usize,
     ) -> Checked<Vec<u8>> {
-        const BEYOND: usize = 8;
         let mut out = vec![BYTE; room + BEYOND];
         let mut length = [WORD; ONE];
         // SAFETY: the font, the first `room` bytes of `out` and `lent` words are lent for the call.
@@ -137,6 +169,76 @@ impl Library {
         // SAFETY: the font is lent for the call.
         unsafe { (self.item_refusal)(font.as_ptr(), font.len(), kind, number) }
     }
+
+    /// A subset. The message says where the call wrote that it must not.
+    pub fn subset(&self, font: &[u8], cut: &Cut, lent: Lent) -> Result<Subsetted, String> {
+        let mut work: Vec<u32> = (0..lent.work + BEYOND).map(found_word).collect();
+        let mut out = vec![BYTE; lent.room + BEYOND];
+        let mut answer = [WORD; WORDS + 1];
+        let entry = if cut.cid_keyed {
+            self.subset_cid
+        } else {
+            self.subset
+        };
+        // SAFETY: what is lent for reading, and `lent` of what is lent for writing, is there for the call.
+        let refusal = unsafe {
+            entry(
+                font.as_ptr(),
+                font.len(),
+                cut.name.as_ptr(),
+                cut.name.len(),
+                cut.keep.as_ptr(),
+                cut.keep.len(),
+                cut.record.as_ptr(),
+                cut.record.len(),
+                cut.flag,
+                work.as_mut_ptr(),
+                lent.work,
+                out.as_mut_ptr(),
+                lent.room,
+                answer.as_mut_ptr(),
+                lent.words,
+            )
+        };
+        let zeros = work.iter().take_while(|&&w| w == 0).count();
+        if let Some(k) = (zeros..work.len()).find(|&k| work[k] != found_word(k)) {
+            return Err(format!(
+                "work word {k} is {:08x}, {zeros} before it 0",
+                work[k]
+            ));
+        }
+        if zeros > lent.work {
+            return Err("work words past those lent were written".to_string());
+        }
+        let answer = if refusal == 0 {
+            let [way, length, beyond] = answer;
+            if beyond != WORD {
+                return Err("a third word of the answer was written".to_string());
+            }
+            if length > lent.room as u64 {
+                return Err(format!(
+                    "a subset of {length} bytes, with {} lent",
+                    lent.room
+                ));
+            }
+            if out[length as usize..].iter().any(|&b| b != BYTE) {
+                return Err("bytes past the subset were written".to_string());
+            }
+            out.truncate(length as usize);
+            Ok((way, out))
+        } else {
+            if out.iter().any(|&b| b != BYTE) {
+                return Err(format!("refusal {refusal} wrote bytes"));
+            }
+            untouched(refusal, &answer)?
+        };
+        Ok(Subsetted { answer, zeros })
+    }
+}
+
+/// What a work word holds before a call: not 0, and another in each place.
+fn found_word(k: usize) -> u32 {
+    0xa5a5_0001_u32.wrapping_add(k as u32).max(1)
 }
 
 fn untouched<T>(refusal: u8, out: &[u64]) -> Checked<T> {
@@ -179,6 +281,42 @@ mod linked {
     }
 }
 
+#[cfg(feature = "subset")]
+mod cutting {
+    macro_rules! declared {
+        ($($name:ident),*) => {
+            unsafe extern "C" {
+                $(pub fn $name(
+                    font: *const u8,
+                    font_len: usize,
+                    name: *const u8,
+                    name_len: usize,
+                    keep: *const u16,
+                    keep_len: usize,
+                    record: *const u8,
+                    record_len: usize,
+                    traced: u8,
+                    work: *mut u32,
+                    work_len: usize,
+                    out: *mut u8,
+                    out_len: usize,
+                    answer: *mut u64,
+                    answer_len: usize,
+                ) -> u8;)*
+            }
+        };
+    }
+    declared!(cff_subset, cff_subset_cid);
+}
+
+/// Whether subsetting is the library's, and not the stub's.
+pub const SUBSET_LINKED: bool = cfg!(feature = "subset");
+
+#[cfg(feature = "subset")]
+const SUBSET: (SubsetFn, SubsetFn) = (cutting::cff_subset, cutting::cff_subset_cid);
+#[cfg(all(feature = "linked", not(feature = "subset")))]
+const SUBSET: (SubsetFn, SubsetFn) = (crate::stub::subset, crate::stub::subset_cid);
+
 /// The library that this program was built with.
 #[cfg(feature = "linked")]
 pub fn library() -> Library {
@@ -188,6 +326,8 @@ pub fn library() -> Library {
         find_cid: linked::cff_find_cid,
         item: linked::cff_item,
         item_refusal: linked::cff_item_refusal,
+        subset: SUBSET.0,
+        subset_cid: SUBSET.1,
     }
 }
 

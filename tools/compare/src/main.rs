@@ -1,19 +1,34 @@
 //! Compares the library with the original Rust at scale: reading a font, finding, items.
 //! The sources under docs/src are compiled here as they are. See README.md.
 
+mod bodies;
 mod cases;
 mod compare;
+mod cut;
+mod cut_cases;
+mod cut_compare;
+mod cut_large;
+mod cut_model;
+mod cut_model_bodies;
+mod cut_model_dicts;
+mod cut_records;
+mod cut_tally;
+#[cfg(test)]
+mod cut_tests;
 mod damage;
 mod decimal;
 mod fonts;
 mod heavy;
+mod hooked;
 mod layout;
 mod library;
 mod model;
 mod numbers;
 mod opentype;
 mod original;
+mod record;
 mod store;
+mod store_subset;
 #[cfg_attr(feature = "linked", allow(dead_code))]
 mod stub;
 mod tally;
@@ -44,6 +59,7 @@ mod outline;
 mod program;
 
 use cases::Case;
+use cut_tally::CutTally;
 use std::fmt::Write as _;
 use std::io::Write as _;
 use std::path::{Path, PathBuf};
@@ -55,6 +71,9 @@ use tally::Tally;
 
 const USAGE: &str = "usage: tools/compare/run cff SEED COUNT
        tools/compare/run store-cff SEED COUNT
+       tools/compare/run subset SEED COUNT
+       tools/compare/run store-subset SEED COUNT
+       tools/compare/run cut FOLDER
        tools/compare/run case SEED NUMBER
        tools/compare/run ask original|model|library FILE
        tools/compare/run heavy entries FONTS FDS ENTRIES
@@ -84,6 +103,15 @@ fn main() -> ExitCode {
             (Ok(seed), Ok(count)) => store(seed, count),
             _ => usage(),
         },
+        ["subset", seed, count] => match (seed.parse(), count.parse()) {
+            (Ok(seed), Ok(count)) => subset(seed, count),
+            _ => usage(),
+        },
+        ["store-subset", seed, count] => match (seed.parse(), count.parse()) {
+            (Ok(seed), Ok(count)) => stored_subsets(seed, count),
+            _ => usage(),
+        },
+        ["cut", folder] => cut_tables(Path::new(folder)),
         ["case", seed, number] => match (seed.parse(), number.parse()) {
             (Ok(seed), Ok(number)) => case(seed, number),
             _ => usage(),
@@ -154,6 +182,100 @@ fn cff(seed: u64, count: usize) -> ExitCode {
     } else {
         ExitCode::SUCCESS
     }
+}
+
+/// Says whose subsets are compared.
+fn say_subset_linked() {
+    if !library::SUBSET_LINKED {
+        eprintln!(
+            "tools/compare: no cff_subset in the library, so a stub over the original answers for it"
+        );
+    }
+}
+
+/// Runs a function on a thread with room for the original.
+fn on_large_stack<T: Send + 'static>(run: impl FnOnce() -> T + Send + 'static) -> T {
+    let thread = thread::Builder::new().stack_size(STACK);
+    thread
+        .spawn(run)
+        .expect("a thread")
+        .join()
+        .expect("no thread fails")
+}
+
+/// Cuts of `count` made fonts, of the large ones, and of the tables in target/fonts with two damaged copies each.
+fn subset(seed: u64, count: usize) -> ExitCode {
+    say_subset_linked();
+    let (tally, tables) = on_large_stack(move || {
+        let library = library::library();
+        let mut tally = CutTally::default();
+        for case in cut_cases::Fonts::new(seed).take(count) {
+            cut_compare::compare(&library, &case, seed, &mut tally, &cut_cases::made);
+        }
+        for (case, ask) in cut_large::fonts(seed) {
+            cut_compare::compare(&library, &case, seed, &mut tally, &ask);
+        }
+        let tables = cases::tables(&target().join("fonts"), seed);
+        for table in &tables {
+            for (k, case) in table.cases().take(3).enumerate() {
+                let asks = if k == 0 {
+                    cut_cases::real
+                } else {
+                    cut_cases::few
+                };
+                cut_compare::compare(&library, &case, seed, &mut tally, &asks);
+            }
+        }
+        (tally, tables.len())
+    });
+    println!("seed {seed}, {count} made fonts, {tables} tables of real fonts");
+    print!("{}", tally.report(&target().join("compare")));
+    if tally.differences() > 0 {
+        ExitCode::FAILURE
+    } else {
+        ExitCode::SUCCESS
+    }
+}
+
+/// Cases of subsetting for the gate, a line each, to standard output.
+fn stored_subsets(seed: u64, count: usize) -> ExitCode {
+    let lines = on_large_stack(move || store_subset::lines(seed, count));
+    let text: String = lines.iter().flat_map(|line| [line, "\n"]).collect();
+    print!("{text}");
+    for kind in ["S", "D"] {
+        let n = lines.iter().filter(|line| line.starts_with(kind)).count();
+        eprintln!("{kind} {n}");
+    }
+    eprintln!("{} cases, {} bytes", lines.len(), text.len());
+    if lines.len() < count {
+        eprintln!("no more cases than these");
+        return ExitCode::FAILURE;
+    }
+    ExitCode::SUCCESS
+}
+
+/// The library's subsets of the tables in target/fonts, with the original's records: FOLDER/NAME.AMOUNT.cff.
+fn cut_tables(folder: &Path) -> ExitCode {
+    say_subset_linked();
+    fs::create_dir_all(folder).expect("a folder for the subsets");
+    let folder = folder.to_path_buf();
+    let count = on_large_stack(move || {
+        let library = library::library();
+        let mut count = 0;
+        for table in cases::tables(&target().join("fonts"), 1) {
+            let case = table.cases().next().expect("the table itself");
+            for (amount, subset) in cut_compare::subsets(&library, &case.font) {
+                let stem = table.name.trim_end_matches(".cff");
+                let amount = amount.replace(' ', "-");
+                fs::write(folder.join(format!("{stem}.{amount}.cff")), subset)
+                    .expect("a subset can be written");
+                count += 1;
+            }
+        }
+        count
+    });
+    eprintln!("{count} subsets");
+    ExitCode::SUCCESS
 }
 
 /// One made font, and what model and original say of it.

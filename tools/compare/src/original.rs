@@ -16,7 +16,7 @@ thread_local! {
     static MESSAGE: RefCell<String> = const { RefCell::new(String::new()) };
 }
 
-/// From here on a panic inside `read` is kept and not printed.
+/// From here on a panic inside `caught` is kept and not printed.
 pub fn keep_panics_silent() {
     let printed = panic::take_hook();
     panic::set_hook(Box::new(move |info| {
@@ -28,14 +28,19 @@ pub fn keep_panics_silent() {
     }));
 }
 
-pub fn read(font: &[u8]) -> Outcome {
+/// A result of the original, or the message of its panic.
+pub fn caught<T>(run: impl FnOnce() -> T) -> Result<T, String> {
     CATCHING.set(true);
-    let result = panic::catch_unwind(AssertUnwindSafe(|| CffProgram::parse(font)));
+    let result = panic::catch_unwind(AssertUnwindSafe(run));
     CATCHING.set(false);
-    match result {
+    result.map_err(|_| MESSAGE.take())
+}
+
+pub fn read(font: &[u8]) -> Outcome {
+    match caught(|| CffProgram::parse(font)) {
         Ok(Ok(program)) => Outcome::Program(program),
         Ok(Err(error)) => Outcome::Refused(error),
-        Err(_) => Outcome::Panicked(MESSAGE.take()),
+        Err(message) => Outcome::Panicked(message),
     }
 }
 

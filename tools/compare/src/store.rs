@@ -167,7 +167,7 @@ fn any<T>(g: &mut Generator, list: impl Fn(&mut Generator) -> Vec<T>) -> T {
 }
 
 /// The model's answers are the original's, refusal 5 apart.
-fn checked(bytes: &[u8], font: Result<&Font, u8>) {
+pub fn checked(bytes: &[u8], font: Result<&Font, u8>) {
     match (original::read(bytes), font) {
         (_, Err(PAST_LIMITS)) => {}
         (Outcome::Refused(error), Err(number)) => assert_eq!(original::number(&error), number),

@@ -3,6 +3,7 @@
 
 use crate::cff::CffProgram;
 use crate::compare::MEMORY;
+use crate::cut::{self, Cut, Lent, Outcome};
 use crate::library::{ABSENT, Library, NO_ROOM};
 use crate::{model, original};
 use std::cell::RefCell;
@@ -16,6 +17,8 @@ pub fn library() -> Library {
         find_cid,
         item,
         item_refusal,
+        subset,
+        subset_cid,
     }
 }
 
@@ -183,3 +186,85 @@ unsafe extern "C" fn item_refusal(font: *const u8, len: usize, kind: u8, number:
         .err()
         .unwrap_or(0)
 }
+
+/// The lent parts of a call of subsetting.
+struct Call<'a> {
+    font: &'a [u8],
+    cut: Cut,
+    work: &'a mut [u32],
+    out: &'a mut [u8],
+    answer: &'a mut [u64],
+}
+
+/// The same answer that the comparison expects: it tests that what is lent is looked at.
+fn subsetted(call: Call<'_>) -> u8 {
+    let reading = model::read(call.font);
+    let read = reading.font.as_ref().map_err(|r| r.number);
+    let parsed = parse(call.font);
+    let program = match parsed.as_deref() {
+        Ok(Font::Original(program)) => Some(program),
+        _ => None,
+    };
+    let outcome = cut::cut(call.font, read, program, &call.cut);
+    if let Outcome::Panicked(_) = outcome {
+        return 255;
+    }
+    let answer = outcome.answer(Lent {
+        work: call.work.len(),
+        room: call.out.len(),
+        words: call.answer.len(),
+    });
+    call.work[..answer.zeros as usize].fill(0);
+    match answer.subset {
+        Err(number) => number,
+        Ok(subset) => {
+            call.out[..subset.bytes.len()].copy_from_slice(&subset.bytes);
+            call.answer[0] = u64::from(subset.way);
+            call.answer[1] = subset.bytes.len() as u64;
+            0
+        }
+    }
+}
+
+macro_rules! subsetting {
+    ($name:ident, $cid_keyed:expr) => {
+        pub unsafe extern "C" fn $name(
+            font: *const u8,
+            font_len: usize,
+            name: *const u8,
+            name_len: usize,
+            keep: *const u16,
+            keep_len: usize,
+            record: *const u8,
+            record_len: usize,
+            traced: u8,
+            work: *mut u32,
+            work_len: usize,
+            out: *mut u8,
+            out_len: usize,
+            answer: *mut u64,
+            answer_len: usize,
+        ) -> u8 {
+            // SAFETY: the caller's.
+            unsafe {
+                subsetted(Call {
+                    font: lent(font, font_len),
+                    cut: Cut {
+                        cid_keyed: $cid_keyed,
+                        name: lent(name, name_len).to_vec(),
+                        keep: slice::from_raw_parts(keep, keep_len).to_vec(),
+                        record: lent(record, record_len).to_vec(),
+                        flag: traced,
+                        record_kind: "",
+                    },
+                    work: slice::from_raw_parts_mut(work, work_len),
+                    out: slice::from_raw_parts_mut(out, out_len),
+                    answer: slice::from_raw_parts_mut(answer, answer_len),
+                })
+            }
+        }
+    };
+}
+
+subsetting!(subset, false);
+subsetting!(subset_cid, true);

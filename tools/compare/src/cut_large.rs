@@ -1,0 +1,202 @@
+//! Large fonts to cut, a list of its own: refusals 10 and 12 at their edges, and the steps of the bias.
+
+use crate::cases::Case;
+use crate::cut::{self, Cut, Outcome};
+use crate::cut_compare::Opened;
+use crate::cut_records;
+use crate::fonts;
+use crate::generator::Generator;
+use crate::layout::{Entry, Fault, Layout, Num, Part, Shape};
+use crate::model::LONGEST;
+use crate::numbers::Form;
+
+const SHAPE: Shape = Shape {
+    offset_size: 1,
+    gap: 0,
+    fault: Fault::None,
+};
+
+fn entry(operands: Vec<Num>, operator: &[u8]) -> Entry {
+    Entry {
+        operands,
+        operator: operator.to_vec(),
+    }
+}
+
+fn place(part: usize) -> Num {
+    Num::Place(part, 0, Form::Shortest)
+}
+
+/// One font from its top DICT, its strings and other parts, the first of which is part 5.
+fn font(top: Vec<Entry>, strings: Vec<Part>, parts: Vec<Part>) -> Vec<u8> {
+    let mut layout = Layout {
+        parts: Vec::new(),
+        order: Vec::new(),
+    };
+    layout.add(Part::Bytes(vec![1, 0, 4, 1]));
+    layout.add(Part::Index(SHAPE, vec![Part::Bytes(vec![b'A'])]));
+    layout.add(Part::Index(SHAPE, vec![Part::Dict(top)]));
+    layout.add(Part::Index(SHAPE, strings));
+    layout.add(Part::Index(SHAPE, Vec::new()));
+    for part in parts {
+        layout.add(part);
+    }
+    layout.bytes()
+}
+
+/// A name-keyed font of `own` glyphs with names of their own, beside glyph 0.
+pub fn names(own: usize) -> Vec<u8> {
+    // Of many lengths: the original compares each with all before it.
+    let strings = (0..own)
+        .map(|k| {
+            let mut text = vec![0xff; 1 + k % 61];
+            text.extend_from_slice(&(k as u16).to_be_bytes());
+            Part::Bytes(text)
+        })
+        .collect();
+    let charset: Vec<u8> = [
+        &[2][..],
+        &391u16.to_be_bytes(),
+        &(own as u16 - 1).to_be_bytes(),
+    ]
+    .concat();
+    let top = vec![entry(vec![place(5)], &[17]), entry(vec![place(6)], &[15])];
+    let charstrings = Part::Index(SHAPE, vec![Part::Bytes(vec![14]); own + 1]);
+    font(top, strings, vec![charstrings, Part::Bytes(charset)])
+}
+
+/// A CID-keyed font of `fds` glyphs, each with an FD of its own; the FDs share a Private with one subroutine of `length`
+/// bytes, which a subset of all has once for each.
+pub fn shared(fds: usize, length: usize) -> Vec<u8> {
+    let zero = Num::Bytes(vec![139]);
+    let top = vec![
+        entry(vec![zero.clone(), zero.clone(), zero], &[12, 30]),
+        entry(vec![place(5)], &[17]),
+        entry(vec![place(6)], &[12, 36]),
+        entry(vec![place(7)], &[12, 37]),
+    ];
+    let private = vec![Num::Length(8, 0, Form::Shortest), place(8)];
+    let fd = Part::Dict(vec![entry(private, &[18])]);
+    let select: Vec<u8> = [0].into_iter().chain((0..fds).map(|k| k as u8)).collect();
+    let subrs = entry(vec![Num::Distance(8, 9, Form::Shortest)], &[19]);
+    font(
+        top,
+        Vec::new(),
+        vec![
+            Part::Index(SHAPE, vec![Part::Bytes(vec![14]); fds]),
+            Part::Index(SHAPE, vec![fd; fds]),
+            Part::Bytes(select),
+            Part::Dict(vec![subrs]),
+            Part::Index(SHAPE, vec![Part::Bytes(vec![11; length])]),
+        ],
+    )
+}
+
+/// What is asked of a large font.
+pub type Ask = fn(&mut Generator, &Opened<'_>) -> Vec<Cut>;
+
+/// The fonts, each with what is asked.
+pub fn fonts(seed: u64) -> Vec<(Case, Ask)> {
+    let mut g = Generator::new(seed);
+    let mut list: Vec<(&'static str, Vec<u8>, Ask)> = vec![
+        ("64,610 own strings", names(64_610), all_but_last),
+        (
+            "subset of 67,108,864 bytes",
+            shared(250, 268_250),
+            around_longest,
+        ),
+    ];
+    for (globals, locals) in [
+        (1239, 1240),
+        (1240, 1239),
+        (33_899, 3),
+        (33_900, 1241),
+        (2, 33_900),
+    ] {
+        list.push((
+            "steps of the bias",
+            fonts::make_biased(&mut g, globals, locals),
+            some,
+        ));
+    }
+    list.into_iter()
+        .enumerate()
+        .map(|(number, (state, font, ask))| {
+            let case = Case {
+                number,
+                kind: "large",
+                state,
+                font,
+                file: "large".to_string(),
+            };
+            (case, ask)
+        })
+        .collect()
+}
+
+fn copied(cid_keyed: bool, name: Vec<u8>, keep: Vec<u16>) -> Cut {
+    Cut {
+        cid_keyed,
+        name,
+        keep,
+        record: Vec::new(),
+        flag: 0,
+        record_kind: "flag 0",
+    }
+}
+
+/// All glyphs, 64,610 new string ids, and all but the last one, 64,609.
+fn all_but_last(_: &mut Generator, _: &Opened<'_>) -> Vec<Cut> {
+    [64_610, 64_609]
+        .map(|last| copied(false, vec![b'B'], (1..=last).collect()))
+        .to_vec()
+}
+
+/// All glyphs, with names so long that the subset has the most bytes there may be, and one more, and some more.
+fn around_longest(_: &mut Generator, opened: &Opened<'_>) -> Vec<Cut> {
+    let keep: Vec<u16> = opened
+        .read
+        .map_or(Vec::new(), |f| (0..f.charset.len() as u16).collect());
+    // From 256 bytes on a name's length is all that it adds.
+    let with = |n: usize| copied(true, vec![b'C'; n], keep.clone());
+    let probe = with(300);
+    let Outcome::Ready(_, Ok(subset)) = cut::cut(opened.bytes, opened.read, opened.program, &probe)
+    else {
+        return vec![probe];
+    };
+    let most = LONGEST - (subset.bytes.len() - 300);
+    vec![with(most), with(most + 1), with(65_535)]
+}
+
+/// Few glyphs and all, with every subroutine in the record and with the original's record.
+fn some(g: &mut Generator, opened: &Opened<'_>) -> Vec<Cut> {
+    let (Ok(font), Some(program)) = (opened.read, opened.program) else {
+        return Vec::new();
+    };
+    let found: Vec<u16> = (0..font.charset.len() as u16)
+        .filter(|&k| cut::found(opened.bytes, font, program, k))
+        .collect();
+    let mut cuts = Vec::new();
+    for _ in 0..12 {
+        let keep = if g.once_in(2) {
+            found.clone()
+        } else {
+            vec![found[g.below(found.len())]]
+        };
+        let kept = cut::glyphs(&keep);
+        let record = if g.once_in(3) {
+            cut_records::own(program, &kept)
+        } else {
+            cut_records::many(g, program, &kept)
+        };
+        cuts.push(Cut {
+            cid_keyed: font.cid_keyed,
+            name: vec![b'D'],
+            keep,
+            record: record.bytes,
+            flag: record.flag,
+            record_kind: record.kind,
+        });
+    }
+    cuts
+}
