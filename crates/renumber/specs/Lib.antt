@@ -1,0 +1,9 @@
+pub mod Ranks
+pub mod Turn
+pub mod Examples
+pub mod TurnLaws
+pub mod BodyLaws
+pub mod OperandLaws
+pub mod CodeLaws
+pub mod RanksLaws
+pub mod HoldsLaws

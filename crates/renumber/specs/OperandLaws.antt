@@ -1,0 +1,131 @@
+-- Laws of a call's new operand: by the rank of the subroutine that the old operand names; it is a reading.
+use Prim.Native.Nat.{ℕ, zero, suc, _+_, _-_, _/_, _%_, _≤_, _<_}
+use mathlib.Core.Path.{_≡_, refl, sym, ap, _∙_, subst}
+use mathlib.Core.Bool.{Bool, true, false, true≢false, false≢true}
+use mathlib.Core.List.{List}
+use native.Mathlib.Omega.{arith}
+use lib.Dec.{ltb, eqb}
+use lib.IntN.{ℤ, pos, negsuc}
+use lib.Ieee.{Float}
+use lib.ListN.{getD}
+use borrow.Author.Tests.{ltb-true, eq-eqb, ne-eqb, le-leb, lt-leb}
+use Rattle.octets.specs.Pick.{pick, pick-ind}
+use Rattle.type2_number.specs.Number.{isNeg, mag, whole, rounded, Reading}
+use Rattle.type2_number.specs.Floats.{floatOf}
+use Rattle.charstring.specs.Bias.{biasOf}
+use Rattle.prune.specs.StepLaws.{zero-one}
+use Rattle.prune.specs.Renumber.{New, none, new, Old, nothing, old, oldOf, newOf, operandFor, operandOf, becomes}
+use Rattle.prune.specs.OperandLaws.{operand-reading}
+use Rattle.renumber.specs.Ranks.{rankIn, rankAt, newIn, numbersIn, callsBy, Ranked}
+use Rattle.renumber.specs.Turn.{turnFor}
+use Rattle.renumber.specs.declared.Ranks.{Ranks}
+use Rattle.renumber.specs.declared.turns.Held.the-variants.{Number}
+use Rattle.renumber.specs.declared.turns.Turn.the-variants.{Stuck, Sends}
+
+bias-small : (count : ℕ) → biasOf count ≤ 32768
+bias-small count =
+    pick-ind (λ (b : ℕ). b ≤ 32768) (ltb count 1240) 107 (pick (ltb count 33900) 1131 32768) (λ t. omega arith)
+    (λ t. pick-ind (λ (b : ℕ). b ≤ 32768) (ltb count 33900) 1131 32768 (λ u. omega arith) (λ u. omega arith))
+
+pub bias-few : (b count : ℕ) → b ≡ biasOf count → b ≤ 32768
+bias-few b count e = subst (λ (k : ℕ). k ≤ 32768) (sym e) (bias-small count)
+
+-- ---- the rank that an operand names, as the code finds it
+
+module _ (ws : List ℕ) (q : Ranks) (bias : ℕ) where
+  fraction : (z : ℤ) → (mag z % 65536 ≡ 0 → ⊥) → 0 ≡ rankAt ws q (oldOf bias z)
+  unfolding oldOf
+  fraction (pos m) k = rw (ne-eqb (m % 65536) 0 k)
+  fraction (negsuc m) k = rw (ne-eqb (suc m % 65536) 0 k)
+
+  before-first : (z : ℤ) → isNeg z ≡ true → mag z % 65536 ≡ 0 → bias < mag z / 65536 → 0 ≡ rankAt ws q (oldOf bias z)
+  unfolding oldOf
+  before-first (pos m) u k l = absurd (false≢true u)
+  before-first (negsuc m) u k l = rw (eq-eqb (suc m % 65536) 0 k, lt-leb (suc m / 65536) bias l)
+
+  down : (z : ℤ) → isNeg z ≡ true → mag z % 65536 ≡ 0 → mag z / 65536 ≤ bias → rankIn ws q (bias - mag z / 65536) ≡ rankAt ws q (oldOf bias z)
+  unfolding oldOf
+  down (pos m) u k l = absurd (false≢true u)
+  down (negsuc m) u k l = rw (eq-eqb (suc m % 65536) 0 k, le-leb (suc m / 65536) bias l)
+
+  up : (z : ℤ) → isNeg z ≡ false → mag z % 65536 ≡ 0 → rankIn ws q (mag z / 65536 + bias) ≡ rankAt ws q (oldOf bias z)
+  unfolding oldOf
+  up (pos m) u k = rw (eq-eqb (m % 65536) 0 k)
+  up (negsuc m) u k = absurd (true≢false u)
+
+  module _ (z : ℤ) (size : ℕ) (g : size ≡ mag z) where
+    pub rank-fraction : (size % 65536 ≡ 0 → ⊥) → 0 ≡ rankAt ws q (oldOf bias z)
+    rank-fraction n = fraction z (λ e. n (ap (λ (k : ℕ). k % 65536) g ∙ e))
+
+    module _ (neg : Bool) (n : neg ≡ isNeg z) (h : size % 65536 ≡ 0) (added : ℕ) (a : added ≡ bias) where
+      even : mag z % 65536 ≡ 0
+      even = ap (λ (k : ℕ). k % 65536) (sym g) ∙ h
+
+      pub rank-before : neg ≡ true → added < size / 65536 → 0 ≡ rankAt ws q (oldOf bias z)
+      rank-before t l = before-first z (sym n ∙ t) even (subst (λ (k : ℕ). bias < k / 65536) g (subst (λ (k : ℕ). k < size / 65536) a l))
+
+      pub rank-down : neg ≡ true → size / 65536 ≤ added → (r : ℕ) → r ≡ rankIn ws q (added - size / 65536) → r ≡ rankAt ws q (oldOf bias z)
+      rank-down t l r e =
+          e ∙ ap (λ (k : ℕ). rankIn ws q (k - size / 65536)) a ∙ ap (λ (k : ℕ). rankIn ws q (bias - k / 65536)) g
+          ∙ down z (sym n ∙ t) even (subst (λ (k : ℕ). k / 65536 ≤ bias) g (subst (λ (k : ℕ). size / 65536 ≤ k) a l))
+
+      pub rank-up : neg ≡ false → (r : ℕ) → r ≡ rankIn ws q (size / 65536 + added) → r ≡ rankAt ws q (oldOf bias z)
+      rank-up t r e =
+          e ∙ ap (λ (k : ℕ). rankIn ws q (size / 65536 + k)) a ∙ ap (λ (k : ℕ). rankIn ws q (k / 65536 + bias)) g ∙ up z (sym n ∙ t) even
+
+-- ---- the new number
+
+pub number-rank : (ws : List ℕ) (q : Ranks) (i : ℕ) → numbersIn ws q i ≡ newIn (rankIn ws q i)
+number-rank ws q i = go (ltb i (q .count))
+  where
+    go : (t : Bool) → pick t (newIn (getD ws (q .at + i) 0)) none ≡ newIn (pick t (getD ws (q .at + i) 0) 0)
+    go true = refl
+    go false = refl
+
+new-rank : (ws : List ℕ) (q : Ranks) (o : Old) → newOf (numbersIn ws q) o ≡ newIn (rankAt ws q o)
+new-rank ws q nothing = refl
+new-rank ws q (old i) = number-rank ws q i
+
+new-below : (r m n : ℕ) → newIn r ≡ new n → r ≤ m → n < m
+new-below zero m n e h = absurd (zero-one cc)
+new-below (suc k) m n e h = let f : k ≡ n = cc in omega arith
+
+module _ (ws : List ℕ) (q : Ranks) (good : Ranked ws q) where
+  pub rank-below : (o : Old) → rankAt ws q o ≤ q .reached
+  rank-below nothing = omega arith
+  rank-below (old i) = pick-ind (λ (r : ℕ). r ≤ q .reached) (ltb i (q .count)) _ _ (λ t. good .below i (ltb-true i (q .count) t)) (λ t. omega arith)
+
+  pub number-below : (i n : ℕ) → numbersIn ws q i ≡ new n → n < q .reached
+  number-below i n e = new-below (rankIn ws q i) (q .reached) n (sym (number-rank ws q i) ∙ e) (rank-below (old i))
+
+  pub operand-reads : (z y : ℤ) → operandOf (numbersIn ws q) (biasOf (q .count)) (biasOf (q .reached)) z ≡ becomes y → Reading y
+  operand-reads z y e = operand-reading (numbersIn ws q) (q .count) (q .reached) number-below z y e (good .fewReached)
+
+  module _ (z : ℤ) (r : ℕ) (e : r ≡ rankAt ws q (oldOf (biasOf (q .count)) z)) where
+    becomes-by : newOf (numbersIn ws q) (oldOf (biasOf (q .count)) z) ≡ newIn r
+    becomes-by = new-rank ws q (oldOf (biasOf (q .count)) z) ∙ ap newIn (sym e)
+
+    pub rank-small : r < 65536
+    rank-small = let k = rank-below (oldOf (biasOf (q .count)) z) in omega (arith, good .fewReached)
+
+    -- no rank: the renumbering fails
+    pub operand-stuck : r ≡ 0 → Stuck ≡ turnFor (operandOf (numbersIn ws q) (biasOf (q .count)) (biasOf (q .reached)) z)
+    operand-stuck f = ap (λ (x : New). turnFor (operandFor (biasOf (q .reached)) x)) (sym (becomes-by ∙ ap newIn f))
+
+    -- the rank less 1 is the new number
+    pub operand-sends : (r ≡ 0 → ⊥) → (b : ℕ) → b ≡ biasOf (q .reached) → (v : Float) → v ≡ floatOf (rounded (whole (r - 1) b))
+        → Sends (Number v) ≡ turnFor (operandOf (numbersIn ws q) (biasOf (q .count)) (biasOf (q .reached)) z)
+    operand-sends n b a v f =
+        let k : suc (r - 1) ≡ r = omega arith in
+        let g : operandOf (numbersIn ws q) (biasOf (q .count)) (biasOf (q .reached)) z ≡ becomes (whole (r - 1) (biasOf (q .reached)))
+        = ap (operandFor (biasOf (q .reached))) (becomes-by ∙ ap newIn (sym k)) in
+        ap (λ (x : Float). Sends (Number x)) (f ∙ ap (λ (k : ℕ). floatOf (rounded (whole (r - 1) k))) a ∙ ap floatOf (operand-reads z (whole (r - 1) (biasOf (q .reached))) g .kept)) ∙ ap turnFor (sym g)
+
+-- the operands of calls are readings
+pub calls-read : (ws : List ℕ) (locals globals : Ranks) → Ranked ws locals → Ranked ws globals → (b : ℕ) (z y : ℤ) → callsBy ws locals globals b z ≡ becomes y → Reading y
+calls-read ws locals globals l g b z y e = go (eqb b 10) e
+  where
+    go : (t : Bool) → pick t (operandOf (numbersIn ws locals) (biasOf (locals .count)) (biasOf (locals .reached)) z)
+        (operandOf (numbersIn ws globals) (biasOf (globals .count)) (biasOf (globals .reached)) z) ≡ becomes y → Reading y
+    go true f = operand-reads ws locals l z y f
+    go false f = operand-reads ws globals g z y f

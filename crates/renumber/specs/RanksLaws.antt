@@ -1,0 +1,195 @@
+-- The ranks in the work words are those of crates/subset: renumbering by the words is renumbering by the record.
+use Prim.Native.Nat.{ℕ, zero, suc, _+_, _-_, _≤_, _<_}
+use mathlib.Core.Path.{_≡_, refl, sym, ap, _∙_, subst}
+use mathlib.Core.Bool.{Bool, true, false}
+use mathlib.Core.List.{List, [], _∷_}
+use native.Mathlib.Nat.{le-refl}
+use native.Mathlib.Decide.{decLe}
+use native.Mathlib.Omega.{arith}
+use lib.Dec.{ltb, eqb}
+use lib.IntN.{ℤ}
+use lib.ListN.{length, take, drop, getD}
+use lib.Seq.{getD-take, getD-drop}
+use borrow.Author.Tests.{ltb-true, ltb-false, le-ltb}
+use Rattle.octets.specs.Pick.{pick, pick-ind}
+use Rattle.charstring.specs.declared.MaskLen.{MaskLen}
+use Rattle.charstring.specs.Token.{Tok, num, op, esc, mask, Body, bad, tokens, tokensOf}
+use Rattle.charstring.specs.Bias.{biasOf}
+use Rattle.unfold.specs.Unfold.{Row, Site}
+use Rattle.record.specs.Record.{givenIn, twoLengths}
+use Rattle.prune.specs.Renumber.{none, new, Old, nothing, old, oldOf, newOf, operandFor, operandOf, Operand, fails, Calls, isCall, Renumbered, before, called, calledAfter, Waiting, nobody, waits, kept, renumber, Bytes, writtenBack, renumberedTokens, renumberCharstring}
+use Rattle.cff.specs.Font.{Program}
+use Rattle.subset.specs.Kept.{localsOf}
+use Rattle.subset.specs.Pruned.{countBelow, rank, reached, fail, whole, localSet, globalSet, renumberedBody, callsIn, callsAcross}
+use Rattle.reach.specs.Reach.{ranksOf}
+use Rattle.reach.specs.CountLaws.{count-more}
+use Rattle.renumber.specs.Ranks.{newIn, numbersIn, callsBy, Ranked}
+use Rattle.renumber.specs.declared.Ranks.{Ranks}
+
+-- ---- how many of a set are below a number
+
+count-few : (set : ℕ → Bool) (n : ℕ) → countBelow set n ≤ n
+unfolding countBelow
+count-few set zero = omega arith
+count-few set (suc n) = let h = count-few set n in pick-ind (λ (k : ℕ). countBelow set n + k ≤ suc n) (set n) 1 0 (λ t. omega arith) (λ t. omega arith)
+
+-- where no more are below m than below n, none is from n on
+none-between : (set : ℕ → Bool) (n m i : ℕ) → countBelow set m ≡ countBelow set n → n ≤ i → i < m → set i ≡ false
+none-between set n m i e h k = go (set i) refl
+  where
+    go : (t : Bool) → set i ≡ t → set i ≡ false
+    go false f = f
+    go true f = let a = count-more set n i m h k f in absurd (let y : ⊥ = omega arith in y)
+
+-- ---- the words hold the ranks of a set, which has no other number
+pub record HoldsRanks (ws : List ℕ) (q : Ranks) (set : ℕ → Bool) : Type 0 where
+  pub inside : q .at + q .count ≤ length ws
+  pub few : q .count < 65536
+  pub words : take (q .count) (drop (q .at) ws) ≡ ranksOf set 0 (q .count)
+  pub reaches : q .reached ≡ countBelow set (q .count)
+  pub all : reached set ≡ countBelow set (q .count)
+  pub narrow : (i : ℕ) → 65536 ≤ i → set i ≡ false
+
+rank-get : (set : ℕ → Bool) (k n i : ℕ) → i < n → getD (ranksOf set k n) i 0 ≡ pick (set (k + i)) (countBelow set (k + i) + 1) 0
+unfolding ranksOf
+rank-get set k zero i h = absurd (let y : ⊥ = omega arith in y)
+rank-get set k (suc n) zero h = ap (λ (j : ℕ). pick (set j) (countBelow set j + 1) 0) (let e : k ≡ k + 0 = omega arith in e)
+rank-get set k (suc n) (suc i) h =
+    rank-get set (k + 1) n i (omega arith) ∙ ap (λ (j : ℕ). pick (set j) (countBelow set j + 1) 0) (let e : k + 1 + i ≡ k + suc i = omega arith in e)
+
+new-one : (set : ℕ → Bool) (i : ℕ) → newIn (pick (set i) (countBelow set i + 1) 0) ≡ rank set i
+new-one set i = go (set i)
+  where
+    go : (t : Bool) → newIn (pick t (countBelow set i + 1) 0) ≡ pick t (new (countBelow set i)) none
+    go true = let e : countBelow set i + 1 ≡ suc (countBelow set i) = omega arith in ap newIn e
+    go false = refl
+
+module _ (ws : List ℕ) (q : Ranks) (set : ℕ → Bool) (h : HoldsRanks ws q set) where
+  word-at : (i : ℕ) → i < q .count → getD ws (q .at + i) 0 ≡ pick (set i) (countBelow set i + 1) 0
+  word-at i k =
+      sym (getD-drop (q .at) ws i 0) ∙ sym (getD-take (q .count) (drop (q .at) ws) i 0 k)
+      ∙ ap (λ (l : List ℕ). getD l i 0) (h .words) ∙ rank-get set 0 (q .count) i k ∙ ap (λ (j : ℕ). pick (set j) (countBelow set j + 1) 0) (let e : 0 + i ≡ i = omega arith in e)
+
+  none-past : (i : ℕ) → q .count ≤ i → set i ≡ false
+  none-past i k = go (decLe 65536 i)
+    where
+      go : Dec (65536 ≤ i) → set i ≡ false
+      go (yes p) = h .narrow i p
+      go (no p) = none-between set (q .count) 65536 i (h .all) k (omega arith)
+
+  -- the new numbers by the words are those by the set
+  pub numbers-rank : (i : ℕ) → numbersIn ws q i ≡ rank set i
+  numbers-rank i = go (ltb i (q .count)) refl
+    where
+      go : (t : Bool) → ltb i (q .count) ≡ t → numbersIn ws q i ≡ rank set i
+      go true e = rw e (ap newIn (word-at i (ltb-true i (q .count) e)) ∙ new-one set i)
+      go false e = rw (e, none-past i (ltb-false i (q .count) e))
+
+  -- the words are ranks as the code asks for them
+  pub ranked-of : Ranked ws q
+  ranked-of =
+      record {
+        inside = h .inside;
+        few = h .few;
+        fewReached = let k = count-few set (q .count) in omega (arith, h .few, h .reaches);
+        below = λ i k. subst (λ (n : ℕ). n ≤ q .reached) (sym (word-at i k))
+            (pick-ind (λ (n : ℕ). n ≤ q .reached) (set i) (countBelow set i + 1) 0
+            (λ t. let b = count-more set i i (q .count) (le-refl i) k t in omega (arith, h .reaches)) (λ t. omega arith));
+      }
+
+  reached-is : q .reached ≡ reached set
+  reached-is = h .reaches ∙ sym (h .all)
+
+  -- an operand by the words, and by the set
+  operand-rank : (count : ℕ) → q .count ≡ count → (z : ℤ)
+      → operandOf (numbersIn ws q) (biasOf (q .count)) (biasOf (q .reached)) z ≡ operandOf (rank set) (biasOf count) (biasOf (reached set)) z
+  operand-rank count e z =
+      let f : biasOf (q .reached) ≡ biasOf (reached set) = ap biasOf reached-is in
+      let g : biasOf (q .count) ≡ biasOf count = ap biasOf e in
+      ap (operandFor (biasOf (q .reached))) (go (oldOf (biasOf (q .count)) z))
+      ∙ ap (λ (b : ℕ). operandFor b (newOf (rank set) (oldOf (biasOf (q .count)) z))) f
+      ∙ ap (λ (b : ℕ). operandFor (biasOf (reached set)) (newOf (rank set) (oldOf b z))) g
+    where
+      go : (o : Old) → newOf (numbersIn ws q) o ≡ newOf (rank set) o
+      go nothing = refl
+      go (old i) = numbers-rank i
+
+-- ---- calls that become alike renumber alike
+
+module _ (calls calls' : Calls) (same : (b : ℕ) (z : ℤ) → calls b z ≡ calls' b z) where
+  called-alike : (b : ℕ) (w : Waiting) (r : Renumbered) → calledAfter calls b w r ≡ calledAfter calls' b w r
+  called-alike b nobody r = refl
+  called-alike b (waits z) r = ap (λ (o : Operand). called b o r) (same b z)
+
+  renumber-alike : (w : Waiting) (ts : List Tok) → renumber calls w ts ≡ renumber calls' w ts
+  unfolding renumber
+  renumber-alike w [] = refl
+  renumber-alike w (num z ∷ ts) = ap (kept w) (renumber-alike (waits z) ts)
+  renumber-alike w (op b ∷ ts) =
+      ap (λ (r : Renumbered). pick (isCall b) (calledAfter calls b w r) (kept w (before (op b) r))) (renumber-alike nobody ts)
+      ∙ ap (λ (r : Renumbered). pick (isCall b) r (kept w (before (op b) (renumber calls' nobody ts)))) (called-alike b w (renumber calls' nobody ts))
+  renumber-alike w (esc b ∷ ts) = ap (λ (r : Renumbered). kept w (before (esc b) r)) (renumber-alike nobody ts)
+  renumber-alike w (mask bs ∷ ts) = ap (λ (r : Renumbered). kept w (before (mask bs) r)) (renumber-alike nobody ts)
+
+  pub charstring-alike : (given : ℕ → MaskLen) (code : List ℕ) → renumberCharstring calls given code ≡ renumberCharstring calls' given code
+  unfolding renumberCharstring
+  charstring-alike given code = go (tokensOf given code)
+    where
+      go : (x : Body) → renumberedTokens calls x ≡ renumberedTokens calls' x
+      go bad = refl
+      go (tokens ts) = ap writtenBack (renumber-alike nobody ts)
+
+  pub body-alike : (rows : List Row) (site : Site) (s : List ℕ) → renumberedBody rows calls site s ≡ renumberedBody rows calls' site s
+  unfolding renumberedBody
+  body-alike rows site s = ap (λ (x : Bytes). pick (twoLengths rows site) fail (whole x)) (charstring-alike (givenIn rows site) s)
+
+-- ---- a font's calls
+
+module _ (p : Program) (rows : List Row) (ws : List ℕ) (locals globals : Ranks) (g : HoldsRanks ws globals (globalSet rows))
+    (n : globals .count ≡ length (p .globals)) where
+  -- the calls of a glyph or a local subroutine of an FD
+  pub calls-in : (f : ℕ) → HoldsRanks ws locals (localSet rows f) → locals .count ≡ length (localsOf p f)
+      → (b : ℕ) (z : ℤ) → callsBy ws locals globals b z ≡ callsIn p rows f b z
+  calls-in f l m b z = go (eqb b 10)
+    where
+      go : (t : Bool)
+          → pick t (operandOf (numbersIn ws locals) (biasOf (locals .count)) (biasOf (locals .reached)) z)
+          (operandOf (numbersIn ws globals) (biasOf (globals .count)) (biasOf (globals .reached)) z)
+          ≡ pick t (operandOf (rank (localSet rows f)) (biasOf (length (localsOf p f))) (biasOf (reached (localSet rows f))) z)
+          (operandOf (rank (globalSet rows)) (biasOf (length (p .globals))) (biasOf (reached (globalSet rows))) z)
+      go true = operand-rank ws locals (localSet rows f) l (length (localsOf p f)) m z
+      go false = operand-rank ws globals (globalSet rows) g (length (p .globals)) n z
+
+  pub renumbered-in : (f : ℕ) → HoldsRanks ws locals (localSet rows f) → locals .count ≡ length (localsOf p f)
+      → (given : ℕ → MaskLen) (code : List ℕ) → renumberCharstring (callsBy ws locals globals) given code ≡ renumberCharstring (callsIn p rows f) given code
+  renumbered-in f l m given code = charstring-alike (callsBy ws locals globals) (callsIn p rows f) (calls-in f l m) given code
+
+  -- with no local subroutines, a call of one fails
+  no-numbers : locals .count ≡ 0 → (z : ℤ) → operandOf (numbersIn ws locals) (biasOf (locals .count)) (biasOf (locals .reached)) z ≡ fails
+  no-numbers e z = ap (operandFor (biasOf (locals .reached))) (go (oldOf (biasOf (locals .count)) z))
+    where
+      go : (o : Old) → newOf (numbersIn ws locals) o ≡ none
+      go nothing = refl
+      go (old i) = rw (le-ltb i (locals .count) (omega arith))
+
+  none-local : locals .count ≡ 0 → (b : ℕ) (z : ℤ)
+      → callsBy ws locals globals b z ≡ pick (eqb b 10) fails (operandOf (rank (globalSet rows)) (biasOf (length (p .globals))) (biasOf (reached (globalSet rows))) z)
+  none-local e b z = go (eqb b 10)
+    where
+      go : (t : Bool)
+          → pick t (operandOf (numbersIn ws locals) (biasOf (locals .count)) (biasOf (locals .reached)) z)
+          (operandOf (numbersIn ws globals) (biasOf (globals .count)) (biasOf (globals .reached)) z)
+          ≡ pick t fails (operandOf (rank (globalSet rows)) (biasOf (length (p .globals))) (biasOf (reached (globalSet rows))) z)
+      go true = no-numbers e z
+      go false = operand-rank ws globals (globalSet rows) g (length (p .globals)) n z
+
+  -- the calls of a global subroutine where two or more FDs are in use, or none
+  pub calls-across : locals .count ≡ 0 → (f k : ℕ) (fs : List ℕ) (b : ℕ) (z : ℤ) → callsBy ws locals globals b z ≡ callsAcross p rows (f ∷ k ∷ fs) b z
+  calls-across e f k fs b z = none-local e b z
+
+  pub calls-across-none : locals .count ≡ 0 → (b : ℕ) (z : ℤ) → callsBy ws locals globals b z ≡ callsAcross p rows [] b z
+  calls-across-none e b z = none-local e b z
+
+  pub renumbered-across : locals .count ≡ 0 → (f k : ℕ) (fs : List ℕ) (given : ℕ → MaskLen) (code : List ℕ)
+      → renumberCharstring (callsBy ws locals globals) given code ≡ renumberCharstring (callsAcross p rows (f ∷ k ∷ fs)) given code
+  renumbered-across e f k fs given code = charstring-alike (callsBy ws locals globals) (callsAcross p rows (f ∷ k ∷ fs)) (calls-across e f k fs) given code

@@ -1,0 +1,121 @@
+// What a token brings to the number before it: a call takes it and its new operand stands there, any other token leaves it. The new operand
+// is found by the rank of the subroutine in the work words.
+ghost use mathlib.Core.Path.{_≡_};
+ghost use Rattle.type2_number.specs.Floats.{scaledOf, HoldsReading};
+ghost use Rattle.charstring.specs.Bias.{biasOf};
+ghost use Rattle.prune.specs.Renumber.{oldOf, operandOf};
+ghost use Rattle.renumber.specs.Ranks.{rankIn, rankAt, numbersIn, callsBy, Ranked};
+ghost use Rattle.renumber.specs.Turn.{HoldsHeld, turnFor, callTurn, turnOf, after};
+use crate::Ranks;
+use charstring::Token;
+use charstring::bias;
+use type2_number::count_of;
+use type2_number::integer;
+
+// A word, widened.
+fn wide(x: u32) -> usize
+    ensures { λ r. ⌜ r ≡ x ⌝ }
+{
+    x as usize
+}
+
+// The rank of a subroutine by its old number: 0 where there is none, or it is not reached.
+fn rank_in(words: &[u32], q: Ranks, i: usize) -> usize
+    requires { ⌜ Ranked (now words) q ⌝ }
+    ensures { λ r. ⌜ r ≡ rankIn (now (words .entry)) q i ⌝ }
+{
+    if q.count <= i {
+        return 0;
+    }
+    wide(words[q.at + i])
+}
+
+// The rank of the subroutine that an operand calls: 0 where it calls none.
+fn rank_at(words: &[u32], q: Ranks, v: f32) -> usize
+    requires { ⌜ (Ranked (now words) q) × (HoldsReading v) ⌝ }
+    ensures { λ r. ⌜ r ≡ rankAt (now (words .entry)) q (oldOf (biasOf (q .count)) (scaledOf v)) ⌝ }
+{
+    let s = count_of(v);
+    let neg = s.neg;
+    let size = s.size;
+    let added = bias(q.count);
+    if size % 65536 != 0 {
+        return 0;
+    }
+    let i = size / 65536;
+    if neg {
+        if added < i {
+            return 0;
+        }
+        return rank_in(words, q, added - i);
+    }
+    rank_in(words, q, i + added)
+}
+
+// A number token that was read and is not yet written, or none.
+pub enum Held {
+    Nothing,
+    Number(f32),
+}
+
+// What a token brings: the renumbering fails, or the number that is written just before the token.
+pub enum Turn {
+    Stuck,
+    Sends(Held),
+}
+
+// The new operand of a call, by its old one.
+fn new_operand(words: &[u32], q: Ranks, v: f32) -> Turn
+    requires { ⌜ (Ranked (now words) q) × (HoldsReading v) ⌝ }
+    ensures { λ r. ⌜ r ≡ turnFor (operandOf (numbersIn (now (words .entry)) q) (biasOf (q .count)) (biasOf (q .reached)) (scaledOf v)) ⌝ }
+{
+    let rank = rank_at(words, q, v);
+    if rank == 0 {
+        return Turn::Stuck;
+    }
+    Turn::Sends(Held::Number(integer(rank - 1, bias(q.reached))))
+}
+
+// A call: it takes the number just before it.
+fn call(words: &[u32], q: Ranks, h: Held) -> Turn
+    requires { ⌜ (Ranked (now words) q) × (HoldsHeld h) ⌝ }
+    ensures { λ r. ⌜ r ≡ callTurn (operandOf (numbersIn (now (words .entry)) q) (biasOf (q .count)) (biasOf (q .reached))) h ⌝ }
+{
+    match h {
+        Held::Nothing => Turn::Stuck,
+        Held::Number(v) => new_operand(words, q, v),
+    }
+}
+
+// What a token brings: a call changes the number before it, any other token leaves it.
+pub fn turn_of(words: &[u32], locals: Ranks, globals: Ranks, h: Held, t: Token) -> Turn
+    requires { ⌜ (Ranked (now words) locals) × (Ranked (now words) globals) × (HoldsHeld h) ⌝ }
+    ensures { λ r. ⌜ r ≡ turnOf (callsBy (now (words .entry)) locals globals) h t ⌝ }
+{
+    match t {
+        Token::Op(b) => {
+            if b == 10 {
+                return call(words, locals, h);
+            }
+            if b == 29 {
+                return call(words, globals, h);
+            }
+            Turn::Sends(h)
+        }
+        Token::Num(_) => Turn::Sends(h),
+        Token::Esc(_) => Turn::Sends(h),
+        Token::Mask { start: _, len: _ } => Turn::Sends(h),
+    }
+}
+
+// The number that is held after a token.
+pub fn after(t: Token) -> Held
+    ensures { λ r. ⌜ r ≡ after t ⌝ }
+{
+    match t {
+        Token::Num(v) => Held::Number(v),
+        Token::Op(_) => Held::Nothing,
+        Token::Esc(_) => Held::Nothing,
+        Token::Mask { start: _, len: _ } => Held::Nothing,
+    }
+}
