@@ -1,0 +1,43 @@
+-- `bodies::subrs::subr_len` meets its contract: one that is not written has no bytes.
+use Prim.Native.Nat.{ℕ}
+use mathlib.Core.Path.{sym, _∙_}
+use mathlib.Core.Bool.{Bool}
+use mathlib.Core.List.{List}
+use borrow.Author.Needs.{needs}
+use denote.Ref.{now}
+use Rattle.index.specs.Index.{itemsOf}
+use Rattle.record.specs.Record.{rowsOf}
+use Rattle.subset.specs.Pruned.{May}
+use Rattle.renumber.specs.Ranks.{callsBy}
+use Rattle.bodies.specs.Ways.{reachedIn, siteIn, isKept, subrBy}
+use Rattle.bodies.specs.CodeLaws.{len-kept, len-left}
+use Rattle.bodies.proofs.subrs.subr_len.Statement.{statement}
+use Rattle.bodies.proofs.subrs.subr_len.Tie as tie
+
+-- which are written, and what each is
+abbrev T : tie.Start → ℕ → Bool
+T s = isKept (s .args .way) (reachedIn (now (s .args .words)) (s .args .own))
+
+abbrev F : tie.Start → ℕ → May (List ℕ)
+F s =
+    subrBy (s .args .way) (rowsOf (now (s .args .rows))) (reachedIn (now (s .args .words)) (s .args .own))
+    (callsBy (now (s .args .words)) (s .args .locals) (s .args .globals)) (siteIn (s .args .of)) (itemsOf (now (s .args .font)) (s .args .ix))
+
+is-kept-requires : tie.Need-is-kept-requires
+is-kept-requires c κs = search needs
+
+written-len-requires : tie.Need-written-len-requires
+written-len-requires c κs = search needs
+
+returns : tie.Need-returns
+returns c =
+    let s = c .before .before .before .before .before .before in
+    len-kept (T s) (F s) (s .args .k) 335544320 (sym (c .before .before .is-kept .ensures) ∙ c .before .if1 .taken) _ (c .written-len .ensures)
+
+returns-2 : tie.Need-returns-2
+returns-2 c =
+    let s = c .before .before .before .before .before in
+    len-left (T s) (F s) (s .args .k) 335544320 (sym (c .before .is-kept .ensures) ∙ c .if1 .left)
+
+pub subr-len-spec : {M : Type 1} → statement M
+subr-len-spec = tie.close (tie.spec is-kept-requires written-len-requires returns returns-2)

@@ -1,0 +1,159 @@
+-- The charstrings and subroutines of a subset, by the way (document 01, 'Corners in write.rs'): 0 renumbered, 1 stubbed, 2 copied; the new
+-- numbers of subroutines stand in the work words.
+use Prim.Native.Nat.{ℕ, _+_, _%_, _≤_, _<_}
+use mathlib.Core.Path.{_≡_}
+use mathlib.Core.Bool.{Bool, true, false, not}
+use mathlib.Core.List.{List, [], _∷_}
+use lib.Dec.{ltb, eqb}
+use lib.ListN.{length, getD}
+use Rattle.octets.specs.Pick.{pick}
+use Rattle.index.specs.Good.{Good}
+use Rattle.index.specs.Write.{total, indexBytes}
+use Rattle.index.specs.declared.Index.{Index}
+use Rattle.unfold.specs.Unfold.{Row, Site, glyph, local, global}
+use Rattle.prune.specs.Renumber.{Calls}
+use Rattle.subset.specs.Kept.{those}
+use Rattle.subset.specs.Pruned.{May, fail, yes, each, mapped, countBelow, renumberedBody, renumberedSubrs, stubbedFrom}
+use Rattle.reach.specs.Reach.{rises}
+use Rattle.renumber.specs.Ranks.{callsBy, Ranked}
+use Rattle.renumber.specs.Turn.{bodyOf}
+use Rattle.renumber.specs.declared.Ranks.{Ranks}
+use Rattle.bodies.specs.declared.Measured.{Measured}
+use Rattle.bodies.specs.declared.Measured.the-variants.{Failed, Total}
+use Rattle.bodies.specs.declared.subrs.Subrs.{Subrs}
+use Rattle.bodies.specs.declared.subrs.Subrs.the-variants.{Global, Local}
+use Rattle.bodies.specs.declared.charstrings.Kept.{Kept}
+
+-- the bodies of some, whether there are any, and how many bytes they have together
+abbrev pub manyOf : May (List (List ℕ)) → List (List ℕ)
+manyOf fail = []
+manyOf (yes l) = l
+
+abbrev pub holds : {A : Type 0} → May A → Bool
+holds fail = false
+holds (yes a) = true
+
+abbrev pub measuredOf : May (List (List ℕ)) → Measured
+measuredOf fail = Failed
+measuredOf (yes l) = Total (total l)
+
+-- some bodies that do not fail, and room for their INDEX from a place on
+pub record Room (bodies : May (List (List ℕ))) (sum at room : ℕ) : Type 0 where
+  pub done : holds bodies ≡ true
+  pub is : sum ≡ total (manyOf bodies)
+  pub few : sum < 4294967295
+  pub early : at < 4294967296
+  pub fits : at + length (indexBytes (manyOf bodies)) ≤ room
+
+-- ---- subroutines
+
+-- a charstring or subroutine by the way; the same, or that its renumbering fails
+abbrev pub newBody : ℕ → List Row → Calls → Site → List ℕ → List ℕ
+newBody way rows calls site s = pick (eqb way 0) (bodyOf (renumberedBody rows calls site s)) s
+
+abbrev pub bodyBy : ℕ → List Row → Calls → Site → List ℕ → May (List ℕ)
+bodyBy way rows calls site s = pick (eqb way 0) (renumberedBody rows calls site s) (yes s)
+
+-- the subroutines of an INDEX by the way, of which the set is reached; the same, or that their renumbering fails
+abbrev pub newSubrs : ℕ → List Row → (ℕ → Bool) → Calls → (ℕ → Site) → List (List ℕ) → List (List ℕ)
+newSubrs way rows set calls site subrs =
+    pick (eqb way 0) (manyOf (renumberedSubrs rows set calls site subrs)) (pick (eqb way 1) (stubbedFrom set 0 subrs) subrs)
+
+abbrev pub subrsBy : ℕ → List Row → (ℕ → Bool) → Calls → (ℕ → Site) → List (List ℕ) → May (List (List ℕ))
+subrsBy way rows set calls site subrs =
+    pick (eqb way 0) (renumberedSubrs rows set calls site subrs) (yes (pick (eqb way 1) (stubbedFrom set 0 subrs) subrs))
+
+-- what the ranks in the words say is reached
+abbrev pub reachedIn : List ℕ → Ranks → ℕ → Bool
+reachedIn ws own k = pick (ltb k (own .count)) (not (eqb (getD ws (own .at + k) 0) 0)) false
+
+-- the k-th of the globals, or of the locals of an FD, as the record names it
+abbrev pub siteIn : Subrs → ℕ → Site
+siteIn Global k = global k
+siteIn (Local fd) k = local fd k
+
+-- an FD that a row can hold
+abbrev pub SubrsFit : Subrs → Type 0
+SubrsFit Global = Unit
+SubrsFit (Local fd) = fd < 256
+
+-- which subroutines are written: all, or those reached
+abbrev pub isKept : ℕ → (ℕ → Bool) → ℕ → Bool
+isKept way set k = pick (eqb way 0) (set k) true
+
+-- which of them stand as a return
+abbrev pub isStub : ℕ → (ℕ → Bool) → ℕ → Bool
+isStub way set k = pick (eqb way 1) (not (set k)) false
+
+-- a subroutine as it is written
+abbrev pub subrBy : ℕ → List Row → (ℕ → Bool) → Calls → (ℕ → Site) → List (List ℕ) → ℕ → May (List ℕ)
+subrBy way rows set calls site subrs k = pick (isStub way set k) (yes (11 ∷ [])) (bodyBy way rows calls (site k) (getD subrs k []))
+
+-- how many are written
+abbrev pub keptCount : ℕ → ℕ → ℕ → ℕ
+keptCount way reached count = pick (eqb way 0) reached count
+
+-- what the subroutines ask: an INDEX of the font, ranks in the words, rows in order where that is said
+pub record SubrsIn (b ws : List ℕ) (ix : Index) (own locals globals : Ranks) (rows : List Row) (rising : Bool) (of : Subrs) : Type 0 where
+  pub good : Good b ix
+  pub few : ix .count < 65536
+  pub size : length b ≤ 67108864
+  pub many : own .count ≡ ix .count
+  pub inside : own .at + own .count ≤ length ws
+  pub localRanks : Ranked ws locals
+  pub globalRanks : Ranked ws globals
+  pub order : rising ≡ true → rises rows ≡ true
+  pub fits : SubrsFit of
+
+-- ---- charstrings
+
+-- the glyph of the i-th word, and its FD: in a CID-keyed font the word from n on
+abbrev pub glyphAt : List ℕ → ℕ → ℕ
+glyphAt ws i = getD ws i 0 % 65536
+
+abbrev pub fdAt : Bool → List ℕ → ℕ → ℕ → ℕ
+fdAt cid ws n i = pick cid (getD ws (n + i) 0) 0
+
+-- the ranks of the locals of an FD by three tables: where they stand, how many, how many reached
+abbrev pub ranksIn : List ℕ → List ℕ → List ℕ → ℕ → Ranks
+ranksIn ats counts reacheds fd = record { at = getD ats fd 0; count = getD counts fd 0; reached = getD reacheds fd 0 }
+
+-- the numbers below k
+abbrev pub every : ℕ → Bool
+every i = true
+
+abbrev pub upTo : ℕ → List ℕ
+upTo k = those every k 0
+
+module _ (way : ℕ) (rows : List Row) (cid : Bool) (ws : List ℕ) (n : ℕ) (ats counts reacheds : List ℕ) (globals : Ranks) (items : List (List ℕ)) where
+  -- the calls of the i-th kept glyph
+  abbrev pub callsAt : ℕ → Calls
+  callsAt i = callsBy ws (ranksIn ats counts reacheds (fdAt cid ws n i)) globals
+
+  -- its charstring by the way, or that its renumbering fails
+  abbrev pub charstringBy : ℕ → May (List ℕ)
+  charstringBy i = bodyBy way rows (callsAt i) (glyph (glyphAt ws i)) (getD items (glyphAt ws i) [])
+
+  -- those of the k kept glyphs; the same, or that their renumbering fails
+  abbrev pub newCharstrings : ℕ → List (List ℕ)
+  newCharstrings k = mapped (λ i. newBody way rows (callsAt i) (glyph (glyphAt ws i)) (getD items (glyphAt ws i) [])) (upTo k)
+
+  abbrev pub charstringsBy : ℕ → May (List (List ℕ))
+  charstringsBy k = each charstringBy (upTo k)
+
+-- what the charstrings ask
+pub record CharstringsIn (b ws : List ℕ) (ix : Index) (kept : Kept) (ats counts reacheds : List ℕ) (globals : Ranks) (rows : List Row) (rising : Bool) : Type 0 where
+  pub good : Good b ix
+  pub few : ix .count < 65536
+  pub size : length b ≤ 67108864
+  pub keptFew : kept .count < 65536
+  pub inside : kept .count ≤ length ws
+  pub fdsInside : kept .cid ≡ true → kept .all + kept .count ≤ length ws
+  pub atsLong : 256 ≤ length ats
+  pub countsLong : 256 ≤ length counts
+  pub reachedsLong : 256 ≤ length reacheds
+  pub glyphs : (i : ℕ) → i < kept .count → glyphAt ws i < ix .count
+  pub fds : (i : ℕ) → i < kept .count → fdAt (kept .cid) ws (kept .all) i < 256
+  pub localRanks : (i : ℕ) → i < kept .count → Ranked ws (ranksIn ats counts reacheds (fdAt (kept .cid) ws (kept .all) i))
+  pub globalRanks : Ranked ws globals
+  pub order : rising ≡ true → rises rows ≡ true
