@@ -6,3 +6,4 @@ pub mod WritingLaws
 pub mod SubrsLaws
 pub mod WaysLaws
 pub mod CodeLaws
+pub mod CharstringsLaws

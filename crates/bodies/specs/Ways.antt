@@ -147,8 +147,7 @@ pub record CharstringsIn (b ws : List ℕ) (ix : Index) (kept : Kept) (ats count
   pub few : ix .count < 65536
   pub size : length b ≤ 67108864
   pub keptFew : kept .count < 65536
-  pub inside : kept .count ≤ length ws
-  pub fdsInside : kept .cid ≡ true → kept .all + kept .count ≤ length ws
+  pub inside : kept .all + kept .count ≤ length ws
   pub atsLong : 256 ≤ length ats
   pub countsLong : 256 ≤ length counts
   pub reachedsLong : 256 ≤ length reacheds

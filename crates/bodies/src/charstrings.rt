@@ -41,7 +41,7 @@ fn glyph_at(words: &[u32], i: usize) -> usize
 
 // Its FD.
 fn fd_at(words: &[u32], cid: bool, n: usize, i: usize) -> usize
-    requires { ⌜ (cid ≡ true → n + i < length (now words)) ⌝ }
+    requires { ⌜ n + i < length (now words) ⌝ }
     ensures { λ r. ⌜ r ≡ fdAt cid (now (words .entry)) n i ⌝ }
 {
     if cid {
@@ -83,7 +83,16 @@ fn charstring_len(
     let g = glyph_at(words, i);
     let fd = fd_at(words, kept.cid, kept.all, i);
     let locals = ranks_in(ats, counts, reacheds, fd);
-    crate::body_len(way, index::item(font, ix, g), words, locals, globals, rows, rising, Site::Glyph(g))
+    crate::body_len(
+        way,
+        index::item(font, ix, g),
+        words,
+        locals,
+        globals,
+        rows,
+        rising,
+        Site::Glyph(g),
+    )
 }
 
 // The bytes of the charstrings together, by the way; or that their renumbering fails.
@@ -108,7 +117,20 @@ pub fn charstrings_total(
     let mut total: usize = 0;
     let mut i: usize = 0;
     while i < n {
-        match charstring_len(way, font, ix, words, kept, ats, counts, reacheds, globals, rows, rising, i) {
+        match charstring_len(
+            way,
+            font,
+            ix,
+            words,
+            kept,
+            ats,
+            counts,
+            reacheds,
+            globals,
+            rows,
+            rising,
+            i,
+        ) {
             Sized::Len(len) => {
                 total += len;
                 i += 1;
@@ -148,7 +170,18 @@ fn put_charstring(
     let g = glyph_at(words, i);
     let fd = fd_at(words, kept.cid, kept.all, i);
     let locals = ranks_in(ats, counts, reacheds, fd);
-    crate::put_body(way, index::item(font, ix, g), words, locals, globals, rows, rising, Site::Glyph(g), out, at)
+    crate::put_body(
+        way,
+        index::item(font, ix, g),
+        words,
+        locals,
+        globals,
+        rows,
+        rising,
+        Site::Glyph(g),
+        out,
+        at,
+    )
 }
 
 // Their INDEX, from `at` on; the place after it.
@@ -180,7 +213,22 @@ pub fn put_charstrings(
     let mut p = to.base + 1;
     let mut i: usize = 0;
     while i < n {
-        p = put_charstring(way, font, ix, words, kept, ats, counts, reacheds, globals, rows, rising, i, &mut *out, p);
+        p = put_charstring(
+            way,
+            font,
+            ix,
+            words,
+            kept,
+            ats,
+            counts,
+            reacheds,
+            globals,
+            rows,
+            rising,
+            i,
+            &mut *out,
+            p,
+        );
         index::put_end(out, to, i, p);
         i += 1;
     }

@@ -99,7 +99,16 @@ fn written_len(
         return Sized::Len(1);
     }
     let site = site_in(of, k);
-    crate::body_len(way, index::item(font, ix, k), words, locals, globals, rows, rising, site)
+    crate::body_len(
+        way,
+        index::item(font, ix, k),
+        words,
+        locals,
+        globals,
+        rows,
+        rising,
+        site,
+    )
 }
 
 // The same, 0 for a subroutine that is not written.
@@ -121,7 +130,19 @@ fn subr_len(
         (callsBy (now (words .entry)) locals globals) (siteIn of) (itemsOf (now (font .entry)) ix)) k) × (AtMost 335544320 r) ⌝ }
 {
     if is_kept(way, words, own, k) {
-        return written_len(way, font, ix, words, own, locals, globals, rows, rising, of, k);
+        return written_len(
+            way,
+            font,
+            ix,
+            words,
+            own,
+            locals,
+            globals,
+            rows,
+            rising,
+            of,
+            k,
+        );
     }
     Sized::Len(0)
 }
@@ -147,7 +168,19 @@ pub fn subrs_total(
     let mut total: usize = 0;
     let mut k: usize = 0;
     while k < n {
-        match subr_len(way, font, ix, words, own, locals, globals, rows, rising, of, k) {
+        match subr_len(
+            way,
+            font,
+            ix,
+            words,
+            own,
+            locals,
+            globals,
+            rows,
+            rising,
+            of,
+            k,
+        ) {
             Sized::Len(len) => {
                 total += len;
                 k += 1;
@@ -187,7 +220,18 @@ fn put_subr(
         return octets::put_num(out, at, 11, 1);
     }
     let site = site_in(of, k);
-    crate::put_body(way, index::item(font, ix, k), words, locals, globals, rows, rising, site, out, at)
+    crate::put_body(
+        way,
+        index::item(font, ix, k),
+        words,
+        locals,
+        globals,
+        rows,
+        rising,
+        site,
+        out,
+        at,
+    )
 }
 
 // The number of subroutines that are written.
@@ -232,7 +276,21 @@ pub fn put_subrs(
     let mut k: usize = 0;
     while k < n {
         if is_kept(way, words, own, k) {
-            p = put_subr(way, font, ix, words, own, locals, globals, rows, rising, of, k, &mut *out, p);
+            p = put_subr(
+                way,
+                font,
+                ix,
+                words,
+                own,
+                locals,
+                globals,
+                rows,
+                rising,
+                of,
+                k,
+                &mut *out,
+                p,
+            );
             index::put_end(out, to, j, p);
             j += 1;
             k += 1;

@@ -70,7 +70,7 @@ put-head-requires c κs =
     let s = S₀ x in (
       s .pre .1 .few,
       head-fits (B s) (F s) every (s .args .kept .count) refl (s .pre .1 .done) (now (s .args .out)) (s .args .at) (s .args .kept .count) (s .args .total) (x .index-for .result)
-      (s .pre .1) (x .index-for .ensures) (sym (count-every (s .args .kept .count))),
+          (s .pre .1) (x .index-for .ensures) (sym (count-every (s .args .kept .count))),
     )
 
 add-p : tie.Need-add-p Inv-loop μ-loop

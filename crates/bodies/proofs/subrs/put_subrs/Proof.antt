@@ -93,7 +93,7 @@ put-head-requires c κs =
     let s = S₀ (x .before) in (
       s .pre .2 .few,
       head-fits (B s) (F s) (T s) (s .args .ix .count) (same s) (s .pre .2 .done) (now (s .args .out)) (s .args .at) (x .before .kept-count .result) (s .args .total) (x .index-for .result)
-      (s .pre .2) (x .index-for .ensures) (many (x .before)),
+          (s .pre .2) (x .index-for .ensures) (many (x .before)),
     )
 
 add-p : tie.Need-add-p Inv-loop μ-loop

@@ -47,9 +47,9 @@ returns-2 c =
     let s = d .before .before .before .before .before in
     let e = c .body-len .ensures in (
       subr-len (s .args .way) (rowsOf (now (s .args .rows))) (R s) (C s) (s .args .of) (itemsOf (now (s .args .font)) (s .args .ix)) (s .args .k)
-      (siteOf (c .before .before .site-in .result)) (now (c .before .item .result)) (c .before .before .site-in .ensures .0) (c .before .item .ensures)
-      (sym (d .before .is-stub .ensures) ∙ d .if1 .left) _ (e .0),
-      item-bound (now (s .args .font)) (s .args .ix) (s .pre .0 .good) (s .pre .0 .size) (s .args .k) (s .pre .1) (now (c .before .item .result)) (c .before .item .ensures) _ (e .1),
+          (siteOf (c .before .before .site-in .result)) (now (c .before .item .result)) (c .before .before .site-in .ensures .0) (c .before .item .ensures)
+          (sym (d .before .is-stub .ensures) ∙ d .if1 .left) _ (e .0),
+      item-bound (now (s .args .font)) (s .args .ix) (s .pre .0 .good) (s .pre .0 .size) (s .args .k) (s .pre .1) (now (c .before .item .result)) (c .before .item .ensures) (c .body-len .result) (e .1),
     )
 
 pub written-len-spec : {M : Type 1} → statement M
