@@ -103,7 +103,7 @@ module _ (way : ℕ) (b : List ℕ) (p : Program) (rows : List Row) (ws : List �
         fits = w .below;
       }
 
-  items-are : itemsOf b (q .locals) ≡ localsOf p f
+  pub items-are : itemsOf b (q .locals) ≡ localsOf p f
   items-are = ap (λ (x : Private). x .locals) (g .1)
 
   pub total-is : (r : Measured)
