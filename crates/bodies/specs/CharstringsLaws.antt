@@ -1,6 +1,6 @@
 -- Laws of one charstring, as the code takes it: the glyph and its FD by the words, the ranks of its local subroutines by the tables.
 use Prim.Native.Nat.{ℕ, _+_, _*_, _≤_, _<_}
-use mathlib.Core.Path.{_≡_, refl, sym, ap, _∙_, subst}
+use mathlib.Core.Path.{_≡_, sym, ap, _∙_, subst}
 use mathlib.Core.Bool.{Bool, true}
 use mathlib.Core.List.{List, []}
 use native.Mathlib.Omega.{arith}

@@ -1,11 +1,11 @@
 -- Laws of one body, by the cases in which the code takes it: the way, and whether a subroutine is reached.
 use Prim.Native.Nat.{ℕ, _+_, _*_, _≤_, _<_}
-use mathlib.Core.Path.{_≡_, refl, sym, ap, _∙_, subst}
+use mathlib.Core.Path.{_≡_, sym, ap, _∙_, subst}
 use mathlib.Core.Bool.{Bool, true, false, not}
 use mathlib.Core.List.{List, [], _∷_}
 use native.Mathlib.Omega.{arith}
 use borrow.Author.Tests.{lt-ltb, eq-eqb, ne-eqb}
-use lib.Dec.{ltb, eqb}
+use lib.Dec.{eqb}
 use lib.ListN.{length, getD}
 use Rattle.octets.specs.Pick.{pick}
 use Rattle.octets.specs.Octets.{Octets, bytesOf, Wrote}
@@ -24,7 +24,7 @@ use Rattle.renumber.specs.OperandLaws.{calls-read}
 use Rattle.renumber.specs.Turn.{Inputs, sizedOf, bodyOf, isYes}
 use Rattle.renumber.specs.declared.Ranks.{Ranks}
 use Rattle.renumber.specs.declared.Sized.{Sized}
-use Rattle.renumber.specs.declared.Sized.the-variants.{Failed, Len}
+use Rattle.renumber.specs.declared.Sized.the-variants.{Len}
 use Rattle.bodies.specs.Ways.{holds, newBody, bodyBy, subrBy, reachedIn, isKept, isStub, keptCount, siteIn, SubrsFit, SubrsIn}
 use Rattle.bodies.specs.Sizes.{AtMost, lenAt}
 use Rattle.bodies.specs.SizesLaws.{renumbered-short, at-most-more}

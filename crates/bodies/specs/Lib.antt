@@ -1,9 +1,12 @@
 pub mod Ways
+pub mod Sources
 pub mod Sizes
 pub mod Pruning
+pub mod Examples
 pub mod SizesLaws
 pub mod WritingLaws
 pub mod SubrsLaws
 pub mod WaysLaws
 pub mod CodeLaws
 pub mod CharstringsLaws
+pub mod RecordLaws

@@ -19,6 +19,11 @@ abbrev pub AtMost : ℕ → Sized → Type 0
 AtMost n Failed = Unit
 AtMost n (Len m) = m ≤ n
 
+-- a sum of at most 65,535 such lengths, each of five times a font
+abbrev pub Bounded : Measured → Type 0
+Bounded FailedAll = Unit
+Bounded (Total t) = t ≤ 21989897011200
+
 -- some bodies after others that have t bytes together
 abbrev pub addedTo : ℕ → May (List (List ℕ)) → Measured
 addedTo t fail = FailedAll

@@ -2,10 +2,9 @@
 use Prim.Native.Nat.{ℕ, zero, suc, _+_, _-_, _*_, _≤_, _<_}
 use mathlib.Core.Path.{_≡_, refl, sym, ap, _∙_, subst}
 use mathlib.Core.Bool.{Bool, true, false}
-use mathlib.Core.List.{List, [], _∷_}
+use mathlib.Core.List.{List, _∷_}
 use native.Mathlib.Nat.{le-refl}
 use native.Mathlib.Omega.{arith}
-use lib.Dec.{eqb}
 use lib.IntN.{ℤ}
 use lib.ListN.{length}
 use Rattle.octets.specs.Pick.{pick, pick-ind}
@@ -13,7 +12,6 @@ use Rattle.octets.specs.Octets.{Octets}
 use Rattle.type2_number.specs.Number.{Reading}
 use Rattle.index.specs.Write.{total}
 use Rattle.charstring.specs.declared.MaskLen.{MaskLen}
-use Rattle.charstring.specs.declared.Token.{Token}
 use Rattle.charstring.specs.declared.Cursor.{Cursor}
 use Rattle.charstring.specs.Token.{more, tokenAt, start}
 use Rattle.charstring.specs.Answers.{stepOf, givenAt}
@@ -32,9 +30,8 @@ use Rattle.renumber.specs.declared.Turned.{Turned}
 use Rattle.renumber.specs.declared.Turned.the-variants.{Failed as FailedAt, On}
 use Rattle.renumber.specs.declared.Sized.{Sized}
 use Rattle.renumber.specs.declared.Sized.the-variants.{Failed, Len}
-use Rattle.bodies.specs.Ways.{measuredOf, bodyBy}
+use Rattle.bodies.specs.Ways.{measuredOf}
 use Rattle.bodies.specs.Sizes.{AtMost, addedTo, lenAt, Adding}
-use Rattle.bodies.specs.declared.Measured.{Measured}
 use Rattle.bodies.specs.declared.Measured.the-variants.{Failed as FailedAll, Total}
 
 -- ---- one body
@@ -152,3 +149,6 @@ module _ (f : ℕ → May (List ℕ)) (test : ℕ → Bool) (n : ℕ) where
     -- the sum stays small
     pub adding-room : k < n → n < 65536 → (l : ℕ) (r : Sized) → AtMost 335544320 r → r ≡ Len l → t + l < 18446744073709551616
     adding-room h few l r m g = let q : l ≤ 335544320 = subst (AtMost 335544320) g m in omega (arith, w .small)
+
+    pub adding-small : n < 65536 → t ≤ 21989897011200
+    adding-small few = omega (arith, w .small, w .among)

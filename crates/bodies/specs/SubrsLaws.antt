@@ -5,7 +5,7 @@ use mathlib.Core.Bool.{Bool, true, false, not}
 use mathlib.Core.List.{List, [], _∷_}
 use native.Mathlib.Decide.{decLe}
 use native.Mathlib.Omega.{arith}
-use borrow.Author.Tests.{le-ltb, eqb-true, eqb-false, eq-eqb, ne-eqb}
+use borrow.Author.Tests.{le-ltb, eqb-true, eq-eqb, ne-eqb}
 use lib.Dec.{eqb}
 use lib.ListN.{length, getD}
 use Rattle.octets.specs.Pick.{pick}
@@ -19,7 +19,7 @@ use Rattle.subset.specs.Kept.{those}
 use Rattle.subset.specs.Pruned.{May, fail, yes as made, and, each, mapped, countBelow, reached, renumberedBody, renumberedSubrs, stubbedFrom}
 use Rattle.renumber.specs.Turn.{bodyOf}
 use Rattle.renumber.specs.declared.Ranks.{Ranks}
-use Rattle.bodies.specs.Ways.{manyOf, holds, newBody, bodyBy, newSubrs, subrsBy, subrBy, reachedIn, isKept, isStub, keptCount, every, SubrsIn}
+use Rattle.bodies.specs.Ways.{manyOf, holds, newBody, bodyBy, newSubrs, subrsBy, subrBy, reachedIn, isKept, keptCount, every, SubrsIn}
 use Rattle.bodies.specs.WritingLaws.{count-every, items-many}
 use Rattle.bodies.specs.declared.subrs.Subrs.{Subrs}
 

@@ -13,7 +13,7 @@ use Rattle.index.specs.declared.Index.{Index}
 use Rattle.unfold.specs.Unfold.{Row, Site, glyph, local, global}
 use Rattle.prune.specs.Renumber.{Calls}
 use Rattle.subset.specs.Kept.{those}
-use Rattle.subset.specs.Pruned.{May, fail, yes, each, mapped, countBelow, renumberedBody, renumberedSubrs, stubbedFrom}
+use Rattle.subset.specs.Pruned.{May, fail, yes, each, mapped, renumberedBody, renumberedSubrs, stubbedFrom}
 use Rattle.reach.specs.Reach.{rises}
 use Rattle.renumber.specs.Ranks.{callsBy, Ranked}
 use Rattle.renumber.specs.Turn.{bodyOf}

@@ -3,20 +3,20 @@ use Prim.Native.Nat.{ℕ}
 use mathlib.Core.Path.{_≡_, refl, sym, ap, _∙_, fun-ext}
 use mathlib.Core.Bool.{Bool, true, false}
 use mathlib.Core.List.{List, [], _∷_}
+use borrow.Author.Tests.{eqb-true}
 use lib.Dec.{eqb}
 use lib.IntN.{ℤ}
 use lib.ListN.{getD}
 use Rattle.octets.specs.Pick.{pick}
-use Rattle.unfold.specs.Unfold.{Row, Site, glyph, local, global}
+use Rattle.unfold.specs.Unfold.{Row, Site, glyph}
 use Rattle.prune.specs.Renumber.{Calls}
 use Rattle.prune.specs.StepLaws.{zero-one}
 use Rattle.cff.specs.Font.{Program}
-use Rattle.subset.specs.Kept.{localsOf}
-use Rattle.subset.specs.Pruned.{Bodies, May, fail, yes, and, each, mapped, localSet, globalSet, callsIn, callsAcross, renumbered, stubbed, copied, Pruned, orStubbed, pruned}
+use Rattle.subset.specs.Pruned.{Bodies, May, fail, yes, and, each, mapped, renumbered, stubbed, copied, orStubbed, pruned}
 use Rattle.faithful.specs.EachLaws.{and-yes}
 use Rattle.faithful.specs.RenumberedLaws.{renews}
 use Rattle.renumber.specs.Turn.{bodyOf}
-use Rattle.bodies.specs.Ways.{manyOf, holds, newBody, bodyBy, newSubrs, callsAt, glyphAt, upTo, charstringBy, newCharstrings, charstringsBy}
+use Rattle.bodies.specs.Ways.{manyOf, holds, newBody, bodyBy, newSubrs, subrsBy, callsAt, glyphAt, upTo, charstringBy, newCharstrings, charstringsBy}
 use Rattle.bodies.specs.SubrsLaws.{new-body-is}
 use Rattle.bodies.specs.Pruning.{allHold, renumberedGlobals, renumberedLocals, renumberedGlyph, bodiesBy, renumbers, wayOf}
 use Rattle.renumber.specs.declared.Ranks.{Ranks}
@@ -31,11 +31,30 @@ new-subrs-alike way rows set set' calls calls' site subrs same alike =
     let f : calls ≡ calls' = fun-ext (λ b. fun-ext (alike b)) in
     ap (λ (s : ℕ → Bool). newSubrs way rows s calls site subrs) e ∙ ap (λ (c : Calls). newSubrs way rows set' c site subrs) f
 
-pub new-body-alike : (way : ℕ) (rows : List Row) (calls calls' : Calls) (site : Site) (s : List ℕ)
-    → ((b : ℕ) (z : ℤ) → calls b z ≡ calls' b z) → newBody way rows calls site s ≡ newBody way rows calls' site s
-new-body-alike way rows calls calls' site s alike =
+-- the same, or that their renumbering fails
+pub subrs-by-alike : (way : ℕ) (rows : List Row) (set set' : ℕ → Bool) (calls calls' : Calls) (site : ℕ → Site) (subrs : List (List ℕ))
+    → ((k : ℕ) → set k ≡ set' k) → ((b : ℕ) (z : ℤ) → calls b z ≡ calls' b z)
+    → subrsBy way rows set calls site subrs ≡ subrsBy way rows set' calls' site subrs
+subrs-by-alike way rows set set' calls calls' site subrs same alike =
+    let e : set ≡ set' = fun-ext same in
     let f : calls ≡ calls' = fun-ext (λ b. fun-ext (alike b)) in
-    ap (λ (c : Calls). newBody way rows c site s) f
+    ap (λ (s : ℕ → Bool). subrsBy way rows s calls site subrs) e ∙ ap (λ (c : Calls). subrsBy way rows set' c site subrs) f
+
+-- a body, whose calls matter only where it is renumbered
+pub body-by-alike : (way : ℕ) (rows : List Row) (calls calls' : Calls) (site : Site) (s : List ℕ)
+    → (way ≡ 0 → (b : ℕ) (z : ℤ) → calls b z ≡ calls' b z) → bodyBy way rows calls site s ≡ bodyBy way rows calls' site s
+body-by-alike way rows calls calls' site s alike = go (eqb way 0) refl
+  where
+    go : (t : Bool) → eqb way 0 ≡ t → bodyBy way rows calls site s ≡ bodyBy way rows calls' site s
+    go true e =
+        let f : calls ≡ calls' = fun-ext (λ b. fun-ext (alike (eqb-true way 0 e) b)) in
+        ap (λ (c : Calls). bodyBy way rows c site s) f
+    go false e = rw e
+
+pub new-body-alike : (way : ℕ) (rows : List Row) (calls calls' : Calls) (site : Site) (s : List ℕ)
+    → (way ≡ 0 → (b : ℕ) (z : ℤ) → calls b z ≡ calls' b z) → newBody way rows calls site s ≡ newBody way rows calls' site s
+new-body-alike way rows calls calls' site s alike =
+    new-body-is way rows calls site s ∙ ap bodyOf (body-by-alike way rows calls calls' site s alike) ∙ sym (new-body-is way rows calls' site s)
 
 -- ---- each of a list
 

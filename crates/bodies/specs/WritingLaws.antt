@@ -1,11 +1,10 @@
 -- Bodies of numbers that pass a test, written one after the other as the items of an INDEX.
 use Prim.Native.Nat.{ℕ, zero, suc, _+_, _-_, _≤_, _<_}
-use mathlib.Core.Path.{_≡_, refl, sym, ap, _∙_, subst}
+use mathlib.Core.Path.{_≡_, refl, sym, ap, _∙_}
 use mathlib.Core.Bool.{Bool, true, false}
 use mathlib.Core.List.{List, []}
 use native.Mathlib.Omega.{arith}
 use lib.ListN.{length, getD}
-use Rattle.octets.specs.Pick.{pick}
 use Rattle.octets.specs.Octets.{bytesOf, Wrote}
 use Rattle.index.specs.Good.{Lies}
 use Rattle.index.specs.Write.{total, headBytes, sizeFor, indexBytes, indexFor}
@@ -19,12 +18,22 @@ use Rattle.subset.specs.Pruned.{May, fail, yes, countBelow, each}
 use Rattle.faithful.specs.EachLaws.{length-each, each-at}
 use Rattle.faithful.specs.RankLaws.{count-few, count-rises, count-below, count-next, length-those, those-at}
 use Rattle.renumber.specs.Turn.{bodyOf}
-use Rattle.bodies.specs.Ways.{manyOf, holds, every, Room}
+use Rattle.bodies.specs.Ways.{manyOf, holds, measuredOf, every, Room}
+use Rattle.bodies.specs.declared.Measured.the-variants.{Failed, Total}
 
 -- some that do not fail
 pub holds-many : (m : May (List (List ℕ))) → holds m ≡ true → m ≡ yes (manyOf m)
 holds-many fail e = absurd (zero-one cc)
 holds-many (yes l) e = refl
+
+-- what measuring says: that they fail, or how long they are together
+pub measured-failed : (m : May (List (List ℕ))) → measuredOf m ≡ Failed → holds m ≡ false
+measured-failed fail e = refl
+measured-failed (yes l) e = absurd (zero-one cc)
+
+pub measured-total : (m : May (List (List ℕ))) (t : ℕ) → measuredOf m ≡ Total t → (holds m ≡ true) × (t ≡ total (manyOf m))
+measured-total fail t e = absurd (zero-one cc)
+measured-total (yes l) t e = let q : total l ≡ t = cc in (refl, sym q)
 
 -- all numbers below n are counted
 pub count-every : (n : ℕ) → countBelow every n ≡ n

@@ -3,25 +3,30 @@
 ghost use mathlib.Core.Path.{_≡_};
 ghost use mathlib.Core.Bool.{true};
 ghost use Prim.Native.Nat.{_+_, _≤_, _<_};
-ghost use lib.ListN.{length, getD};
+ghost use lib.ListN.{length};
 ghost use Rattle.octets.specs.Octets.{Wrote};
-ghost use Rattle.index.specs.Index.{itemsOf};
 ghost use Rattle.index.specs.Write.{indexBytes};
 ghost use Rattle.record.specs.Record.{rowsOf};
 ghost use Rattle.renumber.specs.Turn.{sizedOf, bodyOf};
-ghost use Rattle.bodies.specs.Ways.{holds, measuredOf, glyphAt, fdAt, ranksIn, charstringBy, newCharstrings, charstringsBy, CharstringsIn, Room};
-ghost use Rattle.bodies.specs.Sizes.{AtMost};
+ghost use Rattle.bodies.specs.Ways.{holds, measuredOf, glyphAt, fdAt, ranksIn, Room};
+ghost use Rattle.bodies.specs.Sources.{KeptIn, charstringFrom, charstringsFrom, newCharstringsFrom};
+ghost use Rattle.bodies.specs.Sizes.{AtMost, Bounded};
 use crate::Measured;
 use index::Index;
 use reach::Site;
 use renumber::Ranks;
 use renumber::Sized;
 
-// The kept glyphs: how many, how many the font has, and whether it is CID-keyed.
+// The kept glyphs, how many, how many the font has, and whether it is CID-keyed; and how they are written: the way, the INDEX of
+// charstrings, the ranks of the globals, and whether the rows rise.
 pub struct Kept {
     pub count: usize,
     pub all: usize,
     pub cid: bool,
+    pub way: u8,
+    pub ix: Index,
+    pub globals: Ranks,
+    pub rising: bool,
 }
 
 // A word, widened.
@@ -63,74 +68,55 @@ fn ranks_in(ats: &[usize], counts: &[usize], reacheds: &[usize], fd: usize) -> R
 
 // How long the charstring of the i-th kept glyph is by the way, or that its renumbering fails.
 fn charstring_len(
-    way: u8,
-    font: &[u8],
-    ix: Index,
-    words: &[u32],
     kept: Kept,
+    font: &[u8],
+    words: &[u32],
     ats: &[usize],
     counts: &[usize],
     reacheds: &[usize],
-    globals: Ranks,
     rows: &[u8],
-    rising: bool,
     i: usize,
 ) -> Sized
-    requires { ⌜ (CharstringsIn (now font) (now words) ix kept (now ats) (now counts) (now reacheds) globals (rowsOf (now rows)) rising) × (i < kept .count) ⌝ }
-    ensures { λ r. ⌜ (r ≡ sizedOf (charstringBy way (rowsOf (now (rows .entry))) (kept .cid) (now (words .entry)) (kept .all) (now (ats .entry))
-        (now (counts .entry)) (now (reacheds .entry)) globals (itemsOf (now (font .entry)) ix) i)) × (AtMost 335544320 r) ⌝ }
+    requires { ⌜ (KeptIn kept (rowsOf (now rows)) (now words) (now ats) (now counts) (now reacheds) (now font)) × (i < kept .count) ⌝ }
+    ensures { λ r. ⌜ (r ≡ sizedOf (charstringFrom kept (rowsOf (now (rows .entry))) (now (words .entry)) (now (ats .entry)) (now (counts .entry))
+        (now (reacheds .entry)) (now (font .entry)) i)) × (AtMost 335544320 r) ⌝ }
 {
     let g = glyph_at(words, i);
     let fd = fd_at(words, kept.cid, kept.all, i);
     let locals = ranks_in(ats, counts, reacheds, fd);
+    let code = index::item(font, kept.ix, g);
+    let site = Site::Glyph(g);
     crate::body_len(
-        way,
-        index::item(font, ix, g),
+        kept.way,
+        code,
         words,
         locals,
-        globals,
+        kept.globals,
         rows,
-        rising,
-        Site::Glyph(g),
+        kept.rising,
+        site,
     )
 }
 
 // The bytes of the charstrings together, by the way; or that their renumbering fails.
 pub fn charstrings_total(
-    way: u8,
-    font: &[u8],
-    ix: Index,
-    words: &[u32],
     kept: Kept,
+    font: &[u8],
+    words: &[u32],
     ats: &[usize],
     counts: &[usize],
     reacheds: &[usize],
-    globals: Ranks,
     rows: &[u8],
-    rising: bool,
 ) -> Measured
-    requires { ⌜ CharstringsIn (now font) (now words) ix kept (now ats) (now counts) (now reacheds) globals (rowsOf (now rows)) rising ⌝ }
-    ensures { λ r. ⌜ r ≡ measuredOf (charstringsBy way (rowsOf (now (rows .entry))) (kept .cid) (now (words .entry)) (kept .all) (now (ats .entry))
-        (now (counts .entry)) (now (reacheds .entry)) globals (itemsOf (now (font .entry)) ix) (kept .count)) ⌝ }
+    requires { ⌜ KeptIn kept (rowsOf (now rows)) (now words) (now ats) (now counts) (now reacheds) (now font) ⌝ }
+    ensures { λ r. ⌜ (r ≡ measuredOf (charstringsFrom kept (rowsOf (now (rows .entry))) (now (words .entry)) (now (ats .entry)) (now (counts .entry))
+        (now (reacheds .entry)) (now (font .entry)))) × (Bounded r) ⌝ }
 {
     let n = kept.count;
     let mut total: usize = 0;
     let mut i: usize = 0;
     while i < n {
-        match charstring_len(
-            way,
-            font,
-            ix,
-            words,
-            kept,
-            ats,
-            counts,
-            reacheds,
-            globals,
-            rows,
-            rising,
-            i,
-        ) {
+        match charstring_len(kept, font, words, ats, counts, reacheds, rows, i) {
             Sized::Len(len) => {
                 total += len;
                 i += 1;
@@ -145,40 +131,37 @@ pub fn charstrings_total(
 
 // The charstring of the i-th kept glyph by the way, from `at` on; the place after it.
 fn put_charstring(
-    way: u8,
-    font: &[u8],
-    ix: Index,
-    words: &[u32],
     kept: Kept,
+    font: &[u8],
+    words: &[u32],
     ats: &[usize],
     counts: &[usize],
     reacheds: &[usize],
-    globals: Ranks,
     rows: &[u8],
-    rising: bool,
     i: usize,
     out: &mut [u8],
     at: usize,
 ) -> usize
-    requires { ⌜ (CharstringsIn (now font) (now words) ix kept (now ats) (now counts) (now reacheds) globals (rowsOf (now rows)) rising) × (i < kept .count)
-        × (holds (charstringBy way (rowsOf (now rows)) (kept .cid) (now words) (kept .all) (now ats) (now counts) (now reacheds) globals (itemsOf (now font) ix) i) ≡ true)
-        × (at + length (bodyOf (charstringBy way (rowsOf (now rows)) (kept .cid) (now words) (kept .all) (now ats) (now counts) (now reacheds) globals
-        (itemsOf (now font) ix) i)) ≤ length (now out)) ⌝ }
-    ensures { λ r. ⌜ Wrote (now (out .entry)) at (bodyOf (charstringBy way (rowsOf (now (rows .entry))) (kept .cid) (now (words .entry)) (kept .all)
-        (now (ats .entry)) (now (counts .entry)) (now (reacheds .entry)) globals (itemsOf (now (font .entry)) ix) i)) (now (out .exit)) r ⌝ }
+    requires { ⌜ (KeptIn kept (rowsOf (now rows)) (now words) (now ats) (now counts) (now reacheds) (now font)) × (i < kept .count)
+        × (holds (charstringFrom kept (rowsOf (now rows)) (now words) (now ats) (now counts) (now reacheds) (now font) i) ≡ true)
+        × (at + length (bodyOf (charstringFrom kept (rowsOf (now rows)) (now words) (now ats) (now counts) (now reacheds) (now font) i)) ≤ length (now out)) ⌝ }
+    ensures { λ r. ⌜ Wrote (now (out .entry)) at (bodyOf (charstringFrom kept (rowsOf (now (rows .entry))) (now (words .entry)) (now (ats .entry))
+        (now (counts .entry)) (now (reacheds .entry)) (now (font .entry)) i)) (now (out .exit)) r ⌝ }
 {
     let g = glyph_at(words, i);
     let fd = fd_at(words, kept.cid, kept.all, i);
     let locals = ranks_in(ats, counts, reacheds, fd);
+    let code = index::item(font, kept.ix, g);
+    let site = Site::Glyph(g);
     crate::put_body(
-        way,
-        index::item(font, ix, g),
+        kept.way,
+        code,
         words,
         locals,
-        globals,
+        kept.globals,
         rows,
-        rising,
-        Site::Glyph(g),
+        kept.rising,
+        site,
         out,
         at,
     )
@@ -186,26 +169,21 @@ fn put_charstring(
 
 // Their INDEX, from `at` on; the place after it.
 pub fn put_charstrings(
-    way: u8,
-    font: &[u8],
-    ix: Index,
-    words: &[u32],
     kept: Kept,
+    font: &[u8],
+    words: &[u32],
     ats: &[usize],
     counts: &[usize],
     reacheds: &[usize],
-    globals: Ranks,
     rows: &[u8],
-    rising: bool,
     total: usize,
     out: &mut [u8],
     at: usize,
 ) -> usize
-    requires { ⌜ (CharstringsIn (now font) (now words) ix kept (now ats) (now counts) (now reacheds) globals (rowsOf (now rows)) rising)
-        × (Room (charstringsBy way (rowsOf (now rows)) (kept .cid) (now words) (kept .all) (now ats) (now counts) (now reacheds) globals (itemsOf (now font) ix)
-        (kept .count)) total at (length (now out))) ⌝ }
-    ensures { λ r. ⌜ Wrote (now (out .entry)) at (indexBytes (newCharstrings way (rowsOf (now (rows .entry))) (kept .cid) (now (words .entry)) (kept .all)
-        (now (ats .entry)) (now (counts .entry)) (now (reacheds .entry)) globals (itemsOf (now (font .entry)) ix) (kept .count))) (now (out .exit)) r ⌝ }
+    requires { ⌜ (KeptIn kept (rowsOf (now rows)) (now words) (now ats) (now counts) (now reacheds) (now font))
+        × (Room (charstringsFrom kept (rowsOf (now rows)) (now words) (now ats) (now counts) (now reacheds) (now font)) total at (length (now out))) ⌝ }
+    ensures { λ r. ⌜ Wrote (now (out .entry)) at (indexBytes (newCharstringsFrom kept (rowsOf (now (rows .entry))) (now (words .entry)) (now (ats .entry))
+        (now (counts .entry)) (now (reacheds .entry)) (now (font .entry)))) (now (out .exit)) r ⌝ }
 {
     let n = kept.count;
     let to = index::index_for(at, n, total);
@@ -214,17 +192,13 @@ pub fn put_charstrings(
     let mut i: usize = 0;
     while i < n {
         p = put_charstring(
-            way,
-            font,
-            ix,
-            words,
             kept,
+            font,
+            words,
             ats,
             counts,
             reacheds,
-            globals,
             rows,
-            rising,
             i,
             &mut *out,
             p,

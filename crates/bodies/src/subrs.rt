@@ -5,15 +5,14 @@ ghost use mathlib.Core.Bool.{true};
 ghost use Prim.Native.Nat.{_+_, _≤_, _<_};
 ghost use lib.ListN.{length};
 ghost use Rattle.octets.specs.Octets.{Wrote};
-ghost use Rattle.index.specs.Index.{itemsOf};
 ghost use Rattle.index.specs.Write.{indexBytes};
 ghost use Rattle.record.specs.Record.{rowsOf};
 ghost use Rattle.subset.specs.Pruned.{countBelow};
 ghost use Rattle.reach.specs.Reach.{SiteFits, siteOf};
-ghost use Rattle.renumber.specs.Ranks.{callsBy};
 ghost use Rattle.renumber.specs.Turn.{sizedOf, bodyOf};
-ghost use Rattle.bodies.specs.Ways.{holds, measuredOf, newSubrs, subrsBy, subrBy, reachedIn, siteIn, SubrsFit, isKept, isStub, keptCount, SubrsIn, Room};
-ghost use Rattle.bodies.specs.Sizes.{AtMost, lenAt};
+ghost use Rattle.bodies.specs.Ways.{holds, measuredOf, reachedIn, siteIn, SubrsFit, isKept, isStub, keptCount, Room};
+ghost use Rattle.bodies.specs.Sources.{Sourced, keptFrom, subrFrom, subrsFrom, newSubrsFrom};
+ghost use Rattle.bodies.specs.Sizes.{AtMost, Bounded, lenAt};
 use crate::Measured;
 use index::Index;
 use reach::Site;
@@ -24,6 +23,17 @@ use renumber::Sized;
 pub enum Subrs {
     Global,
     Local(usize),
+}
+
+// Subroutines, and how they are written: the way, their INDEX, their ranks, the ranks of those that they call, and whether the rows rise.
+pub struct Source {
+    pub way: u8,
+    pub of: Subrs,
+    pub ix: Index,
+    pub own: Ranks,
+    pub locals: Ranks,
+    pub globals: Ranks,
+    pub rising: bool,
 }
 
 // A word, widened.
@@ -78,109 +88,50 @@ fn site_in(of: Subrs, k: usize) -> Site
 }
 
 // How long a subroutine is as it is written, or that its renumbering fails.
-fn written_len(
-    way: u8,
-    font: &[u8],
-    ix: Index,
-    words: &[u32],
-    own: Ranks,
-    locals: Ranks,
-    globals: Ranks,
-    rows: &[u8],
-    rising: bool,
-    of: Subrs,
-    k: usize,
-) -> Sized
-    requires { ⌜ (SubrsIn (now font) (now words) ix own locals globals (rowsOf (now rows)) rising of) × (k < ix .count) ⌝ }
-    ensures { λ r. ⌜ (r ≡ sizedOf (subrBy way (rowsOf (now (rows .entry))) (reachedIn (now (words .entry)) own) (callsBy (now (words .entry)) locals globals)
-        (siteIn of) (itemsOf (now (font .entry)) ix) k)) × (AtMost 335544320 r) ⌝ }
+fn written_len(from: Source, font: &[u8], words: &[u32], rows: &[u8], k: usize) -> Sized
+    requires { ⌜ (Sourced from (rowsOf (now rows)) (now words) (now font)) × (k < from .ix .count) ⌝ }
+    ensures { λ r. ⌜ (r ≡ sizedOf (subrFrom from (rowsOf (now (rows .entry))) (now (words .entry)) (now (font .entry)) k)) × (AtMost 335544320 r) ⌝ }
 {
-    if is_stub(way, words, own, k) {
+    if is_stub(from.way, words, from.own, k) {
         return Sized::Len(1);
     }
+    let of = from.of;
     let site = site_in(of, k);
+    let code = index::item(font, from.ix, k);
     crate::body_len(
-        way,
-        index::item(font, ix, k),
+        from.way,
+        code,
         words,
-        locals,
-        globals,
+        from.locals,
+        from.globals,
         rows,
-        rising,
+        from.rising,
         site,
     )
 }
 
 // The same, 0 for a subroutine that is not written.
-fn subr_len(
-    way: u8,
-    font: &[u8],
-    ix: Index,
-    words: &[u32],
-    own: Ranks,
-    locals: Ranks,
-    globals: Ranks,
-    rows: &[u8],
-    rising: bool,
-    of: Subrs,
-    k: usize,
-) -> Sized
-    requires { ⌜ (SubrsIn (now font) (now words) ix own locals globals (rowsOf (now rows)) rising of) × (k < ix .count) ⌝ }
-    ensures { λ r. ⌜ (r ≡ lenAt (isKept way (reachedIn (now (words .entry)) own)) (subrBy way (rowsOf (now (rows .entry))) (reachedIn (now (words .entry)) own)
-        (callsBy (now (words .entry)) locals globals) (siteIn of) (itemsOf (now (font .entry)) ix)) k) × (AtMost 335544320 r) ⌝ }
+fn subr_len(from: Source, font: &[u8], words: &[u32], rows: &[u8], k: usize) -> Sized
+    requires { ⌜ (Sourced from (rowsOf (now rows)) (now words) (now font)) × (k < from .ix .count) ⌝ }
+    ensures { λ r. ⌜ (r ≡ lenAt (keptFrom from (now (words .entry))) (subrFrom from (rowsOf (now (rows .entry))) (now (words .entry)) (now (font .entry))) k)
+        × (AtMost 335544320 r) ⌝ }
 {
-    if is_kept(way, words, own, k) {
-        return written_len(
-            way,
-            font,
-            ix,
-            words,
-            own,
-            locals,
-            globals,
-            rows,
-            rising,
-            of,
-            k,
-        );
+    if is_kept(from.way, words, from.own, k) {
+        return written_len(from, font, words, rows, k);
     }
     Sized::Len(0)
 }
 
 // The bytes of some subroutines together, by the way; or that their renumbering fails.
-pub fn subrs_total(
-    way: u8,
-    font: &[u8],
-    ix: Index,
-    words: &[u32],
-    own: Ranks,
-    locals: Ranks,
-    globals: Ranks,
-    rows: &[u8],
-    rising: bool,
-    of: Subrs,
-) -> Measured
-    requires { ⌜ SubrsIn (now font) (now words) ix own locals globals (rowsOf (now rows)) rising of ⌝ }
-    ensures { λ r. ⌜ r ≡ measuredOf (subrsBy way (rowsOf (now (rows .entry))) (reachedIn (now (words .entry)) own)
-        (callsBy (now (words .entry)) locals globals) (siteIn of) (itemsOf (now (font .entry)) ix)) ⌝ }
+pub fn subrs_total(from: Source, font: &[u8], words: &[u32], rows: &[u8]) -> Measured
+    requires { ⌜ Sourced from (rowsOf (now rows)) (now words) (now font) ⌝ }
+    ensures { λ r. ⌜ (r ≡ measuredOf (subrsFrom from (rowsOf (now (rows .entry))) (now (words .entry)) (now (font .entry)))) × (Bounded r) ⌝ }
 {
-    let n = ix.count;
+    let n = from.ix.count;
     let mut total: usize = 0;
     let mut k: usize = 0;
     while k < n {
-        match subr_len(
-            way,
-            font,
-            ix,
-            words,
-            own,
-            locals,
-            globals,
-            rows,
-            rising,
-            of,
-            k,
-        ) {
+        match subr_len(from, font, words, rows, k) {
             Sized::Len(len) => {
                 total += len;
                 k += 1;
@@ -195,39 +146,34 @@ pub fn subrs_total(
 
 // A subroutine as it is written, from `at` on; the place after it.
 fn put_subr(
-    way: u8,
+    from: Source,
     font: &[u8],
-    ix: Index,
     words: &[u32],
-    own: Ranks,
-    locals: Ranks,
-    globals: Ranks,
     rows: &[u8],
-    rising: bool,
-    of: Subrs,
     k: usize,
     out: &mut [u8],
     at: usize,
 ) -> usize
-    requires { ⌜ (SubrsIn (now font) (now words) ix own locals globals (rowsOf (now rows)) rising of) × (k < ix .count)
-        × (holds (subrBy way (rowsOf (now rows)) (reachedIn (now words) own) (callsBy (now words) locals globals) (siteIn of) (itemsOf (now font) ix) k) ≡ true)
-        × (at + length (bodyOf (subrBy way (rowsOf (now rows)) (reachedIn (now words) own) (callsBy (now words) locals globals) (siteIn of)
-        (itemsOf (now font) ix) k)) ≤ length (now out)) ⌝ }
-    ensures { λ r. ⌜ Wrote (now (out .entry)) at (bodyOf (subrBy way (rowsOf (now (rows .entry))) (reachedIn (now (words .entry)) own)
-        (callsBy (now (words .entry)) locals globals) (siteIn of) (itemsOf (now (font .entry)) ix) k)) (now (out .exit)) r ⌝ }
+    requires { ⌜ (Sourced from (rowsOf (now rows)) (now words) (now font)) × (k < from .ix .count)
+        × (holds (subrFrom from (rowsOf (now rows)) (now words) (now font) k) ≡ true)
+        × (at + length (bodyOf (subrFrom from (rowsOf (now rows)) (now words) (now font) k)) ≤ length (now out)) ⌝ }
+    ensures { λ r. ⌜ Wrote (now (out .entry)) at
+        (bodyOf (subrFrom from (rowsOf (now (rows .entry))) (now (words .entry)) (now (font .entry)) k)) (now (out .exit)) r ⌝ }
 {
-    if is_stub(way, words, own, k) {
+    if is_stub(from.way, words, from.own, k) {
         return octets::put_num(out, at, 11, 1);
     }
+    let of = from.of;
     let site = site_in(of, k);
+    let code = index::item(font, from.ix, k);
     crate::put_body(
-        way,
-        index::item(font, ix, k),
+        from.way,
+        code,
         words,
-        locals,
-        globals,
+        from.locals,
+        from.globals,
         rows,
-        rising,
+        from.rising,
         site,
         out,
         at,
@@ -246,51 +192,30 @@ fn kept_count(way: u8, reached: usize, count: usize) -> usize
 
 // Their INDEX, from `at` on; the place after it.
 pub fn put_subrs(
-    way: u8,
+    from: Source,
     font: &[u8],
-    ix: Index,
     words: &[u32],
-    own: Ranks,
-    locals: Ranks,
-    globals: Ranks,
     rows: &[u8],
-    rising: bool,
-    of: Subrs,
     total: usize,
     out: &mut [u8],
     at: usize,
 ) -> usize
-    requires { ⌜ (SubrsIn (now font) (now words) ix own locals globals (rowsOf (now rows)) rising of)
-        × (own .reached ≡ countBelow (reachedIn (now words) own) (own .count))
-        × (Room (subrsBy way (rowsOf (now rows)) (reachedIn (now words) own) (callsBy (now words) locals globals) (siteIn of) (itemsOf (now font) ix))
-        total at (length (now out))) ⌝ }
-    ensures { λ r. ⌜ Wrote (now (out .entry)) at (indexBytes (newSubrs way (rowsOf (now (rows .entry))) (reachedIn (now (words .entry)) own)
-        (callsBy (now (words .entry)) locals globals) (siteIn of) (itemsOf (now (font .entry)) ix))) (now (out .exit)) r ⌝ }
+    requires { ⌜ (Sourced from (rowsOf (now rows)) (now words) (now font))
+        × (from .own .reached ≡ countBelow (reachedIn (now words) (from .own)) (from .own .count))
+        × (Room (subrsFrom from (rowsOf (now rows)) (now words) (now font)) total at (length (now out))) ⌝ }
+    ensures { λ r. ⌜ Wrote (now (out .entry)) at
+        (indexBytes (newSubrsFrom from (rowsOf (now (rows .entry))) (now (words .entry)) (now (font .entry)))) (now (out .exit)) r ⌝ }
 {
-    let n = ix.count;
-    let count = kept_count(way, own.reached, n);
+    let n = from.ix.count;
+    let count = kept_count(from.way, from.own.reached, n);
     let to = index::index_for(at, count, total);
     index::put_head(out, at, count, total);
     let mut p = to.base + 1;
     let mut j: usize = 0;
     let mut k: usize = 0;
     while k < n {
-        if is_kept(way, words, own, k) {
-            p = put_subr(
-                way,
-                font,
-                ix,
-                words,
-                own,
-                locals,
-                globals,
-                rows,
-                rising,
-                of,
-                k,
-                &mut *out,
-                p,
-            );
+        if is_kept(from.way, words, from.own, k) {
+            p = put_subr(from, font, words, rows, k, &mut *out, p);
             index::put_end(out, to, j, p);
             j += 1;
             k += 1;

@@ -50,7 +50,8 @@ pub record HoldsRanks (ws : List ℕ) (q : Ranks) (set : ℕ → Bool) : Type 0 
   pub all : reached set ≡ countBelow set (q .count)
   pub narrow : (i : ℕ) → 65536 ≤ i → set i ≡ false
 
-rank-get : (set : ℕ → Bool) (k n i : ℕ) → i < n → getD (ranksOf set k n) i 0 ≡ pick (set (k + i)) (countBelow set (k + i) + 1) 0
+-- the rank of a number in a list of ranks
+pub rank-get : (set : ℕ → Bool) (k n i : ℕ) → i < n → getD (ranksOf set k n) i 0 ≡ pick (set (k + i)) (countBelow set (k + i) + 1) 0
 unfolding ranksOf
 rank-get set k zero i h = absurd (let y : ⊥ = omega arith in y)
 rank-get set k (suc n) zero h = ap (λ (j : ℕ). pick (set j) (countBelow set j + 1) 0) (let e : k ≡ k + 0 = omega arith in e)

@@ -9,22 +9,23 @@ use Rattle.record.specs.Record.{rowsOf}
 use Rattle.subset.specs.Pruned.{May}
 use Rattle.bodies.specs.Ways.{every, charstringBy}
 use Rattle.bodies.specs.Sizes.{Adding}
-use Rattle.bodies.specs.SizesLaws.{adding-start, adding-end, adding-failed, adding-on, adding-room}
+use Rattle.bodies.specs.Sources.{charstringFrom}
+use Rattle.bodies.specs.SizesLaws.{adding-start, adding-end, adding-failed, adding-on, adding-room, adding-small}
 use Rattle.bodies.proofs.charstrings.charstrings_total.Statement.{statement}
 use Rattle.bodies.proofs.charstrings.charstrings_total.Tie as tie
 
 abbrev Inv-loop : tie.InvT-loop
-Inv-loop way font ix words kept ats counts reacheds globals rows rising n total₀ i₀ total i =
-    Adding (charstringBy way (rowsOf rows) (kept .cid) words (kept .all) ats counts reacheds globals (itemsOf font ix)) every (kept .count) i total
+Inv-loop kept font words ats counts reacheds rows n total₀ i₀ total i =
+    Adding (charstringFrom kept (rowsOf rows) words ats counts reacheds font) every (kept .count) i total
 
 abbrev μ-loop : tie.MeasureT-loop
-μ-loop way font ix words kept ats counts reacheds globals rows rising n total₀ i₀ total i = kept .count - i
+μ-loop kept font words ats counts reacheds rows n total₀ i₀ total i = kept .count - i
 
 -- the charstring of a kept glyph
 abbrev F : tie.Start Inv-loop μ-loop → ℕ → May (List ℕ)
 F s =
-    charstringBy (s .args .way) (rowsOf (now (s .args .rows))) (s .args .kept .cid) (now (s .args .words)) (s .args .kept .all) (now (s .args .ats)) (now (s .args .counts))
-    (now (s .args .reacheds)) (s .args .globals) (itemsOf (now (s .args .font)) (s .args .ix))
+    charstringBy (s .args .kept .way) (rowsOf (now (s .args .rows))) (s .args .kept .cid) (now (s .args .words)) (s .args .kept .all) (now (s .args .ats)) (now (s .args .counts))
+    (now (s .args .reacheds)) (s .args .kept .globals) (itemsOf (now (s .args .font)) (s .args .kept .ix))
 
 abbrev S₁ : tie.At-loop Inv-loop μ-loop → tie.Start Inv-loop μ-loop
 S₁ c = c .before .before .before .before .before .before .before
@@ -68,14 +69,18 @@ returns : tie.Need-returns Inv-loop μ-loop
 returns c =
     let d = c .before .before in
     let l = d .before .before in
-    let s = S₁ l in
-    adding-failed (F s) every (s .args .kept .count) (l .loop .i) (l .loop .total) (l .loop .inv) (d .before .loop-test .taken) _ (d .charstring-len .ensures .0) (c .enum-told .given .1)
+    let s = S₁ l in (
+      adding-failed (F s) every (s .args .kept .count) (l .loop .i) (l .loop .total) (l .loop .inv) (d .before .loop-test .taken) _ (d .charstring-len .ensures .0) (c .enum-told .given .1),
+      tt,
+    )
 
 returns-2 : tie.Need-returns-2 Inv-loop μ-loop
 returns-2 c =
     let l = c .before in
-    let s = S₁ l in
-    adding-end (F s) every (s .args .kept .count) (l .loop .i) (l .loop .total) (l .loop .inv) (c .loop-test .left)
+    let s = S₁ l in (
+      adding-end (F s) every (s .args .kept .count) (l .loop .i) (l .loop .total) (l .loop .inv) (c .loop-test .left),
+      adding-small (F s) every (s .args .kept .count) (l .loop .i) (l .loop .total) (l .loop .inv) (s .pre .keptFew),
+    )
 
 pub charstrings-total-spec : {M : Type 1} → statement M
 charstrings-total-spec =

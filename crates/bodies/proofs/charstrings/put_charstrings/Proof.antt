@@ -3,7 +3,6 @@ use Prim.Native.Nat.{ℕ, _-_}
 use mathlib.Core.Path.{refl, sym, ap, _∙_}
 use mathlib.Core.List.{List}
 use native.Mathlib.Omega.{arith}
-use borrow.Author.Needs.{needs}
 use lib.ListN.{length}
 use denote.Ref.{now}
 use Rattle.octets.specs.PutLaws.{wrote-as}
@@ -13,17 +12,18 @@ use Rattle.index.specs.Begun.{Meant}
 use Rattle.record.specs.Record.{rowsOf}
 use Rattle.subset.specs.Pruned.{May}
 use Rattle.bodies.specs.Ways.{manyOf, every, charstringBy, charstringsBy}
+use Rattle.bodies.specs.Sources.{charstringsFrom}
 use Rattle.bodies.specs.WritingLaws.{count-every, Writing, writing-start, writing-length, writing-room, writing-end, writing-on, head-fits, places-meant, writing-whole}
 use Rattle.bodies.specs.WaysLaws.{new-charstrings-is}
 use Rattle.bodies.proofs.charstrings.put_charstrings.Statement.{statement}
 use Rattle.bodies.proofs.charstrings.put_charstrings.Tie as tie
 
 abbrev Inv-loop : tie.InvT-loop
-Inv-loop way font ix words kept ats counts reacheds globals rows rising total out₀ at n to p₀ i₀ out p i =
-    Writing out₀ to (manyOf (charstringsBy way (rowsOf rows) (kept .cid) words (kept .all) ats counts reacheds globals (itemsOf font ix) (kept .count))) every (kept .count) i i out p
+Inv-loop kept font words ats counts reacheds rows total out₀ at n to p₀ i₀ out p i =
+    Writing out₀ to (manyOf (charstringsFrom kept (rowsOf rows) words ats counts reacheds font)) every (kept .count) i i out p
 
 abbrev μ-loop : tie.MeasureT-loop
-μ-loop way font ix words kept ats counts reacheds globals rows rising total out₀ at n to p₀ i₀ out p i = kept .count - i
+μ-loop kept font words ats counts reacheds rows total out₀ at n to p₀ i₀ out p i = kept .count - i
 
 abbrev Start : Type 0
 Start = tie.Start Inv-loop μ-loop
@@ -31,13 +31,13 @@ Start = tie.Start Inv-loop μ-loop
 -- the charstring of a kept glyph, and all
 abbrev F : Start → ℕ → May (List ℕ)
 F s =
-    charstringBy (s .args .way) (rowsOf (now (s .args .rows))) (s .args .kept .cid) (now (s .args .words)) (s .args .kept .all) (now (s .args .ats)) (now (s .args .counts))
-    (now (s .args .reacheds)) (s .args .globals) (itemsOf (now (s .args .font)) (s .args .ix))
+    charstringBy (s .args .kept .way) (rowsOf (now (s .args .rows))) (s .args .kept .cid) (now (s .args .words)) (s .args .kept .all) (now (s .args .ats)) (now (s .args .counts))
+    (now (s .args .reacheds)) (s .args .kept .globals) (itemsOf (now (s .args .font)) (s .args .kept .ix))
 
 abbrev B : Start → May (List (List ℕ))
 B s =
-    charstringsBy (s .args .way) (rowsOf (now (s .args .rows))) (s .args .kept .cid) (now (s .args .words)) (s .args .kept .all) (now (s .args .ats)) (now (s .args .counts))
-    (now (s .args .reacheds)) (s .args .globals) (itemsOf (now (s .args .font)) (s .args .ix)) (s .args .kept .count)
+    charstringsBy (s .args .kept .way) (rowsOf (now (s .args .rows))) (s .args .kept .cid) (now (s .args .words)) (s .args .kept .all) (now (s .args .ats)) (now (s .args .counts))
+    (now (s .args .reacheds)) (s .args .kept .globals) (itemsOf (now (s .args .font)) (s .args .kept .ix)) (s .args .kept .count)
 
 abbrev S₀ : tie.After-index-for Inv-loop μ-loop → Start
 S₀ c = c .before .before .before .before .before .before .before .before
@@ -130,8 +130,8 @@ returns c =
     let x = X₁ h in
     wrote-as (writing-whole (B s) (F s) every (s .args .kept .count) refl (s .pre .1 .done) (now (s .args .out)) (s .args .at) (s .args .kept .count) (s .args .total) (x .index-for .result)
     (s .pre .1) (x .index-for .ensures) (sym (count-every (s .args .kept .count))) (h .put-head .ensures) (c .loop-test .left) (l .loop .inv))
-    (ap indexBytes (sym (new-charstrings-is (s .args .way) (rowsOf (now (s .args .rows))) (s .args .kept .cid) (now (s .args .words)) (s .args .kept .all) (now (s .args .ats))
-    (now (s .args .counts)) (now (s .args .reacheds)) (s .args .globals) (itemsOf (now (s .args .font)) (s .args .ix)) (s .args .kept .count) (s .pre .1 .done))))
+    (ap indexBytes (sym (new-charstrings-is (s .args .kept .way) (rowsOf (now (s .args .rows))) (s .args .kept .cid) (now (s .args .words)) (s .args .kept .all) (now (s .args .ats))
+    (now (s .args .counts)) (now (s .args .reacheds)) (s .args .kept .globals) (itemsOf (now (s .args .font)) (s .args .kept .ix)) (s .args .kept .count) (s .pre .1 .done))))
 
 pub put-charstrings-spec : {M : Type 1} → statement M
 put-charstrings-spec =

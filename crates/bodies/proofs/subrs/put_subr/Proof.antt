@@ -21,13 +21,13 @@ abbrev Q : tie.Start → List Row
 Q s = rowsOf (now (s .args .rows))
 
 abbrev R : tie.Start → ℕ → Bool
-R s = reachedIn (now (s .args .words)) (s .args .own)
+R s = reachedIn (now (s .args .words)) (s .args .from .own)
 
 abbrev C : tie.Start → Calls
-C s = callsBy (now (s .args .words)) (s .args .locals) (s .args .globals)
+C s = callsBy (now (s .args .words)) (s .args .from .locals) (s .args .from .globals)
 
 abbrev K : tie.Start → List (List ℕ)
-K s = itemsOf (now (s .args .font)) (s .args .ix)
+K s = itemsOf (now (s .args .font)) (s .args .from .ix)
 
 is-stub-requires : tie.Need-is-stub-requires
 is-stub-requires c κs = search needs
@@ -36,7 +36,7 @@ put-num-requires : tie.Need-put-num-requires
 put-num-requires c κs =
     let t = c .before .before in
     let s = t .before .before .before .before .before in
-    stub-room (s .args .way) (Q s) (R s) (C s) (s .args .of) (K s) (s .args .k) (sym (t .is-stub .ensures) ∙ c .before .if1 .taken) _ _ (s .pre .3)
+    stub-room (s .args .from .way) (Q s) (R s) (C s) (s .args .from .of) (K s) (s .args .k) (sym (t .is-stub .ensures) ∙ c .before .if1 .taken) _ _ (s .pre .3)
 
 same-length : tie.Need-same-length
 same-length c = search needs
@@ -46,7 +46,7 @@ returns c =
     let d = c .before .before in
     let t = d .before .before .before in
     let s = t .before .before .before .before .before in
-    stub-wrote (s .args .way) (Q s) (R s) (C s) (s .args .of) (K s) (s .args .k) (sym (t .is-stub .ensures) ∙ d .before .before .if1 .taken) (d .put-num .ensures)
+    stub-wrote (s .args .from .way) (Q s) (R s) (C s) (s .args .from .of) (K s) (s .args .k) (sym (t .is-stub .ensures) ∙ d .before .before .if1 .taken) (d .put-num .ensures)
 
 site-in-requires : tie.Need-site-in-requires
 site-in-requires c κs = search needs
@@ -59,7 +59,7 @@ put-body-requires c κs =
     let i = c .before in
     let e = i .before .before in
     let s = e .before .before .before .before .before .before in
-    let q = subr-room (s .args .way) (Q s) (R s) (C s) (s .args .of) (K s) (s .args .k) (siteOf (i .before .site-in .result)) (now (i .item .result))
+    let q = subr-room (s .args .from .way) (Q s) (R s) (C s) (s .args .from .of) (K s) (s .args .k) (siteOf (i .before .site-in .result)) (now (i .item .result))
     (i .before .site-in .ensures .0) (i .item .ensures) (sym (e .before .is-stub .ensures) ∙ e .if1 .left) _ _ (s .pre .2) (s .pre .3) in
     (item-inputs (s .pre .0) (s .args .k) (s .pre .1) _ (i .item .ensures) _ (i .before .site-in .ensures .1), q .0, q .1)
 
@@ -72,7 +72,7 @@ returns-2 c =
     let i = d .before .before in
     let e = i .before .before in
     let s = e .before .before .before .before .before .before in
-    subr-wrote (s .args .way) (Q s) (R s) (C s) (s .args .of) (K s) (s .args .k) (siteOf (i .before .site-in .result)) (now (i .item .result))
+    subr-wrote (s .args .from .way) (Q s) (R s) (C s) (s .args .from .of) (K s) (s .args .k) (siteOf (i .before .site-in .result)) (now (i .item .result))
     (i .before .site-in .ensures .0) (i .item .ensures) (sym (e .before .is-stub .ensures) ∙ e .if1 .left) (d .put-body .ensures)
 
 pub put-subr-spec : {M : Type 1} → statement M

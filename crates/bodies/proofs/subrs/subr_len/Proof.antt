@@ -16,12 +16,12 @@ use Rattle.bodies.proofs.subrs.subr_len.Tie as tie
 
 -- which are written, and what each is
 abbrev T : tie.Start → ℕ → Bool
-T s = isKept (s .args .way) (reachedIn (now (s .args .words)) (s .args .own))
+T s = isKept (s .args .from .way) (reachedIn (now (s .args .words)) (s .args .from .own))
 
 abbrev F : tie.Start → ℕ → May (List ℕ)
 F s =
-    subrBy (s .args .way) (rowsOf (now (s .args .rows))) (reachedIn (now (s .args .words)) (s .args .own))
-    (callsBy (now (s .args .words)) (s .args .locals) (s .args .globals)) (siteIn (s .args .of)) (itemsOf (now (s .args .font)) (s .args .ix))
+    subrBy (s .args .from .way) (rowsOf (now (s .args .rows))) (reachedIn (now (s .args .words)) (s .args .from .own))
+    (callsBy (now (s .args .words)) (s .args .from .locals) (s .args .from .globals)) (siteIn (s .args .from .of)) (itemsOf (now (s .args .font)) (s .args .from .ix))
 
 is-kept-requires : tie.Need-is-kept-requires
 is-kept-requires c κs = search needs

@@ -13,40 +13,41 @@ use Rattle.subset.specs.Pruned.{May, each}
 use Rattle.renumber.specs.Ranks.{callsBy}
 use Rattle.bodies.specs.Ways.{measuredOf, reachedIn, siteIn, isKept, subrBy, subrsBy}
 use Rattle.bodies.specs.Sizes.{Adding}
-use Rattle.bodies.specs.SizesLaws.{adding-start, adding-end, adding-failed, adding-on, adding-room}
+use Rattle.bodies.specs.SizesLaws.{adding-start, adding-end, adding-failed, adding-on, adding-room, adding-small}
+use Rattle.bodies.specs.Sources.{keptFrom, subrFrom}
 use Rattle.bodies.specs.SubrsLaws.{index-each}
 use Rattle.bodies.proofs.subrs.subrs_total.Statement.{statement}
 use Rattle.bodies.proofs.subrs.subrs_total.Tie as tie
 
 abbrev Inv-loop : tie.InvT-loop
-Inv-loop way font ix words own locals globals rows rising of n total₀ k₀ total k =
-    Adding (subrBy way (rowsOf rows) (reachedIn words own) (callsBy words locals globals) (siteIn of) (itemsOf font ix)) (isKept way (reachedIn words own)) (ix .count) k total
+Inv-loop from font words rows n total₀ k₀ total k =
+    Adding (subrFrom from (rowsOf rows) words font) (keptFrom from words) (from .ix .count) k total
 
 abbrev μ-loop : tie.MeasureT-loop
-μ-loop way font ix words own locals globals rows rising of n total₀ k₀ total k = ix .count - k
+μ-loop from font words rows n total₀ k₀ total k = from .ix .count - k
 
 -- which are written, what each is, and all
 abbrev T : tie.Start Inv-loop μ-loop → ℕ → Bool
-T s = isKept (s .args .way) (reachedIn (now (s .args .words)) (s .args .own))
+T s = isKept (s .args .from .way) (reachedIn (now (s .args .words)) (s .args .from .own))
 
 abbrev F : tie.Start Inv-loop μ-loop → ℕ → May (List ℕ)
 F s =
-    subrBy (s .args .way) (rowsOf (now (s .args .rows))) (reachedIn (now (s .args .words)) (s .args .own))
-    (callsBy (now (s .args .words)) (s .args .locals) (s .args .globals)) (siteIn (s .args .of)) (itemsOf (now (s .args .font)) (s .args .ix))
+    subrBy (s .args .from .way) (rowsOf (now (s .args .rows))) (reachedIn (now (s .args .words)) (s .args .from .own))
+    (callsBy (now (s .args .words)) (s .args .from .locals) (s .args .from .globals)) (siteIn (s .args .from .of)) (itemsOf (now (s .args .font)) (s .args .from .ix))
 
 all : (s : tie.Start Inv-loop μ-loop)
-    → measuredOf (each (F s) (those (T s) (s .args .ix .count) 0))
-    ≡ measuredOf (subrsBy (s .args .way) (rowsOf (now (s .args .rows))) (reachedIn (now (s .args .words)) (s .args .own))
-    (callsBy (now (s .args .words)) (s .args .locals) (s .args .globals)) (siteIn (s .args .of)) (itemsOf (now (s .args .font)) (s .args .ix)))
+    → measuredOf (each (F s) (those (T s) (s .args .from .ix .count) 0))
+    ≡ measuredOf (subrsBy (s .args .from .way) (rowsOf (now (s .args .rows))) (reachedIn (now (s .args .words)) (s .args .from .own))
+    (callsBy (now (s .args .words)) (s .args .from .locals) (s .args .from .globals)) (siteIn (s .args .from .of)) (itemsOf (now (s .args .font)) (s .args .from .ix)))
 all s =
-    ap measuredOf (sym (index-each (s .args .way) (now (s .args .font)) (now (s .args .words)) (s .args .ix) (s .args .own) (s .args .locals) (s .args .globals)
-    (rowsOf (now (s .args .rows))) (s .args .rising) (s .args .of) (s .pre) (callsBy (now (s .args .words)) (s .args .locals) (s .args .globals)) (siteIn (s .args .of))))
+    ap measuredOf (sym (index-each (s .args .from .way) (now (s .args .font)) (now (s .args .words)) (s .args .from .ix) (s .args .from .own) (s .args .from .locals) (s .args .from .globals)
+    (rowsOf (now (s .args .rows))) (s .args .from .rising) (s .args .from .of) (s .pre) (callsBy (now (s .args .words)) (s .args .from .locals) (s .args .from .globals)) (siteIn (s .args .from .of))))
 
 abbrev S₁ : tie.At-loop Inv-loop μ-loop → tie.Start Inv-loop μ-loop
 S₁ c = c .before .before .before .before
 
 loop-holds : tie.Need-loop-holds Inv-loop μ-loop
-loop-holds c = let s = c .before .before .before in adding-start (F s) (T s) (s .args .ix .count)
+loop-holds c = let s = c .before .before .before in adding-start (F s) (T s) (s .args .from .ix .count)
 
 subr-len-requires : tie.Need-subr-len-requires Inv-loop μ-loop
 subr-len-requires c κs = (S₁ (c .before) .pre, c .loop-test .taken)
@@ -59,7 +60,7 @@ add-total c =
     let d = c .before .before .before in
     let l = d .before .before in
     let s = S₁ l in
-    let m = adding-room (F s) (T s) (s .args .ix .count) (l .loop .k) (l .loop .total) (l .loop .inv) (d .before .loop-test .taken) (s .pre .few) _ _ (d .subr-len .ensures .1) (c .before .len .given .1) in
+    let m = adding-room (F s) (T s) (s .args .from .ix .count) (l .loop .k) (l .loop .total) (l .loop .inv) (d .before .loop-test .taken) (s .pre .few) _ _ (d .subr-len .ensures .1) (c .before .len .given .1) in
     omega (arith, m)
 
 add-k : tie.Need-add-k Inv-loop μ-loop
@@ -73,7 +74,7 @@ loop-again c =
     let d = c .before .before .before in
     let l = d .before .before in
     let s = S₁ l in
-    adding-on (F s) (T s) (s .args .ix .count) (l .loop .k) (l .loop .total) (l .loop .inv) (d .before .loop-test .taken) _ (d .subr-len .ensures .0) (d .subr-len .ensures .1) _
+    adding-on (F s) (T s) (s .args .from .ix .count) (l .loop .k) (l .loop .total) (l .loop .inv) (d .before .loop-test .taken) _ (d .subr-len .ensures .0) (d .subr-len .ensures .1) _
     (c .before .len .given .1)
 
 enum-told : tie.Need-enum-told Inv-loop μ-loop
@@ -83,15 +84,19 @@ returns : tie.Need-returns Inv-loop μ-loop
 returns c =
     let d = c .before .before in
     let l = d .before .before in
-    let s = S₁ l in
-    adding-failed (F s) (T s) (s .args .ix .count) (l .loop .k) (l .loop .total) (l .loop .inv) (d .before .loop-test .taken) _ (d .subr-len .ensures .0) (c .enum-told .given .1)
-    ∙ all s
+    let s = S₁ l in (
+      adding-failed (F s) (T s) (s .args .from .ix .count) (l .loop .k) (l .loop .total) (l .loop .inv) (d .before .loop-test .taken) _ (d .subr-len .ensures .0) (c .enum-told .given .1)
+          ∙ all s,
+      tt,
+    )
 
 returns-2 : tie.Need-returns-2 Inv-loop μ-loop
 returns-2 c =
     let l = c .before in
-    let s = S₁ l in
-    adding-end (F s) (T s) (s .args .ix .count) (l .loop .k) (l .loop .total) (l .loop .inv) (c .loop-test .left) ∙ all s
+    let s = S₁ l in (
+      adding-end (F s) (T s) (s .args .from .ix .count) (l .loop .k) (l .loop .total) (l .loop .inv) (c .loop-test .left) ∙ all s,
+      adding-small (F s) (T s) (s .args .from .ix .count) (l .loop .k) (l .loop .total) (l .loop .inv) (s .pre .few),
+    )
 
 pub subrs-total-spec : {M : Type 1} → statement M
 subrs-total-spec =

@@ -16,10 +16,10 @@ use Rattle.bodies.proofs.subrs.written_len.Tie as tie
 
 -- what is reached, and the calls
 abbrev R : tie.Start → ℕ → Bool
-R s = reachedIn (now (s .args .words)) (s .args .own)
+R s = reachedIn (now (s .args .words)) (s .args .from .own)
 
 abbrev C : tie.Start → Calls
-C s = callsBy (now (s .args .words)) (s .args .locals) (s .args .globals)
+C s = callsBy (now (s .args .words)) (s .args .from .locals) (s .args .from .globals)
 
 is-stub-requires : tie.Need-is-stub-requires
 is-stub-requires c κs = search needs
@@ -27,7 +27,7 @@ is-stub-requires c κs = search needs
 returns : tie.Need-returns
 returns c =
     let s = c .before .before .before .before .before in
-    stub-len (s .args .way) (rowsOf (now (s .args .rows))) (R s) (C s) (s .args .of) (itemsOf (now (s .args .font)) (s .args .ix)) (s .args .k)
+    stub-len (s .args .from .way) (rowsOf (now (s .args .rows))) (R s) (C s) (s .args .from .of) (itemsOf (now (s .args .font)) (s .args .from .ix)) (s .args .k)
     (sym (c .before .is-stub .ensures) ∙ c .if1 .taken)
 
 site-in-requires : tie.Need-site-in-requires
@@ -46,10 +46,10 @@ returns-2 c =
     let d = c .before .before .before in
     let s = d .before .before .before .before .before in
     let e = c .body-len .ensures in (
-      subr-len (s .args .way) (rowsOf (now (s .args .rows))) (R s) (C s) (s .args .of) (itemsOf (now (s .args .font)) (s .args .ix)) (s .args .k)
+      subr-len (s .args .from .way) (rowsOf (now (s .args .rows))) (R s) (C s) (s .args .from .of) (itemsOf (now (s .args .font)) (s .args .from .ix)) (s .args .k)
           (siteOf (c .before .before .site-in .result)) (now (c .before .item .result)) (c .before .before .site-in .ensures .0) (c .before .item .ensures)
           (sym (d .before .is-stub .ensures) ∙ d .if1 .left) _ (e .0),
-      item-bound (now (s .args .font)) (s .args .ix) (s .pre .0 .good) (s .pre .0 .size) (s .args .k) (s .pre .1) (now (c .before .item .result)) (c .before .item .ensures) (c .body-len .result) (e .1),
+      item-bound (now (s .args .font)) (s .args .from .ix) (s .pre .0 .good) (s .pre .0 .size) (s .args .k) (s .pre .1) (now (c .before .item .result)) (c .before .item .ensures) (c .body-len .result) (e .1),
     )
 
 pub written-len-spec : {M : Type 1} → statement M

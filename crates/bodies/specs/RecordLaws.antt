@@ -1,0 +1,169 @@
+-- The words that ranking leaves say what the record has reached (document 01, 'Reach record'): the bodies by the words are the bodies by the
+-- record, of the globals, of the locals of an FD, and of the glyphs in the order in which they are written.
+use Prim.Native.Nat.{ℕ, zero, suc, _+_, _≤_, _<_}
+use mathlib.Core.Path.{_≡_, refl, sym, ap, _∙_}
+use mathlib.Core.Bool.{Bool, true, false, not}
+use mathlib.Core.List.{List, [], _∷_}
+use native.Mathlib.Decide.{decLe}
+use native.Mathlib.Omega.{arith}
+use borrow.Author.Tests.{lt-ltb, le-ltb, eqb-true, eq-eqb, ne-eqb}
+use lib.Dec.{eqb}
+use lib.IntN.{ℤ}
+use lib.ListN.{length, take, drop, getD}
+use lib.Seq.{getD-take, getD-drop}
+use Rattle.octets.specs.Pick.{pick}
+use Rattle.unfold.specs.Unfold.{Row, Site, glyph}
+use Rattle.prune.specs.Renumber.{none, new, Calls}
+use Rattle.prune.specs.StepLaws.{zero-one}
+use Rattle.cff.specs.Font.{Program}
+use Rattle.subset.specs.Kept.{those}
+use Rattle.subset.specs.Pruned.{May, fail, yes as made, and, each, mapped, countBelow, rank, reached, renumberedBody, renumberedSubrs, stubbedFrom, callsIn}
+use Rattle.reach.specs.Reach.{ranksOf}
+use Rattle.renumber.specs.RanksLaws.{HoldsRanks, rank-get, numbers-rank}
+use Rattle.renumber.specs.declared.Ranks.{Ranks}
+use Rattle.bodies.specs.Ways.{holds, newBody, bodyBy, subrsBy, reachedIn, glyphAt, every, callsAt, charstringBy, newCharstrings, charstringsBy}
+use Rattle.bodies.specs.Pruning.{allHold, renumberedGlyph, bodiesBy}
+use Rattle.bodies.specs.SubrsLaws.{reached-none}
+use Rattle.bodies.specs.WaysLaws.{new-body-alike, body-by-alike, subrs-by-alike, holds-each}
+
+-- ---- what is reached
+
+-- a rank is 0 where its number is not in the set
+rank-tells : (t : Bool) (n : ℕ) → not (eqb (pick t (n + 1) 0) 0) ≡ t
+rank-tells true n = ap not (ne-eqb (n + 1) 0 (λ e. zero-one (omega arith)))
+rank-tells false n = ap not (eq-eqb 0 0 refl)
+
+-- below the count the words say what the set has
+pub reached-below : (ws : List ℕ) (own : Ranks) (set : ℕ → Bool) → take (own .count) (drop (own .at) ws) ≡ ranksOf set 0 (own .count)
+    → (k : ℕ) → k < own .count → reachedIn ws own k ≡ set k
+reached-below ws own set e k h =
+    let z : 0 + k ≡ k = omega arith in
+    let w : getD ws (own .at + k) 0 ≡ pick (set k) (countBelow set k + 1) 0
+    = sym (getD-drop (own .at) ws k 0) ∙ sym (getD-take (own .count) (drop (own .at) ws) k 0 h) ∙ ap (λ (l : List ℕ). getD l k 0) e
+    ∙ rank-get set 0 (own .count) k h ∙ ap (λ (j : ℕ). pick (set j) (countBelow set j + 1) 0) z in
+    rw (lt-ltb k (own .count) h) (ap (λ (x : ℕ). not (eqb x 0)) w ∙ rank-tells (set k) (countBelow set k))
+
+-- where the set has no other number, they say it for every number
+pub reached-same : (ws : List ℕ) (own : Ranks) (set : ℕ → Bool) → HoldsRanks ws own set → (k : ℕ) → reachedIn ws own k ≡ set k
+reached-same ws own set h k = go (decLe (k + 1) (own .count))
+  where
+    past : own .count ≤ k → set k ≡ false
+    past l = out (set k) (sym (numbers-rank ws own set h k) ∙ rw (le-ltb k (own .count) l))
+      where
+        out : (t : Bool) → pick t (new (countBelow set k)) none ≡ none → t ≡ false
+        out true e = absurd (zero-one cc)
+        out false e = refl
+
+    go : Dec (k + 1 ≤ own .count) → reachedIn ws own k ≡ set k
+    go (yes l) = reached-below ws own set (h .words) k (omega arith)
+    go (no l) = let m : own .count ≤ k = omega arith in reached-none ws own k m ∙ sym (past m)
+
+-- sets that are the same below n have as many below it
+pub count-alike : (set set' : ℕ → Bool) (n : ℕ) → ((k : ℕ) → k < n → set k ≡ set' k) → countBelow set n ≡ countBelow set' n
+unfolding countBelow
+count-alike set set' zero same = refl
+count-alike set set' (suc n) same =
+    ap (λ (t : Bool). countBelow set n + pick t 1 0) (same n (omega arith))
+    ∙ ap (λ (m : ℕ). m + pick (set' n) 1 0) (count-alike set set' n (λ k h. same k (omega arith)))
+
+-- the number reached, as writing asks for it
+pub reached-told : (ws : List ℕ) (own : Ranks) (set : ℕ → Bool) → take (own .count) (drop (own .at) ws) ≡ ranksOf set 0 (own .count)
+    → own .reached ≡ countBelow set (own .count) → own .reached ≡ countBelow (reachedIn ws own) (own .count)
+reached-told ws own set e r = r ∙ sym (count-alike (reachedIn ws own) set (own .count) (reached-below ws own set e))
+
+-- ---- subroutines
+
+-- a number without a subroutine fails
+pub past-fails : (rows : List Row) (set : ℕ → Bool) (calls : Calls) (site : ℕ → Site) (subrs : List (List ℕ))
+    → eqb (reached set) (countBelow set (length subrs)) ≡ false → renumberedSubrs rows set calls site subrs ≡ fail
+unfolding renumberedSubrs
+past-fails rows set calls site subrs e =
+    ap (λ (t : Bool). pick t (each (λ k. renumberedBody rows calls (site k) (getD subrs k [])) (those set (length subrs) 0)) fail) e
+
+-- stubbed alike, where the sets are the same at each of the subroutines
+stubbed-alike : (set set' : ℕ → Bool) (k : ℕ) (l : List (List ℕ)) → ((i : ℕ) → i < length l → set (k + i) ≡ set' (k + i)) → stubbedFrom set k l ≡ stubbedFrom set' k l
+unfolding stubbedFrom
+stubbed-alike set set' k [] same = refl
+stubbed-alike set set' k (s ∷ l) same =
+    let z : k + 0 ≡ k = omega arith in
+    let e : set k ≡ set' k = ap set (sym z) ∙ same 0 (omega arith) ∙ ap set' z in
+    ap (λ (t : Bool). pick t s (11 ∷ []) ∷ stubbedFrom set (k + 1) l) e
+    ∙ ap (λ (r : List (List ℕ)). pick (set' k) s (11 ∷ []) ∷ r)
+    (stubbed-alike set set' (k + 1) l (λ i h. let q : k + 1 + i ≡ k + suc i = omega arith in ap set q ∙ same (suc i) (omega arith) ∙ ap set' (sym q)))
+
+-- by the way: renumbering asks that sets and calls are the same for every number, the other ways only below the count
+pub subrs-record : (way : ℕ) (rows : List Row) (set set' : ℕ → Bool) (calls calls' : Calls) (site : ℕ → Site) (subrs : List (List ℕ))
+    → ((k : ℕ) → k < length subrs → set k ≡ set' k) → (way ≡ 0 → ((k : ℕ) → set k ≡ set' k) × ((b : ℕ) (z : ℤ) → calls b z ≡ calls' b z))
+    → subrsBy way rows set calls site subrs ≡ subrsBy way rows set' calls' site subrs
+subrs-record way rows set set' calls calls' site subrs below all = go (eqb way 0) refl
+  where
+    go : (t : Bool) → eqb way 0 ≡ t → subrsBy way rows set calls site subrs ≡ subrsBy way rows set' calls' site subrs
+    go true e = let q = all (eqb-true way 0 e) in subrs-by-alike way rows set set' calls calls' site subrs (q .0) (q .1)
+    go false e =
+        let f : stubbedFrom set 0 subrs ≡ stubbedFrom set' 0 subrs
+        = stubbed-alike set set' 0 subrs (λ i h. let z : 0 + i ≡ i = omega arith in ap set z ∙ below i h ∙ ap set' (sym z)) in
+        rw e (ap (λ (l : List (List ℕ)). made (pick (eqb way 1) l subrs)) f)
+
+-- ---- charstrings
+
+-- each by its place in a list
+each-placed : {A : Type 0} (f h : ℕ → May A) (k : ℕ) (l : List ℕ) → ((i : ℕ) → i < length l → f (k + i) ≡ h (getD l i 0)) → each f (those every (length l) k) ≡ each h l
+unfolding each those
+each-placed f h k [] same = refl
+each-placed {A} f h k (x ∷ l) same =
+    let z : k ≡ k + 0 = omega arith in
+    let e : f k ≡ h x = ap f z ∙ same 0 (omega arith) in
+    ap (λ (m : May A). and m (λ b. and (each f (those every (length l) (k + 1))) (λ bs. made (b ∷ bs)))) e
+    ∙ ap (λ (m : May (List A)). and (h x) (λ b. and m (λ bs. made (b ∷ bs))))
+    (each-placed f h (k + 1) l (λ i q. let y : k + 1 + i ≡ k + suc i = omega arith in ap f y ∙ same (suc i) (omega arith)))
+
+mapped-placed : {A : Type 0} (f h : ℕ → A) (k : ℕ) (l : List ℕ) → ((i : ℕ) → i < length l → f (k + i) ≡ h (getD l i 0)) → mapped f (those every (length l) k) ≡ mapped h l
+unfolding mapped those
+mapped-placed f h k [] same = refl
+mapped-placed {A} f h k (x ∷ l) same =
+    let z : k ≡ k + 0 = omega arith in
+    let e : f k ≡ h x = ap f z ∙ same 0 (omega arith) in
+    ap (λ (m : A). m ∷ mapped f (those every (length l) (k + 1))) e
+    ∙ ap (λ (m : List A). h x ∷ m) (mapped-placed f h (k + 1) l (λ i q. let y : k + 1 + i ≡ k + suc i = omega arith in ap f y ∙ same (suc i) (omega arith)))
+
+module _ (way : ℕ) (p : Program) (rows : List Row) (cid : Bool) (ws : List ℕ) (n : ℕ) (ats counts reacheds : List ℕ) (globals : Ranks) (order : List ℕ)
+    (glyphs : (i : ℕ) → i < length order → glyphAt ws i ≡ getD order i 0)
+    (alike : (i : ℕ) → i < length order → way ≡ 0 → (b : ℕ) (z : ℤ)
+    → callsAt way rows cid ws n ats counts reacheds globals (p .charstrings) i b z ≡ callsIn p rows (getD (p .fds) (getD order i 0) 0) b z) where
+  -- the charstring of a glyph by the record
+  abbrev recordBody : ℕ → May (List ℕ)
+  recordBody g = bodyBy way rows (callsIn p rows (getD (p .fds) g 0)) (glyph g) (getD (p .charstrings) g [])
+
+  placed-body : (i : ℕ) → i < length order → charstringBy way rows cid ws n ats counts reacheds globals (p .charstrings) (0 + i) ≡ recordBody (getD order i 0)
+  placed-body i h =
+      let z : 0 + i ≡ i = omega arith in
+      ap (charstringBy way rows cid ws n ats counts reacheds globals (p .charstrings)) z
+      ∙ ap (λ (g : ℕ). bodyBy way rows (callsAt way rows cid ws n ats counts reacheds globals (p .charstrings) i) (glyph g) (getD (p .charstrings) g [])) (glyphs i h)
+      ∙ body-by-alike way rows (callsAt way rows cid ws n ats counts reacheds globals (p .charstrings) i) (callsIn p rows (getD (p .fds) (getD order i 0) 0))
+      (glyph (getD order i 0)) (getD (p .charstrings) (getD order i 0) []) (alike i h)
+
+  -- the charstrings by the words are those of the glyphs in their order
+  pub charstrings-record : charstringsBy way rows cid ws n ats counts reacheds globals (p .charstrings) (length order) ≡ each recordBody order
+  charstrings-record = each-placed (charstringBy way rows cid ws n ats counts reacheds globals (p .charstrings)) recordBody 0 order placed-body
+
+  placed-new : (i : ℕ) → i < length order
+      → newBody way rows (callsAt way rows cid ws n ats counts reacheds globals (p .charstrings) (0 + i)) (glyph (glyphAt ws (0 + i))) (getD (p .charstrings) (glyphAt ws (0 + i)) [])
+      ≡ newBody way rows (callsIn p rows (getD (p .fds) (getD order i 0) 0)) (glyph (getD order i 0)) (getD (p .charstrings) (getD order i 0) [])
+  placed-new i h =
+      let z : 0 + i ≡ i = omega arith in
+      ap (λ (j : ℕ). newBody way rows (callsAt way rows cid ws n ats counts reacheds globals (p .charstrings) j) (glyph (glyphAt ws j)) (getD (p .charstrings) (glyphAt ws j) [])) z
+      ∙ ap (λ (g : ℕ). newBody way rows (callsAt way rows cid ws n ats counts reacheds globals (p .charstrings) i) (glyph g) (getD (p .charstrings) g [])) (glyphs i h)
+      ∙ new-body-alike way rows (callsAt way rows cid ws n ats counts reacheds globals (p .charstrings) i) (callsIn p rows (getD (p .fds) (getD order i 0) 0))
+      (glyph (getD order i 0)) (getD (p .charstrings) (getD order i 0) []) (alike i h)
+
+  -- they are the charstrings of the bodies by the way
+  pub new-charstrings-record : (used : List ℕ)
+      → newCharstrings way rows cid ws n ats counts reacheds globals (p .charstrings) (length order) ≡ bodiesBy p rows way used order .charstrings
+  unfolding bodiesBy
+  new-charstrings-record used = mapped-placed _ (λ g. newBody way rows (callsIn p rows (getD (p .fds) g 0)) (glyph g) (getD (p .charstrings) g [])) 0 order placed-new
+
+  -- renumbered: none fails where that of no glyph does
+  pub charstrings-hold : way ≡ 0 → holds (charstringsBy way rows cid ws n ats counts reacheds globals (p .charstrings) (length order)) ≡ allHold (renumberedGlyph p rows) order
+  charstrings-hold e =
+      ap holds (charstrings-record ∙ ap (λ (w : ℕ). each (λ g. bodyBy w rows (callsIn p rows (getD (p .fds) g 0)) (glyph g) (getD (p .charstrings) g [])) order) e)
+      ∙ holds-each (renumberedGlyph p rows) order

@@ -1,0 +1,45 @@
+-- Subroutines and charstrings by the code's own values: where they stand, and how they are written.
+use Prim.Native.Nat.{ℕ}
+use mathlib.Core.Bool.{Bool}
+use mathlib.Core.List.{List}
+use Rattle.index.specs.Index.{itemsOf}
+use Rattle.unfold.specs.Unfold.{Row}
+use Rattle.subset.specs.Pruned.{May}
+use Rattle.renumber.specs.Ranks.{callsBy}
+use Rattle.bodies.specs.Ways.{newSubrs, subrsBy, subrBy, reachedIn, siteIn, isKept, SubrsIn, charstringBy, newCharstrings, charstringsBy, CharstringsIn}
+use Rattle.bodies.specs.declared.subrs.Source.{Source}
+use Rattle.bodies.specs.declared.charstrings.Kept.{Kept}
+
+-- which subroutines are written
+abbrev pub keptFrom : Source → List ℕ → ℕ → Bool
+keptFrom from ws k = isKept (from .way) (reachedIn ws (from .own)) k
+
+module _ (from : Source) (rows : List Row) (ws b : List ℕ) where
+  -- what they ask of the font and the words
+  abbrev pub Sourced : Type 0
+  Sourced = SubrsIn b ws (from .ix) (from .own) (from .locals) (from .globals) rows (from .rising) (from .of)
+
+  -- the k-th as it is written; all, or that their renumbering fails; all
+  abbrev pub subrFrom : ℕ → May (List ℕ)
+  subrFrom k = subrBy (from .way) rows (reachedIn ws (from .own)) (callsBy ws (from .locals) (from .globals)) (siteIn (from .of)) (itemsOf b (from .ix)) k
+
+  abbrev pub subrsFrom : May (List (List ℕ))
+  subrsFrom = subrsBy (from .way) rows (reachedIn ws (from .own)) (callsBy ws (from .locals) (from .globals)) (siteIn (from .of)) (itemsOf b (from .ix))
+
+  abbrev pub newSubrsFrom : List (List ℕ)
+  newSubrsFrom = newSubrs (from .way) rows (reachedIn ws (from .own)) (callsBy ws (from .locals) (from .globals)) (siteIn (from .of)) (itemsOf b (from .ix))
+
+module _ (kept : Kept) (rows : List Row) (ws ats counts reacheds b : List ℕ) where
+  -- what charstrings ask of the font, the words and the tables
+  abbrev pub KeptIn : Type 0
+  KeptIn = CharstringsIn b ws (kept .ix) kept ats counts reacheds (kept .globals) rows (kept .rising)
+
+  -- the i-th by the way; all, or that their renumbering fails; all
+  abbrev pub charstringFrom : ℕ → May (List ℕ)
+  charstringFrom i = charstringBy (kept .way) rows (kept .cid) ws (kept .all) ats counts reacheds (kept .globals) (itemsOf b (kept .ix)) i
+
+  abbrev pub charstringsFrom : May (List (List ℕ))
+  charstringsFrom = charstringsBy (kept .way) rows (kept .cid) ws (kept .all) ats counts reacheds (kept .globals) (itemsOf b (kept .ix)) (kept .count)
+
+  abbrev pub newCharstringsFrom : List (List ℕ)
+  newCharstringsFrom = newCharstrings (kept .way) rows (kept .cid) ws (kept .all) ats counts reacheds (kept .globals) (itemsOf b (kept .ix)) (kept .count)
