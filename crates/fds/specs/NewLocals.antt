@@ -48,6 +48,7 @@ module _ (way : ℕ) (p : Program) (rows : List Row) (ws ats counts reacheds : L
   pub record MeasuresLocals (used totals : List ℕ) (all : Bool) : Type 0 where
     pub told : all ≡ allHold localsBy (fdsIn used)
     pub sums : all ≡ true → (f : ℕ) → f < 256 → inUse used f ≡ true → getD totals f 0 ≡ total (newLocals f)
+    pub few : all ≡ true → (f : ℕ) → f < 256 → inUse used f ≡ true → getD totals f 0 ≤ 21989897011200
 
 -- what the FDs in use ask: tables of all FDs, ranks in the words, rows in order where that is said
 pub record LocalsIn (b : List ℕ) (p : Program) (used ws ats counts reacheds : List ℕ) (globals : Ranks) (rows : List Row) (rising : Bool) : Type 0 where

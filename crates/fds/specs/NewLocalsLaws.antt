@@ -22,6 +22,7 @@ use Rattle.renumber.specs.Ranks.{callsBy}
 use Rattle.renumber.specs.declared.Ranks.{Ranks}
 use Rattle.bodies.specs.Ways.{manyOf, holds, measuredOf, newSubrs, subrsBy, reachedIn, ranksIn, siteIn, SubrsIn}
 use Rattle.bodies.specs.Pruning.{allHold}
+use Rattle.bodies.specs.Sizes.{Bounded}
 use Rattle.bodies.specs.SubrsLaws.{new-subrs-is}
 use Rattle.bodies.specs.declared.Measured.{Measured}
 use Rattle.bodies.specs.declared.Measured.the-variants.{Failed, Total}
@@ -107,9 +108,10 @@ module _ (way : ℕ) (b : List ℕ) (p : Program) (rows : List Row) (ws : List �
   items-are = ap (λ (x : Private). x .locals) (g .1)
 
   pub total-is : (r : Measured)
-      → r ≡ measuredOf (subrsBy way rows (reachedIn ws own) (callsBy ws own globals) (siteIn (Local f)) (itemsOf b (q .locals)))
-      → r ≡ measuredOf (localsWith way p rows ws own globals f)
-  total-is r e = e ∙ ap (λ (l : List (List ℕ)). measuredOf (subrsBy way rows (reachedIn ws own) (callsBy ws own globals) (local f) l)) items-are
+      → (r ≡ measuredOf (subrsBy way rows (reachedIn ws own) (callsBy ws own globals) (siteIn (Local f)) (itemsOf b (q .locals)))) × Bounded r
+      → (r ≡ measuredOf (localsWith way p rows ws own globals f)) × Bounded r
+  total-is r e =
+      (e .0 ∙ ap (λ (l : List (List ℕ)). measuredOf (subrsBy way rows (reachedIn ws own) (callsBy ws own globals) (local f) l)) items-are, e .1)
 
 -- what a measure tells
 total-told : (m : May (List (List ℕ))) (t : ℕ) → measuredOf m ≡ Total t → (holds m ≡ true) × (total (manyOf m) ≡ t)
@@ -142,10 +144,11 @@ module _ (way : ℕ) (p : Program) (rows : List Row) (ws ats counts reacheds : L
   pub record Summing (totals : List ℕ) (fd : ℕ) : Type 0 where
     pub hold : allHold (localsBy way p rows ws ats counts reacheds globals) (usedBelow used fd) ≡ true
     pub sums : (f : ℕ) → f < fd → inUse used f ≡ true → getD totals f 0 ≡ total (newLocals way p rows ws ats counts reacheds globals f)
+    pub few : (f : ℕ) → f < fd → inUse used f ≡ true → getD totals f 0 ≤ 21989897011200
 
   pub summing-start : (totals : List ℕ) → Summing totals 0
   summing-start totals =
-      record { hold = hold-start (localsBy way p rows ws ats counts reacheds globals) used; sums = λ f h e. absurd (let y : ⊥ = omega arith in y) }
+      record { hold = hold-start (localsBy way p rows ws ats counts reacheds globals) used; sums = λ f h e. absurd (let y : ⊥ = omega arith in y); few = λ f h e. absurd (let y : ⊥ = omega arith in y) }
 
   module _ (totals : List ℕ) (fd : ℕ) (h : Summing totals fd) where
     pub summing-pass : inUse used fd ≡ false → Summing totals (fd + 1)
@@ -153,6 +156,7 @@ module _ (way : ℕ) (p : Program) (rows : List Row) (ws ats counts reacheds : L
         record {
           hold = hold-pass (localsBy way p rows ws ats counts reacheds globals) used fd e ∙ h .hold;
           sums = λ f k t. by-number f fd (λ s. absurd (differ f s t)) (λ n. h .sums f (omega arith) t);
+          few = λ f k t. by-number f fd (λ s. absurd (differ f s t)) (λ n. h .few f (omega arith) t);
         }
       where
         differ : (f : ℕ) → f ≡ fd → inUse used f ≡ true → ⊥
@@ -163,8 +167,9 @@ module _ (way : ℕ) (p : Program) (rows : List Row) (ws ats counts reacheds : L
       by-tables : r ≡ measuredOf (localsBy way p rows ws ats counts reacheds globals fd)
       by-tables = is ∙ ap (λ (q : Ranks). measuredOf (localsWith way p rows ws q globals fd)) o
 
-      pub summing-take : (t : ℕ) → r ≡ Total t → fd < length totals → Summing (set totals fd t) (fd + 1)
-      summing-take t e k =
+      pub summing-take : Bounded r → (t : ℕ) → r ≡ Total t → fd < length totals → Summing (set totals fd t) (fd + 1)
+      summing-take m t e k =
+          let most : t ≤ 21989897011200 = subst Bounded e m in
           let q = total-told (localsBy way p rows ws ats counts reacheds globals fd) t (sym by-tables ∙ e) in
           let n : total (newLocals way p rows ws ats counts reacheds globals fd) ≡ t = ap total (new-subrs-is way rows _ _ (local fd) (localsOf p fd)) ∙ q .1 in
           record {
@@ -172,6 +177,9 @@ module _ (way : ℕ) (p : Program) (rows : List Row) (ws ats counts reacheds : L
             sums = λ f l v. by-number f fd
                 (λ s. subst (λ (i : ℕ). getD (set totals fd t) i 0 ≡ total (newLocals way p rows ws ats counts reacheds globals i)) (sym s) (getD-set-same totals fd t 0 k ∙ sym n))
                 (λ d. getD-set-other totals fd f t 0 d ∙ h .sums f (omega arith) v);
+            few = λ f l v. by-number f fd
+                (λ s. subst (λ (i : ℕ). getD (set totals fd t) i 0 ≤ 21989897011200) (sym s) (subst (λ (i : ℕ). i ≤ 21989897011200) (sym (getD-set-same totals fd t 0 k)) most))
+                (λ d. subst (λ (i : ℕ). i ≤ 21989897011200) (sym (getD-set-other totals fd f t 0 d)) (h .few f (omega arith) v));
           }
         where
           both : (a c : Bool) → a ≡ true → c ≡ true → pick a c false ≡ true
@@ -184,9 +192,10 @@ module _ (way : ℕ) (p : Program) (rows : List Row) (ws ats counts reacheds : L
           record {
             told = sym (hold-fails (localsBy way p rows ws ats counts reacheds globals) used fd 256 k u q);
             sums = λ z. absurd (zero-one cc);
+            few = λ z. absurd (zero-one cc);
           }
 
     pub summing-done : fd ≡ 256 → MeasuresLocals way p rows ws ats counts reacheds globals used totals true
     summing-done e =
         let g = subst (Summing totals) e h in
-        record { told = sym (g .hold); sums = λ z. g .sums }
+        record { told = sym (g .hold); sums = λ z. g .sums; few = λ z. g .few }

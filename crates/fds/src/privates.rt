@@ -9,6 +9,7 @@ ghost use Rattle.bodies.specs.Ways.{keptCount};
 ghost use Rattle.fds.specs.Locals.{fdsIn};
 ghost use Rattle.fds.specs.NewLocals.{FdIn, LocalsIn};
 ghost use Rattle.fds.specs.NewParts.{partWith, PartRoom, partsFor, PartsRoom};
+use bodies::subrs::Source;
 use bodies::subrs::Subrs;
 use cff::font::Font;
 use renumber::Ranks;
@@ -49,21 +50,18 @@ fn put_part(
     if left == 0 {
         return p;
     }
-    bodies::subrs::put_subrs(
+    let ix = q.locals;
+    let of = Subrs::Local(fd);
+    let from = Source {
         way,
-        font,
-        q.locals,
-        words,
+        of,
+        ix,
         own,
-        own,
+        locals: own,
         globals,
-        rows,
         rising,
-        Subrs::Local(fd),
-        total,
-        out,
-        p,
-    )
+    };
+    bodies::subrs::put_subrs(from, font, words, rows, total, out, p)
 }
 
 // The Private parts of the FDs in use, from `at` on; the place after them.

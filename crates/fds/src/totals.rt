@@ -5,8 +5,10 @@ ghost use lib.ListN.{length};
 ghost use Rattle.record.specs.Record.{rowsOf};
 ghost use Rattle.cff.specs.Reads.{GoodFont, programOf};
 ghost use Rattle.bodies.specs.Ways.{measuredOf, ranksIn};
+ghost use Rattle.bodies.specs.Sizes.{Bounded};
 ghost use Rattle.fds.specs.NewLocals.{localsWith, FdIn, MeasuresLocals, LocalsIn};
 use bodies::Measured;
+use bodies::subrs::Source;
 use bodies::subrs::Subrs;
 use cff::font::Font;
 use renumber::Ranks;
@@ -35,21 +37,22 @@ fn locals_total(
     rising: bool,
 ) -> Measured
     requires { ⌜ (GoodFont (now font) f) × (FdIn (now font) (programOf (now font) f) (now words) own globals (rowsOf (now rows)) rising fd) ⌝ }
-    ensures { λ r. ⌜ r ≡ measuredOf (localsWith way (programOf (now (font .entry)) f) (rowsOf (now (rows .entry))) (now (words .entry)) own globals fd) ⌝ }
+    ensures { λ r. ⌜ (r ≡ measuredOf (localsWith way (programOf (now (font .entry)) f) (rowsOf (now (rows .entry))) (now (words .entry)) own globals fd))
+        × (Bounded r) ⌝ }
 {
     let q = private_dicts::fd_private(font, f, fd);
-    bodies::subrs::subrs_total(
+    let ix = q.locals;
+    let of = Subrs::Local(fd);
+    let from = Source {
         way,
-        font,
-        q.locals,
-        words,
+        of,
+        ix,
         own,
-        own,
+        locals: own,
         globals,
-        rows,
         rising,
-        Subrs::Local(fd),
-    )
+    };
+    bodies::subrs::subrs_total(from, font, words, rows)
 }
 
 // The bytes of the new local subroutines of each FD in use, by the way; false where their renumbering fails.

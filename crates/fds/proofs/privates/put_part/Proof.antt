@@ -48,7 +48,7 @@ returns c =
 
 put-subrs-requires : tie.Need-put-subrs-requires
 put-subrs-requires c κs =
-    let e = c .before in
+    let e = c .before .before in
     let d = e .before .before .before in
     let k = d .before .before in
     let q = k .before in
@@ -66,7 +66,7 @@ same-length-2 c = search needs
 returns-2 : tie.Need-returns-2
 returns-2 c =
     let w = c .before .before in
-    let e = w .before .before in
+    let e = w .before .before .before in
     let d = e .before .before .before in
     let k = d .before .before in
     let q = k .before in

@@ -12,13 +12,14 @@ fd-private-requires c κs = let s = c .before .before .before in (s .pre .0, s .
 
 subrs-total-requires : tie.Need-subrs-total-requires
 subrs-total-requires c κs =
-    let s = c .before .before .before .before in
+    let q = c .before in
+    let s = q .before .before .before .before in
     let a = s .args in
-    subrs-in (a .way) (now (a .font)) (programOf (now (a .font)) (a .f)) (rowsOf (now (a .rows))) (now (a .words)) (a .own) (a .globals) (a .rising) (a .fd) (s .pre .1) _ (c .fd-private .ensures)
+    subrs-in (a .way) (now (a .font)) (programOf (now (a .font)) (a .f)) (rowsOf (now (a .rows))) (now (a .words)) (a .own) (a .globals) (a .rising) (a .fd) (s .pre .1) _ (q .fd-private .ensures)
 
 returns : tie.Need-returns
 returns c =
-    let q = c .before in
+    let q = c .before .before in
     let s = q .before .before .before .before in
     let a = s .args in
     total-is (a .way) (now (a .font)) (programOf (now (a .font)) (a .f)) (rowsOf (now (a .rows))) (now (a .words)) (a .own) (a .globals) (a .rising) (a .fd) (s .pre .1) _ (q .fd-private .ensures) _ (c .subrs-total .ensures)

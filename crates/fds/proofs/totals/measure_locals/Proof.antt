@@ -92,7 +92,7 @@ loop-again-2 c =
     let t = e .before .before .loop-test .taken in (
       omega (arith, t),
       search needs,
-      summing-take _ _ _ _ _ _ _ _ _ _ _ (i .2) (in-use e) _ (r .ranks-in .ensures) _ (d .locals-total .ensures) _ (v .t .given .1) (omega (arith, t, i .1, S l .pre .1)),
+      summing-take _ _ _ _ _ _ _ _ _ _ _ (i .2) (in-use e) _ (r .ranks-in .ensures) _ (d .locals-total .ensures .0) (d .locals-total .ensures .1) _ (v .t .given .1) (omega (arith, t, i .1, S l .pre .1)),
     )
 
 enum-told : tie.Need-enum-told Inv-loop μ-loop
@@ -107,7 +107,7 @@ returns c =
     let r = d .before in
     let e = r .before in
     let l = L₁ e in
-    summing-fails _ _ _ _ _ _ _ _ _ _ _ (l .loop .inv .2) (in-use e) _ (r .ranks-in .ensures) _ (d .locals-total .ensures) (e .before .before .loop-test .taken) (c .enum-told .given .1) _
+    summing-fails _ _ _ _ _ _ _ _ _ _ _ (l .loop .inv .2) (in-use e) _ (r .ranks-in .ensures) _ (d .locals-total .ensures .0) (e .before .before .loop-test .taken) (c .enum-told .given .1) _
 
 same-length-2 : tie.Need-same-length-2 Inv-loop μ-loop
 same-length-2 c = search needs
