@@ -7,3 +7,4 @@ pub mod LocalsLaws
 pub mod PartsLaws
 pub mod NewLocalsLaws
 pub mod NewPartsLaws
+pub mod HeldLaws
