@@ -19,6 +19,7 @@ use Rattle.cff.specs.Font.{Program}
 use Rattle.subset.specs.Kept.{those}
 use Rattle.subset.specs.Pruned.{May, fail, yes as made, and, each, mapped, countBelow, rank, reached, renumberedBody, renumberedSubrs, stubbedFrom, callsIn}
 use Rattle.reach.specs.Reach.{ranksOf}
+use Rattle.reach.specs.WordLaws.{HoldRanks}
 use Rattle.renumber.specs.RanksLaws.{HoldsRanks, rank-get, numbers-rank}
 use Rattle.renumber.specs.declared.Ranks.{Ranks}
 use Rattle.bodies.specs.Ways.{holds, newBody, bodyBy, subrsBy, reachedIn, glyphAt, every, callsAt, charstringBy, newCharstrings, charstringsBy}
@@ -33,15 +34,22 @@ rank-tells : (t : Bool) (n : ℕ) → not (eqb (pick t (n + 1) 0) 0) ≡ t
 rank-tells true n = ap not (ne-eqb (n + 1) 0 (λ e. zero-one (omega arith)))
 rank-tells false n = ap not (eq-eqb 0 0 refl)
 
--- below the count the words say what the set has
+-- a subroutine is reached where its word is the rank of a number of the set
+reached-word : (ws : List ℕ) (own : Ranks) (set : ℕ → Bool) (k : ℕ) → k < own .count → getD ws (own .at + k) 0 ≡ pick (set k) (countBelow set k + 1) 0
+    → reachedIn ws own k ≡ set k
+reached-word ws own set k h w = rw (lt-ltb k (own .count) h) (ap (λ (x : ℕ). not (eqb x 0)) w ∙ rank-tells (set k) (countBelow set k))
+
+-- below the count the words say what the set has: by the ranks as a list, and by the ranks as reach holds them
 pub reached-below : (ws : List ℕ) (own : Ranks) (set : ℕ → Bool) → take (own .count) (drop (own .at) ws) ≡ ranksOf set 0 (own .count)
     → (k : ℕ) → k < own .count → reachedIn ws own k ≡ set k
 reached-below ws own set e k h =
     let z : 0 + k ≡ k = omega arith in
-    let w : getD ws (own .at + k) 0 ≡ pick (set k) (countBelow set k + 1) 0
-    = sym (getD-drop (own .at) ws k 0) ∙ sym (getD-take (own .count) (drop (own .at) ws) k 0 h) ∙ ap (λ (l : List ℕ). getD l k 0) e
-    ∙ rank-get set 0 (own .count) k h ∙ ap (λ (j : ℕ). pick (set j) (countBelow set j + 1) 0) z in
-    rw (lt-ltb k (own .count) h) (ap (λ (x : ℕ). not (eqb x 0)) w ∙ rank-tells (set k) (countBelow set k))
+    reached-word ws own set k h
+    (sym (getD-drop (own .at) ws k 0) ∙ sym (getD-take (own .count) (drop (own .at) ws) k 0 h) ∙ ap (λ (l : List ℕ). getD l k 0) e
+    ∙ rank-get set 0 (own .count) k h ∙ ap (λ (j : ℕ). pick (set j) (countBelow set j + 1) 0) z)
+
+pub reached-held : (ws : List ℕ) (own : Ranks) (set : ℕ → Bool) → HoldRanks ws (own .at) set (own .count) → (k : ℕ) → k < own .count → reachedIn ws own k ≡ set k
+reached-held ws own set e k h = reached-word ws own set k h (e .word k h)
 
 -- where the set has no other number, they say it for every number
 pub reached-same : (ws : List ℕ) (own : Ranks) (set : ℕ → Bool) → HoldsRanks ws own set → (k : ℕ) → reachedIn ws own k ≡ set k
@@ -67,9 +75,9 @@ count-alike set set' (suc n) same =
     ∙ ap (λ (m : ℕ). m + pick (set' n) 1 0) (count-alike set set' n (λ k h. same k (omega arith)))
 
 -- the number reached, as writing asks for it
-pub reached-told : (ws : List ℕ) (own : Ranks) (set : ℕ → Bool) → take (own .count) (drop (own .at) ws) ≡ ranksOf set 0 (own .count)
+pub reached-told : (ws : List ℕ) (own : Ranks) (set : ℕ → Bool) → ((k : ℕ) → k < own .count → reachedIn ws own k ≡ set k)
     → own .reached ≡ countBelow set (own .count) → own .reached ≡ countBelow (reachedIn ws own) (own .count)
-reached-told ws own set e r = r ∙ sym (count-alike (reachedIn ws own) set (own .count) (reached-below ws own set e))
+reached-told ws own set same r = r ∙ sym (count-alike (reachedIn ws own) set (own .count) same)
 
 -- ---- subroutines
 
