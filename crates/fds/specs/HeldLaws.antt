@@ -161,7 +161,7 @@ module _ (p : Program) (rec used : List ℕ) (at : ℕ) (old ws ats counts reach
     fd-ranks = ranked-words ws own (localSet (rowsOf rec) f) fd-inside (omega (arith, told .count)) fd-words fd-reached
 
     pub fd-counted : Counted ws own
-    fd-counted = reached-told ws own (localSet (rowsOf rec) f) fd-words fd-reached
+    fd-counted = reached-told ws own (localSet (rowsOf rec) f) (reached-below ws own (localSet (rowsOf rec) f) fd-words) fd-reached
 
     module _ (o : Octets rec) where
       -- they are the record's, where it has no number without a subroutine
