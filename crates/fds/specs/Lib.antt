@@ -1,0 +1,10 @@
+pub mod Locals
+pub mod Parts
+pub mod NewLocals
+pub mod NewParts
+pub mod UsedLaws
+pub mod LocalsLaws
+pub mod PartsLaws
+pub mod NewLocalsLaws
+pub mod NewPartsLaws
+pub mod HeldLaws

@@ -1,0 +1,117 @@
+// The Private parts of the FDs in use, written by the way: each Private DICT with its new local subroutines behind it.
+ghost use mathlib.Core.Path.{_≡_};
+ghost use Prim.Native.Nat.{_≤_, _<_};
+ghost use lib.ListN.{length};
+ghost use Rattle.octets.specs.Octets.{Wrote};
+ghost use Rattle.record.specs.Record.{rowsOf};
+ghost use Rattle.cff.specs.Reads.{GoodFont, programOf};
+ghost use Rattle.bodies.specs.Ways.{keptCount};
+ghost use Rattle.fds.specs.Locals.{fdsIn};
+ghost use Rattle.fds.specs.NewLocals.{FdIn, LocalsIn};
+ghost use Rattle.fds.specs.NewParts.{partWith, PartRoom, partsFor, PartsRoom};
+use bodies::subrs::Source;
+use bodies::subrs::Subrs;
+use cff::font::Font;
+use renumber::Ranks;
+
+// How many of some subroutines are written, by the way.
+fn kept_count(way: u8, reached: usize, count: usize) -> usize
+    ensures { λ r. ⌜ r ≡ keptCount way reached count ⌝ }
+{
+    if way == 0 {
+        return reached;
+    }
+    count
+}
+
+// The Private part of an FD, from `at` on; the place after it.
+fn put_part(
+    way: u8,
+    font: &[u8],
+    f: Font,
+    fd: usize,
+    words: &[u32],
+    own: Ranks,
+    globals: Ranks,
+    rows: &[u8],
+    rising: bool,
+    total: usize,
+    out: &mut [u8],
+    at: usize,
+) -> usize
+    requires { ⌜ (GoodFont (now font) f) × (FdIn (now font) (programOf (now font) f) (now words) own globals (rowsOf (now rows)) rising fd)
+        × (PartRoom way (programOf (now font) f) (rowsOf (now rows)) (now words) own globals total at (length (now out)) fd) ⌝ }
+    ensures { λ r. ⌜ Wrote (now (out .entry)) at
+        (partWith way (programOf (now (font .entry)) f) (rowsOf (now (rows .entry))) (now (words .entry)) own globals fd) (now (out .exit)) r ⌝ }
+{
+    let q = private_dicts::fd_private(font, f, fd);
+    let left = kept_count(way, own.reached, own.count);
+    let p = private_dicts::put_dict(font, q, left, &mut *out, at);
+    if left == 0 {
+        return p;
+    }
+    let ix = q.locals;
+    let of = Subrs::Local(fd);
+    let from = Source {
+        way,
+        of,
+        ix,
+        own,
+        locals: own,
+        globals,
+        rising,
+    };
+    bodies::subrs::put_subrs(from, font, words, rows, total, out, p)
+}
+
+// The Private parts of the FDs in use, from `at` on; the place after them.
+pub fn put_privates(
+    way: u8,
+    font: &[u8],
+    f: Font,
+    used: &[u32],
+    words: &[u32],
+    ats: &[usize],
+    counts: &[usize],
+    reacheds: &[usize],
+    totals: &[usize],
+    globals: Ranks,
+    rows: &[u8],
+    rising: bool,
+    out: &mut [u8],
+    at: usize,
+) -> usize
+    requires { ⌜ (GoodFont (now font) f)
+        × (LocalsIn (now font) (programOf (now font) f) (now used) (now words) (now ats) (now counts) (now reacheds) globals (rowsOf (now rows)) rising)
+        × (PartsRoom way (programOf (now font) f) (rowsOf (now rows)) (now words) (now ats) (now counts) (now reacheds) globals (now used) (now totals) at
+        (length (now out))) ⌝ }
+    ensures { λ r. ⌜ Wrote (now (out .entry)) at
+        (partsFor way (programOf (now (font .entry)) f) (rowsOf (now (rows .entry))) (now (words .entry)) (now (ats .entry)) (now (counts .entry)) (now (reacheds .entry))
+        globals (fdsIn (now (used .entry)))) (now (out .exit)) r ⌝ }
+{
+    let mut p = at;
+    let mut fd: usize = 0;
+    while fd < 256 {
+        if used[fd] == 0 {
+            fd += 1;
+        } else {
+            let own = crate::totals::ranks_in(ats, counts, reacheds, fd);
+            p = put_part(
+                way,
+                font,
+                f,
+                fd,
+                words,
+                own,
+                globals,
+                rows,
+                rising,
+                totals[fd],
+                &mut *out,
+                p,
+            );
+            fd += 1;
+        }
+    }
+    p
+}
