@@ -8,3 +8,4 @@ pub mod Taking
 pub mod TakingLaws
 pub mod SqueezedLaws
 pub mod TakenLaws
+pub mod KeyingLaws
