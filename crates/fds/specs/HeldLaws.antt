@@ -21,7 +21,7 @@ use Rattle.subset.specs.Kept.{localsOf}
 use Rattle.subset.specs.Pruned.{countBelow, reached, localSet, globalSet, callsIn}
 use Rattle.reach.specs.Reach.{ranksOf}
 use Rattle.reach.specs.CountLaws.{count-more, length-ranks}
-use Rattle.faithful.specs.RankLaws.{count-few}
+use Rattle.subset.specs.RankLaws.{count-few}
 use Rattle.renumber.specs.Ranks.{callsBy, Ranked}
 use Rattle.renumber.specs.RanksLaws.{HoldsRanks, rank-get, calls-in}
 use Rattle.renumber.specs.HoldsLaws.{narrow-set}

@@ -24,8 +24,8 @@ use Rattle.cff.specs.declared.private.PrivateAt.{PrivateAt}
 use Rattle.subset.specs.Kept.{those, privateOf}
 use Rattle.subset.specs.Pruned.{mapped}
 use Rattle.subset.specs.Subset.{privateDict, privatePart, privateParts}
-use Rattle.faithful.specs.EachLaws.{length-mapped}
-use Rattle.faithful.specs.KeptListLaws.{those-count}
+use Rattle.subset.specs.EachLaws.{length-mapped}
+use Rattle.subset.specs.KeptListLaws.{those-count}
 use Rattle.reach.specs.Cases.{by-number}
 use Rattle.private_dicts.specs.Privates.{privateDictBy, sum, sizesOf, lensOf}
 use Rattle.private_dicts.specs.PrivatesLaws.{private-dict-is, none-length, some-length, part-few}
