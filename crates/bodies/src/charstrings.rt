@@ -56,7 +56,7 @@ fn fd_at(words: &[u32], cid: bool, n: usize, i: usize) -> usize
 }
 
 // Where the ranks of the local subroutines of an FD stand.
-fn ranks_in(ats: &[usize], counts: &[usize], reacheds: &[usize], fd: usize) -> Ranks
+pub fn ranks_in(ats: &[usize], counts: &[usize], reacheds: &[usize], fd: usize) -> Ranks
     requires { ⌜ (fd < length (now ats)) × (fd < length (now counts)) × (fd < length (now reacheds)) ⌝ }
     ensures { λ r. ⌜ r ≡ ranksIn (now (ats .entry)) (now (counts .entry)) (now (reacheds .entry)) fd ⌝ }
 {

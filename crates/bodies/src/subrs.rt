@@ -181,7 +181,7 @@ fn put_subr(
 }
 
 // The number of subroutines that are written.
-fn kept_count(way: u8, reached: usize, count: usize) -> usize
+pub fn kept_count(way: u8, reached: usize, count: usize) -> usize
     ensures { λ r. ⌜ r ≡ keptCount way reached count ⌝ }
 {
     if way == 0 {

@@ -1,11 +1,9 @@
 // The Private parts of the FDs in use, written by the way: each Private DICT with its new local subroutines behind it.
-ghost use mathlib.Core.Path.{_≡_};
-ghost use Prim.Native.Nat.{_≤_, _<_};
+ghost use Prim.Native.Nat.{_<_};
 ghost use lib.ListN.{length};
 ghost use Rattle.octets.specs.Octets.{Wrote};
 ghost use Rattle.record.specs.Record.{rowsOf};
 ghost use Rattle.cff.specs.Reads.{GoodFont, programOf};
-ghost use Rattle.bodies.specs.Ways.{keptCount};
 ghost use Rattle.fds.specs.Locals.{fdsIn};
 ghost use Rattle.fds.specs.NewLocals.{FdIn, LocalsIn};
 ghost use Rattle.fds.specs.NewParts.{partWith, PartRoom, partsFor, PartsRoom};
@@ -13,16 +11,6 @@ use bodies::subrs::Source;
 use bodies::subrs::Subrs;
 use cff::font::Font;
 use renumber::Ranks;
-
-// How many of some subroutines are written, by the way.
-fn kept_count(way: u8, reached: usize, count: usize) -> usize
-    ensures { λ r. ⌜ r ≡ keptCount way reached count ⌝ }
-{
-    if way == 0 {
-        return reached;
-    }
-    count
-}
 
 // The Private part of an FD, from `at` on; the place after it.
 fn put_part(
@@ -45,7 +33,7 @@ fn put_part(
         (partWith way (programOf (now (font .entry)) f) (rowsOf (now (rows .entry))) (now (words .entry)) own globals fd) (now (out .exit)) r ⌝ }
 {
     let q = private_dicts::fd_private(font, f, fd);
-    let left = kept_count(way, own.reached, own.count);
+    let left = bodies::subrs::kept_count(way, own.reached, own.count);
     let p = private_dicts::put_dict(font, q, left, &mut *out, at);
     if left == 0 {
         return p;
@@ -95,7 +83,7 @@ pub fn put_privates(
         if used[fd] == 0 {
             fd += 1;
         } else {
-            let own = crate::totals::ranks_in(ats, counts, reacheds, fd);
+            let own = bodies::charstrings::ranks_in(ats, counts, reacheds, fd);
             p = put_part(
                 way,
                 font,

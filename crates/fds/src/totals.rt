@@ -4,25 +4,15 @@ ghost use Prim.Native.Nat.{_≤_, _<_};
 ghost use lib.ListN.{length};
 ghost use Rattle.record.specs.Record.{rowsOf};
 ghost use Rattle.cff.specs.Reads.{GoodFont, programOf};
-ghost use Rattle.bodies.specs.Ways.{measuredOf, ranksIn};
+ghost use Rattle.bodies.specs.Ways.{measuredOf};
 ghost use Rattle.bodies.specs.Sizes.{Bounded};
 ghost use Rattle.fds.specs.NewLocals.{localsWith, FdIn, MeasuresLocals, LocalsIn};
 use bodies::Measured;
+use bodies::charstrings::ranks_in;
 use bodies::subrs::Source;
 use bodies::subrs::Subrs;
 use cff::font::Font;
 use renumber::Ranks;
-
-// The ranks of the locals of an FD by the tables.
-pub fn ranks_in(ats: &[usize], counts: &[usize], reacheds: &[usize], fd: usize) -> Ranks
-    requires { ⌜ (fd < length (now ats)) × (fd < length (now counts)) × (fd < length (now reacheds)) ⌝ }
-    ensures { λ r. ⌜ r ≡ ranksIn (now (ats .entry)) (now (counts .entry)) (now (reacheds .entry)) fd ⌝ }
-{
-    let at = ats[fd];
-    let count = counts[fd];
-    let reached = reacheds[fd];
-    Ranks { at, count, reached }
-}
 
 // The bytes of the new local subroutines of an FD, by the way; or that their renumbering fails.
 fn locals_total(
