@@ -1,0 +1,168 @@
+-- `fds::rank_locals` meets its contract. The invariant: the locals of the FDs in use below fd are ranked.
+use Prim.Native.Nat.{_+_, _≤_, _-_}
+use mathlib.Core.Path.{_≡_, refl, ap}
+use mathlib.Core.Bool.{true}
+use native.Mathlib.Omega.{arith}
+use borrow.Author.Needs.{needs}
+use lib.ListN.{length}
+use denote.Ref.{now}
+use Rattle.record.specs.Record.{rowsOf}
+use Rattle.cff.specs.Reads.{programOf}
+use Rattle.subset.specs.Kept.{localsOf}
+use Rattle.fds.specs.declared.RankedLocals.{RankedLocals}
+use Rattle.fds.specs.Locals.{inUse}
+use Rattle.fds.specs.UsedLaws.{not-used, is-used}
+use Rattle.fds.specs.LocalsLaws.{Ranking, ranking-start, ranking-length, ranking-room, ranking-small, few-locals, ranking-pass, ranking-take, ranking-done}
+use Rattle.fds.proofs.rank_locals.Statement.{statement}
+use Rattle.fds.proofs.rank_locals.Tie as tie
+
+abbrev Inv-loop : tie.InvT-loop
+Inv-loop font f rows used words₀ at ats₀ counts₀ reacheds₀ place₀ all₀ fd₀ words ats counts reacheds place all fd =
+    (fd ≤ 256) × (length words ≡ length words₀) × (length ats ≡ length ats₀) × (length counts ≡ length counts₀) × (length reacheds ≡ length reacheds₀)
+    × Ranking (programOf font f) (rowsOf rows) used at words₀ words ats counts reacheds place all fd
+
+abbrev μ-loop : tie.MeasureT-loop
+μ-loop font f rows used words₀ at ats₀ counts₀ reacheds₀ place₀ all₀ fd₀ words ats counts reacheds place all fd = 256 - fd
+
+-- the arguments, at a turn
+abbrev S : tie.At-loop Inv-loop μ-loop → tie.Start Inv-loop μ-loop
+S l = l .before .before .before .before .before .before .before .before
+
+abbrev L₁ : tie.Else1 Inv-loop μ-loop → tie.At-loop Inv-loop μ-loop
+L₁ e = e .before .before .before
+
+-- an FD in use has room for its ranks
+in-use : (e : tie.Else1 Inv-loop μ-loop) → inUse (now (S (L₁ e) .args .used)) (L₁ e .loop .fd) ≡ true
+in-use e = is-used (now (S (L₁ e) .args .used)) (L₁ e .loop .fd) (e .if1 .left)
+
+room : (e : tie.Else1 Inv-loop μ-loop)
+    → (let l = L₁ e in let s = S l in
+    l .loop .place + length (localsOf (programOf (now (s .args .font)) (s .args .f)) (l .loop .fd)) ≤ length (l .loop .words))
+room e = let l = L₁ e in ranking-room _ _ _ _ _ (S l .pre .4) _ _ _ _ _ _ _ (l .loop .inv .5) (in-use e)
+
+loop-holds : tie.Need-loop-holds Inv-loop μ-loop
+loop-holds c = (omega arith, refl, refl, refl, refl, ranking-start _ _ _ _ _ _ _ _)
+
+mul-if1 : tie.Need-mul-if1 Inv-loop μ-loop
+mul-if1 c = search needs
+
+shared-slice-read-if1 : tie.Need-shared-slice-read-if1 Inv-loop μ-loop
+shared-slice-read-if1 c = search needs
+
+add-fd : tie.Need-add-fd Inv-loop μ-loop
+add-fd c = search needs
+
+loop-less : tie.Need-loop-less Inv-loop μ-loop
+loop-less c = search needs
+
+loop-again : tie.Need-loop-again Inv-loop μ-loop
+loop-again c =
+    let t = c .before .before in
+    let l = t .before in
+    let i = l .loop .inv in
+    (omega (arith, t .loop-test .taken), i .1, i .2, i .3, i .4, ranking-pass _ _ _ _ _ (S l .pre .4) _ _ _ _ _ _ _ (i .5) (not-used (now (S l .args .used)) (l .loop .fd) (c .if1 .taken)))
+
+rank-fd-requires : tie.Need-rank-fd-requires Inv-loop μ-loop
+rank-fd-requires c κs =
+    let e = c .before in
+    let l = L₁ e in
+    let s = S l in
+    let t = e .before .before .loop-test .taken in
+    (s .pre .0, t, s .pre .2 _ t (in-use e), room e)
+
+mul-ats : tie.Need-mul-ats Inv-loop μ-loop
+mul-ats c = search needs
+
+slice-write-ats : tie.Need-slice-write-ats Inv-loop μ-loop
+slice-write-ats c = search needs
+
+mul-counts : tie.Need-mul-counts Inv-loop μ-loop
+mul-counts c = search needs
+
+slice-write-counts : tie.Need-slice-write-counts Inv-loop μ-loop
+slice-write-counts c = search needs
+
+mul-reacheds : tie.Need-mul-reacheds Inv-loop μ-loop
+mul-reacheds c = search needs
+
+slice-write-reacheds : tie.Need-slice-write-reacheds Inv-loop μ-loop
+slice-write-reacheds c = search needs
+
+both-requires : tie.Need-both-requires Inv-loop μ-loop
+both-requires c κs = search needs
+
+add-place : tie.Need-add-place Inv-loop μ-loop
+add-place c =
+    let f = c .before .before .before .before in
+    let e = f .before .before in
+    let l = L₁ e in
+    let s = S l in
+    omega (
+      arith,
+      ap (λ (x : RankedLocals). x .count) (f .rank-fd .ensures .1),
+      ranking-small _ _ _ _ _ (s .pre .4) _ _ _ _ _ _ _ (l .loop .inv .5) (in-use e) (s .pre .3) (few-locals _ _ (s .pre .0)),
+    )
+
+add-fd-2 : tie.Need-add-fd-2 Inv-loop μ-loop
+add-fd-2 c = search needs
+
+loop-less-2 : tie.Need-loop-less-2 Inv-loop μ-loop
+loop-less-2 c = search needs
+
+loop-again-2 : tie.Need-loop-again-2 Inv-loop μ-loop
+loop-again-2 c =
+    let b = c .before in
+    let f = b .before .before .before in
+    let e = f .before .before in
+    let l = L₁ e in
+    let s = S l in
+    let i = l .loop .inv in
+    let t = e .before .before .loop-test .taken in
+    let m = ranking-take _ _ _ _ _ (s .pre .4) _ _ _ _ _ _ _ (i .5) (in-use e) (omega (arith, i .2, s .pre .5, t)) (omega (arith, i .3, s .pre .6, t)) (omega (arith, i .4, s .pre .7, t))
+    _ (f .rank-fd .ensures .1) _ (f .rank-fd .ensures .0) _ (b .both .ensures) in
+    (omega (arith, t), search needs, search needs, search needs, search needs, m)
+
+same-length : tie.Need-same-length Inv-loop μ-loop
+same-length c = search needs
+
+same-length-2 : tie.Need-same-length-2 Inv-loop μ-loop
+same-length-2 c = search needs
+
+same-length-3 : tie.Need-same-length-3 Inv-loop μ-loop
+same-length-3 c = search needs
+
+same-length-4 : tie.Need-same-length-4 Inv-loop μ-loop
+same-length-4 c = search needs
+
+returns : tie.Need-returns Inv-loop μ-loop
+returns c = let l = c .before in ranking-done _ _ _ _ _ _ _ _ _ _ _ _ (l .loop .inv .5) (omega (arith, l .loop .inv .0, c .loop-test .left))
+
+pub rank-locals-spec : {M : Type 1} → statement M
+rank-locals-spec =
+    tie.close
+    (tie.spec
+    Inv-loop
+    μ-loop
+    loop-holds
+    mul-if1
+    shared-slice-read-if1
+    add-fd
+    loop-less
+    loop-again
+    rank-fd-requires
+    mul-ats
+    slice-write-ats
+    mul-counts
+    slice-write-counts
+    mul-reacheds
+    slice-write-reacheds
+    both-requires
+    add-place
+    add-fd-2
+    loop-less-2
+    loop-again-2
+    same-length
+    same-length-2
+    same-length-3
+    same-length-4
+    returns)

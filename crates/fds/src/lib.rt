@@ -1,0 +1,95 @@
+// Everything that goes over the FDs in use: the ranks of their local subroutines in the work words, and their Private DICTs with the new
+// local subroutines behind them.
+pub mod parts;
+
+ghost use mathlib.Core.Path.{_≡_};
+ghost use mathlib.Core.Bool.{false};
+ghost use Prim.Native.Nat.{_+_, _≤_, _<_};
+ghost use lib.ListN.{length};
+ghost use Rattle.octets.specs.Octets.{put};
+ghost use Rattle.octets.specs.Pick.{pick};
+ghost use Rattle.record.specs.Record.{rowsOf};
+ghost use Rattle.cff.specs.Find.{localsTotal};
+ghost use Rattle.cff.specs.Reads.{GoodFont, programOf};
+ghost use Rattle.subset.specs.Kept.{localsOf};
+ghost use Rattle.fds.specs.Locals.{UsedOf, fdRanks, rankedLocals, RanksLocals};
+use cff::font::Font;
+
+// How many local subroutines an FD has, how many of them are reached, and whether the record has no other number.
+pub struct RankedLocals {
+    pub count: usize,
+    pub reached: usize,
+    pub all: bool,
+}
+
+// Ranks the locals of an FD in the words from `at` on.
+fn rank_fd(
+    font: &[u8],
+    f: Font,
+    fd: usize,
+    rows: &[u8],
+    words: &mut [u32],
+    at: usize,
+) -> RankedLocals
+    requires { ⌜ (GoodFont (now font) f) × (fd < 256) × (fd < length (programOf (now font) f .privates))
+        × (at + length (localsOf (programOf (now font) f) fd) ≤ length (now words)) ⌝ }
+    ensures { λ r. ⌜ (now (words .exit) ≡ put (now (words .entry)) at (fdRanks (programOf (now (font .entry)) f) (rowsOf (now (rows .entry))) fd))
+        × (r ≡ rankedLocals (programOf (now (font .entry)) f) (rowsOf (now (rows .entry))) fd) ⌝ }
+{
+    let q = private_dicts::fd_private(font, f, fd);
+    let locals = q.locals;
+    let count = locals.count;
+    let r = reach::ranks::rank_reached(rows, false, fd, words, at, count);
+    RankedLocals {
+        count,
+        reached: r.reached,
+        all: r.all,
+    }
+}
+
+// Whether both hold.
+pub fn both(a: bool, b: bool) -> bool
+    ensures { λ r. ⌜ r ≡ pick a b false ⌝ }
+{
+    if a {
+        return b;
+    }
+    false
+}
+
+// Ranks the locals of each FD in use, one behind the other from `at` on; whether no number is without a subroutine.
+pub fn rank_locals(
+    font: &[u8],
+    f: Font,
+    rows: &[u8],
+    used: &[u32],
+    words: &mut [u32],
+    at: usize,
+    ats: &mut [usize],
+    counts: &mut [usize],
+    reacheds: &mut [usize],
+) -> bool
+    requires { ⌜ (GoodFont (now font) f) × (256 ≤ length (now used)) × (UsedOf (length (programOf (now font) f .privates)) (now used))
+        × (at < 4294967296) × (at + localsTotal (programOf (now font) f .privates) ≤ length (now words))
+        × (256 ≤ length (now ats)) × (256 ≤ length (now counts)) × (256 ≤ length (now reacheds)) ⌝ }
+    ensures { λ r. ⌜ RanksLocals (programOf (now (font .entry)) f) (rowsOf (now (rows .entry))) (now (used .entry)) at
+        (now (words .entry)) (now (words .exit)) (now (ats .exit)) (now (counts .exit)) (now (reacheds .exit)) r ⌝ }
+{
+    let mut place = at;
+    let mut all = true;
+    let mut fd: usize = 0;
+    while fd < 256 {
+        if used[fd] == 0 {
+            fd += 1;
+        } else {
+            let r = rank_fd(font, f, fd, rows, &mut *words, place);
+            ats[fd] = place;
+            counts[fd] = r.count;
+            reacheds[fd] = r.reached;
+            all = both(all, r.all);
+            place += r.count;
+            fd += 1;
+        }
+    }
+    all
+}
