@@ -1,6 +1,7 @@
 // Everything that goes over the FDs in use: the ranks of their local subroutines in the work words, and their Private DICTs with the new
 // local subroutines behind them.
 pub mod parts;
+pub mod totals;
 
 ghost use mathlib.Core.Path.{_≡_};
 ghost use mathlib.Core.Bool.{false};
