@@ -1,2 +1,3 @@
 pub mod Ranked
 pub mod RankedLaws
+pub mod StandsLaws

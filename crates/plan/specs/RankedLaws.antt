@@ -57,8 +57,7 @@ module _ (p : Program) (rows : List Row) where
   ranks-split used f h u =
       let s = used-front used (f + 1) (256 - (f + 1)) in
       let e : f + 1 + (256 - (f + 1)) ≡ 256 = omega arith in
-      let a : fdsIn used ≡ usedBelow used (f + 1) ++ s .0 = ap (usedBelow used) (sym e) ∙ s .1 in
-      (
+      let a : fdsIn used ≡ usedBelow used (f + 1) ++ s .0 = ap (usedBelow used) (sym e) ∙ s .1 in (
         ranksFor p rows (s .0),
         ap (ranksFor p rows) a ∙ ranks-append (usedBelow used (f + 1)) (s .0)
             ∙ ap (λ (l : List ℕ). l ++ ranksFor p rows (s .0)) (ap (ranksFor p rows) (used-next used f u) ∙ ranks-last p rows (usedBelow used f) f)
@@ -86,16 +85,17 @@ ranksAt at count r = record { at = at; count = count; reached = r }
 abbrev answer : Ranks → Bool → RankedAll
 answer q t = record { globals = q; all = t }
 
+-- there is room for the locals behind the globals
+pub locals-room : (rows : List Row) (old mid : List ℕ) (at count more : ℕ) → at + count + more ≤ length old → mid ≡ put old at (ranksOf (globalSet rows) 0 count)
+    → at + count + more ≤ length mid
+locals-room rows old mid at count more h w =
+    let l = length-ranks (globalSet rows) 0 count in
+    let k : at + length (ranksOf (globalSet rows) 0 count) ≤ length old = omega arith in
+    omega (arith, ap length w, put-length old at (ranksOf (globalSet rows) 0 count) k)
+
 module _ (p : Program) (rows : List Row) (used old mid new ats counts reacheds : List ℕ) (n count : ℕ) (glyphs : n ≡ length (p .charstrings))
     (many : count ≡ length (p .globals)) (room : 2 * n + count + localsTotal (p .privates) ≤ length old)
     (r : code.Ranked) (w : mid ≡ put old (2 * n) (ranksOf (globalSet rows) 0 count)) (is : r ≡ rankedOf (globalSet rows) count) where
-  -- there is room for the locals
-  pub locals-room : 2 * n + count + localsTotal (p .privates) ≤ length mid
-  locals-room =
-      let l = length-ranks (globalSet rows) 0 count in
-      let k : 2 * n + length (ranksOf (globalSet rows) 0 count) ≤ length old = omega arith in
-      omega (arith, ap length w, put-length old (2 * n) (ranksOf (globalSet rows) 0 count) k)
-
   module _ (all both : Bool) (h : RanksLocals p rows used (2 * n + count) mid new ats counts reacheds all) (b : both ≡ pick (r .all) all false) where
     whole : new ≡ put old (2 * n) (ranksOf (globalSet rows) 0 count ++ ranksFor p rows (fdsIn used))
     whole =
