@@ -1,3 +1,9 @@
 pub mod Ranked
+pub mod Sizes
 pub mod RankedLaws
 pub mod StandsLaws
+pub mod SameLaws
+pub mod FontLaws
+pub mod WayLaws
+pub mod AcrossLaws
+pub mod MeasureLaws

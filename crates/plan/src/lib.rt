@@ -1,5 +1,7 @@
 // The plan of a subset (document 01, 'Corners in write.rs'): all subroutines are ranked in the work words, the way is found, and the bodies
 // are measured.
+pub mod sizes;
+
 ghost use Prim.Native.Nat.{_+_, _*_, _≤_};
 ghost use lib.ListN.{length};
 ghost use Rattle.record.specs.Record.{rowsOf};

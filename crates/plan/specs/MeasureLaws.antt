@@ -1,0 +1,85 @@
+-- Laws of measuring all bodies, part by part: the globals, the locals of the FDs in use, the charstrings.
+use Prim.Native.Nat.{ℕ, _+_, _≤_, _<_}
+use mathlib.Core.Path.{_≡_, refl, sym, ap, _∙_}
+use mathlib.Core.Bool.{Bool, true, false}
+use mathlib.Core.List.{List}
+use lib.ListN.{length}
+use Rattle.octets.specs.Pick.{pick}
+use Rattle.unfold.specs.Unfold.{Row}
+use Rattle.prune.specs.StepLaws.{zero-one}
+use Rattle.cff.specs.Font.{Program}
+use Rattle.renumber.specs.declared.Ranks.{Ranks}
+use Rattle.bodies.specs.Ways.{manyOf, holds, measuredOf, charstringsBy}
+use Rattle.bodies.specs.Pruning.{allHold}
+use Rattle.bodies.specs.declared.Measured.{Measured}
+use Rattle.bodies.specs.declared.Measured.the-variants.{Failed, Total}
+use Rattle.fds.specs.Locals.{fdsIn}
+use Rattle.fds.specs.NewLocals.{localsBy, MeasuresLocals}
+use Rattle.fds.specs.NewLocalsLaws.{total-told, failed-told}
+use Rattle.plan.specs.Sizes.{globalsBy, glyphsBy, allMade, MeasuresAll}
+use Rattle.plan.specs.declared.sizes.Measures.{Measures}
+
+abbrev measures : Bool → ℕ → ℕ → Measures
+measures t g c = record { all = t; globals = g; glyphs = c }
+
+never : (t u : Bool) → t ≡ false → pick t u false ≡ false
+never true u e = absurd (zero-one cc)
+never false u e = refl
+
+either : (t u v : Bool) → pick u v false ≡ false → pick t (pick u v false) false ≡ false
+either true u v e = e
+either false u v e = refl
+
+last : (t u v : Bool) → v ≡ false → pick t (pick u v false) false ≡ false
+last true true v e = e
+last true false v e = refl
+last false u v e = refl
+
+every : (t u v : Bool) → t ≡ true → u ≡ true → v ≡ true → pick t (pick u v false) false ≡ true
+every true true v a b e = e
+every true false v a b e = absurd (zero-one cc)
+every false u v a b e = absurd (zero-one cc)
+
+module _ (way : ℕ) (p : Program) (rows : List Row) (cid : Bool) (ws used ats counts reacheds : List ℕ) (globals : Ranks) (k : ℕ) (totals : List ℕ) where
+  abbrev Whole : Measures → Type 0
+  Whole r = MeasuresAll way p rows cid ws used ats counts reacheds globals k totals r
+
+  none : allMade way p rows cid ws used ats counts reacheds globals k ≡ false → Whole (measures false 0 0)
+  none e =
+      record {
+        told = sym e;
+        ofGlobals = λ z. absurd (zero-one cc);
+        ofLocals = λ z. absurd (zero-one cc);
+        ofGlyphs = λ z. absurd (zero-one cc);
+      }
+
+  -- the globals fail
+  pub globals-fail : measuredOf (globalsBy way p rows cid ws used ats counts reacheds globals k) ≡ Failed → Whole (measures false 0 0)
+  globals-fail e = none (never (holds (globalsBy way p rows cid ws used ats counts reacheds globals k)) _ (failed-told _ e))
+
+  module _ (t : Bool) (ls : MeasuresLocals way p rows ws ats counts reacheds globals used totals t) where
+    -- the locals of an FD fail
+    pub locals-fail : t ≡ false → Whole (measures false 0 0)
+    locals-fail e =
+        none (either (holds (globalsBy way p rows cid ws used ats counts reacheds globals k)) _ _
+        (never (allHold (localsBy way p rows ws ats counts reacheds globals) (fdsIn used)) _ (sym (ls .told) ∙ e)))
+
+    -- a charstring fails
+    pub glyphs-fail : measuredOf (glyphsBy way p rows cid ws used ats counts reacheds globals k) ≡ Failed → Whole (measures false 0 0)
+    glyphs-fail e =
+        none (last (holds (globalsBy way p rows cid ws used ats counts reacheds globals k)) (allHold (localsBy way p rows ws ats counts reacheds globals) (fdsIn used)) _
+        (failed-told _ e))
+
+    -- none fails
+    pub all-measured : (g c : ℕ) → measuredOf (globalsBy way p rows cid ws used ats counts reacheds globals k) ≡ Total g → t ≡ true
+        → measuredOf (glyphsBy way p rows cid ws used ats counts reacheds globals k) ≡ Total c → Whole (measures true g c)
+    all-measured g c e u d =
+        let x = total-told (globalsBy way p rows cid ws used ats counts reacheds globals k) g e in
+        let y = total-told (glyphsBy way p rows cid ws used ats counts reacheds globals k) c d in
+        record {
+          told = sym (every (holds (globalsBy way p rows cid ws used ats counts reacheds globals k)) (allHold (localsBy way p rows ws ats counts reacheds globals) (fdsIn used)) _
+              (x .0) (sym (ls .told) ∙ u) (y .0));
+          ofGlobals = λ z. sym (x .1);
+          ofLocals = λ z. ls .sums u;
+          ofGlyphs = λ z. sym (y .1);
+        }
