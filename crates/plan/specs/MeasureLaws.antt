@@ -1,6 +1,6 @@
 -- Laws of measuring all bodies, part by part: the globals, the locals of the FDs in use, the charstrings.
 use Prim.Native.Nat.{ℕ, _+_, _≤_, _<_}
-use mathlib.Core.Path.{_≡_, refl, sym, ap, _∙_}
+use mathlib.Core.Path.{_≡_, refl, sym, ap, _∙_, subst}
 use mathlib.Core.Bool.{Bool, true, false}
 use mathlib.Core.List.{List}
 use lib.ListN.{length}
@@ -9,14 +9,16 @@ use Rattle.unfold.specs.Unfold.{Row}
 use Rattle.prune.specs.StepLaws.{zero-one}
 use Rattle.cff.specs.Font.{Program}
 use Rattle.renumber.specs.declared.Ranks.{Ranks}
-use Rattle.bodies.specs.Ways.{manyOf, holds, measuredOf, charstringsBy}
+use Rattle.renumber.specs.Ranks.{callsBy}
+use Rattle.bodies.specs.Ways.{manyOf, holds, measuredOf, charstringsBy, subrsBy, reachedIn, siteIn}
+use Rattle.bodies.specs.declared.subrs.Subrs.the-variants.{Global}
 use Rattle.bodies.specs.Pruning.{allHold}
 use Rattle.bodies.specs.declared.Measured.{Measured}
 use Rattle.bodies.specs.declared.Measured.the-variants.{Failed, Total}
 use Rattle.fds.specs.Locals.{fdsIn}
 use Rattle.fds.specs.NewLocals.{localsBy, MeasuresLocals}
 use Rattle.fds.specs.NewLocalsLaws.{total-told, failed-told}
-use Rattle.plan.specs.Sizes.{globalsBy, glyphsBy, allMade, MeasuresAll}
+use Rattle.plan.specs.Sizes.{acrossBy, globalsBy, glyphsBy, allMade, MeasuresAll}
 use Rattle.plan.specs.declared.sizes.Measures.{Measures}
 
 abbrev measures : Bool → ℕ → ℕ → Measures
@@ -55,20 +57,20 @@ module _ (way : ℕ) (p : Program) (rows : List Row) (cid : Bool) (ws used ats c
 
   -- the globals fail
   pub globals-fail : measuredOf (globalsBy way p rows cid ws used ats counts reacheds globals k) ≡ Failed → Whole (measures false 0 0)
-  globals-fail e = none (never (holds (globalsBy way p rows cid ws used ats counts reacheds globals k)) _ (failed-told _ e))
+  globals-fail e = none (never (holds (globalsBy way p rows cid ws used ats counts reacheds globals k)) (pick (allHold (localsBy way p rows ws ats counts reacheds globals) (fdsIn used)) (holds (glyphsBy way p rows cid ws used ats counts reacheds globals k)) false) (failed-told (globalsBy way p rows cid ws used ats counts reacheds globals k) e))
 
   module _ (t : Bool) (ls : MeasuresLocals way p rows ws ats counts reacheds globals used totals t) where
     -- the locals of an FD fail
     pub locals-fail : t ≡ false → Whole (measures false 0 0)
     locals-fail e =
-        none (either (holds (globalsBy way p rows cid ws used ats counts reacheds globals k)) _ _
-        (never (allHold (localsBy way p rows ws ats counts reacheds globals) (fdsIn used)) _ (sym (ls .told) ∙ e)))
+        none (either (holds (globalsBy way p rows cid ws used ats counts reacheds globals k)) (allHold (localsBy way p rows ws ats counts reacheds globals) (fdsIn used)) (holds (glyphsBy way p rows cid ws used ats counts reacheds globals k))
+        (never (allHold (localsBy way p rows ws ats counts reacheds globals) (fdsIn used)) (holds (glyphsBy way p rows cid ws used ats counts reacheds globals k)) (sym (ls .told) ∙ e)))
 
     -- a charstring fails
     pub glyphs-fail : measuredOf (glyphsBy way p rows cid ws used ats counts reacheds globals k) ≡ Failed → Whole (measures false 0 0)
     glyphs-fail e =
-        none (last (holds (globalsBy way p rows cid ws used ats counts reacheds globals k)) (allHold (localsBy way p rows ws ats counts reacheds globals) (fdsIn used)) _
-        (failed-told _ e))
+        none (last (holds (globalsBy way p rows cid ws used ats counts reacheds globals k)) (allHold (localsBy way p rows ws ats counts reacheds globals) (fdsIn used)) (holds (glyphsBy way p rows cid ws used ats counts reacheds globals k))
+        (failed-told (glyphsBy way p rows cid ws used ats counts reacheds globals k) e))
 
     -- none fails
     pub all-measured : (g c : ℕ) → measuredOf (globalsBy way p rows cid ws used ats counts reacheds globals k) ≡ Total g → t ≡ true
@@ -77,9 +79,35 @@ module _ (way : ℕ) (p : Program) (rows : List Row) (cid : Bool) (ws used ats c
         let x = total-told (globalsBy way p rows cid ws used ats counts reacheds globals k) g e in
         let y = total-told (glyphsBy way p rows cid ws used ats counts reacheds globals k) c d in
         record {
-          told = sym (every (holds (globalsBy way p rows cid ws used ats counts reacheds globals k)) (allHold (localsBy way p rows ws ats counts reacheds globals) (fdsIn used)) _
+          told = sym (every (holds (globalsBy way p rows cid ws used ats counts reacheds globals k)) (allHold (localsBy way p rows ws ats counts reacheds globals) (fdsIn used)) (holds (glyphsBy way p rows cid ws used ats counts reacheds globals k))
               (x .0) (sym (ls .told) ∙ u) (y .0));
           ofGlobals = λ z. sym (x .1);
           ofLocals = λ z. ls .sums u;
           ofGlyphs = λ z. sym (y .1);
         }
+
+  -- what the code returns: the calls of the globals by their ranks, and each part as it was measured
+  module _ (calls : Ranks) (across : calls ≡ acrossBy ats counts reacheds (fdsIn used)) (m : Measured)
+      (is : m ≡ measuredOf (subrsBy way rows (reachedIn ws globals) (callsBy ws calls globals) (siteIn Global) (p .globals))) where
+    globals-told : (x : Measured) → m ≡ x → measuredOf (globalsBy way p rows cid ws used ats counts reacheds globals k) ≡ x
+    globals-told x e =
+        sym (ap (λ (q : Ranks). measuredOf (subrsBy way rows (reachedIn ws globals) (callsBy ws q globals) (siteIn Global) (p .globals))) across) ∙ sym is ∙ e
+
+    pub returns-globals : m ≡ Failed → (r : Measures) → r ≡ measures false 0 0 → Whole r
+    returns-globals e r a = subst Whole (sym a) (globals-fail (globals-told Failed e))
+
+    module _ (t : Bool) (ls : MeasuresLocals way p rows ws ats counts reacheds globals used totals t) where
+      pub returns-locals : t ≡ false → (r : Measures) → r ≡ measures false 0 0 → Whole r
+      returns-locals e r a = subst Whole (sym a) (locals-fail t ls e)
+
+      module _ (n : ℕ) (many : n ≡ length (p .charstrings)) (d : Measured)
+          (ds : d ≡ measuredOf (charstringsBy way rows cid ws n ats counts reacheds globals (p .charstrings) k)) where
+        glyphs-told : (x : Measured) → d ≡ x → measuredOf (glyphsBy way p rows cid ws used ats counts reacheds globals k) ≡ x
+        glyphs-told x e =
+            sym (ap (λ (i : ℕ). measuredOf (charstringsBy way rows cid ws i ats counts reacheds globals (p .charstrings) k)) many) ∙ sym ds ∙ e
+
+        pub returns-glyphs : d ≡ Failed → (r : Measures) → r ≡ measures false 0 0 → Whole r
+        returns-glyphs e r a = subst Whole (sym a) (glyphs-fail t ls (glyphs-told Failed e))
+
+        pub returns-all : (g c : ℕ) → m ≡ Total g → t ≡ true → d ≡ Total c → Whole (measures true g c)
+        returns-all g c e u v = all-measured t ls g c (globals-told (Total g) e) u (glyphs-told (Total c) v)

@@ -83,15 +83,45 @@ pub fn measure(
     let charstrings = f.charstrings;
     let calls = across(used, ats, counts, reacheds);
     match bodies::subrs::subrs_total(
-        way, font, subrs, words, globals, calls, globals, rows, rising, Subrs::Global,
+        way,
+        font,
+        subrs,
+        words,
+        globals,
+        calls,
+        globals,
+        rows,
+        rising,
+        Subrs::Global,
     ) {
         Measured::Failed => failed(),
         Measured::Total(g) => {
             if fds::totals::measure_locals(
-                way, font, f, used, words, ats, counts, reacheds, globals, rows, rising, totals,
+                way,
+                font,
+                f,
+                used,
+                words,
+                ats,
+                counts,
+                reacheds,
+                globals,
+                rows,
+                rising,
+                totals,
             ) {
                 match bodies::charstrings::charstrings_total(
-                    way, font, charstrings, words, kept, ats, counts, reacheds, globals, rows, rising,
+                    way,
+                    font,
+                    charstrings,
+                    words,
+                    kept,
+                    ats,
+                    counts,
+                    reacheds,
+                    globals,
+                    rows,
+                    rising,
                 ) {
                     Measured::Failed => failed(),
                     Measured::Total(c) => Measures {
