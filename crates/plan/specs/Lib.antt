@@ -7,3 +7,4 @@ pub mod FontLaws
 pub mod WayLaws
 pub mod AcrossLaws
 pub mod MeasureLaws
+pub mod PlanLaws

@@ -3,6 +3,7 @@ use Prim.Native.Nat.{ℕ, _+_, _≤_, _<_}
 use mathlib.Core.Path.{_≡_}
 use mathlib.Core.Bool.{Bool, true, false}
 use mathlib.Core.List.{List, [], _∷_}
+use lib.Dec.{eqb}
 use lib.ListN.{length, take, drop, getD}
 use Rattle.octets.specs.Pick.{pick}
 use Rattle.index.specs.Write.{total}
@@ -23,6 +24,7 @@ use Rattle.bodies.specs.Pruning.{allHold}
 use Rattle.fds.specs.Locals.{inUse, fdsIn}
 use Rattle.fds.specs.NewLocals.{localsBy, newLocals, LocalsIn}
 use Rattle.plan.specs.declared.sizes.Measures.{Measures}
+use Rattle.plan.specs.declared.Plan.{Plan}
 
 -- no ranks
 abbrev pub noRanks : Ranks
@@ -68,6 +70,17 @@ module _ (way : ℕ) (p : Program) (rows : List Row) (cid : Bool) (ws used ats c
     pub ofGlobals : r .all ≡ true → r .globals ≡ total (manyOf globalsBy)
     pub ofLocals : r .all ≡ true → (f : ℕ) → f < 256 → inUse used f ≡ true → getD totals f 0 ≡ total (newLocals way p rows ws ats counts reacheds globals f)
     pub ofGlyphs : r .all ≡ true → r .glyphs ≡ total (manyOf glyphsBy)
+
+-- the way that is found: by the flag, by whether each number has a subroutine, and by whether no part fails
+abbrev pub wayBy : ℕ → Bool → Bool → ℕ
+wayBy traced all made = pick (eqb traced 0) 2 (pick all (pick made 0 1) 1)
+
+-- a plan: the way, and the bytes of all bodies by it
+module _ (p : Program) (rows : List Row) (cid : Bool) (ws used ats counts reacheds : List ℕ) (globals : Ranks) (k : ℕ) where
+  pub record Plans (traced : ℕ) (all : Bool) (totals : List ℕ) (r : Plan) : Type 0 where
+    pub is : r .way ≡ wayBy traced all (allMade 0 p rows cid ws used ats counts reacheds globals k)
+    pub sizes : MeasuresAll (r .way) p rows cid ws used ats counts reacheds globals k totals
+        (record { all = true; globals = r .«globals_total»; glyphs = r .«glyphs_total» })
 
 -- what measuring asks: the parts that the words and the tables hold, as their own measures ask for them
 pub record MeasureIn (b : List ℕ) (f : Font) (used ws : List ℕ) (kept : Kept) (ats counts reacheds : List ℕ) (globals : Ranks) (rows : List Row) (rising : Bool) : Type 0 where

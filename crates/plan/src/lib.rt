@@ -9,6 +9,9 @@ ghost use Rattle.cff.specs.Find.{localsTotal};
 ghost use Rattle.cff.specs.Reads.{GoodFont, programOf};
 ghost use Rattle.fds.specs.Locals.{UsedOf};
 ghost use Rattle.plan.specs.Ranked.{RanksAll};
+ghost use Rattle.plan.specs.Sizes.{MeasureIn, Plans};
+use crate::sizes::measure;
+use bodies::charstrings::Kept;
 use cff::font::Font;
 use renumber::Ranks;
 
@@ -48,5 +51,123 @@ pub fn rank_all(
     RankedAll {
         globals: Ranks { at, count, reached },
         all,
+    }
+}
+
+// The way (0 renumbered, 1 stubbed, 2 copied), and the bytes of the globals and of the charstrings.
+pub struct Plan {
+    pub way: u8,
+    pub globals_total: usize,
+    pub glyphs_total: usize,
+}
+
+// Finds the way and measures all bodies by it: those of the locals of each FD in use in a table.
+pub fn plan_bodies(
+    font: &[u8],
+    f: Font,
+    used: &[u32],
+    words: &[u32],
+    kept: Kept,
+    ats: &[usize],
+    counts: &[usize],
+    reacheds: &[usize],
+    ranked: RankedAll,
+    rows: &[u8],
+    rising: bool,
+    traced: u8,
+    totals: &mut [usize],
+) -> Plan
+    requires { ⌜ (MeasureIn (now font) f (now used) (now words) kept (now ats) (now counts) (now reacheds) (ranked .globals) (rowsOf (now rows)) rising)
+        × (256 ≤ length (now totals)) ⌝ }
+    ensures { λ r. ⌜ Plans (programOf (now (font .entry)) f) (rowsOf (now (rows .entry))) (kept .cid) (now (words .entry)) (now (used .entry))
+        (now (ats .entry)) (now (counts .entry)) (now (reacheds .entry)) (ranked .globals) (kept .count) traced (ranked .all) (now (totals .exit)) r ⌝ }
+{
+    let globals = ranked.globals;
+    let all = ranked.all;
+    if traced == 0 {
+        let m = measure(
+            2,
+            font,
+            f,
+            used,
+            words,
+            kept,
+            ats,
+            counts,
+            reacheds,
+            globals,
+            rows,
+            rising,
+            totals,
+        );
+        return Plan {
+            way: 2,
+            globals_total: m.globals,
+            glyphs_total: m.glyphs,
+        };
+    }
+    if all {
+        let m = measure(
+            0,
+            font,
+            f,
+            used,
+            words,
+            kept,
+            ats,
+            counts,
+            reacheds,
+            globals,
+            rows,
+            rising,
+            &mut *totals,
+        );
+        if m.all {
+            return Plan {
+                way: 0,
+                globals_total: m.globals,
+                glyphs_total: m.glyphs,
+            };
+        }
+        let s = measure(
+            1,
+            font,
+            f,
+            used,
+            words,
+            kept,
+            ats,
+            counts,
+            reacheds,
+            globals,
+            rows,
+            rising,
+            totals,
+        );
+        return Plan {
+            way: 1,
+            globals_total: s.globals,
+            glyphs_total: s.glyphs,
+        };
+    }
+    let s = measure(
+        1,
+        font,
+        f,
+        used,
+        words,
+        kept,
+        ats,
+        counts,
+        reacheds,
+        globals,
+        rows,
+        rising,
+        totals,
+    );
+    Plan {
+        way: 1,
+        globals_total: s.globals,
+        glyphs_total: s.glyphs,
     }
 }
