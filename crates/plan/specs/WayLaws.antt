@@ -24,7 +24,7 @@ use Rattle.bodies.specs.WaysLaws.{holds-each, renumbers-parts, pruned-by}
 use Rattle.fds.specs.Locals.{inUse, fdsIn, numbered, allNumbered}
 use Rattle.fds.specs.NewLocals.{localsBy, newLocals}
 use Rattle.plan.specs.Ranked.{AllRanked, globalsNumbered, everyNumbered}
-use Rattle.plan.specs.Sizes.{KeptIn, globalsBy, glyphsBy, allMade, Narrow}
+use Rattle.plan.specs.Sizes.{KeptIn, globalsBy, glyphsBy, allMade, wayBy, Narrow}
 use Rattle.plan.specs.SameLaws.{hold-same}
 use Rattle.plan.specs.FontLaws.{locals-same, globals-same, glyphs-same}
 
@@ -102,3 +102,21 @@ module _ (p : Program) (good : GoodProgram p) (rows : List Row) (narrow : Narrow
         new-subrs-is way rows _ _ (local f) (localsOf p f)
         ∙ ap manyOf (locals-same p good rows narrow used ws globals ats counts reacheds h way all f b u)
         ∙ sym (new-subrs-is way rows (localSet rows f) (callsIn p rows f) (local f) (localsOf p f))
+
+    -- the charstrings of the subset, or that their renumbering fails
+    pub new-glyphs : glyphsBy way p rows cid ws used ats counts reacheds globals k
+        ≡ each (λ g. bodyBy way rows (callsIn p rows (getD (p .fds) g 0)) (glyph g) (getD (p .charstrings) g [])) order
+    new-glyphs = glyphs-same p good rows narrow used ws globals ats counts reacheds h way all cid k order kept
+
+  -- the way that is found is that of the subset
+  pub way-is : (traced : ℕ) (all : Bool) → all ≡ everyNumbered p rows (fdsIn used)
+      → wayBy traced all (allMade 0 p rows cid ws used ats counts reacheds globals k) ≡ pruned p rows (fdsIn used) order traced .way
+  way-is traced all e =
+      ap (λ (n : ℕ). pick (eqb traced 0) 2 n)
+      (ap (λ (t : Bool). pick t (pick (allMade 0 p rows cid ws used ats counts reacheds globals k) 0 1) 1) e ∙ go (everyNumbered p rows (fdsIn used)) refl)
+      ∙ sym (ap (λ (q : Pruned). q .way) (pruned-by p rows (fdsIn used) order traced))
+    where
+      go : (t : Bool) → everyNumbered p rows (fdsIn used) ≡ t
+          → _≡_ {A = ℕ} (pick t (pick (allMade 0 p rows cid ws used ats counts reacheds globals k) 0 1) 1) (pick (renumbers p rows (fdsIn used) order) 0 1)
+      go true n = ap (λ (b : Bool). pick b 0 1) (made-renumbers n)
+      go false n = sym (ap (λ (b : Bool). pick b 0 1) (unnumbered-fails p rows (fdsIn used) order n))
