@@ -8,3 +8,4 @@ pub mod WayLaws
 pub mod AcrossLaws
 pub mod MeasureLaws
 pub mod PlanLaws
+pub mod InLaws
