@@ -1,0 +1,4 @@
+pub mod Ranked
+pub mod RankedLaws
+pub mod StandsLaws
+pub mod SameLaws
