@@ -1,43 +1,37 @@
 -- The bodies that the work words and the tables give by the way are those of the subset, and no part fails exactly where the font can be
 -- renumbered.
-use Prim.Native.Nat.{ℕ, zero, suc, _+_, _*_, _%_, _≤_, _<_}
+use Prim.Native.Nat.{ℕ, zero, suc, _+_, _*_, _%_, _<_}
 use mathlib.Core.Path.{_≡_, refl, sym, ap, _∙_, fun-ext, subst}
 use mathlib.Core.Bool.{Bool, true, false}
 use mathlib.Core.List.{List, [], _∷_}
 use mathlib.Core.Logic.{⊎-elim}
 use native.Mathlib.Omega.{arith}
 use borrow.Author.Tests.{eqb-true}
-use lib.Dec.{eqb}
-use lib.ListN.{length, take, drop, getD}
+use lib.ListN.{length, drop, getD}
 use lib.Seq.{getD-take, getD-drop}
 use Rattle.octets.specs.Octets.{Octets}
 use Rattle.octets.specs.Pick.{pick}
-use Rattle.dict.specs.Lookup.{cidKeyed}
 use Rattle.record.specs.Record.{rowsOf}
-use Rattle.unfold.specs.Unfold.{Row, Site, glyph, local, global}
-use Rattle.prune.specs.Renumber.{Calls}
+use Rattle.unfold.specs.Unfold.{Row, glyph, local, global}
 use Rattle.prune.specs.StepLaws.{zero-one}
 use Rattle.cff.specs.Font.{Program}
-use Rattle.subset.specs.Kept.{isIn, those, localsOf, fdsOf}
-use Rattle.subset.specs.Pruned.{May, fail, each, mapped, countBelow, reached, localSet, globalSet, renumberedSubrs, callsIn, callsAcross}
+use Rattle.subset.specs.Kept.{isIn, localsOf, fdsOf}
+use Rattle.subset.specs.Pruned.{each, countBelow, reached, localSet, globalSet, callsIn, callsAcross}
 use Rattle.subset.specs.EachLaws.{mapped-at}
-use Rattle.subset.specs.KeptListLaws.{in-none, in-head, in-more, in-cases, those-has, those-in}
+use Rattle.subset.specs.KeptListLaws.{in-none, in-head, in-cases, those-has, those-in}
 use Rattle.faithful.specs.Laid.{GoodProgram}
 use Rattle.faithful.specs.UsedLaws.{fd-there}
-use Rattle.kept.specs.Packed.{packed}
 use Rattle.renumber.specs.Ranks.{callsBy}
 use Rattle.renumber.specs.RanksLaws.{HoldsRanks, calls-in, calls-across, calls-across-none}
 use Rattle.renumber.specs.HoldsLaws.{narrow-set}
 use Rattle.renumber.specs.declared.Ranks.{Ranks}
-use Rattle.bodies.specs.Ways.{manyOf, holds, bodyBy, newSubrs, subrsBy, reachedIn, ranksIn, glyphAt, fdAt}
-use Rattle.bodies.specs.Pruning.{allHold, renumberedGlobals, renumberedLocals, renumberedGlyph, renumbers}
-use Rattle.bodies.specs.WaysLaws.{holds-each, renumbers-parts}
+use Rattle.bodies.specs.Ways.{bodyBy, subrsBy, reachedIn, ranksIn, glyphAt, fdAt}
 use Rattle.fds.specs.Locals.{inUse, fdsIn, numbered, allNumbered}
 use Rattle.fds.specs.NewLocals.{localsBy}
 use Rattle.plan.specs.Ranked.{AllRanked, globalsNumbered, everyNumbered}
-use Rattle.plan.specs.Sizes.{noRanks, acrossBy, OrderIn, globalsBy, glyphsBy, allMade, Narrow}
+use Rattle.plan.specs.Sizes.{noRanks, acrossBy, OrderIn, globalsBy, glyphsBy, Narrow}
 use Rattle.plan.specs.StandsLaws.{stands-reached, stands-holds, stands-all}
-use Rattle.plan.specs.SameLaws.{body-same, subrs-same, each-order, hold-same}
+use Rattle.plan.specs.SameLaws.{body-same, subrs-same, each-order}
 
 -- rows of bytes have numbers of two bytes
 pub narrow-rows : (b : List ℕ) → Octets b → Narrow (rowsOf b)

@@ -1,7 +1,7 @@
 -- What measuring asks is there once all subroutines are ranked and the words hold the kept glyphs.
-use Prim.Native.Nat.{ℕ, _+_, _≤_, _<_}
+use Prim.Native.Nat.{ℕ, _≤_, _<_}
 use mathlib.Core.Path.{_≡_, refl, sym, ap, _∙_, subst}
-use mathlib.Core.Bool.{Bool, true, false}
+use mathlib.Core.Bool.{Bool, true}
 use mathlib.Core.List.{List, [], _∷_}
 use native.Mathlib.Omega.{arith}
 use lib.ListN.{length, getD}
@@ -16,7 +16,7 @@ use Rattle.faithful.specs.Laid.{GoodProgram}
 use Rattle.reach.specs.Reach.{rises}
 use Rattle.renumber.specs.Ranks.{Ranked}
 use Rattle.renumber.specs.declared.Ranks.{Ranks}
-use Rattle.bodies.specs.Ways.{ranksIn, glyphAt, fdAt}
+use Rattle.bodies.specs.Ways.{ranksIn, fdAt}
 use Rattle.fds.specs.Locals.{inUse, fdsIn, UsedOf}
 use Rattle.plan.specs.Ranked.{AllRanked}
 use Rattle.plan.specs.Sizes.{noRanks, acrossBy, OrderIn, MeasureIn, Narrow}

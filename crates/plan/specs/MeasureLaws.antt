@@ -1,5 +1,5 @@
 -- Laws of measuring all bodies, part by part: the globals, the locals of the FDs in use, the charstrings.
-use Prim.Native.Nat.{ℕ, _+_, _≤_, _<_}
+use Prim.Native.Nat.{ℕ}
 use mathlib.Core.Path.{_≡_, refl, sym, ap, _∙_, subst}
 use mathlib.Core.Bool.{Bool, true, false}
 use mathlib.Core.List.{List}
@@ -12,7 +12,7 @@ use Rattle.prune.specs.StepLaws.{zero-one}
 use Rattle.cff.specs.Font.{Program}
 use Rattle.renumber.specs.declared.Ranks.{Ranks}
 use Rattle.renumber.specs.Ranks.{callsBy}
-use Rattle.bodies.specs.Ways.{manyOf, holds, measuredOf, charstringsBy, subrsBy, reachedIn, siteIn}
+use Rattle.bodies.specs.Ways.{holds, measuredOf, charstringsBy, subrsBy, reachedIn, siteIn}
 use Rattle.bodies.specs.declared.subrs.Subrs.the-variants.{Global}
 use Rattle.bodies.specs.Pruning.{allHold}
 use Rattle.bodies.specs.declared.Measured.{Measured}

@@ -1,10 +1,9 @@
 -- Laws of the plan: the way by what was measured; where nothing is renumbered, no part fails.
-use Prim.Native.Nat.{ℕ, _+_, _≤_, _<_}
+use Prim.Native.Nat.{ℕ}
 use mathlib.Core.Path.{_≡_, refl, sym, ap, _∙_, subst}
 use mathlib.Core.Bool.{Bool, true, false}
 use mathlib.Core.List.{List, [], _∷_}
 use borrow.Author.Tests.{eq-eqb, ne-eqb}
-use lib.Dec.{eqb}
 use lib.ListN.{length}
 use Rattle.octets.specs.Pick.{pick}
 use Rattle.unfold.specs.Unfold.{Row}
@@ -17,7 +16,7 @@ use Rattle.bodies.specs.Pruning.{allHold}
 use Rattle.bodies.specs.WaysLaws.{holds-each}
 use Rattle.fds.specs.Locals.{fdsIn}
 use Rattle.fds.specs.NewLocals.{localsBy}
-use Rattle.plan.specs.Sizes.{globalsBy, glyphsBy, allMade, MeasuresAll, wayBy, Plans}
+use Rattle.plan.specs.Sizes.{glyphsBy, allMade, MeasuresAll, Plans}
 use Rattle.plan.specs.declared.sizes.Measures.{Measures}
 use Rattle.plan.specs.declared.Plan.{Plan}
 

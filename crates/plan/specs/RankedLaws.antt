@@ -1,6 +1,6 @@
 -- Laws of ranking all subroutines: first the globals, then the locals of the FDs in use.
 use Prim.Native.Nat.{ℕ, zero, suc, _+_, _*_, _-_, _≤_, _<_}
-use mathlib.Core.Path.{_≡_, refl, sym, ap, _∙_, subst}
+use mathlib.Core.Path.{_≡_, refl, sym, ap, _∙_}
 use mathlib.Core.Bool.{Bool, true, false}
 use mathlib.Core.List.{List, [], _∷_, _++_, append-nil, append-assoc}
 use native.Mathlib.Omega.{arith}
@@ -11,19 +11,18 @@ use Rattle.octets.specs.Octets.{put}
 use Rattle.octets.specs.Pick.{pick}
 use Rattle.octets.specs.PutLaws.{put-length, put-put, drop-put-at}
 use Rattle.unfold.specs.Unfold.{Row}
-use Rattle.index.specs.IndexLaws.{items-length}
 use Rattle.cff.specs.Font.{Program}
 use Rattle.cff.specs.Find.{localsTotal}
-use Rattle.subset.specs.Kept.{those, localsOf}
+use Rattle.subset.specs.Kept.{localsOf}
 use Rattle.subset.specs.Pruned.{countBelow, reached, localSet, globalSet}
 use Rattle.reach.specs.Reach.{ranksOf, rankedOf}
 use Rattle.reach.specs.CountLaws.{length-ranks}
 use Rattle.reach.specs.declared.ranks.Ranked as code
 use Rattle.renumber.specs.declared.Ranks.{Ranks}
 use Rattle.bodies.specs.Ways.{ranksIn}
-use Rattle.fds.specs.Locals.{inUse, usedBelow, fdsIn, localsFor, fdRanks, ranksFor, allNumbered, RankedFd, RanksLocals}
+use Rattle.fds.specs.Locals.{inUse, usedBelow, fdsIn, fdRanks, ranksFor, RanksLocals}
 use Rattle.fds.specs.UsedLaws.{used-next, unused-next, ranks-last, ranks-length, locals-few, locals-within}
-use Rattle.plan.specs.Ranked.{Stands, AllRanked, allRanks, globalsNumbered, everyNumbered, RanksAll}
+use Rattle.plan.specs.Ranked.{Stands, allRanks, globalsNumbered, RanksAll}
 use Rattle.plan.specs.declared.RankedAll.{RankedAll}
 
 -- ---- the FDs in use, of which one is taken

@@ -1,25 +1,22 @@
 -- What the work words and the tables give by the way is what crates/subset defines: subroutines, charstrings, and where renumbering fails.
-use Prim.Native.Nat.{ℕ, zero, suc, _+_, _*_, _%_, _≤_, _<_}
-use mathlib.Core.Path.{_≡_, refl, sym, ap, _∙_, fun-ext, subst}
+use Prim.Native.Nat.{ℕ, suc, _+_, _<_}
+use mathlib.Core.Path.{_≡_, refl, sym, ap, _∙_}
 use mathlib.Core.Bool.{Bool, true, false}
 use mathlib.Core.List.{List, [], _∷_}
-use mathlib.Core.Logic.{⊎-elim}
 use native.Mathlib.Omega.{arith}
 use borrow.Author.Tests.{eqb-true}
 use lib.Dec.{eqb}
-use lib.IntN.{ℤ}
-use lib.ListN.{length, take, drop, getD}
-use lib.Seq.{ext-getD, getD-take, getD-drop}
+use lib.ListN.{length, getD}
+use lib.Seq.{ext-getD}
 use Rattle.octets.specs.Pick.{pick}
-use Rattle.unfold.specs.Unfold.{Row, Site, glyph, local, global}
+use Rattle.unfold.specs.Unfold.{Row, Site}
 use Rattle.prune.specs.Renumber.{Calls}
-use Rattle.prune.specs.StepLaws.{zero-one}
-use Rattle.subset.specs.Kept.{isIn, fdsOf}
+use Rattle.subset.specs.Kept.{isIn}
 use Rattle.subset.specs.Pruned.{May, fail, yes as made, and, each, mapped, stubbedFrom, renumberedBody, renumberedSubrs}
 use Rattle.subset.specs.EachLaws.{length-mapped, mapped-at}
 use Rattle.subset.specs.KeptListLaws.{in-head, in-more}
 use Rattle.subset.specs.RankLaws.{those-at}
-use Rattle.bodies.specs.Ways.{manyOf, holds, bodyBy, subrsBy, every, upTo}
+use Rattle.bodies.specs.Ways.{holds, bodyBy, subrsBy, every, upTo}
 use Rattle.bodies.specs.Pruning.{allHold}
 use Rattle.bodies.specs.WritingLaws.{count-every, those-many}
 

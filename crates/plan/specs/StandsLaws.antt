@@ -1,23 +1,22 @@
 -- Laws of ranks that stand in the work words: what they say is reached is what the record has, and they are ranks as the code asks for them.
-use Prim.Native.Nat.{ℕ, zero, suc, _+_, _-_, _≤_, _<_}
+use Prim.Native.Nat.{ℕ, _+_, _-_, _≤_, _<_}
 use mathlib.Core.Path.{_≡_, refl, sym, ap, _∙_, subst}
 use mathlib.Core.Bool.{Bool, true, false, not}
-use mathlib.Core.List.{List, []}
+use mathlib.Core.List.{List}
 use native.Mathlib.Nat.{le-refl}
 use native.Mathlib.Decide.{decLe}
 use native.Mathlib.Omega.{arith}
 use borrow.Author.Tests.{ne-eqb, lt-ltb, le-ltb}
-use lib.Dec.{eqb, ltb}
+use lib.Dec.{eqb}
 use lib.ListN.{length, take, drop, getD}
 use lib.Seq.{getD-take, getD-drop, drop-drop}
 use Rattle.octets.specs.Octets.{put}
 use Rattle.octets.specs.Pick.{pick, pick-ind}
 use Rattle.octets.specs.PutLaws.{put-length, drop-put}
 use Rattle.prune.specs.StepLaws.{zero-one}
-use Rattle.prune.specs.Renumber.{New, none, new}
-use Rattle.subset.specs.Pruned.{countBelow, reached, rank}
+use Rattle.prune.specs.Renumber.{none, new}
+use Rattle.subset.specs.Pruned.{countBelow, reached}
 use Rattle.subset.specs.RankLaws.{count-few}
-use Rattle.reach.specs.Reach.{ranksOf}
 use Rattle.reach.specs.CountLaws.{count-more}
 use Rattle.reach.specs.WordLaws.{ranks-at}
 use Rattle.renumber.specs.Ranks.{numbersIn, Ranked}

@@ -1,7 +1,7 @@
 -- Which way it is: no part fails exactly where the font can be renumbered, and a number without a subroutine fails it; and the bodies by
 -- the way are those of the subset.
-use Prim.Native.Nat.{ℕ, _+_, _≤_, _<_}
-use mathlib.Core.Path.{_≡_, refl, sym, ap, _∙_, subst}
+use Prim.Native.Nat.{ℕ, _<_}
+use mathlib.Core.Path.{_≡_, refl, sym, ap, _∙_}
 use mathlib.Core.Bool.{Bool, true, false}
 use mathlib.Core.List.{List, [], _∷_}
 use native.Mathlib.Omega.{arith}
@@ -12,14 +12,13 @@ use Rattle.unfold.specs.Unfold.{Row, glyph, local, global}
 use Rattle.prune.specs.StepLaws.{zero-one}
 use Rattle.cff.specs.Font.{Program}
 use Rattle.subset.specs.Kept.{isIn, those, localsOf}
-use Rattle.subset.specs.Pruned.{Pruned, Bodies, May, fail, each, mapped, countBelow, reached, localSet, globalSet, renumberedSubrs, callsIn, callsAcross, renumberedBody, pruned}
+use Rattle.subset.specs.Pruned.{Pruned, May, fail, each, localSet, globalSet, renumberedSubrs, callsIn, callsAcross, renumberedBody, pruned}
 use Rattle.subset.specs.KeptListLaws.{those-in}
 use Rattle.faithful.specs.Laid.{GoodProgram}
-use Rattle.renumber.specs.Turn.{bodyOf}
 use Rattle.renumber.specs.declared.Ranks.{Ranks}
-use Rattle.bodies.specs.Ways.{manyOf, holds, newBody, bodyBy, newSubrs, subrsBy, newCharstrings}
-use Rattle.bodies.specs.Pruning.{allHold, renumberedGlobals, renumberedLocals, renumberedGlyph, bodiesBy, renumbers, wayOf}
-use Rattle.bodies.specs.SubrsLaws.{new-subrs-is, new-body-is}
+use Rattle.bodies.specs.Ways.{manyOf, holds, bodyBy, newSubrs}
+use Rattle.bodies.specs.Pruning.{allHold, renumberedGlobals, renumberedLocals, renumberedGlyph, bodiesBy, renumbers}
+use Rattle.bodies.specs.SubrsLaws.{new-subrs-is}
 use Rattle.bodies.specs.WaysLaws.{holds-each, renumbers-parts, pruned-by}
 use Rattle.fds.specs.Locals.{inUse, fdsIn, numbered, allNumbered}
 use Rattle.fds.specs.NewLocals.{localsBy, newLocals}

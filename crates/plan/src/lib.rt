@@ -2,13 +2,13 @@
 // are measured.
 pub mod sizes;
 
+ghost use mathlib.Core.Path.{_≡_};
 ghost use Prim.Native.Nat.{_+_, _*_, _≤_};
 ghost use lib.ListN.{length};
 ghost use Rattle.record.specs.Record.{rowsOf};
 ghost use Rattle.cff.specs.Find.{localsTotal};
 ghost use Rattle.cff.specs.Reads.{GoodFont, programOf};
 ghost use Rattle.fds.specs.Locals.{UsedOf};
-ghost use mathlib.Core.Path.{_≡_};
 ghost use Rattle.plan.specs.Ranked.{RanksAll};
 ghost use Rattle.plan.specs.Sizes.{MeasureIn, Plans};
 use crate::sizes::Measures;
