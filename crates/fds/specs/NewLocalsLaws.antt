@@ -114,11 +114,11 @@ module _ (way : ℕ) (b : List ℕ) (p : Program) (rows : List Row) (ws : List �
       (e .0 ∙ ap (λ (l : List (List ℕ)). measuredOf (subrsBy way rows (reachedIn ws own) (callsBy ws own globals) (local f) l)) items-are, e .1)
 
 -- what a measure tells
-total-told : (m : May (List (List ℕ))) (t : ℕ) → measuredOf m ≡ Total t → (holds m ≡ true) × (total (manyOf m) ≡ t)
+pub total-told : (m : May (List (List ℕ))) (t : ℕ) → measuredOf m ≡ Total t → (holds m ≡ true) × (total (manyOf m) ≡ t)
 total-told fail t e = absurd (zero-one cc)
 total-told (yes l) t e = let z : total l ≡ t = cc in (refl, z)
 
-failed-told : (m : May (List (List ℕ))) → measuredOf m ≡ Failed → holds m ≡ false
+pub failed-told : (m : May (List (List ℕ))) → measuredOf m ≡ Failed → holds m ≡ false
 failed-told fail e = refl
 failed-told (yes l) e = absurd (zero-one cc)
 

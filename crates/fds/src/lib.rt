@@ -50,7 +50,7 @@ fn rank_fd(
 }
 
 // Whether both hold.
-fn both(a: bool, b: bool) -> bool
+pub fn both(a: bool, b: bool) -> bool
     ensures { λ r. ⌜ r ≡ pick a b false ⌝ }
 {
     if a {

@@ -27,7 +27,7 @@ pub record HoldRanks (words : List ℕ) (at : ℕ) (s : ℕ → Bool) (count : �
   pub room : at + count ≤ length words
   pub word : (k : ℕ) → k < count → getD words (at + k) 0 ≡ pick (s k) (countBelow s k + 1) 0
 
-ranks-at : (s : ℕ → Bool) (n j k : ℕ) → k < n → getD (ranksOf s j n) k 0 ≡ pick (s (j + k)) (countBelow s (j + k) + 1) 0
+pub ranks-at : (s : ℕ → Bool) (n j k : ℕ) → k < n → getD (ranksOf s j n) k 0 ≡ pick (s (j + k)) (countBelow s (j + k) + 1) 0
 unfolding ranksOf
 ranks-at s zero j k h = absurd (omega arith)
 ranks-at s (suc n) j zero h = rw (add-zero j)

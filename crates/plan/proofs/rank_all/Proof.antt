@@ -1,0 +1,85 @@
+-- `plan::rank_all` meets its contract: the globals are ranked behind the glyphs' words, the locals behind the globals.
+use mathlib.Core.Path.{sym}
+use native.Mathlib.Omega.{arith}
+use borrow.Author.Needs.{needs}
+use denote.Ref.{now}
+use Rattle.record.specs.Record.{rowsOf}
+use Rattle.index.specs.IndexLaws.{items-length}
+use Rattle.cff.specs.Reads.{programOf}
+use Rattle.plan.specs.RankedLaws.{locals-room, ranks-all}
+use Rattle.plan.proofs.rank_all.Statement.{statement}
+use Rattle.plan.proofs.rank_all.Tie as tie
+
+-- the arguments
+abbrev S : tie.After-rank-reached → tie.Start
+S c = c .before .before .before .before .before .before .before .before .before .before .before .before
+
+-- after the globals are ranked
+abbrev G : tie.After-rank-locals-arg4 → tie.After-rank-reached
+G c = c .before .before .before .before .before .before
+
+mul-at : tie.Need-mul-at
+mul-at c = search needs
+
+rank-reached-requires : tie.Need-rank-reached-requires
+rank-reached-requires c κs = search needs
+
+add-behind : tie.Need-add-behind
+add-behind c = search needs
+
+rank-locals-requires : tie.Need-rank-locals-requires
+rank-locals-requires c κs =
+    let g = G c in
+    let s = S g in
+    let p = s .pre in
+    let f = p .0 in (
+      p .0,
+      p .1,
+      p .2,
+      omega (arith, f .glyphs .held .few, f .begun .globals-held .few),
+      locals-room (rowsOf (now (s .args .rows))) _ _ _ _ _ (p .3) (g .rank-reached .ensures .0),
+      p .4,
+      p .5,
+      p .6,
+    )
+
+both-requires : tie.Need-both-requires
+both-requires c κs = search needs
+
+same-length : tie.Need-same-length
+same-length c = search needs
+
+same-length-2 : tie.Need-same-length-2
+same-length-2 c = search needs
+
+same-length-3 : tie.Need-same-length-3
+same-length-3 c = search needs
+
+same-length-4 : tie.Need-same-length-4
+same-length-4 c = search needs
+
+returns : tie.Need-returns
+returns c =
+    let l = c .before .before .before .before .before .before .before .before .before in
+    let g = G (l .before) in
+    let s = S g in
+    let b = now (s .args .font) in
+    let f = s .args .f in
+    ranks-all (programOf b f) (rowsOf (now (s .args .rows))) (now (s .args .used)) _ _ _ _ _ _ (f .charstrings .count) (f .globals .count)
+    (sym (items-length b (f .charstrings))) (sym (items-length b (f .globals))) (s .pre .3) _ (g .rank-reached .ensures .0) (g .rank-reached .ensures .1)
+    _ _ (l .rank-locals .ensures) (c .both .ensures)
+
+pub rank-all-spec : {M : Type 1} → statement M
+rank-all-spec =
+    tie.close
+    (tie.spec
+    mul-at
+    rank-reached-requires
+    add-behind
+    rank-locals-requires
+    both-requires
+    same-length
+    same-length-2
+    same-length-3
+    same-length-4
+    returns)

@@ -1,0 +1,146 @@
+-- The bodies that the work words and the tables give by the way are those of the subset, and no part fails exactly where the font can be
+-- renumbered.
+use Prim.Native.Nat.{ℕ, zero, suc, _+_, _*_, _%_, _<_}
+use mathlib.Core.Path.{_≡_, refl, sym, ap, _∙_, fun-ext, subst}
+use mathlib.Core.Bool.{Bool, true, false}
+use mathlib.Core.List.{List, [], _∷_}
+use mathlib.Core.Logic.{⊎-elim}
+use native.Mathlib.Omega.{arith}
+use borrow.Author.Tests.{eqb-true}
+use lib.ListN.{length, drop, getD}
+use lib.Seq.{getD-take, getD-drop}
+use Rattle.octets.specs.Octets.{Octets}
+use Rattle.octets.specs.Pick.{pick}
+use Rattle.record.specs.Record.{rowsOf}
+use Rattle.unfold.specs.Unfold.{Row, glyph, local, global}
+use Rattle.prune.specs.StepLaws.{zero-one}
+use Rattle.cff.specs.Font.{Program}
+use Rattle.subset.specs.Kept.{isIn, localsOf, fdsOf}
+use Rattle.subset.specs.Pruned.{each, countBelow, reached, localSet, globalSet, callsIn, callsAcross}
+use Rattle.subset.specs.EachLaws.{mapped-at}
+use Rattle.subset.specs.KeptListLaws.{in-none, in-head, in-cases, those-has, those-in}
+use Rattle.faithful.specs.Laid.{GoodProgram}
+use Rattle.faithful.specs.UsedLaws.{fd-there}
+use Rattle.renumber.specs.Ranks.{callsBy}
+use Rattle.renumber.specs.RanksLaws.{HoldsRanks, calls-in, calls-across, calls-across-none}
+use Rattle.renumber.specs.HoldsLaws.{narrow-set}
+use Rattle.renumber.specs.declared.Ranks.{Ranks}
+use Rattle.bodies.specs.Ways.{bodyBy, subrsBy, reachedIn, ranksIn, glyphAt, fdAt}
+use Rattle.fds.specs.Locals.{inUse, fdsIn, numbered, allNumbered}
+use Rattle.fds.specs.NewLocals.{localsBy}
+use Rattle.plan.specs.Ranked.{AllRanked, globalsNumbered, everyNumbered}
+use Rattle.plan.specs.Sizes.{noRanks, acrossBy, OrderIn, globalsBy, glyphsBy, Narrow}
+use Rattle.plan.specs.StandsLaws.{stands-reached, stands-holds, stands-all}
+use Rattle.plan.specs.SameLaws.{body-same, subrs-same, each-order}
+
+-- rows of bytes have numbers of two bytes
+pub narrow-rows : (b : List ℕ) → Octets b → Narrow (rowsOf b)
+narrow-rows b o = record { globals = λ i h. narrow-set b o 1 0 i h; locals = λ f i h. narrow-set b o 0 f i h }
+
+-- ---- numbers that all have a subroutine
+
+both-true : (a b : Bool) → pick a b false ≡ true → (a ≡ true) × (b ≡ true)
+both-true true b e = (refl, e)
+both-true false b e = absurd (zero-one cc)
+
+-- of an FD among those in use
+numbered-of : (p : Program) (rows : List Row) (fs : List ℕ) (f : ℕ) → allNumbered p rows fs ≡ true → isIn f fs ≡ true → numbered p rows f ≡ true
+unfolding allNumbered
+numbered-of p rows [] f e h = absurd (in-none f h)
+numbered-of p rows (x ∷ fs) f e h =
+    let b = both-true (numbered p rows x) (allNumbered p rows fs) e in
+    ⊎-elim (λ z. ap (numbered p rows) (sym z) ∙ b .0) (λ m. numbered-of p rows fs f (b .1) m) (in-cases x f fs h)
+
+-- the FD at a place of a list
+fds-at : (p : Program) (order : List ℕ) (i : ℕ) → i < length order → getD (fdsOf p order) i 0 ≡ getD (p .fds) (getD order i 0) 0
+unfolding fdsOf
+fds-at p [] i h = absurd (zero-one (omega arith))
+fds-at p (g ∷ order) zero h = refl
+fds-at p (g ∷ order) (suc i) h = fds-at p order i (omega arith)
+
+module _ (p : Program) (good : GoodProgram p) (rows : List Row) (narrow : Narrow rows) (used ws : List ℕ) (globals : Ranks) (ats counts reacheds : List ℕ)
+    (h : AllRanked p rows used ws globals ats counts reacheds) (way : ℕ) (all : way ≡ 0 → everyNumbered p rows (fdsIn used) ≡ true) where
+  globals-all : way ≡ 0 → reached (globalSet rows) ≡ countBelow (globalSet rows) (length (p .globals))
+  globals-all z = eqb-true _ _ (both-true (globalsNumbered p rows) (allNumbered p rows (fdsIn used)) (all z) .0)
+
+  globals-hold : way ≡ 0 → HoldsRanks ws globals (globalSet rows)
+  globals-hold z = stands-holds ws globals (globalSet rows) (length (p .globals)) (h .globalRanks) (good .globals .count) (globals-all z) (narrow .globals)
+
+  module _ (f : ℕ) (k : f < 256) (u : inUse used f ≡ true) where
+    locals-all : way ≡ 0 → reached (localSet rows f) ≡ countBelow (localSet rows f) (length (localsOf p f))
+    locals-all z =
+        eqb-true _ _ (numbered-of p rows (fdsIn used) f (both-true (globalsNumbered p rows) (allNumbered p rows (fdsIn used)) (all z) .1)
+        (those-has (inUse used) 256 0 f (omega arith) (omega arith) u))
+
+    locals-hold : way ≡ 0 → HoldsRanks ws (ranksIn ats counts reacheds f) (localSet rows f)
+    locals-hold z =
+        stands-holds ws (ranksIn ats counts reacheds f) (localSet rows f) (length (localsOf p f)) (h .localRanks f k u) (good .locals f .count) (locals-all z) (narrow .locals f)
+
+    calls-same : way ≡ 0 → callsBy ws (ranksIn ats counts reacheds f) globals ≡ callsIn p rows f
+    calls-same z =
+        fun-ext (λ b. fun-ext (λ y.
+        calls-in p rows ws (ranksIn ats counts reacheds f) globals (globals-hold z) (h .globalRanks .many) f (locals-hold z) (h .localRanks f k u .many) b y))
+
+    -- the new locals of an FD in use
+    pub locals-same : localsBy way p rows ws ats counts reacheds globals f ≡ subrsBy way rows (localSet rows f) (callsIn p rows f) (local f) (localsOf p f)
+    locals-same =
+        let own = ranksIn ats counts reacheds f in
+        subrs-same way rows (reachedIn ws own) (localSet rows f) (callsBy ws own globals) (callsIn p rows f) (local f) (localsOf p f)
+        (λ i l. stands-reached ws own (localSet rows f) (length (localsOf p f)) (h .localRanks f k u) i l)
+        (λ z. (
+          fun-ext (stands-all ws own (localSet rows f) (length (localsOf p f)) (h .localRanks f k u) (good .locals f .count) (locals-all z) (narrow .locals f)),
+          calls-same z,
+        ))
+
+  across-same : way ≡ 0 → (fs : List ℕ) → fdsIn used ≡ fs → callsBy ws (acrossBy ats counts reacheds fs) globals ≡ callsAcross p rows fs
+  across-same z [] e = fun-ext (λ b. fun-ext (λ y. calls-across-none p rows ws noRanks globals (globals-hold z) (h .globalRanks .many) refl b y))
+  across-same z (f ∷ []) e =
+      let m : isIn f (fdsIn used) ≡ true = subst (λ (l : List ℕ). isIn f l ≡ true) (sym e) (in-head f f [] refl) in
+      let t = those-in (inUse used) 256 0 f m in
+      let k : f < 256 = omega (arith, t .1) in
+      calls-same f k (t .2) z
+  across-same z (f ∷ g ∷ fs) e =
+      fun-ext (λ b. fun-ext (λ y. calls-across p rows ws noRanks globals (globals-hold z) (h .globalRanks .many) refl f g fs b y))
+
+  module _ (cid : Bool) (k : ℕ) where
+    -- the new globals
+    pub globals-same : globalsBy way p rows cid ws used ats counts reacheds globals k
+        ≡ subrsBy way rows (globalSet rows) (callsAcross p rows (fdsIn used)) global (p .globals)
+    globals-same =
+        subrs-same way rows (reachedIn ws globals) (globalSet rows) (callsBy ws (acrossBy ats counts reacheds (fdsIn used)) globals) (callsAcross p rows (fdsIn used))
+        global (p .globals)
+        (λ i l. stands-reached ws globals (globalSet rows) (length (p .globals)) (h .globalRanks) i l)
+        (λ z. (
+          fun-ext (stands-all ws globals (globalSet rows) (length (p .globals)) (h .globalRanks) (good .globals .count) (globals-all z) (narrow .globals)),
+          across-same z (fdsIn used) refl,
+        ))
+
+    module _ (order : List ℕ) (kept : OrderIn p cid used ws k order) where
+      -- the i-th word's glyph, and its FD
+      pub glyph-at : (i : ℕ) → i < k → glyphAt ws i ≡ getD order i 0
+      glyph-at i l =
+          let b : getD order i 0 < 65536 = omega (arith, kept .there i l, good .charstrings .count) in
+          let w : getD ws i 0 ≡ getD (p .ids) (getD order i 0) 0 * 65536 + getD order i 0
+          = sym (getD-take k ws i 0 l) ∙ ap (λ (x : List ℕ). getD x i 0) (kept .glyphs)
+          ∙ mapped-at (λ g. getD (p .ids) g 0 * 65536 + g) order i 0 (omega (arith, kept .many)) in
+          let e : (getD (p .ids) (getD order i 0) 0 * 65536 + getD order i 0) % 65536 ≡ getD order i 0 = omega arith in
+          ap (λ (x : ℕ). x % 65536) w ∙ e
+
+      pub fd-at : (i : ℕ) → i < k → fdAt cid ws (length (p .charstrings)) i ≡ getD (p .fds) (getD order i 0) 0
+      fd-at i l = go cid refl
+        where
+          go : (t : Bool) → cid ≡ t → pick t (getD ws (length (p .charstrings) + i) 0) 0 ≡ getD (p .fds) (getD order i 0) 0
+          go true e =
+              sym (getD-drop (length (p .charstrings)) ws i 0) ∙ sym (getD-take k (drop (length (p .charstrings)) ws) i 0 l)
+              ∙ ap (λ (x : List ℕ). getD x i 0) (kept .fds e) ∙ fds-at p order i (omega (arith, kept .many))
+          go false e =
+              omega (arith, good .onePrivate (sym (kept .keyed) ∙ e), fd-there p (getD order i 0) good (kept .there i l))
+
+      -- the new charstrings
+      pub glyphs-same : glyphsBy way p rows cid ws used ats counts reacheds globals k
+          ≡ each (λ g. bodyBy way rows (callsIn p rows (getD (p .fds) g 0)) (glyph g) (getD (p .charstrings) g [])) order
+      glyphs-same = each-order _ _ k order (kept .many) (λ i l.
+          ap (λ (d : ℕ). bodyBy way rows (callsBy ws (ranksIn ats counts reacheds d) globals) (glyph (glyphAt ws i)) (getD (p .charstrings) (glyphAt ws i) [])) (fd-at i l)
+          ∙ ap (λ (g : ℕ). bodyBy way rows (callsBy ws (ranksIn ats counts reacheds (getD (p .fds) (getD order i 0) 0)) globals) (glyph g) (getD (p .charstrings) g [])) (glyph-at i l)
+          ∙ body-same way rows _ (callsIn p rows (getD (p .fds) (getD order i 0) 0)) (glyph (getD order i 0)) (getD (p .charstrings) (getD order i 0) [])
+          (calls-same (getD (p .fds) (getD order i 0) 0) (good .fds (getD order i 0)) (kept .within i l)))

@@ -1,0 +1,11 @@
+pub mod Ranked
+pub mod Sizes
+pub mod RankedLaws
+pub mod StandsLaws
+pub mod SameLaws
+pub mod AcrossLaws
+pub mod MeasureLaws
+pub mod PlanLaws
+pub mod FontLaws
+pub mod WayLaws
+pub mod InLaws

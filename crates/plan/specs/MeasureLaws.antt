@@ -1,0 +1,149 @@
+-- Laws of measuring all bodies, part by part: the globals, the locals of the FDs in use, the charstrings.
+use Prim.Native.Nat.{ℕ}
+use mathlib.Core.Path.{_≡_, refl, sym, ap, _∙_, subst}
+use mathlib.Core.Bool.{Bool, true, false}
+use mathlib.Core.List.{List}
+use lib.ListN.{length}
+use Rattle.octets.specs.Pick.{pick}
+use Rattle.unfold.specs.Unfold.{Row}
+use Rattle.index.specs.Index.{itemsOf}
+use Rattle.index.specs.declared.Index.{Index}
+use Rattle.prune.specs.StepLaws.{zero-one}
+use Rattle.cff.specs.Font.{Program}
+use Rattle.renumber.specs.declared.Ranks.{Ranks}
+use Rattle.renumber.specs.Ranks.{callsBy}
+use Rattle.bodies.specs.Ways.{holds, measuredOf, charstringsBy, subrsBy, reachedIn, siteIn}
+use Rattle.bodies.specs.declared.subrs.Subrs.the-variants.{Global}
+use Rattle.bodies.specs.Pruning.{allHold}
+use Rattle.bodies.specs.declared.Measured.{Measured}
+use Rattle.bodies.specs.declared.Measured.the-variants.{Failed, Total}
+use Rattle.fds.specs.Locals.{fdsIn}
+use Rattle.fds.specs.NewLocals.{localsBy, MeasuresLocals}
+use Rattle.fds.specs.NewLocalsLaws.{total-told, failed-told}
+use Rattle.bodies.specs.declared.charstrings.Kept.{Kept}
+use Rattle.cff.specs.declared.font.Font.{Font}
+use Rattle.plan.specs.Sizes.{acrossBy, globalsBy, glyphsBy, allMade, MeasuresAll, MeasureIn, byWay}
+use Rattle.plan.specs.declared.sizes.Measures.{Measures}
+
+abbrev measures : Bool → ℕ → ℕ → Measures
+measures t g c = record { all = t; globals = g; glyphs = c }
+
+never : (t u : Bool) → t ≡ false → pick t u false ≡ false
+never true u e = absurd (zero-one cc)
+never false u e = refl
+
+either : (t u v : Bool) → pick u v false ≡ false → pick t (pick u v false) false ≡ false
+either true u v e = e
+either false u v e = refl
+
+last : (t u v : Bool) → v ≡ false → pick t (pick u v false) false ≡ false
+last true true v e = e
+last true false v e = refl
+last false u v e = refl
+
+every : (t u v : Bool) → t ≡ true → u ≡ true → v ≡ true → pick t (pick u v false) false ≡ true
+every true true v a b e = e
+every true false v a b e = absurd (zero-one cc)
+every false u v a b e = absurd (zero-one cc)
+
+module _ (way : ℕ) (p : Program) (rows : List Row) (cid : Bool) (ws used ats counts reacheds : List ℕ) (globals : Ranks) (k : ℕ) where
+  -- the globals as they were measured, their calls by the ranks across
+  pub globals-measured : (calls : Ranks) → calls ≡ acrossBy ats counts reacheds (fdsIn used) → (m : Measured)
+      → m ≡ measuredOf (subrsBy way rows (reachedIn ws globals) (callsBy ws calls globals) (siteIn Global) (p .globals))
+      → m ≡ measuredOf (globalsBy way p rows cid ws used ats counts reacheds globals k)
+  globals-measured calls across m is =
+      is ∙ ap (λ (q : Ranks). measuredOf (subrsBy way rows (reachedIn ws globals) (callsBy ws q globals) (siteIn Global) (p .globals))) across
+
+module _ (way : ℕ) (p : Program) (rows : List Row) (cid : Bool) (ws used ats counts reacheds : List ℕ) (globals : Ranks) (k : ℕ) (totals : List ℕ) where
+  abbrev Whole : Measures → Type 0
+  Whole r = MeasuresAll way p rows cid ws used ats counts reacheds globals k totals r
+
+  none : allMade way p rows cid ws used ats counts reacheds globals k ≡ false → Whole (measures false 0 0)
+  none e =
+      record {
+        told = sym e;
+        ofGlobals = λ z. absurd (zero-one cc);
+        ofLocals = λ z. absurd (zero-one cc);
+        ofGlyphs = λ z. absurd (zero-one cc);
+      }
+
+  -- the globals fail
+  pub globals-fail : measuredOf (globalsBy way p rows cid ws used ats counts reacheds globals k) ≡ Failed → Whole (measures false 0 0)
+  globals-fail e = none (never (holds (globalsBy way p rows cid ws used ats counts reacheds globals k)) (pick (allHold (localsBy way p rows ws ats counts reacheds globals) (fdsIn used)) (holds (glyphsBy way p rows cid ws used ats counts reacheds globals k)) false) (failed-told (globalsBy way p rows cid ws used ats counts reacheds globals k) e))
+
+  module _ (t : Bool) (ls : MeasuresLocals way p rows ws ats counts reacheds globals used totals t) where
+    -- the locals of an FD fail
+    pub locals-fail : t ≡ false → Whole (measures false 0 0)
+    locals-fail e =
+        none (either (holds (globalsBy way p rows cid ws used ats counts reacheds globals k)) (allHold (localsBy way p rows ws ats counts reacheds globals) (fdsIn used)) (holds (glyphsBy way p rows cid ws used ats counts reacheds globals k))
+        (never (allHold (localsBy way p rows ws ats counts reacheds globals) (fdsIn used)) (holds (glyphsBy way p rows cid ws used ats counts reacheds globals k)) (sym (ls .told) ∙ e)))
+
+    -- a charstring fails
+    pub glyphs-fail : measuredOf (glyphsBy way p rows cid ws used ats counts reacheds globals k) ≡ Failed → Whole (measures false 0 0)
+    glyphs-fail e =
+        none (last (holds (globalsBy way p rows cid ws used ats counts reacheds globals k)) (allHold (localsBy way p rows ws ats counts reacheds globals) (fdsIn used)) (holds (glyphsBy way p rows cid ws used ats counts reacheds globals k))
+        (failed-told (glyphsBy way p rows cid ws used ats counts reacheds globals k) e))
+
+    -- none fails
+    pub all-measured : (g c : ℕ) → measuredOf (globalsBy way p rows cid ws used ats counts reacheds globals k) ≡ Total g → t ≡ true
+        → measuredOf (glyphsBy way p rows cid ws used ats counts reacheds globals k) ≡ Total c → Whole (measures true g c)
+    all-measured g c e u d =
+        let x = total-told (globalsBy way p rows cid ws used ats counts reacheds globals k) g e in
+        let y = total-told (glyphsBy way p rows cid ws used ats counts reacheds globals k) c d in
+        record {
+          told = sym (every (holds (globalsBy way p rows cid ws used ats counts reacheds globals k)) (allHold (localsBy way p rows ws ats counts reacheds globals) (fdsIn used)) (holds (glyphsBy way p rows cid ws used ats counts reacheds globals k))
+              (x .0) (sym (ls .told) ∙ u) (y .0));
+          ofGlobals = λ z. sym (x .1);
+          ofLocals = λ z. ls .sums u;
+          ofGlyphs = λ z. sym (y .1);
+        }
+
+  -- what the code returns: each part as it was measured
+  module _ (m : Measured) (is : m ≡ measuredOf (globalsBy way p rows cid ws used ats counts reacheds globals k)) where
+    pub returns-globals : m ≡ Failed → (r : Measures) → r ≡ measures false 0 0 → Whole r
+    returns-globals e r a = subst Whole (sym a) (globals-fail (sym is ∙ e))
+
+    module _ (t : Bool) (ls : MeasuresLocals way p rows ws ats counts reacheds globals used totals t) where
+      pub returns-locals : t ≡ false → (r : Measures) → r ≡ measures false 0 0 → Whole r
+      returns-locals e r a = subst Whole (sym a) (locals-fail t ls e)
+
+      module _ (n : ℕ) (many : n ≡ length (p .charstrings)) (b : List ℕ) (ix whole : Index) (same : ix ≡ whole) (items : itemsOf b whole ≡ p .charstrings) (d : Measured)
+          (ds : d ≡ measuredOf (charstringsBy way rows cid ws n ats counts reacheds globals (itemsOf b ix) k)) where
+        glyphs-told : (x : Measured) → d ≡ x → measuredOf (glyphsBy way p rows cid ws used ats counts reacheds globals k) ≡ x
+        glyphs-told x e =
+            sym (ap (λ (l : List (List ℕ)). measuredOf (charstringsBy way rows cid ws n ats counts reacheds globals l k)) (ap (itemsOf b) same ∙ items)
+            ∙ ap (λ (i : ℕ). measuredOf (charstringsBy way rows cid ws i ats counts reacheds globals (p .charstrings) k)) many) ∙ sym ds ∙ e
+
+        pub returns-glyphs : d ≡ Failed → (r : Measures) → r ≡ measures false 0 0 → Whole r
+        returns-glyphs e r a = subst Whole (sym a) (glyphs-fail t ls (glyphs-told Failed e))
+
+        pub returns-all : (g c : ℕ) → m ≡ Total g → t ≡ true → d ≡ Total c → Whole (measures true g c)
+        returns-all g c e u v = all-measured t ls g c (sym is ∙ e) u (glyphs-told (Total c) v)
+
+-- what measuring asks does not name the way
+pub by-way : (way : ℕ) (b : List ℕ) (f : Font) (used ws : List ℕ) (kept : Kept) (ats counts reacheds : List ℕ) (rows : List Row)
+    → MeasureIn b f used ws kept ats counts reacheds rows → MeasureIn b f used ws (byWay way kept) ats counts reacheds rows
+by-way way b f used ws kept ats counts reacheds rows h =
+    let g = h .glyphs in
+    record {
+      font = h .font;
+      locals = h .locals;
+      subrs = h .subrs;
+      glyphs = record {
+        good = g .good;
+        few = g .few;
+        size = g .size;
+        keptFew = g .keptFew;
+        inside = g .inside;
+        atsLong = g .atsLong;
+        countsLong = g .countsLong;
+        reachedsLong = g .reachedsLong;
+        glyphs = g .glyphs;
+        fds = g .fds;
+        localRanks = g .localRanks;
+        globalRanks = g .globalRanks;
+        order = g .order;
+      };
+      all = h .all;
+      charstrings = h .charstrings;
+    }

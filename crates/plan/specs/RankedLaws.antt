@@ -1,0 +1,152 @@
+-- Laws of ranking all subroutines: first the globals, then the locals of the FDs in use.
+use Prim.Native.Nat.{ℕ, zero, suc, _+_, _*_, _-_, _≤_, _<_}
+use mathlib.Core.Path.{_≡_, refl, sym, ap, _∙_}
+use mathlib.Core.Bool.{Bool, true, false}
+use mathlib.Core.List.{List, [], _∷_, _++_, append-nil, append-assoc}
+use native.Mathlib.Omega.{arith}
+use lib.Dec.{eqb}
+use lib.ListN.{length, take, drop, getD, length-append}
+use lib.Seq.{take-at, drop-at, drop-drop}
+use Rattle.octets.specs.Octets.{put}
+use Rattle.octets.specs.Pick.{pick}
+use Rattle.octets.specs.PutLaws.{put-length, put-put, drop-put-at}
+use Rattle.unfold.specs.Unfold.{Row}
+use Rattle.cff.specs.Font.{Program}
+use Rattle.cff.specs.Find.{localsTotal}
+use Rattle.subset.specs.Kept.{localsOf}
+use Rattle.subset.specs.Pruned.{countBelow, reached, localSet, globalSet}
+use Rattle.reach.specs.Reach.{ranksOf, rankedOf}
+use Rattle.reach.specs.CountLaws.{length-ranks}
+use Rattle.reach.specs.declared.ranks.Ranked as code
+use Rattle.renumber.specs.declared.Ranks.{Ranks}
+use Rattle.bodies.specs.Ways.{ranksIn}
+use Rattle.fds.specs.Locals.{inUse, usedBelow, fdsIn, fdRanks, ranksFor, RanksLocals}
+use Rattle.fds.specs.UsedLaws.{used-next, unused-next, ranks-last, ranks-length, locals-few, locals-within}
+use Rattle.plan.specs.Ranked.{Stands, allRanks, globalsNumbered, RanksAll}
+use Rattle.plan.specs.declared.RankedAll.{RankedAll}
+
+-- ---- the FDs in use, of which one is taken
+
+-- those below a number stand in front of those below a larger one
+used-front : (used : List ℕ) (n d : ℕ) → (rest : List ℕ) × (usedBelow used (n + d) ≡ usedBelow used n ++ rest)
+used-front used n zero = ([], ap (usedBelow used) (let e : n + 0 ≡ n = omega arith in e) ∙ sym (append-nil (usedBelow used n)))
+used-front used n (suc d) = go (inUse used (n + d)) refl (used-front used n d)
+  where
+    e : n + suc d ≡ n + d + 1
+    e = omega arith
+
+    go : (t : Bool) → inUse used (n + d) ≡ t → (rest : List ℕ) × (usedBelow used (n + d) ≡ usedBelow used n ++ rest)
+        → (rest : List ℕ) × (usedBelow used (n + suc d) ≡ usedBelow used n ++ rest)
+    go true u i = (
+      i .0 ++ ((n + d) ∷ []),
+      ap (usedBelow used) e ∙ used-next used (n + d) u ∙ ap (λ (l : List ℕ). l ++ ((n + d) ∷ [])) (i .1) ∙ append-assoc (usedBelow used n) (i .0) ((n + d) ∷ []),
+    )
+    go false u i = (i .0, ap (usedBelow used) e ∙ unused-next used (n + d) u ∙ i .1)
+
+module _ (p : Program) (rows : List Row) where
+  ranks-append : (fs gs : List ℕ) → ranksFor p rows (fs ++ gs) ≡ ranksFor p rows fs ++ ranksFor p rows gs
+  unfolding ranksFor
+  ranks-append [] gs = refl
+  ranks-append (f ∷ fs) gs =
+      ap (λ (l : List ℕ). fdRanks p rows f ++ l) (ranks-append fs gs) ∙ sym (append-assoc (fdRanks p rows f) (ranksFor p rows fs) (ranksFor p rows gs))
+
+  -- the ranks of an FD in use stand behind those of the FDs before it
+  ranks-split : (used : List ℕ) (f : ℕ) → f < 256 → inUse used f ≡ true
+      → (rest : List ℕ) × (ranksFor p rows (fdsIn used) ≡ ranksFor p rows (usedBelow used f) ++ (fdRanks p rows f ++ rest))
+  ranks-split used f h u =
+      let s = used-front used (f + 1) (256 - (f + 1)) in
+      let e : f + 1 + (256 - (f + 1)) ≡ 256 = omega arith in
+      let a : fdsIn used ≡ usedBelow used (f + 1) ++ s .0 = ap (usedBelow used) (sym e) ∙ s .1 in (
+        ranksFor p rows (s .0),
+        ap (ranksFor p rows) a ∙ ranks-append (usedBelow used (f + 1)) (s .0)
+            ∙ ap (λ (l : List ℕ). l ++ ranksFor p rows (s .0)) (ap (ranksFor p rows) (used-next used f u) ∙ ranks-last p rows (usedBelow used f) f)
+            ∙ append-assoc (ranksFor p rows (usedBelow used f)) (fdRanks p rows f) (ranksFor p rows (s .0)),
+      )
+
+-- ---- a part of what was put
+
+-- what stands behind a first part
+pub part-behind : (old : List ℕ) (at : ℕ) (xs ys zs : List ℕ) (place count : ℕ) → at ≤ length old → place ≡ at + length xs → length ys ≡ count
+    → take count (drop place (put old at (xs ++ (ys ++ zs)))) ≡ ys
+part-behind old at xs ys zs place count h e n =
+    let back = drop (at + length (xs ++ (ys ++ zs))) old in
+    ap (λ (i : ℕ). take count (drop i (put old at (xs ++ (ys ++ zs))))) e
+    ∙ ap (take count) (sym (drop-drop (length xs) at (put old at (xs ++ (ys ++ zs)))))
+    ∙ ap (λ (l : List ℕ). take count (drop (length xs) l)) (drop-put-at old at (xs ++ (ys ++ zs)) h ∙ append-assoc xs (ys ++ zs) back)
+    ∙ ap (take count) (drop-at xs ((ys ++ zs) ++ back) (length xs) refl ∙ append-assoc ys zs back)
+    ∙ take-at ys (zs ++ back) count n
+
+-- ---- what ranking leaves
+
+abbrev ranksAt : ℕ → ℕ → ℕ → Ranks
+ranksAt at count r = record { at = at; count = count; reached = r }
+
+abbrev answer : Ranks → Bool → RankedAll
+answer q t = record { globals = q; all = t }
+
+-- there is room for the locals behind the globals
+pub locals-room : (rows : List Row) (old mid : List ℕ) (at count more : ℕ) → at + count + more ≤ length old → mid ≡ put old at (ranksOf (globalSet rows) 0 count)
+    → at + count + more ≤ length mid
+locals-room rows old mid at count more h w =
+    let l = length-ranks (globalSet rows) 0 count in
+    let k : at + length (ranksOf (globalSet rows) 0 count) ≤ length old = omega arith in
+    omega (arith, ap length w, put-length old at (ranksOf (globalSet rows) 0 count) k)
+
+module _ (p : Program) (rows : List Row) (used old mid new ats counts reacheds : List ℕ) (n count : ℕ) (glyphs : n ≡ length (p .charstrings))
+    (many : count ≡ length (p .globals)) (room : 2 * n + count + localsTotal (p .privates) ≤ length old)
+    (r : code.Ranked) (w : mid ≡ put old (2 * n) (ranksOf (globalSet rows) 0 count)) (is : r ≡ rankedOf (globalSet rows) count) where
+  module _ (all both : Bool) (h : RanksLocals p rows used (2 * n + count) mid new ats counts reacheds all) (b : both ≡ pick (r .all) all false) where
+    whole : new ≡ put old (2 * n) (ranksOf (globalSet rows) 0 count ++ ranksFor p rows (fdsIn used))
+    whole =
+        let l = length-ranks (globalSet rows) 0 count in
+        let e : 2 * n + count ≡ 2 * n + length (ranksOf (globalSet rows) 0 count) = omega arith in
+        h .words ∙ ap (λ (ws : List ℕ). put ws (2 * n + count) (ranksFor p rows (fdsIn used))) w
+        ∙ ap (λ (i : ℕ). put (put old (2 * n) (ranksOf (globalSet rows) 0 count)) i (ranksFor p rows (fdsIn used))) e
+        ∙ put-put old (2 * n) (ranksOf (globalSet rows) 0 count) (ranksFor p rows (fdsIn used)) (omega arith)
+
+    new-length : length new ≡ length old
+    new-length =
+        let k : 2 * n + length (ranksOf (globalSet rows) 0 count ++ ranksFor p rows (fdsIn used)) ≤ length old
+        = omega (arith, length-append (ranksOf (globalSet rows) 0 count) (ranksFor p rows (fdsIn used)), length-ranks (globalSet rows) 0 count, ranks-length p rows (fdsIn used), locals-few p used 256) in
+        ap length whole ∙ put-length old (2 * n) _ k
+
+    globals-stand : Stands new (ranksAt (2 * n) count (r .reached)) (globalSet rows) (length (p .globals))
+    globals-stand =
+        record {
+          many = many;
+          inside = omega (arith, new-length);
+          words = ap (λ (ws : List ℕ). take count (drop (2 * n) ws)) whole
+              ∙ part-behind old (2 * n) [] (ranksOf (globalSet rows) 0 count) (ranksFor p rows (fdsIn used)) (2 * n) count (omega arith) (omega arith) (length-ranks (globalSet rows) 0 count);
+          reaches = ap (λ (x : code.Ranked). x .reached) is;
+        }
+
+    locals-stand : (f : ℕ) → f < 256 → inUse used f ≡ true → Stands new (ranksIn ats counts reacheds f) (localSet rows f) (length (localsOf p f))
+    locals-stand f k u =
+        let t = h .tables f k u in
+        let s = ranks-split p rows used f k u in
+        let g = ranksOf (globalSet rows) 0 count in
+        let front = ranksFor p rows (usedBelow used f) in
+        let e : new ≡ put old (2 * n) ((g ++ front) ++ (fdRanks p rows f ++ s .0))
+        = whole ∙ ap (λ (l : List ℕ). put old (2 * n) (g ++ l)) (s .1) ∙ ap (put old (2 * n)) (sym (append-assoc g front (fdRanks p rows f ++ s .0))) in
+        let at : getD ats f 0 ≡ 2 * n + length (g ++ front)
+        = omega (arith, t .place, length-append g front, length-ranks (globalSet rows) 0 count, ranks-length p rows (usedBelow used f)) in
+        let c : length (fdRanks p rows f) ≡ getD counts f 0 = length-ranks (localSet rows f) 0 (length (localsOf p f)) ∙ sym (t .count) in
+        record {
+          many = t .count;
+          inside = omega (arith, t .place, t .count, new-length, locals-within p used f u);
+          words = ap (λ (ws : List ℕ). take (getD counts f 0) (drop (getD ats f 0) ws)) e
+              ∙ part-behind old (2 * n) (g ++ front) (fdRanks p rows f) (s .0) (getD ats f 0) (getD counts f 0) (omega arith) at c
+              ∙ ap (ranksOf (localSet rows f) 0) (sym (t .count));
+          reaches = t .reached ∙ ap (countBelow (localSet rows f)) (sym (t .count));
+        }
+
+    -- all are ranked
+    pub ranks-all : RanksAll p rows used old new ats counts reacheds (answer (ranksAt (2 * n) count (r .reached)) both)
+    ranks-all =
+        record {
+          words = whole ∙ ap (λ (c : ℕ). put old (2 * n) (ranksOf (globalSet rows) 0 c ++ ranksFor p rows (fdsIn used))) many
+              ∙ ap (λ (i : ℕ). put old (2 * i) (allRanks p rows used)) glyphs;
+          ranked = record { globalRanks = globals-stand; localRanks = locals-stand };
+          told = b ∙ ap (λ (t : Bool). pick t all false) (ap (λ (x : code.Ranked). x .all) is ∙ ap (λ (c : ℕ). eqb (reached (globalSet rows)) (countBelow (globalSet rows) c)) many)
+              ∙ ap (λ (t : Bool). pick (globalsNumbered p rows) t false) (h .told);
+        }

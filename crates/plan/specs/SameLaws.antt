@@ -1,0 +1,97 @@
+-- What the work words and the tables give by the way is what crates/subset defines: subroutines, charstrings, and where renumbering fails.
+use Prim.Native.Nat.{ℕ, suc, _+_, _<_}
+use mathlib.Core.Path.{_≡_, refl, sym, ap, _∙_}
+use mathlib.Core.Bool.{Bool, true, false}
+use mathlib.Core.List.{List, [], _∷_}
+use native.Mathlib.Omega.{arith}
+use borrow.Author.Tests.{eqb-true}
+use lib.Dec.{eqb}
+use lib.ListN.{length, getD}
+use lib.Seq.{ext-getD}
+use Rattle.octets.specs.Pick.{pick}
+use Rattle.unfold.specs.Unfold.{Row, Site}
+use Rattle.prune.specs.Renumber.{Calls}
+use Rattle.subset.specs.Kept.{isIn}
+use Rattle.subset.specs.Pruned.{May, fail, yes as made, and, each, mapped, stubbedFrom, renumberedBody, renumberedSubrs}
+use Rattle.subset.specs.EachLaws.{length-mapped, mapped-at}
+use Rattle.subset.specs.KeptListLaws.{in-head, in-more}
+use Rattle.subset.specs.RankLaws.{those-at}
+use Rattle.bodies.specs.Ways.{holds, bodyBy, subrsBy, every, upTo}
+use Rattle.bodies.specs.Pruning.{allHold}
+use Rattle.bodies.specs.WritingLaws.{count-every, those-many}
+
+-- ---- by the way
+
+-- the same calls make the same body where it is renumbered
+pub body-same : (way : ℕ) (rows : List Row) (calls calls' : Calls) (site : Site) (s : List ℕ) → (way ≡ 0 → calls ≡ calls')
+    → bodyBy way rows calls site s ≡ bodyBy way rows calls' site s
+body-same way rows calls calls' site s same = go (eqb way 0) (λ e. same (eqb-true way 0 e))
+  where
+    go : (t : Bool) → (t ≡ true → calls ≡ calls')
+        → pick t (renumberedBody rows calls site s) (made s) ≡ pick t (renumberedBody rows calls' site s) (made s)
+    go true h = ap (λ (c : Calls). renumberedBody rows c site s) (h refl)
+    go false h = refl
+
+-- sets that agree on the subroutines stub the same
+stubbed-same : (set set' : ℕ → Bool) (k : ℕ) (l : List (List ℕ)) → ((i : ℕ) → i < length l → set (k + i) ≡ set' (k + i))
+    → stubbedFrom set k l ≡ stubbedFrom set' k l
+unfolding stubbedFrom
+stubbed-same set set' k [] same = refl
+stubbed-same set set' k (s ∷ l) same =
+    let z : k + 0 ≡ k = omega arith in
+    let first : set k ≡ set' k = ap set (sym z) ∙ same 0 (omega arith) ∙ ap set' z in
+    ap (λ (b : Bool). pick b s (11 ∷ []) ∷ stubbedFrom set (k + 1) l) first
+    ∙ ap (λ (r : List (List ℕ)). pick (set' k) s (11 ∷ []) ∷ r)
+    (stubbed-same set set' (k + 1) l (λ i h.
+    let e : k + 1 + i ≡ k + suc i = omega arith in
+    ap set e ∙ same (suc i) (omega arith) ∙ ap set' (sym e)))
+
+-- subroutines are the same where the sets agree on them; where they are renumbered, on all numbers
+pub subrs-same : (way : ℕ) (rows : List Row) (set set' : ℕ → Bool) (calls calls' : Calls) (site : ℕ → Site) (subrs : List (List ℕ))
+    → ((i : ℕ) → i < length subrs → set i ≡ set' i) → (way ≡ 0 → (set ≡ set') × (calls ≡ calls'))
+    → subrsBy way rows set calls site subrs ≡ subrsBy way rows set' calls' site subrs
+subrs-same way rows set set' calls calls' site subrs near same = go (eqb way 0) (eqb way 1) (λ e. same (eqb-true way 0 e))
+  where
+    go : (t u : Bool) → (t ≡ true → (set ≡ set') × (calls ≡ calls'))
+        → pick t (renumberedSubrs rows set calls site subrs) (made (pick u (stubbedFrom set 0 subrs) subrs))
+        ≡ pick t (renumberedSubrs rows set' calls' site subrs) (made (pick u (stubbedFrom set' 0 subrs) subrs))
+    go true u h =
+        ap (λ (s : ℕ → Bool). renumberedSubrs rows s calls site subrs) (h refl .0)
+        ∙ ap (λ (c : Calls). renumberedSubrs rows set' c site subrs) (h refl .1)
+    go false true h =
+        ap made (stubbed-same set set' 0 subrs (λ i k. let z : 0 + i ≡ i = omega arith in ap set z ∙ near i k ∙ ap set' (sym z)))
+    go false false h = refl
+
+-- ---- each of some
+
+-- what is done with each number below k is what is done with each of a list
+pub mapped-order : {A : Type 0} (f g : ℕ → A) (d : A) (k : ℕ) (order : List ℕ) → k ≡ length order → ((i : ℕ) → i < k → f i ≡ g (getD order i 0))
+    → mapped f (upTo k) ≡ mapped g order
+mapped-order f g d k order many same =
+    let l : length (upTo k) ≡ k = those-many every k ∙ count-every k in
+    ext-getD d (mapped f (upTo k)) (mapped g order) (length-mapped f (upTo k) ∙ l ∙ many ∙ sym (length-mapped g order)) (λ i h.
+    let b : i < k = omega (arith, length-mapped f (upTo k)) in
+    let e : getD (upTo k) i 0 ≡ i = ap (λ (j : ℕ). getD (upTo k) j 0) (sym (count-every i)) ∙ those-at every k i b refl in
+    mapped-at f (upTo k) i d (omega arith) ∙ ap f e ∙ same i b ∙ sym (mapped-at g order i d (omega arith)))
+
+-- all of some, or that one fails
+unfoldable eachOf : {A : Type 0} → List (May A) → May (List A)
+eachOf [] = made []
+eachOf (m ∷ ms) = and m (λ b. and (eachOf ms) (λ bs. made (b ∷ bs)))
+
+each-mapped : {A : Type 0} (f : ℕ → May A) (ks : List ℕ) → each f ks ≡ eachOf (mapped f ks)
+unfolding each mapped eachOf
+each-mapped f [] = refl
+each-mapped {A} f (k ∷ ks) = ap (λ (m : May (List A)). and (f k) (λ b. and m (λ bs. made (b ∷ bs)))) (each-mapped f ks)
+
+pub each-order : {A : Type 0} (f g : ℕ → May A) (k : ℕ) (order : List ℕ) → k ≡ length order → ((i : ℕ) → i < k → f i ≡ g (getD order i 0))
+    → each f (upTo k) ≡ each g order
+each-order f g k order many same = each-mapped f (upTo k) ∙ ap eachOf (mapped-order f g fail k order many same) ∙ sym (each-mapped g order)
+
+-- all of a list hold where each is the same
+pub hold-same : {A : Type 0} (f g : ℕ → May A) (fs : List ℕ) → ((x : ℕ) → isIn x fs ≡ true → f x ≡ g x) → allHold f fs ≡ allHold g fs
+unfolding allHold isIn
+hold-same f g [] same = refl
+hold-same {A} f g (x ∷ fs) same =
+    ap (λ (m : May A). pick (holds m) (allHold f fs) false) (same x (in-head x x fs refl))
+    ∙ ap (λ (t : Bool). pick (holds (g x)) t false) (hold-same f g fs (λ y h. same y (in-more x y fs h)))

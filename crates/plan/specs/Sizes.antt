@@ -1,0 +1,102 @@
+-- The sizes of all bodies by the way (document 01, 'Corners in write.rs'), over what the work words and the tables hold.
+use Prim.Native.Nat.{ℕ, _+_, _≤_, _<_}
+use mathlib.Core.Path.{_≡_}
+use mathlib.Core.Bool.{Bool, true, false}
+use mathlib.Core.List.{List, [], _∷_}
+use lib.Dec.{eqb}
+use lib.ListN.{length, take, drop, getD}
+use Rattle.octets.specs.Pick.{pick}
+use Rattle.index.specs.Write.{total}
+use Rattle.unfold.specs.Unfold.{Row, global}
+use Rattle.dict.specs.Lookup.{cidKeyed}
+use Rattle.cff.specs.Font.{Program}
+use Rattle.subset.specs.Kept.{fdsOf}
+use Rattle.subset.specs.Pruned.{May, localSet, globalSet}
+use Rattle.kept.specs.Packed.{packed}
+use Rattle.renumber.specs.Ranks.{callsBy}
+use Rattle.renumber.specs.declared.Ranks.{Ranks}
+use Rattle.cff.specs.Reads.{GoodFont, programOf}
+use Rattle.cff.specs.declared.font.Font.{Font}
+use Rattle.bodies.specs.Ways.{manyOf, holds, subrsBy, reachedIn, ranksIn, charstringsBy, SubrsIn, CharstringsIn}
+use Rattle.bodies.specs.declared.charstrings.Kept.{Kept}
+use Rattle.bodies.specs.declared.subrs.Subrs.the-variants.{Global}
+use Rattle.bodies.specs.Pruning.{allHold}
+use Rattle.fds.specs.Locals.{inUse, fdsIn}
+use Rattle.fds.specs.NewLocals.{localsBy, newLocals, LocalsIn}
+use Rattle.plan.specs.declared.sizes.Measures.{Measures}
+use Rattle.plan.specs.declared.Plan.{Plan}
+
+-- no ranks
+abbrev pub noRanks : Ranks
+noRanks = record { at = 0; count = 0; reached = 0 }
+
+-- the ranks by which a global subroutine calls local ones: those of the FD in use where it is the only one
+abbrev pub acrossBy : List ℕ → List ℕ → List ℕ → List ℕ → Ranks
+acrossBy ats counts reacheds [] = noRanks
+acrossBy ats counts reacheds (f ∷ []) = ranksIn ats counts reacheds f
+acrossBy ats counts reacheds (f ∷ g ∷ fs) = noRanks
+
+-- the last of some FDs
+unfoldable pub lastOf : List ℕ → ℕ
+lastOf [] = 0
+lastOf (f ∷ []) = f
+lastOf (f ∷ g ∷ fs) = lastOf (g ∷ fs)
+
+-- the words hold the kept glyphs in the order in which they are written, and in a CID-keyed font their FDs, which are in use
+pub record OrderIn (p : Program) (cid : Bool) (used ws : List ℕ) (k : ℕ) (order : List ℕ) : Type 0 where
+  pub many : k ≡ length order
+  pub room : length (p .charstrings) + k ≤ length ws
+  pub glyphs : take k ws ≡ packed p order
+  pub fds : cid ≡ true → take k (drop (length (p .charstrings)) ws) ≡ fdsOf p order
+  pub keyed : cid ≡ cidKeyed (p .top)
+  pub there : (i : ℕ) → i < k → getD order i 0 < length (p .charstrings)
+  pub within : (i : ℕ) → i < k → inUse used (getD (p .fds) (getD order i 0) 0) ≡ true
+
+module _ (way : ℕ) (p : Program) (rows : List Row) (cid : Bool) (ws used ats counts reacheds : List ℕ) (globals : Ranks) (k : ℕ) where
+  -- the globals by the way, and the charstrings, or that their renumbering fails
+  abbrev pub globalsBy : May (List (List ℕ))
+  globalsBy = subrsBy way rows (reachedIn ws globals) (callsBy ws (acrossBy ats counts reacheds (fdsIn used)) globals) global (p .globals)
+
+  abbrev pub glyphsBy : May (List (List ℕ))
+  glyphsBy = charstringsBy way rows cid ws (length (p .charstrings)) ats counts reacheds globals (p .charstrings) k
+
+  -- whether no part fails
+  abbrev pub allMade : Bool
+  allMade = pick (holds globalsBy) (pick (allHold (localsBy way p rows ws ats counts reacheds globals) (fdsIn used)) (holds glyphsBy) false) false
+
+  -- whether no part fails, and then the bytes of the globals, of the charstrings, and of the locals of each FD in use
+  pub record MeasuresAll (totals : List ℕ) (r : Measures) : Type 0 where
+    pub told : r .all ≡ allMade
+    pub ofGlobals : r .all ≡ true → r .globals ≡ total (manyOf globalsBy)
+    pub ofLocals : r .all ≡ true → (f : ℕ) → f < 256 → inUse used f ≡ true → getD totals f 0 ≡ total (newLocals way p rows ws ats counts reacheds globals f)
+    pub ofGlyphs : r .all ≡ true → r .glyphs ≡ total (manyOf glyphsBy)
+
+-- the way that is found: by the flag, by whether each number has a subroutine, and by whether no part fails
+abbrev pub wayBy : ℕ → Bool → Bool → ℕ
+wayBy traced all made = pick (eqb traced 0) 2 (pick all (pick made 0 1) 1)
+
+-- a plan: the way, and the bytes of all bodies by it
+module _ (p : Program) (rows : List Row) (cid : Bool) (ws used ats counts reacheds : List ℕ) (globals : Ranks) (k : ℕ) where
+  pub record Plans (traced : ℕ) (all : Bool) (totals : List ℕ) (r : Plan) : Type 0 where
+    pub is : r .way ≡ wayBy traced all (allMade 0 p rows cid ws used ats counts reacheds globals k)
+    pub sizes : MeasuresAll (r .way) p rows cid ws used ats counts reacheds globals k totals
+        (record { all = true; globals = r .«globals_total»; glyphs = r .«glyphs_total» })
+
+-- what measuring asks: the parts that the words and the tables hold, as their own measures ask for them
+pub record MeasureIn (b : List ℕ) (f : Font) (used ws : List ℕ) (kept : Kept) (ats counts reacheds : List ℕ) (rows : List Row) : Type 0 where
+  pub font : GoodFont b f
+  pub locals : LocalsIn b (programOf b f) used ws ats counts reacheds (kept .globals) rows (kept .rising)
+  pub subrs : SubrsIn b ws (f .globals) (kept .globals) (acrossBy ats counts reacheds (fdsIn used)) (kept .globals) rows (kept .rising) Global
+  pub glyphs : CharstringsIn b ws (kept .ix) kept ats counts reacheds (kept .globals) rows (kept .rising)
+  pub all : kept .all ≡ length (programOf b f .charstrings)
+  pub charstrings : kept .ix ≡ f .charstrings
+
+-- the kept glyphs by another way
+abbrev pub byWay : ℕ → Kept → Kept
+byWay way kept =
+    record { count = kept .count; all = kept .all; cid = kept .cid; way = way; ix = kept .ix; globals = kept .globals; rising = kept .rising }
+
+-- a row's number has two bytes
+pub record Narrow (rows : List Row) : Type 0 where
+  pub globals : (i : ℕ) → 65536 ≤ i → globalSet rows i ≡ false
+  pub locals : (f i : ℕ) → 65536 ≤ i → localSet rows f i ≡ false

@@ -1,0 +1,158 @@
+// The plan of a subset (document 01, 'Corners in write.rs'): all subroutines are ranked in the work words, the way is found, and the bodies
+// are measured.
+pub mod sizes;
+
+ghost use mathlib.Core.Path.{_≡_};
+ghost use Prim.Native.Nat.{_+_, _*_, _≤_};
+ghost use lib.ListN.{length};
+ghost use Rattle.record.specs.Record.{rowsOf};
+ghost use Rattle.cff.specs.Find.{localsTotal};
+ghost use Rattle.cff.specs.Reads.{GoodFont, programOf};
+ghost use Rattle.fds.specs.Locals.{UsedOf};
+ghost use Rattle.plan.specs.Ranked.{RanksAll};
+ghost use Rattle.plan.specs.Sizes.{MeasureIn, Plans};
+use crate::sizes::Measures;
+use crate::sizes::measure;
+use bodies::charstrings::Kept;
+use cff::font::Font;
+use renumber::Ranks;
+
+// Where the ranks of the globals stand; whether the record has no number without a subroutine.
+pub struct RankedAll {
+    pub globals: Ranks,
+    pub all: bool,
+}
+
+// Ranks the globals in the words behind those of the glyphs, and the locals of each FD in use behind them.
+pub fn rank_all(
+    font: &[u8],
+    f: Font,
+    rows: &[u8],
+    used: &[u32],
+    words: &mut [u32],
+    ats: &mut [usize],
+    counts: &mut [usize],
+    reacheds: &mut [usize],
+) -> RankedAll
+    requires { ⌜ (GoodFont (now font) f) × (256 ≤ length (now used)) × (UsedOf (length (programOf (now font) f .privates)) (now used))
+        × (2 * (f .charstrings .count) + f .globals .count + localsTotal (programOf (now font) f .privates) ≤ length (now words))
+        × (256 ≤ length (now ats)) × (256 ≤ length (now counts)) × (256 ≤ length (now reacheds)) ⌝ }
+    ensures { λ r. ⌜ RanksAll (programOf (now (font .entry)) f) (rowsOf (now (rows .entry))) (now (used .entry)) (now (words .entry)) (now (words .exit))
+        (now (ats .exit)) (now (counts .exit)) (now (reacheds .exit)) r ⌝ }
+{
+    let charstrings = f.charstrings;
+    let globals = f.globals;
+    let at = 2 * charstrings.count;
+    let count = globals.count;
+    let r = reach::ranks::rank_reached(rows, true, 0, &mut *words, at, count);
+    let reached = r.reached;
+    let first = r.all;
+    let behind = at + count;
+    let rest = fds::rank_locals(font, f, rows, used, words, behind, ats, counts, reacheds);
+    let all = fds::both(first, rest);
+    RankedAll {
+        globals: Ranks { at, count, reached },
+        all,
+    }
+}
+
+// The way (0 renumbered, 1 stubbed, 2 copied), and the bytes of the globals and of the charstrings.
+pub struct Plan {
+    pub way: u8,
+    pub globals_total: usize,
+    pub glyphs_total: usize,
+}
+
+// The plan by a way and what was measured by it.
+fn planned(way: u8, m: Measures) -> Plan
+    ensures { λ r. ⌜ r ≡ record { way = way; «globals_total» = m .globals; «glyphs_total» = m .glyphs } ⌝ }
+{
+    Plan {
+        way,
+        globals_total: m.globals,
+        glyphs_total: m.glyphs,
+    }
+}
+
+// Finds the way and measures all bodies by it: those of the locals of each FD in use in a table.
+pub fn plan_bodies(
+    kept: Kept,
+    font: &[u8],
+    f: Font,
+    used: &[u32],
+    words: &[u32],
+    ats: &[usize],
+    counts: &[usize],
+    reacheds: &[usize],
+    rows: &[u8],
+    all: bool,
+    traced: u8,
+    totals: &mut [usize],
+) -> Plan
+    requires { ⌜ (MeasureIn (now font) f (now used) (now words) kept (now ats) (now counts) (now reacheds) (rowsOf (now rows))) × (256 ≤ length (now totals)) ⌝ }
+    ensures { λ r. ⌜ Plans (programOf (now (font .entry)) f) (rowsOf (now (rows .entry))) (kept .cid) (now (words .entry)) (now (used .entry)) (now (ats .entry))
+        (now (counts .entry)) (now (reacheds .entry)) (kept .globals) (kept .count) traced all (now (totals .exit)) r ⌝ }
+{
+    if traced == 0 {
+        let m = measure(
+            2,
+            kept,
+            font,
+            f,
+            used,
+            words,
+            ats,
+            counts,
+            reacheds,
+            rows,
+            totals,
+        );
+        return planned(2, m);
+    }
+    if all {
+        let m = measure(
+            0,
+            kept,
+            font,
+            f,
+            used,
+            words,
+            ats,
+            counts,
+            reacheds,
+            rows,
+            &mut *totals,
+        );
+        if m.all {
+            return planned(0, m);
+        }
+        let s = measure(
+            1,
+            kept,
+            font,
+            f,
+            used,
+            words,
+            ats,
+            counts,
+            reacheds,
+            rows,
+            totals,
+        );
+        return planned(1, s);
+    }
+    let s = measure(
+        1,
+        kept,
+        font,
+        f,
+        used,
+        words,
+        ats,
+        counts,
+        reacheds,
+        rows,
+        totals,
+    );
+    planned(1, s)
+}

@@ -1,0 +1,221 @@
+// The sizes of all bodies by the way.
+ghost use mathlib.Core.Path.{_≡_};
+ghost use mathlib.Core.Bool.{false};
+ghost use Prim.Native.Nat.{_≤_};
+ghost use lib.ListN.{length};
+ghost use Rattle.record.specs.Record.{rowsOf};
+ghost use Rattle.cff.specs.Reads.{programOf};
+ghost use Rattle.bodies.specs.Ways.{measuredOf};
+ghost use Rattle.fds.specs.Locals.{fdsIn};
+ghost use Rattle.fds.specs.NewLocals.{MeasuresLocals};
+ghost use Rattle.plan.specs.Sizes.{acrossBy, globalsBy, MeasureIn, MeasuresAll};
+use bodies::Measured;
+use bodies::charstrings::Kept;
+use bodies::charstrings::charstrings_total;
+use bodies::subrs::Source;
+use bodies::subrs::Subrs;
+use cff::font::Font;
+use renumber::Ranks;
+
+// Whether no part fails, and then the bytes of the globals and of the charstrings.
+pub struct Measures {
+    pub all: bool,
+    pub globals: usize,
+    pub glyphs: usize,
+}
+
+// The ranks by which a global subroutine calls local ones: those of the FD in use where it is the only one, else none.
+fn across(used: &[u32], ats: &[usize], counts: &[usize], reacheds: &[usize]) -> Ranks
+    requires { ⌜ (256 ≤ length (now used)) × (256 ≤ length (now ats)) × (256 ≤ length (now counts)) × (256 ≤ length (now reacheds)) ⌝ }
+    ensures { λ r. ⌜ r ≡ acrossBy (now (ats .entry)) (now (counts .entry)) (now (reacheds .entry)) (fdsIn (now (used .entry))) ⌝ }
+{
+    let mut count: usize = 0;
+    let mut last: usize = 0;
+    let mut fd: usize = 0;
+    while fd < 256 {
+        if used[fd] == 0 {
+            fd += 1;
+        } else {
+            count += 1;
+            last = fd;
+            fd += 1;
+        }
+    }
+    if count == 1 {
+        return bodies::charstrings::ranks_in(ats, counts, reacheds, last);
+    }
+    Ranks {
+        at: 0,
+        count: 0,
+        reached: 0,
+    }
+}
+
+// A part fails.
+fn failed() -> Measures
+    ensures { λ r. ⌜ r ≡ record { all = false; globals = 0; glyphs = 0 } ⌝ }
+{
+    Measures {
+        all: false,
+        globals: 0,
+        glyphs: 0,
+    }
+}
+
+// The bytes of the globals by the way, or that their renumbering fails.
+fn globals_total(
+    kept: Kept,
+    font: &[u8],
+    f: Font,
+    used: &[u32],
+    words: &[u32],
+    ats: &[usize],
+    counts: &[usize],
+    reacheds: &[usize],
+    rows: &[u8],
+) -> Measured
+    requires { ⌜ MeasureIn (now font) f (now used) (now words) kept (now ats) (now counts) (now reacheds) (rowsOf (now rows)) ⌝ }
+    ensures { λ r. ⌜ r ≡ measuredOf (globalsBy (kept .way) (programOf (now (font .entry)) f) (rowsOf (now (rows .entry))) (kept .cid) (now (words .entry))
+        (now (used .entry)) (now (ats .entry)) (now (counts .entry)) (now (reacheds .entry)) (kept .globals) (kept .count)) ⌝ }
+{
+    let ix = f.globals;
+    let own = kept.globals;
+    let locals = across(used, ats, counts, reacheds);
+    let of = Subrs::Global;
+    let from = Source {
+        way: kept.way,
+        of,
+        ix,
+        own,
+        locals,
+        globals: own,
+        rising: kept.rising,
+    };
+    bodies::subrs::subrs_total(from, font, words, rows)
+}
+
+// The bytes of the locals of each FD in use by the way, in a table; false where their renumbering fails.
+fn locals_totals(
+    kept: Kept,
+    font: &[u8],
+    f: Font,
+    used: &[u32],
+    words: &[u32],
+    ats: &[usize],
+    counts: &[usize],
+    reacheds: &[usize],
+    rows: &[u8],
+    totals: &mut [usize],
+) -> bool
+    requires { ⌜ (MeasureIn (now font) f (now used) (now words) kept (now ats) (now counts) (now reacheds) (rowsOf (now rows))) × (256 ≤ length (now totals)) ⌝ }
+    ensures { λ r. ⌜ MeasuresLocals (kept .way) (programOf (now (font .entry)) f) (rowsOf (now (rows .entry))) (now (words .entry)) (now (ats .entry))
+        (now (counts .entry)) (now (reacheds .entry)) (kept .globals) (now (used .entry)) (now (totals .exit)) r ⌝ }
+{
+    let way = kept.way;
+    let globals = kept.globals;
+    let rising = kept.rising;
+    fds::totals::measure_locals(
+        way,
+        font,
+        f,
+        used,
+        words,
+        ats,
+        counts,
+        reacheds,
+        globals,
+        rows,
+        rising,
+        totals,
+    )
+}
+
+// The bytes of all bodies by the way that the kept glyphs are written: those of the locals of each FD in use in a table.
+fn measure_kept(
+    kept: Kept,
+    font: &[u8],
+    f: Font,
+    used: &[u32],
+    words: &[u32],
+    ats: &[usize],
+    counts: &[usize],
+    reacheds: &[usize],
+    rows: &[u8],
+    totals: &mut [usize],
+) -> Measures
+    requires { ⌜ (MeasureIn (now font) f (now used) (now words) kept (now ats) (now counts) (now reacheds) (rowsOf (now rows))) × (256 ≤ length (now totals)) ⌝ }
+    ensures { λ r. ⌜ MeasuresAll (kept .way) (programOf (now (font .entry)) f) (rowsOf (now (rows .entry))) (kept .cid) (now (words .entry)) (now (used .entry))
+        (now (ats .entry)) (now (counts .entry)) (now (reacheds .entry)) (kept .globals) (kept .count) (now (totals .exit)) r ⌝ }
+{
+    match globals_total(kept, font, f, used, words, ats, counts, reacheds, rows) {
+        Measured::Failed => failed(),
+        Measured::Total(g) => {
+            if locals_totals(
+                kept,
+                font,
+                f,
+                used,
+                words,
+                ats,
+                counts,
+                reacheds,
+                rows,
+                totals,
+            ) {
+                match charstrings_total(kept, font, words, ats, counts, reacheds, rows) {
+                    Measured::Failed => failed(),
+                    Measured::Total(c) => Measures {
+                        all: true,
+                        globals: g,
+                        glyphs: c,
+                    },
+                }
+            } else {
+                failed()
+            }
+        }
+    }
+}
+
+// The same, by a given way.
+pub fn measure(
+    way: u8,
+    kept: Kept,
+    font: &[u8],
+    f: Font,
+    used: &[u32],
+    words: &[u32],
+    ats: &[usize],
+    counts: &[usize],
+    reacheds: &[usize],
+    rows: &[u8],
+    totals: &mut [usize],
+) -> Measures
+    requires { ⌜ (MeasureIn (now font) f (now used) (now words) kept (now ats) (now counts) (now reacheds) (rowsOf (now rows))) × (256 ≤ length (now totals)) ⌝ }
+    ensures { λ r. ⌜ MeasuresAll way (programOf (now (font .entry)) f) (rowsOf (now (rows .entry))) (kept .cid) (now (words .entry)) (now (used .entry))
+        (now (ats .entry)) (now (counts .entry)) (now (reacheds .entry)) (kept .globals) (kept .count) (now (totals .exit)) r ⌝ }
+{
+    let ix = kept.ix;
+    let globals = kept.globals;
+    let by = Kept {
+        count: kept.count,
+        all: kept.all,
+        cid: kept.cid,
+        way,
+        ix,
+        globals,
+        rising: kept.rising,
+    };
+    measure_kept(
+        by,
+        font,
+        f,
+        used,
+        words,
+        ats,
+        counts,
+        reacheds,
+        rows,
+        totals,
+    )
+}
