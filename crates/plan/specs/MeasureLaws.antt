@@ -10,6 +10,7 @@ use Rattle.index.specs.Index.{itemsOf}
 use Rattle.index.specs.declared.Index.{Index}
 use Rattle.prune.specs.StepLaws.{zero-one}
 use Rattle.cff.specs.Font.{Program}
+use Rattle.subset.specs.Pruned.{May}
 use Rattle.renumber.specs.declared.Ranks.{Ranks}
 use Rattle.renumber.specs.Ranks.{callsBy}
 use Rattle.bodies.specs.Ways.{holds, measuredOf, charstringsBy, subrsBy, reachedIn, siteIn}
@@ -55,6 +56,16 @@ module _ (way : ℕ) (p : Program) (rows : List Row) (cid : Bool) (ws used ats c
       is ∙ ap (λ (q : Ranks). measuredOf (subrsBy way rows (reachedIn ws globals) (callsBy ws q globals) (siteIn Global) (p .globals))) across
 
 module _ (way : ℕ) (p : Program) (rows : List Row) (cid : Bool) (ws used ats counts reacheds : List ℕ) (globals : Ranks) (k : ℕ) (totals : List ℕ) where
+  -- the globals and the charstrings by the way; whether the locals of no FD fail
+  abbrev theGlobals : May (List (List ℕ))
+  theGlobals = globalsBy way p rows cid ws used ats counts reacheds globals k
+
+  abbrev theGlyphs : May (List (List ℕ))
+  theGlyphs = glyphsBy way p rows cid ws used ats counts reacheds globals k
+
+  abbrev localsHold : Bool
+  localsHold = allHold (localsBy way p rows ws ats counts reacheds globals) (fdsIn used)
+
   abbrev Whole : Measures → Type 0
   Whole r = MeasuresAll way p rows cid ws used ats counts reacheds globals k totals r
 
@@ -68,30 +79,30 @@ module _ (way : ℕ) (p : Program) (rows : List Row) (cid : Bool) (ws used ats c
       }
 
   -- the globals fail
-  pub globals-fail : measuredOf (globalsBy way p rows cid ws used ats counts reacheds globals k) ≡ Failed → Whole (measures false 0 0)
-  globals-fail e = none (never (holds (globalsBy way p rows cid ws used ats counts reacheds globals k)) (pick (allHold (localsBy way p rows ws ats counts reacheds globals) (fdsIn used)) (holds (glyphsBy way p rows cid ws used ats counts reacheds globals k)) false) (failed-told (globalsBy way p rows cid ws used ats counts reacheds globals k) e))
+  pub globals-fail : measuredOf theGlobals ≡ Failed → Whole (measures false 0 0)
+  globals-fail e = none (never (holds theGlobals) (pick localsHold (holds theGlyphs) false) (failed-told theGlobals e))
 
   module _ (t : Bool) (ls : MeasuresLocals way p rows ws ats counts reacheds globals used totals t) where
     -- the locals of an FD fail
     pub locals-fail : t ≡ false → Whole (measures false 0 0)
     locals-fail e =
-        none (either (holds (globalsBy way p rows cid ws used ats counts reacheds globals k)) (allHold (localsBy way p rows ws ats counts reacheds globals) (fdsIn used)) (holds (glyphsBy way p rows cid ws used ats counts reacheds globals k))
-        (never (allHold (localsBy way p rows ws ats counts reacheds globals) (fdsIn used)) (holds (glyphsBy way p rows cid ws used ats counts reacheds globals k)) (sym (ls .told) ∙ e)))
+        none (either (holds theGlobals) localsHold (holds theGlyphs)
+        (never localsHold (holds theGlyphs) (sym (ls .told) ∙ e)))
 
     -- a charstring fails
-    pub glyphs-fail : measuredOf (glyphsBy way p rows cid ws used ats counts reacheds globals k) ≡ Failed → Whole (measures false 0 0)
+    pub glyphs-fail : measuredOf theGlyphs ≡ Failed → Whole (measures false 0 0)
     glyphs-fail e =
-        none (last (holds (globalsBy way p rows cid ws used ats counts reacheds globals k)) (allHold (localsBy way p rows ws ats counts reacheds globals) (fdsIn used)) (holds (glyphsBy way p rows cid ws used ats counts reacheds globals k))
-        (failed-told (glyphsBy way p rows cid ws used ats counts reacheds globals k) e))
+        none (last (holds theGlobals) localsHold (holds theGlyphs)
+        (failed-told theGlyphs e))
 
     -- none fails
-    pub all-measured : (g c : ℕ) → measuredOf (globalsBy way p rows cid ws used ats counts reacheds globals k) ≡ Total g → t ≡ true
-        → measuredOf (glyphsBy way p rows cid ws used ats counts reacheds globals k) ≡ Total c → Whole (measures true g c)
+    pub all-measured : (g c : ℕ) → measuredOf theGlobals ≡ Total g → t ≡ true
+        → measuredOf theGlyphs ≡ Total c → Whole (measures true g c)
     all-measured g c e u d =
-        let x = total-told (globalsBy way p rows cid ws used ats counts reacheds globals k) g e in
-        let y = total-told (glyphsBy way p rows cid ws used ats counts reacheds globals k) c d in
+        let x = total-told theGlobals g e in
+        let y = total-told theGlyphs c d in
         record {
-          told = sym (every (holds (globalsBy way p rows cid ws used ats counts reacheds globals k)) (allHold (localsBy way p rows ws ats counts reacheds globals) (fdsIn used)) (holds (glyphsBy way p rows cid ws used ats counts reacheds globals k))
+          told = sym (every (holds theGlobals) localsHold (holds theGlyphs)
               (x .0) (sym (ls .told) ∙ u) (y .0));
           ofGlobals = λ z. sym (x .1);
           ofLocals = λ z. ls .sums u;
@@ -99,7 +110,7 @@ module _ (way : ℕ) (p : Program) (rows : List Row) (cid : Bool) (ws used ats c
         }
 
   -- what the code returns: each part as it was measured
-  module _ (m : Measured) (is : m ≡ measuredOf (globalsBy way p rows cid ws used ats counts reacheds globals k)) where
+  module _ (m : Measured) (is : m ≡ measuredOf theGlobals) where
     pub returns-globals : m ≡ Failed → (r : Measures) → r ≡ measures false 0 0 → Whole r
     returns-globals e r a = subst Whole (sym a) (globals-fail (sym is ∙ e))
 
@@ -109,7 +120,7 @@ module _ (way : ℕ) (p : Program) (rows : List Row) (cid : Bool) (ws used ats c
 
       module _ (n : ℕ) (many : n ≡ length (p .charstrings)) (b : List ℕ) (ix whole : Index) (same : ix ≡ whole) (items : itemsOf b whole ≡ p .charstrings) (d : Measured)
           (ds : d ≡ measuredOf (charstringsBy way rows cid ws n ats counts reacheds globals (itemsOf b ix) k)) where
-        glyphs-told : (x : Measured) → d ≡ x → measuredOf (glyphsBy way p rows cid ws used ats counts reacheds globals k) ≡ x
+        glyphs-told : (x : Measured) → d ≡ x → measuredOf theGlyphs ≡ x
         glyphs-told x e =
             sym (ap (λ (l : List (List ℕ)). measuredOf (charstringsBy way rows cid ws n ats counts reacheds globals l k)) (ap (itemsOf b) same ∙ items)
             ∙ ap (λ (i : ℕ). measuredOf (charstringsBy way rows cid ws i ats counts reacheds globals (p .charstrings) k)) many) ∙ sym ds ∙ e

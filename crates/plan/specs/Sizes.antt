@@ -75,6 +75,10 @@ module _ (way : ℕ) (p : Program) (rows : List Row) (cid : Bool) (ws used ats c
 abbrev pub wayBy : ℕ → Bool → Bool → ℕ
 wayBy traced all made = pick (eqb traced 0) 2 (pick all (pick made 0 1) 1)
 
+-- the way that is tried first
+abbrev pub firstWay : ℕ → Bool → ℕ
+firstWay traced all = pick (eqb traced 0) 2 (pick all 0 1)
+
 -- a plan: the way, and the bytes of all bodies by it
 module _ (p : Program) (rows : List Row) (cid : Bool) (ws used ats counts reacheds : List ℕ) (globals : Ranks) (k : ℕ) where
   pub record Plans (traced : ℕ) (all : Bool) (totals : List ℕ) (r : Plan) : Type 0 where

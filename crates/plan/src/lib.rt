@@ -10,7 +10,7 @@ ghost use Rattle.cff.specs.Find.{localsTotal};
 ghost use Rattle.cff.specs.Reads.{GoodFont, programOf};
 ghost use Rattle.fds.specs.Locals.{UsedOf};
 ghost use Rattle.plan.specs.Ranked.{RanksAll};
-ghost use Rattle.plan.specs.Sizes.{MeasureIn, Plans};
+ghost use Rattle.plan.specs.Sizes.{MeasureIn, firstWay, Plans};
 use crate::sizes::Measures;
 use crate::sizes::measure;
 use bodies::charstrings::Kept;
@@ -74,6 +74,19 @@ fn planned(way: u8, m: Measures) -> Plan
     }
 }
 
+// The way that is tried first: copied by the flag; else renumbered where each number has a subroutine; else stubbed.
+fn first_way(traced: u8, all: bool) -> u8
+    ensures { λ r. ⌜ r ≡ firstWay traced all ⌝ }
+{
+    if traced == 0 {
+        return 2;
+    }
+    if all {
+        return 0;
+    }
+    1
+}
+
 // Finds the way and measures all bodies by it: those of the locals of each FD in use in a table.
 pub fn plan_bodies(
     kept: Kept,
@@ -93,53 +106,22 @@ pub fn plan_bodies(
     ensures { λ r. ⌜ Plans (programOf (now (font .entry)) f) (rowsOf (now (rows .entry))) (kept .cid) (now (words .entry)) (now (used .entry)) (now (ats .entry))
         (now (counts .entry)) (now (reacheds .entry)) (kept .globals) (kept .count) traced all (now (totals .exit)) r ⌝ }
 {
-    if traced == 0 {
-        let m = measure(
-            2,
-            kept,
-            font,
-            f,
-            used,
-            words,
-            ats,
-            counts,
-            reacheds,
-            rows,
-            totals,
-        );
-        return planned(2, m);
-    }
-    if all {
-        let m = measure(
-            0,
-            kept,
-            font,
-            f,
-            used,
-            words,
-            ats,
-            counts,
-            reacheds,
-            rows,
-            &mut *totals,
-        );
-        if m.all {
-            return planned(0, m);
-        }
-        let s = measure(
-            1,
-            kept,
-            font,
-            f,
-            used,
-            words,
-            ats,
-            counts,
-            reacheds,
-            rows,
-            totals,
-        );
-        return planned(1, s);
+    let way = first_way(traced, all);
+    let m = measure(
+        way,
+        kept,
+        font,
+        f,
+        used,
+        words,
+        ats,
+        counts,
+        reacheds,
+        rows,
+        &mut *totals,
+    );
+    if m.all {
+        return planned(way, m);
     }
     let s = measure(
         1,

@@ -105,11 +105,11 @@ fn locals_totals(
     counts: &[usize],
     reacheds: &[usize],
     rows: &[u8],
-    totals: &mut [usize],
+    sums: &mut [usize],
 ) -> bool
-    requires { ⌜ (MeasureIn (now font) f (now used) (now words) kept (now ats) (now counts) (now reacheds) (rowsOf (now rows))) × (256 ≤ length (now totals)) ⌝ }
+    requires { ⌜ (MeasureIn (now font) f (now used) (now words) kept (now ats) (now counts) (now reacheds) (rowsOf (now rows))) × (256 ≤ length (now sums)) ⌝ }
     ensures { λ r. ⌜ MeasuresLocals (kept .way) (programOf (now (font .entry)) f) (rowsOf (now (rows .entry))) (now (words .entry)) (now (ats .entry))
-        (now (counts .entry)) (now (reacheds .entry)) (kept .globals) (now (used .entry)) (now (totals .exit)) r ⌝ }
+        (now (counts .entry)) (now (reacheds .entry)) (kept .globals) (now (used .entry)) (now (sums .exit)) r ⌝ }
 {
     let way = kept.way;
     let globals = kept.globals;
@@ -126,13 +126,13 @@ fn locals_totals(
         globals,
         rows,
         rising,
-        totals,
+        sums,
     )
 }
 
 // The bytes of all bodies by the way that the kept glyphs are written: those of the locals of each FD in use in a table.
 fn measure_kept(
-    kept: Kept,
+    by: Kept,
     font: &[u8],
     f: Font,
     used: &[u32],
@@ -141,28 +141,17 @@ fn measure_kept(
     counts: &[usize],
     reacheds: &[usize],
     rows: &[u8],
-    totals: &mut [usize],
+    sums: &mut [usize],
 ) -> Measures
-    requires { ⌜ (MeasureIn (now font) f (now used) (now words) kept (now ats) (now counts) (now reacheds) (rowsOf (now rows))) × (256 ≤ length (now totals)) ⌝ }
-    ensures { λ r. ⌜ MeasuresAll (kept .way) (programOf (now (font .entry)) f) (rowsOf (now (rows .entry))) (kept .cid) (now (words .entry)) (now (used .entry))
-        (now (ats .entry)) (now (counts .entry)) (now (reacheds .entry)) (kept .globals) (kept .count) (now (totals .exit)) r ⌝ }
+    requires { ⌜ (MeasureIn (now font) f (now used) (now words) by (now ats) (now counts) (now reacheds) (rowsOf (now rows))) × (256 ≤ length (now sums)) ⌝ }
+    ensures { λ r. ⌜ MeasuresAll (by .way) (programOf (now (font .entry)) f) (rowsOf (now (rows .entry))) (by .cid) (now (words .entry)) (now (used .entry))
+        (now (ats .entry)) (now (counts .entry)) (now (reacheds .entry)) (by .globals) (by .count) (now (sums .exit)) r ⌝ }
 {
-    match globals_total(kept, font, f, used, words, ats, counts, reacheds, rows) {
+    match globals_total(by, font, f, used, words, ats, counts, reacheds, rows) {
         Measured::Failed => failed(),
         Measured::Total(g) => {
-            if locals_totals(
-                kept,
-                font,
-                f,
-                used,
-                words,
-                ats,
-                counts,
-                reacheds,
-                rows,
-                totals,
-            ) {
-                match charstrings_total(kept, font, words, ats, counts, reacheds, rows) {
+            if locals_totals(by, font, f, used, words, ats, counts, reacheds, rows, sums) {
+                match charstrings_total(by, font, words, ats, counts, reacheds, rows) {
                     Measured::Failed => failed(),
                     Measured::Total(c) => Measures {
                         all: true,
@@ -189,11 +178,11 @@ pub fn measure(
     counts: &[usize],
     reacheds: &[usize],
     rows: &[u8],
-    totals: &mut [usize],
+    sums: &mut [usize],
 ) -> Measures
-    requires { ⌜ (MeasureIn (now font) f (now used) (now words) kept (now ats) (now counts) (now reacheds) (rowsOf (now rows))) × (256 ≤ length (now totals)) ⌝ }
+    requires { ⌜ (MeasureIn (now font) f (now used) (now words) kept (now ats) (now counts) (now reacheds) (rowsOf (now rows))) × (256 ≤ length (now sums)) ⌝ }
     ensures { λ r. ⌜ MeasuresAll way (programOf (now (font .entry)) f) (rowsOf (now (rows .entry))) (kept .cid) (now (words .entry)) (now (used .entry))
-        (now (ats .entry)) (now (counts .entry)) (now (reacheds .entry)) (kept .globals) (kept .count) (now (totals .exit)) r ⌝ }
+        (now (ats .entry)) (now (counts .entry)) (now (reacheds .entry)) (kept .globals) (kept .count) (now (sums .exit)) r ⌝ }
 {
     let ix = kept.ix;
     let globals = kept.globals;
@@ -206,16 +195,5 @@ pub fn measure(
         globals,
         rising: kept.rising,
     };
-    measure_kept(
-        by,
-        font,
-        f,
-        used,
-        words,
-        ats,
-        counts,
-        reacheds,
-        rows,
-        totals,
-    )
+    measure_kept(by, font, f, used, words, ats, counts, reacheds, rows, sums)
 }
