@@ -23,20 +23,23 @@ fn put_report_of(kinds: &[u8], buffer: &[u8], n: usize, out: &mut [u8]) -> usize
     octets::put_bytes(out, 0, b"text too long\n")
 }
 
-// Prints the report of a file, by these kinds; lines of other kinds are counted in the row `?`.
-fn replay_file(path: &[u8], kinds: &[u8], buffer: &mut [u8; 1048576])
+// Prints the report of a file, by these kinds; lines of other kinds are counted in the row `?`. Returns how many bytes it printed, which
+// `put_report_of` determines: 0 where there is no such file.
+fn replay_file(path: &[u8], kinds: &[u8], buffer: &mut [u8; 1048576]) -> usize
     requires { ⌜ length (now kinds) ≤ 24 ⌝ }
+    ensures { λ r. ⌜ r ≤ 2048 ⌝ }
 {
     let fd = os::open_read(path);
     if fd < 0 {
         os::fail(path);
-        return;
+        return 0;
     }
     let n = io::read_full(fd, &mut *buffer);
     let mut out = [0u8; 2048];
     let k = put_report_of(kinds, &*buffer, n, &mut out);
     io::write_all(1, &out[..k]);
     libc::close(fd);
+    k
 }
 
 // The file corners holds document 01's cases, 'Corners in charstring.rs', written by hand: the bias at 1239, 1240, 33899 and 33900;
