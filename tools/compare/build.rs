@@ -1,5 +1,4 @@
-//! Links libcapi.a, from the folder that CAPI_DIR names, when the feature `linked` is on, and makes the copy of docs/src's
-//! cff/write.rs whose `trace` can be told what to answer.
+//! Makes the copy of docs/src's cff/write.rs whose `trace` can be told what to answer.
 
 use std::path::Path;
 use std::{env, fs};
@@ -35,20 +34,8 @@ pub fn way(program: &CffProgram, gids: &BTreeSet<u16>) -> u8 {
 }
 ";
 
-fn main() {
-    hooked();
-    println!("cargo:rerun-if-env-changed=CAPI_DIR");
-    if env::var_os("CARGO_FEATURE_LINKED").is_none() {
-        return;
-    }
-    let dir = env::var("CAPI_DIR").expect("CAPI_DIR names the folder of libcapi.a");
-    println!("cargo:rerun-if-changed={dir}/libcapi.a");
-    println!("cargo:rustc-link-search=native={dir}");
-    println!("cargo:rustc-link-lib=static=capi");
-}
-
 /// Writes the copy, and a file that names it as a module.
-fn hooked() {
+fn main() {
     let here = env::var("CARGO_MANIFEST_DIR").expect("cargo sets it");
     let out = env::var("OUT_DIR").expect("cargo sets it");
     let source = Path::new(&here).join("../../docs/src/crates/efterscript-fonts/src/cff/write.rs");

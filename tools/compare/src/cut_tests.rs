@@ -2,8 +2,9 @@
 
 use crate::cut::{self, Answer, Cut, Lent, Outcome, Subset, WORDS};
 use crate::cut_compare::agrees;
-use crate::library::{Library, SubsetFn};
+use crate::library::Library;
 use crate::{model, original, stub};
+use mogdivash::ffi::SubsetFn;
 use std::slice;
 
 /// The font of document 01, 'One sheet, whole'.

@@ -1,25 +1,7 @@
-//! The library under test by its C interface, and a stub in its place until it is linked.
+//! The library under test by its C interface (bindings/rust, `ffi`).
 
 use crate::cut::{Cut, Lent, WORDS};
-
-/// The slices of a call of subsetting: font, name, kept numbers, record; the flag; work words, output, answer.
-pub type SubsetFn = unsafe extern "C" fn(
-    *const u8,
-    usize,
-    *const u8,
-    usize,
-    *const u16,
-    usize,
-    *const u8,
-    usize,
-    u8,
-    *mut u32,
-    usize,
-    *mut u8,
-    usize,
-    *mut u64,
-    usize,
-) -> u8;
+use mogdivash::ffi::{self, SubsetFn};
 
 /// The functions of the crate `capi`: a slice is a pointer and a length.
 #[derive(Clone, Copy)]
@@ -45,7 +27,7 @@ pub struct Subsetted {
 const BEYOND: usize = 8;
 
 /// What `find_name` and `find_cid` give for a glyph that is absent.
-pub const ABSENT: u64 = 65536;
+pub const ABSENT: u64 = ffi::ABSENT;
 
 /// The refusal where fewer words or bytes are lent than the answer has.
 pub const NO_ROOM: u8 = 11;
@@ -71,7 +53,7 @@ const BYTE: u8 = 0xa5;
 pub type Checked<T> = Result<Answer<T>, String>;
 
 /// The words of an answer of reading, and of another.
-pub const COUNTS: usize = 5;
+pub const COUNTS: usize = ffi::COUNTS;
 pub const ONE: usize = 1;
 
 impl Library {
@@ -248,90 +230,15 @@ fn untouched<T>(refusal: u8, out: &[u64]) -> Checked<T> {
     Ok(Err(refusal))
 }
 
-#[cfg(feature = "linked")]
-mod linked {
-    unsafe extern "C" {
-        pub fn cff_read(font: *const u8, len: usize, answer: *mut u64, words: usize) -> u8;
-        pub fn cff_find_name(
-            font: *const u8,
-            len: usize,
-            name: *const u8,
-            name_len: usize,
-            answer: *mut u64,
-            words: usize,
-        ) -> u8;
-        pub fn cff_find_cid(
-            font: *const u8,
-            len: usize,
-            cid: u16,
-            answer: *mut u64,
-            words: usize,
-        ) -> u8;
-        pub fn cff_item(
-            font: *const u8,
-            len: usize,
-            kind: u8,
-            number: u64,
-            out: *mut u8,
-            room: usize,
-            size: *mut u64,
-            words: usize,
-        ) -> u8;
-        pub fn cff_item_refusal(font: *const u8, len: usize, kind: u8, number: u64) -> u8;
-    }
-}
-
-#[cfg(feature = "subset")]
-mod cutting {
-    macro_rules! declared {
-        ($($name:ident),*) => {
-            unsafe extern "C" {
-                $(pub fn $name(
-                    font: *const u8,
-                    font_len: usize,
-                    name: *const u8,
-                    name_len: usize,
-                    keep: *const u16,
-                    keep_len: usize,
-                    record: *const u8,
-                    record_len: usize,
-                    traced: u8,
-                    work: *mut u32,
-                    work_len: usize,
-                    out: *mut u8,
-                    out_len: usize,
-                    answer: *mut u64,
-                    answer_len: usize,
-                ) -> u8;)*
-            }
-        };
-    }
-    declared!(cff_subset, cff_subset_cid);
-}
-
-/// Whether subsetting is the library's, and not the stub's.
-pub const SUBSET_LINKED: bool = cfg!(feature = "subset");
-
-#[cfg(feature = "subset")]
-const SUBSET: (SubsetFn, SubsetFn) = (cutting::cff_subset, cutting::cff_subset_cid);
-#[cfg(all(feature = "linked", not(feature = "subset")))]
-const SUBSET: (SubsetFn, SubsetFn) = (crate::stub::subset, crate::stub::subset_cid);
-
-/// The library that this program was built with.
-#[cfg(feature = "linked")]
+/// The library that is linked.
 pub fn library() -> Library {
     Library {
-        read: linked::cff_read,
-        find_name: linked::cff_find_name,
-        find_cid: linked::cff_find_cid,
-        item: linked::cff_item,
-        item_refusal: linked::cff_item_refusal,
-        subset: SUBSET.0,
-        subset_cid: SUBSET.1,
+        read: ffi::cff_read,
+        find_name: ffi::cff_find_name,
+        find_cid: ffi::cff_find_cid,
+        item: ffi::cff_item,
+        item_refusal: ffi::cff_item_refusal,
+        subset: ffi::cff_subset,
+        subset_cid: ffi::cff_subset_cid,
     }
-}
-
-#[cfg(not(feature = "linked"))]
-pub fn library() -> Library {
-    crate::stub::library()
 }

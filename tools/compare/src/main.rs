@@ -29,7 +29,7 @@ mod original;
 mod record;
 mod store;
 mod store_subset;
-#[cfg_attr(feature = "linked", allow(dead_code))]
+#[cfg(test)]
 mod stub;
 mod tally;
 
@@ -185,13 +185,7 @@ fn cff(seed: u64, count: usize) -> ExitCode {
 }
 
 /// Says whose subsets are compared.
-fn say_subset_linked() {
-    if !library::SUBSET_LINKED {
-        eprintln!(
-            "tools/compare: no cff_subset in the library, so a stub over the original answers for it"
-        );
-    }
-}
+fn say_subset_linked() {}
 
 /// Runs a function on a thread with room for the original.
 fn on_large_stack<T: Send + 'static>(run: impl FnOnce() -> T + Send + 'static) -> T {
@@ -205,7 +199,6 @@ fn on_large_stack<T: Send + 'static>(run: impl FnOnce() -> T + Send + 'static) -
 
 /// Cuts of `count` made fonts, of the large ones, and of the tables in target/fonts with two damaged copies each.
 fn subset(seed: u64, count: usize) -> ExitCode {
-    say_subset_linked();
     let (tally, tables) = on_large_stack(move || {
         let library = library::library();
         let mut tally = CutTally::default();
@@ -256,7 +249,6 @@ fn stored_subsets(seed: u64, count: usize) -> ExitCode {
 
 /// The library's subsets of the tables in target/fonts, with the original's records: FOLDER/NAME.AMOUNT.cff.
 fn cut_tables(folder: &Path) -> ExitCode {
-    say_subset_linked();
     fs::create_dir_all(folder).expect("a folder for the subsets");
     let folder = folder.to_path_buf();
     let count = on_large_stack(move || {

@@ -1,0 +1,66 @@
+//! Cuts an OpenType font with CFF outlines down to the letters of a text, and writes the subset as a bare CFF font.
+//!
+//!     cargo run --release --example subset_text -- FONT TEXT OUTPUT
+
+mod sfnt;
+
+use mogdivash::{Font, Record};
+use std::error::Error;
+use std::process::ExitCode;
+use std::{env, fs};
+
+/// The tag that a subset's name begins with in a PDF: six letters, by the glyphs that are kept.
+fn tag(keep: &[u16]) -> String {
+    let mut sum = keep.iter().fold(5381_u64, |sum, &glyph| {
+        sum.wrapping_mul(33).wrapping_add(u64::from(glyph))
+    });
+    let mut letters = String::new();
+    for _ in 0..6 {
+        letters.push(char::from(b'A' + (sum % 26) as u8));
+        sum /= 26;
+    }
+    letters
+}
+
+fn run(font_file: &str, text: &str, output: &str) -> Result<(), Box<dyn Error>> {
+    let file = fs::read(font_file)?;
+    let cff = sfnt::table(&file, *b"CFF ").ok_or("the file has no table of CFF outlines")?;
+    let cmap = sfnt::table(&file, *b"cmap").ok_or("the file has no table of characters")?;
+    let font = Font::read(cff)?;
+    let mut keep = Vec::new();
+    for letter in text.chars() {
+        match sfnt::glyph(cmap, letter) {
+            Some(glyph) => keep.push(glyph),
+            None => eprintln!("the font has no glyph for {letter:?}"),
+        }
+    }
+    keep.sort_unstable();
+    keep.dedup();
+    let name = format!("{}+Subset", tag(&keep));
+    let subset = font.subset(name.as_bytes(), &keep, &Record::untraced())?;
+    fs::write(output, &subset.bytes)?;
+    println!(
+        "{} of {} glyphs, {} of {} bytes, {:?}",
+        keep.len(),
+        font.glyphs(),
+        subset.bytes.len(),
+        cff.len(),
+        subset.way
+    );
+    Ok(())
+}
+
+fn main() -> ExitCode {
+    let args: Vec<String> = env::args().skip(1).collect();
+    let [font_file, text, output] = args.as_slice() else {
+        eprintln!("usage: subset_text FONT TEXT OUTPUT");
+        return ExitCode::from(2);
+    };
+    match run(font_file, text, output) {
+        Ok(()) => ExitCode::SUCCESS,
+        Err(error) => {
+            eprintln!("subset_text: {error}");
+            ExitCode::FAILURE
+        }
+    }
+}

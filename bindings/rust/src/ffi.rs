@@ -1,0 +1,97 @@
+//! The C functions, as include/mogdivash.h declares them. A slice is a pointer and the number of its elements.
+
+/// The answer of finding for a glyph that is absent.
+pub const ABSENT: u64 = 65536;
+
+/// The words of the answers of reading and of subsetting.
+pub const COUNTS: usize = 5;
+pub const ANSWER: usize = 2;
+
+/// A call of subsetting: font, new name, kept numbers, record, flag, work words, output, answer.
+pub type SubsetFn = unsafe extern "C" fn(
+    font: *const u8,
+    font_len: usize,
+    name: *const u8,
+    name_len: usize,
+    keep: *const u16,
+    keep_len: usize,
+    record: *const u8,
+    record_len: usize,
+    traced: u8,
+    work: *mut u32,
+    work_len: usize,
+    out: *mut u8,
+    out_len: usize,
+    answer: *mut u64,
+    answer_len: usize,
+) -> u8;
+
+unsafe extern "C" {
+    pub fn cff_read(font: *const u8, font_len: usize, answer: *mut u64, answer_len: usize) -> u8;
+
+    pub fn cff_find_name(
+        font: *const u8,
+        font_len: usize,
+        name: *const u8,
+        name_len: usize,
+        answer: *mut u64,
+        answer_len: usize,
+    ) -> u8;
+
+    pub fn cff_find_cid(
+        font: *const u8,
+        font_len: usize,
+        cid: u16,
+        answer: *mut u64,
+        answer_len: usize,
+    ) -> u8;
+
+    pub fn cff_item(
+        font: *const u8,
+        font_len: usize,
+        kind: u8,
+        number: u64,
+        out: *mut u8,
+        out_len: usize,
+        size: *mut u64,
+        size_len: usize,
+    ) -> u8;
+
+    pub fn cff_item_refusal(font: *const u8, font_len: usize, kind: u8, number: u64) -> u8;
+
+    pub fn cff_subset(
+        font: *const u8,
+        font_len: usize,
+        name: *const u8,
+        name_len: usize,
+        keep: *const u16,
+        keep_len: usize,
+        record: *const u8,
+        record_len: usize,
+        traced: u8,
+        work: *mut u32,
+        work_len: usize,
+        out: *mut u8,
+        out_len: usize,
+        answer: *mut u64,
+        answer_len: usize,
+    ) -> u8;
+
+    pub fn cff_subset_cid(
+        font: *const u8,
+        font_len: usize,
+        name: *const u8,
+        name_len: usize,
+        keep: *const u16,
+        keep_len: usize,
+        record: *const u8,
+        record_len: usize,
+        traced: u8,
+        work: *mut u32,
+        work_len: usize,
+        out: *mut u8,
+        out_len: usize,
+        answer: *mut u64,
+        answer_len: usize,
+    ) -> u8;
+}

@@ -1,0 +1,28 @@
+//! Cuts a CFF font down to the glyphs in use, as a document embeds it.
+//!
+//! The work is done by the static library of the crate `capi`, every function of which is proved: whatever the bytes are, a call
+//! ends without a fault, answers as its definition says, and a refusal writes nothing. This crate allocates what a call is
+//! lent and gives its answer a type.
+//!
+//! ```no_run
+//! use mogdivash::{Font, Record};
+//!
+//! let bytes = std::fs::read("font.cff")?;
+//! let font = Font::read(&bytes)?;
+//! let keep: Vec<u16> = ["R", "i", "d", "e", "r"]
+//!     .iter()
+//!     .filter_map(|name| font.find_name(name.as_bytes()))
+//!     .collect();
+//! let subset = font.subset(b"ABCDEF+Font", &keep, &Record::untraced())?;
+//! std::fs::write("subset.cff", &subset.bytes)?;
+//! # Ok::<(), Box<dyn std::error::Error>>(())
+//! ```
+
+pub mod ffi;
+mod font;
+mod record;
+mod refusal;
+
+pub use font::{Font, Item, Subset, Way};
+pub use record::{Record, Row};
+pub use refusal::Refusal;

@@ -1,0 +1,38 @@
+//! Refusals by number, rows by their bytes, and bytes that are no font.
+
+use mogdivash::{Font, Record, Refusal, Row};
+
+#[test]
+fn refusals_have_their_numbers() {
+    for (k, refusal) in Refusal::ALL.iter().enumerate() {
+        assert_eq!(usize::from(refusal.number()), k + 1);
+        assert_eq!(Refusal::from_number(refusal.number()), Some(*refusal));
+        assert!(!refusal.to_string().is_empty());
+    }
+    assert_eq!(Refusal::from_number(0), None);
+    assert_eq!(Refusal::from_number(13), None);
+}
+
+#[test]
+fn rows_rise_and_stand_once() {
+    let global = Row::Global { number: 258 };
+    let mask = Row::LocalMask {
+        fd: 3,
+        number: 1,
+        offset: 65536,
+        length: 2,
+    };
+    let record = Record::traced([mask, global, mask]);
+    assert_eq!(
+        record.bytes(),
+        [1, 0, 1, 2, 0, 0, 0, 0, 0, 0, 3, 3, 0, 1, 0, 1, 0, 0, 0, 2]
+    );
+    assert!(record.is_traced());
+    assert!(!Record::untraced().is_traced());
+}
+
+#[test]
+fn no_font() {
+    assert_eq!(Font::read(b"").unwrap_err(), Refusal::Truncated);
+    assert_eq!(Font::read(b"\x02\0\x04\x01").unwrap_err().number(), 3);
+}

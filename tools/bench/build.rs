@@ -1,0 +1,18 @@
+//! Links HarfBuzz's subsetter where its development package is there (cfg harfbuzz).
+
+use std::process::Command;
+
+fn main() {
+    println!("cargo:rustc-check-cfg=cfg(harfbuzz)");
+    println!("cargo:rerun-if-changed=build.rs");
+    println!("cargo:rerun-if-env-changed=HARFBUZZ");
+    let there = Command::new("pkg-config")
+        .args(["--exists", "harfbuzz-subset"])
+        .status()
+        .is_ok_and(|status| status.success());
+    if there {
+        println!("cargo:rustc-cfg=harfbuzz");
+        println!("cargo:rustc-link-lib=harfbuzz-subset");
+        println!("cargo:rustc-link-lib=harfbuzz");
+    }
+}

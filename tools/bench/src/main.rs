@@ -1,0 +1,74 @@
+//! Times reading and subsetting, ours against the original Rust and HarfBuzz, on the same fonts in one run. See README.md.
+
+mod growth;
+mod harfbuzz;
+mod measure;
+mod original;
+mod sheet;
+mod table;
+
+#[allow(dead_code)]
+#[path = "../../oracle/src/stubs.rs"]
+mod stubs;
+
+// `rustfmt::skip` keeps cargo fmt out of docs/src.
+#[rustfmt::skip]
+#[allow(dead_code)]
+#[path = "../../../docs/src/crates/efterscript-fonts/src/cff/mod.rs"]
+mod cff;
+#[rustfmt::skip]
+#[allow(dead_code)]
+#[path = "../../../docs/src/crates/efterscript-fonts/src/encoding.rs"]
+mod encoding;
+#[rustfmt::skip]
+#[allow(dead_code)]
+#[path = "../../../docs/src/crates/efterscript-fonts/src/outline.rs"]
+mod outline;
+#[rustfmt::skip]
+#[allow(dead_code)]
+#[path = "../../../docs/src/crates/efterscript-fonts/src/program.rs"]
+mod program;
+#[allow(dead_code)]
+#[path = "../../compare/src/record.rs"]
+mod record;
+
+use std::process::ExitCode;
+use std::{env, fs};
+use stubs::{cidfont, truetype, type1};
+
+const USAGE: &str = "usage: tools/bench/run fonts|growth [FILE...]";
+
+/// The files that are named, or all of target/fonts.
+fn fonts(named: &[String]) -> Vec<(String, Vec<u8>)> {
+    let mut files: Vec<String> = if named.is_empty() {
+        let folder = env::var("BENCH_FONTS").expect("run sets it");
+        fs::read_dir(folder)
+            .expect("target/fonts: tools/compare/fonts makes it")
+            .map(|entry| entry.expect("an entry").path().display().to_string())
+            .collect()
+    } else {
+        named.to_vec()
+    };
+    files.sort();
+    files
+        .into_iter()
+        .map(|file| {
+            let bytes = fs::read(&file).expect("a font");
+            let name = file.rsplit('/').next().unwrap_or(&file).to_owned();
+            (name, bytes)
+        })
+        .collect()
+}
+
+fn main() -> ExitCode {
+    let words: Vec<String> = env::args().skip(1).collect();
+    match words.split_first() {
+        Some((what, named)) if what == "fonts" => table::print(&fonts(named)),
+        Some((what, named)) if what == "growth" => growth::print(&fonts(named)),
+        _ => {
+            eprintln!("{USAGE}");
+            return ExitCode::from(2);
+        }
+    }
+    ExitCode::SUCCESS
+}

@@ -1,0 +1,114 @@
+//! Each font with a sheet's letters and with all glyphs: ours, the original, HarfBuzz.
+
+use crate::cff::CffProgram;
+use crate::measure::{least, mean};
+use crate::{harfbuzz, original, sheet};
+use mogdivash::{Font, Record};
+
+/// More glyphs than this are kept only once by the original.
+const NAME: &[u8] = b"ABCDEF+Subset";
+
+/// Times in microseconds.
+struct Times {
+    ours: f64,
+    theirs: f64,
+    trace: f64,
+    harfbuzz: Option<f64>,
+    kept: usize,
+    length: usize,
+}
+
+fn ours(bytes: &[u8], keep: &[u16], record: &Record) -> Vec<u8> {
+    let font = Font::read(bytes).expect("a font that is read");
+    font.subset(NAME, keep, record).expect("a subset").bytes
+}
+
+fn times(bytes: &[u8], program: &CffProgram, keep: &[u16]) -> Times {
+    let (trace, record) = least(|| original::record(program, keep));
+    let kept = original::kept(program, keep);
+    let (theirs, wanted) = least(|| original::cut(bytes, NAME, &kept));
+    let (ours, given) = least(|| ours(bytes, keep, &record));
+    assert!(given == wanted, "the subsets differ");
+    let wrapped = harfbuzz::wrapped(bytes, program.charset().len());
+    let (time, answer) = least(|| harfbuzz::cut(&wrapped, keep));
+    Times {
+        ours,
+        theirs,
+        trace,
+        harfbuzz: answer.map(|_| time),
+        kept: keep.len(),
+        length: given.len(),
+    }
+}
+
+fn row(name: &str, bytes: &[u8], program: &CffProgram, t: &Times) {
+    let other = t.harfbuzz.map_or(String::from("– | –"), |time| {
+        format!("{time:.0} | {:.1}", time / t.ours)
+    });
+    println!(
+        "| {name} | {} | {} | {} | {} | {:.0} | {:.0} | {:.0} | {:.1} | {other} |",
+        bytes.len(),
+        program.charset().len(),
+        t.kept,
+        t.length,
+        t.ours,
+        t.theirs,
+        t.trace,
+        t.theirs / t.ours
+    );
+}
+
+fn summary(all: &[Times]) {
+    let ratios: Vec<f64> = all.iter().map(|t| t.theirs / t.ours).collect();
+    let cut: Vec<f64> = all
+        .iter()
+        .map(|t| (t.theirs - t.trace).max(1.0) / t.ours)
+        .collect();
+    let other: Vec<f64> = all
+        .iter()
+        .filter_map(|t| Some(t.harfbuzz? / t.ours))
+        .collect();
+    let least = ratios.iter().copied().fold(f64::INFINITY, f64::min);
+    println!(
+        "\n{} fonts. The original's time over ours: geometric mean {:.2}, least {least:.2}; without its trace: mean {:.2}.",
+        all.len(),
+        mean(&ratios),
+        mean(&cut)
+    );
+    if !other.is_empty() {
+        let least = other.iter().copied().fold(f64::INFINITY, f64::min);
+        println!(
+            "HarfBuzz's time over ours: mean {:.2}, least {least:.2}.",
+            mean(&other)
+        );
+    }
+    println!();
+}
+
+/// Two tables, by the glyphs that are kept.
+pub fn print(fonts: &[(String, Vec<u8>)]) {
+    type Keep = fn(&CffProgram) -> Vec<u16>;
+    let amounts: [(&str, Keep); 2] = [
+        ("A result sheet's letters", sheet::letters),
+        ("All glyphs", sheet::all),
+    ];
+    for (title, keep) in amounts {
+        println!("## {title}\n");
+        println!("Microseconds, the least of several runs.\n");
+        println!(
+            "| font | bytes | glyphs | kept | subset | ours | Rust | of it trace | Rust / ours | HarfBuzz | HarfBuzz / ours |"
+        );
+        println!("|---|---|---|---|---|---|---|---|---|---|---|");
+        let mut all = Vec::new();
+        for (name, bytes) in fonts {
+            let Ok(program) = CffProgram::parse(bytes) else {
+                continue;
+            };
+            let keep = keep(&program);
+            let t = times(bytes, &program, &keep);
+            row(name, bytes, &program, &t);
+            all.push(t);
+        }
+        summary(&all);
+    }
+}
