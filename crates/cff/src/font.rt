@@ -15,7 +15,7 @@ use charset::CharsetAt;
 use charset::fd_select::FdSelect;
 use charset::fd_select::FdSelectAt;
 use dict::OffsetIn;
-use dict::Op;
+use dict::op::Op;
 use index::Index;
 use index::IndexAt;
 use refusal::Refusal;

@@ -1,14 +1,16 @@
 // A DICT of TN5176, section 4, read in place on a slice that is exactly its bytes (the Rust's Dict and module op in mod.rs), and its
 // entries written (dict_op and DictWriter in write.rs).
+pub mod op;
+
 ghost use mathlib.Core.Path.{_≡_};
 ghost use mathlib.Core.List.{[], _∷_};
 ghost use Prim.Native.Nat.{_+_, _≤_, _<_};
 ghost use lib.ListN.{length, getD};
 ghost use Rattle.decimal.specs.Decimal.{nought, Normal};
-ghost use Rattle.dict.specs.Op.{copiedTopEntries, copiedTopStrings};
 ghost use Rattle.dict.specs.Dict.{operatorAt, tokenAt, entryAt, dictOf};
 ghost use Rattle.dict.specs.Lookup.{operands, oneOf, offsetIn, privateAs, privateIn, idIn, cidKeyed, rosAs, rosIn, cidCountIn, charstringTypeIn};
 ghost use Rattle.dict.specs.Places.{tokenTold, entryTold, refusalOf, entriesOf, placeOf, operandsAt};
+use crate::op::Op;
 use decimal::Decimal;
 use decimal::IdOf;
 use decimal::NumberAt;
@@ -23,117 +25,6 @@ use decimal::to_u16;
 use decimal::to_u32;
 use decimal::trunc;
 use octets::wide;
-
-// The operators that reader and writer name: the byte of a one-byte operator, or 3072 + e for the escape `12 e`.
-pub struct Op;
-
-impl Op {
-    pub const VERSION: usize = 0;
-
-    pub const NOTICE: usize = 1;
-
-    pub const FULL_NAME: usize = 2;
-
-    pub const FAMILY_NAME: usize = 3;
-
-    pub const WEIGHT: usize = 4;
-
-    pub const FONT_BBOX: usize = 5;
-
-    pub const BLUE_VALUES: usize = 6;
-
-    pub const OTHER_BLUES: usize = 7;
-
-    pub const FAMILY_BLUES: usize = 8;
-
-    pub const FAMILY_OTHER_BLUES: usize = 9;
-
-    pub const STD_HW: usize = 10;
-
-    pub const STD_VW: usize = 11;
-
-    pub const UNIQUE_ID: usize = 13;
-
-    pub const XUID: usize = 14;
-
-    pub const CHARSET: usize = 15;
-
-    pub const ENCODING: usize = 16;
-
-    pub const CHARSTRINGS: usize = 17;
-
-    pub const PRIVATE: usize = 18;
-
-    pub const SUBRS: usize = 19;
-
-    pub const DEFAULT_WIDTH_X: usize = 20;
-
-    pub const NOMINAL_WIDTH_X: usize = 21;
-    // What an escape is counted from: the Rust's 0x0c00, which its byte is or-ed to.
-    pub const ESCAPE: usize = 3072;
-
-    pub const COPYRIGHT: usize = Op::ESCAPE;
-
-    pub const IS_FIXED_PITCH: usize = Op::ESCAPE + 1;
-
-    pub const ITALIC_ANGLE: usize = Op::ESCAPE + 2;
-
-    pub const UNDERLINE_POSITION: usize = Op::ESCAPE + 3;
-
-    pub const UNDERLINE_THICKNESS: usize = Op::ESCAPE + 4;
-
-    pub const PAINT_TYPE: usize = Op::ESCAPE + 5;
-
-    pub const CHARSTRING_TYPE: usize = Op::ESCAPE + 6;
-
-    pub const FONT_MATRIX: usize = Op::ESCAPE + 7;
-
-    pub const STROKE_WIDTH: usize = Op::ESCAPE + 8;
-
-    pub const BLUE_SCALE: usize = Op::ESCAPE + 9;
-
-    pub const BLUE_SHIFT: usize = Op::ESCAPE + 10;
-
-    pub const BLUE_FUZZ: usize = Op::ESCAPE + 11;
-
-    pub const STEM_SNAP_H: usize = Op::ESCAPE + 12;
-
-    pub const STEM_SNAP_V: usize = Op::ESCAPE + 13;
-
-    pub const FORCE_BOLD: usize = Op::ESCAPE + 14;
-
-    pub const LANGUAGE_GROUP: usize = Op::ESCAPE + 17;
-
-    pub const EXPANSION_FACTOR: usize = Op::ESCAPE + 18;
-
-    pub const INITIAL_RANDOM_SEED: usize = Op::ESCAPE + 19;
-
-    pub const SYNTHETIC_BASE: usize = Op::ESCAPE + 20;
-
-    pub const POSTSCRIPT: usize = Op::ESCAPE + 21;
-
-    pub const BASE_FONT_NAME: usize = Op::ESCAPE + 22;
-
-    pub const BASE_FONT_BLEND: usize = Op::ESCAPE + 23;
-
-    pub const ROS: usize = Op::ESCAPE + 30;
-
-    pub const CID_FONT_VERSION: usize = Op::ESCAPE + 31;
-
-    pub const CID_FONT_REVISION: usize = Op::ESCAPE + 32;
-
-    pub const CID_FONT_TYPE: usize = Op::ESCAPE + 33;
-
-    pub const CID_COUNT: usize = Op::ESCAPE + 34;
-
-    pub const UID_BASE: usize = Op::ESCAPE + 35;
-
-    pub const FD_ARRAY: usize = Op::ESCAPE + 36;
-
-    pub const FD_SELECT: usize = Op::ESCAPE + 37;
-
-    pub const FONT_NAME: usize = Op::ESCAPE + 38;
-}
 
 // What stands at a position of a DICT: a refusal's number, an operand, or an operator, with the position after it.
 pub enum TokenAt {
@@ -201,43 +92,6 @@ const NOUGHT: Decimal = Decimal {
     up: 0,
     down: 0,
 };
-
-// The entries of the top DICT that a subset carries over as they are, in the order in which it writes them.
-pub const COPIED_TOP_ENTRIES: [usize; 8] = [
-    Op::FONT_BBOX,
-    Op::IS_FIXED_PITCH,
-    Op::ITALIC_ANGLE,
-    Op::UNDERLINE_POSITION,
-    Op::UNDERLINE_THICKNESS,
-    Op::PAINT_TYPE,
-    Op::STROKE_WIDTH,
-    Op::FONT_MATRIX,
-];
-
-// The entries of the top DICT that name a string, which a subset writes under its own ids.
-pub const COPIED_TOP_STRINGS: [usize; 6] = [
-    Op::VERSION,
-    Op::NOTICE,
-    Op::COPYRIGHT,
-    Op::FULL_NAME,
-    Op::FAMILY_NAME,
-    Op::WEIGHT,
-];
-
-// The k-th of them.
-pub fn copied_top_entry(k: usize) -> usize
-    requires { ⌜ k < 8 ⌝ }
-    ensures { λ r. ⌜ r ≡ getD copiedTopEntries k 0 ⌝ }
-{
-    COPIED_TOP_ENTRIES[k]
-}
-
-pub fn copied_top_string(k: usize) -> usize
-    requires { ⌜ k < 6 ⌝ }
-    ensures { λ r. ⌜ r ≡ getD copiedTopStrings k 0 ⌝ }
-{
-    COPIED_TOP_STRINGS[k]
-}
 
 // The operator at a position: 12 with the byte after it, else 0 to 21.
 fn operator_at(d: &[u8], at: usize) -> TokenAt

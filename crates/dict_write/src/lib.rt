@@ -16,8 +16,8 @@ use decimal_write::put_int5;
 use decimal_write::put_number;
 use dict::EntryAt;
 use dict::Found;
-use dict::Op;
 use dict::find_entry;
+use dict::op::Op;
 use dict::read_entry;
 
 // How many bytes an operator takes: one, or two for an escape.

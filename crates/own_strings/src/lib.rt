@@ -78,7 +78,7 @@ pub fn put_slots(d: &[u8], cid: bool, slots: &mut [usize])
     put_first(d, cid, &mut *slots);
     let mut k = 0;
     while k < 6 {
-        slots[2 + k] = slot_of(d, dict::copied_top_string(k));
+        slots[2 + k] = slot_of(d, dict::op::copied_top_string(k));
         k += 1;
     }
 }

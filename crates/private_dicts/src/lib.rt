@@ -13,7 +13,7 @@ ghost use Rattle.private_dicts.specs.Privates.{FdRead, privateDictBy, fo
 use cff::font::Font;
 use cff::private::PrivateAt;
 use cff::private::PrivateRead;
-use dict::Op;
+use dict::op::Op;
 use dict_write::private_len;
 use dict_write::put_offset_entry;
 use dict_write::put_private;

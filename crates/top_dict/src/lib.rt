@@ -16,11 +16,11 @@ ghost use Rattle.top_dict.specs.Top.{Filled, Offsets, valueEntry, slotEn
 use decimal::whole;
 use decimal_write::number_len;
 use decimal_write::put_number;
-use dict::Op;
 use dict::RosIn;
 use dict::cid_count;
-use dict::copied_top_entry;
-use dict::copied_top_string;
+use dict::op::Op;
+use dict::op::copied_top_entry;
+use dict::op::copied_top_string;
 use dict::ros;
 use dict_write::copied_len;
 use dict_write::op_len;

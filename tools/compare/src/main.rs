@@ -184,9 +184,6 @@ fn cff(seed: u64, count: usize) -> ExitCode {
     }
 }
 
-/// Says whose subsets are compared.
-fn say_subset_linked() {}
-
 /// Runs a function on a thread with room for the original.
 fn on_large_stack<T: Send + 'static>(run: impl FnOnce() -> T + Send + 'static) -> T {
     let thread = thread::Builder::new().stack_size(STACK);

@@ -1,8 +1,8 @@
--- `decimal::exponent_step` meets its contract: a digit goes to the exponent, anything else is malformed.
+-- `decimal::real::exponent_step` meets its contract: a digit goes to the exponent, anything else is malformed.
 use borrow.Author.Needs.{needs}
 use Rattle.decimal.specs.StageLaws.{exponent-digit, exponent-other}
-use Rattle.decimal.proofs.exponent_step.Statement.{statement}
-use Rattle.decimal.proofs.exponent_step.Tie as tie
+use Rattle.decimal.proofs.real.exponent_step.Statement.{statement}
+use Rattle.decimal.proofs.real.exponent_step.Tie as tie
 
 raised-exponent-requires : tie.Need-raised-exponent-requires
 raised-exponent-requires c κs = search needs

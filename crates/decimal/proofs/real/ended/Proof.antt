@@ -1,9 +1,9 @@
--- `decimal::ended` meets its contract: each arm of the match is a case of `formFrom` with no nibble left.
+-- `decimal::real::ended` meets its contract: each arm of the match is a case of `formFrom` with no nibble left.
 use native.Mathlib.Omega.{arith}
 use Rattle.decimal.specs.RealLaws.{ended-start, ended-mantissa, ended-bare, ended-exponent, ended-power, ended-e, ended-malformed, stopped-as, held-stopped}
 use borrow.Author.Needs.{needs}
-use Rattle.decimal.proofs.ended.Statement.{statement}
-use Rattle.decimal.proofs.ended.Tie as tie
+use Rattle.decimal.proofs.real.ended.Statement.{statement}
+use Rattle.decimal.proofs.real.ended.Tie as tie
 
 enum-told : tie.Need-enum-told
 enum-told c = search needs

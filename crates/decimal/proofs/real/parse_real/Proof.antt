@@ -1,11 +1,11 @@
--- `decimal::parse_real` meets its contract. The invariant: the nibbles that are left, from the stage reached, give what all of them give.
+-- `decimal::real::parse_real` meets its contract. The invariant: the nibbles that are left, from the stage reached, give what all of them give.
 use Prim.Native.Nat.{_-_}
 use lib.ListN.{length}
 use borrow.Author.Needs.{needs}
 use Rattle.decimal.specs.Stage.{Running}
 use Rattle.decimal.specs.RunLaws.{running-start, running-over, running-stopped, high-end, high-wrong, low-stopped, low-end, low-wrong, running-on}
-use Rattle.decimal.proofs.parse_real.Statement.{statement}
-use Rattle.decimal.proofs.parse_real.Tie as tie
+use Rattle.decimal.proofs.real.parse_real.Statement.{statement}
+use Rattle.decimal.proofs.real.parse_real.Tie as tie
 
 abbrev Inv-loop : tie.InvT-loop
 Inv-loop d at stage₀ p₀ stage p = Running d at stage p

@@ -1,8 +1,8 @@
--- `decimal::digit` meets its contract: a zero is counted, any other digit stands behind the zeros that wait.
+-- `decimal::real::digit` meets its contract: a zero is counted, any other digit stands behind the zeros that wait.
 use borrow.Author.Needs.{needs}
 use Rattle.decimal.specs.StageLaws.{digit-nought, digit-zero, digit-more, digit-many}
-use Rattle.decimal.proofs.digit.Statement.{statement}
-use Rattle.decimal.proofs.digit.Tie as tie
+use Rattle.decimal.proofs.real.digit.Statement.{statement}
+use Rattle.decimal.proofs.real.digit.Tie as tie
 
 raised-requires : tie.Need-raised-requires
 raised-requires c κs = search needs

@@ -1,8 +1,8 @@
--- `decimal::finished` meets its contract: the tests of `valueOf`, on the digits and powers as they are held.
+-- `decimal::real::finished` meets its contract: the tests of `valueOf`, on the digits and powers as they are held.
 use Rattle.decimal.specs.RealLaws.{finished-long, finished-nought, finished-many, finished-down, finished-up}
 use borrow.Author.Needs.{needs}
-use Rattle.decimal.proofs.finished.Statement.{statement}
-use Rattle.decimal.proofs.finished.Tie as tie
+use Rattle.decimal.proofs.real.finished.Statement.{statement}
+use Rattle.decimal.proofs.real.finished.Tie as tie
 
 returns : tie.Need-returns
 returns c s n f e k eh ee few by = let a = c .before .args in finished-long (a .held) (a .eneg) (a .exp) (a .bytes) (a .next) s n f e k eh ee few by (c .if1 .taken)

@@ -1,8 +1,8 @@
--- `decimal::step` meets its contract: each arm of the match is a case of `stepOf`.
+-- `decimal::real::step` meets its contract: each arm of the match is a case of `stepOf`.
 use Rattle.decimal.specs.StageLaws.{start-minus, start-other, step-mantissa, exponent-minus, exponent-plus, step-power, step-malformed}
 use borrow.Author.Needs.{needs}
-use Rattle.decimal.proofs.step.Statement.{statement}
-use Rattle.decimal.proofs.step.Tie as tie
+use Rattle.decimal.proofs.real.step.Statement.{statement}
+use Rattle.decimal.proofs.real.step.Tie as tie
 
 enum-told : tie.Need-enum-told
 enum-told c = search needs

@@ -1,8 +1,8 @@
--- `decimal::counted` meets its contract: the flag chooses.
+-- `decimal::real::counted` meets its contract: the flag chooses.
 use borrow.Author.Needs.{needs}
 use Rattle.decimal.specs.StageLaws.{counted-yes}
-use Rattle.decimal.proofs.counted.Statement.{statement}
-use Rattle.decimal.proofs.counted.Tie as tie
+use Rattle.decimal.proofs.real.counted.Statement.{statement}
+use Rattle.decimal.proofs.real.counted.Tie as tie
 
 raised-requires : tie.Need-raised-requires
 raised-requires c κs = search needs

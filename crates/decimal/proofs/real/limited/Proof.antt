@@ -1,8 +1,8 @@
--- `decimal::limited` meets its contract: each `return` is a case of the limits.
+-- `decimal::real::limited` meets its contract: each `return` is a case of the limits.
 use Rattle.decimal.specs.RealLaws.{limited-high, limited-up, limited-low, limited-down}
 use borrow.Author.Needs.{needs}
-use Rattle.decimal.proofs.limited.Statement.{statement}
-use Rattle.decimal.proofs.limited.Tie as tie
+use Rattle.decimal.proofs.real.limited.Statement.{statement}
+use Rattle.decimal.proofs.real.limited.Tie as tie
 
 returns : tie.Need-returns
 returns c = let a = c .before .before .args in limited-high (a .neg) (a .digits) (a .up) (a .down) (a .next) (c .before .before .pre) (c .before .if1 .taken) (c .if2 .taken)

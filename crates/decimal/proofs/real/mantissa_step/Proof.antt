@@ -1,8 +1,8 @@
--- `decimal::mantissa_step` meets its contract: each `return` is a case of `mantissaStep`.
+-- `decimal::real::mantissa_step` meets its contract: each `return` is a case of `mantissaStep`.
 use Rattle.decimal.specs.StageLaws.{mantissa-digit, second-point, first-point, e-after, e-first, e-minus-after, e-minus-first, minus-within}
 use borrow.Author.Needs.{needs}
-use Rattle.decimal.proofs.mantissa_step.Statement.{statement}
-use Rattle.decimal.proofs.mantissa_step.Tie as tie
+use Rattle.decimal.proofs.real.mantissa_step.Statement.{statement}
+use Rattle.decimal.proofs.real.mantissa_step.Tie as tie
 
 digit-requires : tie.Need-digit-requires
 digit-requires c κs = search needs
