@@ -172,7 +172,7 @@ module _ (way : ℕ) (p : Program) (rows : List Row) (ws ats counts reacheds : L
       go false u = omega (arith, ap length (parts-pass (n + d) u))
 
   -- an FD in use does not fail where none does
-  holds-one : (f : ℕ) → f < 256 → inUse used f ≡ true → allHold (localsBy way p rows ws ats counts reacheds globals) (fdsIn used) ≡ true
+  pub holds-one : (f : ℕ) → f < 256 → inUse used f ≡ true → allHold (localsBy way p rows ws ats counts reacheds globals) (fdsIn used) ≡ true
       → holds (localsBy way p rows ws ats counts reacheds globals f) ≡ true
   holds-one f h u a = go (holds (localsBy way p rows ws ats counts reacheds globals f)) refl
     where
