@@ -6,7 +6,7 @@ ghost use mathlib.Core.List.{[], _∷_, _++_};
 ghost use Prim.Native.Nat.{_+_, _≤_};
 ghost use lib.ListN.{length};
 ghost use Rattle.octets.specs.Octets.{put, Wrote};
-ghost use Rattle.index.specs.Write.{indexBytes, indexLen};
+ghost use Rattle.index.specs.Write.{indexBytes};
 ghost use Rattle.cff.specs.Reads.{programOf};
 ghost use Rattle.subset.specs.Texts.{namesOf};
 ghost use Rattle.subset.specs.Subset.{ownByName, topByName, ownByCid, topByCid, newIds};
@@ -74,7 +74,10 @@ pub fn front_len(cid: bool, font: &[u8], f: Font, name: usize, slots: &[usize], 
     let count = own.count;
     let total = own.total;
     let n = top_len(cid, &font[top..end], slots);
-    4 + index::any_index_len(1, name) + index::any_index_len(1, n) + index::any_index_len(count, total)
+    4
+        + index::any_index_len(1, name)
+        + index::any_index_len(1, n)
+        + index::any_index_len(count, total)
 }
 
 // The header of a subset of total bytes and the INDEX of its name, from the start of out on; the place after it.

@@ -2,14 +2,13 @@
 -- is the subset's.
 use Prim.Native.Nat.{ℕ, _+_, _≤_}
 use mathlib.Core.Path.{_≡_, sym, ap, _∙_, subst}
-use mathlib.Core.Bool.{Bool, true}
+use mathlib.Core.Bool.{true}
 use mathlib.Core.List.{List, []}
 use native.Mathlib.Omega.{arith}
 use lib.Dec.{eqb}
 use lib.ListN.{length, getD}
 use Rattle.octets.specs.Pick.{pick-ind}
 use Rattle.index.specs.Index.{itemsOf}
-use Rattle.index.specs.IndexLaws.{items-length}
 use Rattle.index.specs.Write.{total, indexBytes, indexLen}
 use Rattle.index.specs.WriteLaws.{length-index, total-within}
 use Rattle.index.specs.declared.Index.{Index}
@@ -21,7 +20,7 @@ use Rattle.subset.specs.Pruned.{May, mapped, countBelow, globalSet, callsIn}
 use Rattle.subset.specs.EachLaws.{length-mapped}
 use Rattle.renumber.specs.Ranks.{callsBy}
 use Rattle.renumber.specs.declared.Ranks.{Ranks}
-use Rattle.bodies.specs.Ways.{Room, manyOf, holds, newBody, bodyBy, newSubrs, newCharstrings, charstringsBy, keptCount, reachedIn}
+use Rattle.bodies.specs.Ways.{Room, manyOf, holds, newBody, bodyBy, newSubrs, charstringsBy, keptCount, reachedIn}
 use Rattle.bodies.specs.Pruning.{allHold, bodiesBy}
 use Rattle.bodies.specs.RecordLaws.{reached-told}
 use Rattle.bodies.specs.Sources.{Sourced, subrsFrom, newSubrsFrom, KeptIn, charstringsFrom, newCharstringsFrom}
@@ -134,9 +133,11 @@ module _ (b : List ℕ) (f : Font) (rows : List Row) (used ws ats counts reached
         × Room (subrsFrom from rows ws b) (r .«globals_total») at room
     globals-asked at room small fits =
         subst (λ (s : Source). Sourced s rows ws b × (s .own .reached ≡ countBelow (reachedIn ws (s .own)) (s .own .count))
-        × Room (subrsFrom s rows ws b) (r .«globals_total») at room) (sym is)
-        (ready .asked .subrs, reached-are,
-        room-for theGlobals (bodiesFor b f rows used ws r .globals) (r .«globals_total») at room globals-hold many-are (ready .globalsTotal) small fits)
+        × Room (subrsFrom s rows ws b) (r .«globals_total») at room) (sym is) (
+          ready .asked .subrs,
+          reached-are,
+          room-for theGlobals (bodiesFor b f rows used ws r .globals) (r .«globals_total») at room globals-hold many-are (ready .globalsTotal) small fits,
+        )
 
     pub globals-are : newSubrsFrom from rows ws b ≡ bodiesFor b f rows used ws r .globals
     globals-are = ap (λ (s : Source). newSubrsFrom s rows ws b) is ∙ new-are
@@ -172,10 +173,11 @@ module _ (b : List ℕ) (f : Font) (rows : List Row) (used ws ats counts reached
   pub glyphs-asked : (at room : ℕ) → at + length (indexBytes (bodiesFor b f rows used ws r .charstrings)) ≤ 67108864
       → at + length (indexBytes (bodiesFor b f rows used ws r .charstrings)) ≤ room
       → KeptIn (r .kept) rows ws ats counts reacheds b × Room (charstringsFrom (r .kept) rows ws ats counts reacheds b) (r .«glyphs_total») at room
-  glyphs-asked at room small fits =
-      (ready .asked .glyphs,
-      room-for (charstringsFrom (r .kept) rows ws ats counts reacheds b) (bodiesFor b f rows used ws r .charstrings) (r .«glyphs_total») at room
-      (ap holds glyphs-from ∙ glyphs-hold) (ap manyOf glyphs-from ∙ glyphs-many) (ready .glyphsTotal) small fits)
+  glyphs-asked at room small fits = (
+    ready .asked .glyphs,
+    room-for (charstringsFrom (r .kept) rows ws ats counts reacheds b) (bodiesFor b f rows used ws r .charstrings) (r .«glyphs_total») at room
+        (ap holds glyphs-from ∙ glyphs-hold) (ap manyOf glyphs-from ∙ glyphs-many) (ready .glyphsTotal) small fits,
+  )
 
   pub glyphs-are : newCharstringsFrom (r .kept) rows ws ats counts reacheds b ≡ bodiesFor b f rows used ws r .charstrings
   glyphs-are =

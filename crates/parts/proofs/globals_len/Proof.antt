@@ -15,7 +15,7 @@ any-index-len-requires c κs = search needs
 returns : tie.Need-returns
 returns c =
     let l = c .any-index-len .ensures in
-    (l .0 ∙ ap (λ (n : ℕ). indexLen n (c .before .before .args .r .«globals_total»)) (c .before .kept-count .ensures), l .1)
+    (l .0 ∙ ap (λ (n : ℕ). indexLen n (c .before .before .before .args .r .«globals_total»)) (c .before .kept-count .ensures), l .1)
 
 pub globals-len-spec : {M : Type 1} → statement M
 globals-len-spec = tie.close (tie.spec kept-count-requires any-index-len-requires returns)
