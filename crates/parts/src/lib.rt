@@ -4,13 +4,16 @@ ghost use mathlib.Core.Path.{_≡_};
 ghost use Prim.Native.Nat.{_+_, _*_, _≤_};
 ghost use lib.ListN.{length, take};
 ghost use Rattle.octets.specs.Octets.{Wrote};
-ghost use Rattle.index.specs.Write.{indexBytes};
+ghost use Rattle.index.specs.Write.{indexBytes, indexLen};
 ghost use Rattle.record.specs.Record.{rowsOf};
 ghost use Rattle.cff.specs.Reads.{programOf};
 ghost use Rattle.subset.specs.Pruned.{pruned};
+ghost use Rattle.bodies.specs.Ways.{keptCount};
 ghost use Rattle.fds.specs.Locals.{fdsIn};
 ghost use Rattle.parts.specs.Ready.{orderIn, PlanIn, bodiesFor, Ready, Summed};
 use bodies::charstrings::Kept;
+use bodies::subrs::Source;
+use bodies::subrs::Subrs;
 use cff::font::Font;
 
 // The kept glyphs and how they are written, by the way that was found; the bytes of the globals and of the charstrings by it.
@@ -89,4 +92,60 @@ pub fn plan_all(
         globals_total: found.globals_total,
         glyphs_total: found.glyphs_total,
     }
+}
+
+// The length of the INDEX of the global subroutines, also where it is too long to be written.
+pub fn globals_len(r: Planned) -> usize
+    requires { ⌜ (keptCount (r .kept .way) (r .kept .globals .reached) (r .kept .globals .count) ≤ 65535) × (r .«globals_total» ≤ 281474976710656) ⌝ }
+    ensures { λ n. ⌜ (n ≡ indexLen (keptCount (r .kept .way) (r .kept .globals .reached) (r .kept .globals .count)) (r .«globals_total»))
+        × (n ≤ 281474977000000) ⌝ }
+{
+    let own = r.kept.globals;
+    let count = bodies::subrs::kept_count(r.kept.way, own.reached, own.count);
+    index::any_index_len(count, r.globals_total)
+}
+
+// The length of the INDEX of the charstrings, also where it is too long to be written.
+pub fn glyphs_len(r: Planned) -> usize
+    requires { ⌜ (r .kept .count ≤ 65535) × (r .«glyphs_total» ≤ 281474976710656) ⌝ }
+    ensures { λ n. ⌜ (n ≡ indexLen (r .kept .count) (r .«glyphs_total»)) × (n ≤ 281474977000000) ⌝ }
+{
+    index::any_index_len(r.kept.count, r.glyphs_total)
+}
+
+// Writes the INDEX of the global subroutines from `at` on; the place after it. They call local ones by the ranks of the only FD in use.
+pub fn put_globals(
+    r: Planned,
+    font: &[u8],
+    f: Font,
+    used: &[u32],
+    words: &[u32],
+    ats: &[usize],
+    counts: &[usize],
+    reacheds: &[usize],
+    rows: &[u8],
+    out: &mut [u8],
+    at: usize,
+) -> usize
+    requires { ⌜ (Ready (now font) f (rowsOf (now rows)) (now used) (now words) r (now ats) (now counts) (now reacheds))
+        × (at + length (indexBytes (bodiesFor (now font) f (rowsOf (now rows)) (now used) (now words) r .globals)) ≤ 67108864)
+        × (at + length (indexBytes (bodiesFor (now font) f (rowsOf (now rows)) (now used) (now words) r .globals)) ≤ length (now out)) ⌝ }
+    ensures { λ next. ⌜ Wrote (now (out .entry)) at
+        (indexBytes (bodiesFor (now (font .entry)) f (rowsOf (now (rows .entry))) (now (used .entry)) (now (words .entry)) r .globals)) (now (out .exit)) next ⌝ }
+{
+    let ix = f.globals;
+    let kept = r.kept;
+    let own = kept.globals;
+    let locals = plan::sizes::across(used, ats, counts, reacheds);
+    let of = Subrs::Global;
+    let from = Source {
+        way: kept.way,
+        of,
+        ix,
+        own,
+        locals,
+        globals: own,
+        rising: kept.rising,
+    };
+    bodies::subrs::put_subrs(from, font, words, rows, r.globals_total, out, at)
 }

@@ -25,7 +25,7 @@ pub struct Measures {
 }
 
 // The ranks by which a global subroutine calls local ones: those of the FD in use where it is the only one, else none.
-fn across(used: &[u32], ats: &[usize], counts: &[usize], reacheds: &[usize]) -> Ranks
+pub fn across(used: &[u32], ats: &[usize], counts: &[usize], reacheds: &[usize]) -> Ranks
     requires { ⌜ (256 ≤ length (now used)) × (256 ≤ length (now ats)) × (256 ≤ length (now counts)) × (256 ≤ length (now reacheds)) ⌝ }
     ensures { λ r. ⌜ r ≡ acrossBy (now (ats .entry)) (now (counts .entry)) (now (reacheds .entry)) (fdsIn (now (used .entry))) ⌝ }
 {
