@@ -6,6 +6,7 @@ ghost use lib.ListN.{length};
 ghost use Rattle.record.specs.Record.{rowsOf};
 ghost use Rattle.cff.specs.Reads.{programOf};
 ghost use Rattle.bodies.specs.Ways.{measuredOf};
+ghost use Rattle.bodies.specs.Sizes.{Bounded};
 ghost use Rattle.fds.specs.Locals.{fdsIn};
 ghost use Rattle.fds.specs.NewLocals.{MeasuresLocals};
 ghost use Rattle.plan.specs.Sizes.{acrossBy, globalsBy, MeasureIn, MeasuresAll};
@@ -75,8 +76,8 @@ fn globals_total(
     rows: &[u8],
 ) -> Measured
     requires { ⌜ MeasureIn (now font) f (now used) (now words) kept (now ats) (now counts) (now reacheds) (rowsOf (now rows)) ⌝ }
-    ensures { λ r. ⌜ r ≡ measuredOf (globalsBy (kept .way) (programOf (now (font .entry)) f) (rowsOf (now (rows .entry))) (kept .cid) (now (words .entry))
-        (now (used .entry)) (now (ats .entry)) (now (counts .entry)) (now (reacheds .entry)) (kept .globals) (kept .count)) ⌝ }
+    ensures { λ r. ⌜ (r ≡ measuredOf (globalsBy (kept .way) (programOf (now (font .entry)) f) (rowsOf (now (rows .entry))) (kept .cid) (now (words .entry))
+        (now (used .entry)) (now (ats .entry)) (now (counts .entry)) (now (reacheds .entry)) (kept .globals) (kept .count))) × (Bounded r) ⌝ }
 {
     let ix = f.globals;
     let own = kept.globals;
