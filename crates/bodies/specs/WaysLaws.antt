@@ -74,6 +74,15 @@ each-parts {A} f part h (k ∷ ks) l e =
 mapped-alike : {A : Type 0} (f g : ℕ → A) → ((k : ℕ) → f k ≡ g k) → (ks : List ℕ) → mapped f ks ≡ mapped g ks
 mapped-alike {A} f g same ks = ap (λ (h : ℕ → A). mapped h ks) (fun-ext same)
 
+-- bodies that do not fail, each by its number
+pub mapped-bodies : (f : ℕ → May (List ℕ)) (g : ℕ → List ℕ) → ((k : ℕ) → g k ≡ bodyOf (f k)) → (ks : List ℕ) → holds (each f ks) ≡ true
+    → mapped g ks ≡ manyOf (each f ks)
+mapped-bodies f g same ks h = mapped-alike g (λ k. bodyOf (f k)) same ks ∙ go (each f ks) refl h
+  where
+    go : (m : May (List (List ℕ))) → each f ks ≡ m → holds m ≡ true → mapped (λ k. bodyOf (f k)) ks ≡ manyOf m
+    go fail e q = absurd (zero-one cc)
+    go (yes l) e q = each-parts f bodyOf (λ a. refl) ks l e
+
 -- one holds, and then the next
 holds-and : {A B : Type 0} (m : May A) (f : A → May B) (b : Bool) → ((a : A) → holds (f a) ≡ b) → holds (and m f) ≡ pick (holds m) b false
 holds-and fail f b h = refl
@@ -95,14 +104,8 @@ module _ (way : ℕ) (rows : List Row) (cid : Bool) (ws : List ℕ) (n : ℕ) (a
   pub new-charstrings-is : holds (charstringsBy way rows cid ws n ats counts reacheds globals items k) ≡ true
       → newCharstrings way rows cid ws n ats counts reacheds globals items k ≡ manyOf (charstringsBy way rows cid ws n ats counts reacheds globals items k)
   new-charstrings-is h =
-      mapped-alike _ (λ i. bodyOf (charstringBy way rows cid ws n ats counts reacheds globals items i))
-      (λ i. new-body-is way rows (callsAt way rows cid ws n ats counts reacheds globals items i) (glyph (glyphAt ws i)) (getD items (glyphAt ws i) [])) (upTo k)
-      ∙ go (charstringsBy way rows cid ws n ats counts reacheds globals items k) refl h
-    where
-      go : (m : May (List (List ℕ))) → charstringsBy way rows cid ws n ats counts reacheds globals items k ≡ m → holds m ≡ true
-          → mapped (λ i. bodyOf (charstringBy way rows cid ws n ats counts reacheds globals items i)) (upTo k) ≡ manyOf m
-      go fail e q = absurd (zero-one cc)
-      go (yes l) e q = each-parts (charstringBy way rows cid ws n ats counts reacheds globals items) bodyOf (λ a. refl) (upTo k) l e
+      mapped-bodies (charstringBy way rows cid ws n ats counts reacheds globals items) _
+      (λ i. new-body-is way rows (callsAt way rows cid ws n ats counts reacheds globals items i) (glyph (glyphAt ws i)) (getD items (glyphAt ws i) [])) (upTo k) h
 
 -- ---- a font's
 

@@ -11,8 +11,8 @@ use Rattle.octets.specs.Pick.{pick}
 use Rattle.octets.specs.Octets.{Wrote}
 use Rattle.octets.specs.PutLaws.{wrote-none, wrote-then, wrote-as, wrote-length}
 use Rattle.index.specs.Index.{itemsOf}
-use Rattle.index.specs.Write.{total, sizeFor, indexBytes, indexLen}
-use Rattle.index.specs.WriteLaws.{len-some, length-index}
+use Rattle.index.specs.Write.{total, indexBytes}
+use Rattle.index.specs.WriteLaws.{total-within}
 use Rattle.unfold.specs.Unfold.{Row, local}
 use Rattle.prune.specs.StepLaws.{zero-one}
 use Rattle.cff.specs.Font.{Private, Program}
@@ -58,9 +58,6 @@ module _ (x : Private) (ls : List (List ℕ)) (left : ℕ) (many : left ≡ leng
 
   pub some-length : (left ≡ 0 → ⊥) → length (privateDictBy (x .entries) left) + length (indexBytes ls) ≡ length (privatePart x ls)
   some-length n = sym (length-append (privateDictBy (x .entries) left) (indexBytes ls)) ∙ ap length (some-bytes n)
-
-  pub total-within : (left ≡ 0 → ⊥) → total ls ≤ length (indexBytes ls)
-  total-within n = omega (arith, length-index ls, len-some (length ls) (total ls) (λ e. n (many ∙ e)))
 
 -- ---- one FD
 
@@ -115,7 +112,7 @@ module _ (way : ℕ) (b : List ℕ) (p : Program) (rows : List Row) (ws : List �
         pub subrs-room : Room (subrsBy way rows (reachedIn ws own) (callsBy ws own globals) (siteIn (Local f)) (itemsOf b (q .locals))) sum to (length mid)
         subrs-room =
             let s = some-length (privateOf p f) new left many n in
-            let t = total-within (privateOf p f) new left many n in
+            let t = total-within new in
             let d = ap length dict-same in
             let k : at + length (privateDictBy (reads.privateOf b q .entries) left) ≤ length old = omega (arith, r .fits) in
             let i = ap (λ (x : List (List ℕ)). length (indexBytes x)) same-new in
@@ -172,7 +169,7 @@ module _ (way : ℕ) (p : Program) (rows : List Row) (ws ats counts reacheds : L
       go false u = omega (arith, ap length (parts-pass (n + d) u))
 
   -- an FD in use does not fail where none does
-  holds-one : (f : ℕ) → f < 256 → inUse used f ≡ true → allHold (localsBy way p rows ws ats counts reacheds globals) (fdsIn used) ≡ true
+  pub holds-one : (f : ℕ) → f < 256 → inUse used f ≡ true → allHold (localsBy way p rows ws ats counts reacheds globals) (fdsIn used) ≡ true
       → holds (localsBy way p rows ws ats counts reacheds globals f) ≡ true
   holds-one f h u a = go (holds (localsBy way p rows ws ats counts reacheds globals f)) refl
     where

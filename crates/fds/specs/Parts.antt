@@ -49,3 +49,4 @@ module _ (p : Program) (way : ℕ) (counts reacheds totals : List ℕ) where
     pub dicts : sizes ≡ put oldSizes 0 (mapped (λ f. partAt f .size) (fdsIn used))
     pub parts : lens ≡ put oldLens 0 (mapped (λ f. partAt f .len) (fdsIn used))
     pub together : all ≡ sum (mapped (λ f. partAt f .len) (fdsIn used))
+    pub small : all ≤ 72059392000000000

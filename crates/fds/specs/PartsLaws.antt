@@ -183,7 +183,7 @@ module _ (p : Program) (way : ℕ) (counts reacheds totals used oldSizes oldLens
     pub measuring-done : fd ≡ 256 → SizesParts p way counts reacheds totals used oldSizes oldLens sizes lens all
     measuring-done e =
         let g = subst (Measuring sizes lens all j) e h in
-        record { dicts = g .dicts; parts = g .parts; together = g .together }
+        record { dicts = g .dicts; parts = g .parts; together = g .together; small = g .small }
 
 -- ---- the measures of the subset
 

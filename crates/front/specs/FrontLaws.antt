@@ -3,14 +3,14 @@ use Prim.Native.Nat.{ℕ, _+_, _*_, _-_, _≤_, _<_}
 use mathlib.Core.Path.{_≡_, refl, sym, ap, _∙_}
 use mathlib.Core.Bool.{Bool}
 use mathlib.Core.List.{List, [], _∷_, _++_, append-assoc}
-use native.Mathlib.Nat.{add-zero, mul-le-mul}
+use native.Mathlib.Nat.{add-zero}
 use native.Mathlib.Omega.{arith}
 use lib.ListN.{length, drop, length-append, length-drop}
 use lib.Seq.{length-take-le}
 use Rattle.octets.specs.Octets.{Wrote}
 use Rattle.octets.specs.PutLaws.{wrote-then, wrote-as}
-use Rattle.index.specs.Write.{total, sizeFor, sizeOf, headBytes, itemsBytes, indexBytes, indexLen}
-use Rattle.index.specs.WriteLaws.{size-high, length-index, length-items}
+use Rattle.index.specs.Write.{total, sizeFor, indexBytes, indexLen}
+use Rattle.index.specs.WriteLaws.{length-index, total-within}
 use Rattle.cff.specs.Font.{Program}
 use Rattle.cff.specs.Reads.{programOf, topOf}
 use Rattle.cff.specs.declared.font.Font.{Font}
@@ -25,12 +25,7 @@ use Rattle.front.specs.PrepareLaws.{has-strings}
 
 -- ---- lengths
 
--- items are no longer than their INDEX
-total-within : (items : List (List ℕ)) → total items ≤ length (indexBytes items)
-unfolding indexBytes
-total-within items =
-    omega (arith, length-append (headBytes (length items) (sizeOf items)) (itemsBytes (sizeOf items) items), length-items (sizeOf items) items)
-
+-- an item is no longer than its INDEX
 item-within : (x : List ℕ) → length x ≤ length (indexBytes (x ∷ []))
 unfolding total
 item-within x = omega (arith, total-within (x ∷ []))
@@ -38,10 +33,6 @@ item-within x = omega (arith, total-within (x ∷ []))
 single-length : (x : List ℕ) → length (indexBytes (x ∷ [])) ≡ indexLen 1 (length x)
 unfolding total
 single-length x = length-index (x ∷ []) ∙ ap (indexLen 1) (add-zero (length x))
-
--- the offsets of an INDEX of own strings are few bytes
-pub offsets-few : (count size v : ℕ) → count ≤ 65544 → size ≡ sizeFor v → (count + 1) * size ≤ 262180
-offsets-few count size v h e = mul-le-mul {n₁ = count + 1} {m₁ = size} {n₂ = 65545} {m₂ = 4} (omega arith) (omega (arith, size-high v))
 
 -- ---- the parts, one behind the other
 

@@ -6,7 +6,7 @@ ghost use mathlib.Core.List.{[], _∷_, _++_};
 ghost use Prim.Native.Nat.{_+_, _≤_};
 ghost use lib.ListN.{length};
 ghost use Rattle.octets.specs.Octets.{put, Wrote};
-ghost use Rattle.index.specs.Write.{indexBytes, indexLen};
+ghost use Rattle.index.specs.Write.{indexBytes};
 ghost use Rattle.cff.specs.Reads.{programOf};
 ghost use Rattle.subset.specs.Texts.{namesOf};
 ghost use Rattle.subset.specs.Subset.{ownByName, topByName, ownByCid, topByCid, newIds};
@@ -63,17 +63,6 @@ pub fn prepare_cid(font: &[u8], f: Font, slots: &mut [usize]) -> Own
     prepare_slots(font, f, true, slots)
 }
 
-// How long an INDEX of count items is that have total bytes together, also where it is too long to be written.
-fn any_index_len(count: usize, total: usize) -> usize
-    requires { ⌜ (count ≤ 65544) × (total ≤ 281474976710656) ⌝ }
-    ensures { λ r. ⌜ (r ≡ indexLen count total) × (r ≤ 281474977000000) ⌝ }
-{
-    if count == 0 {
-        return 2;
-    }
-    3 + ((count + 1) * index::offset_size(total + 1) + total)
-}
-
 // The length of the front for a new name of so many bytes, whatever the offsets are.
 pub fn front_len(cid: bool, font: &[u8], f: Font, name: usize, slots: &[usize], own: Own) -> usize
     requires { ⌜ (SmallFont (now font) f) × (SlotsReady (programOf (now font) f) cid (now slots)) × (name ≤ 65535)
@@ -85,7 +74,10 @@ pub fn front_len(cid: bool, font: &[u8], f: Font, name: usize, slots: &[usize], 
     let count = own.count;
     let total = own.total;
     let n = top_len(cid, &font[top..end], slots);
-    4 + any_index_len(1, name) + any_index_len(1, n) + any_index_len(count, total)
+    4
+        + index::any_index_len(1, name)
+        + index::any_index_len(1, n)
+        + index::any_index_len(count, total)
 }
 
 // The header of a subset of total bytes and the INDEX of its name, from the start of out on; the place after it.

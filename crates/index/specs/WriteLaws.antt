@@ -2,7 +2,7 @@
 use Prim.Native.Nat.{ℕ, zero, suc, _+_, _*_, _%_, _^_, _≤_, _<_}
 use mathlib.Core.Path.{_≡_, refl, sym, ap, _∙_}
 use mathlib.Core.List.{List, [], _∷_, _++_, append-assoc, append-nil}
-use native.Mathlib.Nat.{suc-mul, zero-mul, add-zero, zero-add, add-assoc, add-mul}
+use native.Mathlib.Nat.{suc-mul, zero-mul, add-zero, zero-add, add-assoc, add-mul, mul-le-mul}
 use native.Mathlib.Numerals.{add-one}
 use native.Mathlib.Omega.{arith}
 use borrow.Author.Tests.{ltb-true, ne-eqb}
@@ -151,6 +151,12 @@ unfolding indexBytes headBytes itemsBytes tableBytes ends join indexLen bytesOf
 length-index [] = refl
 length-index (x ∷ xs) = length-some (x ∷ xs) (λ e. omega arith)
 
+-- items are no longer than their INDEX
+pub total-within : (items : List (List ℕ)) → total items ≤ length (indexBytes items)
+unfolding indexBytes
+total-within items =
+    omega (arith, length-append (headBytes (length items) (sizeOf items)) (itemsBytes (sizeOf items) items), length-items (sizeOf items) items)
+
 -- where an INDEX has room, its head has
 pub head-room : (n at count t : ℕ) (items : List (List ℕ)) → count ≡ length items → t ≡ total items → at + length (indexBytes items) ≤ n
     → at + length (headBytes count (sizeFor (t + 1))) ≤ n
@@ -160,6 +166,10 @@ head-room n at count t items many sum h = rw (many, sum) (omega (arith, length-a
 -- the offsets of an INDEX that is written are few bytes
 pub ends-small : (count size v : ℕ) → count < 65536 → size ≡ sizeFor v → (count + 1) * size ≤ 262144
 ends-small count size v h e = table-size count size h (omega (arith, size-high v))
+
+-- those of an INDEX of more items than one can have, as far as they are measured
+pub offsets-few : (count size v : ℕ) → count ≤ 65544 → size ≡ sizeFor v → (count + 1) * size ≤ 262180
+offsets-few count size v h e = mul-le-mul {n₁ = count + 1} {m₁ = size} {n₂ = 65545} {m₂ = 4} (omega arith) (omega (arith, size-high v))
 
 -- an INDEX of no item
 pub index-none : indexBytes [] ≡ bytesOf 2 0

@@ -186,6 +186,17 @@ pub fn index_len(count: usize, total: usize) -> usize
     3 + ((count + 1) * offset_size(total + 1) + total)
 }
 
+// How long an INDEX of count items is that have total bytes together, also where it is too long to be written.
+pub fn any_index_len(count: usize, total: usize) -> usize
+    requires { ⌜ (count ≤ 65544) × (total ≤ 281474976710656) ⌝ }
+    ensures { λ r. ⌜ (r ≡ indexLen count total) × (r ≤ 281474977000000) ⌝ }
+{
+    if count == 0 {
+        return 2;
+    }
+    3 + ((count + 1) * offset_size(total + 1) + total)
+}
+
 // Where the parts of an INDEX go that is written at a place: what reading it back will find.
 pub fn index_for(at: usize, count: usize, total: usize) -> Index
     requires { ⌜ (at < 4294967296) × (count < 65536) × (total < 4294967295) ⌝ }

@@ -39,7 +39,7 @@ narrow-rows b o = record { globals = λ i h. narrow-set b o 1 0 i h; locals = λ
 
 -- ---- numbers that all have a subroutine
 
-both-true : (a b : Bool) → pick a b false ≡ true → (a ≡ true) × (b ≡ true)
+pub both-true : (a b : Bool) → pick a b false ≡ true → (a ≡ true) × (b ≡ true)
 both-true true b e = (refl, e)
 both-true false b e = absurd (zero-one cc)
 

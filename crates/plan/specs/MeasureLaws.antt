@@ -1,8 +1,9 @@
 -- Laws of measuring all bodies, part by part: the globals, the locals of the FDs in use, the charstrings.
-use Prim.Native.Nat.{ℕ}
+use Prim.Native.Nat.{ℕ, _≤_}
 use mathlib.Core.Path.{_≡_, refl, sym, ap, _∙_, subst}
 use mathlib.Core.Bool.{Bool, true, false}
 use mathlib.Core.List.{List}
+use native.Mathlib.Omega.{arith}
 use lib.ListN.{length}
 use Rattle.octets.specs.Pick.{pick}
 use Rattle.unfold.specs.Unfold.{Row}
@@ -14,6 +15,7 @@ use Rattle.subset.specs.Pruned.{May}
 use Rattle.renumber.specs.declared.Ranks.{Ranks}
 use Rattle.renumber.specs.Ranks.{callsBy}
 use Rattle.bodies.specs.Ways.{holds, measuredOf, charstringsBy, subrsBy, reachedIn, siteIn}
+use Rattle.bodies.specs.Sizes.{Bounded}
 use Rattle.bodies.specs.declared.subrs.Subrs.the-variants.{Global}
 use Rattle.bodies.specs.Pruning.{allHold}
 use Rattle.bodies.specs.declared.Measured.{Measured}
@@ -76,6 +78,9 @@ module _ (way : ℕ) (p : Program) (rows : List Row) (cid : Bool) (ws used ats c
         ofGlobals = λ z. absurd (zero-one cc);
         ofLocals = λ z. absurd (zero-one cc);
         ofGlyphs = λ z. absurd (zero-one cc);
+        fewGlobals = omega arith;
+        fewLocals = λ z. absurd (zero-one cc);
+        fewGlyphs = omega arith;
       }
 
   -- the globals fail
@@ -97,8 +102,8 @@ module _ (way : ℕ) (p : Program) (rows : List Row) (cid : Bool) (ws used ats c
 
     -- none fails
     pub all-measured : (g c : ℕ) → measuredOf theGlobals ≡ Total g → t ≡ true
-        → measuredOf theGlyphs ≡ Total c → Whole (measures true g c)
-    all-measured g c e u d =
+        → measuredOf theGlyphs ≡ Total c → g ≤ 21989897011200 → c ≤ 21989897011200 → Whole (measures true g c)
+    all-measured g c e u d gs cs =
         let x = total-told theGlobals g e in
         let y = total-told theGlyphs c d in
         record {
@@ -107,6 +112,9 @@ module _ (way : ℕ) (p : Program) (rows : List Row) (cid : Bool) (ws used ats c
           ofGlobals = λ z. sym (x .1);
           ofLocals = λ z. ls .sums u;
           ofGlyphs = λ z. sym (y .1);
+          fewGlobals = gs;
+          fewLocals = λ z. ls .few u;
+          fewGlyphs = cs;
         }
 
   -- what the code returns: each part as it was measured
@@ -128,8 +136,8 @@ module _ (way : ℕ) (p : Program) (rows : List Row) (cid : Bool) (ws used ats c
         pub returns-glyphs : d ≡ Failed → (r : Measures) → r ≡ measures false 0 0 → Whole r
         returns-glyphs e r a = subst Whole (sym a) (glyphs-fail t ls (glyphs-told Failed e))
 
-        pub returns-all : (g c : ℕ) → m ≡ Total g → t ≡ true → d ≡ Total c → Whole (measures true g c)
-        returns-all g c e u v = all-measured t ls g c (sym is ∙ e) u (glyphs-told (Total c) v)
+        pub returns-all : Bounded m → Bounded d → (g c : ℕ) → m ≡ Total g → t ≡ true → d ≡ Total c → Whole (measures true g c)
+        returns-all few short g c e u v = all-measured t ls g c (sym is ∙ e) u (glyphs-told (Total c) v) (subst Bounded e few) (subst Bounded v short)
 
 -- what measuring asks does not name the way
 pub by-way : (way : ℕ) (b : List ℕ) (f : Font) (used ws : List ℕ) (kept : Kept) (ats counts reacheds : List ℕ) (rows : List Row)

@@ -65,7 +65,15 @@ module _ (p : Program) (rows : List Row) (cid : Bool) (ws used ats counts reache
   -- a measure that holds
   held : (way : ℕ) (totals : List ℕ) (m : Measures) → m .all ≡ true → Sized way totals m → Sized way totals (measures true (m .globals) (m .glyphs))
   held way totals m e s =
-      record { told = sym e ∙ s .told; ofGlobals = λ z. s .ofGlobals e; ofLocals = λ z. s .ofLocals e; ofGlyphs = λ z. s .ofGlyphs e }
+      record {
+        told = sym e ∙ s .told;
+        ofGlobals = λ z. s .ofGlobals e;
+        ofLocals = λ z. s .ofLocals e;
+        ofGlyphs = λ z. s .ofGlyphs e;
+        fewGlobals = s .fewGlobals;
+        fewLocals = λ z. s .fewLocals e;
+        fewGlyphs = s .fewGlyphs;
+      }
 
   abbrev made : ℕ → Bool
   made way = allMade way p rows cid ws used ats counts reacheds globals k

@@ -64,12 +64,15 @@ module _ (way : ℕ) (p : Program) (rows : List Row) (cid : Bool) (ws used ats c
   abbrev pub allMade : Bool
   allMade = pick (holds globalsBy) (pick (allHold (localsBy way p rows ws ats counts reacheds globals) (fdsIn used)) (holds glyphsBy) false) false
 
-  -- whether no part fails, and then the bytes of the globals, of the charstrings, and of the locals of each FD in use
+  -- whether no part fails, and then the bytes of the globals, of the charstrings, and of the locals of each FD in use: as many as numbers hold
   pub record MeasuresAll (totals : List ℕ) (r : Measures) : Type 0 where
     pub told : r .all ≡ allMade
     pub ofGlobals : r .all ≡ true → r .globals ≡ total (manyOf globalsBy)
     pub ofLocals : r .all ≡ true → (f : ℕ) → f < 256 → inUse used f ≡ true → getD totals f 0 ≡ total (newLocals way p rows ws ats counts reacheds globals f)
     pub ofGlyphs : r .all ≡ true → r .glyphs ≡ total (manyOf glyphsBy)
+    pub fewGlobals : r .globals ≤ 21989897011200
+    pub fewLocals : r .all ≡ true → (f : ℕ) → f < 256 → inUse used f ≡ true → getD totals f 0 ≤ 21989897011200
+    pub fewGlyphs : r .glyphs ≤ 21989897011200
 
 -- the way that is found: by the flag, by whether each number has a subroutine, and by whether no part fails
 abbrev pub wayBy : ℕ → Bool → Bool → ℕ

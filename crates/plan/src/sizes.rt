@@ -6,6 +6,7 @@ ghost use lib.ListN.{length};
 ghost use Rattle.record.specs.Record.{rowsOf};
 ghost use Rattle.cff.specs.Reads.{programOf};
 ghost use Rattle.bodies.specs.Ways.{measuredOf};
+ghost use Rattle.bodies.specs.Sizes.{Bounded};
 ghost use Rattle.fds.specs.Locals.{fdsIn};
 ghost use Rattle.fds.specs.NewLocals.{MeasuresLocals};
 ghost use Rattle.plan.specs.Sizes.{acrossBy, globalsBy, MeasureIn, MeasuresAll};
@@ -25,7 +26,7 @@ pub struct Measures {
 }
 
 // The ranks by which a global subroutine calls local ones: those of the FD in use where it is the only one, else none.
-fn across(used: &[u32], ats: &[usize], counts: &[usize], reacheds: &[usize]) -> Ranks
+pub fn across(used: &[u32], ats: &[usize], counts: &[usize], reacheds: &[usize]) -> Ranks
     requires { ⌜ (256 ≤ length (now used)) × (256 ≤ length (now ats)) × (256 ≤ length (now counts)) × (256 ≤ length (now reacheds)) ⌝ }
     ensures { λ r. ⌜ r ≡ acrossBy (now (ats .entry)) (now (counts .entry)) (now (reacheds .entry)) (fdsIn (now (used .entry))) ⌝ }
 {
@@ -75,8 +76,8 @@ fn globals_total(
     rows: &[u8],
 ) -> Measured
     requires { ⌜ MeasureIn (now font) f (now used) (now words) kept (now ats) (now counts) (now reacheds) (rowsOf (now rows)) ⌝ }
-    ensures { λ r. ⌜ r ≡ measuredOf (globalsBy (kept .way) (programOf (now (font .entry)) f) (rowsOf (now (rows .entry))) (kept .cid) (now (words .entry))
-        (now (used .entry)) (now (ats .entry)) (now (counts .entry)) (now (reacheds .entry)) (kept .globals) (kept .count)) ⌝ }
+    ensures { λ r. ⌜ (r ≡ measuredOf (globalsBy (kept .way) (programOf (now (font .entry)) f) (rowsOf (now (rows .entry))) (kept .cid) (now (words .entry))
+        (now (used .entry)) (now (ats .entry)) (now (counts .entry)) (now (reacheds .entry)) (kept .globals) (kept .count))) × (Bounded r) ⌝ }
 {
     let ix = f.globals;
     let own = kept.globals;

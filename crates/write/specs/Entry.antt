@@ -5,14 +5,15 @@ use mathlib.Core.Path.{_≡_}
 use mathlib.Core.Bool.{Bool, true}
 use mathlib.Core.List.{List}
 use lib.Dec.{ltb}
-use lib.ListN.{length, drop}
+use lib.ListN.{length}
 use Rattle.octets.specs.Pick.{pick}
-use Rattle.record.specs.Record.{recordFine}
+use Rattle.record.specs.Record.{rowsOf, recordFine}
 use Rattle.dict.specs.Lookup.{rosIn, cidKeyed}
 use Rattle.cff.specs.Font.{Got, refused as refusedFont, got, Program, readFont}
 use Rattle.cff.specs.Find.{workSize}
-use Rattle.subset.specs.Kept.{keptOf}
-use Rattle.subset.specs.Cut.{Outcome, refused, subset, allBelow, allFound, hasRos, sameBool, cutOf, leavesOut, leavesWork}
+use Rattle.subset.specs.Kept.{keptOf, writtenOrder, usedFds}
+use Rattle.subset.specs.Pruned.{pruned}
+use Rattle.subset.specs.Cut.{Outcome, refused, subset, allBelow, allFound, hasRos, sameBool, written, cutOf, leavesOut, leavesWork}
 use Rattle.faithful.specs.Faithful.{Faithful}
 use Rattle.write.specs.declared.Answer.{Answer}
 use Rattle.write.specs.declared.Answer.the-variants.{Refused, Subset}
@@ -49,12 +50,16 @@ refusalOf cid p name keep rec flag words =
 
 -- ---- what the cut of a font that passes them does
 
--- the answer and the output are the outcome's; the words past W stay
-pub record Cut (o : Outcome) (w : ℕ) (work out work' out' : List ℕ) (r : Answer) : Type 0 where
+-- the outcome of the cut
+abbrev pub cutBehind : Program → List ℕ → List ℕ → List ℕ → ℕ → ℕ → Outcome
+cutBehind p name keep rec flag room =
+    let kept = keptOf (length (p .charstrings)) keep in
+    written p name kept (writtenOrder p kept) room (pruned p (rowsOf rec) (usedFds p kept) (writtenOrder p kept) flag)
+
+-- the answer and the output are an outcome's
+pub record Cut (o : Outcome) (out out' : List ℕ) (r : Answer) : Type 0 where
   pub answers : r ≡ answerOf o
   pub output : out' ≡ leavesOut o out
-  pub size : length work' ≡ length work
-  pub behind : drop w work' ≡ drop w work
 
 -- a font, a new name, a keep list, a record and a flag that are not refused before the cut
 pub record Passed (cid : Bool) (p : Program) (name : ℕ) (keep rec : List ℕ) (flag words : ℕ) : Type 0 where

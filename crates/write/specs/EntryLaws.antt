@@ -23,15 +23,9 @@ use Rattle.subset.specs.Subset.{subsetBytes}
 use Rattle.subset.specs.Cut.{Outcome, refused, subset, allBelow, allFound, hasRos, sameBool, ownOf, written, cutProgram, cutRead, cutOf, leavesOut, zeros, usesWork, leavesWork}
 use Rattle.faithful.specs.Theorem.{faithful}
 use Rattle.write.specs.RefusalLaws.{work-is}
-use Rattle.write.specs.Entry.{answerOf, workIn, Cuts, refusalOf, Cut, Passed}
+use Rattle.write.specs.Entry.{answerOf, workIn, Cuts, refusalOf, cutBehind, Cut, Passed}
 use Rattle.write.specs.declared.Answer.{Answer}
 use Rattle.write.specs.declared.Answer.the-variants.{Refused}
-
--- the cut of a font that passes all refusals before it
-abbrev pub cutBehind : Program → List ℕ → List ℕ → List ℕ → ℕ → ℕ → Outcome
-cutBehind p name keep rec flag room =
-    let kept = keptOf (length (p .charstrings)) keep in
-    written p name kept (writtenOrder p kept) room (pruned p (rowsOf rec) (usedFds p kept) (writtenOrder p kept) flag)
 
 -- ---- refusals
 
@@ -133,9 +127,9 @@ module _ (cid : Bool) (font name keep rec : List ℕ) (flag : ℕ) (work out : L
         (le-ltb 9 refusal (number-low cid p name keep rec flag (length work) (length out))))
 
     -- cut, the first W words then cleared
-    pub late-cuts : (work' work'' out' : List ℕ) (r : Answer) → refusal ≡ 0 → Cut (cutBehind p name keep rec flag (length out)) (workSize p) work out work' out' r
-        → work'' ≡ zeros (workSize p) ++ drop (workSize p) work' → Cuts cid font name keep rec flag work out work'' out' r
-    late-cuts work' work'' out' r z k c =
+    pub late-cuts : (work' out' : List ℕ) (r : Answer) → refusal ≡ 0 → Cut (cutBehind p name keep rec flag (length out)) out out' r
+        → work' ≡ zeros (workSize p) ++ drop (workSize p) work → Cuts cid font name keep rec flag work out work' out' r
+    late-cuts work' out' r z k c =
         let o = cutBehind p name keep rec flag (length out) in
         let e : outcome ≡ o = outcome-is ∙ ap (λ (b : Bool). pick b o (refused refusal)) (eq-eqb refusal 0 z) in
         let kept = keptOf (length (p .charstrings)) keep in
@@ -145,8 +139,7 @@ module _ (cid : Bool) (font name keep rec : List ℕ) (flag : ℕ) (work out : L
           answers = k .answers ∙ ap answerOf (sym e);
           output = k .output ∙ ap (λ (x : Outcome). leavesOut x out) (sym e);
           words =
-              c ∙ ap (λ (l : List ℕ). zeros (workSize p) ++ l) (k .behind)
-              ∙ ap (λ (w : ℕ). zeros w ++ drop w work) (sym (ap workIn is))
+              c ∙ ap (λ (w : ℕ). zeros w ++ drop w work) (sym (ap workIn is))
               ∙ sym (ap (λ (t : Bool). pick t (zeros (workIn (readFont font)) ++ drop (workIn (readFont font)) work) work) u);
           faithful = faithful cid font name keep rec flag (length work) (length out) bytes octets;
         }
@@ -210,20 +203,34 @@ module _ (cid : Bool) (font : List ℕ) (f : Font) (name keep rec : List ℕ) (f
     pub passed-read : Passed cid (programOf font f) (length name) keep rec flag (length work)
     passed-read = not-refused cid (programOf font f) (length name) keep rec flag (length work) none
 
-    module _ (w : ℕ) (size : w ≡ 2 * f .charstrings .count + f .globals .count + f .locals) (work' out' : List ℕ) (r : Answer)
-        (k : Cut (cutBehind (programOf font f) name keep rec flag (length out)) (workSize (programOf font f)) work out work' out' r) where
+    module _ (w : ℕ) (size : w ≡ 2 * f .charstrings .count + f .globals .count + f .locals) where
       wide : w ≡ workSize (programOf font f)
       wide = size ∙ work-is font f good
 
-      -- the first W words can be cleared
-      pub words-room : w ≤ length work'
-      words-room = let e = k .size in omega (arith, wide, passed-read .room)
+      -- the first W words are there
+      pub words-room : w ≤ length work
+      words-room = omega (arith, wide, passed-read .room)
 
-      pub words-taken : w ≡ length (take w work')
-      words-taken = sym (length-take-le w work' words-room)
+      pub words-taken : w ≡ length (take w work)
+      words-taken = sym (length-take-le w work words-room)
 
-      pub late-read : (cleared : List ℕ) → cleared ≡ replicate (length (take w work')) 0 → Cuts cid font name keep rec flag work out (cleared ++ drop w work') out' r
-      late-read cleared e =
-          late-cuts cid font name keep rec flag work out bytes octets (programOf font f) is work' (cleared ++ drop w work') out' r none k
-          (ap (λ (x : List ℕ). x ++ drop w work') (e ∙ ap (λ (m : ℕ). replicate m 0) (sym words-taken) ∙ zeros-are w)
-          ∙ ap (λ (m : ℕ). zeros m ++ drop m work') wide)
+      -- what the cut of the first W words asks
+      pub passed-words : Passed cid (programOf font f) (length name) keep rec flag (length (take w work))
+      passed-words =
+          let h = passed-read in
+          record {
+            keying = h .keying;
+            ros = h .ros;
+            named = h .named;
+            below = h .below;
+            found = h .found;
+            recorded = h .recorded;
+            room = omega (arith, wide, words-taken);
+          }
+
+      pub late-read : (cleared out' : List ℕ) (r : Answer) → Cut (cutBehind (programOf font f) name keep rec flag (length out)) out out' r
+          → cleared ≡ replicate (length (take w work)) 0 → Cuts cid font name keep rec flag work out (cleared ++ drop w work) out' r
+      late-read cleared out' r k e =
+          late-cuts cid font name keep rec flag work out bytes octets (programOf font f) is (cleared ++ drop w work) out' r none k
+          (ap (λ (x : List ℕ). x ++ drop w work) (e ∙ ap (λ (m : ℕ). replicate m 0) (sym words-taken) ∙ zeros-are w)
+          ∙ ap (λ (m : ℕ). zeros m ++ drop m work) wide)

@@ -1,8 +1,122 @@
-// Subsetting (write.rs: subset, subset_cid): refusals in document 01's order. The entries are to come; their contract is `Cuts` of specs/Entry.antt.
+// Subsetting (write.rs: subset, subset_cid): refusals in document 01's order, then the cut by the keying.
+pub mod by_cid;
+pub mod named;
 pub mod refusals;
+
+ghost use mathlib.Core.Path.{_≡_};
+ghost use mathlib.Core.Bool.{true, false};
+ghost use lib.ListN.{length};
+ghost use Rattle.cff.specs.Font.{got, readFont};
+ghost use Rattle.cff.specs.Reads.{programOf, GoodFont};
+ghost use Rattle.parts.specs.Ready.{FontHeld};
+ghost use Rattle.write.specs.Entry.{cutBehind, Cuts, Cut, Passed};
+use cff::font::Font;
+use cff::set::FontRead;
 
 // The answer of a cut: the refusal, or the way (0 renumbered, 1 stubbed, 2 copied) and the length of the subset.
 pub enum Answer {
     Refused(u8),
     Subset { way: u8, len: usize },
+}
+
+// The cut by the keying that is asked for.
+fn cut_glyphs(
+    cid: bool,
+    font: &[u8],
+    f: Font,
+    name: &[u8],
+    keep: &[u16],
+    rows: &[u8],
+    traced: u8,
+    words: &mut [u32],
+    out: &mut [u8],
+) -> Answer
+    requires { ⌜ (FontHeld (now font) f)
+        × (Passed cid (programOf (now font) f) (length (now name)) (now keep) (now rows) traced (length (now words))) ⌝ }
+    ensures { λ r. ⌜ Cut (cutBehind (programOf (now (font .entry)) f) (now (name .entry)) (now (keep .entry)) (now (rows .entry)) traced (length (now (out .entry))))
+        (now (out .entry)) (now (out .exit)) r ⌝ }
+{
+    if cid {
+        return by_cid::cut_cid(font, f, name, keep, rows, traced, words, out);
+    }
+    named::cut_named(font, f, name, keep, rows, traced, words, out)
+}
+
+// The cut of a font that was read: refused before the work words are used, or with the first W of them, which end as zeros.
+fn cut_font(
+    cid: bool,
+    font: &[u8],
+    f: Font,
+    name: &[u8],
+    keep: &[u16],
+    rows: &[u8],
+    traced: u8,
+    work: &mut [u32],
+    out: &mut [u8],
+) -> Answer
+    requires { ⌜ (GoodFont (now font) f) × (readFont (now font) ≡ got (programOf (now font) f)) ⌝ }
+    ensures { λ r. ⌜ Cuts cid (now (font .entry)) (now (name .entry)) (now (keep .entry)) (now (rows .entry)) traced (now (work .entry)) (now (out .entry))
+        (now (work .exit)) (now (out .exit)) r ⌝ }
+{
+    let n = refusals::refusal(cid, font, f, name.len(), keep, rows, traced, work.len());
+    if 0 < n {
+        return Answer::Refused(n);
+    }
+    let w = refusals::work_size(f);
+    let words = &mut work[..w];
+    let r = cut_glyphs(cid, font, f, name, keep, rows, traced, &mut *words, out);
+    reach::ranks::clear(words);
+    r
+}
+
+// The cut of a font, CID-keyed or not.
+fn cut(
+    cid: bool,
+    font: &[u8],
+    name: &[u8],
+    keep: &[u16],
+    rows: &[u8],
+    traced: u8,
+    work: &mut [u32],
+    out: &mut [u8],
+) -> Answer
+    ensures { λ r. ⌜ Cuts cid (now (font .entry)) (now (name .entry)) (now (keep .entry)) (now (rows .entry)) traced (now (work .entry)) (now (out .entry))
+        (now (work .exit)) (now (out .exit)) r ⌝ }
+{
+    match cff::set::read_font(font) {
+        FontRead::Refused(n) => Answer::Refused(n),
+        FontRead::Found(f) => cut_font(cid, font, f, name, keep, rows, traced, work, out),
+    }
+}
+
+// The subset of a name-keyed font: glyph 0 and the glyphs of the keep list.
+pub fn subset(
+    font: &[u8],
+    name: &[u8],
+    keep: &[u16],
+    rows: &[u8],
+    traced: u8,
+    work: &mut [u32],
+    out: &mut [u8],
+) -> Answer
+    ensures { λ r. ⌜ Cuts false (now (font .entry)) (now (name .entry)) (now (keep .entry)) (now (rows .entry)) traced (now (work .entry)) (now (out .entry))
+        (now (work .exit)) (now (out .exit)) r ⌝ }
+{
+    cut(false, font, name, keep, rows, traced, work, out)
+}
+
+// The subset of a CID-keyed font.
+pub fn subset_cid(
+    font: &[u8],
+    name: &[u8],
+    keep: &[u16],
+    rows: &[u8],
+    traced: u8,
+    work: &mut [u32],
+    out: &mut [u8],
+) -> Answer
+    ensures { λ r. ⌜ Cuts true (now (font .entry)) (now (name .entry)) (now (keep .entry)) (now (rows .entry)) traced (now (work .entry)) (now (out .entry))
+        (now (work .exit)) (now (out .exit)) r ⌝ }
+{
+    cut(true, font, name, keep, rows, traced, work, out)
 }

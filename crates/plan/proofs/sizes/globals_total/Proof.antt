@@ -25,9 +25,11 @@ returns : tie.Need-returns
 returns c =
     let s = c .before .before .before .before .before .before .before .before .before .before .before in
     let a = s .args in
-    let k = a .kept in
-    globals-measured (k .way) (programOf (now (a .font)) (a .f)) (rowsOf (now (a .rows))) (k .cid) (now (a .words)) (now (a .used)) (now (a .ats)) (now (a .counts))
-    (now (a .reacheds)) (k .globals) (k .count) _ (c .before .across .ensures) _ (c .subrs-total .ensures .0)
+    let k = a .kept in (
+      globals-measured (k .way) (programOf (now (a .font)) (a .f)) (rowsOf (now (a .rows))) (k .cid) (now (a .words)) (now (a .used)) (now (a .ats)) (now (a .counts))
+          (now (a .reacheds)) (k .globals) (k .count) _ (c .before .across .ensures) _ (c .subrs-total .ensures .0),
+      c .subrs-total .ensures .1,
+    )
 
 pub globals-total-spec : {M : Type 1} → statement M
 globals-total-spec = tie.close (tie.spec across-requires subrs-total-requires returns)

@@ -1,14 +1,13 @@
--- `front::any_index_len` meets its contract: the test of the count picks the case of `indexLen`, and the offsets are few bytes.
+-- `index::any_index_len` meets its contract: the test of the count picks the case of `indexLen`, and the offsets are few bytes.
 use Prim.Native.Nat.{_+_, _*_, _≤_}
 use mathlib.Core.Path.{sym}
 use native.Mathlib.Omega.{arith}
 use borrow.Author.Needs.{needs}
 use borrow.Author.Tests.{eq-eqb}
 use Rattle.index.specs.Write.{indexLen}
-use Rattle.index.specs.WriteLaws.{len-some}
-use Rattle.front.specs.FrontLaws.{offsets-few}
-use Rattle.front.proofs.any_index_len.Statement.{statement}
-use Rattle.front.proofs.any_index_len.Tie as tie
+use Rattle.index.specs.WriteLaws.{len-some, offsets-few}
+use Rattle.index.proofs.any_index_len.Statement.{statement}
+use Rattle.index.proofs.any_index_len.Tie as tie
 
 -- the offsets are few bytes
 small : (c : tie.After-offset-size) → (c .before .before .args .count + 1) * c .offset-size .result ≤ 262180

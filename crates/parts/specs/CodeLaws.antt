@@ -1,0 +1,185 @@
+-- The INDEXes of global subroutines and of charstrings as the plan left them: their lengths, what their writers ask, and that what is written
+-- is the subset's.
+use Prim.Native.Nat.{ℕ, _+_, _≤_}
+use mathlib.Core.Path.{_≡_, sym, ap, _∙_, subst}
+use mathlib.Core.Bool.{true}
+use mathlib.Core.List.{List, []}
+use native.Mathlib.Omega.{arith}
+use lib.Dec.{eqb}
+use lib.ListN.{length, getD}
+use Rattle.octets.specs.Pick.{pick-ind}
+use Rattle.index.specs.Index.{itemsOf}
+use Rattle.index.specs.Write.{total, indexBytes, indexLen}
+use Rattle.index.specs.WriteLaws.{length-index, total-within}
+use Rattle.index.specs.declared.Index.{Index}
+use Rattle.unfold.specs.Unfold.{Row, glyph, global}
+use Rattle.cff.specs.Font.{Program}
+use Rattle.cff.specs.Reads.{programOf}
+use Rattle.cff.specs.declared.font.Font.{Font}
+use Rattle.subset.specs.Pruned.{May, mapped, countBelow, globalSet, callsIn}
+use Rattle.subset.specs.EachLaws.{length-mapped}
+use Rattle.renumber.specs.Ranks.{callsBy}
+use Rattle.renumber.specs.declared.Ranks.{Ranks}
+use Rattle.bodies.specs.Ways.{Room, manyOf, holds, newBody, bodyBy, newSubrs, charstringsBy, keptCount, reachedIn}
+use Rattle.bodies.specs.Pruning.{allHold, bodiesBy}
+use Rattle.bodies.specs.RecordLaws.{reached-told}
+use Rattle.bodies.specs.Sources.{Sourced, subrsFrom, newSubrsFrom, KeptIn, charstringsFrom, newCharstringsFrom}
+use Rattle.bodies.specs.SubrsLaws.{new-subrs-is, new-body-is, new-subrs-many}
+use Rattle.bodies.specs.WaysLaws.{mapped-bodies, new-charstrings-is}
+use Rattle.bodies.specs.declared.subrs.Source.{Source}
+use Rattle.bodies.specs.declared.subrs.Subrs.the-variants.{Global}
+use Rattle.fds.specs.Locals.{fdsIn}
+use Rattle.fds.specs.NewLocals.{localsBy}
+use Rattle.plan.specs.Sizes.{acrossBy, globalsBy, glyphsBy}
+use Rattle.plan.specs.FontLaws.{both-true}
+use Rattle.plan.specs.StandsLaws.{stands-reached}
+use Rattle.plan.specs.WayLaws.{new-globals, new-glyphs}
+use Rattle.parts.specs.Ready.{orderIn, bodiesFor, Ready}
+use Rattle.parts.specs.declared.Planned.{Planned}
+
+-- room for the INDEX of bodies that do not fail, where its length is small
+room-for : (bodies : May (List (List ℕ))) (new : List (List ℕ)) (sum at room : ℕ) → holds bodies ≡ true → manyOf bodies ≡ new → sum ≡ total new
+    → at + length (indexBytes new) ≤ 67108864 → at + length (indexBytes new) ≤ room → Room bodies sum at room
+room-for bodies new sum at room done same is small fits =
+    let t = total-within new in
+    record {
+      done = done;
+      is = is ∙ ap total (sym same);
+      few = omega arith;
+      early = omega arith;
+      fits = subst (λ (l : List (List ℕ)). at + length (indexBytes l) ≤ room) (sym same) fits;
+    }
+
+-- the length of an INDEX by its count and the bytes of its items
+length-by : (items : List (List ℕ)) (count sum : ℕ) → count ≡ length items → sum ≡ total items → indexLen count sum ≡ length (indexBytes items)
+length-by items count sum many is =
+    ap (λ (n : ℕ). indexLen n sum) many ∙ ap (indexLen (length items)) is ∙ sym (length-index items)
+
+module _ (b : List ℕ) (f : Font) (rows : List Row) (used ws ats counts reacheds : List ℕ) (r : Planned) (ready : Ready b f rows used ws r ats counts reacheds) where
+  abbrev p : Program
+  p = programOf b f
+
+  abbrev way : ℕ
+  way = r .kept .way
+
+  abbrev own : Ranks
+  own = r .kept .globals
+
+  abbrev across : Ranks
+  across = acrossBy ats counts reacheds (fdsIn used)
+
+  abbrev theGlobals : May (List (List ℕ))
+  theGlobals = globalsBy way p rows (r .kept .cid) ws used ats counts reacheds own (r .kept .count)
+
+  abbrev theGlyphs : May (List (List ℕ))
+  theGlyphs = glyphsBy way p rows (r .kept .cid) ws used ats counts reacheds own (r .kept .count)
+
+  -- neither fails
+  globals-hold : holds theGlobals ≡ true
+  globals-hold = both-true (holds theGlobals) _ (ready .made) .0
+
+  glyphs-hold : holds theGlyphs ≡ true
+  glyphs-hold =
+      both-true (allHold (localsBy way p rows ws ats counts reacheds own) (fdsIn used)) (holds theGlyphs)
+      (both-true (holds theGlobals) _ (ready .made) .1) .1
+
+  -- ---- globals
+
+  pub globals-few : keptCount (r .kept .way) (r .kept .globals .reached) (r .kept .globals .count) ≤ 65535
+  globals-few =
+      let s = ready .asked .subrs .globalRanks in
+      pick-ind (λ (n : ℕ). n ≤ 65535) (eqb way 0) (own .reached) (own .count) (λ e. omega (arith, s .fewReached)) (λ e. omega (arith, s .few))
+
+  many-are : manyOf theGlobals ≡ bodiesFor b f rows used ws r .globals
+  many-are =
+      new-globals p (ready .read .program) rows (ready .narrow) used ws own ats counts reacheds (ready .ranked) (r .kept .cid) (r .kept .count)
+      (orderIn (r .kept .count) ws) (ready .order) way (ready .numbered)
+
+  new-are : newSubrs way rows (reachedIn ws own) (callsBy ws across own) global (p .globals) ≡ bodiesFor b f rows used ws r .globals
+  new-are = new-subrs-is way rows (reachedIn ws own) (callsBy ws across own) global (p .globals) ∙ many-are
+
+  -- the number reached, as the words tell it
+  reached-are : own .reached ≡ countBelow (reachedIn ws own) (own .count)
+  reached-are =
+      let s = ready .ranked .globalRanks in
+      reached-told ws own (globalSet rows) (λ k h. stands-reached ws own (globalSet rows) (length (p .globals)) s k (omega (arith, s .many))) (s .reaches)
+
+  globals-many : keptCount way (own .reached) (own .count) ≡ length (bodiesFor b f rows used ws r .globals)
+  globals-many =
+      let s = ready .asked .subrs in
+      ap (λ (n : ℕ). keptCount way n (own .count)) reached-are
+      ∙ ap (λ (n : ℕ). keptCount way (countBelow (reachedIn ws own) n) n) (s .many)
+      ∙ sym (new-subrs-many way b ws (f .globals) own across own rows (r .kept .rising) Global s (callsBy ws across own) global globals-hold)
+      ∙ ap length new-are
+
+  pub globals-long : indexLen (keptCount (r .kept .way) (r .kept .globals .reached) (r .kept .globals .count)) (r .«globals_total»)
+      ≡ length (indexBytes (bodiesFor b f rows used ws r .globals))
+  globals-long = length-by (bodiesFor b f rows used ws r .globals) _ _ globals-many (ready .globalsTotal)
+
+  module _ (from : Source)
+      (is : from
+      ≡ record {
+        way = r .kept .way;
+        of = Global;
+        ix = f .globals;
+        own = r .kept .globals;
+        locals = acrossBy ats counts reacheds (fdsIn used);
+        globals = r .kept .globals;
+        rising = r .kept .rising;
+      }) where
+    pub globals-asked : (at room : ℕ) → at + length (indexBytes (bodiesFor b f rows used ws r .globals)) ≤ 67108864
+        → at + length (indexBytes (bodiesFor b f rows used ws r .globals)) ≤ room
+        → Sourced from rows ws b × (from .own .reached ≡ countBelow (reachedIn ws (from .own)) (from .own .count))
+        × Room (subrsFrom from rows ws b) (r .«globals_total») at room
+    globals-asked at room small fits =
+        subst (λ (s : Source). Sourced s rows ws b × (s .own .reached ≡ countBelow (reachedIn ws (s .own)) (s .own .count))
+        × Room (subrsFrom s rows ws b) (r .«globals_total») at room) (sym is) (
+          ready .asked .subrs,
+          reached-are,
+          room-for theGlobals (bodiesFor b f rows used ws r .globals) (r .«globals_total») at room globals-hold many-are (ready .globalsTotal) small fits,
+        )
+
+    pub globals-are : newSubrsFrom from rows ws b ≡ bodiesFor b f rows used ws r .globals
+    globals-are = ap (λ (s : Source). newSubrsFrom s rows ws b) is ∙ new-are
+
+  -- ---- charstrings
+
+  -- by the font's own charstrings
+  glyphs-from : charstringsFrom (r .kept) rows ws ats counts reacheds b ≡ theGlyphs
+  glyphs-from =
+      ap (λ (n : ℕ). charstringsBy way rows (r .kept .cid) ws n ats counts reacheds own (itemsOf b (r .kept .ix)) (r .kept .count)) (ready .asked .all)
+      ∙ ap (λ (ix : Index). charstringsBy way rows (r .kept .cid) ws (length (p .charstrings)) ats counts reacheds own (itemsOf b ix) (r .kept .count)) (ready .asked .charstrings)
+
+  glyphs-many : manyOf theGlyphs ≡ bodiesFor b f rows used ws r .charstrings
+  unfolding bodiesBy
+  glyphs-many =
+      let e = new-glyphs p (ready .read .program) rows (ready .narrow) used ws own ats counts reacheds (ready .ranked) (r .kept .cid) (r .kept .count)
+      (orderIn (r .kept .count) ws) (ready .order) way (ready .numbered) in
+      ap manyOf e
+      ∙ sym (mapped-bodies (λ g. bodyBy way rows (callsIn p rows (getD (p .fds) g 0)) (glyph g) (getD (p .charstrings) g []))
+      (λ g. newBody way rows (callsIn p rows (getD (p .fds) g 0)) (glyph g) (getD (p .charstrings) g []))
+      (λ g. new-body-is way rows (callsIn p rows (getD (p .fds) g 0)) (glyph g) (getD (p .charstrings) g []))
+      (orderIn (r .kept .count) ws) (ap holds (sym e) ∙ glyphs-hold))
+
+  glyphs-count : r .kept .count ≡ length (bodiesFor b f rows used ws r .charstrings)
+  unfolding bodiesBy
+  glyphs-count =
+      ready .order .many
+      ∙ sym (length-mapped (λ g. newBody way rows (callsIn p rows (getD (p .fds) g 0)) (glyph g) (getD (p .charstrings) g [])) (orderIn (r .kept .count) ws))
+
+  pub glyphs-long : indexLen (r .kept .count) (r .«glyphs_total») ≡ length (indexBytes (bodiesFor b f rows used ws r .charstrings))
+  glyphs-long = length-by (bodiesFor b f rows used ws r .charstrings) _ _ glyphs-count (ready .glyphsTotal)
+
+  pub glyphs-asked : (at room : ℕ) → at + length (indexBytes (bodiesFor b f rows used ws r .charstrings)) ≤ 67108864
+      → at + length (indexBytes (bodiesFor b f rows used ws r .charstrings)) ≤ room
+      → KeptIn (r .kept) rows ws ats counts reacheds b × Room (charstringsFrom (r .kept) rows ws ats counts reacheds b) (r .«glyphs_total») at room
+  glyphs-asked at room small fits = (
+    ready .asked .glyphs,
+    room-for (charstringsFrom (r .kept) rows ws ats counts reacheds b) (bodiesFor b f rows used ws r .charstrings) (r .«glyphs_total») at room
+        (ap holds glyphs-from ∙ glyphs-hold) (ap manyOf glyphs-from ∙ glyphs-many) (ready .glyphsTotal) small fits,
+  )
+
+  pub glyphs-are : newCharstringsFrom (r .kept) rows ws ats counts reacheds b ≡ bodiesFor b f rows used ws r .charstrings
+  glyphs-are =
+      new-charstrings-is way rows (r .kept .cid) ws (r .kept .all) ats counts reacheds own (itemsOf b (r .kept .ix)) (r .kept .count) (ap holds glyphs-from ∙ glyphs-hold)
+      ∙ ap manyOf glyphs-from ∙ glyphs-many

@@ -1,0 +1,4 @@
+pub mod Ready
+pub mod PlannedLaws
+pub mod CodeLaws
+pub mod PrivateLaws

@@ -1,0 +1,151 @@
+// The bodies of a subset from its plan (document 01, 'Corners in write.rs'): all subroutines ranked, the way found and all bodies measured;
+// what is measured and written then is the subset's.
+ghost use mathlib.Core.Path.{_≡_};
+ghost use Prim.Native.Nat.{_+_, _*_, _≤_};
+ghost use lib.ListN.{length, take};
+ghost use Rattle.octets.specs.Octets.{Wrote};
+ghost use Rattle.index.specs.Write.{indexBytes, indexLen};
+ghost use Rattle.record.specs.Record.{rowsOf};
+ghost use Rattle.cff.specs.Reads.{programOf};
+ghost use Rattle.subset.specs.Pruned.{pruned};
+ghost use Rattle.bodies.specs.Ways.{keptCount};
+ghost use Rattle.fds.specs.Locals.{fdsIn};
+ghost use Rattle.parts.specs.Ready.{orderIn, PlanIn, bodiesFor, Ready, Summed};
+use bodies::charstrings::Kept;
+use bodies::subrs::Source;
+use bodies::subrs::Subrs;
+use cff::font::Font;
+
+// The kept glyphs and how they are written, by the way that was found; the bytes of the globals and of the charstrings by it.
+pub struct Planned {
+    pub kept: Kept,
+    pub globals_total: usize,
+    pub glyphs_total: usize,
+}
+
+// Ranks all subroutines in the work words behind those of the glyphs, finds the way, and measures all bodies by it: those of the locals of
+// each FD in use in a table.
+pub fn plan_all(
+    cid: bool,
+    k: usize,
+    font: &[u8],
+    f: Font,
+    rows: &[u8],
+    traced: u8,
+    used: &[u32],
+    words: &mut [u32],
+    ats: &mut [usize],
+    counts: &mut [usize],
+    reacheds: &mut [usize],
+    totals: &mut [usize],
+) -> Planned
+    requires { ⌜ (PlanIn (now font) f cid (now used) (now words) k) × (256 ≤ length (now ats)) × (256 ≤ length (now counts)) × (256 ≤ length (now reacheds))
+        × (256 ≤ length (now totals)) ⌝ }
+    ensures { λ r. ⌜ (Ready (now (font .entry)) f (rowsOf (now (rows .entry))) (now (used .entry)) (now (words .exit)) r
+        (now (ats .exit)) (now (counts .exit)) (now (reacheds .exit)))
+        × (Summed (now (font .entry)) f (rowsOf (now (rows .entry))) (now (used .entry)) (now (words .exit)) r
+        (now (ats .exit)) (now (counts .exit)) (now (reacheds .exit)) (now (totals .exit)))
+        × (take (2 * f .charstrings .count) (now (words .exit)) ≡ take (2 * f .charstrings .count) (now (words .entry)))
+        × (r .kept .cid ≡ cid) × (r .kept .count ≡ k)
+        × (record { way = r .kept .way; bodies = bodiesFor (now (font .entry)) f (rowsOf (now (rows .entry))) (now (used .entry)) (now (words .exit)) r }
+        ≡ pruned (programOf (now (font .entry)) f) (rowsOf (now (rows .entry))) (fdsIn (now (used .entry))) (orderIn k (now (words .entry))) traced) ⌝ }
+{
+    let ix = f.charstrings;
+    let n = ix.count;
+    let ranked = plan::rank_all(font, f, rows, used, words, ats, counts, reacheds);
+    let rising = reach::masks::rises(rows);
+    let globals = ranked.globals;
+    let first = Kept {
+        count: k,
+        all: n,
+        cid,
+        way: 0,
+        ix,
+        globals,
+        rising,
+    };
+    let found = plan::plan_bodies(
+        first,
+        font,
+        f,
+        used,
+        words,
+        ats,
+        counts,
+        reacheds,
+        rows,
+        ranked.all,
+        traced,
+        totals,
+    );
+    let kept = Kept {
+        count: k,
+        all: n,
+        cid,
+        way: found.way,
+        ix,
+        globals,
+        rising,
+    };
+    Planned {
+        kept,
+        globals_total: found.globals_total,
+        glyphs_total: found.glyphs_total,
+    }
+}
+
+// The length of the INDEX of the global subroutines, also where it is too long to be written.
+pub fn globals_len(r: Planned) -> usize
+    requires { ⌜ (keptCount (r .kept .way) (r .kept .globals .reached) (r .kept .globals .count) ≤ 65535) × (r .«globals_total» ≤ 281474976710656) ⌝ }
+    ensures { λ n. ⌜ (n ≡ indexLen (keptCount (r .kept .way) (r .kept .globals .reached) (r .kept .globals .count)) (r .«globals_total»))
+        × (n ≤ 281474977000000) ⌝ }
+{
+    let own = r.kept.globals;
+    let count = bodies::subrs::kept_count(r.kept.way, own.reached, own.count);
+    index::any_index_len(count, r.globals_total)
+}
+
+// The length of the INDEX of the charstrings, also where it is too long to be written.
+pub fn glyphs_len(r: Planned) -> usize
+    requires { ⌜ (r .kept .count ≤ 65535) × (r .«glyphs_total» ≤ 281474976710656) ⌝ }
+    ensures { λ n. ⌜ (n ≡ indexLen (r .kept .count) (r .«glyphs_total»)) × (n ≤ 281474977000000) ⌝ }
+{
+    index::any_index_len(r.kept.count, r.glyphs_total)
+}
+
+// Writes the INDEX of the global subroutines from `at` on; the place after it. They call local ones by the ranks of the only FD in use.
+pub fn put_globals(
+    r: Planned,
+    font: &[u8],
+    f: Font,
+    used: &[u32],
+    words: &[u32],
+    ats: &[usize],
+    counts: &[usize],
+    reacheds: &[usize],
+    rows: &[u8],
+    out: &mut [u8],
+    at: usize,
+) -> usize
+    requires { ⌜ (Ready (now font) f (rowsOf (now rows)) (now used) (now words) r (now ats) (now counts) (now reacheds))
+        × (at + length (indexBytes (bodiesFor (now font) f (rowsOf (now rows)) (now used) (now words) r .globals)) ≤ 67108864)
+        × (at + length (indexBytes (bodiesFor (now font) f (rowsOf (now rows)) (now used) (now words) r .globals)) ≤ length (now out)) ⌝ }
+    ensures { λ next. ⌜ Wrote (now (out .entry)) at
+        (indexBytes (bodiesFor (now (font .entry)) f (rowsOf (now (rows .entry))) (now (used .entry)) (now (words .entry)) r .globals)) (now (out .exit)) next ⌝ }
+{
+    let ix = f.globals;
+    let kept = r.kept;
+    let own = kept.globals;
+    let locals = plan::sizes::across(used, ats, counts, reacheds);
+    let of = Subrs::Global;
+    let from = Source {
+        way: kept.way,
+        of,
+        ix,
+        own,
+        locals,
+        globals: own,
+        rising: kept.rising,
+    };
+    bodies::subrs::put_subrs(from, font, words, rows, r.globals_total, out, at)
+}
