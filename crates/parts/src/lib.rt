@@ -1,92 +1,9 @@
-// The bodies of a subset from its plan (document 01, 'Corners in write.rs'): all subroutines ranked, the way found and all bodies measured;
-// what is measured and written then is the subset's.
-ghost use mathlib.Core.Path.{_≡_};
-ghost use Prim.Native.Nat.{_+_, _*_, _≤_};
-ghost use lib.ListN.{length, take};
-ghost use Rattle.octets.specs.Octets.{Wrote};
-ghost use Rattle.index.specs.Write.{indexBytes};
-ghost use Rattle.record.specs.Record.{rowsOf};
-ghost use Rattle.cff.specs.Reads.{programOf};
-ghost use Rattle.subset.specs.Pruned.{pruned};
-ghost use Rattle.fds.specs.Locals.{fdsIn};
-ghost use Rattle.parts.specs.Ready.{orderIn, PlanIn, bodiesFor, Ready, Summed};
+// The bodies of a subset from its plan.
 use bodies::charstrings::Kept;
-use cff::font::Font;
 
 // The kept glyphs and how they are written, by the way that was found; the bytes of the globals and of the charstrings by it.
 pub struct Planned {
     pub kept: Kept,
     pub globals_total: usize,
     pub glyphs_total: usize,
-}
-
-// Ranks all subroutines in the work words behind those of the glyphs, finds the way, and measures all bodies by it: those of the locals of
-// each FD in use in a table.
-pub fn plan_all(
-    cid: bool,
-    k: usize,
-    font: &[u8],
-    f: Font,
-    rows: &[u8],
-    traced: u8,
-    used: &[u32],
-    words: &mut [u32],
-    ats: &mut [usize],
-    counts: &mut [usize],
-    reacheds: &mut [usize],
-    totals: &mut [usize],
-) -> Planned
-    requires { ⌜ (PlanIn (now font) f cid (now used) (now words) k) × (256 ≤ length (now ats)) × (256 ≤ length (now counts)) × (256 ≤ length (now reacheds))
-        × (256 ≤ length (now totals)) ⌝ }
-    ensures { λ r. ⌜ (Ready (now (font .entry)) f (rowsOf (now (rows .entry))) (now (used .entry)) (now (words .exit)) r
-        (now (ats .exit)) (now (counts .exit)) (now (reacheds .exit)))
-        × (Summed (now (font .entry)) f (rowsOf (now (rows .entry))) (now (used .entry)) (now (words .exit)) r
-        (now (ats .exit)) (now (counts .exit)) (now (reacheds .exit)) (now (totals .exit)))
-        × (take (2 * f .charstrings .count) (now (words .exit)) ≡ take (2 * f .charstrings .count) (now (words .entry)))
-        × (r .kept .cid ≡ cid) × (r .kept .count ≡ k)
-        × (record { way = r .kept .way; bodies = bodiesFor (now (font .entry)) f (rowsOf (now (rows .entry))) (now (used .entry)) (now (words .exit)) r }
-        ≡ pruned (programOf (now (font .entry)) f) (rowsOf (now (rows .entry))) (fdsIn (now (used .entry))) (orderIn k (now (words .entry))) traced) ⌝ }
-{
-    let ix = f.charstrings;
-    let n = ix.count;
-    let ranked = plan::rank_all(font, f, rows, used, words, ats, counts, reacheds);
-    let rising = reach::masks::rises(rows);
-    let globals = ranked.globals;
-    let first = Kept {
-        count: k,
-        all: n,
-        cid,
-        way: 0,
-        ix,
-        globals,
-        rising,
-    };
-    let found = plan::plan_bodies(
-        first,
-        font,
-        f,
-        used,
-        words,
-        ats,
-        counts,
-        reacheds,
-        rows,
-        ranked.all,
-        traced,
-        totals,
-    );
-    let kept = Kept {
-        count: k,
-        all: n,
-        cid,
-        way: found.way,
-        ix,
-        globals,
-        rising,
-    };
-    Planned {
-        kept,
-        globals_total: found.globals_total,
-        glyphs_total: found.glyphs_total,
-    }
 }

@@ -2,3 +2,5 @@ pub mod Entry
 pub mod RefusalLaws
 pub mod EntryLaws
 pub mod Layout
+pub mod CodeLaws
+pub mod PrivateLaws
