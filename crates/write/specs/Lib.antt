@@ -2,5 +2,6 @@ pub mod Entry
 pub mod RefusalLaws
 pub mod EntryLaws
 pub mod Layout
+pub mod OutcomeLaws
 pub mod CodeLaws
 pub mod PrivateLaws

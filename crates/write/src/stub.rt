@@ -12,7 +12,6 @@ ghost use Rattle.fds.specs.Locals.{fdsIn};
 ghost use Rattle.parts.specs.Ready.{orderIn, PlanIn, bodiesFor, Ready, Summed};
 use bodies::charstrings::Kept;
 use cff::font::Font;
-
 use parts::Planned;
 
 // Ranks all subroutines in the work words behind those of the glyphs, finds the way, and measures all bodies by it: those of the locals of
