@@ -4,40 +4,28 @@ use Rattle.cff.specs.SetLaws.{refused-as, found-good-font, read-is}
 use Rattle.write.specs.EntryLaws.{unread-cuts}
 use Rattle.write.proofs.cut.Statement.{statement}
 use Rattle.write.proofs.cut.Tie as tie
-use Rattle.write.proofs.cut.Reads as reads
-use Rattle.write.proofs.cut.Lts as lts
-use Rattle.cff.proofs.set.read_font.Reads as read-font-reads
-use Rattle.write.proofs.cut_font.Reads as cut-font-reads
 
--- src/lib.rt:87:11
 read-font-requires : tie.Need-read-font-requires
 read-font-requires c κs = search needs
 
--- src/lib.rt:88:27
 enum-known-n : tie.Need-enum-known-n
 enum-known-n c = search needs
 
--- src/lib.rt:89:25
 enum-known-f : tie.Need-enum-known-f
 enum-known-f c = search needs
 
--- src/lib.rt:89:31
 cut-font-requires : tie.Need-cut-font-requires
 cut-font-requires c κs = let a = c .before .before .before .before .before in let f = a .before .before .before .before .before .before .before .args .font .now in (found-good-font f _ (a .read-font .ensures) _ (c .before .before .before .f .given .1), read-is f _ (a .read-font .ensures) _ (c .before .before .before .f .given .1))
 
--- src/lib.rt:74:1
 returns : tie.Need-returns
 returns c = let a = c .before .before .before in let s = a .before .before .before .before .before .before .before in unread-cuts (s .args .cid) (s .args .font .now) (s .args .name .now) (s .args .keep .now) (s .args .rows .now) (s .args .traced) (s .args .work .now) (s .args .out .now) (λ i. (a .before .before .before .before .before .before .shared-slice-known .given i) .fits) (λ i. (a .before .before .before .shared-slice-known4 .given i) .fits) _ (refused-as (s .args .font .now) _ (a .read-font .ensures) _ (c .before .n .given .1))
 
--- src/lib.rt:74:1
 same-length : tie.Need-same-length
 same-length c = search needs
 
--- src/lib.rt:74:1
 same-length-2 : tie.Need-same-length-2
 same-length-2 c = search needs
 
--- src/lib.rt:74:1
 returns-2 : tie.Need-returns-2
 returns-2 c = search needs
 
