@@ -1,16 +1,17 @@
-/* Mogdivash for C: reading a CFF font, finding a glyph, and the items of its INDEXes, as functions of the static library capi.
+/* Mogdivash for C: reading a CFF font, finding a glyph, the items of its INDEXes, and subsets, as functions of the static library capi.
 
        rt staticlib capi          writes target/staticlib/libcapi.a, for x86-64 Linux
        cc program.c target/staticlib/libcapi.a
 
-   Each function is proved to end without a fault and to answer as crates/capi/specs/Capi.antt says, whatever the bytes are. None
-   keeps anything from one call to the next or allocates; of other libraries they call memcpy alone.
+   Each function is proved to end without a fault and to answer as crates/capi/specs/Capi.antt and Subset.antt say, whatever the
+   bytes are. None keeps anything from one call to the next or allocates; of other libraries they call memcpy alone.
 
    A slice is a pointer and the number of its elements. What is lent for writing must not overlap what else is lent, and a
-   uint64_t must be aligned. Beyond this there is nothing that a caller must keep.
+   uint16_t, uint32_t or uint64_t must be aligned. Beyond this there is nothing that a caller must keep.
 
    Each function returns 0, or the number of a refusal. With 0 the answer stands at the start of what was lent for it, and the rest
-   stays as it was. With a refusal nothing is written. The refusals of reading come first, then CFF_NO_SUCH_NUMBER, then CFF_OUTPUT. */
+   stays as it was. With a refusal nothing is written, work words apart. The refusals of reading come first, then
+   CFF_NO_SUCH_NUMBER, then CFF_OUTPUT; those of subsetting are said at cff_subset. */
 
 #ifndef MOGDIVASH_H
 #define MOGDIVASH_H
@@ -25,11 +26,16 @@ extern "C" {
 /* Refusals: document 01, 'Entries and their refusals'. The first five are reading's. */
 #define CFF_TRUNCATED 1      /* a structure ends before what was being read */
 #define CFF_MALFORMED 2      /* another fault in a structure */
-#define CFF_UNSUPPORTED 3    /* a form that is not handled */
-#define CFF_TOO_LONG 4       /* a font of more than 67,108,864 bytes */
+#define CFF_UNSUPPORTED 3    /* a form that is not handled; to subsetting also a font of the other keying */
+#define CFF_TOO_LONG 4       /* a font of more than 67,108,864 bytes; a new name of more than 65,535 */
 #define CFF_REAL 5           /* a well-formed real past its limits */
-#define CFF_NO_SUCH_NUMBER 6 /* no item of that number, or no such kind */
+#define CFF_NO_SUCH_NUMBER 6 /* no item of that number, or no such kind; to subsetting a number past the font's glyphs */
+#define CFF_NOT_FOUND 7      /* a glyph to keep that finding its own name or CID does not give */
+#define CFF_RECORD 8         /* a record or a flag that is not of its form */
+#define CFF_WORK_WORDS 9     /* fewer than W work words */
+#define CFF_SUBSET 10        /* a subset of more than 67,108,864 bytes */
 #define CFF_OUTPUT 11        /* fewer elements lent than the answer has */
+#define CFF_STRING_ID 12     /* a string id above 64,999 */
 
 /* The words of cff_read's answer. */
 #define CFF_GLYPHS 0  /* glyphs */
@@ -41,6 +47,11 @@ extern "C" {
 
 /* The answer of finding for a glyph that is absent. */
 #define CFF_ABSENT 65536
+
+/* The words of the answer of subsetting. */
+#define CFF_WAY 0          /* 0 the subroutines renumbered, 1 those that are not reached stubbed, 2 all copied */
+#define CFF_LENGTH 1       /* how many bytes the subset has */
+#define CFF_SUBSET_WORDS 2 /* how many words there are */
 
 /* Kinds of items. */
 #define CFF_CHARSTRING 0
@@ -63,6 +74,25 @@ uint8_t cff_item(const uint8_t *font, size_t font_len, uint8_t kind, uint64_t nu
 
 /* The refusal of that lookup, or 0. Nothing is lent, so it is never CFF_OUTPUT. */
 uint8_t cff_item_refusal(const uint8_t *font, size_t font_len, uint8_t kind, uint64_t number);
+
+/* Cuts a name-keyed font to glyph 0 and the glyphs of the keep list, under a new name. record is the reach record, and traced its
+   flag, 0 or 1. Writes the subset to the start of out, and answers two words: the way and the length. A kept glyph that is plain, and
+   for which the record lists what it meets, or the flag is 0, is found in the subset by its name and unfolds there to the same list.
+
+   The refusals are reading's, then CFF_UNSUPPORTED, CFF_MALFORMED, CFF_TOO_LONG, CFF_NO_SUCH_NUMBER, CFF_NOT_FOUND, CFF_RECORD,
+   CFF_WORK_WORDS, CFF_STRING_ID, CFF_SUBSET, CFF_OUTPUT, in this order; CFF_OUTPUT also for fewer than two words of answer. With
+   a refusal out and answer stay as they were.
+
+   The first W work words (CFF_WORK of cff_read) end as zeros with 0 and with each refusal after CFF_WORK_WORDS in this order. With
+   the others all stay as they were, and those behind W always do. */
+uint8_t cff_subset(const uint8_t *font, size_t font_len, const uint8_t *name, size_t name_len, const uint16_t *keep,
+                   size_t keep_len, const uint8_t *record, size_t record_len, uint8_t traced, uint32_t *work, size_t work_len,
+                   uint8_t *out, size_t out_len, uint64_t *answer, size_t answer_len);
+
+/* The same for a CID-keyed font, in which glyphs are found by their CIDs. */
+uint8_t cff_subset_cid(const uint8_t *font, size_t font_len, const uint8_t *name, size_t name_len, const uint16_t *keep,
+                       size_t keep_len, const uint8_t *record, size_t record_len, uint8_t traced, uint32_t *work,
+                       size_t work_len, uint8_t *out, size_t out_len, uint64_t *answer, size_t answer_len);
 
 #ifdef __cplusplus
 }

@@ -1,3 +1,5 @@
 pub mod Capi
 pub mod CapiLaws
 pub mod Numbers
+pub mod Subset
+pub mod SubsetLaws

@@ -16,12 +16,15 @@ use Rattle.dict.specs.Lookup.{rosIn, cidKeyed}
 use Rattle.cff.specs.Font.{Got, refused as refusedFont, got, Program, readFont}
 use Rattle.cff.specs.Find.{workSize}
 use Rattle.cff.specs.Reads.{programOf, GoodFont}
+use Rattle.cff.specs.ReadsLaws.{no}
 use Rattle.cff.specs.declared.font.Font.{Font}
 use Rattle.subset.specs.Kept.{keptOf, writtenOrder, usedFds}
 use Rattle.subset.specs.Pruned.{Pruned, pruned}
 use Rattle.subset.specs.Subset.{subsetBytes}
 use Rattle.subset.specs.Cut.{Outcome, refused, subset, allBelow, allFound, hasRos, sameBool, ownOf, written, cutProgram, cutRead, cutOf, leavesOut, zeros, usesWork, leavesWork}
 use Rattle.faithful.specs.Theorem.{faithful}
+use Rattle.faithful.specs.GoodLaws.{font-good}
+use Rattle.parts.specs.Ready.{FontHeld}
 use Rattle.write.specs.RefusalLaws.{work-is}
 use Rattle.write.specs.Entry.{answerOf, workIn, Cuts, refusalOf, cutBehind, Cut, Passed}
 use Rattle.write.specs.declared.Answer.{Answer}
@@ -181,6 +184,24 @@ not-refused cid p name keep rec flag words z =
 
 -- ---- the entries' code
 
+-- the keying that is asked for, when it was found
+pub passed-keyed : (cid t : Bool) (p : Program) (name : ℕ) (keep rec : List ℕ) (flag words : ℕ) → Passed cid p name keep rec flag words → cid ≡ t
+    → Passed t p name keep rec flag words
+passed-keyed cid t p name keep rec flag words h e = subst (λ (x : Bool). Passed x p name keep rec flag words) e h
+
+-- a test that was passed did not hold
+not-held : (t : Bool) (n : ℕ) (g : Got Program) (p : Program) → pick t (refusedFont n) g ≡ got p → t ≡ false
+not-held true n g p h = absurd (no cc)
+not-held false n g p h = refl
+
+-- a font that was read is not too long
+pub read-short : (b : List ℕ) (p : Program) → readFont b ≡ got p → length b ≤ 67108864
+unfolding readFont
+read-short b p h = ltb-false 67108864 (length b) (not-held (ltb 67108864 (length b)) 4 _ p h)
+
+pub font-held : (b : List ℕ) (f : Font) → Octets b → GoodFont b f → readFont b ≡ got (programOf b f) → FontHeld b f
+font-held b f o good is = record { font = good; size = read-short b (programOf b f) is; program = font-good b (programOf b f) o is }
+
 zeros-are : (n : ℕ) → replicate n 0 ≡ zeros n
 unfolding zeros
 zeros-are zero = refl
@@ -228,9 +249,10 @@ module _ (cid : Bool) (font : List ℕ) (f : Font) (name keep rec : List ℕ) (f
             room = omega (arith, wide, words-taken);
           }
 
-      pub late-read : (cleared out' : List ℕ) (r : Answer) → Cut (cutBehind (programOf font f) name keep rec flag (length out)) out out' r
-          → cleared ≡ replicate (length (take w work)) 0 → Cuts cid font name keep rec flag work out (cleared ++ drop w work) out' r
-      late-read cleared out' r k e =
+      -- cut with them, which are then cleared
+      pub late-read : (used cleared out' : List ℕ) (r : Answer) → Cut (cutBehind (programOf font f) name keep rec flag (length out)) out out' r
+          → length used ≡ length (take w work) → cleared ≡ replicate (length used) 0 → Cuts cid font name keep rec flag work out (cleared ++ drop w work) out' r
+      late-read used cleared out' r k l e =
           late-cuts cid font name keep rec flag work out bytes octets (programOf font f) is (cleared ++ drop w work) out' r none k
-          (ap (λ (x : List ℕ). x ++ drop w work) (e ∙ ap (λ (m : ℕ). replicate m 0) (sym words-taken) ∙ zeros-are w)
+          (ap (λ (x : List ℕ). x ++ drop w work) (e ∙ ap (λ (m : ℕ). replicate m 0) (l ∙ sym words-taken) ∙ zeros-are w)
           ∙ ap (λ (m : ℕ). zeros m ++ drop m work) wide)

@@ -11,7 +11,7 @@ ghost use Rattle.cff.specs.Reads.{programOf, GoodFont};
 ghost use Rattle.parts.specs.Ready.{FontHeld};
 ghost use Rattle.write.specs.Entry.{cutBehind, Cuts, Cut, Passed};
 use cff::font::Font;
-use cff::set::FontRead;
+use cff::font::FontRead;
 
 // The answer of a cut: the refusal, or the way (0 renumbered, 1 stubbed, 2 copied) and the length of the subset.
 pub enum Answer {

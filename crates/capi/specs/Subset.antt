@@ -1,0 +1,37 @@
+-- What the entries of subsetting for C answer (document 01, 'Entries and their refusals'), and what they leave in all that is lent: the
+-- outcome of the call says it, with no room where fewer than two words are lent for the answer.
+use Prim.Native.Nat.{ℕ}
+use mathlib.Core.Path.{_≡_}
+use mathlib.Core.Bool.{Bool}
+use mathlib.Core.List.{List, [], _∷_}
+use lib.Dec.{ltb}
+use lib.ListN.{length}
+use Rattle.octets.specs.Pick.{pick}
+use Rattle.cff.specs.Font.{readFont}
+use Rattle.subset.specs.Cut.{Outcome, cutOf, leavesOut, leavesWork}
+use Rattle.faithful.specs.Faithful.{Faithful}
+use Rattle.write.specs.Entry.{answerOf, workIn}
+use Rattle.write.specs.declared.Answer.{Answer as CutAnswer}
+use Rattle.write.specs.declared.Answer.the-variants.{Refused, Subset}
+use Rattle.capi.specs.Capi.{Answer, refused, given, Answers}
+
+-- the room for a subset, by the words that are lent for its answer: so 11, the last refusal, stands for too few of them too
+abbrev pub roomFor : ℕ → ℕ → ℕ
+roomFor words room = pick (ltb words 2) 0 room
+
+-- the two words of a subset: the way and its length
+abbrev pub cutAnswer : CutAnswer → Answer
+cutAnswer (Refused n) = refused n
+cutAnswer (Subset way len) = given (way ∷ len ∷ [])
+
+module _ (cid : Bool) (font name keep rec : List ℕ) (flag : ℕ) (work out answer : List ℕ) where
+  -- the outcome of a call to which this is lent
+  abbrev pub outcomeFor : Outcome
+  outcomeFor = cutOf cid font name keep rec flag (length work) (roomFor (length answer) (length out))
+
+  -- a call's number, and what was lent to it afterwards; and demand 3
+  pub record AnswersCut (work' out' answer' : List ℕ) (r : ℕ) : Type 0 where
+    pub answers : Answers (cutAnswer (answerOf outcomeFor)) answer answer' r
+    pub output : out' ≡ leavesOut outcomeFor out
+    pub words : work' ≡ leavesWork outcomeFor (workIn (readFont font)) work
+    pub faithful : Faithful font keep rec flag outcomeFor

@@ -1,0 +1,81 @@
+// The entries of subsetting for C and Rust to link (document 01, 'Entries and their refusals'). The answer is two words, the way and the
+// length of the subset, which stands at the start of the lent bytes. Fewer than two words are no room, so 11 stands for these too.
+ghost use mathlib.Core.Path.{_≡_};
+ghost use mathlib.Core.Bool.{true, false};
+ghost use mathlib.Core.List.{[], _∷_};
+ghost use Rattle.capi.specs.Capi.{given, Answers};
+ghost use Rattle.capi.specs.Subset.{roomFor, cutAnswer, AnswersCut};
+use refusal::Refusal;
+use write::Answer;
+
+// The room for a subset: none where fewer than two words are lent for its answer.
+fn room_for(words: usize, room: usize) -> usize
+    ensures { λ r. ⌜ r ≡ roomFor words room ⌝ }
+{
+    if words < 2 {
+        return 0;
+    }
+    room
+}
+
+// Writes two numbers to the lent words.
+fn put_two(first: u64, second: u64, answer: &mut [u64]) -> u8
+    ensures { λ r. ⌜ Answers (given (first ∷ second ∷ [])) (now (answer .entry)) (now (answer .exit)) r ⌝ }
+{
+    if answer.len() < 2 {
+        return Refusal::OUTPUT;
+    }
+    answer[0] = first;
+    answer[1] = second;
+    0
+}
+
+// Writes the way and the length of a subset to the lent words.
+fn put_cut(cut: Answer, answer: &mut [u64]) -> u8
+    ensures { λ r. ⌜ Answers (cutAnswer cut) (now (answer .entry)) (now (answer .exit)) r ⌝ }
+{
+    match cut {
+        Answer::Refused(n) => n,
+        Answer::Subset { way, len } => put_two(way as u64, len as u64, answer),
+    }
+}
+
+// The subset of a name-keyed font: glyph 0 and the glyphs of the keep list.
+#[no_mangle]
+pub extern "C" fn cff_subset(
+    font: &[u8],
+    name: &[u8],
+    keep: &[u16],
+    rows: &[u8],
+    traced: u8,
+    work: &mut [u32],
+    out: &mut [u8],
+    answer: &mut [u64],
+) -> u8
+    ensures { λ r. ⌜ AnswersCut false (now (font .entry)) (now (name .entry)) (now (keep .entry)) (now (rows .entry)) traced
+        (now (work .entry)) (now (out .entry)) (now (answer .entry)) (now (work .exit)) (now (out .exit)) (now (answer .exit)) r ⌝ }
+{
+    let room = room_for(answer.len(), out.len());
+    let cut = write::subset(font, name, keep, rows, traced, work, &mut out[..room]);
+    put_cut(cut, answer)
+}
+
+// The subset of a CID-keyed font.
+#[no_mangle]
+pub extern "C" fn cff_subset_cid(
+    font: &[u8],
+    name: &[u8],
+    keep: &[u16],
+    rows: &[u8],
+    traced: u8,
+    work: &mut [u32],
+    out: &mut [u8],
+    answer: &mut [u64],
+) -> u8
+    ensures { λ r. ⌜ AnswersCut true (now (font .entry)) (now (name .entry)) (now (keep .entry)) (now (rows .entry)) traced
+        (now (work .entry)) (now (out .entry)) (now (answer .entry)) (now (work .exit)) (now (out .exit)) (now (answer .exit)) r ⌝ }
+{
+    let room = room_for(answer.len(), out.len());
+    let cut = write::subset_cid(font, name, keep, rows, traced, work, &mut out[..room]);
+    put_cut(cut, answer)
+}
