@@ -1,4 +1,5 @@
-//! Links HarfBuzz's subsetter where its development package is there (cfg harfbuzz).
+//! Links HarfBuzz's subsetter where its development package is there (cfg harfbuzz). `run` sets HARFBUZZ to its version, so that an
+//! installation is noticed.
 
 use std::process::Command;
 

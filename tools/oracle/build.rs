@@ -20,6 +20,9 @@ fn main() {
         }
         fs::write(to.join(name), text).expect("a copy below OUT_DIR");
     }
-    let module = format!("#[rustfmt::skip]\n#[allow(dead_code)]\n#[path = {:?}]\nmod cff;\n", to.join("mod.rs"));
+    let module = format!(
+        "#[rustfmt::skip]\n#[allow(dead_code)]\n#[path = {:?}]\nmod cff;\n",
+        to.join("mod.rs")
+    );
     fs::write(Path::new(&out).join("cff.rs"), module).expect("a file below OUT_DIR");
 }

@@ -7,25 +7,6 @@ pub const ABSENT: u64 = 65536;
 pub const COUNTS: usize = 5;
 pub const ANSWER: usize = 2;
 
-/// A call of subsetting: font, new name, kept numbers, record, flag, work words, output, answer.
-pub type SubsetFn = unsafe extern "C" fn(
-    font: *const u8,
-    font_len: usize,
-    name: *const u8,
-    name_len: usize,
-    keep: *const u16,
-    keep_len: usize,
-    record: *const u8,
-    record_len: usize,
-    traced: u8,
-    work: *mut u32,
-    work_len: usize,
-    out: *mut u8,
-    out_len: usize,
-    answer: *mut u64,
-    answer_len: usize,
-) -> u8;
-
 unsafe extern "C" {
     pub fn cff_read(font: *const u8, font_len: usize, answer: *mut u64, answer_len: usize) -> u8;
 
@@ -59,6 +40,7 @@ unsafe extern "C" {
 
     pub fn cff_item_refusal(font: *const u8, font_len: usize, kind: u8, number: u64) -> u8;
 
+    /// Font, new name, kept numbers, record, flag, work words, output, answer: so both entries of subsetting.
     pub fn cff_subset(
         font: *const u8,
         font_len: usize,

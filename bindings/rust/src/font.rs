@@ -174,7 +174,7 @@ impl<'a> Font<'a> {
         work: &mut [u32],
         out: &mut [u8],
     ) -> Result<(Way, usize), Refusal> {
-        let call: ffi::SubsetFn = if self.is_cid_keyed() {
+        let call = if self.is_cid_keyed() {
             ffi::cff_subset_cid
         } else {
             ffi::cff_subset

@@ -3,21 +3,18 @@
 
 use crate::cff::CffProgram;
 use crate::measure::least;
-use crate::{original, sheet};
+use crate::record::ROW;
+use crate::{original, ours, sheet};
 use mogdivash::{Font, Record};
-
-const NAME: &[u8] = b"ABCDEF+Subset";
 
 /// The first so many of a list.
 fn first(keep: &[u16], n: usize) -> &[u16] {
     &keep[..n.min(keep.len())]
 }
 
+/// Our least time, and the subset.
 fn cut(bytes: &[u8], keep: &[u16], record: &Record) -> (f64, Vec<u8>) {
-    least(|| {
-        let font = Font::read(bytes).expect("a font that is read");
-        font.subset(NAME, keep, record).expect("a subset").bytes
-    })
+    least(|| ours::cut(bytes, keep, record))
 }
 
 /// Sizes that double, up to a largest.
@@ -29,6 +26,7 @@ fn sizes(largest: usize) -> Vec<usize> {
     all
 }
 
+/// A row of a table: a size, the time, and the time by the size.
 fn line(n: usize, time: f64, length: usize) {
     println!("| {n} | {length} | {time:.0} | {:.3} |", time / n as f64);
 }
@@ -39,43 +37,54 @@ fn heading(title: &str, of: &str) {
     );
 }
 
+fn parsed(bytes: &[u8]) -> CffProgram {
+    CffProgram::parse(bytes).expect("a font that is read")
+}
+
 pub fn print(fonts: &[(String, Vec<u8>)]) {
-    let read = |bytes: &[u8]| CffProgram::parse(bytes).expect("a font that is read");
     let (name, bytes) = fonts
         .iter()
         .max_by_key(|(_, bytes)| Font::read(bytes).map_or(0, |font| font.glyphs()))
         .expect("a font");
-    let program = read(bytes);
+    let program = parsed(bytes);
     let keep = sheet::all(&program);
     println!("{name}, {} bytes, {} glyphs.", bytes.len(), keep.len());
+    by_glyphs(bytes, &keep);
+    by_kept(bytes, &program, &keep);
+    by_rows(bytes, &program, &keep);
+}
 
+fn by_glyphs(bytes: &[u8], keep: &[u16]) {
     heading("Glyphs of the font, 75 kept", "glyphs");
     for n in sizes(keep.len()) {
-        let (_, font) = cut(bytes, first(&keep, n), &Record::untraced());
-        let program = read(&font);
+        let (_, font) = cut(bytes, first(keep, n), &Record::untraced());
+        let program = parsed(&font);
         let letters = sheet::letters(&program);
         let (time, subset) = cut(&font, &letters, &original::record(&program, &letters));
         line(n, time, subset.len());
     }
+}
 
+fn by_kept(bytes: &[u8], program: &CffProgram, keep: &[u16]) {
     heading("Glyphs that are kept", "kept");
     for n in sizes(keep.len()) {
-        let part = first(&keep, n);
-        let (time, subset) = cut(bytes, part, &original::record(&program, part));
+        let part = first(keep, n);
+        let (time, subset) = cut(bytes, part, &original::record(program, part));
         line(n, time, subset.len());
     }
+}
 
+fn by_rows(bytes: &[u8], program: &CffProgram, keep: &[u16]) {
     heading("Rows of the record, 75 glyphs kept", "rows");
-    let letters = sheet::letters(&program);
-    let rows = original::record(&program, &keep).bytes().len() / 10;
-    let own = original::record(&program, &letters);
-    let all = original::record(&program, &keep);
-    for n in sizes(rows) {
+    let letters = sheet::letters(program);
+    let own = original::record(program, &letters);
+    let all = original::record(program, keep);
+    for n in sizes(all.bytes().len() / ROW) {
         // The letters' own rows, and the first of all others, in rising order.
         let mut chosen: Vec<&[u8]> = own
             .bytes()
-            .chunks(10)
-            .chain(all.bytes().chunks(10).take(n))
+            .chunks(ROW)
+            .chain(all.bytes().chunks(ROW).take(n))
             .collect();
         chosen.sort_unstable();
         chosen.dedup();

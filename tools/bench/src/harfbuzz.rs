@@ -35,6 +35,7 @@ pub fn wrapped(cff: &[u8], glyphs: usize) -> Vec<u8> {
     directory
 }
 
+/// HarfBuzz is not there.
 #[cfg(not(harfbuzz))]
 pub fn cut(_: &[u8], _: &[u16]) -> Option<usize> {
     None

@@ -4,37 +4,23 @@ mod growth;
 mod harfbuzz;
 mod measure;
 mod original;
+mod ours;
 mod sheet;
 mod table;
-
-#[allow(dead_code)]
-#[path = "../../oracle/src/stubs.rs"]
-mod stubs;
 
 // `rustfmt::skip` keeps cargo fmt out of docs/src.
 #[rustfmt::skip]
 #[allow(dead_code)]
 #[path = "../../../docs/src/crates/efterscript-fonts/src/cff/mod.rs"]
 mod cff;
-#[rustfmt::skip]
-#[allow(dead_code)]
-#[path = "../../../docs/src/crates/efterscript-fonts/src/encoding.rs"]
-mod encoding;
-#[rustfmt::skip]
-#[allow(dead_code)]
-#[path = "../../../docs/src/crates/efterscript-fonts/src/outline.rs"]
-mod outline;
-#[rustfmt::skip]
-#[allow(dead_code)]
-#[path = "../../../docs/src/crates/efterscript-fonts/src/program.rs"]
-mod program;
+include!("../../oracle/src/siblings.rs");
+
 #[allow(dead_code)]
 #[path = "../../compare/src/record.rs"]
 mod record;
 
 use std::process::ExitCode;
 use std::{env, fs};
-use stubs::{cidfont, truetype, type1};
 
 const USAGE: &str = "usage: tools/bench/run fonts|growth [FILE...]";
 

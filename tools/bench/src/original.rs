@@ -15,6 +15,7 @@ pub fn glyphs(keep: &[u16]) -> BTreeSet<u16> {
     keep.iter().copied().chain([0]).collect()
 }
 
+/// The keep list in the original's form: the names or CIDs of glyph 0 and those listed.
 pub fn kept(program: &CffProgram, keep: &[u16]) -> Kept {
     let all = glyphs(keep);
     if program.is_cid_keyed() {

@@ -40,6 +40,7 @@ pub fn letters(program: &CffProgram) -> Vec<u16> {
     keep.into_iter().filter(|&k| found(program, k)).collect()
 }
 
+/// Every glyph that finding gives.
 pub fn all(program: &CffProgram) -> Vec<u16> {
     (0..program.charset().len() as u16)
         .filter(|&k| found(program, k))

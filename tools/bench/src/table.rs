@@ -2,32 +2,27 @@
 
 use crate::cff::CffProgram;
 use crate::measure::{least, mean};
-use crate::{harfbuzz, original, sheet};
-use mogdivash::{Font, Record};
+use crate::{harfbuzz, original, ours, sheet};
 
-/// More glyphs than this are kept only once by the original.
-const NAME: &[u8] = b"ABCDEF+Subset";
-
-/// Times in microseconds.
+/// One cut of one font: times in microseconds.
 struct Times {
     ours: f64,
+    /// The original's, and of it what its trace of the kept glyphs takes.
     theirs: f64,
     trace: f64,
+    /// None where HarfBuzz is not linked or gives no subset.
     harfbuzz: Option<f64>,
+    /// Glyphs that are kept, and bytes of the subset.
     kept: usize,
     length: usize,
 }
 
-fn ours(bytes: &[u8], keep: &[u16], record: &Record) -> Vec<u8> {
-    let font = Font::read(bytes).expect("a font that is read");
-    font.subset(NAME, keep, record).expect("a subset").bytes
-}
-
+/// The three in turn. Ours has the record that the original's trace gives, and must give the original's bytes.
 fn times(bytes: &[u8], program: &CffProgram, keep: &[u16]) -> Times {
     let (trace, record) = least(|| original::record(program, keep));
     let kept = original::kept(program, keep);
-    let (theirs, wanted) = least(|| original::cut(bytes, NAME, &kept));
-    let (ours, given) = least(|| ours(bytes, keep, &record));
+    let (theirs, wanted) = least(|| original::cut(bytes, ours::NAME, &kept));
+    let (ours, given) = least(|| ours::cut(bytes, keep, &record));
     assert!(given == wanted, "the subsets differ");
     let wrapped = harfbuzz::wrapped(bytes, program.charset().len());
     let (time, answer) = least(|| harfbuzz::cut(&wrapped, keep));
@@ -58,6 +53,7 @@ fn row(name: &str, bytes: &[u8], program: &CffProgram, t: &Times) {
     );
 }
 
+/// How often our time goes into theirs, over all fonts.
 fn summary(all: &[Times]) {
     let ratios: Vec<f64> = all.iter().map(|t| t.theirs / t.ours).collect();
     let cut: Vec<f64> = all
@@ -68,18 +64,19 @@ fn summary(all: &[Times]) {
         .iter()
         .filter_map(|t| Some(t.harfbuzz? / t.ours))
         .collect();
-    let least = ratios.iter().copied().fold(f64::INFINITY, f64::min);
+    let smallest = |ratios: &[f64]| ratios.iter().copied().fold(f64::INFINITY, f64::min);
     println!(
-        "\n{} fonts. The original's time over ours: geometric mean {:.2}, least {least:.2}; without its trace: mean {:.2}.",
+        "\n{} fonts. The original's time over ours: geometric mean {:.2}, least {:.2}; without its trace: mean {:.2}.",
         all.len(),
         mean(&ratios),
+        smallest(&ratios),
         mean(&cut)
     );
     if !other.is_empty() {
-        let least = other.iter().copied().fold(f64::INFINITY, f64::min);
         println!(
-            "HarfBuzz's time over ours: mean {:.2}, least {least:.2}.",
-            mean(&other)
+            "HarfBuzz's time over ours: mean {:.2}, least {:.2}.",
+            mean(&other),
+            smallest(&other)
         );
     }
     println!();

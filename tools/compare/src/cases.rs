@@ -36,12 +36,16 @@ impl Case {
     }
 }
 
+/// A font of a family: its kind, what was done to it, its bytes.
+pub type Member = (&'static str, &'static str, Vec<u8>);
+
 /// Made fonts without an end: each family starts with one font and goes on with copies.
-pub struct Made {
+pub struct Families {
     seed: u64,
     family: u64,
     number: usize,
-    waiting: VecDeque<Case>,
+    waiting: VecDeque<Member>,
+    make: fn(&mut Generator) -> Vec<Member>,
 }
 
 /// Two words made one, so that neighbours are far apart.
@@ -52,113 +56,113 @@ pub fn mixed(seed: u64, k: u64) -> u64 {
     z ^ (z >> 31)
 }
 
-impl Made {
-    pub fn new(seed: u64) -> Self {
-        Made {
+impl Families {
+    pub fn new(seed: u64, make: fn(&mut Generator) -> Vec<Member>) -> Self {
+        Families {
             seed,
             family: 0,
             number: 0,
             waiting: VecDeque::new(),
-        }
-    }
-
-    fn push(&mut self, kind: &'static str, state: &'static str, font: Vec<u8>) {
-        self.waiting.push_back(Case {
-            number: self.number,
-            kind,
-            state,
-            font,
-            file: String::new(),
-        });
-        self.number += 1;
-    }
-
-    fn next_family(&mut self) {
-        let mut g = Generator::new(mixed(self.seed, self.family));
-        self.family += 1;
-        if g.once_in(100) {
-            self.noise(&mut g);
-            return;
-        }
-        let made = fonts::make(&mut g);
-        let font = made.bytes;
-        self.push(made.kind, INTACT, font.clone());
-        let reading = model::read(&font);
-        let marks = reading.marks;
-        // Only a font that is read is worth a sweep, and only a small one.
-        let sweep = reading.font.is_ok() && font.len() < 400;
-        match g.below(if sweep { 400 } else { 394 }) {
-            // Every length short of the whole.
-            394 | 395 => {
-                for n in 0..font.len() {
-                    self.push(made.kind, "truncated at every length", font[..n].to_vec());
-                }
-            }
-            // Every value of one byte.
-            396 | 397 => {
-                let at = match g.below(3) {
-                    0 => g.below(font.len()),
-                    _ => marks[g.below(marks.len())] + g.below(5),
-                };
-                let at = at.min(font.len() - 1);
-                for value in 0..=255 {
-                    let mut copy = font.clone();
-                    copy[at] = value;
-                    self.push(made.kind, "every value of a byte", copy);
-                }
-            }
-            // One bit flipped, at every place.
-            398 | 399 => {
-                for at in 0..font.len() {
-                    let mut copy = font.clone();
-                    copy[at] ^= 1 << g.below(8);
-                    self.push(made.kind, "a bit flipped at every place", copy);
-                }
-            }
-            _ => {
-                for _ in 0..g.below(4) {
-                    let (state, copy) = damage::damaged(&mut g, &font, &marks);
-                    if g.once_in(6) {
-                        let (_, copy) = damage::damaged(&mut g, &copy, &marks);
-                        self.push(made.kind, "damaged twice", copy);
-                    } else {
-                        self.push(made.kind, state, copy);
-                    }
-                }
-            }
+            make,
         }
     }
 }
 
-impl Made {
-    /// Bytes that are no font, most of them few.
-    fn noise(&mut self, g: &mut Generator) {
-        for _ in 0..4 {
-            let n = if g.once_in(2) {
-                g.below(8)
-            } else {
-                g.below(80)
-            };
-            let mut bytes = g.bytes(n);
-            for (k, b) in [1, 0, 4].into_iter().enumerate() {
-                if k < n && g.once_in(2) {
-                    bytes[k] = b;
-                }
-            }
-            self.push("noise", INTACT, bytes);
-        }
-    }
-}
-
-impl Iterator for Made {
+impl Iterator for Families {
     type Item = Case;
 
     fn next(&mut self) -> Option<Case> {
         while self.waiting.is_empty() {
-            self.next_family();
+            let mut g = Generator::new(mixed(self.seed, self.family));
+            self.family += 1;
+            self.waiting.extend((self.make)(&mut g));
         }
-        self.waiting.pop_front()
+        let (kind, state, font) = self.waiting.pop_front()?;
+        self.number += 1;
+        Some(Case {
+            number: self.number - 1,
+            kind,
+            state,
+            font,
+            file: String::new(),
+        })
     }
+}
+
+/// The made fonts to read.
+pub fn made(seed: u64) -> Families {
+    Families::new(seed, family)
+}
+
+fn family(g: &mut Generator) -> Vec<Member> {
+    if g.once_in(100) {
+        return (0..4).map(|_| noise(g)).collect();
+    }
+    let made = fonts::make(g);
+    let font = made.bytes;
+    let reading = model::read(&font);
+    let marks = reading.marks;
+    let mut members = vec![(made.kind, INTACT, font.clone())];
+    let mut push = |state, copy| members.push((made.kind, state, copy));
+    // Only a font that is read is worth a sweep, and only a small one.
+    let sweep = reading.font.is_ok() && font.len() < 400;
+    match g.below(if sweep { 400 } else { 394 }) {
+        // Every length short of the whole.
+        394 | 395 => {
+            for n in 0..font.len() {
+                push("truncated at every length", font[..n].to_vec());
+            }
+        }
+        // Every value of one byte.
+        396 | 397 => {
+            let at = match g.below(3) {
+                0 => g.below(font.len()),
+                _ => marks[g.below(marks.len())] + g.below(5),
+            };
+            let at = at.min(font.len() - 1);
+            for value in 0..=255 {
+                let mut copy = font.clone();
+                copy[at] = value;
+                push("every value of a byte", copy);
+            }
+        }
+        // One bit flipped, at every place.
+        398 | 399 => {
+            for at in 0..font.len() {
+                let mut copy = font.clone();
+                copy[at] ^= 1 << g.below(8);
+                push("a bit flipped at every place", copy);
+            }
+        }
+        _ => {
+            for _ in 0..g.below(4) {
+                let (state, copy) = damage::damaged(g, &font, &marks);
+                if g.once_in(6) {
+                    let (_, copy) = damage::damaged(g, &copy, &marks);
+                    push("damaged twice", copy);
+                } else {
+                    push(state, copy);
+                }
+            }
+        }
+    }
+    members
+}
+
+/// Bytes that are no font, most of them few.
+fn noise(g: &mut Generator) -> Member {
+    let n = if g.once_in(2) {
+        g.below(8)
+    } else {
+        g.below(80)
+    };
+    let mut bytes = g.bytes(n);
+    for (k, b) in [1, 0, 4].into_iter().enumerate() {
+        if k < n && g.once_in(2) {
+            bytes[k] = b;
+        }
+    }
+    ("noise", INTACT, bytes)
 }
 
 /// Fonts around refusal 4, as long as may be and longer, and fonts that the original cannot read

@@ -200,7 +200,7 @@ impl Compared<'_> {
                     .call(["charstring", "global", "string"][usize::from(kind)], &want);
                 self.same_of("item", &(kind, number), &want, got);
                 let refusal = want.err().unwrap_or(0);
-                let got = self.library.item_refusal(self.font, kind, number);
+                let got = (self.library.item_refusal)(self.font, (kind, number));
                 self.tally.call(
                     "item_refusal",
                     &if refusal == 0 { Ok(()) } else { Err(refusal) },
@@ -248,7 +248,7 @@ impl Compared<'_> {
         let refusal = self.read.err().unwrap_or(NO_SUCH_ITEM);
         let got = self.library.item(self.font, (kind, number), length, ONE);
         self.same_of("item of no kind", &(kind, number), &Err(refusal), got);
-        let got = self.library.item_refusal(self.font, kind, number);
+        let got = (self.library.item_refusal)(self.font, (kind, number));
         self.same_of(
             "item_refusal of no kind",
             &(kind, number),
@@ -380,165 +380,4 @@ pub fn item_numbers(g: &mut Generator, count: u64) -> Vec<u64> {
     numbers.sort_unstable();
     numbers.dedup();
     numbers
-}
-
-#[cfg(test)]
-mod tests {
-    use super::*;
-    use crate::cases::Made;
-    use crate::stub;
-
-    /// How many of 4,000 fonts show a difference.
-    fn differences(library: &Library) -> u64 {
-        let mut tally = Tally::default();
-        for case in Made::new(11)
-            .take(4000)
-            .filter(|case| case.font.len() < 2000)
-        {
-            compare(library, &case, 11, &mut tally);
-        }
-        tally.differences()
-    }
-
-    #[test]
-    fn the_stub_shows_none() {
-        assert_eq!(differences(&stub::library()), 0);
-    }
-
-    /// An odd W is one less.
-    unsafe extern "C" fn read_wrong_work(
-        font: *const u8,
-        len: usize,
-        answer: *mut u64,
-        words: usize,
-    ) -> u8 {
-        // SAFETY: as for the stub.
-        let refusal = unsafe { (stub::library().read)(font, len, answer, words) };
-        if refusal == 0 {
-            unsafe { *answer.add(4) = *answer.add(4) / 2 * 2 };
-        }
-        refusal
-    }
-
-    /// Refusal 5 writes a word.
-    unsafe extern "C" fn read_writes_when_refused(
-        font: *const u8,
-        len: usize,
-        answer: *mut u64,
-        words: usize,
-    ) -> u8 {
-        // SAFETY: as for the stub.
-        let refusal = unsafe { (stub::library().read)(font, len, answer, words) };
-        if refusal == 5 && words == COUNTS {
-            unsafe { *answer.add(4) = 0 };
-        }
-        refusal
-    }
-
-    /// Too few words are found before the font is read.
-    unsafe extern "C" fn read_room_first(
-        font: *const u8,
-        len: usize,
-        answer: *mut u64,
-        words: usize,
-    ) -> u8 {
-        if words < COUNTS {
-            return NO_ROOM;
-        }
-        // SAFETY: as for the stub.
-        unsafe { (stub::library().read)(font, len, answer, words) }
-    }
-
-    /// A name that is absent is glyph 0.
-    unsafe extern "C" fn name_absent_is_0(
-        font: *const u8,
-        len: usize,
-        name: *const u8,
-        name_len: usize,
-        answer: *mut u64,
-        words: usize,
-    ) -> u8 {
-        // SAFETY: as for the stub.
-        let refusal =
-            unsafe { (stub::library().find_name)(font, len, name, name_len, answer, words) };
-        if refusal == 0 {
-            unsafe { *answer %= ABSENT };
-        }
-        refusal
-    }
-
-    /// A CID above 32767 is taken as another.
-    unsafe extern "C" fn cid_halved(
-        font: *const u8,
-        len: usize,
-        cid: u16,
-        answer: *mut u64,
-        words: usize,
-    ) -> u8 {
-        // SAFETY: as for the stub.
-        unsafe { (stub::library().find_cid)(font, len, cid & 0x7fff, answer, words) }
-    }
-
-    /// Only 32 bits of the number count.
-    unsafe extern "C" fn item_of_low_word(
-        font: *const u8,
-        len: usize,
-        kind: u8,
-        number: u64,
-        out: *mut u8,
-        room: usize,
-        size: *mut u64,
-        words: usize,
-    ) -> u8 {
-        let number = number & 0xffff_ffff;
-        // SAFETY: as for the stub.
-        unsafe { (stub::library().item)(font, len, kind, number, out, room, size, words) }
-    }
-
-    /// Refusal 1 where it is 2.
-    unsafe extern "C" fn wrong_refusal(font: *const u8, len: usize, kind: u8, number: u64) -> u8 {
-        // SAFETY: as for the stub.
-        match unsafe { (stub::library().item_refusal)(font, len, kind, number) } {
-            2 => 1,
-            refusal => refusal,
-        }
-    }
-
-    #[test]
-    fn a_fault_shows() {
-        let good = stub::library();
-        let faulty = [
-            Library {
-                read: read_wrong_work,
-                ..good
-            },
-            Library {
-                read: read_writes_when_refused,
-                ..good
-            },
-            Library {
-                read: read_room_first,
-                ..good
-            },
-            Library {
-                find_name: name_absent_is_0,
-                ..good
-            },
-            Library {
-                find_cid: cid_halved,
-                ..good
-            },
-            Library {
-                item: item_of_low_word,
-                ..good
-            },
-            Library {
-                item_refusal: wrong_refusal,
-                ..good
-            },
-        ];
-        for (k, library) in faulty.iter().enumerate() {
-            assert!(differences(library) > 0, "fault {k}");
-        }
-    }
 }

@@ -1,6 +1,6 @@
 //! Fonts to cut, and what is asked of them.
 
-use crate::cases::{Case, mixed};
+use crate::cases::{Families, Member};
 use crate::cut::{self, Cut, LONGEST_NAME};
 use crate::cut_compare::Opened;
 use crate::cut_records::{self, Record};
@@ -8,62 +8,25 @@ use crate::damage::{self, INTACT};
 use crate::fonts;
 use crate::generator::Generator;
 use crate::model;
-use std::collections::VecDeque;
 
-/// Made fonts without an end: one, and up to two damaged copies of it.
-pub struct Fonts {
-    seed: u64,
-    family: u64,
-    number: usize,
-    waiting: VecDeque<Case>,
+/// The made fonts to cut.
+pub fn fonts(seed: u64) -> Families {
+    Families::new(seed ^ 0x9fb2_1c65_1e98_df25, family)
 }
 
-impl Fonts {
-    pub fn new(seed: u64) -> Self {
-        Fonts {
-            seed: seed ^ 0x9fb2_1c65_1e98_df25,
-            family: 0,
-            number: 0,
-            waiting: VecDeque::new(),
+/// One font, and up to two damaged copies of it.
+fn family(g: &mut Generator) -> Vec<Member> {
+    let made = fonts::make_to_cut(g);
+    let copies = [0, 0, 1, 2][g.below(4)];
+    let mut members = vec![(made.kind, INTACT, made.bytes.clone())];
+    if copies > 0 {
+        let marks = model::read(&made.bytes).marks;
+        for _ in 0..copies {
+            let (_, copy) = damage::damaged(g, &made.bytes, &marks);
+            members.push((made.kind, "damaged", copy));
         }
     }
-
-    fn push(&mut self, kind: &'static str, state: &'static str, font: Vec<u8>) {
-        self.waiting.push_back(Case {
-            number: self.number,
-            kind,
-            state,
-            font,
-            file: String::new(),
-        });
-        self.number += 1;
-    }
-
-    fn next_family(&mut self) {
-        let mut g = Generator::new(mixed(self.seed, self.family));
-        self.family += 1;
-        let made = fonts::make_to_cut(&mut g);
-        let copies = [0, 0, 1, 2][g.below(4)];
-        self.push(made.kind, INTACT, made.bytes.clone());
-        if copies > 0 {
-            let marks = model::read(&made.bytes).marks;
-            for _ in 0..copies {
-                let (_, copy) = damage::damaged(&mut g, &made.bytes, &marks);
-                self.push(made.kind, "damaged", copy);
-            }
-        }
-    }
-}
-
-impl Iterator for Fonts {
-    type Item = Case;
-
-    fn next(&mut self) -> Option<Case> {
-        while self.waiting.is_empty() {
-            self.next_family();
-        }
-        self.waiting.pop_front()
-    }
+    members
 }
 
 /// Some cuts of a font; one of a font that is refused.

@@ -6,43 +6,9 @@ use crate::cut_compare::Opened;
 use crate::cut_records;
 use crate::fonts;
 use crate::generator::Generator;
-use crate::layout::{Entry, Fault, Layout, Num, Part, Shape};
+use crate::layout::{Num, Part, SOUND, entry, one_font, place};
 use crate::model::LONGEST;
 use crate::numbers::Form;
-
-const SHAPE: Shape = Shape {
-    offset_size: 1,
-    gap: 0,
-    fault: Fault::None,
-};
-
-fn entry(operands: Vec<Num>, operator: &[u8]) -> Entry {
-    Entry {
-        operands,
-        operator: operator.to_vec(),
-    }
-}
-
-fn place(part: usize) -> Num {
-    Num::Place(part, 0, Form::Shortest)
-}
-
-/// One font from its top DICT, its strings and other parts, the first of which is part 5.
-fn font(top: Vec<Entry>, strings: Vec<Part>, parts: Vec<Part>) -> Vec<u8> {
-    let mut layout = Layout {
-        parts: Vec::new(),
-        order: Vec::new(),
-    };
-    layout.add(Part::Bytes(vec![1, 0, 4, 1]));
-    layout.add(Part::Index(SHAPE, vec![Part::Bytes(vec![b'A'])]));
-    layout.add(Part::Index(SHAPE, vec![Part::Dict(top)]));
-    layout.add(Part::Index(SHAPE, strings));
-    layout.add(Part::Index(SHAPE, Vec::new()));
-    for part in parts {
-        layout.add(part);
-    }
-    layout.bytes()
-}
 
 /// A name-keyed font of `own` glyphs with names of their own, beside glyph 0.
 pub fn names(own: usize) -> Vec<u8> {
@@ -61,8 +27,8 @@ pub fn names(own: usize) -> Vec<u8> {
     ]
     .concat();
     let top = vec![entry(vec![place(5)], &[17]), entry(vec![place(6)], &[15])];
-    let charstrings = Part::Index(SHAPE, vec![Part::Bytes(vec![14]); own + 1]);
-    font(top, strings, vec![charstrings, Part::Bytes(charset)])
+    let charstrings = Part::Index(SOUND, vec![Part::Bytes(vec![14]); own + 1]);
+    one_font(top, strings, vec![charstrings, Part::Bytes(charset)])
 }
 
 /// A CID-keyed font of `fds` glyphs, each with an FD of its own; the FDs share a Private with one subroutine of `length`
@@ -79,15 +45,15 @@ pub fn shared(fds: usize, length: usize) -> Vec<u8> {
     let fd = Part::Dict(vec![entry(private, &[18])]);
     let select: Vec<u8> = [0].into_iter().chain((0..fds).map(|k| k as u8)).collect();
     let subrs = entry(vec![Num::Distance(8, 9, Form::Shortest)], &[19]);
-    font(
+    one_font(
         top,
         Vec::new(),
         vec![
-            Part::Index(SHAPE, vec![Part::Bytes(vec![14]); fds]),
-            Part::Index(SHAPE, vec![fd; fds]),
+            Part::Index(SOUND, vec![Part::Bytes(vec![14]); fds]),
+            Part::Index(SOUND, vec![fd; fds]),
             Part::Bytes(select),
             Part::Dict(vec![subrs]),
-            Part::Index(SHAPE, vec![Part::Bytes(vec![11; length])]),
+            Part::Index(SOUND, vec![Part::Bytes(vec![11; length])]),
         ],
     )
 }

@@ -2,15 +2,13 @@
 
 use crate::cut::{Answer, Cut};
 use crate::hex;
+use crate::report::{self, Differences};
 use std::collections::BTreeMap;
 use std::fmt::Write;
 use std::path::Path;
 
-/// Differences printed.
-const PRINTED: usize = 20;
-
-/// Fonts up to this length are printed, longer ones are written to a file.
-const LONGEST_PRINTED: usize = 4000;
+/// The width of a count in the report.
+const WIDTH: usize = 7;
 
 pub struct Difference {
     pub case: String,
@@ -46,8 +44,7 @@ pub struct CutTally {
     pub bytes: u64,
     /// Cuts that the model made too.
     pub modelled: u64,
-    differences: Vec<Difference>,
-    different: u64,
+    differences: Differences<Difference>,
 }
 
 impl CutTally {
@@ -76,14 +73,11 @@ impl CutTally {
     }
 
     pub fn difference(&mut self, difference: Difference) {
-        self.different += 1;
-        if self.differences.len() < PRINTED {
-            self.differences.push(difference);
-        }
+        self.differences.push(difference);
     }
 
     pub fn differences(&self) -> u64 {
-        self.different
+        self.differences.count
     }
 
     pub fn report(&self, folder: &Path) -> String {
@@ -105,11 +99,9 @@ impl CutTally {
             total.iter_mut().zip(counts).for_each(|(sum, n)| *sum += n);
         }
         row(&mut out, "all", &total);
-        let _ = write!(out, "{:<46}", "share in 100");
-        for n in total {
-            let _ = write!(out, " {:>7.2}", 100.0 * n as f64 / calls.max(1) as f64);
-        }
-        let _ = writeln!(out, "\n\nCalls by font");
+        let share = |n: u64| format!("{:.2}", 100.0 * n as f64 / calls.max(1) as f64);
+        report::row(&mut out, "share in 100", WIDTH, total.map(share));
+        let _ = writeln!(out, "\nCalls by font");
         header(&mut out);
         for ((kind, state), counts) in &self.kinds {
             row(&mut out, &format!("{kind}, {state}"), counts);
@@ -123,27 +115,30 @@ impl CutTally {
             out,
             "\nFonts of which a subset was given, by what they have"
         );
-        for (note, n) in &self.notes {
-            let _ = writeln!(out, "  {note:<54}{n:>9}");
-        }
+        report::notes(&mut out, &self.notes);
         let _ = writeln!(out, "\noriginal not asked, for its memory: {}", self.heavy);
         let _ = writeln!(out, "original panicked: {}", self.panics);
         let _ = writeln!(out, "subsets that the model made too: {}", self.modelled);
-        let _ = writeln!(out, "differences: {}", self.different);
-        for (k, difference) in self.differences.iter().enumerate() {
-            self.tell(&mut out, k, difference, folder);
+        let _ = writeln!(out, "differences: {}", self.differences.count);
+        for (k, difference) in self.differences.first.iter().enumerate() {
+            difference.tell(&mut out);
+            let name = format!("subset-difference-{k}.cff");
+            report::font(&mut out, &difference.font, folder, &name);
         }
         out
     }
+}
 
-    fn tell(&self, out: &mut String, k: usize, difference: &Difference, folder: &Path) {
+impl Difference {
+    /// All but the font.
+    fn tell(&self, out: &mut String) {
         let Difference {
             case,
             message,
-            font,
             cut,
             lent,
-        } = difference;
+            ..
+        } = self;
         let _ = writeln!(out, "\n{case}\n  {message}\n  lent: {lent}");
         let keep: Vec<u8> = cut.keep.iter().flat_map(|k| k.to_be_bytes()).collect();
         let short = |bytes: &[u8]| hex(&bytes[..bytes.len().min(2000)]);
@@ -156,32 +151,16 @@ impl CutTally {
             cut.flag,
             short(&cut.record)
         );
-        if font.len() <= LONGEST_PRINTED {
-            let _ = writeln!(out, "  {}", hex(font));
-            return;
-        }
-        let path = folder.join(format!("subset-difference-{k}.cff"));
-        let written = std::fs::create_dir_all(folder).and_then(|()| std::fs::write(&path, font));
-        let said = written.map_or_else(|e| e.to_string(), |()| "written".to_string());
-        let _ = writeln!(out, "  {} bytes, {}: {said}", font.len(), path.display());
     }
 }
 
 fn header(out: &mut String) {
-    let _ = write!(out, "{:<46}", "");
-    for way in 0..3 {
-        let _ = write!(out, " {:>7}", format!("w{way}"));
-    }
-    for number in 1..=12 {
-        let _ = write!(out, " {number:>7}");
-    }
-    let _ = writeln!(out, "     all");
+    let ways = (0..3).map(|way| format!("w{way}"));
+    let refusals = (1..=12).map(|number| number.to_string());
+    let last = ["all".to_string()];
+    report::row(out, "", WIDTH, ways.chain(refusals).chain(last));
 }
 
 fn row(out: &mut String, label: &str, counts: &ByAnswer) {
-    let _ = write!(out, "{label:<46}");
-    for n in counts {
-        let _ = write!(out, " {n:>7}");
-    }
-    let _ = writeln!(out, " {:>7}", counts.iter().sum::<u64>());
+    report::counts(out, label, WIDTH, counts);
 }

@@ -2,10 +2,8 @@
 
 use crate::cut::{self, Answer, Cut, Lent, Outcome, Subset, WORDS};
 use crate::cut_compare::agrees;
-use crate::library::Library;
+use crate::library::{Library, Rooms};
 use crate::{model, original, stub};
-use mogdivash::ffi::SubsetFn;
-use std::slice;
 
 /// The font of document 01, 'One sheet, whole'.
 const FONT: &str = "010004010001010102580001010103a011000000000002010102030e0e";
@@ -36,8 +34,11 @@ fn outcome(font: &[u8], cut: &Cut) -> Outcome {
     cut::cut(font, read, Some(&program), cut)
 }
 
+/// An entry of subsetting.
+type Entry = fn(&[u8], &Cut, &mut Rooms<'_>) -> u8;
+
 /// What the comparison says of a library with this entry, room and record flag as given.
-fn verdict(subset: SubsetFn, room: usize, flag: u8) -> Result<(), String> {
+fn verdict(subset: Entry, room: usize, flag: u8) -> Result<(), String> {
     let font = bytes(FONT);
     let cut = Cut { flag, ..sheet() };
     let lent = Lent {
@@ -100,95 +101,45 @@ fn refusals_in_their_order() {
     assert_eq!(number(&|_| {}, (4, 53)), (0, 4));
 }
 
-/// A library that answers as the stub does, and then changes what was lent.
+/// Answers as the stub does.
+fn as_it_is(font: &[u8], cut: &Cut, rooms: &mut Rooms<'_>) -> u8 {
+    (stub::library().subset)(font, cut, rooms)
+}
+
+/// An entry that answers as the stub does, and then changes what was lent, or what stands behind it.
 macro_rules! wrong {
-    ($name:ident, |$work:ident, $out:ident, $answer:ident, $refusal:ident| $change:expr) => {
-        #[allow(clippy::too_many_arguments, unused_variables)]
-        unsafe extern "C" fn $name(
-            font: *const u8,
-            font_len: usize,
-            name: *const u8,
-            name_len: usize,
-            keep: *const u16,
-            keep_len: usize,
-            record: *const u8,
-            record_len: usize,
-            traced: u8,
-            work: *mut u32,
-            work_len: usize,
-            out: *mut u8,
-            out_len: usize,
-            answer: *mut u64,
-            answer_len: usize,
-        ) -> u8 {
-            // SAFETY: the caller lends 8 elements more than it says, one of the answer.
-            unsafe {
-                let $refusal = stub::subset(
-                    font, font_len, name, name_len, keep, keep_len, record, record_len, traced,
-                    work, work_len, out, out_len, answer, answer_len,
-                );
-                let $work = slice::from_raw_parts_mut(work, work_len + 8);
-                let $out = slice::from_raw_parts_mut(out, out_len + 8);
-                let $answer = slice::from_raw_parts_mut(answer, answer_len + 1);
-                $change
-            }
+    ($place:ident[$k:expr] = $value:expr) => {
+        |font, cut, rooms| {
+            let refusal = as_it_is(font, cut, rooms);
+            rooms.$place.all[$k] = $value;
+            refusal
         }
     };
 }
 
-wrong!(as_it_is, |work, out, answer, refusal| refusal);
-wrong!(a_byte, |work, out, answer, refusal| {
-    out[52] ^= 1;
-    refusal
-});
-wrong!(past_the_length, |work, out, answer, refusal| {
-    out[53] = 0;
-    refusal
-});
-wrong!(past_the_room, |work, out, answer, refusal| {
-    let last = out.len() - 8;
-    out[last] = 0;
-    refusal
-});
-wrong!(another_way, |work, out, answer, refusal| {
-    answer[0] = 1;
-    refusal
-});
-wrong!(a_shorter_length, |work, out, answer, refusal| {
-    answer[1] = 52;
-    refusal
-});
-wrong!(a_third_word, |work, out, answer, refusal| {
-    answer[2] = 0;
-    refusal
-});
-wrong!(a_word_of_work, |work, out, answer, refusal| {
-    work[3] = 7;
-    refusal
-});
-wrong!(a_word_too_many, |work, out, answer, refusal| {
-    work[4] = 0;
-    refusal
-});
-wrong!(a_word_further_on, |work, out, answer, refusal| {
-    work[5] = 0;
-    refusal
-});
-wrong!(another_number, |work, out, answer, refusal| refusal + 1);
-
 #[test]
 fn calls_that_do_wrong_are_found() {
-    let entries: [(&str, SubsetFn); 10] = [
-        ("a byte", a_byte),
-        ("past the length", past_the_length),
-        ("past the room", past_the_room),
-        ("another way", another_way),
-        ("a shorter length", a_shorter_length),
-        ("a third word", a_third_word),
-        ("a word of work", a_word_of_work),
-        ("a word too many", a_word_too_many),
-        ("a word further on", a_word_further_on),
-        ("another number", another_number),
+    let entries: [(&str, Entry); 10] = [
+        ("a byte", |font, cut, rooms| {
+            let refusal = as_it_is(font, cut, rooms);
+            rooms.out.all[52] ^= 1;
+            refusal
+        }),
+        ("past the length", wrong!(out[53] = 0)),
+        ("past the room", |font, cut, rooms| {
+            let refusal = as_it_is(font, cut, rooms);
+            rooms.out.all[rooms.out.lent] = 0;
+            refusal
+        }),
+        ("another way", wrong!(answer[0] = 1)),
+        ("a shorter length", wrong!(answer[1] = 52)),
+        ("a third word", wrong!(answer[2] = 0)),
+        ("a word of work", wrong!(work[3] = 7)),
+        ("a word too many", wrong!(work[4] = 0)),
+        ("a word further on", wrong!(work[5] = 0)),
+        ("another number", |font, cut, rooms| {
+            as_it_is(font, cut, rooms) + 1
+        }),
     ];
     assert_eq!(verdict(as_it_is, 60, 1), Ok(()));
     assert_eq!(verdict(as_it_is, 52, 1), Ok(()));

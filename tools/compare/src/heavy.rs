@@ -1,45 +1,25 @@
 //! Fonts for which the original takes memory out of proportion: parts that many others share are
 //! copied for each of them.
 
-use crate::layout::{Entry, Fault, Layout, Num, Part, Shape};
+use crate::layout::{Entry, Layout, Num, Part, SOUND, entry, place};
 use crate::numbers::Form;
-
-const SHAPE: Shape = Shape {
-    offset_size: 1,
-    gap: 0,
-    fault: Fault::None,
-};
 
 /// The header and, within its size, an INDEX of one empty charstring at 4.
 const HEADER: [u8; 9] = [1, 0, 9, 1, 0, 1, 1, 1, 1];
 
-fn entry(operands: Vec<Num>, operator: &[u8]) -> Entry {
-    Entry {
-        operands,
-        operator: operator.to_vec(),
-    }
-}
-
-fn place(part: usize) -> Num {
-    Num::Place(part, 0, Form::Shortest)
-}
-
 /// `fonts` fonts without names, each with the one charstring and the same entries; `strings`
 /// empty strings; no global subroutine.
 fn set(fonts: usize, strings: usize, entries: Vec<Entry>) -> Layout {
-    let mut layout = Layout {
-        parts: Vec::new(),
-        order: Vec::new(),
-    };
+    let mut layout = Layout::default();
     // 143 is the number 4.
     let charstrings = entry(vec![Num::Bytes(vec![143])], &[17]);
     let top = Part::Dict([vec![charstrings], entries].concat());
     let empty = || Part::Bytes(Vec::new());
     layout.add(Part::Bytes(HEADER.to_vec()));
-    layout.add(Part::Index(SHAPE, vec![empty(); fonts]));
-    layout.add(Part::Index(SHAPE, vec![top; fonts]));
-    layout.add(Part::Index(SHAPE, vec![empty(); strings]));
-    layout.add(Part::Index(SHAPE, Vec::new()));
+    layout.add(Part::Index(SOUND, vec![empty(); fonts]));
+    layout.add(Part::Index(SOUND, vec![top; fonts]));
+    layout.add(Part::Index(SOUND, vec![empty(); strings]));
+    layout.add(Part::Index(SOUND, Vec::new()));
     layout
 }
 
@@ -59,7 +39,7 @@ pub fn entries(fonts: usize, fds: usize, entries: usize) -> Vec<u8> {
     );
     let size = Num::Length(private, 0, Form::Shortest);
     let fd = Part::Dict(vec![entry(vec![size, place(private)], &[18])]);
-    layout.add(Part::Index(SHAPE, vec![fd; fds]));
+    layout.add(Part::Index(SOUND, vec![fd; fds]));
     layout.add(Part::Bytes(vec![0; entries]));
     layout.bytes()
 }
@@ -78,10 +58,10 @@ fn shared_locals(fds: usize, locals: usize, more: Vec<Entry>) -> Layout {
     let mut layout = set(1, 0, [cid, more].concat());
     let size = Num::Length(private, 0, Form::Shortest);
     let fd = Part::Dict(vec![entry(vec![size, place(private)], &[18])]);
-    layout.add(Part::Index(SHAPE, vec![fd; fds]));
+    layout.add(Part::Index(SOUND, vec![fd; fds]));
     let distance = Num::Distance(private, subrs, Form::Shortest);
     layout.add(Part::Dict(vec![entry(vec![distance], &[19])]));
-    layout.add(Part::Index(SHAPE, vec![Part::Bytes(Vec::new()); locals]));
+    layout.add(Part::Index(SOUND, vec![Part::Bytes(Vec::new()); locals]));
     layout
 }
 
@@ -91,8 +71,8 @@ pub fn work(glyphs: usize, globals: usize, fds: usize, locals: usize) -> Vec<u8>
     let charstrings = entry(vec![place(FIRST + 3)], &[17]);
     let mut layout = shared_locals(fds, locals, vec![charstrings]);
     let empty = Part::Bytes(Vec::new());
-    layout.parts[FIRST - 1] = Part::Index(SHAPE, vec![empty.clone(); globals]);
-    layout.add(Part::Index(SHAPE, vec![empty; glyphs]));
+    layout.parts[FIRST - 1] = Part::Index(SOUND, vec![empty.clone(); globals]);
+    layout.add(Part::Index(SOUND, vec![empty; glyphs]));
     layout.bytes()
 }
 

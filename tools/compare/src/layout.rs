@@ -22,6 +22,18 @@ pub struct Entry {
     pub operator: Vec<u8>,
 }
 
+pub fn entry(operands: Vec<Num>, operator: &[u8]) -> Entry {
+    Entry {
+        operands,
+        operator: operator.to_vec(),
+    }
+}
+
+/// The place of a part.
+pub fn place(part: usize) -> Num {
+    Num::Place(part, 0, Form::Shortest)
+}
+
 /// How an INDEX is written.
 #[derive(Clone, Copy, Debug)]
 pub struct Shape {
@@ -31,6 +43,13 @@ pub struct Shape {
     pub gap: usize,
     pub fault: Fault,
 }
+
+/// An INDEX as the notes want it.
+pub const SOUND: Shape = Shape {
+    offset_size: 1,
+    gap: 0,
+    fault: Fault::None,
+};
 
 /// What is wrong with an INDEX.
 #[derive(Clone, Copy, Debug, PartialEq, Eq)]
@@ -56,6 +75,7 @@ pub enum Part {
 }
 
 /// Parts in any order, and the order in which they stand.
+#[derive(Default)]
 pub struct Layout {
     pub parts: Vec<Part>,
     pub order: Vec<usize>,
@@ -96,6 +116,20 @@ impl Layout {
         }
         unreachable!("numbers of one length settle")
     }
+}
+
+/// One font from its top DICT, its strings and other parts, the first of which is part 5.
+pub fn one_font(top: Vec<Entry>, strings: Vec<Part>, parts: Vec<Part>) -> Vec<u8> {
+    let mut layout = Layout::default();
+    layout.add(Part::Bytes(vec![1, 0, 4, 1]));
+    layout.add(Part::Index(SOUND, vec![Part::Bytes(vec![b'A'])]));
+    layout.add(Part::Index(SOUND, vec![Part::Dict(top)]));
+    layout.add(Part::Index(SOUND, strings));
+    layout.add(Part::Index(SOUND, Vec::new()));
+    for part in parts {
+        layout.add(part);
+    }
+    layout.bytes()
 }
 
 #[derive(Clone)]

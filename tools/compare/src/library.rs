@@ -1,19 +1,43 @@
 //! The library under test by its C interface (bindings/rust, `ffi`).
 
 use crate::cut::{Cut, Lent, WORDS};
-use mogdivash::ffi::{self, SubsetFn};
+use mogdivash::ffi;
 
-/// The functions of the crate `capi`: a slice is a pointer and a length.
+/// Memory to write to: its first `lent` elements are lent, those behind them must stay as they are.
+pub struct Room<'a, T> {
+    pub all: &'a mut [T],
+    pub lent: usize,
+}
+
+impl<T> Room<'_, T> {
+    fn at(&mut self) -> *mut T {
+        self.all.as_mut_ptr()
+    }
+}
+
+/// The functions of the crate `capi`, or others in their place: each returns 0 or a refusal.
 #[derive(Clone, Copy)]
 pub struct Library {
-    pub read: unsafe extern "C" fn(*const u8, usize, *mut u64, usize) -> u8,
-    pub find_name: unsafe extern "C" fn(*const u8, usize, *const u8, usize, *mut u64, usize) -> u8,
-    pub find_cid: unsafe extern "C" fn(*const u8, usize, u16, *mut u64, usize) -> u8,
-    pub item:
-        unsafe extern "C" fn(*const u8, usize, u8, u64, *mut u8, usize, *mut u64, usize) -> u8,
-    pub item_refusal: unsafe extern "C" fn(*const u8, usize, u8, u64) -> u8,
-    pub subset: SubsetFn,
-    pub subset_cid: SubsetFn,
+    /// Font, counts.
+    pub read: fn(&[u8], &mut Room<'_, u64>) -> u8,
+    /// Font, name, glyph.
+    pub find_name: fn(&[u8], &[u8], &mut Room<'_, u64>) -> u8,
+    /// Font, CID, glyph.
+    pub find_cid: fn(&[u8], u16, &mut Room<'_, u64>) -> u8,
+    /// Font, kind and number, bytes, their length.
+    pub item: fn(&[u8], (u8, u64), &mut Room<'_, u8>, &mut Room<'_, u64>) -> u8,
+    /// Font, kind and number.
+    pub item_refusal: fn(&[u8], (u8, u64)) -> u8,
+    /// Font, what is asked by the entry of that keying, what is lent.
+    pub subset: fn(&[u8], &Cut, &mut Rooms<'_>) -> u8,
+}
+
+/// What a call of subsetting may write to.
+pub struct Rooms<'a> {
+    pub work: Room<'a, u32>,
+    pub out: Room<'a, u8>,
+    /// Way and length.
+    pub answer: Room<'a, u64>,
 }
 
 /// What a call of subsetting did: its answer (way and bytes), and how many of the work words, from the first, are zeros
@@ -60,8 +84,8 @@ impl Library {
     /// Lends `lent` words of `COUNTS`.
     pub fn read(&self, font: &[u8], lent: usize) -> Checked<Counts> {
         let mut out = [WORD; COUNTS];
-        // SAFETY: the font and the first `lent` words are lent for the call.
-        let refusal = unsafe { (self.read)(font.as_ptr(), font.len(), out.as_mut_ptr(), lent) };
+        let all = &mut out;
+        let refusal = (self.read)(font, &mut Room { all, lent });
         if refusal != 0 {
             return untouched(refusal, &out);
         }
@@ -77,59 +101,24 @@ impl Library {
 
     /// Lends `lent` words of one.
     pub fn find_name(&self, font: &[u8], name: &[u8], lent: usize) -> Checked<u64> {
-        let mut glyph = [WORD; ONE];
-        // SAFETY: font, name and the first `lent` words are lent for the call.
-        let refusal = unsafe {
-            (self.find_name)(
-                font.as_ptr(),
-                font.len(),
-                name.as_ptr(),
-                name.len(),
-                glyph.as_mut_ptr(),
-                lent,
-            )
-        };
-        if refusal != 0 {
-            return untouched(refusal, &glyph);
-        }
-        Ok(Ok(glyph[0]))
+        found(lent, |glyph| (self.find_name)(font, name, glyph))
     }
 
     /// Lends `lent` words of one.
     pub fn find_cid(&self, font: &[u8], cid: u16, lent: usize) -> Checked<u64> {
-        let mut glyph = [WORD; ONE];
-        // SAFETY: the font and the first `lent` words are lent for the call.
-        let refusal =
-            unsafe { (self.find_cid)(font.as_ptr(), font.len(), cid, glyph.as_mut_ptr(), lent) };
-        if refusal != 0 {
-            return untouched(refusal, &glyph);
-        }
-        Ok(Ok(glyph[0]))
+        found(lent, |glyph| (self.find_cid)(font, cid, glyph))
     }
 
     /// The item, with `room` bytes lent, and some more that must stay as they are, and `lent` words of one.
-    pub fn item(
-        &self,
-        font: &[u8],
-        (kind, number): (u8, u64),
-        room: usize,
-        lent: usize,
-    ) -> Checked<Vec<u8>> {
+    pub fn item(&self, font: &[u8], item: (u8, u64), room: usize, lent: usize) -> Checked<Vec<u8>> {
         let mut out = vec![BYTE; room + BEYOND];
         let mut length = [WORD; ONE];
-        // SAFETY: the font, the first `room` bytes of `out` and `lent` words are lent for the call.
-        let refusal = unsafe {
-            (self.item)(
-                font.as_ptr(),
-                font.len(),
-                kind,
-                number,
-                out.as_mut_ptr(),
-                room,
-                length.as_mut_ptr(),
-                lent,
-            )
+        let mut bytes = Room {
+            all: &mut out,
+            lent: room,
         };
+        let all = &mut length;
+        let refusal = (self.item)(font, item, &mut bytes, &mut Room { all, lent });
         if refusal != 0 {
             if out.iter().any(|&b| b != BYTE) {
                 return Err(format!("refusal {refusal} wrote bytes"));
@@ -147,41 +136,26 @@ impl Library {
         Ok(Ok(out))
     }
 
-    pub fn item_refusal(&self, font: &[u8], kind: u8, number: u64) -> u8 {
-        // SAFETY: the font is lent for the call.
-        unsafe { (self.item_refusal)(font.as_ptr(), font.len(), kind, number) }
-    }
-
     /// A subset. The message says where the call wrote that it must not.
     pub fn subset(&self, font: &[u8], cut: &Cut, lent: Lent) -> Result<Subsetted, String> {
         let mut work: Vec<u32> = (0..lent.work + BEYOND).map(found_word).collect();
         let mut out = vec![BYTE; lent.room + BEYOND];
         let mut answer = [WORD; WORDS + 1];
-        let entry = if cut.cid_keyed {
-            self.subset_cid
-        } else {
-            self.subset
+        let mut rooms = Rooms {
+            work: Room {
+                all: &mut work,
+                lent: lent.work,
+            },
+            out: Room {
+                all: &mut out,
+                lent: lent.room,
+            },
+            answer: Room {
+                all: &mut answer,
+                lent: lent.words,
+            },
         };
-        // SAFETY: what is lent for reading, and `lent` of what is lent for writing, is there for the call.
-        let refusal = unsafe {
-            entry(
-                font.as_ptr(),
-                font.len(),
-                cut.name.as_ptr(),
-                cut.name.len(),
-                cut.keep.as_ptr(),
-                cut.keep.len(),
-                cut.record.as_ptr(),
-                cut.record.len(),
-                cut.flag,
-                work.as_mut_ptr(),
-                lent.work,
-                out.as_mut_ptr(),
-                lent.room,
-                answer.as_mut_ptr(),
-                lent.words,
-            )
-        };
+        let refusal = (self.subset)(font, cut, &mut rooms);
         let zeros = work.iter().take_while(|&&w| w == 0).count();
         if let Some(k) = (zeros..work.len()).find(|&k| work[k] != found_word(k)) {
             return Err(format!(
@@ -223,6 +197,17 @@ fn found_word(k: usize) -> u32 {
     0xa5a5_0001_u32.wrapping_add(k as u32).max(1)
 }
 
+/// The one word of an answer, of which `lent` are lent.
+fn found(lent: usize, call: impl FnOnce(&mut Room<'_, u64>) -> u8) -> Checked<u64> {
+    let mut word = [WORD; ONE];
+    let all = &mut word;
+    let refusal = call(&mut Room { all, lent });
+    if refusal != 0 {
+        return untouched(refusal, &word);
+    }
+    Ok(Ok(word[0]))
+}
+
 fn untouched<T>(refusal: u8, out: &[u64]) -> Checked<T> {
     if out.iter().any(|&w| w != WORD) {
         return Err(format!("refusal {refusal} wrote an answer"));
@@ -232,13 +217,62 @@ fn untouched<T>(refusal: u8, out: &[u64]) -> Checked<T> {
 
 /// The library that is linked.
 pub fn library() -> Library {
+    // SAFETY of the calls: each slice is there for the call, and at least as long as it is said to be.
     Library {
-        read: ffi::cff_read,
-        find_name: ffi::cff_find_name,
-        find_cid: ffi::cff_find_cid,
-        item: ffi::cff_item,
-        item_refusal: ffi::cff_item_refusal,
-        subset: ffi::cff_subset,
-        subset_cid: ffi::cff_subset_cid,
+        read: |font, counts| unsafe {
+            ffi::cff_read(font.as_ptr(), font.len(), counts.at(), counts.lent)
+        },
+        find_name: |font, name, glyph| unsafe {
+            let (at, length) = (font.as_ptr(), font.len());
+            ffi::cff_find_name(
+                at,
+                length,
+                name.as_ptr(),
+                name.len(),
+                glyph.at(),
+                glyph.lent,
+            )
+        },
+        find_cid: |font, cid, glyph| unsafe {
+            ffi::cff_find_cid(font.as_ptr(), font.len(), cid, glyph.at(), glyph.lent)
+        },
+        item: |font, (kind, number), out, size| unsafe {
+            let (at, length) = (font.as_ptr(), font.len());
+            let (out, room) = (out.at(), out.lent);
+            ffi::cff_item(at, length, kind, number, out, room, size.at(), size.lent)
+        },
+        item_refusal: |font, (kind, number)| unsafe {
+            ffi::cff_item_refusal(font.as_ptr(), font.len(), kind, number)
+        },
+        subset,
+    }
+}
+
+fn subset(font: &[u8], cut: &Cut, rooms: &mut Rooms<'_>) -> u8 {
+    let entry = if cut.cid_keyed {
+        ffi::cff_subset_cid
+    } else {
+        ffi::cff_subset
+    };
+    let Rooms { work, out, answer } = rooms;
+    // SAFETY: as above.
+    unsafe {
+        entry(
+            font.as_ptr(),
+            font.len(),
+            cut.name.as_ptr(),
+            cut.name.len(),
+            cut.keep.as_ptr(),
+            cut.keep.len(),
+            cut.record.as_ptr(),
+            cut.record.len(),
+            cut.flag,
+            work.at(),
+            work.lent,
+            out.at(),
+            out.lent,
+            answer.at(),
+            answer.lent,
+        )
     }
 }

@@ -4,6 +4,8 @@
 mod bodies;
 mod cases;
 mod compare;
+#[cfg(test)]
+mod compare_tests;
 mod cut;
 mod cut_cases;
 mod cut_compare;
@@ -27,6 +29,7 @@ mod numbers;
 mod opentype;
 mod original;
 mod record;
+mod report;
 mod store;
 mod store_subset;
 #[cfg(test)]
@@ -36,27 +39,13 @@ mod tally;
 #[allow(dead_code)]
 #[path = "../../oracle/src/generator.rs"]
 mod generator;
-#[allow(dead_code)]
-#[path = "../../oracle/src/stubs.rs"]
-mod stubs;
 
 // `rustfmt::skip` keeps cargo fmt out of docs/src.
 #[rustfmt::skip]
 #[allow(dead_code)]
 #[path = "../../../docs/src/crates/efterscript-fonts/src/cff/mod.rs"]
 mod cff;
-#[rustfmt::skip]
-#[allow(dead_code)]
-#[path = "../../../docs/src/crates/efterscript-fonts/src/encoding.rs"]
-mod encoding;
-#[rustfmt::skip]
-#[allow(dead_code)]
-#[path = "../../../docs/src/crates/efterscript-fonts/src/outline.rs"]
-mod outline;
-#[rustfmt::skip]
-#[allow(dead_code)]
-#[path = "../../../docs/src/crates/efterscript-fonts/src/program.rs"]
-mod program;
+include!("../../oracle/src/siblings.rs");
 
 use cases::Case;
 use cut_tally::CutTally;
@@ -66,7 +55,6 @@ use std::path::{Path, PathBuf};
 use std::process::ExitCode;
 use std::sync::{Arc, Mutex, mpsc};
 use std::{env, fs, thread};
-use stubs::{cidfont, truetype, type1};
 use tally::Tally;
 
 const USAGE: &str = "usage: tools/compare/run cff SEED COUNT
@@ -95,27 +83,12 @@ fn main() -> ExitCode {
     let words: Vec<&str> = words.iter().map(String::as_str).collect();
     original::keep_panics_silent();
     match words.as_slice() {
-        ["cff", seed, count] => match (seed.parse(), count.parse()) {
-            (Ok(seed), Ok(count)) => cff(seed, count),
-            _ => usage(),
-        },
-        ["store-cff", seed, count] => match (seed.parse(), count.parse()) {
-            (Ok(seed), Ok(count)) => store(seed, count),
-            _ => usage(),
-        },
-        ["subset", seed, count] => match (seed.parse(), count.parse()) {
-            (Ok(seed), Ok(count)) => subset(seed, count),
-            _ => usage(),
-        },
-        ["store-subset", seed, count] => match (seed.parse(), count.parse()) {
-            (Ok(seed), Ok(count)) => stored_subsets(seed, count),
-            _ => usage(),
-        },
+        ["cff", seed, count] => seeded(seed, count, cff),
+        ["store-cff", seed, count] => seeded(seed, count, store),
+        ["subset", seed, count] => seeded(seed, count, subset),
+        ["store-subset", seed, count] => seeded(seed, count, stored_subsets),
         ["cut", folder] => cut_tables(Path::new(folder)),
-        ["case", seed, number] => match (seed.parse(), number.parse()) {
-            (Ok(seed), Ok(number)) => case(seed, number),
-            _ => usage(),
-        },
+        ["case", seed, number] => seeded(seed, number, case),
         ["ask", who, file] => ask(who, file),
         ["heavy", kind, numbers @ ..] => {
             let numbers: Vec<usize> = numbers.iter().flat_map(|n| n.parse()).collect();
@@ -131,6 +104,23 @@ fn main() -> ExitCode {
         }
         ["extract", folder, files @ ..] => extract(Path::new(folder), files),
         _ => usage(),
+    }
+}
+
+/// A part of which the seed and a number are told.
+fn seeded(seed: &str, number: &str, run: fn(u64, usize) -> ExitCode) -> ExitCode {
+    match (seed.parse(), number.parse()) {
+        (Ok(seed), Ok(number)) => run(seed, number),
+        _ => usage(),
+    }
+}
+
+/// The exit status of a comparison.
+fn status(differences: u64) -> ExitCode {
+    if differences > 0 {
+        ExitCode::FAILURE
+    } else {
+        ExitCode::SUCCESS
     }
 }
 
@@ -161,7 +151,7 @@ fn cff(seed: u64, count: usize) -> ExitCode {
         })
         .collect();
     let send = |case| sender.send(case).expect("a thread that takes cases");
-    cases::Made::new(seed).take(count).for_each(send);
+    cases::made(seed).take(count).for_each(send);
     cases::fixed().into_iter().for_each(send);
     let tables = cases::tables(&target().join("fonts"), seed);
     for table in &tables {
@@ -177,11 +167,7 @@ fn cff(seed: u64, count: usize) -> ExitCode {
         tables.len()
     );
     print!("{}", tally.report(&target().join("compare")));
-    if tally.differences() > 0 {
-        ExitCode::FAILURE
-    } else {
-        ExitCode::SUCCESS
-    }
+    status(tally.differences())
 }
 
 /// Runs a function on a thread with room for the original.
@@ -199,7 +185,7 @@ fn subset(seed: u64, count: usize) -> ExitCode {
     let (tally, tables) = on_large_stack(move || {
         let library = library::library();
         let mut tally = CutTally::default();
-        for case in cut_cases::Fonts::new(seed).take(count) {
+        for case in cut_cases::fonts(seed).take(count) {
             cut_compare::compare(&library, &case, seed, &mut tally, &cut_cases::made);
         }
         for (case, ask) in cut_large::fonts(seed) {
@@ -220,28 +206,13 @@ fn subset(seed: u64, count: usize) -> ExitCode {
     });
     println!("seed {seed}, {count} made fonts, {tables} tables of real fonts");
     print!("{}", tally.report(&target().join("compare")));
-    if tally.differences() > 0 {
-        ExitCode::FAILURE
-    } else {
-        ExitCode::SUCCESS
-    }
+    status(tally.differences())
 }
 
 /// Cases of subsetting for the gate, a line each, to standard output.
 fn stored_subsets(seed: u64, count: usize) -> ExitCode {
     let lines = on_large_stack(move || store_subset::lines(seed, count));
-    let text: String = lines.iter().flat_map(|line| [line, "\n"]).collect();
-    print!("{text}");
-    for kind in ["S", "D"] {
-        let n = lines.iter().filter(|line| line.starts_with(kind)).count();
-        eprintln!("{kind} {n}");
-    }
-    eprintln!("{} cases, {} bytes", lines.len(), text.len());
-    if lines.len() < count {
-        eprintln!("no more cases than these");
-        return ExitCode::FAILURE;
-    }
-    ExitCode::SUCCESS
+    print_lines(&lines, &["S", "D"], count)
 }
 
 /// The library's subsets of the tables in target/fonts, with the original's records: FOLDER/NAME.AMOUNT.cff.
@@ -269,9 +240,7 @@ fn cut_tables(folder: &Path) -> ExitCode {
 
 /// One made font, and what model and original say of it.
 fn case(seed: u64, number: usize) -> ExitCode {
-    let case = cases::Made::new(seed)
-        .nth(number)
-        .expect("cases do not end");
+    let case = cases::made(seed).nth(number).expect("cases do not end");
     println!("{}\n{}", case.label(seed), hex(&case.font));
     let reading = model::read(&case.font);
     println!("memory of the original, about: {}", reading.memory);
@@ -290,14 +259,19 @@ fn case(seed: u64, number: usize) -> ExitCode {
 /// Cases for the gate, a line each, to standard output.
 fn store(seed: u64, count: usize) -> ExitCode {
     let lines = store::lines(seed, count);
+    print_lines(&lines, &["R", "N", "C", "I"], count)
+}
+
+/// Lines to standard output, and how many of each kind to standard error; a failure if they are fewer than wanted.
+fn print_lines(lines: &[String], kinds: &[&str], wanted: usize) -> ExitCode {
     let text: String = lines.iter().flat_map(|line| [line, "\n"]).collect();
     print!("{text}");
-    for kind in ["R", "N", "C", "I"] {
+    for kind in kinds {
         let n = lines.iter().filter(|line| line.starts_with(kind)).count();
         eprintln!("{kind} {n}");
     }
     eprintln!("{} cases, {} bytes", lines.len(), text.len());
-    if lines.len() < count {
+    if lines.len() < wanted {
         eprintln!("no more cases than these");
         return ExitCode::FAILURE;
     }

@@ -1,6 +1,6 @@
 //! Cases to store: lines of fonts, inputs and answers for a program of the gate.
 
-use crate::cases::{Made, mixed};
+use crate::cases::{self, mixed};
 use crate::compare::{self, counts};
 use crate::generator::Generator;
 use crate::library::Counts;
@@ -39,7 +39,7 @@ pub fn lines(seed: u64, count: usize) -> Vec<String> {
             entry.any.push(font.to_vec());
         }
     };
-    for case in Made::new(seed).take(LOOKED_AT) {
+    for case in cases::made(seed).take(LOOKED_AT) {
         if case.font.len() > LONGEST {
             continue;
         }

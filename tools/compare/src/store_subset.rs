@@ -2,7 +2,7 @@
 
 use crate::cases::mixed;
 use crate::cut::{self, Answer, Cut, Lent, Outcome, WORDS};
-use crate::cut_cases::{self, Fonts};
+use crate::cut_cases;
 use crate::cut_compare::{self, Opened};
 use crate::generator::Generator;
 use crate::model::{self, Reading};
@@ -91,7 +91,7 @@ pub fn lines(seed: u64, count: usize) -> Vec<String> {
 fn candidates(seed: u64) -> Vec<Candidate> {
     let mut all = Vec::new();
     let mut seen = BTreeSet::new();
-    for case in Fonts::new(seed).take(LOOKED_AT) {
+    for case in cut_cases::fonts(seed).take(LOOKED_AT) {
         if case.font.len() > LONGEST_FONT {
             continue;
         }

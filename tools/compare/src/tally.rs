@@ -3,14 +3,13 @@
 use crate::cases::Case;
 use crate::library::{ABSENT, Answer};
 use crate::model::Reading;
+use crate::report::{self, Differences, PRINTED};
 use std::collections::BTreeMap;
 use std::fmt::Write;
+use std::path::Path;
 
-/// Differences printed.
-const PRINTED: usize = 20;
-
-/// Fonts up to this length are printed, longer ones are written to a file.
-const LONGEST_PRINTED: usize = 4000;
+/// The width of a count in the report.
+const WIDTH: usize = 8;
 
 pub struct Difference {
     /// Its place in the run: made fonts, then files by name.
@@ -41,8 +40,7 @@ pub struct Tally {
     /// Reals past the limits at a place that the original comes by, and other cases.
     pub confirmed: u64,
     pub unconfirmed: Vec<String>,
-    differences: Vec<Difference>,
-    different: u64,
+    differences: Differences<Difference>,
 }
 
 impl Tally {
@@ -74,14 +72,11 @@ impl Tally {
     }
 
     pub fn difference(&mut self, difference: Difference) {
-        self.different += 1;
-        if self.differences.len() < PRINTED {
-            self.differences.push(difference);
-        }
+        self.differences.push(difference);
     }
 
     pub fn differences(&self) -> u64 {
-        self.different
+        self.differences.count
     }
 
     pub fn merge(&mut self, other: Tally) {
@@ -106,26 +101,26 @@ impl Tally {
         self.roomless += other.roomless;
         self.confirmed += other.confirmed;
         self.unconfirmed.extend(other.unconfirmed);
-        self.different += other.different;
-        self.differences.extend(other.differences);
+        self.differences.count += other.differences.count;
+        self.differences.first.extend(other.differences.first);
     }
 
     /// The report; long fonts of differences go to the folder.
-    pub fn report(&mut self, folder: &std::path::Path) -> String {
+    pub fn report(&mut self, folder: &Path) -> String {
         let mut out = String::new();
         let mut total = ByRefusal::default();
         let _ = writeln!(
             out,
             "Fonts by kind, state and reading's answer (0 read, else the refusal)"
         );
-        header(&mut out, "");
+        header(&mut out, &["all"]);
         for ((kind, state), counts) in &self.fonts {
             row(&mut out, &format!("{kind}, {state}"), counts);
             add(&mut total, *counts);
         }
         row(&mut out, "all", &total);
         let _ = writeln!(out, "\nCalls by entry and answer");
-        header(&mut out, "   found");
+        header(&mut out, &["all", "found"]);
         let mut all = ByRefusal::default();
         for (entry, counts) in &self.calls {
             row(&mut out, entry, counts);
@@ -151,9 +146,7 @@ impl Tally {
             "of these in a later font of a set", self.later
         );
         let _ = writeln!(out, "\nFonts that are read, by what they have");
-        for (note, n) in &self.notes {
-            let _ = writeln!(out, "  {note:<54}{n:>9}");
-        }
+        report::notes(&mut out, &self.notes);
         let _ = writeln!(out);
         let _ = writeln!(out, "original not asked, for its memory: {}", self.heavy);
         let _ = writeln!(out, "original panicked: {}", self.panics);
@@ -166,27 +159,16 @@ impl Tally {
         for case in self.unconfirmed.iter().take(PRINTED) {
             let _ = writeln!(out, "  {case}");
         }
-        let _ = writeln!(out, "differences: {}", self.different);
-        self.differences.sort_by(|a, b| a.place.cmp(&b.place));
-        for (k, difference) in self.differences.iter().take(PRINTED).enumerate() {
+        let Differences { first, count } = &mut self.differences;
+        let _ = writeln!(out, "differences: {count}");
+        first.sort_by(|a, b| a.place.cmp(&b.place));
+        for (k, difference) in first.iter().take(PRINTED).enumerate() {
             let _ = writeln!(out, "\n{}", difference.case);
             for message in &difference.messages {
                 let _ = writeln!(out, "  {message}");
             }
-            if difference.font.len() <= LONGEST_PRINTED {
-                let _ = writeln!(out, "  {}", crate::hex(&difference.font));
-            } else {
-                let path = folder.join(format!("difference-{k}.cff"));
-                let written = std::fs::create_dir_all(folder)
-                    .and_then(|()| std::fs::write(&path, &difference.font));
-                let said = written.map_or_else(|e| e.to_string(), |()| "written".to_string());
-                let _ = writeln!(
-                    out,
-                    "  {} bytes, {}: {said}",
-                    difference.font.len(),
-                    path.display()
-                );
-            }
+            let name = format!("difference-{k}.cff");
+            report::font(&mut out, &difference.font, folder, &name);
         }
         out
     }
@@ -198,18 +180,12 @@ fn add(sum: &mut ByRefusal, more: ByRefusal) {
     }
 }
 
-fn header(out: &mut String, last: &str) {
-    let _ = write!(out, "{:<46}", "");
-    for k in 0..7 {
-        let _ = write!(out, " {k:>8}");
-    }
-    let _ = writeln!(out, "      all {last}");
+fn header(out: &mut String, last: &[&str]) {
+    let numbers = (0..7).map(|k| k.to_string());
+    let last = last.iter().map(|word| word.to_string());
+    report::row(out, "", WIDTH, numbers.chain(last));
 }
 
 fn row(out: &mut String, label: &str, counts: &ByRefusal) {
-    let _ = write!(out, "{label:<46}");
-    for n in counts {
-        let _ = write!(out, " {n:>8}");
-    }
-    let _ = writeln!(out, " {:>8}", counts.iter().sum::<u64>());
+    report::counts(out, label, WIDTH, counts);
 }

@@ -14,7 +14,12 @@ struct Decimal {
 impl Decimal {
     /// The text of a DICT's real, with an exponent.
     fn text(&self) -> String {
-        format!("{}{}E{}", if self.neg { "-" } else { "" }, self.digits, self.power)
+        format!(
+            "{}{}E{}",
+            if self.neg { "-" } else { "" },
+            self.digits,
+            self.power
+        )
     }
 
     /// The digits without an exponent, as the cut writes them.
@@ -39,7 +44,9 @@ impl Decimal {
                 .and_then(|p| digits.checked_mul(p))
                 .unwrap_or(u128::MAX);
         }
-        10u128.checked_pow(-self.power as u32).map_or(0, |p| digits / p)
+        10u128
+            .checked_pow(-self.power as u32)
+            .map_or(0, |p| digits / p)
     }
 
     fn clamped(&self, most: u128) -> u128 {
@@ -95,7 +102,11 @@ fn difference(d: &Decimal) -> Option<&'static str> {
         return Some("clamp to i32");
     }
     let id = u16::try_from(v as i64).ok().map(u128::from);
-    let own = if d.trunc() == 0 { Some(0) } else { Some(d.trunc()).filter(|&n| !d.neg && n < 65536) };
+    let own = if d.trunc() == 0 {
+        Some(0)
+    } else {
+        Some(d.trunc()).filter(|&n| !d.neg && n < 65536)
+    };
     if id != own {
         return Some("string id");
     }
@@ -134,7 +145,9 @@ pub fn run(random: &mut Generator, count: u64) -> bool {
         }
     };
     let mut tried = 0u64;
-    let edges = [65535u64, 65536, 2147483646, 2147483647, 2147483648, 4294967295, 4294967296];
+    let edges = [
+        65535u64, 65536, 2147483646, 2147483647, 2147483648, 4294967295, 4294967296,
+    ];
     for edge in edges {
         for scale in 0..=5u32 {
             for step in 0..=20u64 {

@@ -8,28 +8,14 @@ mod decimals;
 mod format_cases;
 mod format_dicts;
 mod generator;
-mod stubs;
 
 // `mod cff`, of the copy.
 include!(concat!(env!("OUT_DIR"), "/cff.rs"));
-// `rustfmt::skip` keeps cargo fmt out of docs/src.
-#[rustfmt::skip]
-#[allow(dead_code)]
-#[path = "../../../docs/src/crates/efterscript-fonts/src/encoding.rs"]
-mod encoding;
-#[rustfmt::skip]
-#[allow(dead_code)]
-#[path = "../../../docs/src/crates/efterscript-fonts/src/outline.rs"]
-mod outline;
-#[rustfmt::skip]
-#[allow(dead_code)]
-#[path = "../../../docs/src/crates/efterscript-fonts/src/program.rs"]
-mod program;
+include!("siblings.rs");
 
 use cases::Cases;
 use generator::Generator;
 use std::process::ExitCode;
-use stubs::{cidfont, truetype, type1};
 
 fn main() -> ExitCode {
     let mut words = std::env::args().skip(1);
@@ -40,9 +26,16 @@ fn main() -> ExitCode {
         return ExitCode::FAILURE;
     };
     if part == "decimals" {
-        let count = words.next().and_then(|w| w.parse().ok()).unwrap_or(1_000_000);
+        let count = words
+            .next()
+            .and_then(|w| w.parse().ok())
+            .unwrap_or(1_000_000);
         let same = decimals::run(&mut Generator::new(seed), count);
-        return if same { ExitCode::SUCCESS } else { ExitCode::FAILURE };
+        return if same {
+            ExitCode::SUCCESS
+        } else {
+            ExitCode::FAILURE
+        };
     }
     let mut cases = Cases::new();
     let mut random = Generator::new(seed);
@@ -53,7 +46,9 @@ fn main() -> ExitCode {
             format_dicts::all(&mut cases, &mut random);
         }
         _ => {
-            eprintln!("usage: tools/oracle/run charstring [SEED] | format [SEED] | decimals [SEED] [COUNT]");
+            eprintln!(
+                "usage: tools/oracle/run charstring [SEED] | format [SEED] | decimals [SEED] [COUNT]"
+            );
             return ExitCode::FAILURE;
         }
     }

@@ -1,0 +1,12 @@
+//! The library: read and subset from the bytes, by the Rust binding.
+
+use mogdivash::{Font, Record};
+
+/// The new name of every subset, ours and theirs.
+pub const NAME: &[u8] = b"ABCDEF+Subset";
+
+/// `Font::read`, then `Font::subset`.
+pub fn cut(bytes: &[u8], keep: &[u16], record: &Record) -> Vec<u8> {
+    let font = Font::read(bytes).expect("a font that is read");
+    font.subset(NAME, keep, record).expect("a subset").bytes
+}

@@ -1,0 +1,85 @@
+//! What a subset is made of: the DICTs, local subroutines and FDs of a font that is read.
+
+use super::dict::{Dict, Entries, operator};
+use super::{Index, Reader, number};
+
+/// A Private and its local subroutines.
+pub struct Private {
+    pub entries: Entries,
+    pub locals: Option<Index>,
+}
+
+/// What a subset is made of, beside what `Font` tells.
+pub struct Parts {
+    pub top: Entries,
+    /// Of each FD; of a name-keyed font the one.
+    pub privates: Vec<Private>,
+    /// The FD of each glyph.
+    pub select: Vec<u8>,
+}
+
+/// The parts of the first font of bytes that are read.
+pub fn parts(bytes: &[u8], glyphs: usize) -> Option<Parts> {
+    let mut reader = Reader::new(bytes);
+    let names = reader.index(u64::from(bytes[2]), "").ok()?;
+    let tops = reader.index(names.end as u64, "").ok()?;
+    let top = reader.dict(tops.span(bytes, 0), "").ok()?;
+    let mut privates = Vec::new();
+    let mut select = vec![0; glyphs];
+    if top.last(operator::ROS).is_some() {
+        let array = reader
+            .index(top.place(operator::FD_ARRAY, "").ok()??, "")
+            .ok()?;
+        for k in 0..array.count {
+            let fd = reader.dict(array.span(bytes, k), "").ok()?;
+            privates.push(reader.private_parts(&fd)?);
+        }
+        if let Some(at) = top.place(operator::FD_SELECT, "").ok()? {
+            select = selected(&bytes[at as usize..], glyphs);
+        }
+    } else {
+        privates.push(reader.private_parts(&top)?);
+    }
+    Some(Parts {
+        top: top.entries,
+        privates,
+        select,
+    })
+}
+
+/// The FD of each glyph by an FDSelect that is read.
+fn selected(table: &[u8], glyphs: usize) -> Vec<u8> {
+    if table[0] == 0 {
+        return table[1..=glyphs].to_vec();
+    }
+    let mut select = vec![0; glyphs];
+    for range in 0..number(&table[1..3]) as usize {
+        let at = 3 + 3 * range;
+        let (first, next) = (number(&table[at..at + 2]), number(&table[at + 3..at + 5]));
+        for glyph in first..next.min(glyphs as u64) {
+            select[glyph as usize] = table[at + 2];
+        }
+    }
+    select
+}
+
+impl Reader<'_> {
+    fn private_parts(&mut self, dict: &Dict) -> Option<Private> {
+        let Some([size, offset]) = dict.last(operator::PRIVATE) else {
+            return Some(Private {
+                entries: Vec::new(),
+                locals: None,
+            });
+        };
+        let (size, at) = (size.whole_part()?, offset.whole_part()?);
+        let dict = self.dict(at as usize..(at + size) as usize, "").ok()?;
+        let locals = match dict.place(operator::SUBRS, "").ok()? {
+            None => None,
+            Some(relative) => Some(self.index(at + relative, "").ok()?),
+        };
+        Some(Private {
+            entries: dict.entries,
+            locals,
+        })
+    }
+}
