@@ -5,3 +5,9 @@ pub mod Layout
 pub mod OutcomeLaws
 pub mod CodeLaws
 pub mod PrivateLaws
+pub mod BothLaws
+pub mod Named
+pub mod NamedPutLaws
+pub mod NamedLaws
+pub mod NamedPlanLaws
+pub mod NamedKeptLaws

@@ -33,6 +33,10 @@ module _ (b : List ℕ) (f : Font) (rows : List Row) (used ws ats counts reached
 
   module _ {oldSizes oldLens sizes lens : List ℕ} {all : ℕ} (s : SizesParts p (r .kept .way) counts reacheds totals used oldSizes oldLens sizes lens all)
       (sized : 256 ≤ length oldSizes) (long : 256 ≤ length oldLens) where
+    -- so that no sum of parts is too long for a number
+    pub parts-small : all ≤ 72059392000000000
+    parts-small = ?
+
     pub all-parts : all ≡ length (privateParts p (fdsIn used) locals)
     all-parts = ?
 
