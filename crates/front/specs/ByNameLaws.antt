@@ -66,13 +66,13 @@ module _ (p : Program) (slots words : List ℕ) (k : ℕ) (ready : SlotsReady p 
       sym (named-front-len o e 0 name at₁ at₂ size at₃) ∙ front-sum 0 name (topByName p (ownByName p (orderIn k words)) at₁ at₂ size at₃) (ownByName p (orderIn k words))
 
 -- the words may change but for the glyphs and the new ids of their names
-pub renamed-stays : (p : Program) (n k : ℕ) (old new : List ℕ) → Renamed p n k old → length new ≡ length old → take k new ≡ take k old
+pub renamed-stays : (p : Program) (n k : ℕ) (old new : List ℕ) → Renamed p n k old → n + k ≤ length new → take k new ≡ take k old
     → take k (drop n new) ≡ take k (drop n old) → Renamed p n k new
 renamed-stays p n k old new r l e d =
     record {
       few = r .few;
       front = r .front;
-      room = omega (arith, r .room, l);
+      room = l;
       is = e ∙ r .is ∙ ap (λ (ws : List ℕ). packed p (glyphsIn ws)) (sym e);
       ids = d ∙ r .ids ∙ ap (λ (ws : List ℕ). newIds (ownByName p (glyphsIn ws)) (namesOf p (glyphsIn ws))) (sym e);
     }

@@ -113,3 +113,10 @@ begins-ordered p n k keep old words c b e found room =
       found = found;
       room = room;
     }
+
+-- and which glyphs they are
+pub begins-kept : (p : Program) (n k : ℕ) (keep old words : List ℕ) → n < 65536 → cidKeyed (p .top) ≡ false
+    → Begins old n (packed p (writtenOrder p (keptOf n keep))) words → k ≡ length (keptOf n keep) → allFound p (keptOf n keep) ≡ true → n + k ≤ length words
+    → orderIn k words ≡ keptOf n keep
+unfolding begins-ordered
+begins-kept p n k keep old words few c b e found room = ordered-kept p n k words few (begins-ordered p n k keep old words c b e found room)

@@ -15,7 +15,7 @@ use Rattle.subset.specs.Pruned.{countBelow}
 use Rattle.subset.specs.RankLaws.{count-next, count-few}
 
 -- none passes
-those-none : (test : ℕ → Bool) (n g : ℕ) → ((k : ℕ) → test k ≡ true → k < g) → those test n g ≡ []
+pub those-none : (test : ℕ → Bool) (n g : ℕ) → ((k : ℕ) → test k ≡ true → k < g) → those test n g ≡ []
 unfolding those
 those-none test zero g low = refl
 those-none test (suc n) g low =

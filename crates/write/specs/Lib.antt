@@ -3,3 +3,9 @@ pub mod RefusalLaws
 pub mod EntryLaws
 pub mod Layout
 pub mod OutcomeLaws
+pub mod BothLaws
+pub mod Named
+pub mod NamedPutLaws
+pub mod NamedLaws
+pub mod NamedPlanLaws
+pub mod NamedKeptLaws

@@ -1,0 +1,58 @@
+-- Laws of the cut by either keying: what ranking leaves of the work words, and what its measures ask of a plan.
+use Prim.Native.Nat.{ℕ, zero, suc, _+_, _≤_}
+use mathlib.Core.Path.{_≡_, refl, sym, ap, _∙_}
+use mathlib.Core.List.{List, [], _∷_}
+use native.Mathlib.Omega.{arith}
+use lib.ListN.{length, take, drop}
+use lib.Seq.{take-take}
+use Rattle.unfold.specs.Unfold.{Row}
+use Rattle.cff.specs.Reads.{GoodFont, programOf}
+use Rattle.cff.specs.declared.font.Font.{Font}
+use Rattle.bodies.specs.Ways.{keptCount}
+use Rattle.fds.specs.Locals.{UsedOf}
+use Rattle.fds.specs.Parts.{PartsFit}
+use Rattle.parts.specs.Ready.{Ready, Summed}
+use Rattle.parts.specs.declared.Planned.{Planned}
+use Rattle.parts.specs.CodeLaws.{globals-few}
+use Rattle.parts.specs.PrivateLaws.{parts-fit}
+
+-- ---- words
+
+part-take : (n k m : ℕ) (l : List ℕ) → n + k ≤ m → take k (drop n (take m l)) ≡ take k (drop n l)
+part-take zero k m l h = take-take k m l (omega arith)
+part-take (suc n) k zero l h = absurd (omega arith)
+part-take (suc n) k (suc m) [] h = refl
+part-take (suc n) k (suc m) (x ∷ xs) h = part-take n k m xs (omega arith)
+
+-- a part of the words that did not change is as it was
+pub part-stays : (n k m : ℕ) (old new : List ℕ) → n + k ≤ m → take m new ≡ take m old → take k (drop n new) ≡ take k (drop n old)
+part-stays n k m old new h e = sym (part-take n k m new h) ∙ ap (λ (l : List ℕ). take k (drop n l)) e ∙ part-take n k m old h
+
+-- ---- measures
+
+module _ (b : List ℕ) (f : Font) (rows : List Row) (used ws ats counts reacheds : List ℕ) (r : Planned) (ready : Ready b f rows used ws r ats counts reacheds) where
+  -- the INDEXes of the globals and of the charstrings can be measured
+  pub globals-measured : (keptCount (r .kept .way) (r .kept .globals .reached) (r .kept .globals .count) ≤ 65535) × (r .«globals_total» ≤ 281474976710656)
+  globals-measured = (globals-few b f rows used ws ats counts reacheds r ready, omega (arith, ready .globalsFew))
+
+  pub glyphs-measured : r .kept .count ≤ 65535 → (r .kept .count ≤ 65535) × (r .«glyphs_total» ≤ 281474976710656)
+  glyphs-measured few = (few, omega (arith, ready .glyphsFew))
+
+  -- and so can the Private parts
+  pub parts-measured : (totals : List ℕ) → Summed b f rows used ws r ats counts reacheds totals → (sizes lens : ℕ) → 256 ≤ sizes → 256 ≤ lens
+      → (length b ≤ 67108864) × GoodFont b f × (256 ≤ length used) × UsedOf (length (programOf b f .privates)) used
+      × (256 ≤ length counts) × (256 ≤ length reacheds) × (256 ≤ length totals) × PartsFit (programOf b f) (r .kept .way) counts reacheds totals used
+      × (256 ≤ sizes) × (256 ≤ lens)
+  parts-measured totals summed sizes lens s l =
+      let h = ready .asked .locals in (
+        ready .read .size,
+        ready .read .font,
+        h .usedLong,
+        h .fds,
+        h .countsLong,
+        h .reachedsLong,
+        summed .long,
+        parts-fit b f rows used ws ats counts reacheds r ready totals summed,
+        s,
+        l,
+      )
