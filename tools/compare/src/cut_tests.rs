@@ -2,7 +2,7 @@
 
 use crate::cut::{self, Answer, Cut, Lent, Outcome, Subset, WORDS};
 use crate::cut_compare::agrees;
-use crate::library::{Library, Rooms};
+use crate::library::{Library, Rooms, SubsetFn};
 use crate::{model, original, stub};
 
 /// The font of document 01, 'One sheet, whole'.
@@ -34,11 +34,8 @@ fn outcome(font: &[u8], cut: &Cut) -> Outcome {
     cut::cut(font, read, Some(&program), cut)
 }
 
-/// An entry of subsetting.
-type Entry = fn(&[u8], &Cut, &mut Rooms<'_>) -> u8;
-
 /// What the comparison says of a library with this entry, room and record flag as given.
-fn verdict(subset: Entry, room: usize, flag: u8) -> Result<(), String> {
+fn verdict(subset: SubsetFn, room: usize, flag: u8) -> Result<(), String> {
     let font = bytes(FONT);
     let cut = Cut { flag, ..sheet() };
     let lent = Lent {
@@ -119,7 +116,7 @@ macro_rules! wrong {
 
 #[test]
 fn calls_that_do_wrong_are_found() {
-    let entries: [(&str, Entry); 10] = [
+    let entries: [(&str, SubsetFn); 10] = [
         ("a byte", |font, cut, rooms| {
             let refusal = as_it_is(font, cut, rooms);
             rooms.out.all[52] ^= 1;

@@ -34,7 +34,7 @@ impl Decimal {
             digits: value.unsigned_abs(),
             power: 0,
         };
-        while n.digits != 0 && n.digits % 10 == 0 {
+        while n.digits != 0 && n.digits.is_multiple_of(10) {
             n.digits /= 10;
             n.power += 1;
         }

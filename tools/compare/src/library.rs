@@ -15,6 +15,12 @@ impl<T> Room<'_, T> {
     }
 }
 
+/// Font, kind and number, bytes, their length.
+pub type ItemFn = fn(&[u8], (u8, u64), &mut Room<'_, u8>, &mut Room<'_, u64>) -> u8;
+
+/// Font, what is asked by the entry of that keying, what is lent.
+pub type SubsetFn = fn(&[u8], &Cut, &mut Rooms<'_>) -> u8;
+
 /// The functions of the crate `capi`, or others in their place: each returns 0 or a refusal.
 #[derive(Clone, Copy)]
 pub struct Library {
@@ -24,12 +30,10 @@ pub struct Library {
     pub find_name: fn(&[u8], &[u8], &mut Room<'_, u64>) -> u8,
     /// Font, CID, glyph.
     pub find_cid: fn(&[u8], u16, &mut Room<'_, u64>) -> u8,
-    /// Font, kind and number, bytes, their length.
-    pub item: fn(&[u8], (u8, u64), &mut Room<'_, u8>, &mut Room<'_, u64>) -> u8,
+    pub item: ItemFn,
     /// Font, kind and number.
     pub item_refusal: fn(&[u8], (u8, u64)) -> u8,
-    /// Font, what is asked by the entry of that keying, what is lent.
-    pub subset: fn(&[u8], &Cut, &mut Rooms<'_>) -> u8,
+    pub subset: SubsetFn,
 }
 
 /// What a call of subsetting may write to.

@@ -51,7 +51,7 @@ impl Reader<'_> {
             return Ok(index);
         }
         let size = self.bytes_at(at as u64 + 2, 1, part, "offset size ends early")?[0];
-        if size < 1 || size > 4 {
+        if !(1..=4).contains(&size) {
             return refuse(MALFORMED, part, "offset size", at + 2);
         }
         index.offset_size = usize::from(size);
