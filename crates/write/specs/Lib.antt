@@ -5,3 +5,7 @@ pub mod Layout
 pub mod OutcomeLaws
 pub mod CodeLaws
 pub mod PrivateLaws
+pub mod Cid
+pub mod CidKeptLaws
+pub mod CidPlacesLaws
+pub mod CidPutLaws

@@ -36,6 +36,9 @@ module _ (b : List ℕ) (f : Font) (rows : List Row) (used ws ats counts reached
     pub all-parts : all ≡ length (privateParts p (fdsIn used) locals)
     all-parts = ?
 
+    pub parts-small : all ≤ 72059392000000000
+    parts-small = ?
+
     pub sizes-held : take (length (fdsIn used)) sizes ≡ sizesOf p (fdsIn used) locals
     sizes-held = ?
 

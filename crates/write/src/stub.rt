@@ -4,7 +4,8 @@ ghost use mathlib.Core.Path.{_≡_};
 ghost use Prim.Native.Nat.{_+_, _*_, _≤_};
 ghost use lib.ListN.{length, take};
 ghost use Rattle.octets.specs.Octets.{Wrote};
-ghost use Rattle.index.specs.Write.{indexBytes};
+ghost use Rattle.index.specs.Write.{indexBytes, indexLen};
+ghost use Rattle.bodies.specs.Ways.{keptCount};
 ghost use Rattle.record.specs.Record.{rowsOf};
 ghost use Rattle.cff.specs.Reads.{programOf};
 ghost use Rattle.subset.specs.Pruned.{pruned};
@@ -83,4 +84,43 @@ pub fn plan_all(
         globals_total: found.globals_total,
         glyphs_total: found.glyphs_total,
     }
+}
+
+// The INDEX of global subroutines, from `at` on; the place after it.
+pub fn put_globals(
+    r: Planned,
+    font: &[u8],
+    f: Font,
+    used: &[u32],
+    words: &[u32],
+    ats: &[usize],
+    counts: &[usize],
+    reacheds: &[usize],
+    rows: &[u8],
+    out: &mut [u8],
+    at: usize,
+) -> usize
+    requires { ⌜ (Ready (now font) f (rowsOf (now rows)) (now used) (now words) r (now ats) (now counts) (now reacheds))
+        × (at + length (indexBytes (bodiesFor (now font) f (rowsOf (now rows)) (now used) (now words) r .globals)) ≤ 67108864)
+        × (at + length (indexBytes (bodiesFor (now font) f (rowsOf (now rows)) (now used) (now words) r .globals)) ≤ length (now out)) ⌝ }
+    ensures { λ r'. ⌜ Wrote (now (out .entry)) at
+        (indexBytes (bodiesFor (now (font .entry)) f (rowsOf (now (rows .entry))) (now (used .entry)) (now (words .entry)) r .globals)) (now (out .exit)) r' ⌝ }
+{
+    at
+}
+
+// The length of the INDEX of global subroutines.
+pub fn globals_len(r: Planned) -> usize
+    requires { ⌜ (keptCount (r .kept .way) (r .kept .globals .reached) (r .kept .globals .count) ≤ 65535) × (r .«globals_total» ≤ 281474976710656) ⌝ }
+    ensures { λ r'. ⌜ (r' ≡ indexLen (keptCount (r .kept .way) (r .kept .globals .reached) (r .kept .globals .count)) (r .«globals_total»)) × (r' ≤ 281474977000000) ⌝ }
+{
+    0
+}
+
+// The length of the INDEX of charstrings.
+pub fn glyphs_len(r: Planned) -> usize
+    requires { ⌜ (r .kept .count ≤ 65535) × (r .«glyphs_total» ≤ 281474976710656) ⌝ }
+    ensures { λ r'. ⌜ (r' ≡ indexLen (r .kept .count) (r .«glyphs_total»)) × (r' ≤ 281474977000000) ⌝ }
+{
+    0
 }
