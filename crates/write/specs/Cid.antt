@@ -1,11 +1,11 @@
 -- A CID-keyed subset over what the code holds (document 01, 'Layout'): the glyphs and their FDs in the work words, the places of its parts, and
 -- the parts in three groups, as they are written.
-use Prim.Native.Nat.{ℕ, _+_, _*_, _-_, _≤_, _<_}
+use Prim.Native.Nat.{ℕ, _+_, _*_, _≤_, _<_}
 use mathlib.Core.Path.{_≡_}
 use mathlib.Core.Bool.{true}
 use mathlib.Core.List.{List, _++_}
 use lib.Dec.{ltb}
-use lib.ListN.{length, take, getD}
+use lib.ListN.{length, take}
 use Rattle.octets.specs.Pick.{pick}
 use Rattle.index.specs.Write.{indexBytes, indexLen}
 use Rattle.unfold.specs.Unfold.{Row}

@@ -1,9 +1,9 @@
 -- The kept glyphs of a CID-keyed subset and their FDs in the work words, from the order to the plan (document 01, 'Layout'): what each step
 -- asks, and what is ready when the plan is made.
-use Prim.Native.Nat.{ℕ, zero, suc, _+_, _*_, _≤_, _<_}
+use Prim.Native.Nat.{ℕ, suc, _+_, _*_, _≤_, _<_}
 use mathlib.Core.Path.{_≡_, refl, sym, ap, _∙_, subst, fun-ext}
 use mathlib.Core.Bool.{Bool, true, false, not}
-use mathlib.Core.List.{List, [], _∷_, _++_}
+use mathlib.Core.List.{List, [], _∷_}
 use native.Mathlib.Omega.{arith}
 use lib.Dec.{eqb}
 use lib.ListN.{length, take, drop, getD}
@@ -11,7 +11,6 @@ use lib.Seq.{take-at, drop-at, take-add, take-take, length-take-le}
 use Rattle.octets.specs.Pick.{pick}
 use Rattle.octets.specs.Octets.{put}
 use Rattle.octets.specs.PutLaws.{put-length, drop-put-at}
-use Rattle.index.specs.IndexLaws.{items-length}
 use Rattle.unfold.specs.Unfold.{Row}
 use Rattle.dict.specs.Lookup.{cidKeyed}
 use Rattle.charset.specs.FdSelectBytes.{Fds}
@@ -27,7 +26,7 @@ use Rattle.subset.specs.Subset.{ownByCid, newFds, subsetByCid}
 use Rattle.subset.specs.Cut.{Outcome, allBelow, allFound, written}
 use Rattle.faithful.specs.KeptLaws.{kept-some, kept-below, order-same, order-in}
 use Rattle.faithful.specs.UsedLaws.{used-there}
-use Rattle.kept.specs.Packed.{packed, glyphsIn, marked, Begins}
+use Rattle.kept.specs.Packed.{packed, glyphsIn, Begins}
 use Rattle.kept.specs.FdsLaws.{glyphs-packed}
 use Rattle.kept.specs.FdsOrderLaws.{below-all, order-below, order-length, order-glyphs}
 use Rattle.own_strings.specs.StageLaws.{take-front}
@@ -42,7 +41,8 @@ use Rattle.plan.specs.Sizes.{OrderIn}
 use Rattle.plan.specs.FontLaws.{fds-at}
 use Rattle.parts.specs.Ready.{FontHeld, orderIn, PlanIn, bodiesFor, Ready}
 use Rattle.parts.specs.declared.Planned.{Planned}
-use Rattle.write.specs.Entry.{Cut, Passed}
+use Rattle.write.specs.Entry.{Cut}
+use Rattle.write.specs.RefusalLaws.{glyphs-are}
 use Rattle.write.specs.Cid.{sized, Gathered, CidReady, cidBytes}
 use Rattle.write.specs.CidPlacesLaws.{cut-sized}
 use Rattle.write.specs.declared.Answer.{Answer}
@@ -63,21 +63,22 @@ module _ (b : List ℕ) (f : Font) (held : FontHeld b f) where
   n = f .charstrings .count
 
   many-glyphs : length (p .charstrings) ≡ n
-  many-glyphs = items-length b (f .charstrings)
+  many-glyphs = glyphs-are b f (held .font)
 
   few-glyphs : n < 65536
   few-glyphs = held .font .glyphs .held .few
 
-  module _ (name : ℕ) (keep rec : List ℕ) (flag : ℕ) (old : List ℕ) (passed : Passed true p name keep rec flag (length old)) where
+  module _ (keep old : List ℕ) (all-below : allBelow (length (p .charstrings)) keep ≡ true)
+      (all-found : allFound p (keptOf (length (p .charstrings)) keep) ≡ true) (all-words : workSize p ≤ length old) where
     two-words : n + n ≤ length old
-    two-words = omega (arith, passed .room, many-glyphs)
+    two-words = omega (arith, all-words, many-glyphs)
 
     -- what the order asks
     pub order-asked : GoodFont b f × (allBelow n keep ≡ true) × (allFound p (keptOf n keep) ≡ true) × (n ≤ length old)
     order-asked = (
       held .font,
-      ap (λ (m : ℕ). allBelow m keep) (sym many-glyphs) ∙ passed .below,
-      ap (λ (m : ℕ). allFound p (keptOf m keep)) (sym many-glyphs) ∙ passed .found,
+      ap (λ (m : ℕ). allBelow m keep) (sym many-glyphs) ∙ all-below,
+      ap (λ (m : ℕ). allFound p (keptOf m keep)) (sym many-glyphs) ∙ all-found,
       omega (arith, two-words),
     )
 

@@ -3,17 +3,15 @@
 use Prim.Native.Nat.{ℕ, _+_, _*_, _≤_, _<_}
 use mathlib.Core.Path.{_≡_, refl, sym, ap, _∙_, subst}
 use mathlib.Core.Bool.{Bool, true, false}
-use mathlib.Core.List.{List, [], _∷_}
+use mathlib.Core.List.{List}
 use native.Mathlib.Nat.{mul-le-mul}
 use native.Mathlib.Omega.{arith}
 use borrow.Author.Tests.{lt-ltb, le-ltb}
 use lib.Dec.{ltb, eqb}
 use lib.ListN.{length, replicate, length-replicate}
 use Rattle.octets.specs.Pick.{pick, pick-ind}
-use Rattle.octets.specs.Octets.{put, Wrote}
-use Rattle.index.specs.Index.{itemsOf}
-use Rattle.index.specs.IndexLaws.{items-length}
-use Rattle.index.specs.Write.{sizeFor, indexBytes, indexLen}
+use Rattle.octets.specs.Octets.{Wrote}
+use Rattle.index.specs.Write.{sizeFor, indexLen}
 use Rattle.index.specs.WriteLaws.{size-high}
 use Rattle.unfold.specs.Unfold.{Row}
 use Rattle.charset.specs.CharsetBytes.{charsetBytes, charsetLen}
@@ -27,7 +25,7 @@ use Rattle.cff.specs.declared.font.Font.{Font}
 use Rattle.subset.specs.Kept.{usedFds}
 use Rattle.subset.specs.KeptListLaws.{those-count}
 use Rattle.subset.specs.Pruned.{Pruned}
-use Rattle.subset.specs.Subset.{privateParts, ownByName, ownByCid, topByCid, cidsOf, subsetByCid, subsetByName, subsetBytes}
+use Rattle.subset.specs.Subset.{privateParts, ownByName, ownByCid, cidsOf, subsetByCid, subsetByName, subsetBytes}
 use Rattle.subset.specs.Cut.{Outcome, refused, subset, ownOf, written}
 use Rattle.glyph_tables.specs.Tables.{part, highs, newFdsBy, Numbered}
 use Rattle.glyph_tables.specs.PartLaws.{highs-length}
@@ -43,7 +41,8 @@ use Rattle.front.specs.PrepareLaws.{has-strings, cid-own, slots-bound}
 use Rattle.parts.specs.Ready.{FontHeld, Summed}
 use Rattle.parts.specs.declared.Planned.{Planned}
 use Rattle.write.specs.Entry.{Cut}
-use Rattle.write.specs.Layout.{cidEnd, cidPrivates, cid-length}
+use Rattle.write.specs.RefusalLaws.{glyphs-are}
+use Rattle.write.specs.Layout.{cidPrivates, cid-length}
 use Rattle.write.specs.CodeLaws.{globals-few, globals-long, glyphs-long}
 use Rattle.write.specs.PrivateLaws.{parts-fit, all-parts, parts-small, dicts-placed, dicts-are, dicts-length}
 use Rattle.write.specs.Cid.{sized, StringsReady, placesOf, placesBy, PartsSmall, writtenIn, bodiesIn, CidReady, DictsReady, cidBytes, cidPlaces}
@@ -116,7 +115,7 @@ module _ (b : List ℕ) (f : Font) (rows : List Row) (used ws : List ℕ) (r : P
   order = writtenIn b f rows used ws r
 
   many-glyphs : length (p .charstrings) ≡ n
-  many-glyphs = items-length b (f .charstrings)
+  many-glyphs = glyphs-are b f (c .ready .read .font)
 
   few-glyphs : n < 65536
   few-glyphs = c .ready .read .font .glyphs .held .few

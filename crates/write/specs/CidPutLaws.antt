@@ -1,11 +1,11 @@
 -- The parts of a CID-keyed subset written one behind the other (document 01, 'Layout'): what each writer asks is there, and together they write
 -- the subset.
-use Prim.Native.Nat.{ℕ, _+_, _*_, _≤_, _<_}
-use mathlib.Core.Path.{_≡_, refl, sym, ap, _∙_, subst}
+use Prim.Native.Nat.{ℕ, _+_, _≤_, _<_}
+use mathlib.Core.Path.{_≡_, sym, ap, _∙_, subst}
 use mathlib.Core.Bool.{true}
-use mathlib.Core.List.{List, [], _∷_, _++_, append-assoc}
+use mathlib.Core.List.{List, _++_, append-assoc}
 use native.Mathlib.Omega.{arith}
-use lib.ListN.{length, take, length-append}
+use lib.ListN.{length, length-append}
 use Rattle.octets.specs.Octets.{Wrote}
 use Rattle.octets.specs.PutLaws.{wrote-then, wrote-as, wrote-length}
 use Rattle.index.specs.Write.{indexBytes}

@@ -4,13 +4,16 @@ ghost use mathlib.Core.Bool.{true};
 ghost use Prim.Native.Nat.{_≤_};
 ghost use lib.ListN.{length};
 ghost use Rattle.record.specs.Record.{rowsOf};
+ghost use Rattle.cff.specs.Find.{workSize};
 ghost use Rattle.cff.specs.Reads.{programOf};
 ghost use Rattle.subset.specs.Kept.{keptOf};
+ghost use Rattle.subset.specs.Cut.{allBelow, allFound};
 ghost use Rattle.fds.specs.Locals.{fdsIn};
 ghost use Rattle.parts.specs.Ready.{FontHeld, Summed};
 ghost use Rattle.write.specs.Entry.{cutBehind, Cut, Passed};
-ghost use Rattle.write.specs.Cid.{sized, Gathered, StringsReady, CidReady, cidBytes};
+ghost use Rattle.write.specs.Cid.{sized, Gathered, StringsReady, CidReady, DictsReady, cidBytes, cidPlaces};
 use crate::Answer;
+use crate::cid_parts::Places;
 use crate::cid_parts::place_parts;
 use crate::cid_parts::put_parts;
 use cff::font::Font;
@@ -20,16 +23,10 @@ use refusal::Refusal;
 
 // The kept glyphs in the order in which they are written, in the first words, and their FDs in the words from the number of glyphs on; how
 // many they are.
-fn gather(
-    font: &[u8],
-    f: Font,
-    name: usize,
-    keep: &[u16],
-    rows: &[u8],
-    traced: u8,
-    words: &mut [u32],
-) -> usize
-    requires { ⌜ (FontHeld (now font) f) × (Passed true (programOf (now font) f) name (now keep) (now rows) traced (length (now words))) ⌝ }
+fn gather(font: &[u8], f: Font, keep: &[u16], words: &mut [u32]) -> usize
+    requires { ⌜ (FontHeld (now font) f) × (allBelow (length (programOf (now font) f .charstrings)) (now keep) ≡ true)
+        × (allFound (programOf (now font) f) (keptOf (length (programOf (now font) f .charstrings)) (now keep)) ≡ true)
+        × (workSize (programOf (now font) f) ≤ length (now words)) ⌝ }
     ensures { λ r. ⌜ Gathered (programOf (now (font .entry)) f) (keptOf (length (programOf (now (font .entry)) f .charstrings)) (now (keep .entry)))
         (f .charstrings .count) (now (words .entry)) r (now (words .exit)) ⌝ }
 {
@@ -38,7 +35,70 @@ fn gather(
     k
 }
 
-// The subset from its plan, measured and then written: in the front of the output, or refusal 10 or 11.
+// The subset that has these places, by its length: in the front of the output, or refusal 10 or 11.
+fn put_sized(
+    r: Planned,
+    at: Places,
+    own: Own,
+    count: usize,
+    font: &[u8],
+    f: Font,
+    name: &[u8],
+    slots: &[usize],
+    used: &[u32],
+    words: &[u32],
+    ats: &[usize],
+    counts: &[usize],
+    reacheds: &[usize],
+    totals: &[usize],
+    rows: &[u8],
+    sizes: &[usize],
+    lens: &[usize],
+    out: &mut [u8],
+) -> Answer
+    requires { ⌜ (CidReady (now font) f (rowsOf (now rows)) (now used) (now words) r (now ats) (now counts) (now reacheds))
+        × (Summed (now font) f (rowsOf (now rows)) (now used) (now words) r (now ats) (now counts) (now reacheds) (now totals))
+        × (StringsReady (programOf (now font) f) (now slots) own) × (length (now name) ≤ 65535)
+        × (at ≡ cidPlaces (now font) f (rowsOf (now rows)) (now used) (now words) r (now name))
+        × (at .end ≤ 67108864 → DictsReady (now font) f (rowsOf (now rows)) (now used) (now words) r (now sizes) (now lens) count (at .privates)) ⌝ }
+    ensures { λ a. ⌜ Cut (sized (r .kept .way) (cidBytes (now (font .entry)) f (rowsOf (now (rows .entry))) (now (used .entry)) (now (words .entry)) r (now (name .entry)))
+        (length (now (out .entry)))) (now (out .entry)) (now (out .exit)) a ⌝ }
+{
+    let kept = r.kept;
+    let end = at.end;
+    if 67108864 < end {
+        return Answer::Refused(Refusal::SUBSET);
+    }
+    if out.len() < end {
+        return Answer::Refused(Refusal::OUTPUT);
+    }
+    put_parts(
+        r,
+        at,
+        own,
+        count,
+        font,
+        f,
+        name,
+        slots,
+        used,
+        words,
+        ats,
+        counts,
+        reacheds,
+        totals,
+        rows,
+        sizes,
+        lens,
+        out,
+    );
+    Answer::Subset {
+        way: kept.way,
+        len: end,
+    }
+}
+
+// The subset from its plan: measured, and then in the front of the output, or refusal 10 or 11.
 fn write_planned(
     r: Planned,
     own: Own,
@@ -64,13 +124,11 @@ fn write_planned(
 {
     let kept = r.kept;
     let k = kept.count;
-    let way = kept.way;
     let charstrings = f.charstrings;
-    let n = charstrings.count;
     let mut sizes = [0usize; 256];
     let mut lens = [0usize; 256];
     let all = fds::parts::part_sizes(
-        way,
+        kept.way,
         font,
         f,
         used,
@@ -82,17 +140,10 @@ fn write_planned(
     );
     let front = front::front_len(true, font, f, name.len(), slots, own);
     let globals = crate::stub::globals_len(r);
-    let select = glyph_tables::select::select_len(words, n, k, used);
+    let select = glyph_tables::select::select_len(words, charstrings.count, k, used);
     let glyphs = crate::stub::glyphs_len(r);
     let at = place_parts(front, globals, k, select, glyphs, count, all);
-    let end = at.end;
-    if 67108864 < end {
-        return Answer::Refused(Refusal::SUBSET);
-    }
-    if out.len() < end {
-        return Answer::Refused(Refusal::OUTPUT);
-    }
-    put_parts(
+    put_sized(
         r,
         at,
         own,
@@ -111,8 +162,7 @@ fn write_planned(
         &sizes,
         &lens,
         out,
-    );
-    Answer::Subset { way, len: end }
+    )
 }
 
 // The subset in the front of the output, or refusal 10 or 11; refusal 12 cannot be, since a CID-keyed subset has at most 8 own strings. The
@@ -133,12 +183,11 @@ pub fn cut_cid(
         (now (out .entry)) (now (out .exit)) r ⌝ }
 {
     let charstrings = f.charstrings;
-    let n = charstrings.count;
-    let k = gather(font, f, name.len(), keep, rows, traced, &mut *words);
+    let k = gather(font, f, keep, &mut *words);
     let mut slots = [0usize; 16];
     let own = front::prepare_cid(font, f, &mut slots);
     let mut used = [0u32; 256];
-    let count = glyph_tables::fds::rank_fds(&*words, n, k, &mut used);
+    let count = glyph_tables::fds::rank_fds(&*words, charstrings.count, k, &mut used);
     let mut ats = [0usize; 256];
     let mut counts = [0usize; 256];
     let mut reacheds = [0usize; 256];

@@ -6,17 +6,9 @@ use lib.ListN.{replicate}
 use Rattle.write.specs.CidKeptLaws.{ranks-asked, fds-counted, plan-asked, cid-ready, cut-planned}
 use Rattle.write.specs.CidPlacesLaws.{strings-ready, own-few, table-room}
 use borrow.Author.Needs.{needs}
-use Rattle.front.proofs.prepare_cid.Reads as prepare-cid-reads
-use Rattle.glyph_tables.proofs.fds.rank_fds.Reads as rank-fds-reads
 use Rattle.write.proofs.by_cid.cut_cid.Statement.{statement}
 use Rattle.write.proofs.by_cid.cut_cid.Tie as tie
-use Rattle.write.proofs.by_cid.cut_cid.Reads as reads
-use Rattle.write.proofs.by_cid.cut_cid.Lts as lts
-use Rattle.write.proofs.by_cid.gather.Reads as gather-reads
-use Rattle.write.proofs.by_cid.write_planned.Reads as write-planned-reads
-use Rattle.write.proofs.stub.plan_all.Reads as plan-all-reads
 
--- places
 -- the FDs' table, the strings, the glyphs and the arguments behind the plan
 abbrev R : tie.After-plan-all → tie.After-rank-fds
 R p = p .before .before .before .before .before .before .before .before
@@ -30,7 +22,6 @@ G q = q .before .before .before .before
 abbrev S : tie.After-gather → tie.Start
 S g = g .before .before .before .before .before .before .before .before .before
 
--- end
 gather-requires : tie.Need-gather-requires
 gather-requires c κs = search needs
 
@@ -109,7 +100,7 @@ write-planned-requires c κs =
 
 same-length : tie.Need-same-length
 same-length c =
-    c .before .before .before .before .before .before .before .before .before .before .before .before .before .before .before .before .before .plan-all .kept .1 .1 .1 .1 .1 .1 .1 .0 ∙ c .before .before .before .before .before .before .before .before .before .before .before .before .before .before .before .before .before .before .before .before .before .before .before .before .before .before .before .before .before .before .before .before .before .gather .kept .1 .1 .1 .1 .1 .1 .0
+    c .before .before .before .before .before .before .before .before .before .before .before .before .before .before .before .before .before .plan-all .kept .1 .1 .1 .1 .1 .1 .1 .0 ∙ c .before .before .before .before .before .before .before .before .before .before .before .before .before .before .before .before .before .before .before .before .before .before .before .before .before .before .before .before .before .before .before .before .before .gather .kept .1 .1 .1 .0
 
 same-length-2 : tie.Need-same-length-2
 same-length-2 c = search needs

@@ -1,25 +1,14 @@
--- `by_cid::write_planned` meets its contract: the places that were measured are the subset's, and its length decides.
+-- `by_cid::write_planned` meets its contract: the places that were measured are the subset's.
 use denote.Ref.{now}
 use Rattle.record.specs.Record.{rowsOf}
-use mathlib.Core.Path.{_≡_, refl, sym, ap, _∙_}
-use lib.ListN.{length, replicate}
-use Rattle.write.specs.Cid.{cidBytes, cidPlaces}
-use Rattle.write.specs.CidPlacesLaws.{held-small, table-room, select-asked, globals-measure, glyphs-measure, sizes-asked, bytes-long, places-asked, places-are, dicts-ready, sized-long, sized-room, sized-written}
-use Rattle.write.specs.declared.cid_parts.Places.{Places}
+use mathlib.Core.Path.{_≡_, refl, _∙_}
+use lib.ListN.{replicate}
+use Rattle.write.specs.Cid.{cidPlaces}
+use Rattle.write.specs.CidPlacesLaws.{held-small, table-room, select-asked, globals-measure, glyphs-measure, sizes-asked, places-asked, places-are, dicts-ready}
 use borrow.Author.Needs.{needs}
-use Rattle.fds.proofs.parts.part_sizes.Reads as part-sizes-reads
-use Rattle.front.proofs.front_len.Reads as front-len-reads
-use Rattle.glyph_tables.proofs.select.select_len.Reads as select-len-reads
 use Rattle.write.proofs.by_cid.write_planned.Statement.{statement}
 use Rattle.write.proofs.by_cid.write_planned.Tie as tie
-use Rattle.write.proofs.by_cid.write_planned.Reads as reads
-use Rattle.write.proofs.by_cid.write_planned.Lts as lts
-use Rattle.write.proofs.cid_parts.place_parts.Reads as place-parts-reads
-use Rattle.write.proofs.cid_parts.put_parts.Reads as put-parts-reads
-use Rattle.write.proofs.stub.globals_len.Reads as globals-len-reads
-use Rattle.write.proofs.stub.glyphs_len.Reads as glyphs-len-reads
 
--- places
 -- the arguments, and the measures behind the places
 abbrev S : tie.After-part-sizes → tie.Start
 S m = m .before .before .before .before .before .before .before .before .before .before .before .before .before .before .before .before
@@ -39,15 +28,6 @@ placed x =
     (now (a .name)) (now (a .slots)) (a .own) (s .pre .2) _ _ _ _
     (x .before .before .before .before .front-len .ensures .0) (x .before .before .before .globals-len .ensures .0) (x .before .before .select-len .ensures) (x .before .glyphs-len .ensures .0)
 
--- so long is it
-long : (x : tie.After-place-parts) → let a = S (M x) .args in
-    length (cidBytes (now (a .font)) (a .f) (rowsOf (now (a .rows))) (now (a .used)) (now (a .words)) (a .r) (now (a .name))) ≡ x .place-parts .result .end
-long x =
-    let s = S (M x) in
-    let a = s .args in
-    bytes-long (now (a .font)) (a .f) (rowsOf (now (a .rows))) (now (a .used)) (now (a .words)) (a .r) (now (a .ats)) (now (a .counts)) (now (a .reacheds)) (s .pre .0) (now (a .totals)) (s .pre .1) (now (a .name)) ∙ ap (λ (y : Places). y .end) (sym (placed x))
-
--- end
 slice-aggregate-part-sizes : tie.Need-slice-aggregate-part-sizes
 slice-aggregate-part-sizes c = search needs
 
@@ -94,50 +74,32 @@ place-parts-requires c κs =
     (c .before .before .before .front-len .ensures .0) (c .before .before .globals-len .ensures .0) (c .before .select-len .ensures) (c .glyphs-len .ensures .0)
     (c .before .before .before .front-len .ensures .1) (c .before .before .globals-len .ensures .1) (c .glyphs-len .ensures .1)
 
-returns : tie.Need-returns
-returns c =
-    let x = c .before in
-    let a = S (M x) .args in
-    sized-long (a .r .kept .way) (cidBytes (now (a .font)) (a .f) (rowsOf (now (a .rows))) (now (a .used)) (now (a .words)) (a .r) (now (a .name))) (now (a .out)) _ (long x) (c .if1 .taken)
+slice-aggregate-put-sized : tie.Need-slice-aggregate-put-sized
+slice-aggregate-put-sized c = search needs
 
-returns-2 : tie.Need-returns-2
-returns-2 c =
-    let x = c .before .before in
-    let a = S (M x) .args in
-    sized-room (a .r .kept .way) (cidBytes (now (a .font)) (a .f) (rowsOf (now (a .rows))) (now (a .used)) (now (a .words)) (a .r) (now (a .name))) (now (a .out)) _ (long x) (c .before .if1 .left) (c .if2 .taken)
+slice-aggregate-put-sized-2 : tie.Need-slice-aggregate-put-sized-2
+slice-aggregate-put-sized-2 c = search needs
 
-slice-aggregate-put-parts : tie.Need-slice-aggregate-put-parts
-slice-aggregate-put-parts c = search needs
-
-slice-aggregate-put-parts-2 : tie.Need-slice-aggregate-put-parts-2
-slice-aggregate-put-parts-2 c = search needs
-
-put-parts-requires : tie.Need-put-parts-requires
-put-parts-requires c κs =
-    let x = c .before .before .before .before .before in
+put-sized-requires : tie.Need-put-sized-requires
+put-sized-requires c κs =
+    let x = c .before .before .before in
     let m = M x in
     let s = S m in
-    let a = s .args in
-    let small = c .before .before .before .before .if1 .left in (
+    let a = s .args in (
       s .pre .0,
       s .pre .1,
       s .pre .2,
       s .pre .3,
       placed x,
-      dicts-ready (now (a .font)) (a .f) (rowsOf (now (a .rows))) (now (a .used)) (now (a .words)) (a .r) (now (a .ats)) (now (a .counts)) (now (a .reacheds)) (s .pre .0) (now (a .totals)) (s .pre .1) (m .part-sizes .ensures) (table-room _ refl) (table-room _ refl) (a .count) (s .pre .4) (now (a .name)) _ (placed x) small,
-      small,
-      c .before .before .before .if2 .left,
+      dicts-ready (now (a .font)) (a .f) (rowsOf (now (a .rows))) (now (a .used)) (now (a .words)) (a .r) (now (a .ats)) (now (a .counts)) (now (a .reacheds)) (s .pre .0) (now (a .totals)) (s .pre .1) (m .part-sizes .ensures) (table-room _ refl) (table-room _ refl) (a .count) (s .pre .4) (now (a .name)) _ (placed x),
     )
 
 same-length : tie.Need-same-length
 same-length c = search needs
 
-returns-3 : tie.Need-returns-3
-returns-3 c =
-    let w = c .before .before in
-    let x = c .before .before .before .before .before .before .before .before in
-    let a = S (M x) .args in
-    sized-written (a .r .kept .way) (cidBytes (now (a .font)) (a .f) (rowsOf (now (a .rows))) (now (a .used)) (now (a .words)) (a .r) (now (a .name))) (now (a .out)) _ (long x) (c .before .before .before .before .before .before .before .if1 .left) (c .before .before .before .before .before .before .if2 .left) (w .put-parts .ensures)
+returns : tie.Need-returns
+returns c =
+    c .before .before .put-sized .ensures
 
 pub write-planned-spec : {M : Type 1} → statement M
 write-planned-spec =
@@ -151,10 +113,8 @@ write-planned-spec =
     select-len-requires
     glyphs-len-requires
     place-parts-requires
-    returns
-    returns-2
-    slice-aggregate-put-parts
-    slice-aggregate-put-parts-2
-    put-parts-requires
+    slice-aggregate-put-sized
+    slice-aggregate-put-sized-2
+    put-sized-requires
     same-length
-    returns-3)
+    returns)

@@ -3,11 +3,8 @@ use native.Mathlib.Omega.{arith}
 use Rattle.write.specs.Cid.{placesBy}
 use Rattle.write.specs.CidPlacesLaws.{dicts-short}
 use borrow.Author.Needs.{needs}
-use Rattle.index.proofs.index_len.Reads as index-len-reads
 use Rattle.write.proofs.cid_parts.place_parts.Statement.{statement}
 use Rattle.write.proofs.cid_parts.place_parts.Tie as tie
-use Rattle.write.proofs.cid_parts.place_parts.Reads as reads
-use Rattle.write.proofs.cid_parts.place_parts.Lts as lts
 
 add-at1 : tie.Need-add-at1
 add-at1 c = search needs

@@ -3,12 +3,8 @@ use denote.Ref.{now}
 use Rattle.record.specs.Record.{rowsOf}
 use Rattle.write.specs.CidPutLaws.{select-put, glyphs-put, glyphs-wrote}
 use borrow.Author.Needs.{needs}
-use Rattle.bodies.proofs.charstrings.put_charstrings.Reads as put-charstrings-reads
-use Rattle.glyph_tables.proofs.select.put_select.Reads as put-select-reads
 use Rattle.write.proofs.cid_parts.put_glyphs.Statement.{statement}
 use Rattle.write.proofs.cid_parts.put_glyphs.Tie as tie
-use Rattle.write.proofs.cid_parts.put_glyphs.Reads as reads
-use Rattle.write.proofs.cid_parts.put_glyphs.Lts as lts
 
 put-select-requires : tie.Need-put-select-requires
 put-select-requires c κs =

@@ -3,13 +3,8 @@ use denote.Ref.{now}
 use Rattle.record.specs.Record.{rowsOf}
 use Rattle.write.specs.CidPutLaws.{front-put, globals-put, charset-put, head-wrote}
 use borrow.Author.Needs.{needs}
-use Rattle.front.proofs.put_front_cid.Reads as put-front-cid-reads
-use Rattle.glyph_tables.proofs.put_charset_cid.Reads as put-charset-cid-reads
 use Rattle.write.proofs.cid_parts.put_head.Statement.{statement}
 use Rattle.write.proofs.cid_parts.put_head.Tie as tie
-use Rattle.write.proofs.cid_parts.put_head.Reads as reads
-use Rattle.write.proofs.cid_parts.put_head.Lts as lts
-use Rattle.write.proofs.stub.put_globals.Reads as put-globals-reads
 
 put-front-cid-requires : tie.Need-put-front-cid-requires
 put-front-cid-requires c κs =

@@ -5,11 +5,6 @@ use Rattle.write.specs.CidPutLaws.{middle-put, tail-small, tail-room, al
 use borrow.Author.Needs.{needs}
 use Rattle.write.proofs.cid_parts.put_parts.Statement.{statement}
 use Rattle.write.proofs.cid_parts.put_parts.Tie as tie
-use Rattle.write.proofs.cid_parts.put_parts.Reads as reads
-use Rattle.write.proofs.cid_parts.put_parts.Lts as lts
-use Rattle.write.proofs.cid_parts.put_glyphs.Reads as put-glyphs-reads
-use Rattle.write.proofs.cid_parts.put_head.Reads as put-head-reads
-use Rattle.write.proofs.cid_parts.put_tail.Reads as put-tail-reads
 
 put-head-requires : tie.Need-put-head-requires
 put-head-requires c κs = search needs

@@ -3,12 +3,8 @@ use denote.Ref.{now}
 use Rattle.record.specs.Record.{rowsOf}
 use Rattle.write.specs.CidPutLaws.{dicts-put, privates-put, privates-wrote}
 use borrow.Author.Needs.{needs}
-use Rattle.fds.proofs.privates.put_privates.Reads as put-privates-reads
-use Rattle.private_dicts.proofs.put_font_dicts.Reads as put-font-dicts-reads
 use Rattle.write.proofs.cid_parts.put_tail.Statement.{statement}
 use Rattle.write.proofs.cid_parts.put_tail.Tie as tie
-use Rattle.write.proofs.cid_parts.put_tail.Reads as reads
-use Rattle.write.proofs.cid_parts.put_tail.Lts as lts
 
 put-font-dicts-requires : tie.Need-put-font-dicts-requires
 put-font-dicts-requires c κs =
