@@ -56,7 +56,7 @@ module _ (b : List ℕ) (ix : Index) (has : HasStrings b ix) (slots : List ℕ) 
   eight : length (take 8 slots) ≡ 8
   eight = length-take-le 8 slots (omega arith)
 
-  slots-bound : (length (slotsOwn S slots) ≤ 8) × (total (slotsOwn S slots) ≤ 536870912)
+  pub slots-bound : (length (slotsOwn S slots) ≤ 8) × (total (slotsOwn S slots) ≤ 536870912)
   unfolding total
   slots-bound =
       let f = own-bound S (text-short b ix has) [] (take 8 slots) in

@@ -52,7 +52,7 @@ numbered-of p rows (x ∷ fs) f e h =
     ⊎-elim (λ z. ap (numbered p rows) (sym z) ∙ b .0) (λ m. numbered-of p rows fs f (b .1) m) (in-cases x f fs h)
 
 -- the FD at a place of a list
-fds-at : (p : Program) (order : List ℕ) (i : ℕ) → i < length order → getD (fdsOf p order) i 0 ≡ getD (p .fds) (getD order i 0) 0
+pub fds-at : (p : Program) (order : List ℕ) (i : ℕ) → i < length order → getD (fdsOf p order) i 0 ≡ getD (p .fds) (getD order i 0) 0
 unfolding fdsOf
 fds-at p [] i h = absurd (zero-one (omega arith))
 fds-at p (g ∷ order) zero h = refl

@@ -9,3 +9,7 @@ pub mod NamedPutLaws
 pub mod NamedLaws
 pub mod NamedPlanLaws
 pub mod NamedKeptLaws
+pub mod Cid
+pub mod CidKeptLaws
+pub mod CidPlacesLaws
+pub mod CidPutLaws

@@ -1,5 +1,6 @@
 // Subsetting (write.rs: subset, subset_cid): refusals in document 01's order, then the cut by the keying.
 pub mod by_cid;
+pub mod cid_parts;
 pub mod named;
 pub mod refusals;
 
