@@ -1,6 +1,5 @@
 // Document 01, 'One sheet, whole': reads a sheet from standard input, cuts its font and prints the subset or the refusal.
-ghost use mathlib.Core.List.{List};
-ghost use Prim.Native.Nat.{ℕ, _≤_};
+ghost use Prim.Native.Nat.{_≤_};
 ghost use lib.ListN.{length};
 ghost use Rattle.io.specs.Counts.{Counts};
 ghost use Rattle.sheet_cut.specs.Cutting.{Given};
@@ -8,34 +7,32 @@ ghost use Rattle.cut.specs.Program.{Goes, Prints};
 use libc::STDIN_FILENO;
 use libc::STDOUT_FILENO;
 
-// What one read of standard input gave: it failed, the input is at its end, or more was taken: how many bytes are in the buffer now, and where the
-// next one stands.
+// What came of one read: it failed, the input is at its end, or more was taken: how many bytes are in the buffer now, and where the next one stands.
 enum Next {
     Failed,
     End,
     More(usize, usize),
 }
 
-// Reads once, and takes the piece that came. Nothing says which bytes a read gives; they are taken behind whatever text was taken before.
-fn take_some(len: usize, mode: usize, buffer: &mut [u8]) -> Next
+// Takes what a read that answered got has put in front of a piece.
+fn take_read(got: isize, piece: &[u8], len: usize, mode: usize, buffer: &mut [u8]) -> Next
     requires { ⌜ 48134 ≤ length (now buffer) ⌝ }
-    ensures { λ r. ⌜ Goes len mode (now (buffer .entry)) (now (buffer .exit)) r ⌝ }
+    ensures { λ r. ⌜ Goes got (now (piece .entry)) len mode (now (buffer .entry)) (now (buffer .exit)) r ⌝ }
 {
-    let mut piece = [0u8; 4096];
-    let got = libc::read(STDIN_FILENO, &mut piece);
     if got < 0 {
         return Next::Failed;
     }
-    if got == 0 {
+    let n = io::count(got, piece);
+    if n == 0 {
         return Next::End;
     }
-    let n = io::count(got, &piece);
     let t = sheet::taking::take(&piece[..n], len, mode, buffer);
     Next::More(t.len, t.mode)
 }
 
-// Takes standard input to its end; returns how many bytes are in the buffer. After a read that fails nothing is: that is other input. A proved loop has
-// to end, so it counts its turns down from a number that no run uses up.
+// Takes standard input to its end; returns how many bytes are in the buffer. After a read that fails nothing is: that is other input. Which bytes a read
+// gives is known to no contract, so this one says that some text was taken. A proved loop has to end, and counts its turns down from a number that no
+// run uses up.
 fn take_input(buffer: &mut [u8]) -> usize
     requires { ⌜ 48134 ≤ length (now buffer) ⌝ }
     ensures { λ r. ⌜ Given r (now (buffer .exit)) ⌝ }
@@ -44,7 +41,9 @@ fn take_input(buffer: &mut [u8]) -> usize
     let mut mode = 0;
     let mut turns = u64::MAX;
     while 0 < turns {
-        let next = take_some(len, mode, &mut *buffer);
+        let mut piece = [0u8; 4096];
+        let got = libc::read(STDIN_FILENO, &mut piece);
+        let next = take_read(got, &piece, len, mode, &mut *buffer);
         match next {
             Next::Failed => return 0,
             Next::End => return len,

@@ -2,10 +2,9 @@
 use Prim.Native.Nat.{ℕ, _+_, _*_, _≤_}
 use mathlib.Core.Path.{_≡_, refl, sym, ap, _∙_, subst}
 use mathlib.Core.Bool.{Bool, true, false}
-use mathlib.Core.List.{List, [], _∷_, _++_}
+use mathlib.Core.List.{List}
 use mathlib.Core.Option.{Option, none, some}
 use native.Mathlib.Omega.{arith}
-use lib.Dec.{eqb}
 use lib.ListN.{length, take, drop, length-append, take-append-drop}
 use lib.Seq.{length-take-le, take-append-seam}
 use borrow.Author.Tests.{ne-eqb}
@@ -19,7 +18,7 @@ use Rattle.write.specs.declared.Answer.{Answer}
 use Rattle.write.specs.declared.Answer.the-variants.{Refused, Subset}
 use Rattle.sheet.specs.Sheet.{Sheet, keying, printed, cutOfSheet, answerTo, sheetOf, cutSheet}
 use Rattle.sheet.specs.Printing.{printed-length}
-use Rattle.sheet.specs.Reading.{Stands, Reads}
+use Rattle.sheet.specs.Reading.{Reads}
 use Rattle.sheet.specs.Taking.{Took}
 use Rattle.sheet.specs.declared.reading.SheetIn.{SheetIn}
 use Rattle.sheet.specs.declared.reading.SheetIn.the-variants.{Other, Parts}

@@ -1,7 +1,6 @@
 // Document 01, 'One sheet, whole': from the input that the program `cut` has taken to what it prints.
 mod stub;
 
-ghost use mathlib.Core.Path.{_≡_};
 ghost use mathlib.Core.List.{List};
 ghost use Prim.Native.Nat.{ℕ, _+_, _*_, _≤_};
 ghost use lib.ListN.{length};

@@ -17,8 +17,17 @@ abbrev μ-loop : tie.MeasureT-loop
 loop-holds : tie.Need-loop-holds Inv-loop μ-loop
 loop-holds c = (refl, begun-none _)
 
-take-some-requires : tie.Need-take-some-requires Inv-loop μ-loop
-take-some-requires c κs = omega (arith, c .before .before .loop .inv .0, c .before .before .before .before .pre)
+slice-aggregate-read : tie.Need-slice-aggregate-read Inv-loop μ-loop
+slice-aggregate-read c = search needs
+
+read-requires : tie.Need-read-requires Inv-loop μ-loop
+read-requires c κs = search needs
+
+slice-aggregate-take-read : tie.Need-slice-aggregate-take-read Inv-loop μ-loop
+slice-aggregate-take-read c = search needs
+
+take-read-requires : tie.Need-take-read-requires Inv-loop μ-loop
+take-read-requires c κs = omega (arith, c .before .before .before .before .before .before .loop .inv .0, c .before .before .before .before .before .before .before .before .pre)
 
 enum-told : tie.Need-enum-told Inv-loop μ-loop
 enum-told c = search needs
@@ -36,7 +45,7 @@ same-length-2 : tie.Need-same-length-2 Inv-loop μ-loop
 same-length-2 c = search needs
 
 returns-2 : tie.Need-returns-2 Inv-loop μ-loop
-returns-2 c = given-end _ _ _ _ _ (c .before .before .before .before .take-some .ensures) (c .enum-told2 .given .1) (c .before .before .before .before .before .before .before .loop .inv .1)
+returns-2 c = given-end _ _ _ _ _ _ _ (c .before .before .before .before .take-read .ensures) (c .enum-told2 .given .1) (c .before .before .before .before .before .before .before .before .before .before .before .loop .inv .1)
 
 enum-known-next : tie.Need-enum-known-next Inv-loop μ-loop
 enum-known-next c = search needs
@@ -48,8 +57,7 @@ loop-less : tie.Need-loop-less Inv-loop μ-loop
 loop-less c = search needs
 
 loop-again : tie.Need-loop-again Inv-loop μ-loop
-loop-again c = let l = c .before .before .before .before .before .before .before .before .loop in
-    (search needs, begun-more _ _ _ _ _ _ _ (c .before .before .before .before .before .take-some .ensures) (c .before .next .given .1) (l .inv .1))
+loop-again c = (search needs, begun-more _ _ _ _ _ _ _ _ _ (c .before .before .before .before .before .take-read .ensures) (c .before .next .given .1) (c .before .before .before .before .before .before .before .before .before .before .before .before .loop .inv .1))
 
 same-length-3 : tie.Need-same-length-3 Inv-loop μ-loop
 same-length-3 c = search needs
@@ -64,7 +72,10 @@ take-input-spec =
     Inv-loop
     μ-loop
     loop-holds
-    take-some-requires
+    slice-aggregate-read
+    read-requires
+    slice-aggregate-take-read
+    take-read-requires
     enum-told
     same-length
     returns

@@ -1,6 +1,5 @@
 -- `cut_taken` meets its contract: what was read into the buffers is the sheet of the text, and its cut is printed.
 use mathlib.Core.Path.{sym}
-use native.Mathlib.Omega.{arith}
 use lib.Seq.{length-take-le}
 use denote.Ref.{now}
 use Rattle.octets.specs.PutLaws.{wrote-as}

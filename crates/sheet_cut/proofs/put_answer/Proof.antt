@@ -1,6 +1,5 @@
 -- `put_answer` meets its contract: a refusal, or the subset in front of the output.
 use mathlib.Core.Path.{sym}
-use native.Mathlib.Omega.{arith}
 use lib.Seq.{length-take-le}
 use denote.Ref.{now}
 use Rattle.octets.specs.PutLaws.{wrote-as}
