@@ -1,0 +1,36 @@
+// Stands for the entries `write::subset` and `write::subset_cid`, which have these contracts.
+ghost use mathlib.Core.Bool.{true, false};
+ghost use Rattle.write.specs.Entry.{Cuts};
+use write::Answer;
+
+// Subsets a name-keyed font.
+pub fn subset(
+    font: &[u8],
+    name: &[u8],
+    keep: &[u16],
+    rows: &[u8],
+    traced: u8,
+    work: &mut [u32],
+    out: &mut [u8],
+) -> Answer
+    ensures { λ r. ⌜ Cuts false (now (font .entry)) (now (name .entry)) (now (keep .entry)) (now (rows .entry)) traced
+        (now (work .entry)) (now (out .entry)) (now (work .exit)) (now (out .exit)) r ⌝ }
+{
+    Answer::Refused(0)
+}
+
+// Subsets a CID-keyed font.
+pub fn subset_cid(
+    font: &[u8],
+    name: &[u8],
+    keep: &[u16],
+    rows: &[u8],
+    traced: u8,
+    work: &mut [u32],
+    out: &mut [u8],
+) -> Answer
+    ensures { λ r. ⌜ Cuts true (now (font .entry)) (now (name .entry)) (now (keep .entry)) (now (rows .entry)) traced
+        (now (work .entry)) (now (out .entry)) (now (work .exit)) (now (out .exit)) r ⌝ }
+{
+    Answer::Refused(0)
+}
