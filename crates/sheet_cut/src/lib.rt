@@ -1,6 +1,4 @@
 // Document 01, 'One sheet, whole': from the input that the program `cut` has taken to what it prints.
-mod stub;
-
 ghost use mathlib.Core.List.{List};
 ghost use Prim.Native.Nat.{ℕ, _+_, _*_, _≤_};
 ghost use lib.ListN.{length};
@@ -11,12 +9,12 @@ ghost use Rattle.write.specs.Entry.{Cuts};
 ghost use Rattle.sheet.specs.Sheet.{keying, printed, cutSheet};
 ghost use Rattle.sheet.specs.Taking.{Took};
 ghost use Rattle.sheet_cut.specs.Cutting.{lengthIn, outcomeIn, Given};
-use crate::stub::subset;
-use crate::stub::subset_cid;
 use sheet::printing::put_refused;
 use sheet::printing::put_subset;
 use sheet::reading::SheetIn;
 use write::Answer;
+use write::subset;
+use write::subset_cid;
 
 // Cuts by the keying of the font: as name-keyed, and where that is refusal 3 as CID-keyed. Refusal 3 has left the words and the output as found.
 pub fn cut_by_keying(
