@@ -1,12 +1,12 @@
 -- Laws of what a call leaves: by the turns of the tests, by the code's ways out, and that a call which keeps its contract is judged by its outcome.
 use Prim.Native.Nat.{ℕ, zero, suc, _+_, _≤_, _<_}
-use mathlib.Core.Path.{_≡_, refl, sym, ap, _∙_, subst}
+use mathlib.Core.Path.{_≡_, refl, sym, ap, _∙_}
 use mathlib.Core.Bool.{Bool, true, false}
 use mathlib.Core.List.{List, [], _∷_, _++_}
-use mathlib.Core.Option.{Option, none, some}
+use mathlib.Core.Option.{none, some}
 use native.Mathlib.Nat.{not-suc-le-zero, le-of-suc-le-suc}
 use native.Mathlib.Omega.{arith}
-use lib.Dec.{ltb, eqb}
+use lib.Dec.{ltb}
 use lib.ListN.{length, take, drop, getD, replicate, length-append, length-replicate, drop-of-length-le}
 use lib.Seq.{take-append-seam, drop-append-seam}
 use borrow.Author.Tests.{eq-eqb, ne-eqb, lt-ltb, le-ltb}

@@ -1,6 +1,6 @@
 // What a call of subsetting answered, and what it left in the work words and in the output, as the answer of a stored case: only where all
 // that document 01 says of both holds.
-ghost use Prim.Native.Nat.{_+_, _≤_};
+ghost use Prim.Native.Nat.{_≤_};
 ghost use mathlib.Core.Path.{_≡_};
 ghost use lib.Dec.{ltb};
 ghost use lib.ListN.{length, drop};
