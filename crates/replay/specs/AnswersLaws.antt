@@ -8,6 +8,7 @@ use Rattle.cases.specs.Tally.{isOneOf}
 use Rattle.charstring_cases.specs.Answers.{kinds as charstringKinds, answerTo as charstringAnswer}
 use Rattle.format_cases.specs.Answers.{kinds as formatKinds, answerTo as formatAnswer}
 use Rattle.cff_cases.specs.CffCases.{kinds as cffKinds, cffAnswer}
+use Rattle.subset_cases.specs.SubsetCases.{kinds as subsetKinds, subsetAnswer}
 use Rattle.replay.specs.Answers.{answerTo}
 
 module _ (kind : ℕ) (s : List ℕ) where
@@ -25,6 +26,11 @@ module _ (kind : ℕ) (s : List ℕ) where
       unfolding answerTo
       answer-cff e = rw (n, m, e)
 
-      pub answer-none : isOneOf cffKinds kind ≡ false → answerTo kind s ≡ none
-      unfolding answerTo
-      answer-none e = rw (n, m, e)
+      module _ (l : isOneOf cffKinds kind ≡ false) where
+        pub answer-subset : isOneOf subsetKinds kind ≡ true → answerTo kind s ≡ subsetAnswer kind s
+        unfolding answerTo
+        answer-subset e = rw (n, m, l, e)
+
+        pub answer-none : isOneOf subsetKinds kind ≡ false → answerTo kind s ≡ none
+        unfolding answerTo
+        answer-none e = rw (n, m, l, e)

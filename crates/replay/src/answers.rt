@@ -19,5 +19,8 @@ pub fn answer(kind: u8, input: &[u8], out: &mut [u8]) -> Answered
     if is_one_of(b"RNCI", kind) {
         return cff_cases::answer(kind, input, out);
     }
+    if is_one_of(b"SD", kind) {
+        return subset_cases::answer(kind, input, out);
+    }
     Answered::Outside
 }

@@ -51,4 +51,5 @@ fn main() {
     replay_file(b"corners", b"nifteb", &mut buffer);
     replay_file(b"format", b"xdwcs", &mut buffer);
     replay_file(b"cff", b"RNCI", &mut buffer);
+    replay_file(b"subset", b"SD", &mut buffer);
 }

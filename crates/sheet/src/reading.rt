@@ -105,7 +105,7 @@ fn put_rows(text: &[u8], at: usize, rec: &mut [u8]) -> usize
 }
 
 // Writes the big-endian numbers of two bytes each to the start of keep; returns how many they are.
-fn put_pairs(bytes: &[u8], keep: &mut [u16]) -> usize
+pub fn put_pairs(bytes: &[u8], keep: &mut [u16]) -> usize
     requires { ⌜ length (now bytes) ≤ 2 * length (now keep) ⌝ }
     ensures { λ r. ⌜ Wrote (now (keep .entry)) 0 (pairs (now (bytes .entry))) (now (keep .exit)) r ⌝ }
 {

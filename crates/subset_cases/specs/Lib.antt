@@ -1,0 +1,4 @@
+pub mod Left
+pub mod LeftLaws
+pub mod SubsetCases
+pub mod SubsetCasesLaws
