@@ -1,0 +1,41 @@
+// The Rust's Reader: a struct that holds the caller's bytes and a position in them (document 01, 'What must change shape').
+// Each function over it is thin and proved by hand; the work is that of covered functions on a slice and a position.
+ghost use mathlib.Core.Path.{_≡_};
+ghost use Prim.Native.Nat.{_+_, _≤_, _<_, _^_};
+ghost use lib.ListN.{length, getD};
+ghost use Rattle.reader.specs.Moved.{moved};
+
+pub struct Reader<'a> {
+    pub src: &'a [u8],
+    pub at: usize,
+}
+
+impl<'a> Reader<'a> {
+    // A reader of these bytes at a position.
+    pub fn new(src: &'a [u8], at: usize) -> Reader<'a>
+        ensures { λ r. ⌜ (r .src ≡ src .entry) × (r .at ≡ at) ⌝ }
+    {
+        Reader { src, at }
+    }
+
+    // The byte at the position, which moves past it.
+    pub fn u8(&mut self) -> usize
+        requires { ⌜ now self .at < length (now (now self .src)) ⌝ }
+        ensures { λ r. ⌜ (r ≡ getD (now (now (self .entry) .src)) (now (self .entry) .at) 0) × (r < 256)
+            × (now (self .exit) ≡ moved (now (self .entry)) 1) ⌝ }
+    {
+        let at = self.at;
+        self.at = at + 1;
+        octets::u8_at(self.src, at)
+    }
+}
+
+// The byte at a position.
+pub fn byte(src: &[u8], at: usize) -> usize
+    requires { ⌜ at + 1 < length (now src) ⌝ }
+    ensures { λ r. ⌜ (r ≡ getD (now (src .entry)) (at + 1) 0) × (r < 256) ⌝ }
+{
+    let mut r = Reader::new(src, at);
+    r.u8();
+    r.u8()
+}
