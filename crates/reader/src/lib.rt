@@ -4,6 +4,7 @@ ghost use mathlib.Core.Path.{_≡_};
 ghost use Prim.Native.Nat.{_+_, _≤_, _<_, _^_};
 ghost use lib.ListN.{length, getD};
 ghost use Rattle.reader.specs.Moved.{moved};
+ghost use Rattle.reader.specs.Header.{headerOf};
 
 pub struct Reader<'a> {
     pub src: &'a [u8],
@@ -28,14 +29,30 @@ impl<'a> Reader<'a> {
         self.at = at + 1;
         octets::u8_at(self.src, at)
     }
+
+    // Moves the position on.
+    pub fn skip(&mut self, n: usize)
+        requires { ⌜ now self .at + n < 2 ^ 64 ⌝ }
+        ensures { λ _. ⌜ now (self .exit) ≡ moved (now (self .entry)) n ⌝ }
+    {
+        self.at = self.at + n;
+    }
 }
 
-// The byte at a position.
-pub fn byte(src: &[u8], at: usize) -> usize
-    requires { ⌜ at + 1 < length (now src) ⌝ }
-    ensures { λ r. ⌜ (r ≡ getD (now (src .entry)) (at + 1) 0) × (r < 256) ⌝ }
+// What is read of a font's header: its major version, and how long it is.
+pub struct Header {
+    pub major: usize,
+    pub size: usize,
+}
+
+// The header that a font begins with. Who calls it needs no walk by hand: its parameter is a plain slice.
+pub fn read_header(font: &[u8]) -> Header
+    requires { ⌜ 3 ≤ length (now font) ⌝ }
+    ensures { λ h. ⌜ h ≡ headerOf (now (font .entry)) ⌝ }
 {
-    let mut r = Reader::new(src, at);
-    r.u8();
-    r.u8()
+    let mut r = Reader::new(font, 0);
+    let major = r.u8();
+    r.skip(1);
+    let size = r.u8();
+    Header { major, size }
 }
