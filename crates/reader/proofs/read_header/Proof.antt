@@ -47,7 +47,8 @@ use Rattle.reader.proofs.Reader as T
 use Rattle.reader.proofs.Reader.Laws as T′
 use Rattle.reader.proofs.Header as S
 use Rattle.reader.proofs.Header.Laws as S′
-use Rattle.reader.proofs.Lent.{R, lentAt, Toks, Loan, Kept, Held, Lent, lends, comes-back}
+use Rattle.reader.proofs.Behind.{B}
+use Rattle.reader.proofs.Lent.{lentAt, Toks, Loan, Kept, Held, Lent, lends, comes-back}
 use Rattle.reader.proofs.Reader.new as new
 use Rattle.reader.proofs.Reader.new.Symbol as new-def
 use Rattle.reader.proofs.Reader.new.Symbol.{name as #reader·new}
@@ -126,16 +127,16 @@ module _ {M : Type 1} (𝓤 : URA M) (H : Heap 𝓤) (A : Atoms 𝓤) (W : Given
     Said r = r ≡ getD (now s) n 0
 
     abbrev Read : Val → ℕ → Item 𝓤
-    Read u r = (‵ (usize .own r (u ∷ [])) ⊛ (‵ (fat fullShare (T′.mir erased) l 0 (T′.lowered (d (n + 1)))) ⊛ (‵ (R κ .own (d (n + 1)) (T′.lowered (d (n + 1)) ∷ [])) ⊛ (‵ (flft κ q) ⊛ ‵ ftrue)))) ⊛ raw (fact 𝓤 (Said r))
+    Read u r = (‵ (usize .own r (u ∷ [])) ⊛ (‵ (fat fullShare (T′.mir erased) l 0 (T′.lowered (d (n + 1)))) ⊛ (‵ (B κ .own (d (n + 1)) (T′.lowered (d (n + 1)) ∷ [])) ⊛ (‵ (flft κ q) ⊛ ‵ ftrue)))) ⊛ raw (fact 𝓤 (Said r))
 
     u8-back : (u : Val) → ent 𝓤 (sep 𝓤 (U8 𝓤 H A mem run .post to-u8 u) (Kept 𝓤 H A W κ q l (p .0) (p .1))) (H .⇛ (ex 𝓤 (λ (r : ℕ). mean 𝓤 H A (Read u r))))
     u8-back u =
         qed W (raw (U8 𝓤 H A mem run .post to-u8 u) ∷ raw (Kept 𝓤 H A W κ q l (p .0) (p .1)) ∷ []) ∵ updating ! $
         use1 W (later (some (λ (r : ℕ). (Toks 𝓤 H A W κ q l (p .0) ⊛ ‵ (usize .own r (u ∷ []))) ⊛ raw (ensured 𝓤 H A u8-of.ended (u8-of.clauses 𝓤 H A mem run) (p .0 ∷ κ, (κ, tt)) (lentAt l (p .1) (d n), tt) tt r)))) (id⊢ 𝓤 _) $ await ! tt $ pick ! (λ r.
         split ! $ move ! (1 ∷ []) $ use1 W (some (λ (ws : Reader × Unit {0}). ‵ (lasts u8-of.ended (p .0 ∷ κ, (κ, tt)) (lentAt l (p .1) (d n), tt) ws) ⊛ raw (fact 𝓤 (Said r × (r < 256) × (ws .0 ≡ d (n + 1)))))) (id⊢ 𝓤 _) $ pick ! (λ ws.
-        split ! $ move ! (1 ∷ []) $ heard ! (Said r × (r < 256) × (ws .0 ≡ d (n + 1))) (λ e. fsplit ! $ rewrite ! 0 (λ (x : Reader). ‵ (fres (p .1) (R κ .coded .code x))) (e .2) refl $
+        split ! $ move ! (1 ∷ []) $ heard ! (Said r × (r < 256) × (ws .0 ≡ d (n + 1))) (λ e. fsplit ! $ rewrite ! 0 (λ (x : Reader). ‵ (fres (p .1) (B κ .coded .code x))) (e .2) refl $
         -- [the last value; nothing; the tokens and the result; what was kept]
-        move ! (2 ∷ []) $ split ! $ move ! (0 ∷ 2 ∷ 4 ∷ []) $ use3 W (later (‵ (fat fullShare (T′.mir erased) l 0 (T′.lowered (d (n + 1)))) ⊛ (‵ (R κ .own (d (n + 1)) (T′.lowered (d (n + 1)) ∷ [])) ⊛ (‵ (flft κ q) ⊛ ‵ ftrue)))) (comes-back 𝓤 H A W κ q l (d (n + 1)) (p .0) (p .1)) $ await ! tt $
+        move ! (2 ∷ []) $ split ! $ move ! (0 ∷ 2 ∷ 4 ∷ []) $ use3 W (later (‵ (fat fullShare (T′.mir erased) l 0 (T′.lowered (d (n + 1)))) ⊛ (‵ (B κ .own (d (n + 1)) (T′.lowered (d (n + 1)) ∷ [])) ⊛ (‵ (flft κ q) ⊛ ‵ ftrue)))) (comes-back 𝓤 H A W κ q l (d (n + 1)) (p .0) (p .1)) $ await ! tt $
         at-once ! $ show ! (λ (m : ℕ). mean 𝓤 H A (Read u m)) r $ says ! (e .0) $ move ! (1 ∷ 0 ∷ []) $ keep ! (0 ∷ 1 ∷ []) $ done !)))
 
   -- ---- and to `skip`, to move on by 1
@@ -149,15 +150,15 @@ module _ {M : Type 1} (𝓤 : URA M) (H : Heap 𝓤) (A : Atoms 𝓤) (W : Given
         nothing ! $ owned ! usize (Is usize) (uint-makes 𝓤 H A W w64) 1 _ (refl, lit< tt) $ fjoin ! $ move ! (1 ∷ 0 ∷ []) $ fjoin ! $ done !
 
     abbrev Skipped : Val → Item 𝓤
-    Skipped u = ‵ (unit .own tt (u ∷ [])) ⊛ (‵ (fat fullShare (T′.mir erased) l 0 (T′.lowered (d (n + 1)))) ⊛ (‵ (R κ .own (d (n + 1)) (T′.lowered (d (n + 1)) ∷ [])) ⊛ (‵ (flft κ q) ⊛ ‵ ftrue)))
+    Skipped u = ‵ (unit .own tt (u ∷ [])) ⊛ (‵ (fat fullShare (T′.mir erased) l 0 (T′.lowered (d (n + 1)))) ⊛ (‵ (B κ .own (d (n + 1)) (T′.lowered (d (n + 1)) ∷ [])) ⊛ (‵ (flft κ q) ⊛ ‵ ftrue)))
 
     skip-back : (u : Val) → ent 𝓤 (sep 𝓤 (Skip 𝓤 H A mem run .post to-skip u) (Kept 𝓤 H A W κ q l (p .0) (p .1))) (H .⇛ (mean 𝓤 H A (Skipped u)))
     skip-back u =
         qed W (raw (Skip 𝓤 H A mem run .post to-skip u) ∷ raw (Kept 𝓤 H A W κ q l (p .0) (p .1)) ∷ []) ∵ updating ! $
         use1 W (later (some (λ (r : Unit {0}). (Toks 𝓤 H A W κ q l (p .0) ⊛ ‵ (unit .own r (u ∷ []))) ⊛ raw (ensured 𝓤 H A skip.ended (skip.clauses 𝓤 H A mem run) (p .0 ∷ κ, (κ, tt)) (lentAt l (p .1) (d n), (1, tt)) tt r)))) (id⊢ 𝓤 _) $ await ! tt $ pick ! (λ r.
         split ! $ move ! (1 ∷ []) $ use1 W (some (λ (ws : Reader × (Unit {0} × Unit {0})). ‵ (lasts skip.ended (p .0 ∷ κ, (κ, tt)) (lentAt l (p .1) (d n), (1, tt)) ws) ⊛ raw (fact 𝓤 (ws .0 ≡ d (n + 1))))) (id⊢ 𝓤 _) $ pick ! (λ ws.
-        split ! $ move ! (1 ∷ []) $ heard ! (ws .0 ≡ d (n + 1)) (λ e. fsplit ! $ rewrite ! 0 (λ (x : Reader). ‵ (fres (p .1) (R κ .coded .code x))) e refl $
-        move ! (2 ∷ []) $ split ! $ move ! (0 ∷ 2 ∷ 4 ∷ []) $ use3 W (later (‵ (fat fullShare (T′.mir erased) l 0 (T′.lowered (d (n + 1)))) ⊛ (‵ (R κ .own (d (n + 1)) (T′.lowered (d (n + 1)) ∷ [])) ⊛ (‵ (flft κ q) ⊛ ‵ ftrue)))) (comes-back 𝓤 H A W κ q l (d (n + 1)) (p .0) (p .1)) $ await ! tt $
+        split ! $ move ! (1 ∷ []) $ heard ! (ws .0 ≡ d (n + 1)) (λ e. fsplit ! $ rewrite ! 0 (λ (x : Reader). ‵ (fres (p .1) (B κ .coded .code x))) e refl $
+        move ! (2 ∷ []) $ split ! $ move ! (0 ∷ 2 ∷ 4 ∷ []) $ use3 W (later (‵ (fat fullShare (T′.mir erased) l 0 (T′.lowered (d (n + 1)))) ⊛ (‵ (B κ .own (d (n + 1)) (T′.lowered (d (n + 1)) ∷ [])) ⊛ (‵ (flft κ q) ⊛ ‵ ftrue)))) (comes-back 𝓤 H A W κ q l (d (n + 1)) (p .0) (p .1)) $ await ! tt $
         at-once ! $ move ! (1 ∷ 0 ∷ []) $ keep ! (0 ∷ 1 ∷ []) $ done !)))
 
   -- ---- the exit, with the two numbers read
@@ -187,11 +188,11 @@ module _ {M : Type 1} (𝓤 : URA M) (H : Heap 𝓤) (A : Atoms 𝓤) (W : Given
         -- the reader is made, and copied to its local, _2
         move ! (20 ∷ []) $ use1 W (raw (New 𝓤 H A mem run .pre to-new) ⊛ ‵ Own) goes-new $ split ! $
         calls-at ! fm (New 𝓤 H A mem run) known-new to-new (and-then ! (load ! (from ! (stop !)) (look ! 18 refl)) (and-then ! (lit ! tt) (no-more !))) (λ u.
-        use1 W (later (some (λ (r : Reader). ((‵ (flft κ q) ⊛ ‵ ftrue) ⊛ ‵ (R κ .own r (u ∷ []))) ⊛ raw (ensured 𝓤 H A new.ended (new.clauses 𝓤 H A mem run) (κ, tt) (s, (0, tt)) tt r)))) (id⊢ 𝓤 _) $ await ! tt $ pick ! (λ r.
+        use1 W (later (some (λ (r : Reader). ((‵ (flft κ q) ⊛ ‵ ftrue) ⊛ ‵ (B κ .own r (u ∷ []))) ⊛ raw (ensured 𝓤 H A new.ended (new.clauses 𝓤 H A mem run) (κ, tt) (s, (0, tt)) tt r)))) (id⊢ 𝓤 _) $ await ! tt $ pick ! (λ r.
         split ! $ move ! (1 ∷ []) $ use1 W (raw (fact 𝓤 ((r .src ≡ s) × (r .at ≡ 0)))) (new-said r) $ heard ! ((r .src ≡ s) × (r .at ≡ 0)) (λ e. split ! $ move ! (1 ∷ []) $
-        rewrite ! 0 (λ (x : Reader). ‵ (R κ .own x (u ∷ []))) (λ i. record { src = e .0 i; at = e .1 i }) refl $
+        rewrite ! 0 (λ (x : Reader). ‵ (B κ .own x (u ∷ []))) (λ i. record { src = e .0 i; at = e .1 i }) refl $
         -- [what the reader owns; the token; what s owns; _9; …; _8; …; _7; …; _6; …; _5; …; _4; …; _3; …; _2; …; _1; …; room for _0; …]
-        peeks ! (R κ) (Is (R κ)) (shows 𝓤 H A (R κ)) (d 0) (u ∷ []) (λ is.
+        peeks ! (B κ) (Is (B κ)) (shows 𝓤 H A (B κ)) (d 0) (u ∷ []) (λ is.
         land ! (from ! (stop !)) (init ! 11 refl (LL.lawful (T.the-type αᵉ) (T′.the-laws αᵉ) 𝓤 H A W .typed (d 0) _ is .0)) $
         assigns ! (of-opd ! (load ! (from ! (stop !)) (look ! 11 refl))) (from ! (stop !)) (init ! 17 refl (LL.lawful (T.the-type αᵉ) (T′.the-laws αᵉ) 𝓤 H A W .typed (d 0) _ is .0)) $
         assigns ! (addr ! (from ! (stop !))) (from ! (stop !)) (init ! 9 refl (tt, tt)) $

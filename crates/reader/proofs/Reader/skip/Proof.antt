@@ -26,8 +26,7 @@ use denote.Laws.{Is, shows}
 use denote.Memory.{mem}
 use denote.Plain.{uint-vals, uint-tells, uint-makes}
 use denote.Builtin.{usize}
-use denote.Ref.{RefT, NamedLft, MutRef, ptr-vals, mut-tells}
-use denote.Signature.{Slot, plain, namedLft}
+use denote.Ref.{RefT, MutRef, ptr-vals, mut-tells}
 use denote.Steps.{opens, closes, owned, peeks, nothing}
 use denote.Struct.Laws as LL
 use denote.Struct.Rest.{own-put}
@@ -39,23 +38,13 @@ use denote.Triple.Walked.{says, needs, Stays, stay-ref, stay-none, walkOf, goes-
 use denote.Exit.{yes}
 use Rattle.reader.specs.declared.Reader.{Reader}
 use Rattle.reader.specs.Moved.{moved}
+use Rattle.reader.proofs.Behind.{α, B, behind}
 use Rattle.reader.proofs.Reader as T
 use Rattle.reader.proofs.Reader.Laws as T′
 use Rattle.reader.proofs.Reader.skip.Key.{name as #reader·skip}
 use Rattle.reader.proofs.Reader.skip as skip
 use Rattle.reader.proofs.Reader.skip.Statement as stated
 use Rattle.reader.proofs.Reader.skip.Code as code
-
--- 'a, and the struct's type at it
-abbrev α : Lft → NamedLft
-α κ′ = record { mir = named 1; lft = κ′ }
-
-abbrev B : Lft → RattleType
-B κ′ = T.the-row (α κ′)
-
--- `Reader<'a>`, as the referent's place in the signature
-abbrev behind : Slot 2
-behind = plain (λ κs. T.the-row (namedLft 2 1 tt κs))
 
 abbrev stayed : Stays (skip.ended .signature .params) (skip.ended .kept)
 stayed = (stay-ref (0 ∷ []) tt behind, (stay-none (λ _. usize) yes, tt))

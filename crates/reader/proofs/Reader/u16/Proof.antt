@@ -1,5 +1,5 @@
 -- `reader::Reader::u16` meets its contract: a walk of its MIR, by hand. The borrow of the struct is opened, the number is moved on, `octets::u16_at` is called on the slice and the number as it was, and the borrow is closed at the struct moved on.
--- The struct is Copy: what it owns is had twice. One copy, with the facts of at made anew, closes the borrow; of the other what src owns goes to the callee, beside the token of 'a, which comes back.
+-- Of what the struct owns, what src owns goes to the callee, beside the token of 'a, which comes back; and what the struct moved on owns closes the borrow (`Behind.antt`).
 use mathlib.Core.Path.{_≡_, refl}
 use Prim.Native.Nat.{ℕ, _+_, _≤_, _<_, _^_}
 use mathlib.Core.List.{List, [], _∷_}
@@ -18,7 +18,7 @@ use ghost.Atoms.{Atoms, sem}
 use contract.Lifetimes.{AllOutlive}
 use contract.Monad.{Fun, fact}
 use contract.Running.{givenOf, tables, tablesOf}
-use types.Kit.{Given, ‵, raw, _⊛_, given, ⋆, some, later, _$_, _∵_, !, qed, by, move, keep, drop, use1, use2, split, join, learn, pick, fsplit, fsplit3, fjoin, fjoin3, feqI, suffices, frame, await, done}
+use types.Kit.{Given, ‵, raw, _⊛_, ⋆, some, later, _$_, _∵_, !, qed, by, move, keep, drop, use1, use2, split, join, pick, fsplit, fsplit3, fjoin, fjoin3, feqI, suffices, frame, await, done}
 use types.Part.{whole, sub, look-in, store-in}
 use types.Run.{look, init, forget, stop, hop, fld, from, load, lit, of-opd, bin, and-then, no-more, assigns, land, returns, enter, alloc1, alloc0, params1, pass1, pass0, free1, free0}
 use types.SemTy.{Body}
@@ -28,15 +28,11 @@ use denote.Laws.{Is, shows}
 use denote.Memory.{mem, cellAt}
 use denote.Plain.{uint-makes, uint-lawful}
 use denote.Builtin.{u8, usize}
-use denote.Ref.{RefT, NamedLft, MutRef, ptr-vals, mut-tells, now}
-use denote.Signature.{Slot, plain, namedLft}
-use denote.Slice.{sliceVal, ShrSlice}
+use denote.Ref.{RefT, MutRef, ptr-vals, mut-tells, now}
+use denote.Slice.{ShrSlice}
 use denote.Steps.{opens, closes, owned, peeks, heard, nothing}
-use denote.Struct.Declared.{Declared}
 use denote.Struct.Laws as LL
-use denote.Struct.Rest.{all-own, ownAt, rest, own-open, own-out, own-put}
 use denote.Struct.Steps.{spelt}
-use denote.Struct.Values.{Values}
 use denote.Triple.Statement.{Contract, Triple}
 use denote.Triple.Call.{calls-at}
 use denote.Triple.Entry.{Vals, onEntry}
@@ -47,6 +43,7 @@ use denote.Triple.Clauses.{ensured, lasts}
 use Rattle.octets.specs.Octets.{numAt}
 use Rattle.reader.specs.declared.Reader.{Reader}
 use Rattle.reader.specs.Moved.{moved}
+use Rattle.reader.proofs.Behind.{α, B, behind, Own, Src, src-val, next-fits, parted}
 use Rattle.reader.proofs.Reader as T
 use Rattle.reader.proofs.Reader.Laws as T′
 use Rattle.octets.proofs.u16_at as called
@@ -58,23 +55,8 @@ use Rattle.reader.proofs.Reader.u16 as it
 use Rattle.reader.proofs.Reader.u16.Statement as stated
 use Rattle.reader.proofs.Reader.u16.Code as code
 
--- 'a, and the struct's type at it
-abbrev α : Lft → NamedLft
-α κ′ = record { mir = named 1; lft = κ′ }
-
-abbrev B : Lft → RattleType
-B κ′ = T.the-row (α κ′)
-
--- `Reader<'a>`, as the referent's place in the signature
-abbrev behind : Slot 2
-behind = plain (λ κs. T.the-row (namedLft 2 1 tt κs))
-
 abbrev stayed : Stays (it.ended .signature .params) (it.ended .kept)
 stayed = (stay-ref (0 ∷ []) tt behind, tt)
-
--- the place behind bytes that are there
-next-fits : (n m : ℕ) → n + 2 ≤ m → m < 2 ^ 64 → n + 2 < 2 ^ 64
-next-fits n m within fits = omega arith
 
 module _ {M : Type 1} (𝓤 : URA M) (H : Heap 𝓤) (A : Atoms 𝓤) (at-mem : Memory → SProp 𝓤) (run : Routine → Fun 𝓤) where
   -- the contract that the proof cites
@@ -91,25 +73,8 @@ module _ {M : Type 1} (𝓤 : URA M) (H : Heap 𝓤) (A : Atoms 𝓤) (W : Given
   abbrev at : List Val × Unit {0}
   at = (vptr b o ∷ [], tt)
 
-  -- the machine value of src
-  abbrev v : Val
-  v = sliceVal (h .src .ptr) (length (h .src .now))
-
   abbrev Post : Val → SProp 𝓤
   Post = walkOf 𝓤 H A it.ended stayed (it.clauses 𝓤 H A at-mem run) .post (((κ, (κ′, tt)), (q, (q′, tt)), bounds, x, at), tt)
-
-  abbrev Own : Reader → Fml
-  Own d = B κ′ .own d (T′.lowered d ∷ [])
-
-  -- the struct's type and laws, and h's fields' values
-  abbrev D : Declared
-  D = T.the-type (α κ′)
-
-  abbrev L : LL.Laws D
-  L = T′.the-laws (α κ′)
-
-  abbrev vh : Values (D .parts)
-  vh = (h .src, (h .at, tt))
 
   -- what is said of the number read
   abbrev Said : ℕ → Type 0
@@ -117,7 +82,7 @@ module _ {M : Type 1} (𝓤 : URA M) (H : Heap 𝓤) (A : Atoms 𝓤) (W : Given
 
   -- what the callee is passed
   abbrev passed : Vals called.signature (κ′, tt)
-  passed = (v ∷ [], (vint w64 (h .at) ∷ [], tt))
+  passed = (src-val h ∷ [], (vint w64 (h .at) ∷ [], tt))
 
   abbrev to : Called 𝓤 H A at-mem run .Ghost
   to = (((κ′, tt), (q′, tt), tt, (h .src, (h .at, tt)), passed), tt)
@@ -126,16 +91,13 @@ module _ {M : Type 1} (𝓤 : URA M) (H : Heap 𝓤) (A : Atoms 𝓤) (W : Given
   asked = qed W ((‵ (flft κ′ q′) ⊛ ‵ ftrue) ∷ ‵ (owns (ShrSlice (named 0) κ′ u8 ∷ usize ∷ []) (h .src, (h .at, tt)) passed) ∷ []) ∵ says ! within $ frame ! $ done !
 
   -- what the struct owns gives what the callee asks, and what the struct moved on owns
-  apart : h .at + 2 < 2 ^ 64 → ent 𝓤 (⋆ 𝓤 H A (‵ (Own h) ∷ (‵ (flft κ′ q′) ⊛ ‵ ftrue) ∷ [])) (sep 𝓤 (Called 𝓤 H A at-mem run .pre to) (sem 𝓤 H A (Own h′)))
+  apart : h .at + 2 < 2 ^ 64 → ent 𝓤 (⋆ 𝓤 H A (‵ (Own κ′ h) ∷ (‵ (flft κ′ q′) ⊛ ‵ ftrue) ∷ [])) (sep 𝓤 (Called 𝓤 H A at-mem run .pre to) (sem 𝓤 H A (Own κ′ h′)))
   apart fits =
-      qed W (‵ (Own h) ∷ (‵ (flft κ′ q′) ⊛ ‵ ftrue) ∷ []) ∵
-      use1 W (‵ (Own h) ⊛ ‵ (Own h)) (LL.copy D (T′.the-copy (α κ′)) 𝓤 H A W .twice h (T′.lowered h ∷ [])) $ split ! $
-      use1 W (given (T′.lowered h ∷ [] ≡ T′.lowered h ∷ []) (‵ (all-own (D .parts) L vh))) (own-open 𝓤 H A W D L vh (T′.lowered h)) $ learn ! (λ _. use1 W (‵ (ownAt (D .parts) L 0 (h .src)) ⊛ ‵ (rest (D .parts) L 0 vh)) (own-out 𝓤 H A W (D .parts) L 0 vh) $ split ! $
-      -- [what src owns; what at owns; what the struct owns; the token]
-      move ! (1 ∷ []) $ drop ! $ nothing ! $ owned ! usize (Is usize) (uint-makes 𝓤 H A W w64) (h .at) _ (refl, omega (arith, fits)) $ fjoin ! $ move ! (1 ∷ 0 ∷ []) $ fjoin ! $
-      move ! (2 ∷ 0 ∷ []) $ use2 W (raw (Called 𝓤 H A at-mem run .pre to)) asked $ frame ! $
-      -- [what the struct owns]: the facts of the number moved on take the place of at's
-      owned ! usize (Is usize) (uint-makes 𝓤 H A W w64) (h .at + 2) _ (refl, fits) $ move ! (1 ∷ 0 ∷ []) $ by ! (own-put 𝓤 H A W D L 1 vh (h .at + 2) (T′.lowered h)))
+      qed W (‵ (Own κ′ h) ∷ (‵ (flft κ′ q′) ⊛ ‵ ftrue) ∷ []) ∵
+      use1 W (‵ (Src κ′ h) ⊛ ‵ (Own κ′ h′)) (parted 𝓤 H A W κ′ h 2 fits) $ split ! $
+      -- [what src owns; what the struct moved on owns; the token]
+      nothing ! $ owned ! usize (Is usize) (uint-makes 𝓤 H A W w64) (h .at) _ (refl, omega (arith, fits)) $ fjoin ! $ move ! (1 ∷ 0 ∷ []) $ fjoin ! $
+      move ! (2 ∷ 0 ∷ []) $ use2 W (raw (Called 𝓤 H A at-mem run .pre to)) asked $ done !
 
   -- of the callee's `ensured`, the clause alone: it has no `&mut`, so what is said of last values is dropped
   said : (r : ℕ) → ent 𝓤 (ensured 𝓤 H A called.ended (called.clauses 𝓤 H A at-mem run) (κ′, tt) (h .src, (h .at, tt)) tt r) (fact 𝓤 (Said r))
@@ -157,13 +119,13 @@ module _ {M : Type 1} (𝓤 : URA M) (H : Heap 𝓤) (A : Atoms 𝓤) (W : Given
         use1 W (‵ (fat fullShare (T′.mir erased) b o (T′.lowered h))) (W .laws .raw-at fullShare (T′.mir erased) b o (T′.lowered h)) $
         move ! (1 ∷ []) $ peeks ! (B κ′) (Is (B κ′)) (shows 𝓤 H A (B κ′)) h (T′.lowered h ∷ []) (λ was. move ! (1 ∷ 0 ∷ []) $
         -- [the struct's cell; what a Reader owns; the open borrow; obs; auth; 'a's token; nothing; _4; …; _3; …; _2; …; _1; …; room for _0; …]
-        let wt = LL.lawful D L 𝓤 H A W .typed h _ was .0 in
-        let ok = next-fits (h .at) (length (now (h .src))) within (wt .1 .0 .1 .0 .fits) in
+        let wt = LL.lawful (T.the-type (α κ′)) (T′.the-laws (α κ′)) 𝓤 H A W .typed h _ was .0 in
+        let ok = next-fits (h .at) 2 (length (now (h .src))) within (wt .1 .0 .1 .0 .fits) in
         assigns ! (of-opd ! (load ! (from ! (hop ! (look ! 13 refl) (fld ! refl (stop !)))) (look-in ! 0 (sub ! 1 refl (whole !))))) (from ! (stop !)) (init ! 11 refl (tt, wt .1 .1 .0)) $
         assigns ! (bin ! (load ! (from ! (stop !)) (look ! 11 refl)) (lit ! tt) (record { fits = ok })) (from ! (stop !)) (init ! 9 refl (tt, record { fits = ok })) $
         assigns ! (of-opd ! (load ! (from ! (stop !)) (look ! 9 refl))) (from ! (hop ! (look ! 13 refl) (fld ! refl (stop !)))) (store-in ! 0 (sub ! 1 refl (whole !)) (tt, record { fits = ok })) $
         assigns ! (of-opd ! (load ! (from ! (hop ! (look ! 13 refl) (fld ! refl (stop !)))) (look-in ! 0 (sub ! 0 refl (whole !))))) (from ! (stop !)) (init ! 7 refl (tt, wt .1 .0)) $
-        move ! (1 ∷ 5 ∷ []) $ use2 W (raw (Called 𝓤 H A at-mem run .pre to) ⊛ ‵ (Own h′)) (apart ok) $ split ! $
+        move ! (1 ∷ 5 ∷ []) $ use2 W (raw (Called 𝓤 H A at-mem run .pre to) ⊛ ‵ (Own κ′ h′)) (apart ok) $ split ! $
         -- [what the callee asks; what the struct moved on owns; the cell; the open borrow; obs; auth; nothing; _4; …; _3; …; _2; …; _1; …; room for _0; …]
         calls-at ! fm (Called 𝓤 H A at-mem run) known to (and-then ! (load ! (from ! (stop !)) (look ! 7 refl)) (and-then ! (load ! (from ! (stop !)) (look ! 11 refl)) (no-more !))) (λ u.
         use1 W (later (some (λ (r : ℕ). ((‵ (flft κ′ q′) ⊛ ‵ ftrue) ⊛ ‵ (usize .own r (u ∷ []))) ⊛ raw (ensured 𝓤 H A called.ended (called.clauses 𝓤 H A at-mem run) (κ′, tt) (h .src, (h .at, tt)) tt r)))) (id⊢ 𝓤 _) $ await ! tt $ pick ! (λ r.
