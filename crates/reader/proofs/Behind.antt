@@ -25,7 +25,7 @@ use denote.Slice.{sliceVal, ShrSlice}
 use denote.Steps.{owned}
 use denote.Struct.Declared.{Declared}
 use denote.Struct.Laws as LL
-use denote.Struct.Rest.{all-own, ownAt, rest, own-open, own-out, own-put}
+use denote.Struct.Rest.{all-own, rest, own-open, own-out, own-put}
 use denote.Struct.Values.{Values}
 use Rattle.reader.specs.declared.Reader.{Reader}
 use Rattle.reader.specs.Moved.{moved}

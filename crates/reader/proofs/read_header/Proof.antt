@@ -23,7 +23,7 @@ use types.Kit.{Given, Item, ‵, raw, _⊛_, ⋆, mean, some, later, _$_, _∵_,
 use types.Part.{agg}
 use types.Run.{look, init, forget, stop, from, load, lit, of-opd, addr, and-then, no-more, assigns, land, returns, enter, alloc1, alloc0, params1, pass1, pass0, free1, free0}
 use sound.WpLaws.{FmC, fmOf, WpFn-mono}
-use denote.RattleType.{RattleType, owns}
+use denote.RattleType.{owns}
 use denote.Laws.{Is, shows}
 use denote.Plain.{uint-makes, uint-lawful, nothing-lawful}
 use denote.Builtin.{u8, usize, unit}
@@ -42,13 +42,12 @@ use denote.Exit.{yes}
 use denote.Triple.Clauses.{ensured, lasts}
 use Rattle.reader.specs.declared.Reader.{Reader}
 use Rattle.reader.specs.declared.Header.{Header}
-use Rattle.reader.specs.Moved.{moved}
 use Rattle.reader.proofs.Reader as T
 use Rattle.reader.proofs.Reader.Laws as T′
 use Rattle.reader.proofs.Header as S
 use Rattle.reader.proofs.Header.Laws as S′
 use Rattle.reader.proofs.Behind.{B}
-use Rattle.reader.proofs.Lent.{lentAt, Toks, Loan, Kept, Held, Lent, lends, comes-back}
+use Rattle.reader.proofs.Lent.{lentAt, Toks, Loan, Kept, Lent, lends, comes-back}
 use Rattle.reader.proofs.Reader.new as new
 use Rattle.reader.proofs.Reader.new.Symbol as new-def
 use Rattle.reader.proofs.Reader.new.Symbol.{name as #reader·new}
