@@ -117,9 +117,10 @@ pub fn read_font(font: &[u8]) -> FontRead
     if n < 4 {
         return FontRead::Refused(Refusal::TRUNCATED);
     }
-    let major = octets::u8_at(font, 0);
+    let header = reader::read_header(font);
+    let major = header.major;
     if major == 1 {
-        return set_at(font, octets::u8_at(font, 2));
+        return set_at(font, header.size);
     }
     FontRead::Refused(Refusal::UNSUPPORTED)
 }
