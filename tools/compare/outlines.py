@@ -1,4 +1,4 @@
-#!/usr/bin/env python3
+#!/usr/bin/python3
 """Compares the outlines of subsets with those of their fonts, by fontTools' Type 2 interpreter (Debian: python3-fonttools).
 
     outlines.py FONTS SUBSETS     folders: SUBSETS/NAME.AMOUNT.cff is a subset of FONTS/NAME.cff
