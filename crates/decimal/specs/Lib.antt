@@ -10,5 +10,6 @@ pub mod StageLaws
 pub mod RealLaws
 pub mod RunLaws
 pub mod NumberLaws
+pub mod PastLaws
 pub mod TakenLaws
 pub mod ValuesLaws

@@ -9,6 +9,8 @@ use Rattle.octets.specs.Octets.{numAt}
 use Rattle.decimal.specs.declared.Decimal.{Decimal}
 use Rattle.decimal.specs.declared.NumberAt.{NumberAt}
 use Rattle.decimal.specs.declared.NumberAt.the-variants.{Refused, NotNumber, Num}
+use Rattle.decimal.specs.declared.PastAt.{PastAt}
+use Rattle.decimal.specs.declared.PastAt.the-variants.{Refused as RefusedPast, NotNumber as NoNumber, Past}
 use Rattle.decimal.specs.Decimal.{normal, Normal}
 use Rattle.decimal.specs.Real.{nibbles, Text, cut, wrong, text, textOf, Value, refused as refusedText, value, formOf, valueOf}
 
@@ -68,6 +70,16 @@ abbrev pub answerOf : Number → NumberAt
 answerOf (refused n) = Refused n
 answerOf notNumber = NotNumber
 answerOf (number d next) = Num d next
+
+-- the code's answer where the value is not wanted
+abbrev pub pastOf : Number → PastAt
+pastOf (refused n) = RefusedPast n
+pastOf notNumber = NoNumber
+pastOf (number d next) = Past next
+
+-- the same for a number of width bytes, whatever it is
+abbrev pub pastWidth : List ℕ → ℕ → ℕ → PastAt
+pastWidth b at width = pick (ltb (length b) (at + width)) (RefusedPast 1) (Past (at + width))
 
 -- a number that was read: within the limits, and within the bytes
 pub record Taken (b : List ℕ) (at : ℕ) (d : Decimal) (next : ℕ) : Type 0 where

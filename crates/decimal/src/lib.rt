@@ -6,10 +6,10 @@ ghost use mathlib.Core.Path.{_≡_};
 ghost use mathlib.Core.Bool.{true, false};
 ghost use Prim.Native.Nat.{_+_, _-_, _*_, _/_, _^_, _≤_, _<_, min};
 ghost use lib.Dec.{ltb};
-ghost use lib.ListN.{length};
+ghost use lib.ListN.{length, getD};
 ghost use Rattle.octets.specs.Pick.{pick};
 ghost use Rattle.decimal.specs.Decimal.{normal, Normal};
-ghost use Rattle.decimal.specs.Number.{pairAt, numberAt, answerOf};
+ghost use Rattle.decimal.specs.Number.{pairAt, realAt, numberAt, answerOf, pastWidth, pastOf};
 ghost use Rattle.decimal.specs.Values.{truncOf, clamped, i32Of, idOf, offsetOf, isTwo};
 ghost use Rattle.decimal.specs.declared.NumberAt.the-variants.{Num};
 use octets::wide;
@@ -27,6 +27,13 @@ pub enum NumberAt {
     Refused(u8),
     NotNumber,
     Num { value: Decimal, next: usize },
+}
+
+// Where the number at a position of a DICT ends: a refusal's number, no number, or the position after it.
+pub enum PastAt {
+    Refused(u8),
+    NotNumber,
+    Past(usize),
 }
 
 // A number cut to 32 bits: its sign and its size.
@@ -197,6 +204,67 @@ pub fn number_at(d: &[u8], at: usize) -> NumberAt
         return pair(d, at, v);
     }
     NumberAt::NotNumber
+}
+
+// The position after so many bytes, where they are there.
+fn past_bytes(d: &[u8], at: usize, width: usize) -> PastAt
+    requires { ⌜ (at < length (now d)) × (width ≤ 5) ⌝ }
+    ensures { λ r. ⌜ r ≡ pastWidth (now (d .entry)) at width ⌝ }
+{
+    if d.len() - at < width {
+        return PastAt::Refused(1);
+    }
+    PastAt::Past(at + width)
+}
+
+// The position after a real: its text is read whole, for it may be refused.
+fn past_real(d: &[u8], at: usize) -> PastAt
+    requires { ⌜ at < length (now d) ⌝ }
+    ensures { λ r. ⌜ r ≡ pastOf (realAt (now (d .entry)) at) ⌝ }
+{
+    match real::parse_real(d, at) {
+        NumberAt::Refused(n) => PastAt::Refused(n),
+        NumberAt::NotNumber => PastAt::NotNumber,
+        NumberAt::Num { value: _, next } => PastAt::Past(next),
+    }
+}
+
+// The position after the number whose first byte, below 32, is v.
+fn past_prefixed(d: &[u8], at: usize, v: usize) -> PastAt
+    requires { ⌜ (at < length (now d)) × (v ≡ getD (now d) at 0) × (v < 32) ⌝ }
+    ensures { λ r. ⌜ r ≡ pastOf (numberAt (now (d .entry)) at) ⌝ }
+{
+    if v < 28 {
+        return PastAt::NotNumber;
+    }
+    if v == 28 {
+        return past_bytes(d, at, 3);
+    }
+    if v == 29 {
+        return past_bytes(d, at, 5);
+    }
+    if v == 30 {
+        return past_real(d, at);
+    }
+    PastAt::NotNumber
+}
+
+// Where the number at a position ends: `number_at` without its value, for those who only pass it.
+pub fn past_number(d: &[u8], at: usize) -> PastAt
+    requires { ⌜ at < length (now d) ⌝ }
+    ensures { λ r. ⌜ r ≡ pastOf (numberAt (now (d .entry)) at) ⌝ }
+{
+    let v = wide(d[at]);
+    if v < 32 {
+        return past_prefixed(d, at, v);
+    }
+    if v < 247 {
+        return PastAt::Past(at + 1);
+    }
+    if v < 255 {
+        return past_bytes(d, at, 2);
+    }
+    PastAt::NotNumber
 }
 
 // m / 10 ^ k.

@@ -12,12 +12,12 @@ use Rattle.octets.specs.Octets.{Octets, numAt}
 use Rattle.decimal.specs.declared.Decimal.{Decimal}
 use Rattle.decimal.specs.Decimal.{normal}
 use Rattle.decimal.specs.Real.{nibbles, Text, cut, wrong, text, before, textOf, Form, bad as badForm, form, formOf, Value, refused as refusedText, value, limited, valueOf}
-use Rattle.decimal.specs.Number.{Number, refused as refusedNumber, notNumber, number, integerAt, twosAt, pairAt, placed, realOf, realAt, numberAt, answerOf}
+use Rattle.decimal.specs.Number.{Number, refused as refusedNumber, notNumber, number, integerAt, twosAt, pairAt, placed, realOf, realAt, numberAt, pastOf}
 use Rattle.dict.specs.Op.{esc, isOperator}
 use Rattle.dict.specs.Dict.{Token, bad, operand, operator, operatorAt, tokenOf, tokenAt}
 use Rattle.dict.specs.Places.{tokenTold}
-use Rattle.decimal.specs.declared.NumberAt.{NumberAt}
-use Rattle.decimal.specs.declared.NumberAt.the-variants.{Refused as RefusedAt, NotNumber, Num}
+use Rattle.decimal.specs.declared.PastAt.{PastAt}
+use Rattle.decimal.specs.declared.PastAt.the-variants.{Refused as RefusedPast, NotNumber as NoNumber, Past}
 use Rattle.dict.specs.declared.TokenAt.{TokenAt}
 use Rattle.dict.specs.declared.TokenAt.the-variants.{Refused, Operand, Operator}
 
@@ -183,30 +183,30 @@ module _ (b : List ℕ) (at : ℕ) (h : at < length b) (v : ℕ) (e : v ≡ getD
 no : _≡_ {A = ℕ} 0 1 → ⊥
 no h = omega arith
 
-told-refused : (b : List ℕ) (at : ℕ) (q : Number) (n : ℕ) → answerOf q ≡ RefusedAt n → Refused n ≡ tokenTold (tokenOf b at q)
+told-refused : (b : List ℕ) (at : ℕ) (q : Number) (n : ℕ) → pastOf q ≡ RefusedPast n → Refused n ≡ tokenTold (tokenOf b at q)
 told-refused b at (refusedNumber m) n e = let k : m ≡ n = cc in ap Refused (sym k)
 told-refused b at notNumber n e = absurd (no cc)
 told-refused b at (number d m) n e = absurd (no cc)
 
-told-operand : (b : List ℕ) (at : ℕ) (q : Number) (d : Decimal) (next : ℕ) → answerOf q ≡ Num d next → Operand next ≡ tokenTold (tokenOf b at q)
-told-operand b at (refusedNumber m) d next e = absurd (no cc)
-told-operand b at notNumber d next e = absurd (no cc)
-told-operand b at (number x m) d next e = let k : m ≡ next = cc in ap Operand (sym k)
+told-operand : (b : List ℕ) (at : ℕ) (q : Number) (next : ℕ) → pastOf q ≡ Past next → Operand next ≡ tokenTold (tokenOf b at q)
+told-operand b at (refusedNumber m) next e = absurd (no cc)
+told-operand b at notNumber next e = absurd (no cc)
+told-operand b at (number d m) next e = let k : m ≡ next = cc in ap Operand (sym k)
 
-told-operator : (b : List ℕ) (at : ℕ) (q : Number) → answerOf q ≡ NotNumber → tokenTold (operatorAt b at) ≡ tokenTold (tokenOf b at q)
+told-operator : (b : List ℕ) (at : ℕ) (q : Number) → pastOf q ≡ NoNumber → tokenTold (operatorAt b at) ≡ tokenTold (tokenOf b at q)
 told-operator b at (refusedNumber m) e = absurd (no cc)
 told-operator b at notNumber e = refl
 told-operator b at (number x m) e = absurd (no cc)
 
-module _ (b : List ℕ) (at : ℕ) (q : NumberAt) (e : q ≡ answerOf (numberAt b at)) where
-  pub token-refused : (n : ℕ) → q ≡ RefusedAt n → Refused n ≡ tokenTold (tokenAt b at)
+module _ (b : List ℕ) (at : ℕ) (q : PastAt) (e : q ≡ pastOf (numberAt b at)) where
+  pub token-refused : (n : ℕ) → q ≡ RefusedPast n → Refused n ≡ tokenTold (tokenAt b at)
   unfolding tokenAt
   token-refused n f = told-refused b at (numberAt b at) n (sym e ∙ f)
 
-  pub token-operand : (d : Decimal) (next : ℕ) → q ≡ Num d next → Operand next ≡ tokenTold (tokenAt b at)
+  pub token-operand : (next : ℕ) → q ≡ Past next → Operand next ≡ tokenTold (tokenAt b at)
   unfolding tokenAt
-  token-operand d next f = told-operand b at (numberAt b at) d next (sym e ∙ f)
+  token-operand next f = told-operand b at (numberAt b at) next (sym e ∙ f)
 
-  pub token-operator : (r : TokenAt) → q ≡ NotNumber → r ≡ tokenTold (operatorAt b at) → r ≡ tokenTold (tokenAt b at)
+  pub token-operator : (r : TokenAt) → q ≡ NoNumber → r ≡ tokenTold (operatorAt b at) → r ≡ tokenTold (tokenAt b at)
   unfolding tokenAt
   token-operator r f g = g ∙ told-operator b at (numberAt b at) (sym e ∙ f)

@@ -15,11 +15,13 @@ use decimal::Decimal;
 use decimal::IdOf;
 use decimal::NumberAt;
 use decimal::OffsetOf;
+use decimal::PastAt;
 use decimal::Signed;
 use decimal::id_of;
 use decimal::is_two;
 use decimal::number_at;
 use decimal::offset_of;
+use decimal::past_number;
 use decimal::to_i32;
 use decimal::to_u16;
 use decimal::to_u32;
@@ -118,15 +120,15 @@ fn operator_at(d: &[u8], at: usize) -> TokenAt
     TokenAt::Refused(2)
 }
 
-// What stands at a position.
+// What stands at a position; an operand's value is not read.
 fn token_at(d: &[u8], at: usize) -> TokenAt
     requires { ⌜ at < length (now d) ⌝ }
     ensures { λ r. ⌜ r ≡ tokenTold (tokenAt (now (d .entry)) at) ⌝ }
 {
-    match number_at(d, at) {
-        NumberAt::Refused(n) => TokenAt::Refused(n),
-        NumberAt::Num { value: _, next } => TokenAt::Operand(next),
-        NumberAt::NotNumber => operator_at(d, at),
+    match past_number(d, at) {
+        PastAt::Refused(n) => TokenAt::Refused(n),
+        PastAt::Past(next) => TokenAt::Operand(next),
+        PastAt::NotNumber => operator_at(d, at),
     }
 }
 

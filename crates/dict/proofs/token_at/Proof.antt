@@ -4,8 +4,8 @@ use borrow.Author.Needs.{needs}
 use Rattle.dict.proofs.token_at.Statement.{statement}
 use Rattle.dict.proofs.token_at.Tie as tie
 
-number-at-requires : tie.Need-number-at-requires
-number-at-requires c κs = search needs
+past-number-requires : tie.Need-past-number-requires
+past-number-requires c κs = search needs
 
 enum-known-n : tie.Need-enum-known-n
 enum-known-n c = search needs
@@ -20,19 +20,19 @@ operator-at-requires : tie.Need-operator-at-requires
 operator-at-requires c κs = search needs
 
 returns : tie.Need-returns
-returns c = token-refused _ _ _ (c .before .before .before .number-at .ensures) _ (c .before .n .given .1)
+returns c = token-refused _ _ _ (c .before .before .before .past-number .ensures) _ (c .before .n .given .1)
 
 returns-2 : tie.Need-returns-2
-returns-2 c = token-operand _ _ _ (c .before .before .before .number-at .ensures) _ _ (c .before .next .given .1)
+returns-2 c = token-operand _ _ _ (c .before .before .before .past-number .ensures) _ (c .before .next .given .1)
 
 returns-3 : tie.Need-returns-3
-returns-3 c = token-operator _ _ _ (c .before .before .before .number-at .ensures) _ (c .before .enum-told .given .1) (c .operator-at .ensures)
+returns-3 c = token-operator _ _ _ (c .before .before .before .past-number .ensures) _ (c .before .enum-told .given .1) (c .operator-at .ensures)
 
 pub token-at-spec : {M : Type 1} → statement M
 token-at-spec =
     tie.close
     (tie.spec
-    number-at-requires
+    past-number-requires
     enum-known-n
     enum-known-next
     enum-told
