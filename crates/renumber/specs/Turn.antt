@@ -64,6 +64,10 @@ after (Op b) = Nothing
 after (Esc b) = Nothing
 after (Mask start len) = Nothing
 
+-- where reading stands, by its four numbers
+abbrev pub cursor : ℕ → ℕ → ℕ → Bool → Cursor
+cursor at args stems due = record { at = at; args = args; stems = stems; due = due }
+
 -- a step of reading, and what its token brings
 abbrev pub turnedBy : Turn → Token → Cursor → Turned
 turnedBy Stuck t d = FailedAt

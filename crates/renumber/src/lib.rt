@@ -14,7 +14,7 @@ ghost use Rattle.record.specs.Record.{rowsOf, givenIn};
 ghost use Rattle.subset.specs.Pruned.{whole, renumberedBody};
 ghost use Rattle.reach.specs.Reach.{siteOf, SiteFits, rises};
 ghost use Rattle.renumber.specs.Ranks.{callsBy};
-ghost use Rattle.renumber.specs.Turn.{HoldsHeld, turnedAt, heldBytes, ownBytes, sentBytes, heldLen, ownLen, Inputs, sizedOf, bodyOf, isYes};
+ghost use Rattle.renumber.specs.Turn.{HoldsHeld, cursor, turnedAt, heldBytes, ownBytes, sentBytes, heldLen, ownLen, Inputs, sizedOf, bodyOf, isYes};
 use crate::turns::Held;
 use crate::turns::Turn;
 use crate::turns::after;
@@ -125,6 +125,8 @@ pub enum Turned {
     },
 }
 
+// The token where reading stands. That comes as four numbers, and the loops take `next` over number by number: a Cursor passed whole is copied
+// through memory at each token, which took half of the time.
 fn turn_at(
     code: &[u8],
     words: &[u32],
@@ -133,14 +135,24 @@ fn turn_at(
     rows: &[u8],
     rising: bool,
     site: Site,
-    c: Cursor,
+    at: usize,
+    args: usize,
+    stems: usize,
+    due: bool,
     h: Held,
 ) -> Turned
     requires { ⌜ (Inputs (now code) (now words) locals globals (rowsOf (now rows)) rising site)
-        × (Within (now code) c) × (more (now code) c ≡ true) × (HoldsHeld h) ⌝ }
+        × (Within (now code) (cursor at args stems due)) × (more (now code) (cursor at args stems due) ≡ true) × (HoldsHeld h) ⌝ }
     ensures { λ r. ⌜ r ≡ turnedAt (callsBy (now (words .entry)) locals globals) h
-        (stepOf (tokenAt (now (code .entry)) (givenAt (givenIn (rowsOf (now (rows .entry))) (siteOf site)) c) c)) ⌝ }
+        (stepOf (tokenAt (now (code .entry)) (givenAt (givenIn (rowsOf (now (rows .entry))) (siteOf site)) (cursor at args stems due))
+        (cursor at args stems due))) ⌝ }
 {
+    let c = Cursor {
+        at,
+        args,
+        stems,
+        due,
+    };
     let given = given_at(rows, rising, site, c);
     match next_token(code, c, given) {
         Step::Lost => Turned::Failed,
@@ -179,7 +191,20 @@ fn body_len(
     let mut h = Held::Nothing;
     let mut len: usize = 0;
     while more(code, c) {
-        match turn_at(code, words, locals, globals, rows, rising, site, c, h) {
+        match turn_at(
+            code,
+            words,
+            locals,
+            globals,
+            rows,
+            rising,
+            site,
+            c.at,
+            c.args,
+            c.stems,
+            c.due,
+            h,
+        ) {
             Turned::On {
                 before,
                 token,
@@ -187,7 +212,12 @@ fn body_len(
             } => {
                 len += sent_len(before, token);
                 h = after(token);
-                c = next;
+                c = Cursor {
+                    at: next.at,
+                    args: next.args,
+                    stems: next.stems,
+                    due: next.due,
+                };
             }
             Turned::Failed => {
                 return Sized::Failed;
@@ -240,7 +270,20 @@ pub fn put_renumbered(
     let mut h = Held::Nothing;
     let mut p = at;
     while more(code, c) {
-        match turn_at(code, words, locals, globals, rows, rising, site, c, h) {
+        match turn_at(
+            code,
+            words,
+            locals,
+            globals,
+            rows,
+            rising,
+            site,
+            c.at,
+            c.args,
+            c.stems,
+            c.due,
+            h,
+        ) {
             Turned::On {
                 before,
                 token,
@@ -248,7 +291,12 @@ pub fn put_renumbered(
             } => {
                 p = put_sent(code, before, token, &mut *out, p);
                 h = after(token);
-                c = next;
+                c = Cursor {
+                    at: next.at,
+                    args: next.args,
+                    stems: next.stems,
+                    due: next.due,
+                };
             }
             Turned::Failed => {
                 return p;
