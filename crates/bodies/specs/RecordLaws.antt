@@ -30,7 +30,7 @@ use Rattle.bodies.specs.WaysLaws.{new-body-alike, body-by-alike, subrs-b
 -- ---- what is reached
 
 -- a rank is 0 where its number is not in the set
-rank-tells : (t : Bool) (n : ℕ) → not (eqb (pick t (n + 1) 0) 0) ≡ t
+pub rank-tells : (t : Bool) (n : ℕ) → not (eqb (pick t (n + 1) 0) 0) ≡ t
 rank-tells true n = ap not (ne-eqb (n + 1) 0 (λ e. zero-one (omega arith)))
 rank-tells false n = ap not (eq-eqb 0 0 refl)
 
@@ -89,7 +89,7 @@ past-fails rows set calls site subrs e =
     ap (λ (t : Bool). pick t (each (λ k. renumberedBody rows calls (site k) (getD subrs k [])) (those set (length subrs) 0)) fail) e
 
 -- stubbed alike, where the sets are the same at each of the subroutines
-stubbed-alike : (set set' : ℕ → Bool) (k : ℕ) (l : List (List ℕ)) → ((i : ℕ) → i < length l → set (k + i) ≡ set' (k + i)) → stubbedFrom set k l ≡ stubbedFrom set' k l
+pub stubbed-alike : (set set' : ℕ → Bool) (k : ℕ) (l : List (List ℕ)) → ((i : ℕ) → i < length l → set (k + i) ≡ set' (k + i)) → stubbedFrom set k l ≡ stubbedFrom set' k l
 unfolding stubbedFrom
 stubbed-alike set set' k [] same = refl
 stubbed-alike set set' k (s ∷ l) same =

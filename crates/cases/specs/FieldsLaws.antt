@@ -10,6 +10,7 @@ use lib.ListN.{length, take, getD}
 use lib.Seq.{slice, take-length}
 use borrow.Author.Tests.{eq-eqb, ne-eqb, eqb-true}
 use Rattle.octets.specs.Pick.{pick}
+use Rattle.octets.specs.PickLaws.{both-hold}
 use Rattle.octets.specs.PutLaws.{wrote-none, wrote-length, take-put}
 use Rattle.hexlines.specs.Hexlines.{hexBytes, roomFor, Unhexes}
 use Rattle.hexlines.specs.HexlinesLaws.{unhexes-done, done-wrote, room-some}
@@ -41,10 +42,6 @@ read-dash t old e = unhexes-done _ [] old old 0 0 (field-dash (length old) t e) 
 pub read-hex : (t old new : List ℕ) (r : Unhexed) → isDash t ≡ false → Unhexes (roomFor (length old) 0 (hexBytes (slice 0 (length t) t))) old 0 new r
     → Unhexes (fieldBytes (length old) t) old 0 new r
 read-hex t old new r e u = subst (λ (o : Option (List ℕ)). Unhexes o old 0 new r) (field-hex (length old) t e) u
-
-both-true : (t b : Bool) → pick t b false ≡ true → (t ≡ true) × (b ≡ true)
-both-true true b e = (refl, e)
-both-true false b e = absurd (false≢true e)
 
 bad-none : (o : Option (List ℕ)) (old new : List ℕ) → Unhexes o old 0 new Bad → o ≡ none
 unfolding Unhexes
@@ -83,7 +80,7 @@ same-true [] [] e = refl
 same-true [] (y ∷ ys) e = absurd (false≢true e)
 same-true (x ∷ xs) [] e = absurd (false≢true e)
 same-true (x ∷ xs) (y ∷ ys) e =
-    let p = both-true (eqb x y) (same xs ys) e in
+    let p = both-hold (eqb x y) (same xs ys) e in
     let h = eqb-true x y (p .0) in
     let t = same-true xs ys (p .1) in
     cc

@@ -15,7 +15,7 @@ use Rattle.decimal.specs.declared.Decimal.{Decimal}
 use Rattle.decimal.specs.declared.NumberAt.{NumberAt}
 use Rattle.decimal.specs.declared.NumberAt.the-variants.{Refused as RefusedAt, NotNumber, Num}
 use Rattle.decimal.specs.declared.IdOf.{IdOf}
-use Rattle.decimal.specs.declared.IdOf.the-variants.{Absent as NoId}
+use Rattle.decimal.specs.declared.IdOf.the-variants.{Id, Absent as NoId}
 use Rattle.decimal.specs.declared.OffsetOf.{OffsetOf}
 use Rattle.decimal.specs.declared.OffsetOf.the-variants.{Refused as RefusedOffset, Offset}
 use Rattle.decimal.specs.declared.Signed.{Signed}
@@ -308,6 +308,17 @@ module _ (es : List Entry) (op : ℕ) (r : One) (e : r ≡ oneOf op es) where
 
   pub id-is : (v : Decimal) (q : IdOf) → r ≡ The v → q ≡ idOf v → q ≡ idIn op es
   id-is v q f g = g ∙ ap idAs (sym f ∙ e)
+
+-- a string id has 16 bits
+low-id : (t s u : Bool) (m sid : ℕ) → ltb m 65536 ≡ u → pick t (Id 0) (pick s NoId (pick u (Id m) NoId)) ≡ Id sid → sid < 65536
+low-id true s u m sid h e = let z : 0 ≡ sid = cc in omega arith
+low-id false true u m sid h e = absurd (no cc)
+low-id false false true m sid h e = let z : m ≡ sid = cc in omega (arith, ltb-true m 65536 h)
+low-id false false false m sid h e = absurd (no cc)
+
+pub id-low : (o : One) (sid : ℕ) → idAs o ≡ Id sid → sid < 65536
+id-low NoNumber sid e = absurd (no cc)
+id-low (The d) sid e = low-id (eqb (truncOf d) 0) (d .neg) (ltb (truncOf d) 65536) (truncOf d) sid refl e
 
 module _ (es : List Entry) (r : One) where
   pub count-absent : r ≡ oneOf cidCount es → r ≡ NoNumber → 8720 ≡ cidCountIn es

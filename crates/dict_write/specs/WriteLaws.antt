@@ -10,13 +10,14 @@ use Rattle.octets.specs.PutLaws.{wrote-none, wrote-then, wrote-as, wrote-length
 use Rattle.decimal.specs.declared.Decimal.{Decimal}
 use Rattle.decimal.specs.Written.{int5Bytes}
 use Rattle.decimal_write.specs.IntLaws.{length-int5}
-use Rattle.dict.specs.Op.{private}
+use Rattle.dict.specs.Op.{private, subrs}
 use Rattle.dict.specs.Lookup.{lastOf, absent, operands}
 use Rattle.dict.specs.Places.{entriesOf, placeOf, operandsAt}
 use Rattle.dict.specs.LookupLaws.{Last, none-last, found-last}
 use Rattle.dict.specs.declared.Found.{Found}
 use Rattle.dict.specs.declared.Found.the-variants.{Absent, Entry as FoundAt}
 use Rattle.dict_write.specs.Written.{opBytes, operandsBytes, entryBytes, offsetEntry, privateEntry, copiedEntry}
+use Rattle.dict_write.specs.OpLaws.{op-one}
 
 -- ---- two writes in a row: room for the first, for the second, and both
 
@@ -70,6 +71,10 @@ module _ (op value : ℕ) where
     pub offset-wrote : (new : List ℕ) (q : ℕ) → Wrote mid p (opBytes op) new q → Wrote old to (offsetEntry op value) new q
     unfolding offsetEntry
     offset-wrote new q w = wrote-both h v w
+
+-- Subrs has six bytes
+pub subrs-length : (value : ℕ) → length (offsetEntry subrs value) ≡ 6
+subrs-length value = sym (offset-length subrs value 1 (op-one subrs (omega arith)))
 
 -- ---- a size, an offset and Private
 

@@ -17,6 +17,7 @@ use Rattle.cff.specs.Font.{got, Private, Program, privateData, privateAt, idsAt
 use Rattle.cff.specs.ReadsLaws.{no}
 use Rattle.subset.specs.Kept.{privateOf}
 use Rattle.subset.specs.Texts.{namesOf}
+use Rattle.subset.specs.TextsLaws.{ids-length}
 use Rattle.subset.specs.Pruned.{Bodies}
 use Rattle.subset.specs.Subset.{privateDict, privatePart, ownByName, topByName, newIds, oneLocal, subsetByName}
 use Rattle.faithful.specs.Laid.{GoodProgram, Fitting, ReadsAs}
@@ -28,12 +29,6 @@ use Rattle.faithful.specs.SetBack.{setBytes, restAt, rest-lies, rest-wit
 use Rattle.faithful.specs.FontBack.{ids-back, fontOf, font-back}
 
 -- ---- the ids of the names
-
--- each text has an id
-pub ids-length : (own ts : List (List ℕ)) → length (newIds own ts) ≡ length ts
-unfolding newIds
-ids-length own [] = refl
-ids-length own (t ∷ ts) = ap suc (ids-length own ts)
 
 -- each glyph has a name
 pub names-length : (p : Program) (order : List ℕ) → length (namesOf p order) ≡ length order
@@ -57,7 +52,7 @@ unfolding nameParts privateAt encodingGot
 name-parts-back bs es n at₁ at₂ size at₃ q t d = rw (t .privateAt, d, t .encodingNone)
 
 -- it is within its part
-dict-within : (q : Private) (ls : List (List ℕ)) → length (privateDict q ls) ≤ length (privatePart q ls)
+pub dict-within : (q : Private) (ls : List (List ℕ)) → length (privateDict q ls) ≤ length (privatePart q ls)
 dict-within q ls = omega (arith, length-append (privateDict q ls) (pick (eqb (length ls) 0) [] (indexBytes ls)))
 
 -- and holds the local subroutines of FD 0

@@ -6,8 +6,8 @@ use native.Mathlib.Omega.{arith}
 use lib.ListN.{length, take, drop, length-append, length-drop}
 use lib.Seq.{take-at, drop-at, drop-drop}
 use Rattle.index.specs.Index.{found, readIndex}
-use Rattle.index.specs.Write.{total, itemsBytes, sizeOf, headBytes, indexBytes}
-use Rattle.index.specs.WriteLaws.{length-items}
+use Rattle.index.specs.Write.{indexBytes}
+use Rattle.index.specs.WriteLaws.{total-within}
 use Rattle.index.specs.IndexRound.{read-written}
 
 module _ (bs : List ℕ) (at : ℕ) (xs post : List ℕ) (lies : drop at bs ≡ xs ++ post) where
@@ -25,15 +25,9 @@ module _ (bs : List ℕ) (at : ℕ) (xs post : List ℕ) (lies : drop at bs ≡ 
       let k : length bs - at ≡ length xs + length post = sym (length-drop at bs) ∙ ap length lies ∙ length-append xs post in
       omega arith
 
--- the items of an INDEX are no longer than the INDEX
-pub index-total : (items : List (List ℕ)) → total items ≤ length (indexBytes items)
-unfolding indexBytes
-index-total items =
-    omega (arith, length-append (headBytes (length items) (sizeOf items)) (itemsBytes (sizeOf items) items), length-items (sizeOf items) items)
-
 -- an INDEX in a font that is not too long reads back
 pub index-back : (bs : List ℕ) (at : ℕ) (items : List (List ℕ)) (post : List ℕ) → length items < 65536 → length bs ≤ 67108864
     → drop at bs ≡ indexBytes items ++ post → readIndex bs at ≡ found items (at + length (indexBytes items))
 index-back bs at items post few short lies =
     let k : length bs - at ≡ length (indexBytes items) + length post = sym (length-drop at bs) ∙ ap length lies ∙ length-append (indexBytes items) post in
-    read-written bs at items post few (omega (arith, index-total items)) lies
+    read-written bs at items post few (omega (arith, total-within items)) lies

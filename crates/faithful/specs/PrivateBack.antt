@@ -20,8 +20,7 @@ use Rattle.dict.specs.declared.OffsetIn.the-variants.{At, Absent}
 use Rattle.dict.specs.declared.PrivateIn.{PrivateIn}
 use Rattle.dict.specs.declared.PrivateIn.the-variants.{Private as PrivateEntry}
 use Rattle.dict_write.specs.Written.{offsetEntry, privateEntry, without, privateBytes}
-use Rattle.dict_write.specs.WriteLaws.{offset-length}
-use Rattle.dict_write.specs.OpLaws.{op-one}
+use Rattle.dict_write.specs.WriteLaws.{subrs-length}
 use Rattle.dict_write.specs.Parts.{Part, partsBytes, partsEntries, whole, AllFit}
 use Rattle.dict_write.specs.DictRound.{parts-read}
 use Rattle.dict_write.specs.EntriesRound.{entries-read, offset-read, without-proper}
@@ -57,10 +56,6 @@ no-subrs es = ap (λ (o : Operands). offsetAs (only o)) (last-without subrs abse
 the-subrs : (es : List Entry) (v : ℕ) → v < 2147483648 → offsetIn subrs (es ++ (record { op = subrs; operands = whole v ∷ [] } ∷ [])) ≡ At v
 unfolding lastOf
 the-subrs es v h = ap (λ (o : Operands). offsetAs (only o)) (last-snoc subrs absent es (whole v ∷ [])) ∙ ap offsetTold (offset-whole v h)
-
--- Subrs has six bytes
-subrs-length : (v : ℕ) → length (offsetEntry subrs v) ≡ 6
-subrs-length v = sym (offset-length subrs v 1 (op-one subrs (omega arith)))
 
 module _ (bs : List ℕ) (at : ℕ) (es : List Entry) (proper : AllProper es) (short : length bs ≤ 67108864) (within : at ≤ length bs) where
   -- where no local subroutine is left

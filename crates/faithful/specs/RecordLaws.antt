@@ -10,6 +10,7 @@ use lib.ListN.{length, take, drop}
 use lib.Seq.{getD-drop}
 use borrow.Author.Tests.{eqb-true, not-false}
 use Rattle.octets.specs.Pick.{pick}
+use Rattle.octets.specs.PickLaws.{none-holds}
 use Rattle.octets.specs.Octets.{Octets, be, numAt}
 use Rattle.strings.specs.TableLaws.{and-left, and-right}
 use Rattle.charstring.specs.declared.MaskLen.the-variants.{Given}
@@ -18,11 +19,6 @@ use Rattle.prune.specs.StepLaws.{zero-one}
 use Rattle.record.specs.Record.{rowOf, rowsFrom, rowsOf, sameRow, lists, atPlace, givenIn, ofBody, disagrees, twoLengths}
 
 -- ---- tests
-
--- a choice that is false, of true or another test
-neither : (t u : Bool) → pick t true u ≡ false → (t ≡ false) × (u ≡ false)
-neither true u e = absurd (zero-one cc)
-neither false u e = (refl, e)
 
 -- a test that holds, and another, which are not both so
 other-fails : (t u : Bool) → t ≡ true → (t && u) ≡ false → u ≡ false
@@ -82,7 +78,7 @@ agrees r q [] e h a = absurd (zero-one cc)
 agrees r q (x ∷ rows) e h a = go (sameRow x q) refl h (agrees r q rows (n .1))
   where
     n : ((atPlace r x && not (eqb (r .len) (x .len))) ≡ false) × (disagrees r rows ≡ false)
-    n = neither (atPlace r x && not (eqb (r .len) (x .len))) (disagrees r rows) e
+    n = none-holds (atPlace r x && not (eqb (r .len) (x .len))) (disagrees r rows) e
 
     go : (t : Bool) → sameRow x q ≡ t → pick t true (lists rows q) ≡ true → (lists rows q ≡ true → atPlace r q ≡ true → r .len ≡ q .len) → r .len ≡ q .len
     go true s h f =
@@ -100,7 +96,7 @@ given-listed (r ∷ rows) site offset len e h =
     go (atPlace r (masked site offset 0)) refl (sameRow r (masked site offset len)) refl h (given-listed rows site offset len (n .1))
   where
     n : ((ofBody r site && disagrees r rows) ≡ false) × (twoLengths rows site ≡ false)
-    n = neither (ofBody r site && disagrees r rows) (twoLengths rows site) e
+    n = none-holds (ofBody r site && disagrees r rows) (twoLengths rows site) e
 
     go : (t : Bool) → atPlace r (masked site offset 0) ≡ t → (u : Bool) → sameRow r (masked site offset len) ≡ u
         → pick u true (lists rows (masked site offset len)) ≡ true → (lists rows (masked site offset len) ≡ true → givenIn rows site offset ≡ Given len)

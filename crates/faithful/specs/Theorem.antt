@@ -24,7 +24,8 @@ use Rattle.faithful.specs.GoodPartsLaws.{got-same}
 use Rattle.faithful.specs.GoodLaws.{font-good}
 use Rattle.faithful.specs.Held.{keptIn, glyph-held}
 
-same-bool : (a b : Bool) → sameBool a b ≡ true → a ≡ b
+-- two that are the same
+pub same-bool : (a b : Bool) → sameBool a b ≡ true → a ≡ b
 same-bool true b e = sym e
 same-bool false true e = absurd (zero-one cc)
 same-bool false false e = refl

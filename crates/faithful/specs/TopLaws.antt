@@ -8,6 +8,7 @@ use native.Mathlib.Omega.{arith}
 use lib.Dec.{eqb}
 use lib.ListN.{length, length-append}
 use Rattle.octets.specs.Pick.{pick}
+use Rattle.octets.specs.PickLaws.{none-holds}
 use Rattle.decimal.specs.declared.IdOf.{IdOf}
 use Rattle.decimal.specs.declared.IdOf.the-variants.{Id, Absent}
 use Rattle.index.specs.Write.{total, indexLen, indexBytes}
@@ -36,11 +37,6 @@ use Rattle.faithful.specs.TopFitLaws.{name-bytes, cid-bytes, name-fit, c
 
 -- ---- the last entry of an operator that some parts lack
 
--- of a number that is not in a list: it is not the first, and not among the others
-not-in : (t u : Bool) → pick t true u ≡ false → (t ≡ false) × (u ≡ false)
-not-in true u h = absurd (no cc)
-not-in false u h = (refl, h)
-
 module _ (op : ℕ) (o : Operands) (rest : List Part) where
   -- an entry of another operator leaves it
   other-leaves : (q : ℕ) → eqb q op ≡ false → (ds : Operands) → pick (eqb q op) ds o ≡ o
@@ -61,7 +57,7 @@ module _ (op : ℕ) (o : Operands) (rest : List Part) where
   unfolding namedParts namedEntries isIn
   named-leave p own [] h = refl
   named-leave p own (q ∷ ops) h =
-      let n = not-in (eqb q op) (isIn op ops) h in
+      let n = none-holds (eqb q op) (isIn op ops) h in
       named-one-leaves p own q (n .0) (idIn q (p .top)) (namedEntries p ops) (named-leave p own ops (n .1))
 
   -- a copied entry leaves it
@@ -79,7 +75,7 @@ module _ (op : ℕ) (o : Operands) (rest : List Part) where
   unfolding copiedParts isIn
   copied-leave es [] h = refl
   copied-leave es (q ∷ ops) h =
-      let n = not-in (eqb q op) (isIn op ops) h in
+      let n = none-holds (eqb q op) (isIn op ops) h in
       copied-one-leaves q (n .0) (lastOf q es) (copiedParts es ops) (copied-leave es ops (n .1))
 
   -- ROS leaves it

@@ -10,10 +10,10 @@ use borrow.Author.Tests.{eqb-true}
 use lib.ListN.{length, take, drop, getD}
 use lib.Seq.{take-at, drop-at, drop-drop, getD-take, getD-drop}
 use Rattle.octets.specs.Pick.{pick, pick-ind}
+use Rattle.octets.specs.PickLaws.{both-hold}
 use Rattle.octets.specs.Octets.{Octets, put}
 use Rattle.octets.specs.PutLaws.{put-length, drop-put-at}
 use Rattle.unfold.specs.Unfold.{Row, local}
-use Rattle.prune.specs.StepLaws.{zero-one}
 use Rattle.record.specs.Record.{rowsOf}
 use Rattle.cff.specs.Font.{Program}
 use Rattle.cff.specs.Find.{localsTotal}
@@ -96,15 +96,11 @@ module _ (p : Program) (rows : List Row) (used : List ℕ) where
       go false v q =
           (q .0, ap (λ (k : ℕ). ranksFor p rows (usedBelow used k)) next ∙ ap (ranksFor p rows) (unused-next used (f + 1 + d) v) ∙ q .1)
 
-  both-true : (a c : Bool) → pick a c false ≡ true → (a ≡ true) × (c ≡ true)
-  both-true true c e = (refl, e)
-  both-true false c e = absurd (zero-one cc)
-
   -- an FD in use has no number without a subroutine where none has
   numbered-one : (f d : ℕ) → inUse used f ≡ true → allNumbered p rows (usedBelow used (f + 1 + d)) ≡ true → numbered p rows f ≡ true
   numbered-one f zero u e =
       let z : f + 1 ≡ f + 1 + 0 = omega arith in
-      both-true (allNumbered p rows (usedBelow used f)) (numbered p rows f)
+      both-hold (allNumbered p rows (usedBelow used f)) (numbered p rows f)
       (sym (ap (allNumbered p rows) (used-next used f u) ∙ numbered-last p rows (usedBelow used f) f) ∙ ap (λ (k : ℕ). allNumbered p rows (usedBelow used k)) z ∙ e) .1
   numbered-one f (suc d) u e = numbered-one f d u (go (inUse used (f + 1 + d)) refl)
     where
@@ -113,7 +109,7 @@ module _ (p : Program) (rows : List Row) (used : List ℕ) where
 
       go : (t : Bool) → inUse used (f + 1 + d) ≡ t → allNumbered p rows (usedBelow used (f + 1 + d)) ≡ true
       go true v =
-          both-true (allNumbered p rows (usedBelow used (f + 1 + d))) (numbered p rows (f + 1 + d))
+          both-hold (allNumbered p rows (usedBelow used (f + 1 + d))) (numbered p rows (f + 1 + d))
           (sym (ap (allNumbered p rows) (used-next used (f + 1 + d) v) ∙ numbered-last p rows (usedBelow used (f + 1 + d)) (f + 1 + d))
           ∙ ap (λ (k : ℕ). allNumbered p rows (usedBelow used k)) next ∙ e) .0
       go false v = sym (ap (allNumbered p rows) (unused-next used (f + 1 + d) v)) ∙ ap (λ (k : ℕ). allNumbered p rows (usedBelow used k)) next ∙ e

@@ -7,6 +7,7 @@ use native.Mathlib.Omega.{arith}
 use lib.ListN.{length, getD, set}
 use lib.Seq.{getD-set-same, getD-set-other}
 use Rattle.octets.specs.Pick.{pick}
+use Rattle.octets.specs.PickLaws.{first-fails, pick-same}
 use Rattle.index.specs.Index.{itemsOf}
 use Rattle.index.specs.Write.{total}
 use Rattle.unfold.specs.Unfold.{Row, local}
@@ -16,31 +17,24 @@ use Rattle.cff.specs.Reads.{GoodPrivate}
 use Rattle.cff.specs.Reads as reads
 use Rattle.cff.specs.declared.private.PrivateAt.{PrivateAt}
 use Rattle.subset.specs.Kept.{those, localsOf, privateOf}
-use Rattle.subset.specs.Pruned.{May, fail, yes}
+use Rattle.subset.specs.Pruned.{May}
 use Rattle.reach.specs.Cases.{by-number}
 use Rattle.renumber.specs.Ranks.{callsBy}
 use Rattle.renumber.specs.declared.Ranks.{Ranks}
-use Rattle.bodies.specs.Ways.{manyOf, holds, measuredOf, newSubrs, subrsBy, reachedIn, ranksIn, siteIn, SubrsIn}
+use Rattle.bodies.specs.Ways.{holds, measuredOf, newSubrs, subrsBy, reachedIn, ranksIn, siteIn, SubrsIn}
 use Rattle.bodies.specs.Pruning.{allHold}
 use Rattle.bodies.specs.Sizes.{Bounded}
 use Rattle.bodies.specs.SubrsLaws.{new-subrs-is}
+use Rattle.bodies.specs.WritingLaws.{measured-failed, measured-total}
 use Rattle.bodies.specs.declared.Measured.{Measured}
 use Rattle.bodies.specs.declared.Measured.the-variants.{Failed, Total}
 use Rattle.bodies.specs.declared.subrs.Subrs.the-variants.{Local}
 use Rattle.fds.specs.Locals.{inUse, usedBelow, fdsIn}
-use Rattle.fds.specs.UsedLaws.{used-next, unused-next}
+use Rattle.fds.specs.UsedLaws.{used-next, unused-next, both-last, one-last}
 use Rattle.fds.specs.LocalsLaws.{locals-count}
 use Rattle.fds.specs.NewLocals.{localsWith, FdIn, localsBy, newLocals, MeasuresLocals, LocalsIn}
 
 -- ---- some that hold
-
-both-last : (t u v : Bool) → pick t (pick u v false) false ≡ pick (pick t u false) v false
-both-last true u v = refl
-both-last false u v = refl
-
-one-last : (t : Bool) → pick t true false ≡ t
-one-last true = refl
-one-last false = refl
 
 module _ {A : Type 0} (f : ℕ → May A) where
   hold-last : (fs : List ℕ) (x : ℕ) → allHold f (fs ++ (x ∷ [])) ≡ pick (allHold f fs) (holds (f x)) false
@@ -59,10 +53,6 @@ module _ {A : Type 0} (f : ℕ → May A) where
   pub hold-take : (used : List ℕ) (n : ℕ) → inUse used n ≡ true → allHold f (usedBelow used (n + 1)) ≡ pick (allHold f (usedBelow used n)) (holds (f n)) false
   hold-take used n e = ap (allHold f) (used-next used n e) ∙ hold-last (usedBelow used n) n
 
-  none-more : (a b : Bool) → a ≡ false → pick a b false ≡ false
-  none-more true b e = absurd (zero-one cc)
-  none-more false b e = refl
-
   -- where those below n do not all hold, no more do
   hold-on : (used : List ℕ) (n d : ℕ) → allHold f (usedBelow used n) ≡ false → allHold f (usedBelow used (n + d)) ≡ false
   hold-on used n zero h = ap (λ (k : ℕ). allHold f (usedBelow used k)) (let e : n + 0 ≡ n = omega arith in e) ∙ h
@@ -71,18 +61,14 @@ module _ {A : Type 0} (f : ℕ → May A) where
       ap (λ (k : ℕ). allHold f (usedBelow used k)) e ∙ go (inUse used (n + d)) refl (hold-on used n d h)
     where
       go : (t : Bool) → inUse used (n + d) ≡ t → allHold f (usedBelow used (n + d)) ≡ false → allHold f (usedBelow used (n + d + 1)) ≡ false
-      go true u i = hold-take used (n + d) u ∙ none-more (allHold f (usedBelow used (n + d))) (holds (f (n + d))) i
+      go true u i = hold-take used (n + d) u ∙ first-fails (allHold f (usedBelow used (n + d))) (holds (f (n + d))) i
       go false u i = hold-pass used (n + d) u ∙ i
 
   pub hold-fails : (used : List ℕ) (n m : ℕ) → n < m → inUse used n ≡ true → holds (f n) ≡ false → allHold f (usedBelow used m) ≡ false
   hold-fails used n m h u e =
       let k : n + 1 + (m - (n + 1)) ≡ m = omega arith in
-      let r : allHold f (usedBelow used (n + 1)) ≡ false = hold-take used n u ∙ ap (λ (t : Bool). pick (allHold f (usedBelow used n)) t false) e ∙ last (allHold f (usedBelow used n)) in
+      let r : allHold f (usedBelow used (n + 1)) ≡ false = hold-take used n u ∙ ap (λ (t : Bool). pick (allHold f (usedBelow used n)) t false) e ∙ pick-same (allHold f (usedBelow used n)) false in
       ap (λ (i : ℕ). allHold f (usedBelow used i)) (sym k) ∙ hold-on used (n + 1) (m - (n + 1)) r
-    where
-      last : (t : Bool) → pick t false false ≡ false
-      last true = refl
-      last false = refl
 
 -- ---- one FD
 
@@ -112,15 +98,6 @@ module _ (way : ℕ) (b : List ℕ) (p : Program) (rows : List Row) (ws : List �
       → (r ≡ measuredOf (localsWith way p rows ws own globals f)) × Bounded r
   total-is r e =
       (e .0 ∙ ap (λ (l : List (List ℕ)). measuredOf (subrsBy way rows (reachedIn ws own) (callsBy ws own globals) (local f) l)) items-are, e .1)
-
--- what a measure tells
-pub total-told : (m : May (List (List ℕ))) (t : ℕ) → measuredOf m ≡ Total t → (holds m ≡ true) × (total (manyOf m) ≡ t)
-total-told fail t e = absurd (zero-one cc)
-total-told (yes l) t e = let z : total l ≡ t = cc in (refl, z)
-
-pub failed-told : (m : May (List (List ℕ))) → measuredOf m ≡ Failed → holds m ≡ false
-failed-told fail e = refl
-failed-told (yes l) e = absurd (zero-one cc)
 
 -- ---- FD by FD
 
@@ -170,8 +147,8 @@ module _ (way : ℕ) (p : Program) (rows : List Row) (ws ats counts reacheds : L
       pub summing-take : Bounded r → (t : ℕ) → r ≡ Total t → fd < length totals → Summing (set totals fd t) (fd + 1)
       summing-take m t e k =
           let most : t ≤ 21989897011200 = subst Bounded e m in
-          let q = total-told (localsBy way p rows ws ats counts reacheds globals fd) t (sym by-tables ∙ e) in
-          let n : total (newLocals way p rows ws ats counts reacheds globals fd) ≡ t = ap total (new-subrs-is way rows _ _ (local fd) (localsOf p fd)) ∙ q .1 in
+          let q = measured-total (localsBy way p rows ws ats counts reacheds globals fd) t (sym by-tables ∙ e) in
+          let n : total (newLocals way p rows ws ats counts reacheds globals fd) ≡ t = ap total (new-subrs-is way rows _ _ (local fd) (localsOf p fd)) ∙ sym (q .1) in
           record {
             hold = hold-take (localsBy way p rows ws ats counts reacheds globals) used fd u ∙ both (allHold (localsBy way p rows ws ats counts reacheds globals) (usedBelow used fd)) _ (h .hold) (q .0);
             sums = λ f l v. by-number f fd
@@ -188,7 +165,7 @@ module _ (way : ℕ) (p : Program) (rows : List Row) (ws ats counts reacheds : L
 
       pub summing-fails : fd < 256 → r ≡ Failed → (new : List ℕ) → MeasuresLocals way p rows ws ats counts reacheds globals used new false
       summing-fails k e new =
-          let q = failed-told (localsBy way p rows ws ats counts reacheds globals fd) (sym by-tables ∙ e) in
+          let q = measured-failed (localsBy way p rows ws ats counts reacheds globals fd) (sym by-tables ∙ e) in
           record {
             told = sym (hold-fails (localsBy way p rows ws ats counts reacheds globals) used fd 256 k u q);
             sums = λ z. absurd (zero-one cc);

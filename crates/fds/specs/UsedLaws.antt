@@ -16,6 +16,16 @@ use Rattle.subset.specs.Pruned.{localSet}
 use Rattle.reach.specs.CountLaws.{length-ranks}
 use Rattle.fds.specs.Locals.{inUse, usedBelow, localsFor, fdRanks, ranksFor, numbered, allNumbered}
 
+-- ---- tests one after the other
+
+pub both-last : (t u v : Bool) → pick t (pick u v false) false ≡ pick (pick t u false) v false
+both-last true u v = refl
+both-last false u v = refl
+
+pub one-last : (t : Bool) → pick t true false ≡ t
+one-last true = refl
+one-last false = refl
+
 -- ---- those that pass a test
 
 one-front : (t : Bool) (g : ℕ) (xs ys : List ℕ) → pick t (g ∷ (xs ++ ys)) (xs ++ ys) ≡ pick t (g ∷ xs) xs ++ ys
@@ -69,14 +79,6 @@ module _ (p : Program) (rows : List Row) where
   ranks-last [] f = append-nil (fdRanks p rows f)
   ranks-last (x ∷ fs) f =
       ap (λ (l : List ℕ). fdRanks p rows x ++ l) (ranks-last fs f) ∙ sym (append-assoc (fdRanks p rows x) (ranksFor p rows fs) (fdRanks p rows f))
-
-  both-last : (t : Bool) (u v : Bool) → pick t (pick u v false) false ≡ pick (pick t u false) v false
-  both-last true u v = refl
-  both-last false u v = refl
-
-  one-last : (t : Bool) → pick t true false ≡ t
-  one-last true = refl
-  one-last false = refl
 
   pub numbered-last : (fs : List ℕ) (f : ℕ) → allNumbered p rows (fs ++ (f ∷ [])) ≡ pick (allNumbered p rows fs) (numbered p rows f) false
   unfolding allNumbered

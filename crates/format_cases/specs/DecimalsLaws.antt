@@ -1,7 +1,7 @@
 -- Laws of a decimal of a case: one that is as it is written there is normalised and within the limits of refusal 5.
 use Prim.Native.Nat.{ℕ, _+_, _-_, _*_, _%_, _≤_, _<_}
 use mathlib.Core.Path.{_≡_, refl, sym, ap, _∙_}
-use mathlib.Core.Bool.{Bool, true, false, false≢true}
+use mathlib.Core.Bool.{Bool, true, false}
 use mathlib.Core.List.{List}
 use mathlib.Core.Logic.{_⊎_, inl, inr}
 use mathlib.Core.Option.{none, some}
@@ -10,21 +10,13 @@ use lib.Dec.{ltb, leb, eqb}
 use lib.ListN.{length, getD}
 use borrow.Author.Tests.{lt-ltb, le-ltb, eq-eqb, ne-eqb, eqb-true, eqb-false, leb-false, ltb-false, le-leb, lt-leb}
 use Rattle.octets.specs.Pick.{pick}
+use Rattle.octets.specs.PickLaws.{both-hold, other-holds}
 use Rattle.octets.specs.Octets.{numAt}
 use Rattle.decimal.specs.declared.Decimal.{Decimal}
 use Rattle.decimal.specs.Decimal.{nought, normal, Normal}
 use Rattle.decimal.specs.DecimalLaws.{normal-nought, normal-times}
 use Rattle.decimal.specs.Written.{numberBytes}
 use Rattle.format_cases.specs.Dicts.{decimalAt, isDecimal, numberAnswer}
-
--- a test that fails, and one that passes
-not-first : (t : Bool) (b : Bool) → pick t false b ≡ true → (t ≡ false) × (b ≡ true)
-not-first true b e = absurd (false≢true e)
-not-first false b e = (refl, e)
-
-first-too : (t : Bool) (b : Bool) → pick t b false ≡ true → (t ≡ true) × (b ≡ true)
-first-too true b e = (refl, e)
-first-too false b e = absurd (false≢true e)
 
 -- a decimal of its four parts
 abbrev made : Bool → ℕ → ℕ → ℕ → Decimal
@@ -52,8 +44,8 @@ module _ (d : Decimal) (z : d .digits ≡ 0) where
 
   zero-normal : isDecimal d ≡ true → Normal d
   zero-normal e =
-      let a = not-first (d .neg) _ (sym zero-is ∙ e) in
-      let b = first-too (eqb (d .up) 0) (eqb (d .down) 0) (a .1) in
+      let a = other-holds (d .neg) _ (sym zero-is ∙ e) in
+      let b = both-hold (eqb (d .up) 0) (eqb (d .down) 0) (a .1) in
       let u = eqb-true (d .up) 0 (b .0) in
       let v = eqb-true (d .down) 0 (b .1) in
       record {
@@ -115,10 +107,10 @@ module _ (d : Decimal) (z : d .digits ≡ 0 → ⊥) where
 
   digits-normal : isDecimal d ≡ true → Normal d
   digits-normal e =
-      let a = not-first (eqb (d .digits % 10) 0) _ (digits-is e) in
-      let b = not-first (leb 1000000000000000 (d .digits)) _ (a .1) in
-      let c = not-first (ltb 30 (d .up)) _ (b .1) in
-      let f = not-first (ltb 30 (d .down)) _ (c .1) in
+      let a = other-holds (eqb (d .digits % 10) 0) _ (digits-is e) in
+      let b = other-holds (leb 1000000000000000 (d .digits)) _ (a .1) in
+      let c = other-holds (ltb 30 (d .up)) _ (b .1) in
+      let f = other-holds (ltb 30 (d .down)) _ (c .1) in
       let o = either-power (eqb (d .down) 0) refl (f .1) in
       let l = eqb-false (d .digits % 10) 0 (a .0) in
       record {

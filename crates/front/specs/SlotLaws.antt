@@ -20,6 +20,7 @@ use Rattle.dict.specs.Dict.{Entry}
 use Rattle.dict.specs.Lookup.{Operands, absent, operands, lastOf, oneOf, idIn, rosAs, rosIn}
 use Rattle.dict.specs.declared.RosIn.{RosIn}
 use Rattle.dict.specs.declared.RosIn.the-variants.{Ros}
+use Rattle.dict.specs.LookupLaws.{id-low}
 use Rattle.index.specs.Index.{itemsOf}
 use Rattle.index.specs.declared.Index.{Index}
 use Rattle.strings.specs.Strings.{stringText}
@@ -28,7 +29,7 @@ use Rattle.subset.specs.Texts.{ownStrings, newId}
 use Rattle.faithful.specs.TopFitLaws.{new-below}
 use Rattle.own_strings.specs.Slots.{slotOf, rosSlots, firstSlots, entrySlots, slotsOf, slotId, slotIds, slotsOwn}
 use Rattle.own_strings.specs.Ready.{HasStrings, SlotsGiven}
-use Rattle.own_strings.specs.SlotTexts.{one-low, clamped-low}
+use Rattle.own_strings.specs.SlotTexts.{clamped-low}
 use Rattle.own_strings.specs.SlotLaws.{slot-full}
 use Rattle.own_strings.specs.TurnLaws.{first-length, slots-length, slots-at, text-short}
 use Rattle.own_strings.specs.StageLaws.{own-bound, take-front}
@@ -136,7 +137,7 @@ module _ (p : Program) (cid : Bool) (slots : List ℕ) (g : SlotsReady p cid slo
         there = λ j h. slot-at (2 + j) (omega arith) ∙ entry-at j h ∙ same-slot (idIn (getD copiedTopStrings j 0) (p .top));
         renamed =
             λ j sid h e. let n : 10 + j ≡ 8 + (2 + j) = omega arith in
-            ap (λ (k : ℕ). getD slots k 0) n ∙ new-at (2 + j) sid (omega arith) (entry-at j h ∙ ap slotOf e) (one-low (oneOf (getD copiedTopStrings j 0) (p .top)) sid e);
+            ap (λ (k : ℕ). getD slots k 0) n ∙ new-at (2 + j) sid (omega arith) (entry-at j h ∙ ap slotOf e) (id-low (oneOf (getD copiedTopStrings j 0) (p .top)) sid e);
         registry = λ c r o s e. new-at 0 r (omega arith) (ap (λ (l : List ℕ). getD l 0 0) (first-at c r o s e)) (ros-low (lastOf ros (p .top)) r o s e .0);
         ordering = λ c r o s e. new-at 1 o (omega arith) (ap (λ (l : List ℕ). getD l 1 0) (first-at c r o s e)) (ros-low (lastOf ros (p .top)) r o s e .1);
       }

@@ -9,11 +9,12 @@ use native.Mathlib.Numerals.{add-one}
 use native.Mathlib.Omega.{arith}
 use borrow.Author.Tests.{lt-ltb, le-ltb, ltb-false, eq-eqb, ne-eqb}
 use lib.Dec.{ltb}
-use lib.ListN.{length, getD, set}
+use lib.ListN.{length, getD}
 use lib.Seq.{slice, slice-empty, slice-cons, length-slice, take-length}
 use Rattle.octets.specs.Pick.{pick}
+use Rattle.octets.specs.PickLaws.{other-holds}
 use Rattle.octets.specs.Octets.{Octets, put, Wrote}
-use Rattle.octets.specs.PutLaws.{put-one, put-put, put-nil}
+use Rattle.octets.specs.PutLaws.{put-nil}
 use Rattle.hexlines.specs.Hexlines.{hexValue, before, lineEnd, isHex, spelt, hexBytes, roomFor, Unhexes}
 use Rattle.hexlines.specs.declared.Unhexed.the-variants.{Done, Bad}
 
@@ -43,11 +44,6 @@ line-place s at = rw take-length
 
 -- ---- digits, a pair at a time
 
--- past a test that did not hold
-passed : (t b : Bool) → pick t false b ≡ true → (t ≡ false) × (b ≡ true)
-passed true b h = absurd (let z : _≡_ {A = ℕ} 0 1 = cc in omega arith)
-passed false b h = (refl, h)
-
 -- a choice between bytes and none that gives bytes
 fitting : (t : Bool) (cs bs : List ℕ) → pick t none (some cs) ≡ some bs → (t ≡ false) × (cs ≡ bs)
 fitting true cs bs e = absurd (let z : _≡_ {A = ℕ} 0 1 = cc in omega arith)
@@ -66,8 +62,8 @@ hex-more x (y ∷ u) h = omega arith
 pub hex-held : (x y : ℕ) (u : List ℕ) → isHex (x ∷ (y ∷ u)) ≡ true → (hexValue x ≤ 15) × (hexValue y ≤ 15) × (isHex u ≡ true)
 unfolding isHex
 hex-held x y u h =
-    let p = passed (ltb 15 (hexValue x)) _ h in
-    let q = passed (ltb 15 (hexValue y)) _ (p .1) in
+    let p = other-holds (ltb 15 (hexValue x)) _ h in
+    let q = other-holds (ltb 15 (hexValue y)) _ (p .1) in
     (ltb-false 15 (hexValue x) (p .0), ltb-false 15 (hexValue y) (q .0), q .1)
 
 -- a pair of digits at i, and what follows it
@@ -136,11 +132,6 @@ spelt-length (x ∷ []) h = absurd (not-suc-le-zero (hex-more x [] h))
 spelt-length (x ∷ (y ∷ u)) h = omega (arith, spelt-length u (hex-held x y u h .2))
 
 -- ---- what is written
-
--- a byte stored, and the others behind it
-pub put-cons : (old : List ℕ) (p x : ℕ) (xs : List ℕ) → p < length old → put (set old p x) (p + 1) xs ≡ put old p (x ∷ xs)
-put-cons old p x xs h =
-    ap (λ (o : List ℕ). put o (p + 1) xs) (put-one old p x h) ∙ put-put old p (x ∷ []) xs (omega arith)
 
 -- nothing is left to write
 pub put-done : (old new : List ℕ) (to p : ℕ) (bs left : List ℕ) → left ≡ [] → p + length left ≡ to + length bs

@@ -11,7 +11,7 @@ use lib.ListN.{length, take, drop, getD, set, length-set, drop-of-length-le}
 use lib.Seq.{getD-take, take-set-le, length-take-le}
 use Rattle.octets.specs.Pick.{pick-ind}
 use Rattle.octets.specs.Octets.{put}
-use Rattle.octets.specs.PutLaws.{put-nil}
+use Rattle.octets.specs.PutLaws.{put-nil, put-cons}
 use Rattle.prune.specs.StepLaws.{zero-one}
 use Rattle.charset.specs.FdPlaces.{fdOf}
 use Rattle.charset.specs.FdFound.{fd-at}
@@ -23,7 +23,6 @@ use Rattle.subset.specs.Pruned.{mapped}
 use Rattle.subset.specs.Cut.{allBelow}
 use Rattle.kept.specs.Packed.{packedBy, glyphsIn}
 use Rattle.kept.specs.MarkLaws.{ahead}
-use Rattle.kept.specs.SlotLaws.{put-cons}
 
 -- the FDs of the glyphs of some words
 abbrev pub fdsIn : List ℕ → FdSelect → List ℕ → List ℕ

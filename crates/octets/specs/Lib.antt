@@ -1,4 +1,5 @@
 pub mod Pick
+pub mod PickLaws
 pub mod Octets
 pub mod Examples
 pub mod OctetsLaws

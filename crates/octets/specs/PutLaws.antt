@@ -53,6 +53,10 @@ put-put old at xs ys h =
     (sym (drop-drop (length ys) (at + length xs) (put old at xs)) ∙ rw (drop-put old at xs h, drop-drop, length-append, add-assoc))
     ∙ m ∙ sym (put-is old at (xs ++ ys) (take at old) back refl refl)
 
+-- a byte stored, and the others behind it
+pub put-cons : (old : List ℕ) (at x : ℕ) (xs : List ℕ) → at < length old → put (set old at x) (at + 1) xs ≡ put old at (x ∷ xs)
+put-cons old at x xs h = ap (λ (o : List ℕ). put o (at + 1) xs) (put-one old at x h) ∙ put-put old at (x ∷ []) xs (omega arith)
+
 -- a byte stored behind what is still to be written
 pub put-last : (old : List ℕ) (at : ℕ) (bs : List ℕ) (x : ℕ) → at + length bs < length old
     → put (set old (at + length bs) x) at bs ≡ put old at (bs ++ (x ∷ []))

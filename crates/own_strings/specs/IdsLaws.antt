@@ -1,8 +1,8 @@
 -- Laws of the two loops that give new ids: to the eight slots, and to the names of glyphs; and what they leave for later functions.
-use Prim.Native.Nat.{ℕ, suc, _+_, _-_, _*_, _/_, _<_, _≤_}
+use Prim.Native.Nat.{ℕ, _+_, _-_, _*_, _/_, _<_, _≤_}
 use mathlib.Core.Path.{_≡_, refl, sym, ap, _∙_}
 use mathlib.Core.Bool.{Bool, true, false}
-use mathlib.Core.List.{List, [], _∷_, _++_}
+use mathlib.Core.List.{List, [], _++_}
 use native.Mathlib.Omega.{arith}
 use lib.ListN.{length, take, drop, getD, set}
 use lib.Seq.{take-take, take-all, getD-take, length-take-le, take-at}
@@ -18,7 +18,7 @@ use Rattle.subset.specs.Subset.{newIds}
 use Rattle.own_strings.specs.declared.Own.{Own}
 use Rattle.own_strings.specs.Slots.{slotTexts, slotId, slotIds, wordNames, wordIds, ownOf, slotsOwn, allOwn, givenId, counted}
 use Rattle.own_strings.specs.Ready.{HasStrings, SlotsGiven, NamesReady, NamesGiven}
-use Rattle.subset.specs.TextsLaws.{has-left}
+use Rattle.subset.specs.TextsLaws.{has-left, ids-length as new-ids-length}
 use Rattle.own_strings.specs.OwnLaws.{has-second, own-append, own-same}
 use Rattle.own_strings.specs.TurnLaws.{text-short}
 use Rattle.own_strings.specs.StageLaws.{own-bound, ids-length, ids-at, slot-keeps, words-take, names-slots, new-ids-slots, word-ids-length, word-ids-at, names-at, names-length, names-take, take-front, read-front, read-behind, turn-id, turn-own, turn-below}
@@ -260,11 +260,6 @@ module _ (b : List ℕ) (ix : Index) (has : HasStrings b ix) (slots : List ℕ) 
                 ∙ put-next old n new i (omega (arith, ready .room)) (omega (arith, new-many));
             counts = turn-own T first xs i name-inside (take 8 slots) (drop 8 slots) name-among name-known own (t .counts) (getD now i 0 / 65536) name-reads id gives after e;
           }
-
-new-ids-length : (own ts : List (List ℕ)) → length (newIds own ts) ≡ length ts
-unfolding newIds
-new-ids-length own [] = refl
-new-ids-length own (t ∷ ts) = ap suc (new-ids-length own ts)
 
 -- what stands then
 pub names-given : (strings : List (List ℕ)) (slots old now : List ℕ) (n k : ℕ) → NamesReady strings old n k

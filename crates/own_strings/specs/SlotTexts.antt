@@ -6,18 +6,15 @@ use mathlib.Core.Bool.{true, false}
 use mathlib.Core.List.{List, [], _∷_, _++_}
 use native.Mathlib.Nat.{min-le-right}
 use native.Mathlib.Omega.{arith}
-use borrow.Author.Tests.{ltb-true, ne-eqb}
-use lib.Dec.{ltb, eqb}
-use Rattle.octets.specs.Pick.{pick, pick-ind}
-use Rattle.prune.specs.StepLaws.{zero-one}
-use Rattle.decimal.specs.Values.{truncOf, clamped, idOf}
+use borrow.Author.Tests.{ne-eqb}
+use Rattle.octets.specs.Pick.{pick-ind}
+use Rattle.decimal.specs.Values.{truncOf, clamped}
 use Rattle.decimal.specs.declared.Decimal.{Decimal}
 use Rattle.decimal.specs.declared.IdOf.{IdOf}
 use Rattle.decimal.specs.declared.IdOf.the-variants.{Id, Absent}
 use Rattle.dict.specs.Op.{ros, copiedTopStrings}
-use Rattle.dict.specs.Lookup.{Operands, absent, operands, lastOf, oneOf, idAs, idIn, rosAs, rosIn}
-use Rattle.dict.specs.declared.One.{One}
-use Rattle.dict.specs.declared.One.the-variants.{Number, Absent as NoNumber}
+use Rattle.dict.specs.Lookup.{Operands, absent, operands, lastOf, oneOf, idIn, rosAs, rosIn}
+use Rattle.dict.specs.LookupLaws.{id-low}
 use Rattle.strings.specs.Strings.{stringText}
 use Rattle.cff.specs.Font.{Program}
 use Rattle.subset.specs.Texts.{Named, namedBy, namedEntries, textsOf}
@@ -26,20 +23,6 @@ use Rattle.own_strings.specs.Slots.{slotOf, rosSlots, entrySlots, slotsO
 use Rattle.own_strings.specs.SlotLaws.{texts-append}
 
 -- ---- string ids have 16 bits
-
-id-low : (d : Decimal) (sid : ℕ) → idOf d ≡ Id sid → sid < 65536
-id-low d sid =
-    pick-ind (λ (o : IdOf). o ≡ Id sid → sid < 65536) (eqb (truncOf d) 0) (Id 0) (pick (d .neg) Absent (pick (ltb (truncOf d) 65536) (Id (truncOf d)) Absent))
-    (λ s e. let f : 0 ≡ sid = cc in omega arith)
-    (λ s. pick-ind (λ (o : IdOf). o ≡ Id sid → sid < 65536) (d .neg) Absent (pick (ltb (truncOf d) 65536) (Id (truncOf d)) Absent)
-    (λ t e. absurd (zero-one cc))
-    (λ t. pick-ind (λ (o : IdOf). o ≡ Id sid → sid < 65536) (ltb (truncOf d) 65536) (Id (truncOf d)) Absent
-    (λ u e. let f : truncOf d ≡ sid = cc in omega (arith, ltb-true (truncOf d) 65536 u))
-    (λ u e. absurd (zero-one cc))))
-
-pub one-low : (o : One) (sid : ℕ) → idAs o ≡ Id sid → sid < 65536
-one-low NoNumber sid e = absurd (zero-one cc)
-one-low (Number d) sid e = id-low d sid e
 
 pub clamped-low : (d : Decimal) → clamped 65535 d < 65536
 clamped-low d =
@@ -69,7 +52,7 @@ entries-texts : (p : Program) (ops : List ℕ) → slotTexts (p .strings) (entry
 unfolding entrySlots namedEntries textsOf slotTexts
 entries-texts p [] = refl
 entries-texts p (op ∷ ops) =
-    entry-by p op (idIn op (p .top)) (one-low (oneOf op (p .top))) (entrySlots (p .top) ops) (namedEntries p ops) (entries-texts p ops)
+    entry-by p op (idIn op (p .top)) (id-low (oneOf op (p .top))) (entrySlots (p .top) ops) (namedEntries p ops) (entries-texts p ops)
 
 -- ---- registry and ordering
 

@@ -8,6 +8,7 @@ use native.Mathlib.Omega.{arith}
 use lib.Dec.{eqb}
 use lib.ListN.{length, getD}
 use Rattle.octets.specs.Pick.{pick-ind}
+use Rattle.octets.specs.PickLaws.{both-hold}
 use Rattle.index.specs.Index.{itemsOf}
 use Rattle.index.specs.Write.{total, indexBytes, indexLen}
 use Rattle.index.specs.WriteLaws.{length-index, total-within}
@@ -31,7 +32,6 @@ use Rattle.bodies.specs.declared.subrs.Subrs.the-variants.{Global}
 use Rattle.fds.specs.Locals.{fdsIn}
 use Rattle.fds.specs.NewLocals.{localsBy}
 use Rattle.plan.specs.Sizes.{acrossBy, globalsBy, glyphsBy}
-use Rattle.plan.specs.FontLaws.{both-true}
 use Rattle.plan.specs.StandsLaws.{stands-reached}
 use Rattle.plan.specs.WayLaws.{new-globals, new-glyphs}
 use Rattle.parts.specs.Ready.{orderIn, bodiesFor, Ready}
@@ -76,12 +76,12 @@ module _ (b : List ℕ) (f : Font) (rows : List Row) (used ws ats counts reached
 
   -- neither fails
   globals-hold : holds theGlobals ≡ true
-  globals-hold = both-true (holds theGlobals) _ (ready .made) .0
+  globals-hold = both-hold (holds theGlobals) _ (ready .made) .0
 
   glyphs-hold : holds theGlyphs ≡ true
   glyphs-hold =
-      both-true (allHold (localsBy way p rows ws ats counts reacheds own) (fdsIn used)) (holds theGlyphs)
-      (both-true (holds theGlobals) _ (ready .made) .1) .1
+      both-hold (allHold (localsBy way p rows ws ats counts reacheds own) (fdsIn used)) (holds theGlyphs)
+      (both-hold (holds theGlobals) _ (ready .made) .1) .1
 
   -- ---- globals
 

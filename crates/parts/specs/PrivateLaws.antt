@@ -9,6 +9,7 @@ use lib.Dec.{eqb}
 use lib.ListN.{length, take, getD, length-append}
 use lib.Seq.{getD-take}
 use Rattle.octets.specs.Pick.{pick, pick-ind}
+use Rattle.octets.specs.PickLaws.{both-hold}
 use Rattle.octets.specs.Octets.{put}
 use Rattle.octets.specs.PutLaws.{put-length, take-put}
 use Rattle.index.specs.Write.{total, indexBytes, indexLen}
@@ -39,7 +40,6 @@ use Rattle.fds.specs.NewPartsLaws.{holds-one}
 use Rattle.plan.specs.Ranked.{Stands}
 use Rattle.plan.specs.Sizes.{globalsBy, glyphsBy}
 use Rattle.plan.specs.StandsLaws.{stands-reached}
-use Rattle.plan.specs.FontLaws.{both-true}
 use Rattle.plan.specs.WayLaws.{new-locals}
 use Rattle.parts.specs.Ready.{orderIn, bodiesFor, Ready, Summed}
 use Rattle.parts.specs.declared.Planned.{Planned}
@@ -94,7 +94,7 @@ module _ (b : List ℕ) (f : Font) (rows : List Row) (used ws ats counts reached
       let ls = allHold (localsBy way p rows ws ats counts reacheds globals) (fdsIn used) in
       let cs = holds (glyphsBy way p rows (r .kept .cid) ws used ats counts reacheds globals (r .kept .count)) in
       let gs = holds (globalsBy way p rows (r .kept .cid) ws used ats counts reacheds globals (r .kept .count)) in
-      both-true ls cs (both-true gs (pick ls cs false) (ready .made) .1) .0
+      both-hold ls cs (both-hold gs (pick ls cs false) (ready .made) .1) .0
 
   module _ (d : ℕ) (h : d < 256) (u : inUse used d ≡ true) where
     abbrev own : Ranks

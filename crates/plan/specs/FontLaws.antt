@@ -11,6 +11,7 @@ use lib.ListN.{length, drop, getD}
 use lib.Seq.{getD-take, getD-drop}
 use Rattle.octets.specs.Octets.{Octets}
 use Rattle.octets.specs.Pick.{pick}
+use Rattle.octets.specs.PickLaws.{both-hold}
 use Rattle.record.specs.Record.{rowsOf}
 use Rattle.unfold.specs.Unfold.{Row, glyph, local, global}
 use Rattle.prune.specs.StepLaws.{zero-one}
@@ -39,16 +40,12 @@ narrow-rows b o = record { globals = λ i h. narrow-set b o 1 0 i h; locals = λ
 
 -- ---- numbers that all have a subroutine
 
-pub both-true : (a b : Bool) → pick a b false ≡ true → (a ≡ true) × (b ≡ true)
-both-true true b e = (refl, e)
-both-true false b e = absurd (zero-one cc)
-
 -- of an FD among those in use
 numbered-of : (p : Program) (rows : List Row) (fs : List ℕ) (f : ℕ) → allNumbered p rows fs ≡ true → isIn f fs ≡ true → numbered p rows f ≡ true
 unfolding allNumbered
 numbered-of p rows [] f e h = absurd (in-none f h)
 numbered-of p rows (x ∷ fs) f e h =
-    let b = both-true (numbered p rows x) (allNumbered p rows fs) e in
+    let b = both-hold (numbered p rows x) (allNumbered p rows fs) e in
     ⊎-elim (λ z. ap (numbered p rows) (sym z) ∙ b .0) (λ m. numbered-of p rows fs f (b .1) m) (in-cases x f fs h)
 
 -- the FD at a place of a list
@@ -61,7 +58,7 @@ fds-at p (g ∷ order) (suc i) h = fds-at p order i (omega arith)
 module _ (p : Program) (good : GoodProgram p) (rows : List Row) (narrow : Narrow rows) (used ws : List ℕ) (globals : Ranks) (ats counts reacheds : List ℕ)
     (h : AllRanked p rows used ws globals ats counts reacheds) (way : ℕ) (all : way ≡ 0 → everyNumbered p rows (fdsIn used) ≡ true) where
   globals-all : way ≡ 0 → reached (globalSet rows) ≡ countBelow (globalSet rows) (length (p .globals))
-  globals-all z = eqb-true _ _ (both-true (globalsNumbered p rows) (allNumbered p rows (fdsIn used)) (all z) .0)
+  globals-all z = eqb-true _ _ (both-hold (globalsNumbered p rows) (allNumbered p rows (fdsIn used)) (all z) .0)
 
   globals-hold : way ≡ 0 → HoldsRanks ws globals (globalSet rows)
   globals-hold z = stands-holds ws globals (globalSet rows) (length (p .globals)) (h .globalRanks) (good .globals .count) (globals-all z) (narrow .globals)
@@ -69,7 +66,7 @@ module _ (p : Program) (good : GoodProgram p) (rows : List Row) (narrow : Narrow
   module _ (f : ℕ) (k : f < 256) (u : inUse used f ≡ true) where
     locals-all : way ≡ 0 → reached (localSet rows f) ≡ countBelow (localSet rows f) (length (localsOf p f))
     locals-all z =
-        eqb-true _ _ (numbered-of p rows (fdsIn used) f (both-true (globalsNumbered p rows) (allNumbered p rows (fdsIn used)) (all z) .1)
+        eqb-true _ _ (numbered-of p rows (fdsIn used) f (both-hold (globalsNumbered p rows) (allNumbered p rows (fdsIn used)) (all z) .1)
         (those-has (inUse used) 256 0 f (omega arith) (omega arith) u))
 
     locals-hold : way ≡ 0 → HoldsRanks ws (ranksIn ats counts reacheds f) (localSet rows f)

@@ -6,6 +6,7 @@ use mathlib.Core.List.{List}
 use native.Mathlib.Omega.{arith}
 use lib.ListN.{length}
 use Rattle.octets.specs.Pick.{pick}
+use Rattle.octets.specs.PickLaws.{first-fails}
 use Rattle.unfold.specs.Unfold.{Row}
 use Rattle.index.specs.Index.{itemsOf}
 use Rattle.index.specs.declared.Index.{Index}
@@ -16,13 +17,13 @@ use Rattle.renumber.specs.declared.Ranks.{Ranks}
 use Rattle.renumber.specs.Ranks.{callsBy}
 use Rattle.bodies.specs.Ways.{holds, measuredOf, charstringsBy, subrsBy, reachedIn, siteIn}
 use Rattle.bodies.specs.Sizes.{Bounded}
+use Rattle.bodies.specs.WritingLaws.{measured-failed, measured-total}
 use Rattle.bodies.specs.declared.subrs.Subrs.the-variants.{Global}
 use Rattle.bodies.specs.Pruning.{allHold}
 use Rattle.bodies.specs.declared.Measured.{Measured}
 use Rattle.bodies.specs.declared.Measured.the-variants.{Failed, Total}
 use Rattle.fds.specs.Locals.{fdsIn}
 use Rattle.fds.specs.NewLocals.{localsBy, MeasuresLocals}
-use Rattle.fds.specs.NewLocalsLaws.{total-told, failed-told}
 use Rattle.bodies.specs.declared.charstrings.Kept.{Kept}
 use Rattle.cff.specs.declared.font.Font.{Font}
 use Rattle.plan.specs.Sizes.{acrossBy, globalsBy, glyphsBy, allMade, MeasuresAll, MeasureIn, byWay}
@@ -30,10 +31,6 @@ use Rattle.plan.specs.declared.sizes.Measures.{Measures}
 
 abbrev measures : Bool → ℕ → ℕ → Measures
 measures t g c = record { all = t; globals = g; glyphs = c }
-
-never : (t u : Bool) → t ≡ false → pick t u false ≡ false
-never true u e = absurd (zero-one cc)
-never false u e = refl
 
 either : (t u v : Bool) → pick u v false ≡ false → pick t (pick u v false) false ≡ false
 either true u v e = e
@@ -85,33 +82,33 @@ module _ (way : ℕ) (p : Program) (rows : List Row) (cid : Bool) (ws used ats c
 
   -- the globals fail
   pub globals-fail : measuredOf theGlobals ≡ Failed → Whole (measures false 0 0)
-  globals-fail e = none (never (holds theGlobals) (pick localsHold (holds theGlyphs) false) (failed-told theGlobals e))
+  globals-fail e = none (first-fails (holds theGlobals) (pick localsHold (holds theGlyphs) false) (measured-failed theGlobals e))
 
   module _ (t : Bool) (ls : MeasuresLocals way p rows ws ats counts reacheds globals used totals t) where
     -- the locals of an FD fail
     pub locals-fail : t ≡ false → Whole (measures false 0 0)
     locals-fail e =
         none (either (holds theGlobals) localsHold (holds theGlyphs)
-        (never localsHold (holds theGlyphs) (sym (ls .told) ∙ e)))
+        (first-fails localsHold (holds theGlyphs) (sym (ls .told) ∙ e)))
 
     -- a charstring fails
     pub glyphs-fail : measuredOf theGlyphs ≡ Failed → Whole (measures false 0 0)
     glyphs-fail e =
         none (last (holds theGlobals) localsHold (holds theGlyphs)
-        (failed-told theGlyphs e))
+        (measured-failed theGlyphs e))
 
     -- none fails
     pub all-measured : (g c : ℕ) → measuredOf theGlobals ≡ Total g → t ≡ true
         → measuredOf theGlyphs ≡ Total c → g ≤ 21989897011200 → c ≤ 21989897011200 → Whole (measures true g c)
     all-measured g c e u d gs cs =
-        let x = total-told theGlobals g e in
-        let y = total-told theGlyphs c d in
+        let x = measured-total theGlobals g e in
+        let y = measured-total theGlyphs c d in
         record {
           told = sym (every (holds theGlobals) localsHold (holds theGlyphs)
               (x .0) (sym (ls .told) ∙ u) (y .0));
-          ofGlobals = λ z. sym (x .1);
+          ofGlobals = λ z. x .1;
           ofLocals = λ z. ls .sums u;
-          ofGlyphs = λ z. sym (y .1);
+          ofGlyphs = λ z. y .1;
           fewGlobals = gs;
           fewLocals = λ z. ls .few u;
           fewGlyphs = cs;

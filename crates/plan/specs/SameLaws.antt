@@ -1,5 +1,5 @@
 -- What the work words and the tables give by the way is what crates/subset defines: subroutines, charstrings, and where renumbering fails.
-use Prim.Native.Nat.{ℕ, suc, _+_, _<_}
+use Prim.Native.Nat.{ℕ, _+_, _<_}
 use mathlib.Core.Path.{_≡_, refl, sym, ap, _∙_}
 use mathlib.Core.Bool.{Bool, true, false}
 use mathlib.Core.List.{List, [], _∷_}
@@ -18,6 +18,7 @@ use Rattle.subset.specs.KeptListLaws.{in-head, in-more}
 use Rattle.subset.specs.RankLaws.{those-at}
 use Rattle.bodies.specs.Ways.{holds, bodyBy, subrsBy, every, upTo}
 use Rattle.bodies.specs.Pruning.{allHold}
+use Rattle.bodies.specs.RecordLaws.{stubbed-alike}
 use Rattle.bodies.specs.WritingLaws.{count-every, those-many}
 
 -- ---- by the way
@@ -32,20 +33,6 @@ body-same way rows calls calls' site s same = go (eqb way 0) (λ e. same (eqb-tr
     go true h = ap (λ (c : Calls). renumberedBody rows c site s) (h refl)
     go false h = refl
 
--- sets that agree on the subroutines stub the same
-stubbed-same : (set set' : ℕ → Bool) (k : ℕ) (l : List (List ℕ)) → ((i : ℕ) → i < length l → set (k + i) ≡ set' (k + i))
-    → stubbedFrom set k l ≡ stubbedFrom set' k l
-unfolding stubbedFrom
-stubbed-same set set' k [] same = refl
-stubbed-same set set' k (s ∷ l) same =
-    let z : k + 0 ≡ k = omega arith in
-    let first : set k ≡ set' k = ap set (sym z) ∙ same 0 (omega arith) ∙ ap set' z in
-    ap (λ (b : Bool). pick b s (11 ∷ []) ∷ stubbedFrom set (k + 1) l) first
-    ∙ ap (λ (r : List (List ℕ)). pick (set' k) s (11 ∷ []) ∷ r)
-    (stubbed-same set set' (k + 1) l (λ i h.
-    let e : k + 1 + i ≡ k + suc i = omega arith in
-    ap set e ∙ same (suc i) (omega arith) ∙ ap set' (sym e)))
-
 -- subroutines are the same where the sets agree on them; where they are renumbered, on all numbers
 pub subrs-same : (way : ℕ) (rows : List Row) (set set' : ℕ → Bool) (calls calls' : Calls) (site : ℕ → Site) (subrs : List (List ℕ))
     → ((i : ℕ) → i < length subrs → set i ≡ set' i) → (way ≡ 0 → (set ≡ set') × (calls ≡ calls'))
@@ -59,7 +46,7 @@ subrs-same way rows set set' calls calls' site subrs near same = go (eqb way 0) 
         ap (λ (s : ℕ → Bool). renumberedSubrs rows s calls site subrs) (h refl .0)
         ∙ ap (λ (c : Calls). renumberedSubrs rows set' c site subrs) (h refl .1)
     go false true h =
-        ap made (stubbed-same set set' 0 subrs (λ i k. let z : 0 + i ≡ i = omega arith in ap set z ∙ near i k ∙ ap set' (sym z)))
+        ap made (stubbed-alike set set' 0 subrs (λ i k. let z : 0 + i ≡ i = omega arith in ap set z ∙ near i k ∙ ap set' (sym z)))
     go false false h = refl
 
 -- ---- each of some

@@ -6,7 +6,7 @@ use mathlib.Core.List.{List}
 use native.Mathlib.Nat.{le-refl}
 use native.Mathlib.Decide.{decLe}
 use native.Mathlib.Omega.{arith}
-use borrow.Author.Tests.{ne-eqb, lt-ltb, le-ltb}
+use borrow.Author.Tests.{lt-ltb, le-ltb}
 use lib.Dec.{eqb}
 use lib.ListN.{length, take, drop, getD}
 use lib.Seq.{getD-take, getD-drop, drop-drop}
@@ -23,12 +23,8 @@ use Rattle.renumber.specs.Ranks.{numbersIn, Ranked}
 use Rattle.renumber.specs.RanksLaws.{HoldsRanks, numbers-rank}
 use Rattle.renumber.specs.declared.Ranks.{Ranks}
 use Rattle.bodies.specs.Ways.{reachedIn}
+use Rattle.bodies.specs.RecordLaws.{rank-tells}
 use Rattle.plan.specs.Ranked.{Stands}
-
--- a rank is not 0 where a number is in the set
-rank-marks : (t : Bool) (n : ℕ) → not (eqb (pick t (n + 1) 0) 0) ≡ t
-rank-marks true n = ap not (ne-eqb (n + 1) 0 (λ e. omega arith))
-rank-marks false n = refl
 
 -- a number that has no new number is not in the set
 rank-none : (t : Bool) (n : ℕ) → pick t (new n) none ≡ none → t ≡ false
@@ -45,7 +41,7 @@ module _ (ws : List ℕ) (q : Ranks) (set : ℕ → Bool) (n : ℕ) (h : Stands 
   pub stands-reached : (i : ℕ) → i < n → reachedIn ws q i ≡ set i
   stands-reached i k =
       let c : i < q .count = omega (arith, h .many) in
-      rw (lt-ltb i (q .count) c) (ap (λ (w : ℕ). not (eqb w 0)) (stands-word i c) ∙ rank-marks (set i) (countBelow set i))
+      rw (lt-ltb i (q .count) c) (ap (λ (w : ℕ). not (eqb w 0)) (stands-word i c) ∙ rank-tells (set i) (countBelow set i))
 
   module _ (few : n < 65536) where
     -- they are ranks as the code asks for them

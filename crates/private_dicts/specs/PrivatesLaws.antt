@@ -17,8 +17,8 @@ use Rattle.dict.specs.Dict.{Entry, Dict, refused as refusedDict, entries, dictO
 use Rattle.dict.specs.Lookup.{privateIn}
 use Rattle.dict.specs.LookupLaws.{entries-are}
 use Rattle.dict.specs.Places.{entriesOf}
-use Rattle.dict_write.specs.Written.{opBytes, offsetEntry, privateBytes}
-use Rattle.dict_write.specs.WriteLaws.{offset-length}
+use Rattle.dict_write.specs.Written.{offsetEntry, privateBytes}
+use Rattle.dict_write.specs.WriteLaws.{subrs-length}
 use Rattle.cff.specs.Font.{Got, refused, got, then, Private, dictGot, privateAt, privatesAt}
 use Rattle.cff.specs.Reads.{partOf, fdPrivate, ReadsPrivate, GoodPrivate, GoodFont, privatesOf, programOf}
 use Rattle.cff.specs.Reads as reads
@@ -143,10 +143,6 @@ module _ (es : List Entry) (left : ℕ) where
   pub some-left : (left ≡ 0 → ⊥) → privateBytes es ++ offsetEntry subrs (length (privateBytes es) + 6) ≡ privateDictBy es left
   unfolding privateDictBy subrsEntry
   some-left h = sym (ap (λ (t : Bool). privateBytes es ++ pick t [] (offsetEntry subrs (length (privateBytes es) + 6))) (ne-eqb left 0 h))
-
-  subrs-length : (v : ℕ) → length (offsetEntry subrs v) ≡ 6
-  unfolding opBytes
-  subrs-length v = sym (offset-length subrs v 1 refl)
 
   pub none-length : left ≡ 0 → length (privateBytes es) ≡ length (privateDictBy es left)
   none-length e = ap length (none-left e)

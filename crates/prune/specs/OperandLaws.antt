@@ -3,30 +3,23 @@
 use Prim.Native.Nat.{ℕ, suc, _+_, _-_, _*_, _/_, _%_, _≤_, _<_}
 use mathlib.Core.Path.{_≡_, refl, sym, ap, _∙_, subst}
 use mathlib.Core.Bool.{Bool, true, false}
-use native.Mathlib.Nat.{eq-of-mul-eq-mul-right}
 use native.Mathlib.Decide.{decLe}
 use native.Mathlib.Omega.{arith}
 use lib.Dec.{ltb, leb, eqb}
 use lib.IntN.{ℤ, pos, negsuc, negℤ}
-use lib.Ieee.{Float, nan, inf, fin, binary32, round, down}
+use lib.Ieee.{binary32, round}
 use lib.Ieee.Exact.{HasValue}
-use lib.Ieee.Fits.{down-pos}
 use borrow.Author.Tests.{lt-ltb, le-leb, lt-leb, eq-eqb, ltb-true}
 use Rattle.octets.specs.Pick.{pick, pick-ind}
 use Rattle.type2_number.specs.Number.{keep24, rounded, whole, Reading}
 use Rattle.type2_number.specs.Rounding.{kept-val, keep-val, rounded-pos}
+use Rattle.type2_number.specs.Readings.{one-count}
 use Rattle.charstring.specs.Bias.{biasOf}
 use Rattle.unfold.specs.Unfold.{last, nowhere, target, targetOf}
 use Rattle.prune.specs.Renumber.{New, none, new, becomes, Old, nothing, old, oldOf, newOf, operandFor, operandOf}
 use Rattle.prune.specs.StepLaws.{zero-one}
 
 -- ---- a whole number stands for itself
-
--- one float has one count
-one-count : (x : Float) (s : Bool) (a b : ℕ) → HasValue x s a 65536 → HasValue x s b 65536 → a ≡ b
-one-count nan s a b v w = absurd v
-one-count (inf t) s a b v w = absurd v
-one-count (fin t m e) s a b v w = eq-of-mul-eq-mul-right (down e) (down-pos e) a b (sym (v .1) ∙ w .1)
 
 keep-whole : (k : ℕ) → k ≤ 32768 → keep24 (k * 65536) ≡ k * 65536
 keep-whole k h =

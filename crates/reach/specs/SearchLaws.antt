@@ -1,14 +1,14 @@
 -- Laws of the search by halves through rows that rise, and of what it finds.
 use Prim.Native.Nat.{ℕ, zero, suc, _+_, _-_, _/_, _≤_, _<_}
 use mathlib.Core.Path.{_≡_, refl, sym, ap, _∙_, subst}
-use mathlib.Core.Bool.{Bool, true, false}
+use mathlib.Core.Bool.{true}
 use mathlib.Core.List.{List, [], _∷_}
 use native.Mathlib.Nat.{add-zero}
 use native.Mathlib.Omega.{arith}
 use borrow.Author.Tests.{ltb-false}
 use lib.Dec.{ltb}
 use lib.ListN.{length}
-use Rattle.octets.specs.Pick.{pick}
+use Rattle.octets.specs.PickLaws.{other-holds}
 use Rattle.charstring.specs.declared.MaskLen.the-variants.{Own, Given}
 use Rattle.unfold.specs.Unfold.{Row}
 use Rattle.record.specs.Record.{rowsOf}
@@ -20,18 +20,14 @@ use Rattle.reach.specs.MaskLaws.{given-here, given-on, given-end}
 
 -- ---- rows that rise are sorted
 
-both-true : (t u : Bool) → pick t false u ≡ true → (t ≡ false) × (u ≡ true)
-both-true true u h = let z : _≡_ {A = ℕ} 0 1 = cc in absurd (omega arith)
-both-true false u h = (refl, h)
-
 rises-tail : (r : Row) (rs : List Row) → rises (r ∷ rs) ≡ true → rises rs ≡ true
 unfolding rises
 rises-tail r [] h = refl
-rises-tail r (q ∷ rs) h = both-true (ltb (keyOf q) (keyOf r)) (rises (q ∷ rs)) h .1
+rises-tail r (q ∷ rs) h = other-holds (ltb (keyOf q) (keyOf r)) (rises (q ∷ rs)) h .1
 
 rises-two : (r q : Row) (rs : List Row) → rises (r ∷ q ∷ rs) ≡ true → keyOf r ≤ keyOf q
 unfolding rises
-rises-two r q rs h = ltb-false (keyOf q) (keyOf r) (both-true (ltb (keyOf q) (keyOf r)) (rises (q ∷ rs)) h .0)
+rises-two r q rs h = ltb-false (keyOf q) (keyOf r) (other-holds (ltb (keyOf q) (keyOf r)) (rises (q ∷ rs)) h .0)
 
 module _ (b : List ℕ) (rising : rises (rowsOf b) ≡ true) where
   rises-rest : (i : ℕ) → i ≤ length b / 10 → rises (restOf b i) ≡ true

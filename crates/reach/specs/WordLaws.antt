@@ -11,6 +11,7 @@ use lib.ListN.{length, take, drop, getD, List·getD-append}
 use lib.Seq.{getD-drop, getD-take, length-take-le}
 use Rattle.octets.specs.Octets.{put}
 use Rattle.octets.specs.Pick.{pick}
+use Rattle.octets.specs.PickLaws.{not-true}
 use Rattle.octets.specs.PutLaws.{put-length, drop-put, drop-put-at}
 use Rattle.unfold.specs.Unfold.{Row}
 use Rattle.prune.specs.Renumber.{none, new}
@@ -93,10 +94,6 @@ large-set : (rows : List Row) (g : Bool) (fd k : ℕ) → AllFit rows → 65536 
 large-set rows true fd k a h = large-unreached rows 1 0 k a h
 large-set rows false fd k a h = large-unreached rows 0 fd k a h
 
-reached-not : (t : Bool) → (t ≡ true → ⊥) → t ≡ false
-reached-not true h = absurd (h refl)
-reached-not false h = refl
-
 -- where the record has no other number, a number from the count on has no new one
 pub past-none : (rows : List Row) (g : Bool) (fd count k : ℕ) → AllFit rows → count ≤ k
     → eqb (reached (setOf rows g fd)) (countBelow (setOf rows g fd) count) ≡ true → rank (setOf rows g fd) k ≡ none
@@ -104,5 +101,5 @@ past-none rows g fd count k a h e =
     let s = setOf rows g fd in
     let q : countBelow s 65536 ≡ countBelow s count = eqb-true _ _ e in
     let f : s k ≡ false =
-    by-order k 65536 (λ l. reached-not (s k) (λ t. omega (arith, count-more s count k 65536 h l t))) (λ l. large-set rows g fd k a l) in
+    by-order k 65536 (λ l. not-true (s k) (λ t. omega (arith, count-more s count k 65536 h l t))) (λ l. large-set rows g fd k a l) in
     rw f

@@ -7,6 +7,7 @@ use mathlib.Core.List.{List}
 use lib.Dec.{ltb, eqb}
 use lib.ListN.{length}
 use Rattle.octets.specs.Pick.{pick}
+use Rattle.octets.specs.PickLaws.{pick-same}
 use Rattle.dict.specs.Lookup.{cidKeyed}
 use Rattle.cff.specs.Font.{Got, refused as refusedFont, got, Program, readFont}
 use Rattle.cff.specs.Find.{workSize}
@@ -45,10 +46,6 @@ keyed-other : (b : Bool) (x : Outcome) → b ≡ true → pick (sameBool false b
 keyed-other true x e = refl
 keyed-other false x e = absurd (false≢true e)
 
-same-either : (t : Bool) (x : Outcome) → pick t x x ≡ x
-same-either true x = refl
-same-either false x = refl
-
 written-keyed : (p : Program) (name kept order : List ℕ) (room : ℕ) (q : Pruned) → Keyed (written p name kept order room q)
 written-keyed p name kept order room q =
     let bs = subsetBytes p name kept order (q .bodies) in
@@ -84,7 +81,7 @@ module _ (name keep rec : List ℕ) (flag words room : ℕ) where
 
   read-by : (g : Got Program) → pick (otherKeying (cutRead false g name keep rec flag words room)) (cutRead true g name keep rec flag words room) (cutRead false g name keep rec flag words room)
       ≡ cutRead (keying g) g name keep rec flag words room
-  read-by (refusedFont n) = same-either (eqb n 3) (refused n)
+  read-by (refusedFont n) = pick-same (eqb n 3) (refused n)
   read-by (got p) = program-by p (cidKeyed (p .top)) refl
 
   -- the outcome by the keying of the font

@@ -10,6 +10,7 @@ use lib.Dec.{leb, eqb}
 use lib.ListN.{length, take, drop, getD}
 use lib.Seq.{slice, length-slice}
 use Rattle.octets.specs.Pick.{pick}
+use Rattle.octets.specs.PickLaws.{both-hold}
 use Rattle.octets.specs.Octets.{Wrote}
 use Rattle.octets.specs.PutLaws.{take-put}
 use Rattle.hexlines.specs.Hexlines.{hexValue, isHex, spelt}
@@ -17,7 +18,7 @@ use Rattle.hexlines.specs.HexlinesLaws.{spelt-length, spelt-two, Pair, hex-pair
 use Rattle.cases.specs.Lines.{linesOf}
 use Rattle.sheet.specs.Sheet.{hexUpTo, isKept, hexOf, filled, areRows, rowBytes, pairs, isSheet, sheetIn, sheetOf}
 use Rattle.sheet.specs.Reading.{part, FourLines, HeadIs, isSheetAt, sheetAt, Stands, Reads}
-use Rattle.sheet.specs.ReadingLaws.{both, hex-of, slice-part}
+use Rattle.sheet.specs.ReadingLaws.{hex-of, slice-part}
 use Rattle.sheet.specs.declared.reading.SheetIn.{SheetIn}
 use Rattle.sheet.specs.declared.reading.SheetIn.the-variants.{Other, Parts}
 use Rattle.sheet.specs.declared.reading.Head.{Head}
@@ -28,12 +29,12 @@ use Rattle.sheet.specs.declared.reading.Head.the-variants.{Short, Lines}
 pub up-to-room : (n : ℕ) (l : List ℕ) → hexUpTo n l ≡ true → (isHex l ≡ true) × (length (spelt l) ≤ n)
 unfolding hexUpTo
 up-to-room n l e =
-    let p = both (leb (length l) (2 * n)) (isHex l) e in
+    let p = both-hold (leb (length l) (2 * n)) (isHex l) e in
     (p .1, omega (arith, leb-true (length l) (2 * n) (p .0), spelt-length l (p .1)))
 
 pub kept-room : (l : List ℕ) → isKept l ≡ true → (isHex l ≡ true) × (length (spelt l) ≤ 2048)
 unfolding isKept
-kept-room l e = up-to-room 2048 l (both (eqb (length l % 4) 0) (hexUpTo 2048 l) e .1)
+kept-room l e = up-to-room 2048 l (both-hold (eqb (length l % 4) 0) (hexUpTo 2048 l) e .1)
 
 -- digits of a part, as they are written
 pub hex-slice : (f t : ℕ) (s : List ℕ) → isHex (part f t s) ≡ true → isHex (slice f t s) ≡ true
@@ -91,10 +92,10 @@ pub record Fine (text : List ℕ) (a b c d : ℕ) : Type 0 where
 pub fine : (text : List ℕ) (a b c d : ℕ) → isSheetAt text a b c d ≡ true → Fine text a b c d
 unfolding isSheetAt isSheet
 fine text a b c d e =
-    let p = both (hexUpTo 16384 (part 0 a text)) _ e in
-    let q = both (hexUpTo 256 (part (a + 1) b text)) _ (p .1) in
-    let r = both (isKept (part (b + 1) c text)) _ (q .1) in
-    let s = both (hexOf 2 (part (c + 1) d text)) _ (r .1) in
+    let p = both-hold (hexUpTo 16384 (part 0 a text)) _ e in
+    let q = both-hold (hexUpTo 256 (part (a + 1) b text)) _ (p .1) in
+    let r = both-hold (isKept (part (b + 1) c text)) _ (q .1) in
+    let s = both-hold (hexOf 2 (part (c + 1) d text)) _ (r .1) in
     record { font = p .0; name = q .0; keep = r .0; flag = s .0; rows = s .1 }
 
 -- its parts were written

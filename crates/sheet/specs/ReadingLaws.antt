@@ -12,6 +12,7 @@ use lib.Dec.{ltb, leb, eqb}
 use lib.ListN.{length, take, drop, getD, set, length-append, length-drop}
 use lib.Seq.{slice, take-length, drop-cons, take-nil}
 use Rattle.octets.specs.Pick.{pick}
+use Rattle.octets.specs.PickLaws.{both-hold}
 use Rattle.octets.specs.Octets.{be, numAt, Wrote}
 use Rattle.octets.specs.PutLaws.{put-one, wrote-as}
 use Rattle.hexlines.specs.Hexlines.{lineEnd, isHex, spelt}
@@ -22,10 +23,6 @@ use Rattle.sheet.specs.Sheet.{hexUpTo, isKept, hexOf, allRows, filled, a
 use Rattle.sheet.specs.Reading.{rowsAfter, countRows, part, FourLines}
 
 -- ---- a line, by the code's tests
-
-pub both : (t b : Bool) → pick t b false ≡ true → (t ≡ true) × (b ≡ true)
-both true b e = (refl, e)
-both false b e = absurd (false≢true e)
 
 pub passes : (t b : Bool) → t ≡ true → b ≡ pick t b false
 passes true b e = refl
@@ -54,7 +51,7 @@ module _ (l : List ℕ) (n : ℕ) where
 
   pub hex-of : hexOf n l ≡ true → (length l ≡ n) × (isHex l ≡ true)
   unfolding hexOf
-  hex-of e = let p = both (eqb (length l) n) (isHex l) e in (eqb-true (length l) n (p .0), p .1)
+  hex-of e = let p = both-hold (eqb (length l) n) (isHex l) e in (eqb-true (length l) n (p .0), p .1)
 
 pub kept-fours : (l : List ℕ) → length l % 4 ≡ 0 → hexUpTo 2048 l ≡ isKept l
 unfolding isKept
@@ -165,20 +162,20 @@ rows-filled ((x ∷ l) ∷ ls) = ap (λ (t : List ℕ). spelt (x ∷ l) ++ t) (r
 rows-first : (l : List ℕ) (ls : List (List ℕ)) → allRows (filled (l ∷ ls)) ≡ true → (isHex l ≡ true) × (allRows (filled ls) ≡ true)
 unfolding filled allRows isHex
 rows-first [] ls e = (refl, e)
-rows-first (x ∷ l) ls e = let p = both (hexOf 20 (x ∷ l)) (allRows (filled ls)) e in (hex-of (x ∷ l) 20 (p .0) .1, p .1)
+rows-first (x ∷ l) ls e = let p = both-hold (hexOf 20 (x ∷ l)) (allRows (filled ls)) e in (hex-of (x ∷ l) 20 (p .0) .1, p .1)
 
 rows-tens : (ls : List (List ℕ)) → allRows ls ≡ true → length (rowBytes ls) ≡ 10 * length ls
 unfolding allRows rowBytes
 rows-tens [] e = refl
 rows-tens (l ∷ ls) e =
-    let p = both (hexOf 20 l) (allRows ls) e in
+    let p = both-hold (hexOf 20 l) (allRows ls) e in
     let h = hex-of l 20 (p .0) in
     let n = length-append (spelt l) (rowBytes ls) in
     omega (arith, n, spelt-length l (h .1), h .0, rows-tens ls (p .1))
 
 pub are-rows : (ls : List (List ℕ)) → areRows ls ≡ true → (length ls ≤ 512) × (allRows ls ≡ true)
 unfolding areRows
-are-rows ls e = let p = both (leb (length ls) 512) (allRows ls) e in (leb-true (length ls) 512 (p .0), p .1)
+are-rows ls e = let p = both-hold (leb (length ls) 512) (allRows ls) e in (leb-true (length ls) 512 (p .0), p .1)
 
 -- what is left of the rows of a text, from p on
 pub record RowsLeft (s : List ℕ) (p : ℕ) : Type 0 where

@@ -10,11 +10,12 @@ use borrow.Author.Tests.{ne-eqb, lt-ltb, eqb-true, leb-true}
 use lib.Dec.{leb, eqb}
 use lib.ListN.{length}
 use Rattle.octets.specs.Pick.{pick}
+use Rattle.octets.specs.PickLaws.{both-hold}
 use Rattle.hexlines.specs.Hexlines.{isHex}
 use Rattle.cases.specs.Lines.{inFront, linesOf}
 use Rattle.sheet.specs.Sheet.{hexUpTo, isKept, hexOf, allRows, filled, areRows, sheetWith, isSheet, sheetIn, sheetOf}
 use Rattle.sheet.specs.Taking.{nextMode, endsEmpty, keptOf, squeezed}
-use Rattle.sheet.specs.ReadingLaws.{both, hex-of, are-rows}
+use Rattle.sheet.specs.ReadingLaws.{hex-of, are-rows}
 
 -- ---- rows: at the start of one, and within one
 
@@ -160,16 +161,16 @@ total-rows : (ls : List (List ℕ)) → allRows ls ≡ true → total ls ≡ 21 
 unfolding allRows total
 total-rows [] e = refl
 total-rows (l ∷ ls) e =
-    let p = both (hexOf 20 l) (allRows ls) e in
+    let p = both-hold (hexOf 20 l) (allRows ls) e in
     omega (arith, hex-of l 20 (p .0) .0, total-rows ls (p .1))
 
 up-to-length : (n : ℕ) (l : List ℕ) → hexUpTo n l ≡ true → length l ≤ 2 * n
 unfolding hexUpTo
-up-to-length n l e = leb-true (length l) (2 * n) (both (leb (length l) (2 * n)) (isHex l) e .0)
+up-to-length n l e = leb-true (length l) (2 * n) (both-hold (leb (length l) (2 * n)) (isHex l) e .0)
 
 kept-length : (l : List ℕ) → isKept l ≡ true → length l ≤ 4096
 unfolding isKept
-kept-length l e = omega (arith, up-to-length 2048 l (both (eqb (length l % 4) 0) (hexUpTo 2048 l) e .1))
+kept-length l e = omega (arith, up-to-length 2048 l (both-hold (eqb (length l % 4) 0) (hexUpTo 2048 l) e .1))
 
 rows-length : (ls : List (List ℕ)) → areRows ls ≡ true → total ls ≤ 10752
 rows-length ls e = let p = are-rows ls e in omega (arith, p .0, total-rows ls (p .1))
@@ -177,10 +178,10 @@ rows-length ls e = let p = are-rows ls e in omega (arith, p .0, total-rows ls (p
 sheet-length : (a b c d : List ℕ) (ls : List (List ℕ)) → isSheet a b c d ls ≡ true → total (a ∷ (b ∷ (c ∷ (d ∷ ls)))) ≤ 48134
 unfolding isSheet total
 sheet-length a b c d ls e =
-    let p = both (hexUpTo 16384 a) _ e in
-    let q = both (hexUpTo 256 b) _ (p .1) in
-    let r = both (isKept c) _ (q .1) in
-    let s = both (hexOf 2 d) _ (r .1) in
+    let p = both-hold (hexUpTo 16384 a) _ e in
+    let q = both-hold (hexUpTo 256 b) _ (p .1) in
+    let r = both-hold (isKept c) _ (q .1) in
+    let s = both-hold (hexOf 2 d) _ (r .1) in
     omega (arith, up-to-length 16384 a (p .0), up-to-length 256 b (q .0), kept-length c (r .0), hex-of d 2 (s .0) .0, rows-length ls (s .1))
 
 sheet-long : (t : Bool) (a b c d : List ℕ) (ls : List (List ℕ)) → isSheet a b c d ls ≡ t → 48134 < total (a ∷ (b ∷ (c ∷ (d ∷ ls))))

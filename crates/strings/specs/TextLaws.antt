@@ -2,7 +2,7 @@
 -- on, one byte after the other.
 use Prim.Native.Nat.{ℕ, _+_, _≤_, _<_}
 use mathlib.Core.Path.{_≡_, refl, sym, ap, _∙_}
-use mathlib.Core.Bool.{Bool, true, false}
+use mathlib.Core.Bool.{true, false}
 use mathlib.Core.List.{List, [], _∷_}
 use mathlib.Core.Logic.{_⊎_, inl, inr, ⊎-elim}
 use native.Mathlib.Numerals.{add-one}
@@ -12,6 +12,7 @@ use lib.Dec.{ltb, eqb}
 use lib.ListN.{length, drop, getD, drop-of-length-le}
 use lib.Seq.{drop-cons}
 use Rattle.octets.specs.Pick.{pick, pick-ind}
+use Rattle.octets.specs.PickLaws.{not-true}
 use Rattle.strings.specs.Text.{sameText, orderOf}
 use Rattle.strings.specs.declared.Order.the-variants.{Less, Same, More}
 
@@ -39,12 +40,8 @@ same-false a b e h =
     let z : _≡_ {A = ℕ} 0 1 = cc in omega arith
 
 -- unequal texts
-unequal : (t : Bool) → (t ≡ true → ⊥) → t ≡ false
-unequal true f = absurd (f refl)
-unequal false f = refl
-
 pub same-not : (a b : List ℕ) → (a ≡ b → ⊥) → sameText a b ≡ false
-same-not a b h = unequal (sameText a b) (λ e. h (same-true a b e))
+same-not a b h = not-true (sameText a b) (λ e. h (same-true a b e))
 
 pub same-lengths : (a b : List ℕ) → (length a ≡ length b → ⊥) → sameText a b ≡ false
 same-lengths a b h = same-not a b (λ e. h (ap length e))

@@ -1,12 +1,12 @@
 -- The strings of a subset (document 01, 'Layout'): each text that is used has an id that names it, and the id of the first glyph stays 0.
-use Prim.Native.Nat.{ℕ, _+_, _-_}
+use Prim.Native.Nat.{ℕ, suc, _+_, _-_}
 use mathlib.Core.Path.{_≡_, refl, ap, _∙_}
 use mathlib.Core.Bool.{true}
 use mathlib.Core.List.{List, [], _∷_, _++_}
 use mathlib.Core.Logic.{⊎-elim}
 use native.Mathlib.Numerals.{add-one}
 use native.Mathlib.Omega.{arith}
-use lib.ListN.{getD}
+use lib.ListN.{length, getD}
 use Rattle.octets.specs.Pick.{pick, pick-ind}
 use Rattle.prune.specs.StepLaws.{zero-one}
 use Rattle.strings.specs.Text.{sameText}
@@ -18,6 +18,7 @@ use Rattle.strings.specs.declared.Sid.the-variants.{Standard, Other}
 use Rattle.cff.specs.Font.{Program}
 use Rattle.subset.specs.Kept.{isIn}
 use Rattle.subset.specs.Texts.{hasText, withText, ownStrings, placeIn, idAfter, newId, nameOf, namesOf}
+use Rattle.subset.specs.Subset.{newIds}
 use Rattle.subset.specs.KeptListLaws.{in-none, in-cases}
 
 -- ---- texts among others
@@ -115,3 +116,9 @@ names-has p (x ∷ gs) g h =
     (λ e. has-head (nameOf p x) (nameOf p g) (namesOf p gs) (ap (nameOf p) e))
     (λ e. has-more (nameOf p x) (nameOf p g) (namesOf p gs) (names-has p gs g e))
     (in-cases x g gs h)
+
+-- each text has an id
+pub ids-length : (own ts : List (List ℕ)) → length (newIds own ts) ≡ length ts
+unfolding newIds
+ids-length own [] = refl
+ids-length own (t ∷ ts) = ap suc (ids-length own ts)

@@ -2,23 +2,18 @@
 -- names and the ids of those texts in the subset.
 use Prim.Native.Nat.{ℕ, suc, _+_, _<_}
 use mathlib.Core.Path.{_≡_, refl, sym, ap, _∙_}
-use mathlib.Core.Bool.{Bool, true, false}
+use mathlib.Core.Bool.{Bool, true}
 use mathlib.Core.List.{List, [], _∷_, _++_, append-assoc, append-nil}
 use native.Mathlib.Omega.{arith}
-use borrow.Author.Tests.{ltb-true}
-use lib.Dec.{ltb, eqb}
 use lib.ListN.{length, getD}
-use Rattle.octets.specs.Pick.{pick}
 use Rattle.decimal.specs.declared.Signed.{Signed}
 use Rattle.decimal.specs.declared.IdOf.{IdOf}
 use Rattle.decimal.specs.declared.IdOf.the-variants.{Id, Absent}
 use Rattle.decimal.specs.Decimal.{normal}
-use Rattle.decimal.specs.Values.{truncOf}
 use Rattle.decimal.specs.Written.{numberBytes}
 use Rattle.dict.specs.Op.{ros, cidCount, copiedTopEntries, copiedTopStrings}
-use Rattle.dict.specs.Lookup.{oneOf, idAs, idIn, rosIn, cidCountIn}
-use Rattle.dict.specs.declared.One.{One}
-use Rattle.dict.specs.declared.One.the-variants.{Number, Absent as NoNumber}
+use Rattle.dict.specs.Lookup.{oneOf, idIn, rosIn, cidCountIn}
+use Rattle.dict.specs.LookupLaws.{id-low}
 use Rattle.dict.specs.declared.RosIn.{RosIn}
 use Rattle.dict.specs.declared.RosIn.the-variants.{Ros, None}
 use Rattle.dict_write.specs.Written.{opBytes, operandsBytes, entryBytes, offsetEntry, privateEntry}
@@ -41,21 +36,6 @@ pub record Slotted (p : Program) (cid : Bool) (own : List (List ℕ)) (slots : L
   pub registry : cid ≡ true → (r o : ℕ) (s : Signed) → rosIn (p .top) ≡ Ros r o s → getD slots 8 0 ≡ newId own (stringText (p .strings) r)
   pub ordering : cid ≡ true → (r o : ℕ) (s : Signed) → rosIn (p .top) ≡ Ros r o s → getD slots 9 0 ≡ newId own (stringText (p .strings) o)
 
-no : _≡_ {A = ℕ} 0 1 → ⊥
-no h = omega arith
-
--- ---- a string id is below 65536
-
-small-id : (t s u : Bool) (m sid : ℕ) → ltb m 65536 ≡ u → pick t (Id 0) (pick s Absent (pick u (Id m) Absent)) ≡ Id sid → sid < 65536
-small-id true s u m sid h e = let z : 0 ≡ sid = cc in omega arith
-small-id false true u m sid h e = absurd (no cc)
-small-id false false true m sid h e = let z : m ≡ sid = cc in omega (arith, ltb-true m 65536 h)
-small-id false false false m sid h e = absurd (no cc)
-
-small-one : (o : One) (sid : ℕ) → idAs o ≡ Id sid → sid < 65536
-small-one NoNumber sid e = absurd (no cc)
-small-one (Number d) sid e = small-id (eqb (truncOf d) 0) (d .neg) (ltb (truncOf d) 65536) (truncOf d) sid refl e
-
 -- ---- the string entries
 
 module _ (p : Program) (own : List (List ℕ)) (slots : List ℕ) where
@@ -65,7 +45,7 @@ module _ (p : Program) (own : List (List ℕ)) (slots : List ℕ) where
   unfolding namedBytes
   one-named op m rest ns e Absent i h f = ap (λ (l : List ℕ). l ++ rest) (sym (slot-none slots m op (omega arith))) ∙ e
   one-named op m rest ns e (Id sid) i h f =
-      ap (λ (l : List ℕ). l ++ rest) (sym (slot-there slots m op (omega (arith, small-one (oneOf op (p .top)) sid i))))
+      ap (λ (l : List ℕ). l ++ rest) (sym (slot-there slots m op (omega (arith, id-low (oneOf op (p .top)) sid i))))
       ∙ ap (λ (n : ℕ). valueEntry op n ++ rest) (f sid refl)
       ∙ ap (λ (l : List ℕ). valueEntry op (newId own (stringText (p .strings) sid)) ++ l) e
 

@@ -22,7 +22,7 @@ use Rattle.type2_number.specs.Rounding.{keep-val, keep-round, rounded-po
 use Rattle.type2_number.specs.Counts.{keep-le, scaled-is}
 
 -- one float has one count
-one-count : (x : Float) (s : Bool) (a b : ℕ) → HasValue x s a 65536 → HasValue x s b 65536 → a ≡ b
+pub one-count : (x : Float) (s : Bool) (a b : ℕ) → HasValue x s a 65536 → HasValue x s b 65536 → a ≡ b
 one-count nan s a b v w = absurd v
 one-count (inf t) s a b v w = absurd v
 one-count (fin t m e) s a b v w = eq-of-mul-eq-mul-right (down e) (down-pos e) a b (sym (v .1) ∙ w .1)

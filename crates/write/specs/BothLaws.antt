@@ -1,17 +1,23 @@
--- Laws of the cut by either keying: what ranking leaves of the work words, and what its measures ask of a plan.
+-- Laws of the cut by either keying: what ranking leaves of the work words, what the order of the kept glyphs asks, and what measures ask of a
+-- plan.
 use Prim.Native.Nat.{ℕ, zero, suc, _+_, _≤_}
 use mathlib.Core.Path.{_≡_, refl, sym, ap, _∙_}
+use mathlib.Core.Bool.{true}
 use mathlib.Core.List.{List, [], _∷_}
 use native.Mathlib.Omega.{arith}
 use lib.ListN.{length, take, drop}
 use lib.Seq.{take-take}
+use Rattle.index.specs.IndexLaws.{items-length}
 use Rattle.unfold.specs.Unfold.{Row}
+use Rattle.cff.specs.Find.{workSize}
 use Rattle.cff.specs.Reads.{GoodFont, programOf}
 use Rattle.cff.specs.declared.font.Font.{Font}
+use Rattle.subset.specs.Kept.{keptOf}
+use Rattle.subset.specs.Cut.{allBelow, allFound}
 use Rattle.bodies.specs.Ways.{keptCount}
 use Rattle.fds.specs.Locals.{UsedOf}
 use Rattle.fds.specs.Parts.{PartsFit}
-use Rattle.parts.specs.Ready.{Ready, Summed}
+use Rattle.parts.specs.Ready.{FontHeld, Ready, Summed}
 use Rattle.parts.specs.declared.Planned.{Planned}
 use Rattle.parts.specs.CodeLaws.{globals-few}
 use Rattle.parts.specs.PrivateLaws.{parts-fit}
@@ -28,6 +34,21 @@ part-take (suc n) k (suc m) (x ∷ xs) h = part-take n k m xs (omega arith)
 pub part-stays : (n k m : ℕ) (old new : List ℕ) → n + k ≤ m → take m new ≡ take m old → take k (drop n new) ≡ take k (drop n old)
 part-stays n k m old new h e = sym (part-take n k m new h) ∙ ap (λ (l : List ℕ). take k (drop n l)) e ∙ part-take n k m old h
 
+-- ---- the order
+
+-- what the order of the kept glyphs asks
+pub order-asked : (b : List ℕ) (f : Font) → FontHeld b f → (keep ws : List ℕ) → allBelow (length (programOf b f .charstrings)) keep ≡ true
+    → allFound (programOf b f) (keptOf (length (programOf b f .charstrings)) keep) ≡ true → workSize (programOf b f) ≤ length ws
+    → GoodFont b f × (allBelow (f .charstrings .count) keep ≡ true) × (allFound (programOf b f) (keptOf (f .charstrings .count) keep) ≡ true)
+    × (f .charstrings .count ≤ length ws)
+order-asked b f held keep ws below found words =
+    let many : length (programOf b f .charstrings) ≡ f .charstrings .count = items-length b (f .charstrings) in (
+      held .font,
+      ap (λ (m : ℕ). allBelow m keep) (sym many) ∙ below,
+      ap (λ (m : ℕ). allFound (programOf b f) (keptOf m keep)) (sym many) ∙ found,
+      omega (arith, words, many),
+    )
+
 -- ---- measures
 
 module _ (b : List ℕ) (f : Font) (rows : List Row) (used ws ats counts reacheds : List ℕ) (r : Planned) (ready : Ready b f rows used ws r ats counts reacheds) where
@@ -35,8 +56,8 @@ module _ (b : List ℕ) (f : Font) (rows : List Row) (used ws ats counts reached
   pub globals-measured : (keptCount (r .kept .way) (r .kept .globals .reached) (r .kept .globals .count) ≤ 65535) × (r .«globals_total» ≤ 281474976710656)
   globals-measured = (globals-few b f rows used ws ats counts reacheds r ready, omega (arith, ready .globalsFew))
 
-  pub glyphs-measured : r .kept .count ≤ 65535 → (r .kept .count ≤ 65535) × (r .«glyphs_total» ≤ 281474976710656)
-  glyphs-measured few = (few, omega (arith, ready .glyphsFew))
+  pub glyphs-measured : (r .kept .count ≤ 65535) × (r .«glyphs_total» ≤ 281474976710656)
+  glyphs-measured = (omega (arith, ready .asked .glyphs .keptFew), omega (arith, ready .glyphsFew))
 
   -- and so can the Private parts
   pub parts-measured : (totals : List ℕ) → Summed b f rows used ws r ats counts reacheds totals → (sizes lens : ℕ) → 256 ≤ sizes → 256 ≤ lens

@@ -7,7 +7,7 @@ use mathlib.Core.List.{List, [], _∷_}
 use native.Mathlib.Omega.{arith}
 use lib.Dec.{eqb}
 use lib.ListN.{length, take, drop, getD}
-use lib.Seq.{take-at, drop-at, take-add, take-take, length-take-le}
+use lib.Seq.{take-at}
 use Rattle.octets.specs.Pick.{pick}
 use Rattle.octets.specs.Octets.{put}
 use Rattle.octets.specs.PutLaws.{put-length, drop-put-at}
@@ -23,7 +23,7 @@ use Rattle.subset.specs.KeptListLaws.{those-has}
 use Rattle.subset.specs.EachLaws.{length-mapped}
 use Rattle.subset.specs.Pruned.{countBelow, pruned}
 use Rattle.subset.specs.Subset.{ownByCid, newFds, subsetByCid}
-use Rattle.subset.specs.Cut.{Outcome, allBelow, allFound, written}
+use Rattle.subset.specs.Cut.{Outcome, allBelow, written}
 use Rattle.faithful.specs.KeptLaws.{kept-some, kept-below, order-same, order-in}
 use Rattle.faithful.specs.UsedLaws.{used-there}
 use Rattle.kept.specs.Packed.{packed, glyphsIn, Begins}
@@ -42,6 +42,7 @@ use Rattle.plan.specs.FontLaws.{fds-at}
 use Rattle.parts.specs.Ready.{FontHeld, orderIn, PlanIn, bodiesFor, Ready}
 use Rattle.parts.specs.declared.Planned.{Planned}
 use Rattle.write.specs.Entry.{Cut}
+use Rattle.write.specs.BothLaws.{part-stays}
 use Rattle.write.specs.RefusalLaws.{glyphs-are}
 use Rattle.write.specs.Cid.{sized, Gathered, CidReady, cidBytes}
 use Rattle.write.specs.CidPlacesLaws.{cut-sized}
@@ -68,19 +69,9 @@ module _ (b : List ℕ) (f : Font) (held : FontHeld b f) where
   few-glyphs : n < 65536
   few-glyphs = held .font .glyphs .held .few
 
-  module _ (keep old : List ℕ) (all-below : allBelow (length (p .charstrings)) keep ≡ true)
-      (all-found : allFound p (keptOf (length (p .charstrings)) keep) ≡ true) (all-words : workSize p ≤ length old) where
+  module _ (keep old : List ℕ) (all-words : workSize p ≤ length old) where
     two-words : n + n ≤ length old
     two-words = omega (arith, all-words, many-glyphs)
-
-    -- what the order asks
-    pub order-asked : GoodFont b f × (allBelow n keep ≡ true) × (allFound p (keptOf n keep) ≡ true) × (n ≤ length old)
-    order-asked = (
-      held .font,
-      ap (λ (m : ℕ). allBelow m keep) (sym many-glyphs) ∙ all-below,
-      ap (λ (m : ℕ). allFound p (keptOf m keep)) (sym many-glyphs) ∙ all-found,
-      omega (arith, two-words),
-    )
 
     module _ (ws : List ℕ) (k : ℕ) (begins : Begins old n (packed p (writtenOrder p (keptOf n keep))) ws) (many : k ≡ length (keptOf n keep)) where
       abbrev gs : List ℕ
@@ -212,43 +203,32 @@ module _ (b : List ℕ) (f : Font) (held : FontHeld b f) where
       -- ---- behind the plan
 
       module _ (rows : List Row) (new : List ℕ) (r : Planned) (same : take (2 * n) new ≡ take (2 * n) ws) (counted : r .kept .count ≡ k) where
-        -- n words from n on are among the first 2 n
-        second : (l : List ℕ) → n ≤ length l → drop n (take (2 * n) l) ≡ take n (drop n l)
-        second l h =
-            let e : 2 * n ≡ n + n = omega arith in
-            ap (λ (m : ℕ). drop n (take m l)) e ∙ ap (drop n) (take-add n n l) ∙ drop-at (take n l) (take n (drop n l)) n (length-take-le n l h)
-
-        part-same : n ≤ length new → part new n k ≡ part ws n k
-        part-same h =
-            sym (take-take k n (drop n new) (g .few)) ∙ ap (take k) (sym (second new h) ∙ ap (drop n) same ∙ second ws (omega (arith, g .room)))
-            ∙ take-take k n (drop n ws) (g .few)
+        part-same : part new n k ≡ part ws n k
+        part-same = part-stays n k (2 * n) ws new (omega (arith, g .few)) same
 
         order-new : orderIn k new ≡ orderIn k ws
-        order-new =
-            let h : k ≤ 2 * n = omega (arith, g .few) in
-            ap glyphsIn (sym (take-take k (2 * n) new h) ∙ ap (take k) same ∙ take-take k (2 * n) ws h)
+        order-new = ap glyphsIn (part-stays 0 k (2 * n) ws new (omega (arith, g .few)) same)
 
         -- the glyphs stay
         pub order-planned : orderIn (r .kept .count) new ≡ order
         order-planned = ap (λ (j : ℕ). orderIn j new) counted ∙ order-new ∙ order-held
 
-        news-planned : n ≤ length new → newFdsBy used (part new n k) ≡ newFds p (fdsIn used) order
-        news-planned h =
-            ap (newFdsBy used) (part-same h)
+        news-planned : newFdsBy used (part new n k) ≡ newFds p (fdsIn used) order
+        news-planned =
+            ap (newFdsBy used) part-same
             ∙ table-new-fds p kept order (held .program) (order-same p kept) below ws n k (g .fds) table used long ranks
             ∙ ap (λ (l : List ℕ). newFds p l order) (sym fds-used)
 
         pub cid-ready : (ats counts reacheds : List ℕ) → Ready b f rows used new r ats counts reacheds → r .kept .cid ≡ true
             → CidReady b f rows used new r ats counts reacheds
         cid-ready ats counts reacheds ready keyed =
-            let h : n ≤ length new = omega (arith, ready .order .room, many-glyphs) in
             record {
               ready = ready;
               keyed = keyed;
               some = omega (arith, counted, g .some);
-              numbered = subst (λ (j : ℕ). Numbered used (part new n j)) (sym counted) (subst (Numbered used) (sym (part-same h)) numbers);
+              numbered = subst (λ (j : ℕ). Numbered used (part new n j)) (sym counted) (subst (Numbered used) (sym part-same) numbers);
               news =
-                  ap (λ (j : ℕ). newFdsBy used (part new n j)) counted ∙ news-planned h ∙ ap (newFds p (fdsIn used)) (sym order-planned);
+                  ap (λ (j : ℕ). newFdsBy used (part new n j)) counted ∙ news-planned ∙ ap (newFds p (fdsIn used)) (sym order-planned);
             }
 
         -- the outcome of the cut is that of the subset from its plan

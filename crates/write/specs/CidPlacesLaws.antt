@@ -20,7 +20,7 @@ use Rattle.charset.specs.FdSelectBytes.{fdSelectBytes}
 use Rattle.charset.specs.FdSelectBytesLaws.{select-length, changes-few}
 use Rattle.dict.specs.Lookup.{cidKeyed}
 use Rattle.cff.specs.Font.{Program}
-use Rattle.cff.specs.Reads.{programOf, GoodFont}
+use Rattle.cff.specs.Reads.{programOf}
 use Rattle.cff.specs.declared.font.Font.{Font}
 use Rattle.subset.specs.Kept.{usedFds}
 use Rattle.subset.specs.KeptListLaws.{those-count}
@@ -31,8 +31,8 @@ use Rattle.glyph_tables.specs.Tables.{part, highs, newFdsBy, Numbered}
 use Rattle.glyph_tables.specs.PartLaws.{highs-length}
 use Rattle.glyph_tables.specs.SelectLaws.{select-count}
 use Rattle.glyph_tables.specs.UsedTableLaws.{highs-cids}
-use Rattle.fds.specs.Locals.{inUse, fdsIn, UsedOf}
-use Rattle.fds.specs.Parts.{PartsFit, SizesParts}
+use Rattle.fds.specs.Locals.{inUse, fdsIn}
+use Rattle.fds.specs.Parts.{SizesParts}
 use Rattle.bodies.specs.Ways.{keptCount}
 use Rattle.own_strings.specs.declared.Own.{Own}
 use Rattle.front.specs.Front.{SmallFont, SlotsReady, Measured, frontLen}
@@ -43,8 +43,8 @@ use Rattle.parts.specs.declared.Planned.{Planned}
 use Rattle.write.specs.Entry.{Cut}
 use Rattle.write.specs.RefusalLaws.{glyphs-are}
 use Rattle.write.specs.Layout.{cidPrivates, cid-length}
-use Rattle.parts.specs.CodeLaws.{globals-few, globals-long, glyphs-long}
-use Rattle.parts.specs.PrivateLaws.{parts-fit, all-parts, dicts-placed, dicts-are, dicts-length}
+use Rattle.parts.specs.CodeLaws.{globals-long, glyphs-long}
+use Rattle.parts.specs.PrivateLaws.{all-parts, dicts-placed, dicts-are, dicts-length}
 use Rattle.write.specs.Cid.{sized, StringsReady, placesOf, placesBy, PartsSmall, writtenIn, bodiesIn, CidReady, DictsReady, cidBytes, cidPlaces}
 use Rattle.write.specs.declared.Answer.{Answer}
 use Rattle.write.specs.declared.Answer.the-variants.{Refused, Subset}
@@ -138,35 +138,12 @@ module _ (b : List ℕ) (f : Font) (rows : List Row) (used ws : List ℕ) (r : P
   pub select-asked : (n + k ≤ length ws) × (k < 65536) × Numbered used (part ws n k)
   select-asked = (words-room, c .ready .asked .glyphs .keptFew, c .numbered)
 
-  pub globals-measure : (keptCount (r .kept .way) (r .kept .globals .reached) (r .kept .globals .count) ≤ 65535) × (r .«globals_total» ≤ 281474976710656)
-  globals-measure = (globals-few b f rows used ws ats counts reacheds r (c .ready), omega (arith, c .ready .globalsFew))
-
-  pub glyphs-measure : (r .kept .count ≤ 65535) × (r .«glyphs_total» ≤ 281474976710656)
-  glyphs-measure = (omega (arith, c .ready .asked .glyphs .keptFew), omega (arith, c .ready .glyphsFew))
-
   select-short : length (fdSelectBytes (newFdsBy used (part ws n k))) ≤ 200000
   select-short =
       let fds = newFdsBy used (part ws n k) in
       omega (arith, select-length fds, changes-few 256 0 fds, select-count ws n k used words-room, c .ready .asked .glyphs .keptFew)
 
   module _ (totals : List ℕ) (summed : Summed b f rows used ws r ats counts reacheds totals) where
-    pub sizes-asked : (sizes lens : List ℕ) → 256 ≤ length sizes → 256 ≤ length lens
-        → (length b ≤ 67108864) × GoodFont b f × (256 ≤ length used) × UsedOf (length (p .privates)) used × (256 ≤ length counts) × (256 ≤ length reacheds)
-        × (256 ≤ length totals) × PartsFit p (r .kept .way) counts reacheds totals used × (256 ≤ length sizes) × (256 ≤ length lens)
-    sizes-asked sizes lens s l =
-        let h = c .ready .asked .locals in (
-          c .ready .read .size,
-          c .ready .read .font,
-          h .usedLong,
-          h .fds,
-          h .countsLong,
-          h .reachedsLong,
-          summed .long,
-          parts-fit b f rows used ws ats counts reacheds r (c .ready) totals summed,
-          s,
-          l,
-        )
-
     -- the length of the subset
     pub bytes-long : (name : List ℕ) → length (cidBytes b f rows used ws r name) ≡ cidPlaces b f rows used ws r name .end
     unfolding cidBytes cidPlaces

@@ -7,11 +7,12 @@ use mathlib.Core.List.{List, _++_, append-assoc}
 use native.Mathlib.Omega.{arith}
 use lib.ListN.{length, length-append}
 use Rattle.octets.specs.Octets.{Wrote}
-use Rattle.octets.specs.PutLaws.{wrote-then, wrote-as, wrote-length}
+use Rattle.octets.specs.PutLaws.{wrote-as}
 use Rattle.index.specs.Write.{indexBytes}
 use Rattle.unfold.specs.Unfold.{Row}
 use Rattle.charset.specs.CharsetBytes.{charsetBytes}
 use Rattle.charset.specs.FdSelectBytes.{fdSelectBytes}
+use Rattle.dict_write.specs.WriteLaws.{room-first, room-then, wrote-both}
 use Rattle.cff.specs.Font.{Program}
 use Rattle.cff.specs.Reads.{programOf, GoodFont}
 use Rattle.cff.specs.declared.font.Font.{Font}
@@ -37,20 +38,9 @@ use Rattle.write.specs.Cid.{StringsReady, placesOf, writtenIn, bodiesIn,
 use Rattle.write.specs.CidPlacesLaws.{held-small, words-room, cids-are, select-asked, bytes-long}
 use Rattle.write.specs.declared.cid_parts.Places.{Places}
 
--- two parts, one behind the other
-module _ (at : ℕ) (xs ys old : List ℕ) (room : at + length (xs ++ ys) ≤ length old) where
-  pub first-room : at + length xs ≤ length old
-  first-room = omega (arith, length-append xs ys)
-
-  module _ {mid : List ℕ} {p : ℕ} (w : Wrote old at xs mid p) where
-    pub second-room : p + length ys ≤ length mid
-    second-room = omega (arith, length-append xs ys, w .behind, wrote-length w first-room)
-
-    pub both-wrote : {new : List ℕ} {q : ℕ} → Wrote mid p ys new q → Wrote old at (xs ++ ys) new q
-    both-wrote v = wrote-then (omega (arith, room)) w v
-
-  pub second-below : (most p : ℕ) → at + length (xs ++ ys) ≤ most → p ≡ at + length xs → p + length ys ≤ most
-  second-below most p small e = omega (arith, length-append xs ys)
+-- where two parts end below a bound, so does the second behind the first
+second-below : (at : ℕ) (xs ys : List ℕ) (most p : ℕ) → at + length (xs ++ ys) ≤ most → p ≡ at + length xs → p + length ys ≤ most
+second-below at xs ys most p small e = omega (arith, length-append xs ys)
 
 -- the first parts are within all
 within : (f g i s h d a end front some : ℕ) → end ≡ front + g + i + s + h + d + a → f ≡ front → some ≡ f + (g + i) → some ≤ end
@@ -98,7 +88,7 @@ module _ (b : List ℕ) (f : Font) (rows : List Row) (used ws : List ℕ) (r : P
     unfolding glyphBytes
     select-put =
         let a = select-asked b f rows used ws r ats counts reacheds c in
-        (a .0, a .1, a .2, omega (arith, small), subst (λ (l : List ℕ). at + length (fdSelectBytes l) ≤ length out) (sym (c .news)) (first-room at select glyphs out room))
+        (a .0, a .1, a .2, omega (arith, small), subst (λ (l : List ℕ). at + length (fdSelectBytes l) ≤ length out) (sym (c .news)) (room-first (length out) at select glyphs room))
 
     module _ {mid : List ℕ} {q : ℕ} (w : Wrote out at (fdSelectBytes (newFdsBy used (part ws n k))) mid q) where
       selected : Wrote out at select mid q
@@ -108,14 +98,14 @@ module _ (b : List ℕ) (f : Font) (rows : List Row) (used ws : List ℕ) (r : P
           × Room (charstringsFrom (r .kept) rows ws ats counts reacheds b) (r .«glyphs_total») q (length mid)
       unfolding glyphBytes
       glyphs-put =
-          glyphs-asked b f rows used ws ats counts reacheds r (c .ready) q (length mid) (second-below at select glyphs out room 67108864 q small (selected .behind))
-          (second-room at select glyphs out room selected)
+          glyphs-asked b f rows used ws ats counts reacheds r (c .ready) q (length mid) (second-below at select glyphs 67108864 q small (selected .behind))
+          (room-then glyphs selected room)
 
       pub glyphs-wrote : {new : List ℕ} {q' : ℕ} → Wrote mid q (indexBytes (newCharstringsFrom (r .kept) rows ws ats counts reacheds b)) new q'
           → Wrote out at (glyphBytes b f rows used ws r) new q'
       unfolding glyphBytes
       glyphs-wrote v =
-          both-wrote at select glyphs out room selected (wrote-as v (ap indexBytes (glyphs-are b f rows used ws ats counts reacheds r (c .ready))))
+          wrote-both room selected (wrote-as v (ap indexBytes (glyphs-are b f rows used ws ats counts reacheds r (c .ready))))
 
   -- ---- the FD INDEX and the Private parts
 
@@ -133,7 +123,7 @@ module _ (b : List ℕ) (f : Font) (rows : List Row) (used ws : List ℕ) (r : P
     dicts-put = (
       d .placed,
       omega (arith, small),
-      subst (λ (l : List (List ℕ)). at + length (indexBytes l) ≤ length out) (sym (d .are)) (first-room at dicts privates out room),
+      subst (λ (l : List (List ℕ)). at + length (indexBytes l) ≤ length out) (sym (d .are)) (room-first (length out) at dicts privates room),
     )
 
     module _ {mid : List ℕ} {q : ℕ} (w : Wrote out at (indexBytes (fontDictsBy sizes lens count from)) mid q) where
@@ -145,7 +135,7 @@ module _ (b : List ℕ) (f : Font) (rows : List Row) (used ws : List ℕ) (r : P
       unfolding tailBytes
       privates-put =
           let a = privates-asked b f rows used ws ats counts reacheds r ready totals summed q (length mid)
-          (second-below at dicts privates out room 67108864 q small (listed .behind)) (second-room at dicts privates out room listed) in
+          (second-below at dicts privates 67108864 q small (listed .behind)) (room-then privates listed room) in
           (ready .read .font, a .0, a .1)
 
       pub privates-wrote : {new : List ℕ} {q' : ℕ}
@@ -153,7 +143,7 @@ module _ (b : List ℕ) (f : Font) (rows : List Row) (used ws : List ℕ) (r : P
           → Wrote out at (tailBytes b f rows used ws r from) new q'
       unfolding tailBytes
       privates-wrote v =
-          both-wrote at dicts privates out room listed (wrote-as v (privates-are b f rows used ws ats counts reacheds r ready totals summed))
+          wrote-both room listed (wrote-as v (privates-are b f rows used ws ats counts reacheds r ready totals summed))
 
   -- ---- front, globals and charset
 
@@ -228,14 +218,14 @@ module _ (b : List ℕ) (f : Font) (rows : List Row) (used ws : List ℕ) (r : P
       fronted = wrote-as w front-is
 
       rest-room : q + length (globals ++ ids) ≤ length mid
-      rest-room = second-room 0 front (globals ++ ids) out head-room fronted
+      rest-room = room-then (globals ++ ids) fronted head-room
 
       -- what the globals ask
       pub globals-put : Ready b f rows used ws r ats counts reacheds × (q + length globals ≤ 67108864) × (q + length globals ≤ length mid)
       globals-put = (
         c .ready,
         omega (arith, fronted .behind, length-append front (globals ++ ids), length-append globals ids, head-within, small),
-        first-room q globals ids mid rest-room,
+        room-first (length mid) q globals ids rest-room,
       )
 
       module _ {mid2 : List ℕ} {q2 : ℕ} (v : Wrote mid q globals mid2 q2) where
@@ -244,14 +234,14 @@ module _ (b : List ℕ) (f : Font) (rows : List Row) (used ws : List ℕ) (r : P
         charset-put = (
           omega (arith, words-room b f rows used ws r ats counts reacheds c),
           subst (λ (l : List ℕ). q2 + length (charsetBytes l) ≤ length mid2) (sym (cids-are b f rows used ws r ats counts reacheds c))
-              (second-room q globals ids mid rest-room v),
+              (room-then ids v rest-room),
         )
 
         pub head-wrote : {new : List ℕ} {q3 : ℕ} → Wrote mid2 q2 (charsetBytes (highs ws k)) new q3 → Wrote out 0 (headBytes b f rows used ws r name) new q3
         unfolding headBytes
         head-wrote u =
-            both-wrote 0 front (globals ++ ids) out head-room fronted
-            (both-wrote q globals ids mid rest-room v (wrote-as u (ap charsetBytes (cids-are b f rows used ws r ats counts reacheds c))))
+            wrote-both head-room fronted
+            (wrote-both rest-room v (wrote-as u (ap charsetBytes (cids-are b f rows used ws r ats counts reacheds c))))
 
   -- ---- all
 
@@ -285,20 +275,20 @@ module _ (b : List ℕ) (f : Font) (rows : List Row) (used ws : List ℕ) (r : P
 
     module _ {mid : List ℕ} {q : ℕ} (w : Wrote out 0 head mid q) where
       left-room : q + length (middle ++ tail) ≤ length mid
-      left-room = second-room 0 head (middle ++ tail) out all-room w
+      left-room = room-then (middle ++ tail) w all-room
 
       left-small : q + length (middle ++ tail) ≤ 67108864
-      left-small = second-below 0 head (middle ++ tail) out all-room 67108864 q (omega (arith, whole, small)) (w .behind)
+      left-small = second-below 0 head (middle ++ tail) 67108864 q (omega (arith, whole, small)) (w .behind)
 
       pub middle-put : CidReady b f rows used ws r ats counts reacheds × (q + length middle ≤ 67108864) × (q + length middle ≤ length mid)
-      middle-put = (c, omega (arith, left-small, length-append middle tail), first-room q middle tail mid left-room)
+      middle-put = (c, omega (arith, left-small, length-append middle tail), room-first (length mid) q middle tail left-room)
 
       module _ {mid2 : List ℕ} {q2 : ℕ} (v : Wrote mid q middle mid2 q2) where
         pub tail-small : q2 + length tail ≤ 67108864
-        tail-small = second-below q middle tail mid left-room 67108864 q2 left-small (v .behind)
+        tail-small = second-below q middle tail 67108864 q2 left-small (v .behind)
 
         pub tail-room : q2 + length tail ≤ length mid2
-        tail-room = second-room q middle tail mid left-room v
+        tail-room = room-then tail v left-room
 
         pub all-wrote : {new : List ℕ} {q3 : ℕ} → Wrote mid2 q2 tail new q3 → Wrote out 0 (cidBytes b f rows used ws r name) new q3
-        all-wrote u = wrote-as (both-wrote 0 head (middle ++ tail) out all-room w (both-wrote q middle tail mid left-room v u)) groups
+        all-wrote u = wrote-as (wrote-both all-room w (wrote-both left-room v u)) groups

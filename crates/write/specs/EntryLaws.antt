@@ -10,6 +10,7 @@ use lib.Dec.{ltb, eqb}
 use lib.ListN.{length, take, drop, replicate}
 use lib.Seq.{length-take-le}
 use Rattle.octets.specs.Pick.{pick}
+use Rattle.octets.specs.PickLaws.{pick-same}
 use Rattle.octets.specs.Octets.{Octets}
 use Rattle.record.specs.Record.{rowsOf, recordFine}
 use Rattle.dict.specs.Lookup.{rosIn, cidKeyed}
@@ -22,7 +23,7 @@ use Rattle.subset.specs.Kept.{keptOf, writtenOrder, usedFds}
 use Rattle.subset.specs.Pruned.{Pruned, pruned}
 use Rattle.subset.specs.Subset.{subsetBytes}
 use Rattle.subset.specs.Cut.{Outcome, refused, subset, allBelow, allFound, hasRos, sameBool, ownOf, written, cutProgram, cutRead, cutOf, leavesOut, zeros, usesWork, leavesWork}
-use Rattle.faithful.specs.Theorem.{faithful}
+use Rattle.faithful.specs.Theorem.{faithful, same-bool}
 use Rattle.faithful.specs.GoodLaws.{font-good}
 use Rattle.parts.specs.Ready.{FontHeld}
 use Rattle.write.specs.RefusalLaws.{work-is}
@@ -84,10 +85,6 @@ written-uses p name kept order room q =
     pick-used true n o h k = h
     pick-used false n o h k = k
 
-pick-same : (t : Bool) (l : List ℕ) → pick t l l ≡ l
-pick-same true l = refl
-pick-same false l = refl
-
 -- ---- calls
 
 module _ (cid : Bool) (font name keep rec : List ℕ) (flag : ℕ) (work out : List ℕ) (bytes : Octets font) (octets : Octets rec) where
@@ -148,11 +145,6 @@ module _ (cid : Bool) (font name keep rec : List ℕ) (flag : ℕ) (work out : L
         }
 
 -- ---- what refusal 0 says
-
-same-bool : (a b : Bool) → sameBool a b ≡ true → a ≡ b
-same-bool true b e = sym e
-same-bool false true e = absurd (zero-one cc)
-same-bool false false e = refl
 
 passes : (a b c d e f g : Bool) → _≡_ {A = ℕ} (pick a (pick b (pick c 4 (pick d (pick e (pick f (pick g 9 0) 8) 7) 6)) 2) 3) 0
     → (a ≡ true) × (b ≡ true) × (c ≡ false) × (d ≡ true) × (e ≡ true) × (f ≡ true) × (g ≡ false)

@@ -11,14 +11,14 @@ use Rattle.octets.specs.Octets.{put}
 use Rattle.octets.specs.PutLaws.{put-length}
 use Rattle.dict.specs.Lookup.{cidKeyed}
 use Rattle.cff.specs.Font.{Program}
-use Rattle.cff.specs.Reads.{programOf, GoodFont}
+use Rattle.cff.specs.Reads.{programOf}
 use Rattle.cff.specs.declared.font.Font.{Font}
 use Rattle.index.specs.IndexLaws.{items-length}
 use Rattle.subset.specs.Kept.{keptOf, sortedBy, writtenOrder, usedFds}
 use Rattle.subset.specs.Texts.{namesOf}
 use Rattle.subset.specs.Pruned.{pruned}
 use Rattle.subset.specs.Subset.{ownByName, newIds}
-use Rattle.subset.specs.Cut.{Outcome, ownOf, allBelow, allFound, written}
+use Rattle.subset.specs.Cut.{Outcome, ownOf, allFound, written}
 use Rattle.faithful.specs.UsedLaws.{used-one}
 use Rattle.faithful.specs.KeptLaws.{kept-some}
 use Rattle.kept.specs.Packed.{packed, keeps, Begins}
@@ -58,9 +58,6 @@ module _ (b : List ℕ) (f : Font) (read : FontHeld b f) (name keep rec : List �
 
   found : allFound p (keptOf n keep) ≡ true
   found = ap (λ (m : ℕ). allFound p (keptOf m keep)) (sym count) ∙ passed .found
-
-  pub order-asked : GoodFont b f × (allBelow n keep ≡ true) × (allFound p (keptOf n keep) ≡ true) × (n ≤ length ws)
-  order-asked = (read .font, ap (λ (m : ℕ). allBelow m keep) (sym count) ∙ passed .below, found, omega (arith, wide))
 
   as-kept : writtenOrder p kept ≡ kept
   as-kept = ap (λ (t : Bool). pick t (sortedBy (λ g. getD (p .ids) g 0) kept) kept) keyed

@@ -4,23 +4,22 @@ use mathlib.Core.Path.{_≡_, sym, ap, _∙_, subst}
 use mathlib.Core.Bool.{false}
 use mathlib.Core.List.{List, [], _∷_, _++_, append-nil}
 use native.Mathlib.Omega.{arith}
-use lib.Dec.{eqb}
 use lib.ListN.{length, take, drop, getD, length-append, length-drop}
 use lib.Seq.{length-take-le, getD-take}
-use Rattle.octets.specs.Pick.{pick}
 use Rattle.octets.specs.Octets.{Wrote}
 use Rattle.octets.specs.PutLaws.{wrote-as}
 use Rattle.index.specs.Write.{indexBytes, indexLen}
 use Rattle.charset.specs.CharsetBytes.{charsetBytes}
 use Rattle.charset.specs.CharsetBytesLaws.{charset-length}
 use Rattle.unfold.specs.Unfold.{Row}
-use Rattle.cff.specs.Font.{Private, Program}
+use Rattle.cff.specs.Font.{Program}
 use Rattle.cff.specs.Reads.{programOf, GoodFont}
 use Rattle.cff.specs.declared.font.Font.{Font}
 use Rattle.subset.specs.Kept.{privateOf}
 use Rattle.subset.specs.Texts.{namesOf}
 use Rattle.subset.specs.Pruned.{Bodies, mapped}
 use Rattle.subset.specs.Subset.{privateDict, privatePart, privateParts, ownByName, topByName, newIds, oneLocal, subsetByName}
+use Rattle.faithful.specs.ByName.{dict-within}
 use Rattle.private_dicts.specs.Privates.{sizesOf}
 use Rattle.own_strings.specs.declared.Own.{Own}
 use Rattle.top_dict.specs.Top.{Offsets}
@@ -42,10 +41,6 @@ use Rattle.parts.specs.PrivateLaws.{all-parts, sizes-held, privates-asked, priv
 use Rattle.write.specs.Layout.{frontLen, namedCharset, namedCharstrings, namedPrivate, namedEnd, named-parts, named-length}
 use Rattle.write.specs.Named.{namedGlyphs, NamedPlan, NamedStrings, PlacedNamed}
 use Rattle.write.specs.declared.named.Places.{Places}
-
--- a Private DICT stands in its part
-dict-within : (q : Private) (ls : List (List ℕ)) → length (privateDict q ls) ≤ length (privatePart q ls)
-dict-within q ls = omega (arith, length-append (privateDict q ls) (pick (eqb (length ls) 0) [] (indexBytes ls)))
 
 -- ---- one FD alone
 

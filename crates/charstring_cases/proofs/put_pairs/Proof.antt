@@ -7,7 +7,8 @@ use borrow.Author.Needs.{needs}
 use lib.ListN.{length, length-set}
 use denote.Ref.{now}
 use Rattle.octets.specs.Octets.{put}
-use Rattle.hexlines.specs.HexlinesLaws.{put-cons, put-done}
+use Rattle.octets.specs.PutLaws.{put-cons}
+use Rattle.hexlines.specs.HexlinesLaws.{put-done}
 use Rattle.charstring_cases.specs.Streams.{pairsAt}
 use Rattle.charstring_cases.specs.AnswersLaws.{pairsLeft, pairs-next, pairs-none, pairs-length}
 use Rattle.charstring_cases.proofs.put_pairs.Statement.{statement}

@@ -9,8 +9,9 @@ use lib.ListN.{length, length-set}
 use lib.Seq.{slice}
 use denote.Ref.{now}
 use Rattle.octets.specs.Octets.{put}
+use Rattle.octets.specs.PutLaws.{put-cons}
 use Rattle.hexlines.specs.Hexlines.{isHex, spelt}
-use Rattle.hexlines.specs.HexlinesLaws.{Pair, hex-pair, spelt-two, spelt-none, put-cons, put-done}
+use Rattle.hexlines.specs.HexlinesLaws.{Pair, hex-pair, spelt-two, spelt-none, put-done}
 use Rattle.hexlines.proofs.put_spelt.Statement.{statement}
 use Rattle.hexlines.proofs.put_spelt.Tie as tie
 

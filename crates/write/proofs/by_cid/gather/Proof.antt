@@ -1,6 +1,7 @@
 -- `by_cid::gather` meets its contract: the order in the first words, and the FDs of its glyphs behind them.
 use denote.Ref.{now}
-use Rattle.write.specs.CidKeptLaws.{order-asked, fds-asked, gathered}
+use Rattle.write.specs.BothLaws.{order-asked}
+use Rattle.write.specs.CidKeptLaws.{fds-asked, gathered}
 use borrow.Author.Needs.{needs}
 use Rattle.write.proofs.by_cid.gather.Statement.{statement}
 use Rattle.write.proofs.by_cid.gather.Tie as tie
@@ -16,7 +17,7 @@ put-fds-requires c κs =
     let o = c .before .before .before in
     let s = o .before .before .before .before .before in
     let a = s .args in
-    fds-asked (now (a .font)) (a .f) (s .pre .0) (now (a .keep)) (now (a .words)) (s .pre .1) (s .pre .2) (s .pre .3) _ _ (o .put-order .ensures .0) (o .put-order .ensures .1)
+    fds-asked (now (a .font)) (a .f) (s .pre .0) (now (a .keep)) (now (a .words)) (s .pre .3) _ _ (o .put-order .ensures .0) (o .put-order .ensures .1)
 
 same-length : tie.Need-same-length
 same-length c = search needs
@@ -27,7 +28,7 @@ returns c =
     let o = d .before .before .before .before in
     let s = o .before .before .before .before .before in
     let a = s .args in
-    gathered (now (a .font)) (a .f) (s .pre .0) (now (a .keep)) (now (a .words)) (s .pre .1) (s .pre .2) (s .pre .3) _ _ (o .put-order .ensures .0) (o .put-order .ensures .1) _ (d .put-fds .ensures)
+    gathered (now (a .font)) (a .f) (s .pre .0) (now (a .keep)) (now (a .words)) (s .pre .3) _ _ (o .put-order .ensures .0) (o .put-order .ensures .1) _ (d .put-fds .ensures)
 
 pub gather-spec : {M : Type 1} → statement M
 gather-spec = tie.close (tie.spec put-order-requires put-fds-requires same-length returns)

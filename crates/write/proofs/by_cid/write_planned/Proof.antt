@@ -4,7 +4,8 @@ use Rattle.record.specs.Record.{rowsOf}
 use mathlib.Core.Path.{_≡_, refl, _∙_}
 use lib.ListN.{replicate}
 use Rattle.write.specs.Cid.{cidPlaces}
-use Rattle.write.specs.CidPlacesLaws.{held-small, table-room, select-asked, globals-measure, glyphs-measure, sizes-asked, places-asked, places-are, dicts-ready}
+use Rattle.write.specs.CidPlacesLaws.{held-small, table-room, select-asked, places-asked, places-are, dicts-ready}
+use Rattle.write.specs.BothLaws.{globals-measured, glyphs-measured, parts-measured}
 use borrow.Author.Needs.{needs}
 use Rattle.write.proofs.by_cid.write_planned.Statement.{statement}
 use Rattle.write.proofs.by_cid.write_planned.Tie as tie
@@ -38,7 +39,7 @@ part-sizes-requires : tie.Need-part-sizes-requires
 part-sizes-requires c κs =
     let s = c .before .before .before .before .before .before .before .before .before .before .before .before .before .before .before in
     let a = s .args in
-    sizes-asked (now (a .font)) (a .f) (rowsOf (now (a .rows))) (now (a .used)) (now (a .words)) (a .r) (now (a .ats)) (now (a .counts)) (now (a .reacheds)) (s .pre .0) (now (a .totals)) (s .pre .1) (replicate 256 0) (replicate 256 0) (table-room (replicate 256 0) refl) (table-room (replicate 256 0) refl)
+    parts-measured (now (a .font)) (a .f) (rowsOf (now (a .rows))) (now (a .used)) (now (a .words)) (now (a .ats)) (now (a .counts)) (now (a .reacheds)) (a .r) (s .pre .0 .ready) (now (a .totals)) (s .pre .1) 256 256 (table-room (replicate 256 0) refl) (table-room (replicate 256 0) refl)
 
 front-len-requires : tie.Need-front-len-requires
 front-len-requires c κs =
@@ -50,7 +51,7 @@ globals-len-requires : tie.Need-globals-len-requires
 globals-len-requires c κs =
     let s = S (c .before .before .before) in
     let a = s .args in
-    globals-measure (now (a .font)) (a .f) (rowsOf (now (a .rows))) (now (a .used)) (now (a .words)) (a .r) (now (a .ats)) (now (a .counts)) (now (a .reacheds)) (s .pre .0)
+    globals-measured (now (a .font)) (a .f) (rowsOf (now (a .rows))) (now (a .used)) (now (a .words)) (now (a .ats)) (now (a .counts)) (now (a .reacheds)) (a .r) (s .pre .0 .ready)
 
 select-len-requires : tie.Need-select-len-requires
 select-len-requires c κs =
@@ -62,7 +63,7 @@ glyphs-len-requires : tie.Need-glyphs-len-requires
 glyphs-len-requires c κs =
     let s = S (c .before .before .before .before .before) in
     let a = s .args in
-    glyphs-measure (now (a .font)) (a .f) (rowsOf (now (a .rows))) (now (a .used)) (now (a .words)) (a .r) (now (a .ats)) (now (a .counts)) (now (a .reacheds)) (s .pre .0)
+    glyphs-measured (now (a .font)) (a .f) (rowsOf (now (a .rows))) (now (a .used)) (now (a .words)) (now (a .ats)) (now (a .counts)) (now (a .reacheds)) (a .r) (s .pre .0 .ready)
 
 place-parts-requires : tie.Need-place-parts-requires
 place-parts-requires c κs =

@@ -1,6 +1,7 @@
 -- `named::cut_named` meets its contract: the words hold the kept glyphs, their names are given new ids, and where these are few the rest is cut.
 use denote.Ref.{now}
-use Rattle.write.specs.NamedKeptLaws.{order-asked, names-asked, named-refused, prepared-asked, named-cut}
+use Rattle.write.specs.BothLaws.{order-asked}
+use Rattle.write.specs.NamedKeptLaws.{names-asked, named-refused, prepared-asked, named-cut}
 use borrow.Author.Needs.{needs}
 use Rattle.write.proofs.named.cut_named.Statement.{statement}
 use Rattle.write.proofs.named.cut_named.Tie as tie
@@ -18,7 +19,7 @@ N c = c .before .before .before .before
 put-order-requires : tie.Need-put-order-requires
 put-order-requires c κs =
     let s = S c in
-    order-asked _ _ (s .pre .0) (now (s .args .name)) (now (s .args .keep)) (now (s .args .rows)) (s .args .traced) (now (s .args .words)) (s .pre .1)
+    order-asked _ _ (s .pre .0) (now (s .args .keep)) (now (s .args .words)) (s .pre .1 .below) (s .pre .1 .found) (s .pre .1 .room)
 
 slice-aggregate-prepare-named : tie.Need-slice-aggregate-prepare-named
 slice-aggregate-prepare-named c = search needs

@@ -56,7 +56,7 @@ add-charstrings-2 c =
 glyphs-len-requires : tie.Need-glyphs-len-requires
 glyphs-len-requires c κs =
     let g = S (P (F c) .before) .pre .0 in
-    glyphs-measured _ _ _ _ _ _ _ _ _ (g .ready) (omega (arith, g .names .few))
+    glyphs-measured _ _ _ _ _ _ _ _ _ (g .ready)
 
 add-private : tie.Need-add-private
 add-private c =
