@@ -4,5 +4,7 @@ pub mod GatherLaws
 pub mod SlotLaws
 pub mod FdsLaws
 pub mod FoundLaws
+pub mod Hash
+pub mod HashLaws
 pub mod OrderLaws
 pub mod FdsOrderLaws

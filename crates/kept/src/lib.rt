@@ -1,6 +1,7 @@
 // The glyphs that a subset keeps (document 01, 'Layout'): refusals 6 and 7, the order in which they are written, and their FDs.
 pub mod fds;
 pub mod found;
+pub mod names;
 pub mod order;
 
 ghost use mathlib.Core.Path.{_≡_};
