@@ -4,7 +4,7 @@
        cc program.c target/staticlib/libcapi.a
 
    Each function is proved to end without a fault and to answer as crates/capi/specs/Capi.antt and Subset.antt say, whatever the
-   bytes are. None keeps anything from one call to the next or allocates; of other libraries they call memcpy alone.
+   bytes are. None keeps anything from one call to the next or allocates; of other libraries they call memcpy and memset alone.
 
    A slice is a pointer and the number of its elements. What is lent for writing must not overlap what else is lent, and a
    uint16_t, uint32_t or uint64_t must be aligned. Beyond this there is nothing that a caller must keep.

@@ -3,13 +3,17 @@
 /// The answer of finding for a glyph that is absent.
 pub const ABSENT: u64 = 65536;
 
-/// The words of the answers of reading and of subsetting.
+/// The words of the answer of reading: glyphs, global subroutines, strings, 1 for a CID-keyed font, W.
 pub const COUNTS: usize = 5;
+
+/// The words of the answer of subsetting: the way and the length.
 pub const ANSWER: usize = 2;
 
 unsafe extern "C" {
+    /// Reads every font of the set and answers for the first.
     pub fn cff_read(font: *const u8, font_len: usize, answer: *mut u64, answer_len: usize) -> u8;
 
+    /// Finds the first glyph of a name: its number, or `ABSENT`.
     pub fn cff_find_name(
         font: *const u8,
         font_len: usize,
@@ -19,6 +23,7 @@ unsafe extern "C" {
         answer_len: usize,
     ) -> u8;
 
+    /// Finds the first glyph of a CID: its number, or `ABSENT`.
     pub fn cff_find_cid(
         font: *const u8,
         font_len: usize,
@@ -27,6 +32,7 @@ unsafe extern "C" {
         answer_len: usize,
     ) -> u8;
 
+    /// Copies an item to `out` and its length to `size`.
     pub fn cff_item(
         font: *const u8,
         font_len: usize,
@@ -38,9 +44,10 @@ unsafe extern "C" {
         size_len: usize,
     ) -> u8;
 
+    /// The refusal of that lookup, or 0.
     pub fn cff_item_refusal(font: *const u8, font_len: usize, kind: u8, number: u64) -> u8;
 
-    /// Font, new name, kept numbers, record, flag, work words, output, answer: so both entries of subsetting.
+    /// The subset of a name-keyed font: font, new name, kept numbers, record, flag, work words, output, answer.
     pub fn cff_subset(
         font: *const u8,
         font_len: usize,
@@ -59,6 +66,7 @@ unsafe extern "C" {
         answer_len: usize,
     ) -> u8;
 
+    /// The subset of a CID-keyed font.
     pub fn cff_subset_cid(
         font: *const u8,
         font_len: usize,

@@ -7,11 +7,19 @@ use crate::refusal::Refusal;
 /// The longest subset: document 01, refusal 10.
 const LONGEST: usize = 67_108_864;
 
+/// The most work words that `subset` allocates: 128 MiB. A font with as many glyphs, global subroutines and local ones of 256 font
+/// dictionaries as can be numbered takes half of it; W is larger only where more font dictionaries share their subroutines, by which
+/// a font of some kilobytes can ask for gigabytes.
+const MOST_WORDS: u64 = 1 << 25;
+
 /// An item of an INDEX of the font.
 #[derive(Clone, Copy, Debug, PartialEq, Eq)]
 pub enum Item {
+    /// The charstring of a glyph.
     Charstring(u64),
+    /// A global subroutine.
     Global(u64),
+    /// A string of the String INDEX, by its place there and not by its string id.
     String(u64),
 }
 
@@ -26,10 +34,12 @@ pub enum Way {
     Copied,
 }
 
-/// A subset of a font: the bytes of a CFF font, and how its subroutines are pruned.
+/// A subset of a font.
 #[derive(Clone, Debug, PartialEq, Eq)]
 pub struct Subset {
+    /// How its subroutines are pruned.
     pub way: Way,
+    /// The bytes of a CFF font.
     pub bytes: Vec<u8>,
 }
 
@@ -123,41 +133,50 @@ impl<'a> Font<'a> {
             Item::String(number) => (2, number),
         };
         // An item is a part of the font, so that there is room for it in as many bytes.
-        let mut out = vec![0; self.bytes.len()];
+        let mut out = room(self.bytes.len()).ok_or(Refusal::Output)?;
         let mut size = [0];
-        // SAFETY: the slices are lent for the call.
+        // SAFETY: the slices are lent for the call, which only writes to `out`: its first bytes, as many as `size` says.
         let returned = unsafe {
-            ffi::cff_item(
+            let returned = ffi::cff_item(
                 self.bytes.as_ptr(),
                 self.bytes.len(),
                 kind,
                 number,
                 out.as_mut_ptr(),
-                out.len(),
+                out.capacity(),
                 size.as_mut_ptr(),
                 size.len(),
-            )
+            );
+            out.set_len(size[0] as usize);
+            returned
         };
         Refusal::check(returned)?;
-        out.truncate(size[0] as usize);
         out.shrink_to_fit();
         Ok(out)
     }
 
     /// The subset of glyph 0 and the glyphs of the keep list under a new name. The record says which subroutines they
-    /// reach.
+    /// reach. Work words and output are allocated for the call; W above 33,554,432 is refused by [`Refusal::Work`], and
+    /// [`Font::subset_into`] takes as many as the caller lends.
     pub fn subset(&self, name: &[u8], keep: &[u16], record: &Record) -> Result<Subset, Refusal> {
-        let words = usize::try_from(self.work_words()).map_err(|_| Refusal::Work)?;
-        let mut work = vec![0; words];
+        // Without work words the call is refused in document 01's order, by 9 at the latest.
+        let mut work = zeros(self.work_words()).unwrap_or_default();
         // A subset is seldom longer than its font; where it is, it is asked for again with more room.
-        let mut room = (self.bytes.len() + name.len() + 1024).min(LONGEST);
+        let mut wanted = (self.bytes.len() + name.len() + 1024).min(LONGEST);
         loop {
-            let mut out = vec![0; room];
-            match self.subset_into(name, keep, record, &mut work, &mut out) {
-                Err(Refusal::Output) if room < LONGEST => room = (2 * room).min(LONGEST),
+            let mut out = room(wanted).ok_or(Refusal::Output)?;
+            // SAFETY: `out` has room for as many bytes, of which the call only writes the first, as many as it answers.
+            let answer = unsafe {
+                let (at, len) = (out.as_mut_ptr(), out.capacity());
+                self.cut(name, keep, record, &mut work, at, len)
+            };
+            match answer {
+                Err(Refusal::Output) if wanted < LONGEST => wanted = (2 * wanted).min(LONGEST),
                 Err(refusal) => return Err(refusal),
                 Ok((way, length)) => {
-                    out.truncate(length);
+                    // SAFETY: the subset stands in the first bytes.
+                    unsafe { out.set_len(length) };
+                    out.shrink_to_fit();
                     return Ok(Subset { way, bytes: out });
                 }
             }
@@ -165,7 +184,7 @@ impl<'a> Font<'a> {
     }
 
     /// The same in lent memory: the way, and the length of the subset, which stands in the front of the output. A refusal
-    /// leaves the output as it was; the first W work words end as zeros.
+    /// leaves the output as it was; the first W work words end as zeros from [`Refusal::Work`] passed on.
     pub fn subset_into(
         &self,
         name: &[u8],
@@ -173,6 +192,24 @@ impl<'a> Font<'a> {
         record: &Record,
         work: &mut [u32],
         out: &mut [u8],
+    ) -> Result<(Way, usize), Refusal> {
+        // SAFETY: `out` is lent for the call.
+        unsafe { self.cut(name, keep, record, work, out.as_mut_ptr(), out.len()) }
+    }
+
+    /// The entry of the font's keying.
+    ///
+    /// # Safety
+    ///
+    /// From `out` on as many bytes can be written as `out_len` says, and nothing else that is lent lies there.
+    unsafe fn cut(
+        &self,
+        name: &[u8],
+        keep: &[u16],
+        record: &Record,
+        work: &mut [u32],
+        out: *mut u8,
+        out_len: usize,
     ) -> Result<(Way, usize), Refusal> {
         let call = if self.is_cid_keyed() {
             ffi::cff_subset_cid
@@ -194,8 +231,8 @@ impl<'a> Font<'a> {
                 u8::from(record.is_traced()),
                 work.as_mut_ptr(),
                 work.len(),
-                out.as_mut_ptr(),
-                out.len(),
+                out,
+                out_len,
                 answer.as_mut_ptr(),
                 answer.len(),
             )
@@ -208,6 +245,25 @@ impl<'a> Font<'a> {
         };
         Ok((way, answer[1] as usize))
     }
+}
+
+/// An empty list with room for so many bytes, if that is to be had.
+fn room(len: usize) -> Option<Vec<u8>> {
+    let mut bytes = Vec::new();
+    bytes.try_reserve_exact(len).ok()?;
+    Some(bytes)
+}
+
+/// So many work words, unless they are more than are allocated or to be had.
+fn zeros(len: u64) -> Option<Vec<u32>> {
+    if len > MOST_WORDS {
+        return None;
+    }
+    let len = usize::try_from(len).ok()?;
+    let mut words = Vec::new();
+    words.try_reserve_exact(len).ok()?;
+    words.resize(len, 0);
+    Some(words)
 }
 
 /// The glyph that finding answered. The font was read before, so that finding is not refused.

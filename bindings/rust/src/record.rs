@@ -1,29 +1,50 @@
 //! Reach records: document 01, 'Reach record'.
 
+/// The bytes of a row.
+const ROW: usize = 10;
+
 /// A row of a reach record: what an interpreter of the kept glyphs met.
 #[derive(Clone, Copy, Debug, PartialEq, Eq, PartialOrd, Ord, Hash)]
 pub enum Row {
-    /// A local subroutine of a font dictionary (0 in a name-keyed font) that is called.
-    Local { fd: u8, number: u16 },
+    /// A local subroutine that is called.
+    Local {
+        /// Its font dictionary, 0 in a name-keyed font.
+        fd: u8,
+        /// Its number among the local subroutines of that dictionary.
+        number: u16,
+    },
     /// A global subroutine that is called.
-    Global { number: u16 },
-    /// The length of the mask of a hintmask or cntrmask in a glyph, by the operator's offset in its charstring.
+    Global {
+        /// Its number.
+        number: u16,
+    },
+    /// The mask of a hintmask or cntrmask in a glyph.
     GlyphMask {
+        /// The glyph's number.
         glyph: u16,
+        /// The operator's offset in its charstring.
         offset: u32,
+        /// The mask's length in bytes.
         length: u16,
     },
     /// The same in a local subroutine.
     LocalMask {
+        /// As in `Local`.
         fd: u8,
+        /// As in `Local`.
         number: u16,
+        /// The operator's offset in the subroutine.
         offset: u32,
+        /// The mask's length in bytes.
         length: u16,
     },
     /// The same in a global subroutine.
     GlobalMask {
+        /// Its number.
         number: u16,
+        /// The operator's offset in the subroutine.
         offset: u32,
+        /// The mask's length in bytes.
         length: u16,
     },
 }
@@ -54,9 +75,9 @@ impl Row {
     }
 
     /// The ten bytes of the row.
-    pub fn bytes(self) -> [u8; 10] {
+    pub fn bytes(self) -> [u8; ROW] {
         let (kind, fd, number, offset, length) = self.fields();
-        let mut out = [0; 10];
+        let mut out = [0; ROW];
         out[0] = kind;
         out[1] = fd;
         out[2..4].copy_from_slice(&number.to_be_bytes());
@@ -66,7 +87,7 @@ impl Row {
     }
 }
 
-/// What is known of the subroutines that the kept glyphs reach. Rows in rising order are searched fastest.
+/// What is known of the subroutines that the kept glyphs reach.
 #[derive(Clone, Debug, PartialEq, Eq)]
 pub struct Record {
     bytes: Vec<u8>,
@@ -94,8 +115,14 @@ impl Record {
         }
     }
 
-    /// A record as another program wrote it, ten bytes a row. It is checked when it is used.
-    pub fn from_bytes(bytes: Vec<u8>) -> Record {
+    /// A record as another program wrote it, ten bytes a row. It is checked when it is used; whole rows are put in rising
+    /// order, in which they are searched, and which changes no answer.
+    pub fn from_bytes(mut bytes: Vec<u8>) -> Record {
+        if bytes.len().is_multiple_of(ROW) && !bytes.chunks(ROW).is_sorted() {
+            let mut rows: Vec<&[u8]> = bytes.chunks(ROW).collect();
+            rows.sort_unstable();
+            bytes = rows.concat();
+        }
         Record {
             bytes,
             traced: true,

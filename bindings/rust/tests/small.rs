@@ -27,8 +27,18 @@ fn rows_rise_and_stand_once() {
         record.bytes(),
         [1, 0, 1, 2, 0, 0, 0, 0, 0, 0, 3, 3, 0, 1, 0, 1, 0, 0, 0, 2]
     );
+    assert_eq!(
+        Record::from_bytes([mask.bytes(), global.bytes()].concat()),
+        record
+    );
     assert!(record.is_traced());
     assert!(!Record::untraced().is_traced());
+}
+
+/// Bytes that are no rows stay as they are, and are refused when they are used.
+#[test]
+fn no_rows() {
+    assert_eq!(Record::from_bytes(vec![9; 11]).bytes(), [9; 11]);
 }
 
 #[test]

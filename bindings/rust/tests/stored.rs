@@ -1,6 +1,6 @@
 //! The stored cases of the gate (crates/replay/data), answered through this crate.
 
-use mogdivash::{Font, Record, Refusal, Way};
+use mogdivash::{Font, Item, Record, Refusal, Way};
 use std::fs;
 
 /// Takes bytes and numbers from the front of a field.
@@ -44,8 +44,17 @@ fn lines(file: &str) -> Vec<(String, Fields, Fields)> {
         .collect()
 }
 
+/// The item that a stored case asks for, by its kind and number.
+fn item(kind: usize, number: u64) -> Item {
+    match kind {
+        0 => Item::Charstring(number),
+        1 => Item::Global(number),
+        _ => Item::String(number),
+    }
+}
+
 #[test]
-fn reading_and_finding() {
+fn reading_finding_and_items() {
     let mut asked = 0;
     for (kind, mut input, mut answer) in lines("cff") {
         let length = input.number(2);
@@ -69,11 +78,17 @@ fn reading_and_finding() {
             }
             "N" => assert_eq!(answer.rest(), found(font.find_name(input.rest()))),
             "C" => assert_eq!(answer.rest(), found(font.find_cid(input.number(2) as u16))),
-            _ => continue,
+            _ => {
+                let wanted = item(input.number(1), input.number(4) as u64);
+                match font.item(wanted) {
+                    Err(given) => assert_eq!(Some(given), refusal),
+                    Ok(bytes) => assert_eq!((refusal, answer.rest()), (None, &bytes[..])),
+                }
+            }
         }
         asked += 1;
     }
-    assert!(asked > 500, "{asked} cases of fonts that are read");
+    assert!(asked > 1000, "{asked} cases of fonts that are read");
 }
 
 #[test]

@@ -1,10 +1,10 @@
-//! The growth of our time: with the glyphs of a font, with those that are kept, and with the rows of a record. The fonts are subsets of
-//! the one with the most glyphs.
+//! The growth of our time: with the glyphs of a font, with those that are kept, and with the rows of a record, the fonts being subsets of
+//! the one with the most glyphs; and with the names of glyphs, in fonts that are made.
 
 use crate::cff::CffProgram;
 use crate::measure::least;
 use crate::record::ROW;
-use crate::{original, ours, sheet};
+use crate::{names, original, ours, sheet};
 use mogdivash::{Font, Record};
 
 /// The first so many of a list.
@@ -52,6 +52,8 @@ pub fn print(fonts: &[(String, Vec<u8>)]) {
     by_glyphs(bytes, &keep);
     by_kept(bytes, &program, &keep);
     by_rows(bytes, &program, &keep);
+    by_names("Names, all kept", names::usual);
+    by_names("Names that share one hash, all kept", names::alike);
 }
 
 fn by_glyphs(bytes: &[u8], keep: &[u16]) {
@@ -74,22 +76,34 @@ fn by_kept(bytes: &[u8], program: &CffProgram, keep: &[u16]) {
     }
 }
 
+/// A row of a mask in a glyph.
+const GLYPH_MASK: u8 = 2;
+
 fn by_rows(bytes: &[u8], program: &CffProgram, keep: &[u16]) {
     heading("Rows of the record, 75 glyphs kept", "rows");
     let letters = sheet::letters(program);
     let own = original::record(program, &letters);
     let all = original::record(program, keep);
-    for n in sizes(all.bytes().len() / ROW) {
-        // The letters' own rows, and the first of all others, in rising order.
-        let mut chosen: Vec<&[u8]> = own
-            .bytes()
-            .chunks(ROW)
-            .chain(all.bytes().chunks(ROW).take(n))
-            .collect();
-        chosen.sort_unstable();
-        chosen.dedup();
-        let record = Record::from_bytes(chosen.concat());
+    // Rows of masks in glyphs that are not kept are passed over, so that the subset stays as it is.
+    let kept = original::glyphs(&letters);
+    let glyph = |row: &[u8]| u16::from_be_bytes([row[2], row[3]]);
+    let others: Vec<&[u8]> = (all.bytes().chunks(ROW))
+        .filter(|row| row[0] == GLYPH_MASK && !kept.contains(&glyph(row)))
+        .collect();
+    for n in sizes(others.len()) {
+        let rows = own.bytes().chunks(ROW).chain(others[..n].iter().copied());
+        let record = Record::from_bytes(rows.collect::<Vec<&[u8]>>().concat());
         let (time, subset) = cut(bytes, &letters, &record);
-        line(chosen.len(), time, subset.len());
+        line(record.bytes().len() / ROW, time, subset.len());
+    }
+}
+
+fn by_names(title: &str, made: fn(usize) -> Vec<Vec<u8>>) {
+    heading(title, "glyphs");
+    for n in sizes(names::MOST) {
+        let font = names::font(&made(n - 1));
+        let keep: Vec<u16> = (0..n as u16).collect();
+        let (time, subset) = cut(&font, &keep, &Record::untraced());
+        line(n, time, subset.len());
     }
 }

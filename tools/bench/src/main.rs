@@ -3,6 +3,7 @@
 mod growth;
 mod harfbuzz;
 mod measure;
+mod names;
 mod original;
 mod ours;
 mod sheet;

@@ -1,0 +1,99 @@
+/* Cuts a bare CFF font down to glyph 0 and the glyphs that are named by their numbers.
+
+       subset_glyphs FONT NAME OUTPUT GLYPH...
+
+   All subroutines are copied: the glyphs are not traced. */
+
+#include <stdio.h>
+#include <stdlib.h>
+#include <string.h>
+
+#include "mogdivash.h"
+
+/* The most work words that are allocated, 128 MiB: a small font can ask for gigabytes. */
+#define MOST_WORDS (UINT64_C(1) << 25)
+
+static void fail(const char *what)
+{
+    fprintf(stderr, "subset_glyphs: %s\n", what);
+    exit(1);
+}
+
+static void *allocated(size_t bytes)
+{
+    void *room = malloc(bytes == 0 ? 1 : bytes);
+    if (room == NULL)
+        fail("no memory");
+    return room;
+}
+
+/* The bytes of a file, of which one more than the longest font are enough to be refused. */
+static uint8_t *file_bytes(const char *path, size_t *len)
+{
+    const size_t most = 67108865;
+    uint8_t *bytes = allocated(most);
+    FILE *file = fopen(path, "rb");
+    if (file == NULL)
+        fail("the font cannot be opened");
+    *len = fread(bytes, 1, most, file);
+    if (ferror(file))
+        fail("the font cannot be read");
+    fclose(file);
+    return bytes;
+}
+
+static void write_file(const char *path, const uint8_t *bytes, size_t len)
+{
+    FILE *file = fopen(path, "wb");
+    if (file == NULL || fwrite(bytes, 1, len, file) != len || fclose(file) != 0)
+        fail("the subset cannot be written");
+}
+
+static void check(uint8_t refusal)
+{
+    if (refusal != 0) {
+        fprintf(stderr, "subset_glyphs: refused by %d\n", refusal);
+        exit(1);
+    }
+}
+
+int main(int argc, char **argv)
+{
+    if (argc < 4)
+        fail("usage: subset_glyphs FONT NAME OUTPUT GLYPH...");
+    size_t font_len;
+    uint8_t *font = file_bytes(argv[1], &font_len);
+    uint64_t counts[CFF_COUNTS];
+    check(cff_read(font, font_len, counts, CFF_COUNTS));
+
+    size_t keep_len = (size_t)argc - 4;
+    uint16_t *keep = allocated(keep_len * sizeof *keep);
+    for (size_t k = 0; k < keep_len; k++) {
+        unsigned long glyph = strtoul(argv[4 + k], NULL, 10);
+        if (glyph >= counts[CFF_GLYPHS])
+            check(CFF_NO_SUCH_NUMBER);
+        keep[k] = (uint16_t)glyph;
+    }
+
+    if (counts[CFF_WORK] > MOST_WORDS)
+        check(CFF_WORK_WORDS);
+    size_t work_len = (size_t)counts[CFF_WORK];
+    uint32_t *work = allocated(work_len * sizeof *work);
+    /* No subset is longer than 67,108,864 bytes. */
+    size_t out_len = 67108864;
+    uint8_t *out = allocated(out_len);
+    uint64_t answer[CFF_SUBSET_WORDS];
+    uint8_t (*cut)(const uint8_t *, size_t, const uint8_t *, size_t, const uint16_t *, size_t, const uint8_t *, size_t, uint8_t,
+                   uint32_t *, size_t, uint8_t *, size_t, uint64_t *, size_t) = counts[CFF_CID] ? cff_subset_cid : cff_subset;
+    check(cut(font, font_len, (const uint8_t *)argv[2], strlen(argv[2]), keep, keep_len, (const uint8_t *)"", 0, 0, work, work_len,
+              out, out_len, answer, CFF_SUBSET_WORDS));
+
+    write_file(argv[3], out, (size_t)answer[CFF_LENGTH]);
+    printf("%zu of %llu glyphs kept, %llu of %zu bytes, way %llu\n", keep_len, (unsigned long long)counts[CFF_GLYPHS],
+           (unsigned long long)answer[CFF_LENGTH], font_len, (unsigned long long)answer[CFF_WAY]);
+    free(out);
+    free(work);
+    free(keep);
+    free(font);
+    return 0;
+}

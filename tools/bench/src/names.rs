@@ -1,0 +1,104 @@
+//! Name-keyed fonts that are made: with names as fonts have them, and with names that share one hash of the library's (crates/kept,
+//! `Hash`), which a font made to take long would have.
+
+use std::collections::HashMap;
+
+/// The most glyphs with names of their own: ids from 391 to 64,999, and glyph 0.
+pub const MOST: usize = 64_610;
+
+/// `uni` and four digits, as many fonts name their glyphs.
+pub fn usual(count: usize) -> Vec<Vec<u8>> {
+    (0..count)
+        .map(|k| format!("uni{k:04X}").into_bytes())
+        .collect()
+}
+
+/// The library's hash of a name.
+fn hash(name: &[u8]) -> u32 {
+    name.iter().fold(0, |h: u32, &b| {
+        h.wrapping_add(u32::from(b)).wrapping_mul(16_777_619)
+    })
+}
+
+/// The k-th of some words of six letters.
+fn word(k: u64) -> Vec<u8> {
+    let mut rest = k.wrapping_mul(0x9e37_79b9_7f4a_7c15) >> 16;
+    (0..6)
+        .map(|_| {
+            let letter = b'a' + (rest % 26) as u8;
+            rest /= 26;
+            letter
+        })
+        .collect()
+}
+
+/// Two words of one length and one hash: either may stand for the other in any name.
+fn twins() -> [Vec<u8>; 2] {
+    let mut seen = HashMap::new();
+    for k in 0.. {
+        let new = word(k);
+        if let Some(old) = seen.insert(hash(&new), new.clone())
+            && old != new
+        {
+            return [old, new];
+        }
+    }
+    unreachable!("there are fewer hashes than words")
+}
+
+/// Names of sixteen words, each one of two that share a hash.
+pub fn alike(count: usize) -> Vec<Vec<u8>> {
+    let twins = twins();
+    (0..count)
+        .map(|k| {
+            (0..16)
+                .flat_map(|bit| twins[k >> bit & 1].clone())
+                .collect()
+        })
+        .collect()
+}
+
+/// An INDEX.
+fn index(items: &[&[u8]]) -> Vec<u8> {
+    let mut out = (items.len() as u16).to_be_bytes().to_vec();
+    let mut end = 1_u32;
+    out.push(4);
+    out.extend(end.to_be_bytes());
+    for item in items {
+        end += item.len() as u32;
+        out.extend(end.to_be_bytes());
+    }
+    out.extend(items.concat());
+    out
+}
+
+/// A name-keyed font: glyph 0, and a glyph of one byte for each name.
+pub fn font(names: &[Vec<u8>]) -> Vec<u8> {
+    let top = |charset: usize, charstrings: usize| {
+        let mut out = vec![29];
+        out.extend((charset as u32).to_be_bytes());
+        out.extend([15, 29]);
+        out.extend((charstrings as u32).to_be_bytes());
+        out.push(17);
+        out
+    };
+    let strings: Vec<&[u8]> = names.iter().map(Vec::as_slice).collect();
+    let front = |top: &[u8]| {
+        let globals = [0, 0];
+        [
+            &[1, 0, 4, 4],
+            &index(&[b"Made"])[..],
+            &index(&[top]),
+            &index(&strings),
+            &globals,
+        ]
+        .concat()
+    };
+    let charset = front(&top(0, 0)).len();
+    // Format 2: one range from id 391 on.
+    let mut range = vec![2, 391_u16.to_be_bytes()[0], 391_u16.to_be_bytes()[1]];
+    range.extend((names.len() as u16 - 1).to_be_bytes());
+    let charstrings = index(&vec![&[14_u8][..]; names.len() + 1]);
+    let top = top(charset, charset + range.len());
+    [front(&top), range, charstrings].concat()
+}
