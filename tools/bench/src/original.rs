@@ -37,6 +37,13 @@ pub fn cut(font: &[u8], name: &[u8], kept: &Kept) -> Vec<u8> {
     .expect("a subset")
 }
 
+/// `parse`, then `gid` for each name.
+pub fn find(font: &[u8], names: &[String]) -> Vec<Option<u16>> {
+    let program = CffProgram::parse(font).expect("a font that is read");
+    let find = |name: &String| program.gid(name.as_bytes());
+    names.iter().map(find).collect()
+}
+
 /// The rows that the kept glyphs reach, rising; none where one cannot be traced.
 pub fn record(program: &CffProgram, keep: &[u16]) -> mogdivash::Record {
     match record::of_glyphs(program, &glyphs(keep)) {

@@ -10,3 +10,10 @@ pub fn cut(bytes: &[u8], keep: &[u16], record: &Record) -> Vec<u8> {
     let font = Font::read(bytes).expect("a font that is read");
     font.subset(NAME, keep, record).expect("a subset").bytes
 }
+
+/// `Font::read`, then `Font::find_name` for each name.
+pub fn find(bytes: &[u8], names: &[String]) -> Vec<Option<u16>> {
+    let font = Font::read(bytes).expect("a font that is read");
+    let find = |name: &String| font.find_name(name.as_bytes());
+    names.iter().map(find).collect()
+}

@@ -3,7 +3,7 @@
 use crate::cff::CffProgram;
 
 /// Names of the glyphs of a result sheet: letters, digits and signs, 75 in all.
-fn names() -> Vec<String> {
+pub fn names() -> Vec<String> {
     let letters = ('A'..='Z').chain('a'..='z').map(String::from);
     let words = "zero one two three four five six seven eight nine space period comma hyphen colon parenleft parenright \
                  quoteright slash plus aacute eacute odieresis";

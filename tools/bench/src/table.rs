@@ -53,6 +53,10 @@ fn row(name: &str, bytes: &[u8], program: &CffProgram, t: &Times) {
     );
 }
 
+fn smallest(ratios: &[f64]) -> f64 {
+    ratios.iter().copied().fold(f64::INFINITY, f64::min)
+}
+
 /// How often our time goes into theirs, over all fonts.
 fn summary(all: &[Times]) {
     let ratios: Vec<f64> = all.iter().map(|t| t.theirs / t.ours).collect();
@@ -64,7 +68,6 @@ fn summary(all: &[Times]) {
         .iter()
         .filter_map(|t| Some(t.harfbuzz? / t.ours))
         .collect();
-    let smallest = |ratios: &[f64]| ratios.iter().copied().fold(f64::INFINITY, f64::min);
     println!(
         "\n{} fonts. The original's time over ours: geometric mean {:.2}, least {:.2}; without its trace: mean {:.2}.",
         all.len(),
@@ -82,7 +85,41 @@ fn summary(all: &[Times]) {
     println!();
 }
 
-/// Two tables, by the glyphs that are kept.
+/// The sheet's letters found by name: read once, and then a call for each name. Every call of ours reads the font itself.
+fn finding(fonts: &[(String, Vec<u8>)]) {
+    let names = sheet::names();
+    let mut ratios = Vec::new();
+    println!("## The names of a result sheet found\n");
+    println!("| font | bytes | glyphs | ours | Rust | Rust / ours |\n|---|---|---|---|---|---|");
+    for (name, bytes) in fonts {
+        let Ok(program) = CffProgram::parse(bytes) else {
+            continue;
+        };
+        if program.is_cid_keyed() {
+            continue;
+        }
+        let (ours, given) = least(|| ours::find(bytes, &names));
+        let (theirs, wanted) = least(|| original::find(bytes, &names));
+        assert!(given == wanted, "the glyphs differ");
+        let glyphs = program.charset().len();
+        let ratio = theirs / ours;
+        println!(
+            "| {name} | {} | {glyphs} | {ours:.0} | {theirs:.0} | {ratio:.2} |",
+            bytes.len()
+        );
+        ratios.push(ratio);
+    }
+    if !ratios.is_empty() {
+        println!(
+            "\n{} fonts. The original's time over ours: geometric mean {:.2}, least {:.2}.",
+            ratios.len(),
+            mean(&ratios),
+            smallest(&ratios)
+        );
+    }
+}
+
+/// Two tables, by the glyphs that are kept, and one of finding.
 pub fn print(fonts: &[(String, Vec<u8>)]) {
     type Keep = fn(&CffProgram) -> Vec<u16>;
     let amounts: [(&str, Keep); 2] = [
@@ -108,4 +145,5 @@ pub fn print(fonts: &[(String, Vec<u8>)]) {
         }
         summary(&all);
     }
+    finding(fonts);
 }
