@@ -52,7 +52,7 @@ pub fn print(fonts: &[(String, Vec<u8>)]) {
     by_glyphs(bytes, &keep);
     by_kept(bytes, &program, &keep);
     by_rows(bytes, &program, &keep);
-    by_names("Names, all kept", names::usual);
+    by_names("Names, all kept", usual);
     by_names("Names that share one hash, all kept", names::alike);
 }
 
@@ -98,9 +98,18 @@ fn by_rows(bytes: &[u8], program: &CffProgram, keep: &[u16]) {
     }
 }
 
+/// The most glyphs with names of their own: ids from 391 to 64,999, and glyph 0.
+const MOST_NAMES: usize = 64_610;
+
+/// `uni` and four digits, as many fonts name their glyphs.
+fn usual(count: usize) -> Vec<Vec<u8>> {
+    let name = |k| format!("uni{k:04X}").into_bytes();
+    (0..count).map(name).collect()
+}
+
 fn by_names(title: &str, made: fn(usize) -> Vec<Vec<u8>>) {
     heading(title, "glyphs");
-    for n in sizes(names::MOST) {
+    for n in sizes(MOST_NAMES) {
         let font = names::font(&made(n - 1));
         let keep: Vec<u16> = (0..n as u16).collect();
         let (time, subset) = cut(&font, &keep, &Record::untraced());

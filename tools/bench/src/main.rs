@@ -3,7 +3,6 @@
 mod growth;
 mod harfbuzz;
 mod measure;
-mod names;
 mod original;
 mod ours;
 mod sheet;
@@ -16,6 +15,8 @@ mod table;
 mod cff;
 include!("../../oracle/src/siblings.rs");
 
+#[path = "../../compare/src/names.rs"]
+mod names;
 #[allow(dead_code)]
 #[path = "../../compare/src/record.rs"]
 mod record;

@@ -8,27 +8,32 @@ use crate::fonts;
 use crate::generator::Generator;
 use crate::layout::{Num, Part, SOUND, entry, one_font, place};
 use crate::model::LONGEST;
+use crate::names;
 use crate::numbers::Form;
 
 /// A name-keyed font of `own` glyphs with names of their own, beside glyph 0.
-pub fn names(own: usize) -> Vec<u8> {
+pub fn own_names(own: usize) -> Vec<u8> {
     // Of many lengths: the original compares each with all before it.
-    let strings = (0..own)
+    let texts: Vec<Vec<u8>> = (0..own)
         .map(|k| {
             let mut text = vec![0xff; 1 + k % 61];
             text.extend_from_slice(&(k as u16).to_be_bytes());
-            Part::Bytes(text)
+            text
         })
         .collect();
-    let charset: Vec<u8> = [
-        &[2][..],
-        &391u16.to_be_bytes(),
-        &(own as u16 - 1).to_be_bytes(),
-    ]
-    .concat();
-    let top = vec![entry(vec![place(5)], &[17]), entry(vec![place(6)], &[15])];
-    let charstrings = Part::Index(SOUND, vec![Part::Bytes(vec![14]); own + 1]);
-    one_font(top, strings, vec![charstrings, Part::Bytes(charset)])
+    names::font(&texts)
+}
+
+/// How many names of one hash differ; three more stand twice.
+const ALIKE: u16 = 3000;
+
+/// A name-keyed font with names that share one hash, the last three of which are those of glyphs 1, 1,500 and 3,000.
+fn alike_names() -> Vec<u8> {
+    let mut texts = names::alike(usize::from(ALIKE));
+    for glyph in [1, ALIKE / 2, ALIKE] {
+        texts.push(texts[usize::from(glyph) - 1].clone());
+    }
+    names::font(&texts)
 }
 
 /// A CID-keyed font of `fds` glyphs, each with an FD of its own; the FDs share a Private with one subroutine of `length`
@@ -65,7 +70,8 @@ pub type Ask = fn(&mut Generator, &Opened<'_>) -> Vec<Cut>;
 pub fn fonts(seed: u64) -> Vec<(Case, Ask)> {
     let mut g = Generator::new(seed);
     let mut list: Vec<(&'static str, Vec<u8>, Ask)> = vec![
-        ("64,610 own strings", names(64_610), all_but_last),
+        ("64,610 own strings", own_names(64_610), all_but_last),
+        ("names of one hash", alike_names(), with_repeats),
         (
             "subset of 67,108,864 bytes",
             shared(250, 268_250),
@@ -116,6 +122,21 @@ fn all_but_last(_: &mut Generator, _: &Opened<'_>) -> Vec<Cut> {
     [64_610, 64_609]
         .map(|last| copied(false, vec![b'B'], (1..=last).collect()))
         .to_vec()
+}
+
+/// All glyphs whose names differ, each of the others with them and alone, and some at random with and without one of these.
+fn with_repeats(g: &mut Generator, _: &Opened<'_>) -> Vec<Cut> {
+    let differ: Vec<u16> = (1..=ALIKE).collect();
+    let mut keeps = vec![differ.clone()];
+    for repeat in ALIKE + 1..=ALIKE + 3 {
+        keeps.push([&differ[..], &[repeat]].concat());
+        keeps.push(vec![repeat]);
+        let some: Vec<u16> = differ.iter().copied().filter(|_| g.once_in(3)).collect();
+        keeps.push([&some[..], &[repeat]].concat());
+        keeps.push(some);
+    }
+    let cut = |keep| copied(false, vec![b'A'], keep);
+    keeps.into_iter().map(cut).collect()
 }
 
 /// All glyphs, with names so long that the subset has the most bytes there may be, and one more, and some more.

@@ -25,6 +25,7 @@ mod hooked;
 mod layout;
 mod library;
 mod model;
+mod names;
 mod numbers;
 mod opentype;
 mod original;

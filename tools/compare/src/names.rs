@@ -1,17 +1,7 @@
-//! Name-keyed fonts that are made: with names as fonts have them, and with names that share one hash of the library's (crates/kept,
-//! `Hash`), which a font made to take long would have.
+//! Name-keyed fonts with given names, and names that share one hash of the library's (crates/kept, `Hash`), as a font made to take
+//! long would have them.
 
 use std::collections::HashMap;
-
-/// The most glyphs with names of their own: ids from 391 to 64,999, and glyph 0.
-pub const MOST: usize = 64_610;
-
-/// `uni` and four digits, as many fonts name their glyphs.
-pub fn usual(count: usize) -> Vec<Vec<u8>> {
-    (0..count)
-        .map(|k| format!("uni{k:04X}").into_bytes())
-        .collect()
-}
 
 /// The library's hash of a name.
 fn hash(name: &[u8]) -> u32 {
@@ -20,14 +10,14 @@ fn hash(name: &[u8]) -> u32 {
     })
 }
 
-/// The k-th of some words of six letters.
+/// The k-th of some words of six printable characters.
 fn word(k: u64) -> Vec<u8> {
     let mut rest = k.wrapping_mul(0x9e37_79b9_7f4a_7c15) >> 16;
     (0..6)
         .map(|_| {
-            let letter = b'a' + (rest % 26) as u8;
-            rest /= 26;
-            letter
+            let character = b'!' + (rest % 94) as u8;
+            rest /= 94;
+            character
         })
         .collect()
 }
@@ -35,7 +25,7 @@ fn word(k: u64) -> Vec<u8> {
 /// Two words of one length and one hash: either may stand for the other in any name.
 fn twins() -> [Vec<u8>; 2] {
     let mut seen = HashMap::new();
-    for k in 0.. {
+    for k in 0..10_000_000 {
         let new = word(k);
         if let Some(old) = seen.insert(hash(&new), new.clone())
             && old != new
@@ -43,7 +33,7 @@ fn twins() -> [Vec<u8>; 2] {
             return [old, new];
         }
     }
-    unreachable!("there are fewer hashes than words")
+    panic!("no two of ten million words share a hash")
 }
 
 /// Names of sixteen words, each one of two that share a hash.
