@@ -86,7 +86,7 @@ fn is_stem(op: u8) -> bool
 }
 
 // The stems after an operator.
-fn stems_after(op: u8, args: usize, stems: usize) -> usize
+pub fn stems_after(op: u8, args: usize, stems: usize) -> usize
     requires { ⌜ stems + args < 18446744073709551616 ⌝ }
     ensures { λ r. ⌜ r ≡ stemsAfter op args stems ⌝ }
 {

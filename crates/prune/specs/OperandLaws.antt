@@ -27,12 +27,12 @@ keep-whole k h =
     one-count (round binary32 false (k * 65536) 65536) false (keep24 (k * 65536)) (k * 65536) (keep-val false (k * 65536) (omega arith)) v
 
 -- a - b, up from 0 and down
-whole-up : (a b : ℕ) → b ≤ a → whole a b ≡ pos ((a - b) * 65536)
+pub whole-up : (a b : ℕ) → b ≤ a → whole a b ≡ pos ((a - b) * 65536)
 whole-up a b h =
     let e : a * 65536 - b * 65536 ≡ (a - b) * 65536 = omega arith in
     rw (le-leb (b * 65536) (a * 65536) (omega arith)) (ap pos e)
 
-whole-down : (a b m : ℕ) → suc m ≡ (b - a) * 65536 → whole a b ≡ negsuc m
+pub whole-down : (a b m : ℕ) → suc m ≡ (b - a) * 65536 → whole a b ≡ negsuc m
 whole-down a b m h =
     let e : b * 65536 - a * 65536 ≡ suc m = omega arith in
     rw (lt-leb (b * 65536) (a * 65536) (omega arith)) (ap (λ (n : ℕ). negℤ (pos n)) e)
@@ -50,7 +50,7 @@ reading-down k m h e =
     let f : keep24 (suc m) ≡ suc m = ap keep24 e ∙ keep-whole k h ∙ sym e in
     record { small = omega arith; kept = ap (λ (n : ℕ). negℤ (pos n)) f }
 
-whole-reading : (a b : ℕ) → a ≤ b + 32768 → b ≤ a + 32768 → Reading (whole a b)
+pub whole-reading : (a b : ℕ) → a ≤ b + 32768 → b ≤ a + 32768 → Reading (whole a b)
 whole-reading a b h k = go (decLe b a)
   where
     go : Dec (b ≤ a) → Reading (whole a b)

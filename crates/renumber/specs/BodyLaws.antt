@@ -66,7 +66,7 @@ pub held-few : (h : Held) → heldLen h ≤ 5
 held-few Nothing = omega arith
 held-few (Number v) = number-short (isNeg (scaledOf v)) (mag (scaledOf v)) .few
 
-held-most : (h : Held) → heldLen h ≤ heldMost h
+pub held-most : (h : Held) → heldLen h ≤ heldMost h
 held-most Nothing = omega arith
 held-most (Number v) = held-few (Number v)
 
@@ -111,7 +111,7 @@ module _ (calls : Calls) (reads : (b : ℕ) (z y : ℤ) → calls b z ≡ become
   turning-start = record { read = []; walk = walk-start given s b; held = tt; carries = λ ts. ahead-none (renumber calls nobody ts) }
 
   -- what was written is no longer than the whole
-  sent-within : (c : Cursor) (h : Held) (sent : List Tok) → Turning calls given s c h sent → (bs : List ℕ)
+  pub sent-within : (c : Cursor) (h : Held) (sent : List Tok) → Turning calls given s c h sent → (bs : List ℕ)
       → renumberedTokens calls (tokensOf given s) ≡ bytes bs → length (encode sent) ≤ length bs
   sent-within c h sent w bs e = go (tokensFrom (fuelOf s c) given s c) (ap (renumberedTokens calls) (sym (w .walk .rest)) ∙ e)
     where
@@ -147,7 +147,7 @@ module _ (calls : Calls) (reads : (b : ℕ) (z y : ℤ) → calls b z ≡ become
       after-read : (t : Token) (ts : List Tok) → renumber calls nobody ((w .read ++ (told s t ∷ [])) ++ ts) ≡ ahead sent (renumber calls (waitingIn h) (told s t ∷ ts))
       after-read t ts = ap (renumber calls nobody) (append-assoc (w .read) (told s t ∷ []) ts) ∙ w .carries (told s t ∷ ts)
 
-      turning-turn : (v : Held) (t : Token) (d : Cursor) → r ≡ On v t d → Turning calls given s d (after t) (sent ++ sentToks s v t)
+      pub turning-turn : (v : Held) (t : Token) (d : Cursor) → r ≡ On v t d → Turning calls given s d (after t) (sent ++ sentToks s v t)
       turning-turn v t d f =
           let o = onward v t d f in
           record {

@@ -7,3 +7,7 @@ pub mod OperandLaws
 pub mod CodeLaws
 pub mod RanksLaws
 pub mod HoldsLaws
+pub mod Run
+pub mod ShortLaws
+pub mod RunLaws
+pub mod RunBodyLaws

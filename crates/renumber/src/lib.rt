@@ -1,10 +1,11 @@
 // One charstring or subroutine renumbered in place (the Rust's renumber_charstring; document 01, 'Corners in write.rs'): measured first,
 // then written. The new numbers of subroutines stand in the work words, as ranks. A number token is held back until the next token is read.
+pub mod runs;
 pub mod turns;
 
 ghost use mathlib.Core.Path.{_≡_};
 ghost use mathlib.Core.Bool.{true};
-ghost use Prim.Native.Nat.{_+_, _≤_, _<_};
+ghost use Prim.Native.Nat.{_+_, _-_, _≤_, _<_};
 ghost use lib.ListN.{length};
 ghost use Rattle.octets.specs.Octets.{Wrote};
 ghost use Rattle.charstring.specs.Token.{more, tokenAt};
@@ -15,6 +16,9 @@ ghost use Rattle.subset.specs.Pruned.{whole, renumberedBody};
 ghost use Rattle.reach.specs.Reach.{siteOf, SiteFits, rises};
 ghost use Rattle.renumber.specs.Ranks.{callsBy};
 ghost use Rattle.renumber.specs.Turn.{HoldsHeld, cursor, turnedAt, heldBytes, ownBytes, sentBytes, heldLen, ownLen, Inputs, sizedOf, bodyOf, isYes};
+ghost use Rattle.renumber.specs.Run.{runBytes};
+use crate::runs::held_at;
+use crate::runs::run_at;
 use crate::turns::Held;
 use crate::turns::Turn;
 use crate::turns::after;
@@ -100,6 +104,23 @@ fn put_sent(code: &[u8], h: Held, t: Token, out: &mut [u8], at: usize) -> usize
 {
     let p = put_held(h, &mut *out, at);
     put_own(code, t, out, p)
+}
+
+// How many bytes are written at a run: the number that was held, and the run up to the number that it holds back.
+fn run_len(h: Held, from: usize, last: usize) -> usize
+    requires { ⌜ (HoldsHeld h) × (from ≤ last) × (last ≤ 67108864) ⌝ }
+    ensures { λ r. ⌜ r ≡ heldLen h + (last - from) ⌝ }
+{
+    held_len(h) + (last - from)
+}
+
+// The number that was held and then the bytes of a body between two places, from `at` on; the place after them.
+fn put_run(code: &[u8], h: Held, from: usize, last: usize, out: &mut [u8], at: usize) -> usize
+    requires { ⌜ (HoldsHeld h) × (from ≤ last) × (last ≤ length (now code)) × (at + length (runBytes (now code) h from last) ≤ length (now out)) ⌝ }
+    ensures { λ r. ⌜ Wrote (now (out .entry)) at (runBytes (now (code .entry)) h from last) (now (out .exit)) r ⌝ }
+{
+    let p = put_held(h, &mut *out, at);
+    octets::put_bytes(out, p, &code[from..last])
 }
 
 // The length to pass on for the token at a cursor: the record's for the mask that is due.
@@ -191,6 +212,18 @@ fn body_len(
     let mut h = Held::Nothing;
     let mut len: usize = 0;
     while more(code, c) {
+        let run = run_at(code, c.at, c.args, c.stems, c.due);
+        if c.at < run.at {
+            len += run_len(h, c.at, run.last);
+            h = held_at(code, run.last, run.at);
+            c = Cursor {
+                at: run.at,
+                args: run.args,
+                stems: run.stems,
+                due: false,
+            };
+            continue;
+        }
         match turn_at(
             code,
             words,
@@ -270,6 +303,18 @@ pub fn put_renumbered(
     let mut h = Held::Nothing;
     let mut p = at;
     while more(code, c) {
+        let run = run_at(code, c.at, c.args, c.stems, c.due);
+        if c.at < run.at {
+            p = put_run(code, h, c.at, run.last, &mut *out, p);
+            h = held_at(code, run.last, run.at);
+            c = Cursor {
+                at: run.at,
+                args: run.args,
+                stems: run.stems,
+                due: false,
+            };
+            continue;
+        }
         match turn_at(
             code,
             words,

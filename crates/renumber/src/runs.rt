@@ -1,0 +1,140 @@
+// Runs of plain tokens: most of a body is numbers and operators that are written as they were read, so they are passed over byte by byte
+// and taken at once.
+ghost use mathlib.Core.Path.{_≡_};
+ghost use mathlib.Core.Bool.{false};
+ghost use Prim.Native.Nat.{_≤_, _<_};
+ghost use lib.ListN.{length};
+ghost use Rattle.charstring.specs.Answers.{Within};
+ghost use Rattle.renumber.specs.Turn.{cursor};
+ghost use Rattle.renumber.specs.Run.{isPlain, plainLen, heldIn, RunFrom};
+use crate::turns::Held;
+use charstring::stems_after;
+use type2_number::Number;
+use type2_number::read_number;
+
+// A run of plain tokens: where reading stands after it, and where its last number starts; that is the same place where it ends in an operator.
+pub struct Run {
+    pub at: usize,
+    pub last: usize,
+    pub args: usize,
+    pub stems: usize,
+}
+
+// Whether a byte below 32 is an operator by itself and no call, no escape, no mask's operator and no number.
+fn is_plain(b: u8) -> bool
+    ensures { λ r. ⌜ r ≡ isPlain b ⌝ }
+{
+    if b == 10 {
+        return false;
+    }
+    if b == 12 {
+        return false;
+    }
+    if b == 19 {
+        return false;
+    }
+    if b == 20 {
+        return false;
+    }
+    if b == 28 {
+        return false;
+    }
+    if b == 29 {
+        return false;
+    }
+    true
+}
+
+// How many bytes the plain token at a place has, 0 where there is none.
+fn plain_len(code: &[u8], at: usize) -> usize
+    requires { ⌜ at < length (now code) ⌝ }
+    ensures { λ r. ⌜ r ≡ plainLen (now (code .entry)) at ⌝ }
+{
+    let v = code[at];
+    if v < 32 {
+        if is_plain(v) {
+            return 1;
+        }
+        return 0;
+    }
+    if v < 247 {
+        return 1;
+    }
+    if v < 255 {
+        if code.len() - at < 2 {
+            return 0;
+        }
+        return 2;
+    }
+    0
+}
+
+// The longest run of plain tokens from a place on, no mask being due.
+fn plain_run(code: &[u8], from: usize, args: usize, stems: usize) -> Run
+    requires { ⌜ Within (now code) (cursor from args stems false) ⌝ }
+    ensures { λ r. ⌜ RunFrom (now (code .entry)) (cursor from args stems false) r ⌝ }
+{
+    let mut at = from;
+    let mut last = from;
+    let mut args = args;
+    let mut stems = stems;
+    while at < code.len() {
+        let n = plain_len(code, at);
+        if n == 0 {
+            return Run {
+                at,
+                last,
+                args,
+                stems,
+            };
+        }
+        let v = code[at];
+        if v < 32 {
+            stems = stems_after(v, args, stems);
+            args = 0;
+            at += 1;
+            last = at;
+            continue;
+        }
+        last = at;
+        at += n;
+        args += 1;
+    }
+    Run {
+        at,
+        last,
+        args,
+        stems,
+    }
+}
+
+// The run where reading stands: none where a mask is due.
+pub fn run_at(code: &[u8], at: usize, args: usize, stems: usize, due: bool) -> Run
+    requires { ⌜ Within (now code) (cursor at args stems due) ⌝ }
+    ensures { λ r. ⌜ RunFrom (now (code .entry)) (cursor at args stems due) r ⌝ }
+{
+    if due {
+        return Run {
+            at,
+            last: at,
+            args,
+            stems,
+        };
+    }
+    plain_run(code, at, args, stems)
+}
+
+// The number that a run holds back.
+pub fn held_at(code: &[u8], last: usize, at: usize) -> Held
+    requires { ⌜ at ≤ length (now code) ⌝ }
+    ensures { λ r. ⌜ r ≡ heldIn (now (code .entry)) last at ⌝ }
+{
+    if last < at {
+        return match read_number(code, last) {
+            Number::Num { value, next: _ } => Held::Number(value),
+            Number::Cut => Held::Nothing,
+            Number::Operator => Held::Nothing,
+        };
+    }
+    Held::Nothing
+}
