@@ -5,7 +5,6 @@ use mathlib.Core.List.{List, [], _∷_, _++_}
 use native.Mathlib.Nat.{pow-suc, pow-le-pow-right, lt-of-lt-of-le, div-add-mod', div-lt-iff-lt-mul, add-zero}
 use native.Mathlib.Numerals.{add-one}
 use native.Mathlib.Omega.{arith}
-use lib.Arith.{digits-lt}
 use lib.Dec.{lit<, lit≤}
 use lib.ListN.{length, take, drop, getD, length-append, length-drop}
 use lib.Seq.{take-suc, getD-drop, take-at, drop-at}
@@ -42,10 +41,11 @@ pub num-four : (b : List ℕ) (p : ℕ) → p + 4 ≤ length b
     → numAt b p 4 ≡ ((getD b p 0 * 256 + getD b (p + 1) 0) * 256 + getD b (p + 2) 0) * 256 + getD b (p + 3) 0
 num-four b p h = num-more b p 3 (omega arith) ∙ omega (arith, num-three b p (omega arith))
 
--- a digit more
-pub pow-more : (v x i : ℕ) → v < 256 ^ i → x < 256 → v * 256 + x < 256 ^ (i + 1)
-pow-more v x i hv hx = rw (add-one, pow-suc) (digits-lt hv hx)
+-- a width that is one of them
+pub num-width : (b : List ℕ) (p n k v : ℕ) → n ≡ k → v ≡ numAt b p k → v < 256 ^ k → (v ≡ numAt b p n) × (v < 256 ^ n)
+num-width b p n k v e a h = (a ∙ ap (numAt b p) (sym e), subst (λ (m : ℕ). v < 256 ^ m) (sym e) h)
 
+-- a number of fewer digits
 pub pow-below : (v i n : ℕ) → i ≤ n → v < 256 ^ i → v < 256 ^ n
 pow-below v i n h hv = lt-of-lt-of-le hv (pow-le-pow-right (lit< tt) h)
 

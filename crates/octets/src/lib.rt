@@ -37,18 +37,32 @@ pub fn u32_at(s: &[u8], p: usize) -> usize
     ((wide(s[p]) * 256 + wide(s[p + 1])) * 256 + wide(s[p + 2])) * 256 + wide(s[p + 3])
 }
 
-// The big-endian number in the n bytes from p on, n up to 4.
+// The big-endian number in the three bytes from p on.
+fn u24_at(s: &[u8], p: usize) -> usize
+    requires { ⌜ p + 3 ≤ length (now s) ⌝ }
+    ensures { λ r. ⌜ (r ≡ numAt (now (s .entry)) p 3) × (r < 16777216) ⌝ }
+{
+    (wide(s[p]) * 256 + wide(s[p + 1])) * 256 + wide(s[p + 2])
+}
+
+// The big-endian number in the n bytes from p on, n up to 4. Offsets are read by it one after the other, so it has no loop.
 pub fn num_at(s: &[u8], p: usize, n: usize) -> usize
     requires { ⌜ (n ≤ 4) × (p + n ≤ length (now s)) ⌝ }
     ensures { λ r. ⌜ (r ≡ numAt (now (s .entry)) p n) × (r < 256 ^ n) ⌝ }
 {
-    let mut v: usize = 0;
-    let mut i = 0;
-    while i < n {
-        v = v * 256 + s[p + i] as usize;
-        i += 1;
+    if n == 4 {
+        return u32_at(s, p);
     }
-    v
+    if n == 3 {
+        return u24_at(s, p);
+    }
+    if n == 2 {
+        return u16_at(s, p);
+    }
+    if n == 1 {
+        return u8_at(s, p);
+    }
+    0
 }
 
 // Stores a byte at a place; returns the place after it.
