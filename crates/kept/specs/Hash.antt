@@ -2,13 +2,15 @@
 -- the same places, so a name with a place that is not marked is none of those that were marked.
 use Prim.Native.Nat.{ℕ, _+_, _*_, _/_, _%_, _<_}
 use mathlib.Core.Path.{_≡_}
-use mathlib.Core.Bool.{Bool, true}
+use mathlib.Core.Bool.{Bool, true, false}
 use mathlib.Core.List.{List, [], _∷_}
 use lib.Dec.{eqb}
 use lib.ListN.{length, getD, set}
 use Rattle.octets.specs.Pick.{pick}
 use Rattle.strings.specs.Strings.{stringText}
 use Rattle.kept.specs.Packed.{marked}
+use Rattle.kept.specs.declared.found.Told.{Told}
+use Rattle.kept.specs.declared.found.Told.the-variants.{Yes, No, Open}
 
 -- the hash of a text behind bytes whose hash is h
 unfoldable pub hashFrom : ℕ → List ℕ → ℕ
@@ -42,3 +44,9 @@ pub record Met (marks text : List ℕ) : Type 0 where
 pub record MetNames (strings : List (List ℕ)) (ids : List ℕ) (g : ℕ) (marks : List ℕ) : Type 0 where
   pub size : length marks ≡ 131072
   pub all : (k : ℕ) → k < g → Met marks (stringText strings (getD ids k 0))
+
+-- what a pass over the names tells, and where it leaves it open, what is so
+abbrev pub told : Told → Bool → Bool
+told Yes so = true
+told No so = false
+told Open so = so

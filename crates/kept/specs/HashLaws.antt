@@ -20,7 +20,8 @@ use Rattle.kept.specs.Packed.{marked, allOf, nameFound}
 use Rattle.kept.specs.MarkLaws.{ahead, mark-same, mark-other}
 use Rattle.kept.specs.GatherLaws.{those-passed}
 use Rattle.kept.specs.FoundLaws.{glyph-as, all-stops, all-passed, all-taken}
-use Rattle.kept.specs.Hash.{hashFrom, hashOf, lowPlace, highPlace, isNew, withHash, Met, MetNames}
+use Rattle.kept.specs.Hash.{hashFrom, hashOf, lowPlace, highPlace, isNew, withHash, Met, MetNames, told}
+use Rattle.kept.specs.declared.found.Told.{Told}
 
 -- ---- the hash of a text, byte by byte
 
@@ -38,11 +39,6 @@ hash-done h text i m = ap (hashFrom h) (sym (drop-of-length-le text m))
 pub hash-by : (strings : List (List ℕ)) (ahead ids : List ℕ) (g id h : ℕ) → ahead ≡ ids → id ≡ getD ahead g 0 → h ≡ hashOf (stringText strings id)
     → h ≡ hashOf (stringText strings (getD ids g 0))
 hash-by strings ahead ids g id h a i e = e ∙ ap (λ (x : ℕ). hashOf (stringText strings x)) (i ∙ ap (λ (l : List ℕ). getD l g 0) a)
-
--- of the empty text
-pub hash-none : (text : List ℕ) → text ≡ [] → 0 ≡ hashOf text
-unfolding hashFrom
-hash-none text e = ap hashOf (sym e)
 
 -- ---- marks
 
@@ -103,7 +99,7 @@ pub met-none : (strings : List (List ℕ)) (ids marks : List ℕ) → length mar
 met-none strings ids marks e = record { size = e; all = λ k m. absurd (not-suc-le-zero m) }
 
 -- the first glyph with a name is found
-first-named : (strings : List (List ℕ)) (name : List ℕ) (s : ℕ) (l : List ℕ) (g : ℕ) → g < length l → stringText strings (getD l g 0) ≡ name
+pub first-named : (strings : List (List ℕ)) (name : List ℕ) (s : ℕ) (l : List ℕ) (g : ℕ) → g < length l → stringText strings (getD l g 0) ≡ name
     → ((k : ℕ) → k < g → stringText strings (getD l k 0) ≡ name → ⊥) → glyphWithText strings name s l ≡ TheGlyph (s + g)
 unfolding glyphWithText
 first-named strings name s [] g h e f = absurd (not-suc-le-zero h)
@@ -166,3 +162,7 @@ module _ (test : ℕ → Bool) (flags : List ℕ) (n g : ℕ) (h : g < n) where
 pub all-ended : (test t : ℕ → Bool) (n e g : ℕ) → e ≤ g → g ≤ e → those t (n - e) e ≡ [] → true ≡ allOf test (those t (n - g) g)
 unfolding allOf
 all-ended test t n e g a b r = let z : g ≡ e = omega arith in sym (ap (λ (j : ℕ). allOf test (those t (n - j) j)) z ∙ ap (allOf test) r)
+
+-- what an answer tells
+pub told-as : (t u : Told) (so : Bool) → t ≡ u → told t so ≡ so → told u so ≡ so
+told-as t u so e h = sym (ap (λ (x : Told). told x so) e) ∙ h

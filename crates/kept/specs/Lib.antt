@@ -6,5 +6,12 @@ pub mod FdsLaws
 pub mod FoundLaws
 pub mod Hash
 pub mod HashLaws
+pub mod Sorted
+pub mod SortedLaws
+pub mod MergeLaws
+pub mod HalvesLaws
+pub mod LeadLaws
+pub mod SortedFoundLaws
 pub mod OrderLaws
 pub mod FdsOrderLaws
+pub mod Examples

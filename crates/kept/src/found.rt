@@ -15,9 +15,20 @@ ghost use Rattle.cff.specs.Find.{foundAs};
 ghost use Rattle.subset.specs.Kept.{those};
 ghost use Rattle.subset.specs.Cut.{isGlyph};
 ghost use Rattle.kept.specs.Packed.{marked, Empty, allOf, cidFound, textFound, nameFound};
+ghost use Rattle.kept.specs.Hash.{told};
 use charset::Charset;
 use find::Found;
 use index::Index;
+
+// How often a pass over the names may look for one of them among all glyphs.
+const LOOKS: usize = 16;
+
+// What a pass tells: whether all glyphs are found, or that it looked too often to say.
+pub enum Told {
+    Yes,
+    No,
+    Open,
+}
 
 // Whether finding the CID of each marked glyph gives that glyph: it does unless an earlier glyph has the CID.
 // The words `seen` have a place for each CID.
@@ -69,25 +80,11 @@ fn name_found(font: &[u8], c: Charset, n: usize, strings: Index, g: usize) -> bo
     requires { ⌜ (GoodCharset (now font) c n) × (Good (now font) strings) × (g < n) ⌝ }
     ensures { λ r. ⌜ r ≡ nameFound (itemsOf (now (font .entry)) strings) (idsOf (now (font .entry)) c n) g ⌝ }
 {
-    let count = strings.count;
+    let names = strings::table::STANDARD_TEXT;
+    let offsets = strings::table::STANDARD_OFFSETS;
     let id = charset::id_of(font, c, n, g);
-    if id < 391 {
-        let names = strings::table::STANDARD_TEXT;
-        let offsets = strings::table::STANDARD_OFFSETS;
-        return text_found(
-            font,
-            c,
-            n,
-            strings,
-            strings::standard_string(&names, &offsets, id),
-            g,
-        );
-    }
-    let k = id - 391;
-    if k < count {
-        return text_found(font, c, n, strings, index::item(font, strings, k), g);
-    }
-    text_found(font, c, n, strings, &font[0..0], g)
+    let name = crate::names::text_at(font, strings, &names, &offsets, id);
+    text_found(font, c, n, strings, name, g)
 }
 
 // Whether finding the name of a glyph gives that glyph, where its flag is set; of a new name it does.
@@ -128,37 +125,59 @@ fn flags_end(flags: &[u32], n: usize) -> usize
     end
 }
 
+// How many looks through all glyphs are left behind a glyph: one less where its flag is set and its name is not new.
+fn looks_left(looks: usize, flag: u32, new: bool) -> usize
+    requires { ⌜ 0 < looks ⌝ }
+    ensures { λ r. ⌜ r ≤ looks ⌝ }
+{
+    if flag == 0 {
+        return looks;
+    }
+    if new {
+        return looks;
+    }
+    looks - 1
+}
+
 // Whether finding the name of each marked glyph gives that glyph, by one pass up to the last of them. The caller lends the tables of the
-// standard strings and marks that are empty: only a name whose marks are both there is looked for among all glyphs.
-fn names_met(
-    font: &[u8],
+// standard strings and marks that are empty: only a name whose marks are both there is looked for among all glyphs. Where that were to
+// happen too often, the answer is open.
+fn names_met<'a>(
+    font: &'a [u8],
     c: Charset,
     n: usize,
     strings: Index,
-    names: &[u8],
+    names: &'a [u8],
     offsets: &[u16],
     flags: &[u32],
     marks: &mut [u8],
-) -> bool
+) -> Told
     requires { ⌜ (GoodCharset (now font) c n) × (Good (now font) strings) × (n ≤ length (now flags))
         × (now names ≡ standardText) × (now offsets ≡ standardOffsets) × (length (now marks) ≡ 131072) ⌝ }
-    ensures { λ r. ⌜ r ≡ allOf (nameFound (itemsOf (now (font .entry)) strings) (idsOf (now (font .entry)) c n)) (those (marked (now (flags .entry))) n 0) ⌝ }
+    ensures { λ r. ⌜ told r (allOf (nameFound (itemsOf (now (font .entry)) strings) (idsOf (now (font .entry)) c n)) (those (marked (now (flags .entry))) n 0))
+        ≡ allOf (nameFound (itemsOf (now (font .entry)) strings) (idsOf (now (font .entry)) c n)) (those (marked (now (flags .entry))) n 0) ⌝ }
 {
     let end = flags_end(flags, n);
     let mut u = charset::charset_start(c);
     let mut g = 0;
+    let mut looks = LOOKS;
     while g < end {
+        if looks == 0 {
+            return Told::Open;
+        }
         let s = charset::next_id(font, u);
         u = s.next;
         let h = crate::names::hash_at(font, strings, names, offsets, s.id);
         let new = crate::names::meet(&mut *marks, h);
-        if flagged_found(font, c, n, strings, g, flags[g], new) {
+        let flag = flags[g];
+        looks = looks_left(looks, flag, new);
+        if flagged_found(font, c, n, strings, g, flag, new) {
             g += 1;
         } else {
-            return false;
+            return Told::No;
         }
     }
-    true
+    Told::Yes
 }
 
 // Whether finding the name of each marked glyph gives that glyph.
@@ -170,5 +189,10 @@ pub fn names_found(font: &[u8], c: Charset, n: usize, strings: Index, flags: &[u
     let offsets = strings::table::STANDARD_OFFSETS;
     // Two marks for each of 65,536 halves of a hash: 128 KiB.
     let mut marks = [0u8; 131072];
-    names_met(font, c, n, strings, &names, &offsets, flags, &mut marks)
+    let met = names_met(font, c, n, strings, &names, &offsets, flags, &mut marks);
+    match met {
+        Told::Yes => true,
+        Told::No => false,
+        Told::Open => { crate::sorted::names_sorted(font, c, n, strings, &names, &offsets, flags) }
+    }
 }

@@ -3,6 +3,7 @@ pub mod fds;
 pub mod found;
 pub mod names;
 pub mod order;
+pub mod sorted;
 
 ghost use mathlib.Core.Path.{_≡_};
 ghost use mathlib.Core.Bool.{true};

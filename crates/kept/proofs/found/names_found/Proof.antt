@@ -1,9 +1,10 @@
--- `found::names_found` meets its contract: it lends the tables and the empty marks.
+-- `found::names_found` meets its contract: it lends the tables and the empty marks; what that pass leaves open, sorting answers.
 use mathlib.Core.Path.{refl}
 use Rattle.strings.specs.Table.{standardNames, standardOffsets}
 use Rattle.strings.specs.Text.{codes}
 use Rattle.strings.specs.Strings.{joined, standardStrings, standardText}
-use Rattle.kept.specs.HashLaws.{marks-long}
+use Rattle.kept.specs.HashLaws.{marks-long, told-as}
+use Rattle.kept.specs.declared.found.Told.the-variants.{Yes, No}
 use borrow.Author.Needs.{needs}
 use Rattle.kept.proofs.found.names_found.Statement.{statement}
 use Rattle.kept.proofs.found.names_found.Tie as tie
@@ -23,8 +24,36 @@ names-met-requires c κs =
     let s = c .before .before .before .before .before in
     (s .pre .0, s .pre .1, s .pre .2, refl, refl, marks-long _ refl)
 
+enum-told : tie.Need-enum-told
+enum-told c = search needs
+
+enum-told-2 : tie.Need-enum-told-2
+enum-told-2 c = search needs
+
+enum-told-3 : tie.Need-enum-told-3
+enum-told-3 c = search needs
+
+slice-aggregate-names-sorted : tie.Need-slice-aggregate-names-sorted
+slice-aggregate-names-sorted c = search needs
+
+slice-aggregate-names-sorted-2 : tie.Need-slice-aggregate-names-sorted-2
+slice-aggregate-names-sorted-2 c = search needs
+
+names-sorted-requires : tie.Need-names-sorted-requires
+unfolding standardNames standardOffsets codes standardStrings joined standardText
+names-sorted-requires c κs =
+    let m = c .before .before .before .before .before in
+    let s = m .before .before .before .before .before .before in
+    (s .pre .0, s .pre .1, s .pre .2, refl, refl)
+
 returns : tie.Need-returns
-returns c = search needs
+returns c = told-as _ Yes _ (c .enum-told .given .1) (c .before .before .before .names-met .ensures)
+
+returns-2 : tie.Need-returns-2
+returns-2 c = told-as _ No _ (c .enum-told2 .given .1) (c .before .before .before .names-met .ensures)
+
+returns-3 : tie.Need-returns-3
+returns-3 c = search needs
 
 pub names-found-spec : {M : Type 1} → statement M
 names-found-spec =
@@ -34,4 +63,12 @@ names-found-spec =
     slice-aggregate-names-met-2
     slice-aggregate-names-met-3
     names-met-requires
-    returns)
+    enum-told
+    enum-told-2
+    enum-told-3
+    slice-aggregate-names-sorted
+    slice-aggregate-names-sorted-2
+    names-sorted-requires
+    returns
+    returns-2
+    returns-3)

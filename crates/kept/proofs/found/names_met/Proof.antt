@@ -1,5 +1,5 @@
 -- `found::names_met` meets its contract. The invariant: the names of the glyphs that were passed are marked, and the glyphs that are left are
--- found exactly where all are.
+-- found exactly where all are. An open answer says nothing.
 use Prim.Native.Nat.{_+_, _≤_, _<_, _-_}
 use mathlib.Core.Path.{_≡_, refl, sym, ap, _∙_, subst}
 use native.Mathlib.Omega.{arith}
@@ -20,32 +20,32 @@ use Rattle.kept.proofs.found.names_met.Statement.{statement}
 use Rattle.kept.proofs.found.names_met.Tie as tie
 
 abbrev Inv-loop : tie.InvT-loop
-Inv-loop font c n strings names offsets flags marks₀ end u₀ g₀ marks u g =
+Inv-loop font c n strings names offsets flags marks₀ end u₀ g₀ looks₀ marks u g looks =
     Passing font u₀ n u g × MetNames (itemsOf font strings) (idsOf font c n) g marks × (length marks ≡ 131072) × (length marks ≡ length marks₀) × (g ≤ end)
     × (allOf (nameFound (itemsOf font strings) (idsOf font c n)) (those (marked flags) (n - g) g)
     ≡ allOf (nameFound (itemsOf font strings) (idsOf font c n)) (those (marked flags) n 0))
 
 abbrev μ-loop : tie.MeasureT-loop
-μ-loop font c n strings names offsets flags marks₀ end u₀ g₀ marks u g = end - g
+μ-loop font c n strings names offsets flags marks₀ end u₀ g₀ looks₀ marks u g looks = end - g
 
 -- a turn before its test: the glyph is one of n, and its hash is the one of its name
 abbrev Turn : Type 0
-Turn = tie.After-shared-slice-known5 Inv-loop μ-loop
+Turn = tie.After-looks-left Inv-loop μ-loop
 
 abbrev place : Turn → tie.After-meet Inv-loop μ-loop
-place q = q .before .before .before
+place q = q .before .before .before .before
 
 abbrev step : Turn → tie.After-next-id Inv-loop μ-loop
 step q = place q .before .before .before .before
 
 abbrev top : Turn → tie.At-loop Inv-loop μ-loop
-top q = step q .before .before
+top q = step q .before .before .before
 
 abbrev start : Turn → tie.Start Inv-loop μ-loop
 start q = top q .before .before .before .before .before .before .before .before
 
 below : (q : Turn) → top q .loop .g < start q .args .n
-below q = omega (arith, top q .before .before .flags-end .ensures .0, step q .before .loop-test .taken)
+below q = omega (arith, top q .before .before .flags-end .ensures .0, step q .before .before .loop-test .taken)
 
 hashed : (q : Turn) → place q .before .before .hash-at .result
     ≡ hashOf (stringText (itemsOf (now (start q .args .font)) (start q .args .strings)) (getD (idsOf (now (start q .args .font)) (start q .args .c) (start q .args .n)) (top q .loop .g) 0))
@@ -68,10 +68,17 @@ loop-holds c =
     let s = c .before .before .before .before .before .before .before in
     (passing-start _ (s .args .c) _ _ (s .pre .0) (c .charset-start .ensures), met-none _ _ _ (s .pre .5), s .pre .5, refl, omega arith, all-start _ _ _)
 
+same-length : tie.Need-same-length Inv-loop μ-loop
+same-length c = search needs
+
+returns : tie.Need-returns Inv-loop μ-loop
+returns c = refl
+
 next-id-requires : tie.Need-next-id-requires Inv-loop μ-loop
 next-id-requires c κs =
-    let e = c .before .before .before .flags-end .ensures .0 in
-    passing-ready _ _ _ _ _ (c .before .loop .inv .0) (omega (arith, e, c .loop-test .taken))
+    let i = c .before in
+    let e = i .before .before .before .flags-end .ensures .0 in
+    passing-ready _ _ _ _ _ (i .before .loop .inv .0) (omega (arith, e, i .loop-test .taken))
 
 hash-at-requires : tie.Need-hash-at-requires Inv-loop μ-loop
 hash-at-requires c κs = search needs
@@ -79,11 +86,14 @@ hash-at-requires c κs = search needs
 meet-requires : tie.Need-meet-requires Inv-loop μ-loop
 meet-requires c κs = search needs
 
-mul-flagged-found : tie.Need-mul-flagged-found Inv-loop μ-loop
-mul-flagged-found c = search needs
+mul-flag : tie.Need-mul-flag Inv-loop μ-loop
+mul-flag c = search needs
 
-shared-slice-read-flagged-found : tie.Need-shared-slice-read-flagged-found Inv-loop μ-loop
-shared-slice-read-flagged-found c = search needs
+shared-slice-read-flag : tie.Need-shared-slice-read-flag Inv-loop μ-loop
+shared-slice-read-flag c = search needs
+
+looks-left-requires : tie.Need-looks-left-requires Inv-loop μ-loop
+looks-left-requires c κs = search needs
 
 flagged-found-requires : tie.Need-flagged-found-requires Inv-loop μ-loop
 flagged-found-requires c κs =
@@ -114,27 +124,27 @@ loop-again c =
       subst (MetNames (itemsOf b (s .args .strings)) (idsOf b (s .args .c) (s .args .n)) (l .g + 1)) (sym (place q .meet .ensures .1)) m,
       z,
       z ∙ sym (s .pre .5),
-      omega (arith, step q .before .loop-test .taken),
+      omega (arith, step q .before .before .loop-test .taken),
       all-next (nameFound (itemsOf b (s .args .strings)) (idsOf b (s .args .c) (s .args .n))) (now (s .args .flags)) (s .args .n) (l .g) (below q)
-          (sym (c .before .flagged-found .ensures) ∙ c .if1 .taken) ∙ l .inv .5,
+          (sym (c .before .flagged-found .ensures) ∙ c .if2 .taken) ∙ l .inv .5,
     )
-
-same-length : tie.Need-same-length Inv-loop μ-loop
-same-length c = search needs
-
-returns : tie.Need-returns Inv-loop μ-loop
-returns c =
-    let q = c .before .before in
-    let s = start q in
-    let b = now (s .args .font) in
-    all-fails (nameFound (itemsOf b (s .args .strings)) (idsOf b (s .args .c) (s .args .n))) (now (s .args .flags)) (s .args .n) (top q .loop .g) (below q)
-    (sym (c .before .flagged-found .ensures) ∙ c .if1 .left) ∙ top q .loop .inv .5
 
 same-length-2 : tie.Need-same-length-2 Inv-loop μ-loop
 same-length-2 c = search needs
 
 returns-2 : tie.Need-returns-2 Inv-loop μ-loop
 returns-2 c =
+    let q = c .before .before in
+    let s = start q in
+    let b = now (s .args .font) in
+    all-fails (nameFound (itemsOf b (s .args .strings)) (idsOf b (s .args .c) (s .args .n))) (now (s .args .flags)) (s .args .n) (top q .loop .g) (below q)
+    (sym (c .before .flagged-found .ensures) ∙ c .if2 .left) ∙ top q .loop .inv .5
+
+same-length-3 : tie.Need-same-length-3 Inv-loop μ-loop
+same-length-3 c = search needs
+
+returns-3 : tie.Need-returns-3 Inv-loop μ-loop
+returns-3 c =
     let l = c .before in
     let e = l .before .before .flags-end .ensures .1 in
     all-ended _ _ _ _ _ (c .loop-test .left) (l .loop .inv .4) e ∙ l .loop .inv .5
@@ -148,16 +158,19 @@ names-met-spec =
     flags-end-requires
     charset-start-requires
     loop-holds
+    same-length
+    returns
     next-id-requires
     hash-at-requires
     meet-requires
-    mul-flagged-found
-    shared-slice-read-flagged-found
+    mul-flag
+    shared-slice-read-flag
+    looks-left-requires
     flagged-found-requires
     add-g
     loop-less
     loop-again
-    same-length
-    returns
     same-length-2
-    returns-2)
+    returns-2
+    same-length-3
+    returns-3)
