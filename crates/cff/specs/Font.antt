@@ -6,6 +6,7 @@ use mathlib.Core.List.{List, [], _∷_}
 use lib.Dec.{ltb, eqb}
 use lib.ListN.{length, take, drop, getD}
 use Rattle.octets.specs.Pick.{pick}
+use Rattle.octets.specs.Lists.{allBelow}
 use Rattle.index.specs.Index.{Read, refused as refusedIndex, found, readIndex}
 use Rattle.dict.specs.Dict.{Entry, Dict, refused as refusedDict, entries, dictOf}
 use Rattle.dict.specs.Op.{esc, subrs}
@@ -16,7 +17,7 @@ use Rattle.dict.specs.declared.PrivateIn.{PrivateIn}
 use Rattle.dict.specs.declared.PrivateIn.the-variants.{Refused as RefusedPrivate, Private as PrivateEntry, Absent as NoPrivate}
 use Rattle.charset.specs.Listed.{Listed, refused as refusedList, listed}
 use Rattle.charset.specs.Charset.{charsetAt, isoAdobe}
-use Rattle.charset.specs.FdSelect.{fdSelectAt, noFds, allBelow}
+use Rattle.charset.specs.FdSelect.{fdSelectAt, noFds}
 use Rattle.charset.specs.Encoding.{encodingAt}
 
 -- the operators of the offsets that reading follows

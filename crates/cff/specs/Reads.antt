@@ -7,6 +7,7 @@ use mathlib.Core.List.{List, [], _∷_}
 use lib.Dec.{eqb}
 use lib.ListN.{length, take, drop}
 use Rattle.octets.specs.Pick.{pick}
+use Rattle.octets.specs.Lists.{allBelow}
 use Rattle.index.specs.Index.{itemsOf, readIndex, emptyAt}
 use Rattle.index.specs.Good.{Good}
 use Rattle.index.specs.declared.Index.{Index}
@@ -16,7 +17,6 @@ use Rattle.dict.specs.Places.{entriesOf, Good as GoodDict}
 use Rattle.dict.specs.Dict.{Entry, dictOf}
 use Rattle.dict.specs.Lookup.{offsetIn, privateIn, cidKeyed, charstringTypeIn}
 use Rattle.charset.specs.CharsetPlaces.{idsOf, GoodCharset}
-use Rattle.charset.specs.FdSelect.{allBelow}
 use Rattle.charset.specs.FdPlaces.{fdsOf, GoodSelect}
 use Rattle.charset.specs.declared.CharsetAt.{CharsetAt}
 use Rattle.charset.specs.declared.CharsetAt.the-variants.{Refused as RefusedCharset, Found as FoundCharset}

@@ -6,6 +6,7 @@ use mathlib.Core.List.{List, [], _∷_, _++_, append-nil}
 use native.Mathlib.Omega.{arith}
 use lib.ListN.{length, drop, getD}
 use Rattle.octets.specs.Pick.{pick}
+use Rattle.octets.specs.Lists.{allBelow}
 use Rattle.index.specs.Index.{found, readIndex}
 use Rattle.index.specs.Write.{total, sizeFor, indexBytes, indexLen}
 use Rattle.index.specs.WriteLaws.{length-index}
@@ -14,7 +15,7 @@ use Rattle.dict.specs.Lookup.{rosIn}
 use Rattle.dict_write.specs.WriteLaws.{private-length}
 use Rattle.charset.specs.Listed.{listed}
 use Rattle.charset.specs.CharsetBytes.{Ids, charsetBytes}
-use Rattle.charset.specs.FdSelect.{allBelow, fdSelectAt}
+use Rattle.charset.specs.FdSelect.{fdSelectAt}
 use Rattle.charset.specs.FdSelectBytes.{Fds, fdSelectBytes}
 use Rattle.charset.specs.FdSelectRound.{select-round}
 use Rattle.cff.specs.Font.{got, Private, Program, privatesAt, idsAt, cidParts, nameParts, fontAt, readFont}

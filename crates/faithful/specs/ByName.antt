@@ -17,7 +17,7 @@ use Rattle.cff.specs.Font.{got, Private, Program, privateData, privateAt, idsAt
 use Rattle.cff.specs.ReadsLaws.{no}
 use Rattle.subset.specs.Kept.{privateOf}
 use Rattle.subset.specs.Texts.{namesOf}
-use Rattle.subset.specs.TextsLaws.{ids-length}
+use Rattle.subset.specs.TextsLaws.{ids-length, names-length}
 use Rattle.subset.specs.Pruned.{Bodies}
 use Rattle.subset.specs.Subset.{privateDict, privatePart, ownByName, topByName, newIds, oneLocal, subsetByName}
 use Rattle.faithful.specs.Laid.{GoodProgram, Fitting, ReadsAs}
@@ -29,12 +29,6 @@ use Rattle.faithful.specs.SetBack.{setBytes, restAt, rest-lies, rest-wit
 use Rattle.faithful.specs.FontBack.{ids-back, fontOf, font-back}
 
 -- ---- the ids of the names
-
--- each glyph has a name
-pub names-length : (p : Program) (order : List ℕ) → length (namesOf p order) ≡ length order
-unfolding namesOf
-names-length p [] = refl
-names-length p (g ∷ gs) = ap suc (names-length p gs)
 
 -- the ids fit two bytes
 pub ids-small : (own ts : List (List ℕ)) → length own ≤ 64609 → Ids (newIds own ts)

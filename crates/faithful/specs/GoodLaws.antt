@@ -8,11 +8,12 @@ use lib.Dec.{ltb, eqb}
 use lib.ListN.{length, getD}
 use Rattle.octets.specs.Pick.{pick}
 use Rattle.octets.specs.Octets.{Octets}
+use Rattle.octets.specs.Lists.{allBelow}
 use Rattle.index.specs.Index.{readIndex}
 use Rattle.dict.specs.Dict.{Entry, dictOf}
 use Rattle.dict.specs.Lookup.{offsetIn, privateIn, cidKeyed, charstringTypeIn}
 use Rattle.dict.specs.ProperLaws.{dict-proper}
-use Rattle.charset.specs.FdSelect.{noFds, allBelow}
+use Rattle.charset.specs.FdSelect.{noFds}
 use Rattle.cff.specs.Font.{charset, encoding, charStrings, fdArray, fdSelect, got, then, Private, Program, indexGot, dictGot, unless, needed, orZero, privateAt, privatesAt, idsAt, fdsAt, encodingGot, cidParts, nameParts, fontAt, fontsAt, firstOf, setAt, readFont}
 use Rattle.cff.specs.ReadsLaws.{no}
 use Rattle.faithful.specs.Laid.{GoodBodies, GoodProgram}

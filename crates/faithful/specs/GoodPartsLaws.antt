@@ -10,6 +10,7 @@ use lib.Dec.{ltb, eqb, lit<}
 use lib.ListN.{length, take, drop, getD, List·getD-eq-default}
 use Rattle.octets.specs.Pick.{pick}
 use Rattle.octets.specs.Octets.{Octets}
+use Rattle.octets.specs.Lists.{allBelow}
 use Rattle.index.specs.Index.{Read, refused as refusedRead, found, readIndex}
 use Rattle.index.specs.FoundLaws.{part-octets, found-good, found-read, read-bounds, item-octets}
 use Rattle.index.specs.IndexLaws.{items-length}
@@ -29,7 +30,7 @@ use Rattle.charset.specs.CharsetBytes.{Ids}
 use Rattle.charset.specs.CharsetPlaces.{tableAt, predefined, idsOf, GoodCharset, charsetAnswer}
 use Rattle.charset.specs.CharsetFound.{found-good as charset-good, found-ids, predefined-ids, predefined-good, good-length, good-small, good-first}
 use Rattle.charset.specs.declared.Charset.{Charset}
-use Rattle.charset.specs.FdSelect.{fdSelectAt, noFds, allBelow}
+use Rattle.charset.specs.FdSelect.{fdSelectAt, noFds}
 use Rattle.charset.specs.FdSelectBytes.{Fds}
 use Rattle.charset.specs.FdPlaces.{selectAt, selectAnswer, fdOf, fdsOf}
 use Rattle.charset.specs.FdFound.{found-fds, fds-small}

@@ -41,6 +41,11 @@ kept-is p keep g k =
 pub kept-below : (n : ℕ) (keep : List ℕ) (g : ℕ) → isIn g (keptOf n keep) ≡ true → g < n
 kept-below n keep g h = omega (arith, those-in (keeps keep) n 0 g h .1)
 
+-- so are those of a list of kept ones
+pub all-below : (n : ℕ) (keep order : List ℕ) → ((i : ℕ) → i < length order → isIn (getD order i 0) (keptOf n keep) ≡ true)
+    → (i : ℕ) → i < length order → getD order i 0 < n
+all-below n keep order inside i h = kept-below n keep (getD order i 0) (inside i h)
+
 -- glyph 0 is the first, then come the others
 pub kept-front : (n : ℕ) (keep : List ℕ) → keptOf (suc n) keep ≡ 0 ∷ those (keeps keep) n 1
 unfolding those

@@ -5,11 +5,11 @@ use mathlib.Core.Bool.{Bool, true, false}
 use mathlib.Core.List.{List, []}
 use lib.ListN.{length, getD}
 use Rattle.octets.specs.Octets.{Octets}
+use Rattle.octets.specs.Lists.{allBelow}
 use Rattle.dict.specs.Lookup.{cidKeyed}
 use Rattle.dict.specs.Proper.{AllProper}
 use Rattle.charset.specs.CharsetBytes.{Ids}
 use Rattle.charset.specs.FdSelectBytes.{Fds}
-use Rattle.charset.specs.FdSelect.{allBelow}
 use Rattle.cff.specs.Font.{got, Program, readFont}
 use Rattle.subset.specs.Kept.{privateOf, localsOf}
 use Rattle.subset.specs.Pruned.{Bodies}

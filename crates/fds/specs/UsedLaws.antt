@@ -1,7 +1,7 @@
 -- Laws of the FDs in use: the next one stands last among them, and together they have no more locals than the font.
 use Prim.Native.Nat.{ℕ, zero, suc, _+_, _≤_, _<_}
 use mathlib.Core.Path.{_≡_, refl, sym, ap, _∙_}
-use mathlib.Core.Bool.{Bool, true, false, not}
+use mathlib.Core.Bool.{Bool, true, false, not, false≢true}
 use mathlib.Core.List.{List, [], _∷_, _++_, append-nil, append-assoc}
 use native.Mathlib.Omega.{arith}
 use borrow.Author.Tests.{eq-eqb, ne-eqb}
@@ -25,6 +25,12 @@ both-last false u v = refl
 pub one-last : (t : Bool) → pick t true false ≡ t
 one-last true = refl
 one-last false = refl
+
+-- ---- in use or not
+
+-- an FD in use is another than one that is not
+pub unused-apart : (used : List ℕ) (f fd : ℕ) → inUse used fd ≡ false → f ≡ fd → inUse used f ≡ true → ⊥
+unused-apart used f fd e s t = false≢true (sym e ∙ ap (inUse used) (sym s) ∙ t)
 
 -- ---- those that pass a test
 

@@ -17,14 +17,14 @@ use Rattle.subset.specs.Kept.{isIn, those, fdsOf, usedFds, newFd}
 use Rattle.subset.specs.Subset.{cidsOf, newFds}
 use Rattle.subset.specs.Pruned.{countBelow, mapped}
 use Rattle.faithful.specs.Laid.{GoodProgram}
-use Rattle.subset.specs.KeptListLaws.{in-none, in-head, in-more, in-cases, in-at, in-place, those-has, those-in}
+use Rattle.subset.specs.KeptListLaws.{in-none, in-head, in-more, in-cases, in-at, in-place, those-has, those-in, those-same}
 use Rattle.subset.specs.RankLaws.{count-few, length-those}
 use Rattle.faithful.specs.UsedLaws.{fds-has, fds-fit, fd-there}
 use Rattle.kept.specs.Packed.{packed, marked}
 use Rattle.reach.specs.Reach.{ranksOf}
 use Rattle.reach.specs.WordLaws.{HoldRanks, set-hold}
 use Rattle.glyph_tables.specs.Tables.{part, highs, newFdBy, newFdsBy, Numbered}
-use Rattle.glyph_tables.specs.ThoseLaws.{those-bounds, those-agree, new-count}
+use Rattle.glyph_tables.specs.ThoseLaws.{those-bounds, new-count}
 
 -- ---- CIDs
 
@@ -135,7 +135,7 @@ module _ (p : Program) (kept order : List ℕ) (good : GoodProgram p) (same : (g
 
     -- the FDs in use are those whose word is not 0, in this order
     pub table-used : usedFds p kept ≡ those (marked table) 256 0
-    table-used = used-those ∙ those-agree uses (marked table) 256 0
+    table-used = used-those ∙ those-same uses (marked table) 256 0
         (λ f h. sym (ap (λ (w : ℕ). pick (eqb w 0) false true) (word f (omega arith)) ∙ go (uses f) (countBelow uses f)))
       where
         go : (t : Bool) (m : ℕ) → pick (eqb (pick t (m + 1) 0) 0) false true ≡ t

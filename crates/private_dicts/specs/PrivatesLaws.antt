@@ -27,6 +27,7 @@ use Rattle.cff.specs.declared.font.Font.{Font}
 use Rattle.cff.specs.declared.private.PrivateAt.{PrivateAt}
 use Rattle.cff.specs.declared.private.PrivateRead.{PrivateRead}
 use Rattle.cff.specs.declared.private.PrivateRead.the-variants.{Refused as RefusedPrivate, Found as FoundPrivate}
+use Rattle.cff.specs.FontLaws.{privates-length}
 use Rattle.subset.specs.Kept.{privateOf}
 use Rattle.subset.specs.Subset.{privateDict}
 use Rattle.private_dicts.specs.Privates.{FdRead, subrsEntry, privateDictBy}
@@ -41,18 +42,6 @@ none = record { entries = []; locals = [] }
 
 -- all were read: one for each FD, each from its bytes
 module _ (b : List ℕ) where
-  one-length : (g : Got Private) (h : Got (List Private)) (ps : List Private) (n : ℕ) → ((qs : List Private) → h ≡ got qs → length qs ≡ n)
-      → then g (λ p. then h (λ qs. got (p ∷ qs))) ≡ got ps → length ps ≡ suc n
-  one-length (refused m) h ps n f e = absurd (no cc)
-  one-length (got p) (refused m) ps n f e = absurd (no cc)
-  one-length (got p) (got qs) ps n f e = let i : p ∷ qs ≡ ps = cc in ap length (sym i) ∙ ap suc (f qs refl)
-
-  pub privates-length : (ds : List (List ℕ)) (ps : List Private) → privatesAt b ds ≡ got ps → length ps ≡ length ds
-  unfolding privatesAt
-  privates-length [] ps e = let i : [] ≡ ps = cc in ap length (sym i)
-  privates-length (d ∷ ds) ps e =
-      one-length (fdPrivate b d) (privatesAt b ds) ps (length ds) (privates-length ds) (sym (privates-split b d ds) ∙ e)
-
   one-at : (g : Got Private) (h : Got (List Private)) (ps : List Private) → then g (λ p. then h (λ qs. got (p ∷ qs))) ≡ got ps
       → (g ≡ got (getD ps 0 none)) × (h ≡ got (drop 1 ps))
   one-at (refused m) h ps e = absurd (no cc)

@@ -11,11 +11,13 @@ use borrow.Author.Tests.{ltb-true, ltb-false, eqb-true}
 use lib.Dec.{ltb, eqb}
 use lib.ListN.{length, getD, length-map, List·getD-map}
 use Rattle.octets.specs.Pick.{pick-ind}
+use Rattle.octets.specs.Lists.{allBelow}
+use Rattle.octets.specs.ListLaws.{below-at}
 use Rattle.strings.specs.Table.{standardOrder}
 use Rattle.strings.specs.Text.{orderOf}
 use Rattle.strings.specs.TextLaws.{order-refl, order-trans}
 use Rattle.strings.specs.Strings.{standardString}
-use Rattle.strings.specs.TableTest.{isLess, ordered, allBelow, placeOf, hasAll, tableTests}
+use Rattle.strings.specs.TableTest.{isLess, ordered, placeOf, hasAll, tableTests}
 use Rattle.strings.specs.TableLaws.{table-passes, and-left, and-right, every-at, order-length}
 use Rattle.strings.specs.declared.Order.{Order}
 use Rattle.strings.specs.declared.Order.the-variants.{Less, Same, More}
@@ -58,12 +60,6 @@ ordered-at [] z e i j h k = absurd (not-suc-le-zero k)
 ordered-at (s ∷ ss) z e i zero h k = absurd (not-suc-le-zero h)
 ordered-at (s ∷ ss) z e zero (suc j) h k = ordered-head s ss z e j (le-of-suc-le-suc k)
 ordered-at (s ∷ ss) z e (suc i) (suc j) h k = ordered-at ss z (ordered-tail s ss e) i j (le-of-suc-le-suc h) (le-of-suc-le-suc k)
-
-below-at : (n : ℕ) (ks : List ℕ) → allBelow n ks ≡ true → (i : ℕ) → i < length ks → getD ks i 0 < n
-unfolding allBelow
-below-at n [] e i h = absurd (not-suc-le-zero h)
-below-at n (k ∷ ks) e zero h = ltb-true k n (and-left (ltb k n) (allBelow n ks) e)
-below-at n (k ∷ ks) e (suc i) h = below-at n ks (and-right (ltb k n) (allBelow n ks) e) i (le-of-suc-le-suc h)
 
 place-is : (k : ℕ) (ks : List ℕ) → placeOf k ks < length ks → getD ks (placeOf k ks) 0 ≡ k
 unfolding placeOf

@@ -7,6 +7,7 @@ use mathlib.Core.List.{List, [], _∷_, map}
 use lib.Dec.{ltb, eqb}
 use lib.ListN.{length}
 use Rattle.octets.specs.Pick.{pick}
+use Rattle.octets.specs.Lists.{allBelow}
 use Rattle.strings.specs.Table.{standardOffsets, standardOrder}
 use Rattle.strings.specs.Text.{sameText, orderOf}
 use Rattle.strings.specs.Strings.{standardStrings, standardString}
@@ -35,11 +36,6 @@ unfoldable pub ordered : List (List ℕ) → Bool
 ordered [] = true
 ordered (s ∷ []) = true
 ordered (s ∷ (t ∷ ss)) = isLess (orderOf s t) && ordered (t ∷ ss)
-
--- each number is below n
-unfoldable pub allBelow : ℕ → List ℕ → Bool
-allBelow n [] = true
-allBelow n (k ∷ ks) = ltb k n && allBelow n ks
 
 -- where k stands in a list, and the list's length where it does not
 unfoldable pub placeOf : ℕ → List ℕ → ℕ

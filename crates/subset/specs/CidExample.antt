@@ -5,6 +5,7 @@ use mathlib.Core.Path.{_≡_, refl, ap, _∙_}
 use mathlib.Core.Bool.{true}
 use mathlib.Core.List.{List, [], _∷_}
 use Rattle.octets.specs.Octets.{be, numAt, bytesOf}
+use Rattle.octets.specs.Lists.{allBelow}
 use Rattle.index.specs.Write.{total, join, sizeFor, ends, tableBytes, headBytes, itemsBytes, indexBytes}
 use Rattle.decimal.specs.Decimal.{zerosOf, zeros, stripped, normal}
 use Rattle.decimal.specs.Values.{truncOf}
@@ -23,7 +24,7 @@ use Rattle.subset.specs.Kept.{isIn, those, placed, sortedBy, fdsOf, newF
 use Rattle.subset.specs.Pruned.{Pruned, pruned}
 use Rattle.subset.specs.Texts.{hasText, ownStrings, placeIn, newId, namedEntries, textsOf}
 use Rattle.subset.specs.Subset.{namedBytes, copiedBytes, privateParts, fontDicts, cidsOf, newFds, subsetByCid, subsetBytes}
-use Rattle.subset.specs.Cut.{Outcome, subset, allBelow, allFound, written, cutRead, cutOf}
+use Rattle.subset.specs.Cut.{Outcome, subset, allFound, written, cutRead, cutOf}
 use Rattle.subset.specs.CidFont.{cidFont, cidProgram, reads, reach, reach-rows, wrongReach, wrong-rows}
 use Rattle.subset.specs.BodiesExample.{used, order, renumberedBodies, unrenumberedBodies, bodies-renumbered, bodies-stubbed, bodies-copied}
 

@@ -5,6 +5,7 @@ use Prim.Native.Nat.{ℕ}
 use mathlib.Core.Path.{_≡_, refl}
 use mathlib.Core.List.{List, [], _∷_, _++_}
 use Rattle.octets.specs.Octets.{be, numAt}
+use Rattle.octets.specs.Lists.{allBelow}
 use Rattle.index.specs.Index.{offsets, runOf, judged, dataAt, tableAt, indexAt, pieces, itemsOf, told, readIndex}
 use Rattle.decimal.specs.Decimal.{zerosOf, zeros, stripped, normal}
 use Rattle.decimal.specs.Number.{numberAt, realAt}
@@ -88,7 +89,7 @@ pub reads : readFont cidFont ≡ got cidProgram
 unfolding
     readFont setAt fontsAt fontAt cidParts fdsAt idsAt privatesAt privateAt privateData localsAt readIndex told itemsOf pieces indexAt tableAt dataAt judged runOf
     offsets numAt be dictOf gathered readingsAt readingsFrom entryAt entryFrom tokenAt operatorAt numberAt realAt normal stripped zeros zerosOf truncOf lastOf
-    lastFrom listOf idsFrom charsetAt select.fdSelectAt select.allBelow
+    lastFrom listOf idsFrom charsetAt select.fdSelectAt allBelow
 reads = refl
 
 -- the record of glyphs 0, 1, 3 and 4, as the Rust's trace gives it

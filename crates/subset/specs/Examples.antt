@@ -4,6 +4,7 @@ use mathlib.Core.Path.{_≡_, refl}
 use mathlib.Core.Bool.{false}
 use mathlib.Core.List.{List, [], _∷_}
 use Rattle.octets.specs.Octets.{be, numAt, bytesOf}
+use Rattle.octets.specs.Lists.{allBelow}
 use Rattle.type2_number.specs.Number.{keep24, rounded}
 use Rattle.type2_number.specs.Number as t2
 use Rattle.type2_number.specs.Encoding as t2e
@@ -32,7 +33,7 @@ use Rattle.subset.specs.Kept.{isIn, those, fdsOf}
 use Rattle.subset.specs.Pruned.{countBelow, each, renumberedBody, renumberedSubrs, renumbered, pruned}
 use Rattle.subset.specs.Texts.{hasText, ownStrings, placeIn, newId, namedEntries, textsOf, namesOf}
 use Rattle.subset.specs.Subset.{namedBytes, copiedBytes, newIds, subsetByName, subsetBytes}
-use Rattle.subset.specs.Cut.{subset, allBelow, allFound, cutOf}
+use Rattle.subset.specs.Cut.{subset, allFound, cutOf}
 
 abbrev sheet : List ℕ
 sheet =

@@ -11,6 +11,7 @@ use lib.Seq.{take-at}
 use Rattle.octets.specs.Pick.{pick}
 use Rattle.octets.specs.Octets.{put}
 use Rattle.octets.specs.PutLaws.{put-length, drop-put-at}
+use Rattle.octets.specs.Lists.{allBelow}
 use Rattle.unfold.specs.Unfold.{Row}
 use Rattle.dict.specs.Lookup.{cidKeyed}
 use Rattle.charset.specs.FdSelectBytes.{Fds}
@@ -23,8 +24,8 @@ use Rattle.subset.specs.KeptListLaws.{those-has}
 use Rattle.subset.specs.EachLaws.{length-mapped}
 use Rattle.subset.specs.Pruned.{countBelow, pruned}
 use Rattle.subset.specs.Subset.{ownByCid, newFds, subsetByCid}
-use Rattle.subset.specs.Cut.{Outcome, allBelow, written}
-use Rattle.faithful.specs.KeptLaws.{kept-some, kept-below, order-same, order-in}
+use Rattle.subset.specs.Cut.{Outcome, written}
+use Rattle.faithful.specs.KeptLaws.{kept-some, order-same, order-in, all-below}
 use Rattle.faithful.specs.UsedLaws.{used-there}
 use Rattle.kept.specs.Packed.{packed, glyphsIn, Begins}
 use Rattle.kept.specs.FdsLaws.{glyphs-packed}
@@ -135,16 +136,13 @@ module _ (b : List ℕ) (f : Font) (held : FontHeld b f) where
     abbrev order : List ℕ
     order = writtenOrder p kept
 
-    below : (i : ℕ) → i < length order → getD order i 0 < length (p .charstrings)
-    below i h = kept-below (length (p .charstrings)) keep (getD order i 0) (order-in p kept i h)
-
     k-words : n + k ≤ length ws
     k-words = omega (arith, g .few, g .room)
 
     -- the glyphs of the words
     pub order-held : orderIn k ws ≡ order
     order-held =
-        ap glyphsIn (g .glyphs) ∙ glyphs-packed (p .ids) order (below-all 65536 order (λ i h. omega (arith, below i h, many-glyphs, few-glyphs)))
+        ap glyphsIn (g .glyphs) ∙ glyphs-packed (p .ids) order (below-all 65536 order (λ i h. omega (arith, all-below (length (p .charstrings)) keep order (order-in p kept) i h, many-glyphs, few-glyphs)))
 
     -- what their ranking asks
     pub ranks-asked : (table : List ℕ) → 256 ≤ length table → (n + k ≤ length ws) × (256 ≤ length table) × Fds (part ws n k)
@@ -159,17 +157,17 @@ module _ (b : List ℕ) (f : Font) (held : FontHeld b f) where
       pub fds-used : fdsIn used ≡ usedFds p kept
       fds-used =
           ap (λ (t : ℕ → Bool). those t 256 0) (fun-ext (λ d. use-mark (eqb (getD used d 0) 0)))
-          ∙ sym (table-used p kept order (held .program) (order-same p kept) below ws n k (g .fds) table used long ranks)
+          ∙ sym (table-used p kept order (held .program) (order-same p kept) (all-below (length (p .charstrings)) keep order (order-in p kept)) ws n k (g .fds) table used long ranks)
 
       pub fds-counted : (count : ℕ) → count ≡ countBelow (λ f. isIn f (part ws n k)) 256 → count ≡ length (fdsIn used)
       fds-counted count e =
-          e ∙ table-count p kept order (held .program) (order-same p kept) below ws n k (g .fds) table used long ranks ∙ ap length (sym fds-used)
+          e ∙ table-count p kept order (held .program) (order-same p kept) (all-below (length (p .charstrings)) keep order (order-in p kept)) ws n k (g .fds) table used long ranks ∙ ap length (sym fds-used)
 
       there-used : UsedOf (length (p .privates)) used
       there-used d h u = used-there p kept d (ap (isIn d) (sym fds-used) ∙ those-has (inUse used) 256 0 d (omega arith) (omega arith) u)
 
       numbers : Numbered used (part ws n k)
-      numbers = table-numbered p kept order (held .program) (order-same p kept) below ws n k (g .fds) table used long ranks
+      numbers = table-numbered p kept order (held .program) (order-same p kept) (all-below (length (p .charstrings)) keep order (order-in p kept)) ws n k (g .fds) table used long ranks
 
       use-of : (i : ℕ) → i < k → inUse used (getD (p .fds) (getD order i 0) 0) ≡ true
       use-of i h =
@@ -194,7 +192,7 @@ module _ (b : List ℕ) (f : Font) (held : FontHeld b f) where
                   glyphs = g .glyphs;
                   fds = λ e. ap (λ (m : ℕ). part ws m k) many-glyphs ∙ g .fds;
                   keyed = keyed;
-                  there = λ i h. below i (omega (arith, g .many));
+                  there = λ i h. all-below (length (p .charstrings)) keep order (order-in p kept) i (omega (arith, g .many));
                   within = use-of;
                 });
             room = omega (arith, words, g .size);
@@ -216,7 +214,7 @@ module _ (b : List ℕ) (f : Font) (held : FontHeld b f) where
         news-planned : newFdsBy used (part new n k) ≡ newFds p (fdsIn used) order
         news-planned =
             ap (newFdsBy used) part-same
-            ∙ table-new-fds p kept order (held .program) (order-same p kept) below ws n k (g .fds) table used long ranks
+            ∙ table-new-fds p kept order (held .program) (order-same p kept) (all-below (length (p .charstrings)) keep order (order-in p kept)) ws n k (g .fds) table used long ranks
             ∙ ap (λ (l : List ℕ). newFds p l order) (sym fds-used)
 
         pub cid-ready : (ats counts reacheds : List ℕ) → Ready b f rows used new r ats counts reacheds → r .kept .cid ≡ true

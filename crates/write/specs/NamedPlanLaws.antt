@@ -8,6 +8,7 @@ use native.Mathlib.Omega.{arith}
 use lib.Dec.{eqb}
 use lib.ListN.{length, take, getD, replicate}
 use lib.Seq.{length-take-le}
+use Rattle.octets.specs.ListLaws.{zeros-at}
 use Rattle.unfold.specs.Unfold.{Row}
 use Rattle.cff.specs.Font.{Program}
 use Rattle.cff.specs.Reads.{programOf}
@@ -37,14 +38,9 @@ one-used : (l : List ℕ) (n : ℕ) → getD l 0 0 ≡ 1 → ((d : ℕ) → inUs
 unfolding those
 one-used l n e low = rw e (ap (λ (x : List ℕ). 0 ∷ x) (those-none (inUse l) n 1 low))
 
-zeros-behind : (n d : ℕ) → _≡_ {A = ℕ} (getD (replicate n 0) d 0) 0
-zeros-behind zero d = refl
-zeros-behind (suc n) zero = refl
-zeros-behind (suc n) (suc d) = zeros-behind n d
-
 first-low : (n d : ℕ) → inUse (1 ∷ replicate n 0) d ≡ true → d < 1
 first-low n zero u = omega arith
-first-low n (suc d) u = let w : false ≡ true = ap (λ (x : ℕ). not (eqb x 0)) (sym (zeros-behind n d)) ∙ u in absurd (zero-one cc)
+first-low n (suc d) u = let w : false ≡ true = ap (λ (x : ℕ). not (eqb x 0)) (sym (zeros-at n d)) ∙ u in absurd (zero-one cc)
 
 pub first-only : fdsIn firstFd ≡ 0 ∷ []
 first-only = one-used (1 ∷ replicate 255 0) 255 refl (first-low 255)
