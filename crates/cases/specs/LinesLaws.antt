@@ -10,7 +10,8 @@ use lib.ListN.{length, take, drop, getD, length-drop, drop-of-length-le}
 use lib.Seq.{drop-drop, take-all}
 use borrow.Author.Tests.{eq-eqb, ne-eqb, lt-ltb, le-ltb, le-leb, lt-leb}
 use Rattle.octets.specs.Pick.{pick}
-use Rattle.hexlines.specs.Hexlines.{before, lineEnd, fieldEnd}
+use Rattle.octets.specs.Lists.{before}
+use Rattle.hexlines.specs.Hexlines.{lineEnd, fieldEnd}
 use Rattle.cases.specs.Fields.{fieldBytes, bothSame}
 use Rattle.cases.specs.Lines.{inFront, linesOf, Answering, answerOf, agrees}
 

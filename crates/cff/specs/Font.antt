@@ -51,6 +51,10 @@ pub record Private : Type 0 where
   pub entries : List Entry
   pub locals : List (List ℕ)
 
+-- one with no entry and no subroutine
+abbrev pub emptyPrivate : Private
+emptyPrivate = record { entries = []; locals = [] }
+
 -- a font: the entries of its top DICT; strings, global subroutines and charstrings; the id of each glyph, a string id or a CID; the
 -- Private DICT of each FD, in a name-keyed font the one; and the FD of each glyph
 pub record Program : Type 0 where
@@ -110,7 +114,7 @@ privateData b size offset =
 
 -- the Private DICT that a DICT names; empty where it names none
 unfoldable pub privateAt : List ℕ → PrivateIn → Got Private
-privateAt b NoPrivate = got (record { entries = []; locals = [] })
+privateAt b NoPrivate = got emptyPrivate
 privateAt b (RefusedPrivate n) = refused n
 privateAt b (PrivateEntry size offset) = privateData b size offset
 

@@ -5,9 +5,9 @@ use mathlib.Core.Path.{_≡_}
 use mathlib.Core.Bool.{Bool, true, false}
 use mathlib.Core.List.{List, [], _∷_}
 use lib.Dec.{eqb}
-use lib.ListN.{length, take, drop}
+use lib.ListN.{length}
 use Rattle.octets.specs.Pick.{pick}
-use Rattle.octets.specs.Lists.{allBelow}
+use Rattle.octets.specs.Lists.{allBelow, partOf}
 use Rattle.index.specs.Index.{itemsOf, readIndex, emptyAt}
 use Rattle.index.specs.Good.{Good}
 use Rattle.index.specs.declared.Index.{Index}
@@ -53,10 +53,6 @@ ReadsItems b g (RefusedIndex n) = g ≡ refused n
 ReadsItems b g (FoundIndex ix) = Holds b ix × (g ≡ got (itemsOf b ix))
 
 -- ---- a Private DICT
-
--- the bytes of a DICT
-abbrev pub partOf : List ℕ → ℕ → ℕ → List ℕ
-partOf b start size = take size (drop start b)
 
 -- the Private DICT at these places
 abbrev pub privateOf : List ℕ → PrivateAt → Private

@@ -13,7 +13,7 @@ use Rattle.charset.specs.Charset.{charsetAt}
 use Rattle.charset.specs.CharsetBytes.{Ids, charsetBytes}
 use Rattle.charset.specs.FdSelect.{noFds}
 use Rattle.dict.specs.Dict.{Entry, entries, dictOf}
-use Rattle.cff.specs.Font.{got, Private, Program, privateData, privateAt, idsAt, encodingGot, cidParts, nameParts, fontAt, readFont}
+use Rattle.cff.specs.Font.{got, Private, Program, privateData, privateAt, idsAt, encodingGot, cidParts, nameParts, fontAt, readFont, emptyPrivate}
 use Rattle.cff.specs.ReadsLaws.{no}
 use Rattle.subset.specs.Kept.{privateOf}
 use Rattle.subset.specs.Texts.{namesOf}
@@ -51,7 +51,7 @@ dict-within q ls = omega (arith, length-append (privateDict q ls) (pick (eqb (le
 
 -- and holds the local subroutines of FD 0
 one-local : (es : List Entry) (lss : List (List (List ℕ))) → length lss ≡ 1 → (k : ℕ) → k < length lss
-    → getD {A = Private} (record { entries = es; locals = getD lss 0 [] } ∷ []) k (record { entries = []; locals = [] }) .locals ≡ getD lss k []
+    → getD {A = Private} (record { entries = es; locals = getD lss 0 [] } ∷ []) k emptyPrivate .locals ≡ getD lss k []
 one-local es lss e zero h = refl
 one-local es lss e (suc k) h = absurd (no (omega arith))
 

@@ -2,7 +2,7 @@
 -- once; written are exactly the kept ones, each once.
 use Prim.Native.Nat.{ℕ, zero, suc, _≤_, _<_}
 use mathlib.Core.Path.{_≡_, refl, sym, ap, _∙_}
-use mathlib.Core.Bool.{Bool, true}
+use mathlib.Core.Bool.{true}
 use mathlib.Core.List.{List, _∷_}
 use mathlib.Core.Logic.{⊎-elim}
 use native.Mathlib.Nat.{not-suc-le-zero}
@@ -10,18 +10,14 @@ use native.Mathlib.Omega.{arith}
 use borrow.Author.Tests.{eq-eqb}
 use lib.Dec.{eqb}
 use lib.ListN.{length, getD}
-use Rattle.octets.specs.Pick.{pick, pick-ind}
+use Rattle.octets.specs.Pick.{pick-ind}
 use Rattle.dict.specs.Lookup.{cidKeyed}
 use Rattle.cff.specs.Font.{Program}
-use Rattle.subset.specs.Kept.{isIn, those, keptOf, sortedBy, writtenOrder}
+use Rattle.subset.specs.Kept.{isIn, those, keptOf, sortedBy, writtenOrder, keeps}
 use Rattle.faithful.specs.Faithful.{IsKept}
 use Rattle.subset.specs.KeptListLaws.{in-at, in-place, those-has, those-in, those-count, Distinct, those-distinct, sorted-in, sorted-count, sorted-distinct}
 
 -- ---- kept
-
--- the test of a kept glyph
-abbrev pub keeps : List ℕ → ℕ → Bool
-keeps keep g = pick (eqb g 0) true (isIn g keep)
 
 -- glyph 0 is kept
 keeps-zero : (keep : List ℕ) (g : ℕ) → g ≡ 0 → keeps keep g ≡ true

@@ -14,8 +14,8 @@ use lib.ListN.{length, getD}
 use Rattle.octets.specs.Pick.{pick, pick-ind}
 use Rattle.octets.specs.Lists.{allBelow}
 use Rattle.octets.specs.ListLaws.{below-at}
+use Rattle.octets.specs.Octets.{Octets}
 use Rattle.dict.specs.Lookup.{cidKeyed}
-use Rattle.charset.specs.FdSelectBytes.{Fds}
 use Rattle.cff.specs.Font.{Program}
 use Rattle.subset.specs.Kept.{isIn, those, fdsOf, usedFds, newFd}
 use Rattle.subset.specs.Subset.{newFds}
@@ -35,7 +35,7 @@ fds-has p (x ∷ gs) g h =
     (in-cases x g gs h)
 
 -- FDs are bytes
-pub fds-fit : (p : Program) (gs : List ℕ) (f : ℕ) → Fds (p .fds) → isIn f (fdsOf p gs) ≡ true → f < 256
+pub fds-fit : (p : Program) (gs : List ℕ) (f : ℕ) → Octets (p .fds) → isIn f (fdsOf p gs) ≡ true → f < 256
 unfolding fdsOf
 fds-fit p [] f b h = absurd (in-none f h)
 fds-fit p (x ∷ gs) f b h =
@@ -120,7 +120,7 @@ module _ (p : Program) (kept : List ℕ) (good : GoodProgram p) where
 
   -- they are bytes
   pub new-fds-fit : (order : List ℕ) → ((i : ℕ) → i < length order → isIn (getD order i 0) kept ≡ true)
-      → ((i : ℕ) → i < length order → getD order i 0 < length (p .charstrings)) → Fds (newFds p (usedFds p kept) order)
+      → ((i : ℕ) → i < length order → getD order i 0 < length (p .charstrings)) → Octets (newFds p (usedFds p kept) order)
   unfolding newFds
   new-fds-fit [] a b i = omega arith
   new-fds-fit (g ∷ gs) a b zero =

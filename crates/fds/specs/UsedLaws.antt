@@ -9,7 +9,7 @@ use lib.Dec.{eqb}
 use lib.ListN.{length, take, getD, length-append}
 use Rattle.octets.specs.Pick.{pick}
 use Rattle.unfold.specs.Unfold.{Row}
-use Rattle.cff.specs.Font.{Private, Program}
+use Rattle.cff.specs.Font.{Private, Program, emptyPrivate}
 use Rattle.cff.specs.Find.{localsTotal}
 use Rattle.subset.specs.Kept.{those, localsOf}
 use Rattle.subset.specs.Pruned.{localSet}
@@ -101,10 +101,7 @@ module _ (p : Program) (rows : List Row) where
 
 -- ---- no more locals than the font has
 
-abbrev none : Private
-none = record { entries = []; locals = [] }
-
-total-next : (ps : List Private) (n : ℕ) → localsTotal (take (n + 1) ps) ≡ localsTotal (take n ps) + length (getD ps n none .locals)
+total-next : (ps : List Private) (n : ℕ) → localsTotal (take (n + 1) ps) ≡ localsTotal (take n ps) + length (getD ps n emptyPrivate .locals)
 unfolding localsTotal
 total-next [] zero = omega arith
 total-next [] (suc n) = ap (λ (k : ℕ). localsTotal (take k [])) (let e : suc n + 1 ≡ suc (n + 1) = omega arith in e)

@@ -11,11 +11,11 @@ use Rattle.dict.specs.Lookup.{cidKeyed}
 use Rattle.strings.specs.Strings.{stringText}
 use Rattle.strings.specs.TextLaws.{same-not}
 use Rattle.cff.specs.Font.{Program}
-use Rattle.subset.specs.Kept.{isIn, keptOf, sortedBy, writtenOrder}
+use Rattle.subset.specs.Kept.{isIn, keptOf, sortedBy, writtenOrder, keeps}
 use Rattle.subset.specs.Texts.{hasText, nameOf, namesOf}
 use Rattle.subset.specs.Pruned.{mapped}
 use Rattle.subset.specs.Cut.{allFound}
-use Rattle.kept.specs.Packed.{packed, glyphsIn, keeps, Begins}
+use Rattle.kept.specs.Packed.{packed, glyphsIn, Begins, orderIn}
 use Rattle.subset.specs.EachLaws.{length-mapped}
 use Rattle.kept.specs.FdsLaws.{glyphs-packed}
 use Rattle.kept.specs.FdsOrderLaws.{below-all}
@@ -26,7 +26,7 @@ use Rattle.faithful.specs.KeptLaws.{kept-distinct}
 use Rattle.faithful.specs.FoundLaws.{names-differ}
 use Rattle.own_strings.specs.Slots.{wordNames, Different}
 use Rattle.own_strings.specs.Ready.{NamesReady}
-use Rattle.front.specs.Front.{orderIn, Ordered}
+use Rattle.front.specs.Front.{Ordered}
 
 -- the names by the words are those of their glyphs
 pub words-names : (p : Program) (ws : List ℕ) → ws ≡ packed p (glyphsIn ws) → wordNames (p .strings) ws ≡ namesOf p (glyphsIn ws)

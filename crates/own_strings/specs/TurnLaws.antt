@@ -24,8 +24,9 @@ use Rattle.strings.specs.Strings.{stringText, sidOf}
 use Rattle.strings.specs.StringsLaws.{string-own, string-none}
 use Rattle.strings.specs.declared.Sid.{Sid}
 use Rattle.strings.specs.declared.Sid.the-variants.{Standard, Other}
+use Rattle.subset.specs.Texts.{slotOf}
 use Rattle.own_strings.specs.declared.Own.{Own}
-use Rattle.own_strings.specs.Slots.{slotOf, rosSlots, firstSlots, entrySlots, slotsOf, slotHas, slotWith, givenOr, givenId, counted}
+use Rattle.own_strings.specs.Slots.{rosSlots, firstSlots, entrySlots, slotsOf, slotHas, slotWith, givenOr, givenId, counted}
 use Rattle.own_strings.specs.Ready.{HasStrings}
 
 -- ---- the slots of a top DICT

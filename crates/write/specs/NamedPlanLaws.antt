@@ -19,13 +19,14 @@ use Rattle.subset.specs.Kept.{isIn, those}
 use Rattle.subset.specs.Pruned.{Pruned, mapped, pruned}
 use Rattle.subset.specs.EachLaws.{length-mapped}
 use Rattle.subset.specs.KeptListLaws.{in-cases, in-none, in-head, those-has, those-in}
+use Rattle.kept.specs.Packed.{orderIn}
 use Rattle.faithful.specs.UsedLaws.{fd-there}
 use Rattle.glyph_tables.specs.ThoseLaws.{those-none}
 use Rattle.fds.specs.Locals.{inUse, fdsIn}
 use Rattle.front.specs.Front.{Renamed}
 use Rattle.front.specs.ByNameLaws.{renamed-stays}
 use Rattle.own_strings.specs.declared.Own.{Own}
-use Rattle.parts.specs.Ready.{orderIn, PlanIn, bodiesFor, Ready, Summed}
+use Rattle.parts.specs.Ready.{PlanIn, bodiesFor, Ready, Summed}
 use Rattle.parts.specs.declared.Planned.{Planned}
 use Rattle.write.specs.BothLaws.{part-stays}
 use Rattle.write.specs.Entry.{Cut}

@@ -6,10 +6,11 @@ use Rattle.index.specs.Index.{itemsOf}
 use Rattle.index.specs.IndexLaws.{items-length}
 use Rattle.strings.specs.Table.{standardNames, standardOffsets}
 use Rattle.strings.specs.Text.{codes}
-use Rattle.strings.specs.Strings.{joined, standardStrings, standardText}
+use Rattle.strings.specs.Strings.{standardStrings, standardText}
 use Rattle.strings.specs.StringsLaws.{string-standard, string-own, string-none}
 use Rattle.kept.specs.FoundLaws.{name-by}
 use borrow.Author.Needs.{needs}
+use Rattle.octets.specs.Lists.{joined}
 use Rattle.kept.proofs.found.name_found.Statement.{statement}
 use Rattle.kept.proofs.found.name_found.Tie as tie
 
