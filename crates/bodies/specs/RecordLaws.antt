@@ -6,21 +6,20 @@ use mathlib.Core.Bool.{Bool, true, false, not}
 use mathlib.Core.List.{List, [], _∷_}
 use native.Mathlib.Decide.{decLe}
 use native.Mathlib.Omega.{arith}
-use borrow.Author.Tests.{lt-ltb, le-ltb, eqb-true, eq-eqb, ne-eqb}
+use borrow.Author.Tests.{lt-ltb, eqb-true, eq-eqb, ne-eqb}
 use lib.Dec.{eqb}
 use lib.IntN.{ℤ}
 use lib.ListN.{length, take, drop, getD}
-use lib.Seq.{getD-take, getD-drop}
 use Rattle.octets.specs.Pick.{pick}
 use Rattle.unfold.specs.Unfold.{Row, Site, glyph}
-use Rattle.prune.specs.Renumber.{none, new, Calls}
+use Rattle.prune.specs.Renumber.{Calls}
 use Rattle.prune.specs.StepLaws.{zero-one}
 use Rattle.cff.specs.Font.{Program}
 use Rattle.subset.specs.Kept.{those}
 use Rattle.subset.specs.Pruned.{May, fail, yes as made, and, each, mapped, countBelow, rank, reached, renumberedBody, renumberedSubrs, stubbedFrom, callsIn}
 use Rattle.reach.specs.Reach.{ranksOf}
-use Rattle.reach.specs.WordLaws.{HoldRanks}
-use Rattle.renumber.specs.RanksLaws.{HoldsRanks, rank-get, numbers-rank}
+use Rattle.reach.specs.WordLaws.{HoldRanks, rank-word}
+use Rattle.renumber.specs.RanksLaws.{HoldsRanks, past-unreached}
 use Rattle.renumber.specs.declared.Ranks.{Ranks}
 use Rattle.bodies.specs.Ways.{holds, newBody, bodyBy, subrsBy, reachedIn, glyphAt, every, callsAt, charstringBy, newCharstrings, charstringsBy}
 use Rattle.bodies.specs.Pruning.{allHold, renumberedGlyph, bodiesBy}
@@ -42,11 +41,7 @@ reached-word ws own set k h w = rw (lt-ltb k (own .count) h) (ap (λ (x : ℕ). 
 -- below the count the words say what the set has: by the ranks as a list, and by the ranks as reach holds them
 pub reached-below : (ws : List ℕ) (own : Ranks) (set : ℕ → Bool) → take (own .count) (drop (own .at) ws) ≡ ranksOf set 0 (own .count)
     → (k : ℕ) → k < own .count → reachedIn ws own k ≡ set k
-reached-below ws own set e k h =
-    let z : 0 + k ≡ k = omega arith in
-    reached-word ws own set k h
-    (sym (getD-drop (own .at) ws k 0) ∙ sym (getD-take (own .count) (drop (own .at) ws) k 0 h) ∙ ap (λ (l : List ℕ). getD l k 0) e
-    ∙ rank-get set 0 (own .count) k h ∙ ap (λ (j : ℕ). pick (set j) (countBelow set j + 1) 0) z)
+reached-below ws own set e k h = reached-word ws own set k h (rank-word ws (own .at) (own .count) set e k h)
 
 pub reached-held : (ws : List ℕ) (own : Ranks) (set : ℕ → Bool) → HoldRanks ws (own .at) set (own .count) → (k : ℕ) → k < own .count → reachedIn ws own k ≡ set k
 reached-held ws own set e k h = reached-word ws own set k h (e .word k h)
@@ -55,16 +50,9 @@ reached-held ws own set e k h = reached-word ws own set k h (e .word k h)
 pub reached-same : (ws : List ℕ) (own : Ranks) (set : ℕ → Bool) → HoldsRanks ws own set → (k : ℕ) → reachedIn ws own k ≡ set k
 reached-same ws own set h k = go (decLe (k + 1) (own .count))
   where
-    past : own .count ≤ k → set k ≡ false
-    past l = out (set k) (sym (numbers-rank ws own set h k) ∙ rw (le-ltb k (own .count) l))
-      where
-        out : (t : Bool) → pick t (new (countBelow set k)) none ≡ none → t ≡ false
-        out true e = absurd (zero-one cc)
-        out false e = refl
-
     go : Dec (k + 1 ≤ own .count) → reachedIn ws own k ≡ set k
     go (yes l) = reached-below ws own set (h .words) k (omega arith)
-    go (no l) = let m : own .count ≤ k = omega arith in reached-none ws own k m ∙ sym (past m)
+    go (no l) = let m : own .count ≤ k = omega arith in reached-none ws own k m ∙ sym (past-unreached ws own set h k m)
 
 -- sets that are the same below n have as many below it
 pub count-alike : (set set' : ℕ → Bool) (n : ℕ) → ((k : ℕ) → k < n → set k ≡ set' k) → countBelow set n ≡ countBelow set' n

@@ -1,9 +1,8 @@
 -- Subroutines by the way, number by number: those that are written, and what each is.
-use Prim.Native.Nat.{ℕ, zero, suc, _+_, _≤_, _<_}
+use Prim.Native.Nat.{ℕ, suc, _+_, _≤_, _<_}
 use mathlib.Core.Path.{_≡_, refl, sym, ap, _∙_}
 use mathlib.Core.Bool.{Bool, true, false, not}
 use mathlib.Core.List.{List, [], _∷_}
-use native.Mathlib.Decide.{decLe}
 use native.Mathlib.Omega.{arith}
 use borrow.Author.Tests.{le-ltb, eqb-true, eq-eqb, ne-eqb}
 use lib.Dec.{eqb}
@@ -17,6 +16,7 @@ use Rattle.prune.specs.Renumber.{Calls}
 use Rattle.prune.specs.StepLaws.{zero-one}
 use Rattle.subset.specs.Kept.{those}
 use Rattle.subset.specs.Pruned.{May, fail, yes as made, and, each, mapped, countBelow, reached, renumberedBody, renumberedSubrs, stubbedFrom}
+use Rattle.subset.specs.ReachedLaws.{count-past}
 use Rattle.renumber.specs.Turn.{bodyOf}
 use Rattle.renumber.specs.declared.Ranks.{Ranks}
 use Rattle.bodies.specs.Ways.{manyOf, holds, newBody, bodyBy, newSubrs, subrsBy, subrBy, reachedIn, isKept, keptCount, every, SubrsIn}
@@ -25,23 +25,13 @@ use Rattle.bodies.specs.declared.subrs.Subrs.{Subrs}
 
 -- ---- what is reached
 
--- a set without numbers from n on has no more below m
-count-flat : (set : ℕ → Bool) (n m : ℕ) → ((i : ℕ) → n ≤ i → set i ≡ false) → n ≤ m → countBelow set m ≡ countBelow set n
-unfolding countBelow
-count-flat set n zero none h = let e : 0 ≡ n = omega arith in ap (countBelow set) e
-count-flat set n (suc m) none h = go (decLe n m) (count-flat set n m none)
-  where
-    go : Dec (n ≤ m) → (n ≤ m → countBelow set m ≡ countBelow set n) → countBelow set m + pick (set m) 1 0 ≡ countBelow set n
-    go (yes k) f = rw (none m k) (omega (arith, f k))
-    go (no k) f = let e : suc m ≡ n = omega arith in ap (countBelow set) e
-
 -- no number from the count on is reached
 pub reached-none : (ws : List ℕ) (own : Ranks) (i : ℕ) → own .count ≤ i → reachedIn ws own i ≡ false
 reached-none ws own i h = rw (le-ltb i (own .count) h)
 
 -- the words have no number without a subroutine
 pub reached-all : (ws : List ℕ) (own : Ranks) → own .count < 65536 → reached (reachedIn ws own) ≡ countBelow (reachedIn ws own) (own .count)
-reached-all ws own h = count-flat (reachedIn ws own) (own .count) 65536 (reached-none ws own) (omega arith)
+reached-all ws own h = count-past (reachedIn ws own) (own .count) 65536 (reached-none ws own) (omega arith)
 
 -- ---- each by its number
 

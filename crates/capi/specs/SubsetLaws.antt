@@ -11,6 +11,8 @@ use lib.ListN.{length, take, drop, set, take-append-drop}
 use lib.Seq.{length-take-le, take-length, drop-length}
 use Rattle.octets.specs.Pick.{pick, pick-ind}
 use Rattle.octets.specs.Octets.{put}
+use Rattle.octets.specs.PutLaws.{put-two}
+use Rattle.octets.specs.Lists.{allBelow}
 use Rattle.dict.specs.Lookup.{rosIn, cidKeyed}
 use Rattle.record.specs.Record.{rowsOf, recordFine}
 use Rattle.cff.specs.Font.{Got, refused as refusedFont, got, Program, readFont}
@@ -20,7 +22,7 @@ use Rattle.cff.specs.ReadingRefusals.{reading-refusal}
 use Rattle.subset.specs.Kept.{keptOf, writtenOrder, usedFds}
 use Rattle.subset.specs.Pruned.{Pruned, Bodies, pruned}
 use Rattle.subset.specs.Subset.{subsetByName, subsetByCid, subsetBytes}
-use Rattle.subset.specs.Cut.{Outcome, refused as refusedCut, subset, allBelow, allFound, hasRos, sameBool, ownOf, written, cutProgram, cutRead, cutOf, leavesOut, leavesWork}
+use Rattle.subset.specs.Cut.{Outcome, refused as refusedCut, subset, allFound, hasRos, sameBool, ownOf, written, cutProgram, cutRead, cutOf, leavesOut, leavesWork}
 use Rattle.faithful.specs.Faithful.{Faithful}
 use Rattle.write.specs.Entry.{answerOf, workIn, Cuts}
 use Rattle.write.specs.declared.Answer.{Answer as CutAnswer}
@@ -92,15 +94,8 @@ no-subset room way bs (sound-subset some few) e = let z : 0 < 0 = omega (arith, 
 
 -- ---- the code
 
--- two words stored
-two-stored : (old : List ℕ) (a b : ℕ) → 2 ≤ length old → set (set old 0 a) 1 b ≡ put old 0 (a ∷ b ∷ [])
-unfolding put
-two-stored [] a b h = absurd (let k : 2 ≤ 0 = h in omega arith)
-two-stored (v ∷ []) a b h = absurd (let k : 2 ≤ 1 = h in omega arith)
-two-stored (v ∷ w ∷ old) a b h = refl
-
 pub answers-two : (a b : ℕ) (old : List ℕ) → 2 ≤ length old → Answers (given (a ∷ b ∷ [])) old (set (set old 0 a) 1 b) 0
-answers-two a b old h = answers-given (a ∷ b ∷ []) old _ h (two-stored old a b h)
+answers-two a b old h = answers-given (a ∷ b ∷ []) old _ h (put-two old a b h)
 
 -- the front that is lent for a subset, put back
 front-back : (o : Outcome) (r : ℕ) (out : List ℕ) → ((way : ℕ) (bs : List ℕ) → o ≡ subset way bs → r ≡ length out)

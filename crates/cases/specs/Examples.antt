@@ -5,8 +5,10 @@ use mathlib.Core.Bool.{true, false}
 use mathlib.Core.List.{List, [], _∷_}
 use mathlib.Core.Option.{some}
 use lib.ListN.{replicate}
-use Rattle.hexlines.specs.Hexlines.{hexValue, before, fieldEnd, isHex, spelt, hexBytes, roomFor}
-use Rattle.cases.specs.Fields.{isDash, fieldBytes, same}
+use Rattle.octets.specs.Lists.{before}
+use Rattle.hexlines.specs.Hexlines.{hexValue, fieldEnd, isHex, spelt, hexBytes, roomFor}
+use Rattle.strings.specs.Text.{sameText}
+use Rattle.cases.specs.Fields.{isDash, fieldBytes}
 use Rattle.cases.specs.Lines.{Answering, linesOf, agrees}
 use Rattle.cases.specs.Tally.{placeOf, counted, countedAll, firstFailed}
 use Rattle.cases.specs.Report.{decimal}
@@ -37,13 +39,13 @@ abbrev empty : List ℕ
 empty = 120 ∷ 32 ∷ 45 ∷ 32 ∷ 45 ∷ []
 
 pub lines-judged : (agrees echo agreeing ≡ true) × (agrees echo differing ≡ false) × (agrees echo unanswered ≡ false) × (agrees echo empty ≡ true)
-unfolding agrees fieldBytes isDash same hexBytes isHex spelt hexValue roomFor fieldEnd before
+unfolding agrees fieldBytes isDash sameText hexBytes isHex spelt hexValue roomFor fieldEnd before
 lines-judged = (refl, refl, refl, refl)
 
 -- three lines by the kinds x and y: one x agreed and one failed, one y failed; the second line is the first that failed
 pub lines-counted : (countedAll (agrees echo) (120 ∷ 121 ∷ []) (replicate 6 0) (agreeing ∷ differing ∷ unanswered ∷ []) ≡ 1 ∷ 1 ∷ 0 ∷ 1 ∷ 0 ∷ 0 ∷ [])
     × (firstFailed (agrees echo) 0 (agreeing ∷ differing ∷ unanswered ∷ []) ≡ 2)
-unfolding countedAll counted placeOf firstFailed agrees fieldBytes isDash same hexBytes isHex spelt hexValue roomFor fieldEnd before
+unfolding countedAll counted placeOf firstFailed agrees fieldBytes isDash sameText hexBytes isHex spelt hexValue roomFor fieldEnd before
 lines-counted = (refl, refl)
 
 pub digits-of-4745 : decimal 20 4745 ≡ 52 ∷ 55 ∷ 52 ∷ 53 ∷ []

@@ -2,22 +2,23 @@
 use Prim.Native.Nat.{ℕ, _+_, _≤_}
 use mathlib.Core.Path.{_≡_, refl, sym, ap, _∙_, subst}
 use mathlib.Core.Bool.{Bool, true, false, false≢true}
-use mathlib.Core.List.{List, [], _∷_}
+use mathlib.Core.List.{List, []}
 use mathlib.Core.Option.{Option, none, some}
 use native.Mathlib.Omega.{arith}
 use lib.Dec.{eqb}
 use lib.ListN.{length, take, getD}
 use lib.Seq.{slice, take-length}
-use borrow.Author.Tests.{eq-eqb, ne-eqb, eqb-true}
+use borrow.Author.Tests.{eq-eqb, ne-eqb}
 use Rattle.octets.specs.Pick.{pick}
-use Rattle.octets.specs.PickLaws.{both-hold}
 use Rattle.octets.specs.PutLaws.{wrote-none, wrote-length, take-put}
 use Rattle.hexlines.specs.Hexlines.{hexBytes, roomFor, Unhexes}
 use Rattle.hexlines.specs.HexlinesLaws.{unhexes-done, done-wrote, room-some}
 use Rattle.hexlines.specs.declared.Unhexed.{Unhexed}
 use Rattle.hexlines.specs.declared.Unhexed.the-variants.{Done, Bad}
+use Rattle.strings.specs.Text.{sameText}
+use Rattle.strings.specs.TextLaws.{same-refl, same-true}
 use Rattle.cases.specs.AnswersLaws.{Lent}
-use Rattle.cases.specs.Fields.{isDash, fieldBytes, same, bothSame}
+use Rattle.cases.specs.Fields.{isDash, fieldBytes, bothSame}
 
 pub dash-one : (t : List ℕ) → length t ≡ 1 → eqb (getD t 0 0) 45 ≡ isDash t
 unfolding isDash
@@ -74,28 +75,12 @@ module _ (room : ℕ) (t old new : List ℕ) (r : Unhexed) (u : Unhexes (fieldBy
 
 -- ---- the same bytes
 
-pub same-true : (a b : List ℕ) → same a b ≡ true → a ≡ b
-unfolding same
-same-true [] [] e = refl
-same-true [] (y ∷ ys) e = absurd (false≢true e)
-same-true (x ∷ xs) [] e = absurd (false≢true e)
-same-true (x ∷ xs) (y ∷ ys) e =
-    let p = both-hold (eqb x y) (same xs ys) e in
-    let h = eqb-true x y (p .0) in
-    let t = same-true xs ys (p .1) in
-    cc
-
-same-self : (a : List ℕ) → same a a ≡ true
-unfolding same
-same-self [] = refl
-same-self (x ∷ xs) = rw (eq-eqb x x refl) (same-self xs)
-
 -- an answer that is true just where two lists are equal
-pub same-is : (a b : List ℕ) (r : Bool) → (r ≡ true → a ≡ b) → (a ≡ b → r ≡ true) → r ≡ same a b
-same-is a b true f g = sym (same-self a) ∙ ap (same a) (f refl)
-same-is a b false f g = other (same a b) refl
+pub same-is : (a b : List ℕ) (r : Bool) → (r ≡ true → a ≡ b) → (a ≡ b → r ≡ true) → r ≡ sameText a b
+same-is a b true f g = sym (same-refl a) ∙ ap (sameText a) (f refl)
+same-is a b false f g = other (sameText a b) refl
   where
-    other : (t : Bool) → same a b ≡ t → false ≡ same a b
+    other : (t : Bool) → sameText a b ≡ t → false ≡ sameText a b
     other true e = absurd (false≢true (g (same-true a b e)))
     other false e = sym e
 

@@ -1,16 +1,17 @@
 -- Laws of lines: the first and the others, and whether a line agrees, by the code's tests.
-use Prim.Native.Nat.{ℕ, zero, suc, _+_, _-_, _≤_, _<_}
+use Prim.Native.Nat.{ℕ, suc, _+_, _-_, _≤_, _<_}
 use mathlib.Core.Path.{_≡_, refl, ap, _∙_}
 use mathlib.Core.Bool.{Bool, true, false}
 use mathlib.Core.List.{List, [], _∷_}
 use native.Mathlib.Nat.{not-suc-le-zero}
 use native.Mathlib.Omega.{arith}
 use lib.Dec.{eqb}
-use lib.ListN.{length, take, drop, getD, length-drop}
+use lib.ListN.{length, take, drop, getD, length-drop, drop-of-length-le}
 use lib.Seq.{drop-drop, take-all}
 use borrow.Author.Tests.{eq-eqb, ne-eqb, lt-ltb, le-ltb, le-leb, lt-leb}
 use Rattle.octets.specs.Pick.{pick}
-use Rattle.hexlines.specs.Hexlines.{before, lineEnd, fieldEnd}
+use Rattle.octets.specs.Lists.{before}
+use Rattle.hexlines.specs.Hexlines.{lineEnd, fieldEnd}
 use Rattle.cases.specs.Fields.{fieldBytes, bothSame}
 use Rattle.cases.specs.Lines.{inFront, linesOf, Answering, answerOf, agrees}
 
@@ -47,15 +48,9 @@ lines-next s at end h e =
     ∙ ap (λ (j : ℕ). take b (drop at s) ∷ linesOf (drop j s)) n
     ∙ ap (λ (j : ℕ). take j (drop at s) ∷ linesOf (drop (end + 1) s)) m
 
-drop-past : (j : ℕ) (l : List ℕ) → length l ≤ j → drop j l ≡ []
-drop-past zero [] h = refl
-drop-past zero (x ∷ xs) h = absurd (not-suc-le-zero h)
-drop-past (suc j) [] h = refl
-drop-past (suc j) (x ∷ xs) h = drop-past j xs (omega arith)
-
 pub lines-none : (s : List ℕ) (at : ℕ) → length s ≤ at → linesOf (drop at s) ≡ []
 unfolding linesOf
-lines-none s at h = ap linesOf (drop-past at s h)
+lines-none s at h = ap linesOf (drop-of-length-le s h)
 
 -- ---- whether a line agrees, by the code's tests
 

@@ -11,9 +11,10 @@ use lib.Dec.{ltb, leb, eqb}
 use lib.ListN.{length, take, drop, getD, set, replicate, length-replicate}
 use borrow.Author.Tests.{eqb-true}
 use Rattle.octets.specs.Pick.{pick}
+use Rattle.octets.specs.Lists.{sumOf}
 use Rattle.hexlines.specs.Hexlines.{fieldEnd}
+use Rattle.strings.specs.TextLaws.{same-true}
 use Rattle.cases.specs.Fields.{fieldBytes, bothSame}
-use Rattle.cases.specs.FieldsLaws.{same-true}
 use Rattle.cases.specs.Lines.{Answering, linesOf, answerOf, agrees}
 use Rattle.cases.specs.Tally.{counted, countedAll, firstFailed, placeOf}
 use Rattle.cases.specs.TallyLaws.{place-small, counted-length}
@@ -84,10 +85,6 @@ all-agreed answer text e i h =
     agrees-means answer (getD (linesOf text) i []) (first-agrees (agrees answer) 0 (linesOf text) (says-all (firstFailed (agrees answer) 0 (linesOf text)) e) i h)
 
 -- ---- the counts
-
-unfoldable pub sumOf : List ℕ → ℕ
-sumOf [] = 0
-sumOf (x ∷ xs) = x + sumOf xs
 
 -- one more at a place among the first m adds one to their sum
 sum-set : (m : ℕ) (l : List ℕ) (i : ℕ) → i < m → i < length l → sumOf (take m (set l i (getD l i 0 + 1))) ≡ sumOf (take m l) + 1

@@ -5,7 +5,7 @@ use mathlib.Core.List.{List, [], _∷_}
 use lib.Dec.{ltb, eqb}
 use lib.ListN.{length, getD, set}
 use Rattle.octets.specs.Pick.{pick}
-use Rattle.hexlines.specs.Hexlines.{before}
+use Rattle.octets.specs.Lists.{before}
 
 -- is this one of the letters?
 unfoldable pub isOneOf : List ℕ → ℕ → Bool

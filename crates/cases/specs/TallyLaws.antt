@@ -9,7 +9,8 @@ use lib.ListN.{length, take, drop, getD, set, replicate, length-set, List·getD-
 use lib.Seq.{slice, take-length, getD-set-same, getD-set-other}
 use borrow.Author.Tests.{eqb-true, eqb-false, ne-eqb}
 use Rattle.octets.specs.Pick.{pick, pick-ind}
-use Rattle.hexlines.specs.Hexlines.{before, lineEnd}
+use Rattle.octets.specs.Lists.{before}
+use Rattle.hexlines.specs.Hexlines.{lineEnd}
 use Rattle.cases.specs.Lines.{linesOf}
 use Rattle.cases.specs.LinesLaws.{lines-next, lines-none}
 use Rattle.cases.specs.Tally.{isOneOf, placeOf, counted, countedAll, firstFailed, earlier, Below}

@@ -2,7 +2,7 @@
 ghost use Prim.Native.Nat.{_+_, _*_, _≤_};
 ghost use mathlib.Core.Path.{_≡_};
 ghost use lib.ListN.{length, getD};
-ghost use Rattle.hexlines.specs.Hexlines.{before};
+ghost use Rattle.octets.specs.Lists.{before};
 ghost use Rattle.cases.specs.Tally.{isOneOf, counted, earlier, Below};
 
 // Whether a kind is one of the letters.

@@ -4,6 +4,7 @@ use mathlib.Core.Path.{_≡_, refl}
 use mathlib.Core.Bool.{true, false}
 use mathlib.Core.List.{List, [], _∷_, _++_}
 use Rattle.octets.specs.Octets.{be, numAt}
+use Rattle.octets.specs.Lists.{allBelow}
 use Rattle.index.specs.Index.{offsets, runOf, judged, dataAt, tableAt, indexAt, pieces, itemsOf, told, readIndex}
 use Rattle.decimal.specs.Decimal.{zerosOf, zeros, stripped, normal}
 use Rattle.decimal.specs.Number.{realAt, numberAt}
@@ -12,7 +13,7 @@ use Rattle.dict.specs.Dict.{tokenAt, operatorAt, entryFrom, entryAt, readingsFr
 use Rattle.dict.specs.Lookup.{lastFrom, lastOf}
 use Rattle.charset.specs.Listed.{listOf}
 use Rattle.charset.specs.Charset.{idsFrom, charsetAt}
-use Rattle.charset.specs.FdSelect.{fdSelectAt, allBelow}
+use Rattle.charset.specs.FdSelect.{fdSelectAt}
 use Rattle.strings.specs.Table.{standardNames}
 use Rattle.strings.specs.Text.{codes, sameText}
 use Rattle.strings.specs.Strings.{standardStrings, standardString, stringText}

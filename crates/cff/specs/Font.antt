@@ -6,6 +6,7 @@ use mathlib.Core.List.{List, [], _∷_}
 use lib.Dec.{ltb, eqb}
 use lib.ListN.{length, take, drop, getD}
 use Rattle.octets.specs.Pick.{pick}
+use Rattle.octets.specs.Lists.{allBelow}
 use Rattle.index.specs.Index.{Read, refused as refusedIndex, found, readIndex}
 use Rattle.dict.specs.Dict.{Entry, Dict, refused as refusedDict, entries, dictOf}
 use Rattle.dict.specs.Op.{esc, subrs}
@@ -16,7 +17,7 @@ use Rattle.dict.specs.declared.PrivateIn.{PrivateIn}
 use Rattle.dict.specs.declared.PrivateIn.the-variants.{Refused as RefusedPrivate, Private as PrivateEntry, Absent as NoPrivate}
 use Rattle.charset.specs.Listed.{Listed, refused as refusedList, listed}
 use Rattle.charset.specs.Charset.{charsetAt, isoAdobe}
-use Rattle.charset.specs.FdSelect.{fdSelectAt, noFds, allBelow}
+use Rattle.charset.specs.FdSelect.{fdSelectAt, noFds}
 use Rattle.charset.specs.Encoding.{encodingAt}
 
 -- the operators of the offsets that reading follows
@@ -49,6 +50,10 @@ then (got a) f = f a
 pub record Private : Type 0 where
   pub entries : List Entry
   pub locals : List (List ℕ)
+
+-- one with no entry and no subroutine
+abbrev pub emptyPrivate : Private
+emptyPrivate = record { entries = []; locals = [] }
 
 -- a font: the entries of its top DICT; strings, global subroutines and charstrings; the id of each glyph, a string id or a CID; the
 -- Private DICT of each FD, in a name-keyed font the one; and the FD of each glyph
@@ -109,7 +114,7 @@ privateData b size offset =
 
 -- the Private DICT that a DICT names; empty where it names none
 unfoldable pub privateAt : List ℕ → PrivateIn → Got Private
-privateAt b NoPrivate = got (record { entries = []; locals = [] })
+privateAt b NoPrivate = got emptyPrivate
 privateAt b (RefusedPrivate n) = refused n
 privateAt b (PrivateEntry size offset) = privateData b size offset
 

@@ -9,6 +9,7 @@ use lib.Dec.{ltb, eqb}
 use lib.ListN.{length}
 use Rattle.octets.specs.Pick.{pick}
 use Rattle.octets.specs.Octets.{Octets}
+use Rattle.octets.specs.Lists.{allBelow}
 use Rattle.index.specs.Index.{emptyAt, indexAt, itemsOf, readIndex}
 use Rattle.index.specs.IndexLaws.{items-length}
 use Rattle.index.specs.declared.Index.{Index}
@@ -28,7 +29,7 @@ use Rattle.charset.specs.Listed.{Listed, refused as refusedList, listed}
 use Rattle.charset.specs.Charset.{charsetAt, isoAdobe}
 use Rattle.charset.specs.CharsetPlaces.{tableAt, predefined, idsOf, GoodCharset, charsetAnswer}
 use Rattle.charset.specs.CharsetFound.{found-good as charset-good, found-ids, predefined-ids, predefined-good}
-use Rattle.charset.specs.FdSelect.{fdSelectAt, noFds, allBelow}
+use Rattle.charset.specs.FdSelect.{fdSelectAt, noFds}
 use Rattle.charset.specs.FdPlaces.{noSelect, selectAt, selectAnswer, fdsOf, GoodSelect}
 use Rattle.charset.specs.FdFound.{found-good as select-good, found-fds, no-select-good, no-select-fds}
 use Rattle.charset.specs.Encoding.{encodingAt}

@@ -8,6 +8,7 @@ use native.Mathlib.Omega.{arith}
 use lib.Dec.{ltb, eqb}
 use lib.ListN.{length, take, drop, getD}
 use Rattle.octets.specs.Pick.{pick}
+use Rattle.octets.specs.Lists.{allBelow}
 use Rattle.decimal.specs.declared.Decimal.{Decimal}
 use Rattle.decimal.specs.declared.OffsetOf.{OffsetOf}
 use Rattle.decimal.specs.declared.OffsetOf.the-variants.{Refused as RefusedOffsetOf, Offset}
@@ -24,7 +25,7 @@ use Rattle.dict.specs.declared.PrivateIn.{PrivateIn}
 use Rattle.dict.specs.declared.PrivateIn.the-variants.{Refused as RefusedPrivate, Private as PrivateEntry, Absent as NoPrivate}
 use Rattle.charset.specs.Listed.{Listed}
 use Rattle.charset.specs.Charset.{charsetAt, isoAdobe}
-use Rattle.charset.specs.FdSelect.{fdSelectAt, noFds, allBelow}
+use Rattle.charset.specs.FdSelect.{fdSelectAt, noFds}
 use Rattle.charset.specs.Encoding.{encodingAt}
 use Rattle.cff.specs.Font.{charset, encoding, charStrings, fdArray, fdSelect, Got, refused, got, then, Private, Program, indexGot, dictGot, listGot, unless, needed, orZero, localsAt, privateData, privateAt, privatesAt, idsAt, fdsAt, encodingGot, cidParts, nameParts, fontAt, fontsAt, firstOf, indexThen, setAt, readFont}
 use Rattle.cff.specs.FontLaws.{unless-refused}

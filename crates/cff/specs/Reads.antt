@@ -5,8 +5,9 @@ use mathlib.Core.Path.{_≡_}
 use mathlib.Core.Bool.{Bool, true, false}
 use mathlib.Core.List.{List, [], _∷_}
 use lib.Dec.{eqb}
-use lib.ListN.{length, take, drop}
+use lib.ListN.{length}
 use Rattle.octets.specs.Pick.{pick}
+use Rattle.octets.specs.Lists.{allBelow, partOf}
 use Rattle.index.specs.Index.{itemsOf, readIndex, emptyAt}
 use Rattle.index.specs.Good.{Good}
 use Rattle.index.specs.declared.Index.{Index}
@@ -16,7 +17,6 @@ use Rattle.dict.specs.Places.{entriesOf, Good as GoodDict}
 use Rattle.dict.specs.Dict.{Entry, dictOf}
 use Rattle.dict.specs.Lookup.{offsetIn, privateIn, cidKeyed, charstringTypeIn}
 use Rattle.charset.specs.CharsetPlaces.{idsOf, GoodCharset}
-use Rattle.charset.specs.FdSelect.{allBelow}
 use Rattle.charset.specs.FdPlaces.{fdsOf, GoodSelect}
 use Rattle.charset.specs.declared.CharsetAt.{CharsetAt}
 use Rattle.charset.specs.declared.CharsetAt.the-variants.{Refused as RefusedCharset, Found as FoundCharset}
@@ -53,10 +53,6 @@ ReadsItems b g (RefusedIndex n) = g ≡ refused n
 ReadsItems b g (FoundIndex ix) = Holds b ix × (g ≡ got (itemsOf b ix))
 
 -- ---- a Private DICT
-
--- the bytes of a DICT
-abbrev pub partOf : List ℕ → ℕ → ℕ → List ℕ
-partOf b start size = take size (drop start b)
 
 -- the Private DICT at these places
 abbrev pub privateOf : List ℕ → PrivateAt → Private

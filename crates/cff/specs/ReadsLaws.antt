@@ -8,10 +8,11 @@ use native.Mathlib.Numerals.{add-one}
 use native.Mathlib.Omega.{arith}
 use borrow.Author.Tests.{lt-ltb, le-ltb, eq-eqb, ne-eqb}
 use lib.Dec.{ltb, eqb, lit≤, lit<}
-use lib.ListN.{length, take, drop, getD, length-take, length-drop}
+use lib.ListN.{length, drop, getD, length-take, length-drop}
 use lib.Seq.{drop-cons, drop-nil}
 use Rattle.octets.specs.Pick.{pick, pick-ind}
 use Rattle.octets.specs.Octets.{Octets}
+use Rattle.octets.specs.Lists.{partOf}
 use Rattle.index.specs.Index.{firstOf, offsets, runOf, emptyAt, indexAt, pieces, itemsOf, Read, refused as refusedRead, found, told, readIndex}
 use Rattle.index.specs.Good.{Good}
 use Rattle.index.specs.IndexLaws.{items-length}
@@ -34,9 +35,9 @@ use Rattle.dict.specs.declared.OffsetIn.{OffsetIn}
 use Rattle.dict.specs.declared.OffsetIn.the-variants.{Refused as RefusedOffset, At, Absent as NoOffset}
 use Rattle.dict.specs.declared.PrivateIn.{PrivateIn}
 use Rattle.dict.specs.declared.PrivateIn.the-variants.{Refused as RefusedEntry, Private as PrivateEntry, Absent as NoPrivate}
-use Rattle.cff.specs.Font.{Got, refused, got, then, Private, Program, indexGot, dictGot, localsAt, privateData, privateAt, privatesAt}
+use Rattle.cff.specs.Font.{Got, refused, got, then, Private, Program, indexGot, dictGot, localsAt, privateData, privateAt, privatesAt, emptyPrivate}
 use Rattle.cff.specs.Find.{localsTotal}
-use Rattle.cff.specs.Reads.{Holds, ReadsItems, partOf, privateOf, GoodPrivate, noPrivate, ReadsPrivate, Known, fdPrivate, ReadsNext, ReadsLocals}
+use Rattle.cff.specs.Reads.{Holds, ReadsItems, privateOf, GoodPrivate, noPrivate, ReadsPrivate, Known, fdPrivate, ReadsNext, ReadsLocals}
 use Rattle.cff.specs.declared.private.PrivateAt.{PrivateAt}
 use Rattle.cff.specs.declared.private.PrivateRead.{PrivateRead}
 use Rattle.cff.specs.declared.private.PrivateRead.the-variants.{Refused as RefusedPrivate, Found as FoundPrivate}
@@ -167,10 +168,6 @@ module _ (b : List ℕ) (offset : ℕ) (s r : OffsetIn) (e : r ≡ s) where
 
 -- ---- a Private DICT
 
--- its bytes, as the code takes them
-pub part-sized : (b : List ℕ) (offset size : ℕ) → take (offset + size - offset) (drop offset b) ≡ partOf b offset size
-part-sized b offset size = let e : offset + size - offset ≡ size = omega arith in ap (λ n. take n (drop offset b)) e
-
 module _ (b : List ℕ) (size offset : ℕ) where
   pub private-short : length b < offset + size → ReadsPrivate b (privateData b size offset) (RefusedPrivate 1)
   unfolding privateData
@@ -233,14 +230,14 @@ module _ (b : List ℕ) (s r : PrivateIn) (e : r ≡ s) where
   next-read size offset f x h = subst (λ g. ReadsNext b g x) (sym (ap (privateAt b) (sym e ∙ f))) h
 
 -- no Private DICT is one of no bytes at 0
-pub none-data : (b : List ℕ) → privateData b 0 0 ≡ got (record { entries = []; locals = [] })
+pub none-data : (b : List ℕ) → privateData b 0 0 ≡ got emptyPrivate
 unfolding privateData localsAt lastOf lastFrom
 none-data b =
     rw (le-ltb (length b) 0 (omega arith))
     (then-got _ _ [] (dict-entries [] empty-dict ∙ ap got empty-entries))
 
 unfoldable pub known-none : (b : List ℕ) → Known b (record { size = 0; offset = 0; locals = 0 })
-known-none b = record { private = record { entries = []; locals = [] }; few = lit< tt; counted = refl; is = none-data b }
+known-none b = record { private = emptyPrivate; few = lit< tt; counted = refl; is = none-data b }
 
 pub next-none : (b : List ℕ) (s r : PrivateIn) → r ≡ s → r ≡ NoPrivate → ReadsNext b (privateAt b s) (ReadNext (record { size = 0; offset = 0; locals = 0 }))
 unfolding privateAt known-none

@@ -3,9 +3,10 @@ use mathlib.Core.Path.{_≡_, refl}
 use mathlib.Core.Bool.{true, false}
 use mathlib.Core.List.{[], _∷_}
 use Rattle.octets.specs.Octets.{be, bytesOf}
+use Rattle.octets.specs.Lists.{allBelow}
 use Rattle.charset.specs.Listed.{refused, listed, listOf}
 use Rattle.charset.specs.Charset.{idsFrom, charsetAt, isoAdobe}
-use Rattle.charset.specs.FdSelect.{rangeEnd, fdIn, rangesRefusal, rangeFds, fdSelectAt, noFds, allBelow}
+use Rattle.charset.specs.FdSelect.{rangeEnd, fdIn, rangesRefusal, rangeFds, fdSelectAt, noFds}
 use Rattle.charset.specs.Encoding.{encodingAt}
 use Rattle.charset.specs.CharsetBytes.{idBytes, charsetBytes}
 use Rattle.charset.specs.FdSelectBytes.{changes, entryBytes, fdSelectBytes}

@@ -4,10 +4,10 @@ use mathlib.Core.Path.{_≡_, sym, ap, _∙_}
 use mathlib.Core.Bool.{true, false}
 use mathlib.Core.List.{_∷_}
 use native.Mathlib.Omega.{arith}
-use borrow.Author.Tests.{le-leb, lt-leb}
+use borrow.Author.Tests.{lt-ltb, le-ltb}
+use Rattle.octets.specs.Lists.{allBelow}
 use Rattle.charset.specs.Listed.{listOf}
 use Rattle.charset.specs.ListedLaws.{list-none, list-more}
-use Rattle.charset.specs.FdSelect.{allBelow}
 
 module _ (f : ℕ → ℕ) (count g n fd : ℕ) (h : g < n) (e : fd ≡ f g) where
   more : listOf f g (n - g) ≡ fd ∷ listOf f (g + 1) (n - (g + 1))
@@ -18,11 +18,11 @@ module _ (f : ℕ → ℕ) (count g n fd : ℕ) (h : g < n) (e : fd ≡ f g) whe
 
   pub below-stops : count ≤ fd → false ≡ allBelow count (listOf f g (n - g))
   unfolding allBelow
-  below-stops m = rw more (simp (le-leb count fd m))
+  below-stops m = rw more (simp (le-ltb fd count m))
 
   pub below-goes-on : fd < count → allBelow count (listOf f (g + 1) (n - (g + 1))) ≡ allBelow count (listOf f g (n - g))
   unfolding allBelow
-  below-goes-on m = rw more (simp (lt-leb count fd m))
+  below-goes-on m = rw more (simp (lt-ltb fd count m))
 
 pub below-done : (f : ℕ → ℕ) (count g n : ℕ) → n ≤ g → true ≡ allBelow count (listOf f g (n - g))
 unfolding allBelow

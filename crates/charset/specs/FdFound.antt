@@ -15,7 +15,6 @@ use Rattle.charset.specs.Listed.{Listed, refused, listed, numbersOf, lis
 use Rattle.charset.specs.ListedLaws.{list-length, list-at, list-same, list-below}
 use Rattle.charset.specs.FdSelect.{rangeEnd, fdIn, rangesRefusal, judged, rangeFds, fdSelectAt, noFds}
 use Rattle.charset.specs.FdPlaces.{noSelect, eachAt, rangesAt, selectAt, selectAnswer, fdOf, fdsOf, GoodSelect}
-use Rattle.charset.specs.FdSelectBytes.{Fds}
 use Rattle.charset.specs.FdLaws.{end-one, range-on, fd-none}
 use Rattle.charset.specs.FdSearchLaws.{each-at}
 use Rattle.charset.specs.IdCursorLaws.{no, test-passed}
@@ -141,6 +140,6 @@ fd-small b o w (suc k) first q g =
     (λ t. pick-ind (λ (x : ℕ). x < 256) (ltb g end) _ _ (λ u. omega (arith, getD-drop q b 0 0, o (q + 0)))
     (λ u. rw drop-drop (fd-small b o w k end (q + (1 + w)) g)))
 
-pub fds-small : (b : List ℕ) (s : FdSelect) (n : ℕ) → Octets b → Fds (fdsOf b s n)
+pub fds-small : (b : List ℕ) (s : FdSelect) (n : ℕ) → Octets b → Octets (fdsOf b s n)
 unfolding fdOf
 fds-small b s n o i = list-below (fdOf b s) 256 0 n i (omega arith) (fd-small b o (s .wide) (s .count) (s .first) (s .at))

@@ -2,10 +2,9 @@
 -- glyph of the first range (2), and for each range its FD (1) and the first glyph behind it (2), where the next range starts. As in the Rust
 -- a glyph of no range has FD 0, ranges may be empty or run past the last glyph, and one that ends before it starts is malformed.
 use Prim.Native.Nat.{ℕ, zero, suc, _+_}
-use mathlib.Core.Bool.{Bool, true, false}
 use mathlib.Core.List.{List, [], _∷_}
 use lib.ListN.{length, take, drop, getD}
-use lib.Dec.{ltb, leb, eqb}
+use lib.Dec.{ltb, eqb}
 use Rattle.octets.specs.Pick.{pick}
 use Rattle.octets.specs.Octets.{be}
 use Rattle.charset.specs.Listed.{Listed, refused, listed, listOf}
@@ -57,8 +56,3 @@ fdSelectAt b at n = fdsIn n (drop at b)
 -- without an FDSelect
 abbrev pub noFds : ℕ → List ℕ
 noFds n = listOf (λ g. 0) 0 n
-
--- whether each number of a list is below count
-unfoldable pub allBelow : ℕ → List ℕ → Bool
-allBelow count [] = true
-allBelow count (x ∷ xs) = pick (leb count x) false (allBelow count xs)

@@ -1,15 +1,11 @@
 -- A written FDSelect (TN5176, section 19, format 3; the Rust's `fd_select_format3`): the format, how many ranges, the first glyph and the FD
 -- of each, and behind them the count of glyphs. A range starts wherever the FD changes.
-use Prim.Native.Nat.{ℕ, _+_, _*_, _<_}
+use Prim.Native.Nat.{ℕ, _+_, _*_}
 use mathlib.Core.List.{List, [], _∷_, _++_}
-use lib.ListN.{length, getD}
+use lib.ListN.{length}
 use lib.Dec.{eqb}
 use Rattle.octets.specs.Pick.{pick}
 use Rattle.octets.specs.Octets.{bytesOf}
-
--- FDs that fit a byte
-abbrev pub Fds : List ℕ → Type 0
-Fds l = (i : ℕ) → getD l i 0 < 256
 
 -- the ranges, first glyph and FD, of glyphs from g on that stand behind one of FD last
 unfoldable pub changes : ℕ → ℕ → List ℕ → List (ℕ × ℕ)

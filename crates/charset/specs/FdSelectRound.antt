@@ -10,12 +10,12 @@ use lib.ListN.{length, take, drop, getD, length-append}
 use lib.Seq.{ext-getD, drop-drop}
 use lib.Dec.{ltb, eqb}
 use Rattle.octets.specs.Pick.{pick, pick-ind}
-use Rattle.octets.specs.Octets.{be, bytesOf}
+use Rattle.octets.specs.Octets.{be, bytesOf, Octets}
 use Rattle.octets.specs.OctetsLaws.{length-bytes, be-front, drop-front}
 use Rattle.charset.specs.Listed.{listed, listOf}
 use Rattle.charset.specs.ListedLaws.{list-length, list-at}
 use Rattle.charset.specs.FdSelect.{rangeEnd, fdIn, rangesRefusal, rangeFds, fdSelectAt}
-use Rattle.charset.specs.FdSelectBytes.{Fds, changes, fdRanges, entryBytes, fdSelectBytes}
+use Rattle.charset.specs.FdSelectBytes.{changes, fdRanges, entryBytes, fdSelectBytes}
 use Rattle.charset.specs.FdSelectBytesLaws.{changes-few}
 
 -- what stands behind the FD of a range under way: the ranges that start among glyphs with these FDs, from glyph g on, the count of all
@@ -94,7 +94,7 @@ not-before : (t : Bool) (x fd : ℕ) → fd < 256 → pick t 256 x ≡ fd → x 
 not-before true x fd h e = absurd (omega arith)
 not-before false x fd h e = e
 
-module _ (fds : List ℕ) (small : Fds fds) (count : ℕ) (bs : List ℕ) (k : Back 256 0 fds count bs) where
+module _ (fds : List ℕ) (small : Octets fds) (count : ℕ) (bs : List ℕ) (k : Back 256 0 fds count bs) where
   fds-are : listOf (fdIn 2 count (be 0 (take 2 bs)) (drop 2 bs)) 0 (length fds) ≡ fds
   fds-are =
       let f = fdIn 2 count (be 0 (take 2 bs)) (drop 2 bs) in
@@ -113,7 +113,7 @@ module _ (fds : List ℕ) (small : Fds fds) (count : ℕ) (bs : List ℕ) (k : B
       let e : drop 4 l ≡ drop 2 bs = sym (drop-drop 2 2 l) ∙ ap (drop 2) d in
       simp (le-ltb (length l) 4 n, f, d, e, k .sound) (ap listed fds-are)
 
-pub select-round : (b : List ℕ) (at : ℕ) (fds post : List ℕ) → drop at b ≡ fdSelectBytes fds ++ post → length fds < 65536 → Fds fds
+pub select-round : (b : List ℕ) (at : ℕ) (fds post : List ℕ) → drop at b ≡ fdSelectBytes fds ++ post → length fds < 65536 → Octets fds
     → fdSelectAt b at (length fds) ≡ listed fds
 unfolding fdSelectAt fdSelectBytes
 select-round b at fds post lies h small =

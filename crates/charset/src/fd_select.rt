@@ -2,7 +2,8 @@
 ghost use mathlib.Core.Path.{_≡_};
 ghost use Prim.Native.Nat.{_+_, _*_, _≤_, _<_};
 ghost use lib.ListN.{length, drop};
-ghost use Rattle.charset.specs.FdSelect.{rangeEnd, fdIn, rangesRefusal, rangeFds, fdSelectAt, allBelow};
+ghost use Rattle.octets.specs.Lists.{allBelow};
+ghost use Rattle.charset.specs.FdSelect.{rangeEnd, fdIn, rangesRefusal, rangeFds, fdSelectAt};
 ghost use Rattle.charset.specs.FdPlaces.{noSelect, rangesAt, selectAt, selectAnswer, rangesAnswer, fdOf, fdsOf, GoodSelect, selectStart, intoRange, nextFd, ReadyFd};
 
 // An FDSelect of a font: `count` ranges, the first of which starts at glyph `first`. Their entries stand from `at` on, an FD and a number of

@@ -7,7 +7,7 @@ use native.Mathlib.Omega.{arith}
 use lib.Dec.{ltb, eqb}
 use lib.IntN.{ℤ}
 use lib.Ieee.{Float}
-use lib.ListN.{length, take, drop, getD, length-drop}
+use lib.ListN.{length, drop, getD, length-drop}
 use lib.Seq.{length-take-le}
 use borrow.Author.Tests.{ltb-true}
 use Rattle.octets.specs.Pick.{pick}
@@ -97,10 +97,6 @@ module _ (s : List ℕ) (t u : Token) (e : t ≡ u) where
 
 pub measurable-as : (t u : Token) → t ≡ u → Measurable t → Measurable u
 measurable-as t u e h = subst Measurable e h
-
--- a mask's part of the body
-pub span : (s : List ℕ) (start len : ℕ) → take (start + len - start) (drop start s) ≡ take len (drop start s)
-span s start len = let e : start + len - start ≡ len = omega arith in ap (λ (n : ℕ). take n (drop start s)) e
 
 -- the length law of `encode`: a token that can be written takes as many bytes as it is measured to
 pub token-length : (s : List ℕ) (t : Token) → Writable s t → tokenLen t ≡ length (tokenBytes s t)

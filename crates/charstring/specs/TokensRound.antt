@@ -4,15 +4,16 @@ use Prim.Native.Nat.{ℕ, zero, suc, _+_, _-_, _*_, _≤_, _<_}
 use mathlib.Core.Path.{_≡_, refl, sym, ap, _∙_, subst}
 use mathlib.Core.Bool.{Bool, true, false, true≢false, false≢true}
 use mathlib.Core.List.{List, [], _∷_, _++_}
-use native.Mathlib.Nat.{add-zero, not-suc-le-zero}
+use native.Mathlib.Nat.{not-suc-le-zero}
 use native.Mathlib.Omega.{arith}
 use lib.Dec.{ltb, eqb}
 use lib.IntN.{ℤ}
 use lib.ListN.{length, take, drop, getD, length-append, length-drop}
-use lib.Seq.{getD-drop, drop-drop, take-at, drop-at}
+use lib.Seq.{drop-drop, take-at, drop-at}
 use borrow.Author.Tests.{lt-ltb, le-ltb, eq-eqb, ne-eqb}
 use Rattle.octets.specs.Pick.{pick}
 use Rattle.octets.specs.Octets.{Octets}
+use Rattle.octets.specs.ListLaws.{lies-at, lies-first}
 use Rattle.type2_number.specs.Number.{mag, isNeg, Read, cut, operator, number, numberAt, Reading}
 use Rattle.type2_number.specs.Encoding.{encoded}
 use Rattle.type2_number.specs.EncodingLaws.{number-short}
@@ -57,12 +58,6 @@ module _ (given : ℕ → MaskLen) (b : List ℕ) where
     on : drop (c .at + length front) b ≡ rest
     on = sym (drop-drop (length front) (c .at) b) ∙ ap (drop (length front)) lies ∙ drop-at front rest (length front) refl
 
-  byte : (at i : ℕ) (l : List ℕ) → drop at b ≡ l → getD b (at + i) 0 ≡ getD l i 0
-  byte at i l e = sym (getD-drop at b i 0) ∙ ap (λ (x : List ℕ). getD x i 0) e
-
-  first : (at : ℕ) (l : List ℕ) → drop at b ≡ l → getD b at 0 ≡ getD l 0 0
-  first at l e = ap (λ (j : ℕ). getD b j 0) (sym (add-zero at)) ∙ byte at 0 l e
-
   -- the tokens of bytes that tokens were written to, from a cursor on
   back : (k : ℕ) (c : Cursor) (ts : List Tok) (d : Bool) → c .due ≡ d → Proper d ts → Gives given (c .at) ts → drop (c .at) b ≡ encode ts → length ts ≤ k
       → tokensFrom k given b c ≡ tokens ts
@@ -82,7 +77,7 @@ module _ (given : ℕ → MaskLen) (b : List ℕ) where
   back (suc k) c (op x ∷ ts) true e p g lies h = absurd p
   back (suc k) c (op x ∷ ts) false e p g lies h =
       let l = enough-left c (x ∷ []) (encode ts) lies in
-      let v : getD b (c .at) 0 ≡ x = first (c .at) _ lies in
+      let v : getD b (c .at) 0 ≡ x = lies-first b (c .at) _ lies in
       let o = p .0 in
       let f : numberAt b (c .at) ≡ operator = form-op b (c .at) (omega (arith, o .low)) (λ w. o .notNumber (sym v ∙ w)) in
       let q : operatorAt b c (getD b (c .at) 0) ≡ gotOp x (record { at = c .at + 1; args = 0; stems = stemsAfter x (c .args) (c .stems); due = isMask x })
@@ -92,8 +87,8 @@ module _ (given : ℕ → MaskLen) (b : List ℕ) where
   back (suc k) c (esc x ∷ ts) true e p g lies h = absurd p
   back (suc k) c (esc x ∷ ts) false e p g lies h =
       let l = enough-left c (12 ∷ x ∷ []) (encode ts) lies in
-      let v : getD b (c .at) 0 ≡ 12 = first (c .at) _ lies in
-      let w : getD b (c .at + 1) 0 ≡ x = byte (c .at) 1 _ lies in
+      let v : getD b (c .at) 0 ≡ 12 = lies-first b (c .at) _ lies in
+      let w : getD b (c .at + 1) 0 ≡ x = lies-at b (c .at) _ lies 1 in
       let f : numberAt b (c .at) ≡ operator = form-op b (c .at) (omega arith) (λ y. omega arith) in
       let two : 2 ≤ length b - c .at = omega arith in
       let q : operatorAt b c (getD b (c .at) 0) ≡ gotEsc x (record { at = c .at + 2; args = 0; stems = c .stems; due = false })

@@ -35,6 +35,10 @@ unfoldable pub normal : Bool → ℕ → ℕ → ℕ → Decimal
 unfolding zeros stripped
 normal s n a b = pick (eqb n 0) nought (scaled s (stripped n) (a + zeros n) b)
 
+-- a whole number that is not negative
+abbrev pub whole : ℕ → Decimal
+whole n = normal false n 0 0
+
 -- a decimal that normalising leaves as it is, within the limits of refusal 5: every number that a DICT holds
 pub record Normal (d : Decimal) : Type 0 where
   pub same : normal (d .neg) (d .digits) (d .up) (d .down) ≡ d

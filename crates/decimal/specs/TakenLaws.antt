@@ -81,7 +81,8 @@ text-shorter (x ∷ xs) ns e = go (eqb x 15) (eqb x 13) (textOf xs) (text-shorte
     go false false wrong less q = absurd (no cc)
     go false false (text ms) less q = let z : ns ≡ x ∷ ms = cc in rw z (omega (arith, less ms refl))
 
-length-nibbles : (bs : List ℕ) → length (nibbles bs) ≡ 2 * length bs
+-- a byte is two nibbles
+pub length-nibbles : (bs : List ℕ) → length (nibbles bs) ≡ 2 * length bs
 unfolding nibbles
 length-nibbles [] = refl
 length-nibbles (b ∷ bs) = omega (arith, length-nibbles bs)

@@ -4,16 +4,17 @@ use mathlib.Core.Path.{_≡_, refl, sym, ap, _∙_, subst}
 use mathlib.Core.Logic.{_⊎_, inl, inr}
 use mathlib.Core.Bool.{Bool, true, false}
 use mathlib.Core.List.{List, [], _∷_, _++_}
-use native.Mathlib.Nat.{add-zero, eq-zero-or-pos}
+use native.Mathlib.Nat.{eq-zero-or-pos}
 use native.Mathlib.Decide.{decLe}
 use native.Mathlib.Omega.{arith}
 use lib.Dec.{ltb, lit<, lit≤}
-use lib.ListN.{length, drop, getD, length-append, length-drop}
-use lib.Seq.{getD-drop, drop-drop}
+use lib.ListN.{length, drop, getD, length-append}
+use lib.Seq.{drop-drop}
 use borrow.Author.Tests.{lt-ltb, le-ltb}
 use Rattle.octets.specs.Pick.{pick}
 use Rattle.octets.specs.Octets.{numAt, bytesOf}
 use Rattle.octets.specs.OctetsLaws.{length-bytes, num-written}
+use Rattle.octets.specs.ListLaws.{lies-at, lies-first, lies-length}
 use Rattle.decimal.specs.declared.Decimal.{Decimal}
 use Rattle.decimal.specs.Decimal.{normal}
 use Rattle.decimal.specs.DecimalLaws.{normal-nought, whole-nought}
@@ -22,20 +23,9 @@ use Rattle.decimal.specs.NumberLaws.{integer-got, form-28, form-29, form-below,
 use Rattle.decimal.specs.Written.{intBytes, int5Bytes}
 use Rattle.decimal_write.specs.IntLaws.{one, two, three, five}
 
--- ---- what stands at a place, by the bytes that lie there
-
-module _ (b : List ℕ) (at : ℕ) (l : List ℕ) (lies : drop at b ≡ l) where
-  byte : (i : ℕ) → getD b (at + i) 0 ≡ getD l i 0
-  byte i = sym (getD-drop at b i 0) ∙ ap (λ (k : List ℕ). getD k i 0) lies
-
-  pub first : getD b at 0 ≡ getD l 0 0
-  first = ap (λ (k : ℕ). getD b k 0) (sym (add-zero at)) ∙ byte 0
-
-  left : length b - at ≡ length l
-  left = sym (length-drop at b) ∙ ap length lies
-
-  pub next : drop (at + 1) b ≡ drop 1 l
-  next = sym (drop-drop 1 at b) ∙ ap (drop 1) lies
+-- what stands behind the first of the bytes that lie at a place
+pub next : (b : List ℕ) (at : ℕ) (l : List ℕ) → drop at b ≡ l → drop (at + 1) b ≡ drop 1 l
+next b at l lies = sym (drop-drop 1 at b) ∙ ap (drop 1) lies
 
 -- the bytes bs read as d, wherever they stand
 abbrev pub Reads : Decimal → List ℕ → Type 0
@@ -45,14 +35,14 @@ Reads d bs = (b : List ℕ) (at : ℕ) (post : List ℕ) → drop at b ≡ bs ++
 
 reads-below : (v : ℕ) → 32 ≤ v → v < 139 → Reads (normal true (139 - v) 0 0) (v ∷ [])
 reads-below v h k b at post lies =
-    let f : getD b at 0 ≡ v = first b at _ lies in
-    let n : at + 1 ≤ length b = omega (arith, left b at _ lies) in
+    let f : getD b at 0 ≡ v = lies-first b at _ lies in
+    let n : at + 1 ≤ length b = omega (arith, lies-length b at _ lies) in
     form-below b at (omega arith) (omega arith) ∙ ap (λ (x : ℕ). integerAt b at 1 true (139 - x)) f ∙ integer-got b at 1 true (139 - v) n
 
 reads-above : (v : ℕ) → 139 ≤ v → v < 247 → Reads (normal false (v - 139) 0 0) (v ∷ [])
 reads-above v h k b at post lies =
-    let f : getD b at 0 ≡ v = first b at _ lies in
-    let n : at + 1 ≤ length b = omega (arith, left b at _ lies) in
+    let f : getD b at 0 ≡ v = lies-first b at _ lies in
+    let n : at + 1 ≤ length b = omega (arith, lies-length b at _ lies) in
     form-above b at (omega arith) (omega arith) ∙ ap (λ (x : ℕ). integerAt b at 1 false (x - 139)) f ∙ integer-got b at 1 false (v - 139) n
 
 pair-got : (b : List ℕ) (at v w : ℕ) (d : Decimal) → getD b (at + 1) 0 ≡ w → at + 2 ≤ length b
@@ -68,9 +58,9 @@ pair-got b at v w d e h q =
 reads-pair : (v w : ℕ) (d : Decimal) → 247 ≤ v → v < 255
     → pick (ltb v 251) (normal false ((v - 247) * 256 + w + 108) 0 0) (normal true ((v - 251) * 256 + w + 108) 0 0) ≡ d → Reads d (v ∷ w ∷ [])
 reads-pair v w d h k q b at post lies =
-    let f : getD b at 0 ≡ v = first b at _ lies in
-    let n : at + 2 ≤ length b = omega (arith, left b at _ lies) in
-    form-pair b at (omega arith) (omega arith) ∙ ap (pairAt b at) f ∙ pair-got b at v w d (byte b at _ lies 1) n q
+    let f : getD b at 0 ≡ v = lies-first b at _ lies in
+    let n : at + 2 ≤ length b = omega (arith, lies-length b at _ lies) in
+    form-pair b at (omega arith) (omega arith) ∙ ap (pairAt b at) f ∙ pair-got b at v w d (lies-at b at _ lies 1) n q
 
 twos-got : (b : List ℕ) (at width half v : ℕ) (d : Decimal) → at + width ≤ length b → pick (ltb v half) (normal false v 0 0) (normal true (half * 2 - v) 0 0) ≡ d
     → twosAt b at width half v ≡ number d (at + width)
@@ -83,16 +73,16 @@ twos-got b at width half v d h q =
 
 reads-28 : (v : ℕ) (d : Decimal) → v < 65536 → pick (ltb v 32768) (normal false v 0 0) (normal true (65536 - v) 0 0) ≡ d → Reads d (28 ∷ bytesOf 2 v)
 reads-28 v d h q b at post lies =
-    let f : getD b at 0 ≡ 28 = first b at _ lies in
-    let n : at + 3 ≤ length b = omega (arith, left b at _ lies, length-append (bytesOf 2 v) post, length-bytes 2 v) in
+    let f : getD b at 0 ≡ 28 = lies-first b at _ lies in
+    let n : at + 3 ≤ length b = omega (arith, lies-length b at _ lies, length-append (bytesOf 2 v) post, length-bytes 2 v) in
     let m : numAt b (at + 1) 2 ≡ v = num-written b (at + 1) 2 v post h (next b at _ lies) in
     let l : at + 3 ≡ at + length (28 ∷ bytesOf 2 v) = omega (arith, length-bytes 2 v) in
     form-28 b at f ∙ ap (twosAt b at 3 32768) m ∙ twos-got b at 3 32768 v d n q ∙ ap (number d) l
 
 reads-29 : (v : ℕ) (d : Decimal) → v < 4294967296 → pick (ltb v 2147483648) (normal false v 0 0) (normal true (4294967296 - v) 0 0) ≡ d → Reads d (29 ∷ bytesOf 4 v)
 reads-29 v d h q b at post lies =
-    let f : getD b at 0 ≡ 29 = first b at _ lies in
-    let n : at + 5 ≤ length b = omega (arith, left b at _ lies, length-append (bytesOf 4 v) post, length-bytes 4 v) in
+    let f : getD b at 0 ≡ 29 = lies-first b at _ lies in
+    let n : at + 5 ≤ length b = omega (arith, lies-length b at _ lies, length-append (bytesOf 4 v) post, length-bytes 4 v) in
     let m : numAt b (at + 1) 4 ≡ v = num-written b (at + 1) 4 v post h (next b at _ lies) in
     let l : at + 5 ≡ at + length (29 ∷ bytesOf 4 v) = omega (arith, length-bytes 4 v) in
     form-29 b at f ∙ ap (twosAt b at 5 2147483648) m ∙ twos-got b at 5 2147483648 v d n q ∙ ap (number d) l

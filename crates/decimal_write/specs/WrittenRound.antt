@@ -12,6 +12,7 @@ use lib.Dec.{ltb, eqb, lit<}
 use lib.ListN.{length, drop, getD, length-append, List·getD-append}
 use borrow.Author.Tests.{lt-ltb, le-ltb, lt-leb, eq-eqb, ne-eqb}
 use Rattle.octets.specs.Pick.{pick}
+use Rattle.octets.specs.ListLaws.{lies-first}
 use Rattle.decimal.specs.declared.Decimal.{Decimal}
 use Rattle.decimal.specs.Decimal.{normal, Normal}
 use Rattle.decimal.specs.DecimalLaws.{ten-pos, normal-nought, nought-is, normal-last, one-power, whole-done}
@@ -24,7 +25,7 @@ use Rattle.decimal.specs.ValuesLaws.{trunc-whole, trunc-fraction}
 use Rattle.decimal.specs.Written.{intBytes, digitsOf, widthOf, bareText, realText, packed, realBytes, numberBytes}
 use Rattle.decimal_write.specs.TextLaws.{width-pos, width-within, width-below, length-digits, digit-at, whole-width, with-point, text-neg, text-pos, length-whole-neg, length-whole-pos, length-part-neg, length-part-pos, length-real}
 use Rattle.decimal_write.specs.WrittenLaws.{number-int, number-big, number-part}
-use Rattle.decimal_write.specs.IntRound.{first, next, Reads, reads-int}
+use Rattle.decimal_write.specs.IntRound.{next, Reads, reads-int}
 
 -- an integer is what its size and sign say
 whole-back : (d : Decimal) → Normal d → d .down ≡ 0 → normal (d .neg) (truncOf d) 0 0 ≡ d
@@ -237,7 +238,7 @@ reads-real d h b at post lies =
     let l = realText d in
     let x : drop (at + 1) b ≡ packed l ++ post = next b at _ lies in
     let n : at + 1 + (length l / 2 + 1) ≡ at + length (realBytes d) = omega (arith, length-real d) in
-    form-30 b at (first b at _ lies) ∙ ap (λ (q : List ℕ). realOf (at + 1) (textOf (nibbles q))) x ∙ ap (realOf (at + 1)) (text-packed l post (fit-text d))
+    form-30 b at (lies-first b at _ lies) ∙ ap (λ (q : List ℕ). realOf (at + 1) (textOf (nibbles q))) x ∙ ap (realOf (at + 1)) (text-packed l post (fit-text d))
     ∙ ap (placed (at + 1 + (length l / 2 + 1))) (value-text d h) ∙ ap (number d) n
 
 -- ---- any number

@@ -18,6 +18,7 @@ use Rattle.dict.specs.Dict.{Token, bad, operand, operator, operatorAt, t
 use Rattle.dict.specs.Places.{tokenTold}
 use Rattle.decimal.specs.declared.PastAt.{PastAt}
 use Rattle.decimal.specs.declared.PastAt.the-variants.{Refused as RefusedPast, NotNumber as NoNumber, Past}
+use Rattle.decimal.specs.TakenLaws.{length-nibbles}
 use Rattle.dict.specs.declared.TokenAt.{TokenAt}
 use Rattle.dict.specs.declared.TokenAt.the-variants.{Refused, Operand, Operator}
 
@@ -45,11 +46,6 @@ text-shorter (x ∷ xs) =
     pick-ind (Shorter (x ∷ xs)) (eqb x 15) _ _ (λ e. omega arith)
     (λ e. pick-ind (Shorter (x ∷ xs)) (eqb x 13) _ _ (λ f. tt) (λ f. one-more x xs (textOf xs) (text-shorter xs)))
 
-two-to-a-byte : (l : List ℕ) → length (nibbles l) ≡ 2 * length l
-unfolding nibbles
-two-to-a-byte [] = refl
-two-to-a-byte (x ∷ xs) = omega (arith, two-to-a-byte xs)
-
 -- a refusal of a real's text is not 0
 abbrev Told : Value → Type 0
 Told (refusedText n) = 0 < n
@@ -74,7 +70,7 @@ module _ (b : List ℕ) (at : ℕ) (h : at < length b) where
   real-further cut s = omega arith
   real-further wrong s = omega arith
   real-further (text ns) s =
-      let n : length (nibbles (drop (at + 1) b)) ≡ 2 * (length b - (at + 1)) = two-to-a-byte (drop (at + 1) b) ∙ rw length-drop in
+      let n : length (nibbles (drop (at + 1) b)) ≡ 2 * (length b - (at + 1)) = length-nibbles (drop (at + 1) b) ∙ rw length-drop in
       placed-further (at + 1 + (length ns / 2 + 1)) (valueOf (length ns + 1) (formOf ns)) (value-told (length ns + 1) (formOf ns)) (omega arith) (omega arith)
 
   integer-further : (width : ℕ) (s : Bool) (n : ℕ) → 0 < width → Further b at (integerAt b at width s n)

@@ -16,6 +16,7 @@ use Rattle.decimal.specs.declared.Decimal.{Decimal}
 use Rattle.decimal.specs.Number.{number, numberAt}
 use Rattle.decimal.specs.NumberLaws.{form-none}
 use Rattle.decimal.specs.Written.{numberBytes, int5Bytes}
+use Rattle.decimal.specs.Decimal.{whole}
 use Rattle.decimal_write.specs.IntRound.{Reads, reads-int5}
 use Rattle.decimal_write.specs.WrittenRound.{reads-number}
 use Rattle.dict.specs.Op.{isOperator, private, subrs}
@@ -25,7 +26,7 @@ use Rattle.dict.specs.Proper.{AllNormal, Proper, AllProper}
 use Rattle.dict.specs.ProperLaws.{entries-proper}
 use Rattle.dict.specs.EntryLaws.{entry-is, readings-are, readings-end}
 use Rattle.dict_write.specs.Written.{opBytes, operandsBytes, entryBytes, entriesBytes, offsetEntry, privateEntry, without, privateBytes}
-use Rattle.dict_write.specs.Parts.{Part, plain, offset, privatePart, partBytes, partsBytes, whole, partEntry, partsEntries, Fits, AllFit}
+use Rattle.dict_write.specs.Parts.{Part, plain, offset, privatePart, partBytes, partsBytes, partEntry, partsEntries, Fits, AllFit}
 use Rattle.dict_write.specs.OpLaws.{OneByte, Escape, op-kind}
 use Rattle.dict_write.specs.ShortLaws.{number-there}
 

@@ -6,13 +6,14 @@ use mathlib.Core.List.{List, [], _∷_, _++_, append-assoc, append-nil}
 use lib.Dec.{eqb}
 use Rattle.octets.specs.Pick.{pick-ind}
 use Rattle.octets.specs.Octets.{Octets}
+use Rattle.decimal.specs.Decimal.{whole}
 use Rattle.dict.specs.Op.{isOperator, subrs}
 use Rattle.dict.specs.Dict.{Entry, entries, dictOf}
 use Rattle.dict.specs.Places.{entriesOf}
 use Rattle.dict.specs.Proper.{Proper, AllProper}
 use Rattle.dict.specs.ProperLaws.{entries-proper}
 use Rattle.dict_write.specs.Written.{entryBytes, entriesBytes, offsetEntry, without, privateBytes}
-use Rattle.dict_write.specs.Parts.{Part, plain, offset, partBytes, partsBytes, whole, partEntry, partsEntries, Fits, AllFit}
+use Rattle.dict_write.specs.Parts.{Part, plain, offset, partBytes, partsBytes, partEntry, partsEntries, Fits, AllFit}
 use Rattle.dict_write.specs.DictRound.{parts-read}
 
 -- ---- parts in a row

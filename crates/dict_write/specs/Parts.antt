@@ -1,10 +1,9 @@
 -- A DICT as a subset writes it, part by part: entries copied or made, and offsets in the five-byte form; and the entry that each part is.
 use Prim.Native.Nat.{ℕ, _<_}
 use mathlib.Core.Path.{_≡_}
-use mathlib.Core.Bool.{true, false}
+use mathlib.Core.Bool.{true}
 use mathlib.Core.List.{List, [], _∷_, _++_}
-use Rattle.decimal.specs.declared.Decimal.{Decimal}
-use Rattle.decimal.specs.Decimal.{normal}
+use Rattle.decimal.specs.Decimal.{whole}
 use Rattle.dict.specs.Op.{isOperator, private}
 use Rattle.dict.specs.Dict.{Entry}
 use Rattle.dict.specs.Proper.{Proper}
@@ -25,10 +24,6 @@ partBytes (privatePart size at) = privateEntry size at
 unfoldable pub partsBytes : List Part → List ℕ
 partsBytes [] = []
 partsBytes (p ∷ ps) = partBytes p ++ partsBytes ps
-
--- a number that is not negative
-abbrev pub whole : ℕ → Decimal
-whole n = normal false n 0 0
 
 -- the entry that it is
 abbrev pub partEntry : Part → Entry

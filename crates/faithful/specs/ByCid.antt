@@ -6,6 +6,8 @@ use mathlib.Core.List.{List, [], _∷_, _++_, append-nil}
 use native.Mathlib.Omega.{arith}
 use lib.ListN.{length, drop, getD}
 use Rattle.octets.specs.Pick.{pick}
+use Rattle.octets.specs.Lists.{allBelow}
+use Rattle.octets.specs.Octets.{Octets}
 use Rattle.index.specs.Index.{found, readIndex}
 use Rattle.index.specs.Write.{total, sizeFor, indexBytes, indexLen}
 use Rattle.index.specs.WriteLaws.{length-index}
@@ -14,10 +16,10 @@ use Rattle.dict.specs.Lookup.{rosIn}
 use Rattle.dict_write.specs.WriteLaws.{private-length}
 use Rattle.charset.specs.Listed.{listed}
 use Rattle.charset.specs.CharsetBytes.{Ids, charsetBytes}
-use Rattle.charset.specs.FdSelect.{allBelow, fdSelectAt}
-use Rattle.charset.specs.FdSelectBytes.{Fds, fdSelectBytes}
+use Rattle.charset.specs.FdSelect.{fdSelectAt}
+use Rattle.charset.specs.FdSelectBytes.{fdSelectBytes}
 use Rattle.charset.specs.FdSelectRound.{select-round}
-use Rattle.cff.specs.Font.{got, Private, Program, privatesAt, idsAt, cidParts, nameParts, fontAt, readFont}
+use Rattle.cff.specs.Font.{got, Private, Program, privatesAt, idsAt, cidParts, nameParts, fontAt, readFont, emptyPrivate}
 use Rattle.subset.specs.Kept.{privateOf}
 use Rattle.subset.specs.Pruned.{Bodies}
 use Rattle.subset.specs.Subset.{privateDict, privatePart, privateParts, fontDicts, ownByCid, topByCid, cidsOf, newFds, subsetByCid}
@@ -131,7 +133,7 @@ module _ (p : Program) (used order : List ℕ) (b : Bodies) (at₁ : ℕ) where
         ∙ sym (append-nil (privateParts p used (b .locals)))
 
     module _ (good : GoodProgram p) (short : length bs ≤ 67108864) (few : length order < 65536) (fewFds : length used < 65536) (someFds : 0 < length used)
-        (below : allBelow (length used) (newFds p used order) ≡ true) (small : Fds (newFds p used order)) where
+        (below : allBelow (length used) (newFds p used order) ≡ true) (small : Octets (newFds p used order)) where
       -- the charstrings, the FD INDEX, FDSelect and the charset read back
       glyphs-read : readIndex bs glyphsPlace ≡ found (b .charstrings) (glyphsPlace + length (indexBytes (b .charstrings)))
       glyphs-read = index-back bs glyphsPlace (b .charstrings) _ (omega (arith, fitting .glyphs)) short glyphs-lie
@@ -152,7 +154,7 @@ module _ (p : Program) (used order : List ℕ) (b : Bodies) (at₁ : ℕ) where
 
       -- and the Private DICTs
       private-dicts : (ps : List Private) × (privatesAt bs dictsWritten ≡ got ps) × (length ps ≡ length used)
-          × ((k : ℕ) → k < length used → getD ps k (record { entries = []; locals = [] }) .locals ≡ getD (b .locals) k [])
+          × ((k : ℕ) → k < length used → getD ps k emptyPrivate .locals ≡ getD (b .locals) k [])
       private-dicts = privates-back bs privatesPlace p used (b .locals) [] good (fitting .fds) (fitting .locals) short privates-within privates-lie
 
       -- the font that is read, by the entries of its top DICT
@@ -211,7 +213,7 @@ module _ (p : Program) (name used order : List ℕ) (b : Bodies) where
 -- a CID-keyed subset reads back
 pub by-cid : (p : Program) (name used order : List ℕ) (b : Bodies) → GoodProgram p → hasRos (rosIn (p .top)) ≡ true → Fitting (length order) used b
     → 0 < length order → length order < 65536 → getD (cidsOf p order) 0 0 ≡ 0 → 0 < length used → length used < 65536
-    → allBelow (length used) (newFds p used order) ≡ true → Fds (newFds p used order)
+    → allBelow (length used) (newFds p used order) ≡ true → Octets (newFds p used order)
     → length (ownByCid p) ≤ 64609 → length (subsetByCid p name used order b) ≤ 67108864
     → ReadsAs true (ownByCid p) (cidsOf p order) (newFds p used order) b (subsetByCid p name used order b)
 by-cid p name used order b good there fitting some few first someFds fewFds below small fewStrings short =

@@ -13,11 +13,11 @@ use Rattle.charset.specs.Charset.{charsetAt}
 use Rattle.charset.specs.CharsetBytes.{Ids, charsetBytes}
 use Rattle.charset.specs.FdSelect.{noFds}
 use Rattle.dict.specs.Dict.{Entry, entries, dictOf}
-use Rattle.cff.specs.Font.{got, Private, Program, privateData, privateAt, idsAt, encodingGot, cidParts, nameParts, fontAt, readFont}
+use Rattle.cff.specs.Font.{got, Private, Program, privateData, privateAt, idsAt, encodingGot, cidParts, nameParts, fontAt, readFont, emptyPrivate}
 use Rattle.cff.specs.ReadsLaws.{no}
 use Rattle.subset.specs.Kept.{privateOf}
 use Rattle.subset.specs.Texts.{namesOf}
-use Rattle.subset.specs.TextsLaws.{ids-length}
+use Rattle.subset.specs.TextsLaws.{ids-length, names-length}
 use Rattle.subset.specs.Pruned.{Bodies}
 use Rattle.subset.specs.Subset.{privateDict, privatePart, ownByName, topByName, newIds, oneLocal, subsetByName}
 use Rattle.faithful.specs.Laid.{GoodProgram, Fitting, ReadsAs}
@@ -29,12 +29,6 @@ use Rattle.faithful.specs.SetBack.{setBytes, restAt, rest-lies, rest-wit
 use Rattle.faithful.specs.FontBack.{ids-back, fontOf, font-back}
 
 -- ---- the ids of the names
-
--- each glyph has a name
-pub names-length : (p : Program) (order : List ℕ) → length (namesOf p order) ≡ length order
-unfolding namesOf
-names-length p [] = refl
-names-length p (g ∷ gs) = ap suc (names-length p gs)
 
 -- the ids fit two bytes
 pub ids-small : (own ts : List (List ℕ)) → length own ≤ 64609 → Ids (newIds own ts)
@@ -57,7 +51,7 @@ dict-within q ls = omega (arith, length-append (privateDict q ls) (pick (eqb (le
 
 -- and holds the local subroutines of FD 0
 one-local : (es : List Entry) (lss : List (List (List ℕ))) → length lss ≡ 1 → (k : ℕ) → k < length lss
-    → getD {A = Private} (record { entries = es; locals = getD lss 0 [] } ∷ []) k (record { entries = []; locals = [] }) .locals ≡ getD lss k []
+    → getD {A = Private} (record { entries = es; locals = getD lss 0 [] } ∷ []) k emptyPrivate .locals ≡ getD lss k []
 one-local es lss e zero h = refl
 one-local es lss e (suc k) h = absurd (no (omega arith))
 

@@ -9,12 +9,12 @@ use Rattle.strings.specs.Strings.{stringText, sidOf}
 use Rattle.strings.specs.StringsLaws.{string-standard, sid-standard}
 use Rattle.strings.specs.declared.Sid.the-variants.{Standard}
 use Rattle.cff.specs.Font.{Program}
-use Rattle.subset.specs.Kept.{those, keptOf, sortedBy}
+use Rattle.subset.specs.Kept.{those, keptOf, sortedBy, keeps}
 use Rattle.subset.specs.Texts.{newId, nameOf, namesOf}
 use Rattle.subset.specs.Subset.{newIds, cidsOf}
 use Rattle.faithful.specs.Laid.{GoodProgram}
 use Rattle.subset.specs.KeptListLaws.{sorted-first}
-use Rattle.faithful.specs.KeptLaws.{keeps, kept-front}
+use Rattle.faithful.specs.KeptLaws.{kept-front}
 
 -- its name has the id 0
 notdef-id : (p : Program) (own : List (List ℕ)) → getD (p .ids) 0 0 ≡ 0 → newId own (nameOf p 0) ≡ 0

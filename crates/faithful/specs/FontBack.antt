@@ -9,6 +9,7 @@ use borrow.Author.Tests.{le-ltb, ne-eqb}
 use lib.Dec.{ltb, eqb}
 use lib.ListN.{length, drop, getD}
 use Rattle.octets.specs.Pick.{pick}
+use Rattle.octets.specs.Lists.{allBelow}
 use Rattle.index.specs.Index.{found, readIndex}
 use Rattle.dict.specs.Dict.{Entry, entries, dictOf}
 use Rattle.dict.specs.Lookup.{offsetIn, cidKeyed, charstringTypeIn}
@@ -18,7 +19,7 @@ use Rattle.charset.specs.Listed.{listed}
 use Rattle.charset.specs.Charset.{charsetAt, isoAdobe}
 use Rattle.charset.specs.CharsetBytes.{Ids, charsetBytes}
 use Rattle.charset.specs.CharsetRound.{charset-round}
-use Rattle.charset.specs.FdSelect.{allBelow, fdSelectAt}
+use Rattle.charset.specs.FdSelect.{fdSelectAt}
 use Rattle.cff.specs.Font.{charset, charStrings, fdArray, fdSelect, Got, refused, got, then, indexGot, dictGot, listGot, unless, needed, orZero, Private, privatesAt, Program, idsAt, fdsAt, cidParts, nameParts, fontAt}
 use Rattle.cff.specs.ReadsLaws.{then-got}
 

@@ -8,15 +8,16 @@ use lib.Dec.{ltb, eqb}
 use lib.ListN.{length, getD}
 use Rattle.octets.specs.Pick.{pick}
 use Rattle.octets.specs.Octets.{Octets}
+use Rattle.octets.specs.Lists.{allBelow}
 use Rattle.index.specs.Index.{readIndex}
 use Rattle.dict.specs.Dict.{Entry, dictOf}
 use Rattle.dict.specs.Lookup.{offsetIn, privateIn, cidKeyed, charstringTypeIn}
 use Rattle.dict.specs.ProperLaws.{dict-proper}
-use Rattle.charset.specs.FdSelect.{noFds, allBelow}
-use Rattle.cff.specs.Font.{charset, encoding, charStrings, fdArray, fdSelect, got, then, Private, Program, indexGot, dictGot, unless, needed, orZero, privateAt, privatesAt, idsAt, fdsAt, encodingGot, cidParts, nameParts, fontAt, fontsAt, firstOf, setAt, readFont}
+use Rattle.charset.specs.FdSelect.{noFds}
+use Rattle.cff.specs.Font.{charset, encoding, charStrings, fdArray, fdSelect, got, then, Private, Program, indexGot, dictGot, unless, needed, orZero, privateAt, privatesAt, idsAt, fdsAt, encodingGot, cidParts, nameParts, fontAt, fontsAt, firstOf, setAt, readFont, emptyPrivate}
 use Rattle.cff.specs.ReadsLaws.{no}
 use Rattle.faithful.specs.Laid.{GoodBodies, GoodProgram}
-use Rattle.faithful.specs.GoodPartsLaws.{then-gave, got-same, index-gave, index-good, test-past, test-held, dict-got, some-got, offset-good, Sound, emptyPrivate, none-sound, sound-front, private-sound, privates-sound, ids-good, FdsFor, no-fds, no-fds-below, fds-good}
+use Rattle.faithful.specs.GoodPartsLaws.{then-gave, got-same, index-gave, index-good, test-past, test-held, dict-got, some-got, offset-good, Sound, none-sound, sound-front, private-sound, privates-sound, ids-good, FdsFor, no-fds, no-fds-below, fds-good}
 
 -- ---- what the keying adds
 

@@ -10,6 +10,7 @@ use lib.Dec.{ltb, eqb, lit<}
 use lib.ListN.{length, take, drop, getD, List·getD-eq-default}
 use Rattle.octets.specs.Pick.{pick}
 use Rattle.octets.specs.Octets.{Octets}
+use Rattle.octets.specs.Lists.{allBelow}
 use Rattle.index.specs.Index.{Read, refused as refusedRead, found, readIndex}
 use Rattle.index.specs.FoundLaws.{part-octets, found-good, found-read, read-bounds, item-octets}
 use Rattle.index.specs.IndexLaws.{items-length}
@@ -29,11 +30,10 @@ use Rattle.charset.specs.CharsetBytes.{Ids}
 use Rattle.charset.specs.CharsetPlaces.{tableAt, predefined, idsOf, GoodCharset, charsetAnswer}
 use Rattle.charset.specs.CharsetFound.{found-good as charset-good, found-ids, predefined-ids, predefined-good, good-length, good-small, good-first}
 use Rattle.charset.specs.declared.Charset.{Charset}
-use Rattle.charset.specs.FdSelect.{fdSelectAt, noFds, allBelow}
-use Rattle.charset.specs.FdSelectBytes.{Fds}
+use Rattle.charset.specs.FdSelect.{fdSelectAt, noFds}
 use Rattle.charset.specs.FdPlaces.{selectAt, selectAnswer, fdOf, fdsOf}
 use Rattle.charset.specs.FdFound.{found-fds, fds-small}
-use Rattle.cff.specs.Font.{Got, refused, got, then, Private, indexGot, dictGot, listGot, unless, localsAt, privateData, privateAt, privatesAt, idsAt, fdsAt, indexThen}
+use Rattle.cff.specs.Font.{Got, refused, got, then, Private, indexGot, dictGot, listGot, unless, localsAt, privateData, privateAt, privatesAt, idsAt, fdsAt, indexThen, emptyPrivate}
 use Rattle.cff.specs.ReadsLaws.{no}
 use Rattle.faithful.specs.Laid.{GoodBodies}
 
@@ -128,11 +128,7 @@ pub record Sound (q : Private) : Type 0 where
   pub proper : AllProper (q .entries)
   pub bodies : GoodBodies (q .locals)
 
--- the empty Private DICT
-abbrev pub emptyPrivate : Private
-emptyPrivate = record { entries = []; locals = [] }
-
--- which is one of them
+-- the empty Private DICT is one of them
 pub none-sound : Sound emptyPrivate
 unfolding AllProper
 none-sound = record { proper = tt; bodies = none-good }
@@ -214,7 +210,7 @@ module _ (b : List ℕ) (o : Octets b) (n : ℕ) (few : n < 65536) (some : 0 < n
 -- the FDs of n glyphs: one for each, of a byte
 pub record FdsFor (n : ℕ) (l : List ℕ) : Type 0 where
   pub count : length l ≡ n
-  pub small : Fds l
+  pub small : Octets l
 
 -- without an FDSelect
 pub no-fds : (n : ℕ) → FdsFor n (noFds n)

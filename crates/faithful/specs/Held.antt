@@ -26,7 +26,7 @@ use Rattle.subset.specs.Cut.{allFound, hasRos, ownOf}
 use Rattle.faithful.specs.Faithful.{unfolded, IsKept, Recorded, Holds}
 use Rattle.faithful.specs.Laid.{GoodProgram, Fitting, ReadsAs}
 use Rattle.subset.specs.KeptListLaws.{in-at}
-use Rattle.faithful.specs.KeptLaws.{kept-is, kept-below, kept-some, order-count, order-has, order-in}
+use Rattle.faithful.specs.KeptLaws.{kept-is, kept-some, order-count, order-has, order-in, all-below}
 use Rattle.faithful.specs.FirstLaws.{first-name, first-cid}
 use Rattle.faithful.specs.FoundLaws.{found-name, found-cid}
 use Rattle.faithful.specs.UsedLaws.{used-has, used-some, used-count, used-one, new-fd-at, new-fds-there, new-fds-fit, new-fds-at}
@@ -54,10 +54,6 @@ module _ (p : Program) (keep rec : List ℕ) (flag : ℕ) (good : GoodProgram p)
     abbrev bodies : Bodies
     bodies = pruned p (rowsOf rec) used order flag .bodies
 
-    -- a glyph of the order is below the count
-    below : (i : ℕ) → i < length order → getD order i 0 < length (p .charstrings)
-    below i h = kept-below (length (p .charstrings)) keep (getD order i 0) (inside i h)
-
     -- the i-th glyph of the subset unfolds as the glyph that it was
     new-unfolds : (cid : Bool) (own : List (List ℕ)) (ids fds : List ℕ) (bs : List ℕ) (r : ReadsAs cid own ids fds bodies bs) (i : ℕ) → i < length order
         → getD fds i 0 ≡ newFd used (getD (p .fds) (getD order i 0) 0)
@@ -65,9 +61,9 @@ module _ (p : Program) (keep rec : List ℕ) (flag : ℕ) (good : GoodProgram p)
         → (met' : List Row) × (unfolded (r .program) i ≡ plain ts met')
     new-unfolds cid own ids fds bs r i h fd ts met e listed =
         let f = newFd used (getD (p .fds) (getD order i 0) 0) in
-        let u = used-has p kept (getD order i 0) good (inside i h) (below i h) in
+        let u = used-has p kept (getD order i 0) good (inside i h) (all-below (length (p .charstrings)) keep order inside i h) in
         let n : f < length (bodies .locals) = subst (λ (k : ℕ). f < k) (sym (pruned-fits p (rowsOf rec) used order flag good .fds)) (new-fd-at used (getD (p .fds) (getD order i 0) 0) u .0) in
-        let w = pruned-unfolds p rec kept order flag good octets i h (inside i h) (below i h) f i ts met e listed in
+        let w = pruned-unfolds p rec kept order flag good octets i h (inside i h) (all-below (length (p .charstrings)) keep order inside i h) f i ts met e listed in
         let d : getD (r .program .fds) i 0 ≡ f = ap (λ (l : List ℕ). getD l i 0) (r .fds) ∙ fd in (
           w .0,
           ap (λ (k : ℕ). unfoldGlyph (r .program .globals) (localsOf (r .program) k) k i (getD (r .program .charstrings) i [])) d
@@ -97,15 +93,15 @@ module _ (p : Program) (keep rec : List ℕ) (flag : ℕ) (good : GoodProgram p)
         → ReadsAs false (ownByName p kept) (newIds (ownByName p kept) (namesOf p kept)) (noFds (length kept)) (bodies kept kept-inside) byName
     name-reads size =
         by-name p name kept (bodies kept kept-inside) good
-        (subst (λ (l : List ℕ). Fitting (length kept) l (bodies kept kept-inside)) (used-one p kept good named (some .0) (below kept kept-inside))
+        (subst (λ (l : List ℕ). Fitting (length kept) l (bodies kept kept-inside)) (used-one p kept good named (some .0) (all-below (length (p .charstrings)) keep kept kept-inside))
         (pruned-fits p (rowsOf rec) used kept flag good))
         (some .0) few (first-name p keep good (ownByName p kept)) strings size
 
     -- the one FD
     name-fd : (i : ℕ) → i < length kept → getD (noFds (length kept)) i 0 ≡ newFd used (getD (p .fds) (getD kept i 0) 0)
     name-fd i h =
-        let l = new-fd-at used (getD (p .fds) (getD kept i 0) 0) (used-has p kept (getD kept i 0) good (kept-inside i h) (below kept kept-inside i h)) .0 in
-        let u : length used ≡ 1 = ap length (used-one p kept good named (some .0) (below kept kept-inside)) in
+        let l = new-fd-at used (getD (p .fds) (getD kept i 0) 0) (used-has p kept (getD kept i 0) good (kept-inside i h) (all-below (length (p .charstrings)) keep kept kept-inside i h)) .0 in
+        let u : length used ≡ 1 = ap length (used-one p kept good named (some .0) (all-below (length (p .charstrings)) keep kept kept-inside)) in
         let z : newFd used (getD (p .fds) (getD kept i 0) 0) ≡ 0 = omega arith in
         list-at (λ g. 0) 0 (length kept) i h ∙ sym z
 
@@ -153,8 +149,8 @@ module _ (p : Program) (keep rec : List ℕ) (flag : ℕ) (good : GoodProgram p)
     cid-reads size =
         let n = sorted-count in
         by-cid p name used sorted (bodies sorted sorted-inside) good ros (pruned-fits p (rowsOf rec) used sorted flag good)
-        (omega (arith, some .0)) (omega (arith, few)) (first-cid p keep good) (used-some p kept (getD kept 0 0) good (kept-inside 0 (some .0)) (below kept kept-inside 0 (some .0))) (used-count p kept good)
-        (new-fds-there p kept good sorted sorted-inside (below sorted sorted-inside)) (new-fds-fit p kept good sorted sorted-inside (below sorted sorted-inside)) strings size
+        (omega (arith, some .0)) (omega (arith, few)) (first-cid p keep good) (used-some p kept (getD kept 0 0) good (kept-inside 0 (some .0)) (all-below (length (p .charstrings)) keep kept kept-inside 0 (some .0))) (used-count p kept good)
+        (new-fds-there p kept good sorted sorted-inside (all-below (length (p .charstrings)) keep sorted sorted-inside)) (new-fds-fit p kept good sorted sorted-inside (all-below (length (p .charstrings)) keep sorted sorted-inside)) strings size
 
     cid-held : (size : length ofCid ≤ 67108864) (i : ℕ) → i < length sorted → (ts : List Tok) (met : List Row) → unfolded p (getD sorted i 0) ≡ plain ts met → Recorded rec flag met
         → Holds p (getD sorted i 0) ts ofCid

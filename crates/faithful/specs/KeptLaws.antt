@@ -2,7 +2,7 @@
 -- once; written are exactly the kept ones, each once.
 use Prim.Native.Nat.{ℕ, zero, suc, _≤_, _<_}
 use mathlib.Core.Path.{_≡_, refl, sym, ap, _∙_}
-use mathlib.Core.Bool.{Bool, true}
+use mathlib.Core.Bool.{true}
 use mathlib.Core.List.{List, _∷_}
 use mathlib.Core.Logic.{⊎-elim}
 use native.Mathlib.Nat.{not-suc-le-zero}
@@ -10,18 +10,14 @@ use native.Mathlib.Omega.{arith}
 use borrow.Author.Tests.{eq-eqb}
 use lib.Dec.{eqb}
 use lib.ListN.{length, getD}
-use Rattle.octets.specs.Pick.{pick, pick-ind}
+use Rattle.octets.specs.Pick.{pick-ind}
 use Rattle.dict.specs.Lookup.{cidKeyed}
 use Rattle.cff.specs.Font.{Program}
-use Rattle.subset.specs.Kept.{isIn, those, keptOf, sortedBy, writtenOrder}
+use Rattle.subset.specs.Kept.{isIn, those, keptOf, sortedBy, writtenOrder, keeps}
 use Rattle.faithful.specs.Faithful.{IsKept}
 use Rattle.subset.specs.KeptListLaws.{in-at, in-place, those-has, those-in, those-count, Distinct, those-distinct, sorted-in, sorted-count, sorted-distinct}
 
 -- ---- kept
-
--- the test of a kept glyph
-abbrev pub keeps : List ℕ → ℕ → Bool
-keeps keep g = pick (eqb g 0) true (isIn g keep)
 
 -- glyph 0 is kept
 keeps-zero : (keep : List ℕ) (g : ℕ) → g ≡ 0 → keeps keep g ≡ true
@@ -40,6 +36,11 @@ kept-is p keep g k =
 -- a kept glyph is one of the n
 pub kept-below : (n : ℕ) (keep : List ℕ) (g : ℕ) → isIn g (keptOf n keep) ≡ true → g < n
 kept-below n keep g h = omega (arith, those-in (keeps keep) n 0 g h .1)
+
+-- so are those of a list of kept ones
+pub all-below : (n : ℕ) (keep order : List ℕ) → ((i : ℕ) → i < length order → isIn (getD order i 0) (keptOf n keep) ≡ true)
+    → (i : ℕ) → i < length order → getD order i 0 < n
+all-below n keep order inside i h = kept-below n keep (getD order i 0) (inside i h)
 
 -- glyph 0 is the first, then come the others
 pub kept-front : (n : ℕ) (keep : List ℕ) → keptOf (suc n) keep ≡ 0 ∷ those (keeps keep) n 1

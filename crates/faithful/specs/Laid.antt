@@ -5,11 +5,10 @@ use mathlib.Core.Bool.{Bool, true, false}
 use mathlib.Core.List.{List, []}
 use lib.ListN.{length, getD}
 use Rattle.octets.specs.Octets.{Octets}
+use Rattle.octets.specs.Lists.{allBelow}
 use Rattle.dict.specs.Lookup.{cidKeyed}
 use Rattle.dict.specs.Proper.{AllProper}
 use Rattle.charset.specs.CharsetBytes.{Ids}
-use Rattle.charset.specs.FdSelectBytes.{Fds}
-use Rattle.charset.specs.FdSelect.{allBelow}
 use Rattle.cff.specs.Font.{got, Program, readFont}
 use Rattle.subset.specs.Kept.{privateOf, localsOf}
 use Rattle.subset.specs.Pruned.{Bodies}
@@ -29,7 +28,7 @@ pub record GoodProgram (p : Program) : Type 0 where
   pub ids : Ids (p .ids)
   pub notdef : getD (p .ids) 0 0 ≡ 0
   pub fdsCount : length (p .fds) ≡ length (p .charstrings)
-  pub fds : Fds (p .fds)
+  pub fds : Octets (p .fds)
   pub fdsThere : allBelow (length (p .privates)) (p .fds) ≡ true
   pub onePrivate : cidKeyed (p .top) ≡ false → length (p .privates) ≡ 1
   pub top : AllProper (p .top)

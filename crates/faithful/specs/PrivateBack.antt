@@ -12,6 +12,7 @@ use lib.ListN.{length, take, drop, getD, length-append}
 use Rattle.octets.specs.Pick.{pick}
 use Rattle.index.specs.Index.{readIndex}
 use Rattle.index.specs.Write.{indexBytes}
+use Rattle.decimal.specs.Decimal.{whole}
 use Rattle.dict.specs.Op.{private, subrs}
 use Rattle.dict.specs.Dict.{Entry, Dict, entries, dictOf}
 use Rattle.dict.specs.Lookup.{Operands, absent, operands, lastFrom, lastOf, only, offsetTold, offsetAs, offsetIn, privateIn}
@@ -21,10 +22,10 @@ use Rattle.dict.specs.declared.PrivateIn.{PrivateIn}
 use Rattle.dict.specs.declared.PrivateIn.the-variants.{Private as PrivateEntry}
 use Rattle.dict_write.specs.Written.{offsetEntry, privateEntry, without, privateBytes}
 use Rattle.dict_write.specs.WriteLaws.{subrs-length}
-use Rattle.dict_write.specs.Parts.{Part, partsBytes, partsEntries, whole, AllFit}
+use Rattle.dict_write.specs.Parts.{Part, partsBytes, partsEntries, AllFit}
 use Rattle.dict_write.specs.DictRound.{parts-read}
 use Rattle.dict_write.specs.EntriesRound.{entries-read, offset-read, without-proper}
-use Rattle.cff.specs.Font.{Got, refused, got, then, indexGot, dictGot, localsAt, Private, privateData, privateAt, privatesAt, Program}
+use Rattle.cff.specs.Font.{Got, refused, got, then, indexGot, dictGot, localsAt, Private, privateData, privateAt, privatesAt, Program, emptyPrivate}
 use Rattle.subset.specs.Kept.{privateOf}
 use Rattle.subset.specs.Subset.{privateDict, privatePart, privateParts, fontDicts}
 use Rattle.faithful.specs.Laid.{GoodProgram}
@@ -129,16 +130,12 @@ private-named : (size at : ℕ) → size < 2147483648 → at < 2147483648
 unfolding lastOf lastFrom
 private-named size at h k = private-whole size at h k
 
--- no Private DICT
-abbrev noPrivate : Private
-noPrivate = record { entries = []; locals = [] }
-
 -- the Private DICTs that these Font DICTs name, with their local subroutines
 record Back (bs : List ℕ) (dicts : List (List ℕ)) (lss : List (List (List ℕ))) : Type 0 where
   privates : List Private
   read : privatesAt bs dicts ≡ got privates
   many : length privates ≡ length lss
-  locals : (k : ℕ) → k < length lss → getD privates k noPrivate .locals ≡ getD lss k []
+  locals : (k : ℕ) → k < length lss → getD privates k emptyPrivate .locals ≡ getD lss k []
 
 -- no Font DICT
 back-none : (bs : List ℕ) → Back bs [] []
@@ -160,7 +157,7 @@ module _ (bs : List ℕ) (size at : ℕ) (h : size < 2147483648) (k : at < 21474
   back-more : (ls : List (List ℕ)) → p .locals ≡ ls → Back bs (privateEntry size at ∷ dicts) (ls ∷ lss)
   back-more ls e = record { privates = p ∷ more .privates; read = first-read; many = ap suc (more .many); locals = each }
     where
-      each : (j : ℕ) → j < suc (length lss) → getD (p ∷ more .privates) j noPrivate .locals ≡ getD (ls ∷ lss) j []
+      each : (j : ℕ) → j < suc (length lss) → getD (p ∷ more .privates) j emptyPrivate .locals ≡ getD (ls ∷ lss) j []
       each zero g = e
       each (suc j) g = more .locals j (omega arith)
 
@@ -188,7 +185,7 @@ pub privates-back : (bs : List ℕ) (at : ℕ) (p : Program) (used : List ℕ) (
     → length lss ≡ length used → ((k : ℕ) → length (getD lss k []) < 65536) → length bs ≤ 67108864 → at ≤ length bs
     → drop at bs ≡ privateParts p used lss ++ post
     → (ps : List Private) × (privatesAt bs (fontDicts p at used lss) ≡ got ps) × (length ps ≡ length used)
-    × ((k : ℕ) → k < length used → getD ps k (record { entries = []; locals = [] }) .locals ≡ getD lss k [])
+    × ((k : ℕ) → k < length used → getD ps k emptyPrivate .locals ≡ getD lss k [])
 privates-back bs at p used lss post good same few short within lies =
     let b = all-back bs p good short at used lss post same few within lies in
     (b .privates, b .read, b .many ∙ same, λ k h. b .locals k (omega arith))

@@ -8,6 +8,7 @@ use lib.ListN.{length}
 use borrow.Author.Tests.{ltb-false}
 use Rattle.octets.specs.Pick.{pick, pick-ind}
 use Rattle.octets.specs.Octets.{Octets}
+use Rattle.octets.specs.Lists.{allBelow}
 use Rattle.unfold.specs.Unfold.{plain}
 use Rattle.prune.specs.StepLaws.{zero-one}
 use Rattle.record.specs.Record.{rowsOf, recordFine}
@@ -17,7 +18,7 @@ use Rattle.cff.specs.Find.{workSize}
 use Rattle.subset.specs.Kept.{writtenOrder, usedFds}
 use Rattle.subset.specs.Pruned.{Pruned, pruned}
 use Rattle.subset.specs.Subset.{subsetBytes}
-use Rattle.subset.specs.Cut.{Outcome, refused, subset, allBelow, allFound, hasRos, sameBool, ownOf, written, cutProgram, cutRead, cutOf}
+use Rattle.subset.specs.Cut.{Outcome, refused, subset, allFound, hasRos, sameBool, ownOf, written, cutProgram, cutRead, cutOf}
 use Rattle.faithful.specs.Faithful.{unfolded, IsKept, Holds, Faithful}
 use Rattle.faithful.specs.Laid.{GoodProgram}
 use Rattle.faithful.specs.GoodPartsLaws.{got-same}

@@ -11,7 +11,7 @@ use Rattle.decimal.specs.declared.Decimal.{Decimal}
 use Rattle.decimal.specs.declared.Signed.{Signed}
 use Rattle.decimal.specs.declared.IdOf.{IdOf}
 use Rattle.decimal.specs.declared.IdOf.the-variants.{Id, Absent}
-use Rattle.decimal.specs.Decimal.{Normal}
+use Rattle.decimal.specs.Decimal.{Normal, whole}
 use Rattle.decimal.specs.TakenLaws.{whole-normal}
 use Rattle.decimal.specs.Values.{truncOf, i32Of}
 use Rattle.strings.specs.Text.{sameText}
@@ -32,7 +32,7 @@ use Rattle.dict_write.specs.Parts.{Part, plain, offset, privatePart, partBytes,
 use Rattle.dict_write.specs.EntriesRound.{parts-append, fit-append}
 use Rattle.cff.specs.Font.{Program, charset, charStrings, fdArray, fdSelect}
 use Rattle.subset.specs.Texts.{Named, namedBy, namedEntries, placeIn, idAfter, newId}
-use Rattle.subset.specs.Subset.{numberOf, named, namedBytes, copiedBytes, rosEntry, topByName, topByCid}
+use Rattle.subset.specs.Subset.{named, namedBytes, copiedBytes, rosEntry, topByName, topByCid}
 use Rattle.faithful.specs.Laid.{GoodProgram}
 use Rattle.faithful.specs.TopParts.{namedParts, copiedPart, copiedParts, rosParts, sharedParts, nameTopParts, cidTopParts}
 
@@ -42,7 +42,7 @@ use Rattle.faithful.specs.TopParts.{namedParts, copiedPart, copiedParts,
 pub named-bytes : (own : List (List ℕ)) (ns : List Named) → partsBytes (namedParts own ns) ≡ namedBytes own ns
 unfolding namedParts partsBytes namedBytes
 named-bytes own [] = refl
-named-bytes own (n ∷ ns) = ap (λ (l : List ℕ). entryBytes (n .op) (numberOf (newId own (n .text)) ∷ []) ++ l) (named-bytes own ns)
+named-bytes own (n ∷ ns) = ap (λ (l : List ℕ). entryBytes (n .op) (whole (newId own (n .text)) ∷ []) ++ l) (named-bytes own ns)
 
 -- of one copied entry
 copied-one : (op : ℕ) (o : Operands) (ps : List Part) → partsBytes (copiedPart op o ++ ps) ≡ copiedEntry op o ++ partsBytes ps
@@ -84,7 +84,7 @@ module _ (p : Program) (own : List (List ℕ)) where
   pub cid-bytes : (at₁ at₂ at₃ at₄ : ℕ) → partsBytes (cidTopParts p own at₁ at₂ at₃ at₄) ≡ topByCid p own at₁ at₂ at₃ at₄
   unfolding partsBytes
   cid-bytes at₁ at₂ at₃ at₄ =
-      let count = plain (record { op = cidCount; operands = numberOf (cidCountIn (p .top)) ∷ [] }) in
+      let count = plain (record { op = cidCount; operands = whole (cidCountIn (p .top)) ∷ [] }) in
       let ps = count ∷ offset charset at₁ ∷ offset fdSelect at₂ ∷ offset charStrings at₃ ∷ offset fdArray at₄ ∷ [] in
       ros-bytes p own (rosIn (p .top)) (sharedParts p own ps)
       ∙ ap (λ (l : List ℕ). rosEntry p own (rosIn (p .top)) ++ l)
@@ -120,11 +120,11 @@ Operators [] = Unit
 Operators (op ∷ ops) = (isOperator op ≡ true) × Operators ops
 
 -- a number of 32 bits is one that a DICT can hold
-number-normal : (n : ℕ) → n < 4294967296 → Normal (numberOf n)
+number-normal : (n : ℕ) → n < 4294967296 → Normal (whole n)
 number-normal n h = whole-normal false n (omega arith)
 
 -- and so is an entry of it alone
-one-proper : (op n : ℕ) → isOperator op ≡ true → n < 4294967296 → Proper (record { op = op; operands = numberOf n ∷ [] })
+one-proper : (op n : ℕ) → isOperator op ≡ true → n < 4294967296 → Proper (record { op = op; operands = whole n ∷ [] })
 unfolding AllNormal
 one-proper op n o h = record { operator = o; numbers = (number-normal n h, tt) }
 
@@ -195,7 +195,7 @@ unfolding AllFit AllNormal
 ros-fits p own few None h = tt
 ros-fits p own few (Ros registry ordering s) h =
     let text : ℕ → List ℕ = stringText (p .strings) in
-    let id : (t : List ℕ) → Normal (numberOf (newId own t)) = λ t. number-normal (newId own t) (omega (arith, new-below own t few)) in
+    let id : (t : List ℕ) → Normal (whole (newId own t)) = λ t. number-normal (newId own t) (omega (arith, new-below own t few)) in
     (record { operator = refl; numbers = (id (text registry), (id (text ordering), (whole-normal (s .neg) (s .size) (omega arith), tt))) }, tt)
 
 -- CIDCount is below 4294967296

@@ -13,6 +13,7 @@ use Rattle.decimal.specs.declared.IdOf.{IdOf}
 use Rattle.decimal.specs.declared.IdOf.the-variants.{Id, Absent}
 use Rattle.index.specs.Write.{total, indexLen, indexBytes}
 use Rattle.index.specs.WriteLaws.{length-index}
+use Rattle.decimal.specs.Decimal.{whole}
 use Rattle.dict.specs.Op.{private, charstringType, ros, cidCount, copiedTopEntries, copiedTopStrings}
 use Rattle.dict.specs.Dict.{Entry, entries, dictOf}
 use Rattle.dict.specs.Lookup.{Operands, absent, operands, lastFrom, lastOf, only, offsetTold, offsetAs, offsetIn, privateAs, privateIn, idIn, isThere, cidKeyed, rosIn, cidCountIn, typeAs, charstringTypeIn}
@@ -22,14 +23,14 @@ use Rattle.dict.specs.declared.RosIn.{RosIn}
 use Rattle.dict.specs.declared.RosIn.the-variants.{Ros, None}
 use Rattle.dict_write.specs.Written.{opBytes, offsetEntry}
 use Rattle.dict_write.specs.WriteLaws.{offset-length, private-length}
-use Rattle.dict_write.specs.Parts.{Part, plain, offset, privatePart, whole, partsEntries}
+use Rattle.dict_write.specs.Parts.{Part, plain, offset, privatePart, partsEntries}
 use Rattle.dict_write.specs.DictRound.{parts-read}
 use Rattle.cff.specs.ReadsLaws.{no}
 use Rattle.cff.specs.Font.{Program, charset, encoding, charStrings, fdArray, fdSelect}
 use Rattle.subset.specs.Kept.{isIn}
 use Rattle.subset.specs.Cut.{hasRos}
 use Rattle.subset.specs.Texts.{Named, namedBy, namedEntries}
-use Rattle.subset.specs.Subset.{numberOf, topByName, topByCid}
+use Rattle.subset.specs.Subset.{topByName, topByCid}
 use Rattle.faithful.specs.Laid.{GoodProgram}
 use Rattle.faithful.specs.WholeLaws.{offset-whole, private-whole}
 use Rattle.faithful.specs.TopParts.{namedParts, copiedPart, copiedParts, rosParts, sharedParts, nameTopParts, cidTopParts}
@@ -151,7 +152,7 @@ module _ (p : Program) (own : List (List ℕ)) (there : hasRos (rosIn (p .top)) 
 
   abbrev cidTail : List Part
   cidTail =
-      plain (record { op = cidCount; operands = numberOf (cidCountIn (p .top)) ∷ [] })
+      plain (record { op = cidCount; operands = whole (cidCountIn (p .top)) ∷ [] })
       ∷ offset charset at₁ ∷ offset fdSelect at₂ ∷ offset charStrings at₃ ∷ offset fdArray at₄ ∷ []
 
   -- what is not among the copied operators, and not ROS, is looked up at the end

@@ -2,7 +2,7 @@
 -- the offsets, and for a name-keyed subset Private.
 use Prim.Native.Nat.{ℕ}
 use mathlib.Core.List.{List, [], _∷_, _++_}
-use Rattle.decimal.specs.Decimal.{normal}
+use Rattle.decimal.specs.Decimal.{normal, whole}
 use Rattle.dict.specs.Op.{ros, cidCount, copiedTopEntries}
 use Rattle.dict.specs.Dict.{Entry}
 use Rattle.dict.specs.Lookup.{Operands, absent, operands, lastOf, rosIn, cidCountIn}
@@ -12,12 +12,12 @@ use Rattle.dict_write.specs.Parts.{Part, plain, offset, privatePart}
 use Rattle.strings.specs.Strings.{stringText}
 use Rattle.cff.specs.Font.{Program, charset, charStrings, fdArray, fdSelect}
 use Rattle.subset.specs.Texts.{Named, newId}
-use Rattle.subset.specs.Subset.{numberOf, named}
+use Rattle.subset.specs.Subset.{named}
 
 -- the string entries
 unfoldable pub namedParts : List (List ℕ) → List Named → List Part
 namedParts own [] = []
-namedParts own (n ∷ ns) = plain (record { op = n .op; operands = numberOf (newId own (n .text)) ∷ [] }) ∷ namedParts own ns
+namedParts own (n ∷ ns) = plain (record { op = n .op; operands = whole (newId own (n .text)) ∷ [] }) ∷ namedParts own ns
 
 -- the entry of an operator that is copied, where it is there
 abbrev pub copiedPart : ℕ → Operands → List Part
@@ -35,7 +35,7 @@ rosParts p own None = []
 rosParts p own (Ros registry ordering s) =
     plain (record {
       op = ros;
-      operands = numberOf (newId own (stringText (p .strings) registry)) ∷ numberOf (newId own (stringText (p .strings) ordering)) ∷ normal (s .neg) (s .size) 0 0 ∷ [];
+      operands = whole (newId own (stringText (p .strings) registry)) ∷ whole (newId own (stringText (p .strings) ordering)) ∷ normal (s .neg) (s .size) 0 0 ∷ [];
     }) ∷ []
 
 -- what both keyings share, before the other parts
@@ -50,5 +50,5 @@ nameTopParts p own at₁ at₂ size at₃ = sharedParts p own (offset charset at
 abbrev pub cidTopParts : Program → List (List ℕ) → ℕ → ℕ → ℕ → ℕ → List Part
 cidTopParts p own at₁ at₂ at₃ at₄ =
     rosParts p own (rosIn (p .top)) ++ sharedParts p own
-    (plain (record { op = cidCount; operands = numberOf (cidCountIn (p .top)) ∷ [] })
+    (plain (record { op = cidCount; operands = whole (cidCountIn (p .top)) ∷ [] })
     ∷ offset charset at₁ ∷ offset fdSelect at₂ ∷ offset charStrings at₃ ∷ offset fdArray at₄ ∷ [])

@@ -8,14 +8,14 @@ use mathlib.Core.Logic.{⊎-elim}
 use native.Mathlib.Nat.{le-of-suc-le-suc, not-suc-le-zero}
 use native.Mathlib.Numerals.{add-one}
 use native.Mathlib.Omega.{arith}
-use borrow.Author.Tests.{eqb-true, leb-false, lt-leb}
-use lib.Dec.{leb, eqb}
+use borrow.Author.Tests.{eqb-true, lt-ltb}
+use lib.Dec.{eqb}
 use lib.ListN.{length, getD}
 use Rattle.octets.specs.Pick.{pick, pick-ind}
-use Rattle.prune.specs.StepLaws.{zero-one}
+use Rattle.octets.specs.Lists.{allBelow}
+use Rattle.octets.specs.ListLaws.{below-at}
+use Rattle.octets.specs.Octets.{Octets}
 use Rattle.dict.specs.Lookup.{cidKeyed}
-use Rattle.charset.specs.FdSelect.{allBelow}
-use Rattle.charset.specs.FdSelectBytes.{Fds}
 use Rattle.cff.specs.Font.{Program}
 use Rattle.subset.specs.Kept.{isIn, those, fdsOf, usedFds, newFd}
 use Rattle.subset.specs.Subset.{newFds}
@@ -23,21 +23,6 @@ use Rattle.faithful.specs.Laid.{GoodProgram}
 use Rattle.subset.specs.KeptListLaws.{in-none, in-head, in-more, in-cases, in-at, in-some, those-has, those-in, those-few, those-high}
 
 -- ---- FDs of glyphs
-
--- where all are below a count, each is
-pub below-at : (count : ℕ) (l : List ℕ) (i : ℕ) → allBelow count l ≡ true → i < length l → getD l i 0 < count
-unfolding allBelow
-below-at count [] i a h = absurd (not-suc-le-zero h)
-below-at count (x ∷ xs) zero a h =
-    pick-ind (λ t. t ≡ true → x < count) (leb count x) false (allBelow count xs)
-    (λ t e. absurd (zero-one cc))
-    (λ t e. leb-false count x t)
-    a
-below-at count (x ∷ xs) (suc i) a h =
-    pick-ind (λ t. t ≡ true → getD xs i 0 < count) (leb count x) false (allBelow count xs)
-    (λ t e. absurd (zero-one cc))
-    (λ t e. below-at count xs i e (le-of-suc-le-suc h))
-    a
 
 -- the FD of a glyph of a list is among theirs
 pub fds-has : (p : Program) (gs : List ℕ) (g : ℕ) → isIn g gs ≡ true → isIn (getD (p .fds) g 0) (fdsOf p gs) ≡ true
@@ -50,7 +35,7 @@ fds-has p (x ∷ gs) g h =
     (in-cases x g gs h)
 
 -- FDs are bytes
-pub fds-fit : (p : Program) (gs : List ℕ) (f : ℕ) → Fds (p .fds) → isIn f (fdsOf p gs) ≡ true → f < 256
+pub fds-fit : (p : Program) (gs : List ℕ) (f : ℕ) → Octets (p .fds) → isIn f (fdsOf p gs) ≡ true → f < 256
 unfolding fdsOf
 fds-fit p [] f b h = absurd (in-none f h)
 fds-fit p (x ∷ gs) f b h =
@@ -64,7 +49,7 @@ uses p kept f = isIn f (fdsOf p kept)
 
 -- the FD of a glyph is one of the font's
 pub fd-there : (p : Program) (g : ℕ) → GoodProgram p → g < length (p .charstrings) → getD (p .fds) g 0 < length (p .privates)
-fd-there p g good h = below-at (length (p .privates)) (p .fds) g (good .fdsThere) (omega (arith, good .fdsCount))
+fd-there p g good h = below-at (length (p .privates)) (p .fds) (good .fdsThere) g (omega (arith, good .fdsCount))
 
 -- the FD of a kept glyph is in use
 pub used-has : (p : Program) (kept : List ℕ) (g : ℕ) → GoodProgram p → isIn g kept ≡ true → g < length (p .charstrings)
@@ -130,12 +115,12 @@ module _ (p : Program) (kept : List ℕ) (good : GoodProgram p) where
   new-fds-there (g ∷ gs) a b =
       let used = usedFds p kept in
       let r = new-fd-at used (getD (p .fds) g 0) (used-has p kept g good (a 0 (omega arith)) (b 0 (omega arith))) in
-      simp (lt-leb (length used) (newFd used (getD (p .fds) g 0)) (r .0))
+      simp (lt-ltb (newFd used (getD (p .fds) g 0)) (length used) (r .0))
       (new-fds-there gs (λ i h. a (suc i) (omega arith)) (λ i h. b (suc i) (omega arith)))
 
   -- they are bytes
   pub new-fds-fit : (order : List ℕ) → ((i : ℕ) → i < length order → isIn (getD order i 0) kept ≡ true)
-      → ((i : ℕ) → i < length order → getD order i 0 < length (p .charstrings)) → Fds (newFds p (usedFds p kept) order)
+      → ((i : ℕ) → i < length order → getD order i 0 < length (p .charstrings)) → Octets (newFds p (usedFds p kept) order)
   unfolding newFds
   new-fds-fit [] a b i = omega arith
   new-fds-fit (g ∷ gs) a b zero =

@@ -11,7 +11,7 @@ use borrow.Author.Tests.{eq-eqb}
 use lib.Dec.{eqb}
 use Rattle.octets.specs.Pick.{pick, pick-ind}
 use Rattle.decimal.specs.declared.Decimal.{Decimal}
-use Rattle.decimal.specs.Decimal.{nought, zeros, stripped, scaled}
+use Rattle.decimal.specs.Decimal.{nought, zeros, stripped, scaled, whole}
 use Rattle.decimal.specs.DecimalLaws.{normal-nought, normal-pos, stripped-exact}
 use Rattle.decimal.specs.Values.{truncOf, offsetOf}
 use Rattle.decimal.specs.ValuesLaws.{trunc-whole}
@@ -20,7 +20,6 @@ use Rattle.dict.specs.Dict.{Entry}
 use Rattle.dict.specs.Lookup.{Operands, operands, lastFrom, privateAs}
 use Rattle.dict.specs.declared.PrivateIn.the-variants.{Refused as RefusedPrivate, Private}
 use Rattle.dict_write.specs.Written.{without}
-use Rattle.dict_write.specs.Parts.{whole}
 
 -- ---- a whole number
 

@@ -1,15 +1,13 @@
 -- What ranking leaves, FD by FD: from an FD's place on the words hold the ranks of its local subroutines, as writing them asks; and the new
 -- local subroutines by the words are those by the record.
 use Prim.Native.Nat.{ℕ, zero, suc, _+_, _-_, _≤_, _<_}
-use mathlib.Core.Path.{_≡_, refl, sym, ap, _∙_, subst}
+use mathlib.Core.Path.{_≡_, refl, sym, ap, _∙_}
 use mathlib.Core.Bool.{Bool, true, false}
 use mathlib.Core.List.{List, [], _∷_, _++_, append-nil, append-assoc}
-use native.Mathlib.Nat.{le-refl}
 use native.Mathlib.Omega.{arith}
 use borrow.Author.Tests.{eqb-true}
-use lib.ListN.{length, take, drop, getD}
-use lib.Seq.{take-at, drop-at, drop-drop, getD-take, getD-drop}
-use Rattle.octets.specs.Pick.{pick, pick-ind}
+use lib.ListN.{length, take, drop}
+use lib.Seq.{take-at, drop-at, drop-drop}
 use Rattle.octets.specs.PickLaws.{both-hold}
 use Rattle.octets.specs.Octets.{Octets, put}
 use Rattle.octets.specs.PutLaws.{put-length, drop-put-at}
@@ -20,10 +18,9 @@ use Rattle.cff.specs.Find.{localsTotal}
 use Rattle.subset.specs.Kept.{localsOf}
 use Rattle.subset.specs.Pruned.{countBelow, reached, localSet, globalSet, callsIn}
 use Rattle.reach.specs.Reach.{ranksOf}
-use Rattle.reach.specs.CountLaws.{count-more, length-ranks}
-use Rattle.subset.specs.RankLaws.{count-few}
+use Rattle.reach.specs.CountLaws.{length-ranks}
 use Rattle.renumber.specs.Ranks.{callsBy, Ranked}
-use Rattle.renumber.specs.RanksLaws.{HoldsRanks, rank-get, calls-in}
+use Rattle.renumber.specs.RanksLaws.{HoldsRanks, calls-in, ranked-words}
 use Rattle.renumber.specs.HoldsLaws.{narrow-set}
 use Rattle.renumber.specs.declared.Ranks.{Ranks}
 use Rattle.bodies.specs.Ways.{manyOf, newSubrs, subrsBy, reachedIn, ranksIn}
@@ -45,25 +42,6 @@ held-part old at xs ys zs h =
     let b : drop (length xs) (all ++ tail) ≡ ys ++ (zs ++ tail)
     = ap (drop (length xs)) (append-assoc xs (ys ++ zs) tail) ∙ drop-at xs ((ys ++ zs) ++ tail) (length xs) refl ∙ append-assoc ys zs tail in
     ap (take (length ys)) (a ∙ b) ∙ take-at ys (zs ++ tail) (length ys) refl
-
--- ranks that are not above the number reached
-ranked-words : (ws : List ℕ) (q : Ranks) (set : ℕ → Bool) → q .at + q .count ≤ length ws → q .count < 65536
-    → take (q .count) (drop (q .at) ws) ≡ ranksOf set 0 (q .count) → q .reached ≡ countBelow set (q .count) → Ranked ws q
-ranked-words ws q set inside few words reaches =
-    record {
-      inside = inside;
-      few = few;
-      fewReached = omega (arith, count-few set (q .count));
-      below = λ i k. subst (λ (n : ℕ). n ≤ q .reached) (sym (word i k))
-          (pick-ind (λ (n : ℕ). n ≤ q .reached) (set i) (countBelow set i + 1) 0
-          (λ t. let b = count-more set i i (q .count) (le-refl i) k t in omega arith) (λ t. omega arith));
-    }
-  where
-    word : (i : ℕ) → i < q .count → getD ws (q .at + i) 0 ≡ pick (set i) (countBelow set i + 1) 0
-    word i k =
-        let z : 0 + i ≡ i = omega arith in
-        sym (getD-drop (q .at) ws i 0) ∙ sym (getD-take (q .count) (drop (q .at) ws) i 0 k)
-        ∙ ap (λ (l : List ℕ). getD l i 0) words ∙ rank-get set 0 (q .count) i k ∙ ap (λ (j : ℕ). pick (set j) (countBelow set j + 1) 0) z
 
 -- ---- among the FDs in use
 

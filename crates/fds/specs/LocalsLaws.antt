@@ -25,7 +25,7 @@ use Rattle.reach.specs.declared.ranks.Ranked.{Ranked}
 use Rattle.reach.specs.Cases.{by-number}
 use Rattle.fds.specs.declared.RankedLocals.{RankedLocals}
 use Rattle.fds.specs.Locals.{inUse, usedBelow, fdsIn, localsFor, fdRanks, ranksFor, numbered, allNumbered, rankedLocals, RankedFd, RankedFds, RanksLocals}
-use Rattle.fds.specs.UsedLaws.{used-next, unused-next, locals-last, ranks-last, numbered-last, ranks-length, locals-few, locals-within}
+use Rattle.fds.specs.UsedLaws.{used-next, unused-next, locals-last, ranks-last, numbered-last, ranks-length, locals-few, locals-within, unused-apart}
 
 -- ---- one FD
 
@@ -85,12 +85,9 @@ module _ (p : Program) (rows : List Row) (used : List ℕ) (at : ℕ) (old : Lis
         record {
           held = h .held ∙ ap (λ (l : List ℕ). put old at (ranksFor p rows l)) (sym u);
           stands = h .stands ∙ ap (λ (l : List ℕ). at + localsFor p l) (sym u);
-          tables = λ f k t. by-number f fd (λ s. absurd (differ f s t)) (λ n. h .tables f (omega arith) t);
+          tables = λ f k t. by-number f fd (λ s. absurd (unused-apart used f fd e s t)) (λ n. h .tables f (omega arith) t);
           told = h .told ∙ ap (allNumbered p rows) (sym u);
         }
-      where
-        differ : (f : ℕ) → f ≡ fd → inUse used f ≡ true → ⊥
-        differ f s t = let z : _≡_ {A = Bool} false true = sym e ∙ ap (inUse used) (sym s) ∙ t in let y : _≡_ {A = ℕ} 0 1 = cc in omega arith
 
     -- an FD in use
     module _ (e : inUse used fd ≡ true) (sized : fd < length ats) (counted : fd < length counts) (reachable : fd < length reacheds)

@@ -30,7 +30,7 @@ use Rattle.bodies.specs.declared.Measured.{Measured}
 use Rattle.bodies.specs.declared.Measured.the-variants.{Failed, Total}
 use Rattle.bodies.specs.declared.subrs.Subrs.the-variants.{Local}
 use Rattle.fds.specs.Locals.{inUse, usedBelow, fdsIn}
-use Rattle.fds.specs.UsedLaws.{used-next, unused-next, both-last, one-last}
+use Rattle.fds.specs.UsedLaws.{used-next, unused-next, both-last, one-last, unused-apart}
 use Rattle.fds.specs.LocalsLaws.{locals-count}
 use Rattle.fds.specs.NewLocals.{localsWith, FdIn, localsBy, newLocals, MeasuresLocals, LocalsIn}
 
@@ -132,12 +132,9 @@ module _ (way : ℕ) (p : Program) (rows : List Row) (ws ats counts reacheds : L
     summing-pass e =
         record {
           hold = hold-pass (localsBy way p rows ws ats counts reacheds globals) used fd e ∙ h .hold;
-          sums = λ f k t. by-number f fd (λ s. absurd (differ f s t)) (λ n. h .sums f (omega arith) t);
-          few = λ f k t. by-number f fd (λ s. absurd (differ f s t)) (λ n. h .few f (omega arith) t);
+          sums = λ f k t. by-number f fd (λ s. absurd (unused-apart used f fd e s t)) (λ n. h .sums f (omega arith) t);
+          few = λ f k t. by-number f fd (λ s. absurd (unused-apart used f fd e s t)) (λ n. h .few f (omega arith) t);
         }
-      where
-        differ : (f : ℕ) → f ≡ fd → inUse used f ≡ true → ⊥
-        differ f s t = let z : _≡_ {A = Bool} false true = sym e ∙ ap (inUse used) (sym s) ∙ t in zero-one cc
 
     module _ (u : inUse used fd ≡ true) (own : Ranks) (o : own ≡ ranksIn ats counts reacheds fd) (r : Measured)
         (is : r ≡ measuredOf (localsWith way p rows ws own globals fd)) where

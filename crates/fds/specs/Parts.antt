@@ -8,11 +8,12 @@ use lib.Dec.{eqb}
 use lib.ListN.{length, getD}
 use Rattle.octets.specs.Pick.{pick}
 use Rattle.octets.specs.Octets.{put}
+use Rattle.octets.specs.Lists.{sumOf}
 use Rattle.index.specs.Write.{indexLen}
 use Rattle.cff.specs.Font.{Program}
 use Rattle.subset.specs.Kept.{privateOf}
 use Rattle.subset.specs.Pruned.{mapped}
-use Rattle.private_dicts.specs.Privates.{privateDictBy, sum}
+use Rattle.private_dicts.specs.Privates.{privateDictBy}
 use Rattle.fds.specs.Locals.{inUse, fdsIn}
 use Rattle.fds.specs.declared.parts.Part.{Part}
 
@@ -48,5 +49,5 @@ module _ (p : Program) (way : ℕ) (counts reacheds totals : List ℕ) where
   pub record SizesParts (used oldSizes oldLens sizes lens : List ℕ) (all : ℕ) : Type 0 where
     pub dicts : sizes ≡ put oldSizes 0 (mapped (λ f. partAt f .size) (fdsIn used))
     pub parts : lens ≡ put oldLens 0 (mapped (λ f. partAt f .len) (fdsIn used))
-    pub together : all ≡ sum (mapped (λ f. partAt f .len) (fdsIn used))
+    pub together : all ≡ sumOf (mapped (λ f. partAt f .len) (fdsIn used))
     pub small : all ≤ 72059392000000000

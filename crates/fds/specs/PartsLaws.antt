@@ -11,6 +11,7 @@ use lib.ListN.{length, getD, set, length-append, length-set}
 use Rattle.octets.specs.Pick.{pick, pick-ind}
 use Rattle.octets.specs.Octets.{Octets, put}
 use Rattle.octets.specs.PutLaws.{put-nil, put-snoc}
+use Rattle.octets.specs.Lists.{partOf, sumOf}
 use Rattle.index.specs.Write.{total, sizeFor, indexBytes, indexLen}
 use Rattle.index.specs.WriteLaws.{len-some, length-index, ends-small}
 use Rattle.index.specs.FoundLaws.{part-octets}
@@ -18,7 +19,7 @@ use Rattle.dict.specs.Places.{entriesOf}
 use Rattle.dict_write.specs.Written.{privateBytes}
 use Rattle.dict_write.specs.ShortLaws.{private-short}
 use Rattle.cff.specs.Font.{Private, Program}
-use Rattle.cff.specs.Reads.{partOf, GoodPrivate}
+use Rattle.cff.specs.Reads.{GoodPrivate}
 use Rattle.cff.specs.Reads as reads
 use Rattle.cff.specs.declared.private.PrivateAt.{PrivateAt}
 use Rattle.subset.specs.Kept.{those, privateOf}
@@ -27,7 +28,7 @@ use Rattle.subset.specs.Subset.{privateDict, privatePart, privateParts}
 use Rattle.subset.specs.EachLaws.{length-mapped}
 use Rattle.subset.specs.KeptListLaws.{those-count}
 use Rattle.reach.specs.Cases.{by-number}
-use Rattle.private_dicts.specs.Privates.{privateDictBy, sum, sizesOf, lensOf}
+use Rattle.private_dicts.specs.Privates.{privateDictBy, sizesOf, lensOf}
 use Rattle.private_dicts.specs.PrivatesLaws.{private-dict-is, none-length, some-length, part-few}
 use Rattle.fds.specs.Locals.{inUse, usedBelow, fdsIn}
 use Rattle.fds.specs.UsedLaws.{used-next, unused-next}
@@ -48,18 +49,13 @@ pub no-subrs : (left t : ℕ) → left ≡ 0 → 0 ≡ subrsLen left t
 unfolding subrsLen
 no-subrs left t e = sym (ap (λ (b : Bool). pick b 0 (indexLen left t)) (eq-eqb left 0 e))
 
-pub some-subrs : (left t : ℕ) → (left ≡ 0 → ⊥) → 3 + ((left + 1) * sizeFor (t + 1) + t) ≡ subrsLen left t
+pub some-subrs : (left t : ℕ) → (left ≡ 0 → ⊥) → indexLen left t ≡ subrsLen left t
 unfolding subrsLen
-some-subrs left t h = sym (ap (λ (b : Bool). pick b 0 (indexLen left t)) (ne-eqb left 0 h) ∙ len-some left t h)
+some-subrs left t h = sym (ap (λ (b : Bool). pick b 0 (indexLen left t)) (ne-eqb left 0 h))
 
 pub subrs-few : (left t : ℕ) → left < 65536 → subrsLen left t ≤ t + 262147
 subrs-few left t h =
-    by-number left 0 (λ e. omega (arith, no-subrs left t e)) (λ n. omega (arith, some-subrs left t n, ends-small left (sizeFor (t + 1)) (t + 1) h refl))
-
-pub subrs-is : (left t size : ℕ) → (left ≡ 0 → ⊥) → size ≡ sizeFor (t + 1) → left < 65536 → t ≤ 281474976710656
-    → (3 + ((left + 1) * size + t) ≡ subrsLen left t) × (3 + ((left + 1) * size + t) ≤ 281475000000000)
-subrs-is left t size n e h k =
-    (ap (λ (s : ℕ). 3 + ((left + 1) * s + t)) e ∙ some-subrs left t n, omega (arith, ends-small left size (t + 1) h e))
+    by-number left 0 (λ e. omega (arith, no-subrs left t e)) (λ n. omega (arith, some-subrs left t n, len-some left t n, ends-small left (sizeFor (t + 1)) (t + 1) h refl))
 
 -- ---- one FD
 
@@ -106,8 +102,8 @@ unfolding mapped
 mapped-last g [] f = refl
 mapped-last {A} g (x ∷ fs) f = ap (λ (l : List A). g x ∷ l) (mapped-last g fs f)
 
-sum-last : (l : List ℕ) (x : ℕ) → sum (l ++ (x ∷ [])) ≡ sum l + x
-unfolding sum
+sum-last : (l : List ℕ) (x : ℕ) → sumOf (l ++ (x ∷ [])) ≡ sumOf l + x
+unfolding sumOf
 sum-last [] x = omega arith
 sum-last (y ∷ l) x = omega (arith, sum-last l x)
 
@@ -125,12 +121,12 @@ module _ (p : Program) (way : ℕ) (counts reacheds totals used oldSizes oldLens
   pub record Measuring (sizes lens : List ℕ) (all j fd : ℕ) : Type 0 where
     pub dicts : sizes ≡ put oldSizes 0 (mapped sizeAt (usedBelow used fd))
     pub parts : lens ≡ put oldLens 0 (mapped lenAt (usedBelow used fd))
-    pub together : all ≡ sum (mapped lenAt (usedBelow used fd))
+    pub together : all ≡ sumOf (mapped lenAt (usedBelow used fd))
     pub number : j ≡ length (usedBelow used fd)
     pub small : all ≤ fd * 281482000000000
 
   pub measuring-start : Measuring oldSizes oldLens 0 0 0
-  unfolding those mapped sum
+  unfolding those mapped sumOf
   measuring-start =
       record { dicts = sym (put-nil oldSizes 0); parts = sym (put-nil oldLens 0); together = refl; number = refl; small = omega arith }
 
@@ -144,7 +140,7 @@ module _ (p : Program) (way : ℕ) (counts reacheds totals used oldSizes oldLens
         record {
           dicts = h .dicts ∙ ap (λ (l : List ℕ). put oldSizes 0 (mapped sizeAt l)) (sym u);
           parts = h .parts ∙ ap (λ (l : List ℕ). put oldLens 0 (mapped lenAt l)) (sym u);
-          together = h .together ∙ ap (λ (l : List ℕ). sum (mapped lenAt l)) (sym u);
+          together = h .together ∙ ap (λ (l : List ℕ). sumOf (mapped lenAt l)) (sym u);
           number = h .number ∙ ap length (sym u);
           small = omega (arith, h .small);
         }
@@ -175,7 +171,7 @@ module _ (p : Program) (way : ℕ) (counts reacheds totals used oldSizes oldLens
           record {
             dicts = ap (set sizes j) a ∙ stored sizeAt oldSizes sizes (h .dicts) s e;
             parts = ap (set lens j) b ∙ stored lenAt oldLens lens (h .parts) t e;
-            together = omega (arith, h .together, b, ap (λ (l : List ℕ). sum (mapped lenAt l)) u, ap sum (mapped-last lenAt fs fd), sum-last (mapped lenAt fs) (lenAt fd));
+            together = omega (arith, h .together, b, ap (λ (l : List ℕ). sumOf (mapped lenAt l)) u, ap sumOf (mapped-last lenAt fs fd), sum-last (mapped lenAt fs) (lenAt fd));
             number = omega (arith, h .number, ap length u, length-append fs (fd ∷ []));
             small = measuring-small l;
           }
@@ -218,8 +214,8 @@ module _ (p : Program) (new : ℕ → List (List ℕ)) where
   lens-mapped (f ∷ fs) = ap (λ (l : List ℕ). length (privatePart (privateOf p f) (new f)) ∷ l) (lens-mapped fs)
 
   -- the parts together
-  pub parts-together : (fs : List ℕ) → length (privateParts p fs (mapped new fs)) ≡ sum (lensOf p fs (mapped new fs))
-  unfolding privateParts lensOf mapped sum
+  pub parts-together : (fs : List ℕ) → length (privateParts p fs (mapped new fs)) ≡ sumOf (lensOf p fs (mapped new fs))
+  unfolding privateParts lensOf mapped sumOf
   parts-together [] = refl
   parts-together (f ∷ fs) =
       length-append (privatePart (privateOf p f) (new f)) (privateParts p fs (mapped new fs))
@@ -243,5 +239,5 @@ module _ (p : Program) (new : ℕ → List (List ℕ)) where
         ∙ sym (part-length (privateOf p f) (new f)))
         ∙ sym (lens-mapped (fdsIn used))
 
-    pub parts-are : sum (mapped (λ f. partAt p way counts reacheds totals f .len) (fdsIn used)) ≡ length (privateParts p (fdsIn used) (mapped new (fdsIn used)))
-    parts-are = ap sum lens-are ∙ sym (parts-together (fdsIn used))
+    pub parts-are : sumOf (mapped (λ f. partAt p way counts reacheds totals f .len) (fdsIn used)) ≡ length (privateParts p (fdsIn used) (mapped new (fdsIn used)))
+    parts-are = ap sumOf lens-are ∙ sym (parts-together (fdsIn used))

@@ -1,7 +1,7 @@
 -- Laws of the FDs in use: the next one stands last among them, and together they have no more locals than the font.
 use Prim.Native.Nat.{ℕ, zero, suc, _+_, _≤_, _<_}
 use mathlib.Core.Path.{_≡_, refl, sym, ap, _∙_}
-use mathlib.Core.Bool.{Bool, true, false, not}
+use mathlib.Core.Bool.{Bool, true, false, not, false≢true}
 use mathlib.Core.List.{List, [], _∷_, _++_, append-nil, append-assoc}
 use native.Mathlib.Omega.{arith}
 use borrow.Author.Tests.{eq-eqb, ne-eqb}
@@ -9,7 +9,7 @@ use lib.Dec.{eqb}
 use lib.ListN.{length, take, getD, length-append}
 use Rattle.octets.specs.Pick.{pick}
 use Rattle.unfold.specs.Unfold.{Row}
-use Rattle.cff.specs.Font.{Private, Program}
+use Rattle.cff.specs.Font.{Private, Program, emptyPrivate}
 use Rattle.cff.specs.Find.{localsTotal}
 use Rattle.subset.specs.Kept.{those, localsOf}
 use Rattle.subset.specs.Pruned.{localSet}
@@ -25,6 +25,12 @@ both-last false u v = refl
 pub one-last : (t : Bool) → pick t true false ≡ t
 one-last true = refl
 one-last false = refl
+
+-- ---- in use or not
+
+-- an FD in use is another than one that is not
+pub unused-apart : (used : List ℕ) (f fd : ℕ) → inUse used fd ≡ false → f ≡ fd → inUse used f ≡ true → ⊥
+unused-apart used f fd e s t = false≢true (sym e ∙ ap (inUse used) (sym s) ∙ t)
 
 -- ---- those that pass a test
 
@@ -95,10 +101,7 @@ module _ (p : Program) (rows : List Row) where
 
 -- ---- no more locals than the font has
 
-abbrev none : Private
-none = record { entries = []; locals = [] }
-
-total-next : (ps : List Private) (n : ℕ) → localsTotal (take (n + 1) ps) ≡ localsTotal (take n ps) + length (getD ps n none .locals)
+total-next : (ps : List Private) (n : ℕ) → localsTotal (take (n + 1) ps) ≡ localsTotal (take n ps) + length (getD ps n emptyPrivate .locals)
 unfolding localsTotal
 total-next [] zero = omega arith
 total-next [] (suc n) = ap (λ (k : ℕ). localsTotal (take k [])) (let e : suc n + 1 ≡ suc (n + 1) = omega arith in e)

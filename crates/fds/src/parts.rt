@@ -32,7 +32,7 @@ fn subrs_len(left: usize, total: usize) -> usize
     if left == 0 {
         return 0;
     }
-    3 + ((left + 1) * index::offset_size(total + 1) + total)
+    index::index_len(left, total)
 }
 
 // The length of the Private DICT of an FD with so many local subroutines behind it.

@@ -1,14 +1,13 @@
 -- Laws of finding: one glyph more, and a name against a string id.
-use Prim.Native.Nat.{ℕ, zero, suc, _+_, _-_, _≤_, _<_}
+use Prim.Native.Nat.{ℕ, _+_, _-_, _≤_, _<_}
 use mathlib.Core.Path.{_≡_, refl, sym, ap, _∙_, subst}
 use mathlib.Core.Bool.{Bool, true, false}
 use mathlib.Core.List.{List, [], _∷_}
-use native.Mathlib.Nat.{not-suc-le-zero}
 use native.Mathlib.Numerals.{add-one}
 use native.Mathlib.Omega.{arith}
 use lib.Dec.{eqb}
-use lib.ListN.{length, drop, getD}
-use lib.Seq.{drop-cons, drop-nil}
+use lib.ListN.{length, drop, getD, drop-of-length-le}
+use lib.Seq.{drop-cons}
 use borrow.Author.Tests.{eq-eqb, ne-eqb, eqb-true, eqb-false}
 use Rattle.octets.specs.Pick.{pick}
 use Rattle.strings.specs.Text.{sameText}
@@ -52,18 +51,13 @@ module _ (ids : List ℕ) (g : ℕ) (h : g < length ids) where
   unfolding glyphWithText
   text-later strings name e = ap (glyphWithText strings name g) split ∙ rw e
 
-none-left : (g : ℕ) (ids : List ℕ) → length ids ≤ g → drop g ids ≡ []
-none-left g [] h = drop-nil g
-none-left zero (x ∷ ids) h = absurd (not-suc-le-zero h)
-none-left (suc g) (x ∷ ids) h = none-left g ids (omega arith)
-
 pub id-nowhere : (id g : ℕ) (ids : List ℕ) → length ids ≤ g → glyphWithId id g (drop g ids) ≡ Absent
 unfolding glyphWithId
-id-nowhere id g ids h = ap (glyphWithId id g) (none-left g ids h)
+id-nowhere id g ids h = ap (glyphWithId id g) (drop-of-length-le ids h)
 
 pub text-nowhere : (strings : List (List ℕ)) (name : List ℕ) (g : ℕ) (ids : List ℕ) → length ids ≤ g → glyphWithText strings name g (drop g ids) ≡ Absent
 unfolding glyphWithText
-text-nowhere strings name g ids h = ap (glyphWithText strings name g) (none-left g ids h)
+text-nowhere strings name g ids h = ap (glyphWithText strings name g) (drop-of-length-le ids h)
 
 -- ---- a name against a string id
 

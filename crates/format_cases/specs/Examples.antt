@@ -4,6 +4,7 @@ use mathlib.Core.List.{[], _∷_}
 use mathlib.Core.Option.{none, some}
 use Rattle.octets.specs.Octets.{be, numAt, bytesOf}
 use Rattle.index.specs.Index.{indexAt, tableAt, dataAt, judged, runOf, offsets}
+use Rattle.index.specs.Write.{tableBytes}
 use Rattle.decimal.specs.Decimal.{zerosOf, zeros, stripped, normal}
 use Rattle.decimal.specs.Number.{realAt, numberAt}
 use Rattle.decimal.specs.Real.{nibbles, textOf, expDigits, exponent, mantissa, formOf, valueOf}
@@ -14,7 +15,7 @@ use Rattle.charset.specs.Charset.{idsFrom, charsetAt}
 use Rattle.charset.specs.FdSelect.{fdSelectAt}
 use Rattle.format_cases.specs.Indexes.{itemBytes, itemsBytes, headBytes, indexAnswer}
 use Rattle.format_cases.specs.Dicts.{decimalBytes, operandsBytes, entryBytes, entriesBytes, dictAnswer, decimalAt, isDecimal, numberAnswer}
-use Rattle.format_cases.specs.Glyphs.{numbersBytes, charsetAnswer, fdSelectAnswer}
+use Rattle.format_cases.specs.Glyphs.{charsetAnswer, fdSelectAnswer}
 
 -- kind x: an INDEX of one item of one byte, at 0; it ends at 6, and the item is byte 5
 pub one-item : indexAnswer (0 ∷ 0 ∷ 0 ∷ 1 ∷ 1 ∷ 1 ∷ 2 ∷ 65 ∷ []) ≡ some (0 ∷ 0 ∷ 0 ∷ 0 ∷ 6 ∷ 0 ∷ 1 ∷ 0 ∷ 0 ∷ 0 ∷ 5 ∷ 0 ∷ 1 ∷ [])
@@ -43,10 +44,10 @@ number-10 = refl
 
 -- kind c: format 0, two glyphs, the second with id 258
 pub one-id : charsetAnswer (0 ∷ 0 ∷ 0 ∷ 2 ∷ 0 ∷ 1 ∷ 2 ∷ []) ≡ some (0 ∷ 0 ∷ 0 ∷ 1 ∷ 2 ∷ [])
-unfolding charsetAnswer charsetAt idsFrom be numAt bytesOf numbersBytes
+unfolding charsetAnswer charsetAt idsFrom be numAt bytesOf tableBytes
 one-id = refl
 
 -- kind s: format 0 of two glyphs
 pub two-fds : fdSelectAnswer (0 ∷ 0 ∷ 0 ∷ 2 ∷ 0 ∷ 3 ∷ 4 ∷ []) ≡ some (0 ∷ 3 ∷ 4 ∷ [])
-unfolding fdSelectAnswer fdSelectAt be numAt bytesOf numbersBytes
+unfolding fdSelectAnswer fdSelectAt be numAt bytesOf tableBytes
 two-fds = refl

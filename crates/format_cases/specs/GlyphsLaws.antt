@@ -1,37 +1,29 @@
 -- Laws of the answers of a charset and of an FDSelect: one number after the other, and the code's ways out.
-use Prim.Native.Nat.{ℕ, suc, _+_, _-_, _*_, _≤_, _<_}
+use Prim.Native.Nat.{ℕ, _+_, _-_, _≤_, _<_}
 use mathlib.Core.Path.{_≡_, sym, ap, _∙_}
 use mathlib.Core.List.{List, [], _∷_, _++_}
 use mathlib.Core.Option.{none, some}
 use native.Mathlib.Omega.{arith}
 use native.Mathlib.Numerals.{add-one}
-use lib.ListN.{length, drop, getD, length-append}
+use lib.ListN.{length, drop, getD}
 use lib.Seq.{drop-cons, drop-length}
 use borrow.Author.Tests.{lt-ltb, le-ltb, eq-eqb, ne-eqb}
 use Rattle.octets.specs.Octets.{numAt, bytesOf}
-use Rattle.octets.specs.OctetsLaws.{length-bytes}
+use Rattle.index.specs.Write.{tableBytes}
 use Rattle.charset.specs.Listed.{Listed, refused, listed}
 use Rattle.charset.specs.Charset.{charsetAt}
 use Rattle.charset.specs.FdSelect.{fdSelectAt}
-use Rattle.format_cases.specs.Glyphs.{numbersBytes, listedAnswer, charsetAnswer, fdSelectAnswer}
+use Rattle.format_cases.specs.Glyphs.{listedAnswer, charsetAnswer, fdSelectAnswer}
 
 module _ (w : ℕ) where
-  pub numbers-length : (l : List ℕ) → length (numbersBytes w l) ≡ length l * w
-  unfolding numbersBytes
-  numbers-length [] = omega arith
-  numbers-length (x ∷ xs) = rw length-append (omega (arith, length-bytes w x, numbers-length xs, add-mul-one w (length xs)))
-    where
-      add-mul-one : (a b : ℕ) → (suc b) * a ≡ a + b * a
-      add-mul-one a b = omega arith
-
   -- the numbers from the k-th on
-  pub numbers-next : (l : List ℕ) (k x : ℕ) → k < length l → x ≡ getD l k 0 → numbersBytes w (drop k l) ≡ bytesOf w x ++ numbersBytes w (drop (k + 1) l)
-  unfolding numbersBytes
-  numbers-next l k x h e = ap (numbersBytes w) (drop-cons l k 0 h) ∙ rw (add-one, e)
+  pub numbers-next : (l : List ℕ) (k x : ℕ) → k < length l → x ≡ getD l k 0 → tableBytes w (drop k l) ≡ bytesOf w x ++ tableBytes w (drop (k + 1) l)
+  unfolding tableBytes
+  numbers-next l k x h e = ap (tableBytes w) (drop-cons l k 0 h) ∙ rw (add-one, e)
 
-  pub numbers-none : (l : List ℕ) (k : ℕ) → k ≡ length l → numbersBytes w (drop k l) ≡ []
-  unfolding numbersBytes
-  numbers-none l k e = ap (numbersBytes w) (ap (λ (j : ℕ). drop j l) e ∙ drop-length l)
+  pub numbers-none : (l : List ℕ) (k : ℕ) → k ≡ length l → tableBytes w (drop k l) ≡ []
+  unfolding tableBytes
+  numbers-none l k e = ap (tableBytes w) (ap (λ (j : ℕ). drop j l) e ∙ drop-length l)
 
   -- ---- the ways out
 
@@ -42,7 +34,7 @@ module _ (w : ℕ) where
     pub listed-many : 2000 < n → listedAnswer w q ≡ none
     listed-many h = let k : 2000 < length l = omega arith in ap (listedAnswer w) f ∙ rw (lt-ltb 2000 (length l) k)
 
-    pub listed-found : n ≤ 2000 → listedAnswer w q ≡ some (0 ∷ numbersBytes w l)
+    pub listed-found : n ≤ 2000 → listedAnswer w q ≡ some (0 ∷ tableBytes w l)
     listed-found h = let k : length l ≤ 2000 = omega arith in ap (listedAnswer w) f ∙ rw (le-ltb 2000 (length l) k)
 
 module _ (s : List ℕ) where

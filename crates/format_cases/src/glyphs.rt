@@ -7,7 +7,7 @@ ghost use Rattle.charset.specs.CharsetPlaces.{idsOf, GoodCharset};
 ghost use Rattle.charset.specs.FdSelect.{fdSelectAt};
 ghost use Rattle.charset.specs.FdPlaces.{fdsOf, GoodSelect};
 ghost use Rattle.cases.specs.Answers.{Gives};
-ghost use Rattle.format_cases.specs.Glyphs.{numbersBytes, listedAnswer, charsetAnswer, fdSelectAnswer};
+ghost use Rattle.format_cases.specs.Glyphs.{listedAnswer, charsetAnswer, fdSelectAnswer};
 use cases::Answered;
 use charset::Charset;
 use charset::CharsetAt;
@@ -15,11 +15,12 @@ use charset::fd_select::FdSelect;
 use charset::fd_select::FdSelectAt;
 use octets::put_byte;
 use octets::put_num;
+ghost use Rattle.index.specs.Write.{tableBytes};
 
 // The id of each of n glyphs.
 fn put_ids(font: &[u8], c: Charset, n: usize, out: &mut [u8], at: usize) -> usize
     requires { ⌜ (GoodCharset (now font) c n) × (at + 2 * n ≤ length (now out)) ⌝ }
-    ensures { λ r. ⌜ Wrote (now (out .entry)) at (numbersBytes 2 (idsOf (now (font .entry)) c n)) (now (out .exit)) r ⌝ }
+    ensures { λ r. ⌜ Wrote (now (out .entry)) at (tableBytes 2 (idsOf (now (font .entry)) c n)) (now (out .exit)) r ⌝ }
 {
     let mut u = charset::charset_start(c);
     let mut p = at;
@@ -69,7 +70,7 @@ pub fn answer_charset(input: &[u8], out: &mut [u8]) -> Answered
 // The FD of each of n glyphs.
 fn put_fds(font: &[u8], s: FdSelect, n: usize, out: &mut [u8], at: usize) -> usize
     requires { ⌜ (GoodSelect (now font) s) × (n < 65536) × (at + n ≤ length (now out)) ⌝ }
-    ensures { λ r. ⌜ Wrote (now (out .entry)) at (numbersBytes 1 (fdsOf (now (font .entry)) s n)) (now (out .exit)) r ⌝ }
+    ensures { λ r. ⌜ Wrote (now (out .entry)) at (tableBytes 1 (fdsOf (now (font .entry)) s n)) (now (out .exit)) r ⌝ }
 {
     let mut u = charset::fd_select::fd_select_start(s);
     let mut p = at;

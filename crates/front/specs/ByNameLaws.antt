@@ -13,14 +13,14 @@ use Rattle.cff.specs.Reads.{programOf, topOf}
 use Rattle.cff.specs.declared.font.Font.{Font}
 use Rattle.subset.specs.Texts.{namesOf}
 use Rattle.subset.specs.Subset.{ownByName, topByName, newIds}
-use Rattle.kept.specs.Packed.{packed, glyphsIn}
+use Rattle.kept.specs.Packed.{packed, glyphsIn, orderIn}
 use Rattle.own_strings.specs.declared.Own.{Own}
 use Rattle.own_strings.specs.Slots.{wordNames, ownOf, allOwn}
 use Rattle.own_strings.specs.Ready.{HasStrings, SlotsGiven, NamesGiven, IndexRoom}
 use Rattle.top_dict.specs.Top.{Filled, Offsets, topLen, topNamed}
 use Rattle.top_dict.specs.TopLaws.{named-measured}
 use Rattle.top_dict.specs.Slotted.{top-named-is}
-use Rattle.front.specs.Front.{orderIn, Renamed, SlotsReady, frontLen, headerBytes, frontBytes, NamedFront}
+use Rattle.front.specs.Front.{Renamed, SlotsReady, frontLen, headerBytes, frontBytes, NamedFront}
 use Rattle.front.specs.OrderLaws.{words-names}
 use Rattle.front.specs.SlotLaws.{slots-slotted}
 use Rattle.front.specs.PrepareLaws.{has-strings, named-own}

@@ -3,7 +3,8 @@ use Prim.Native.Nat.{ℕ}
 use mathlib.Core.Path.{_≡_, refl}
 use mathlib.Core.List.{List, [], _∷_}
 use Rattle.octets.specs.Octets.{bytesOf}
-use Rattle.index.specs.Write.{total, join, sizeFor, ends, tableBytes, headBytes, itemsBytes, indexBytes}
+use Rattle.octets.specs.Lists.{joined}
+use Rattle.index.specs.Write.{total, sizeFor, ends, tableBytes, headBytes, itemsBytes, indexBytes}
 use Rattle.front.specs.Front.{frontBytes}
 
 -- its top DICT: charset, CharStrings and Private
@@ -13,5 +14,5 @@ sheetTop = 0x1d ∷ 0 ∷ 0 ∷ 0 ∷ 0x2a ∷ 0x0f ∷ 0x1d ∷ 0 ∷ 0 ∷ 0 �
 sheet : frontBytes 53 (0x41 ∷ []) sheetTop []
     ≡ 1 ∷ 0 ∷ 4 ∷ 1 ∷ 0 ∷ 1 ∷ 1 ∷ 1 ∷ 2 ∷ 0x41 ∷ 0 ∷ 1 ∷ 1 ∷ 1 ∷ 0x18 ∷ 0x1d ∷ 0 ∷ 0 ∷ 0 ∷ 0x2a ∷ 0x0f ∷ 0x1d ∷ 0 ∷ 0 ∷ 0 ∷ 0x2d ∷ 0x11
     ∷ 0x1d ∷ 0 ∷ 0 ∷ 0 ∷ 0 ∷ 0x1d ∷ 0 ∷ 0 ∷ 0 ∷ 0x35 ∷ 0x12 ∷ 0 ∷ 0 ∷ []
-unfolding sheetTop indexBytes headBytes itemsBytes tableBytes ends join sizeFor total bytesOf
+unfolding sheetTop indexBytes headBytes itemsBytes tableBytes ends joined sizeFor total bytesOf
 sheet = refl

@@ -15,7 +15,7 @@ use Rattle.subset.specs.Kept.{keptOf}
 use Rattle.subset.specs.Texts.{namesOf}
 use Rattle.subset.specs.Subset.{ownByName, ownByCid, newIds}
 use Rattle.subset.specs.Cut.{allFound}
-use Rattle.kept.specs.Packed.{packed, glyphsIn}
+use Rattle.kept.specs.Packed.{packed, orderIn}
 use Rattle.own_strings.specs.declared.Own.{Own}
 use Rattle.own_strings.specs.Slots.{slotsOf, ownOf}
 use Rattle.own_strings.specs.Ready.{SlotsGiven}
@@ -27,10 +27,6 @@ pub record SmallFont (b : List ℕ) (f : Font) : Type 0 where
   pub small : length b ≤ 67108864
 
 -- ---- the kept glyphs and their names
-
--- the glyphs that the first k words hold, in the order in which they are written
-abbrev pub orderIn : ℕ → List ℕ → List ℕ
-orderIn k words = glyphsIn (take k words)
 
 -- the first k words hold the kept ones of n glyphs, by number, each of which finding gives for its name; behind n is room for as many
 pub record Ordered (p : Program) (n k : ℕ) (words : List ℕ) : Type 0 where

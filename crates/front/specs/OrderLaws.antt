@@ -11,21 +11,22 @@ use Rattle.dict.specs.Lookup.{cidKeyed}
 use Rattle.strings.specs.Strings.{stringText}
 use Rattle.strings.specs.TextLaws.{same-not}
 use Rattle.cff.specs.Font.{Program}
-use Rattle.subset.specs.Kept.{isIn, keptOf, sortedBy, writtenOrder}
+use Rattle.subset.specs.Kept.{isIn, keptOf, sortedBy, writtenOrder, keeps}
 use Rattle.subset.specs.Texts.{hasText, nameOf, namesOf}
 use Rattle.subset.specs.Pruned.{mapped}
 use Rattle.subset.specs.Cut.{allFound}
-use Rattle.kept.specs.Packed.{packed, glyphsIn, keeps, Begins}
+use Rattle.kept.specs.Packed.{packed, glyphsIn, Begins, orderIn}
 use Rattle.subset.specs.EachLaws.{length-mapped}
 use Rattle.kept.specs.FdsLaws.{glyphs-packed}
 use Rattle.kept.specs.FdsOrderLaws.{below-all}
 use Rattle.kept.specs.OrderLaws.{those-at}
 use Rattle.subset.specs.KeptListLaws.{in-head, in-more, in-at, those-count, Distinct, one}
+use Rattle.subset.specs.TextsLaws.{names-length}
 use Rattle.faithful.specs.KeptLaws.{kept-distinct}
 use Rattle.faithful.specs.FoundLaws.{names-differ}
 use Rattle.own_strings.specs.Slots.{wordNames, Different}
 use Rattle.own_strings.specs.Ready.{NamesReady}
-use Rattle.front.specs.Front.{orderIn, Ordered}
+use Rattle.front.specs.Front.{Ordered}
 
 -- the names by the words are those of their glyphs
 pub words-names : (p : Program) (ws : List ℕ) → ws ≡ packed p (glyphsIn ws) → wordNames (p .strings) ws ≡ namesOf p (glyphsIn ws)
@@ -44,11 +45,6 @@ unfolding namesOf
 name-at p [] i h = absurd (not-suc-le-zero h)
 name-at p (g ∷ gs) zero h = refl
 name-at p (g ∷ gs) (suc i) h = name-at p gs i (le-of-suc-le-suc h)
-
-names-length : (p : Program) (gs : List ℕ) → length (namesOf p gs) ≡ length gs
-unfolding namesOf
-names-length p [] = refl
-names-length p (g ∷ gs) = ap suc (names-length p gs)
 
 name-apart : (p : Program) (gs : List ℕ) (i : ℕ) → Distinct gs → ((g h : ℕ) → isIn g gs ≡ true → isIn h gs ≡ true → nameOf p g ≡ nameOf p h → g ≡ h) → i < length gs
     → hasText (nameOf p (getD gs i 0)) (take i (namesOf p gs)) ≡ false

@@ -15,7 +15,7 @@ use Rattle.cff.specs.Reads.{programOf}
 use Rattle.cff.specs.declared.font.Font.{Font}
 use Rattle.subset.specs.Texts.{textsOf, namesOf, ownStrings}
 use Rattle.subset.specs.Subset.{named, ownByName, ownByCid, newIds}
-use Rattle.kept.specs.Packed.{packed, glyphsIn}
+use Rattle.kept.specs.Packed.{packed, glyphsIn, orderIn}
 use Rattle.own_strings.specs.declared.Own.{Own}
 use Rattle.own_strings.specs.Slots.{slotTexts, wordNames, wordIds, ownOf, slotsOwn, allOwn}
 use Rattle.own_strings.specs.Ready.{HasStrings, NamesReady}
@@ -24,7 +24,7 @@ use Rattle.own_strings.specs.OwnLaws.{own-append}
 use Rattle.own_strings.specs.TurnLaws.{text-short}
 use Rattle.own_strings.specs.StageLaws.{own-bound, words-take, names-slots, word-ids-length, take-front}
 use Rattle.own_strings.specs.IdsLaws.{names-given}
-use Rattle.front.specs.Front.{SmallFont, orderIn, Ordered, Renamed, SlotsReady, Measured}
+use Rattle.front.specs.Front.{SmallFont, Ordered, Renamed, SlotsReady, Measured}
 use Rattle.front.specs.OrderLaws.{words-names, ordered-is, ordered-ready}
 
 -- the strings of a font can be read

@@ -1,6 +1,6 @@
 -- Laws of the slots: what the two steps that fill them leave, and that it is what the top DICT of the subset is written from.
 use Prim.Native.Nat.{ℕ, _+_, _≤_, _<_}
-use mathlib.Core.Path.{_≡_, refl, sym, ap, _∙_, subst}
+use mathlib.Core.Path.{_≡_, sym, ap, _∙_, subst}
 use mathlib.Core.Bool.{Bool, true}
 use mathlib.Core.List.{List, [], _∷_, _++_}
 use native.Mathlib.Omega.{arith}
@@ -13,8 +13,6 @@ use Rattle.octets.specs.PutLaws.{put-length, take-put}
 use Rattle.prune.specs.StepLaws.{zero-one}
 use Rattle.decimal.specs.Values.{clamped}
 use Rattle.decimal.specs.declared.Signed.{Signed}
-use Rattle.decimal.specs.declared.IdOf.{IdOf}
-use Rattle.decimal.specs.declared.IdOf.the-variants.{Id, Absent}
 use Rattle.dict.specs.Op.{ros, copiedTopStrings}
 use Rattle.dict.specs.Dict.{Entry}
 use Rattle.dict.specs.Lookup.{Operands, absent, operands, lastOf, oneOf, idIn, rosAs, rosIn}
@@ -25,9 +23,9 @@ use Rattle.index.specs.Index.{itemsOf}
 use Rattle.index.specs.declared.Index.{Index}
 use Rattle.strings.specs.Strings.{stringText}
 use Rattle.cff.specs.Font.{Program}
-use Rattle.subset.specs.Texts.{ownStrings, newId}
+use Rattle.subset.specs.Texts.{ownStrings, newId, slotOf}
 use Rattle.faithful.specs.TopFitLaws.{new-below}
-use Rattle.own_strings.specs.Slots.{slotOf, rosSlots, firstSlots, entrySlots, slotsOf, slotId, slotIds, slotsOwn}
+use Rattle.own_strings.specs.Slots.{rosSlots, firstSlots, entrySlots, slotsOf, slotId, slotIds, slotsOwn}
 use Rattle.own_strings.specs.Ready.{HasStrings, SlotsGiven}
 use Rattle.own_strings.specs.SlotTexts.{clamped-low}
 use Rattle.own_strings.specs.SlotLaws.{slot-full}
@@ -36,7 +34,6 @@ use Rattle.own_strings.specs.StageLaws.{own-bound, take-front}
 use Rattle.own_strings.specs.IdsLaws.{slots-given, slots-known}
 use Rattle.top_dict.specs.Top.{Filled}
 use Rattle.top_dict.specs.Slotted.{Slotted}
-use Rattle.top_dict.specs.Slotted as top
 use Rattle.front.specs.Front.{SlotsReady}
 
 -- ---- filled
@@ -90,10 +87,6 @@ slots-filled b ix has slots g =
 
 -- ---- the slots hold what the top DICT names
 
-same-slot : (i : IdOf) → slotOf i ≡ top.slotOf i
-same-slot Absent = refl
-same-slot (Id sid) = refl
-
 -- registry and ordering have 16 bits
 ros-low : (x : Operands) (r o : ℕ) (s : Signed) → rosAs x ≡ Ros r o s → (r < 65536) × (o < 65536)
 ros-low absent r o s e = absurd (zero-one cc)
@@ -134,7 +127,7 @@ module _ (p : Program) (cid : Bool) (slots : List ℕ) (g : SlotsReady p cid slo
   pub slots-slotted : Slotted p cid own slots
   slots-slotted =
       record {
-        there = λ j h. slot-at (2 + j) (omega arith) ∙ entry-at j h ∙ same-slot (idIn (getD copiedTopStrings j 0) (p .top));
+        there = λ j h. slot-at (2 + j) (omega arith) ∙ entry-at j h;
         renamed =
             λ j sid h e. let n : 10 + j ≡ 8 + (2 + j) = omega arith in
             ap (λ (k : ℕ). getD slots k 0) n ∙ new-at (2 + j) sid (omega arith) (entry-at j h ∙ ap slotOf e) (id-low (oneOf (getD copiedTopStrings j 0) (p .top)) sid e);

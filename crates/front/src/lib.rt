@@ -12,7 +12,7 @@ ghost use Rattle.subset.specs.Texts.{namesOf};
 ghost use Rattle.subset.specs.Subset.{ownByName, topByName, ownByCid, topByCid, newIds};
 ghost use Rattle.own_strings.specs.Slots.{ownOf, slotsOwn};
 ghost use Rattle.top_dict.specs.Top.{Offsets};
-ghost use Rattle.front.specs.Front.{SmallFont, orderIn, Ordered, Renamed, SlotsReady, Measured, frontLen, headerBytes, frontBytes, NamedFront, CidFront};
+ghost use Rattle.front.specs.Front.{SmallFont, Ordered, Renamed, SlotsReady, Measured, frontLen, headerBytes, frontBytes, NamedFront, CidFront};
 use cff::font::Font;
 use own_strings::Own;
 use own_strings::put_ids;
@@ -22,6 +22,7 @@ use own_strings::put_strings;
 use top_dict::put_cid_index;
 use top_dict::put_named_index;
 use top_dict::top_len;
+ghost use Rattle.kept.specs.Packed.{orderIn};
 
 // The string ids of the top DICT given new ones, by the keying of the subset: slots; the own strings so far.
 fn prepare_slots(font: &[u8], f: Font, cid: bool, slots: &mut [usize]) -> Own
@@ -74,10 +75,7 @@ pub fn front_len(cid: bool, font: &[u8], f: Font, name: usize, slots: &[usize], 
     let count = own.count;
     let total = own.total;
     let n = top_len(cid, &font[top..end], slots);
-    4
-        + index::any_index_len(1, name)
-        + index::any_index_len(1, n)
-        + index::any_index_len(count, total)
+    4 + index::index_len(1, name) + index::index_len(1, n) + index::index_len(count, total)
 }
 
 // The header of a subset of total bytes and the INDEX of its name, from the start of out on; the place after it.

@@ -8,19 +8,20 @@ use lib.Seq.{getD-take, getD-drop, length-take-le}
 use Rattle.octets.specs.Octets.{bytesOf, Wrote}
 use Rattle.octets.specs.OctetsLaws.{length-bytes}
 use Rattle.octets.specs.PutLaws.{wrote-length}
+use Rattle.octets.specs.Lists.{partOf}
 use Rattle.charset.specs.CharsetBytes.{charsetBytes}
 use Rattle.charset.specs.CharsetBytesLaws.{charset-length, charset-begun, charset-more, charset-finished, charset-room}
 use Rattle.subset.specs.EachLaws.{length-mapped, mapped-at}
-use Rattle.glyph_tables.specs.Tables.{part, highs}
+use Rattle.glyph_tables.specs.Tables.{highs}
 
 -- ---- k words
 
 -- how many they are
-pub part-length : (ws : List ℕ) (n k : ℕ) → n + k ≤ length ws → length (part ws n k) ≡ k
+pub part-length : (ws : List ℕ) (n k : ℕ) → n + k ≤ length ws → length (partOf ws n k) ≡ k
 part-length ws n k h = let d : k ≤ length (drop n ws) = rw length-drop (omega arith) in length-take-le k (drop n ws) d
 
 -- the i-th of them
-pub part-at : (ws : List ℕ) (n k i : ℕ) → i < k → getD (part ws n k) i 0 ≡ getD ws (n + i) 0
+pub part-at : (ws : List ℕ) (n k i : ℕ) → i < k → getD (partOf ws n k) i 0 ≡ getD ws (n + i) 0
 part-at ws n k i h = getD-take k (drop n ws) i 0 h ∙ getD-drop n ws i 0
 
 -- how many CIDs there are

@@ -6,12 +6,13 @@ use native.Mathlib.Decide.{decLe}
 use native.Mathlib.Omega.{arith}
 use lib.ListN.{length, take, getD, List·getD-eq-default}
 use lib.Seq.{take-all, length-take-le}
+use Rattle.octets.specs.Lists.{partOf}
 use Rattle.charset.specs.FdSelectBytes.{fdSelectBytes}
 use Rattle.charset.specs.FdWriter.{writerOf, CanCount, Pushed}
 use Rattle.charset.specs.FdWriterLaws.{writer-counts, writer-length}
 use Rattle.charset.specs.declared.fd_writer.FdSelectWriter.{FdSelectWriter}
 use Rattle.subset.specs.EachLaws.{length-mapped, mapped-at}
-use Rattle.glyph_tables.specs.Tables.{part, newFdBy, newFdsBy, HasNumber, Numbered}
+use Rattle.glyph_tables.specs.Tables.{newFdBy, newFdsBy, HasNumber, Numbered}
 use Rattle.glyph_tables.specs.PartLaws.{part-length, part-at}
 
 -- a table has a word for an FD that has a new number
@@ -24,37 +25,37 @@ number-there table f h = go (decLe (f + 1) (length table))
 
 module _ (ws : List ℕ) (n k : ℕ) (table : List ℕ) (there : n + k ≤ length ws) where
   -- as many new numbers as glyphs
-  pub select-count : length (newFdsBy table (part ws n k)) ≡ k
-  select-count = length-mapped (newFdBy table) (part ws n k) ∙ part-length ws n k there
+  pub select-count : length (newFdsBy table (partOf ws n k)) ≡ k
+  select-count = length-mapped (newFdBy table) (partOf ws n k) ∙ part-length ws n k there
 
   -- the new number of the g-th glyph's FD
-  pub select-at : (g : ℕ) → g < k → newFdBy table (getD ws (n + g) 0) ≡ getD (newFdsBy table (part ws n k)) g 0
+  pub select-at : (g : ℕ) → g < k → newFdBy table (getD ws (n + g) 0) ≡ getD (newFdsBy table (partOf ws n k)) g 0
   select-at g h =
-      let l : g < length (part ws n k) = omega (arith, part-length ws n k there) in
-      sym (mapped-at (newFdBy table) (part ws n k) g 0 l ∙ ap (newFdBy table) (part-at ws n k g h))
+      let l : g < length (partOf ws n k) = omega (arith, part-length ws n k there) in
+      sym (mapped-at (newFdBy table) (partOf ws n k) g 0 l ∙ ap (newFdBy table) (part-at ws n k g h))
 
   -- which the table has
-  pub select-number : Numbered table (part ws n k) → (g : ℕ) → g < k → HasNumber table (getD ws (n + g) 0)
+  pub select-number : Numbered table (partOf ws n k) → (g : ℕ) → g < k → HasNumber table (getD ws (n + g) 0)
   select-number m g h = subst (HasNumber table) (part-at ws n k g h) (m g (omega (arith, part-length ws n k there)))
 
   -- all glyphs
-  pub select-all : (g : ℕ) → k ≤ g → take g (newFdsBy table (part ws n k)) ≡ newFdsBy table (part ws n k)
-  select-all g h = take-all g (newFdsBy table (part ws n k)) (omega (arith, select-count))
+  pub select-all : (g : ℕ) → k ≤ g → take g (newFdsBy table (partOf ws n k)) ≡ newFdsBy table (partOf ws n k)
+  select-all g h = take-all g (newFdsBy table (partOf ws n k)) (omega (arith, select-count))
 
   -- a writer of g glyphs can count on
   pub select-counts : (at g : ℕ) (w : FdSelectWriter) → g ≤ k → k < 65536 → at ≤ 67108864
-      → w ≡ writerOf at (take g (newFdsBy table (part ws n k))) → CanCount w
+      → w ≡ writerOf at (take g (newFdsBy table (partOf ws n k))) → CanCount w
   select-counts at g w h few low e =
-      let l = length-take-le g (newFdsBy table (part ws n k)) (omega (arith, select-count)) in
-      writer-counts at (take g (newFdsBy table (part ws n k))) w e (omega (arith, l)) (omega arith)
+      let l = length-take-le g (newFdsBy table (partOf ws n k)) (omega (arith, select-count)) in
+      writer-counts at (take g (newFdsBy table (partOf ws n k))) w e (omega (arith, l)) (omega arith)
 
   -- the length that it measures
-  pub select-measured : (g : ℕ) (w : FdSelectWriter) (r : ℕ) → k ≤ g → w ≡ writerOf 0 (take g (newFdsBy table (part ws n k))) → r ≡ 5 + 3 * w .ranges
-      → r ≡ length (fdSelectBytes (newFdsBy table (part ws n k)))
+  pub select-measured : (g : ℕ) (w : FdSelectWriter) (r : ℕ) → k ≤ g → w ≡ writerOf 0 (take g (newFdsBy table (partOf ws n k))) → r ≡ 5 + 3 * w .ranges
+      → r ≡ length (fdSelectBytes (newFdsBy table (partOf ws n k)))
   select-measured g w r h e m =
-      m ∙ writer-length 0 (newFdsBy table (part ws n k)) w (e ∙ ap (writerOf 0) (select-all g h))
+      m ∙ writer-length 0 (newFdsBy table (partOf ws n k)) w (e ∙ ap (writerOf 0) (select-all g h))
 
   -- all glyphs were pushed
-  pub select-pushed : {old mid : List ℕ} {at : ℕ} {w : FdSelectWriter} (g : ℕ) → k ≤ g → Pushed old at (take g (newFdsBy table (part ws n k))) mid w
-      → Pushed old at (newFdsBy table (part ws n k)) mid w
+  pub select-pushed : {old mid : List ℕ} {at : ℕ} {w : FdSelectWriter} (g : ℕ) → k ≤ g → Pushed old at (take g (newFdsBy table (partOf ws n k))) mid w
+      → Pushed old at (newFdsBy table (partOf ws n k)) mid w
   select-pushed {old} {mid} {at} {w} g h p = subst (λ (l : List ℕ). Pushed old at l mid w) (select-all g h) p

@@ -2,12 +2,8 @@
 -- glyphs that are written, and the new numbers of the FDs in use.
 use Prim.Native.Nat.{ℕ, _-_, _/_, _≤_, _<_}
 use mathlib.Core.List.{List, [], _∷_}
-use lib.ListN.{length, take, drop, getD, set}
+use lib.ListN.{length, take, getD, set}
 use Rattle.subset.specs.Pruned.{mapped}
-
--- k words from a place on: new string ids, or FDs
-abbrev pub part : List ℕ → ℕ → ℕ → List ℕ
-part ws at k = take k (drop at ws)
 
 -- what stands in front of 65536 in the first k words: the CIDs
 abbrev pub highs : List ℕ → ℕ → List ℕ

@@ -53,10 +53,3 @@ new-from test (suc n) g f h l e = go (decLe (g + 1) f) (λ m. new-from test n (g
 -- those from 0 on
 pub new-count : (test : ℕ → Bool) (n f : ℕ) → f < n → test f ≡ true → newFd (those test n 0) f ≡ countBelow test f
 new-count test n f h e = omega (arith, new-from test n 0 f (omega arith) (omega arith) e, count-few test 0)
-
--- tests that agree on the numbers let the same pass
-pub those-agree : (s t : ℕ → Bool) (n g : ℕ) → ((f : ℕ) → f < g + n → s f ≡ t f) → those s n g ≡ those t n g
-unfolding those
-those-agree s t zero g same = refl
-those-agree s t (suc n) g same =
-    rw (same g (omega arith), those-agree s t n (g + 1) (λ f h. same f (omega arith)))

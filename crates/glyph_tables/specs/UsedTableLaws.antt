@@ -9,22 +9,22 @@ use native.Mathlib.Omega.{arith}
 use borrow.Author.Tests.{ne-eqb}
 use lib.Dec.{eqb}
 use lib.ListN.{length, take, getD}
-use Rattle.octets.specs.Octets.{put}
+use Rattle.octets.specs.Octets.{put, Octets}
 use Rattle.octets.specs.Pick.{pick}
-use Rattle.charset.specs.FdSelectBytes.{Fds}
+use Rattle.octets.specs.Lists.{partOf}
 use Rattle.cff.specs.Font.{Program}
 use Rattle.subset.specs.Kept.{isIn, those, fdsOf, usedFds, newFd}
 use Rattle.subset.specs.Subset.{cidsOf, newFds}
 use Rattle.subset.specs.Pruned.{countBelow, mapped}
 use Rattle.faithful.specs.Laid.{GoodProgram}
-use Rattle.subset.specs.KeptListLaws.{in-none, in-head, in-more, in-cases, in-at, in-place, those-has, those-in}
+use Rattle.subset.specs.KeptListLaws.{in-none, in-head, in-more, in-cases, in-at, in-place, those-has, those-in, those-same}
 use Rattle.subset.specs.RankLaws.{count-few, length-those}
 use Rattle.faithful.specs.UsedLaws.{fds-has, fds-fit, fd-there}
 use Rattle.kept.specs.Packed.{packed, marked}
 use Rattle.reach.specs.Reach.{ranksOf}
 use Rattle.reach.specs.WordLaws.{HoldRanks, set-hold}
-use Rattle.glyph_tables.specs.Tables.{part, highs, newFdBy, newFdsBy, Numbered}
-use Rattle.glyph_tables.specs.ThoseLaws.{those-bounds, those-agree, new-count}
+use Rattle.glyph_tables.specs.Tables.{highs, newFdBy, newFdsBy, Numbered}
+use Rattle.glyph_tables.specs.ThoseLaws.{those-bounds, new-count}
 
 -- ---- CIDs
 
@@ -73,7 +73,7 @@ fds-same p gs hs same f = same-test _ _ (fds-over p gs hs same f) (fds-over p hs
 -- ---- the FDs in use
 
 -- FDs of glyphs are bytes
-pub fds-bytes : (p : Program) (gs : List ℕ) → Fds (p .fds) → Fds (fdsOf p gs)
+pub fds-bytes : (p : Program) (gs : List ℕ) → Octets (p .fds) → Octets (fdsOf p gs)
 unfolding fdsOf
 fds-bytes p [] small i = omega arith
 fds-bytes p (g ∷ gs) small zero = small g
@@ -115,8 +115,8 @@ module _ (p : Program) (kept order : List ℕ) (good : GoodProgram p) (same : (g
   used-new f h = ap (λ (l : List ℕ). newFd l f) used-those ∙ new-count uses 256 f (uses-small f h) h
 
   -- the words from n on are the FDs of the glyphs, and the table was made from them
-  module _ (ws : List ℕ) (n k : ℕ) (fds : part ws n k ≡ fdsOf p order) (old table : List ℕ) (room : 256 ≤ length old)
-      (ranks : table ≡ put old 0 (ranksOf (λ f. isIn f (part ws n k)) 0 256)) where
+  module _ (ws : List ℕ) (n k : ℕ) (fds : partOf ws n k ≡ fdsOf p order) (old table : List ℕ) (room : 256 ≤ length old)
+      (ranks : table ≡ put old 0 (ranksOf (λ f. isIn f (partOf ws n k)) 0 256)) where
     -- a word by the count of those below it
     word : (f : ℕ) → f < 256 → getD table f 0 ≡ pick (uses f) (countBelow uses f + 1) 0
     word f h =
@@ -135,7 +135,7 @@ module _ (p : Program) (kept order : List ℕ) (good : GoodProgram p) (same : (g
 
     -- the FDs in use are those whose word is not 0, in this order
     pub table-used : usedFds p kept ≡ those (marked table) 256 0
-    table-used = used-those ∙ those-agree uses (marked table) 256 0
+    table-used = used-those ∙ those-same uses (marked table) 256 0
         (λ f h. sym (ap (λ (w : ℕ). pick (eqb w 0) false true) (word f (omega arith)) ∙ go (uses f) (countBelow uses f)))
       where
         go : (t : Bool) (m : ℕ) → pick (eqb (pick t (m + 1) 0) 0) false true ≡ t
@@ -143,7 +143,7 @@ module _ (p : Program) (kept order : List ℕ) (good : GoodProgram p) (same : (g
         go false m = refl
 
     -- how many there are
-    pub table-count : countBelow (λ f. isIn f (part ws n k)) 256 ≡ length (usedFds p kept)
+    pub table-count : countBelow (λ f. isIn f (partOf ws n k)) 256 ≡ length (usedFds p kept)
     table-count =
         let e : 0 + 256 ≡ 256 = omega arith in
         let c : countBelow uses (0 + 256) ≡ countBelow uses 256 = ap (countBelow uses) e in
@@ -154,10 +154,10 @@ module _ (p : Program) (kept order : List ℕ) (good : GoodProgram p) (same : (g
     word-used f h = word f (uses-small f h) ∙ ap (λ (t : Bool). pick t (countBelow uses f + 1) 0) h
 
     -- the table has a new number for the FD of each glyph
-    pub table-numbered : Numbered table (part ws n k)
+    pub table-numbered : Numbered table (partOf ws n k)
     table-numbered i h =
-        let f = getD (part ws n k) i 0 in
-        let u : uses f ≡ true = ap (isIn f) (sym fds) ∙ in-at (part ws n k) i h in
+        let f = getD (partOf ws n k) i 0 in
+        let u : uses f ≡ true = ap (isIn f) (sym fds) ∙ in-at (partOf ws n k) i h in
         record { inUse = omega (arith, word-used f u); small = omega (arith, word-used f u, count-few uses f, uses-small f u) }
 
     -- by which FDs of some of the glyphs have the new numbers that the subset writes
@@ -172,5 +172,5 @@ module _ (p : Program) (kept order : List ℕ) (good : GoodProgram p) (same : (g
         ∙ ap (λ (l : List ℕ). newFd (usedFds p kept) f ∷ l) (news gs (λ i h. there (suc i) (omega arith)))
 
     -- and those of all
-    pub table-new-fds : newFdsBy table (part ws n k) ≡ newFds p (usedFds p kept) order
+    pub table-new-fds : newFdsBy table (partOf ws n k) ≡ newFds p (usedFds p kept) order
     table-new-fds = ap (newFdsBy table) fds ∙ news order (λ i h. in-at order i h)

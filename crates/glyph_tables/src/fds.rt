@@ -3,17 +3,17 @@
 ghost use mathlib.Core.Path.{_≡_};
 ghost use Prim.Native.Nat.{_+_, _≤_};
 ghost use lib.ListN.{length};
-ghost use Rattle.octets.specs.Octets.{put};
-ghost use Rattle.charset.specs.FdSelectBytes.{Fds};
+ghost use Rattle.octets.specs.Octets.{put, Octets};
+ghost use Rattle.octets.specs.Lists.{partOf};
 ghost use Rattle.subset.specs.Kept.{isIn};
 ghost use Rattle.subset.specs.Pruned.{countBelow};
 ghost use Rattle.reach.specs.Reach.{ranksOf};
-ghost use Rattle.glyph_tables.specs.Tables.{part, markedFds};
+ghost use Rattle.glyph_tables.specs.Tables.{markedFds};
 
 // Marks the FDs that are the k words from n on.
 fn mark_fds(words: &[u32], n: usize, k: usize, marks: &mut [u32])
-    requires { ⌜ (n + k ≤ length (now words)) × (length (now marks) ≡ 256) × Fds (part (now words) n k) ⌝ }
-    ensures { λ r. ⌜ now (marks .exit) ≡ markedFds (part (now (words .entry)) n k) (now (marks .entry)) ⌝ }
+    requires { ⌜ (n + k ≤ length (now words)) × (length (now marks) ≡ 256) × Octets (partOf (now words) n k) ⌝ }
+    ensures { λ r. ⌜ now (marks .exit) ≡ markedFds (partOf (now (words .entry)) n k) (now (marks .entry)) ⌝ }
 {
     let mut g = 0;
     while g < k {
@@ -25,9 +25,9 @@ fn mark_fds(words: &[u32], n: usize, k: usize, marks: &mut [u32])
 
 // Sets all 256 words of a table to the new numbers of FDs, plus 1, or 0 for an FD that is not in use; returns how many are in use.
 fn rank_all(words: &[u32], n: usize, k: usize, table: &mut [u32]) -> usize
-    requires { ⌜ (n + k ≤ length (now words)) × (length (now table) ≡ 256) × Fds (part (now words) n k) ⌝ }
-    ensures { λ r. ⌜ (now (table .exit) ≡ ranksOf (λ f. isIn f (part (now (words .entry)) n k)) 0 256)
-        × (r ≡ countBelow (λ f. isIn f (part (now (words .entry)) n k)) 256) ⌝ }
+    requires { ⌜ (n + k ≤ length (now words)) × (length (now table) ≡ 256) × Octets (partOf (now words) n k) ⌝ }
+    ensures { λ r. ⌜ (now (table .exit) ≡ ranksOf (λ f. isIn f (partOf (now (words .entry)) n k)) 0 256)
+        × (r ≡ countBelow (λ f. isIn f (partOf (now (words .entry)) n k)) 256) ⌝ }
 {
     reach::ranks::clear(table);
     mark_fds(words, n, k, table);
@@ -36,9 +36,9 @@ fn rank_all(words: &[u32], n: usize, k: usize, table: &mut [u32]) -> usize
 
 // The same for the first 256 words of a table, the FDs in use being the k words from n on.
 pub fn rank_fds(words: &[u32], n: usize, k: usize, table: &mut [u32]) -> usize
-    requires { ⌜ (n + k ≤ length (now words)) × (256 ≤ length (now table)) × Fds (part (now words) n k) ⌝ }
-    ensures { λ r. ⌜ (now (table .exit) ≡ put (now (table .entry)) 0 (ranksOf (λ f. isIn f (part (now (words .entry)) n k)) 0 256))
-        × (r ≡ countBelow (λ f. isIn f (part (now (words .entry)) n k)) 256) ⌝ }
+    requires { ⌜ (n + k ≤ length (now words)) × (256 ≤ length (now table)) × Octets (partOf (now words) n k) ⌝ }
+    ensures { λ r. ⌜ (now (table .exit) ≡ put (now (table .entry)) 0 (ranksOf (λ f. isIn f (partOf (now (words .entry)) n k)) 0 256))
+        × (r ≡ countBelow (λ f. isIn f (partOf (now (words .entry)) n k)) 256) ⌝ }
 {
     rank_all(words, n, k, &mut table[0..256])
 }

@@ -7,13 +7,14 @@ ghost use mathlib.Core.Path.{_≡_};
 ghost use Prim.Native.Nat.{_+_, _≤_};
 ghost use lib.ListN.{length};
 ghost use Rattle.octets.specs.Octets.{Wrote};
+ghost use Rattle.octets.specs.Lists.{partOf};
 ghost use Rattle.charset.specs.CharsetBytes.{charsetBytes};
-ghost use Rattle.glyph_tables.specs.Tables.{part, highs};
+ghost use Rattle.glyph_tables.specs.Tables.{highs};
 
 // Writes the charset of k glyphs whose ids are the words from n on; returns the place after it.
 pub fn put_charset_named(words: &[u32], n: usize, k: usize, out: &mut [u8], at: usize) -> usize
-    requires { ⌜ (n + k ≤ length (now words)) × (at + length (charsetBytes (part (now words) n k)) ≤ length (now out)) ⌝ }
-    ensures { λ r. ⌜ Wrote (now (out .entry)) at (charsetBytes (part (now (words .entry)) n k)) (now (out .exit)) r ⌝ }
+    requires { ⌜ (n + k ≤ length (now words)) × (at + length (charsetBytes (partOf (now words) n k)) ≤ length (now out)) ⌝ }
+    ensures { λ r. ⌜ Wrote (now (out .entry)) at (charsetBytes (partOf (now (words .entry)) n k)) (now (out .exit)) r ⌝ }
 {
     let mut p = octets::put_byte(out, at, 0);
     let mut g = 1;

@@ -2,7 +2,8 @@
 use mathlib.Core.Path.{_≡_, refl}
 use mathlib.Core.List.{[], _∷_}
 use mathlib.Core.Option.{none, some}
-use Rattle.hexlines.specs.Hexlines.{hexValue, before, lineEnd, fieldEnd, isHex, spelt, hexBytes}
+use Rattle.octets.specs.Lists.{before}
+use Rattle.hexlines.specs.Hexlines.{hexValue, lineEnd, fieldEnd, isHex, spelt, hexBytes}
 
 -- `f794`
 bytes : hexBytes (0x66 ∷ 0x37 ∷ 0x39 ∷ 0x34 ∷ []) ≡ some (0xf7 ∷ 0x94 ∷ [])

@@ -1,15 +1,16 @@
 -- Lines of lower-case hexadecimal (document 01, 'One sheet, whole'): two digits to a byte, the high one first. A line ends at a
 -- line feed (10) or with the text; the fields of a line have a blank (32) between them.
-use Prim.Native.Nat.{ℕ, suc, _+_, _-_, _*_, _/_, _%_}
+use Prim.Native.Nat.{ℕ, _+_, _-_, _*_, _/_, _%_}
 use mathlib.Core.Path.{_≡_}
 use mathlib.Core.Bool.{Bool, true, false}
 use mathlib.Core.List.{List, [], _∷_}
 use mathlib.Core.Option.{Option, none, some}
-use lib.Dec.{ltb, leb, eqb}
+use lib.Dec.{ltb, leb}
 use lib.ListN.{length, drop}
 use lib.Seq.{slice}
 use Rattle.octets.specs.Pick.{pick}
 use Rattle.octets.specs.Octets.{put}
+use Rattle.octets.specs.Lists.{before}
 use Rattle.hexlines.specs.declared.Unhexed.{Unhexed}
 use Rattle.hexlines.specs.declared.Unhexed.the-variants.{Done, Bad}
 
@@ -20,11 +21,6 @@ hexValue b =
     (pick (leb b 57) (b - 48)
     (pick (ltb b 97) 16
     (pick (leb b 102) (b - 97 + 10) 16)))
-
--- how many elements stand before the first b: all where there is none
-unfoldable pub before : ℕ → List ℕ → ℕ
-before b [] = 0
-before b (x ∷ xs) = pick (eqb x b) 0 (suc (before b xs))
 
 -- the place of the first line feed at or after a place, the length where there is none
 unfoldable pub lineEnd : List ℕ → ℕ → ℕ

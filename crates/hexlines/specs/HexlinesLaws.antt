@@ -15,7 +15,8 @@ use Rattle.octets.specs.Pick.{pick}
 use Rattle.octets.specs.PickLaws.{other-holds}
 use Rattle.octets.specs.Octets.{Octets, put, Wrote}
 use Rattle.octets.specs.PutLaws.{put-nil}
-use Rattle.hexlines.specs.Hexlines.{hexValue, before, lineEnd, isHex, spelt, hexBytes, roomFor, Unhexes}
+use Rattle.octets.specs.Lists.{before}
+use Rattle.hexlines.specs.Hexlines.{hexValue, lineEnd, isHex, spelt, hexBytes, roomFor, Unhexes}
 use Rattle.hexlines.specs.declared.Unhexed.the-variants.{Done, Bad}
 
 -- ---- the first of a byte

@@ -5,7 +5,8 @@ ghost use Prim.Native.Nat.{_+_, _≤_, _<_};
 ghost use lib.ListN.{length};
 ghost use lib.Seq.{slice};
 ghost use Rattle.octets.specs.Octets.{Wrote};
-ghost use Rattle.hexlines.specs.Hexlines.{hexValue, before, lineEnd, fieldEnd, isHex, spelt, hexBytes, roomFor, Unhexes};
+ghost use Rattle.octets.specs.Lists.{before};
+ghost use Rattle.hexlines.specs.Hexlines.{hexValue, lineEnd, fieldEnd, isHex, spelt, hexBytes, roomFor, Unhexes};
 
 // What unhexing comes to: Done with the place behind the bytes written; Bad for an odd count of digits, a byte that is no
 // digit, or no room.

@@ -5,8 +5,9 @@ use mathlib.Core.Path.{_≡_}
 use mathlib.Core.List.{List}
 use lib.ListN.{length, take}
 use Rattle.octets.specs.Octets.{bytesOf, put}
+use Rattle.octets.specs.Lists.{joined}
 use Rattle.index.specs.Good.{Lies}
-use Rattle.index.specs.Write.{total, join, ends, tableBytes}
+use Rattle.index.specs.Write.{total, ends, tableBytes}
 use Rattle.index.specs.declared.Index.{Index}
 
 -- the places of an INDEX in n bytes are for these items
@@ -26,5 +27,5 @@ pub record WroteItem (old : List ℕ) (ix : Index) (k p : ℕ) (item new : List 
 
 -- the first k items were written, and the offsets of their ends behind the first offset; next is the place of item k
 pub record Begun (old : List ℕ) (ix : Index) (items : List (List ℕ)) (k : ℕ) (new : List ℕ) (next : ℕ) : Type 0 where
-  pub is : new ≡ put (put old (ix .table + ix .size) (tableBytes (ix .size) (ends 1 (take k items)))) (ix .base + 1) (join (take k items))
+  pub is : new ≡ put (put old (ix .table + ix .size) (tableBytes (ix .size) (ends 1 (take k items)))) (ix .base + 1) (joined (take k items))
   pub place : next ≡ ix .base + 1 + total (take k items)

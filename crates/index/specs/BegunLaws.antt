@@ -10,10 +10,11 @@ use lib.Seq.{take-all, length-take-le}
 use Rattle.octets.specs.Octets.{bytesOf, put, Wrote}
 use Rattle.octets.specs.OctetsLaws.{length-bytes}
 use Rattle.octets.specs.PutLaws.{put-nil, put-put, put-length, wrote-then, wrote-length}
+use Rattle.octets.specs.Lists.{joined}
 use Rattle.index.specs.PutApart.{put-apart}
 use Rattle.index.specs.Good.{Lies}
 use Rattle.index.specs.IndexLaws.{place-in}
-use Rattle.index.specs.Write.{total, join, sizeFor, ends, tableBytes, headBytes, itemsBytes, sizeOf, indexBytes, indexFor}
+use Rattle.index.specs.Write.{total, sizeFor, ends, tableBytes, headBytes, itemsBytes, sizeOf, indexBytes, indexFor}
 use Rattle.index.specs.WriteLaws.{length-table, length-ends, length-join, length-items, join-more, total-more, table-more, total-part, length-index, for-lies, for-head, for-data, for-count, for-size, head-room}
 use Rattle.index.specs.Begun.{Meant, endPlace, WroteItem, Begun}
 use Rattle.index.specs.declared.Index.{Index}
@@ -42,7 +43,7 @@ wrote-item {old} {mid} {new} {item} {p} {next} {q} ix k v w =
 
 -- no item yet
 pub begun-none : (old : List ℕ) (ix : Index) (items : List (List ℕ)) → Begun old ix items 0 old (ix .base + 1)
-unfolding tableBytes ends join total
+unfolding tableBytes ends joined total
 begun-none old ix items = record { is = sym (rw (put-nil, put-nil)); place = omega arith }
 
 module _ (old : List ℕ) (ix : Index) (items : List (List ℕ)) (meant : Meant (length old) ix items) where
@@ -72,9 +73,9 @@ module _ (old : List ℕ) (ix : Index) (items : List (List ℕ)) (meant : Meant 
   -- nothing but bytes is changed
   pub begun-length : (k : ℕ) {new : List ℕ} {p : ℕ} → k ≤ length items → Begun old ix items k new p → length new ≡ length old
   begun-length k {new} {p} h g =
-      let n : place + length (join (take k items)) ≤ length (put old (ix .table + ix .size) (endsTo k))
+      let n : place + length (joined (take k items)) ≤ length (put old (ix .table + ix .size) (endsTo k))
       = omega (arith, kept k h, length-join (take k items), total-part items k, meant .room) in
-      ap length (g .is) ∙ put-length (put old (ix .table + ix .size) (endsTo k)) place (join (take k items)) n ∙ kept k h
+      ap length (g .is) ∙ put-length (put old (ix .table + ix .size) (endsTo k)) place (joined (take k items)) n ∙ kept k h
 
   -- all items: what stands behind the head
   pub begun-all : (k : ℕ) {new : List ℕ} {p : ℕ} → k ≡ length items → Begun old ix items k new p
@@ -85,9 +86,9 @@ module _ (old : List ℕ) (ix : Index) (items : List (List ℕ)) (meant : Meant 
       let d : place ≡ ix .table + ix .size + length (tableBytes (ix .size) (ends 1 items)) = omega (arith, place-is, length-table (ix .size) (ends 1 items), ap (λ (n : ℕ). n * ix .size) (length-ends 1 items)) in
       record {
         is =
-            g .is ∙ ap (λ (xs : List (List ℕ)). put (put old (ix .table + ix .size) (tableBytes (ix .size) (ends 1 xs))) place (join xs)) e
-            ∙ ap (λ (j : ℕ). put (put old (ix .table + ix .size) (tableBytes (ix .size) (ends 1 items))) j (join items)) d
-            ∙ put-put old (ix .table + ix .size) (tableBytes (ix .size) (ends 1 items)) (join items) (omega (arith, place-is, meant .room));
+            g .is ∙ ap (λ (xs : List (List ℕ)). put (put old (ix .table + ix .size) (tableBytes (ix .size) (ends 1 xs))) place (joined xs)) e
+            ∙ ap (λ (j : ℕ). put (put old (ix .table + ix .size) (tableBytes (ix .size) (ends 1 items))) j (joined items)) d
+            ∙ put-put old (ix .table + ix .size) (tableBytes (ix .size) (ends 1 items)) (joined items) (omega (arith, place-is, meant .room));
         behind = omega (arith, g .place, ap total e, place-is, length-items (ix .size) items);
       }
 
@@ -132,22 +133,22 @@ module _ (old : List ℕ) (ix : Index) (items : List (List ℕ)) (meant : Meant 
 
     -- the item's bytes behind those before it
     item-on : {mid : List ℕ} {p : ℕ} → Begun old ix items k mid p
-        → put mid p (getD items k []) ≡ put (put old (ix .table + ix .size) (endsTo k)) place (join (take (k + 1) items))
+        → put mid p (getD items k []) ≡ put (put old (ix .table + ix .size) (endsTo k)) place (joined (take (k + 1) items))
     item-on {mid} {p} g =
         let base = put old (ix .table + ix .size) (endsTo k) in
-        let q : p ≡ place + length (join (take k items)) = omega (arith, g .place, length-join (take k items)) in
+        let q : p ≡ place + length (joined (take k items)) = omega (arith, g .place, length-join (take k items)) in
         ap (λ (o : List ℕ). put o p (getD items k [])) (g .is)
-        ∙ ap (λ (j : ℕ). put (put base place (join (take k items))) j (getD items k [])) q
-        ∙ put-put base place (join (take k items)) (getD items k []) (omega (arith, kept k (omega arith), meant .room))
+        ∙ ap (λ (j : ℕ). put (put base place (joined (take k items))) j (getD items k [])) q
+        ∙ put-put base place (joined (take k items)) (getD items k []) (omega (arith, kept k (omega arith), meant .room))
         ∙ ap (put base place) (sym (join-more items k more))
 
     -- the offset behind those before it
-    end-on : put (put (put old (ix .table + ix .size) (endsTo k)) place (join (take (k + 1) items))) (ix .table + ix .size + length (endsTo k)) offset
-        ≡ put (put old (ix .table + ix .size) (endsTo (k + 1))) place (join (take (k + 1) items))
+    end-on : put (put (put old (ix .table + ix .size) (endsTo k)) place (joined (take (k + 1) items))) (ix .table + ix .size + length (endsTo k)) offset
+        ≡ put (put old (ix .table + ix .size) (endsTo (k + 1))) place (joined (take (k + 1) items))
     end-on =
-        sym (put-apart (put old (ix .table + ix .size) (endsTo k)) (ix .table + ix .size + length (endsTo k)) offset place (join (take (k + 1) items))
+        sym (put-apart (put old (ix .table + ix .size) (endsTo k)) (ix .table + ix .size + length (endsTo k)) offset place (joined (take (k + 1) items))
         end-before (omega (arith, kept k (omega arith), meant .room)))
-        ∙ ap (λ (o : List ℕ). put o place (join (take (k + 1) items)))
+        ∙ ap (λ (o : List ℕ). put o place (joined (take (k + 1) items)))
         (put-put old (ix .table + ix .size) (endsTo k) offset (omega (arith, end-before, meant .room)) ∙ ap (put old (ix .table + ix .size)) end-more)
 
     -- one item more

@@ -3,8 +3,9 @@ use mathlib.Core.Path.{_≡_, refl}
 use Prim.Native.Nat.{ℕ}
 use mathlib.Core.List.{List, [], _∷_}
 use Rattle.octets.specs.Octets.{be, numAt, bytesOf, put}
+use Rattle.octets.specs.Lists.{joined}
 use Rattle.index.specs.Index.{offsets, runOf, judged, dataAt, tableAt, indexAt, pieces, itemsOf, refused, found, told, readIndex}
-use Rattle.index.specs.Write.{total, join, sizeFor, ends, tableBytes, headBytes, itemsBytes, indexBytes, indexLen, indexFor}
+use Rattle.index.specs.Write.{total, sizeFor, ends, tableBytes, headBytes, itemsBytes, indexBytes, indexLen, indexFor}
 use Rattle.index.specs.declared.IndexAt.the-variants.{Found}
 
 -- ---- read
@@ -94,11 +95,11 @@ size-five = refl
 -- ---- written
 
 written : indexBytes ((1 ∷ 2 ∷ []) ∷ [] ∷ (3 ∷ []) ∷ []) ≡ 0 ∷ 3 ∷ 1 ∷ 1 ∷ 3 ∷ 3 ∷ 4 ∷ 1 ∷ 2 ∷ 3 ∷ []
-unfolding bytesOf total join sizeFor ends tableBytes headBytes itemsBytes indexBytes
+unfolding bytesOf total joined sizeFor ends tableBytes headBytes itemsBytes indexBytes
 written = refl
 
 written-none : indexBytes [] ≡ 0 ∷ 0 ∷ []
-unfolding bytesOf total join sizeFor ends tableBytes headBytes itemsBytes indexBytes
+unfolding bytesOf total joined sizeFor ends tableBytes headBytes itemsBytes indexBytes
 written-none = refl
 
 -- offset sizes of document 01

@@ -10,11 +10,12 @@ use lib.Seq.{take-at, drop-at, drop-drop, drop-append-seam, getD-at, getD-drop}
 use Rattle.octets.specs.Octets.{be, numAt, bytesOf, Wrote}
 use Rattle.octets.specs.OctetsLaws.{length-bytes, be-front, drop-front, num-written}
 use Rattle.octets.specs.PutLaws.{drop-put-at}
+use Rattle.octets.specs.Lists.{joined}
 use Rattle.index.specs.Index.{offsets, firstOf, endsOf, runOf, judged, tableAt, indexAt, pieces, itemsOf, found, readIndex}
 use Rattle.index.specs.Good.{Good}
 use Rattle.index.specs.IndexLaws.{run-none, run-on, table-judged, index-table}
 use Rattle.index.specs.FoundLaws.{found-good, read-found}
-use Rattle.index.specs.Write.{total, join, ends, tableBytes, itemsBytes, sizeOf, indexBytes, partsAt, indexFor, layout}
+use Rattle.index.specs.Write.{total, ends, tableBytes, itemsBytes, sizeOf, indexBytes, partsAt, indexFor, layout}
 use Rattle.index.specs.WriteLaws.{size-low, size-high, size-holds, length-ends, length-join, length-table, head-some, index-none, length-index, for-some, for-end}
 use Rattle.index.specs.declared.IndexAt.the-variants.{Found}
 use Rattle.index.specs.declared.Run.the-variants.{Last}
@@ -43,14 +44,14 @@ run-ends room s (x ∷ xs) h =
     run-on room s (s + length x) (ends (s + length x) xs) i k ∙ run-ends room (s + length x) xs (omega arith) ∙ ap Last m
 
 -- and the items are what lies between them
-pieces-ends : (d post : List ℕ) (s : ℕ) (items : List (List ℕ)) → drop s d ≡ join items ++ post → pieces d s (ends s items) ≡ items
-unfolding ends pieces join
+pieces-ends : (d post : List ℕ) (s : ℕ) (items : List (List ℕ)) → drop s d ≡ joined items ++ post → pieces d s (ends s items) ≡ items
+unfolding ends pieces joined
 pieces-ends d post s [] h = refl
 pieces-ends d post s (x ∷ xs) h =
     let n : s + length x - s ≡ length x = omega arith in
-    let e : drop s d ≡ x ++ (join xs ++ post) = h ∙ append-assoc x (join xs) post in
-    let f : take (length x) (drop s d) ≡ x = rw e (take-at x (join xs ++ post) (length x) refl) in
-    let g : drop (s + length x) d ≡ join xs ++ post = sym (drop-drop (length x) s d) ∙ rw e (drop-at x (join xs ++ post) (length x) refl) in
+    let e : drop s d ≡ x ++ (joined xs ++ post) = h ∙ append-assoc x (joined xs) post in
+    let f : take (length x) (drop s d) ≡ x = rw e (take-at x (joined xs ++ post) (length x) refl) in
+    let g : drop (s + length x) d ≡ joined xs ++ post = sym (drop-drop (length x) s d) ∙ rw e (drop-at x (joined xs ++ post) (length x) refl) in
     rw (n, f, pieces-ends d post (s + length x) xs g)
 
 -- ---- the table
@@ -58,24 +59,24 @@ pieces-ends d post s (x ∷ xs) h =
 -- a table of offsets and the items after it, at a place of b
 module _ (b : List ℕ) (table size : ℕ) (items : List (List ℕ)) (post : List ℕ)
     (low : 1 ≤ size) (high : size ≤ 4) (holds : 1 + total items < 256 ^ size)
-    (lies : drop table b ≡ bytesOf size 1 ++ (tableBytes size (ends 1 items) ++ (join items ++ post))) where
+    (lies : drop table b ≡ bytesOf size 1 ++ (tableBytes size (ends 1 items) ++ (joined items ++ post))) where
   -- the first offset is 1
   first-lies : firstOf b table size ≡ 1
   first-lies = num-written b table size 1 _ (omega arith) lies
 
   -- the ends stand behind it
-  ends-lie : drop (table + size) b ≡ tableBytes size (ends 1 items) ++ (join items ++ post)
+  ends-lie : drop (table + size) b ≡ tableBytes size (ends 1 items) ++ (joined items ++ post)
   ends-lie = sym (drop-drop size table b) ∙ rw lies (drop-front size 1 _)
 
   ends-read : endsOf b table size (length items) ≡ ends 1 items
-  ends-read = rw ends-lie (offsets-ends size 1 items (join items ++ post) holds)
+  ends-read = rw ends-lie (offsets-ends size 1 items (joined items ++ post) holds)
 
   -- and the data behind them
-  data-lies : drop (table + (length items + 1) * size) b ≡ join items ++ post
+  data-lies : drop (table + (length items + 1) * size) b ≡ joined items ++ post
   data-lies =
       let e : table + size + length items * size ≡ table + (length items + 1) * size = omega (arith, add-mul (length items) 1 size) in
       ap (λ (n : ℕ). drop n b) (sym e) ∙ sym (drop-drop (length items * size) (table + size) b)
-      ∙ rw ends-lie (drop-at (tableBytes size (ends 1 items)) (join items ++ post) (length items * size) (length-table size (ends 1 items) ∙ rw length-ends))
+      ∙ rw ends-lie (drop-at (tableBytes size (ends 1 items)) (joined items ++ post) (length items * size) (length-table size (ends 1 items) ∙ rw length-ends))
 
   -- b holds the table and the data
   fits : table + (length items + 1) * size ≤ length b
@@ -122,7 +123,7 @@ module _ (b : List ℕ) (at : ℕ) (x : List ℕ) (xs : List (List ℕ)) (post :
   size = sizeOf (x ∷ xs)
 
   abbrev behind : List ℕ
-  behind = bytesOf size 1 ++ (tableBytes size (ends 1 items) ++ (join items ++ post))
+  behind = bytesOf size 1 ++ (tableBytes size (ends 1 items) ++ (joined items ++ post))
 
   none : suc (length xs) ≡ 0 → ⊥
   none e = omega arith

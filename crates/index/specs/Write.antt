@@ -6,6 +6,7 @@ use lib.ListN.{length}
 use lib.Dec.{ltb, eqb}
 use Rattle.octets.specs.Pick.{pick}
 use Rattle.octets.specs.Octets.{bytesOf}
+use Rattle.octets.specs.Lists.{joined}
 use Rattle.index.specs.Index.{emptyAt}
 use Rattle.index.specs.declared.Index.{Index}
 
@@ -13,11 +14,6 @@ use Rattle.index.specs.declared.Index.{Index}
 unfoldable pub total : List (List ℕ) → ℕ
 total [] = 0
 total (x ∷ xs) = length x + total xs
-
--- the items one behind the other
-unfoldable pub join : List (List ℕ) → List ℕ
-join [] = []
-join (x ∷ xs) = x ++ join xs
 
 -- the smallest offset size that holds v
 unfoldable pub sizeFor : ℕ → ℕ
@@ -39,7 +35,7 @@ headBytes count size = bytesOf 2 count ++ pick (eqb count 0) [] (size ∷ bytesO
 
 -- what stands behind them: where each item ends, and the data
 unfoldable pub itemsBytes : ℕ → List (List ℕ) → List ℕ
-itemsBytes size items = tableBytes size (ends 1 items) ++ join items
+itemsBytes size items = tableBytes size (ends 1 items) ++ joined items
 
 -- the offset size of an INDEX of some items
 abbrev pub sizeOf : List (List ℕ) → ℕ

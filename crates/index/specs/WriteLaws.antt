@@ -12,9 +12,10 @@ use lib.Seq.{take-suc}
 use Rattle.octets.specs.Pick.{pick-ind}
 use Rattle.octets.specs.Octets.{bytesOf}
 use Rattle.octets.specs.OctetsLaws.{length-bytes}
+use Rattle.octets.specs.Lists.{joined}
 use Rattle.index.specs.Good.{Lies}
 use Rattle.index.specs.IndexLaws.{table-size}
-use Rattle.index.specs.Write.{total, join, sizeFor, ends, tableBytes, headBytes, itemsBytes, sizeOf, indexBytes, indexLen, partsAt, indexFor}
+use Rattle.index.specs.Write.{total, sizeFor, ends, tableBytes, headBytes, itemsBytes, sizeOf, indexBytes, indexLen, partsAt, indexFor}
 
 -- ---- an offset size
 
@@ -51,8 +52,8 @@ unfolding ends
 length-ends s [] = refl
 length-ends s (x ∷ xs) = ap suc (length-ends (s + length x) xs)
 
-pub length-join : (items : List (List ℕ)) → length (join items) ≡ total items
-unfolding join total
+pub length-join : (items : List (List ℕ)) → length (joined items) ≡ total items
+unfolding joined total
 length-join [] = refl
 length-join (x ∷ xs) = rw (length-append, length-join xs)
 
@@ -63,8 +64,8 @@ length-table size (v ∷ vs) = rw (length-append, length-bytes, length-table siz
 
 -- ---- the parts over `++`
 
-pub join-append : (xs ys : List (List ℕ)) → join (xs ++ ys) ≡ join xs ++ join ys
-unfolding join
+pub join-append : (xs ys : List (List ℕ)) → joined (xs ++ ys) ≡ joined xs ++ joined ys
+unfolding joined
 join-append [] ys = refl
 join-append (x ∷ xs) ys = rw (join-append xs ys, append-assoc)
 
@@ -89,8 +90,8 @@ module _ (items : List (List ℕ)) (k : ℕ) (h : k < length items) where
   pub take-more : take (k + 1) items ≡ take k items ++ (getD items k [] ∷ [])
   take-more = rw (add-one, take-suc items k [])
 
-  pub join-more : join (take (k + 1) items) ≡ join (take k items) ++ getD items k []
-  unfolding join
+  pub join-more : joined (take (k + 1) items) ≡ joined (take k items) ++ getD items k []
+  unfolding joined
   join-more = rw (take-more, join-append, append-nil)
 
   pub total-more : total (take (k + 1) items) ≡ total (take k items) + length (getD items k [])
@@ -147,7 +148,7 @@ length-some items n =
     (omega (arith, add-mul (length items) 1 (sizeOf items)))
 
 pub length-index : (items : List (List ℕ)) → length (indexBytes items) ≡ indexLen (length items) (total items)
-unfolding indexBytes headBytes itemsBytes tableBytes ends join indexLen bytesOf
+unfolding indexBytes headBytes itemsBytes tableBytes ends joined indexLen bytesOf
 length-index [] = refl
 length-index (x ∷ xs) = length-some (x ∷ xs) (λ e. omega arith)
 
@@ -173,13 +174,13 @@ offsets-few count size v h e = mul-le-mul {n₁ = count + 1} {m₁ = size} {n₂
 
 -- an INDEX of no item
 pub index-none : indexBytes [] ≡ bytesOf 2 0
-unfolding indexBytes headBytes itemsBytes tableBytes ends join bytesOf
+unfolding indexBytes headBytes itemsBytes tableBytes ends joined bytesOf
 index-none = refl
 
 -- an INDEX of one item, part by part
 pub index-single : (x : List ℕ) (size : ℕ) → size ≡ sizeFor (length x + 1)
     → (headBytes 1 (sizeFor (length x + 1)) ++ bytesOf size (length x + 1)) ++ x ≡ indexBytes (x ∷ [])
-unfolding indexBytes itemsBytes tableBytes ends join total
+unfolding indexBytes itemsBytes tableBytes ends joined total
 index-single x size e =
     let o : 1 + length x ≡ length x + 1 = omega arith in
     rw (add-zero, ← e, o) (simp (append-assoc, append-nil))

@@ -175,19 +175,8 @@ pub fn offset_size(v: usize) -> usize
     4
 }
 
-// How long an INDEX of count items is that have total bytes together.
-pub fn index_len(count: usize, total: usize) -> usize
-    requires { ⌜ (count < 65536) × (total < 4294967295) ⌝ }
-    ensures { λ r. ⌜ r ≡ indexLen count total ⌝ }
-{
-    if count == 0 {
-        return 2;
-    }
-    3 + ((count + 1) * offset_size(total + 1) + total)
-}
-
 // How long an INDEX of count items is that have total bytes together, also where it is too long to be written.
-pub fn any_index_len(count: usize, total: usize) -> usize
+pub fn index_len(count: usize, total: usize) -> usize
     requires { ⌜ (count ≤ 65544) × (total ≤ 281474976710656) ⌝ }
     ensures { λ r. ⌜ (r ≡ indexLen count total) × (r ≤ 281474977000000) ⌝ }
 {

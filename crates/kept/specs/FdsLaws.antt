@@ -12,6 +12,7 @@ use lib.Seq.{getD-take, take-set-le, length-take-le}
 use Rattle.octets.specs.Pick.{pick-ind}
 use Rattle.octets.specs.Octets.{put}
 use Rattle.octets.specs.PutLaws.{put-nil, put-cons}
+use Rattle.octets.specs.Lists.{allBelow}
 use Rattle.prune.specs.StepLaws.{zero-one}
 use Rattle.charset.specs.FdPlaces.{fdOf}
 use Rattle.charset.specs.FdFound.{fd-at}
@@ -20,7 +21,6 @@ use Rattle.cff.specs.Reads.{programOf}
 use Rattle.cff.specs.declared.font.Font.{Font}
 use Rattle.subset.specs.Kept.{fdsOf}
 use Rattle.subset.specs.Pruned.{mapped}
-use Rattle.subset.specs.Cut.{allBelow}
 use Rattle.kept.specs.Packed.{packedBy, glyphsIn}
 use Rattle.kept.specs.MarkLaws.{ahead}
 

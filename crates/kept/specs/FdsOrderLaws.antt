@@ -8,11 +8,11 @@ use native.Mathlib.Omega.{arith}
 use borrow.Author.Tests.{lt-ltb}
 use lib.ListN.{length, take, getD}
 use Rattle.octets.specs.Pick.{pick, pick-ind}
+use Rattle.octets.specs.Lists.{allBelow}
 use Rattle.dict.specs.Lookup.{cidKeyed}
 use Rattle.cff.specs.Font.{Program}
-use Rattle.subset.specs.Kept.{keptOf, sortedBy, writtenOrder}
-use Rattle.subset.specs.Cut.{allBelow}
-use Rattle.kept.specs.Packed.{packed, glyphsIn, keeps, Begins}
+use Rattle.subset.specs.Kept.{keptOf, sortedBy, writtenOrder, keeps}
+use Rattle.kept.specs.Packed.{packed, glyphsIn, Begins}
 use Rattle.subset.specs.EachLaws.{length-mapped}
 use Rattle.subset.specs.KeptListLaws.{sorted-count}
 use Rattle.kept.specs.FdsLaws.{glyphs-packed}

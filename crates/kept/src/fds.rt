@@ -8,10 +8,10 @@ ghost use Rattle.charset.specs.FdPlaces.{fdOf, GoodSelect};
 ghost use Rattle.cff.specs.Reads.{programOf, GoodFont};
 ghost use Rattle.subset.specs.Kept.{fdsOf};
 ghost use Rattle.subset.specs.Pruned.{mapped};
-ghost use Rattle.subset.specs.Cut.{allBelow};
 ghost use Rattle.kept.specs.Packed.{glyphsIn};
 use cff::font::Font;
 use charset::fd_select::FdSelect;
+ghost use Rattle.octets.specs.Lists.{allBelow};
 
 // The FD of each of the glyphs of the first k words, in the words from n on.
 fn fds_from(font: &[u8], s: FdSelect, n: usize, words: &mut [u32], k: usize)

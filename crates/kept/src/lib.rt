@@ -11,9 +11,10 @@ ghost use Prim.Native.Nat.{_≤_, _<_};
 ghost use lib.ListN.{length};
 ghost use Rattle.cff.specs.Reads.{programOf, GoodFont};
 ghost use Rattle.subset.specs.Kept.{keptOf, writtenOrder};
-ghost use Rattle.subset.specs.Cut.{allBelow, allFound};
+ghost use Rattle.subset.specs.Cut.{allFound};
 ghost use Rattle.kept.specs.Packed.{packed, Begins};
 use cff::font::Font;
+ghost use Rattle.octets.specs.Lists.{allBelow};
 
 // Whether every number of a keep list is a glyph's: refusal 6 where not.
 pub fn keep_below(keep: &[u16], n: usize) -> bool

@@ -5,8 +5,8 @@ use mathlib.Core.List.{List, [], _∷_, _++_, append-assoc, append-nil}
 use native.Mathlib.Nat.{add-zero, add-assoc, le-refl, not-suc-le-zero}
 use native.Mathlib.Numerals.{add-one, sub-one}
 use native.Mathlib.Omega.{arith}
-use lib.ListN.{length, take, drop, getD, set, length-append, length-drop, length-set, take-append-drop}
-use lib.Seq.{length-take-le, take-set-le, drop-set-lt, drop-cons, getD-set-same, take-at, drop-at, drop-drop, take-suc, take-all, set-at, set-split}
+use lib.ListN.{length, take, drop, getD, set, length-append, length-drop, length-set, take-append-drop, List·getD-append}
+use lib.Seq.{length-take-le, take-set-le, drop-set-lt, drop-cons, getD-set-same, take-at, drop-at, drop-drop, take-suc, take-all, set-at, set-split, getD-take, getD-drop}
 use Rattle.octets.specs.Octets.{put, bytesOf, Wrote}
 use Rattle.octets.specs.OctetsLaws.{length-bytes}
 
@@ -87,6 +87,10 @@ put-snoc old at bs x h =
       append-assoc,
     )
 
+-- two stored at the front
+pub put-two : (old : List ℕ) (x y : ℕ) → 2 ≤ length old → set (set old 0 x) 1 y ≡ put old 0 (x ∷ y ∷ [])
+put-two old x y h = ap (λ (l : List ℕ). set l 1 y) (put-one old 0 x (omega arith)) ∙ put-snoc old 0 (x ∷ []) y (omega arith)
+
 -- the last digit of a number stored, and the others still to be written
 pub put-digit : (out : List ℕ) (at i v : ℕ) → 0 < i → at + i ≤ length out
     → put (set out (at + (i - 1)) (v % 256)) at (bytesOf (i - 1) (v / 256)) ≡ put out at (bytesOf i v)
@@ -109,6 +113,21 @@ put-next old at src i h k =
 
 pub put-all : (old : List ℕ) (at : ℕ) (src : List ℕ) (i : ℕ) → length src ≤ i → put old at (take i src) ≡ put old at src
 put-all old at src i h = ap (put old at) (take-all i src h)
+
+-- ---- what stands beside a write
+
+module _ (old : List ℕ) (at : ℕ) (bs : List ℕ) (h : at ≤ length old) where
+  pub put-before : (i : ℕ) → i < at → getD (put old at bs) i 0 ≡ getD old i 0
+  unfolding put
+  put-before i k =
+      List·getD-append (take at old) _ 0 i (omega (arith, length-take-le at old h)) ∙ getD-take at old i 0 k
+
+  pub put-behind : (i : ℕ) → at + length bs ≤ i → getD (put old at bs) i 0 ≡ getD old i 0
+  put-behind i k =
+      let e : at + length bs + (i - (at + length bs)) ≡ i = omega arith in
+      let a = ap (λ (j : ℕ). getD (put old at bs) j 0) (sym e) ∙ sym (getD-drop (at + length bs) (put old at bs) (i - (at + length bs)) 0) in
+      let c = getD-drop (at + length bs) old (i - (at + length bs)) 0 ∙ ap (λ (j : ℕ). getD old j 0) e in
+      a ∙ ap (λ (ws : List ℕ). getD ws (i - (at + length bs)) 0) (drop-put old at bs h) ∙ c
 
 -- ---- writes in a row
 

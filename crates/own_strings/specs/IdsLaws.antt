@@ -7,7 +7,7 @@ use native.Mathlib.Omega.{arith}
 use lib.ListN.{length, take, drop, getD, set}
 use lib.Seq.{take-take, take-all, getD-take, length-take-le, take-at}
 use Rattle.octets.specs.Octets.{put}
-use Rattle.octets.specs.PutLaws.{put-length, put-next, put-all, put-nil, drop-put-at}
+use Rattle.octets.specs.PutLaws.{put-length, put-next, put-all, put-nil, drop-put-at, put-before}
 use Rattle.index.specs.Index.{itemsOf}
 use Rattle.index.specs.Write.{total}
 use Rattle.index.specs.declared.Index.{Index}
@@ -21,7 +21,7 @@ use Rattle.own_strings.specs.Ready.{HasStrings, SlotsGiven, NamesReady, 
 use Rattle.subset.specs.TextsLaws.{has-left, ids-length as new-ids-length}
 use Rattle.own_strings.specs.OwnLaws.{has-second, own-append, own-same}
 use Rattle.own_strings.specs.TurnLaws.{text-short}
-use Rattle.own_strings.specs.StageLaws.{own-bound, ids-length, ids-at, slot-keeps, words-take, names-slots, new-ids-slots, word-ids-length, word-ids-at, names-at, names-length, names-take, take-front, read-front, read-behind, turn-id, turn-own, turn-below}
+use Rattle.own_strings.specs.StageLaws.{own-bound, ids-length, ids-at, slot-keeps, words-take, names-slots, new-ids-slots, word-ids-length, word-ids-at, names-at, names-length, names-take, take-front, read-behind, turn-id, turn-own, turn-below}
 
 -- ---- the slots
 
@@ -84,7 +84,7 @@ module _ (b : List ℕ) (ix : Index) (has : HasStrings b ix) (old : List ℕ) (r
       inside = omega (arith, eight)
 
       reads : getD now j 0 ≡ getD l j 0
-      reads = ap (λ (x : List ℕ). getD x j 0) (t .is) ∙ read-front old 8 (take j ids) (omega arith) j h ∙ sym (getD-take 8 old j 0 h)
+      reads = ap (λ (x : List ℕ). getD x j 0) (t .is) ∙ put-before old 8 (take j ids) (omega arith) j h ∙ sym (getD-take 8 old j 0 h)
 
       front : take j now ≡ take j l
       front = ap (take j) (t .is) ∙ take-front old 8 (take j ids) (omega arith) j (t .within) ∙ sym (take-take j 8 old (t .within))
@@ -217,7 +217,7 @@ module _ (b : List ℕ) (ix : Index) (has : HasStrings b ix) (slots : List ℕ) 
       name-reads : getD now i 0 / 65536 ≡ getD xs i 0
       name-reads =
           let m : getD now i 0 ≡ getD (take k old) i 0 =
-          ap (λ (x : List ℕ). getD x i 0) (t .is) ∙ read-front old n (take i new) (omega (arith, ready .room)) i (omega (arith, ready .front)) ∙ sym (getD-take k old i 0 h) in
+          ap (λ (x : List ℕ). getD x i 0) (t .is) ∙ put-before old n (take i new) (omega (arith, ready .room)) i (omega (arith, ready .front)) ∙ sym (getD-take k old i 0 h) in
           ap (λ (w : ℕ). w / 65536) m ∙ sym (word-ids-at (take k old) i (omega (arith, words-many)))
 
       name-known : (j : ℕ) → j < length (take 8 slots) → getD (drop 8 slots) j 0 ≡ slotId all T (getD (take 8 slots) j 0)

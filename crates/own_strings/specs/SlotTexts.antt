@@ -17,9 +17,9 @@ use Rattle.dict.specs.Lookup.{Operands, absent, operands, lastOf, oneOf, idIn, 
 use Rattle.dict.specs.LookupLaws.{id-low}
 use Rattle.strings.specs.Strings.{stringText}
 use Rattle.cff.specs.Font.{Program}
-use Rattle.subset.specs.Texts.{Named, namedBy, namedEntries, textsOf}
+use Rattle.subset.specs.Texts.{Named, namedBy, namedEntries, textsOf, slotOf}
 use Rattle.subset.specs.Subset.{named, rosTexts}
-use Rattle.own_strings.specs.Slots.{slotOf, rosSlots, entrySlots, slotsOf, slotTexts}
+use Rattle.own_strings.specs.Slots.{rosSlots, entrySlots, slotsOf, slotTexts}
 use Rattle.own_strings.specs.SlotLaws.{texts-append}
 
 -- ---- string ids have 16 bits

@@ -7,8 +7,6 @@ use mathlib.Core.List.{List, [], _∷_, _++_}
 use lib.Dec.{ltb, eqb}
 use lib.ListN.{length, take, getD}
 use Rattle.octets.specs.Pick.{pick}
-use Rattle.decimal.specs.declared.IdOf.{IdOf}
-use Rattle.decimal.specs.declared.IdOf.the-variants.{Id, Absent}
 use Rattle.dict.specs.Op.{copiedTopStrings}
 use Rattle.dict.specs.Dict.{Entry}
 use Rattle.dict.specs.Lookup.{idIn, rosIn}
@@ -19,16 +17,11 @@ use Rattle.strings.specs.Text.{sameText}
 use Rattle.strings.specs.Strings.{stringText, sidOf}
 use Rattle.strings.specs.declared.Sid.{Sid}
 use Rattle.strings.specs.declared.Sid.the-variants.{Standard, Other}
-use Rattle.subset.specs.Texts.{hasText, ownStrings, newId}
+use Rattle.subset.specs.Texts.{hasText, ownStrings, newId, slotOf}
 use Rattle.own_strings.specs.declared.Own.{Own}
 use Rattle.own_strings.specs.declared.Use.{Use}
 
 -- ---- slots
-
--- the slot of an entry that holds a string id
-abbrev pub slotOf : IdOf → ℕ
-slotOf Absent = 65536
-slotOf (Id sid) = sid
 
 -- the slots of registry and ordering
 abbrev pub rosSlots : RosIn → List ℕ

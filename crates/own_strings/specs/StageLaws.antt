@@ -173,11 +173,6 @@ module _ (old : List ℕ) (at : ℕ) (bs : List ℕ) (within : at ≤ length old
       let k : j ≤ length (take at old) = omega (arith, length-take-le at old within) in
       take-append-le j (take at old) (bs ++ drop (at + length bs) old) k ∙ take-take j at old h
 
-  pub read-front : (i : ℕ) → i < at → getD (put old at bs) i 0 ≡ getD old i 0
-  read-front i h =
-      let k : i < suc i = omega arith in
-      sym (getD-take (suc i) (put old at bs) i 0 k) ∙ ap (λ (l : List ℕ). getD l i 0) (take-front (suc i) h) ∙ getD-take (suc i) old i 0 k
-
   pub read-behind : (i : ℕ) → i < length bs → getD (drop at (put old at bs)) i 0 ≡ getD bs i 0
   read-behind i h =
       ap (λ (l : List ℕ). getD l i 0) (drop-put-at old at bs within)

@@ -10,7 +10,7 @@ use lib.Dec.{ltb}
 use lib.ListN.{length, take, drop, getD, set, drop-of-length-le}
 use lib.Seq.{drop-cons, getD-take, getD-drop, length-take-le}
 use Rattle.octets.specs.Octets.{put}
-use Rattle.octets.specs.PutLaws.{put-one, put-snoc, put-put, put-next, put-length}
+use Rattle.octets.specs.PutLaws.{put-put, put-next, put-length}
 use Rattle.index.specs.Index.{itemsOf}
 use Rattle.index.specs.IndexLaws.{items-length, item-short}
 use Rattle.index.specs.declared.Index.{Index}
@@ -24,15 +24,12 @@ use Rattle.strings.specs.Strings.{stringText, sidOf}
 use Rattle.strings.specs.StringsLaws.{string-own, string-none}
 use Rattle.strings.specs.declared.Sid.{Sid}
 use Rattle.strings.specs.declared.Sid.the-variants.{Standard, Other}
+use Rattle.subset.specs.Texts.{slotOf}
 use Rattle.own_strings.specs.declared.Own.{Own}
-use Rattle.own_strings.specs.Slots.{slotOf, rosSlots, firstSlots, entrySlots, slotsOf, slotHas, slotWith, givenOr, givenId, counted}
+use Rattle.own_strings.specs.Slots.{rosSlots, firstSlots, entrySlots, slotsOf, slotHas, slotWith, givenOr, givenId, counted}
 use Rattle.own_strings.specs.Ready.{HasStrings}
 
 -- ---- the slots of a top DICT
-
--- two slots stored
-pub put-two : (old : List ℕ) (x y : ℕ) → 2 ≤ length old → set (set old 0 x) 1 y ≡ put old 0 (x ∷ y ∷ [])
-put-two old x y h = ap (λ (l : List ℕ). set l 1 y) (put-one old 0 x (omega arith)) ∙ put-snoc old 0 (x ∷ []) y (omega arith)
 
 -- by what the DICT says of ROS
 module _ (es : List Entry) (cid : Bool) (old new : List ℕ) (found : RosIn) where

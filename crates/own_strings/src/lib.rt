@@ -13,12 +13,13 @@ ghost use Rattle.dict.specs.Places.{entriesOf};
 ghost use Rattle.strings.specs.Strings.{stringText, sidOf};
 ghost use Rattle.strings.specs.declared.Sid.the-variants.{Other};
 ghost use Rattle.subset.specs.Subset.{newIds};
-ghost use Rattle.own_strings.specs.Slots.{slotOf, firstSlots, slotsOf, slotIds, wordNames, ownOf, slotsOwn, allOwn, slotHas, slotWith, givenId, counted, useAt};
+ghost use Rattle.own_strings.specs.Slots.{firstSlots, slotsOf, slotIds, wordNames, ownOf, slotsOwn, allOwn, slotHas, slotWith, givenId, counted, useAt};
 ghost use Rattle.own_strings.specs.Ready.{HasStrings, SlotsGiven, NamesReady, NamesGiven, IndexRoom};
 use decimal::IdOf;
 use dict::RosIn;
 use index::Index;
 use strings::Sid;
+ghost use Rattle.subset.specs.Texts.{slotOf};
 
 // How many own strings there are, and their bytes together.
 pub struct Own {

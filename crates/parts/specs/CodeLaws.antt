@@ -19,6 +19,7 @@ use Rattle.cff.specs.Reads.{programOf}
 use Rattle.cff.specs.declared.font.Font.{Font}
 use Rattle.subset.specs.Pruned.{May, mapped, countBelow, globalSet, callsIn}
 use Rattle.subset.specs.EachLaws.{length-mapped}
+use Rattle.kept.specs.Packed.{orderIn}
 use Rattle.renumber.specs.Ranks.{callsBy}
 use Rattle.renumber.specs.declared.Ranks.{Ranks}
 use Rattle.bodies.specs.Ways.{Room, manyOf, holds, newBody, bodyBy, newSubrs, charstringsBy, keptCount, reachedIn}
@@ -34,7 +35,7 @@ use Rattle.fds.specs.NewLocals.{localsBy}
 use Rattle.plan.specs.Sizes.{acrossBy, globalsBy, glyphsBy}
 use Rattle.plan.specs.StandsLaws.{stands-reached}
 use Rattle.plan.specs.WayLaws.{new-globals, new-glyphs}
-use Rattle.parts.specs.Ready.{orderIn, bodiesFor, Ready}
+use Rattle.parts.specs.Ready.{bodiesFor, Ready}
 use Rattle.parts.specs.declared.Planned.{Planned}
 
 -- room for the INDEX of bodies that do not fail, where its length is small

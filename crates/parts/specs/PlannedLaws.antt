@@ -18,7 +18,7 @@ use Rattle.cff.specs.Find.{localsTotal}
 use Rattle.cff.specs.Reads.{programOf}
 use Rattle.cff.specs.declared.font.Font.{Font}
 use Rattle.subset.specs.Pruned.{Pruned, May, fail, yes, each, mapped, callsIn, pruned}
-use Rattle.kept.specs.Packed.{glyphsIn}
+use Rattle.kept.specs.Packed.{glyphsIn, orderIn}
 use Rattle.reach.specs.Reach.{rises}
 use Rattle.renumber.specs.Turn.{bodyOf}
 use Rattle.bodies.specs.Ways.{manyOf, holds, bodyBy}
@@ -34,7 +34,7 @@ use Rattle.plan.specs.WayLaws.{new-globals, new-glyphs, way-is}
 use Rattle.plan.specs.InLaws.{measure-in}
 use Rattle.plan.specs.declared.RankedAll.{RankedAll}
 use Rattle.plan.specs.declared.Plan.{Plan}
-use Rattle.parts.specs.Ready.{orderIn, PlanIn, bodiesFor, Ready, Summed}
+use Rattle.parts.specs.Ready.{PlanIn, bodiesFor, Ready, Summed}
 use Rattle.parts.specs.declared.Planned.{Planned}
 
 -- ---- words, ways and bodies

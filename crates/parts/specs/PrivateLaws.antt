@@ -12,6 +12,7 @@ use Rattle.octets.specs.Pick.{pick, pick-ind}
 use Rattle.octets.specs.PickLaws.{both-hold}
 use Rattle.octets.specs.Octets.{put}
 use Rattle.octets.specs.PutLaws.{put-length, take-put}
+use Rattle.octets.specs.Lists.{sumOf}
 use Rattle.index.specs.Write.{total, indexBytes, indexLen}
 use Rattle.index.specs.WriteLaws.{length-index}
 use Rattle.unfold.specs.Unfold.{Row, local}
@@ -22,6 +23,7 @@ use Rattle.subset.specs.Kept.{localsOf, privateOf}
 use Rattle.subset.specs.Pruned.{mapped, countBelow, reached, localSet, callsIn}
 use Rattle.subset.specs.Subset.{privateDict, privatePart, privateParts, fontDicts}
 use Rattle.subset.specs.EachLaws.{length-mapped}
+use Rattle.kept.specs.Packed.{orderIn}
 use Rattle.renumber.specs.Ranks.{callsBy}
 use Rattle.renumber.specs.declared.Ranks.{Ranks}
 use Rattle.bodies.specs.Ways.{holds, newSubrs, subrsBy, subrBy, reachedIn, ranksIn, isKept, keptCount}
@@ -29,7 +31,7 @@ use Rattle.bodies.specs.Pruning.{allHold, bodiesBy}
 use Rattle.bodies.specs.WritingLaws.{items-many}
 use Rattle.bodies.specs.SubrsLaws.{reached-all, subrs-each, new-subrs-is, kept-many}
 use Rattle.bodies.specs.RecordLaws.{reached-told}
-use Rattle.private_dicts.specs.Privates.{dictsBy, sum, fontDictsBy, Placed, sizesOf, lensOf}
+use Rattle.private_dicts.specs.Privates.{dictsBy, fontDictsBy, Placed, sizesOf, lensOf}
 use Rattle.private_dicts.specs.DictsLaws.{font-dicts-are, dicts-long}
 use Rattle.fds.specs.Locals.{inUse, fdsIn}
 use Rattle.fds.specs.NewLocals.{localsBy, newLocals, LocalsIn}
@@ -41,7 +43,7 @@ use Rattle.plan.specs.Ranked.{Stands}
 use Rattle.plan.specs.Sizes.{globalsBy, glyphsBy}
 use Rattle.plan.specs.StandsLaws.{stands-reached}
 use Rattle.plan.specs.WayLaws.{new-locals}
-use Rattle.parts.specs.Ready.{orderIn, bodiesFor, Ready, Summed}
+use Rattle.parts.specs.Ready.{bodiesFor, Ready, Summed}
 use Rattle.parts.specs.declared.Planned.{Planned}
 
 -- ---- tables
@@ -142,7 +144,7 @@ module _ (b : List ℕ) (f : Font) (rows : List Row) (used ws ats counts reached
   lens-same : mapped lenAt (fdsIn used) ≡ lensOf p (fdsIn used) locals
   lens-same = lens-are p new (r .kept .way) counts reacheds totals used many (summed .sums) ∙ ap (lensOf p (fdsIn used)) new-are
 
-  parts-same : sum (mapped lenAt (fdsIn used)) ≡ length (privateParts p (fdsIn used) locals)
+  parts-same : sumOf (mapped lenAt (fdsIn used)) ≡ length (privateParts p (fdsIn used) locals)
   parts-same =
       parts-are p new (r .kept .way) counts reacheds totals used many (summed .sums)
       ∙ ap (λ (l : List (List (List ℕ))). length (privateParts p (fdsIn used) l)) new-are
@@ -192,7 +194,7 @@ module _ (b : List ℕ) (f : Font) (rows : List Row) (used ws ats counts reached
               let v : getD sizes k 0 ≡ getD (sizesOf p (fdsIn used) locals) k 0
               = sym (getD-take (length (fdsIn used)) sizes k 0 l) ∙ ap (λ (x : List ℕ). getD x k 0) sizes-held in
               omega (arith, size-within p (fdsIn used) locals k);
-          ends = let v : sum (take (length (fdsIn used)) lens) ≡ length (privateParts p (fdsIn used) locals) = ap sum lens-put ∙ parts-same in omega arith;
+          ends = let v : sumOf (take (length (fdsIn used)) lens) ≡ length (privateParts p (fdsIn used) locals) = ap sumOf lens-put ∙ parts-same in omega arith;
         }
 
     pub dicts-are : (from : ℕ) → fontDictsBy sizes lens (length (fdsIn used)) from ≡ fontDicts p from (fdsIn used) locals

@@ -4,7 +4,7 @@ use Prim.Native.Nat.{ℕ, _≤_, _<_}
 use mathlib.Core.Path.{_≡_}
 use mathlib.Core.Bool.{Bool, true}
 use mathlib.Core.List.{List}
-use lib.ListN.{length, take, getD}
+use lib.ListN.{length, getD}
 use Rattle.index.specs.Write.{total}
 use Rattle.unfold.specs.Unfold.{Row}
 use Rattle.cff.specs.Find.{workSize}
@@ -12,7 +12,7 @@ use Rattle.cff.specs.Reads.{GoodFont, programOf}
 use Rattle.cff.specs.declared.font.Font.{Font}
 use Rattle.subset.specs.Pruned.{Bodies}
 use Rattle.faithful.specs.Laid.{GoodProgram}
-use Rattle.kept.specs.Packed.{glyphsIn}
+use Rattle.kept.specs.Packed.{orderIn}
 use Rattle.bodies.specs.Pruning.{bodiesBy}
 use Rattle.fds.specs.Locals.{inUse, fdsIn, UsedOf}
 use Rattle.fds.specs.NewLocals.{newLocals}
@@ -25,10 +25,6 @@ pub record FontHeld (b : List ℕ) (f : Font) : Type 0 where
   pub font : GoodFont b f
   pub size : length b ≤ 67108864
   pub program : GoodProgram (programOf b f)
-
--- the glyphs that the first k words hold, in the order in which they are written
-abbrev pub orderIn : ℕ → List ℕ → List ℕ
-orderIn k ws = glyphsIn (take k ws)
 
 -- what planning asks: the words hold the k kept glyphs and, in a CID-keyed font, their FDs, which are those in use
 pub record PlanIn (b : List ℕ) (f : Font) (cid : Bool) (used ws : List ℕ) (k : ℕ) : Type 0 where

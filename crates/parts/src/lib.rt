@@ -10,11 +10,12 @@ ghost use Rattle.cff.specs.Reads.{programOf};
 ghost use Rattle.subset.specs.Pruned.{pruned};
 ghost use Rattle.bodies.specs.Ways.{keptCount};
 ghost use Rattle.fds.specs.Locals.{fdsIn};
-ghost use Rattle.parts.specs.Ready.{orderIn, PlanIn, bodiesFor, Ready, Summed};
+ghost use Rattle.parts.specs.Ready.{PlanIn, bodiesFor, Ready, Summed};
 use bodies::charstrings::Kept;
 use bodies::subrs::Source;
 use bodies::subrs::Subrs;
 use cff::font::Font;
+ghost use Rattle.kept.specs.Packed.{orderIn};
 
 // The kept glyphs and how they are written, by the way that was found; the bytes of the globals and of the charstrings by it.
 pub struct Planned {
@@ -102,7 +103,7 @@ pub fn globals_len(r: Planned) -> usize
 {
     let own = r.kept.globals;
     let count = bodies::subrs::kept_count(r.kept.way, own.reached, own.count);
-    index::any_index_len(count, r.globals_total)
+    index::index_len(count, r.globals_total)
 }
 
 // The length of the INDEX of the charstrings, also where it is too long to be written.
@@ -110,7 +111,7 @@ pub fn glyphs_len(r: Planned) -> usize
     requires { ⌜ (r .kept .count ≤ 65535) × (r .«glyphs_total» ≤ 281474976710656) ⌝ }
     ensures { λ n. ⌜ (n ≡ indexLen (r .kept .count) (r .«glyphs_total»)) × (n ≤ 281474977000000) ⌝ }
 {
-    index::any_index_len(r.kept.count, r.glyphs_total)
+    index::index_len(r.kept.count, r.glyphs_total)
 }
 
 // Writes the INDEX of the global subroutines from `at` on; the place after it. They call local ones by the ranks of the only FD in use.

@@ -29,7 +29,8 @@ use Rattle.cff.specs.declared.font.Font.{Font}
 use Rattle.plan.specs.Sizes.{acrossBy, globalsBy, glyphsBy, allMade, MeasuresAll, MeasureIn, byWay}
 use Rattle.plan.specs.declared.sizes.Measures.{Measures}
 
-abbrev measures : Bool → ℕ → ℕ → Measures
+-- what was measured, by its parts
+abbrev pub measures : Bool → ℕ → ℕ → Measures
 measures t g c = record { all = t; globals = g; glyphs = c }
 
 either : (t u v : Bool) → pick u v false ≡ false → pick t (pick u v false) false ≡ false

@@ -19,6 +19,7 @@ use Rattle.fds.specs.NewLocals.{localsBy}
 use Rattle.plan.specs.Sizes.{firstWay, wayBy, glyphsBy, allMade, MeasuresAll, Plans}
 use Rattle.plan.specs.declared.sizes.Measures.{Measures}
 use Rattle.plan.specs.declared.Plan.{Plan}
+use Rattle.plan.specs.MeasureLaws.{measures}
 
 -- all of a list hold where each does
 hold-all : {A : Type 0} (f : ℕ → May A) → ((x : ℕ) → holds (f x) ≡ true) → (fs : List ℕ) → allHold f fs ≡ true
@@ -28,9 +29,6 @@ hold-all f h (x ∷ fs) = ap (λ (t : Bool). pick t (allHold f fs) false) (h x) 
 
 abbrev planned : ℕ → ℕ → ℕ → Plan
 planned w g c = record { way = w; «globals_total» = g; «glyphs_total» = c }
-
-abbrev measures : Bool → ℕ → ℕ → Measures
-measures t g c = record { all = t; globals = g; glyphs = c }
 
 -- the way that is tried first, by the tests of the code
 module _ (traced : ℕ) (all : Bool) where

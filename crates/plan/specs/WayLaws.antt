@@ -8,6 +8,7 @@ use native.Mathlib.Omega.{arith}
 use lib.Dec.{eqb}
 use lib.ListN.{length, getD}
 use Rattle.octets.specs.Pick.{pick}
+use Rattle.octets.specs.PickLaws.{pick-same}
 use Rattle.unfold.specs.Unfold.{Row, glyph, local, global}
 use Rattle.prune.specs.StepLaws.{zero-one}
 use Rattle.cff.specs.Font.{Program}
@@ -39,14 +40,10 @@ unfolding allNumbered allHold
 no-numbers rows p [] e = absurd (zero-one cc)
 no-numbers rows p (f ∷ fs) e = go (numbered p rows f) refl (λ m. no-numbers rows p fs m) e
   where
-    end : (t : Bool) → pick t false false ≡ false
-    end true = refl
-    end false = refl
-
     go : (t : Bool) → numbered p rows f ≡ t → (allNumbered p rows fs ≡ false → allHold (renumberedLocals p rows) fs ≡ false)
         → pick t (allNumbered p rows fs) false ≡ false
         → pick (holds (renumberedLocals p rows f)) (allHold (renumberedLocals p rows) fs) false ≡ false
-    go true n more h = ap (λ (b : Bool). pick (holds (renumberedLocals p rows f)) b false) (more h) ∙ end (holds (renumberedLocals p rows f))
+    go true n more h = ap (λ (b : Bool). pick (holds (renumberedLocals p rows f)) b false) (more h) ∙ pick-same (holds (renumberedLocals p rows f)) false
     go false n more h = ap (λ (b : Bool). pick b (allHold (renumberedLocals p rows) fs) false) (no-number rows p f n)
 
 -- a font whose record has a number without a subroutine is not renumbered
@@ -54,15 +51,11 @@ pub unnumbered-fails : (p : Program) (rows : List Row) (used order : List ℕ) �
 unfolding renumberedSubrs
 unnumbered-fails p rows used order e = renumbers-parts p rows used order ∙ go (globalsNumbered p rows) refl e
   where
-    end : (t : Bool) → pick t false false ≡ false
-    end true = refl
-    end false = refl
-
     go : (t : Bool) → globalsNumbered p rows ≡ t → pick t (allNumbered p rows used) false ≡ false
         → pick (holds (renumberedGlobals p rows used)) (pick (allHold (renumberedLocals p rows) used) (allHold (renumberedGlyph p rows) order) false) false ≡ false
     go true n h =
         ap (λ (b : Bool). pick (holds (renumberedGlobals p rows used)) (pick b (allHold (renumberedGlyph p rows) order) false) false) (no-numbers rows p used h)
-        ∙ end (holds (renumberedGlobals p rows used))
+        ∙ pick-same (holds (renumberedGlobals p rows used)) false
     go false n h =
         ap (λ (t : Bool). pick (holds (pick t (each (λ k. renumberedBody rows (callsAcross p rows used) (global k) (getD (p .globals) k [])) (those (globalSet rows) (length (p .globals)) 0)) fail))
         (pick (allHold (renumberedLocals p rows) used) (allHold (renumberedGlyph p rows) order) false) false) n

@@ -7,6 +7,7 @@ use mathlib.Core.List.{List, [], _∷_, _++_}
 use lib.Dec.{eqb}
 use lib.ListN.{length, take, getD}
 use Rattle.octets.specs.Pick.{pick}
+use Rattle.octets.specs.Lists.{sumOf}
 use Rattle.dict.specs.Op.{subrs}
 use Rattle.dict.specs.Dict.{Entry}
 use Rattle.dict_write.specs.Written.{offsetEntry, privateEntry, privateBytes}
@@ -34,10 +35,6 @@ dictsBy [] lens from = []
 dictsBy (s ∷ ss) [] from = []
 dictsBy (s ∷ ss) (l ∷ ls) from = privateEntry s from ∷ dictsBy ss ls (from + l)
 
-unfoldable pub sum : List ℕ → ℕ
-sum [] = 0
-sum (x ∷ xs) = x + sum xs
-
 -- the first so many
 abbrev pub fontDictsBy : List ℕ → List ℕ → ℕ → ℕ → List (List ℕ)
 fontDictsBy sizes lens count from = dictsBy (take count sizes) (take count lens) from
@@ -48,7 +45,7 @@ pub record Placed (sizes lens : List ℕ) (count from : ℕ) : Type 0 where
   pub sized : count ≤ length sizes
   pub long : count ≤ length lens
   pub small : (k : ℕ) → k < count → getD sizes k 0 < 2147483648
-  pub ends : from + sum (take count lens) < 2147483648
+  pub ends : from + sumOf (take count lens) < 2147483648
 
 -- the sizes of the Private DICTs of the FDs in use, and the lengths of their parts
 unfoldable pub sizesOf : Program → List ℕ → List (List (List ℕ)) → List ℕ

@@ -10,6 +10,8 @@ use lib.ListN.{length, take, drop, getD, length-append, length-take, length-drop
 use Rattle.octets.specs.Pick.{pick}
 use Rattle.octets.specs.Octets.{Wrote}
 use Rattle.octets.specs.PutLaws.{wrote-as, wrote-then, wrote-length}
+use Rattle.octets.specs.Lists.{partOf}
+use Rattle.octets.specs.ListLaws.{span}
 use Rattle.index.specs.Index.{itemsOf}
 use Rattle.index.specs.IndexLaws.{items-length}
 use Rattle.dict.specs.Op.{subrs}
@@ -19,14 +21,15 @@ use Rattle.dict.specs.LookupLaws.{entries-are}
 use Rattle.dict.specs.Places.{entriesOf}
 use Rattle.dict_write.specs.Written.{offsetEntry, privateBytes}
 use Rattle.dict_write.specs.WriteLaws.{subrs-length}
-use Rattle.cff.specs.Font.{Got, refused, got, then, Private, dictGot, privateAt, privatesAt}
-use Rattle.cff.specs.Reads.{partOf, fdPrivate, ReadsPrivate, GoodPrivate, GoodFont, privatesOf, programOf}
+use Rattle.cff.specs.Font.{Got, refused, got, then, Private, dictGot, privateAt, privatesAt, emptyPrivate}
+use Rattle.cff.specs.Reads.{fdPrivate, ReadsPrivate, GoodPrivate, GoodFont, privatesOf, programOf}
 use Rattle.cff.specs.Reads as reads
-use Rattle.cff.specs.ReadsLaws.{privates-split, part-sized}
+use Rattle.cff.specs.ReadsLaws.{privates-split}
 use Rattle.cff.specs.declared.font.Font.{Font}
 use Rattle.cff.specs.declared.private.PrivateAt.{PrivateAt}
 use Rattle.cff.specs.declared.private.PrivateRead.{PrivateRead}
 use Rattle.cff.specs.declared.private.PrivateRead.the-variants.{Refused as RefusedPrivate, Found as FoundPrivate}
+use Rattle.cff.specs.FontLaws.{privates-length}
 use Rattle.subset.specs.Kept.{privateOf}
 use Rattle.subset.specs.Subset.{privateDict}
 use Rattle.private_dicts.specs.Privates.{FdRead, subrsEntry, privateDictBy}
@@ -36,35 +39,20 @@ no h = omega arith
 
 -- ---- the Private DICT of an FD
 
-abbrev none : Private
-none = record { entries = []; locals = [] }
-
 -- all were read: one for each FD, each from its bytes
 module _ (b : List ℕ) where
-  one-length : (g : Got Private) (h : Got (List Private)) (ps : List Private) (n : ℕ) → ((qs : List Private) → h ≡ got qs → length qs ≡ n)
-      → then g (λ p. then h (λ qs. got (p ∷ qs))) ≡ got ps → length ps ≡ suc n
-  one-length (refused m) h ps n f e = absurd (no cc)
-  one-length (got p) (refused m) ps n f e = absurd (no cc)
-  one-length (got p) (got qs) ps n f e = let i : p ∷ qs ≡ ps = cc in ap length (sym i) ∙ ap suc (f qs refl)
-
-  pub privates-length : (ds : List (List ℕ)) (ps : List Private) → privatesAt b ds ≡ got ps → length ps ≡ length ds
-  unfolding privatesAt
-  privates-length [] ps e = let i : [] ≡ ps = cc in ap length (sym i)
-  privates-length (d ∷ ds) ps e =
-      one-length (fdPrivate b d) (privatesAt b ds) ps (length ds) (privates-length ds) (sym (privates-split b d ds) ∙ e)
-
   one-at : (g : Got Private) (h : Got (List Private)) (ps : List Private) → then g (λ p. then h (λ qs. got (p ∷ qs))) ≡ got ps
-      → (g ≡ got (getD ps 0 none)) × (h ≡ got (drop 1 ps))
+      → (g ≡ got (getD ps 0 emptyPrivate)) × (h ≡ got (drop 1 ps))
   one-at (refused m) h ps e = absurd (no cc)
   one-at (got p) (refused m) ps e = absurd (no cc)
   one-at (got p) (got qs) ps e =
-      let i : p ∷ qs ≡ ps = cc in (ap (λ (l : List Private). got (getD l 0 none)) i, ap (λ (l : List Private). got (drop 1 l)) i)
+      let i : p ∷ qs ≡ ps = cc in (ap (λ (l : List Private). got (getD l 0 emptyPrivate)) i, ap (λ (l : List Private). got (drop 1 l)) i)
 
-  behind-first : (ps : List Private) (k : ℕ) → getD (drop 1 ps) k none ≡ getD ps (suc k) none
+  behind-first : (ps : List Private) (k : ℕ) → getD (drop 1 ps) k emptyPrivate ≡ getD ps (suc k) emptyPrivate
   behind-first [] k = refl
   behind-first (p ∷ ps) k = refl
 
-  pub private-read : (ds : List (List ℕ)) (ps : List Private) → privatesAt b ds ≡ got ps → (k : ℕ) → k < length ds → fdPrivate b (getD ds k []) ≡ got (getD ps k none)
+  pub private-read : (ds : List (List ℕ)) (ps : List Private) → privatesAt b ds ≡ got ps → (k : ℕ) → k < length ds → fdPrivate b (getD ds k []) ≡ got (getD ps k emptyPrivate)
   private-read [] ps e k h = absurd (no (omega arith))
   private-read (d ∷ ds) ps e zero h = one-at (fdPrivate b d) (privatesAt b ds) ps (sym (privates-split b d ds) ∙ e) .0
   private-read (d ∷ ds) ps e (suc k) h =
@@ -118,7 +106,7 @@ module _ (b : List ℕ) (f : Font) (g : GoodFont b f) (fd : ℕ) (h : fd < lengt
 
   -- in a name-keyed one
   only-one : (cid : Bool) → cid ≡ false → (n : ℕ) → n < length (privatesOf b cid (f .dicts) (f .private))
-      → reads.privateOf b (f .private) ≡ getD (privatesOf b cid (f .dicts) (f .private)) n none
+      → reads.privateOf b (f .private) ≡ getD (privatesOf b cid (f .dicts) (f .private)) n emptyPrivate
   only-one true e n k = absurd (true≢false e)
   only-one false e zero k = refl
   only-one false e (suc n) k = absurd (no (omega arith))
@@ -186,5 +174,5 @@ pub part-asked : (b : List ℕ) (start size left at n : ℕ) → length (private
     × (at + length (privateDictBy (entriesOf (take (start + size - start) (drop start b))) left) ≤ n)
 part-asked b start size left at n h k =
     let e : length (privateDictBy (entriesOf (take (start + size - start) (drop start b))) left) ≡ length (privateDictBy (entriesOf (partOf b start size)) left)
-    = ap (λ (d : List ℕ). length (privateDictBy (entriesOf d) left)) (part-sized b start size) in
+    = ap (λ (d : List ℕ). length (privateDictBy (entriesOf d) left)) (span b start size) in
     (omega arith, omega arith)

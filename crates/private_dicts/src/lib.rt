@@ -6,7 +6,7 @@ ghost use Rattle.octets.specs.Octets.{Wrote};
 ghost use Rattle.dict.specs.Places.{entriesOf};
 ghost use Rattle.index.specs.Write.{indexBytes};
 ghost use Rattle.cff.specs.Font.{got};
-ghost use Rattle.cff.specs.Reads.{partOf, GoodPrivate, GoodFont, programOf, fdPrivate};
+ghost use Rattle.cff.specs.Reads.{GoodPrivate, GoodFont, programOf, fdPrivate};
 ghost use Rattle.cff.specs.Reads as reads;
 ghost use Rattle.subset.specs.Kept.{privateOf};
 ghost use Rattle.private_dicts.specs.Privates.{FdRead, privateDictBy, fontDictsBy, Placed};

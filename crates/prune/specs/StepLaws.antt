@@ -10,7 +10,8 @@ use lib.ListN.{length, take, drop, getD}
 use borrow.Author.Tests.{eqb-true}
 use Rattle.octets.specs.Pick.{pick}
 use Rattle.type2_number.specs.Number.{Read, cut, operator, number as aNumber, numberAt}
-use Rattle.unfold.specs.Unfold.{Tok, num, op, esc, mask, Site, local, global, masked, isGlyph, State, Run, broken, returned, ended, Last, none, last, leave, calling, Target, nowhere, target, targetOf, after, isStem, isMask, isPath, meeting, callTo, stemAt, maskAt, escapeAt, operatorAt, stepAt, walk}
+use Rattle.charstring.specs.Token.{isMask}
+use Rattle.unfold.specs.Unfold.{Tok, num, op, esc, mask, Site, local, global, masked, isGlyph, State, Run, broken, returned, ended, Last, none, last, leave, calling, Target, nowhere, target, targetOf, after, isStem, isPath, meeting, callTo, stemAt, maskAt, escapeAt, operatorAt, stepAt, walk}
 
 -- two constructors that would be equal
 pub zero-one : _≡_ {A = ℕ} 0 1 → ⊥

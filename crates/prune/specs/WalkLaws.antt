@@ -11,7 +11,8 @@ use lib.ListN.{length, getD}
 use borrow.Author.Tests.{lt-ltb, ltb-true}
 use Rattle.octets.specs.Octets.{Octets}
 use Rattle.charstring.specs.declared.MaskLen.{MaskLen}
-use Rattle.unfold.specs.Unfold.{Tok, num, op, mask, Row, Site, glyph, local, global, entered, masked, isGlyph, isMask, State, Run, broken, returned, ended, Last, none, last, but, calling, meeting, target, targetOf, after, walk, runBody}
+use Rattle.charstring.specs.Token.{isMask}
+use Rattle.unfold.specs.Unfold.{Tok, num, op, mask, Row, Site, glyph, local, global, entered, masked, isGlyph, State, Run, broken, returned, ended, Last, none, last, but, calling, meeting, target, targetOf, after, walk, runBody}
 use Rattle.prune.specs.Renumber.{becomes, Calls, isCall, Waiting, nobody, waits, bytes, renumberCharstring}
 use Rattle.prune.specs.Bodies.{All, Renumbers}
 use Rattle.prune.specs.StepLaws.{zero-one, leaving, stemsNow, maskNow, Clearing, Operator, Step, reads, callsLocal, callsGlobal, returns, ends, escapes, masks, clears, walk-was, walk-goes}

@@ -8,11 +8,11 @@ use native.Mathlib.Omega.{arith}
 use borrow.Author.Tests.{ne-eqb, eqb-true}
 use lib.Dec.{eqb}
 use lib.ListN.{length, take, drop, getD, List·getD-append}
-use lib.Seq.{getD-drop, getD-take, length-take-le}
+use lib.Seq.{getD-drop, getD-take}
 use Rattle.octets.specs.Octets.{put}
 use Rattle.octets.specs.Pick.{pick}
 use Rattle.octets.specs.PickLaws.{not-true}
-use Rattle.octets.specs.PutLaws.{put-length, drop-put, drop-put-at}
+use Rattle.octets.specs.PutLaws.{put-length, drop-put-at, put-before, put-behind}
 use Rattle.unfold.specs.Unfold.{Row}
 use Rattle.prune.specs.Renumber.{none, new}
 use Rattle.record.specs.Record.{lists}
@@ -34,6 +34,13 @@ ranks-at s zero j k h = absurd (omega arith)
 ranks-at s (suc n) j zero h = rw (add-zero j)
 ranks-at s (suc n) j (suc k) h = let e : j + 1 + k ≡ j + suc k = omega arith in ranks-at s n (j + 1) k (omega arith) ∙ rw e
 
+-- a word of ranks that stand in the work words from at on
+pub rank-word : (ws : List ℕ) (at count : ℕ) (s : ℕ → Bool) → take count (drop at ws) ≡ ranksOf s 0 count → (i : ℕ) → i < count
+    → getD ws (at + i) 0 ≡ pick (s i) (countBelow s i + 1) 0
+rank-word ws at count s e i h =
+    let z : 0 + i ≡ i = omega arith in
+    sym (getD-drop at ws i 0) ∙ sym (getD-take count (drop at ws) i 0 h) ∙ ap (λ (l : List ℕ). getD l i 0) e ∙ ranks-at s count 0 i h ∙ rw z
+
 -- words that were set
 pub set-hold : (old words : List ℕ) (at : ℕ) (s : ℕ → Bool) (count : ℕ) → at + count ≤ length old → words ≡ put old at (ranksOf s 0 count)
     → HoldRanks words at s count
@@ -49,19 +56,6 @@ set-hold old words at s count h e =
     }
 
 -- ---- other words are written
-
-module _ (old : List ℕ) (at : ℕ) (bs : List ℕ) (h : at ≤ length old) where
-  pub put-before : (i : ℕ) → i < at → getD (put old at bs) i 0 ≡ getD old i 0
-  unfolding put
-  put-before i k =
-      List·getD-append (take at old) _ 0 i (omega (arith, length-take-le at old h)) ∙ getD-take at old i 0 k
-
-  pub put-behind : (i : ℕ) → at + length bs ≤ i → getD (put old at bs) i 0 ≡ getD old i 0
-  put-behind i k =
-      let e : at + length bs + (i - (at + length bs)) ≡ i = omega arith in
-      let a = ap (λ (j : ℕ). getD (put old at bs) j 0) (sym e) ∙ sym (getD-drop (at + length bs) (put old at bs) (i - (at + length bs)) 0) in
-      let c = getD-drop (at + length bs) old (i - (at + length bs)) 0 ∙ ap (λ (j : ℕ). getD old j 0) e in
-      a ∙ ap (λ (ws : List ℕ). getD ws (i - (at + length bs)) 0) (drop-put old at bs h) ∙ c
 
 module _ (words : List ℕ) (at : ℕ) (s : ℕ → Bool) (count : ℕ) (m : HoldRanks words at s count) (from : ℕ) (bs : List ℕ) (h : from + length bs ≤ length words) where
   stays : ((k : ℕ) → k < count → getD (put words from bs) (at + k) 0 ≡ getD words (at + k) 0) → HoldRanks (put words from bs) at s count

@@ -1,5 +1,5 @@
 -- The ranks in the work words are those of crates/subset: renumbering by the words is renumbering by the record.
-use Prim.Native.Nat.{ℕ, zero, suc, _+_, _-_, _≤_, _<_}
+use Prim.Native.Nat.{ℕ, suc, _+_, _-_, _≤_, _<_}
 use mathlib.Core.Path.{_≡_, refl, sym, ap, _∙_, subst}
 use mathlib.Core.Bool.{Bool, true, false}
 use mathlib.Core.List.{List, [], _∷_}
@@ -8,8 +8,7 @@ use native.Mathlib.Decide.{decLe}
 use native.Mathlib.Omega.{arith}
 use lib.Dec.{ltb, eqb}
 use lib.IntN.{ℤ}
-use lib.ListN.{length, take, drop, getD}
-use lib.Seq.{getD-take, getD-drop}
+use lib.ListN.{length, take, drop}
 use borrow.Author.Tests.{ltb-true, ltb-false, le-ltb}
 use Rattle.octets.specs.Pick.{pick, pick-ind}
 use Rattle.charstring.specs.declared.MaskLen.{MaskLen}
@@ -24,6 +23,7 @@ use Rattle.subset.specs.Pruned.{countBelow, rank, reached, fail, whole, localSe
 use Rattle.subset.specs.RankLaws.{count-few}
 use Rattle.reach.specs.Reach.{ranksOf}
 use Rattle.reach.specs.CountLaws.{count-more}
+use Rattle.reach.specs.WordLaws.{rank-word}
 use Rattle.renumber.specs.Ranks.{newIn, numbersIn, callsBy, Ranked}
 use Rattle.renumber.specs.declared.Ranks.{Ranks}
 
@@ -46,14 +46,6 @@ pub record HoldsRanks (ws : List ℕ) (q : Ranks) (set : ℕ → Bool) : Type 0 
   pub all : reached set ≡ countBelow set (q .count)
   pub narrow : (i : ℕ) → 65536 ≤ i → set i ≡ false
 
--- the rank of a number in a list of ranks
-pub rank-get : (set : ℕ → Bool) (k n i : ℕ) → i < n → getD (ranksOf set k n) i 0 ≡ pick (set (k + i)) (countBelow set (k + i) + 1) 0
-unfolding ranksOf
-rank-get set k zero i h = absurd (let y : ⊥ = omega arith in y)
-rank-get set k (suc n) zero h = ap (λ (j : ℕ). pick (set j) (countBelow set j + 1) 0) (let e : k ≡ k + 0 = omega arith in e)
-rank-get set k (suc n) (suc i) h =
-    rank-get set (k + 1) n i (omega arith) ∙ ap (λ (j : ℕ). pick (set j) (countBelow set j + 1) 0) (let e : k + 1 + i ≡ k + suc i = omega arith in e)
-
 new-one : (set : ℕ → Bool) (i : ℕ) → newIn (pick (set i) (countBelow set i + 1) 0) ≡ rank set i
 new-one set i = go (set i)
   where
@@ -61,14 +53,23 @@ new-one set i = go (set i)
     go true = let e : countBelow set i + 1 ≡ suc (countBelow set i) = omega arith in ap newIn e
     go false = refl
 
-module _ (ws : List ℕ) (q : Ranks) (set : ℕ → Bool) (h : HoldsRanks ws q set) where
-  word-at : (i : ℕ) → i < q .count → getD ws (q .at + i) 0 ≡ pick (set i) (countBelow set i + 1) 0
-  word-at i k =
-      sym (getD-drop (q .at) ws i 0) ∙ sym (getD-take (q .count) (drop (q .at) ws) i 0 k)
-      ∙ ap (λ (l : List ℕ). getD l i 0) (h .words) ∙ rank-get set 0 (q .count) i k ∙ ap (λ (j : ℕ). pick (set j) (countBelow set j + 1) 0) (let e : 0 + i ≡ i = omega arith in e)
+-- ranks are not above the number reached
+pub ranked-words : (ws : List ℕ) (q : Ranks) (set : ℕ → Bool) → q .at + q .count ≤ length ws → q .count < 65536
+    → take (q .count) (drop (q .at) ws) ≡ ranksOf set 0 (q .count) → q .reached ≡ countBelow set (q .count) → Ranked ws q
+ranked-words ws q set inside few words reaches =
+    record {
+      inside = inside;
+      few = few;
+      fewReached = omega (arith, count-few set (q .count));
+      below = λ i k. subst (λ (n : ℕ). n ≤ q .reached) (sym (rank-word ws (q .at) (q .count) set words i k))
+          (pick-ind (λ (n : ℕ). n ≤ q .reached) (set i) (countBelow set i + 1) 0
+          (λ t. let b = count-more set i i (q .count) (le-refl i) k t in omega arith) (λ t. omega arith));
+    }
 
-  none-past : (i : ℕ) → q .count ≤ i → set i ≡ false
-  none-past i k = go (decLe 65536 i)
+module _ (ws : List ℕ) (q : Ranks) (set : ℕ → Bool) (h : HoldsRanks ws q set) where
+  -- no number from the count on is in the set
+  pub past-unreached : (i : ℕ) → q .count ≤ i → set i ≡ false
+  past-unreached i k = go (decLe 65536 i)
     where
       go : Dec (65536 ≤ i) → set i ≡ false
       go (yes p) = h .narrow i p
@@ -79,20 +80,12 @@ module _ (ws : List ℕ) (q : Ranks) (set : ℕ → Bool) (h : HoldsRanks ws q s
   numbers-rank i = go (ltb i (q .count)) refl
     where
       go : (t : Bool) → ltb i (q .count) ≡ t → numbersIn ws q i ≡ rank set i
-      go true e = rw e (ap newIn (word-at i (ltb-true i (q .count) e)) ∙ new-one set i)
-      go false e = rw (e, none-past i (ltb-false i (q .count) e))
+      go true e = rw e (ap newIn (rank-word ws (q .at) (q .count) set (h .words) i (ltb-true i (q .count) e)) ∙ new-one set i)
+      go false e = rw (e, past-unreached i (ltb-false i (q .count) e))
 
   -- the words are ranks as the code asks for them
   pub ranked-of : Ranked ws q
-  ranked-of =
-      record {
-        inside = h .inside;
-        few = h .few;
-        fewReached = let k = count-few set (q .count) in omega (arith, h .few, h .reaches);
-        below = λ i k. subst (λ (n : ℕ). n ≤ q .reached) (sym (word-at i k))
-            (pick-ind (λ (n : ℕ). n ≤ q .reached) (set i) (countBelow set i + 1) 0
-            (λ t. let b = count-more set i i (q .count) (le-refl i) k t in omega (arith, h .reaches)) (λ t. omega arith));
-      }
+  ranked-of = ranked-words ws q set (h .inside) (h .few) (h .words) (h .reaches)
 
   reached-is : q .reached ≡ reached set
   reached-is = h .reaches ∙ sym (h .all)

@@ -8,6 +8,7 @@ use lib.Dec.{ltb, eqb}
 use lib.ListN.{length}
 use Rattle.octets.specs.Pick.{pick}
 use Rattle.octets.specs.PickLaws.{pick-same}
+use Rattle.octets.specs.Lists.{allBelow}
 use Rattle.dict.specs.Lookup.{cidKeyed}
 use Rattle.cff.specs.Font.{Got, refused as refusedFont, got, Program, readFont}
 use Rattle.cff.specs.Find.{workSize}
@@ -15,7 +16,7 @@ use Rattle.record.specs.Record.{rowsOf, recordFine}
 use Rattle.subset.specs.Kept.{keptOf, writtenOrder, usedFds}
 use Rattle.subset.specs.Pruned.{Pruned, pruned}
 use Rattle.subset.specs.Subset.{subsetBytes}
-use Rattle.subset.specs.Cut.{Outcome, refused, subset, allBelow, allFound, sameBool, ownOf, written, cutProgram, cutRead, cutOf}
+use Rattle.subset.specs.Cut.{Outcome, refused, subset, allFound, sameBool, ownOf, written, cutProgram, cutRead, cutOf}
 use Rattle.sheet.specs.Sheet.{keying}
 
 -- is this refusal 3, the other keying?

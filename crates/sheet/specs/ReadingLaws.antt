@@ -12,7 +12,7 @@ use lib.Dec.{ltb, leb, eqb}
 use lib.ListN.{length, take, drop, getD, set, length-append, length-drop}
 use lib.Seq.{slice, take-length, drop-cons, take-nil}
 use Rattle.octets.specs.Pick.{pick}
-use Rattle.octets.specs.PickLaws.{both-hold}
+use Rattle.octets.specs.PickLaws.{both-hold, pick-same}
 use Rattle.octets.specs.Octets.{be, numAt, Wrote}
 use Rattle.octets.specs.PutLaws.{put-one, wrote-as}
 use Rattle.hexlines.specs.Hexlines.{lineEnd, isHex, spelt}
@@ -99,11 +99,7 @@ left-none k l ls h = let m : 512 < k + length (l ∷ ls) = omega arith in rw (lt
 
 left-bad : (k : ℕ) (l : List ℕ) (ls : List (List ℕ)) → hexOf 20 l ≡ false → rowsLeft k (l ∷ ls) ≡ false
 unfolding allRows
-left-bad k l ls e = rw e (go (leb (k + length (l ∷ ls)) 512))
-  where
-    go : (t : Bool) → pick t false false ≡ false
-    go true = refl
-    go false = refl
+left-bad k l ls e = rw e (pick-same (leb (k + length (l ∷ ls)) 512) false)
 
 left-one : (k : ℕ) (l : List ℕ) (ls : List (List ℕ)) → hexOf 20 l ≡ true → rowsLeft (k + 1) ls ≡ rowsLeft k (l ∷ ls)
 unfolding allRows

@@ -11,11 +11,13 @@ use borrow.Author.Tests.{ltb-true, ltb-false, eqb-true}
 use lib.Dec.{ltb, eqb}
 use lib.ListN.{length, getD, length-map, List·getD-map}
 use Rattle.octets.specs.Pick.{pick-ind}
+use Rattle.octets.specs.Lists.{allBelow, before}
+use Rattle.octets.specs.ListLaws.{below-at}
 use Rattle.strings.specs.Table.{standardOrder}
 use Rattle.strings.specs.Text.{orderOf}
 use Rattle.strings.specs.TextLaws.{order-refl, order-trans}
 use Rattle.strings.specs.Strings.{standardString}
-use Rattle.strings.specs.TableTest.{isLess, ordered, allBelow, placeOf, hasAll, tableTests}
+use Rattle.strings.specs.TableTest.{isLess, ordered, hasAll, tableTests}
 use Rattle.strings.specs.TableLaws.{table-passes, and-left, and-right, every-at, order-length}
 use Rattle.strings.specs.declared.Order.{Order}
 use Rattle.strings.specs.declared.Order.the-variants.{Less, Same, More}
@@ -59,28 +61,22 @@ ordered-at (s ∷ ss) z e i zero h k = absurd (not-suc-le-zero h)
 ordered-at (s ∷ ss) z e zero (suc j) h k = ordered-head s ss z e j (le-of-suc-le-suc k)
 ordered-at (s ∷ ss) z e (suc i) (suc j) h k = ordered-at ss z (ordered-tail s ss e) i j (le-of-suc-le-suc h) (le-of-suc-le-suc k)
 
-below-at : (n : ℕ) (ks : List ℕ) → allBelow n ks ≡ true → (i : ℕ) → i < length ks → getD ks i 0 < n
-unfolding allBelow
-below-at n [] e i h = absurd (not-suc-le-zero h)
-below-at n (k ∷ ks) e zero h = ltb-true k n (and-left (ltb k n) (allBelow n ks) e)
-below-at n (k ∷ ks) e (suc i) h = below-at n ks (and-right (ltb k n) (allBelow n ks) e) i (le-of-suc-le-suc h)
-
-place-is : (k : ℕ) (ks : List ℕ) → placeOf k ks < length ks → getD ks (placeOf k ks) 0 ≡ k
-unfolding placeOf
+place-is : (k : ℕ) (ks : List ℕ) → before k ks < length ks → getD ks (before k ks) 0 ≡ k
+unfolding before
 place-is k [] h = absurd (not-suc-le-zero h)
 place-is k (j ∷ js) h =
-    pick-ind (λ p. p < length (j ∷ js) → getD (j ∷ js) p 0 ≡ k) (eqb j k) 0 (suc (placeOf k js))
+    pick-ind (λ p. p < length (j ∷ js) → getD (j ∷ js) p 0 ≡ k) (eqb j k) 0 (suc (before k js))
     (λ t g. eqb-true j k t)
     (λ t g. place-is k js (le-of-suc-le-suc g))
     h
 
-has-at : (n : ℕ) (ks : List ℕ) → hasAll n ks ≡ true → (k : ℕ) → k < n → placeOf k ks < length ks
+has-at : (n : ℕ) (ks : List ℕ) → hasAll n ks ≡ true → (k : ℕ) → k < n → before k ks < length ks
 unfolding hasAll
 has-at zero ks e k h = absurd (not-suc-le-zero h)
 has-at (suc n) ks e k h =
-    below-more (λ (j : ℕ). placeOf j ks < length ks) n
-    (has-at n ks (and-right (ltb (placeOf n ks) (length ks)) (hasAll n ks) e))
-    (ltb-true (placeOf n ks) (length ks) (and-left (ltb (placeOf n ks) (length ks)) (hasAll n ks) e))
+    below-more (λ (j : ℕ). before j ks < length ks) n
+    (has-at n ks (and-right (ltb (before n ks) (length ks)) (hasAll n ks) e))
+    (ltb-true (before n ks) (length ks) (and-left (ltb (before n ks) (length ks)) (hasAll n ks) e))
     k (rw add-one h)
 
 -- the i-th standard string in byte order
@@ -98,7 +94,7 @@ order-rises i j h k =
 
 -- where an id stands in that order
 unfoldable pub rankOf : ℕ → ℕ
-rankOf k = placeOf k standardOrder
+rankOf k = before k standardOrder
 
 module _ (k : ℕ) (h : k < 391) where
   pub rank-within : rankOf k < 391

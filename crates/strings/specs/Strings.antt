@@ -1,10 +1,11 @@
 -- String ids of TN5176, section 10: 0 to 390 name the standard strings of Appendix A, the ids above them the font's own strings
 -- in the order of its String INDEX. Document 01: ids above the font's strings name the empty string.
 use Prim.Native.Nat.{ℕ, suc, _-_}
-use mathlib.Core.List.{List, [], _∷_, _++_, map}
+use mathlib.Core.List.{List, [], _∷_, map}
 use lib.Dec.{ltb}
 use lib.ListN.{getD}
 use Rattle.octets.specs.Pick.{pick}
+use Rattle.octets.specs.Lists.{joined}
 use Rattle.strings.specs.Table.{standardNames}
 use Rattle.strings.specs.Text.{codes, sameText}
 use Rattle.strings.specs.declared.Sid.{Sid}
@@ -17,11 +18,6 @@ standardStrings = map codes standardNames
 -- the standard string of an id below 391
 unfoldable pub standardString : ℕ → List ℕ
 standardString k = getD standardStrings k []
-
--- texts one behind the other
-unfoldable pub joined : List (List ℕ) → List ℕ
-joined [] = []
-joined (s ∷ ss) = s ++ joined ss
 
 -- all standard strings one behind the other: the text that the code holds
 unfoldable pub standardText : List ℕ

@@ -10,17 +10,18 @@ use borrow.Author.Tests.{ltb-true}
 use lib.Dec.{ltb}
 use lib.ListN.{length, take, drop, getD, length-append, length-drop}
 use lib.Seq.{length-take-le, take-append-seam, drop-append-seam}
+use Rattle.octets.specs.Lists.{allBelow, joined, before}
 use Rattle.strings.specs.Table.{standardNames, standardOffsets, standardOrder}
 use Rattle.strings.specs.Text.{codes, sameText, orderOf}
 use Rattle.strings.specs.TextLaws.{same-true}
-use Rattle.strings.specs.Strings.{standardStrings, standardString, standardText, joined}
-use Rattle.strings.specs.TableTest.{rises, offsetsFrom, isLess, ordered, allBelow, placeOf, hasAll, every, tableTests}
+use Rattle.strings.specs.Strings.{standardStrings, standardString, standardText}
+use Rattle.strings.specs.TableTest.{rises, offsetsFrom, isLess, ordered, hasAll, every, tableTests}
 
 -- ---- the test, computed, and its parts
 
 pub table-passes : every tableTests ≡ true
 unfolding standardNames standardOffsets standardOrder codes sameText orderOf standardStrings standardString
-    rises offsetsFrom isLess ordered allBelow placeOf hasAll every tableTests
+    rises offsetsFrom isLess ordered allBelow before hasAll every tableTests
 table-passes = refl
 
 pub and-left : (a b : Bool) → (a && b) ≡ true → a ≡ true

@@ -4,9 +4,9 @@
 use Prim.Native.Nat.{ℕ, zero, suc, _+_}
 use mathlib.Core.Bool.{Bool, true, false, _&&_}
 use mathlib.Core.List.{List, [], _∷_, map}
-use lib.Dec.{ltb, eqb}
+use lib.Dec.{ltb}
 use lib.ListN.{length}
-use Rattle.octets.specs.Pick.{pick}
+use Rattle.octets.specs.Lists.{allBelow, before}
 use Rattle.strings.specs.Table.{standardOffsets, standardOrder}
 use Rattle.strings.specs.Text.{sameText, orderOf}
 use Rattle.strings.specs.Strings.{standardStrings, standardString}
@@ -36,20 +36,10 @@ ordered [] = true
 ordered (s ∷ []) = true
 ordered (s ∷ (t ∷ ss)) = isLess (orderOf s t) && ordered (t ∷ ss)
 
--- each number is below n
-unfoldable pub allBelow : ℕ → List ℕ → Bool
-allBelow n [] = true
-allBelow n (k ∷ ks) = ltb k n && allBelow n ks
-
--- where k stands in a list, and the list's length where it does not
-unfoldable pub placeOf : ℕ → List ℕ → ℕ
-placeOf k [] = 0
-placeOf k (j ∷ js) = pick (eqb j k) 0 (suc (placeOf k js))
-
 -- the list has each number below n
 unfoldable pub hasAll : ℕ → List ℕ → Bool
 hasAll zero ks = true
-hasAll (suc n) ks = ltb (placeOf n ks) (length ks) && hasAll n ks
+hasAll (suc n) ks = ltb (before n ks) (length ks) && hasAll n ks
 
 -- every test holds
 unfoldable pub every : List Bool → Bool

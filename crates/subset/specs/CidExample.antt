@@ -5,7 +5,8 @@ use mathlib.Core.Path.{_≡_, refl, ap, _∙_}
 use mathlib.Core.Bool.{true}
 use mathlib.Core.List.{List, [], _∷_}
 use Rattle.octets.specs.Octets.{be, numAt, bytesOf}
-use Rattle.index.specs.Write.{total, join, sizeFor, ends, tableBytes, headBytes, itemsBytes, indexBytes}
+use Rattle.octets.specs.Lists.{allBelow, joined}
+use Rattle.index.specs.Write.{total, sizeFor, ends, tableBytes, headBytes, itemsBytes, indexBytes}
 use Rattle.decimal.specs.Decimal.{zerosOf, zeros, stripped, normal}
 use Rattle.decimal.specs.Values.{truncOf}
 use Rattle.decimal.specs.Written.{int5Bytes, numberBytes, intBytes}
@@ -23,7 +24,7 @@ use Rattle.subset.specs.Kept.{isIn, those, placed, sortedBy, fdsOf, newF
 use Rattle.subset.specs.Pruned.{Pruned, pruned}
 use Rattle.subset.specs.Texts.{hasText, ownStrings, placeIn, newId, namedEntries, textsOf}
 use Rattle.subset.specs.Subset.{namedBytes, copiedBytes, privateParts, fontDicts, cidsOf, newFds, subsetByCid, subsetBytes}
-use Rattle.subset.specs.Cut.{Outcome, subset, allBelow, allFound, written, cutRead, cutOf}
+use Rattle.subset.specs.Cut.{Outcome, subset, allFound, written, cutRead, cutOf}
 use Rattle.subset.specs.CidFont.{cidFont, cidProgram, reads, reach, reach-rows, wrongReach, wrong-rows}
 use Rattle.subset.specs.BodiesExample.{used, order, renumberedBodies, unrenumberedBodies, bodies-renumbered, bodies-stubbed, bodies-copied}
 
@@ -106,7 +107,7 @@ unfolding
     subsetBytes subsetByCid newFds cidsOf fontDicts privateParts copiedBytes namedBytes textsOf namedEntries newId placeIn ownStrings hasText isIn those fdsOf newFd
     stringText standardString standardStrings sidOf sidIn codes sameText standardNames charsetBytes idBytes select.changes select.entryBytes select.fdSelectBytes
     opBytes operandsBytes entryBytes entriesBytes offsetEntry copiedEntry privateEntry without lastOf lastFrom truncOf normal stripped zeros zerosOf int5Bytes numberBytes intBytes
-    indexBytes itemsBytes headBytes tableBytes ends sizeFor join total bytesOf numAt be
+    indexBytes itemsBytes headBytes tableBytes ends sizeFor joined total bytesOf numAt be
 written-renumbered = refl
 
 -- and of the others, whatever the way and the byte
@@ -115,7 +116,7 @@ unfolding
     subsetBytes subsetByCid newFds cidsOf fontDicts privateParts copiedBytes namedBytes textsOf namedEntries newId placeIn ownStrings hasText isIn those fdsOf newFd
     stringText standardString standardStrings sidOf sidIn codes sameText standardNames charsetBytes idBytes select.changes select.entryBytes select.fdSelectBytes
     opBytes operandsBytes entryBytes entriesBytes offsetEntry copiedEntry privateEntry without lastOf lastFrom truncOf normal stripped zeros zerosOf int5Bytes numberBytes intBytes
-    indexBytes itemsBytes headBytes tableBytes ends sizeFor join total bytesOf numAt be
+    indexBytes itemsBytes headBytes tableBytes ends sizeFor joined total bytesOf numAt be
 written-unrenumbered way unreached = refl
 
 -- ---- the three ways

@@ -5,8 +5,9 @@ use Prim.Native.Nat.{ℕ}
 use mathlib.Core.Path.{_≡_, refl}
 use mathlib.Core.List.{List, [], _∷_, _++_}
 use Rattle.octets.specs.Octets.{be, numAt}
+use Rattle.octets.specs.Lists.{allBelow}
 use Rattle.index.specs.Index.{offsets, runOf, judged, dataAt, tableAt, indexAt, pieces, itemsOf, told, readIndex}
-use Rattle.decimal.specs.Decimal.{zerosOf, zeros, stripped, normal}
+use Rattle.decimal.specs.Decimal.{zerosOf, zeros, stripped, normal, whole}
 use Rattle.decimal.specs.Number.{numberAt, realAt}
 use Rattle.decimal.specs.Values.{truncOf}
 use Rattle.dict.specs.Dict.{tokenAt, operatorAt, entryFrom, entryAt, readingsFrom, readingsAt, gathered, dictOf}
@@ -17,8 +18,7 @@ use Rattle.charset.specs.Charset.{idsFrom, charsetAt}
 use Rattle.charset.specs.FdSelect as select
 use Rattle.unfold.specs.Unfold.{Row, local, global, entered, masked}
 use Rattle.record.specs.Record.{rowsFrom, rowsOf}
-use Rattle.cff.specs.Font.{got, Program, charset, charStrings, fdArray, fdSelect, readFont, setAt, fontsAt, fontAt, cidParts, fdsAt, idsAt, privatesAt, privateAt, privateData, localsAt}
-use Rattle.subset.specs.Subset.{numberOf}
+use Rattle.cff.specs.Font.{got, Program, charset, charStrings, fdArray, fdSelect, readFont, setAt, fontsAt, fontAt, cidParts, fdsAt, idsAt, privatesAt, privateAt, privateData, localsAt, emptyPrivate}
 
 -- the font's bytes
 abbrev pub cidFont : List ℕ
@@ -53,11 +53,11 @@ abbrev pub cidProgram : Program
 cidProgram =
     record {
       top =
-          (record { op = ros; operands = numberOf 391 ∷ numberOf 392 ∷ numberOf 0 ∷ [] })
-          ∷ (record { op = charset; operands = numberOf 60 ∷ [] })
-          ∷ (record { op = fdSelect; operands = numberOf 69 ∷ [] })
-          ∷ (record { op = charStrings; operands = numberOf 75 ∷ [] })
-          ∷ (record { op = fdArray; operands = numberOf 102 ∷ [] })
+          (record { op = ros; operands = whole 391 ∷ whole 392 ∷ whole 0 ∷ [] })
+          ∷ (record { op = charset; operands = whole 60 ∷ [] })
+          ∷ (record { op = fdSelect; operands = whole 69 ∷ [] })
+          ∷ (record { op = charStrings; operands = whole 75 ∷ [] })
+          ∷ (record { op = fdArray; operands = whole 102 ∷ [] })
           ∷ [];
       strings = (0x52 ∷ 0x67 ∷ []) ∷ (0x4f ∷ 0x72 ∷ []) ∷ [];
       globals = (0x0e ∷ []) ∷ (0x13 ∷ 0xff ∷ 0x0b ∷ []) ∷ [];
@@ -71,12 +71,12 @@ cidProgram =
       ids = 0 ∷ 5 ∷ 9 ∷ 3 ∷ 1 ∷ [];
       privates =
           (record {
-            entries = (record { op = subrs; operands = numberOf 2 ∷ [] }) ∷ [];
+            entries = (record { op = subrs; operands = whole 2 ∷ [] }) ∷ [];
             locals = (0x0e ∷ []) ∷ (0x21 ∷ 0x1d ∷ 0x0b ∷ []) ∷ [];
           })
-          ∷ (record { entries = []; locals = [] })
+          ∷ emptyPrivate
           ∷ (record {
-            entries = (record { op = 20; operands = numberOf 2 ∷ [] }) ∷ (record { op = subrs; operands = numberOf 4 ∷ [] }) ∷ [];
+            entries = (record { op = 20; operands = whole 2 ∷ [] }) ∷ (record { op = subrs; operands = whole 4 ∷ [] }) ∷ [];
             locals = (0x0e ∷ []) ∷ (0x8d ∷ 0x16 ∷ 0x13 ∷ 0xff ∷ 0x0b ∷ []) ∷ [];
           })
           ∷ [];
@@ -88,7 +88,7 @@ pub reads : readFont cidFont ≡ got cidProgram
 unfolding
     readFont setAt fontsAt fontAt cidParts fdsAt idsAt privatesAt privateAt privateData localsAt readIndex told itemsOf pieces indexAt tableAt dataAt judged runOf
     offsets numAt be dictOf gathered readingsAt readingsFrom entryAt entryFrom tokenAt operatorAt numberAt realAt normal stripped zeros zerosOf truncOf lastOf
-    lastFrom listOf idsFrom charsetAt select.fdSelectAt select.allBelow
+    lastFrom listOf idsFrom charsetAt select.fdSelectAt allBelow
 reads = refl
 
 -- the record of glyphs 0, 1, 3 and 4, as the Rust's trace gives it

@@ -7,6 +7,7 @@ use lib.Dec.{ltb, eqb}
 use lib.ListN.{length, drop, getD}
 use Rattle.octets.specs.Pick.{pick}
 use Rattle.octets.specs.Octets.{put}
+use Rattle.octets.specs.Lists.{allBelow}
 use Rattle.dict.specs.Lookup.{rosIn, cidKeyed}
 use Rattle.dict.specs.declared.RosIn.{RosIn}
 use Rattle.dict.specs.declared.RosIn.the-variants.{Ros, None}
@@ -26,10 +27,6 @@ pub data Outcome : Type 0 where
   subset : ℕ → List ℕ → Outcome
 
 -- ---- tests
-
-unfoldable pub allBelow : ℕ → List ℕ → Bool
-allBelow n [] = true
-allBelow n (g ∷ gs) = pick (ltb g n) (allBelow n gs) false
 
 -- finding gives glyph g
 abbrev pub isGlyph : ℕ → FoundAs → Bool

@@ -4,13 +4,14 @@ use mathlib.Core.Path.{_≡_, refl}
 use mathlib.Core.Bool.{false}
 use mathlib.Core.List.{List, [], _∷_}
 use Rattle.octets.specs.Octets.{be, numAt, bytesOf}
+use Rattle.octets.specs.Lists.{allBelow, joined}
 use Rattle.type2_number.specs.Number.{keep24, rounded}
 use Rattle.type2_number.specs.Number as t2
 use Rattle.type2_number.specs.Encoding as t2e
 use Rattle.charstring.specs.Token as tok
 use Rattle.charstring.specs.Encode.{encode}
 use Rattle.index.specs.Index.{offsets, runOf, judged, dataAt, tableAt, indexAt, pieces, itemsOf, told, readIndex}
-use Rattle.index.specs.Write.{total, join, sizeFor, ends, tableBytes, headBytes, itemsBytes, indexBytes}
+use Rattle.index.specs.Write.{total, sizeFor, ends, tableBytes, headBytes, itemsBytes, indexBytes}
 use Rattle.decimal.specs.Decimal.{zerosOf, zeros, stripped, normal}
 use Rattle.decimal.specs.Number as dec
 use Rattle.decimal.specs.Values.{truncOf}
@@ -32,7 +33,7 @@ use Rattle.subset.specs.Kept.{isIn, those, fdsOf}
 use Rattle.subset.specs.Pruned.{countBelow, each, renumberedBody, renumberedSubrs, renumbered, pruned}
 use Rattle.subset.specs.Texts.{hasText, ownStrings, placeIn, newId, namedEntries, textsOf, namesOf}
 use Rattle.subset.specs.Subset.{namedBytes, copiedBytes, newIds, subsetByName, subsetBytes}
-use Rattle.subset.specs.Cut.{subset, allBelow, allFound, cutOf}
+use Rattle.subset.specs.Cut.{subset, allFound, cutOf}
 
 abbrev sheet : List ℕ
 sheet =
@@ -49,7 +50,7 @@ unfolding
     cutOf allBelow allFound subsetBytes subsetByName newIds namedBytes copiedBytes namesOf textsOf namedEntries newId placeIn ownStrings hasText pruned renumbered
     renumberedSubrs renumberedBody each countBelow those isIn fdsOf recordFine rowsFine rowsOf rowsFrom lists givenIn twoLengths disagrees renumberCharstring renumber
     glyphWithText stringText standardString standardStrings sidOf sidIn codes sameText standardNames charsetBytes idBytes listOf opBytes operandsBytes entriesBytes offsetEntry copiedEntry privateEntry without lastOf lastFrom truncOf
-    normal stripped zeros zerosOf indexBytes itemsBytes headBytes tableBytes ends sizeFor join total readIndex told itemsOf pieces indexAt tableAt dataAt judged runOf
+    normal stripped zeros zerosOf indexBytes itemsBytes headBytes tableBytes ends sizeFor joined total readIndex told itemsOf pieces indexAt tableAt dataAt judged runOf
     offsets encode bytesOf numAt be keep24 rounded t2.numberAt t2e.numberBytes t2e.integerBytes t2e.fixedBytes tok.tokensOf tok.tokensFrom tok.tokenAt dec.numberAt dec.realAt
     decw.int5Bytes decw.numberBytes decw.intBytes dict.dictOf dict.gathered dict.readingsAt dict.readingsFrom dict.entryAt dict.entryFrom dict.operatorAt dict.tokenAt
     font.readFont font.setAt font.fontsAt font.fontAt font.nameParts font.privateAt font.idsAt font.encodingGot cfffind.localsTotal

@@ -7,13 +7,14 @@ use mathlib.Core.Bool.{true, false}
 use mathlib.Core.List.{List, [], _∷_}
 use native.Mathlib.Omega.{arith}
 use Rattle.octets.specs.Octets.{be, numAt, bytesOf}
+use Rattle.octets.specs.Lists.{allBelow, joined}
 use Rattle.type2_number.specs.Number as t2
 use Rattle.type2_number.specs.Encoding as t2e
 use Rattle.charstring.specs.Token as tok
 use Rattle.charstring.specs.Encode.{encode}
 use Rattle.index.specs.Index.{offsets, runOf, judged, dataAt, tableAt, indexAt, pieces, itemsOf, told, readIndex}
-use Rattle.index.specs.Write.{total, join, sizeFor, ends, tableBytes, headBytes, itemsBytes, indexBytes}
-use Rattle.decimal.specs.Decimal.{zerosOf, zeros, stripped, normal}
+use Rattle.index.specs.Write.{total, sizeFor, ends, tableBytes, headBytes, itemsBytes, indexBytes}
+use Rattle.decimal.specs.Decimal.{zerosOf, zeros, stripped, normal, whole}
 use Rattle.decimal.specs.Number.{numberAt, realAt}
 use Rattle.decimal.specs.Values.{truncOf}
 use Rattle.decimal.specs.Written.{int5Bytes, numberBytes, intBytes}
@@ -36,8 +37,8 @@ use Rattle.cff.specs.Find.{localsTotal}
 use Rattle.subset.specs.Kept.{isIn, those, fdsOf}
 use Rattle.subset.specs.Pruned.{Bodies, Pruned, countBelow, reached, localSet, each, renumberedBody, renumberedSubrs, renumbered, pruned}
 use Rattle.subset.specs.Texts.{hasText, ownStrings, placeIn, newId, namedEntries, textsOf, namesOf}
-use Rattle.subset.specs.Subset.{numberOf, namedBytes, copiedBytes, newIds, subsetByName, subsetBytes}
-use Rattle.subset.specs.Cut.{Outcome, subset, allBelow, allFound, written, cutRead, cutOf}
+use Rattle.subset.specs.Subset.{namedBytes, copiedBytes, newIds, subsetByName, subsetBytes}
+use Rattle.subset.specs.Cut.{Outcome, subset, allFound, written, cutRead, cutOf}
 use Rattle.subset.specs.ReachedLaws.{numbersBelow, lists-past, count-past}
 
 -- the font's bytes
@@ -66,10 +67,10 @@ abbrev nameProgram : Program
 nameProgram =
     record {
       top =
-          (record { op = 2; operands = numberOf 392 ∷ [] })
-          ∷ (record { op = charset; operands = numberOf 42 ∷ [] })
-          ∷ (record { op = charStrings; operands = numberOf 47 ∷ [] })
-          ∷ (record { op = private; operands = numberOf 4 ∷ numberOf 61 ∷ [] })
+          (record { op = 2; operands = whole 392 ∷ [] })
+          ∷ (record { op = charset; operands = whole 42 ∷ [] })
+          ∷ (record { op = charStrings; operands = whole 47 ∷ [] })
+          ∷ (record { op = private; operands = whole 4 ∷ whole 61 ∷ [] })
           ∷ [];
       strings = (0x41 ∷ []) ∷ (0x51 ∷ 0x78 ∷ []) ∷ [];
       globals = [];
@@ -77,7 +78,7 @@ nameProgram =
       ids = 0 ∷ 391 ∷ 392 ∷ [];
       privates =
           (record {
-            entries = (record { op = 20; operands = numberOf 2 ∷ [] }) ∷ (record { op = subrs; operands = numberOf 4 ∷ [] }) ∷ [];
+            entries = (record { op = 20; operands = whole 2 ∷ [] }) ∷ (record { op = subrs; operands = whole 4 ∷ [] }) ∷ [];
             locals = (0x0b ∷ []) ∷ (0x8d ∷ 0x16 ∷ 0x0b ∷ []) ∷ (0x0b ∷ []) ∷ (0x21 ∷ 0x0a ∷ 0x0b ∷ []) ∷ [];
           })
           ∷ [];
@@ -198,7 +199,7 @@ written-renumbered : writtenOf (record { way = 0; bodies = renumberedBodies }) �
 unfolding
     subsetBytes subsetByName newIds copiedBytes namedBytes namesOf textsOf namedEntries newId placeIn ownStrings hasText stringText standardString standardStrings sidOf
     sidIn codes sameText standardNames charsetBytes idBytes opBytes operandsBytes entryBytes entriesBytes offsetEntry copiedEntry privateEntry without lastOf lastFrom truncOf normal
-    stripped zeros zerosOf int5Bytes numberBytes intBytes indexBytes itemsBytes headBytes tableBytes ends sizeFor join total bytesOf numAt be
+    stripped zeros zerosOf int5Bytes numberBytes intBytes indexBytes itemsBytes headBytes tableBytes ends sizeFor joined total bytesOf numAt be
 written-renumbered = refl
 
 -- the whole call

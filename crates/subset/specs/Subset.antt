@@ -2,13 +2,11 @@
 -- for CID FDSelect, charstrings, for CID the FD INDEX, then each Private with its local subroutines. Offsets have the five-byte form, so
 -- that the top DICT's length does not depend on them.
 use Prim.Native.Nat.{ℕ, _+_}
-use mathlib.Core.Bool.{false}
 use mathlib.Core.List.{List, [], _∷_, _++_}
 use lib.Dec.{eqb}
 use lib.ListN.{length, getD}
 use Rattle.octets.specs.Pick.{pick}
-use Rattle.decimal.specs.declared.Decimal.{Decimal}
-use Rattle.decimal.specs.Decimal.{normal}
+use Rattle.decimal.specs.Decimal.{normal, whole}
 use Rattle.dict.specs.Op.{subrs, ros, cidCount, copiedTopEntries, copiedTopStrings}
 use Rattle.dict.specs.Dict.{Entry}
 use Rattle.dict.specs.Lookup.{Operands, absent, operands, lastOf, rosIn, cidCountIn, cidKeyed}
@@ -26,12 +24,9 @@ use Rattle.subset.specs.Pruned.{Bodies}
 
 -- ---- entries of the top DICT
 
-abbrev pub numberOf : ℕ → Decimal
-numberOf n = normal false n 0 0
-
 unfoldable pub namedBytes : List (List ℕ) → List Named → List ℕ
 namedBytes own [] = []
-namedBytes own (n ∷ ns) = entryBytes (n .op) (numberOf (newId own (n .text)) ∷ []) ++ namedBytes own ns
+namedBytes own (n ∷ ns) = entryBytes (n .op) (whole (newId own (n .text)) ∷ []) ++ namedBytes own ns
 
 -- the last entry of each of these operators that is there, as it is
 unfoldable pub copiedBytes : List Entry → List ℕ → List ℕ
@@ -41,7 +36,7 @@ copiedBytes es (op ∷ ops) = copiedEntry op (lastOf op es) ++ copiedBytes es op
 abbrev pub rosEntry : Program → List (List ℕ) → RosIn → List ℕ
 rosEntry p own None = []
 rosEntry p own (Ros registry ordering s) =
-    entryBytes ros (numberOf (newId own (stringText (p .strings) registry)) ∷ numberOf (newId own (stringText (p .strings) ordering)) ∷ normal (s .neg) (s .size) 0 0 ∷ [])
+    entryBytes ros (whole (newId own (stringText (p .strings) registry)) ∷ whole (newId own (stringText (p .strings) ordering)) ∷ normal (s .neg) (s .size) 0 0 ∷ [])
 
 abbrev pub rosTexts : Program → RosIn → List (List ℕ)
 rosTexts p None = []
@@ -114,7 +109,7 @@ ownByCid p = ownStrings [] (rosTexts p (rosIn (p .top)) ++ textsOf (named p))
 abbrev pub topByCid : Program → List (List ℕ) → ℕ → ℕ → ℕ → ℕ → List ℕ
 topByCid p own at₁ at₂ at₃ at₄ =
     rosEntry p own (rosIn (p .top)) ++ (namedBytes own (named p) ++ (copiedBytes (p .top) copiedTopEntries
-    ++ (entryBytes cidCount (numberOf (cidCountIn (p .top)) ∷ [])
+    ++ (entryBytes cidCount (whole (cidCountIn (p .top)) ∷ [])
     ++ (offsetEntry charset at₁ ++ (offsetEntry fdSelect at₂ ++ (offsetEntry charStrings at₃ ++ offsetEntry fdArray at₄))))))
 
 -- the CIDs of glyphs, and their FDs by the new numbers

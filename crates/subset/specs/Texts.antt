@@ -67,3 +67,8 @@ nameOf p g = stringText (p .strings) (getD (p .ids) g 0)
 unfoldable pub namesOf : Program → List ℕ → List (List ℕ)
 namesOf p [] = []
 namesOf p (g ∷ gs) = nameOf p g ∷ namesOf p gs
+
+-- a string id as the work words hold it: 65536, which is no string id, where there is none
+abbrev pub slotOf : IdOf → ℕ
+slotOf Absent = 65536
+slotOf (Id sid) = sid

@@ -122,3 +122,9 @@ pub ids-length : (own ts : List (List ℕ)) → length (newIds own ts) ≡ lengt
 unfolding newIds
 ids-length own [] = refl
 ids-length own (t ∷ ts) = ap suc (ids-length own ts)
+
+-- each glyph has a name
+pub names-length : (p : Program) (order : List ℕ) → length (namesOf p order) ≡ length order
+unfolding namesOf
+names-length p [] = refl
+names-length p (g ∷ gs) = ap suc (names-length p gs)

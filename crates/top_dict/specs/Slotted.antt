@@ -9,7 +9,7 @@ use lib.ListN.{length, getD}
 use Rattle.decimal.specs.declared.Signed.{Signed}
 use Rattle.decimal.specs.declared.IdOf.{IdOf}
 use Rattle.decimal.specs.declared.IdOf.the-variants.{Id, Absent}
-use Rattle.decimal.specs.Decimal.{normal}
+use Rattle.decimal.specs.Decimal.{normal, whole}
 use Rattle.decimal.specs.Written.{numberBytes}
 use Rattle.dict.specs.Op.{ros, cidCount, copiedTopEntries, copiedTopStrings}
 use Rattle.dict.specs.Lookup.{oneOf, idIn, rosIn, cidCountIn}
@@ -19,15 +19,10 @@ use Rattle.dict.specs.declared.RosIn.the-variants.{Ros, None}
 use Rattle.dict_write.specs.Written.{opBytes, operandsBytes, entryBytes, offsetEntry, privateEntry}
 use Rattle.strings.specs.Strings.{stringText}
 use Rattle.cff.specs.Font.{Program, charset, charStrings, fdArray, fdSelect}
-use Rattle.subset.specs.Texts.{Named, namedBy, namedEntries, newId}
-use Rattle.subset.specs.Subset.{numberOf, namedBytes, named, copiedBytes, rosEntry, topByName, topByCid}
+use Rattle.subset.specs.Texts.{Named, namedBy, namedEntries, newId, slotOf}
+use Rattle.subset.specs.Subset.{namedBytes, named, copiedBytes, rosEntry, topByName, topByCid}
 use Rattle.top_dict.specs.Top.{valueEntry, slotEntry, slotEntries, stringEntries, idsBytes, rosOf, carried, namedOffsets, glyphOffsets, cidOffsets, topNamed, cidFront, topCid}
 use Rattle.top_dict.specs.TopLaws.{slot-there, slot-none}
-
--- the slot of a string id
-abbrev pub slotOf : IdOf → ℕ
-slotOf Absent = 65536
-slotOf (Id sid) = sid
 
 -- the slots hold the six string ids, and the new ids of those that are there; in a CID-keyed font those of registry and ordering too
 pub record Slotted (p : Program) (cid : Bool) (own : List (List ℕ)) (slots : List ℕ) : Type 0 where
@@ -72,8 +67,8 @@ module _ (p : Program) (own : List (List ℕ)) (slots : List ℕ) where
   -- ---- ROS
 
   ros-bytes : (a b : ℕ) (s : Signed)
-      → (numberBytes (numberOf a) ++ numberBytes (numberOf b)) ++ (numberBytes (normal (s .neg) (s .size) 0 0) ++ opBytes ros)
-      ≡ entryBytes ros (numberOf a ∷ numberOf b ∷ normal (s .neg) (s .size) 0 0 ∷ [])
+      → (numberBytes (whole a) ++ numberBytes (whole b)) ++ (numberBytes (normal (s .neg) (s .size) 0 0) ++ opBytes ros)
+      ≡ entryBytes ros (whole a ∷ whole b ∷ normal (s .neg) (s .size) 0 0 ∷ [])
   unfolding entryBytes operandsBytes
   ros-bytes a b s = simp (append-assoc, append-nil)
 
@@ -83,8 +78,8 @@ module _ (p : Program) (own : List (List ℕ)) (slots : List ℕ) where
   ros-named None f g = refl
   ros-named (Ros r o s) f g =
       ros-bytes (getD slots 8 0) (getD slots 9 0) s
-      ∙ ap (λ (n : ℕ). entryBytes ros (numberOf n ∷ numberOf (getD slots 9 0) ∷ normal (s .neg) (s .size) 0 0 ∷ [])) (f r o s refl)
-      ∙ ap (λ (n : ℕ). entryBytes ros (numberOf (newId own (stringText (p .strings) r)) ∷ numberOf n ∷ normal (s .neg) (s .size) 0 0 ∷ [])) (g r o s refl)
+      ∙ ap (λ (n : ℕ). entryBytes ros (whole n ∷ whole (getD slots 9 0) ∷ normal (s .neg) (s .size) 0 0 ∷ [])) (f r o s refl)
+      ∙ ap (λ (n : ℕ). entryBytes ros (whole (newId own (stringText (p .strings) r)) ∷ whole n ∷ normal (s .neg) (s .size) 0 0 ∷ [])) (g r o s refl)
 
   -- ---- the top DICT
 
@@ -107,5 +102,5 @@ module _ (p : Program) (own : List (List ℕ)) (slots : List ℕ) where
     where
       behind : List ℕ
       behind =
-          copiedBytes (p .top) copiedTopEntries ++ (entryBytes cidCount (numberOf (cidCountIn (p .top)) ∷ [])
+          copiedBytes (p .top) copiedTopEntries ++ (entryBytes cidCount (whole (cidCountIn (p .top)) ∷ [])
           ++ (offsetEntry charset at₁ ++ (offsetEntry fdSelect at₂ ++ (offsetEntry charStrings at₃ ++ offsetEntry fdArray at₄))))

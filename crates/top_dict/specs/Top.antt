@@ -8,7 +8,7 @@ use lib.Dec.{ltb}
 use lib.ListN.{length, getD}
 use Rattle.octets.specs.Pick.{pick}
 use Rattle.octets.specs.Octets.{bytesOf}
-use Rattle.decimal.specs.Decimal.{normal}
+use Rattle.decimal.specs.Decimal.{normal, whole}
 use Rattle.decimal.specs.Written.{numberBytes}
 use Rattle.dict.specs.Op.{ros, cidCount, copiedTopEntries, copiedTopStrings}
 use Rattle.dict.specs.Dict.{Entry}
@@ -18,7 +18,7 @@ use Rattle.dict.specs.declared.RosIn.the-variants.{Ros, None}
 use Rattle.dict_write.specs.Written.{opBytes, entryBytes, offsetEntry, privateEntry}
 use Rattle.index.specs.Write.{sizeFor, headBytes}
 use Rattle.cff.specs.Font.{charset, charStrings, fdArray, fdSelect}
-use Rattle.subset.specs.Subset.{numberOf, copiedBytes}
+use Rattle.subset.specs.Subset.{copiedBytes}
 
 -- sixteen slots whose new ids are string ids
 pub record Filled (slots : List ℕ) : Type 0 where
@@ -34,7 +34,7 @@ pub record Offsets (a b c d : ℕ) : Type 0 where
 
 -- an entry of one number
 abbrev pub valueEntry : ℕ → ℕ → List ℕ
-valueEntry op n = entryBytes op (numberOf n ∷ [])
+valueEntry op n = entryBytes op (whole n ∷ [])
 
 -- the string entry of slot j, where there is one
 unfoldable pub slotEntry : List ℕ → ℕ → ℕ → List ℕ
@@ -51,7 +51,7 @@ stringEntries slots = slotEntries slots 2 copiedTopStrings
 
 -- the new ids of registry and ordering
 unfoldable pub idsBytes : List ℕ → List ℕ
-idsBytes slots = numberBytes (numberOf (getD slots 8 0)) ++ numberBytes (numberOf (getD slots 9 0))
+idsBytes slots = numberBytes (whole (getD slots 8 0)) ++ numberBytes (whole (getD slots 9 0))
 
 -- ROS: them and the supplement
 unfoldable pub rosOf : List ℕ → RosIn → List ℕ

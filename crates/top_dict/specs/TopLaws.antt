@@ -12,7 +12,7 @@ use lib.Seq.{drop-cons}
 use Rattle.octets.specs.Pick.{pick}
 use Rattle.octets.specs.Octets.{Octets}
 use Rattle.decimal.specs.declared.Signed.{Signed}
-use Rattle.decimal.specs.Decimal.{normal}
+use Rattle.decimal.specs.Decimal.{normal, whole}
 use Rattle.decimal.specs.Values.{truncOf, i32Of}
 use Rattle.decimal.specs.Written.{numberBytes}
 use Rattle.decimal.specs.TakenLaws.{whole-normal}
@@ -29,7 +29,7 @@ use Rattle.dict.specs.declared.RosIn.the-variants.{Ros, None}
 use Rattle.dict_write.specs.Written.{opBytes, copiedEntry}
 use Rattle.dict_write.specs.WriteLaws.{offset-length, private-length, copied-absent, copied-found}
 use Rattle.dict_write.specs.ShortLaws.{number-short, entry-short}
-use Rattle.subset.specs.Subset.{numberOf, copiedBytes}
+use Rattle.subset.specs.Subset.{copiedBytes}
 use Rattle.top_dict.specs.Top.{Filled, valueEntry, slotEntry, slotEntries, idsBytes, rosOf, carried, namedOffsets, glyphOffsets, cidOffsets, topNamed, cidFront, topCid, topLen}
 use Rattle.top_dict.specs.Writing.{Split, split-append, split-length}
 use Rattle.top_dict.specs.TopParts.{ids-parts}
@@ -149,8 +149,8 @@ module _ (slots : List ℕ) (es : List Entry) (r : RosIn) (e : r ≡ rosIn es) w
   unfolding rosOf
   ros-there registry ordering s f = record { is = sym (ap (rosOf slots) (sym f ∙ e)) }
 
-  pub ros-length : (registry ordering : ℕ) (s : Signed) → r ≡ Ros registry ordering s → (a b n : ℕ) → a ≡ length (numberBytes (numberOf (getD slots 8 0)))
-      → b ≡ length (numberBytes (numberOf (getD slots 9 0))) → n ≡ length (numberBytes (normal (s .neg) (s .size) 0 0)) → a + b + n + 2 ≡ length (rosOf slots (rosIn es))
+  pub ros-length : (registry ordering : ℕ) (s : Signed) → r ≡ Ros registry ordering s → (a b n : ℕ) → a ≡ length (numberBytes (whole (getD slots 8 0)))
+      → b ≡ length (numberBytes (whole (getD slots 9 0))) → n ≡ length (numberBytes (normal (s .neg) (s .size) 0 0)) → a + b + n + 2 ≡ length (rosOf slots (rosIn es))
   unfolding opBytes
   ros-length registry ordering s f a b n i j k =
       omega (

@@ -11,26 +11,27 @@ use Rattle.dict.specs.Lookup.{rosIn, cidCountIn}
 use Rattle.dict_write.specs.Written.{opBytes, operandsBytes, entryBytes, offsetEntry, privateEntry}
 use Rattle.index.specs.Write.{sizeFor, headBytes, indexBytes}
 use Rattle.index.specs.WriteLaws.{index-single}
+use Rattle.decimal.specs.Decimal.{whole}
 use Rattle.cff.specs.Font.{charset, charStrings, fdArray, fdSelect}
-use Rattle.subset.specs.Subset.{numberOf, copiedBytes}
+use Rattle.subset.specs.Subset.{copiedBytes}
 use Rattle.top_dict.specs.Top.{valueEntry, stringEntries, idsBytes, rosOf, carried, namedOffsets, glyphOffsets, cidOffsets, topNamed, cidFront, topCid, singleHead}
 use Rattle.top_dict.specs.Writing.{Split, split-append}
 
 -- ---- an entry of one number
 
-pub value-bytes : (op n : ℕ) → valueEntry op n ≡ numberBytes (numberOf n) ++ opBytes op
+pub value-bytes : (op n : ℕ) → valueEntry op n ≡ numberBytes (whole n) ++ opBytes op
 unfolding entryBytes operandsBytes
-value-bytes op n = ap (λ (l : List ℕ). l ++ opBytes op) (append-nil (numberBytes (numberOf n)))
+value-bytes op n = ap (λ (l : List ℕ). l ++ opBytes op) (append-nil (numberBytes (whole n)))
 
-pub value-length : (op n : ℕ) → length (valueEntry op n) ≡ length (numberBytes (numberOf n)) + length (opBytes op)
-value-length op n = ap length (value-bytes op n) ∙ length-append (numberBytes (numberOf n)) (opBytes op)
+pub value-length : (op n : ℕ) → length (valueEntry op n) ≡ length (numberBytes (whole n)) + length (opBytes op)
+value-length op n = ap length (value-bytes op n) ∙ length-append (numberBytes (whole n)) (opBytes op)
 
 -- ---- the parts of each group, one behind the other
 
-pub value-parts : (op n : ℕ) → Split (valueEntry op n) (numberBytes (numberOf n)) (opBytes op)
+pub value-parts : (op n : ℕ) → Split (valueEntry op n) (numberBytes (whole n)) (opBytes op)
 value-parts op n = record { is = value-bytes op n }
 
-pub ids-parts : (slots : List ℕ) → Split (idsBytes slots) (numberBytes (numberOf (getD slots 8 0))) (numberBytes (numberOf (getD slots 9 0)))
+pub ids-parts : (slots : List ℕ) → Split (idsBytes slots) (numberBytes (whole (getD slots 8 0))) (numberBytes (whole (getD slots 9 0)))
 unfolding idsBytes
 ids-parts slots = record { is = refl }
 

@@ -4,16 +4,16 @@ use mathlib.Core.Logic.{_⊎_, inl, inr}
 use mathlib.Core.List.{List, [], _∷_, _++_}
 use mathlib.Core.Bool.{Bool, true, false}
 use Prim.Native.Nat.{ℕ, zero, suc, _+_, _-_, _*_, _/_, _%_, _≤_, _<_, min}
-use native.Mathlib.Nat.{add-zero, mod-lt}
+use native.Mathlib.Nat.{mod-lt}
 use native.Mathlib.Decide.{decLt, decLe}
 use native.Mathlib.Omega.{arith}
 use lib.Dec.{ltb, leb, eqb, lit<}
 use lib.IntN.{ℤ, pos, negsuc, negℤ}
-use lib.ListN.{length, drop, getD, length-drop}
-use lib.Seq.{getD-drop}
+use lib.ListN.{length, drop, getD}
 use borrow.Author.Tests.{lt-ltb, le-ltb, lt-leb, le-leb}
 use Rattle.octets.specs.Pick.{pick}
 use Rattle.octets.specs.Octets.{bytesOf}
+use Rattle.octets.specs.ListLaws.{lies-at, lies-first, lies-length}
 use Rattle.type2_number.specs.Number.{diff, mag, isNeg, keep24, rounded, whole, fixed, sixteen, Read, cut, number, taken, numberAt, Reading}
 use Rattle.type2_number.specs.Encoding.{integerBytes, fixedBytes, numberBytes, encoded}
 use Rattle.type2_number.specs.NumberLaws.{long, form-28, form-1, form-up, form-down, form-ff}
@@ -33,29 +33,18 @@ four-bytes : (v : ℕ) → bytesOf 4 v ≡ (v / 256 / 256 / 256 % 256) ∷ (v / 
 unfolding bytesOf
 four-bytes v = refl
 
--- what stands at a place, by the bytes that lie there
-module _ (b : List ℕ) (at : ℕ) (l : List ℕ) (lies : drop at b ≡ l) where
-  byte : (i : ℕ) → getD b (at + i) 0 ≡ getD l i 0
-  byte i = sym (getD-drop at b i 0) ∙ ap (λ (k : List ℕ). getD k i 0) lies
-
-  first : getD b at 0 ≡ getD l 0 0
-  first = ap (λ (k : ℕ). getD b k 0) (sym (add-zero at)) ∙ byte 0
-
-  left : length b - at ≡ length l
-  left = sym (length-drop at b) ∙ ap length lies
-
 module _ (b : List ℕ) (at : ℕ) (post : List ℕ) where
   back-one : (v : ℕ) (z : ℤ) → 32 ≤ v → v < 247 → drop at b ≡ v ∷ post → whole v 139 ≡ z → rounded z ≡ z → numberAt b at ≡ number z (at + 1)
   back-one v z h k lies e r =
-      let f : getD b at 0 ≡ v = first b at _ lies in
+      let f : getD b at 0 ≡ v = lies-first b at _ lies in
       form-1 b at (omega arith) (omega arith) ∙ ap (λ (x : ℤ). number (rounded x) (at + 1)) (ap (λ (w : ℕ). whole w 139) f ∙ e) ∙ ap (λ (x : ℤ). number x (at + 1)) r
 
   back-up : (v w : ℕ) (z : ℤ) → 247 ≤ v → v < 251 → drop at b ≡ v ∷ w ∷ post → whole ((v - 247) * 256 + w + 108) 0 ≡ z → rounded z ≡ z
       → numberAt b at ≡ number z (at + 2)
   back-up v w z h k lies e r =
-      let f : getD b at 0 ≡ v = first b at _ lies in
-      let g : getD b (at + 1) 0 ≡ w = byte b at _ lies 1 in
-      let n : 2 ≤ length b - at = omega (arith, left b at _ lies) in
+      let f : getD b at 0 ≡ v = lies-first b at _ lies in
+      let g : getD b (at + 1) 0 ≡ w = lies-at b at _ lies 1 in
+      let n : 2 ≤ length b - at = omega (arith, lies-length b at _ lies) in
       form-up b at (omega arith) (omega arith) ∙ long b at 2 _ n
       ∙ ap (λ (x : ℤ). number (rounded x) (at + 2)) (ap (λ (x : ℕ). whole ((x - 247) * 256 + getD b (at + 1) 0 + 108) 0) f ∙ ap (λ (x : ℕ). whole ((v - 247) * 256 + x + 108) 0) g ∙ e)
       ∙ ap (λ (x : ℤ). number x (at + 2)) r
@@ -63,9 +52,9 @@ module _ (b : List ℕ) (at : ℕ) (post : List ℕ) where
   back-down : (v w : ℕ) (z : ℤ) → 251 ≤ v → v < 255 → drop at b ≡ v ∷ w ∷ post → whole 0 ((v - 251) * 256 + w + 108) ≡ z → rounded z ≡ z
       → numberAt b at ≡ number z (at + 2)
   back-down v w z h k lies e r =
-      let f : getD b at 0 ≡ v = first b at _ lies in
-      let g : getD b (at + 1) 0 ≡ w = byte b at _ lies 1 in
-      let n : 2 ≤ length b - at = omega (arith, left b at _ lies) in
+      let f : getD b at 0 ≡ v = lies-first b at _ lies in
+      let g : getD b (at + 1) 0 ≡ w = lies-at b at _ lies 1 in
+      let n : 2 ≤ length b - at = omega (arith, lies-length b at _ lies) in
       form-down b at (omega arith) (omega arith) ∙ long b at 2 _ n
       ∙ ap (λ (x : ℤ). number (rounded x) (at + 2)) (ap (λ (x : ℕ). whole 0 ((x - 251) * 256 + getD b (at + 1) 0 + 108)) f ∙ ap (λ (x : ℕ). whole 0 ((v - 251) * 256 + x + 108)) g ∙ e)
       ∙ ap (λ (x : ℤ). number x (at + 2)) r
@@ -73,10 +62,10 @@ module _ (b : List ℕ) (at : ℕ) (post : List ℕ) where
   back-28 : (v : ℕ) (z : ℤ) → v < 65536 → drop at b ≡ 28 ∷ (bytesOf 2 v ++ post) → sixteen v ≡ z → rounded z ≡ z → numberAt b at ≡ number z (at + 3)
   back-28 v z h lies e r =
       let lies' : drop at b ≡ 28 ∷ (v / 256 % 256) ∷ (v % 256) ∷ post = lies ∙ ap (λ (l : List ℕ). 28 ∷ (l ++ post)) (two-bytes v) in
-      let f : getD b at 0 ≡ 28 = first b at _ lies' in
-      let g : getD b (at + 1) 0 ≡ v / 256 % 256 = byte b at _ lies' 1 in
-      let k : getD b (at + 2) 0 ≡ v % 256 = byte b at _ lies' 2 in
-      let n : 3 ≤ length b - at = omega (arith, left b at _ lies') in
+      let f : getD b at 0 ≡ 28 = lies-first b at _ lies' in
+      let g : getD b (at + 1) 0 ≡ v / 256 % 256 = lies-at b at _ lies' 1 in
+      let k : getD b (at + 2) 0 ≡ v % 256 = lies-at b at _ lies' 2 in
+      let n : 3 ≤ length b - at = omega (arith, lies-length b at _ lies') in
       let m : getD b (at + 1) 0 * 256 + getD b (at + 2) 0 ≡ v = omega arith in
       form-28 b at f ∙ long b at 3 _ n ∙ ap (λ (x : ℤ). number (rounded x) (at + 3)) (ap sixteen m ∙ e) ∙ ap (λ (x : ℤ). number x (at + 3)) r
 
@@ -85,12 +74,12 @@ module _ (b : List ℕ) (at : ℕ) (post : List ℕ) where
   back-ff v y z h lies e r =
       let lies' : drop at b ≡ 255 ∷ (v / 256 / 256 / 256 % 256) ∷ (v / 256 / 256 % 256) ∷ (v / 256 % 256) ∷ (v % 256) ∷ post
       = lies ∙ ap (λ (l : List ℕ). 255 ∷ (l ++ post)) (four-bytes v) in
-      let f : getD b at 0 ≡ 255 = first b at _ lies' in
-      let b1 : getD b (at + 1) 0 ≡ v / 256 / 256 / 256 % 256 = byte b at _ lies' 1 in
-      let b2 : getD b (at + 2) 0 ≡ v / 256 / 256 % 256 = byte b at _ lies' 2 in
-      let b3 : getD b (at + 3) 0 ≡ v / 256 % 256 = byte b at _ lies' 3 in
-      let b4 : getD b (at + 4) 0 ≡ v % 256 = byte b at _ lies' 4 in
-      let n : 5 ≤ length b - at = omega (arith, left b at _ lies') in
+      let f : getD b at 0 ≡ 255 = lies-first b at _ lies' in
+      let b1 : getD b (at + 1) 0 ≡ v / 256 / 256 / 256 % 256 = lies-at b at _ lies' 1 in
+      let b2 : getD b (at + 2) 0 ≡ v / 256 / 256 % 256 = lies-at b at _ lies' 2 in
+      let b3 : getD b (at + 3) 0 ≡ v / 256 % 256 = lies-at b at _ lies' 3 in
+      let b4 : getD b (at + 4) 0 ≡ v % 256 = lies-at b at _ lies' 4 in
+      let n : 5 ≤ length b - at = omega (arith, lies-length b at _ lies') in
       let hi : getD b (at + 1) 0 * 256 + getD b (at + 2) 0 ≡ v / 65536 = omega arith in
       let lo : getD b (at + 3) 0 * 256 + getD b (at + 4) 0 ≡ v % 65536 = omega arith in
       form-ff b at (omega arith) ∙ long b at 5 _ n

@@ -9,6 +9,7 @@ use lib.ListN.{length, take, drop, getD}
 use Rattle.octets.specs.Pick.{pick}
 use Rattle.type2_number.specs.Number.{Read, cut, operator, number as aNumber, numberAt}
 use Rattle.charstring.specs.Bias.{biasOf}
+use Rattle.charstring.specs.Token.{isMask}
 
 -- a token that is left: a number by its reading, an operator, an escape, or a mask, 19 or 20 with its bytes
 pub data Tok : Type 0 where
@@ -101,14 +102,11 @@ after broken go = broken
 after (returned st) go = go st
 after (ended st) go = ended st
 
--- the stem operators, the masks, and the other operators that clear the operands and leave themselves
+-- the stem operators
 abbrev pub isStem : ℕ → Bool
 isStem b = pick (eqb b 1) true (pick (eqb b 3) true (pick (eqb b 18) true (eqb b 23)))
 
-abbrev pub isMask : ℕ → Bool
-isMask b = pick (eqb b 19) true (eqb b 20)
-
--- 4 to 8, 21, 22, 24 to 27, 30, 31
+-- the other operators, the masks aside, that clear the operands and leave themselves: 4 to 8, 21, 22, 24 to 27, 30, 31
 abbrev pub isPath : ℕ → Bool
 isPath b = pick (ltb b 4) false (pick (ltb b 9) true (pick (ltb b 21) false (pick (ltb b 28) true (pick (ltb b 30) false (ltb b 32)))))
 

@@ -7,13 +7,14 @@ use mathlib.Core.List.{List, [], _∷_}
 use native.Mathlib.Omega.{arith}
 use lib.ListN.{length, take, drop}
 use lib.Seq.{take-take}
+use Rattle.octets.specs.Lists.{allBelow}
 use Rattle.index.specs.IndexLaws.{items-length}
 use Rattle.unfold.specs.Unfold.{Row}
 use Rattle.cff.specs.Find.{workSize}
 use Rattle.cff.specs.Reads.{GoodFont, programOf}
 use Rattle.cff.specs.declared.font.Font.{Font}
 use Rattle.subset.specs.Kept.{keptOf}
-use Rattle.subset.specs.Cut.{allBelow, allFound}
+use Rattle.subset.specs.Cut.{allFound}
 use Rattle.bodies.specs.Ways.{keptCount}
 use Rattle.fds.specs.Locals.{UsedOf}
 use Rattle.fds.specs.Parts.{PartsFit}

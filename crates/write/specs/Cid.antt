@@ -7,6 +7,7 @@ use mathlib.Core.List.{List, _++_}
 use lib.Dec.{ltb}
 use lib.ListN.{length, take}
 use Rattle.octets.specs.Pick.{pick}
+use Rattle.octets.specs.Lists.{partOf}
 use Rattle.index.specs.Write.{indexBytes, indexLen}
 use Rattle.unfold.specs.Unfold.{Row}
 use Rattle.charset.specs.CharsetBytes.{charsetBytes, charsetLen}
@@ -18,13 +19,13 @@ use Rattle.subset.specs.Kept.{writtenOrder, fdsOf}
 use Rattle.subset.specs.Pruned.{Bodies}
 use Rattle.subset.specs.Subset.{privateParts, fontDicts, ownByCid, cidsOf, newFds, subsetByCid}
 use Rattle.subset.specs.Cut.{Outcome, refused, subset}
-use Rattle.kept.specs.Packed.{packed}
-use Rattle.glyph_tables.specs.Tables.{part, newFdsBy, Numbered}
+use Rattle.kept.specs.Packed.{packed, orderIn}
+use Rattle.glyph_tables.specs.Tables.{newFdsBy, Numbered}
 use Rattle.private_dicts.specs.Privates.{fontDictsBy, Placed}
 use Rattle.fds.specs.Locals.{fdsIn}
 use Rattle.own_strings.specs.declared.Own.{Own}
 use Rattle.front.specs.Front.{SlotsReady, Measured, frontBytes}
-use Rattle.parts.specs.Ready.{orderIn, bodiesFor, Ready}
+use Rattle.parts.specs.Ready.{bodiesFor, Ready}
 use Rattle.parts.specs.declared.Planned.{Planned}
 use Rattle.write.specs.Layout.{cidCharset, cidSelect, cidGlyphs, cidDicts, cidPrivates, cidEnd, cidTop}
 use Rattle.write.specs.declared.cid_parts.Places.{Places}
@@ -45,7 +46,7 @@ pub record Gathered (p : Program) (kept : List ℕ) (n : ℕ) (old : List ℕ) (
   pub few : k ≤ n
   pub room : n + n ≤ length ws
   pub glyphs : take k ws ≡ packed p (writtenOrder p kept)
-  pub fds : part ws n k ≡ fdsOf p (writtenOrder p kept)
+  pub fds : partOf ws n k ≡ fdsOf p (writtenOrder p kept)
 
 -- ---- strings
 
@@ -101,8 +102,8 @@ module _ (b : List ℕ) (f : Font) (rows : List Row) (used ws : List ℕ) (r : P
     pub ready : Ready b f rows used ws r ats counts reacheds
     pub keyed : r .kept .cid ≡ true
     pub some : 0 < r .kept .count
-    pub numbered : Numbered used (part ws (f .charstrings .count) (r .kept .count))
-    pub news : newFdsBy used (part ws (f .charstrings .count) (r .kept .count)) ≡ newFds programIn (fdsIn used) writtenIn
+    pub numbered : Numbered used (partOf ws (f .charstrings .count) (r .kept .count))
+    pub news : newFdsBy used (partOf ws (f .charstrings .count) (r .kept .count)) ≡ newFds programIn (fdsIn used) writtenIn
 
   -- the tables of the Font DICTs, the first Private part standing at a place
   pub record DictsReady (sizes lens : List ℕ) (count from : ℕ) : Type 0 where

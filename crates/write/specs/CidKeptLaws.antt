@@ -9,11 +9,11 @@ use lib.Dec.{eqb}
 use lib.ListN.{length, take, drop, getD}
 use lib.Seq.{take-at}
 use Rattle.octets.specs.Pick.{pick}
-use Rattle.octets.specs.Octets.{put}
+use Rattle.octets.specs.Octets.{put, Octets}
 use Rattle.octets.specs.PutLaws.{put-length, drop-put-at}
+use Rattle.octets.specs.Lists.{allBelow, partOf}
 use Rattle.unfold.specs.Unfold.{Row}
 use Rattle.dict.specs.Lookup.{cidKeyed}
-use Rattle.charset.specs.FdSelectBytes.{Fds}
 use Rattle.cff.specs.Font.{Program}
 use Rattle.cff.specs.Find.{workSize}
 use Rattle.cff.specs.Reads.{programOf, GoodFont}
@@ -23,23 +23,23 @@ use Rattle.subset.specs.KeptListLaws.{those-has}
 use Rattle.subset.specs.EachLaws.{length-mapped}
 use Rattle.subset.specs.Pruned.{countBelow, pruned}
 use Rattle.subset.specs.Subset.{ownByCid, newFds, subsetByCid}
-use Rattle.subset.specs.Cut.{Outcome, allBelow, written}
-use Rattle.faithful.specs.KeptLaws.{kept-some, kept-below, order-same, order-in}
+use Rattle.subset.specs.Cut.{Outcome, written}
+use Rattle.faithful.specs.KeptLaws.{kept-some, order-same, order-in, all-below}
 use Rattle.faithful.specs.UsedLaws.{used-there}
-use Rattle.kept.specs.Packed.{packed, glyphsIn, Begins}
+use Rattle.kept.specs.Packed.{packed, glyphsIn, Begins, orderIn}
 use Rattle.kept.specs.FdsLaws.{glyphs-packed}
 use Rattle.kept.specs.FdsOrderLaws.{below-all, order-below, order-length, order-glyphs}
 use Rattle.own_strings.specs.StageLaws.{take-front}
 use Rattle.reach.specs.Reach.{ranksOf}
 use Rattle.reach.specs.CountLaws.{length-ranks}
-use Rattle.glyph_tables.specs.Tables.{part, newFdsBy, Numbered}
+use Rattle.glyph_tables.specs.Tables.{newFdsBy, Numbered}
 use Rattle.glyph_tables.specs.PartLaws.{part-length}
 use Rattle.glyph_tables.specs.UsedTableLaws.{fds-bytes, table-used, table-count, table-numbered, table-new-fds}
 use Rattle.fds.specs.Locals.{inUse, fdsIn, UsedOf}
 use Rattle.fds.specs.UsedLaws.{is-used}
 use Rattle.plan.specs.Sizes.{OrderIn}
 use Rattle.plan.specs.FontLaws.{fds-at}
-use Rattle.parts.specs.Ready.{FontHeld, orderIn, PlanIn, bodiesFor, Ready}
+use Rattle.parts.specs.Ready.{FontHeld, PlanIn, bodiesFor, Ready}
 use Rattle.parts.specs.declared.Planned.{Planned}
 use Rattle.write.specs.Entry.{Cut}
 use Rattle.write.specs.BothLaws.{part-stays}
@@ -105,9 +105,9 @@ module _ (b : List ℕ) (f : Font) (held : FontHeld b f) where
         same-size : length new ≡ length ws
         same-size = ap length put-gs ∙ put-length ws n (fdsOf p gs) (omega (arith, count-gs, two-words, within, begins .size))
 
-        fds-behind : part new n k ≡ fdsOf p gs
+        fds-behind : partOf new n k ≡ fdsOf p gs
         fds-behind =
-            ap (λ (l : List ℕ). part l n k) put-gs
+            ap (λ (l : List ℕ). partOf l n k) put-gs
             ∙ ap (take k) (drop-put-at ws n (fdsOf p gs) (omega (arith, two-words, begins .size)))
             ∙ take-at (fdsOf p gs) (drop (n + length (fdsOf p gs)) ws) k count-gs
 
@@ -135,22 +135,19 @@ module _ (b : List ℕ) (f : Font) (held : FontHeld b f) where
     abbrev order : List ℕ
     order = writtenOrder p kept
 
-    below : (i : ℕ) → i < length order → getD order i 0 < length (p .charstrings)
-    below i h = kept-below (length (p .charstrings)) keep (getD order i 0) (order-in p kept i h)
-
     k-words : n + k ≤ length ws
     k-words = omega (arith, g .few, g .room)
 
     -- the glyphs of the words
     pub order-held : orderIn k ws ≡ order
     order-held =
-        ap glyphsIn (g .glyphs) ∙ glyphs-packed (p .ids) order (below-all 65536 order (λ i h. omega (arith, below i h, many-glyphs, few-glyphs)))
+        ap glyphsIn (g .glyphs) ∙ glyphs-packed (p .ids) order (below-all 65536 order (λ i h. omega (arith, all-below (length (p .charstrings)) keep order (order-in p kept) i h, many-glyphs, few-glyphs)))
 
     -- what their ranking asks
-    pub ranks-asked : (table : List ℕ) → 256 ≤ length table → (n + k ≤ length ws) × (256 ≤ length table) × Fds (part ws n k)
-    ranks-asked table long = (k-words, long, subst Fds (sym (g .fds)) (fds-bytes p order (held .program .fds)))
+    pub ranks-asked : (table : List ℕ) → 256 ≤ length table → (n + k ≤ length ws) × (256 ≤ length table) × Octets (partOf ws n k)
+    ranks-asked table long = (k-words, long, subst Octets (sym (g .fds)) (fds-bytes p order (held .program .fds)))
 
-    module _ (table used : List ℕ) (long : 256 ≤ length table) (ranks : used ≡ put table 0 (ranksOf (λ f. isIn f (part ws n k)) 0 256)) where
+    module _ (table used : List ℕ) (long : 256 ≤ length table) (ranks : used ≡ put table 0 (ranksOf (λ f. isIn f (partOf ws n k)) 0 256)) where
       use-mark : (t : Bool) → not t ≡ pick t false true
       use-mark true = refl
       use-mark false = refl
@@ -159,32 +156,32 @@ module _ (b : List ℕ) (f : Font) (held : FontHeld b f) where
       pub fds-used : fdsIn used ≡ usedFds p kept
       fds-used =
           ap (λ (t : ℕ → Bool). those t 256 0) (fun-ext (λ d. use-mark (eqb (getD used d 0) 0)))
-          ∙ sym (table-used p kept order (held .program) (order-same p kept) below ws n k (g .fds) table used long ranks)
+          ∙ sym (table-used p kept order (held .program) (order-same p kept) (all-below (length (p .charstrings)) keep order (order-in p kept)) ws n k (g .fds) table used long ranks)
 
-      pub fds-counted : (count : ℕ) → count ≡ countBelow (λ f. isIn f (part ws n k)) 256 → count ≡ length (fdsIn used)
+      pub fds-counted : (count : ℕ) → count ≡ countBelow (λ f. isIn f (partOf ws n k)) 256 → count ≡ length (fdsIn used)
       fds-counted count e =
-          e ∙ table-count p kept order (held .program) (order-same p kept) below ws n k (g .fds) table used long ranks ∙ ap length (sym fds-used)
+          e ∙ table-count p kept order (held .program) (order-same p kept) (all-below (length (p .charstrings)) keep order (order-in p kept)) ws n k (g .fds) table used long ranks ∙ ap length (sym fds-used)
 
       there-used : UsedOf (length (p .privates)) used
       there-used d h u = used-there p kept d (ap (isIn d) (sym fds-used) ∙ those-has (inUse used) 256 0 d (omega arith) (omega arith) u)
 
-      numbers : Numbered used (part ws n k)
-      numbers = table-numbered p kept order (held .program) (order-same p kept) below ws n k (g .fds) table used long ranks
+      numbers : Numbered used (partOf ws n k)
+      numbers = table-numbered p kept order (held .program) (order-same p kept) (all-below (length (p .charstrings)) keep order (order-in p kept)) ws n k (g .fds) table used long ranks
 
       use-of : (i : ℕ) → i < k → inUse used (getD (p .fds) (getD order i 0) 0) ≡ true
       use-of i h =
-          let l : i < length (part ws n k) = omega (arith, part-length ws n k k-words) in
-          let e : getD (part ws n k) i 0 ≡ getD (p .fds) (getD order i 0) 0
+          let l : i < length (partOf ws n k) = omega (arith, part-length ws n k k-words) in
+          let e : getD (partOf ws n k) i 0 ≡ getD (p .fds) (getD order i 0) 0
           = ap (λ (l : List ℕ). getD l i 0) (g .fds) ∙ fds-at p order i (omega (arith, g .many)) in
-          ap (inUse used) (sym e) ∙ is-used used (getD (part ws n k) i 0) (λ z. omega (arith, numbers i l .inUse))
+          ap (inUse used) (sym e) ∙ is-used used (getD (partOf ws n k) i 0) (λ z. omega (arith, numbers i l .inUse))
 
       -- what the plan asks
       pub plan-asked : true ≡ cidKeyed (p .top) → workSize p ≤ length old → PlanIn b f true used ws k
       plan-asked keyed words =
-          let m = length-ranks (λ d. isIn d (part ws n k)) 0 256 in
+          let m = length-ranks (λ d. isIn d (partOf ws n k)) 0 256 in
           record {
             read = held;
-            usedLong = omega (arith, long, m, ap length ranks, put-length table 0 (ranksOf (λ d. isIn d (part ws n k)) 0 256) (omega (arith, m, long)));
+            usedLong = omega (arith, long, m, ap length ranks, put-length table 0 (ranksOf (λ d. isIn d (partOf ws n k)) 0 256) (omega (arith, m, long)));
             fds = there-used;
             few = g .few;
             order = subst (λ (l : List ℕ). OrderIn p true used ws k l) (sym order-held)
@@ -192,9 +189,9 @@ module _ (b : List ℕ) (f : Font) (held : FontHeld b f) where
                   many = g .many;
                   room = omega (arith, k-words, many-glyphs);
                   glyphs = g .glyphs;
-                  fds = λ e. ap (λ (m : ℕ). part ws m k) many-glyphs ∙ g .fds;
+                  fds = λ e. ap (λ (m : ℕ). partOf ws m k) many-glyphs ∙ g .fds;
                   keyed = keyed;
-                  there = λ i h. below i (omega (arith, g .many));
+                  there = λ i h. all-below (length (p .charstrings)) keep order (order-in p kept) i (omega (arith, g .many));
                   within = use-of;
                 });
             room = omega (arith, words, g .size);
@@ -203,7 +200,7 @@ module _ (b : List ℕ) (f : Font) (held : FontHeld b f) where
       -- ---- behind the plan
 
       module _ (rows : List Row) (new : List ℕ) (r : Planned) (same : take (2 * n) new ≡ take (2 * n) ws) (counted : r .kept .count ≡ k) where
-        part-same : part new n k ≡ part ws n k
+        part-same : partOf new n k ≡ partOf ws n k
         part-same = part-stays n k (2 * n) ws new (omega (arith, g .few)) same
 
         order-new : orderIn k new ≡ orderIn k ws
@@ -213,10 +210,10 @@ module _ (b : List ℕ) (f : Font) (held : FontHeld b f) where
         pub order-planned : orderIn (r .kept .count) new ≡ order
         order-planned = ap (λ (j : ℕ). orderIn j new) counted ∙ order-new ∙ order-held
 
-        news-planned : newFdsBy used (part new n k) ≡ newFds p (fdsIn used) order
+        news-planned : newFdsBy used (partOf new n k) ≡ newFds p (fdsIn used) order
         news-planned =
             ap (newFdsBy used) part-same
-            ∙ table-new-fds p kept order (held .program) (order-same p kept) below ws n k (g .fds) table used long ranks
+            ∙ table-new-fds p kept order (held .program) (order-same p kept) (all-below (length (p .charstrings)) keep order (order-in p kept)) ws n k (g .fds) table used long ranks
             ∙ ap (λ (l : List ℕ). newFds p l order) (sym fds-used)
 
         pub cid-ready : (ats counts reacheds : List ℕ) → Ready b f rows used new r ats counts reacheds → r .kept .cid ≡ true
@@ -226,9 +223,9 @@ module _ (b : List ℕ) (f : Font) (held : FontHeld b f) where
               ready = ready;
               keyed = keyed;
               some = omega (arith, counted, g .some);
-              numbered = subst (λ (j : ℕ). Numbered used (part new n j)) (sym counted) (subst (Numbered used) (sym part-same) numbers);
+              numbered = subst (λ (j : ℕ). Numbered used (partOf new n j)) (sym counted) (subst (Numbered used) (sym part-same) numbers);
               news =
-                  ap (λ (j : ℕ). newFdsBy used (part new n j)) counted ∙ news-planned ∙ ap (newFds p (fdsIn used)) (sym order-planned);
+                  ap (λ (j : ℕ). newFdsBy used (partOf new n j)) counted ∙ news-planned ∙ ap (newFds p (fdsIn used)) (sym order-planned);
             }
 
         -- the outcome of the cut is that of the subset from its plan

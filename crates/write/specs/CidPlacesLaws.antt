@@ -11,6 +11,7 @@ use lib.Dec.{ltb, eqb}
 use lib.ListN.{length, replicate, length-replicate}
 use Rattle.octets.specs.Pick.{pick, pick-ind}
 use Rattle.octets.specs.Octets.{Wrote}
+use Rattle.octets.specs.Lists.{partOf}
 use Rattle.index.specs.Write.{sizeFor, indexLen}
 use Rattle.index.specs.WriteLaws.{size-high}
 use Rattle.unfold.specs.Unfold.{Row}
@@ -27,7 +28,7 @@ use Rattle.subset.specs.KeptListLaws.{those-count}
 use Rattle.subset.specs.Pruned.{Pruned}
 use Rattle.subset.specs.Subset.{privateParts, ownByName, ownByCid, cidsOf, subsetByCid, subsetByName, subsetBytes}
 use Rattle.subset.specs.Cut.{Outcome, refused, subset, ownOf, written}
-use Rattle.glyph_tables.specs.Tables.{part, highs, newFdsBy, Numbered}
+use Rattle.glyph_tables.specs.Tables.{highs, newFdsBy, Numbered}
 use Rattle.glyph_tables.specs.PartLaws.{highs-length}
 use Rattle.glyph_tables.specs.SelectLaws.{select-count}
 use Rattle.glyph_tables.specs.UsedTableLaws.{highs-cids}
@@ -135,12 +136,12 @@ module _ (b : List ℕ) (f : Font) (rows : List Row) (used ws : List ℕ) (r : P
 
   -- ---- measures
 
-  pub select-asked : (n + k ≤ length ws) × (k < 65536) × Numbered used (part ws n k)
+  pub select-asked : (n + k ≤ length ws) × (k < 65536) × Numbered used (partOf ws n k)
   select-asked = (words-room, c .ready .asked .glyphs .keptFew, c .numbered)
 
-  select-short : length (fdSelectBytes (newFdsBy used (part ws n k))) ≤ 200000
+  select-short : length (fdSelectBytes (newFdsBy used (partOf ws n k))) ≤ 200000
   select-short =
-      let fds = newFdsBy used (part ws n k) in
+      let fds = newFdsBy used (partOf ws n k) in
       omega (arith, select-length fds, changes-few 256 0 fds, select-count ws n k used words-room, c .ready .asked .glyphs .keptFew)
 
   module _ (totals : List ℕ) (summed : Summed b f rows used ws r ats counts reacheds totals) where
@@ -156,7 +157,7 @@ module _ (b : List ℕ) (f : Font) (rows : List Row) (used ws : List ℕ) (r : P
       module _ (name slots : List ℕ) (own : Own) (strings : StringsReady p slots own) (front globals select glyphs : ℕ)
           (front-is : front ≡ frontLen true (p .top) slots (length name) own)
           (globals-is : globals ≡ indexLen (keptCount (r .kept .way) (r .kept .globals .reached) (r .kept .globals .count)) (r .«globals_total»))
-          (select-is : select ≡ length (fdSelectBytes (newFdsBy used (part ws n k)))) (glyphs-is : glyphs ≡ indexLen k (r .«glyphs_total»)) where
+          (select-is : select ≡ length (fdSelectBytes (newFdsBy used (partOf ws n k)))) (glyphs-is : glyphs ≡ indexLen k (r .«glyphs_total»)) where
         -- what the places ask
         pub places-asked : front ≤ 844424931000004 → globals ≤ 281474977000000 → glyphs ≤ 281474977000000 → PartsSmall front globals k select glyphs count all
         places-asked f-small g-small h-small =

@@ -8,6 +8,7 @@ use native.Mathlib.Omega.{arith}
 use lib.ListN.{length, length-append}
 use Rattle.octets.specs.Octets.{Wrote}
 use Rattle.octets.specs.PutLaws.{wrote-as}
+use Rattle.octets.specs.Lists.{partOf}
 use Rattle.index.specs.Write.{indexBytes}
 use Rattle.unfold.specs.Unfold.{Row}
 use Rattle.charset.specs.CharsetBytes.{charsetBytes}
@@ -18,7 +19,7 @@ use Rattle.cff.specs.Reads.{programOf, GoodFont}
 use Rattle.cff.specs.declared.font.Font.{Font}
 use Rattle.subset.specs.Pruned.{Bodies}
 use Rattle.subset.specs.Subset.{privateParts, fontDicts, ownByCid, topByCid, cidsOf, newFds}
-use Rattle.glyph_tables.specs.Tables.{part, highs, newFdsBy, Numbered}
+use Rattle.glyph_tables.specs.Tables.{highs, newFdsBy, Numbered}
 use Rattle.private_dicts.specs.Privates.{fontDictsBy, Placed}
 use Rattle.bodies.specs.Ways.{Room}
 use Rattle.bodies.specs.Sources.{KeptIn, charstringsFrom, newCharstringsFrom}
@@ -83,14 +84,14 @@ module _ (b : List ℕ) (f : Font) (rows : List Row) (used ws : List ℕ) (r : P
     abbrev glyphs : List ℕ
     glyphs = indexBytes (bodies .charstrings)
 
-    pub select-put : (n + k ≤ length ws) × (k < 65536) × Numbered used (part ws n k) × (at ≤ 67108864)
-        × (at + length (fdSelectBytes (newFdsBy used (part ws n k))) ≤ length out)
+    pub select-put : (n + k ≤ length ws) × (k < 65536) × Numbered used (partOf ws n k) × (at ≤ 67108864)
+        × (at + length (fdSelectBytes (newFdsBy used (partOf ws n k))) ≤ length out)
     unfolding glyphBytes
     select-put =
         let a = select-asked b f rows used ws r ats counts reacheds c in
         (a .0, a .1, a .2, omega (arith, small), subst (λ (l : List ℕ). at + length (fdSelectBytes l) ≤ length out) (sym (c .news)) (room-first (length out) at select glyphs room))
 
-    module _ {mid : List ℕ} {q : ℕ} (w : Wrote out at (fdSelectBytes (newFdsBy used (part ws n k))) mid q) where
+    module _ {mid : List ℕ} {q : ℕ} (w : Wrote out at (fdSelectBytes (newFdsBy used (partOf ws n k))) mid q) where
       selected : Wrote out at select mid q
       selected = wrote-as w (ap fdSelectBytes (c .news))
 

@@ -12,6 +12,7 @@ use lib.Seq.{length-take-le}
 use Rattle.octets.specs.Pick.{pick}
 use Rattle.octets.specs.PickLaws.{pick-same}
 use Rattle.octets.specs.Octets.{Octets}
+use Rattle.octets.specs.Lists.{allBelow}
 use Rattle.record.specs.Record.{rowsOf, recordFine}
 use Rattle.dict.specs.Lookup.{rosIn, cidKeyed}
 use Rattle.cff.specs.Font.{Got, refused as refusedFont, got, Program, readFont}
@@ -22,7 +23,7 @@ use Rattle.cff.specs.declared.font.Font.{Font}
 use Rattle.subset.specs.Kept.{keptOf, writtenOrder, usedFds}
 use Rattle.subset.specs.Pruned.{Pruned, pruned}
 use Rattle.subset.specs.Subset.{subsetBytes}
-use Rattle.subset.specs.Cut.{Outcome, refused, subset, allBelow, allFound, hasRos, sameBool, ownOf, written, cutProgram, cutRead, cutOf, leavesOut, zeros, usesWork, leavesWork}
+use Rattle.subset.specs.Cut.{Outcome, refused, subset, allFound, hasRos, sameBool, ownOf, written, cutProgram, cutRead, cutOf, leavesOut, zeros, usesWork, leavesWork}
 use Rattle.faithful.specs.Theorem.{faithful, same-bool}
 use Rattle.faithful.specs.GoodLaws.{font-good}
 use Rattle.parts.specs.Ready.{FontHeld}

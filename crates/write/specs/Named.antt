@@ -17,10 +17,11 @@ use Rattle.subset.specs.Texts.{namesOf}
 use Rattle.subset.specs.Pruned.{Bodies, Pruned}
 use Rattle.subset.specs.Subset.{privateDict, privatePart, ownByName, newIds, oneLocal}
 use Rattle.subset.specs.Cut.{Outcome, written}
+use Rattle.kept.specs.Packed.{orderIn}
 use Rattle.own_strings.specs.declared.Own.{Own}
 use Rattle.fds.specs.Locals.{fdsIn}
 use Rattle.front.specs.Front.{Renamed, SlotsReady, Measured}
-use Rattle.parts.specs.Ready.{FontHeld, orderIn, Ready, Summed}
+use Rattle.parts.specs.Ready.{FontHeld, Ready, Summed}
 use Rattle.parts.specs.declared.Planned.{Planned}
 use Rattle.write.specs.Layout.{namedCharset, namedCharstrings, namedPrivate, namedEnd}
 use Rattle.write.specs.declared.named.Places.{Places}

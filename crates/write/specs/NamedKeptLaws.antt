@@ -14,21 +14,21 @@ use Rattle.cff.specs.Font.{Program}
 use Rattle.cff.specs.Reads.{programOf}
 use Rattle.cff.specs.declared.font.Font.{Font}
 use Rattle.index.specs.IndexLaws.{items-length}
-use Rattle.subset.specs.Kept.{keptOf, sortedBy, writtenOrder, usedFds}
+use Rattle.subset.specs.Kept.{keptOf, sortedBy, writtenOrder, usedFds, keeps}
 use Rattle.subset.specs.Texts.{namesOf}
 use Rattle.subset.specs.Pruned.{pruned}
 use Rattle.subset.specs.Subset.{ownByName, newIds}
 use Rattle.subset.specs.Cut.{Outcome, ownOf, allFound, written}
 use Rattle.faithful.specs.UsedLaws.{used-one}
 use Rattle.faithful.specs.KeptLaws.{kept-some}
-use Rattle.kept.specs.Packed.{packed, keeps, Begins}
+use Rattle.kept.specs.Packed.{packed, Begins, orderIn}
 use Rattle.kept.specs.OrderLaws.{those-at}
 use Rattle.record.specs.Record.{rowsOf}
 use Rattle.front.specs.Front.{SmallFont, Ordered, Renamed, SlotsReady, Measured}
 use Rattle.front.specs.OrderLaws.{begins-ordered, begins-kept}
 use Rattle.front.specs.PrepareLaws.{order-after}
 use Rattle.own_strings.specs.declared.Own.{Own}
-use Rattle.parts.specs.Ready.{FontHeld, orderIn}
+use Rattle.parts.specs.Ready.{FontHeld}
 use Rattle.write.specs.OutcomeLaws.{cut-strings}
 use Rattle.write.specs.Entry.{cutBehind, Cut, Passed}
 use Rattle.write.specs.Named.{namedOutcome, NamedStrings, NamedCut}

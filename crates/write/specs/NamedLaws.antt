@@ -16,8 +16,9 @@ use Rattle.subset.specs.Kept.{usedFds}
 use Rattle.subset.specs.Pruned.{Bodies, Pruned}
 use Rattle.subset.specs.Subset.{ownByName, ownByCid, subsetByName, subsetByCid, subsetBytes}
 use Rattle.subset.specs.Cut.{ownOf, written}
+use Rattle.kept.specs.Packed.{orderIn}
 use Rattle.own_strings.specs.declared.Own.{Own}
-use Rattle.parts.specs.Ready.{orderIn, bodiesFor}
+use Rattle.parts.specs.Ready.{bodiesFor}
 use Rattle.parts.specs.declared.Planned.{Planned}
 use Rattle.write.specs.Layout.{named-length}
 use Rattle.write.specs.OutcomeLaws.{cut-long, cut-room, cut-written}

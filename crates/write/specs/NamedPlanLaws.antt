@@ -8,6 +8,7 @@ use native.Mathlib.Omega.{arith}
 use lib.Dec.{eqb}
 use lib.ListN.{length, take, getD, replicate}
 use lib.Seq.{length-take-le}
+use Rattle.octets.specs.ListLaws.{zeros-at}
 use Rattle.unfold.specs.Unfold.{Row}
 use Rattle.cff.specs.Font.{Program}
 use Rattle.cff.specs.Reads.{programOf}
@@ -18,13 +19,14 @@ use Rattle.subset.specs.Kept.{isIn, those}
 use Rattle.subset.specs.Pruned.{Pruned, mapped, pruned}
 use Rattle.subset.specs.EachLaws.{length-mapped}
 use Rattle.subset.specs.KeptListLaws.{in-cases, in-none, in-head, those-has, those-in}
+use Rattle.kept.specs.Packed.{orderIn}
 use Rattle.faithful.specs.UsedLaws.{fd-there}
 use Rattle.glyph_tables.specs.ThoseLaws.{those-none}
 use Rattle.fds.specs.Locals.{inUse, fdsIn}
 use Rattle.front.specs.Front.{Renamed}
 use Rattle.front.specs.ByNameLaws.{renamed-stays}
 use Rattle.own_strings.specs.declared.Own.{Own}
-use Rattle.parts.specs.Ready.{orderIn, PlanIn, bodiesFor, Ready, Summed}
+use Rattle.parts.specs.Ready.{PlanIn, bodiesFor, Ready, Summed}
 use Rattle.parts.specs.declared.Planned.{Planned}
 use Rattle.write.specs.BothLaws.{part-stays}
 use Rattle.write.specs.Entry.{Cut}
@@ -37,14 +39,9 @@ one-used : (l : List ℕ) (n : ℕ) → getD l 0 0 ≡ 1 → ((d : ℕ) → inUs
 unfolding those
 one-used l n e low = rw e (ap (λ (x : List ℕ). 0 ∷ x) (those-none (inUse l) n 1 low))
 
-zeros-behind : (n d : ℕ) → _≡_ {A = ℕ} (getD (replicate n 0) d 0) 0
-zeros-behind zero d = refl
-zeros-behind (suc n) zero = refl
-zeros-behind (suc n) (suc d) = zeros-behind n d
-
 first-low : (n d : ℕ) → inUse (1 ∷ replicate n 0) d ≡ true → d < 1
 first-low n zero u = omega arith
-first-low n (suc d) u = let w : false ≡ true = ap (λ (x : ℕ). not (eqb x 0)) (sym (zeros-behind n d)) ∙ u in absurd (zero-one cc)
+first-low n (suc d) u = let w : false ≡ true = ap (λ (x : ℕ). not (eqb x 0)) (sym (zeros-at n d)) ∙ u in absurd (zero-one cc)
 
 pub first-only : fdsIn firstFd ≡ 0 ∷ []
 first-only = one-used (1 ∷ replicate 255 0) 255 refl (first-low 255)

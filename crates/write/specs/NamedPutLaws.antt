@@ -8,6 +8,7 @@ use lib.ListN.{length, take, drop, getD, length-append, length-drop}
 use lib.Seq.{length-take-le, getD-take}
 use Rattle.octets.specs.Octets.{Wrote}
 use Rattle.octets.specs.PutLaws.{wrote-as}
+use Rattle.octets.specs.Lists.{partOf}
 use Rattle.index.specs.Write.{indexBytes, indexLen}
 use Rattle.charset.specs.CharsetBytes.{charsetBytes}
 use Rattle.charset.specs.CharsetBytesLaws.{charset-length}
@@ -19,12 +20,12 @@ use Rattle.subset.specs.Kept.{privateOf}
 use Rattle.subset.specs.Texts.{namesOf}
 use Rattle.subset.specs.Pruned.{Bodies, mapped}
 use Rattle.subset.specs.Subset.{privateDict, privatePart, privateParts, ownByName, topByName, newIds, oneLocal, subsetByName}
+use Rattle.kept.specs.Packed.{orderIn}
 use Rattle.faithful.specs.ByName.{dict-within}
 use Rattle.private_dicts.specs.Privates.{sizesOf}
 use Rattle.own_strings.specs.declared.Own.{Own}
 use Rattle.top_dict.specs.Top.{Offsets}
 use Rattle.top_dict.specs.Writing.{split-append, Writing, writing-start, writing-room, writing-turn, writing-left, writing-last}
-use Rattle.glyph_tables.specs.Tables.{part}
 use Rattle.bodies.specs.Ways.{Room, keptCount}
 use Rattle.bodies.specs.Pruning.{bodiesBy}
 use Rattle.bodies.specs.Sources.{KeptIn, charstringsFrom, newCharstringsFrom}
@@ -34,7 +35,7 @@ use Rattle.fds.specs.Parts.{SizesParts}
 use Rattle.fds.specs.NewParts.{partsFor, PartsRoom}
 use Rattle.front.specs.Front.{frontBytes, NamedFront, frontLen as measuredLen}
 use Rattle.front.specs.ByNameLaws.{named-front-sum, named-front-len}
-use Rattle.parts.specs.Ready.{orderIn, bodiesFor, Ready}
+use Rattle.parts.specs.Ready.{bodiesFor, Ready}
 use Rattle.parts.specs.declared.Planned.{Planned}
 use Rattle.parts.specs.CodeLaws.{globals-long, glyphs-long, glyphs-asked, glyphs-are}
 use Rattle.parts.specs.PrivateLaws.{all-parts, sizes-held, privates-asked, privates-are}
@@ -105,13 +106,13 @@ module _ (b : List ℕ) (f : Font) (rows : List Row) (used ws : List ℕ) (r : P
     sums : length (namedGlyphs p order bodies) ≡ length ids + (length glyphs + length private)
     sums = length-append ids (glyphs ++ private) ∙ ap (λ (m : ℕ). length ids + m) (length-append glyphs private)
 
-    charset-are : charsetBytes (part ws n k) ≡ ids
+    charset-are : charsetBytes (partOf ws n k) ≡ ids
     charset-are = ap charsetBytes (g .names .ids)
 
-    pub charset-asked : (n + k ≤ length ws) × (at + length (charsetBytes (part ws n k)) ≤ length out)
+    pub charset-asked : (n + k ≤ length ws) × (at + length (charsetBytes (partOf ws n k)) ≤ length out)
     charset-asked = (g .names .room, omega (arith, sums, ap length charset-are))
 
-    module _ {mid : List ℕ} {q : ℕ} (w : Wrote out at (charsetBytes (part ws n k)) mid q) where
+    module _ {mid : List ℕ} {q : ℕ} (w : Wrote out at (charsetBytes (partOf ws n k)) mid q) where
       charset-put : Writing (namedGlyphs p order bodies) out at (glyphs ++ private) mid q
       charset-put =
           writing-turn room (split-append ids (glyphs ++ private)) (writing-start (namedGlyphs p order bodies) out at) (wrote-as w charset-are)

@@ -7,6 +7,7 @@ use borrow.Author.Tests.{lt-ltb, le-ltb}
 use Rattle.prune.specs.StepLaws.{zero-one}
 use lib.ListN.{length}
 use Rattle.octets.specs.Pick.{pick}
+use Rattle.octets.specs.Lists.{allBelow}
 use Rattle.record.specs.Record.{recordFine}
 use Rattle.dict.specs.Lookup.{rosIn, cidKeyed}
 use Rattle.cff.specs.Font.{Program}
@@ -17,7 +18,7 @@ use Rattle.cff.specs.declared.Counts.{Counts}
 use Rattle.cff.specs.declared.font.Font.{Font}
 use Rattle.index.specs.IndexLaws.{items-length}
 use Rattle.subset.specs.Kept.{keptOf}
-use Rattle.subset.specs.Cut.{allBelow, allFound, hasRos, sameBool}
+use Rattle.subset.specs.Cut.{allFound, hasRos, sameBool}
 use Rattle.write.specs.Entry.{refusalOf}
 
 -- a font's counts

@@ -7,7 +7,7 @@ ghost use Rattle.record.specs.Record.{rowsOf};
 ghost use Rattle.cff.specs.Find.{workSize};
 ghost use Rattle.cff.specs.Reads.{programOf};
 ghost use Rattle.subset.specs.Kept.{keptOf};
-ghost use Rattle.subset.specs.Cut.{allBelow, allFound};
+ghost use Rattle.subset.specs.Cut.{allFound};
 ghost use Rattle.fds.specs.Locals.{fdsIn};
 ghost use Rattle.parts.specs.Ready.{FontHeld, Summed};
 ghost use Rattle.write.specs.Entry.{cutBehind, Cut, Passed};
@@ -20,6 +20,7 @@ use cff::font::Font;
 use own_strings::Own;
 use parts::Planned;
 use refusal::Refusal;
+ghost use Rattle.octets.specs.Lists.{allBelow};
 
 // The kept glyphs in the order in which they are written, in the first words, and their FDs in the words from the number of glyphs on; how
 // many they are.

@@ -8,7 +8,7 @@ ghost use Rattle.record.specs.Record.{rowsOf};
 ghost use Rattle.cff.specs.Reads.{programOf};
 ghost use Rattle.subset.specs.Pruned.{pruned};
 ghost use Rattle.subset.specs.Subset.{subsetByName};
-ghost use Rattle.parts.specs.Ready.{FontHeld, orderIn, bodiesFor};
+ghost use Rattle.parts.specs.Ready.{FontHeld, bodiesFor};
 ghost use Rattle.write.specs.Entry.{cutBehind, Cut, Passed};
 ghost use Rattle.write.specs.Named.{namedGlyphs, namedOutcome, NamedPlan, NamedStrings, PlacedNamed, NamedCut};
 use crate::Answer;
@@ -21,6 +21,7 @@ use parts::glyphs_len;
 use parts::plan_all;
 use parts::put_globals;
 use refusal::Refusal;
+ghost use Rattle.kept.specs.Packed.{orderIn};
 
 // Where charset, charstrings and Private stand, the size of the Private DICT, and the length of the subset.
 pub struct Places {

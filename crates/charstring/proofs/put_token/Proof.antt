@@ -2,9 +2,10 @@
 use denote.Ref.{now}
 use native.Mathlib.Omega.{arith}
 use Rattle.octets.specs.PutLaws.{wrote-as}
-use Rattle.charstring.specs.TokenLaws.{writable-as, room-as, wrote-token, span}
+use Rattle.charstring.specs.TokenLaws.{writable-as, room-as, wrote-token}
 use Rattle.charstring.specs.declared.Token.the-variants.{Num, Op, Esc, Mask}
 use borrow.Author.Needs.{needs}
+use Rattle.octets.specs.ListLaws.{span}
 use Rattle.charstring.proofs.put_token.Statement.{statement}
 use Rattle.charstring.proofs.put_token.Tie as tie
 

@@ -23,20 +23,20 @@ top-len-requires c κs =
     let a = s .args in
     (top-small (now (a .font)) (a .f) (s .pre .0), ready-filled (now (a .font)) (a .f) (a .cid) _ (s .pre .0) (s .pre .1))
 
-any-index-len-requires : tie.Need-any-index-len-requires
-any-index-len-requires c κs = search needs
+index-len-requires : tie.Need-index-len-requires
+index-len-requires c κs = search needs
 
 add-result : tie.Need-add-result
 add-result c = search needs
 
-any-index-len-requires-2 : tie.Need-any-index-len-requires-2
-any-index-len-requires-2 c κs = search needs
+index-len-requires-2 : tie.Need-index-len-requires-2
+index-len-requires-2 c κs = search needs
 
 add-result-2 : tie.Need-add-result-2
 add-result-2 c = search needs
 
-any-index-len-requires-3 : tie.Need-any-index-len-requires-3
-any-index-len-requires-3 c κs = search needs
+index-len-requires-3 : tie.Need-index-len-requires-3
+index-len-requires-3 c κs = search needs
 
 add-result-3 : tie.Need-add-result-3
 add-result-3 c = search needs
@@ -44,9 +44,9 @@ add-result-3 c = search needs
 returns : tie.Need-returns
 returns c =
     let t = c .before .before .before in
-    let x = c .before .before .any-index-len .ensures in
-    let y = c .before .any-index-len2 .ensures in
-    let z = c .any-index-len3 .ensures in
+    let x = c .before .before .index-len .ensures in
+    let y = c .before .index-len2 .ensures in
+    let z = c .index-len3 .ensures in
     (omega (arith, x .0, y .0 ∙ ap (indexLen 1) (t .top-len .ensures .0), z .0), omega (arith, x .1, y .1, z .1))
 
 pub front-len-spec : {M : Type 1} → statement M
@@ -57,10 +57,10 @@ front-len-spec =
     part-top-len-start
     part-top-len-end
     top-len-requires
-    any-index-len-requires
+    index-len-requires
     add-result
-    any-index-len-requires-2
+    index-len-requires-2
     add-result-2
-    any-index-len-requires-3
+    index-len-requires-3
     add-result-3
     returns)

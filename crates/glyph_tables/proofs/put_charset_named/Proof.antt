@@ -7,15 +7,15 @@ use native.Mathlib.Omega.{arith}
 use denote.Ref.{now}
 use lib.ListN.{length, getD}
 use Rattle.octets.specs.Octets.{Wrote}
+use Rattle.octets.specs.Lists.{partOf}
 use Rattle.charset.specs.CharsetBytes.{charsetBytes}
-use Rattle.glyph_tables.specs.Tables.{part}
 use Rattle.glyph_tables.specs.PartLaws.{part-length, part-at, CharsetPut, charset-first, charset-start, charset-space, charset-next, charset-done}
 use Rattle.glyph_tables.proofs.put_charset_named.Statement.{statement}
 use Rattle.glyph_tables.proofs.put_charset_named.Tie as tie
 
 abbrev Inv-loop : tie.InvT-loop
 Inv-loop words n k out₀ at p₀ g₀ out p g =
-    (old : List ℕ) → Wrote old at (0 ∷ []) out₀ p₀ → at + length (charsetBytes (part words n k)) ≤ length old → CharsetPut old at (part words n k) out p g
+    (old : List ℕ) → Wrote old at (0 ∷ []) out₀ p₀ → at + length (charsetBytes (partOf words n k)) ≤ length old → CharsetPut old at (partOf words n k) out p g
 
 abbrev μ-loop : tie.MeasureT-loop
 μ-loop words n k out₀ at p₀ g₀ out p g = k - g
@@ -26,18 +26,18 @@ start l = l .before .before .before .before .before .before .before
 
 -- what is written
 held : (l : tie.At-loop Inv-loop μ-loop) → (let a = start l .args in
-    CharsetPut (now (a .out)) (a .at) (part (now (a .words)) (a .n) (a .k)) (l .loop .out) (l .loop .p) (l .loop .g))
+    CharsetPut (now (a .out)) (a .at) (partOf (now (a .words)) (a .n) (a .k)) (l .loop .out) (l .loop .p) (l .loop .g))
 held l = l .loop .inv _ (l .before .before .before .put-byte .ensures) (start l .pre .1)
 
 -- how many ids there are
-count : (l : tie.At-loop Inv-loop μ-loop) → (let a = start l .args in length (part (now (a .words)) (a .n) (a .k)) ≡ a .k)
+count : (l : tie.At-loop Inv-loop μ-loop) → (let a = start l .args in length (partOf (now (a .words)) (a .n) (a .k)) ≡ a .k)
 count l = let a = start l .args in part-length (now (a .words)) (a .n) (a .k) (start l .pre .0)
 
 put-byte-requires : tie.Need-put-byte-requires Inv-loop μ-loop
 put-byte-requires c κs =
     let s = c .before .before .before in
     let a = s .args in
-    charset-first (now (a .out)) (a .at) (part (now (a .words)) (a .n) (a .k)) (s .pre .1)
+    charset-first (now (a .out)) (a .at) (partOf (now (a .words)) (a .n) (a .k)) (s .pre .1)
 
 loop-holds : tie.Need-loop-holds Inv-loop μ-loop
 loop-holds c old w room = charset-start _ _ _ room w
@@ -73,7 +73,7 @@ loop-again c old v room =
     let t = e .before .before in
     let l = t .before in
     let a = start l .args in
-    let i : e .wide .result ≡ getD (part (now (a .words)) (a .n) (a .k)) (l .loop .g) 0 = e .wide .ensures .0 ∙ sym (part-at (now (a .words)) (a .n) (a .k) (l .loop .g) (t .loop-test .taken)) in
+    let i : e .wide .result ≡ getD (partOf (now (a .words)) (a .n) (a .k)) (l .loop .g) 0 = e .wide .ensures .0 ∙ sym (part-at (now (a .words)) (a .n) (a .k) (l .loop .g) (t .loop-test .taken)) in
     charset-next old _ _ room (l .loop .inv old v room) (omega (arith, count l, t .loop-test .taken)) i (d .put-num .ensures)
 
 same-length : tie.Need-same-length Inv-loop μ-loop

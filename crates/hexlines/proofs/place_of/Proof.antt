@@ -5,7 +5,7 @@ use native.Mathlib.Omega.{arith}
 use borrow.Author.Needs.{needs}
 use lib.Seq.{slice}
 use denote.Ref.{now}
-use Rattle.hexlines.specs.Hexlines.{before}
+use Rattle.octets.specs.Lists.{before}
 use Rattle.hexlines.specs.HexlinesLaws.{before-here, before-next, before-none}
 use Rattle.hexlines.proofs.place_of.Statement.{statement}
 use Rattle.hexlines.proofs.place_of.Tie as tie

@@ -4,7 +4,7 @@ use mathlib.Core.Path.{_≡_, refl, sym, _∙_}
 use native.Mathlib.Omega.{arith}
 use borrow.Author.Needs.{needs}
 use lib.ListN.{length, drop}
-use Rattle.subset.specs.Cut.{allBelow}
+use Rattle.octets.specs.Lists.{allBelow}
 use Rattle.kept.specs.MarkLaws.{below-stops, below-goes-on, below-done}
 use Rattle.kept.proofs.keep_below.Statement.{statement}
 use Rattle.kept.proofs.keep_below.Tie as tie

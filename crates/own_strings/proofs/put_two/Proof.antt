@@ -1,6 +1,6 @@
 -- `own_strings::put_two` meets its contract: two stores.
-use Rattle.own_strings.specs.TurnLaws.{put-two}
 use borrow.Author.Needs.{needs}
+use Rattle.octets.specs.PutLaws.{put-two}
 use Rattle.own_strings.proofs.put_two.Statement.{statement}
 use Rattle.own_strings.proofs.put_two.Tie as tie
 

@@ -1,7 +1,7 @@
 -- `own_strings::slot_of` meets its contract: by what the entry holds.
 use mathlib.Core.Path.{_≡_, refl, sym, ap, _∙_}
-use Rattle.own_strings.specs.Slots.{slotOf}
 use borrow.Author.Needs.{needs}
+use Rattle.subset.specs.Texts.{slotOf}
 use Rattle.own_strings.proofs.slot_of.Statement.{statement}
 use Rattle.own_strings.proofs.slot_of.Tie as tie
 

@@ -9,13 +9,13 @@ use Rattle.parts.proofs.globals_len.Tie as tie
 kept-count-requires : tie.Need-kept-count-requires
 kept-count-requires c κs = search needs
 
-any-index-len-requires : tie.Need-any-index-len-requires
-any-index-len-requires c κs = search needs
+index-len-requires : tie.Need-index-len-requires
+index-len-requires c κs = search needs
 
 returns : tie.Need-returns
 returns c =
-    let l = c .any-index-len .ensures in
+    let l = c .index-len .ensures in
     (l .0 ∙ ap (λ (n : ℕ). indexLen n (c .before .before .before .args .r .«globals_total»)) (c .before .kept-count .ensures), l .1)
 
 pub globals-len-spec : {M : Type 1} → statement M
-globals-len-spec = tie.close (tie.spec kept-count-requires any-index-len-requires returns)
+globals-len-spec = tie.close (tie.spec kept-count-requires index-len-requires returns)

@@ -4,8 +4,8 @@ use mathlib.Core.Path.{ap, _∙_}
 use mathlib.Core.List.{List}
 use lib.ListN.{length}
 use native.Mathlib.Omega.{arith}
+use Rattle.octets.specs.ListLaws.{span}
 use Rattle.dict.specs.Places.{entriesOf}
-use Rattle.cff.specs.ReadsLaws.{part-sized}
 use Rattle.private_dicts.specs.PrivatesLaws.{part-few}
 use Rattle.private_dicts.specs.Privates.{privateDictBy}
 use Rattle.private_dicts.proofs.dict_len.Statement.{statement}
@@ -27,7 +27,7 @@ bytes-len-requires : tie.Need-bytes-len-requires
 bytes-len-requires c κs = let s = c .before .before .before in part-few (s .args .font .now) (s .args .q .start) (s .args .q .start + s .args .q .size - s .args .q .start) _ (s .pre .0)
 
 returns : tie.Need-returns
-returns c = let s = c .before .before .before .before in c .bytes-len .ensures ∙ ap (λ (d : List ℕ). length (privateDictBy (entriesOf d) (s .args .left))) (part-sized (s .args .font .now) (s .args .q .start) (s .args .q .size))
+returns c = let s = c .before .before .before .before in c .bytes-len .ensures ∙ ap (λ (d : List ℕ). length (privateDictBy (entriesOf d) (s .args .left))) (span (s .args .font .now) (s .args .q .start) (s .args .q .size))
 
 pub dict-len-spec : {M : Type 1} → statement M
 dict-len-spec =

@@ -5,10 +5,10 @@ use mathlib.Core.List.{List}
 use native.Mathlib.Omega.{arith}
 use Rattle.octets.specs.PutLaws.{wrote-as}
 use Rattle.dict.specs.Places.{entriesOf}
-use Rattle.cff.specs.ReadsLaws.{part-sized}
 use Rattle.private_dicts.specs.PrivatesLaws.{part-asked}
 use Rattle.private_dicts.specs.Privates.{privateDictBy}
 use borrow.Author.Needs.{needs}
+use Rattle.octets.specs.ListLaws.{span}
 use Rattle.private_dicts.proofs.put_dict.Statement.{statement}
 use Rattle.private_dicts.proofs.put_dict.Tie as tie
 
@@ -31,7 +31,7 @@ same-length : tie.Need-same-length
 same-length c = search needs
 
 returns : tie.Need-returns
-returns c = let s = c .before .before .before .before .before .before .before .before in wrote-as (c .before .before .put-bytes .ensures) (ap (λ (d : List ℕ). privateDictBy (entriesOf d) (s .args .left)) (part-sized (s .args .font .now) (s .args .q .start) (s .args .q .size)))
+returns c = let s = c .before .before .before .before .before .before .before .before in wrote-as (c .before .before .put-bytes .ensures) (ap (λ (d : List ℕ). privateDictBy (entriesOf d) (s .args .left)) (span (s .args .font .now) (s .args .q .start) (s .args .q .size)))
 
 pub put-dict-spec : {M : Type 1} → statement M
 put-dict-spec =

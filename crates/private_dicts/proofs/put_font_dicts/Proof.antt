@@ -5,18 +5,19 @@ use mathlib.Core.List.{List, []}
 use native.Mathlib.Omega.{arith}
 use lib.ListN.{length, take, getD}
 use denote.Ref.{now}
+use Rattle.octets.specs.Lists.{sumOf}
 use Rattle.dict_write.specs.Written.{privateEntry}
 use Rattle.index.specs.Write.{total}
 use Rattle.index.specs.WriteLaws.{head-room}
 use Rattle.index.specs.Begun.{Meant, Begun}
 use Rattle.index.specs.BegunLaws.{for-meant, wrote-item, begun-none, begun-length, begun-room, begun-end, begun-more, begun-whole}
-use Rattle.private_dicts.specs.Privates.{sum, fontDictsBy}
+use Rattle.private_dicts.specs.Privates.{fontDictsBy}
 use Rattle.private_dicts.specs.DictsLaws.{start-place, dicts-many, dicts-total, dicts-at, place-small, place-next}
 use Rattle.private_dicts.proofs.put_font_dicts.Statement.{statement}
 use Rattle.private_dicts.proofs.put_font_dicts.Tie as tie
 
 abbrev Inv-loop : tie.InvT-loop
-Inv-loop sizes lens count from out₀ at ix p₀ place₀ k₀ out p place k = (k ≤ count) × (place ≡ from + sum (take k lens)) × (Begun out₀ ix (fontDictsBy sizes lens count from) k out p)
+Inv-loop sizes lens count from out₀ at ix p₀ place₀ k₀ out p place k = (k ≤ count) × (place ≡ from + sumOf (take k lens)) × (Begun out₀ ix (fontDictsBy sizes lens count from) k out p)
 
 abbrev μ-loop : tie.MeasureT-loop
 μ-loop sizes lens count from out₀ at ix p₀ place₀ k₀ out p place k = count - k
@@ -56,7 +57,7 @@ item c = dicts-at _ _ _ _ (S₁ (H₁ (c .before)) .pre .0) _ _ (c .loop-test .t
 -- the place of the next part
 next : (c : tie.In-loop Inv-loop μ-loop)
     → (let s = S₁ (H₁ (c .before)) in
-    c .before .loop .place + getD (now (s .args .lens)) (c .before .loop .k) 0 ≡ s .args .from + sum (take (c .before .loop .k + 1) (now (s .args .lens))))
+    c .before .loop .place + getD (now (s .args .lens)) (c .before .loop .k) 0 ≡ s .args .from + sumOf (take (c .before .loop .k + 1) (now (s .args .lens))))
 next c = place-next _ _ _ _ (S₁ (H₁ (c .before)) .pre .0) _ _ (c .loop-test .taken) (c .before .loop .inv .1)
 
 mul-index-for : tie.Need-mul-index-for Inv-loop μ-loop

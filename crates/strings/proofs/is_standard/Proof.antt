@@ -3,8 +3,9 @@ use mathlib.Core.Path.{refl, ap, _∙_}
 use denote.Ref.{now}
 use Rattle.strings.specs.Table.{standardNames, standardOffsets}
 use Rattle.strings.specs.Text.{codes, sameText}
-use Rattle.strings.specs.Strings.{joined, standardStrings, standardText}
+use Rattle.strings.specs.Strings.{standardStrings, standardText}
 use borrow.Author.Needs.{needs}
+use Rattle.octets.specs.Lists.{joined}
 use Rattle.strings.proofs.is_standard.Statement.{statement}
 use Rattle.strings.proofs.is_standard.Tie as tie
 

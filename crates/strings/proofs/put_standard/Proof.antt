@@ -5,8 +5,9 @@ use lib.ListN.{length}
 use Rattle.octets.specs.PutLaws.{wrote-as}
 use Rattle.strings.specs.Table.{standardNames, standardOffsets}
 use Rattle.strings.specs.Text.{codes}
-use Rattle.strings.specs.Strings.{joined, standardStrings, standardText}
+use Rattle.strings.specs.Strings.{standardStrings, standardText}
 use borrow.Author.Needs.{needs}
+use Rattle.octets.specs.Lists.{joined}
 use Rattle.strings.proofs.put_standard.Statement.{statement}
 use Rattle.strings.proofs.put_standard.Tie as tie
 

@@ -1,8 +1,9 @@
 -- `strings::sid_of` meets its contract: the code's tables are those of the definitions, over which the search finds the id.
 use mathlib.Core.Path.{refl}
+use Rattle.octets.specs.Lists.{joined}
 use Rattle.strings.specs.Table.{standardNames, standardOffsets, standardOrder}
 use Rattle.strings.specs.Text.{codes}
-use Rattle.strings.specs.Strings.{joined, standardStrings, standardText}
+use Rattle.strings.specs.Strings.{standardStrings, standardText}
 use Rattle.strings.proofs.sid_of.Statement.{statement}
 use Rattle.strings.proofs.sid_of.Tie as tie
 

@@ -1,6 +1,7 @@
 -- `cff::private::private_data` meets its contract: its tests are those of `privateData`, in order.
-use Rattle.cff.specs.ReadsLaws.{part-sized, private-short, private-bad, private-unread, private-found}
+use Rattle.cff.specs.ReadsLaws.{private-short, private-bad, private-unread, private-found}
 use borrow.Author.Needs.{needs}
+use Rattle.octets.specs.ListLaws.{span}
 use Rattle.cff.proofs.private.private_data.Statement.{statement}
 use Rattle.cff.proofs.private.private_data.Tie as tie
 
@@ -23,7 +24,7 @@ check-dict-requires : tie.Need-check-dict-requires
 check-dict-requires c κs = search needs
 
 returns-2 : tie.Need-returns-2
-returns-2 c = private-bad _ _ _ (c .before .before .before .if1 .left) _ (part-sized (c .before .before .before .before .before .args .font .now) (c .before .before .before .before .before .args .offset) (c .before .before .before .before .before .args .size)) _ (c .before .check-dict .ensures) (c .if2 .taken)
+returns-2 c = private-bad _ _ _ (c .before .before .before .if1 .left) _ (span (c .before .before .before .before .before .args .font .now) (c .before .before .before .before .before .args .offset) (c .before .before .before .before .before .args .size)) _ (c .before .check-dict .ensures) (c .if2 .taken)
 
 locals-at-requires : tie.Need-locals-at-requires
 locals-at-requires c κs = search needs
@@ -35,10 +36,10 @@ enum-known-subrs-2 : tie.Need-enum-known-subrs-2
 enum-known-subrs-2 c = search needs
 
 returns-3 : tie.Need-returns-3
-returns-3 c = private-unread _ _ _ (c .before .before .before .before .before .before .before .if1 .left) _ (part-sized (c .before .before .before .before .before .before .before .before .before .args .font .now) (c .before .before .before .before .before .before .before .before .before .args .offset) (c .before .before .before .before .before .before .before .before .before .args .size)) _ (c .before .before .before .before .before .check-dict .ensures) (c .before .before .before .before .if2 .left) _ (c .before .before .before .locals-at .ensures) _ (c .before .subrs .given .1)
+returns-3 c = private-unread _ _ _ (c .before .before .before .before .before .before .before .if1 .left) _ (span (c .before .before .before .before .before .before .before .before .before .args .font .now) (c .before .before .before .before .before .before .before .before .before .args .offset) (c .before .before .before .before .before .before .before .before .before .args .size)) _ (c .before .before .before .before .before .check-dict .ensures) (c .before .before .before .before .if2 .left) _ (c .before .before .before .locals-at .ensures) _ (c .before .subrs .given .1)
 
 returns-4 : tie.Need-returns-4
-returns-4 c = private-found _ _ _ (c .before .before .before .before .before .before .before .if1 .left) _ (part-sized (c .before .before .before .before .before .before .before .before .before .args .font .now) (c .before .before .before .before .before .before .before .before .before .args .offset) (c .before .before .before .before .before .before .before .before .before .args .size)) _ (c .before .before .before .before .before .check-dict .ensures) (c .before .before .before .before .if2 .left) _ (c .before .before .before .locals-at .ensures) _ (c .before .subrs2 .given .1)
+returns-4 c = private-found _ _ _ (c .before .before .before .before .before .before .before .if1 .left) _ (span (c .before .before .before .before .before .before .before .before .before .args .font .now) (c .before .before .before .before .before .before .before .before .before .args .offset) (c .before .before .before .before .before .before .before .before .before .args .size)) _ (c .before .before .before .before .before .check-dict .ensures) (c .before .before .before .before .if2 .left) _ (c .before .before .before .locals-at .ensures) _ (c .before .subrs2 .given .1)
 
 pub private-data-spec : {M : Type 1} → statement M
 private-data-spec =

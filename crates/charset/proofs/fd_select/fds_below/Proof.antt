@@ -4,8 +4,8 @@ use mathlib.Core.Path.{_≡_, sym, ap, _∙_, subst}
 use native.Mathlib.Omega.{arith}
 use borrow.Author.Needs.{needs}
 use denote.Ref.{now}
+use Rattle.octets.specs.Lists.{allBelow}
 use Rattle.charset.specs.Listed.{listOf}
-use Rattle.charset.specs.FdSelect.{allBelow}
 use Rattle.charset.specs.FdPlaces.{fdOf, fdsOf, StandsFd}
 use Rattle.charset.specs.FdCursorLaws.{fd-start, fd-ready, fd-step, fd-next}
 use Rattle.charset.specs.FdBelowLaws.{below-stops, below-goes-on, below-done}

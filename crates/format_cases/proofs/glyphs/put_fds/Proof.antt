@@ -7,6 +7,8 @@ use lib.ListN.{length, drop}
 use denote.Ref.{now}
 use Rattle.octets.specs.Octets.{Wrote}
 use Rattle.octets.specs.OctetsLaws.{length-bytes}
+use Rattle.index.specs.Write.{tableBytes}
+use Rattle.index.specs.WriteLaws.{length-table}
 use Rattle.charset.specs.ListedLaws.{list-length}
 use Rattle.charset.specs.FdPlaces.{fdOf, fdsOf, StandsFd}
 use Rattle.charset.specs.FdCursorLaws.{fd-start, fd-ready, fd-step, fd-next}
@@ -15,8 +17,7 @@ use Rattle.charset.specs.declared.fd_select.FdSelect.{FdSelect}
 use Rattle.charset.specs.declared.fd_select.FdCursor.{FdCursor}
 use Rattle.charset.specs.declared.fd_select.FdStep.{FdStep}
 use Rattle.cases.specs.Writing.{Writing, writing-start, writing-turn, writing-end}
-use Rattle.format_cases.specs.Glyphs.{numbersBytes}
-use Rattle.format_cases.specs.GlyphsLaws.{numbers-length, numbers-next, numbers-none}
+use Rattle.format_cases.specs.GlyphsLaws.{numbers-next, numbers-none}
 use Rattle.format_cases.proofs.glyphs.put_fds.Statement.{statement}
 use Rattle.format_cases.proofs.glyphs.put_fds.Tie as tie
 
@@ -27,7 +28,7 @@ of u = record { count = u .count; first = u .end; wide = u .wide; at = u .at }
 abbrev Inv-loop : tie.InvT-loop
 Inv-loop font n out₀ at u₀ p₀ g₀ out u p g =
     StandsFd font (of u₀) g u × (g ≤ n) × (p ≡ at + g)
-    × Writing out₀ at (numbersBytes 1 (fdsOf font (of u₀) n)) out p (numbersBytes 1 (drop g (fdsOf font (of u₀) n)))
+    × Writing out₀ at (tableBytes 1 (fdsOf font (of u₀) n)) out p (tableBytes 1 (drop g (fdsOf font (of u₀) n)))
 
 abbrev μ-loop : tie.MeasureT-loop
 μ-loop font n out₀ at u₀ p₀ g₀ out u p g = n - g
@@ -74,7 +75,7 @@ loop-again c =
       subst (λ (r : FdStep). StandsFd (now (a .font)) s (l .g + 1) (r .next)) (sym e) (fd-next _ _ _ _ (i .0)),
       omega arith,
       omega (arith, w .behind, length-bytes 1 (c .before .before .before .before .wide .result), i .2),
-      writing-turn (i .3) _ _ (numbers-next 1 fds (l .g) _ h here) (omega (arith, numbers-length 1 fds, m, c .before .before .before .before .before .before .before .before .before .before .before .before .pre .2)) _ _ w,
+      writing-turn (i .3) _ _ (numbers-next 1 fds (l .g) _ h here) (omega (arith, length-table 1 fds, m, c .before .before .before .before .before .before .before .before .before .before .before .before .pre .2)) _ _ w,
     )
 
 same-length : tie.Need-same-length Inv-loop μ-loop
@@ -87,7 +88,7 @@ returns c =
     let e = c .before .before .fd-select-start .ensures in
     let s = of (c .before .before .fd-select-start .result) in
     let m : length (fdsOf (now (a .font)) s (a .n)) ≡ a .n = list-length (fdOf (now (a .font)) s) 0 (a .n) in
-    subst (λ (v : FdCursor). Wrote (now (a .out)) (a .at) (numbersBytes 1 (fdsOf (now (a .font)) (of v) (a .n))) (l .out) (l .p)) e
+    subst (λ (v : FdCursor). Wrote (now (a .out)) (a .at) (tableBytes 1 (fdsOf (now (a .font)) (of v) (a .n))) (l .out) (l .p)) e
     (writing-end (l .inv .3) (numbers-none 1 _ (l .g) (omega (arith, m, l .inv .1, c .loop-test .left))))
 
 pub put-fds-spec : {M : Type 1} → statement M

@@ -7,14 +7,15 @@ use lib.ListN.{length, drop}
 use denote.Ref.{now}
 use Rattle.octets.specs.Octets.{Wrote}
 use Rattle.octets.specs.OctetsLaws.{length-bytes}
+use Rattle.index.specs.Write.{tableBytes}
+use Rattle.index.specs.WriteLaws.{length-table}
 use Rattle.charset.specs.CharsetPlaces.{idsOf, StandsId}
 use Rattle.charset.specs.CharsetFound.{good-length, id-start, id-ready, id-step, id-next}
 use Rattle.charset.specs.declared.Charset.{Charset}
 use Rattle.charset.specs.declared.CharsetCursor.{CharsetCursor}
 use Rattle.charset.specs.declared.IdStep.{IdStep}
 use Rattle.cases.specs.Writing.{Writing, writing-start, writing-turn, writing-end}
-use Rattle.format_cases.specs.Glyphs.{numbersBytes}
-use Rattle.format_cases.specs.GlyphsLaws.{numbers-length, numbers-next, numbers-none}
+use Rattle.format_cases.specs.GlyphsLaws.{numbers-next, numbers-none}
 use Rattle.format_cases.proofs.glyphs.put_ids.Statement.{statement}
 use Rattle.format_cases.proofs.glyphs.put_ids.Tie as tie
 
@@ -25,7 +26,7 @@ of u = record { own = u .left; width = u .width; at = u .at }
 abbrev Inv-loop : tie.InvT-loop
 Inv-loop font n out₀ at u₀ p₀ g₀ out u p g =
     StandsId font u (drop g (idsOf font (of u₀) n)) × (g ≤ n) × (length (idsOf font (of u₀) n) ≡ n) × (p ≡ at + 2 * g)
-    × Writing out₀ at (numbersBytes 2 (idsOf font (of u₀) n)) out p (numbersBytes 2 (drop g (idsOf font (of u₀) n)))
+    × Writing out₀ at (tableBytes 2 (idsOf font (of u₀) n)) out p (tableBytes 2 (drop g (idsOf font (of u₀) n)))
 
 abbrev μ-loop : tie.MeasureT-loop
 μ-loop font n out₀ at u₀ p₀ g₀ out u p g = n - g
@@ -75,7 +76,7 @@ loop-again c =
       omega arith,
       i .2,
       omega (arith, w .behind, length-bytes 2 (c .before .before .before .before .before .next-id .result .id), i .3),
-      writing-turn (i .4) _ _ (numbers-next 2 ids (l .g) _ h here) (omega (arith, numbers-length 2 ids, i .2, c .before .before .before .before .before .before .before .before .before .before .before .pre .1)) _ _ w,
+      writing-turn (i .4) _ _ (numbers-next 2 ids (l .g) _ h here) (omega (arith, length-table 2 ids, i .2, c .before .before .before .before .before .before .before .before .before .before .before .pre .1)) _ _ w,
     )
 
 same-length : tie.Need-same-length Inv-loop μ-loop
@@ -86,7 +87,7 @@ returns c =
     let l = c .before .loop in
     let a = c .before .before .before .before .before .args in
     let e = c .before .before .charset-start .ensures in
-    subst (λ (v : CharsetCursor). Wrote (now (a .out)) (a .at) (numbersBytes 2 (idsOf (now (a .font)) (of v) (a .n))) (l .out) (l .p)) e
+    subst (λ (v : CharsetCursor). Wrote (now (a .out)) (a .at) (tableBytes 2 (idsOf (now (a .font)) (of v) (a .n))) (l .out) (l .p)) e
     (writing-end (l .inv .4) (numbers-none 2 _ (l .g) (omega (arith, l .inv .2, l .inv .1, c .loop-test .left))))
 
 pub put-ids-spec : {M : Type 1} → statement M

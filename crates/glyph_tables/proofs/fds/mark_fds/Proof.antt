@@ -5,14 +5,14 @@ use mathlib.Core.Path.{_≡_, sym, _∙_}
 use native.Mathlib.Omega.{arith}
 use denote.Ref.{now}
 use lib.ListN.{length, getD}
-use Rattle.glyph_tables.specs.Tables.{part}
+use Rattle.octets.specs.Lists.{partOf}
 use Rattle.glyph_tables.specs.PartLaws.{part-length, part-at}
 use Rattle.glyph_tables.specs.MarkLaws.{FdsMarked, marked-start, marked-next, marked-done}
 use Rattle.glyph_tables.proofs.fds.mark_fds.Statement.{statement}
 use Rattle.glyph_tables.proofs.fds.mark_fds.Tie as tie
 
 abbrev Inv-loop : tie.InvT-loop
-Inv-loop words n k marks₀ g₀ marks g = FdsMarked (part words n k) marks₀ marks g
+Inv-loop words n k marks₀ g₀ marks g = FdsMarked (partOf words n k) marks₀ marks g
 
 abbrev μ-loop : tie.MeasureT-loop
 μ-loop words n k marks₀ g₀ marks g = k - g
@@ -22,12 +22,12 @@ abbrev start : tie.At-loop Inv-loop μ-loop → tie.Start Inv-loop μ-loop
 start l = l .before .before .before
 
 -- how many FDs there are
-count : (l : tie.At-loop Inv-loop μ-loop) → (let a = start l .args in length (part (now (a .words)) (a .n) (a .k)) ≡ a .k)
+count : (l : tie.At-loop Inv-loop μ-loop) → (let a = start l .args in length (partOf (now (a .words)) (a .n) (a .k)) ≡ a .k)
 count l = let a = start l .args in part-length (now (a .words)) (a .n) (a .k) (start l .pre .0)
 
 -- the FD that was read
 fd : (c : tie.After-wide Inv-loop μ-loop) → (let l = c .before .before .before in let a = start l .args in
-    c .wide .result ≡ getD (part (now (a .words)) (a .n) (a .k)) (l .loop .g) 0)
+    c .wide .result ≡ getD (partOf (now (a .words)) (a .n) (a .k)) (l .loop .g) 0)
 fd c =
     let t = c .before .before in
     let l = t .before in

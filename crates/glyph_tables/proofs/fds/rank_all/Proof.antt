@@ -1,7 +1,7 @@
 -- `fds::rank_all` meets its contract: words that are cleared, marked and counted.
 use borrow.Author.Needs.{needs}
 use denote.Ref.{now}
-use Rattle.glyph_tables.specs.Tables.{part}
+use Rattle.octets.specs.Lists.{partOf}
 use Rattle.glyph_tables.specs.MarkLaws.{ranked-fds}
 use Rattle.glyph_tables.proofs.fds.rank_all.Statement.{statement}
 use Rattle.glyph_tables.proofs.fds.rank_all.Tie as tie
@@ -25,7 +25,7 @@ returns c =
     let z = m .before .before .before .before in
     let s = z .before .before .before .before in
     let a = s .args in
-    ranked-fds (part (now (a .words)) (a .n) (a .k)) (now (a .table)) _ _ _ _ (s .pre .1) (z .clear .ensures) (m .mark-fds .ensures) (r .rank-marks .ensures)
+    ranked-fds (partOf (now (a .words)) (a .n) (a .k)) (now (a .table)) _ _ _ _ (s .pre .1) (z .clear .ensures) (m .mark-fds .ensures) (r .rank-marks .ensures)
 
 pub rank-all-spec : {M : Type 1} → statement M
 rank-all-spec =

@@ -6,16 +6,17 @@ use mathlib.Core.List.{List}
 use native.Mathlib.Omega.{arith}
 use denote.Ref.{now}
 use lib.ListN.{length, take, getD}
+use Rattle.octets.specs.Lists.{partOf}
 use Rattle.charset.specs.FdWriter.{Pushed}
 use Rattle.charset.specs.FdWriterLaws.{push-begun, push-room, push-more, finish-room, push-finished}
-use Rattle.glyph_tables.specs.Tables.{part, newFdsBy}
+use Rattle.glyph_tables.specs.Tables.{newFdsBy}
 use Rattle.glyph_tables.specs.SelectLaws.{select-count, select-at, select-number, select-counts, select-pushed}
 use Rattle.glyph_tables.proofs.select.put_select.Statement.{statement}
 use Rattle.glyph_tables.proofs.select.put_select.Tie as tie
 
 abbrev Inv-loop : tie.InvT-loop
 Inv-loop words n k table out₀ at w₀ g₀ out w g =
-    (g ≤ k) × (length out ≡ length out₀) × Pushed out₀ at (take g (newFdsBy table (part words n k))) out w
+    (g ≤ k) × (length out ≡ length out₀) × Pushed out₀ at (take g (newFdsBy table (partOf words n k))) out w
 
 abbrev μ-loop : tie.MeasureT-loop
 μ-loop words n k table out₀ at w₀ g₀ out w g = k - g
@@ -25,7 +26,7 @@ abbrev start : tie.At-loop Inv-loop μ-loop → tie.Start Inv-loop μ-loop
 start l = l .before .before .before .before .before
 
 abbrev fdsOf : tie.At-loop Inv-loop μ-loop → List ℕ
-fdsOf l = let a = start l .args in newFdsBy (now (a .table)) (part (now (a .words)) (a .n) (a .k))
+fdsOf l = let a = start l .args in newFdsBy (now (a .table)) (partOf (now (a .words)) (a .n) (a .k))
 
 -- a glyph is left
 few : (t : tie.In-loop Inv-loop μ-loop) → t .before .loop .g < length (fdsOf (t .before))
@@ -54,7 +55,7 @@ begin-requires c κs = search needs
 loop-holds : tie.Need-loop-holds Inv-loop μ-loop
 loop-holds c =
     let a = c .before .before .before .before .args in
-    (omega arith, refl, push-begun (now (a .out)) (a .at) (newFdsBy (now (a .table)) (part (now (a .words)) (a .n) (a .k))) _ (c .begin .ensures))
+    (omega arith, refl, push-begun (now (a .out)) (a .at) (newFdsBy (now (a .table)) (partOf (now (a .words)) (a .n) (a .k))) _ (c .begin .ensures))
 
 add-new-fd : tie.Need-add-new-fd Inv-loop μ-loop
 add-new-fd c = search needs

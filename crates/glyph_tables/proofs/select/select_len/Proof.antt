@@ -6,15 +6,16 @@ use mathlib.Core.List.{List}
 use native.Mathlib.Omega.{arith}
 use denote.Ref.{now}
 use lib.ListN.{length, take, getD}
+use Rattle.octets.specs.Lists.{partOf}
 use Rattle.charset.specs.FdWriter.{writerOf, CanCount}
 use Rattle.charset.specs.FdWriterLaws.{count-more}
-use Rattle.glyph_tables.specs.Tables.{part, newFdsBy}
+use Rattle.glyph_tables.specs.Tables.{newFdsBy}
 use Rattle.glyph_tables.specs.SelectLaws.{select-count, select-at, select-number, select-counts, select-measured}
 use Rattle.glyph_tables.proofs.select.select_len.Statement.{statement}
 use Rattle.glyph_tables.proofs.select.select_len.Tie as tie
 
 abbrev Inv-loop : tie.InvT-loop
-Inv-loop words n k table w₀ g₀ w g = (g ≤ k) × (w ≡ writerOf 0 (take g (newFdsBy table (part words n k))))
+Inv-loop words n k table w₀ g₀ w g = (g ≤ k) × (w ≡ writerOf 0 (take g (newFdsBy table (partOf words n k))))
 
 abbrev μ-loop : tie.MeasureT-loop
 μ-loop words n k table w₀ g₀ w g = k - g
@@ -24,7 +25,7 @@ abbrev start : tie.At-loop Inv-loop μ-loop → tie.Start Inv-loop μ-loop
 start l = l .before .before .before .before
 
 abbrev fdsOf : tie.At-loop Inv-loop μ-loop → List ℕ
-fdsOf l = let a = start l .args in newFdsBy (now (a .table)) (part (now (a .words)) (a .n) (a .k))
+fdsOf l = let a = start l .args in newFdsBy (now (a .table)) (partOf (now (a .words)) (a .n) (a .k))
 
 -- the writer can count on
 counts : (l : tie.At-loop Inv-loop μ-loop) → CanCount (l .loop .w)

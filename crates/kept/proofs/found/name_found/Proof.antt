@@ -2,9 +2,10 @@
 use mathlib.Core.Path.{refl}
 use Rattle.strings.specs.Table.{standardNames, standardOffsets}
 use Rattle.strings.specs.Text.{codes}
-use Rattle.strings.specs.Strings.{joined, standardStrings, standardText}
+use Rattle.strings.specs.Strings.{standardStrings, standardText}
 use Rattle.kept.specs.FoundLaws.{name-by}
 use borrow.Author.Needs.{needs}
+use Rattle.octets.specs.Lists.{joined}
 use Rattle.kept.proofs.found.name_found.Statement.{statement}
 use Rattle.kept.proofs.found.name_found.Tie as tie
 

@@ -2,10 +2,11 @@
 use mathlib.Core.Path.{refl}
 use Rattle.strings.specs.Table.{standardNames, standardOffsets}
 use Rattle.strings.specs.Text.{codes}
-use Rattle.strings.specs.Strings.{joined, standardStrings, standardText}
+use Rattle.strings.specs.Strings.{standardStrings, standardText}
 use Rattle.kept.specs.HashLaws.{marks-long, told-as}
 use Rattle.kept.specs.declared.found.Told.the-variants.{Yes, No}
 use borrow.Author.Needs.{needs}
+use Rattle.octets.specs.Lists.{joined}
 use Rattle.kept.proofs.found.names_found.Statement.{statement}
 use Rattle.kept.proofs.found.names_found.Tie as tie
 

@@ -36,17 +36,17 @@ index-len-requires c κs = search needs
 add-at5 : tie.Need-add-at5
 add-at5 c =
     let h = c .before .pre in
-    omega (arith, c .index-len .ensures, dicts-short (c .before .args .count) (h .fds), h .front-small, h .globals-small, h .few, h .select-small, h .glyphs-small)
+    omega (arith, c .index-len .ensures .0, dicts-short (c .before .args .count) (h .fds), h .front-small, h .globals-small, h .few, h .select-small, h .glyphs-small)
 
 add-t14 : tie.Need-add-t14
 add-t14 c =
     let h = c .before .pre in
-    omega (arith, c .index-len .ensures, dicts-short (c .before .args .count) (h .fds), h .front-small, h .globals-small, h .few, h .select-small, h .glyphs-small, h .all-small)
+    omega (arith, c .index-len .ensures .0, dicts-short (c .before .args .count) (h .fds), h .front-small, h .globals-small, h .few, h .select-small, h .glyphs-small, h .all-small)
 
 returns : tie.Need-returns
 unfolding placesBy
 returns c =
-    rw (c .index-len .ensures)
+    rw (c .index-len .ensures .0)
 
 pub place-parts-spec : {M : Type 1} → statement M
 place-parts-spec =
