@@ -7,7 +7,8 @@
    bytes are. None keeps anything from one call to the next or allocates; of other libraries they call memcpy and memset alone.
 
    A slice is a pointer and the number of its elements. What is lent for writing must not overlap what else is lent, and a
-   uint16_t, uint32_t or uint64_t must be aligned. Beyond this there is nothing that a caller must keep.
+   uint16_t, uint32_t or uint64_t must be aligned. The calling thread must have STACK of stack free for cff_subset and cff_subset_cid.
+   Beyond this there is nothing that a caller must keep.
 
    Each function returns 0, or the number of a refusal. With 0 the answer stands at the start of what was lent for it, and the rest
    stays as it was. With a refusal nothing is written, work words apart. The refusals of reading come first, then
@@ -75,9 +76,10 @@ uint8_t cff_item(const uint8_t *font, size_t font_len, uint8_t kind, uint64_t nu
 /* The refusal of that lookup, or 0. Nothing is lent, so it is never CFF_OUTPUT. */
 uint8_t cff_item_refusal(const uint8_t *font, size_t font_len, uint8_t kind, uint64_t number);
 
-/* Cuts a name-keyed font to glyph 0 and the glyphs of the keep list, under a new name. record is the reach record, and traced its
-   flag, 0 or 1. Writes the subset to the start of out, and answers two words: the way and the length. A kept glyph that is plain, and
-   for which the record lists what it meets, or the flag is 0, is found in the subset by its name and unfolds there to the same list.
+/* Cuts a name-keyed font to glyph 0 and the glyphs of the keep list, under a new name. record is the reach record, ten bytes a row
+   in any order (rising order is the fastest: in another each hint mask passes over all rows), and traced its flag, 0 or 1. Writes
+   the subset to the start of out, and answers two words: the way and the length. A kept glyph that is plain, and for which the
+   record lists what it meets, or the flag is 0, is found in the subset by its name and unfolds there to the same list.
 
    The refusals are reading's, then CFF_UNSUPPORTED, CFF_MALFORMED, CFF_TOO_LONG, CFF_NO_SUCH_NUMBER, CFF_NOT_FOUND, CFF_RECORD,
    CFF_WORK_WORDS, CFF_STRING_ID, CFF_SUBSET, CFF_OUTPUT, in this order; CFF_OUTPUT also for fewer than two words of answer. With
