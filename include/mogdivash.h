@@ -7,7 +7,7 @@
    bytes are. None keeps anything from one call to the next or allocates; of other libraries they call memcpy and memset alone.
 
    A slice is a pointer and the number of its elements. What is lent for writing must not overlap what else is lent, and a
-   uint16_t, uint32_t or uint64_t must be aligned. The calling thread must have STACK of stack free for cff_subset and cff_subset_cid.
+   uint16_t, uint32_t or uint64_t must be aligned. The calling thread must have 1.5 MiB of stack free for cff_subset and cff_subset_cid.
    Beyond this there is nothing that a caller must keep.
 
    Each function returns 0, or the number of a refusal. With 0 the answer stands at the start of what was lent for it, and the rest

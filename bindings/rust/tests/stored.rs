@@ -91,8 +91,17 @@ fn reading_finding_and_items() {
     assert!(asked > 1000, "{asked} cases of fonts that are read");
 }
 
+/// The stack that subsetting takes at most, as include/mogdivash.h says.
+const STACK: usize = 3 << 19;
+
 #[test]
 fn subsets() {
+    let thread = std::thread::Builder::new().stack_size(STACK);
+    let run = thread.spawn(subsets_in_thread).expect("a thread");
+    run.join().expect("all cases agree");
+}
+
+fn subsets_in_thread() {
     let mut cut = 0;
     for (kind, mut input, mut answer) in lines("subset") {
         let length = input.number(2);
