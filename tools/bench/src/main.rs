@@ -24,7 +24,7 @@ mod record;
 use std::process::ExitCode;
 use std::{env, fs};
 
-const USAGE: &str = "usage: tools/bench/run fonts|growth [FILE...]";
+const USAGE: &str = "usage: tools/bench/run all|fonts|growth [FILE...]";
 
 /// The files that are named, or all of target/fonts.
 fn fonts(named: &[String]) -> Vec<(String, Vec<u8>)> {
@@ -51,6 +51,11 @@ fn fonts(named: &[String]) -> Vec<(String, Vec<u8>)> {
 fn main() -> ExitCode {
     let words: Vec<String> = env::args().skip(1).collect();
     match words.split_first() {
+        Some((what, named)) if what == "all" => {
+            let fonts = fonts(named);
+            table::print(&fonts);
+            growth::print(&fonts);
+        }
         Some((what, named)) if what == "fonts" => table::print(&fonts(named)),
         Some((what, named)) if what == "growth" => growth::print(&fonts(named)),
         _ => {
