@@ -54,6 +54,7 @@ pub fn print(fonts: &[(String, Vec<u8>)]) {
     by_rows(bytes, &program, &keep);
     by_names("Names, all kept", usual);
     by_names("Names that share one hash, all kept", names::alike);
+    by_shared();
 }
 
 fn by_glyphs(bytes: &[u8], keep: &[u16]) {
@@ -113,6 +114,18 @@ fn by_names(title: &str, made: fn(usize) -> Vec<Vec<u8>>) {
         let font = names::font(&made(n - 1));
         let keep: Vec<u16> = (0..n as u16).collect();
         let (time, subset) = cut(&font, &keep, &Record::untraced());
+        line(n, time, subset.len());
+    }
+}
+
+fn by_shared() {
+    heading(
+        "Glyphs that share one name of as many bytes, the first and the last kept",
+        "glyphs",
+    );
+    for n in sizes(65_534) {
+        let keep = [1, n as u16];
+        let (time, subset) = cut(&names::shared(n), &keep, &Record::untraced());
         line(n, time, subset.len());
     }
 }

@@ -24,6 +24,9 @@ pub fn own_names(own: usize) -> Vec<u8> {
     names::font(&texts)
 }
 
+/// How many glyphs share a name or have the last one.
+const SHARED: usize = 20_000;
+
 /// How many names of one hash differ; three more stand twice.
 const ALIKE: u16 = 3000;
 
@@ -72,6 +75,7 @@ pub fn fonts(seed: u64) -> Vec<(Case, Ask)> {
     let mut list: Vec<(&'static str, Vec<u8>, Ask)> = vec![
         ("64,610 own strings", own_names(64_610), all_but_last),
         ("names of one hash", alike_names(), with_repeats),
+        ("one long name", names::shared(SHARED), first_and_last),
         (
             "subset of 67,108,864 bytes",
             shared(250, 268_250),
@@ -121,6 +125,14 @@ fn copied(cid_keyed: bool, name: Vec<u8>, keep: Vec<u16>) -> Cut {
 fn all_but_last(_: &mut Generator, _: &Opened<'_>) -> Vec<Cut> {
     [64_610, 64_609]
         .map(|last| copied(false, vec![b'B'], (1..=last).collect()))
+        .to_vec()
+}
+
+/// The first and the last glyph, which are found, and one between them, which is not.
+fn first_and_last(_: &mut Generator, _: &Opened<'_>) -> Vec<Cut> {
+    let last = SHARED as u16;
+    [vec![1, last], vec![1, 2, last], vec![last - 1]]
+        .map(|keep| copied(false, vec![b'A'], keep))
         .to_vec()
 }
 

@@ -62,8 +62,11 @@ fn index(items: &[&[u8]]) -> Vec<u8> {
     out
 }
 
-/// A name-keyed font: glyph 0, and a glyph of one byte for each name.
-pub fn font(names: &[Vec<u8>]) -> Vec<u8> {
+/// The first string id of a font's own strings.
+pub const FIRST: u16 = 391;
+
+/// A name-keyed font with these strings: glyph 0, and a glyph for each string id.
+pub fn font_with(strings: &[Vec<u8>], ids: &[u16]) -> Vec<u8> {
     let top = |charset: usize, charstrings: usize| {
         let mut out = vec![29];
         out.extend((charset as u32).to_be_bytes());
@@ -72,7 +75,7 @@ pub fn font(names: &[Vec<u8>]) -> Vec<u8> {
         out.push(17);
         out
     };
-    let strings: Vec<&[u8]> = names.iter().map(Vec::as_slice).collect();
+    let strings: Vec<&[u8]> = strings.iter().map(Vec::as_slice).collect();
     let front = |top: &[u8]| {
         let globals = [0, 0];
         [
@@ -84,11 +87,23 @@ pub fn font(names: &[Vec<u8>]) -> Vec<u8> {
         ]
         .concat()
     };
-    let charset = front(&top(0, 0)).len();
-    // Format 2: one range from id 391 on.
-    let mut range = vec![2, 391_u16.to_be_bytes()[0], 391_u16.to_be_bytes()[1]];
-    range.extend((names.len() as u16 - 1).to_be_bytes());
-    let charstrings = index(&vec![&[14_u8][..]; names.len() + 1]);
-    let top = top(charset, charset + range.len());
-    [front(&top), range, charstrings].concat()
+    let place = front(&top(0, 0)).len();
+    let mut charset = vec![0];
+    charset.extend(ids.iter().flat_map(|id| id.to_be_bytes()));
+    let charstrings = index(&vec![&[14_u8][..]; ids.len() + 1]);
+    let top = top(place, place + charset.len());
+    [front(&top), charset, charstrings].concat()
+}
+
+/// A name-keyed font: glyph 0, and a glyph for each name.
+pub fn font(names: &[Vec<u8>]) -> Vec<u8> {
+    let ids: Vec<u16> = (0..names.len() as u16).map(|k| FIRST + k).collect();
+    font_with(names, &ids)
+}
+
+/// A name-keyed font of so many glyphs beside glyph 0: all but the last share one string of as many bytes.
+pub fn shared(glyphs: usize) -> Vec<u8> {
+    let mut ids = vec![FIRST; glyphs - 1];
+    ids.push(FIRST + 1);
+    font_with(&[vec![b'a'; glyphs], vec![b'b']], &ids)
 }
