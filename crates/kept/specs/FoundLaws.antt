@@ -68,7 +68,7 @@ first-is id s (x ∷ l) (suc g) h e f =
     simp (ne-eqb x id (f 0 (omega arith))) (first-is id (s + 1) l g (omega arith) e (λ k m. f (suc k) (omega arith)) ∙ ap TheGlyph z)
 
 -- one at place h or before it is found where the one at place h has the id
-first-before : (id s : ℕ) (l : List ℕ) (h : ℕ) → h < length l → getD l h 0 ≡ id → (k : ℕ) × (k ≤ s + h) × (glyphWithId id s l ≡ TheGlyph k)
+pub first-before : (id s : ℕ) (l : List ℕ) (h : ℕ) → h < length l → getD l h 0 ≡ id → (k : ℕ) × (k ≤ s + h) × (glyphWithId id s l ≡ TheGlyph k)
 unfolding glyphWithId
 first-before id s [] h m e = absurd (not-suc-le-zero m)
 first-before id s (x ∷ l) zero m e = (s, omega arith, simp (eq-eqb x id e))
@@ -78,9 +78,9 @@ first-before id s (x ∷ l) (suc h) m e =
     (λ t. (s, omega arith, refl))
     (λ t. (r .0, omega (arith, r .1), r .2))
 
--- ---- CIDs that were seen
+-- ---- ids that were seen
 
--- the CIDs of the first g glyphs are marked, and no others
+-- the ids of the first g glyphs are marked, and no others
 pub record Seen (ids : List ℕ) (g : ℕ) (seen : List ℕ) : Type 0 where
   pub size : length seen ≡ 65536
   pub all : (h : ℕ) → h < g → marked seen (getD ids h 0) ≡ true
@@ -95,7 +95,7 @@ seen-none ids seen e =
     }
 
 module _ (ids : List ℕ) (g : ℕ) (seen : List ℕ) (s : Seen ids g seen) (id : ℕ) (is : id ≡ getD ids g 0) (h : g < length ids) where
-  -- a CID that was seen: another glyph is found, and nothing is new
+  -- an id that was seen: another glyph is found, and nothing is new
   module _ (m : marked seen id ≡ true) where
     pub seen-not : cidFound ids g ≡ false
     seen-not =
@@ -115,7 +115,7 @@ module _ (ids : List ℕ) (g : ℕ) (seen : List ℕ) (s : Seen ids g seen) (id 
           only = λ c t. let o = s .only c t in (o .0, omega (arith, o .1), o .2);
         }
 
-  -- a new CID: the glyph is found
+  -- a new id: the glyph is found
   module _ (m : marked seen id ≡ false) (small : id < 65536) where
     pub seen-found : cidFound ids g ≡ true
     seen-found =
