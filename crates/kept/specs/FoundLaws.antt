@@ -68,19 +68,22 @@ first-is id s (x ∷ l) (suc g) h e f =
     simp (ne-eqb x id (f 0 (omega arith))) (first-is id (s + 1) l g (omega arith) e (λ k m. f (suc k) (omega arith)) ∙ ap TheGlyph z)
 
 -- one at place h or before it is found where the one at place h has the id
-first-before : (id s : ℕ) (l : List ℕ) (h : ℕ) → h < length l → getD l h 0 ≡ id → (k : ℕ) × (k ≤ s + h) × (glyphWithId id s l ≡ TheGlyph k)
+pub first-before : (id s : ℕ) (l : List ℕ) (h : ℕ) → h < length l → getD l h 0 ≡ id
+    → (k : ℕ) × (k ≤ h) × (getD l k 0 ≡ id) × (glyphWithId id s l ≡ TheGlyph (s + k))
 unfolding glyphWithId
 first-before id s [] h m e = absurd (not-suc-le-zero m)
-first-before id s (x ∷ l) zero m e = (s, omega arith, simp (eq-eqb x id e))
+first-before id s (x ∷ l) zero m e = let z : s ≡ s + 0 = omega arith in (0, omega arith, e, simp (eq-eqb x id e) (ap TheGlyph z))
 first-before id s (x ∷ l) (suc h) m e =
     let r = first-before id (s + 1) l h (omega arith) e in
-    pick-ind (λ (z : Found). (k : ℕ) × (k ≤ s + suc h) × (z ≡ TheGlyph k)) (eqb x id) (TheGlyph s) (glyphWithId id (s + 1) l)
-    (λ t. (s, omega arith, refl))
-    (λ t. (r .0, omega (arith, r .1), r .2))
+    let y : s ≡ s + 0 = omega arith in
+    let z : s + 1 + r .0 ≡ s + suc (r .0) = omega arith in
+    pick-ind (λ (f : Found). (k : ℕ) × (k ≤ suc h) × (getD (x ∷ l) k 0 ≡ id) × (f ≡ TheGlyph (s + k))) (eqb x id) (TheGlyph s) (glyphWithId id (s + 1) l)
+    (λ t. (0, omega arith, eqb-true x id t, ap TheGlyph y))
+    (λ t. (suc (r .0), omega (arith, r .1), r .2, r .3 ∙ ap TheGlyph z))
 
--- ---- CIDs that were seen
+-- ---- ids that were seen
 
--- the CIDs of the first g glyphs are marked, and no others
+-- the ids of the first g glyphs are marked, and no others
 pub record Seen (ids : List ℕ) (g : ℕ) (seen : List ℕ) : Type 0 where
   pub size : length seen ≡ 65536
   pub all : (h : ℕ) → h < g → marked seen (getD ids h 0) ≡ true
@@ -95,13 +98,13 @@ seen-none ids seen e =
     }
 
 module _ (ids : List ℕ) (g : ℕ) (seen : List ℕ) (s : Seen ids g seen) (id : ℕ) (is : id ≡ getD ids g 0) (h : g < length ids) where
-  -- a CID that was seen: another glyph is found, and nothing is new
+  -- an id that was seen: another glyph is found, and nothing is new
   module _ (m : marked seen id ≡ true) where
     pub seen-not : cidFound ids g ≡ false
     seen-not =
         let o = s .only id m in
         let r = first-before (getD ids g 0) 0 ids (o .0) (omega (arith, o .1)) (o .2 ∙ is) in
-        glyph-as g _ _ (r .2) ∙ ne-eqb (r .0) g (λ e. omega (arith, r .1, o .1))
+        glyph-as g _ _ (r .3) ∙ ne-eqb (0 + r .0) g (λ e. omega (arith, r .1, o .1))
 
     seen-again-all : (k : ℕ) → k < g + 1 → (t : Bool) → eqb k g ≡ t → marked seen (getD ids k 0) ≡ true
     seen-again-all k l true t = ap (λ (j : ℕ). marked seen (getD ids j 0)) (eqb-true k g t) ∙ ap (marked seen) (sym is) ∙ m
@@ -115,7 +118,7 @@ module _ (ids : List ℕ) (g : ℕ) (seen : List ℕ) (s : Seen ids g seen) (id 
           only = λ c t. let o = s .only c t in (o .0, omega (arith, o .1), o .2);
         }
 
-  -- a new CID: the glyph is found
+  -- a new id: the glyph is found
   module _ (m : marked seen id ≡ false) (small : id < 65536) where
     pub seen-found : cidFound ids g ≡ true
     seen-found =

@@ -19,7 +19,7 @@ use Rattle.subset.specs.Kept.{those}
 use Rattle.kept.specs.Packed.{marked, allOf, nameFound}
 use Rattle.kept.specs.MarkLaws.{ahead, mark-same, mark-other}
 use Rattle.kept.specs.GatherLaws.{those-passed}
-use Rattle.kept.specs.FoundLaws.{glyph-as, all-stops, all-passed, all-taken}
+use Rattle.kept.specs.FoundLaws.{glyph-as, all-stops, all-passed, all-taken, Seen}
 use Rattle.kept.specs.Hash.{hashFrom, hashOf, lowPlace, highPlace, isNew, withHash, Met, MetNames, told}
 use Rattle.kept.specs.declared.found.Told.{Told}
 
@@ -36,9 +36,9 @@ unfolding hashFrom
 hash-done h text i m = ap (hashFrom h) (sym (drop-of-length-le text m))
 
 -- of a glyph's name, by its id
-pub hash-by : (strings : List (List ℕ)) (ahead ids : List ℕ) (g id h : ℕ) → ahead ≡ ids → id ≡ getD ahead g 0 → h ≡ hashOf (stringText strings id)
+pub hash-by : (strings : List (List ℕ)) (ids : List ℕ) (g id : ℕ) (text : List ℕ) (h : ℕ) → id ≡ getD ids g 0 → text ≡ stringText strings id → h ≡ hashOf text
     → h ≡ hashOf (stringText strings (getD ids g 0))
-hash-by strings ahead ids g id h a i e = e ∙ ap (λ (x : ℕ). hashOf (stringText strings x)) (i ∙ ap (λ (l : List ℕ). getD l g 0) a)
+hash-by strings ids g id text h i t e = e ∙ ap hashOf (t ∙ ap (stringText strings) i)
 
 -- ---- marks
 
@@ -132,6 +132,18 @@ module _ (strings : List (List ℕ)) (ids : List ℕ) (g : ℕ) (marks : List �
         size = length-set (set marks (lowPlace h) 1) (highPlace h) 1 ∙ length-set marks (lowPlace h) 1 ∙ s .size;
         all = λ k l. met-all small k l (eqb k g) refl;
       }
+
+-- the name of an id that was seen is marked
+pub met-again : (strings : List (List ℕ)) (ids : List ℕ) (g : ℕ) (marks seen : List ℕ) → MetNames strings ids g marks → Seen ids g seen → (id : ℕ) → id ≡ getD ids g 0
+    → marked seen id ≡ true → MetNames strings ids (g + 1) marks
+met-again strings ids g marks seen s d id is m = record { size = s .size; all = λ k l. met k l (eqb k g) refl }
+  where
+    met : (k : ℕ) → k < g + 1 → (t : Bool) → eqb k g ≡ t → Met marks (stringText strings (getD ids k 0))
+    met k l true t =
+        let o = d .only id m in
+        let e : getD ids (o .0) 0 ≡ getD ids k 0 = o .2 ∙ is ∙ ap (λ (j : ℕ). getD ids j 0) (sym (eqb-true k g t)) in
+        subst (λ (x : ℕ). Met marks (stringText strings x)) e (s .all (o .0) (o .1))
+    met k l false t = let n = eqb-false k g t in s .all k (omega arith)
 
 -- ---- the marked glyphs up to the last
 

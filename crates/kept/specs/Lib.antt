@@ -4,6 +4,7 @@ pub mod GatherLaws
 pub mod SlotLaws
 pub mod FdsLaws
 pub mod FoundLaws
+pub mod FirstLaws
 pub mod Hash
 pub mod HashLaws
 pub mod Sorted

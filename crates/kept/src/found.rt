@@ -20,8 +20,8 @@ use charset::Charset;
 use find::Found;
 use index::Index;
 
-// How often a pass over the names may look for one of them among all glyphs.
-const LOOKS: usize = 16;
+// A pass over the names may look for fewer than this many of them among all glyphs, and only for names of at most 127 bytes.
+const LOOKS: usize = 17;
 
 // What a pass tells: whether all glyphs are found, or that it looked too often to say.
 pub enum Told {
@@ -125,8 +125,9 @@ fn flags_end(flags: &[u32], n: usize) -> usize
     end
 }
 
-// How many looks through all glyphs are left behind a glyph: one less where its flag is set and its name is not new.
-fn looks_left(looks: usize, flag: u32, new: bool) -> usize
+// How many looks through all glyphs are left with the one for a glyph: one less where its flag is set and its name is not new, and none where
+// that name is long.
+fn looks_left(looks: usize, flag: u32, new: bool, size: usize) -> usize
     requires { ⌜ 0 < looks ⌝ }
     ensures { λ r. ⌜ r ≤ looks ⌝ }
 {
@@ -136,12 +137,15 @@ fn looks_left(looks: usize, flag: u32, new: bool) -> usize
     if new {
         return looks;
     }
+    if 127 < size {
+        return 0;
+    }
     looks - 1
 }
 
 // Whether finding the name of each marked glyph gives that glyph, by one pass up to the last of them. The caller lends the tables of the
-// standard strings and marks that are empty: only a name whose marks are both there is looked for among all glyphs. Where that were to
-// happen too often, the answer is open.
+// standard strings, marks that are empty and bytes `seen` with a place for each id: only the first glyph of an id is found, so each string is
+// read once. Only a name whose marks are both there is looked for among all glyphs. Where that were to happen too often, the answer is open.
 fn names_met<'a>(
     font: &'a [u8],
     c: Charset,
@@ -151,9 +155,10 @@ fn names_met<'a>(
     offsets: &[u16],
     flags: &[u32],
     marks: &mut [u8],
+    seen: &mut [u8],
 ) -> Told
     requires { ⌜ (GoodCharset (now font) c n) × (Good (now font) strings) × (n ≤ length (now flags))
-        × (now names ≡ standardText) × (now offsets ≡ standardOffsets) × (length (now marks) ≡ 131072) ⌝ }
+        × (now names ≡ standardText) × (now offsets ≡ standardOffsets) × (length (now marks) ≡ 131072) × Empty (now seen) ⌝ }
     ensures { λ r. ⌜ told r (allOf (nameFound (itemsOf (now (font .entry)) strings) (idsOf (now (font .entry)) c n)) (those (marked (now (flags .entry))) n 0))
         ≡ allOf (nameFound (itemsOf (now (font .entry)) strings) (idsOf (now (font .entry)) c n)) (those (marked (now (flags .entry))) n 0) ⌝ }
 {
@@ -162,19 +167,28 @@ fn names_met<'a>(
     let mut g = 0;
     let mut looks = LOOKS;
     while g < end {
-        if looks == 0 {
-            return Told::Open;
-        }
         let s = charset::next_id(font, u);
+        let sid = s.id;
         u = s.next;
-        let h = crate::names::hash_at(font, strings, names, offsets, s.id);
-        let new = crate::names::meet(&mut *marks, h);
         let flag = flags[g];
-        looks = looks_left(looks, flag, new);
-        if flagged_found(font, c, n, strings, g, flag, new) {
+        if 0 < seen[sid] {
+            if 0 < flag {
+                return Told::No;
+            }
             g += 1;
         } else {
-            return Told::No;
+            seen[sid] = 1;
+            let name = crate::names::text_at(font, strings, names, offsets, sid);
+            let new = crate::names::meet(&mut *marks, crate::names::hash_of(name));
+            looks = looks_left(looks, flag, new, name.len());
+            if looks == 0 {
+                return Told::Open;
+            }
+            if flagged_found(font, c, n, strings, g, flag, new) {
+                g += 1;
+            } else {
+                return Told::No;
+            }
         }
     }
     Told::Yes
@@ -189,7 +203,19 @@ pub fn names_found(font: &[u8], c: Charset, n: usize, strings: Index, flags: &[u
     let offsets = strings::table::STANDARD_OFFSETS;
     // Two marks for each of 65,536 halves of a hash: 128 KiB.
     let mut marks = [0u8; 131072];
-    let met = names_met(font, c, n, strings, &names, &offsets, flags, &mut marks);
+    // A mark for each id: 64 KiB.
+    let mut seen = [0u8; 65536];
+    let met = names_met(
+        font,
+        c,
+        n,
+        strings,
+        &names,
+        &offsets,
+        flags,
+        &mut marks,
+        &mut seen,
+    );
     match met {
         Told::Yes => true,
         Told::No => false,
