@@ -21,6 +21,7 @@ use Rattle.subset.specs.KeptListLaws.{in-none, in-head, in-more, in-cases, in-a
 use Rattle.subset.specs.RankLaws.{count-few, length-those}
 use Rattle.faithful.specs.UsedLaws.{fds-has, fds-fit, fd-there}
 use Rattle.kept.specs.Packed.{packed, marked}
+use Rattle.kept.specs.LeadLaws.{same-truth}
 use Rattle.reach.specs.Reach.{ranksOf}
 use Rattle.reach.specs.WordLaws.{HoldRanks, set-hold}
 use Rattle.glyph_tables.specs.Tables.{highs, newFdBy, newFdsBy, Numbered}
@@ -54,12 +55,6 @@ fds-glyph p (x ∷ gs) f h =
     ⊎-elim (λ e. (x, in-head x x gs refl, e)) (λ e. let r = fds-glyph p gs f e in (r .0, in-more x (r .0) gs (r .1), r .2))
     (in-cases (getD (p .fds) x 0) f (fdsOf p gs) h)
 
--- two tests each of which holds where the other does
-same-test : (s t : Bool) → (s ≡ true → t ≡ true) → (t ≡ true → s ≡ true) → s ≡ t
-same-test true t h k = sym (h refl)
-same-test false true h k = k refl
-same-test false false h k = refl
-
 -- an FD of a list is one of any list with the same glyphs
 fds-over : (p : Program) (gs hs : List ℕ) → ((g : ℕ) → isIn g gs ≡ isIn g hs) → (f : ℕ) → isIn f (fdsOf p gs) ≡ true → isIn f (fdsOf p hs) ≡ true
 fds-over p gs hs same f h =
@@ -68,7 +63,7 @@ fds-over p gs hs same f h =
 
 -- lists with the same glyphs have the same FDs
 pub fds-same : (p : Program) (gs hs : List ℕ) → ((g : ℕ) → isIn g gs ≡ isIn g hs) → (f : ℕ) → isIn f (fdsOf p gs) ≡ isIn f (fdsOf p hs)
-fds-same p gs hs same f = same-test _ _ (fds-over p gs hs same f) (fds-over p hs gs (λ g. sym (same g)) f)
+fds-same p gs hs same f = same-truth _ _ (fds-over p gs hs same f) (fds-over p hs gs (λ g. sym (same g)) f)
 
 -- ---- the FDs in use
 
@@ -108,7 +103,7 @@ module _ (p : Program) (kept order : List ℕ) (good : GoodProgram p) (same : (g
   used-uses : (f : ℕ) → isIn f (usedFds p kept) ≡ uses f
   used-uses f =
       ap (isIn f) used-those
-      ∙ same-test _ _ (λ h. those-in uses 256 0 f h .2) (λ h. those-has uses 256 0 f (omega arith) (omega (arith, uses-small f h)) h)
+      ∙ same-truth _ _ (λ h. those-in uses 256 0 f h .2) (λ h. those-has uses 256 0 f (omega arith) (omega (arith, uses-small f h)) h)
 
   -- the new number of one counts those below it
   used-new : (f : ℕ) → uses f ≡ true → newFd (usedFds p kept) f ≡ countBelow uses f
