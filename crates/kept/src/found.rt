@@ -31,7 +31,7 @@ pub enum Told {
 }
 
 // Whether finding the CID of each marked glyph gives that glyph: it does unless an earlier glyph has the CID.
-// The words `seen` have a place for each CID.
+// The words `seen` have a place for each CID. Of string ids it tells whether each marked glyph is the first of its id.
 pub fn cids_found(font: &[u8], c: Charset, n: usize, flags: &[u32], seen: &mut [u32]) -> bool
     requires { ⌜ (GoodCharset (now font) c n) × (n ≤ length (now flags)) × Empty (now seen) ⌝ }
     ensures { λ r. ⌜ r ≡ allOf (cidFound (idsOf (now (font .entry)) c n)) (those (marked (now (flags .entry))) n 0) ⌝ }

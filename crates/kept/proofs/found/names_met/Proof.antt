@@ -11,7 +11,7 @@ use Rattle.index.specs.Index.{itemsOf}
 use Rattle.strings.specs.Strings.{stringText}
 use Rattle.charset.specs.CharsetPlaces.{idsOf}
 use Rattle.charset.specs.CharsetFound.{good-length}
-use Rattle.find.specs.FindLaws.{idsAhead, ids-ahead, Passing, passing-start, passing-ready, passing-id, passing-next}
+use Rattle.find.specs.FindLaws.{ids-ahead, Passing, passing-start, passing-ready, passing-id, passing-next}
 use Rattle.subset.specs.Kept.{those}
 use Rattle.kept.specs.Packed.{marked, allOf, nameFound}
 use Rattle.kept.specs.GatherLaws.{mark-is, mark-not}
