@@ -1,4 +1,4 @@
--- How long bodies are together, body by body: of numbers that pass a test, in order.
+-- How long bodies are together, body by body (document 01, 'Corners in write.rs'): of numbers that pass a test, in order.
 use Prim.Native.Nat.{ℕ, _+_, _-_, _*_, _≤_}
 use mathlib.Core.Path.{_≡_}
 use mathlib.Core.Bool.{Bool}

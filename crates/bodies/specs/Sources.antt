@@ -1,4 +1,4 @@
--- Subroutines and charstrings by the code's own values: where they stand, and how they are written.
+-- Subroutines and charstrings (document 01, 'Corners in write.rs') by the code's own values: where they stand, and how they are written.
 use Prim.Native.Nat.{ℕ}
 use mathlib.Core.Bool.{Bool}
 use mathlib.Core.List.{List}

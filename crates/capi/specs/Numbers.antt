@@ -1,4 +1,4 @@
--- What the number that a call returns says: 0 exactly where the answer was written; any other is a refusal, and nothing was written.
+-- What the number that a call returns says (document 01, 'Entries and their refusals'): 0 exactly where the answer was written; any other is a refusal, and nothing was written.
 use Prim.Native.Nat.{ℕ, zero, suc, _≤_}
 use mathlib.Core.Path.{_≡_, refl, sym, _∙_, subst}
 use mathlib.Core.Bool.{Bool, true, false}

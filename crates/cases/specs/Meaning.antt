@@ -1,4 +1,4 @@
--- What a report means: where its last line says `all agreed`, each line of the text is a case and our answer its answer; and its counts add
+-- What a report of stored cases (tools/oracle/README.md, 'Lines') means: where its last line says `all agreed`, each line of the text is a case and our answer its answer; and its counts add
 -- up to the number of lines.
 use Prim.Native.Nat.{ℕ, zero, suc, _+_, _-_, _*_, _≤_, _<_}
 use mathlib.Core.Path.{_≡_, refl, sym, ap}

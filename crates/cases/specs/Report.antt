@@ -1,4 +1,4 @@
--- What is printed of a text of stored cases: a row for each kind and one, `?`, for lines of no kind, each with how many agreed and how many
+-- What is printed of a text of stored cases (tools/oracle/README.md, 'Lines'): a row for each kind and one, `?`, for lines of no kind, each with how many agreed and how many
 -- failed; then the first line that failed, or that all agreed.
 use Prim.Native.Nat.{ℕ, zero, suc, _+_, _*_, _/_, _%_}
 use mathlib.Core.List.{List, [], _∷_, _++_}

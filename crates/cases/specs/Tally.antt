@@ -1,4 +1,4 @@
--- The lines of a text counted by their letters, and the first that failed, by a test of a line.
+-- The lines of a text of stored cases (tools/oracle/README.md, 'Lines') counted by their letters, and the first that failed, by a test of a line.
 use Prim.Native.Nat.{ℕ, _+_, _*_, _<_}
 use mathlib.Core.Bool.{Bool}
 use mathlib.Core.List.{List, [], _∷_}

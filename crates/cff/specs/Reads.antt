@@ -1,4 +1,4 @@
--- What the code's answers say: it holds positions where Font.antt holds lists. Each answer of the code is a refusal, which is then the step's
+-- What the code's answers say of a font (TN5176, section 2 and those of its parts): it holds positions where Font.antt holds lists. Each answer of the code is a refusal, which is then the step's
 -- own, or positions, and what stands there is then what the step got.
 use Prim.Native.Nat.{ℕ, _+_, _-_, _≤_, _<_}
 use mathlib.Core.Path.{_≡_}

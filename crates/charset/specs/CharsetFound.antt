@@ -1,4 +1,4 @@
--- A charset that was read: its ids are those of the table, a glyph's lookup and a cursor are at home in it, and a cursor goes through
+-- A charset that was read (TN5176, section 13): its ids are those of the table, a glyph's lookup and a cursor are at home in it, and a cursor goes through
 -- them one after the other.
 use Prim.Native.Nat.{ℕ, zero, suc, _+_, _≤_, _<_}
 use mathlib.Core.Path.{_≡_, refl, sym, ap, _∙_, subst}

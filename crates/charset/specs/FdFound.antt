@@ -1,4 +1,4 @@
--- An FDSelect that was read: its FDs are those of the table, and a glyph's lookup and a cursor are at home in it.
+-- An FDSelect that was read (TN5176, section 19): its FDs are those of the table, and a glyph's lookup and a cursor are at home in it.
 use Prim.Native.Nat.{ℕ, zero, suc, _+_, _-_, _≤_, _<_}
 use mathlib.Core.Path.{_≡_, refl, sym, ap, _∙_, subst}
 use mathlib.Core.Bool.{Bool, true, false}

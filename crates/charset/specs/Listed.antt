@@ -1,4 +1,4 @@
--- What reading a table with a number for each glyph gives, and lists by their places.
+-- What reading a table with a number for each glyph (TN5176, sections 13 and 19) gives, and lists by their places.
 use Prim.Native.Nat.{ℕ, zero, suc, _+_}
 use mathlib.Core.List.{List, [], _∷_}
 

@@ -1,4 +1,4 @@
--- The code's answers for what the definitions say: its tokens hold an f32 and the place of a mask, theirs a reading and its bytes.
+-- The code's answers for what the definitions of tokens (TN5177, sections 3 and 4.3) say: its tokens hold an f32 and the place of a mask, theirs a reading and its bytes.
 use Prim.Native.Nat.{ℕ, _+_, _-_, _≤_, _<_}
 use mathlib.Core.Path.{_≡_}
 use mathlib.Core.Bool.{Bool, true, false}

@@ -1,4 +1,4 @@
--- Tokens written back (the Rust's `encode`): numbers in the form of `encoded`, everything else as it was read.
+-- Tokens written back (TN5177, section 3; the Rust's `encode`; document 01, 'Corners in charstring.rs'): numbers in the form of `encoded`, everything else as it was read.
 use Prim.Native.Nat.{ℕ}
 use mathlib.Core.Bool.{Bool, true, false}
 use mathlib.Core.List.{List, [], _∷_, _++_}

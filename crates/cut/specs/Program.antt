@@ -1,4 +1,4 @@
--- The program `cut`: what it says of the input that it takes in pieces, and of what it prints. A read says how many bytes it gave, and nothing of which
+-- The program `cut` (document 01, 'One sheet, whole'): what it says of the input that it takes in pieces, and of what it prints. A read says how many bytes it gave, and nothing of which
 -- they are; so a text is told by what is in the buffer.
 use Prim.Native.Nat.{ℕ, zero, suc, min}
 use mathlib.Core.Path.{_≡_}

@@ -1,4 +1,4 @@
--- The grammar of Real.antt run nibble by nibble: how far a text was read, exactly, and as much of it as the code holds, whose numbers
+-- The grammar of Real.antt (TN5176, section 4, table 5) run nibble by nibble: how far a text was read, exactly, and as much of it as the code holds, whose numbers
 -- stop at a bound past every limit of refusal 5.
 use Prim.Native.Nat.{ℕ, _+_, _-_, _*_, _/_, _^_, _≤_, _<_, min}
 use mathlib.Core.Path.{_≡_}

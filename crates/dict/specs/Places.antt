@@ -1,4 +1,4 @@
--- The code's answers for what the definitions say: it holds positions and counts where they hold operands.
+-- The code's answers for what the definitions of a DICT (TN5176, section 4) say: it holds positions and counts where they hold operands.
 use Prim.Native.Nat.{ℕ, zero, suc, _+_}
 use mathlib.Core.Path.{_≡_}
 use mathlib.Core.List.{List, [], _∷_}

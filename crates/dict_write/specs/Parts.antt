@@ -1,4 +1,4 @@
--- A DICT as a subset writes it, part by part: entries copied or made, and offsets in the five-byte form; and the entry that each part is.
+-- A DICT (TN5176, section 4) as a subset writes it, part by part (document 01, 'Layout'): entries copied or made, and offsets in the five-byte form; and the entry that each part is.
 use Prim.Native.Nat.{ℕ, _<_}
 use mathlib.Core.Path.{_≡_}
 use mathlib.Core.Bool.{true}

@@ -1,4 +1,4 @@
--- Demand 3 for a font that was read and a subset that is written: the subset reads back, finding gives each kept glyph, and it unfolds to what
+-- Demand 3 (document 01, 'Plain glyphs') for a font that was read and a subset that is written: the subset reads back, finding gives each kept glyph, and it unfolds to what
 -- it did. The parts: a font that was read (GoodLaws), glyphs kept and found (KeptLaws, FoundLaws, UsedLaws), bodies (PrunedLaws), bytes that read
 -- back (ByName, ByCid).
 use Prim.Native.Nat.{ℕ, _<_, _≤_}

@@ -1,4 +1,4 @@
--- What the theorem is put together from: what is true of every font that is read, bodies that a subset can hold, and a subset that reads back.
+-- What the theorem of demand 3 (document 01, 'Plain glyphs') is put together from: what is true of every font that is read, bodies that a subset can hold, and a subset that reads back.
 use Prim.Native.Nat.{ℕ, _<_}
 use mathlib.Core.Path.{_≡_}
 use mathlib.Core.Bool.{Bool, true, false}

@@ -1,4 +1,4 @@
--- Demand 3 as a theorem: whatever the font, the new name, the keep list, the record and the flag are, the outcome of a call is faithful.
+-- Demand 3 (document 01, 'Plain glyphs') as a theorem: whatever the font, the new name, the keep list, the record and the flag are, the outcome of a call is faithful.
 use Prim.Native.Nat.{ℕ, _≤_}
 use mathlib.Core.Path.{_≡_, refl, sym, _∙_, subst}
 use mathlib.Core.Bool.{Bool, true, false}

@@ -1,4 +1,4 @@
--- What holds of an INDEX that was read, or that is laid out to be written: what the functions over it require.
+-- What holds of an INDEX (TN5176, section 5) that was read, or that is laid out to be written: what the functions over it require.
 use Prim.Native.Nat.{ℕ, _+_, _-_, _*_, _≤_, _<_}
 use mathlib.Core.Path.{_≡_}
 use mathlib.Core.List.{List}

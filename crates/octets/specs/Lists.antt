@@ -1,4 +1,4 @@
--- Lists: what the definitions of several parts of a font share.
+-- Lists: what the definitions of several parts of a font (TN5176) share.
 use Prim.Native.Nat.{ℕ, suc, _+_}
 use mathlib.Core.Bool.{Bool, true, false}
 use mathlib.Core.List.{List, [], _∷_, _++_}

@@ -1,4 +1,4 @@
--- What the functions over the strings of a subset require: what those before them leave in the slots and in the work words.
+-- What the functions over the strings of a subset (document 01, 'Layout') require: what those before them leave in the slots and in the work words.
 use Prim.Native.Nat.{ℕ, _+_, _≤_, _<_}
 use mathlib.Core.Path.{_≡_}
 use mathlib.Core.List.{List}

@@ -1,4 +1,4 @@
--- How a subset's bodies relate to the font's, as far as the unfolding of one glyph is concerned: the hypotheses of the theorem that
+-- How a subset's bodies relate to the font's, as far as the unfolding of one glyph (document 01, 'Plain glyphs') is concerned: the hypotheses of the theorem that
 -- renumbering leaves what a plain glyph unfolds to.
 use Prim.Native.Nat.{ℕ}
 use mathlib.Core.Path.{_≡_}

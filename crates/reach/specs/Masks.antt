@@ -1,4 +1,4 @@
--- The lengths of masks as the code asks for them: rows compared by one number, which their first eight bytes are.
+-- The lengths of masks (document 01, 'Reach record') as the code asks for them: rows compared by one number, which their first eight bytes are.
 use Prim.Native.Nat.{ℕ, _+_, _*_, _/_, _≤_, _<_}
 use mathlib.Core.Bool.{Bool, true, false, _&&_, not}
 use mathlib.Core.List.{List, [], _∷_}

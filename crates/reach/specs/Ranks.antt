@@ -1,4 +1,4 @@
--- Marks and ranks as the code makes them, for the subroutines of a kind and an FD: each reached one is marked by 1, and the marks are counted.
+-- Marks and ranks (document 01, 'What must change shape') as the code makes them, for the subroutines of a kind and an FD: each reached one is marked by 1, and the marks are counted.
 use Prim.Native.Nat.{ℕ, _+_, _-_}
 use mathlib.Core.Bool.{Bool}
 use mathlib.Core.List.{List, [], _∷_}

@@ -1,4 +1,4 @@
--- A reader moved on: over the same bytes, so many bytes further.
+-- A reader (document 01, 'What must change shape') moved on: over the same bytes, so many bytes further.
 use Prim.Native.Nat.{ℕ, _+_}
 use Rattle.reader.specs.declared.Reader.{Reader}
 

@@ -1,4 +1,4 @@
--- Reading the lines of a sheet in place: what the functions answer.
+-- Reading the lines of a sheet (document 01, 'One sheet, whole') in place: what the functions answer.
 use Prim.Native.Nat.{ℕ, zero, suc, _+_, _-_, _≤_, _<_}
 use mathlib.Core.Path.{_≡_}
 use mathlib.Core.Bool.{Bool, true, false}

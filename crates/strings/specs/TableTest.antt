@@ -1,4 +1,4 @@
--- The one test of the table of standard strings, computed over the whole of it: the offsets rise from 0 to the end of the text
+-- The one test of the table of standard strings (TN5176, Appendix A), computed over the whole of it: the offsets rise from 0 to the end of the text
 -- by the lengths of the names, and the order has each of the 391 ids once, in the strictly rising byte order of their names, so
 -- that all names differ.
 use Prim.Native.Nat.{ℕ, zero, suc, _+_}

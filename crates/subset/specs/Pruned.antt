@@ -1,4 +1,4 @@
--- What becomes of charstrings and subroutines (the Rust's prune and prune_cid, renumber and renumber_cid, stubbed): renumbered, or stubbed,
+-- What becomes of charstrings and subroutines (document 01, 'Corners in write.rs'; the Rust's prune and prune_cid, renumber and renumber_cid, stubbed): renumbered, or stubbed,
 -- or copied. A name-keyed font has one FD, 0.
 use Prim.Native.Nat.{ℕ, zero, suc, _+_}
 use mathlib.Core.Bool.{Bool}

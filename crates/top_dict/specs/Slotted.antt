@@ -1,4 +1,4 @@
--- The top DICT over slots is the subset's (crates/subset, topByName and topByCid), where the slots hold the string ids that the font's top DICT
+-- The top DICT (document 01, 'Layout') over slots is the subset's (crates/subset, topByName and topByCid), where the slots hold the string ids that the font's top DICT
 -- names and the ids of those texts in the subset.
 use Prim.Native.Nat.{ℕ, suc, _+_, _<_}
 use mathlib.Core.Path.{_≡_, refl, sym, ap, _∙_}

@@ -1,4 +1,4 @@
--- The parts of the top DICT, one behind the other, as the code writes them.
+-- The parts of the top DICT (document 01, 'Layout'), one behind the other, as the code writes them.
 use Prim.Native.Nat.{ℕ, _+_}
 use mathlib.Core.Path.{_≡_, refl, sym, ap, _∙_}
 use mathlib.Core.List.{List, [], _∷_, _++_, append-nil}

@@ -1,4 +1,4 @@
--- What a reading is worth: its sign and its count of 65536ths, by a comparison with 0.0 and a product with 65536.0 at f64, both exact.
+-- What a reading (document 01, 'Corners in charstring.rs') is worth: its sign and its count of 65536ths, by a comparison with 0.0 and a product with 65536.0 at f64, both exact.
 use mathlib.Core.Path.{_≡_, refl, sym, ap, _∙_, subst}
 use Prim.Native.Nat.{ℕ, zero, suc, _+_, _-_, _*_, _/_, _%_, _^_, _≤_, _<_}
 use native.Mathlib.Nat.{mul-one, one-mul, mul-comm, mul-assoc, mul-right-comm, mul-pos, zero-lt-suc, zero-mul, mul-div-cancel, lt-irrefl, eq-zero-or-pos, le-of-mul-le-mul-right}

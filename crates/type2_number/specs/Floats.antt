@@ -1,4 +1,4 @@
--- The f32 that stands for a signed count of 65536ths: the nearest one, a tie to the even one; and the count it stands for.
+-- The f32 that stands for a signed count of 65536ths (document 01, 'Corners in charstring.rs'): the nearest one, a tie to the even one; and the count it stands for.
 use Prim.Native.Nat.{ℕ, suc, _*_, _/_, _≤_}
 use mathlib.Core.Bool.{Bool, true, false}
 use mathlib.Core.Path.{_≡_}
