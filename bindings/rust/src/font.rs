@@ -161,8 +161,9 @@ impl<'a> Font<'a> {
     pub fn subset(&self, name: &[u8], keep: &[u16], record: &Record) -> Result<Subset, Refusal> {
         // Without work words the call is refused in document 01's order, by 9 at the latest.
         let mut work = zeros(self.work_words()).unwrap_or_default();
-        // A subset is seldom longer than its font; where it is, it is asked for again with more room.
-        let mut wanted = (self.bytes.len() + name.len() + 1024).min(LONGEST);
+        // A subset of all glyphs may be a little longer than its font; where there is no room, it is asked for again with more.
+        let len = self.bytes.len();
+        let mut wanted = (len + len / 4 + name.len() + 65_536).min(LONGEST);
         loop {
             let mut out = room(wanted).ok_or(Refusal::Output)?;
             // SAFETY: `out` has room for as many bytes, of which the call only writes the first, as many as it answers.
