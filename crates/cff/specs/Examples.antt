@@ -37,6 +37,13 @@ unfolding
     gathered readingsAt readingsFrom entryAt entryFrom tokenAt operatorAt numberAt realAt normal zeros zerosOf stripped lastOf lastFrom truncOf listOf localsTotal
 sheet-item = refl
 
+-- the charstrings' offsets begin at 2: malformed (document 02, Wish 5)
+charstrings-at-two : readAs (readFont (take 24 sheet ++ (2 ∷ 3 ∷ 4 ∷ 0x00 ∷ 0x0e ∷ 0x0e ∷ []))) ≡ Refused 2
+unfolding
+    readFont setAt fontsAt fontAt nameParts privateAt idsAt encodingGot readIndex told indexAt tableAt dataAt runOf judged offsets pieces itemsOf numAt be dictOf
+    gathered readingsAt readingsFrom entryAt entryFrom tokenAt operatorAt numberAt realAt normal zeros zerosOf stripped lastOf lastFrom truncOf listOf localsTotal
+charstrings-at-two = refl
+
 -- cut off in the last charstring, in the header; another version; nothing
 sheet-cut : readAs (readFont (take 28 sheet)) ≡ Refused 1
 unfolding

@@ -30,25 +30,30 @@ empty-item : readIndex (0x00 ∷ 0x03 ∷ 0x02 ∷ 0x00 ∷ 0x01 ∷ 0x00 ∷ 0x
 unfolding be numAt offsets runOf judged dataAt tableAt indexAt pieces itemsOf told readIndex
 empty-item = refl
 
--- offsets that start above 1: the bytes before the first item are passed over
-starts-above-one : readIndex (0x00 ∷ 0x01 ∷ 0x01 ∷ 0x03 ∷ 0x04 ∷ 0x41 ∷ 0x42 ∷ 0x43 ∷ 0x44 ∷ []) 0 ≡ found ((0x43 ∷ []) ∷ []) 8
+-- offsets that start above 1 are malformed
+starts-above-one : readIndex (0x00 ∷ 0x01 ∷ 0x01 ∷ 0x03 ∷ 0x04 ∷ 0x41 ∷ 0x42 ∷ 0x43 ∷ 0x44 ∷ []) 0 ≡ refused 2
 unfolding be numAt offsets runOf judged dataAt tableAt indexAt pieces itemsOf told readIndex
 starts-above-one = refl
 
--- a falling pair is malformed
-falls : readIndex (0x00 ∷ 0x01 ∷ 0x01 ∷ 0x02 ∷ 0x01 ∷ 0x41 ∷ []) 0 ≡ refused 2
+-- before the pairs are looked at: here the first one's end is past the font
+starts-at-two : readIndex (0x00 ∷ 0x01 ∷ 0x01 ∷ 0x02 ∷ 0x09 ∷ 0x41 ∷ []) 0 ≡ refused 2
 unfolding be numAt offsets runOf judged dataAt tableAt indexAt pieces itemsOf told readIndex
-falls = refl
+starts-at-two = refl
 
--- also where an offset is past the end too
-falls-past-the-end : readIndex (0x00 ∷ 0x01 ∷ 0x01 ∷ 0x09 ∷ 0x08 ∷ 0x41 ∷ []) 0 ≡ refused 2
-unfolding be numAt offsets runOf judged dataAt tableAt indexAt pieces itemsOf told readIndex
-falls-past-the-end = refl
-
--- so is a first offset of 0, also before an end that is past the font
+-- so are offsets that start at 0
 starts-at-zero : readIndex (0x00 ∷ 0x01 ∷ 0x01 ∷ 0x00 ∷ 0x09 ∷ 0x41 ∷ []) 0 ≡ refused 2
 unfolding be numAt offsets runOf judged dataAt tableAt indexAt pieces itemsOf told readIndex
 starts-at-zero = refl
+
+-- the first offset is read in all its bytes
+starts-at-257 : readIndex (0x00 ∷ 0x01 ∷ 0x02 ∷ 0x01 ∷ 0x01 ∷ 0x01 ∷ 0x02 ∷ 0x41 ∷ []) 0 ≡ refused 2
+unfolding be numAt offsets runOf judged dataAt tableAt indexAt pieces itemsOf told readIndex
+starts-at-257 = refl
+
+-- a falling pair is malformed
+falls : readIndex (0x00 ∷ 0x02 ∷ 0x01 ∷ 0x01 ∷ 0x03 ∷ 0x02 ∷ 0x41 ∷ 0x42 ∷ []) 0 ≡ refused 2
+unfolding be numAt offsets runOf judged dataAt tableAt indexAt pieces itemsOf told readIndex
+falls = refl
 
 -- an item past the end is truncated
 past-the-end : readIndex (0x00 ∷ 0x01 ∷ 0x01 ∷ 0x01 ∷ 0x03 ∷ 0x41 ∷ []) 0 ≡ refused 1
@@ -78,7 +83,7 @@ no-size : readIndex (0x00 ∷ 0x01 ∷ []) 0 ≡ refused 1
 unfolding be numAt offsets runOf judged dataAt tableAt indexAt pieces itemsOf told readIndex
 no-size = refl
 
--- all offsets are read before the pairs are looked at
+-- all offsets are read before the first is judged
 no-offsets : readIndex (0x00 ∷ 0x02 ∷ 0x01 ∷ 0x02 ∷ 0x01 ∷ []) 0 ≡ refused 1
 unfolding be numAt offsets runOf judged dataAt tableAt indexAt pieces itemsOf told readIndex
 no-offsets = refl

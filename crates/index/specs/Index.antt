@@ -2,7 +2,7 @@
 -- Offsets are counted from the byte before the data. Tests stand in the order of the Rust's read_index.
 use Prim.Native.Nat.{ℕ, zero, suc, _+_, _-_, _*_}
 use mathlib.Core.List.{List, [], _∷_}
-use mathlib.Core.Bool.{Bool}
+use mathlib.Core.Bool.{Bool, not}
 use lib.ListN.{length, take, drop, getD}
 use lib.Dec.{ltb, eqb}
 use Rattle.octets.specs.Pick.{pick}
@@ -25,10 +25,9 @@ firstOf b table size = numAt b table size
 abbrev pub endsOf : List ℕ → ℕ → ℕ → ℕ → List ℕ
 endsOf b table size count = offsets count size (drop (table + size) b)
 
--- which first offset is malformed. TN5176 has 1 there; document 01 lets an INDEX start above 1.
--- The Rust asks this of each pair: pairs rise, so that only the first offset can be 0.
+-- which first offset is malformed: any but 1 (TN5176, section 5; document 02, Wish 5)
 abbrev pub firstBad : ℕ → Bool
-firstBad first = eqb first 0
+firstBad first = not (eqb first 1)
 
 -- a run of offsets, each the end of one item and the start of the next: the last of them, or the refusal of the first bad
 -- pair: 2 where it falls, 1 where its end is past the room

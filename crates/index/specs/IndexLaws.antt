@@ -2,12 +2,12 @@
 use Prim.Native.Nat.{ℕ, zero, suc, _+_, _-_, _*_, _≤_, _<_}
 use mathlib.Core.Path.{_≡_, refl, sym, ap, _∙_}
 use mathlib.Core.List.{List, [], _∷_}
-use mathlib.Core.Bool.{Bool, true, false}
+use mathlib.Core.Bool.{Bool, true, false, not, true≢false}
 use native.Mathlib.Nat.{suc-mul, not-suc-le-zero, mul-le-mul, mul-le-mul-right, add-mul, zero-mul, add-zero}
 use native.Mathlib.Numerals.{sub-one}
 use native.Mathlib.Omega.{arith}
-use borrow.Author.Tests.{lt-ltb, le-ltb, ne-eqb, ltb-false, eqb-false}
-use lib.Dec.{ltb}
+use borrow.Author.Tests.{lt-ltb, le-ltb, eq-eqb, ne-eqb, eqb-true, ltb-false}
+use lib.Dec.{ltb, eqb}
 use lib.ListN.{length, take, drop, getD, length-drop}
 use lib.Seq.{drop-drop, length-take-le}
 use Rattle.octets.specs.Pick.{pick}
@@ -61,9 +61,19 @@ pub offsets-first : (n size p : ℕ) (b : List ℕ) → numAt b p size ∷ offse
 unfolding offsets numAt
 offsets-first n size p b = rw drop-drop
 
--- a first offset that passes is past the byte before the data
-pub first-good : (first : ℕ) → firstBad first ≡ false → 1 ≤ first
-first-good first h = let n = eqb-false first 0 h in omega arith
+-- a first offset that passes is 1
+not-not : (t : Bool) → not t ≡ false → t ≡ true
+not-not true h = refl
+not-not false h = absurd (true≢false h)
+
+pub first-good : (first : ℕ) → firstBad first ≡ false → first ≡ 1
+first-good first h = eqb-true first 1 (not-not (eqb first 1) h)
+
+pub first-bad : (first : ℕ) → (first ≡ 1 → ⊥) → firstBad first ≡ true
+first-bad first h = ap not (ne-eqb first 1 h)
+
+pub first-fine : (first : ℕ) → first ≡ 1 → firstBad first ≡ false
+first-fine first h = ap not (eq-eqb first 1 h)
 
 -- ---- a run
 

@@ -71,7 +71,7 @@ fn table_at(font: &[u8], table: usize, count: usize, size: usize) -> IndexAt
         return IndexAt::Refused(1);
     }
     let first = octets::num_at(font, table, size);
-    if first == 0 {
+    if first != 1 {
         return IndexAt::Refused(2);
     }
     let base = past - 1;

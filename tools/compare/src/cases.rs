@@ -1,6 +1,7 @@
 //! The cases of a run, one after another: the same for the same seed.
 
 use crate::damage::{self, INTACT};
+use crate::domain::NONE;
 use crate::generator::Generator;
 use crate::{fonts, heavy, model};
 use std::collections::VecDeque;
@@ -100,7 +101,7 @@ fn family(g: &mut Generator) -> Vec<Member> {
     }
     let made = fonts::make(g);
     let font = made.bytes;
-    let reading = model::read(&font);
+    let reading = model::read(&font, NONE);
     let marks = reading.marks;
     let mut members = vec![(made.kind, INTACT, font.clone())];
     let mut push = |state, copy| members.push((made.kind, state, copy));
@@ -240,7 +241,7 @@ impl Table {
     /// The table, and damaged copies of it.
     pub fn cases(&self) -> impl Iterator<Item = Case> + '_ {
         let mut g = Generator::new(self.seed);
-        let reading = model::read(&self.font);
+        let reading = model::read(&self.font, NONE);
         let cid_keyed = reading.font.as_ref().is_ok_and(|f| f.cid_keyed);
         let kind = if cid_keyed {
             "real, CID-keyed"

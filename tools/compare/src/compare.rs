@@ -2,6 +2,7 @@
 
 use crate::cases::{Case, mixed};
 use crate::cff::{CffProgram, STANDARD_STRINGS};
+use crate::domain::{self, NONE, WISHES};
 use crate::generator::Generator;
 use crate::library::{ABSENT, Answer, COUNTS, Checked, Counts, Library, NO_ROOM, ONE};
 use crate::model::{self, Font, NO_SUCH_ITEM, PAST_LIMITS, Refused, TOO_LONG};
@@ -22,30 +23,39 @@ const MESSAGES: usize = 4;
 struct Compared<'a> {
     library: &'a Library,
     font: &'a [u8],
+    /// What the library is to answer.
     read: Result<&'a Font, u8>,
+    /// What the original is to answer: the same inside the domain, document 01's outside.
+    theirs: Result<&'a Font, u8>,
     program: Option<CffProgram>,
     tally: &'a mut Tally,
     messages: Vec<String>,
 }
 
 pub fn compare(library: &Library, case: &Case, seed: u64, tally: &mut Tally) {
-    let reading = model::read(&case.font);
-    let refusal = reading.font.as_ref().err().map_or(0, |r| r.number);
-    tally.font(case, &reading);
+    let before = model::read(&case.font, NONE);
+    let reading = model::read(&case.font, WISHES);
+    let inside = domain::inside(&before);
+    let theirs = if inside { &reading } else { &before };
+    tally.font(case, &reading, inside);
     let mut compared = Compared {
         library,
         font: &case.font,
         read: reading.font.as_ref().map_err(|r| r.number),
+        theirs: theirs.font.as_ref().map_err(|r| r.number),
         program: None,
         tally,
         messages: Vec::new(),
     };
-    if refusal == TOO_LONG {
+    if compared.theirs.err() == Some(TOO_LONG) {
         // Added by document 01; the original has no such rule.
-    } else if reading.memory > MEMORY {
+    } else if theirs.memory > MEMORY {
         compared.tally.heavy += 1;
     } else {
-        compared.original(reading.font.as_ref().err(), case, seed);
+        compared.original(theirs.font.as_ref().err(), case, seed);
+    }
+    if !inside && compared.program.is_some() {
+        compared.tally.outside_read += 1;
     }
     compared.entries(seed, case.number as u64);
     let mut messages = compared.messages;
@@ -69,7 +79,7 @@ impl Compared<'_> {
         }
     }
 
-    /// The model against the original.
+    /// The model of what the original is to answer against the original.
     fn original(&mut self, refused: Option<&Refused>, case: &Case, seed: u64) {
         let outcome = original::read(self.font);
         if let Outcome::Panicked(message) = &outcome {
@@ -119,7 +129,7 @@ impl Compared<'_> {
 
     /// Where the model's font and the original's differ.
     fn unlike(&self, program: &CffProgram) -> Option<String> {
-        let Ok(font) = self.read else { return None };
+        let Ok(font) = self.theirs else { return None };
         if font.cid_keyed != program.is_cid_keyed() {
             return Some("keying".to_string());
         }
@@ -150,16 +160,17 @@ impl Compared<'_> {
         self.tally.call("read", &want);
         self.same("read", &want, got);
 
-        let names = names(&mut g, self.read.ok(), self.font);
+        let names = names(&mut g, self.theirs.ok(), self.font);
         for name in names {
-            let want = self
-                .read
-                .map(|f| f.find_name(self.font, &name).map_or(ABSENT, u64::from));
-            if let Some(program) = &self.program {
-                let theirs = Ok(program.gid(&name).map_or(ABSENT, u64::from));
-                if theirs != want {
+            let find =
+                |f: &Font| -> u64 { f.find_name(self.font, &name).map_or(ABSENT, u64::from) };
+            let want = self.read.map(find);
+            if let (Some(program), Ok(font)) = (&self.program, self.theirs) {
+                let model = find(font);
+                let theirs = program.gid(&name).map_or(ABSENT, u64::from);
+                if theirs != model {
                     self.report(|| {
-                        format!("name {name:02x?}: model {want:?}, original {theirs:?}")
+                        format!("name {name:02x?}: model {model:?}, original {theirs:?}")
                     });
                 }
             }
@@ -168,12 +179,14 @@ impl Compared<'_> {
             self.same_of("find_name", &name, &want, got);
         }
 
-        for cid in cids(&mut g, self.read.ok()) {
-            let want = self.read.map(|f| f.find_cid(cid).map_or(ABSENT, u64::from));
-            if let Some(program) = &self.program {
-                let theirs = Ok(program.gid_of_cid(cid).map_or(ABSENT, u64::from));
-                if theirs != want {
-                    self.report(|| format!("CID {cid}: model {want:?}, original {theirs:?}"));
+        for cid in cids(&mut g, self.theirs.ok()) {
+            let find = |f: &Font| -> u64 { f.find_cid(cid).map_or(ABSENT, u64::from) };
+            let want = self.read.map(find);
+            if let (Some(program), Ok(font)) = (&self.program, self.theirs) {
+                let model = find(font);
+                let theirs = program.gid_of_cid(cid).map_or(ABSENT, u64::from);
+                if theirs != model {
+                    self.report(|| format!("CID {cid}: model {model:?}, original {theirs:?}"));
                 }
             }
             let got = self.library.find_cid(self.font, cid, ONE);
@@ -182,15 +195,16 @@ impl Compared<'_> {
         }
 
         for kind in 0..3u8 {
-            let count = self.read.map_or(0, |f| f.index(kind).count as u64);
+            let count = self.theirs.map_or(0, |f| f.index(kind).count as u64);
             for number in item_numbers(&mut g, count) {
+                let item = |f: &Font| f.item(self.font, kind, number);
                 let want = self
                     .read
-                    .and_then(|f| f.item(self.font, kind, number))
+                    .and_then(item)
                     .map(|span| self.font[span].to_vec());
-                if let Some(program) = &self.program {
-                    let theirs = original::item(program, kind, number).ok_or(NO_SUCH_ITEM);
-                    if theirs != want.as_ref().map(Vec::as_slice).map_err(|&r| r) {
+                if let (Some(program), Ok(font)) = (&self.program, self.theirs) {
+                    let model = item(font).map(|span| &self.font[span]);
+                    if original::item(program, kind, number).ok_or(NO_SUCH_ITEM) != model {
                         self.report(|| format!("item {number} of kind {kind}: model and original"));
                     }
                 }

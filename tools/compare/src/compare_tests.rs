@@ -2,9 +2,10 @@
 
 use crate::cases;
 use crate::compare::compare;
+use crate::domain::{self, NONE};
 use crate::library::{ABSENT, COUNTS, Library, NO_ROOM, Room};
-use crate::stub;
 use crate::tally::Tally;
+use crate::{model, stub};
 
 /// How many of 4,000 fonts show a difference.
 fn differences(library: &Library) -> u64 {
@@ -58,6 +59,15 @@ fn name_absent_is_0(font: &[u8], name: &[u8], answer: &mut Room<'_, u64>) -> u8 
     refusal
 }
 
+/// Outside the domain the refusal is document 01's.
+fn refused_as_before(font: &[u8], answer: &mut Room<'_, u64>) -> u8 {
+    let before = model::read(font, NONE);
+    match &before.font {
+        Err(refused) if !domain::inside(&before) => refused.number,
+        _ => (stub::library().read)(font, answer),
+    }
+}
+
 #[test]
 fn a_fault_shows() {
     let good = stub::library();
@@ -72,6 +82,10 @@ fn a_fault_shows() {
         },
         Library {
             read: read_room_first,
+            ..good
+        },
+        Library {
+            read: refused_as_before,
             ..good
         },
         Library {

@@ -3,7 +3,7 @@
 use crate::cff::{CffProgram, STANDARD_STRINGS, op, write};
 use crate::hooked::{self, Given};
 use crate::model::{Font, LONGEST, MALFORMED, NO_SUCH_ITEM, TOO_LONG, UNSUPPORTED};
-use crate::{original, record};
+use crate::{cut_model, original, record};
 use std::collections::BTreeSet;
 
 pub const NOT_FOUND: u8 = 7;
@@ -65,7 +65,7 @@ pub enum Outcome {
     Early(u8),
     /// Work words, and then a subset or refusal 12 or 10.
     Ready(u64, Result<Subset, u8>),
-    /// The original panics.
+    /// The original panics, or the model has no subset.
     Panicked(String),
 }
 
@@ -105,12 +105,37 @@ pub fn glyphs(keep: &[u16]) -> BTreeSet<u16> {
     keep.iter().copied().chain([0]).collect()
 }
 
-/// The cut of a font that is read, or refused by this number; the program where the original reads it.
+/// The cut of a font that is read, or refused by this number; the program where the original reads it. The subset is the
+/// original's.
 pub fn cut(
     bytes: &[u8],
     read: Result<&Font, u8>,
     program: Option<&CffProgram>,
     cut: &Cut,
+) -> Outcome {
+    outcome(bytes, read, program, cut, |_, program| {
+        original::caught(|| written(program, cut))
+    })
+}
+
+/// The same where the subset is the model's: outside the domain of the comparison with the original.
+pub fn by_model(
+    bytes: &[u8],
+    read: Result<&Font, u8>,
+    program: Option<&CffProgram>,
+    cut: &Cut,
+) -> Outcome {
+    outcome(bytes, read, program, cut, |font, _| {
+        cut_model::subset(bytes, font, cut).ok_or("the model gives none".to_string())
+    })
+}
+
+fn outcome(
+    bytes: &[u8],
+    read: Result<&Font, u8>,
+    program: Option<&CffProgram>,
+    cut: &Cut,
+    subset: impl FnOnce(&Font, &CffProgram) -> Result<Subset, String>,
 ) -> Outcome {
     let font = match read {
         Err(number) => return Outcome::Early(number),
@@ -123,7 +148,7 @@ pub fn cut(
     let subset = if own_strings(program, cut) + STANDARD_STRINGS.len() > LARGEST_ID + 1 {
         Err(STRING_IDS)
     } else {
-        match original::caught(|| written(program, cut)) {
+        match subset(font, program) {
             Err(message) => return Outcome::Panicked(message),
             Ok(s) if s.bytes.len() > LONGEST => Err(SUBSET_TOO_LONG),
             Ok(s) => Ok(s),

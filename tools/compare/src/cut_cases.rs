@@ -5,6 +5,7 @@ use crate::cut::{self, Cut, LONGEST_NAME};
 use crate::cut_compare::Opened;
 use crate::cut_records::{self, Record};
 use crate::damage::{self, INTACT};
+use crate::domain::NONE;
 use crate::fonts;
 use crate::generator::Generator;
 use crate::model;
@@ -20,7 +21,7 @@ fn family(g: &mut Generator) -> Vec<Member> {
     let copies = [0, 0, 1, 2][g.below(4)];
     let mut members = vec![(made.kind, INTACT, made.bytes.clone())];
     if copies > 0 {
-        let marks = model::read(&made.bytes).marks;
+        let marks = model::read(&made.bytes, NONE).marks;
         for _ in 0..copies {
             let (_, copy) = damage::damaged(g, &made.bytes, &marks);
             members.push((made.kind, "damaged", copy));

@@ -5,13 +5,14 @@ use crate::cff::CffProgram;
 use crate::compare::MEMORY;
 use crate::cut::{self, Answer, Cut, Lent, Outcome, Subset, WORDS};
 use crate::cut_tally::{CutTally, Difference};
+use crate::domain::{self, NONE, WISHES};
 use crate::generator::Generator;
 use crate::library::Library;
 use crate::model::{self, Font};
 use crate::original;
 use crate::{cut_cases, cut_model, cut_records};
 
-/// A font, and what the model and the original read in it.
+/// A font, and what the original, and the model of what it is to answer, read in it.
 pub struct Opened<'a> {
     pub bytes: &'a [u8],
     pub read: Result<&'a Font, u8>,
@@ -22,9 +23,12 @@ pub struct Opened<'a> {
 pub type Asks<'a> = dyn Fn(&mut Generator, &Opened<'_>) -> Vec<Cut> + 'a;
 
 pub fn compare(library: &Library, case: &Case, seed: u64, tally: &mut CutTally, asks: &Asks<'_>) {
-    let reading = model::read(&case.font);
+    let before = model::read(&case.font, NONE);
+    let reading = model::read(&case.font, WISHES);
+    let inside = domain::inside(&before);
     tally.fonts += 1;
-    if reading.memory > MEMORY {
+    tally.outside += u64::from(!inside);
+    if before.memory > MEMORY {
         tally.heavy += 1;
         return;
     }
@@ -32,9 +36,14 @@ pub fn compare(library: &Library, case: &Case, seed: u64, tally: &mut CutTally, 
         original::Outcome::Program(program) => Some(program),
         _ => None,
     };
+    let read = reading.font.as_ref().map_err(|r| r.number);
     let opened = Opened {
         bytes: &case.font,
-        read: reading.font.as_ref().map_err(|r| r.number),
+        read: if inside {
+            read
+        } else {
+            before.font.as_ref().map_err(|r| r.number)
+        },
         program: program.as_ref(),
     };
     // Copies of one number in several files are asked different things.
@@ -43,16 +52,7 @@ pub fn compare(library: &Library, case: &Case, seed: u64, tally: &mut CutTally, 
     let mut given = false;
     for cut in asks(&mut g, &opened) {
         let outcome = cut::cut(opened.bytes, opened.read, opened.program, &cut);
-        if let Outcome::Panicked(message) = &outcome {
-            tally.panics += 1;
-            differ(
-                case,
-                seed,
-                &cut,
-                "nothing",
-                format!("the original panics: {message}"),
-                tally,
-            );
+        if panicked(case, seed, &cut, &outcome, tally) {
             continue;
         }
         if let (Outcome::Ready(_, Ok(subset)), Ok(font)) = (&outcome, opened.read)
@@ -68,6 +68,19 @@ pub fn compare(library: &Library, case: &Case, seed: u64, tally: &mut CutTally, 
                 differ(case, seed, &cut, "nothing", message, tally);
             }
         }
+        let outcome = if inside {
+            outcome
+        } else {
+            tally.outside_cuts += 1;
+            if read.is_ok_and(|font| !modelled(font, &cut)) {
+                tally.outside_large += 1;
+                continue;
+            }
+            cut::by_model(opened.bytes, read, opened.program, &cut)
+        };
+        if panicked(case, seed, &cut, &outcome, tally) {
+            continue;
+        }
         for lent in lents(&mut g, &outcome) {
             let want = outcome.answer(lent);
             given |= want.subset.is_ok();
@@ -80,6 +93,17 @@ pub fn compare(library: &Library, case: &Case, seed: u64, tally: &mut CutTally, 
     if given {
         reading.notes.into_iter().for_each(|note| tally.note(note));
     }
+}
+
+/// Whether there is no answer to compare with, which is told.
+fn panicked(case: &Case, seed: u64, cut: &Cut, outcome: &Outcome, tally: &mut CutTally) -> bool {
+    let Outcome::Panicked(message) = outcome else {
+        return false;
+    };
+    tally.panics += 1;
+    let message = format!("the original panics, or the model fails: {message}");
+    differ(case, seed, cut, "nothing", message, tally);
+    true
 }
 
 /// Whether the model is asked too: it looks through the rows for each body.
@@ -203,7 +227,7 @@ pub fn lents(g: &mut Generator, outcome: &Outcome) -> Vec<Lent> {
 
 /// The library's subsets of a font, one for each amount of glyphs, by the original's record.
 pub fn subsets(library: &Library, font: &[u8]) -> Vec<(&'static str, Vec<u8>)> {
-    let reading = model::read(font);
+    let reading = model::read(font, WISHES);
     let original::Outcome::Program(program) = original::read(font) else {
         return Vec::new();
     };

@@ -40,6 +40,10 @@ pub struct CutTally {
     /// Fonts for which the original would take too much memory.
     pub heavy: u64,
     pub panics: u64,
+    /// Fonts outside the domain of the comparison with the original, their cuts, and those too large for the model.
+    pub outside: u64,
+    pub outside_cuts: u64,
+    pub outside_large: u64,
     /// Bytes of the subsets wanted.
     pub bytes: u64,
     /// Cuts that the model made too.
@@ -118,6 +122,11 @@ impl CutTally {
         report::notes(&mut out, &self.notes);
         let _ = writeln!(out, "\noriginal not asked, for its memory: {}", self.heavy);
         let _ = writeln!(out, "original panicked: {}", self.panics);
+        let _ = writeln!(
+            out,
+            "outside the domain of the comparison with the original: {} fonts, {} cuts, of which {} not asked, for their size",
+            self.outside, self.outside_cuts, self.outside_large
+        );
         let _ = writeln!(out, "subsets that the model made too: {}", self.modelled);
         let _ = writeln!(out, "differences: {}", self.differences.count);
         for (k, difference) in self.differences.first.iter().enumerate() {

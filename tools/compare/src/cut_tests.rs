@@ -2,6 +2,7 @@
 
 use crate::cut::{self, Answer, Cut, Lent, Outcome, Subset, WORDS};
 use crate::cut_compare::agrees;
+use crate::domain::WISHES;
 use crate::library::{Library, Rooms, SubsetFn};
 use crate::{model, original, stub};
 
@@ -26,7 +27,7 @@ fn sheet() -> Cut {
 }
 
 fn outcome(font: &[u8], cut: &Cut) -> Outcome {
-    let reading = model::read(font);
+    let reading = model::read(font, WISHES);
     let original::Outcome::Program(program) = original::read(font) else {
         panic!("a font that is read");
     };

@@ -32,6 +32,10 @@ struct Maker<'a> {
     strings: usize,
     /// What charstrings and subroutines have in common; none: they are noise.
     plan: Option<Plan>,
+    /// Whether an INDEX may begin after a gap, and whether top DICTs may have PaintType and StrokeWidth: few fonts, which are
+    /// outside the domain of the comparison with the original.
+    gaps: bool,
+    stroked: bool,
 }
 
 pub fn make(g: &mut Generator) -> Made {
@@ -70,6 +74,8 @@ pub fn make_biased(g: &mut Generator, globals: usize, locals: usize) -> Vec<u8> 
 
 fn made(g: &mut Generator, odds: usize, plan: Option<Plan>) -> Made {
     let mut maker = Maker {
+        gaps: g.once_in(10),
+        stroked: g.once_in(6),
         g,
         layout: Layout::default(),
         odds,
@@ -87,7 +93,7 @@ impl Maker<'_> {
 
     fn shape(&mut self) -> Shape {
         let faulty = self.wrong();
-        shape(self.g, faulty)
+        shape(self.g, faulty, self.gaps)
     }
 
     fn file(&mut self) -> Made {

@@ -57,8 +57,8 @@ pub enum Fault {
     None,
     /// The offset size is this one.
     OffsetSize(u8),
-    /// The first offset is 0.
-    Zero,
+    /// The first offset is this one.
+    First(usize),
     /// Two offsets change places.
     Fall(usize),
     /// The last offset is too large by so much.
@@ -190,7 +190,7 @@ fn index(shape: &Shape, items: &[Vec<u8>]) -> Vec<u8> {
     }
     let last = offsets.len() - 1;
     match shape.fault {
-        Fault::Zero => offsets[0] = 0,
+        Fault::First(first) => offsets[0] = first,
         Fault::Fall(k) => offsets.swap(k % last, k % last + 1),
         Fault::Past(more) => offsets[last] += more,
         _ => {}
@@ -212,13 +212,14 @@ fn index(shape: &Shape, items: &[Vec<u8>]) -> Vec<u8> {
     out
 }
 
-pub fn shape(g: &mut Generator, faulty: bool) -> Shape {
+/// A shape by chance, with a fault, and with a gap now and then.
+pub fn shape(g: &mut Generator, faulty: bool, gaps: bool) -> Shape {
     let fault = if !faulty {
         Fault::None
     } else {
         match g.below(7) {
             0 => Fault::OffsetSize(g.one_of(&[0, 5, 6, 255])),
-            1 => Fault::Zero,
+            1 => Fault::First(g.one_of(&[0, 0, 2, 3, 200])),
             2 | 3 => Fault::Fall(g.below(64)),
             4 => Fault::Past(g.one_of(&[1, 2, 40, 200, 60_000])),
             5 => Fault::Past(1 << 24),
@@ -231,7 +232,11 @@ pub fn shape(g: &mut Generator, faulty: bool) -> Shape {
         } else {
             1
         },
-        gap: if g.once_in(6) { 1 + g.below(4) } else { 0 },
+        gap: if gaps && g.once_in(4) {
+            1 + g.below(4)
+        } else {
+            0
+        },
         fault,
     }
 }

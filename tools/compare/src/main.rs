@@ -19,6 +19,7 @@ mod cut_tally;
 mod cut_tests;
 mod damage;
 mod decimal;
+mod domain;
 mod fonts;
 mod heavy;
 mod hooked;
@@ -243,11 +244,15 @@ fn cut_tables(folder: &Path) -> ExitCode {
 fn case(seed: u64, number: usize) -> ExitCode {
     let case = cases::made(seed).nth(number).expect("cases do not end");
     println!("{}\n{}", case.label(seed), hex(&case.font));
-    let reading = model::read(&case.font);
-    println!("memory of the original, about: {}", reading.memory);
-    match &reading.font {
-        Ok(font) => println!("model: {font:?}"),
-        Err(refused) => println!("model: {refused:?}"),
+    let before = model::read(&case.font, domain::NONE);
+    println!("memory of the original, about: {}", before.memory);
+    println!("inside the domain: {}", domain::inside(&before));
+    let reading = model::read(&case.font, domain::WISHES);
+    for (whose, reading) in [("document 01", before), ("the library", reading)] {
+        match &reading.font {
+            Ok(font) => println!("model of {whose}: {font:?}"),
+            Err(refused) => println!("model of {whose}: {refused:?}"),
+        }
     }
     match original::read(&case.font) {
         original::Outcome::Program(program) => println!("original: {program:?}"),
@@ -307,7 +312,7 @@ fn ask(who: &str, file: &str) -> ExitCode {
             original::Outcome::Panicked(message) => message,
         },
         "model" => {
-            let reading = model::read(&font);
+            let reading = model::read(&font, domain::WISHES);
             let answer = match &reading.font {
                 Ok(font) => format!("{:?}", compare::counts(font)),
                 Err(refused) => format!("{refused:?}"),

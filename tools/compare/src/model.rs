@@ -1,6 +1,7 @@
 //! A reader of CFF fonts, written from document 01 ('Corners in mod.rs', 'Entries and their
 //! refusals') and TN5176 as a third opinion beside the original and the library. It holds places
-//! and no copies, so it takes no more memory for a hostile font than for another.
+//! and no copies, so it takes no more memory for a hostile font than for another. Wishes of document 02
+//! are switches: with none of them on it is document 01's.
 //! Here are the refusals and the way through a set of fonts; its parts are in the files below model/.
 
 mod dict;
@@ -15,6 +16,7 @@ pub use font::Font;
 pub use index::Index;
 pub use parts::{Parts, parts};
 
+use crate::domain::Wishes;
 use privates::Fds;
 use std::collections::{BTreeSet, HashMap};
 
@@ -59,12 +61,12 @@ pub struct Reading {
     pub fonts: usize,
     /// Where parts of the font start.
     pub marks: Vec<usize>,
-    /// What the font has of document 01's and TN5176's choices.
+    /// What the font has of document 01's and TN5176's choices, and of what wishes speak of.
     pub notes: BTreeSet<&'static str>,
 }
 
-pub fn read(bytes: &[u8]) -> Reading {
-    let mut reader = Reader::new(bytes);
+pub fn read(bytes: &[u8], wishes: Wishes) -> Reading {
+    let mut reader = Reader::new(bytes, wishes);
     let font = reader.set();
     Reading {
         font,
@@ -77,6 +79,7 @@ pub fn read(bytes: &[u8]) -> Reading {
 
 struct Reader<'a> {
     bytes: &'a [u8],
+    wishes: Wishes,
     memory: u64,
     fonts: usize,
     marks: Vec<usize>,
@@ -93,9 +96,10 @@ fn number(bytes: &[u8]) -> u64 {
 }
 
 impl<'a> Reader<'a> {
-    fn new(bytes: &'a [u8]) -> Self {
+    fn new(bytes: &'a [u8], wishes: Wishes) -> Self {
         Reader {
             bytes,
+            wishes,
             memory: 0,
             fonts: 0,
             marks: Vec::new(),

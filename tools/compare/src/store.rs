@@ -2,9 +2,10 @@
 
 use crate::cases::{self, mixed};
 use crate::compare::{self, counts};
+use crate::domain::{self, FIRST_OFFSET, NONE, Spoken, WISHES};
 use crate::generator::Generator;
 use crate::library::Counts;
-use crate::model::{self, Font, PAST_LIMITS};
+use crate::model::{self, Font, PAST_LIMITS, Reading};
 use crate::original::{self, Outcome};
 use crate::{fonts, hex};
 use std::collections::{BTreeMap, BTreeSet, VecDeque};
@@ -20,10 +21,53 @@ const LOOKED_AT: usize = 150_000;
 const SHORTEST: usize = 6;
 const ANY: usize = 10;
 
+/// How the heads start of fonts that a wish speaks of, and how many fonts are enough for one.
+const FEW: &str = "few";
+
+fn most(head: &str) -> usize {
+    if !head.starts_with(FEW) {
+        usize::MAX
+    } else if head.contains(FIRST_OFFSET) {
+        1
+    } else {
+        3
+    }
+}
+
 #[derive(Default)]
 struct Kept {
     shortest: BTreeSet<(usize, Vec<u8>)>,
     any: Vec<Vec<u8>>,
+}
+
+/// The heads under which a font may be stored.
+fn heads(before: &Reading, reading: &Reading) -> Vec<String> {
+    let later = if reading.fonts > 1 {
+        ", later font"
+    } else {
+        ""
+    };
+    let keying = before.font.as_ref().map_or("", |font| {
+        if font.cid_keyed {
+            fonts::CID_KEYED
+        } else {
+            fonts::NAME_KEYED
+        }
+    });
+    match (domain::spoken_of(before), &before.font) {
+        (Spoken::Twice, _) => Vec::new(),
+        (Spoken::Once(notes), Ok(_)) => {
+            // What Wish 5 refuses, by the INDEX.
+            let part = reading.font.as_ref().err().map_or(keying, |r| r.part);
+            vec![format!("{FEW} {notes}, {part}{later}")]
+        }
+        (Spoken::Once(notes), Err(r)) => vec![format!("{FEW} {notes}, refused {}", r.number)],
+        (Spoken::Nothing, Ok(_)) => {
+            let head = |note: &&str| format!("0 {keying}, {note}");
+            before.notes.iter().map(head).collect()
+        }
+        (Spoken::Nothing, Err(r)) => vec![format!("{} {} {}{later}", r.number, r.part, r.fault)],
+    }
 }
 
 /// `count` lines, or as many as there are.
@@ -43,34 +87,14 @@ pub fn lines(seed: u64, count: usize) -> Vec<String> {
         if case.font.len() > LONGEST {
             continue;
         }
-        let reading = model::read(&case.font);
-        match &reading.font {
-            Err(r) => {
-                let later = if reading.fonts > 1 {
-                    ", later font"
-                } else {
-                    ""
-                };
-                keep(
-                    format!("{} {} {}{later}", r.number, r.part, r.fault),
-                    &case.font,
-                );
-            }
-            Ok(font) => {
-                let kind = if font.cid_keyed {
-                    fonts::CID_KEYED
-                } else {
-                    fonts::NAME_KEYED
-                };
-                for note in reading.notes {
-                    keep(format!("0 {kind}, {note}"), &case.font);
-                }
-            }
+        let before = model::read(&case.font, NONE);
+        for head in heads(&before, &model::read(&case.font, WISHES)) {
+            keep(head, &case.font);
         }
     }
     let mut kept: Vec<VecDeque<Vec<u8>>> = kept
-        .into_values()
-        .map(|kept| {
+        .into_iter()
+        .map(|(head, kept)| {
             // A short one and any other, in turn.
             let mut short = kept.shortest.into_iter().map(|(_, font)| font);
             let mut any = kept.any.into_iter();
@@ -79,6 +103,7 @@ pub fn lines(seed: u64, count: usize) -> Vec<String> {
                 all.extend(short.next());
                 all.extend(any.next());
             }
+            all.truncate(most(&head));
             all
         })
         .collect();
@@ -107,9 +132,10 @@ pub fn lines(seed: u64, count: usize) -> Vec<String> {
 
 /// Some lines of one font: two of a refused one.
 fn lines_of(bytes: &[u8], g: &mut Generator) -> Vec<String> {
-    let reading = model::read(bytes);
+    let before = model::read(bytes, NONE);
+    let reading = model::read(bytes, WISHES);
     let font = reading.font.as_ref().map_err(|r| r.number);
-    checked(bytes, font);
+    checked(bytes, &before, font);
     let mut lines = vec![line('R', bytes, &[], &read_answer(font))];
     let mut names = Vec::new();
     let mut cids = Vec::new();
@@ -166,8 +192,13 @@ fn any<T>(g: &mut Generator, list: impl Fn(&mut Generator) -> Vec<T>) -> T {
     list.swap_remove(k)
 }
 
-/// The model's answers are the original's, refusal 5 apart.
-pub fn checked(bytes: &[u8], font: Result<&Font, u8>) {
+/// The model's answers are the original's, refusal 5 apart: those to store inside the domain, document 01's outside.
+pub fn checked(bytes: &[u8], before: &Reading, stored: Result<&Font, u8>) {
+    let font = if domain::inside(before) {
+        stored
+    } else {
+        before.font.as_ref().map_err(|r| r.number)
+    };
     match (original::read(bytes), font) {
         (_, Err(PAST_LIMITS)) => {}
         (Outcome::Refused(error), Err(number)) => assert_eq!(original::number(&error), number),

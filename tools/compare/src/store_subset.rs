@@ -4,6 +4,7 @@ use crate::cases::mixed;
 use crate::cut::{self, Answer, Cut, Lent, Outcome, WORDS};
 use crate::cut_cases;
 use crate::cut_compare::{self, Opened};
+use crate::domain::{self, FD_MATRIX, NONE, STROKED, Spoken, WISHES};
 use crate::generator::Generator;
 use crate::model::{self, Reading};
 use crate::{hex, original, store};
@@ -16,10 +17,17 @@ const LONGEST: usize = 4096;
 /// How the names of things start that refusals show: those of reading and of records, and others.
 const REFUSED: &str = "refusal";
 const LATE: &str = "late";
+/// The same for fonts that a wish speaks of, and for those with a FontMatrix in an FD.
+const FEW: &str = "few";
+const FEW_MATRICES: &str = "three";
 
 /// How many lines of one thing are enough.
 fn most(key: &str) -> usize {
-    if key.starts_with(REFUSED) {
+    if key.starts_with(FEW) {
+        1
+    } else if key.starts_with(FEW_MATRICES) {
+        3
+    } else if key.starts_with(REFUSED) {
         2
     } else if key.starts_with(LATE) {
         7
@@ -29,11 +37,13 @@ fn most(key: &str) -> usize {
 }
 
 /// How many fonts are looked at for cases.
-const LOOKED_AT: usize = 8000;
+const LOOKED_AT: usize = 20_000;
 
 /// A line, and what it shows.
 struct Candidate {
     line: String,
+    /// The line's length with document 01's answer, so that wishes do not change the choice.
+    length: usize,
     shows: BTreeSet<String>,
     used: bool,
 }
@@ -50,7 +60,7 @@ pub fn lines(seed: u64, count: usize) -> Vec<String> {
     let mut keys: Vec<(String, Vec<usize>)> = by_key.into_iter().collect();
     keys.sort_by_key(|(_, list)| list.len());
     for (_, list) in &mut keys {
-        list.sort_by_key(|&k| candidates[k].line.len());
+        list.sort_by_key(|&k| candidates[k].length);
     }
     let mut g = Generator::new(seed);
     let mut shown: BTreeMap<String, usize> = BTreeMap::new();
@@ -95,16 +105,17 @@ fn candidates(seed: u64) -> Vec<Candidate> {
         if case.font.len() > LONGEST_FONT {
             continue;
         }
-        let reading = model::read(&case.font);
+        let before = model::read(&case.font, NONE);
+        let reading = model::read(&case.font, WISHES);
         let read = reading.font.as_ref().map_err(|r| r.number);
-        store::checked(&case.font, read);
+        store::checked(&case.font, &before, read);
         let program = match original::read(&case.font) {
             original::Outcome::Program(program) => Some(program),
             _ => None,
         };
         let opened = Opened {
             bytes: &case.font,
-            read,
+            read: before.font.as_ref().map_err(|r| r.number),
             program: program.as_ref(),
         };
         let mut g = Generator::new(mixed(seed ^ 0x1234_5678, case.number as u64));
@@ -113,15 +124,27 @@ fn candidates(seed: u64) -> Vec<Candidate> {
             if let Outcome::Panicked(_) = outcome {
                 continue;
             }
+            // Outside the domain the model's answer is stored.
+            let stored = (!domain::inside(&before))
+                .then(|| cut::by_model(&case.font, read, opened.program, &cut));
             for lent in cut_compare::lents(&mut g, &outcome) {
                 let answer = outcome.answer(lent);
-                let Some(line) = line(&case.font, &cut, lent, &answer) else {
+                let Some(plain) = line(&case.font, &cut, lent, &answer) else {
                     continue;
                 };
-                if seen.insert(line.clone()) {
-                    let shows = shows(&reading, &cut, &answer);
+                let stored = match &stored {
+                    None => plain.clone(),
+                    Some(stored) => {
+                        let stored = stored.answer(lent);
+                        line(&case.font, &cut, lent, &stored).expect("no longer than another")
+                    }
+                };
+                let length = plain.len();
+                if seen.insert(plain) {
+                    let shows = shows(&before, &reading, &cut, &answer);
                     all.push(Candidate {
-                        line,
+                        line: stored,
+                        length,
                         shows,
                         used: false,
                     });
@@ -136,8 +159,33 @@ fn letter(cut: &Cut) -> char {
     if cut.cid_keyed { 'D' } else { 'S' }
 }
 
+/// What a case shows of a font that one wish speaks of, with document 01's answer.
+fn shows_of_wish(notes: &str, reading: &Reading, cut: &Cut, answer: &Answer<'_>) -> Option<String> {
+    let letter = letter(cut);
+    // What is refused when the font is read, by what refuses it.
+    if let Err(refused) = &reading.font {
+        return Some(format!("{FEW} {notes}, {}", refused.part));
+    }
+    match answer.subset {
+        Ok(subset) if notes == FD_MATRIX => Some(format!("{FEW_MATRICES} {notes}, {}", subset.way)),
+        Ok(_) => Some(format!("{FEW} {notes}, {letter}")),
+        Err(model::MALFORMED) => Some(format!("{FEW} {notes}, {letter} without a ROS")),
+        Err(number) if notes.contains(STROKED) => Some(format!("{FEW} {STROKED}, {number}")),
+        Err(_) => None,
+    }
+}
+
 /// What a case shows: its answer with its record, and with each thing that the font has.
-fn shows(reading: &Reading, cut: &Cut, answer: &Answer<'_>) -> BTreeSet<String> {
+fn shows(before: &Reading, reading: &Reading, cut: &Cut, answer: &Answer<'_>) -> BTreeSet<String> {
+    match domain::spoken_of(before) {
+        Spoken::Nothing => {}
+        Spoken::Once(notes) => {
+            return shows_of_wish(&notes, reading, cut, answer)
+                .into_iter()
+                .collect();
+        }
+        Spoken::Twice => return BTreeSet::new(),
+    }
     let letter = letter(cut);
     let mut keys = BTreeSet::new();
     if let Err(refused) = &reading.font {

@@ -1,9 +1,11 @@
 //! Stands in for the library: the original's answers, and the model's where document 01 adds a
-//! refusal or the original would take too much memory. It tests the harness, and nothing else.
+//! refusal, outside the domain of the comparison, or where the original would take too much memory.
+//! It tests the harness, and nothing else.
 
 use crate::cff::CffProgram;
 use crate::compare::MEMORY;
 use crate::cut::{self, Cut, Lent, Outcome};
+use crate::domain::{self, NONE, WISHES};
 use crate::library::{ABSENT, Library, NO_ROOM, Room, Rooms};
 use crate::{model, original};
 use std::cell::RefCell;
@@ -44,11 +46,12 @@ fn parse(bytes: &[u8]) -> Parsed {
 }
 
 fn parse_anew(bytes: &[u8]) -> Result<Font, u8> {
-    let reading = model::read(bytes);
-    match reading.font {
+    let before = model::read(bytes, NONE);
+    let by_model = before.memory > MEMORY || !domain::inside(&before);
+    match model::read(bytes, WISHES).font {
         Err(refused) if [4, 5].contains(&refused.number) => return Err(refused.number),
-        Ok(font) if reading.memory > MEMORY => return Ok(Font::Model(font)),
-        Err(refused) if reading.memory > MEMORY => return Err(refused.number),
+        Ok(font) if by_model => return Ok(Font::Model(font)),
+        Err(refused) if by_model => return Err(refused.number),
         _ => {}
     }
     match CffProgram::parse(bytes) {
@@ -147,14 +150,18 @@ fn item_refusal(font: &[u8], item: (u8, u64)) -> u8 {
 
 /// The same answer that the comparison expects: it tests that what is lent is looked at.
 fn subset(font: &[u8], cut: &Cut, rooms: &mut Rooms<'_>) -> u8 {
-    let reading = model::read(font);
+    let reading = model::read(font, WISHES);
     let read = reading.font.as_ref().map_err(|r| r.number);
     let parsed = parse(font);
     let program = match parsed.as_deref() {
         Ok(Font::Original(program)) => Some(program),
         _ => None,
     };
-    let outcome = cut::cut(font, read, program, cut);
+    let outcome = if domain::inside(&model::read(font, NONE)) {
+        cut::cut(font, read, program, cut)
+    } else {
+        cut::by_model(font, read, program, cut)
+    };
     if let Outcome::Panicked(_) = outcome {
         return 255;
     }

@@ -35,6 +35,9 @@ pub struct Tally {
     /// Fonts for which the original would take too much memory.
     pub heavy: u64,
     pub panics: u64,
+    /// Fonts outside the domain of the comparison with the original, and those of them that it reads.
+    outside: u64,
+    pub outside_read: u64,
     /// Calls with too little room, or of a kind of items that there is not.
     pub roomless: u64,
     /// Reals past the limits at a place that the original comes by, and other cases.
@@ -44,7 +47,9 @@ pub struct Tally {
 }
 
 impl Tally {
-    pub fn font(&mut self, case: &Case, reading: &Reading) {
+    /// A font with the reading that is wanted of the library.
+    pub fn font(&mut self, case: &Case, reading: &Reading, inside: bool) {
+        self.outside += u64::from(!inside);
         let refusal = reading.font.as_ref().err().map_or(0, |r| r.number);
         self.fonts.entry((case.kind, case.state)).or_default()[usize::from(refusal)] += 1;
         if let Err(r) = &reading.font {
@@ -98,6 +103,8 @@ impl Tally {
         self.later += other.later;
         self.heavy += other.heavy;
         self.panics += other.panics;
+        self.outside += other.outside;
+        self.outside_read += other.outside_read;
         self.roomless += other.roomless;
         self.confirmed += other.confirmed;
         self.unconfirmed.extend(other.unconfirmed);
@@ -150,6 +157,11 @@ impl Tally {
         let _ = writeln!(out);
         let _ = writeln!(out, "original not asked, for its memory: {}", self.heavy);
         let _ = writeln!(out, "original panicked: {}", self.panics);
+        let _ = writeln!(
+            out,
+            "outside the domain of the comparison with the original: {}, of which it reads {}",
+            self.outside, self.outside_read
+        );
         let _ = writeln!(
             out,
             "refusal 5 where the original, given a reserved nibble there, stops: {}, elsewhere: {}",

@@ -54,8 +54,27 @@ pub fn refusal(error: &FontError) -> u8 {
     }
 }
 
+/// Whether the INDEX at a position has all its offsets and the first of them is not 1: document 02, Wish 5. The original
+/// reads such an INDEX, or judges its pairs.
+fn begins_elsewhere(pos: usize, font: &[u8]) -> bool {
+    let head = font.get(pos..pos.saturating_add(3));
+    let Some(&[high, low, size @ 1..=4]) = head else {
+        return false;
+    };
+    let (count, size) = (usize::from(high) << 8 | usize::from(low), usize::from(size));
+    let Some(offsets) = font.get(pos + 3..pos + 3 + (count + 1) * size) else {
+        return false;
+    };
+    let first = offsets[..size]
+        .iter()
+        .fold(0, |n, &b| n << 8 | u32::from(b));
+    count > 0 && first != 1
+}
+
+/// An INDEX read at a position, by the original; by Wish 5 where it begins elsewhere than at 1.
 fn index(cases: &mut Cases, pos: usize, font: &[u8]) {
     let answer = match read_index(font, pos) {
+        _ if begins_elsewhere(pos, font) => vec![2],
         Err(e) => vec![refusal(&e)],
         Ok((items, end)) => {
             let mut answer = vec![0];

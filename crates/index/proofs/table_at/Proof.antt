@@ -6,7 +6,7 @@ use borrow.Author.Needs.{needs}
 use borrow.Author.Tests.{lt-ltb, le-ltb, eq-eqb, ne-eqb}
 use denote.Ref.{now}
 use Rattle.index.specs.Index.{judged, dataAt, tableAt}
-use Rattle.index.specs.IndexLaws.{last-within, table-judged, table-size}
+use Rattle.index.specs.IndexLaws.{last-within, table-judged, table-size, first-bad, first-fine}
 use Rattle.index.proofs.table_at.Statement.{statement}
 use Rattle.index.proofs.table_at.Tie as tie
 
@@ -23,7 +23,7 @@ full c =
     let d = c .before .before in
     let s = d .before .before .before .before .before in
     table-judged (now (s .args .font)) (s .args .table) (s .args .count) (s .args .size) _ _ (d .before .before .before .if1 .left)
-    (d .before .before .if2 .left) (d .before .if3 .left) (d .num-at .ensures .0) (ne-eqb _ 0 (c .before .if4 .left)) (c .judge .ensures)
+    (d .before .before .if2 .left) (d .before .if3 .left) (d .num-at .ensures .0) (first-fine _ (c .before .if4 .left)) (c .judge .ensures)
 
 returns : tie.Need-returns
 unfolding tableAt
@@ -57,7 +57,7 @@ returns-4 c =
       le-ltb _ _ (d .before .before .if1 .left),
       le-ltb _ _ (d .before .if2 .left),
       le-ltb _ _ (d .if3 .left),
-      eq-eqb _ 0 (sym (c .before .num-at .ensures .0) ∙ c .if4 .taken),
+      first-bad _ (λ e. c .if4 .taken (c .before .num-at .ensures .0 ∙ e)),
     )
 
 sub-base : tie.Need-sub-base

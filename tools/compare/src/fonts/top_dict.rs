@@ -6,6 +6,9 @@ use crate::cff::STANDARD_STRINGS;
 use crate::layout::{Entry, Num, Part, entry};
 use crate::numbers::{self, Form};
 
+/// PaintType and StrokeWidth.
+const STROKES: [&[u8]; 2] = [&[12, 5], &[12, 8]];
+
 impl Maker<'_> {
     pub(super) fn font(&mut self, cid_keyed: bool) -> Vec<Entry> {
         let glyphs = match self.g.below(400) {
@@ -17,7 +20,8 @@ impl Maker<'_> {
         let glyphs = if self.wrong() { 0 } else { glyphs };
         let mut top = Vec::new();
         if cid_keyed {
-            let count = if self.wrong() || self.plan.is_some() && self.g.once_in(25) {
+            let odds = if self.stroked { 8 } else { 25 };
+            let count = if self.wrong() || self.plan.is_some() && self.g.once_in(odds) {
                 self.g.below(6)
             } else {
                 3
@@ -73,7 +77,9 @@ impl Maker<'_> {
         }
         for _ in 0..self.g.below(4) {
             let other = self.other_entry();
-            top.push(other);
+            if self.stroked || !STROKES.contains(&other.operator.as_slice()) {
+                top.push(other);
+            }
         }
         if self.g.once_in(2) {
             for k in (1..top.len()).rev() {
@@ -105,14 +111,15 @@ impl Maker<'_> {
                 top.push(entry(vec![id], operator));
             }
         }
-        let numbers: [(usize, &[u8]); 9] = [
+        if self.stroked {
+            self.strokes(top);
+        }
+        let numbers: [(usize, &[u8]); 7] = [
             (4, &[5]),
             (1, &[12, 1]),
             (1, &[12, 2]),
             (1, &[12, 3]),
             (1, &[12, 4]),
-            (1, &[12, 5]),
-            (1, &[12, 8]),
             (6, &[12, 7]),
             (1, &[12, 34]),
         ];
@@ -121,6 +128,34 @@ impl Maker<'_> {
                 let operands = (0..count).map(|_| self.other_number()).collect();
                 top.push(entry(operands, operator));
             }
+        }
+    }
+
+    /// PaintType, StrokeWidth or both: one number, 0 as often as not, or none or two.
+    fn strokes(&mut self, top: &mut Vec<Entry>) {
+        let which = self.g.below(3);
+        for (k, operator) in STROKES.into_iter().enumerate() {
+            if which == k {
+                continue;
+            }
+            let count = self.g.one_of(&[1, 1, 1, 1, 1, 1, 0, 2]);
+            let operands = (0..count)
+                .map(|_| match self.g.below(4) {
+                    0 | 1 => self.small(0),
+                    // 0.5, -0 and 0.00.
+                    2 => Num::Bytes(
+                        self.g
+                            .one_of(&[
+                                &[30, 0xa5, 0xff][..],
+                                &[30, 0xe0, 0xff],
+                                &[30, 0x0a, 0x00, 0xff],
+                            ])
+                            .to_vec(),
+                    ),
+                    _ => self.other_number(),
+                })
+                .collect();
+            top.push(entry(operands, operator));
         }
     }
 

@@ -11,7 +11,10 @@ pub(super) mod operator {
     pub const CHARSTRINGS: u16 = 17;
     pub const PRIVATE: u16 = 18;
     pub const SUBRS: u16 = 19;
+    pub const PAINT_TYPE: u16 = 12 << 8 | 5;
     pub const CHARSTRING_TYPE: u16 = 12 << 8 | 6;
+    pub const FONT_MATRIX: u16 = 12 << 8 | 7;
+    pub const STROKE_WIDTH: u16 = 12 << 8 | 8;
     pub const ROS: u16 = 12 << 8 | 30;
     pub const FD_ARRAY: u16 = 12 << 8 | 36;
     pub const FD_SELECT: u16 = 12 << 8 | 37;

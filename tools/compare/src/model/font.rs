@@ -1,8 +1,9 @@
 //! One font of a set: the parts that its top DICT names.
 
-use super::dict::operator;
+use super::dict::{Dict, operator};
 use super::{Index, MALFORMED, NO_SUCH_ITEM, Reader, Step, UNSUPPORTED, refuse};
 use crate::cff::STANDARD_STRINGS;
+use crate::domain::{EXPERT, PAINT_TYPE, STROKE_WIDTH, STROKED};
 use std::collections::BTreeSet;
 use std::ops::Range;
 
@@ -82,6 +83,13 @@ impl Reader<'_> {
     pub(super) fn font(&mut self, top: Range<usize>, strings: Index, globals: Index) -> Step<Font> {
         let top = self.dict(top, "top DICT")?;
         self.memory += top.memory();
+        if self.fonts == 1 {
+            self.note_entry(&top, operator::PAINT_TYPE, PAINT_TYPE);
+            if top.number(operator::PAINT_TYPE).is_some_and(|n| !n.is(0)) {
+                self.note(STROKED);
+            }
+            self.note_entry(&top, operator::STROKE_WIDTH, STROKE_WIDTH);
+        }
         if top
             .number(operator::CHARSTRING_TYPE)
             .is_some_and(|t| !t.is(2))
@@ -145,7 +153,10 @@ impl Reader<'_> {
                 .unwrap_or(0)
             {
                 0 => {}
-                1 => return refuse(UNSUPPORTED, "Encoding entry", "Expert encoding", 0),
+                1 => {
+                    self.note(EXPERT);
+                    return refuse(UNSUPPORTED, "Encoding entry", EXPERT, 0);
+                }
                 at => self.encoding(at)?,
             }
             locals
@@ -158,6 +169,13 @@ impl Reader<'_> {
             charset,
             locals,
         })
+    }
+
+    /// Notes that a DICT has an entry, whatever its operands are.
+    pub(super) fn note_entry(&mut self, dict: &Dict, operator: u16, what: &'static str) {
+        if dict.last(operator).is_some() {
+            self.note(what);
+        }
     }
 
     fn note_ids(&mut self, ids: &[u16], cid_keyed: bool, strings: Index) {

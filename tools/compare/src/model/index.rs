@@ -1,6 +1,7 @@
 //! INDEXes: TN5176, section 5.
 
 use super::{MALFORMED, Reader, Step, TRUNCATED, number, refuse};
+use crate::domain::FIRST_OFFSET;
 use std::ops::Range;
 
 /// An INDEX: how many items, and where its offsets are.
@@ -58,6 +59,13 @@ impl Reader<'_> {
         // All offsets are there before any is judged.
         let width = (count + 1) * u64::from(size);
         self.bytes_at(index.offsets as u64, width, part, "offsets end early")?;
+        if index.offset(self.bytes, 0) != 1 {
+            self.note(FIRST_OFFSET);
+            // Document 02, Wish 5: before the pairs.
+            if self.wishes.contains(&5) {
+                return refuse(MALFORMED, part, FIRST_OFFSET, index.offsets);
+            }
+        }
         for k in 0..index.count {
             let (start, end) = (index.offset(self.bytes, k), index.offset(self.bytes, k + 1));
             if start == 0 {
@@ -79,9 +87,6 @@ impl Reader<'_> {
                 "offsets of 4",
             ][usize::from(size) - 1],
         );
-        if index.offset(self.bytes, 0) > 1 {
-            self.note("first offset above 1");
-        }
         if index.count > 255 {
             self.note("INDEX of more than 255 items");
         }

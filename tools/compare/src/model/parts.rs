@@ -2,6 +2,7 @@
 
 use super::dict::{Dict, Entries, operator};
 use super::{Index, Reader, number};
+use crate::domain::NONE;
 
 /// A Private and its local subroutines.
 pub struct Private {
@@ -20,7 +21,7 @@ pub struct Parts {
 
 /// The parts of the first font of bytes that are read.
 pub fn parts(bytes: &[u8], glyphs: usize) -> Option<Parts> {
-    let mut reader = Reader::new(bytes);
+    let mut reader = Reader::new(bytes, NONE);
     let names = reader.index(u64::from(bytes[2]), "").ok()?;
     let tops = reader.index(names.end as u64, "").ok()?;
     let top = reader.dict(tops.span(bytes, 0), "").ok()?;

@@ -2,6 +2,7 @@
 
 use super::dict::{Dict, operator};
 use super::{MALFORMED, Reader, Step, refuse};
+use crate::domain::FD_MATRIX;
 
 /// What the FDs of a font come to.
 #[derive(Clone, Copy)]
@@ -30,6 +31,7 @@ impl Reader<'_> {
         };
         for k in 0..array.count {
             let fd = self.dict(array.span(self.bytes, k), "FD DICT")?;
+            self.note_entry(&fd, operator::FONT_MATRIX, FD_MATRIX);
             let (locals, memory) =
                 self.private_entry(&fd, "Private entry of an FD", "Private of an FD")?;
             fds.locals += locals;

@@ -62,6 +62,7 @@ pub(super) fn chosen_indexes(cases: &mut Cases) {
     for size in 1..=4 {
         offset_lists(cases, size);
     }
+    first_offsets(cases);
     // As many items as the font holds, of no length, and one byte too few.
     for (size, count) in [(1u8, 116u16), (2, 57), (3, 38), (4, 28)] {
         let list = vec![1u32; usize::from(count) + 1];
@@ -78,23 +79,51 @@ pub(super) fn chosen_indexes(cases: &mut Cases) {
     }
 }
 
-/// Offsets in order and out of it, over 9 and 10 bytes of data.
+/// First offsets other than 1: few, since they are answered by document 02, Wish 5, and not by the original.
+fn first_offsets(cases: &mut Cases) {
+    for size in [1u8, 4] {
+        let most = u32::MAX >> (32 - 8 * u32::from(size));
+        #[rustfmt::skip]
+        let lists: &[&[u32]] = &[
+            &[0, 0], &[0, 1], &[0, 3, 4], &[2, 2], &[2, 5], &[3, 4, 6], &[11, 11], &[most, most],
+            // Pairs behind it that fall, and that are past the end.
+            &[2, 1], &[3, 2, 5], &[0, 60], &[2, 60], &[3, 5, 60],
+        ];
+        for list in lists {
+            let count = list.len() as u16 - 1;
+            index(cases, 0, &raw_index(count, size, list, &counted(10)));
+        }
+    }
+    for (size, first) in [(2, 0), (2, 2), (2, 256), (3, 0), (3, 3), (3, 65_537)] {
+        let whole = raw_index(1, size, &[first, first], &counted(9));
+        index(cases, 2, &[&[9, 9], &whole[..]].concat());
+    }
+    // The offset size and missing offsets come before it.
+    for first in [0, 2, 3] {
+        index(cases, 0, &raw_index(1, 0, &[first, 4], &counted(9)));
+        index(cases, 0, &raw_index(1, 5, &[first, 4], &counted(9)));
+        for behind in [&[][..], &[0], &[0, 5]] {
+            index(cases, 0, &raw_index(3, 2, &[first, 4, 5], behind));
+        }
+    }
+}
+
+/// Offsets from 1 on, in order and out of it, over 9 and 10 bytes of data.
 fn offset_lists(cases: &mut Cases, size: u8) {
     let most = u32::MAX >> (32 - 8 * u32::from(size));
     #[rustfmt::skip]
     let lists: &[&[u32]] = &[
-        // First offsets above 1, with and without items of no length.
-        &[1, 1], &[2, 2], &[2, 5], &[5, 9], &[9, 9], &[3, 4, 6], &[7, 8, 10],
-        &[10, 10], &[10, 11], &[11, 11], &[12, 12], &[12, 13],
+        // With and without items of no length.
+        &[1, 1], &[1, 2], &[1, 4], &[1, 9], &[1, 1, 1], &[1, 1, 4], &[1, 4, 4], &[1, 2, 4], &[1, 1, 1, 8], &[1, 2, 2, 8],
         // Zero at each place.
-        &[0, 0], &[0, 1], &[1, 0], &[0, 3, 4], &[1, 0, 4], &[1, 3, 0], &[0, most],
+        &[1, 0], &[1, 0, 0], &[1, 0, 4], &[1, 3, 0], &[1, 3, 0, most],
         // Falling pairs at each place.
-        &[2, 1], &[3, 2, 5], &[1, 5, 4], &[1, 5, 4, 9], &[1, 2, 5, 4], &[most, 1], &[most, most - 1],
+        &[1, 5, 4], &[1, 5, 4, 9], &[1, 2, 5, 4], &[1, most, 1], &[1, most, most - 1], &[1, 5, 1],
         // Past the end at each place; the verdict of the first bad pair.
-        &[1, 11], &[1, 12], &[1, 60], &[60, 60], &[60, 61], &[1, 5, 60], &[1, 60, 61], &[60, 61, 62], &[60, 61, 3],
-        &[1, 60, 3], &[1, 60, 0], &[1, 3, 2, 60], &[3, 2, 60, 61], &[0, 60, 61], &[1, most], &[most, most], &[1, 4, most],
+        &[1, 11], &[1, 12], &[1, 60], &[1, 5, 60], &[1, 60, 60], &[1, 60, 61], &[1, 60, 61, 62], &[1, 60, 61, 3],
+        &[1, 60, 3], &[1, 60, 0], &[1, 3, 2, 60], &[1, 3, 60, 2], &[1, 3, 2, 60, 61], &[1, most], &[1, most, most], &[1, 4, most],
         // The end itself.
-        &[1, 10], &[1, 4, 10], &[1, 10, 10], &[10, 10, 10], &[1, 1, 10],
+        &[1, 10], &[1, 4, 10], &[1, 10, 10], &[1, 1, 10], &[1, 10, 11], &[1, 10, 9], &[1, 9, 10, 11],
     ];
     for list in lists {
         let count = list.len() as u16 - 1;
@@ -120,13 +149,13 @@ pub(super) fn random_index(cases: &mut Cases, random: &mut Generator) {
             }
         })
         .collect();
-    let first = if random.once_in(3) {
-        1 + random.below(4) as u32
+    let first = if random.once_in(40) {
+        random.one_of(&[0, 2, 3, 4])
     } else {
         1
     };
     let mut list = offsets(first, &lengths);
-    let length = list[count] as usize - 1;
+    let length = list[count].saturating_sub(1) as usize;
     let tail = if random.once_in(2) {
         0
     } else {
@@ -135,7 +164,7 @@ pub(super) fn random_index(cases: &mut Cases, random: &mut Generator) {
     let way = random.below(8);
     if way == 1 {
         // One offset out of order.
-        let k = random.below(count + 1);
+        let k = 1 + random.below(count);
         list[k] = random.one_of(&[
             0,
             1,
@@ -146,7 +175,7 @@ pub(super) fn random_index(cases: &mut Cases, random: &mut Generator) {
         ]);
     }
     if way == 2 {
-        let (a, b) = (random.below(count + 1), random.below(count + 1));
+        let (a, b) = (1 + random.below(count), 1 + random.below(count));
         list.swap(a, b);
     }
     let data = random.bytes(length + tail);
@@ -157,9 +186,11 @@ pub(super) fn random_index(cases: &mut Cases, random: &mut Generator) {
         3 => font.truncate(font.len() - 1 - random.below((tail + 2).min(font.len()))),
         4 => font.truncate(random.below(font.len() + 1)),
         5 => {
-            // A byte of the count, the size or the offsets changed.
-            let head = (3 + (count + 1) * usize::from(size)).min(font.len() - pos);
-            let at = pos + random.below(head);
+            // A byte of the count, the size or the offsets behind the first one changed.
+            let size = usize::from(size);
+            let head = (3 + count * size).min(font.len() - pos - size);
+            let at = random.below(head);
+            let at = pos + if at < 3 { at } else { at + size };
             font[at] = random.one_of(&[0, 1, 2, 3, 4, 5, 255, 128, 16]);
         }
         _ => {}

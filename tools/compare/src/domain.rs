@@ -1,0 +1,65 @@
+//! Where the library is compared with the original. Document 02 changes the answers to some fonts. They leave the domain of the
+//! comparison, and there the model is the reference: it follows each wish by a switch.
+//!
+//! Inside, the library, the model with its switches on and the original must agree. Outside, the library must agree with the
+//! model with its switches on, and the original with the model that has them off, which is document 01's.
+
+use crate::model::Reading;
+
+/// Wishes of document 02 by their numbers: the switches of a model that are on.
+pub type Wishes = &'static [u8];
+
+/// The model of document 01.
+pub const NONE: Wishes = &[];
+
+/// The model of the library: the wishes that it follows.
+pub const WISHES: Wishes = &[5];
+
+/// What the model notes of fonts that a wish speaks of. PaintType and StrokeWidth are those of the first font's top DICT, and
+/// stroked is a PaintType of one number other than 0.
+pub const FIRST_OFFSET: &str = "first offset other than 1";
+pub const PAINT_TYPE: &str = "PaintType";
+pub const STROKED: &str = "stroked";
+pub const STROKE_WIDTH: &str = "StrokeWidth";
+pub const FD_MATRIX: &str = "FontMatrix in an FD";
+pub const EXPERT: &str = "Expert encoding";
+
+/// Whether a font is in the domain of the comparison with the original. The reading is document 01's.
+pub fn inside(reading: &Reading) -> bool {
+    // Wish 5, 'An INDEX begins at 1': "Fonts that break this leave the domain of the comparison with the Rust." Only an INDEX
+    // that is read counts, with its offsets there, and its first one is looked at before its pairs.
+    !reading.notes.contains(FIRST_OFFSET)
+}
+
+/// Notes with the wish that speaks of them. Few stored cases have one, so that a wish changes few lines.
+const SPOKEN_OF: [(u8, &str); 6] = [
+    (5, FIRST_OFFSET),
+    (11, PAINT_TYPE),
+    (11, STROKED),
+    (11, STROKE_WIDTH),
+    (2, FD_MATRIX),
+    (4, EXPERT),
+];
+
+/// How much wishes have to say of a font.
+pub enum Spoken {
+    Nothing,
+    /// One wish, of these notes.
+    Once(String),
+    Twice,
+}
+
+/// What wishes have to say of a font. The reading is document 01's; a font that it refuses is refused by Wishes 2 and 11 too.
+pub fn spoken_of(reading: &Reading) -> Spoken {
+    let says = |wish: u8| reading.font.is_ok() || [4, 5].contains(&wish);
+    let said: Vec<(u8, &str)> = SPOKEN_OF
+        .into_iter()
+        .filter(|&(wish, note)| says(wish) && reading.notes.contains(note))
+        .collect();
+    let notes: Vec<&str> = said.iter().map(|s| s.1).collect();
+    match said.first() {
+        None => Spoken::Nothing,
+        Some(first) if said.iter().all(|s| s.0 == first.0) => Spoken::Once(notes.join(", ")),
+        Some(_) => Spoken::Twice,
+    }
+}
