@@ -19,7 +19,7 @@ module _ (s : Bool) (v : ℕ) where
   unfolding integerBytes
   one h = rw (le-leb v 107 h)
 
-  two : 107 < v → v ≤ 1131 → integerBytes s v ≡ ((v - 108) / 256 + pick s 251 247) ∷ ((v - 108) % 256) ∷ []
+  pub two : 107 < v → v ≤ 1131 → integerBytes s v ≡ ((v - 108) / 256 + pick s 251 247) ∷ ((v - 108) % 256) ∷ []
   unfolding integerBytes
   two h k = rw (lt-leb v 107 h, le-leb v 1131 k)
 

@@ -1,5 +1,6 @@
 pub mod Number
 pub mod Encoding
+pub mod Forms
 pub mod Floats
 pub mod Examples
 pub mod FloatLaws
@@ -9,4 +10,6 @@ pub mod Counts
 pub mod Readings
 pub mod NumberLaws
 pub mod EncodingLaws
+pub mod FormsLaws
+pub mod FormsExamples
 pub mod NumberRound

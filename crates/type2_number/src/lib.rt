@@ -1,7 +1,7 @@
 // The numbers of a Type 2 charstring (TN5177, section 3.2): read to the f32 that the Rust's `number` gives, and written back as its
 // `encode` does. The definitions count 65536ths; nothing above this crate sees how an f32 rounds.
 ghost use mathlib.Core.Path.{_≡_};
-ghost use mathlib.Core.Bool.{true};
+ghost use mathlib.Core.Bool.{true, false};
 ghost use mathlib.Core.List.{[], _∷_};
 ghost use Prim.Native.Nat.{_+_, _*_, _≤_, _<_};
 ghost use lib.ListN.{length};
@@ -148,28 +148,45 @@ fn put_tagged(out: &mut [u8], at: usize, tag: u8, value: usize, size: usize) -> 
     octets::put_num(out, p, value, size)
 }
 
+// The integer v in its shortest form, from at on; the place after it (TN5177, table 1: a case for each first byte of a two-byte form).
+fn put_positive(v: usize, out: &mut [u8], at: usize) -> usize
+    requires { ⌜ (v < 32768) × (at + length (integerBytes false v) ≤ length (now out)) ⌝ }
+    ensures { λ r. ⌜ Wrote (now (out .entry)) at (integerBytes false v) (now (out .exit)) r ⌝ }
+{
+    match v {
+        0..=107 => octets::put_byte(out, at, (139 + v) as u8),
+        108..=363 => octets::put_pair(out, at, 247, (v - 108) as u8),
+        364..=619 => octets::put_pair(out, at, 248, (v - 364) as u8),
+        620..=875 => octets::put_pair(out, at, 249, (v - 620) as u8),
+        876..=1131 => octets::put_pair(out, at, 250, (v - 876) as u8),
+        _ => put_tagged(out, at, 28, v, 2),
+    }
+}
+
+// The integer -v in its shortest form, from at on; the place after it.
+fn put_negative(v: usize, out: &mut [u8], at: usize) -> usize
+    requires { ⌜ (v < 32768) × (at + length (integerBytes true v) ≤ length (now out)) ⌝ }
+    ensures { λ r. ⌜ Wrote (now (out .entry)) at (integerBytes true v) (now (out .exit)) r ⌝ }
+{
+    match v {
+        0..=107 => octets::put_byte(out, at, (139 - v) as u8),
+        108..=363 => octets::put_pair(out, at, 251, (v - 108) as u8),
+        364..=619 => octets::put_pair(out, at, 252, (v - 364) as u8),
+        620..=875 => octets::put_pair(out, at, 253, (v - 620) as u8),
+        876..=1131 => octets::put_pair(out, at, 254, (v - 876) as u8),
+        _ => put_tagged(out, at, 28, 65536 - v, 2),
+    }
+}
+
 // The integer v, or -v where neg, in its shortest form, from at on; the place after it.
 pub fn encode_number(neg: bool, v: usize, out: &mut [u8], at: usize) -> usize
     requires { ⌜ (v < 32768) × (at + length (integerBytes neg v) ≤ length (now out)) ⌝ }
     ensures { λ r. ⌜ Wrote (now (out .entry)) at (integerBytes neg v) (now (out .exit)) r ⌝ }
 {
-    if v <= 107 {
-        if neg {
-            return octets::put_byte(out, at, (139 - v) as u8);
-        }
-        return octets::put_byte(out, at, (139 + v) as u8);
-    }
-    if v <= 1131 {
-        let w = v - 108;
-        if neg {
-            return octets::put_pair(out, at, (w / 256 + 251) as u8, (w % 256) as u8);
-        }
-        return octets::put_pair(out, at, (w / 256 + 247) as u8, (w % 256) as u8);
-    }
     if neg {
-        return put_tagged(out, at, 28, 65536 - v, 2);
+        return put_negative(v, out, at);
     }
-    put_tagged(out, at, 28, v, 2)
+    put_positive(v, out, at)
 }
 
 // The 16.16 of n 65536ths, or -n where neg, from at on; the place after it.
