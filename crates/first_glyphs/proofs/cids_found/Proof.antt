@@ -1,4 +1,4 @@
--- `cids_found` meets its contract. The invariant: the CIDs of the glyphs that were passed are marked, and the glyphs that are left are
+-- `first_glyphs::cids_found` meets its contract. The invariant: the CIDs of the glyphs that were passed are marked, and the glyphs that are left are
 -- found exactly where all are.
 use Prim.Native.Nat.{ℕ, _-_}
 use mathlib.Core.Path.{_≡_, refl, ap, _∙_}

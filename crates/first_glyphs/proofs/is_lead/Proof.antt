@@ -1,4 +1,4 @@
--- `is_lead` meets its contract: by its one test.
+-- `first_glyphs::is_lead` meets its contract: by its one test.
 use Rattle.first_glyphs.specs.FoundLaws.{zero-passes, other-as}
 use mathlib.Core.Path.{refl}
 use Rattle.first_glyphs.proofs.is_lead.Statement.{statement}

@@ -1,4 +1,4 @@
--- `kept::all_found` meets its contract: the marked glyphs are the kept ones, and each is looked for by the font's keying.
+-- `found::all_found` meets its contract: the marked glyphs are the kept ones, and each is looked for by the font's keying.
 use mathlib.Core.Path.{refl}
 use denote.Ref.{now}
 use Rattle.kept.specs.SlotLaws.{slots-empty, flags-long, flags-marked}

@@ -1,4 +1,4 @@
--- `flagged_found` meets its contract: what is not flagged or is new needs no finding.
+-- `found::flagged_found` meets its contract: what is not flagged or is new needs no finding.
 use mathlib.Core.Path.{sym}
 use Rattle.first_glyphs.specs.FoundLaws.{zero-passes, other-as}
 use borrow.Author.Needs.{needs}

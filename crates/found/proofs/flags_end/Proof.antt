@@ -1,4 +1,4 @@
--- `flags_end` meets its contract. The invariant: no flag is set from the end on.
+-- `found::flags_end` meets its contract. The invariant: no flag is set from the end on.
 use Prim.Native.Nat.{_≤_, _-_}
 use mathlib.Core.Path.{_≡_}
 use mathlib.Core.List.{[]}

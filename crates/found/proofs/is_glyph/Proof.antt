@@ -1,4 +1,4 @@
--- `is_glyph` meets its contract: the one test, where a glyph was found.
+-- `found::is_glyph` meets its contract: the one test, where a glyph was found.
 use mathlib.Core.Path.{sym}
 use Rattle.first_glyphs.specs.FoundLaws.{glyph-as}
 use borrow.Author.Needs.{needs}

@@ -1,4 +1,4 @@
--- `name_found` meets its contract: it looks for the text of the glyph's id.
+-- `found::name_found` meets its contract: it looks for the text of the glyph's id.
 use mathlib.Core.Path.{refl}
 use Rattle.strings.specs.Table.{standardNames, standardOffsets}
 use Rattle.strings.specs.Text.{codes}

@@ -1,4 +1,4 @@
--- `names_found` meets its contract: it lends the tables, the empty marks and the ids that were seen, none; what that pass leaves open, sorting answers.
+-- `found::names_found` meets its contract: it lends the tables, the empty marks and the ids that were seen, none; what that pass leaves open, sorting answers.
 use mathlib.Core.Path.{refl}
 use Rattle.strings.specs.Table.{standardNames, standardOffsets}
 use Rattle.strings.specs.Text.{codes}

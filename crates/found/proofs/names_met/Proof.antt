@@ -1,4 +1,4 @@
--- `names_met` meets its contract. The invariant: the names and the ids of the glyphs that were passed are marked, and the glyphs that are
+-- `found::names_met` meets its contract. The invariant: the names and the ids of the glyphs that were passed are marked, and the glyphs that are
 -- left are found exactly where all are. An open answer says nothing.
 use Prim.Native.Nat.{ℕ, _+_, _≤_, _<_, _-_}
 use mathlib.Core.Path.{_≡_, refl, sym, ap, _∙_, subst}

@@ -1,4 +1,4 @@
--- `text_found` meets its contract: what `find_text` found is compared.
+-- `found::text_found` meets its contract: what `find_text` found is compared.
 use mathlib.Core.Path.{_∙_}
 use Rattle.first_glyphs.specs.FoundLaws.{glyph-as}
 use borrow.Author.Needs.{needs}

@@ -1,4 +1,4 @@
--- `marks::hash_of` meets its contract. The invariant: the hash of what is left, behind h, is the hash of all.
+-- `found::marks::hash_of` meets its contract. The invariant: the hash of what is left, behind h, is the hash of all.
 use Prim.Native.Nat.{_≤_, _<_, _-_}
 use mathlib.Core.Path.{_≡_, refl, _∙_}
 use native.Mathlib.Omega.{arith}

@@ -1,4 +1,4 @@
--- `marks::meet` meets its contract: what both places held, before they were set.
+-- `found::marks::meet` meets its contract: what both places held, before they were set.
 use mathlib.Core.Path.{refl}
 use native.Mathlib.Omega.{arith}
 use lib.ListN.{length-set}

@@ -1,10 +1,10 @@
--- `cff::item_refusal` meets its contract: the count of the INDEX is the count of its items.
+-- `cff_entries::item_refusal` meets its contract: the count of the INDEX is the count of its items.
 use mathlib.Core.Path.{sym, ap}
 use Rattle.cff.specs.Find.{itemRefusal}
 use Rattle.cff.specs.SetLaws.{refused-as, refusal-none, refusal-six}
 use borrow.Author.Needs.{needs}
-use Rattle.cff.proofs.item_refusal.Statement.{statement}
-use Rattle.cff.proofs.item_refusal.Tie as tie
+use Rattle.cff_entries.proofs.item_refusal.Statement.{statement}
+use Rattle.cff_entries.proofs.item_refusal.Tie as tie
 
 read-font-requires : tie.Need-read-font-requires
 read-font-requires c κs = search needs

@@ -1,12 +1,12 @@
--- `cff::read` meets its contract: the counts of the font that was read are those of its lists.
+-- `cff_entries::read` meets its contract: the counts of the font that was read are those of its lists.
 use mathlib.Core.Path.{sym, ap, _∙_}
 use native.Mathlib.Omega.{arith}
 use Rattle.cff.specs.Find.{readAs}
 use Rattle.cff.specs.declared.ReadAs.the-variants.{Font}
 use Rattle.cff.specs.SetLaws.{refused-as, found-good-font, read-is, counts-are}
 use borrow.Author.Needs.{needs}
-use Rattle.cff.proofs.read.Statement.{statement}
-use Rattle.cff.proofs.read.Tie as tie
+use Rattle.cff_entries.proofs.read.Statement.{statement}
+use Rattle.cff_entries.proofs.read.Tie as tie
 
 read-font-requires : tie.Need-read-font-requires
 read-font-requires c κs = search needs

@@ -1,10 +1,10 @@
--- `cff::find_cid` meets its contract: the font that was read is the one that the definition reads.
+-- `cff_entries::find_cid` meets its contract: the font that was read is the one that the definition reads.
 use mathlib.Core.Path.{sym, ap, _∙_}
 use Rattle.cff.specs.Find.{cidAs}
 use Rattle.cff.specs.SetLaws.{refused-as, found-good-font, read-is}
 use borrow.Author.Needs.{needs}
-use Rattle.cff.proofs.find_cid.Statement.{statement}
-use Rattle.cff.proofs.find_cid.Tie as tie
+use Rattle.cff_entries.proofs.find_cid.Statement.{statement}
+use Rattle.cff_entries.proofs.find_cid.Tie as tie
 
 read-font-requires : tie.Need-read-font-requires
 read-font-requires c κs = search needs

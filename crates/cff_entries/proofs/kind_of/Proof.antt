@@ -1,7 +1,7 @@
--- `capi::kind_of` meets its contract: the kinds by their numbers.
-use Rattle.capi.specs.CapiLaws.{kind-charstring, kind-global, kind-text}
-use Rattle.capi.proofs.kind_of.Statement.{statement}
-use Rattle.capi.proofs.kind_of.Tie as tie
+-- `cff_entries::kind_of` meets its contract: the kinds by their numbers.
+use Rattle.cff_entries.specs.Kinds.{kind-charstring, kind-global, kind-text}
+use Rattle.cff_entries.proofs.kind_of.Statement.{statement}
+use Rattle.cff_entries.proofs.kind_of.Tie as tie
 
 returns : tie.Need-returns
 returns c = kind-charstring _ (c .match .keys1)

@@ -1,10 +1,10 @@
--- `cff::name_in` meets its contract: a font that was read has the strings and ids that `find_text` goes through.
+-- `cff_entries::name_in` meets its contract: a font that was read has the strings and ids that `find_text` goes through.
 use mathlib.Core.Path.{ap}
 use Rattle.cff.specs.Find.{foundAs}
 use Rattle.cff.specs.SetLaws.{name-keyed, name-looked}
 use borrow.Author.Needs.{needs}
-use Rattle.cff.proofs.name_in.Statement.{statement}
-use Rattle.cff.proofs.name_in.Tie as tie
+use Rattle.cff_entries.proofs.name_in.Statement.{statement}
+use Rattle.cff_entries.proofs.name_in.Tie as tie
 
 returns : tie.Need-returns
 returns c = name-keyed (c .before .before .before .before .before .before .args .font .now) (c .before .before .before .before .before .before .args .f) (c .before .before .before .before .before .before .pre) (c .if1 .taken) _

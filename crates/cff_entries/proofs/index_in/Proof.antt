@@ -1,9 +1,9 @@
--- `cff::index_in` meets its contract: each kind has its INDEX.
+-- `cff_entries::index_in` meets its contract: each kind has its INDEX.
 use mathlib.Core.Path.{sym, ap}
 use Rattle.cff.specs.Reads.{indexIn}
 use borrow.Author.Needs.{needs}
-use Rattle.cff.proofs.index_in.Statement.{statement}
-use Rattle.cff.proofs.index_in.Tie as tie
+use Rattle.cff_entries.proofs.index_in.Statement.{statement}
+use Rattle.cff_entries.proofs.index_in.Tie as tie
 
 enum-told : tie.Need-enum-told
 enum-told c = search needs

@@ -1,10 +1,10 @@
--- `cff::cid_in` meets its contract: a font that was read has the ids that `find_id` goes through.
+-- `cff_entries::cid_in` meets its contract: a font that was read has the ids that `find_id` goes through.
 use mathlib.Core.Path.{ap}
 use Rattle.cff.specs.Find.{foundAs}
 use Rattle.cff.specs.SetLaws.{cid-looked, cid-other}
 use borrow.Author.Needs.{needs}
-use Rattle.cff.proofs.cid_in.Statement.{statement}
-use Rattle.cff.proofs.cid_in.Tie as tie
+use Rattle.cff_entries.proofs.cid_in.Statement.{statement}
+use Rattle.cff_entries.proofs.cid_in.Tie as tie
 
 find-id-requires : tie.Need-find-id-requires
 find-id-requires c κs = search needs

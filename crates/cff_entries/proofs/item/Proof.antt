@@ -1,8 +1,8 @@
--- `cff::item` meets its contract: the item is the part of the font that its INDEX names.
+-- `cff_entries::item` meets its contract: the item is the part of the font that its INDEX names.
 use Rattle.cff.specs.SetLaws.{items-good, item-found, item-refused, item-none}
 use borrow.Author.Needs.{needs}
-use Rattle.cff.proofs.item.Statement.{statement}
-use Rattle.cff.proofs.item.Tie as tie
+use Rattle.cff_entries.proofs.item.Statement.{statement}
+use Rattle.cff_entries.proofs.item.Tie as tie
 
 read-font-requires : tie.Need-read-font-requires
 read-font-requires c κs = search needs
