@@ -1,4 +1,4 @@
--- `renumber::body_len` meets its contract: the length so far is that of the tokens written, one by one or a run at once.
+-- `renumbered::body_len` meets its contract: the length so far is that of the tokens written, one by one or a run at once.
 use Prim.Native.Nat.{ℕ, _-_}
 use mathlib.Core.Path.{_≡_, refl, sym, _∙_}
 use mathlib.Core.Bool.{true}
@@ -13,14 +13,14 @@ use Rattle.charstring.specs.TokensLaws.{fuelOf, Next}
 use Rattle.prune.specs.Renumber.{Calls, becomes}
 use Rattle.record.specs.Record.{rowsOf, givenIn}
 use Rattle.reach.specs.Reach.{siteOf}
 use Rattle.renumber.specs.Ranks.{callsBy}
 use Rattle.renumber.specs.OperandLaws.{calls-read}
 use Rattle.renumber.specs.Turn.{HoldsHeld}
 use Rattle.renumber.specs.BodyLaws.{Sizing, own-small, turning-next, turning-held, sizing-start, sized-room, sized-end, sizing-turn, sized-failed}
 use Rattle.renumber.specs.RunBodyLaws.{sizing-run, run-shorter}
 use borrow.Author.Needs.{needs}
-use Rattle.renumber.proofs.body_len.Statement.{statement}
-use Rattle.renumber.proofs.body_len.Tie as tie
+use Rattle.renumbered.proofs.body_len.Statement.{statement}
+use Rattle.renumbered.proofs.body_len.Tie as tie
 
 abbrev Inv-loop : tie.InvT-loop
 Inv-loop code words locals globals rows rising site c₀ h₀ len₀ c h len = Sizing (callsBy words locals globals) (givenIn (rowsOf rows) (siteOf site)) code c h len

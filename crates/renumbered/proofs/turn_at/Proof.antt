@@ -1,8 +1,8 @@
--- `renumber::turn_at` meets its contract: the token that is read, and what it brings.
+-- `renumbered::turn_at` meets its contract: the token that is read, and what it brings.
 use Rattle.renumber.specs.CodeLaws.{turned-lost, turned-stuck, turned-sends}
 use borrow.Author.Needs.{needs}
-use Rattle.renumber.proofs.turn_at.Statement.{statement}
-use Rattle.renumber.proofs.turn_at.Tie as tie
+use Rattle.renumbered.proofs.turn_at.Statement.{statement}
+use Rattle.renumbered.proofs.turn_at.Tie as tie
 
 given-at-requires : tie.Need-given-at-requires
 given-at-requires c κs = search needs

@@ -1,10 +1,10 @@
--- `renumber::held_len` meets its contract: the cases of the definition.
+-- `renumbered::held_len` meets its contract: the cases of the definition.
 use mathlib.Core.Path.{sym, ap, _∙_}
 use Rattle.renumber.specs.Turn.{heldLen}
 use Rattle.renumber.specs.CodeLaws.{held-as}
 use borrow.Author.Needs.{needs}
-use Rattle.renumber.proofs.held_len.Statement.{statement}
-use Rattle.renumber.proofs.held_len.Tie as tie
+use Rattle.renumbered.proofs.held_len.Statement.{statement}
+use Rattle.renumbered.proofs.held_len.Tie as tie
 
 enum-told : tie.Need-enum-told
 enum-told c = search needs

@@ -1,9 +1,9 @@
--- `renumber::run_len` meets its contract: a number takes at most five bytes.
+-- `renumbered::run_len` meets its contract: a number takes at most five bytes.
 use native.Mathlib.Omega.{arith}
 use Rattle.renumber.specs.BodyLaws.{held-few}
 use borrow.Author.Needs.{needs}
-use Rattle.renumber.proofs.run_len.Statement.{statement}
-use Rattle.renumber.proofs.run_len.Tie as tie
+use Rattle.renumbered.proofs.run_len.Statement.{statement}
+use Rattle.renumbered.proofs.run_len.Tie as tie
 
 held-len-requires : tie.Need-held-len-requires
 held-len-requires c κs = search needs

@@ -1,9 +1,9 @@
--- `renumber::renumbered_len` meets its contract: two lengths at one offset fail, and then the body decides.
+-- `renumbered::renumbered_len` meets its contract: two lengths at one offset fail, and then the body decides.
 use mathlib.Core.Path.{sym, _∙_}
 use Rattle.renumber.specs.BodyLaws.{two-fail, one-length}
 use borrow.Author.Needs.{needs}
-use Rattle.renumber.proofs.renumbered_len.Statement.{statement}
-use Rattle.renumber.proofs.renumbered_len.Tie as tie
+use Rattle.renumbered.proofs.renumbered_len.Statement.{statement}
+use Rattle.renumbered.proofs.renumbered_len.Tie as tie
 
 two-lengths-requires : tie.Need-two-lengths-requires
 two-lengths-requires c κs = let p = c .before .before .before .pre in (p .order, p .body)

@@ -1,10 +1,10 @@
--- `renumber::put_run` meets its contract: one part after the other.
+-- `renumbered::put_run` meets its contract: one part after the other.
 use Rattle.renumber.specs.Turn.{heldBytes}
 use Rattle.renumber.specs.CodeLaws.{front-room, back-room, wrote-both}
 use Rattle.renumber.specs.Run.{part}
 use borrow.Author.Needs.{needs}
-use Rattle.renumber.proofs.put_run.Statement.{statement}
-use Rattle.renumber.proofs.put_run.Tie as tie
+use Rattle.renumbered.proofs.put_run.Statement.{statement}
+use Rattle.renumbered.proofs.put_run.Tie as tie
 
 put-held-requires : tie.Need-put-held-requires
 put-held-requires c κs = (c .before .before .before .pre .0, front-room (c .before .before .before .args .out .now) (heldBytes (c .before .before .before .args .h)) (part (c .before .before .before .args .code .now) (c .before .before .before .args .from) (c .before .before .before .args .last)) _ (c .before .before .before .pre .3))

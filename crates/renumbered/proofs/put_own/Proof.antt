@@ -1,10 +1,10 @@
--- `renumber::put_own` meets its contract: each arm writes the bytes of its kind of token.
+-- `renumbered::put_own` meets its contract: each arm writes the bytes of its kind of token.
 use Rattle.charstring.specs.TokenLaws.{writable-as}
 use Rattle.charstring.specs.declared.Token.the-variants.{Op, Esc, Mask}
 use Rattle.renumber.specs.CodeLaws.{own-room, wrote-own, wrote-number}
 use borrow.Author.Needs.{needs}
-use Rattle.renumber.proofs.put_own.Statement.{statement}
-use Rattle.renumber.proofs.put_own.Tie as tie
+use Rattle.renumbered.proofs.put_own.Statement.{statement}
+use Rattle.renumbered.proofs.put_own.Tie as tie
 
 enum-told : tie.Need-enum-told
 enum-told c = search needs

@@ -1,4 +1,4 @@
--- `renumber::put_renumbered` meets its contract: the tokens written, one by one or a run at once, stand in the output; a body that fails is excluded.
+-- `renumbered::put_renumbered` meets its contract: the tokens written, one by one or a run at once, stand in the output; a body that fails is excluded.
 use Prim.Native.Nat.{ℕ, _-_}
 use mathlib.Core.Path.{_≡_, refl, sym, _∙_}
 use mathlib.Core.Bool.{true}
@@ -15,14 +15,14 @@ use Rattle.charstring.specs.TokensLaws.{fuelOf, Next}
 use Rattle.prune.specs.Renumber.{Calls, becomes}
 use Rattle.record.specs.Record.{rowsOf, givenIn}
 use Rattle.reach.specs.Reach.{siteOf}
 use Rattle.renumber.specs.Ranks.{callsBy}
 use Rattle.renumber.specs.OperandLaws.{calls-read}
 use Rattle.renumber.specs.Turn.{HoldsHeld}
 use Rattle.renumber.specs.BodyLaws.{Putting, turning-next, turning-held, putting-start, putting-room, putting-turn, putting-failed, put-end-room, put-end, whole-body}
 use Rattle.renumber.specs.RunBodyLaws.{putting-run-room, putting-run, run-shorter}
 use borrow.Author.Needs.{needs}
-use Rattle.renumber.proofs.put_renumbered.Statement.{statement}
-use Rattle.renumber.proofs.put_renumbered.Tie as tie
+use Rattle.renumbered.proofs.put_renumbered.Statement.{statement}
+use Rattle.renumbered.proofs.put_renumbered.Tie as tie
 
 abbrev Inv-loop : tie.InvT-loop
 Inv-loop code words locals globals rows rising site out₀ at c₀ h₀ p₀ out c h p = Putting (callsBy words locals globals) (givenIn (rowsOf rows) (siteOf site)) code out₀ at c h out p × (length out ≡ length out₀)

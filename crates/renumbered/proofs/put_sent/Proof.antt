@@ -1,9 +1,9 @@
--- `renumber::put_sent` meets its contract: one part after the other.
+-- `renumbered::put_sent` meets its contract: one part after the other.
 use Rattle.renumber.specs.Turn.{heldBytes, ownBytes}
 use Rattle.renumber.specs.CodeLaws.{front-room, back-room, wrote-both}
 use borrow.Author.Needs.{needs}
-use Rattle.renumber.proofs.put_sent.Statement.{statement}
-use Rattle.renumber.proofs.put_sent.Tie as tie
+use Rattle.renumbered.proofs.put_sent.Statement.{statement}
+use Rattle.renumbered.proofs.put_sent.Tie as tie
 
 put-held-requires : tie.Need-put-held-requires
 put-held-requires c κs = (c .before .before .before .pre .0, front-room (c .before .before .before .args .out .now) (heldBytes (c .before .before .before .args .h)) (ownBytes (c .before .before .before .args .code .now) (c .before .before .before .args .t)) _ (c .before .before .before .pre .2))

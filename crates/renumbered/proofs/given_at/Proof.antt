@@ -1,8 +1,8 @@
--- `renumber::given_at` meets its contract: only a mask that is due asks.
+-- `renumbered::given_at` meets its contract: only a mask that is due asks.
 use native.Mathlib.Omega.{arith}
 use borrow.Author.Needs.{needs}
-use Rattle.renumber.proofs.given_at.Statement.{statement}
-use Rattle.renumber.proofs.given_at.Tie as tie
+use Rattle.renumbered.proofs.given_at.Statement.{statement}
+use Rattle.renumbered.proofs.given_at.Tie as tie
 
 sub-given : tie.Need-sub-given
 sub-given c = c .before .before .pre .2 (c .if1 .taken)

@@ -1,8 +1,8 @@
--- `renumber::put_held` meets its contract: the cases of the definition.
+-- `renumbered::put_held` meets its contract: the cases of the definition.
 use Rattle.renumber.specs.CodeLaws.{held-as, held-room, wrote-held, wrote-nothing}
 use borrow.Author.Needs.{needs}
-use Rattle.renumber.proofs.put_held.Statement.{statement}
-use Rattle.renumber.proofs.put_held.Tie as tie
+use Rattle.renumbered.proofs.put_held.Statement.{statement}
+use Rattle.renumbered.proofs.put_held.Tie as tie
 
 enum-told : tie.Need-enum-told
 enum-told c = search needs
