@@ -29,19 +29,12 @@ pub struct Kept {
     pub rising: bool,
 }
 
-// A word, widened.
-fn wide(x: u32) -> usize
-    ensures { λ r. ⌜ r ≡ x ⌝ }
-{
-    x as usize
-}
-
 // The i-th kept glyph.
 fn glyph_at(words: &[u32], i: usize) -> usize
     requires { ⌜ i < length (now words) ⌝ }
     ensures { λ r. ⌜ r ≡ glyphAt (now (words .entry)) i ⌝ }
 {
-    wide(words[i]) % 65536
+    octets::words::wide(words[i]) % 65536
 }
 
 // Its FD.
@@ -50,7 +43,7 @@ fn fd_at(words: &[u32], cid: bool, n: usize, i: usize) -> usize
     ensures { λ r. ⌜ r ≡ fdAt cid (now (words .entry)) n i ⌝ }
 {
     if cid {
-        return wide(words[n + i]);
+        return octets::words::wide(words[n + i]);
     }
     0
 }

@@ -40,7 +40,7 @@ pub fn body_len(
         × (AtMost (5 * length (now (code .entry))) r) ⌝ }
 {
     if way == 0 {
-        return renumber::renumbered_len(code, words, locals, globals, rows, rising, site);
+        return renumbered::renumbered_len(code, words, locals, globals, rows, rising, site);
     }
     Sized::Len(code.len())
 }
@@ -65,7 +65,17 @@ pub fn put_body(
         (newBody way (rowsOf (now (rows .entry))) (callsBy (now (words .entry)) locals globals) (siteOf site) (now (code .entry))) (now (out .exit)) r ⌝ }
 {
     if way == 0 {
-        return renumber::put_renumbered(code, words, locals, globals, rows, rising, site, out, at);
+        return renumbered::put_renumbered(
+            code,
+            words,
+            locals,
+            globals,
+            rows,
+            rising,
+            site,
+            out,
+            at,
+        );
     }
     octets::put_bytes(out, at, code)
 }

@@ -36,13 +36,6 @@ pub struct Source {
     pub rising: bool,
 }
 
-// A word, widened.
-fn wide(x: u32) -> usize
-    ensures { λ r. ⌜ r ≡ x ⌝ }
-{
-    x as usize
-}
-
 // Whether a subroutine is reached, by its rank.
 fn is_reached(words: &[u32], own: Ranks, k: usize) -> bool
     requires { ⌜ own .at + own .count ≤ length (now words) ⌝ }
@@ -51,7 +44,7 @@ fn is_reached(words: &[u32], own: Ranks, k: usize) -> bool
     if own.count <= k {
         return false;
     }
-    wide(words[own.at + k]) != 0
+    octets::words::wide(words[own.at + k]) != 0
 }
 
 // Whether a subroutine is written.

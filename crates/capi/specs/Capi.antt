@@ -14,8 +14,7 @@ use Rattle.cff.specs.declared.ReadAs.{ReadAs}
 use Rattle.cff.specs.declared.ReadAs.the-variants.{Refused as RefusedRead, Font}
 use Rattle.cff.specs.declared.FoundAs.{FoundAs}
 use Rattle.cff.specs.declared.FoundAs.the-variants.{Refused as RefusedFind, Absent, Glyph}
-use Rattle.cff.specs.declared.ItemKind.{ItemKind}
-use Rattle.cff.specs.declared.ItemKind.the-variants.{Charstring, Global, Text}
+use Rattle.cff_entries.specs.Kinds.{kindOf}
 
 -- an answer: the number of a refusal, or what is written
 pub data Answer : Type 0 where
@@ -53,10 +52,6 @@ pub record Answers (a : Answer) (old new : List ℕ) (r : ℕ) : Type 0 where
   pub written : new ≡ afterwards a old
 
 -- ---- items
-
--- the kinds of items by their numbers: 0 charstrings, 1 global subroutines, 2 strings
-abbrev pub kindOf : ℕ → ItemKind
-kindOf kind = pick (eqb kind 0) Charstring (pick (eqb kind 1) Global Text)
 
 -- a kind above 2 has no items: reading's refusal, then 6
 abbrev pub noKind : Got Program → ℕ

@@ -11,11 +11,10 @@ use Rattle.octets.specs.PutLaws.{put-one}
 use Rattle.cff.specs.Font.{Got, refused as refusedFont, got, Program}
 use Rattle.cff.specs.Find.{readAs, itemRefusal, itemOf}
 use Rattle.cff.specs.declared.Counts.{Counts}
-use Rattle.cff.specs.declared.ReadAs.{ReadAs}
 use Rattle.cff.specs.declared.ReadAs.the-variants.{Refused as RefusedRead, Font}
 use Rattle.cff.specs.declared.ItemKind.{ItemKind}
-use Rattle.cff.specs.declared.ItemKind.the-variants.{Charstring, Global, Text}
-use Rattle.capi.specs.Capi.{countWords, Answer, refused, given, Answers, kindOf, noKind, lookupRefusal, itemAnswer, AnswersItem}
+use Rattle.capi.specs.Capi.{countWords, Answer, refused, given, Answers, noKind, lookupRefusal, itemAnswer, AnswersItem}
+use Rattle.cff_entries.specs.Kinds.{kindOf}
 
 -- ---- one lent slice
 
@@ -62,15 +61,6 @@ answers-counts c k e old h =
     ∙ ap (λ (x : ℕ). put old 0 (c .glyphs ∷ c .globals ∷ c .strings ∷ x ∷ c .work ∷ [])) e)
 
 -- ---- items
-
-pub kind-charstring : (kind : ℕ) → kind ≡ 0 → Charstring ≡ kindOf kind
-kind-charstring kind e = rw (eq-eqb kind 0 e)
-
-pub kind-global : (kind : ℕ) → kind ≡ 1 → Global ≡ kindOf kind
-kind-global kind e = rw e
-
-pub kind-text : (kind : ℕ) → (kind ≡ 0 → ⊥) → (kind ≡ 1 → ⊥) → Text ≡ kindOf kind
-kind-text kind f g = rw (ne-eqb kind 0 f, ne-eqb kind 1 g)
 
 -- the refusal of a lookup: of a kind below 3, and of another
 pub lookup-of-kind : (g : Got Program) (kind number : ℕ) (k : ItemKind) → kind < 3 → k ≡ kindOf kind → (n : ℕ) → n ≡ itemRefusal g k number

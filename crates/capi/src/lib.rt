@@ -5,28 +5,16 @@ pub mod cut;
 
 ghost use mathlib.Core.Path.{_≡_};
 ghost use mathlib.Core.List.{[], _∷_};
-ghost use Rattle.octets.specs.Pick.{pick};
 ghost use Rattle.cff.specs.Font.{readFont};
 ghost use Rattle.cff.specs.Find.{readAs, nameAs, cidAs};
-ghost use Rattle.capi.specs.Capi.{countWords, given, readAnswer, foundAnswer, Answers, kindOf, lookupRefusal, itemAnswer, AnswersItem};
+ghost use Rattle.capi.specs.Capi.{countWords, given, readAnswer, foundAnswer, Answers, lookupRefusal, itemAnswer, AnswersItem};
 use cff::Counts;
 use cff::FoundAs;
-use cff::ItemKind;
 use cff::ReadAs;
 use refusal::Refusal;
 
 // What finding answers for a glyph that is absent: past every glyph's number.
 const ABSENT: u64 = 65536;
-
-// 1 for a CID-keyed font, 0 for a name-keyed one.
-pub fn keying(cid: bool) -> u64
-    ensures { λ r. ⌜ r ≡ pick cid 1 0 ⌝ }
-{
-    if cid {
-        return 1;
-    }
-    0
-}
 
 // Writes the counts of a font to the lent words.
 fn put_counts(c: Counts, answer: &mut [u64]) -> u8
@@ -35,7 +23,7 @@ fn put_counts(c: Counts, answer: &mut [u64]) -> u8
     if answer.len() < 5 {
         return Refusal::OUTPUT;
     }
-    let k = keying(c.cid);
+    let k = cff_entries::keying(c.cid);
     answer[0] = c.glyphs as u64;
     answer[1] = c.globals as u64;
     answer[2] = c.strings as u64;
@@ -60,7 +48,7 @@ fn put_word(w: u64, answer: &mut [u64]) -> u8
 pub extern "C" fn cff_read(font: &[u8], answer: &mut [u64]) -> u8
     ensures { λ r. ⌜ Answers (readAnswer (readAs (readFont (now (font .entry))))) (now (answer .entry)) (now (answer .exit)) r ⌝ }
 {
-    let read = cff::read(font);
+    let read = cff_entries::read(font);
     match read {
         ReadAs::Refused(n) => n,
         ReadAs::Font(c) => put_counts(c, answer),
@@ -83,7 +71,7 @@ fn put_found(found: FoundAs, answer: &mut [u64]) -> u8
 pub extern "C" fn cff_find_name(font: &[u8], name: &[u8], answer: &mut [u64]) -> u8
     ensures { λ r. ⌜ Answers (foundAnswer (nameAs (readFont (now (font .entry))) (now (name .entry)))) (now (answer .entry)) (now (answer .exit)) r ⌝ }
 {
-    put_found(cff::find_name(font, name), answer)
+    put_found(cff_entries::find_name(font, name), answer)
 }
 
 // Finds the glyph of a CID. Answers one word: the glyph, or 65536 where it is absent.
@@ -91,18 +79,7 @@ pub extern "C" fn cff_find_name(font: &[u8], name: &[u8], answer: &mut [u64]) ->
 pub extern "C" fn cff_find_cid(font: &[u8], cid: u16, answer: &mut [u64]) -> u8
     ensures { λ r. ⌜ Answers (foundAnswer (cidAs (readFont (now (font .entry))) cid)) (now (answer .entry)) (now (answer .exit)) r ⌝ }
 {
-    put_found(cff::find_cid(font, cid as usize), answer)
-}
-
-// The kind of items of a number below 3.
-pub fn kind_of(kind: u8) -> ItemKind
-    ensures { λ r. ⌜ r ≡ kindOf kind ⌝ }
-{
-    match kind {
-        0 => ItemKind::Charstring,
-        1 => ItemKind::Global,
-        _ => ItemKind::Text,
-    }
+    put_found(cff_entries::find_cid(font, cid as usize), answer)
 }
 
 // The refusal of a lookup of an item, or 0: reading's, then 6 where the kind has no such number, or the number of the kind is above 2.
@@ -111,9 +88,9 @@ pub extern "C" fn cff_item_refusal(font: &[u8], kind: u8, number: u64) -> u8
     ensures { λ r. ⌜ r ≡ lookupRefusal (readFont (now (font .entry))) kind number ⌝ }
 {
     if kind < 3 {
-        return cff::item_refusal(font, kind_of(kind), number as usize);
+        return cff_entries::item_refusal(font, cff_entries::kind_of(kind), number as usize);
     }
-    let read = cff::read(font);
+    let read = cff_entries::read(font);
     match read {
         ReadAs::Refused(n) => n,
         ReadAs::Font(_) => Refusal::NO_SUCH_NUMBER,
@@ -136,7 +113,7 @@ pub extern "C" fn cff_item(
     if 0 < n {
         return n;
     }
-    let item = cff::item(font, kind_of(kind), number as usize);
+    let item = cff_entries::item(font, cff_entries::kind_of(kind), number as usize);
     if out.len() < item.len() {
         return Refusal::OUTPUT;
     }

@@ -14,7 +14,7 @@ use Rattle.cff.specs.declared.ReadAs.the-variants.{Refused as RefusedRead, Font
 use Rattle.cff.specs.declared.FoundAs.{FoundAs}
 use Rattle.cff.specs.declared.FoundAs.the-variants.{Refused as RefusedFind, Absent, Glyph}
 use Rattle.cff.specs.declared.ItemKind.{ItemKind}
-use Rattle.capi.specs.Capi.{kindOf}
+use Rattle.cff_entries.specs.Kinds.{kindOf}
 
 -- glyphs, global subroutines and strings
 unfoldable pub sizesBytes : Counts → List ℕ

@@ -15,7 +15,7 @@ use Rattle.cff.specs.declared.Counts.{Counts}
 use Rattle.cff.specs.declared.ReadAs.{ReadAs}
 use Rattle.cff.specs.declared.FoundAs.{FoundAs}
 use Rattle.cff.specs.declared.ItemKind.{ItemKind}
-use Rattle.capi.specs.Capi.{kindOf}
+use Rattle.cff_entries.specs.Kinds.{kindOf}
 use Rattle.cff_cases.specs.CffCases.{sizesBytes, readBytes, foundBytes, readAnswer, cidAnswer, itemOfKind, itemAnswer, askedAnswer, cffAnswer}
 
 -- the three sizes have twelve bytes

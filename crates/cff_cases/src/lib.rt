@@ -30,7 +30,7 @@ fn put_font(c: Counts, out: &mut [u8]) -> usize
 {
     let p = put_byte(out, 0, 0);
     let q = put_sizes(c, out, p);
-    let t = put_num(out, q, capi::keying(c.cid) as usize, 1);
+    let t = put_num(out, q, cff_entries::keying(c.cid) as usize, 1);
     put_num(out, t, c.work, 8)
 }
 
@@ -68,7 +68,7 @@ fn answer_read(font: &[u8], asked: &[u8], out: &mut [u8]) -> Answered
     if 0 < asked.len() {
         return Answered::Outside;
     }
-    Answered::Bytes(put_read(cff::read(font), out))
+    Answered::Bytes(put_read(cff_entries::read(font), out))
 }
 
 // Kind N: a name.
@@ -76,7 +76,7 @@ fn answer_name(font: &[u8], name: &[u8], out: &mut [u8]) -> Answered
     requires { ⌜ 4096 ≤ length (now out) ⌝ }
     ensures { λ r. ⌜ Gives (nameAnswer (now (font .entry)) (now (name .entry))) (now (out .exit)) r ⌝ }
 {
-    Answered::Bytes(put_found(cff::find_name(font, name), out))
+    Answered::Bytes(put_found(cff_entries::find_name(font, name), out))
 }
 
 // Kind C: a CID of two bytes.
@@ -86,7 +86,7 @@ fn answer_cid(font: &[u8], asked: &[u8], out: &mut [u8]) -> Answered
 {
     if asked.len() == 2 {
         let cid = octets::u16_at(asked, 0);
-        return Answered::Bytes(put_found(cff::find_cid(font, cid), out));
+        return Answered::Bytes(put_found(cff_entries::find_cid(font, cid), out));
     }
     Answered::Outside
 }
@@ -96,11 +96,11 @@ fn answer_item_of(font: &[u8], kind: ItemKind, number: usize, out: &mut [u8]) ->
     requires { ⌜ 4096 ≤ length (now out) ⌝ }
     ensures { λ r. ⌜ Gives (itemOfKind (now (font .entry)) kind number) (now (out .exit)) r ⌝ }
 {
-    let n = cff::item_refusal(font, kind, number);
+    let n = cff_entries::item_refusal(font, kind, number);
     if 0 < n {
         return Answered::Bytes(put_byte(out, 0, n));
     }
-    let item = cff::item(font, kind, number);
+    let item = cff_entries::item(font, kind, number);
     if 4095 < item.len() {
         return Answered::Outside;
     }
@@ -119,7 +119,7 @@ fn answer_item(font: &[u8], asked: &[u8], out: &mut [u8]) -> Answered
         if 2 < kind {
             return Answered::Outside;
         }
-        return answer_item_of(font, capi::kind_of(kind), number, out);
+        return answer_item_of(font, cff_entries::kind_of(kind), number, out);
     }
     Answered::Outside
 }

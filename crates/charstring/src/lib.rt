@@ -245,13 +245,6 @@ pub fn put_token(code: &[u8], t: Token, out: &mut [u8], to: usize) -> usize
     }
 }
 
-// A number of a pair, widened.
-fn wide(x: u32) -> usize
-    ensures { λ r. ⌜ r ≡ x ⌝ }
-{
-    x as usize
-}
-
 // The length that a list of pairs, offset and length, gives for the mask operator at an offset: the first pair counts.
 pub fn lookup(pairs: &[u32], at: usize) -> MaskLen
     ensures { λ r. ⌜ r ≡ lookup (now (pairs .entry)) at ⌝ }
@@ -259,8 +252,8 @@ pub fn lookup(pairs: &[u32], at: usize) -> MaskLen
     let n = pairs.len();
     let mut i = 0;
     while i + 1 < n {
-        let offset = wide(pairs[i]);
-        let len = wide(pairs[i + 1]);
+        let offset = octets::words::wide(pairs[i]);
+        let len = octets::words::wide(pairs[i + 1]);
         if offset == at {
             return MaskLen::Given(len);
         }

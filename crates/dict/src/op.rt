@@ -20,22 +20,6 @@ impl Op {
 
     pub const FONT_BBOX: usize = 5;
 
-    pub const BLUE_VALUES: usize = 6;
-
-    pub const OTHER_BLUES: usize = 7;
-
-    pub const FAMILY_BLUES: usize = 8;
-
-    pub const FAMILY_OTHER_BLUES: usize = 9;
-
-    pub const STD_HW: usize = 10;
-
-    pub const STD_VW: usize = 11;
-
-    pub const UNIQUE_ID: usize = 13;
-
-    pub const XUID: usize = 14;
-
     pub const CHARSET: usize = 15;
 
     pub const ENCODING: usize = 16;
@@ -46,9 +30,6 @@ impl Op {
 
     pub const SUBRS: usize = 19;
 
-    pub const DEFAULT_WIDTH_X: usize = 20;
-
-    pub const NOMINAL_WIDTH_X: usize = 21;
     // What an escape is counted from: the Rust's 0x0c00, which its byte is or-ed to.
     pub const ESCAPE: usize = 3072;
 
@@ -70,49 +51,13 @@ impl Op {
 
     pub const STROKE_WIDTH: usize = Op::ESCAPE + 8;
 
-    pub const BLUE_SCALE: usize = Op::ESCAPE + 9;
-
-    pub const BLUE_SHIFT: usize = Op::ESCAPE + 10;
-
-    pub const BLUE_FUZZ: usize = Op::ESCAPE + 11;
-
-    pub const STEM_SNAP_H: usize = Op::ESCAPE + 12;
-
-    pub const STEM_SNAP_V: usize = Op::ESCAPE + 13;
-
-    pub const FORCE_BOLD: usize = Op::ESCAPE + 14;
-
-    pub const LANGUAGE_GROUP: usize = Op::ESCAPE + 17;
-
-    pub const EXPANSION_FACTOR: usize = Op::ESCAPE + 18;
-
-    pub const INITIAL_RANDOM_SEED: usize = Op::ESCAPE + 19;
-
-    pub const SYNTHETIC_BASE: usize = Op::ESCAPE + 20;
-
-    pub const POSTSCRIPT: usize = Op::ESCAPE + 21;
-
-    pub const BASE_FONT_NAME: usize = Op::ESCAPE + 22;
-
-    pub const BASE_FONT_BLEND: usize = Op::ESCAPE + 23;
-
     pub const ROS: usize = Op::ESCAPE + 30;
 
-    pub const CID_FONT_VERSION: usize = Op::ESCAPE + 31;
-
-    pub const CID_FONT_REVISION: usize = Op::ESCAPE + 32;
-
-    pub const CID_FONT_TYPE: usize = Op::ESCAPE + 33;
-
     pub const CID_COUNT: usize = Op::ESCAPE + 34;
-
-    pub const UID_BASE: usize = Op::ESCAPE + 35;
 
     pub const FD_ARRAY: usize = Op::ESCAPE + 36;
 
     pub const FD_SELECT: usize = Op::ESCAPE + 37;
-
-    pub const FONT_NAME: usize = Op::ESCAPE + 38;
 }
 
 // The entries of the top DICT that a subset carries over as they are, in the order in which it writes them.

@@ -2,7 +2,7 @@
 // operands stand.
 ghost use mathlib.Core.Path.{_≡_};
 ghost use mathlib.Core.Bool.{true};
-ghost use Prim.Native.Nat.{ℕ, _+_, _≤_, _<_};
+ghost use Prim.Native.Nat.{_+_, _≤_, _<_};
 ghost use lib.ListN.{length};
 ghost use Rattle.octets.specs.Octets.{Wrote};
 ghost use Rattle.dict.specs.Op.{isOperator};
@@ -150,13 +150,6 @@ pub fn put_copied(d: &[u8], op: usize, out: &mut [u8], to: usize) -> usize
     }
 }
 
-// How many bytes an offset and its operator take, whatever the offset.
-pub fn offset_entry_len(op: usize) -> usize
-    ensures { λ r. ⌜ ((value : ℕ) → r ≡ length (offsetEntry op value)) ⌝ }
-{
-    5 + op_len(op)
-}
-
 // An offset in the five-byte form and its operator, from `to` on; the place after them.
 pub fn put_offset_entry(op: usize, value: usize, out: &mut [u8], to: usize) -> usize
     requires { ⌜ (isOperator op ≡ true) × (value < 2147483648) × (to + length (offsetEntry op value) ≤ length (now out)) ⌝ }
@@ -164,13 +157,6 @@ pub fn put_offset_entry(op: usize, value: usize, out: &mut [u8], to: usize) -> u
 {
     let p = put_int5(false, value, out, to);
     put_op(op, out, p)
-}
-
-// How many bytes a Private entry takes.
-pub fn private_entry_len() -> usize
-    ensures { λ r. ⌜ ((size offset : ℕ) → r ≡ length (privateEntry size offset)) ⌝ }
-{
-    11
 }
 
 // A Private entry, size and offset in the five-byte form, from `to` on; the place after it.

@@ -21,7 +21,7 @@ use Rattle.subset.specs.KeptListLaws.{in-none, in-head, in-more, in-cases, in-a
 use Rattle.subset.specs.RankLaws.{count-few, length-those}
 use Rattle.faithful.specs.UsedLaws.{fds-has, fds-fit, fd-there}
 use Rattle.kept.specs.Packed.{packed, marked}
-use Rattle.kept.specs.LeadLaws.{same-truth}
+use Rattle.kept.specs.MarkLaws.{same-truth}
 use Rattle.reach.specs.Reach.{ranksOf}
 use Rattle.reach.specs.WordLaws.{HoldRanks, set-hold}
 use Rattle.glyph_tables.specs.Tables.{highs, newFdBy, newFdsBy, Numbered}

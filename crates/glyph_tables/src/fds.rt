@@ -17,7 +17,7 @@ fn mark_fds(words: &[u32], n: usize, k: usize, marks: &mut [u32])
 {
     let mut g = 0;
     while g < k {
-        let fd = kept::order::wide(words[n + g]);
+        let fd = octets::words::wide(words[n + g]);
         marks[fd] = 1;
         g += 1;
     }

@@ -19,7 +19,7 @@ pub fn put_charset_named(words: &[u32], n: usize, k: usize, out: &mut [u8], at: 
     let mut p = octets::put_byte(out, at, 0);
     let mut g = 1;
     while g < k {
-        let id = kept::order::wide(words[n + g]);
+        let id = octets::words::wide(words[n + g]);
         p = octets::put_num(out, p, id, 2);
         g += 1;
     }
@@ -34,7 +34,7 @@ pub fn put_charset_cid(words: &[u32], k: usize, out: &mut [u8], at: usize) -> us
     let mut p = octets::put_byte(out, at, 0);
     let mut g = 1;
     while g < k {
-        let id = kept::order::wide(words[g]) / 65536;
+        let id = octets::words::wide(words[g]) / 65536;
         p = octets::put_num(out, p, id, 2);
         g += 1;
     }

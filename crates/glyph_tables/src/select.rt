@@ -12,8 +12,8 @@ fn new_fd(words: &[u32], at: usize, table: &[u32]) -> u8
     requires { ⌜ (at < length (now words)) × HasNumber (now table) (getD (now words) at 0) ⌝ }
     ensures { λ r. ⌜ r ≡ newFdBy (now (table .entry)) (getD (now (words .entry)) at 0) ⌝ }
 {
-    let fd = kept::order::wide(words[at]);
-    let rank = kept::order::wide(table[fd]);
+    let fd = octets::words::wide(words[at]);
+    let rank = octets::words::wide(table[fd]);
     (rank - 1) as u8
 }
 

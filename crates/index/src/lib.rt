@@ -143,14 +143,6 @@ pub fn item(font: &[u8], ix: Index, k: usize) -> &[u8]
     &font[start..end]
 }
 
-// How long the k-th item of an INDEX is.
-pub fn item_len(font: &[u8], ix: Index, k: usize) -> usize
-    requires { ⌜ (Good (now font) ix) × (k < ix .count) ⌝ }
-    ensures { λ r. ⌜ r ≡ length (getD (itemsOf (now (font .entry)) ix) k []) ⌝ }
-{
-    offset(font, ix, k + 1) - offset(font, ix, k)
-}
-
 // How many bytes the items of an INDEX have together.
 pub fn items_total(font: &[u8], ix: Index) -> usize
     requires { ⌜ Good (now font) ix ⌝ }
@@ -206,14 +198,6 @@ pub fn index_for(at: usize, count: usize, total: usize) -> Index
     }
 }
 
-// Writes an INDEX of no item.
-pub fn put_empty(out: &mut [u8], at: usize) -> usize
-    requires { ⌜ at + 2 ≤ length (now out) ⌝ }
-    ensures { λ r. ⌜ Wrote (now (out .entry)) at (indexBytes []) (now (out .exit)) r ⌝ }
-{
-    octets::put_num(out, at, 0, 2)
-}
-
 // Writes what stands before the ends of an INDEX: its count and, where there are items, the offset size and the first offset, 1.
 pub fn put_head(out: &mut [u8], at: usize, count: usize, total: usize) -> usize
     requires { ⌜ (total < 4294967295) × (at + length (headBytes count (sizeFor (total + 1))) ≤ length (now out)) ⌝ }
@@ -256,23 +240,4 @@ pub fn put_item(out: &mut [u8], ix: Index, k: usize, at: usize, item: &[u8]) -> 
     let next = octets::put_bytes(out, at, item);
     put_end(out, ix, k, next);
     next
-}
-
-// Writes an INDEX of all items of another.
-pub fn copy_index(out: &mut [u8], at: usize, font: &[u8], from: Index) -> usize
-    requires { ⌜ (Good (now font) from) × (from .count < 65536) × (length (now font) < 4294967295) × (at < 4294967296)
-        × (at + length (indexBytes (itemsOf (now font) from)) ≤ length (now out)) ⌝ }
-    ensures { λ r. ⌜ Wrote (now (out .entry)) at (indexBytes (itemsOf (now (font .entry)) from)) (now (out .exit)) r ⌝ }
-{
-    let n = from.count;
-    let total = items_total(font, from);
-    let ix = index_for(at, n, total);
-    put_head(out, at, n, total);
-    let mut p = ix.base + 1;
-    let mut k = 0;
-    while k < n {
-        p = put_item(out, ix, k, p, item(font, from, k));
-        k += 1;
-    }
-    p
 }

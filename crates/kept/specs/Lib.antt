@@ -3,16 +3,5 @@ pub mod MarkLaws
 pub mod GatherLaws
 pub mod SlotLaws
 pub mod FdsLaws
-pub mod FoundLaws
-pub mod FirstLaws
-pub mod Hash
-pub mod HashLaws
-pub mod Sorted
-pub mod SortedLaws
-pub mod MergeLaws
-pub mod HalvesLaws
-pub mod LeadLaws
-pub mod SortedFoundLaws
 pub mod OrderLaws
 pub mod FdsOrderLaws
-pub mod Examples

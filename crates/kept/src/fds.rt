@@ -20,7 +20,7 @@ fn fds_from(font: &[u8], s: FdSelect, n: usize, words: &mut [u32], k: usize)
 {
     let mut i = 0;
     while i < k {
-        let g = crate::order::wide(words[i]) % 65536;
+        let g = octets::words::wide(words[i]) % 65536;
         words[n + i] = charset::fd_select::fd_of(font, s, g) as u32;
         i += 1;
     }

@@ -1,20 +1,17 @@
-// The glyphs that a subset keeps (document 01, 'Layout'): refusals 6 and 7, the order in which they are written, and their FDs.
+// The glyphs that a subset keeps (document 01, 'Layout'): refusal 6, the order in which they are written, and their FDs.
 pub mod fds;
-pub mod found;
-pub mod names;
 pub mod order;
-pub mod sorted;
 
 ghost use mathlib.Core.Path.{_≡_};
 ghost use mathlib.Core.Bool.{true};
 ghost use Prim.Native.Nat.{_≤_, _<_};
 ghost use lib.ListN.{length};
+ghost use Rattle.octets.specs.Lists.{allBelow};
 ghost use Rattle.cff.specs.Reads.{programOf, GoodFont};
 ghost use Rattle.subset.specs.Kept.{keptOf, writtenOrder};
 ghost use Rattle.subset.specs.Cut.{allFound};
 ghost use Rattle.kept.specs.Packed.{packed, Begins};
 use cff::font::Font;
-ghost use Rattle.octets.specs.Lists.{allBelow};
 
 // Whether every number of a keep list is a glyph's: refusal 6 where not.
 pub fn keep_below(keep: &[u16], n: usize) -> bool
@@ -29,26 +26,6 @@ pub fn keep_below(keep: &[u16], n: usize) -> bool
         i += 1;
     }
     true
-}
-
-// Whether finding the name or the CID of glyph 0 and of each glyph to keep gives that glyph: refusal 7 where not.
-pub fn all_found(font: &[u8], f: Font, keep: &[u16]) -> bool
-    requires { ⌜ (GoodFont (now font) f) × (allBelow (f .charstrings .count) (now keep) ≡ true) ⌝ }
-    ensures { λ r. ⌜ r ≡ allFound (programOf (now (font .entry)) f) (keptOf (f .charstrings .count) (now (keep .entry))) ⌝ }
-{
-    let charset = f.charset;
-    let charstrings = f.charstrings;
-    let texts = f.strings;
-    let cid = f.cid;
-    let n = charstrings.count;
-    // A word for each glyph of the largest font, and below one for each CID: 256 KiB each.
-    let mut flags = [0u32; 65536];
-    order::mark(keep, &mut flags, n);
-    if cid {
-        let mut seen = [0u32; 65536];
-        return found::cids_found(font, charset, n, &flags, &mut seen);
-    }
-    found::names_found(font, charset, n, texts, &flags)
 }
 
 // The glyphs to keep with their ids, in the order in which they are written, in the first words; how many they are.

@@ -146,19 +146,12 @@ pub fn rank_marks(marks: &mut [u32]) -> usize
     reached
 }
 
-// A word as a wider number.
-fn wide(x: u32) -> usize
-    ensures { λ r. ⌜ r ≡ x ⌝ }
-{
-    x as usize
-}
-
 // The new number of subroutine k of those whose words stand from `at` on.
 pub fn new_number(words: &[u32], at: usize, k: usize) -> NewNumber
     requires { ⌜ at + k < length (now words) ⌝ }
     ensures { λ r. ⌜ newIn r ≡ numberOf (getD (now (words .entry)) (at + k) 0) ⌝ }
 {
-    let word = wide(words[at + k]);
+    let word = octets::words::wide(words[at + k]);
     if word == 0 {
         return NewNumber::Absent;
     }

@@ -12,13 +12,6 @@ use charstring::bias;
 use type2_number::count_of;
 use type2_number::integer;
 
-// A word, widened.
-fn wide(x: u32) -> usize
-    ensures { λ r. ⌜ r ≡ x ⌝ }
-{
-    x as usize
-}
-
 // The rank of a subroutine by its old number: 0 where there is none, or it is not reached.
 fn rank_in(words: &[u32], q: Ranks, i: usize) -> usize
     requires { ⌜ Ranked (now words) q ⌝ }
@@ -27,7 +20,7 @@ fn rank_in(words: &[u32], q: Ranks, i: usize) -> usize
     if q.count <= i {
         return 0;
     }
-    wide(words[q.at + i])
+    octets::words::wide(words[q.at + i])
 }
 
 // The rank of the subroutine that an operand calls: 0 where it calls none.

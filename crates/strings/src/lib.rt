@@ -87,25 +87,6 @@ fn len_at(offsets: &[u16], k: usize) -> usize
     end - start
 }
 
-// The length of the standard string of an id.
-pub fn standard_len(k: usize) -> usize
-    requires { ⌜ k < 391 ⌝ }
-    ensures { λ r. ⌜ r ≡ length (standardString k) ⌝ }
-{
-    let offsets = table::STANDARD_OFFSETS;
-    len_at(&offsets, k)
-}
-
-// Whether a text is the standard string of an id.
-pub fn is_standard(k: usize, text: &[u8]) -> bool
-    requires { ⌜ k < 391 ⌝ }
-    ensures { λ r. ⌜ r ≡ sameText (standardString k) (now (text .entry)) ⌝ }
-{
-    let names = table::STANDARD_TEXT;
-    let offsets = table::STANDARD_OFFSETS;
-    same_text(standard_string(&names, &offsets, k), text)
-}
-
 // Writes the standard string of an id at a place; returns the place after it.
 pub fn put_standard(out: &mut [u8], at: usize, k: usize) -> usize
     requires { ⌜ (k < 391) × (at + length (standardString k) ≤ length (now out)) ⌝ }

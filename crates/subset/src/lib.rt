@@ -1,1 +1,1 @@
-// The subset (write.rs): the definitions of specs/. No code yet.
+// The subset (write.rs): the definitions of specs/. The code is in `kept` to `write`.

@@ -22,7 +22,7 @@ use write::subset_cid;
 fn work_of(font: &[u8]) -> usize
     ensures { λ r. ⌜ r ≡ workIn (readFont (now (font .entry))) ⌝ }
 {
-    match cff::read(font) {
+    match cff_entries::read(font) {
         ReadAs::Refused(_) => 0,
         ReadAs::Font(c) => c.work,
     }

@@ -85,7 +85,7 @@ pub fn refusal(
     if !kept::keep_below(keep, charstrings.count) {
         return Refusal::NO_SUCH_NUMBER;
     }
-    if !kept::all_found(font, f, keep) {
+    if !found::all_found(font, f, keep) {
         return Refusal::NOT_FOUND;
     }
     if !reach::check_record(cid, rows, traced) {

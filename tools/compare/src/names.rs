@@ -1,4 +1,4 @@
-//! Name-keyed fonts with given names, and names that share one hash of the library's (crates/kept, `Hash`), as a font made to take
+//! Name-keyed fonts with given names, and names that share one hash of the library's (crates/found, `Hash`), as a font made to take
 //! long would have them.
 
 use std::collections::HashMap;

@@ -44,7 +44,7 @@ wide-requires-2 : tie.Need-wide-requires-2 Inv-loop μ-loop
 wide-requires-2 c κs = search needs
 
 returns : tie.Need-returns Inv-loop μ-loop
-returns c = let l = c .before .before .before .before .before .before .loop in let a = c .before .before .before .before .before .before .before .before .args in let h : l .i + 1 < length (a .pairs .now) = omega arith in ap Given (c .before .wide2 .ensures) ∙ sym (lookup-here (a .pairs .now) (a .at) (l .i) h (sym (c .before .before .before .wide .ensures) ∙ c .if1 .taken)) ∙ l .inv .2
+returns c = let l = c .before .before .before .before .before .before .loop in let a = c .before .before .before .before .before .before .before .before .args in let h : l .i + 1 < length (a .pairs .now) = omega arith in ap Given (c .before .wide2 .ensures .0) ∙ sym (lookup-here (a .pairs .now) (a .at) (l .i) h (sym (c .before .before .before .wide .ensures .0) ∙ c .if1 .taken)) ∙ l .inv .2
 
 add-i : tie.Need-add-i Inv-loop μ-loop
 add-i c = search needs
@@ -53,7 +53,7 @@ loop-less : tie.Need-loop-less Inv-loop μ-loop
 loop-less c = search needs
 
 loop-again : tie.Need-loop-again Inv-loop μ-loop
-loop-again c = let l = c .before .before .before .before .before .before .loop in let a = c .before .before .before .before .before .before .before .before .args in let h : l .i + 1 < length (a .pairs .now) = omega arith in (l .inv .0, omega arith, sym (lookup-on (a .pairs .now) (a .at) (l .i) h (λ e. c .if1 .left (c .before .before .before .wide .ensures ∙ e))) ∙ l .inv .2)
+loop-again c = let l = c .before .before .before .before .before .before .loop in let a = c .before .before .before .before .before .before .before .before .args in let h : l .i + 1 < length (a .pairs .now) = omega arith in (l .inv .0, omega arith, sym (lookup-on (a .pairs .now) (a .at) (l .i) h (λ e. c .if1 .left (c .before .before .before .wide .ensures .0 ∙ e))) ∙ l .inv .2)
 
 returns-2 : tie.Need-returns-2 Inv-loop μ-loop
 returns-2 c = let l = c .before .loop in let a = c .before .before .before .args in sym (lookup-end (a .pairs .now) (a .at) (l .i) (omega arith)) ∙ l .inv .2

@@ -20,7 +20,7 @@ wide-requires c κs = search needs
 returns : tie.Need-returns
 returns c =
     let s = c .before .before .before .before in
-    fd-word (s .args .cid) (now (s .args .words)) (s .args .n) (s .args .i) _ (c .before .before .if1 .taken) (c .wide .ensures)
+    fd-word (s .args .cid) (now (s .args .words)) (s .args .n) (s .args .i) _ (c .before .before .if1 .taken) (c .wide .ensures .0)
 
 returns-2 : tie.Need-returns-2
 returns-2 c = search needs

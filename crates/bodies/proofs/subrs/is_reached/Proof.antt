@@ -28,7 +28,7 @@ wide-requires c κs = search needs
 returns-2 : tie.Need-returns-2
 returns-2 c =
     let s = c .before .before .before .before .before .before in
-    word-reached (now (s .args .words)) (s .args .own) (s .args .k) _ (omega arith) (c .wide .ensures)
+    word-reached (now (s .args .words)) (s .args .own) (s .args .k) _ (omega arith) (c .wide .ensures .0)
 
 pub is-reached-spec : {M : Type 1} → statement M
 is-reached-spec =

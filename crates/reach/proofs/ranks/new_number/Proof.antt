@@ -21,7 +21,7 @@ wide-requires : tie.Need-wide-requires
 wide-requires c κs = search needs
 
 returns : tie.Need-returns
-returns c = rw (eq-eqb _ _ (sym (c .before .wide .ensures) ∙ c .if1 .taken))
+returns c = rw (eq-eqb _ _ (sym (c .before .wide .ensures .0) ∙ c .if1 .taken))
 
 sub-t5 : tie.Need-sub-t5
 sub-t5 c = search needs
@@ -30,7 +30,7 @@ returns-2 : tie.Need-returns-2
 returns-2 c =
     let w = c .before .wide .result in
     let e : new (w - 1) ≡ numberOf w = rw (ne-eqb w 0 (c .if1 .left)) in
-    e ∙ ap numberOf (c .before .wide .ensures)
+    e ∙ ap numberOf (c .before .wide .ensures .0)
 
 pub new-number-spec : {M : Type 1} → statement M
 new-number-spec =

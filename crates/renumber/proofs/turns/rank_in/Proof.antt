@@ -20,7 +20,7 @@ wide-requires : tie.Need-wide-requires
 wide-requires c κs = search needs
 
 returns-2 : tie.Need-returns-2
-returns-2 c = simp (lt-ltb _ _ (c .before .before .before .if1 .left)) (c .wide .ensures)
+returns-2 c = simp (lt-ltb _ _ (c .before .before .before .if1 .left)) (c .wide .ensures .0)
 
 pub rank-in-spec : {M : Type 1} → statement M
 rank-in-spec =

@@ -1,0 +1,36 @@
+-- `cff_entries::find_cid` meets its contract: the font that was read is the one that the definition reads.
+use mathlib.Core.Path.{sym, ap, _∙_}
+use Rattle.cff.specs.Find.{cidAs}
+use Rattle.cff.specs.SetLaws.{refused-as, found-good-font, read-is}
+use borrow.Author.Needs.{needs}
+use Rattle.cff_entries.proofs.find_cid.Statement.{statement}
+use Rattle.cff_entries.proofs.find_cid.Tie as tie
+
+read-font-requires : tie.Need-read-font-requires
+read-font-requires c κs = search needs
+
+enum-known-read : tie.Need-enum-known-read
+enum-known-read c = search needs
+
+enum-known-read-2 : tie.Need-enum-known-read-2
+enum-known-read-2 c = search needs
+
+cid-in-requires : tie.Need-cid-in-requires
+cid-in-requires c κs = found-good-font (c .before .before .before .before .before .args .font .now) _ (c .before .before .before .read-font .ensures) _ (c .before .read2 .given .1)
+
+returns : tie.Need-returns
+returns c = sym (ap (λ g. cidAs g (c .before .before .before .before .before .args .cid)) (refused-as (c .before .before .before .before .before .args .font .now) _ (c .before .before .before .read-font .ensures) _ (c .before .read .given .1)))
+
+returns-2 : tie.Need-returns-2
+returns-2 c = c .cid-in .ensures ∙ sym (ap (λ g. cidAs g (c .before .before .before .before .before .before .args .cid)) (read-is (c .before .before .before .before .before .before .args .font .now) _ (c .before .before .before .before .read-font .ensures) _ (c .before .before .read2 .given .1)))
+
+pub find-cid-spec : {M : Type 1} → statement M
+find-cid-spec =
+    tie.close
+    (tie.spec
+    read-font-requires
+    enum-known-read
+    enum-known-read-2
+    cid-in-requires
+    returns
+    returns-2)

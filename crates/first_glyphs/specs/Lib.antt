@@ -1,0 +1,6 @@
+pub mod FoundLaws
+pub mod FirstLaws
+pub mod Lead
+pub mod LeadLaws
+pub mod SortedFoundLaws
+pub mod Examples

@@ -1,0 +1,4 @@
+pub mod Sorted
+pub mod SortedLaws
+pub mod MergeLaws
+pub mod HalvesLaws
