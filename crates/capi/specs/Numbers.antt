@@ -18,7 +18,8 @@ use Rattle.cff.specs.Find.{readAs, foundAs, nameAs, cidAs, itemsIn, itemRefusal
 use Rattle.cff.specs.PartRefusals.{Refusal}
 use Rattle.cff.specs.ReadingRefusals.{reading-refusal}
 use Rattle.cff.specs.declared.FoundAs.the-variants.{Absent}
-use Rattle.capi.specs.Capi.{Answer, refused, given, readAnswer, foundAnswer, Answers, kindOf, lookupRefusal, itemAnswer, AnswersItem}
+use Rattle.cff_entries.specs.Kinds.{kindOf}
+use Rattle.capi.specs.Capi.{Answer, refused, given, readAnswer, foundAnswer, Answers, lookupRefusal, itemAnswer, AnswersItem}
 
 -- an answer of the entries: a refusal of reading or 6, or what is given
 data Sound : Answer → Type 0 where

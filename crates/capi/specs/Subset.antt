@@ -10,9 +10,9 @@ use Rattle.octets.specs.Pick.{pick}
 use Rattle.cff.specs.Font.{readFont}
 use Rattle.subset.specs.Cut.{Outcome, cutOf, leavesOut, leavesWork}
 use Rattle.faithful.specs.Faithful.{Faithful}
-use Rattle.write.specs.Entry.{answerOf, workIn}
-use Rattle.write.specs.declared.Answer.{Answer as CutAnswer}
-use Rattle.write.specs.declared.Answer.the-variants.{Refused, Subset}
+use Rattle.outcome.specs.Entry.{answerOf, workIn}
+use Rattle.outcome.specs.declared.Answer.{Answer as CutAnswer}
+use Rattle.outcome.specs.declared.Answer.the-variants.{Refused, Subset}
 use Rattle.capi.specs.Capi.{Answer, refused, given, Answers}
 
 -- the room for a subset, by the words that are lent for its answer: so 11, the last refusal, stands for too few of them too

@@ -24,8 +24,8 @@ use Rattle.subset.specs.Pruned.{Pruned, Bodies, pruned}
 use Rattle.subset.specs.Subset.{subsetByName, subsetByCid, subsetBytes}
 use Rattle.subset.specs.Cut.{Outcome, refused as refusedCut, subset, allFound, hasRos, sameBool, ownOf, written, cutProgram, cutRead, cutOf, leavesOut, leavesWork}
 use Rattle.faithful.specs.Faithful.{Faithful}
-use Rattle.write.specs.Entry.{answerOf, workIn, Cuts}
-use Rattle.write.specs.declared.Answer.{Answer as CutAnswer}
+use Rattle.outcome.specs.Entry.{answerOf, workIn, Cuts}
+use Rattle.outcome.specs.declared.Answer.{Answer as CutAnswer}
 use Rattle.capi.specs.Capi.{Answer, refused, given, Answers}
 use Rattle.capi.specs.CapiLaws.{answers-given}
 use Rattle.capi.specs.Subset.{roomFor, cutAnswer, outcomeFor, AnswersCut}

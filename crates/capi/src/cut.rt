@@ -5,8 +5,8 @@ ghost use mathlib.Core.Bool.{true, false};
 ghost use mathlib.Core.List.{[], _∷_};
 ghost use Rattle.capi.specs.Capi.{given, Answers};
 ghost use Rattle.capi.specs.Subset.{roomFor, cutAnswer, AnswersCut};
+use outcome::Answer;
 use refusal::Refusal;
-use write::Answer;
 
 // The room for a subset: none where fewer than two words are lent for its answer.
 fn room_for(words: usize, room: usize) -> usize

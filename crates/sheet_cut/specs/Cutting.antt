@@ -3,8 +3,8 @@ use Prim.Native.Nat.{ℕ}
 use mathlib.Core.List.{List}
 use lib.ListN.{take}
 use Rattle.subset.specs.Cut.{Outcome, refused, subset}
-use Rattle.write.specs.declared.Answer.{Answer}
-use Rattle.write.specs.declared.Answer.the-variants.{Refused, Subset}
+use Rattle.outcome.specs.declared.Answer.{Answer}
+use Rattle.outcome.specs.declared.Answer.the-variants.{Refused, Subset}
 use Rattle.sheet.specs.Taking.{Took}
 
 -- how many bytes of the output an answer speaks of

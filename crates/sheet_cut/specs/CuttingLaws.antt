@@ -13,9 +13,9 @@ use Rattle.octets.specs.Octets.{put}
 use Rattle.cff.specs.Font.{readFont}
 use Rattle.subset.specs.Cut.{Outcome, refused, subset, cutOf, leavesOut, leavesWork}
 use Rattle.faithful.specs.Faithful.{Faithful}
-use Rattle.write.specs.Entry.{answerOf, workIn, Cuts}
-use Rattle.write.specs.declared.Answer.{Answer}
-use Rattle.write.specs.declared.Answer.the-variants.{Refused, Subset}
+use Rattle.outcome.specs.Entry.{answerOf, workIn, Cuts}
+use Rattle.outcome.specs.declared.Answer.{Answer}
+use Rattle.outcome.specs.declared.Answer.the-variants.{Refused, Subset}
 use Rattle.sheet.specs.Sheet.{Sheet, keying, printed, cutOfSheet, answerTo, sheetOf, cutSheet}
 use Rattle.sheet.specs.Printing.{printed-length}
 use Rattle.sheet.specs.Reading.{Reads}

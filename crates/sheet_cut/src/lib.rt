@@ -5,14 +5,14 @@ ghost use lib.ListN.{length};
 ghost use Rattle.octets.specs.Octets.{Wrote};
 ghost use Rattle.cff.specs.Font.{readFont};
 ghost use Rattle.subset.specs.Cut.{cutOf};
-ghost use Rattle.write.specs.Entry.{Cuts};
+ghost use Rattle.outcome.specs.Entry.{Cuts};
 ghost use Rattle.sheet.specs.Sheet.{keying, printed, cutSheet};
 ghost use Rattle.sheet.specs.Taking.{Took};
 ghost use Rattle.sheet_cut.specs.Cutting.{lengthIn, outcomeIn, Given};
+use outcome::Answer;
 use sheet::printing::put_refused;
 use sheet::printing::put_subset;
 use sheet::reading::SheetIn;
-use write::Answer;
 use write::subset;
 use write::subset_cid;
 

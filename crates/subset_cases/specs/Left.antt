@@ -7,8 +7,8 @@ use mathlib.Core.Option.{Option, none, some}
 use lib.Dec.{ltb, eqb}
 use lib.ListN.{length, take, drop}
 use Rattle.octets.specs.Pick.{pick}
-use Rattle.write.specs.declared.Answer.{Answer}
-use Rattle.write.specs.declared.Answer.the-variants.{Refused, Subset}
+use Rattle.outcome.specs.declared.Answer.{Answer}
+use Rattle.outcome.specs.declared.Answer.the-variants.{Refused, Subset}
 
 -- what every work word, and every byte of the output, is before a call
 abbrev pub lentWord : ℕ

@@ -19,9 +19,9 @@ use Rattle.cff.specs.Find.{readAs}
 use Rattle.cff.specs.declared.ReadAs.{ReadAs}
 use Rattle.cff.specs.declared.ReadAs.the-variants.{Refused as RefusedRead, Font}
 use Rattle.subset.specs.Cut.{Outcome, refused, subset, cutOf, zeros, leavesOut, leavesWork}
-use Rattle.write.specs.Entry.{answerOf, workIn, Cuts}
-use Rattle.write.specs.declared.Answer.{Answer}
-use Rattle.write.specs.declared.Answer.the-variants.{Refused, Subset}
+use Rattle.outcome.specs.Entry.{answerOf, workIn, Cuts}
+use Rattle.outcome.specs.declared.Answer.{Answer}
+use Rattle.outcome.specs.declared.Answer.the-variants.{Refused, Subset}
 use Rattle.subset_cases.specs.Left.{lentWord, lentByte, zeroed, wordsLeft, bytesLeft, refusedBytes, subsetBytes, answerBytes, judged}
 use Rattle.subset_cases.specs.SubsetCases.{outcomeBytes}
 

@@ -13,8 +13,8 @@ use Rattle.cases.specs.AnswersLaws.{wrote-front}
 use Rattle.sheet.specs.Sheet.{pairs}
 use Rattle.sheet.specs.ReadingLaws.{pairs-length}
 use Rattle.subset.specs.Cut.{cutOf}
-use Rattle.write.specs.Entry.{Cuts}
-use Rattle.write.specs.declared.Answer.{Answer}
+use Rattle.outcome.specs.Entry.{Cuts}
+use Rattle.outcome.specs.declared.Answer.{Answer}
 use Rattle.subset_cases.specs.SubsetCases.{outcomeBytes, lentAnswer, keptAnswer, namedAnswer, askedAnswer, subsetAnswer}
 
 -- a call of a keying

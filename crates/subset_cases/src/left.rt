@@ -8,7 +8,7 @@ ghost use Rattle.octets.specs.Pick.{pick};
 ghost use Rattle.cases.specs.Answers.{Gives};
 ghost use Rattle.subset_cases.specs.Left.{lentWord, zeroed, wordsLeft, bytesLeft, refusedBytes, subsetBytes, answerBytes, judged};
 use cases::Answered;
-use write::Answer;
+use outcome::Answer;
 
 // What the i-th work word should be, the first k being zeros.
 fn word_at(i: usize, k: usize) -> u32

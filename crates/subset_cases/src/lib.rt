@@ -9,12 +9,12 @@ ghost use lib.ListN.{length, replicate};
 ghost use Rattle.cases.specs.Answers.{Gives};
 ghost use Rattle.cff.specs.Font.{readFont};
 ghost use Rattle.subset.specs.Cut.{cutOf};
-ghost use Rattle.write.specs.Entry.{workIn, Cuts};
+ghost use Rattle.outcome.specs.Entry.{workIn, Cuts};
 ghost use Rattle.subset_cases.specs.Left.{lentWord, lentByte};
 ghost use Rattle.subset_cases.specs.SubsetCases.{outcomeBytes, lentAnswer, keptAnswer, namedAnswer, askedAnswer, subsetAnswer};
 use cases::Answered;
 use cff::ReadAs;
-use write::Answer;
+use outcome::Answer;
 use write::subset;
 use write::subset_cid;
 

@@ -27,10 +27,10 @@ use Rattle.subset.specs.Cut.{Outcome, refused, subset, allFound, hasRos, sameBo
 use Rattle.faithful.specs.Theorem.{faithful, same-bool}
 use Rattle.faithful.specs.GoodLaws.{font-good}
 use Rattle.parts.specs.Ready.{FontHeld}
-use Rattle.write.specs.RefusalLaws.{work-is}
-use Rattle.write.specs.Entry.{answerOf, workIn, Cuts, refusalOf, cutBehind, Cut, Passed}
-use Rattle.write.specs.declared.Answer.{Answer}
-use Rattle.write.specs.declared.Answer.the-variants.{Refused}
+use Rattle.early_refusals.specs.RefusalLaws.{work-is}
+use Rattle.outcome.specs.Entry.{answerOf, workIn, Cuts, refusalOf, cutBehind, Cut, Passed}
+use Rattle.outcome.specs.declared.Answer.{Answer}
+use Rattle.outcome.specs.declared.Answer.the-variants.{Refused}
 
 -- ---- refusals
 

@@ -1,15 +1,1 @@
-pub mod Entry
-pub mod RefusalLaws
 pub mod EntryLaws
-pub mod Layout
-pub mod OutcomeLaws
-pub mod BothLaws
-pub mod Named
-pub mod NamedPutLaws
-pub mod NamedLaws
-pub mod NamedPlanLaws
-pub mod NamedKeptLaws
-pub mod Cid
-pub mod CidKeptLaws
-pub mod CidPlacesLaws
-pub mod CidPutLaws

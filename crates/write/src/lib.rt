@@ -1,24 +1,14 @@
 // Subsetting (write.rs: subset, subset_cid): refusals in document 01's order, then the cut by the keying.
-pub mod by_cid;
-pub mod cid_parts;
-pub mod named;
-pub mod refusals;
-
 ghost use mathlib.Core.Path.{_≡_};
 ghost use mathlib.Core.Bool.{true, false};
 ghost use lib.ListN.{length};
 ghost use Rattle.cff.specs.Font.{got, readFont};
 ghost use Rattle.cff.specs.Reads.{programOf, GoodFont};
 ghost use Rattle.parts.specs.Ready.{FontHeld};
-ghost use Rattle.write.specs.Entry.{cutBehind, Cuts, Cut, Passed};
+ghost use Rattle.outcome.specs.Entry.{cutBehind, Cuts, Cut, Passed};
 use cff::font::Font;
 use cff::font::FontRead;
-
-// The answer of a cut: the refusal, or the way (0 renumbered, 1 stubbed, 2 copied) and the length of the subset.
-pub enum Answer {
-    Refused(u8),
-    Subset { way: u8, len: usize },
-}
+use outcome::Answer;
 
 // The cut by the keying that is asked for.
 fn cut_glyphs(
@@ -40,7 +30,7 @@ fn cut_glyphs(
     if cid {
         return by_cid::cut_cid(font, f, name, keep, rows, traced, words, out);
     }
-    named::cut_named(font, f, name, keep, rows, traced, words, out)
+    by_name::cut_named(font, f, name, keep, rows, traced, words, out)
 }
 
 // The cut of a font that was read: refused before the work words are used, or with the first W of them, which end as zeros.
@@ -59,11 +49,11 @@ fn cut_font(
     ensures { λ r. ⌜ Cuts cid (now (font .entry)) (now (name .entry)) (now (keep .entry)) (now (rows .entry)) traced (now (work .entry)) (now (out .entry))
         (now (work .exit)) (now (out .exit)) r ⌝ }
 {
-    let n = refusals::refusal(cid, font, f, name.len(), keep, rows, traced, work.len());
+    let n = early_refusals::refusal(cid, font, f, name.len(), keep, rows, traced, work.len());
     if 0 < n {
         return Answer::Refused(n);
     }
-    let w = refusals::work_size(f);
+    let w = early_refusals::work_size(f);
     let words = &mut work[..w];
     let r = cut_glyphs(cid, font, f, name, keep, rows, traced, &mut *words, out);
     reach::ranks::clear(words);

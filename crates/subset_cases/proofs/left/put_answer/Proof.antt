@@ -1,7 +1,7 @@
 -- `left::put_answer` meets its contract: a refusal, or a subset.
 use mathlib.Core.Path.{ap}
 use denote.Ref.{now}
-use Rattle.write.specs.declared.Answer.{Answer}
+use Rattle.outcome.specs.declared.Answer.{Answer}
 use Rattle.cases.specs.AnswersLaws.{gives-as}
 use Rattle.subset_cases.specs.Left.{answerBytes}
 use borrow.Author.Needs.{needs}

@@ -1,6 +1,6 @@
 -- `left::zeroed` meets its contract: W from refusal 9 passed on.
 use mathlib.Core.Path.{sym, ap, _∙_}
-use Rattle.write.specs.declared.Answer.{Answer}
+use Rattle.outcome.specs.declared.Answer.{Answer}
 use Rattle.subset_cases.specs.Left.{zeroed}
 use Rattle.subset_cases.specs.LeftLaws.{zeroed-late, zeroed-early}
 use borrow.Author.Needs.{needs}

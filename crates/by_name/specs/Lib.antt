@@ -1,0 +1,3 @@
+pub mod NamedLaws
+pub mod NamedPlanLaws
+pub mod NamedKeptLaws

@@ -1,0 +1,147 @@
+-- Laws of the kept glyphs of a name-keyed cut: the words hold them and the new ids of their names, and the cut of these is the cut.
+use Prim.Native.Nat.{ℕ, _+_, _≤_, _<_}
+use mathlib.Core.Path.{_≡_, sym, ap, _∙_, subst}
+use mathlib.Core.Bool.{Bool, true, false}
+use mathlib.Core.List.{List, [], _∷_}
+use native.Mathlib.Omega.{arith}
+use lib.ListN.{length, drop, getD, length-drop}
+use lib.Seq.{length-take-le}
+use Rattle.octets.specs.Pick.{pick}
+use Rattle.octets.specs.Octets.{put}
+use Rattle.octets.specs.PutLaws.{put-length}
+use Rattle.dict.specs.Lookup.{cidKeyed}
+use Rattle.cff.specs.Font.{Program}
+use Rattle.cff.specs.Reads.{programOf}
+use Rattle.cff.specs.declared.font.Font.{Font}
+use Rattle.index.specs.IndexLaws.{items-length}
+use Rattle.subset.specs.Kept.{keptOf, sortedBy, writtenOrder, usedFds, keeps}
+use Rattle.subset.specs.Texts.{namesOf}
+use Rattle.subset.specs.Pruned.{pruned}
+use Rattle.subset.specs.Subset.{ownByName, newIds}
+use Rattle.subset.specs.Cut.{Outcome, ownOf, allFound, written}
+use Rattle.faithful.specs.UsedLaws.{used-one}
+use Rattle.faithful.specs.KeptLaws.{kept-some}
+use Rattle.kept.specs.Packed.{packed, Begins, orderIn}
+use Rattle.kept.specs.OrderLaws.{those-at}
+use Rattle.record.specs.Record.{rowsOf}
+use Rattle.front.specs.Front.{SmallFont, Ordered, Renamed, SlotsReady, Measured}
+use Rattle.front.specs.OrderLaws.{begins-ordered, begins-kept}
+use Rattle.front.specs.PrepareLaws.{order-after}
+use Rattle.own_strings.specs.declared.Own.{Own}
+use Rattle.parts.specs.Ready.{FontHeld}
+use Rattle.outcome.specs.OutcomeLaws.{cut-strings}
+use Rattle.outcome.specs.Entry.{cutBehind, Cut, Passed}
+use Rattle.named_parts.specs.Named.{namedOutcome, NamedStrings, NamedCut}
+use Rattle.outcome.specs.declared.Answer.{Answer}
+use Rattle.outcome.specs.declared.Answer.the-variants.{Refused}
+use Rattle.by_name.specs.NamedLaws.{named-strings}
+
+module _ (b : List ℕ) (f : Font) (read : FontHeld b f) (name keep rec : List ℕ) (flag : ℕ) (ws : List ℕ)
+    (passed : Passed false (programOf b f) (length name) keep rec flag (length ws)) where
+  abbrev p : Program
+  p = programOf b f
+
+  abbrev n : ℕ
+  n = f .charstrings .count
+
+  abbrev kept : List ℕ
+  kept = keptOf (length (p .charstrings)) keep
+
+  count : length (p .charstrings) ≡ n
+  count = items-length b (f .charstrings)
+
+  keyed : cidKeyed (p .top) ≡ false
+  keyed = sym (passed .keying)
+
+  wide : n + n ≤ length ws
+  wide = omega (arith, count, passed .room)
+
+  found : allFound p (keptOf n keep) ≡ true
+  found = ap (λ (m : ℕ). allFound p (keptOf m keep)) (sym count) ∙ passed .found
+
+  as-kept : writtenOrder p kept ≡ kept
+  as-kept = ap (λ (t : Bool). pick t (sortedBy (λ g. getD (p .ids) g 0) kept) kept) keyed
+
+  some : (0 < length kept) × (length kept ≤ length (p .charstrings)) × (getD kept 0 0 ≡ 0)
+  some = kept-some (length (p .charstrings)) keep (read .program .some)
+
+  below : (i : ℕ) → i < length kept → getD kept i 0 < length (p .charstrings)
+  below i l = omega (arith, those-at (keeps keep) (length (p .charstrings)) 0 i l .1)
+
+  one-used : usedFds p kept ≡ 0 ∷ []
+  one-used = used-one p kept (read .program) keyed (some .0) below
+
+  -- the outcome of the cut by the kept glyphs alone
+  outcome-is : (room : ℕ) → cutBehind p name keep rec flag room ≡ namedOutcome p name kept room (pruned p (rowsOf rec) (0 ∷ []) kept flag)
+  outcome-is room =
+      ap (λ (l : List ℕ). written p name kept l room (pruned p (rowsOf rec) (usedFds p kept) l flag)) as-kept
+      ∙ ap (λ (fs : List ℕ). written p name kept kept room (pruned p (rowsOf rec) fs kept flag)) one-used
+
+  module _ (ws₁ : List ℕ) (k : ℕ) (begins : Begins ws n (packed p (writtenOrder p (keptOf n keep))) ws₁) (many : k ≡ length (keptOf n keep)) where
+    many-kept : k ≡ length kept
+    many-kept = many ∙ ap (λ (m : ℕ). length (keptOf m keep)) (sym count)
+
+    room : n + k ≤ length ws₁
+    room = omega (arith, many-kept, some .1, count, begins .size, wide)
+
+    ordered : Ordered p n k ws₁
+    ordered = begins-ordered p n k keep ws ws₁ keyed begins many found room
+
+    pub names-asked : SmallFont b f × (f .cid ≡ false) × (16 ≤ 16) × Ordered p n k ws₁
+    names-asked = (record { good = read .font; small = read .size }, read .font .cid ∙ keyed, omega arith, ordered)
+
+    order-kept : orderIn k ws₁ ≡ kept
+    order-kept = begins-kept p n k keep ws ws₁ (read .font .glyphs .held .few) keyed begins many found room ∙ ap (λ (m : ℕ). keptOf m keep) (sym count)
+
+    module _ (own : Own) (ws₂ slots : List ℕ) (measured : Measured (ownByName p (orderIn k ws₁)) own)
+        (put-ids : ws₂ ≡ put ws₁ n (newIds (ownByName p (orderIn k ws₁)) (namesOf p (orderIn k ws₁)))) (renamed : Renamed p n k ws₂) (ready : SlotsReady p false slots) where
+      order-same : orderIn k ws₂ ≡ orderIn k ws₁
+      order-same =
+          ap (orderIn k) put-ids
+          ∙ order-after ws₁ (newIds (ownByName p (orderIn k ws₁)) (namesOf p (orderIn k ws₁))) n k (omega (arith, begins .size, wide)) (renamed .front)
+
+      ids-long : length (newIds (ownByName p (orderIn k ws₁)) (namesOf p (orderIn k ws₁))) ≡ k
+      ids-long =
+          ap (λ (o : List ℕ). length (newIds (ownByName p o) (namesOf p o))) (sym order-same) ∙ sym (ap length (renamed .ids))
+          ∙ length-take-le k (drop n ws₂) (omega (arith, length-drop n ws₂, renamed .room))
+
+      long : length ws₂ ≡ length ws₁
+      long =
+          ap length put-ids ∙ put-length ws₁ n (newIds (ownByName p (orderIn k ws₁)) (namesOf p (orderIn k ws₁))) (omega (arith, ids-long, room))
+
+      counted : own .count ≡ length (ownOf p (writtenOrder p kept))
+      counted =
+          ap (λ (o : Own). o .count) (measured .is) ∙ ap (λ (l : List ℕ). length (ownByName p l)) (order-kept ∙ sym as-kept)
+          ∙ sym (ap length (named-strings p keyed (writtenOrder p kept)))
+
+      -- too many own strings
+      pub named-refused : (out : List ℕ) → 64609 < own .count → Cut (cutBehind p name keep rec flag (length out)) out out (Refused 12)
+      named-refused out l =
+          cut-strings p name kept (writtenOrder p kept) (length out) (pruned p (rowsOf rec) (usedFds p kept) (writtenOrder p kept) flag) out
+          (subst (λ (m : ℕ). 64609 < m) counted l)
+
+      pub prepared-asked : own .count ≤ 64609 → NamedCut b f ws₂ k × NamedStrings p (orderIn k ws₂) slots own (length name)
+      prepared-asked few = (
+        record {
+          read = read;
+          keyed = keyed;
+          some = omega (arith, many-kept, some .0);
+          there =
+              λ i l. subst (λ (o : List ℕ). getD o i 0 < length (p .charstrings)) (sym (order-same ∙ order-kept)) (below i (subst (λ (m : ℕ). i < m) many-kept l));
+          names = renamed;
+          room = omega (arith, passed .room, begins .size, long);
+        },
+        record {
+          ready = ready;
+          measured = subst (λ (o : List ℕ). Measured (ownByName p o) own) (sym order-same) measured;
+          few = few;
+          short = passed .named;
+        },
+      )
+
+      pub named-cut : (out out' : List ℕ) (a : Answer)
+          → Cut (namedOutcome p name (orderIn k ws₂) (length out) (pruned p (rowsOf rec) (0 ∷ []) (orderIn k ws₂) flag)) out out' a
+          → Cut (cutBehind p name keep rec flag (length out)) out out' a
+      named-cut out out' a c =
+          subst (λ (o : Outcome). Cut o out out' a) (sym (outcome-is (length out)))
+          (subst (λ (l : List ℕ). Cut (namedOutcome p name l (length out) (pruned p (rowsOf rec) (0 ∷ []) l flag)) out out' a) (order-same ∙ order-kept) c)

@@ -1,0 +1,140 @@
+-- A CID-keyed subset over what the code holds (document 01, 'Layout'): the glyphs and their FDs in the work words, the places of its parts, and
+-- the parts in three groups, as they are written.
+use Prim.Native.Nat.{ℕ, _+_, _*_, _≤_, _<_}
+use mathlib.Core.Path.{_≡_}
+use mathlib.Core.Bool.{true}
+use mathlib.Core.List.{List, _++_}
+use lib.Dec.{ltb}
+use lib.ListN.{length, take}
+use Rattle.octets.specs.Pick.{pick}
+use Rattle.octets.specs.Lists.{partOf}
+use Rattle.index.specs.Write.{indexBytes, indexLen}
+use Rattle.unfold.specs.Unfold.{Row}
+use Rattle.charset.specs.CharsetBytes.{charsetBytes, charsetLen}
+use Rattle.charset.specs.FdSelectBytes.{fdSelectBytes}
+use Rattle.cff.specs.Font.{Program}
+use Rattle.cff.specs.Reads.{programOf}
+use Rattle.cff.specs.declared.font.Font.{Font}
+use Rattle.subset.specs.Kept.{writtenOrder, fdsOf}
+use Rattle.subset.specs.Pruned.{Bodies}
+use Rattle.subset.specs.Subset.{privateParts, fontDicts, ownByCid, cidsOf, newFds, subsetByCid}
+use Rattle.subset.specs.Cut.{Outcome, refused, subset}
+use Rattle.kept.specs.Packed.{packed, orderIn}
+use Rattle.glyph_tables.specs.Tables.{newFdsBy, Numbered}
+use Rattle.private_dicts.specs.Privates.{fontDictsBy, Placed}
+use Rattle.fds.specs.Locals.{fdsIn}
+use Rattle.own_strings.specs.declared.Own.{Own}
+use Rattle.front.specs.Front.{SlotsReady, Measured, frontBytes}
+use Rattle.parts.specs.Ready.{bodiesFor, Ready}
+use Rattle.parts.specs.declared.Planned.{Planned}
+use Rattle.outcome.specs.Layout.{cidCharset, cidSelect, cidGlyphs, cidDicts, cidPrivates, cidEnd, cidTop}
+use Rattle.cid_parts.specs.declared.Places.{Places}
+
+-- ---- outcome
+
+-- a subset by its length: refusals 10 and 11, or the way and the bytes
+abbrev pub sized : ℕ → List ℕ → ℕ → Outcome
+sized way bs room = pick (ltb 67108864 (length bs)) (refused 10) (pick (ltb room (length bs)) (refused 11) (subset way bs))
+
+-- ---- glyphs
+
+-- the first k words hold the kept ones of n glyphs in the order in which they are written, and the words from n on their FDs
+pub record Gathered (p : Program) (kept : List ℕ) (n : ℕ) (old : List ℕ) (k : ℕ) (ws : List ℕ) : Type 0 where
+  pub size : length ws ≡ length old
+  pub many : k ≡ length (writtenOrder p kept)
+  pub some : 0 < k
+  pub few : k ≤ n
+  pub room : n + n ≤ length ws
+  pub glyphs : take k ws ≡ packed p (writtenOrder p kept)
+  pub fds : partOf ws n k ≡ fdsOf p (writtenOrder p kept)
+
+-- ---- strings
+
+-- the own strings, which are few, and the slots that hold their ids
+pub record StringsReady (p : Program) (slots : List ℕ) (own : Own) : Type 0 where
+  pub slotted : SlotsReady p true slots
+  pub measured : Measured (ownByCid p) own
+  pub few : own .count ≤ 64609
+
+-- ---- places
+
+-- those of parts of these lengths, one behind the other
+abbrev pub placesOf : ℕ → ℕ → ℕ → ℕ → ℕ → ℕ → ℕ → Places
+placesOf front globals ids select glyphs dicts all =
+    record {
+      charset = front + globals;
+      select = front + globals + ids;
+      glyphs = front + globals + ids + select;
+      dicts = front + globals + ids + select + glyphs;
+      privates = front + globals + ids + select + glyphs + dicts;
+      end = front + globals + ids + select + glyphs + dicts + all;
+    }
+
+-- with the charset of k glyphs, and the INDEX of so many Font DICTs of 11 bytes
+unfoldable pub placesBy : ℕ → ℕ → ℕ → ℕ → ℕ → ℕ → ℕ → Places
+placesBy front globals k select glyphs count all = placesOf front globals (charsetLen k) select glyphs (indexLen count (11 * count)) all
+
+-- as many bytes as numbers hold
+pub record PartsSmall (front globals k select glyphs count all : ℕ) : Type 0 where
+  pub front-small : front ≤ 844424931000004
+  pub globals-small : globals ≤ 281474977000000
+  pub some : 0 < k
+  pub few : k < 65536
+  pub select-small : select ≤ 200000
+  pub glyphs-small : glyphs ≤ 281474977000000
+  pub fds : count ≤ 256
+  pub all-small : all ≤ 72059392000000000
+
+-- ---- parts
+
+module _ (b : List ℕ) (f : Font) (rows : List Row) (used ws : List ℕ) (r : Planned) where
+  abbrev pub programIn : Program
+  programIn = programOf b f
+
+  abbrev pub writtenIn : List ℕ
+  writtenIn = orderIn (r .kept .count) ws
+
+  abbrev pub bodiesIn : Bodies
+  bodiesIn = bodiesFor b f rows used ws r
+
+  -- what is ready: the bodies, and new numbers of the FDs
+  pub record CidReady (ats counts reacheds : List ℕ) : Type 0 where
+    pub ready : Ready b f rows used ws r ats counts reacheds
+    pub keyed : r .kept .cid ≡ true
+    pub some : 0 < r .kept .count
+    pub numbered : Numbered used (partOf ws (f .charstrings .count) (r .kept .count))
+    pub news : newFdsBy used (partOf ws (f .charstrings .count) (r .kept .count)) ≡ newFds programIn (fdsIn used) writtenIn
+
+  -- the tables of the Font DICTs, the first Private part standing at a place
+  pub record DictsReady (sizes lens : List ℕ) (count from : ℕ) : Type 0 where
+    pub placed : Placed sizes lens count from
+    pub are : fontDictsBy sizes lens count from ≡ fontDicts programIn from (fdsIn used) (bodiesIn .locals)
+
+  -- the subset, and the places of its parts
+  unfoldable pub cidBytes : List ℕ → List ℕ
+  cidBytes name = subsetByCid programIn name (fdsIn used) writtenIn bodiesIn
+
+  unfoldable pub cidPlaces : List ℕ → Places
+  cidPlaces name =
+      record {
+        charset = cidCharset programIn name (fdsIn used) writtenIn bodiesIn;
+        select = cidSelect programIn name (fdsIn used) writtenIn bodiesIn;
+        glyphs = cidGlyphs programIn name (fdsIn used) writtenIn bodiesIn;
+        dicts = cidDicts programIn name (fdsIn used) writtenIn bodiesIn;
+        privates = cidPrivates programIn name (fdsIn used) writtenIn bodiesIn;
+        end = cidEnd programIn name (fdsIn used) writtenIn bodiesIn;
+      }
+
+  -- front, globals and charset
+  unfoldable pub headBytes : List ℕ → List ℕ
+  headBytes name =
+      frontBytes (cidEnd programIn name (fdsIn used) writtenIn bodiesIn) name (cidTop programIn name (fdsIn used) writtenIn bodiesIn) (ownByCid programIn)
+      ++ (indexBytes (bodiesIn .globals) ++ charsetBytes (cidsOf programIn writtenIn))
+
+  -- FDSelect and charstrings
+  unfoldable pub glyphBytes : List ℕ
+  glyphBytes = fdSelectBytes (newFds programIn (fdsIn used) writtenIn) ++ indexBytes (bodiesIn .charstrings)
+
+  -- the FD INDEX and the Private parts, of which the first stands at a place
+  unfoldable pub tailBytes : ℕ → List ℕ
+  tailBytes from = indexBytes (fontDicts programIn from (fdsIn used) (bodiesIn .locals)) ++ privateParts programIn (fdsIn used) (bodiesIn .locals)

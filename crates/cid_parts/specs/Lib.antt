@@ -1,0 +1,3 @@
+pub mod Cid
+pub mod CidPlacesLaws
+pub mod CidPutLaws

@@ -1,0 +1,117 @@
+-- The refusal of a call before the work words are used, test by test: what each test of the code answered, and the number that it gives.
+use Prim.Native.Nat.{ℕ, _+_, _*_, _≤_, _<_}
+use mathlib.Core.Path.{_≡_, refl, sym, ap, _∙_, subst}
+use mathlib.Core.Bool.{Bool, true, false, not}
+use mathlib.Core.List.{List}
+use borrow.Author.Tests.{lt-ltb, le-ltb}
+use Rattle.prune.specs.StepLaws.{zero-one}
+use lib.ListN.{length}
+use Rattle.octets.specs.Pick.{pick}
+use Rattle.octets.specs.Lists.{allBelow}
+use Rattle.record.specs.Record.{recordFine}
+use Rattle.dict.specs.Lookup.{rosIn, cidKeyed}
+use Rattle.cff.specs.Font.{Program}
+use Rattle.cff.specs.Find.{workSize}
+use Rattle.cff.specs.Reads.{programOf, GoodFont}
+use Rattle.cff.specs.SetLaws.{counts-are}
+use Rattle.cff.specs.declared.Counts.{Counts}
+use Rattle.cff.specs.declared.font.Font.{Font}
+use Rattle.index.specs.IndexLaws.{items-length}
+use Rattle.subset.specs.Kept.{keptOf}
+use Rattle.subset.specs.Cut.{allFound, hasRos, sameBool}
+use Rattle.outcome.specs.Entry.{refusalOf}
+
+-- a font's counts
+module _ (b : List ℕ) (f : Font) (good : GoodFont b f) where
+  pub glyphs-are : length (programOf b f .charstrings) ≡ f .charstrings .count
+  glyphs-are = items-length b (f .charstrings)
+
+  pub work-is : 2 * f .charstrings .count + f .globals .count + f .locals ≡ workSize (programOf b f)
+  work-is = let e = counts-are b f good in ap (λ (c : Counts). c .work) e
+
+-- ---- the refusal, test by test: what each test of the code answered
+
+was-false : (r : Bool) → not r ≡ true → r ≡ false
+was-false true e = absurd (zero-one cc)
+was-false false e = refl
+
+was-true : (r : Bool) → not r ≡ false → r ≡ true
+was-true true e = refl
+was-true false e = absurd (zero-one cc)
+
+module _ (b : List ℕ) (f : Font) (good : GoodFont b f) (cid : Bool) (name : ℕ) (keep rec : List ℕ) (flag words : ℕ) where
+  abbrev p : Program
+  p = programOf b f
+
+  abbrev numbered : ℕ
+  numbered = refusalOf cid p name keep rec flag words
+
+  module _ (r₁ : Bool) (e₁ : r₁ ≡ sameBool cid (f .cid)) where
+    same : (t : Bool) → r₁ ≡ t → sameBool cid (cidKeyed (p .top)) ≡ t
+    same t h = ap (sameBool cid) (sym (good .cid)) ∙ sym e₁ ∙ h
+
+    pub read-keying : not r₁ ≡ true → 3 ≡ numbered
+    unfolding refusalOf
+    read-keying t = rw (same false (was-false r₁ t))
+
+    module _ (t₁ : not r₁ ≡ false) (r₂ : Bool) (e₂ : r₂ ≡ pick cid (hasRos (rosIn (p .top))) true) where
+      a : sameBool cid (cidKeyed (p .top)) ≡ true
+      a = same true (was-true r₁ t₁)
+
+      pub read-ros : not r₂ ≡ true → 2 ≡ numbered
+      unfolding refusalOf
+      read-ros t = rw (a, sym e₂ ∙ was-false r₂ t)
+
+      module _ (t₂ : not r₂ ≡ false) where
+        c : pick cid (hasRos (rosIn (p .top))) true ≡ true
+        c = sym e₂ ∙ was-true r₂ t₂
+
+        pub read-name : 65535 < name → 4 ≡ numbered
+        unfolding refusalOf
+        read-name h = rw (a, c, lt-ltb 65535 name h)
+
+        module _ (t₃ : name ≤ 65535) (r₄ : Bool) (e₄ : r₄ ≡ allBelow (f .charstrings .count) keep) where
+          below : (t : Bool) → r₄ ≡ t → allBelow (length (p .charstrings)) keep ≡ t
+          below t h = ap (λ (n : ℕ). allBelow n keep) (glyphs-are b f good) ∙ sym e₄ ∙ h
+
+          pub read-number : not r₄ ≡ true → 6 ≡ numbered
+          unfolding refusalOf
+          read-number t = rw (a, c, le-ltb 65535 name t₃, below false (was-false r₄ t))
+
+          -- what finding asks
+          pub read-below : not r₄ ≡ false → allBelow (f .charstrings .count) keep ≡ true
+          read-below t = sym e₄ ∙ was-true r₄ t
+
+          module _ (t₄ : not r₄ ≡ false) (r₅ : Bool) (e₅ : r₅ ≡ allFound p (keptOf (f .charstrings .count) keep)) where
+            d : allBelow (length (p .charstrings)) keep ≡ true
+            d = below true (was-true r₄ t₄)
+
+            found : (t : Bool) → r₅ ≡ t → allFound p (keptOf (length (p .charstrings)) keep) ≡ t
+            found t h = ap (λ (n : ℕ). allFound p (keptOf n keep)) (glyphs-are b f good) ∙ sym e₅ ∙ h
+
+            pub read-found : not r₅ ≡ true → 7 ≡ numbered
+            unfolding refusalOf
+            read-found t = rw (a, c, le-ltb 65535 name t₃, d, found false (was-false r₅ t))
+
+            module _ (t₅ : not r₅ ≡ false) (r₆ : Bool) (e₆ : r₆ ≡ recordFine cid rec flag) where
+              e : allFound p (keptOf (length (p .charstrings)) keep) ≡ true
+              e = found true (was-true r₅ t₅)
+
+              pub read-record : not r₆ ≡ true → 8 ≡ numbered
+              unfolding refusalOf
+              read-record t = rw (a, c, le-ltb 65535 name t₃, d, e, sym e₆ ∙ was-false r₆ t)
+
+              module _ (t₆ : not r₆ ≡ false) (w : ℕ) (e₇ : w ≡ 2 * f .charstrings .count + f .globals .count + f .locals) where
+                g : recordFine cid rec flag ≡ true
+                g = sym e₆ ∙ was-true r₆ t₆
+
+                size : w ≡ workSize p
+                size = e₇ ∙ work-is b f good
+
+                pub read-work : words < w → 9 ≡ numbered
+                unfolding refusalOf
+                read-work h = rw (a, c, le-ltb 65535 name t₃, d, e, g, lt-ltb words (workSize p) (subst (λ (n : ℕ). words < n) size h))
+
+                pub read-passed : w ≤ words → 0 ≡ numbered
+                unfolding refusalOf
+                read-passed h = rw (a, c, le-ltb 65535 name t₃, d, e, g, le-ltb words (workSize p) (subst (λ (n : ℕ). n ≤ words) size h))

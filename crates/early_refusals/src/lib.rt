@@ -1,0 +1,98 @@
+// The refusals of subsetting before the work words are used, in document 01's order.
+ghost use mathlib.Core.Path.{_≡_};
+ghost use mathlib.Core.Bool.{true};
+ghost use Prim.Native.Nat.{_+_, _*_, _≤_, _<_};
+ghost use Rattle.octets.specs.Pick.{pick};
+ghost use Rattle.dict.specs.Lookup.{rosIn};
+ghost use Rattle.dict.specs.Places.{entriesOf};
+ghost use Rattle.cff.specs.Reads.{programOf, GoodFont};
+ghost use Rattle.subset.specs.Cut.{hasRos, sameBool};
+ghost use Rattle.outcome.specs.Entry.{refusalOf};
+use cff::font::Font;
+use dict::RosIn;
+use refusal::Refusal;
+
+// Whether the ROS of a top DICT can be used.
+fn has_ros(d: &[u8]) -> bool
+    ensures { λ r. ⌜ r ≡ hasRos (rosIn (entriesOf (now (d .entry)))) ⌝ }
+{
+    match dict::ros(d) {
+        RosIn::None => false,
+        RosIn::Ros {
+            registry: _,
+            ordering: _,
+            supplement: _,
+        } => true,
+    }
+}
+
+// Whether two keyings are the same.
+fn same_keying(a: bool, b: bool) -> bool
+    ensures { λ r. ⌜ r ≡ sameBool a b ⌝ }
+{
+    if a {
+        return b;
+    }
+    !b
+}
+
+// Whether the ROS of a top DICT can be used where a CID-keyed font is asked for.
+fn ros_fine(cid: bool, d: &[u8]) -> bool
+    ensures { λ r. ⌜ r ≡ pick cid (hasRos (rosIn (entriesOf (now (d .entry))))) true ⌝ }
+{
+    if cid {
+        return has_ros(d);
+    }
+    true
+}
+
+// W of a font: 2 × glyphs + globals + locals of all FDs.
+pub fn work_size(f: Font) -> usize
+    requires { ⌜ (f .charstrings .count < 65536) × (f .globals .count < 65536) × (f .locals ≤ 4294967296) ⌝ }
+    ensures { λ r. ⌜ r ≡ 2 * f .charstrings .count + f .globals .count + f .locals ⌝ }
+{
+    let charstrings = f.charstrings;
+    let globals = f.globals;
+    2 * charstrings.count + globals.count + f.locals
+}
+
+// The refusal of a font that was read, before the work words are used, or 0.
+pub fn refusal(
+    cid: bool,
+    font: &[u8],
+    f: Font,
+    name: usize,
+    keep: &[u16],
+    rows: &[u8],
+    traced: u8,
+    words: usize,
+) -> u8
+    requires { ⌜ GoodFont (now font) f ⌝ }
+    ensures { λ r. ⌜ r ≡ refusalOf cid (programOf (now (font .entry)) f) name (now (keep .entry)) (now (rows .entry)) traced words ⌝ }
+{
+    let charstrings = f.charstrings;
+    let top = f.top;
+    let end = f.top_end;
+    if !same_keying(cid, f.cid) {
+        return Refusal::UNSUPPORTED;
+    }
+    if !ros_fine(cid, &font[top..end]) {
+        return Refusal::MALFORMED;
+    }
+    if 65535 < name {
+        return Refusal::TOO_LONG;
+    }
+    if !kept::keep_below(keep, charstrings.count) {
+        return Refusal::NO_SUCH_NUMBER;
+    }
+    if !found::all_found(font, f, keep) {
+        return Refusal::NOT_FOUND;
+    }
+    if !reach::check_record(cid, rows, traced) {
+        return Refusal::RECORD;
+    }
+    if words < work_size(f) {
+        return Refusal::WORK;
+    }
+    0
+}

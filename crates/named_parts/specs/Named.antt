@@ -1,0 +1,73 @@
+-- The cut of a name-keyed font (document 01, 'Layout'; crates/subset, subsetByName), over what the code holds when its bodies are planned.
+use Prim.Native.Nat.{ℕ, _≤_, _<_}
+use mathlib.Core.Path.{_≡_}
+use mathlib.Core.Bool.{false}
+use mathlib.Core.List.{List, [], _∷_, _++_}
+use lib.ListN.{length, getD, set, replicate}
+use Rattle.index.specs.Write.{indexBytes}
+use Rattle.charset.specs.CharsetBytes.{charsetBytes}
+use Rattle.unfold.specs.Unfold.{Row}
+use Rattle.dict.specs.Lookup.{cidKeyed}
+use Rattle.cff.specs.Font.{Program}
+use Rattle.cff.specs.Find.{workSize}
+use Rattle.cff.specs.Reads.{programOf}
+use Rattle.cff.specs.declared.font.Font.{Font}
+use Rattle.subset.specs.Kept.{privateOf}
+use Rattle.subset.specs.Texts.{namesOf}
+use Rattle.subset.specs.Pruned.{Bodies, Pruned}
+use Rattle.subset.specs.Subset.{privateDict, privatePart, ownByName, newIds, oneLocal}
+use Rattle.subset.specs.Cut.{Outcome, written}
+use Rattle.kept.specs.Packed.{orderIn}
+use Rattle.own_strings.specs.declared.Own.{Own}
+use Rattle.fds.specs.Locals.{fdsIn}
+use Rattle.front.specs.Front.{Renamed, SlotsReady, Measured}
+use Rattle.parts.specs.Ready.{FontHeld, Ready, Summed}
+use Rattle.parts.specs.declared.Planned.{Planned}
+use Rattle.outcome.specs.Layout.{namedCharset, namedCharstrings, namedPrivate, namedEnd}
+use Rattle.named_parts.specs.declared.Places.{Places}
+
+-- charset, charstrings and Private, one behind the other
+abbrev pub namedGlyphs : Program → List ℕ → Bodies → List ℕ
+namedGlyphs p order b =
+    charsetBytes (newIds (ownByName p order) (namesOf p order)) ++ (indexBytes (b .charstrings) ++ privatePart (privateOf p 0) (oneLocal b))
+
+-- the outcome by the glyphs in the order in which they are written, which in a name-keyed font is that of the kept ones
+abbrev pub namedOutcome : Program → List ℕ → List ℕ → ℕ → Pruned → Outcome
+namedOutcome p name order room q = written p name order order room q
+
+-- the bodies are planned, those of FD 0 alone, and the new ids of the names stand behind the glyphs
+pub record NamedPlan (b : List ℕ) (f : Font) (rows : List Row) (used ws : List ℕ) (r : Planned) (ats counts reacheds totals : List ℕ) : Type 0 where
+  pub keyed : cidKeyed (programOf b f .top) ≡ false
+  pub some : 0 < r .kept .count
+  pub ready : Ready b f rows used ws r ats counts reacheds
+  pub summed : Summed b f rows used ws r ats counts reacheds totals
+  pub only : fdsIn used ≡ 0 ∷ []
+  pub names : Renamed (programOf b f) (f .charstrings .count) (r .kept .count) ws
+
+-- the table of the FDs in use: FD 0 is
+abbrev pub firstFd : List ℕ
+firstFd = set (replicate 256 0) 0 1
+
+-- the own strings are counted and few, and the new name is short
+pub record NamedStrings (p : Program) (order slots : List ℕ) (own : Own) (name : ℕ) : Type 0 where
+  pub ready : SlotsReady p false slots
+  pub measured : Measured (ownByName p order) own
+  pub few : own .count ≤ 64609
+  pub short : name ≤ 65535
+
+-- the places of the parts, and the size of the Private DICT
+pub record PlacedNamed (p : Program) (name order : List ℕ) (b : Bodies) (at : Places) : Type 0 where
+  pub charset : at .charset ≡ namedCharset p name order b
+  pub charstrings : at .charstrings ≡ namedCharstrings p name order b
+  pub size : at .size ≡ length (privateDict (privateOf p 0) (oneLocal b))
+  pub private : at .private ≡ namedPrivate p name order b
+  pub end : at .end ≡ namedEnd p name order b
+
+-- the words hold the k glyphs of a name-keyed font that are kept, and the new ids of their names behind them
+pub record NamedCut (b : List ℕ) (f : Font) (ws : List ℕ) (k : ℕ) : Type 0 where
+  pub read : FontHeld b f
+  pub keyed : cidKeyed (programOf b f .top) ≡ false
+  pub some : 0 < k
+  pub there : (i : ℕ) → i < k → getD (orderIn k ws) i 0 < length (programOf b f .charstrings)
+  pub names : Renamed (programOf b f) (f .charstrings .count) k ws
+  pub room : workSize (programOf b f) ≤ length ws

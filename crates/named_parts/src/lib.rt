@@ -1,0 +1,192 @@
+// The parts of a name-keyed subset (document 01, 'Layout'): where they stand, and each written behind the other.
+ghost use Prim.Native.Nat.{_+_, _≤_};
+ghost use lib.ListN.{length};
+ghost use Rattle.octets.specs.Octets.{Wrote};
+ghost use Rattle.record.specs.Record.{rowsOf};
+ghost use Rattle.cff.specs.Reads.{programOf};
+ghost use Rattle.subset.specs.Subset.{subsetByName};
+ghost use Rattle.parts.specs.Ready.{bodiesFor};
+ghost use Rattle.named_parts.specs.Named.{namedGlyphs, NamedPlan, NamedStrings, PlacedNamed};
+use bodies::charstrings::put_charstrings;
+use cff::font::Font;
+use own_strings::Own;
+use parts::Planned;
+use parts::globals_len;
+use parts::glyphs_len;
+use parts::put_globals;
+ghost use Rattle.kept.specs.Packed.{orderIn};
+
+// Where charset, charstrings and Private stand, the size of the Private DICT, and the length of the subset.
+pub struct Places {
+    pub charset: usize,
+    pub charstrings: usize,
+    pub size: usize,
+    pub private: usize,
+    pub end: usize,
+}
+
+// Charset, charstrings and Private, from `at` on; the place after them.
+fn put_glyphs(
+    r: Planned,
+    font: &[u8],
+    f: Font,
+    used: &[u32],
+    words: &[u32],
+    ats: &[usize],
+    counts: &[usize],
+    reacheds: &[usize],
+    totals: &[usize],
+    rows: &[u8],
+    out: &mut [u8],
+    at: usize,
+) -> usize
+    requires { ⌜ (NamedPlan (now font) f (rowsOf (now rows)) (now used) (now words) r (now ats) (now counts) (now reacheds) (now totals))
+        × (at + length (namedGlyphs (programOf (now font) f) (orderIn (r .kept .count) (now words)) (bodiesFor (now font) f (rowsOf (now rows)) (now used) (now words) r)) ≤ 67108864)
+        × (at + length (namedGlyphs (programOf (now font) f) (orderIn (r .kept .count) (now words)) (bodiesFor (now font) f (rowsOf (now rows)) (now used) (now words) r)) ≤ length (now out)) ⌝ }
+    ensures { λ q. ⌜ Wrote (now (out .entry)) at
+        (namedGlyphs (programOf (now (font .entry)) f) (orderIn (r .kept .count) (now (words .entry)))
+        (bodiesFor (now (font .entry)) f (rowsOf (now (rows .entry))) (now (used .entry)) (now (words .entry)) r))
+        (now (out .exit)) q ⌝ }
+{
+    let kept = r.kept;
+    let charstrings = f.charstrings;
+    let n = charstrings.count;
+    let total = r.glyphs_total;
+    let p = glyph_tables::put_charset_named(words, n, kept.count, out, at);
+    let q = put_charstrings(
+        kept,
+        font,
+        words,
+        ats,
+        counts,
+        reacheds,
+        rows,
+        total,
+        out,
+        p,
+    );
+    fds::privates::put_privates(
+        kept.way,
+        font,
+        f,
+        used,
+        words,
+        ats,
+        counts,
+        reacheds,
+        totals,
+        kept.globals,
+        rows,
+        kept.rising,
+        out,
+        q,
+    )
+}
+
+// The subset in the front of the output; the place after it.
+pub fn put_named(
+    r: Planned,
+    font: &[u8],
+    f: Font,
+    name: &[u8],
+    slots: &[usize],
+    own: Own,
+    used: &[u32],
+    words: &[u32],
+    ats: &[usize],
+    counts: &[usize],
+    reacheds: &[usize],
+    totals: &[usize],
+    rows: &[u8],
+    places: Places,
+    out: &mut [u8],
+) -> usize
+    requires { ⌜ (NamedPlan (now font) f (rowsOf (now rows)) (now used) (now words) r (now ats) (now counts) (now reacheds) (now totals))
+        × (NamedStrings (programOf (now font) f) (orderIn (r .kept .count) (now words)) (now slots) own (length (now name)))
+        × (PlacedNamed (programOf (now font) f) (now name) (orderIn (r .kept .count) (now words))
+        (bodiesFor (now font) f (rowsOf (now rows)) (now used) (now words) r) places)
+        × (places .end ≤ 67108864) × (places .end ≤ length (now out)) ⌝ }
+    ensures { λ q. ⌜ Wrote (now (out .entry)) 0
+        (subsetByName (programOf (now (font .entry)) f) (now (name .entry)) (orderIn (r .kept .count) (now (words .entry)))
+        (bodiesFor (now (font .entry)) f (rowsOf (now (rows .entry))) (now (used .entry)) (now (words .entry)) r))
+        (now (out .exit)) q ⌝ }
+{
+    let kept = r.kept;
+    let p = front::put_front_named(
+        font,
+        f,
+        name,
+        slots,
+        own,
+        words,
+        kept.count,
+        places.charset,
+        places.charstrings,
+        places.size,
+        places.private,
+        places.end,
+        out,
+    );
+    let q = put_globals(r, font, f, used, words, ats, counts, reacheds, rows, out, p);
+    put_glyphs(
+        r,
+        font,
+        f,
+        used,
+        words,
+        ats,
+        counts,
+        reacheds,
+        totals,
+        rows,
+        out,
+        q,
+    )
+}
+
+// Measures the parts of the subset: where they stand.
+pub fn places_named(
+    r: Planned,
+    font: &[u8],
+    f: Font,
+    name: &[u8],
+    slots: &[usize],
+    own: Own,
+    used: &[u32],
+    words: &[u32],
+    ats: &[usize],
+    counts: &[usize],
+    reacheds: &[usize],
+    totals: &[usize],
+    rows: &[u8],
+) -> Places
+    requires { ⌜ (NamedPlan (now font) f (rowsOf (now rows)) (now used) (now words) r (now ats) (now counts) (now reacheds) (now totals))
+        × (NamedStrings (programOf (now font) f) (orderIn (r .kept .count) (now words)) (now slots) own (length (now name))) ⌝ }
+    ensures { λ at. ⌜ PlacedNamed (programOf (now (font .entry)) f) (now (name .entry)) (orderIn (r .kept .count) (now (words .entry)))
+        (bodiesFor (now (font .entry)) f (rowsOf (now (rows .entry))) (now (used .entry)) (now (words .entry)) r) at ⌝ }
+{
+    let kept = r.kept;
+    let mut sizes = [0usize; 256];
+    let mut lens = [0usize; 256];
+    let privates = fds::parts::part_sizes(
+        kept.way,
+        font,
+        f,
+        used,
+        counts,
+        reacheds,
+        totals,
+        &mut sizes,
+        &mut lens,
+    );
+    let charset = front::front_len(false, font, f, name.len(), slots, own) + globals_len(r);
+    let charstrings = charset + (1 + 2 * (kept.count - 1));
+    let private = charstrings + glyphs_len(r);
+    Places {
+        charset,
+        charstrings,
+        size: sizes[0],
+        private,
+        end: private + privates,
+    }
+}

@@ -1,0 +1,4 @@
+pub mod Entry
+pub mod Layout
+pub mod OutcomeLaws
+pub mod BothLaws
