@@ -27,7 +27,7 @@ extern "C" {
 /* Refusals: document 01, 'Entries and their refusals'. The first five are reading's. */
 #define CFF_TRUNCATED 1      /* a structure ends before what was being read */
 #define CFF_MALFORMED 2      /* another fault in a structure */
-#define CFF_UNSUPPORTED 3    /* a form that is not handled; to subsetting also a font of the other keying */
+#define CFF_UNSUPPORTED 3    /* a form that is not handled; to subsetting also a font of the other keying or a stroked one */
 #define CFF_TOO_LONG 4       /* a font of more than 67,108,864 bytes; a new name of more than 65,535 */
 #define CFF_REAL 5           /* a well-formed real past its limits */
 #define CFF_NO_SUCH_NUMBER 6 /* no item of that number, or no such kind; to subsetting a number past the font's glyphs */

@@ -11,7 +11,7 @@ pub enum Refusal {
     Truncated = 1,
     /// Another fault in a structure of the font.
     Malformed = 2,
-    /// A form that is not handled, or a font of the other keying.
+    /// A form that is not handled, a font of the other keying, or, to subsetting, a stroked font.
     Unsupported = 3,
     /// A font of more than 67,108,864 bytes, or a new name of more than 65,535.
     TooLong = 4,

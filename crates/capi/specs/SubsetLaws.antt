@@ -13,7 +13,7 @@ use Rattle.octets.specs.Pick.{pick, pick-ind}
 use Rattle.octets.specs.Octets.{put}
 use Rattle.octets.specs.PutLaws.{put-two}
 use Rattle.octets.specs.Lists.{allBelow}
-use Rattle.dict.specs.Lookup.{rosIn, cidKeyed}
+use Rattle.dict.specs.Lookup.{rosIn, cidKeyed, strokedIn}
 use Rattle.record.specs.Record.{rowsOf, recordFine}
 use Rattle.cff.specs.Font.{Got, refused as refusedFont, got, Program, readFont}
 use Rattle.cff.specs.Find.{workSize}
@@ -72,13 +72,14 @@ module _ (cid : Bool) (name keep rec : List ℕ) (flag words room : ℕ) where
       let kept = keptOf (length (p .charstrings)) keep in
       let order = writtenOrder p kept in
       provided room (sameBool cid (cidKeyed (p .top))) 3 _ (omega arith) (omega arith)
+      (unless room (strokedIn (p .top)) 3 _ (omega arith) (omega arith)
       (provided room (pick cid (hasRos (rosIn (p .top))) true) 2 _ (omega arith) (omega arith)
       (unless room (ltb 65535 (length name)) 4 _ (omega arith) (omega arith)
       (provided room (allBelow (length (p .charstrings)) keep) 6 _ (omega arith) (omega arith)
       (provided room (allFound p kept) 7 _ (omega arith) (omega arith)
       (provided room (recordFine cid rec flag) 8 _ (omega arith) (omega arith)
       (unless room (ltb words (workSize p)) 9 _ (omega arith) (omega arith)
-      (written-sound p name kept order room (pruned p (rowsOf rec) (usedFds p kept) order flag))))))))
+      (written-sound p name kept order room (pruned p (rowsOf rec) (usedFds p kept) order flag)))))))))
 
   read-sound : (g : Got Program) → ((n : ℕ) → g ≡ refusedFont n → Refusal n) → Sound room (cutRead cid g name keep rec flag words room)
   read-sound (refusedFont n) low = let r = low n refl in let m : n ≤ 12 = omega (arith, r .most) in sound-refused (r .least) m

@@ -10,9 +10,9 @@ use Rattle.decimal.specs.Decimal.{nought, zerosOf, zeros, stripped, normal}
 use Rattle.decimal.specs.Real.{nibbles, textOf, expDigits, exponent, mantissa, formOf, valueOf}
 use Rattle.decimal.specs.Number.{realAt, numberAt}
 use Rattle.decimal.specs.Values.{truncOf}
-use Rattle.dict.specs.Op.{esc}
+use Rattle.dict.specs.Op.{esc, paintType}
 use Rattle.dict.specs.Dict.{Entry, Dict, refused, entries, operatorAt, tokenAt, entryFrom, entryAt, readingsFrom, readingsAt, gathered, dictOf}
-use Rattle.dict.specs.Lookup.{Operands, absent, operands, lastFrom, lastOf, oneOf, offsetIn, privateIn, idIn, cidKeyed, rosIn, cidCountIn, charstringTypeIn}
+use Rattle.dict.specs.Lookup.{Operands, absent, operands, lastFrom, lastOf, oneOf, offsetIn, privateIn, idIn, cidKeyed, rosIn, cidCountIn, strokedIn, charstringTypeIn}
 use Rattle.dict.specs.Places.{listed, entriesOf, lastPlace, placeOf, operandsAt}
 use Rattle.dict.specs.declared.One.the-variants.{Number, Absent as NoNumber}
 use Rattle.dict.specs.declared.OffsetIn.the-variants.{Refused, At, Absent as NoOffset}
@@ -100,6 +100,26 @@ others :
     × (charstringTypeIn (entry (esc 6) (whole 1 ∷ []) ∷ []) ≡ 3)
 unfolding truncOf lastFrom lastOf twice
 others = (refl, refl, refl, refl, refl, refl, refl, refl, refl, refl, refl, refl)
+
+-- PaintType (document 02, Wish 11): absent, 0, 1, 0.5 and -1; two operands or none; the last of two counts; StrokeWidth alone; and as bytes
+-- 1, minus zero and 0.0
+stroked :
+    (strokedIn [] ≡ false)
+    × (strokedIn (entry paintType (nought ∷ []) ∷ []) ≡ false)
+    × (strokedIn (entry paintType (whole 1 ∷ []) ∷ []) ≡ true)
+    × (strokedIn (entry paintType (record { neg = false; digits = 5; up = 0; down = 1 } ∷ []) ∷ []) ≡ true)
+    × (strokedIn (entry paintType (record { neg = true; digits = 1; up = 0; down = 0 } ∷ []) ∷ []) ≡ true)
+    × (strokedIn (entry paintType (whole 1 ∷ whole 1 ∷ []) ∷ []) ≡ false)
+    × (strokedIn (entry paintType [] ∷ []) ≡ false)
+    × (strokedIn (entry paintType (whole 1 ∷ []) ∷ entry paintType (nought ∷ []) ∷ []) ≡ false)
+    × (strokedIn (entry paintType (nought ∷ []) ∷ entry paintType (whole 1 ∷ []) ∷ []) ≡ true)
+    × (strokedIn (entry (esc 8) (whole 1 ∷ []) ∷ []) ≡ false)
+    × (strokedIn (entriesOf (0x8c ∷ 0x0c ∷ 0x05 ∷ [])) ≡ true)
+    × (strokedIn (entriesOf (0x1e ∷ 0xe0 ∷ 0xff ∷ 0x0c ∷ 0x05 ∷ [])) ≡ false)
+    × (strokedIn (entriesOf (0x1e ∷ 0x0a ∷ 0x0f ∷ 0x0c ∷ 0x05 ∷ [])) ≡ false)
+unfolding be numAt zerosOf zeros stripped normal nibbles textOf expDigits exponent mantissa formOf valueOf realAt numberAt
+    operatorAt tokenAt entryFrom entryAt readingsFrom readingsAt gathered dictOf listed lastFrom lastOf
+stroked = (refl, refl, refl, refl, refl, refl, refl, refl, refl, refl, refl, refl, refl)
 
 -- where the last CharStrings stands in two, and the operand there
 places :

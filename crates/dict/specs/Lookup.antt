@@ -1,7 +1,7 @@
 -- What a DICT's entries say (document 01, 'Corners in mod.rs'; the Rust's get, number, offset, private_of, top_string, ros, cid_count): the last
 -- entry of an operator counts, and an entry with other than one operand is absent where one number is wanted.
 use Prim.Native.Nat.{ℕ, min}
-use mathlib.Core.Bool.{Bool, true, false}
+use mathlib.Core.Bool.{Bool, true, false, not}
 use mathlib.Core.List.{List, [], _∷_}
 use lib.Dec.{eqb}
 use Rattle.octets.specs.Pick.{pick}
@@ -11,7 +11,7 @@ use Rattle.decimal.specs.declared.IdOf.the-variants.{Absent as NoId}
 use Rattle.decimal.specs.declared.OffsetOf.{OffsetOf}
 use Rattle.decimal.specs.declared.OffsetOf.the-variants.{Refused as RefusedOffset, Offset}
 use Rattle.decimal.specs.Values.{truncOf, clamped, i32Of, idOf, offsetOf, isTwo}
-use Rattle.dict.specs.Op.{private, charstringType, ros, cidCount}
+use Rattle.dict.specs.Op.{private, paintType, charstringType, ros, cidCount}
 use Rattle.dict.specs.Dict.{Entry}
 use Rattle.dict.specs.declared.One.{One}
 use Rattle.dict.specs.declared.One.the-variants.{Number, Absent as NoNumber}
@@ -107,6 +107,14 @@ countAs (Number d) = clamped 4294967295 d
 
 abbrev pub cidCountIn : List Entry → ℕ
 cidCountIn es = countAs (oneOf cidCount es)
+
+-- PaintType: a font is stroked where it is one number other than 0 (document 02, Wish 11)
+abbrev pub strokedAs : One → Bool
+strokedAs NoNumber = false
+strokedAs (Number d) = not (eqb (d .digits) 0)
+
+abbrev pub strokedIn : List Entry → Bool
+strokedIn es = strokedAs (oneOf paintType es)
 
 -- CharstringType: 0, or the refusal where it is a number other than 2
 abbrev pub typeAs : One → ℕ

@@ -1,7 +1,7 @@
 -- Laws of looking an entry up: the place that was found holds the operands of the last entry, and what one, two or three operands say.
 use Prim.Native.Nat.{ℕ, zero, suc, _+_, _-_, _≤_, _<_}
 use mathlib.Core.Path.{_≡_, refl, sym, ap, _∙_, subst}
-use mathlib.Core.Bool.{Bool, true, false}
+use mathlib.Core.Bool.{Bool, true, false, not}
 use mathlib.Core.List.{List, [], _∷_, _++_}
 use native.Mathlib.Nat.{not-suc-le-zero}
 use native.Mathlib.Numerals.{add-one, sub-one}
@@ -26,8 +26,8 @@ use Rattle.decimal.specs.Values.{truncOf, clamped, i32Of, idOf, offsetOf, isTwo
 use Rattle.decimal.specs.Number.{Number, refused as refusedNumber, notNumber, number, numberAt, answerOf}
 use Rattle.decimal.specs.NumberLaws.{form-none}
 use Rattle.dict.specs.Dict.{Entry, Reading, stopped, got, entryAt, followed, readingsFrom, readingsAt, Dict, refused, entries, before, gathered, dictOf}
-use Rattle.dict.specs.Lookup.{Operands, absent, operands, lastFrom, lastOf, only, oneOf, offsetTold, offsetAs, offsetIn, privateAs, privateIn, idAs, idIn, isThere, rosAs, rosIn, countAs, cidCountIn, typeAs, charstringTypeIn}
-use Rattle.dict.specs.Op.{private, charstringType, ros, cidCount}
+use Rattle.dict.specs.Lookup.{Operands, absent, operands, lastFrom, lastOf, only, oneOf, offsetTold, offsetAs, offsetIn, privateAs, privateIn, idAs, idIn, isThere, rosAs, rosIn, countAs, cidCountIn, strokedAs, strokedIn, typeAs, charstringTypeIn}
+use Rattle.dict.specs.Op.{private, paintType, charstringType, ros, cidCount}
 use Rattle.dict.specs.Proper.{AllNormal}
 use Rattle.dict.specs.Places.{refusalOf, listed, entriesOf, Good, lastPlace, placeOf, orNone, operandsAt}
 use Rattle.dict.specs.TokenLaws.{Further, further}
@@ -336,6 +336,15 @@ module _ (es : List Entry) (r : One) where
 
     pub type-other : t ≡ false → 3 ≡ charstringTypeIn es
     type-other h = ap (λ (x : Bool). pick x 0 3) (sym h ∙ g) ∙ ap typeAs (sym f ∙ e)
+
+-- ---- PaintType
+
+module _ (es : List Entry) (r : One) (e : r ≡ oneOf paintType es) where
+  pub stroked-absent : r ≡ NoNumber → false ≡ strokedIn es
+  stroked-absent f = ap strokedAs (sym f ∙ e)
+
+  pub stroked-number : (v : Decimal) → r ≡ The v → not (eqb (v .digits) 0) ≡ strokedIn es
+  stroked-number v f = ap strokedAs (sym f ∙ e)
 
 -- ---- two operands, and three
 

@@ -14,12 +14,15 @@ esc e = 3072 + e
 abbrev pub isOperator : ℕ → Bool
 isOperator op = pick (eqb op 12) false (pick (ltb op 22) true (pick (ltb op 3072) false (ltb op 3328)))
 
--- Private, Subrs, CharstringType, ROS, CIDCount
+-- Private, Subrs, PaintType, CharstringType, ROS, CIDCount
 abbrev pub private : ℕ
 private = 18
 
 abbrev pub subrs : ℕ
 subrs = 19
+
+abbrev pub paintType : ℕ
+paintType = esc 5
 
 abbrev pub charstringType : ℕ
 charstringType = esc 6
@@ -31,9 +34,9 @@ abbrev pub cidCount : ℕ
 cidCount = esc 34
 
 -- what a subset copies from the top DICT, in this order: FontBBox, isFixedPitch, ItalicAngle, UnderlinePosition, UnderlineThickness,
--- PaintType, StrokeWidth, FontMatrix
+-- FontMatrix
 abbrev pub copiedTopEntries : List ℕ
-copiedTopEntries = 5 ∷ esc 1 ∷ esc 2 ∷ esc 3 ∷ esc 4 ∷ esc 5 ∷ esc 8 ∷ esc 7 ∷ []
+copiedTopEntries = 5 ∷ esc 1 ∷ esc 2 ∷ esc 3 ∷ esc 4 ∷ esc 7 ∷ []
 
 -- the entries of the top DICT that hold a string id: version, Notice, Copyright, FullName, FamilyName, Weight
 abbrev pub copiedTopStrings : List ℕ

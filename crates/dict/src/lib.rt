@@ -8,7 +8,7 @@ ghost use Prim.Native.Nat.{_+_, _≤_, _<_};
 ghost use lib.ListN.{length, getD};
 ghost use Rattle.decimal.specs.Decimal.{nought, Normal};
 ghost use Rattle.dict.specs.Dict.{operatorAt, tokenAt, entryAt, dictOf};
-ghost use Rattle.dict.specs.Lookup.{operands, oneOf, offsetIn, privateAs, privateIn, idIn, cidKeyed, rosAs, rosIn, cidCountIn, charstringTypeIn};
+ghost use Rattle.dict.specs.Lookup.{operands, oneOf, offsetIn, privateAs, privateIn, idIn, cidKeyed, rosAs, rosIn, cidCountIn, strokedIn, charstringTypeIn};
 ghost use Rattle.dict.specs.Places.{tokenTold, entryTold, refusalOf, entriesOf, placeOf, operandsAt};
 use crate::op::Op;
 use decimal::Decimal;
@@ -304,6 +304,16 @@ pub fn cid_count(d: &[u8]) -> usize
     match number(d, Op::CID_COUNT) {
         One::Absent => 8720,
         One::Number(v) => to_u32(v),
+    }
+}
+
+// Whether PaintType is one number other than 0.
+pub fn is_stroked(d: &[u8]) -> bool
+    ensures { λ r. ⌜ r ≡ strokedIn (entriesOf (now (d .entry))) ⌝ }
+{
+    match number(d, Op::PAINT_TYPE) {
+        One::Absent => false,
+        One::Number(v) => v.digits != 0,
     }
 }
 

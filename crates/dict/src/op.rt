@@ -61,14 +61,12 @@ impl Op {
 }
 
 // The entries of the top DICT that a subset carries over as they are, in the order in which it writes them.
-pub const COPIED_TOP_ENTRIES: [usize; 8] = [
+pub const COPIED_TOP_ENTRIES: [usize; 6] = [
     Op::FONT_BBOX,
     Op::IS_FIXED_PITCH,
     Op::ITALIC_ANGLE,
     Op::UNDERLINE_POSITION,
     Op::UNDERLINE_THICKNESS,
-    Op::PAINT_TYPE,
-    Op::STROKE_WIDTH,
     Op::FONT_MATRIX,
 ];
 
@@ -84,7 +82,7 @@ pub const COPIED_TOP_STRINGS: [usize; 6] = [
 
 // The k-th of them.
 pub fn copied_top_entry(k: usize) -> usize
-    requires { ⌜ k < 8 ⌝ }
+    requires { ⌜ k < 6 ⌝ }
     ensures { λ r. ⌜ r ≡ getD copiedTopEntries k 0 ⌝ }
 {
     COPIED_TOP_ENTRIES[k]

@@ -9,7 +9,7 @@ use lib.ListN.{length}
 use Rattle.octets.specs.Pick.{pick}
 use Rattle.octets.specs.Lists.{allBelow}
 use Rattle.record.specs.Record.{recordFine}
-use Rattle.dict.specs.Lookup.{rosIn, cidKeyed}
+use Rattle.dict.specs.Lookup.{rosIn, cidKeyed, strokedIn}
 use Rattle.cff.specs.Font.{Program}
 use Rattle.cff.specs.Find.{workSize}
 use Rattle.cff.specs.Reads.{programOf, GoodFont}
@@ -39,6 +39,23 @@ was-true : (r : Bool) → not r ≡ false → r ≡ true
 was-true true e = refl
 was-true false e = absurd (zero-one cc)
 
+-- the first two tests are one in the code: s, the keying is the one that is asked for, and not t, the font is stroked
+pub fit-keyed : (s t r q : Bool) → r ≡ s → r ≡ true → q ≡ t → not q ≡ pick s (not t) false
+fit-keyed s t r q e h i = ap (λ (x : Bool). pick x (not q) false) (sym h ∙ e) ∙ ap (λ (x : Bool). pick s (not x) false) i
+
+pub fit-other : (s x r : Bool) → r ≡ s → r ≡ false → false ≡ pick s x false
+fit-other s x r e h = ap (λ (b : Bool). pick b x false) (sym h ∙ e)
+
+unfit : (s t : Bool) (n : ℕ) → pick s (not t) false ≡ false → 3 ≡ pick s (pick t 3 n) 3
+unfit true true n e = refl
+unfit true false n e = absurd (zero-one cc)
+unfit false t n e = refl
+
+fit : (s t : Bool) → pick s (not t) false ≡ true → (s ≡ true) × (t ≡ false)
+fit true true e = absurd (zero-one cc)
+fit true false e = (refl, refl)
+fit false t e = absurd (zero-one cc)
+
 module _ (b : List ℕ) (f : Font) (good : GoodFont b f) (cid : Bool) (name : ℕ) (keep rec : List ℕ) (flag words : ℕ) where
   abbrev p : Program
   p = programOf b f
@@ -46,21 +63,27 @@ module _ (b : List ℕ) (f : Font) (good : GoodFont b f) (cid : Bool) (name : �
   abbrev numbered : ℕ
   numbered = refusalOf cid p name keep rec flag words
 
-  module _ (r₁ : Bool) (e₁ : r₁ ≡ sameBool cid (f .cid)) where
-    same : (t : Bool) → r₁ ≡ t → sameBool cid (cidKeyed (p .top)) ≡ t
-    same t h = ap (sameBool cid) (sym (good .cid)) ∙ sym e₁ ∙ h
+  module _ (r₁ : Bool) (e₁ : r₁ ≡ pick (sameBool cid (f .cid)) (not (strokedIn (p .top))) false) where
+    same : (t : Bool) → r₁ ≡ t → pick (sameBool cid (cidKeyed (p .top))) (not (strokedIn (p .top))) false ≡ t
+    same t h = ap (λ (k : Bool). pick (sameBool cid k) (not (strokedIn (p .top))) false) (sym (good .cid)) ∙ sym e₁ ∙ h
 
-    pub read-keying : not r₁ ≡ true → 3 ≡ numbered
+    pub read-unfit : not r₁ ≡ true → 3 ≡ numbered
     unfolding refusalOf
-    read-keying t = rw (same false (was-false r₁ t))
+    read-unfit t = unfit (sameBool cid (cidKeyed (p .top))) (strokedIn (p .top)) _ (same false (was-false r₁ t))
 
     module _ (t₁ : not r₁ ≡ false) (r₂ : Bool) (e₂ : r₂ ≡ pick cid (hasRos (rosIn (p .top))) true) where
+      both : (sameBool cid (cidKeyed (p .top)) ≡ true) × (strokedIn (p .top) ≡ false)
+      both = fit (sameBool cid (cidKeyed (p .top))) (strokedIn (p .top)) (same true (was-true r₁ t₁))
+
       a : sameBool cid (cidKeyed (p .top)) ≡ true
-      a = same true (was-true r₁ t₁)
+      a = both .0
+
+      s : strokedIn (p .top) ≡ false
+      s = both .1
 
       pub read-ros : not r₂ ≡ true → 2 ≡ numbered
       unfolding refusalOf
-      read-ros t = rw (a, sym e₂ ∙ was-false r₂ t)
+      read-ros t = rw (a, s, sym e₂ ∙ was-false r₂ t)
 
       module _ (t₂ : not r₂ ≡ false) where
         c : pick cid (hasRos (rosIn (p .top))) true ≡ true
@@ -68,7 +91,7 @@ module _ (b : List ℕ) (f : Font) (good : GoodFont b f) (cid : Bool) (name : �
 
         pub read-name : 65535 < name → 4 ≡ numbered
         unfolding refusalOf
-        read-name h = rw (a, c, lt-ltb 65535 name h)
+        read-name h = rw (a, s, c, lt-ltb 65535 name h)
 
         module _ (t₃ : name ≤ 65535) (r₄ : Bool) (e₄ : r₄ ≡ allBelow (f .charstrings .count) keep) where
           below : (t : Bool) → r₄ ≡ t → allBelow (length (p .charstrings)) keep ≡ t
@@ -76,7 +99,7 @@ module _ (b : List ℕ) (f : Font) (good : GoodFont b f) (cid : Bool) (name : �
 
           pub read-number : not r₄ ≡ true → 6 ≡ numbered
           unfolding refusalOf
-          read-number t = rw (a, c, le-ltb 65535 name t₃, below false (was-false r₄ t))
+          read-number t = rw (a, s, c, le-ltb 65535 name t₃, below false (was-false r₄ t))
 
           -- what finding asks
           pub read-below : not r₄ ≡ false → allBelow (f .charstrings .count) keep ≡ true
@@ -91,7 +114,7 @@ module _ (b : List ℕ) (f : Font) (good : GoodFont b f) (cid : Bool) (name : �
 
             pub read-found : not r₅ ≡ true → 7 ≡ numbered
             unfolding refusalOf
-            read-found t = rw (a, c, le-ltb 65535 name t₃, d, found false (was-false r₅ t))
+            read-found t = rw (a, s, c, le-ltb 65535 name t₃, d, found false (was-false r₅ t))
 
             module _ (t₅ : not r₅ ≡ false) (r₆ : Bool) (e₆ : r₆ ≡ recordFine cid rec flag) where
               e : allFound p (keptOf (length (p .charstrings)) keep) ≡ true
@@ -99,7 +122,7 @@ module _ (b : List ℕ) (f : Font) (good : GoodFont b f) (cid : Bool) (name : �
 
               pub read-record : not r₆ ≡ true → 8 ≡ numbered
               unfolding refusalOf
-              read-record t = rw (a, c, le-ltb 65535 name t₃, d, e, sym e₆ ∙ was-false r₆ t)
+              read-record t = rw (a, s, c, le-ltb 65535 name t₃, d, e, sym e₆ ∙ was-false r₆ t)
 
               module _ (t₆ : not r₆ ≡ false) (w : ℕ) (e₇ : w ≡ 2 * f .charstrings .count + f .globals .count + f .locals) where
                 g : recordFine cid rec flag ≡ true
@@ -110,8 +133,8 @@ module _ (b : List ℕ) (f : Font) (good : GoodFont b f) (cid : Bool) (name : �
 
                 pub read-work : words < w → 9 ≡ numbered
                 unfolding refusalOf
-                read-work h = rw (a, c, le-ltb 65535 name t₃, d, e, g, lt-ltb words (workSize p) (subst (λ (n : ℕ). words < n) size h))
+                read-work h = rw (a, s, c, le-ltb 65535 name t₃, d, e, g, lt-ltb words (workSize p) (subst (λ (n : ℕ). words < n) size h))
 
                 pub read-passed : w ≤ words → 0 ≡ numbered
                 unfolding refusalOf
-                read-passed h = rw (a, c, le-ltb 65535 name t₃, d, e, g, le-ltb words (workSize p) (subst (λ (n : ℕ). n ≤ words) size h))
+                read-passed h = rw (a, s, c, le-ltb 65535 name t₃, d, e, g, le-ltb words (workSize p) (subst (λ (n : ℕ). n ≤ words) size h))

@@ -1,9 +1,9 @@
 // The refusals of subsetting before the work words are used, in document 01's order.
 ghost use mathlib.Core.Path.{_≡_};
-ghost use mathlib.Core.Bool.{true};
+ghost use mathlib.Core.Bool.{true, false, not};
 ghost use Prim.Native.Nat.{_+_, _*_, _≤_, _<_};
 ghost use Rattle.octets.specs.Pick.{pick};
-ghost use Rattle.dict.specs.Lookup.{rosIn};
+ghost use Rattle.dict.specs.Lookup.{rosIn, strokedIn};
 ghost use Rattle.dict.specs.Places.{entriesOf};
 ghost use Rattle.cff.specs.Reads.{programOf, GoodFont};
 ghost use Rattle.subset.specs.Cut.{hasRos, sameBool};
@@ -34,6 +34,16 @@ fn same_keying(a: bool, b: bool) -> bool
         return b;
     }
     !b
+}
+
+// Whether a font has the keying that is asked for and is not stroked.
+fn is_fit(cid: bool, keyed: bool, d: &[u8]) -> bool
+    ensures { λ r. ⌜ r ≡ pick (sameBool cid keyed) (not (strokedIn (entriesOf (now (d .entry))))) false ⌝ }
+{
+    if same_keying(cid, keyed) {
+        return !dict::is_stroked(d);
+    }
+    false
 }
 
 // Whether the ROS of a top DICT can be used where a CID-keyed font is asked for.
@@ -73,7 +83,7 @@ pub fn refusal(
     let charstrings = f.charstrings;
     let top = f.top;
     let end = f.top_end;
-    if !same_keying(cid, f.cid) {
+    if !is_fit(cid, f.cid, &font[top..end]) {
         return Refusal::UNSUPPORTED;
     }
     if !ros_fine(cid, &font[top..end]) {

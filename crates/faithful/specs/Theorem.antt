@@ -12,7 +12,7 @@ use Rattle.octets.specs.Lists.{allBelow}
 use Rattle.unfold.specs.Unfold.{plain}
 use Rattle.prune.specs.StepLaws.{zero-one}
 use Rattle.record.specs.Record.{rowsOf, recordFine}
-use Rattle.dict.specs.Lookup.{cidKeyed, rosIn}
+use Rattle.dict.specs.Lookup.{cidKeyed, rosIn, strokedIn}
 use Rattle.cff.specs.Font.{Got, refused as refusedFont, got, Program, readFont}
 use Rattle.cff.specs.Find.{workSize}
 use Rattle.subset.specs.Kept.{writtenOrder, usedFds}
@@ -66,7 +66,8 @@ module _ (font name keep rec : List ℕ) (flag room : ℕ) (octets : Octets rec)
   program-meets : (cid : Bool) (words : ℕ) → Meets (cutProgram cid p name keep rec flag words room)
   program-meets cid words =
       pick-ind Meets (sameBool cid (cidKeyed (p .top))) _ (refused 3)
-      (λ k. pick-ind Meets (pick cid (hasRos (rosIn (p .top))) true) _ (refused 2)
+      (λ k. pick-ind Meets (strokedIn (p .top)) (refused 3) _ (λ t. tt)
+      (λ s. pick-ind Meets (pick cid (hasRos (rosIn (p .top))) true) _ (refused 2)
       (λ ros. pick-ind Meets (ltb 65535 (length name)) (refused 4) _ (λ t. tt)
       (λ n. pick-ind Meets (allBelow (length (p .charstrings)) keep) _ (refused 6)
       (λ b. pick-ind Meets (allFound p (keptIn p keep)) _ (refused 7)
@@ -76,7 +77,7 @@ module _ (font name keep rec : List ℕ) (flag room : ℕ) (octets : Octets rec)
       (λ t. tt))
       (λ t. tt))
       (λ t. tt)))
-      (λ t. tt))
+      (λ t. tt)))
       (λ t. tt)
 
 -- THE THEOREM: demand 3, whatever the font, the new name, the keep list, the record and the flag are

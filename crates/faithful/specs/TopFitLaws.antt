@@ -209,7 +209,7 @@ module _ (p : Program) (own : List (List ℕ)) (good : GoodProgram p) (few : len
   unfolding Operators
   shared-fit ps h =
       fit-append (namedParts own (named p)) _ (named-fit p own few copiedTopStrings (refl, (refl, (refl, (refl, (refl, (refl, tt)))))))
-      (fit-append (copiedParts (p .top) copiedTopEntries) ps (copied-fit (p .top) (good .top) copiedTopEntries (refl, (refl, (refl, (refl, (refl, (refl, (refl, (refl, tt))))))))) h)
+      (fit-append (copiedParts (p .top) copiedTopEntries) ps (copied-fit (p .top) (good .top) copiedTopEntries (refl, (refl, (refl, (refl, (refl, (refl, tt))))))) h)
 
   -- the parts of the top DICT of a name-keyed subset
   pub name-fit : (at₁ at₂ size at₃ : ℕ) → at₁ < 2147483648 → at₂ < 2147483648 → size < 2147483648 → at₃ < 2147483648 → AllFit (nameTopParts p own at₁ at₂ size at₃)

@@ -2,14 +2,14 @@
 -- words, as the outcome says; and demand 3.
 use Prim.Native.Nat.{ℕ, _≤_}
 use mathlib.Core.Path.{_≡_}
-use mathlib.Core.Bool.{Bool, true}
+use mathlib.Core.Bool.{Bool, true, false}
 use mathlib.Core.List.{List}
 use lib.Dec.{ltb}
 use lib.ListN.{length}
 use Rattle.octets.specs.Pick.{pick}
 use Rattle.octets.specs.Lists.{allBelow}
 use Rattle.record.specs.Record.{rowsOf, recordFine}
-use Rattle.dict.specs.Lookup.{rosIn, cidKeyed}
+use Rattle.dict.specs.Lookup.{rosIn, cidKeyed, strokedIn}
 use Rattle.cff.specs.Font.{Got, refused as refusedFont, got, Program, readFont}
 use Rattle.cff.specs.Find.{workSize}
 use Rattle.subset.specs.Kept.{keptOf, writtenOrder, usedFds}
@@ -38,16 +38,17 @@ pub record Cuts (cid : Bool) (font name keep rec : List ℕ) (flag : ℕ) (work 
 
 -- ---- the refusals before the work words are used
 
--- those of a font that was read: 3, 2, 4, 6, 7, 8, 9 in this order, or 0
+-- those of a font that was read: 3 (the keying), 3 (stroked), 2, 4, 6, 7, 8, 9 in this order, or 0
 unfoldable pub refusalOf : Bool → Program → ℕ → List ℕ → List ℕ → ℕ → ℕ → ℕ
 refusalOf cid p name keep rec flag words =
     pick (sameBool cid (cidKeyed (p .top)))
+    (pick (strokedIn (p .top)) 3
     (pick (pick cid (hasRos (rosIn (p .top))) true)
     (pick (ltb 65535 name) 4
     (pick (allBelow (length (p .charstrings)) keep)
     (pick (allFound p (keptOf (length (p .charstrings)) keep))
     (pick (recordFine cid rec flag)
-    (pick (ltb words (workSize p)) 9 0) 8) 7) 6)) 2) 3
+    (pick (ltb words (workSize p)) 9 0) 8) 7) 6)) 2)) 3
 
 -- ---- what the cut of a font that passes them does
 
@@ -65,6 +66,7 @@ pub record Cut (o : Outcome) (out out' : List ℕ) (r : Answer) : Type 0 where
 -- a font, a new name, a keep list, a record and a flag that are not refused before the cut
 pub record Passed (cid : Bool) (p : Program) (name : ℕ) (keep rec : List ℕ) (flag words : ℕ) : Type 0 where
   pub keying : cid ≡ cidKeyed (p .top)
+  pub filled : strokedIn (p .top) ≡ false
   pub ros : pick cid (hasRos (rosIn (p .top))) true ≡ true
   pub named : name ≤ 65535
   pub below : allBelow (length (p .charstrings)) keep ≡ true

@@ -22,7 +22,7 @@ use Rattle.sheet.specs.Reading.{Reads}
 use Rattle.sheet.specs.Taking.{Took}
 use Rattle.sheet.specs.declared.reading.SheetIn.{SheetIn}
 use Rattle.sheet.specs.declared.reading.SheetIn.the-variants.{Other, Parts}
-use Rattle.sheet.specs.KeyingLaws.{otherKeying, cut-by-keying}
+use Rattle.sheet.specs.KeyingLaws.{unsupported, cut-by-keying}
 use Rattle.sheet_cut.specs.Cutting.{lengthIn, outcomeIn, Given, given}
 
 -- ---- what an answer tells of the outcome
@@ -31,11 +31,11 @@ three : (o : Outcome) (n : ℕ) → Refused n ≡ answerOf o → n ≡ 3 → o �
 three (refused k) n e h = let i : n ≡ k = cc in ap refused (sym i ∙ h)
 three (subset way bs) n e h = cc
 
-not-three : (o : Outcome) (n : ℕ) → Refused n ≡ answerOf o → (n ≡ 3 → ⊥) → otherKeying o ≡ false
+not-three : (o : Outcome) (n : ℕ) → Refused n ≡ answerOf o → (n ≡ 3 → ⊥) → unsupported o ≡ false
 not-three (refused k) n e h = let i : n ≡ k = cc in ne-eqb k 3 (λ (j : k ≡ 3). h (i ∙ j))
 not-three (subset way bs) n e h = cc
 
-subset-other : (o : Outcome) (way len : ℕ) → Subset way len ≡ answerOf o → otherKeying o ≡ false
+subset-other : (o : Outcome) (way len : ℕ) → Subset way len ≡ answerOf o → unsupported o ≡ false
 subset-other (refused k) way len e = cc
 subset-other (subset w bs) way len e = refl
 
@@ -58,7 +58,7 @@ module _ (font name keep rec : List ℕ) (flag : ℕ) where
 
   -- the first call is not refused with 3
   first-is : (work out work' out' : List ℕ) (r : Answer)
-      → otherKeying (cutOf false font name keep rec flag (length work) (length out)) ≡ false
+      → unsupported (cutOf false font name keep rec flag (length work) (length out)) ≡ false
       → Cuts false font name keep rec flag work out work' out' r → byKeying work out work' out' r
   first-is work out work' out' r e c =
       let n = length work in
@@ -91,7 +91,7 @@ module _ (font name keep rec : List ℕ) (flag : ℕ) where
       let t : Cuts true font name keep rec flag work out₁ work' out' r = subst (λ (l : List ℕ). Cuts true font name keep rec flag l out₁ work' out' r) w s in
       let t' : Cuts true font name keep rec flag work out work' out' r = subst (λ (l : List ℕ). Cuts true font name keep rec flag work l work' out' r) u t in
       cuts-as true (keying (readFont font)) work out work' out' r
-      (sym (ap (λ (x : Outcome). pick (otherKeying x) (cutOf true font name keep rec flag k m) (cutOf false font name keep rec flag k m)) o)
+      (sym (ap (λ (x : Outcome). pick (unsupported x) (cutOf true font name keep rec flag k m) (cutOf false font name keep rec flag k m)) o)
       ∙ cut-by-keying name keep rec flag k m font) t'
 
 -- ---- what is printed of an answer

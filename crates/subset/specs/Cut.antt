@@ -8,7 +8,7 @@ use lib.ListN.{length, drop, getD}
 use Rattle.octets.specs.Pick.{pick}
 use Rattle.octets.specs.Octets.{put}
 use Rattle.octets.specs.Lists.{allBelow}
-use Rattle.dict.specs.Lookup.{rosIn, cidKeyed}
+use Rattle.dict.specs.Lookup.{rosIn, cidKeyed, strokedIn}
 use Rattle.dict.specs.declared.RosIn.{RosIn}
 use Rattle.dict.specs.declared.RosIn.the-variants.{Ros, None}
 use Rattle.record.specs.Record.{rowsOf, recordFine}
@@ -64,13 +64,14 @@ written p name kept order room q =
     (pick (ltb room (length (subsetBytes p name kept order (q .bodies)))) (refused 11)
     (subset (q .way) (subsetBytes p name kept order (q .bodies)))))
 
--- a font that was read: 3 the other keying, 2 a ROS that cannot be used, 4 a long name, 6 a number past the font, 7 a glyph that finding would
--- not give, 8 the record or the flag, 9 too few work words
+-- a font that was read: 3 the other keying, 3 a stroked font, 2 a ROS that cannot be used, 4 a long name, 6 a number past the font, 7 a glyph
+-- that finding would not give, 8 the record or the flag, 9 too few work words
 abbrev pub cutProgram : Bool → Program → List ℕ → List ℕ → List ℕ → ℕ → ℕ → ℕ → Outcome
 cutProgram cid p name keep rec flag words room =
     let kept = keptOf (length (p .charstrings)) keep in
     let order = writtenOrder p kept in
     pick (sameBool cid (cidKeyed (p .top)))
+    (pick (strokedIn (p .top)) (refused 3)
     (pick (pick cid (hasRos (rosIn (p .top))) true)
     (pick (ltb 65535 (length name)) (refused 4)
     (pick (allBelow (length (p .charstrings)) keep)
@@ -78,7 +79,7 @@ cutProgram cid p name keep rec flag words room =
     (pick (recordFine cid rec flag)
     (pick (ltb words (workSize p)) (refused 9)
     (written p name kept order room (pruned p (rowsOf rec) (usedFds p kept) order flag)))
-    (refused 8)) (refused 7)) (refused 6))) (refused 2)) (refused 3)
+    (refused 8)) (refused 7)) (refused 6))) (refused 2))) (refused 3)
 
 abbrev pub cutRead : Bool → Got Program → List ℕ → List ℕ → List ℕ → ℕ → ℕ → ℕ → Outcome
 cutRead cid (refusedFont n) name keep rec flag words room = refused n

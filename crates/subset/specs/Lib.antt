@@ -15,3 +15,4 @@ pub mod CidExample
 pub mod NameExample
 pub mod BiasExample
 pub mod RecordExample
+pub mod StrokedExample

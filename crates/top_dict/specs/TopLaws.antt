@@ -93,25 +93,23 @@ strings-over slots k h = ap (slotEntries slots (2 + k)) (drop-of-length-le copie
 
 -- ---- the copied entries
 
-eight-operators : (k : ℕ) → k < 8 → isOperator (getD copiedTopEntries k 0) ≡ true
-eight-operators zero h = refl
-eight-operators (suc zero) h = refl
-eight-operators (suc (suc zero)) h = refl
-eight-operators (suc (suc (suc zero))) h = refl
-eight-operators (suc (suc (suc (suc zero)))) h = refl
-eight-operators (suc (suc (suc (suc (suc zero))))) h = refl
-eight-operators (suc (suc (suc (suc (suc (suc zero)))))) h = refl
-eight-operators (suc (suc (suc (suc (suc (suc (suc zero))))))) h = refl
-eight-operators (suc (suc (suc (suc (suc (suc (suc (suc k)))))))) h = absurd (no (omega arith))
+copied-operators : (k : ℕ) → k < 6 → isOperator (getD copiedTopEntries k 0) ≡ true
+copied-operators zero h = refl
+copied-operators (suc zero) h = refl
+copied-operators (suc (suc zero)) h = refl
+copied-operators (suc (suc (suc zero))) h = refl
+copied-operators (suc (suc (suc (suc zero)))) h = refl
+copied-operators (suc (suc (suc (suc (suc zero))))) h = refl
+copied-operators (suc (suc (suc (suc (suc (suc k)))))) h = absurd (no (omega arith))
 
-pub eight-operator : (k op : ℕ) → k < 8 → op ≡ getD copiedTopEntries k 0 → isOperator op ≡ true
-eight-operator k op h e = ap isOperator e ∙ eight-operators k h
+pub copied-operator : (k op : ℕ) → k < 6 → op ≡ getD copiedTopEntries k 0 → isOperator op ≡ true
+copied-operator k op h e = ap isOperator e ∙ copied-operators k h
 
 -- those from the k-th on
 abbrev pub copiedFrom : List Entry → ℕ → List ℕ
 copiedFrom es k = copiedBytes es (drop k copiedTopEntries)
 
-pub copied-next : (es : List Entry) (k : ℕ) → k < 8 → (op : ℕ) → op ≡ getD copiedTopEntries k 0
+pub copied-next : (es : List Entry) (k : ℕ) → k < 6 → (op : ℕ) → op ≡ getD copiedTopEntries k 0
     → Split (copiedFrom es k) (copiedEntry op (lastOf op es)) (copiedFrom es (k + 1))
 unfolding copiedBytes
 copied-next es k h op i =
@@ -123,7 +121,7 @@ copied-next es k h op i =
           ∙ ap (λ (o : ℕ). copiedEntry o (lastOf o es) ++ copiedFrom es (k + 1)) (sym i);
     }
 
-pub copied-over : (es : List Entry) (k : ℕ) → 8 ≤ k → copiedFrom es k ≡ []
+pub copied-over : (es : List Entry) (k : ℕ) → 6 ≤ k → copiedFrom es k ≡ []
 unfolding copiedBytes
 copied-over es k h = ap (copiedBytes es) (drop-of-length-le copiedTopEntries {i = k} h)
 

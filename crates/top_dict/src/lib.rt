@@ -119,7 +119,7 @@ fn entries_len(d: &[u8]) -> usize
 {
     let mut len: usize = 0;
     let mut k: usize = 0;
-    while k < 8 {
+    while k < 6 {
         len += copied_len(d, copied_top_entry(k));
         k += 1;
     }
@@ -133,7 +133,7 @@ fn put_entries(d: &[u8], out: &mut [u8], at: usize) -> usize
 {
     let mut p = at;
     let mut k: usize = 0;
-    while k < 8 {
+    while k < 6 {
         p = put_copied(d, copied_top_entry(k), &mut *out, p);
         k += 1;
     }

@@ -14,7 +14,7 @@ use Rattle.octets.specs.PickLaws.{pick-same}
 use Rattle.octets.specs.Octets.{Octets}
 use Rattle.octets.specs.Lists.{allBelow}
 use Rattle.record.specs.Record.{rowsOf, recordFine}
-use Rattle.dict.specs.Lookup.{rosIn, cidKeyed}
+use Rattle.dict.specs.Lookup.{rosIn, cidKeyed, strokedIn}
 use Rattle.cff.specs.Font.{Got, refused as refusedFont, got, Program, readFont}
 use Rattle.cff.specs.Find.{workSize}
 use Rattle.cff.specs.Reads.{programOf, GoodFont}
@@ -34,28 +34,30 @@ use Rattle.outcome.specs.declared.Answer.the-variants.{Refused}
 
 -- ---- refusals
 
-chain : (a b c d e f g : Bool) (o : Outcome)
-    → pick a (pick b (pick c (refused 4) (pick d (pick e (pick f (pick g (refused 9) o) (refused 8)) (refused 7)) (refused 6))) (refused 2)) (refused 3)
-    ≡ pick (eqb (pick a (pick b (pick c 4 (pick d (pick e (pick f (pick g 9 0) 8) 7) 6)) 2) 3) 0) o
-    (refused (pick a (pick b (pick c 4 (pick d (pick e (pick f (pick g 9 0) 8) 7) 6)) 2) 3))
-chain false b c d e f g o = refl
-chain true false c d e f g o = refl
-chain true true true d e f g o = refl
-chain true true false false e f g o = refl
-chain true true false true false f g o = refl
-chain true true false true true false g o = refl
-chain true true false true true true true o = refl
-chain true true false true true true false o = refl
+chain : (a s b c d e f g : Bool) (o : Outcome)
+    → pick a (pick s (refused 3) (pick b (pick c (refused 4) (pick d (pick e (pick f (pick g (refused 9) o) (refused 8)) (refused 7)) (refused 6))) (refused 2))) (refused 3)
+    ≡ pick (eqb (pick a (pick s 3 (pick b (pick c 4 (pick d (pick e (pick f (pick g 9 0) 8) 7) 6)) 2)) 3) 0) o
+    (refused (pick a (pick s 3 (pick b (pick c 4 (pick d (pick e (pick f (pick g 9 0) 8) 7) 6)) 2)) 3))
+chain false s b c d e f g o = refl
+chain true true b c d e f g o = refl
+chain true false false c d e f g o = refl
+chain true false true true d e f g o = refl
+chain true false true false false e f g o = refl
+chain true false true false true false f g o = refl
+chain true false true false true true false g o = refl
+chain true false true false true true true true o = refl
+chain true false true false true true true false o = refl
 
-low : (a b c d e f g : Bool) → pick a (pick b (pick c 4 (pick d (pick e (pick f (pick g 9 0) 8) 7) 6)) 2) 3 ≤ 9
-low false b c d e f g = omega arith
-low true false c d e f g = omega arith
-low true true true d e f g = omega arith
-low true true false false e f g = omega arith
-low true true false true false f g = omega arith
-low true true false true true false g = omega arith
-low true true false true true true true = omega arith
-low true true false true true true false = omega arith
+low : (a s b c d e f g : Bool) → pick a (pick s 3 (pick b (pick c 4 (pick d (pick e (pick f (pick g 9 0) 8) 7) 6)) 2)) 3 ≤ 9
+low false s b c d e f g = omega arith
+low true true b c d e f g = omega arith
+low true false false c d e f g = omega arith
+low true false true true d e f g = omega arith
+low true false true false false e f g = omega arith
+low true false true false true false f g = omega arith
+low true false true false true true false g = omega arith
+low true false true false true true true true = omega arith
+low true false true false true true true false = omega arith
 
 module _ (cid : Bool) (p : Program) (name keep rec : List ℕ) (flag words room : ℕ) where
   abbrev number : ℕ
@@ -65,13 +67,13 @@ module _ (cid : Bool) (p : Program) (name keep rec : List ℕ) (flag words room 
   pub program-cut : cutProgram cid p name keep rec flag words room ≡ pick (eqb number 0) (cutBehind p name keep rec flag room) (refused number)
   unfolding refusalOf
   program-cut =
-      chain (sameBool cid (cidKeyed (p .top))) (pick cid (hasRos (rosIn (p .top))) true) (ltb 65535 (length name)) (allBelow (length (p .charstrings)) keep)
+      chain (sameBool cid (cidKeyed (p .top))) (strokedIn (p .top)) (pick cid (hasRos (rosIn (p .top))) true) (ltb 65535 (length name)) (allBelow (length (p .charstrings)) keep)
       (allFound p (keptOf (length (p .charstrings)) keep)) (recordFine cid rec flag) (ltb words (workSize p)) (cutBehind p name keep rec flag room)
 
   number-low : number ≤ 9
   unfolding refusalOf
   number-low =
-      low (sameBool cid (cidKeyed (p .top))) (pick cid (hasRos (rosIn (p .top))) true) (ltb 65535 (length name)) (allBelow (length (p .charstrings)) keep)
+      low (sameBool cid (cidKeyed (p .top))) (strokedIn (p .top)) (pick cid (hasRos (rosIn (p .top))) true) (ltb 65535 (length name)) (allBelow (length (p .charstrings)) keep)
       (allFound p (keptOf (length (p .charstrings)) keep)) (recordFine cid rec flag) (ltb words (workSize p))
 
 -- what a cut leaves: the words are used, whatever its outcome is
@@ -147,32 +149,34 @@ module _ (cid : Bool) (font name keep rec : List ℕ) (flag : ℕ) (work out : L
 
 -- ---- what refusal 0 says
 
-passes : (a b c d e f g : Bool) → _≡_ {A = ℕ} (pick a (pick b (pick c 4 (pick d (pick e (pick f (pick g 9 0) 8) 7) 6)) 2) 3) 0
-    → (a ≡ true) × (b ≡ true) × (c ≡ false) × (d ≡ true) × (e ≡ true) × (f ≡ true) × (g ≡ false)
-passes false b c d e f g h = absurd (zero-one (omega arith))
-passes true false c d e f g h = absurd (zero-one (omega arith))
-passes true true true d e f g h = absurd (zero-one (omega arith))
-passes true true false false e f g h = absurd (zero-one (omega arith))
-passes true true false true false f g h = absurd (zero-one (omega arith))
-passes true true false true true false g h = absurd (zero-one (omega arith))
-passes true true false true true true true h = absurd (zero-one (omega arith))
-passes true true false true true true false h = (refl, refl, refl, refl, refl, refl, refl)
+passes : (a s b c d e f g : Bool) → _≡_ {A = ℕ} (pick a (pick s 3 (pick b (pick c 4 (pick d (pick e (pick f (pick g 9 0) 8) 7) 6)) 2)) 3) 0
+    → (a ≡ true) × (s ≡ false) × (b ≡ true) × (c ≡ false) × (d ≡ true) × (e ≡ true) × (f ≡ true) × (g ≡ false)
+passes false s b c d e f g h = absurd (zero-one (omega arith))
+passes true true b c d e f g h = absurd (zero-one (omega arith))
+passes true false false c d e f g h = absurd (zero-one (omega arith))
+passes true false true true d e f g h = absurd (zero-one (omega arith))
+passes true false true false false e f g h = absurd (zero-one (omega arith))
+passes true false true false true false f g h = absurd (zero-one (omega arith))
+passes true false true false true true false g h = absurd (zero-one (omega arith))
+passes true false true false true true true true h = absurd (zero-one (omega arith))
+passes true false true false true true true false h = (refl, refl, refl, refl, refl, refl, refl, refl)
 
 pub not-refused : (cid : Bool) (p : Program) (name : ℕ) (keep rec : List ℕ) (flag words : ℕ) → refusalOf cid p name keep rec flag words ≡ 0
     → Passed cid p name keep rec flag words
 unfolding refusalOf
 not-refused cid p name keep rec flag words z =
     let h =
-    passes (sameBool cid (cidKeyed (p .top))) (pick cid (hasRos (rosIn (p .top))) true) (ltb 65535 name) (allBelow (length (p .charstrings)) keep)
+    passes (sameBool cid (cidKeyed (p .top))) (strokedIn (p .top)) (pick cid (hasRos (rosIn (p .top))) true) (ltb 65535 name) (allBelow (length (p .charstrings)) keep)
     (allFound p (keptOf (length (p .charstrings)) keep)) (recordFine cid rec flag) (ltb words (workSize p)) z in
     record {
       keying = same-bool cid (cidKeyed (p .top)) (h .0);
-      ros = h .1;
-      named = ltb-false 65535 name (h .2);
-      below = h .3;
-      found = h .4;
-      recorded = h .5;
-      room = ltb-false words (workSize p) (h .6);
+      filled = h .1;
+      ros = h .2;
+      named = ltb-false 65535 name (h .3);
+      below = h .4;
+      found = h .5;
+      recorded = h .6;
+      room = ltb-false words (workSize p) (h .7);
     }
 
 -- ---- the entries' code
@@ -234,6 +238,7 @@ module _ (cid : Bool) (font : List ℕ) (f : Font) (name keep rec : List ℕ) (f
           let h = passed-read in
           record {
             keying = h .keying;
+            filled = h .filled;
             ros = h .ros;
             named = h .named;
             below = h .below;

@@ -2,7 +2,7 @@
 
 use crate::cases::{Case, mixed};
 use crate::cff::{CffProgram, STANDARD_STRINGS};
-use crate::domain::{self, NONE, WISHES};
+use crate::domain::{self, Call, NONE, WISHES};
 use crate::generator::Generator;
 use crate::library::{ABSENT, Answer, COUNTS, Checked, Counts, Library, NO_ROOM, ONE};
 use crate::model::{self, Font, NO_SUCH_ITEM, PAST_LIMITS, Refused, TOO_LONG};
@@ -35,7 +35,7 @@ struct Compared<'a> {
 pub fn compare(library: &Library, case: &Case, seed: u64, tally: &mut Tally) {
     let before = model::read(&case.font, NONE);
     let reading = model::read(&case.font, WISHES);
-    let inside = domain::inside(&before);
+    let inside = domain::inside(Call::Read, &before, WISHES);
     let theirs = if inside { &reading } else { &before };
     tally.font(case, &reading, inside);
     let mut compared = Compared {

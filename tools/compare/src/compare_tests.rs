@@ -2,7 +2,7 @@
 
 use crate::cases;
 use crate::compare::compare;
-use crate::domain::{self, NONE};
+use crate::domain::{self, Call, NONE, WISHES};
 use crate::library::{ABSENT, COUNTS, Library, NO_ROOM, Room};
 use crate::tally::Tally;
 use crate::{model, stub};
@@ -63,7 +63,7 @@ fn name_absent_is_0(font: &[u8], name: &[u8], answer: &mut Room<'_, u64>) -> u8 
 fn refused_as_before(font: &[u8], answer: &mut Room<'_, u64>) -> u8 {
     let before = model::read(font, NONE);
     match &before.font {
-        Err(refused) if !domain::inside(&before) => refused.number,
+        Err(refused) if !domain::inside(Call::Read, &before, WISHES) => refused.number,
         _ => (stub::library().read)(font, answer),
     }
 }

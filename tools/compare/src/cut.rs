@@ -1,6 +1,7 @@
 //! One call of subsetting, and what document 01 says that it answers.
 
 use crate::cff::{CffProgram, STANDARD_STRINGS, op, write};
+use crate::domain::{NONE, Wishes};
 use crate::hooked::{self, Given};
 use crate::model::{Font, LONGEST, MALFORMED, NO_SUCH_ITEM, TOO_LONG, UNSUPPORTED};
 use crate::{cut_model, original, record};
@@ -113,20 +114,21 @@ pub fn cut(
     program: Option<&CffProgram>,
     cut: &Cut,
 ) -> Outcome {
-    outcome(bytes, read, program, cut, |_, program| {
+    outcome(bytes, read, program, cut, NONE, |_, program| {
         original::caught(|| written(program, cut))
     })
 }
 
-/// The same where the subset is the model's: outside the domain of the comparison with the original.
+/// The same by wishes, the subset being the model's: outside the domain of the comparison with the original.
 pub fn by_model(
     bytes: &[u8],
     read: Result<&Font, u8>,
     program: Option<&CffProgram>,
     cut: &Cut,
+    wishes: Wishes,
 ) -> Outcome {
-    outcome(bytes, read, program, cut, |font, _| {
-        cut_model::subset(bytes, font, cut).ok_or("the model gives none".to_string())
+    outcome(bytes, read, program, cut, wishes, |font, _| {
+        cut_model::subset(bytes, font, cut, wishes).ok_or("the model gives none".to_string())
     })
 }
 
@@ -135,6 +137,7 @@ fn outcome(
     read: Result<&Font, u8>,
     program: Option<&CffProgram>,
     cut: &Cut,
+    wishes: Wishes,
     subset: impl FnOnce(&Font, &CffProgram) -> Result<Subset, String>,
 ) -> Outcome {
     let font = match read {
@@ -142,7 +145,7 @@ fn outcome(
         Ok(font) => font,
     };
     let program = program.expect("a font that both read");
-    if let Some(number) = early(bytes, font, program, cut) {
+    if let Some(number) = early(bytes, font, program, cut, wishes) {
         return Outcome::Early(number);
     }
     let subset = if own_strings(program, cut) + STANDARD_STRINGS.len() > LARGEST_ID + 1 {
@@ -158,8 +161,12 @@ fn outcome(
 }
 
 /// The refusals from wrong keying to a malformed record, in their order.
-fn early(bytes: &[u8], font: &Font, program: &CffProgram, cut: &Cut) -> Option<u8> {
+fn early(bytes: &[u8], font: &Font, program: &CffProgram, cut: &Cut, wishes: Wishes) -> Option<u8> {
     if font.cid_keyed != cut.cid_keyed {
+        return Some(UNSUPPORTED);
+    }
+    // Document 02, Wish 11: directly after the keying.
+    if wishes.contains(&11) && font.stroked {
         return Some(UNSUPPORTED);
     }
     if font.cid_keyed && program.ros().is_none() {

@@ -5,7 +5,7 @@ use crate::cff::CffProgram;
 use crate::compare::MEMORY;
 use crate::cut::{self, Answer, Cut, Lent, Outcome, Subset, WORDS};
 use crate::cut_tally::{CutTally, Difference};
-use crate::domain::{self, NONE, WISHES};
+use crate::domain::{self, Call, NONE, WISHES};
 use crate::generator::Generator;
 use crate::library::Library;
 use crate::model::{self, Font};
@@ -25,7 +25,7 @@ pub type Asks<'a> = dyn Fn(&mut Generator, &Opened<'_>) -> Vec<Cut> + 'a;
 pub fn compare(library: &Library, case: &Case, seed: u64, tally: &mut CutTally, asks: &Asks<'_>) {
     let before = model::read(&case.font, NONE);
     let reading = model::read(&case.font, WISHES);
-    let inside = domain::inside(&before);
+    let inside = domain::inside(Call::Subset, &before, WISHES);
     tally.fonts += 1;
     tally.outside += u64::from(!inside);
     if before.memory > MEMORY {
@@ -59,7 +59,8 @@ pub fn compare(library: &Library, case: &Case, seed: u64, tally: &mut CutTally, 
             && modelled(font, &cut)
         {
             tally.modelled += 1;
-            let mine = cut_model::subset(&case.font, font, &cut);
+            let wishes = if inside { WISHES } else { NONE };
+            let mine = cut_model::subset(&case.font, font, &cut, wishes);
             let verdict = mine.map_or(Err("none".to_string()), |mine| {
                 same(u64::from(mine.way), &mine.bytes, subset)
             });
@@ -76,7 +77,7 @@ pub fn compare(library: &Library, case: &Case, seed: u64, tally: &mut CutTally, 
                 tally.outside_large += 1;
                 continue;
             }
-            cut::by_model(opened.bytes, read, opened.program, &cut)
+            cut::by_model(opened.bytes, read, opened.program, &cut, WISHES)
         };
         if panicked(case, seed, &cut, &outcome, tally) {
             continue;

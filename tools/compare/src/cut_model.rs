@@ -1,5 +1,6 @@
 //! A model of subsetting, written from document 01 ('Corners in charstring.rs', 'Corners in write.rs', 'Layout', 'Reach
-//! record') and TN5176, as a second reference for a subset's bytes beside the original.
+//! record') and TN5176, as a second reference for a subset's bytes beside the original. Wishes of document 02 are switches, as in
+//! model.rs.
 
 use crate::cff::STANDARD_STRINGS;
 use crate::cut::{Cut, Subset};
@@ -8,6 +9,7 @@ use crate::cut_model_dicts::{
     clamped, decimal, fd_select, five, index, integer, offset_size, operator, private,
 };
 use crate::decimal::Decimal;
+use crate::domain::Wishes;
 use crate::model::{self, Font, Parts};
 use crate::record::{self, GLOBAL, GLOBAL_MASK, GLYPH_MASK, LOCAL, LOCAL_MASK, Row};
 use std::collections::{BTreeMap, BTreeSet};
@@ -26,6 +28,8 @@ const ENTRIES: [u16; 8] = [
     12 << 8 | 8,
     12 << 8 | 7,
 ];
+/// PaintType and StrokeWidth, which document 02, Wish 11, drops.
+const STROKES: [u16; 2] = [12 << 8 | 5, 12 << 8 | 8];
 
 /// A font and what is kept of it.
 struct Model<'a> {
@@ -36,6 +40,7 @@ struct Model<'a> {
     kept: BTreeSet<u16>,
     /// The FDs in use.
     fds: Vec<u8>,
+    wishes: Wishes,
 }
 
 /// Bodies of a subset: charstrings by old number, globals, and locals of each FD in use.
@@ -46,7 +51,7 @@ struct Bodies {
 }
 
 /// The subset, for a cut that nothing refuses.
-pub fn subset(bytes: &[u8], font: &Font, cut: &Cut) -> Option<Subset> {
+pub fn subset(bytes: &[u8], font: &Font, cut: &Cut, wishes: Wishes) -> Option<Subset> {
     let parts = model::parts(bytes, font.charset.len())?;
     let kept: BTreeSet<u16> = cut.keep.iter().copied().chain([0]).collect();
     let fds: BTreeSet<u8> = kept.iter().map(|&k| parts.select[usize::from(k)]).collect();
@@ -57,6 +62,7 @@ pub fn subset(bytes: &[u8], font: &Font, cut: &Cut) -> Option<Subset> {
         rows: record::rows(&cut.record),
         kept,
         fds: fds.into_iter().collect(),
+        wishes,
     };
     let (way, bodies) = if cut.flag == 0 {
         (2, model.unpruned(None))
@@ -328,6 +334,9 @@ impl Model<'_> {
             }
         }
         for entry in ENTRIES {
+            if self.wishes.contains(&11) && STROKES.contains(&entry) {
+                continue;
+            }
             if let Some(operands) = self.last(entry) {
                 operands.iter().for_each(|n| decimal(n, &mut out));
                 operator(entry, &mut out);

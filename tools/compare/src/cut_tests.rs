@@ -1,10 +1,12 @@
 //! Tests of the comparison of subsets: document 01's worked sheet, and calls that do wrong.
 
 use crate::cut::{self, Answer, Cut, Lent, Outcome, Subset, WORDS};
-use crate::cut_compare::agrees;
-use crate::domain::WISHES;
+use crate::cut_compare::{self, agrees};
+use crate::cut_tally::CutTally;
+use crate::domain::{self, Call, NONE, WISHES, Wishes};
+use crate::layout::{Entry, Num, Part, SOUND, entry, one_font, place};
 use crate::library::{Library, Rooms, SubsetFn};
-use crate::{model, original, stub};
+use crate::{cut_cases, model, original, stub};
 
 /// The font of document 01, 'One sheet, whole'.
 const FONT: &str = "010004010001010102580001010103a011000000000002010102030e0e";
@@ -147,4 +149,109 @@ fn calls_that_do_wrong_are_found() {
         assert!(verdict(entry, 52, 1).is_err(), "{what}, refusal 11");
         assert!(verdict(entry, 60, 2).is_err(), "{what}, refusal 8");
     }
+}
+
+/// How many cuts of 1,000 fonts show a difference.
+fn differences(subset: SubsetFn) -> u64 {
+    let library = Library {
+        subset,
+        ..stub::library()
+    };
+    let mut tally = CutTally::default();
+    for case in cut_cases::fonts(11).take(1000) {
+        cut_compare::compare(&library, &case, 11, &mut tally, &cut_cases::made);
+    }
+    tally.differences()
+}
+
+#[test]
+fn a_library_without_the_wishes_is_found() {
+    assert_eq!(differences(as_it_is), 0);
+    assert!(differences(stub::subset_before) > 0);
+}
+
+/// An entry: its operands, and the second byte of its operator.
+type Given<'a> = (&'a [&'a [u8]], u8);
+
+/// A font with these entries in its top DICT, behind a ROS of so many operands.
+fn with_entries(ros: Option<usize>, entries: &[Given<'_>]) -> Vec<u8> {
+    let number = |bytes: &&[u8]| Num::Bytes(bytes.to_vec());
+    let mut top: Vec<Entry> = entries
+        .iter()
+        .map(|(operands, escape)| entry(operands.iter().map(number).collect(), &[12, *escape]))
+        .collect();
+    if let Some(operands) = ros {
+        top.insert(0, entry(vec![Num::Bytes(vec![139]); operands], &[12, 30]));
+        top.push(entry(vec![place(6)], &[12, 36]));
+    }
+    top.push(entry(vec![place(5)], &[17]));
+    let bodies = Part::Index(SOUND, vec![Part::Bytes(vec![14]); 2]);
+    let fds = Part::Index(SOUND, vec![Part::Dict(Vec::new())]);
+    one_font(top, Vec::new(), vec![bodies, fds])
+}
+
+/// The answer of the model by wishes, with enough lent.
+fn modelled(font: &[u8], cid_keyed: bool, wishes: Wishes) -> Result<Subset, u8> {
+    let reading = model::read(font, wishes);
+    let original::Outcome::Program(program) = original::read(font) else {
+        panic!("a font that is read");
+    };
+    let read = reading.font.as_ref().map_err(|r| r.number);
+    let cut = Cut {
+        cid_keyed,
+        ..sheet()
+    };
+    match cut::by_model(font, read, Some(&program), &cut, wishes) {
+        Outcome::Early(number) => Err(number),
+        Outcome::Ready(_, subset) => subset,
+        Outcome::Panicked(message) => panic!("{message}"),
+    }
+}
+
+/// Document 02, Wish 11.
+#[test]
+fn stroked_fonts() {
+    const ON: Wishes = &[5, 11];
+    const PAINT: u8 = 5;
+    const STROKE: u8 = 8;
+    let (zero, one, half): (&[u8], &[u8], &[u8]) = (&[139], &[140], &[30, 0xa5, 0xff]);
+    let (minus_zero, zeros): (&[u8], &[u8]) = (&[30, 0xe0, 0xff], &[30, 0x0a, 0x00, 0xff]);
+    for (cid_keyed, ros) in [(false, None), (true, Some(3))] {
+        let bare = modelled(&with_entries(ros, &[]), cid_keyed, NONE);
+        assert!(bare.is_ok());
+        let dropped: [&[Given<'_>]; 8] = [
+            &[],
+            &[(&[zero], PAINT)],
+            &[(&[minus_zero], PAINT), (&[one], STROKE)],
+            &[(&[zeros], PAINT)],
+            &[(&[], PAINT)],
+            &[(&[one, one], PAINT)],
+            &[(&[half], STROKE)],
+            &[(&[one], PAINT), (&[zero], PAINT)],
+        ];
+        let refused: [&[Given<'_>]; 3] = [
+            &[(&[one], PAINT)],
+            &[(&[half], PAINT), (&[one], STROKE)],
+            &[(&[zero], PAINT), (&[one], PAINT)],
+        ];
+        for (list, wanted) in [(&dropped[..], bare), (&refused, Err(3))] {
+            for entries in list {
+                let font = with_entries(ros, entries);
+                assert_eq!(modelled(&font, cid_keyed, ON), wanted);
+                assert_eq!(modelled(&font, !cid_keyed, ON), Err(3));
+                // Off, the entries are copied.
+                let before = modelled(&font, cid_keyed, &[5]);
+                assert_eq!(before == wanted, entries.is_empty());
+                let reading = model::read(&font, NONE);
+                assert!(domain::inside(Call::Read, &reading, ON));
+                let inside = domain::inside(Call::Subset, &reading, ON);
+                assert_eq!(inside, entries.is_empty());
+            }
+        }
+    }
+    // Before ROS's refusal.
+    let two = |entries: &[Given<'_>]| modelled(&with_entries(Some(2), entries), true, ON);
+    assert_eq!(two(&[(&[one], PAINT)]), Err(3));
+    assert_eq!(two(&[(&[zero], PAINT)]), Err(2));
+    assert_eq!(two(&[]), Err(2));
 }

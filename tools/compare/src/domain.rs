@@ -13,7 +13,14 @@ pub type Wishes = &'static [u8];
 pub const NONE: Wishes = &[];
 
 /// The model of the library: the wishes that it follows.
-pub const WISHES: Wishes = &[5];
+pub const WISHES: Wishes = &[5, 11];
+
+/// What is asked of a font: what reading gives, items and finding among it, or a subset.
+#[derive(Clone, Copy, Debug, PartialEq, Eq)]
+pub enum Call {
+    Read,
+    Subset,
+}
 
 /// What the model notes of fonts that a wish speaks of. PaintType and StrokeWidth are those of the first font's top DICT, and
 /// stroked is a PaintType of one number other than 0.
@@ -24,11 +31,17 @@ pub const STROKE_WIDTH: &str = "StrokeWidth";
 pub const FD_MATRIX: &str = "FontMatrix in an FD";
 pub const EXPERT: &str = "Expert encoding";
 
-/// Whether a font is in the domain of the comparison with the original. The reading is document 01's.
-pub fn inside(reading: &Reading) -> bool {
+/// Whether a font is in the domain of the comparison with the original, when these wishes are followed. The reading is
+/// document 01's.
+pub fn inside(call: Call, reading: &Reading, wishes: Wishes) -> bool {
+    let has = |note: &str| reading.notes.contains(note);
     // Wish 5, 'An INDEX begins at 1': "Fonts that break this leave the domain of the comparison with the Rust." Only an INDEX
     // that is read counts, with its offsets there, and its first one is looked at before its pairs.
-    !reading.notes.contains(FIRST_OFFSET)
+    let begins_elsewhere = wishes.contains(&5) && has(FIRST_OFFSET);
+    // Wish 11, 'Stroked fonts retired': "Comparison with the Rust keeps to fonts that have neither entry." Reading is as it was.
+    let strokes =
+        wishes.contains(&11) && call == Call::Subset && (has(PAINT_TYPE) || has(STROKE_WIDTH));
+    !begins_elsewhere && !strokes
 }
 
 /// Notes with the wish that speaks of them. Few stored cases have one, so that a wish changes few lines.

@@ -73,9 +73,11 @@ pub fn make_biased(g: &mut Generator, globals: usize, locals: usize) -> Vec<u8> 
 }
 
 fn made(g: &mut Generator, odds: usize, plan: Option<Plan>) -> Made {
+    // Those at the steps of the bias are few, and stay inside.
+    let biased = plan.is_some_and(|plan| plan.wanted.is_some());
     let mut maker = Maker {
-        gaps: g.once_in(10),
-        stroked: g.once_in(6),
+        gaps: g.once_in(10) && !biased,
+        stroked: g.once_in(6) && !biased,
         g,
         layout: Layout::default(),
         odds,

@@ -246,7 +246,10 @@ fn case(seed: u64, number: usize) -> ExitCode {
     println!("{}\n{}", case.label(seed), hex(&case.font));
     let before = model::read(&case.font, domain::NONE);
     println!("memory of the original, about: {}", before.memory);
-    println!("inside the domain: {}", domain::inside(&before));
+    for call in [domain::Call::Read, domain::Call::Subset] {
+        let inside = domain::inside(call, &before, domain::WISHES);
+        println!("{call:?} inside the domain: {inside}");
+    }
     let reading = model::read(&case.font, domain::WISHES);
     for (whose, reading) in [("document 01", before), ("the library", reading)] {
         match &reading.font {

@@ -2,7 +2,7 @@
 
 use crate::cases::{self, mixed};
 use crate::compare::{self, counts};
-use crate::domain::{self, FIRST_OFFSET, NONE, Spoken, WISHES};
+use crate::domain::{self, Call, FIRST_OFFSET, NONE, Spoken, WISHES};
 use crate::generator::Generator;
 use crate::library::Counts;
 use crate::model::{self, Font, PAST_LIMITS, Reading};
@@ -194,7 +194,7 @@ fn any<T>(g: &mut Generator, list: impl Fn(&mut Generator) -> Vec<T>) -> T {
 
 /// The model's answers are the original's, refusal 5 apart: those to store inside the domain, document 01's outside.
 pub fn checked(bytes: &[u8], before: &Reading, stored: Result<&Font, u8>) {
-    let font = if domain::inside(before) {
+    let font = if domain::inside(Call::Read, before, WISHES) {
         stored
     } else {
         before.font.as_ref().map_err(|r| r.number)

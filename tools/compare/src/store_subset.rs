@@ -4,7 +4,7 @@ use crate::cases::mixed;
 use crate::cut::{self, Answer, Cut, Lent, Outcome, WORDS};
 use crate::cut_cases;
 use crate::cut_compare::{self, Opened};
-use crate::domain::{self, FD_MATRIX, NONE, STROKED, Spoken, WISHES};
+use crate::domain::{self, Call, FD_MATRIX, NONE, STROKED, Spoken, WISHES};
 use crate::generator::Generator;
 use crate::model::{self, Reading};
 use crate::{hex, original, store};
@@ -125,8 +125,8 @@ fn candidates(seed: u64) -> Vec<Candidate> {
                 continue;
             }
             // Outside the domain the model's answer is stored.
-            let stored = (!domain::inside(&before))
-                .then(|| cut::by_model(&case.font, read, opened.program, &cut));
+            let stored = (!domain::inside(Call::Subset, &before, WISHES))
+                .then(|| cut::by_model(&case.font, read, opened.program, &cut, WISHES));
             for lent in cut_compare::lents(&mut g, &outcome) {
                 let answer = outcome.answer(lent);
                 let Some(plain) = line(&case.font, &cut, lent, &answer) else {

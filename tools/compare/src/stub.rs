@@ -5,7 +5,7 @@
 use crate::cff::CffProgram;
 use crate::compare::MEMORY;
 use crate::cut::{self, Cut, Lent, Outcome};
-use crate::domain::{self, NONE, WISHES};
+use crate::domain::{self, Call, NONE, WISHES};
 use crate::library::{ABSENT, Library, NO_ROOM, Room, Rooms};
 use crate::{model, original};
 use std::cell::RefCell;
@@ -47,7 +47,7 @@ fn parse(bytes: &[u8]) -> Parsed {
 
 fn parse_anew(bytes: &[u8]) -> Result<Font, u8> {
     let before = model::read(bytes, NONE);
-    let by_model = before.memory > MEMORY || !domain::inside(&before);
+    let by_model = before.memory > MEMORY || !domain::inside(Call::Read, &before, WISHES);
     match model::read(bytes, WISHES).font {
         Err(refused) if [4, 5].contains(&refused.number) => return Err(refused.number),
         Ok(font) if by_model => return Ok(Font::Model(font)),
@@ -157,11 +157,24 @@ fn subset(font: &[u8], cut: &Cut, rooms: &mut Rooms<'_>) -> u8 {
         Ok(Font::Original(program)) => Some(program),
         _ => None,
     };
-    let outcome = if domain::inside(&model::read(font, NONE)) {
+    let outcome = if domain::inside(Call::Subset, &model::read(font, NONE), WISHES) {
         cut::cut(font, read, program, cut)
     } else {
-        cut::by_model(font, read, program, cut)
+        cut::by_model(font, read, program, cut, WISHES)
     };
+    told(&outcome, rooms)
+}
+
+/// Document 01's answer, with no wish followed.
+pub fn subset_before(font: &[u8], cut: &Cut, rooms: &mut Rooms<'_>) -> u8 {
+    let reading = model::read(font, NONE);
+    let read = reading.font.as_ref().map_err(|r| r.number);
+    let program = CffProgram::parse(font).ok();
+    told(&cut::cut(font, read, program.as_ref(), cut), rooms)
+}
+
+/// The answer of a cut, written to what is lent.
+fn told(outcome: &Outcome, rooms: &mut Rooms<'_>) -> u8 {
     if let Outcome::Panicked(_) = outcome {
         return 255;
     }

@@ -1,5 +1,6 @@
+-- `early_refusals::refusal` meets its contract: one law for each test, in document 01's order.
 use borrow.Author.Needs.{needs}
-use Rattle.early_refusals.specs.RefusalLaws.{read-keying, read-ros, read-name, read-number, read-below, read-found, read-record, read-work, read-passed}
+use Rattle.early_refusals.specs.RefusalLaws.{read-unfit, read-ros, read-name, read-number, read-below, read-found, read-record, read-work, read-passed}
 use Rattle.early_refusals.proofs.refusal.Statement.{statement}
 use Rattle.early_refusals.proofs.refusal.Tie as tie
 use Rattle.early_refusals.proofs.refusal.Reads as reads
@@ -8,82 +9,77 @@ use Rattle.found.proofs.all_found.Reads as all-found-reads
 use Rattle.kept.proofs.keep_below.Reads as keep-below-reads
 use Rattle.reach.proofs.check_record.Reads as check-record-reads
 use Rattle.early_refusals.proofs.ros_fine.Reads as ros-fine-reads
-use Rattle.early_refusals.proofs.same_keying.Reads as same-keying-reads
+use Rattle.early_refusals.proofs.is_fit.Reads as is-fit-reads
 use Rattle.early_refusals.proofs.work_size.Reads as work-size-reads
 
--- src/lib.rt:80:9
-same-keying-requires : tie.Need-same-keying-requires
-same-keying-requires c κs = search needs
+sub-is-fit : tie.Need-sub-is-fit
+sub-is-fit c = search needs
 
--- src/lib.rt:81:9
+part-is-fit-start : tie.Need-part-is-fit-start
+part-is-fit-start c = search needs
+
+part-is-fit-end : tie.Need-part-is-fit-end
+part-is-fit-end c = search needs
+
+is-fit-requires : tie.Need-is-fit-requires
+is-fit-requires c κs = search needs
+
 returns : tie.Need-returns
-returns c = read-keying (c .before .before .before .before .before .before .args .font .now) (c .before .before .before .before .before .before .args .f) (c .before .before .before .before .before .before .pre) (c .before .before .before .before .before .before .args .cid) (c .before .before .before .before .before .before .args .name) (c .before .before .before .before .before .before .args .keep .now) (c .before .before .before .before .before .before .args .rows .now) (c .before .before .before .before .before .before .args .traced) (c .before .before .before .before .before .before .args .words) _ (c .before .same-keying .ensures) (c .if1 .taken)
+returns c = read-unfit (c .before .before .before .before .before .before .before .args .font .now) (c .before .before .before .before .before .before .before .args .f) (c .before .before .before .before .before .before .before .pre) (c .before .before .before .before .before .before .before .args .cid) (c .before .before .before .before .before .before .before .args .name) (c .before .before .before .before .before .before .before .args .keep .now) (c .before .before .before .before .before .before .before .args .rows .now) (c .before .before .before .before .before .before .before .args .traced) (c .before .before .before .before .before .before .before .args .words) _ (c .before .is-fit .ensures) (c .if1 .taken)
 
--- src/lib.rt:83:23
 sub-ros-fine : tie.Need-sub-ros-fine
 sub-ros-fine c = search needs
 
--- src/lib.rt:83:23
 part-ros-fine-start : tie.Need-part-ros-fine-start
 part-ros-fine-start c = search needs
 
--- src/lib.rt:83:23
 part-ros-fine-end : tie.Need-part-ros-fine-end
 part-ros-fine-end c = search needs
 
--- src/lib.rt:83:9
 ros-fine-requires : tie.Need-ros-fine-requires
 ros-fine-requires c κs = search needs
 
--- src/lib.rt:84:9
 returns-2 : tie.Need-returns-2
-returns-2 c = read-ros (c .before .before .before .before .before .before .before .before .before .args .font .now) (c .before .before .before .before .before .before .before .before .before .args .f) (c .before .before .before .before .before .before .before .before .before .pre) (c .before .before .before .before .before .before .before .before .before .args .cid) (c .before .before .before .before .before .before .before .before .before .args .name) (c .before .before .before .before .before .before .before .before .before .args .keep .now) (c .before .before .before .before .before .before .before .before .before .args .rows .now) (c .before .before .before .before .before .before .before .before .before .args .traced) (c .before .before .before .before .before .before .before .before .before .args .words) _ (c .before .before .before .before .same-keying .ensures) (c .before .before .before .if1 .left) _ (c .before .ros-fine .ensures) (c .if2 .taken)
+returns-2 c = read-ros (c .before .before .before .before .before .before .before .before .before .before .args .font .now) (c .before .before .before .before .before .before .before .before .before .before .args .f) (c .before .before .before .before .before .before .before .before .before .before .pre) (c .before .before .before .before .before .before .before .before .before .before .args .cid) (c .before .before .before .before .before .before .before .before .before .before .args .name) (c .before .before .before .before .before .before .before .before .before .before .args .keep .now) (c .before .before .before .before .before .before .before .before .before .before .args .rows .now) (c .before .before .before .before .before .before .before .before .before .before .args .traced) (c .before .before .before .before .before .before .before .before .before .before .args .words) _ (c .before .before .before .before .is-fit .ensures) (c .before .before .before .if1 .left) _ (c .before .ros-fine .ensures) (c .if2 .taken)
 
--- src/lib.rt:87:9
 returns-3 : tie.Need-returns-3
-returns-3 c = read-name (c .before .before .before .before .before .before .before .before .before .before .args .font .now) (c .before .before .before .before .before .before .before .before .before .before .args .f) (c .before .before .before .before .before .before .before .before .before .before .pre) (c .before .before .before .before .before .before .before .before .before .before .args .cid) (c .before .before .before .before .before .before .before .before .before .before .args .name) (c .before .before .before .before .before .before .before .before .before .before .args .keep .now) (c .before .before .before .before .before .before .before .before .before .before .args .rows .now) (c .before .before .before .before .before .before .before .before .before .before .args .traced) (c .before .before .before .before .before .before .before .before .before .before .args .words) _ (c .before .before .before .before .before .same-keying .ensures) (c .before .before .before .before .if1 .left) _ (c .before .before .ros-fine .ensures) (c .before .if2 .left) (c .if3 .taken)
+returns-3 c = read-name (c .before .before .before .before .before .before .before .before .before .before .before .args .font .now) (c .before .before .before .before .before .before .before .before .before .before .before .args .f) (c .before .before .before .before .before .before .before .before .before .before .before .pre) (c .before .before .before .before .before .before .before .before .before .before .before .args .cid) (c .before .before .before .before .before .before .before .before .before .before .before .args .name) (c .before .before .before .before .before .before .before .before .before .before .before .args .keep .now) (c .before .before .before .before .before .before .before .before .before .before .before .args .rows .now) (c .before .before .before .before .before .before .before .before .before .before .before .args .traced) (c .before .before .before .before .before .before .before .before .before .before .before .args .words) _ (c .before .before .before .before .before .is-fit .ensures) (c .before .before .before .before .if1 .left) _ (c .before .before .ros-fine .ensures) (c .before .if2 .left) (c .if3 .taken)
 
--- src/lib.rt:89:9
 keep-below-requires : tie.Need-keep-below-requires
 keep-below-requires c κs = search needs
 
--- src/lib.rt:90:9
 returns-4 : tie.Need-returns-4
-returns-4 c = read-number (c .before .before .before .before .before .before .before .before .before .before .before .before .args .font .now) (c .before .before .before .before .before .before .before .before .before .before .before .before .args .f) (c .before .before .before .before .before .before .before .before .before .before .before .before .pre) (c .before .before .before .before .before .before .before .before .before .before .before .before .args .cid) (c .before .before .before .before .before .before .before .before .before .before .before .before .args .name) (c .before .before .before .before .before .before .before .before .before .before .before .before .args .keep .now) (c .before .before .before .before .before .before .before .before .before .before .before .before .args .rows .now) (c .before .before .before .before .before .before .before .before .before .before .before .before .args .traced) (c .before .before .before .before .before .before .before .before .before .before .before .before .args .words) _ (c .before .before .before .before .before .before .before .same-keying .ensures) (c .before .before .before .before .before .before .if1 .left) _ (c .before .before .before .before .ros-fine .ensures) (c .before .before .before .if2 .left) (c .before .before .if3 .left) _ (c .before .keep-below .ensures) (c .if4 .taken)
+returns-4 c = read-number (c .before .before .before .before .before .before .before .before .before .before .before .before .before .args .font .now) (c .before .before .before .before .before .before .before .before .before .before .before .before .before .args .f) (c .before .before .before .before .before .before .before .before .before .before .before .before .before .pre) (c .before .before .before .before .before .before .before .before .before .before .before .before .before .args .cid) (c .before .before .before .before .before .before .before .before .before .before .before .before .before .args .name) (c .before .before .before .before .before .before .before .before .before .before .before .before .before .args .keep .now) (c .before .before .before .before .before .before .before .before .before .before .before .before .before .args .rows .now) (c .before .before .before .before .before .before .before .before .before .before .before .before .before .args .traced) (c .before .before .before .before .before .before .before .before .before .before .before .before .before .args .words) _ (c .before .before .before .before .before .before .before .is-fit .ensures) (c .before .before .before .before .before .before .if1 .left) _ (c .before .before .before .before .ros-fine .ensures) (c .before .before .before .if2 .left) (c .before .before .if3 .left) _ (c .before .keep-below .ensures) (c .if4 .taken)
 
--- src/lib.rt:92:9
 all-found-requires : tie.Need-all-found-requires
-all-found-requires c κs = (c .before .before .before .before .before .before .before .before .before .before .before .before .pre, read-below (c .before .before .before .before .before .before .before .before .before .before .before .before .args .font .now) (c .before .before .before .before .before .before .before .before .before .before .before .before .args .f) (c .before .before .before .before .before .before .before .before .before .before .before .before .pre) (c .before .before .before .before .before .before .before .before .before .before .before .before .args .cid) (c .before .before .before .before .before .before .before .before .before .before .before .before .args .name) (c .before .before .before .before .before .before .before .before .before .before .before .before .args .keep .now) (c .before .before .before .before .before .before .before .before .before .before .before .before .args .rows .now) (c .before .before .before .before .before .before .before .before .before .before .before .before .args .traced) (c .before .before .before .before .before .before .before .before .before .before .before .before .args .words) _ (c .before .before .before .before .before .before .before .same-keying .ensures) (c .before .before .before .before .before .before .if1 .left) _ (c .before .before .before .before .ros-fine .ensures) (c .before .before .before .if2 .left) (c .before .before .if3 .left) _ (c .before .keep-below .ensures) (c .if4 .left))
+all-found-requires c κs = (c .before .before .before .before .before .before .before .before .before .before .before .before .before .pre, read-below (c .before .before .before .before .before .before .before .before .before .before .before .before .before .args .font .now) (c .before .before .before .before .before .before .before .before .before .before .before .before .before .args .f) (c .before .before .before .before .before .before .before .before .before .before .before .before .before .pre) (c .before .before .before .before .before .before .before .before .before .before .before .before .before .args .cid) (c .before .before .before .before .before .before .before .before .before .before .before .before .before .args .name) (c .before .before .before .before .before .before .before .before .before .before .before .before .before .args .keep .now) (c .before .before .before .before .before .before .before .before .before .before .before .before .before .args .rows .now) (c .before .before .before .before .before .before .before .before .before .before .before .before .before .args .traced) (c .before .before .before .before .before .before .before .before .before .before .before .before .before .args .words) _ (c .before .before .before .before .before .before .before .is-fit .ensures) (c .before .before .before .before .before .before .if1 .left) _ (c .before .before .before .before .ros-fine .ensures) (c .before .before .before .if2 .left) (c .before .before .if3 .left) _ (c .before .keep-below .ensures) (c .if4 .left))
 
--- src/lib.rt:93:9
 returns-5 : tie.Need-returns-5
-returns-5 c = read-found (c .before .before .before .before .before .before .before .before .before .before .before .before .before .before .args .font .now) (c .before .before .before .before .before .before .before .before .before .before .before .before .before .before .args .f) (c .before .before .before .before .before .before .before .before .before .before .before .before .before .before .pre) (c .before .before .before .before .before .before .before .before .before .before .before .before .before .before .args .cid) (c .before .before .before .before .before .before .before .before .before .before .before .before .before .before .args .name) (c .before .before .before .before .before .before .before .before .before .before .before .before .before .before .args .keep .now) (c .before .before .before .before .before .before .before .before .before .before .before .before .before .before .args .rows .now) (c .before .before .before .before .before .before .before .before .before .before .before .before .before .before .args .traced) (c .before .before .before .before .before .before .before .before .before .before .before .before .before .before .args .words) _ (c .before .before .before .before .before .before .before .before .before .same-keying .ensures) (c .before .before .before .before .before .before .before .before .if1 .left) _ (c .before .before .before .before .before .before .ros-fine .ensures) (c .before .before .before .before .before .if2 .left) (c .before .before .before .before .if3 .left) _ (c .before .before .before .keep-below .ensures) (c .before .before .if4 .left) _ (c .before .all-found .ensures) (c .if5 .taken)
+returns-5 c = read-found (c .before .before .before .before .before .before .before .before .before .before .before .before .before .before .before .args .font .now) (c .before .before .before .before .before .before .before .before .before .before .before .before .before .before .before .args .f) (c .before .before .before .before .before .before .before .before .before .before .before .before .before .before .before .pre) (c .before .before .before .before .before .before .before .before .before .before .before .before .before .before .before .args .cid) (c .before .before .before .before .before .before .before .before .before .before .before .before .before .before .before .args .name) (c .before .before .before .before .before .before .before .before .before .before .before .before .before .before .before .args .keep .now) (c .before .before .before .before .before .before .before .before .before .before .before .before .before .before .before .args .rows .now) (c .before .before .before .before .before .before .before .before .before .before .before .before .before .before .before .args .traced) (c .before .before .before .before .before .before .before .before .before .before .before .before .before .before .before .args .words) _ (c .before .before .before .before .before .before .before .before .before .is-fit .ensures) (c .before .before .before .before .before .before .before .before .if1 .left) _ (c .before .before .before .before .before .before .ros-fine .ensures) (c .before .before .before .before .before .if2 .left) (c .before .before .before .before .if3 .left) _ (c .before .before .before .keep-below .ensures) (c .before .before .if4 .left) _ (c .before .all-found .ensures) (c .if5 .taken)
 
--- src/lib.rt:95:9
 check-record-requires : tie.Need-check-record-requires
 check-record-requires c κs = search needs
 
--- src/lib.rt:96:9
 returns-6 : tie.Need-returns-6
-returns-6 c = read-record (c .before .before .before .before .before .before .before .before .before .before .before .before .before .before .before .before .args .font .now) (c .before .before .before .before .before .before .before .before .before .before .before .before .before .before .before .before .args .f) (c .before .before .before .before .before .before .before .before .before .before .before .before .before .before .before .before .pre) (c .before .before .before .before .before .before .before .before .before .before .before .before .before .before .before .before .args .cid) (c .before .before .before .before .before .before .before .before .before .before .before .before .before .before .before .before .args .name) (c .before .before .before .before .before .before .before .before .before .before .before .before .before .before .before .before .args .keep .now) (c .before .before .before .before .before .before .before .before .before .before .before .before .before .before .before .before .args .rows .now) (c .before .before .before .before .before .before .before .before .before .before .before .before .before .before .before .before .args .traced) (c .before .before .before .before .before .before .before .before .before .before .before .before .before .before .before .before .args .words) _ (c .before .before .before .before .before .before .before .before .before .before .before .same-keying .ensures) (c .before .before .before .before .before .before .before .before .before .before .if1 .left) _ (c .before .before .before .before .before .before .before .before .ros-fine .ensures) (c .before .before .before .before .before .before .before .if2 .left) (c .before .before .before .before .before .before .if3 .left) _ (c .before .before .before .before .before .keep-below .ensures) (c .before .before .before .before .if4 .left) _ (c .before .before .before .all-found .ensures) (c .before .before .if5 .left) _ (c .before .check-record .ensures) (c .if6 .taken)
+returns-6 c = read-record (c .before .before .before .before .before .before .before .before .before .before .before .before .before .before .before .before .before .args .font .now) (c .before .before .before .before .before .before .before .before .before .before .before .before .before .before .before .before .before .args .f) (c .before .before .before .before .before .before .before .before .before .before .before .before .before .before .before .before .before .pre) (c .before .before .before .before .before .before .before .before .before .before .before .before .before .before .before .before .before .args .cid) (c .before .before .before .before .before .before .before .before .before .before .before .before .before .before .before .before .before .args .name) (c .before .before .before .before .before .before .before .before .before .before .before .before .before .before .before .before .before .args .keep .now) (c .before .before .before .before .before .before .before .before .before .before .before .before .before .before .before .before .before .args .rows .now) (c .before .before .before .before .before .before .before .before .before .before .before .before .before .before .before .before .before .args .traced) (c .before .before .before .before .before .before .before .before .before .before .before .before .before .before .before .before .before .args .words) _ (c .before .before .before .before .before .before .before .before .before .before .before .is-fit .ensures) (c .before .before .before .before .before .before .before .before .before .before .if1 .left) _ (c .before .before .before .before .before .before .before .before .ros-fine .ensures) (c .before .before .before .before .before .before .before .if2 .left) (c .before .before .before .before .before .before .if3 .left) _ (c .before .before .before .before .before .keep-below .ensures) (c .before .before .before .before .if4 .left) _ (c .before .before .before .all-found .ensures) (c .before .before .if5 .left) _ (c .before .check-record .ensures) (c .if6 .taken)
 
--- src/lib.rt:98:16
 work-size-requires : tie.Need-work-size-requires
 work-size-requires c κs = search needs
 
--- src/lib.rt:99:9
 returns-7 : tie.Need-returns-7
-returns-7 c = read-work (c .before .before .before .before .before .before .before .before .before .before .before .before .before .before .before .before .before .before .args .font .now) (c .before .before .before .before .before .before .before .before .before .before .before .before .before .before .before .before .before .before .args .f) (c .before .before .before .before .before .before .before .before .before .before .before .before .before .before .before .before .before .before .pre) (c .before .before .before .before .before .before .before .before .before .before .before .before .before .before .before .before .before .before .args .cid) (c .before .before .before .before .before .before .before .before .before .before .before .before .before .before .before .before .before .before .args .name) (c .before .before .before .before .before .before .before .before .before .before .before .before .before .before .before .before .before .before .args .keep .now) (c .before .before .before .before .before .before .before .before .before .before .before .before .before .before .before .before .before .before .args .rows .now) (c .before .before .before .before .before .before .before .before .before .before .before .before .before .before .before .before .before .before .args .traced) (c .before .before .before .before .before .before .before .before .before .before .before .before .before .before .before .before .before .before .args .words) _ (c .before .before .before .before .before .before .before .before .before .before .before .before .before .same-keying .ensures) (c .before .before .before .before .before .before .before .before .before .before .before .before .if1 .left) _ (c .before .before .before .before .before .before .before .before .before .before .ros-fine .ensures) (c .before .before .before .before .before .before .before .before .before .if2 .left) (c .before .before .before .before .before .before .before .before .if3 .left) _ (c .before .before .before .before .before .before .before .keep-below .ensures) (c .before .before .before .before .before .before .if4 .left) _ (c .before .before .before .before .before .all-found .ensures) (c .before .before .before .before .if5 .left) _ (c .before .before .before .check-record .ensures) (c .before .before .if6 .left) _ (c .before .work-size .ensures) (c .if7 .taken)
+returns-7 c = read-work (c .before .before .before .before .before .before .before .before .before .before .before .before .before .before .before .before .before .before .before .args .font .now) (c .before .before .before .before .before .before .before .before .before .before .before .before .before .before .before .before .before .before .before .args .f) (c .before .before .before .before .before .before .before .before .before .before .before .before .before .before .before .before .before .before .before .pre) (c .before .before .before .before .before .before .before .before .before .before .before .before .before .before .before .before .before .before .before .args .cid) (c .before .before .before .before .before .before .before .before .before .before .before .before .before .before .before .before .before .before .before .args .name) (c .before .before .before .before .before .before .before .before .before .before .before .before .before .before .before .before .before .before .before .args .keep .now) (c .before .before .before .before .before .before .before .before .before .before .before .before .before .before .before .before .before .before .before .args .rows .now) (c .before .before .before .before .before .before .before .before .before .before .before .before .before .before .before .before .before .before .before .args .traced) (c .before .before .before .before .before .before .before .before .before .before .before .before .before .before .before .before .before .before .before .args .words) _ (c .before .before .before .before .before .before .before .before .before .before .before .before .before .is-fit .ensures) (c .before .before .before .before .before .before .before .before .before .before .before .before .if1 .left) _ (c .before .before .before .before .before .before .before .before .before .before .ros-fine .ensures) (c .before .before .before .before .before .before .before .before .before .if2 .left) (c .before .before .before .before .before .before .before .before .if3 .left) _ (c .before .before .before .before .before .before .before .keep-below .ensures) (c .before .before .before .before .before .before .if4 .left) _ (c .before .before .before .before .before .all-found .ensures) (c .before .before .before .before .if5 .left) _ (c .before .before .before .check-record .ensures) (c .before .before .if6 .left) _ (c .before .work-size .ensures) (c .if7 .taken)
 
--- src/lib.rt:73:1
 returns-8 : tie.Need-returns-8
-returns-8 c = read-passed (c .before .before .before .before .before .before .before .before .before .before .before .before .before .before .before .before .before .before .args .font .now) (c .before .before .before .before .before .before .before .before .before .before .before .before .before .before .before .before .before .before .args .f) (c .before .before .before .before .before .before .before .before .before .before .before .before .before .before .before .before .before .before .pre) (c .before .before .before .before .before .before .before .before .before .before .before .before .before .before .before .before .before .before .args .cid) (c .before .before .before .before .before .before .before .before .before .before .before .before .before .before .before .before .before .before .args .name) (c .before .before .before .before .before .before .before .before .before .before .before .before .before .before .before .before .before .before .args .keep .now) (c .before .before .before .before .before .before .before .before .before .before .before .before .before .before .before .before .before .before .args .rows .now) (c .before .before .before .before .before .before .before .before .before .before .before .before .before .before .before .before .before .before .args .traced) (c .before .before .before .before .before .before .before .before .before .before .before .before .before .before .before .before .before .before .args .words) _ (c .before .before .before .before .before .before .before .before .before .before .before .before .before .same-keying .ensures) (c .before .before .before .before .before .before .before .before .before .before .before .before .if1 .left) _ (c .before .before .before .before .before .before .before .before .before .before .ros-fine .ensures) (c .before .before .before .before .before .before .before .before .before .if2 .left) (c .before .before .before .before .before .before .before .before .if3 .left) _ (c .before .before .before .before .before .before .before .keep-below .ensures) (c .before .before .before .before .before .before .if4 .left) _ (c .before .before .before .before .before .all-found .ensures) (c .before .before .before .before .if5 .left) _ (c .before .before .before .check-record .ensures) (c .before .before .if6 .left) _ (c .before .work-size .ensures) (c .if7 .left)
+returns-8 c = read-passed (c .before .before .before .before .before .before .before .before .before .before .before .before .before .before .before .before .before .before .before .args .font .now) (c .before .before .before .before .before .before .before .before .before .before .before .before .before .before .before .before .before .before .before .args .f) (c .before .before .before .before .before .before .before .before .before .before .before .before .before .before .before .before .before .before .before .pre) (c .before .before .before .before .before .before .before .before .before .before .before .before .before .before .before .before .before .before .before .args .cid) (c .before .before .before .before .before .before .before .before .before .before .before .before .before .before .before .before .before .before .before .args .name) (c .before .before .before .before .before .before .before .before .before .before .before .before .before .before .before .before .before .before .before .args .keep .now) (c .before .before .before .before .before .before .before .before .before .before .before .before .before .before .before .before .before .before .before .args .rows .now) (c .before .before .before .before .before .before .before .before .before .before .before .before .before .before .before .before .before .before .before .args .traced) (c .before .before .before .before .before .before .before .before .before .before .before .before .before .before .before .before .before .before .before .args .words) _ (c .before .before .before .before .before .before .before .before .before .before .before .before .before .is-fit .ensures) (c .before .before .before .before .before .before .before .before .before .before .before .before .if1 .left) _ (c .before .before .before .before .before .before .before .before .before .before .ros-fine .ensures) (c .before .before .before .before .before .before .before .before .before .if2 .left) (c .before .before .before .before .before .before .before .before .if3 .left) _ (c .before .before .before .before .before .before .before .keep-below .ensures) (c .before .before .before .before .before .before .if4 .left) _ (c .before .before .before .before .before .all-found .ensures) (c .before .before .before .before .if5 .left) _ (c .before .before .before .check-record .ensures) (c .before .before .if6 .left) _ (c .before .work-size .ensures) (c .if7 .left)
 
 pub refusal-spec : {M : Type 1} → statement M
 refusal-spec =
     tie.close
     (tie.spec
-    same-keying-requires
+    sub-is-fit
+    part-is-fit-start
+    part-is-fit-end
+    is-fit-requires
     returns
     sub-ros-fine
     part-ros-fine-start

@@ -10,10 +10,10 @@ use Rattle.top_dict.proofs.entries_len.Statement.{statement}
 use Rattle.top_dict.proofs.entries_len.Tie as tie
 
 abbrev Inv-loop : tie.InvT-loop
-Inv-loop d len₀ k₀ len k = (k ≤ 8) × (len ≤ 7000000000 * k) × Measuring (copiedBytes (entriesOf d) copiedTopEntries) (copiedFrom (entriesOf d) k) len
+Inv-loop d len₀ k₀ len k = (k ≤ 6) × (len ≤ 7000000000 * k) × Measuring (copiedBytes (entriesOf d) copiedTopEntries) (copiedFrom (entriesOf d) k) len
 
 abbrev μ-loop : tie.MeasureT-loop
-μ-loop d len₀ k₀ len k = 8 - k
+μ-loop d len₀ k₀ len k = 6 - k
 
 -- an entry that is copied is not much longer than the DICT
 short : (c : tie.After-copied-len Inv-loop μ-loop) → c .copied-len .result ≤ 7000000000

@@ -2,7 +2,7 @@
 use Prim.Native.Nat.{_-_, _≤_}
 use native.Mathlib.Omega.{arith}
 use Rattle.top_dict.specs.Writing.{Writing, writing-start, writing-room, writing-turn, writing-end}
-use Rattle.top_dict.specs.TopLaws.{copiedFrom, copied-next, copied-over, eight-operator}
+use Rattle.top_dict.specs.TopLaws.{copiedFrom, copied-next, copied-over, copied-operator}
 use Rattle.dict.specs.Op.{copiedTopEntries}
 use Rattle.dict.specs.Places.{entriesOf}
 use Rattle.subset.specs.Subset.{copiedBytes}
@@ -10,10 +10,10 @@ use Rattle.top_dict.proofs.put_entries.Statement.{statement}
 use Rattle.top_dict.proofs.put_entries.Tie as tie
 
 abbrev Inv-loop : tie.InvT-loop
-Inv-loop d out₀ at p₀ k₀ out p k = (k ≤ 8) × Writing (copiedBytes (entriesOf d) copiedTopEntries) out₀ at (copiedFrom (entriesOf d) k) out p
+Inv-loop d out₀ at p₀ k₀ out p k = (k ≤ 6) × Writing (copiedBytes (entriesOf d) copiedTopEntries) out₀ at (copiedFrom (entriesOf d) k) out p
 
 abbrev μ-loop : tie.MeasureT-loop
-μ-loop d out₀ at p₀ k₀ out p k = 8 - k
+μ-loop d out₀ at p₀ k₀ out p k = 6 - k
 
 loop-holds : tie.Need-loop-holds Inv-loop μ-loop
 loop-holds c = (omega arith, writing-start _ _ _)
@@ -22,7 +22,7 @@ copied-top-entry-requires : tie.Need-copied-top-entry-requires Inv-loop μ-loop
 copied-top-entry-requires c κs = c .loop-test .taken
 
 put-copied-requires : tie.Need-put-copied-requires Inv-loop μ-loop
-put-copied-requires c κs = let i = c .before .before in let s = i .before .before .before .before in let e = c .before .copied-top-entry .ensures in (eight-operator _ _ (i .loop-test .taken) e, writing-room (s .pre) (copied-next _ _ (i .loop-test .taken) _ e) (i .before .loop .inv .1))
+put-copied-requires c κs = let i = c .before .before in let s = i .before .before .before .before in let e = c .before .copied-top-entry .ensures in (copied-operator _ _ (i .loop-test .taken) e, writing-room (s .pre) (copied-next _ _ (i .loop-test .taken) _ e) (i .before .loop .inv .1))
 
 add-k : tie.Need-add-k Inv-loop μ-loop
 add-k c = omega (arith, c .before .before .before .before .before .loop-test .taken)

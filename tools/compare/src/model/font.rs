@@ -18,6 +18,8 @@ pub struct Font {
     pub charset: Vec<u16>,
     /// Locals of all FDs together; of the one Private in a name-keyed font.
     pub locals: u64,
+    /// Whether the last PaintType entry of the top DICT is one number other than 0: document 02, Wish 11.
+    pub stroked: bool,
 }
 
 impl Font {
@@ -83,9 +85,10 @@ impl Reader<'_> {
     pub(super) fn font(&mut self, top: Range<usize>, strings: Index, globals: Index) -> Step<Font> {
         let top = self.dict(top, "top DICT")?;
         self.memory += top.memory();
+        let stroked = top.number(operator::PAINT_TYPE).is_some_and(|n| !n.is(0));
         if self.fonts == 1 {
             self.note_entry(&top, operator::PAINT_TYPE, PAINT_TYPE);
-            if top.number(operator::PAINT_TYPE).is_some_and(|n| !n.is(0)) {
+            if stroked {
                 self.note(STROKED);
             }
             self.note_entry(&top, operator::STROKE_WIDTH, STROKE_WIDTH);
@@ -168,6 +171,7 @@ impl Reader<'_> {
             cid_keyed,
             charset,
             locals,
+            stroked,
         })
     }
 
