@@ -7,6 +7,7 @@ ghost use mathlib.Core.Path.{_≡_};
 ghost use Rattle.cff.specs.Font.{readFont};
 ghost use Rattle.cff.specs.Find.{readAs, findName, findCid, nameAs, cidAs, itemRefusal, itemOf};
 ghost use Rattle.cff.specs.Reads.{programOf, GoodFont, indexIn};
+ghost use Rattle.cff.specs.Place.{LiesIn};
 use find::Found;
 use font::Font;
 use font::FontRead;
@@ -143,7 +144,8 @@ fn index_in(f: Font, kind: ItemKind) -> Index
 
 // An item of an INDEX: the part of the caller's bytes itself, empty where the lookup is refused.
 pub fn item(font: &[u8], kind: ItemKind, number: usize) -> &[u8]
-    ensures { λ r. ⌜ now r ≡ itemOf (readFont (now (font .entry))) kind number ⌝ }
+    ensures { λ r. ⌜ (now r ≡ itemOf (readFont (now (font .entry))) kind number)
+        × (LiesIn (now (font .entry)) (readFont (now (font .entry))) kind number r (font .entry)) ⌝ }
 {
     let read = set::read_font(font);
     match read {

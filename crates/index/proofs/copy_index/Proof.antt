@@ -80,7 +80,7 @@ put-item-requires c κs =
     let t = c .before .before in
     let l = t .before in
     let h = H₁ l in
-    begun-room _ _ (K (S₁ h)) (meant h) (l .loop .k) (more t) _ (c .item .ensures) (l .loop .inv .1)
+    begun-room _ _ (K (S₁ h)) (meant h) (l .loop .k) (more t) _ (c .item .ensures .0) (l .loop .inv .1)
 
 add-k : tie.Need-add-k Inv-loop μ-loop
 add-k c = search needs
@@ -94,7 +94,7 @@ loop-again c =
     let t = d .before .before .before in
     let l = t .before in
     let h = H₁ l in
-    (omega arith, begun-more _ _ (K (S₁ h)) (meant h) (l .loop .k) (more t) _ (d .before .item .ensures) (l .loop .inv .1) (d .put-item .ensures))
+    (omega arith, begun-more _ _ (K (S₁ h)) (meant h) (l .loop .k) (more t) _ (d .before .item .ensures .0) (l .loop .inv .1) (d .put-item .ensures))
 
 same-length : tie.Need-same-length Inv-loop μ-loop
 same-length c =
