@@ -10,3 +10,4 @@ pub mod Place
 pub mod PlaceLaws
 pub mod PartRefusals
 pub mod ReadingRefusals
+pub mod ExamplesMore
