@@ -11,3 +11,4 @@ pub mod PlaceLaws
 pub mod PartRefusals
 pub mod ReadingRefusals
 pub mod ExamplesMore
+pub mod ExamplesPlace
