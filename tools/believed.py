@@ -5,7 +5,7 @@ table. With --list NAME prints the definitions below one of them.
 
 A definition is followed to each definition, record, data type and declared type of the code that its text names; a constructor stands
 for its type. Lines are those of the definitions: comments, imports and empty lines are left out. Names of the kit (lists, arithmetic) are
-not followed: their number is the last column. Laws and proofs are never reached.
+not followed: their number, signs such as + aside, is the last column. Laws and proofs are never reached.
 """
 
 import glob
