@@ -6,5 +6,9 @@ pub mod Reads
 pub mod ReadsLaws
 pub mod FontLaws
 pub mod SetLaws
+pub mod Place
+pub mod PlaceLaws
 pub mod PartRefusals
 pub mod ReadingRefusals
+pub mod ExamplesMore
+pub mod ExamplesPlace

@@ -260,13 +260,13 @@ module _ (b : List ℕ) (r : FontRead) (reads : ReadsFont b (readFont b) r) wher
       pub items-good : Good b ix
       items-good = subst (Good b) (sym i) (items-held b f (found .0) kind .good)
 
-      items-is : itemsIn kind (programOf b f) ≡ itemsOf b ix
+      pub items-is : itemsIn kind (programOf b f) ≡ itemsOf b ix
       items-is = sym (items-are b f kind) ∙ ap (itemsOf b) (sym i)
 
       pub item-found : (k : ℕ) (l : List ℕ) → l ≡ getD (itemsOf b ix) k [] → l ≡ itemOf (readFont b) kind k
       item-found k l e = e ∙ ap (λ items. getD items k []) (sym items-is) ∙ sym (ap (λ g. itemOf g kind k) (found .1))
 
-      many : length (itemsIn kind (programOf b f)) ≡ ix .count
+      pub many : length (itemsIn kind (programOf b f)) ≡ ix .count
       many = ap length items-is ∙ items-length b ix
 
       pub item-none : (k : ℕ) → ix .count ≤ k → [] ≡ itemOf (readFont b) kind k

@@ -4,6 +4,7 @@ ghost use Rattle.octets.specs.Pick.{pick};
 ghost use Rattle.cff.specs.Font.{readFont};
 ghost use Rattle.cff.specs.Find.{readAs, findName, findCid, nameAs, cidAs, itemRefusal, itemOf};
 ghost use Rattle.cff.specs.Reads.{programOf, GoodFont, indexIn};
+ghost use Rattle.cff.specs.Place.{LiesIn};
 ghost use Rattle.cff_entries.specs.Kinds.{kindOf};
 use cff::Counts;
 use cff::FoundAs;
@@ -116,7 +117,8 @@ fn index_in(f: Font, kind: ItemKind) -> Index
 
 // An item of an INDEX: the part of the caller's bytes itself, empty where the lookup is refused.
 pub fn item(font: &[u8], kind: ItemKind, number: usize) -> &[u8]
-    ensures { λ r. ⌜ now r ≡ itemOf (readFont (now (font .entry))) kind number ⌝ }
+    ensures { λ r. ⌜ (now r ≡ itemOf (readFont (now (font .entry))) kind number)
+        × (LiesIn (now (font .entry)) (readFont (now (font .entry))) kind number r (font .entry)) ⌝ }
 {
     let read = cff::set::read_font(font);
     match read {

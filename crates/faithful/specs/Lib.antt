@@ -22,3 +22,4 @@ pub mod ByName
 pub mod ByCid
 pub mod Held
 pub mod Theorem
+pub mod Examples

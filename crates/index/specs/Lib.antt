@@ -1,5 +1,6 @@
 pub mod Index
 pub mod Good
+pub mod Place
 pub mod IndexLaws
 pub mod Write
 pub mod WriteLaws

@@ -7,6 +7,7 @@ ghost use lib.ListN.{length, drop, getD};
 ghost use Rattle.octets.specs.Octets.{bytesOf, Wrote};
 ghost use Rattle.index.specs.Index.{offsets, runOf, tableAt, emptyAt, indexAt, itemsOf};
 ghost use Rattle.index.specs.Good.{Lies, Good, offsetOf};
+ghost use Rattle.index.specs.Place.{StartsAt, itemPlace};
 ghost use Rattle.index.specs.Write.{total, sizeFor, headBytes, indexBytes, indexLen, indexFor};
 ghost use Rattle.index.specs.Begun.{WroteItem, endPlace};
 
@@ -136,7 +137,7 @@ pub fn offset(font: &[u8], ix: Index, k: usize) -> usize
 // The k-th item of an INDEX: the part of the caller's bytes itself.
 pub fn item(font: &[u8], ix: Index, k: usize) -> &[u8]
     requires { ⌜ (Good (now font) ix) × (k < ix .count) ⌝ }
-    ensures { λ r. ⌜ now r ≡ getD (itemsOf (now (font .entry)) ix) k [] ⌝ }
+    ensures { λ r. ⌜ (now r ≡ getD (itemsOf (now (font .entry)) ix) k []) × (StartsAt r (font .entry) (itemPlace (now (font .entry)) ix k)) ⌝ }
 {
     let start = ix.base + offset(font, ix, k);
     let end = ix.base + offset(font, ix, k + 1);

@@ -2,6 +2,7 @@
 // Each function over it is thin and proved by hand; the work is that of covered functions on a slice and a position.
 ghost use mathlib.Core.Path.{_≡_};
 ghost use Prim.Native.Nat.{_+_, _≤_, _<_, _^_};
+ghost use denote.Ref.{ptr};
 ghost use lib.ListN.{length, take, drop, getD};
 ghost use Rattle.octets.specs.Octets.{numAt};
 ghost use Rattle.reader.specs.Moved.{moved};
@@ -64,10 +65,11 @@ impl<'a> Reader<'a> {
         octets::num_at(self.src, at, size)
     }
 
-    // The next n bytes, a part of the caller's own; the position moves past them.
+    // The next n bytes, the part of the caller's own at the position, which moves past them.
     pub fn take(&mut self, n: usize) -> &'a [u8]
         requires { ⌜ now self .at + n ≤ length (now (now self .src)) ⌝ }
         ensures { λ r. ⌜ (now r ≡ take n (drop (now (self .entry) .at) (now (now (self .entry) .src))))
+            × (ptr r .0 ≡ ptr (now (self .entry) .src) .0) × (ptr r .1 ≡ ptr (now (self .entry) .src) .1 + now (self .entry) .at)
             × (now (self .exit) ≡ moved (now (self .entry)) n) ⌝ }
     {
         let at = self.at;
@@ -92,10 +94,10 @@ impl<'a> Reader<'a> {
     }
 }
 
-// The n bytes at a position: a part of the bytes passed.
+// The n bytes at a position: the part of the bytes passed that begins there.
 pub fn part(src: &[u8], at: usize, n: usize) -> &[u8]
     requires { ⌜ at + n ≤ length (now src) ⌝ }
-    ensures { λ r. ⌜ now r ≡ take n (drop at (now (src .entry))) ⌝ }
+    ensures { λ r. ⌜ (now r ≡ take n (drop at (now (src .entry)))) × (ptr r .0 ≡ ptr (src .entry) .0) × (ptr r .1 ≡ ptr (src .entry) .1 + at) ⌝ }
 {
     &src[at..at + n]
 }

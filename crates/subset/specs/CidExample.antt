@@ -29,11 +29,11 @@ use Rattle.subset.specs.CidFont.{cidFont, cidProgram, reads, reach, reac
 use Rattle.subset.specs.BodiesExample.{used, order, renumberedBodies, unrenumberedBodies, bodies-renumbered, bodies-stubbed, bodies-copied}
 
 -- the call, with a record and a flag
-abbrev cut : List ℕ → ℕ → Outcome
+abbrev pub cut : List ℕ → ℕ → Outcome
 cut rec flag = cutOf true cidFont (0x41 ∷ []) (1 ∷ 3 ∷ 4 ∷ []) rec flag 8192 32768
 
 -- way 0
-abbrev renumberedBytes : List ℕ
+abbrev pub renumberedBytes : List ℕ
 renumberedBytes =
     -- header
     0x01 ∷ 0x00 ∷ 0x04 ∷ 0x01
@@ -63,7 +63,7 @@ renumberedBytes =
     ∷ 0x8d ∷ 0x14 ∷ 0x1d ∷ 0x00 ∷ 0x00 ∷ 0x00 ∷ 0x08 ∷ 0x13 ∷ 0x00 ∷ 0x01 ∷ 0x01 ∷ 0x01 ∷ 0x06 ∷ 0x8d ∷ 0x16 ∷ 0x13 ∷ 0xff ∷ 0x0b ∷ []
 
 -- ways 1 and 2, each unreached subroutine being one byte
-abbrev unrenumberedBytes : ℕ → List ℕ
+abbrev pub unrenumberedBytes : ℕ → List ℕ
 unrenumberedBytes unreached =
     -- header
     0x01 ∷ 0x00 ∷ 0x04 ∷ 0x01
@@ -139,18 +139,18 @@ unfolding rowsOf rowsFrom
 none-rows = refl
 
 -- the reached subroutines alone, with new numbers
-renumbers : cut reach 1 ≡ subset 0 renumberedBytes
+pub renumbers : cut reach 1 ≡ subset 0 renumberedBytes
 renumbers =
     cut-written reach 1 fine-reach ∙ ap (λ rs. writtenOf (pruned cidProgram rs used order 1)) reach-rows ∙ ap (λ q. writtenOf q) bodies-renumbered ∙ written-renumbered
 
 -- a recorded number without a subroutine: each unreached subroutine is a return
-stubs : cut wrongReach 1 ≡ subset 1 (unrenumberedBytes 0x0b)
+pub stubs : cut wrongReach 1 ≡ subset 1 (unrenumberedBytes 0x0b)
 stubs =
     cut-written wrongReach 1 fine-wrong ∙ ap (λ rs. writtenOf (pruned cidProgram rs used order 1)) wrong-rows ∙ ap (λ q. writtenOf q) bodies-stubbed
     ∙ written-unrenumbered 1 0x0b
 
 -- glyphs that could not be traced: all as it was
-copies : cut [] 0 ≡ subset 2 (unrenumberedBytes 0x0e)
+pub copies : cut [] 0 ≡ subset 2 (unrenumberedBytes 0x0e)
 copies =
     cut-written [] 0 fine-none ∙ ap (λ rs. writtenOf (pruned cidProgram rs used order 0)) none-rows ∙ ap (λ q. writtenOf q) bodies-copied
     ∙ written-unrenumbered 2 0x0e

@@ -5,7 +5,7 @@ use mathlib.Core.List.{List, [], _∷_, _++_}
 use Prim.Native.Nat.{ℕ, zero, suc}
 use lib.IntN.{pos, negsuc}
 use Rattle.type2_number.specs.Number.{keep24, rounded, numberAt}
-use Rattle.unfold.specs.Unfold.{Tok, num, op, esc, mask, Row, Glyph, notPlain, plain, State, Run, broken, ended, leave, but, targetOf, operatorAt, stepAt, walk, runBody, unfoldGlyph}
+use Rattle.unfold.specs.Unfold.{Tok, num, op, esc, mask, Row, Glyph, notPlain, plain, State, glyph, Run, broken, ended, leave, but, targetOf, operatorAt, stepAt, walk, runBody, unfoldGlyph}
 
 abbrev unfolded : List (List ℕ) → List (List ℕ) → List ℕ → Glyph
 unfolded globals locals code = unfoldGlyph globals locals 3 7 code
@@ -58,6 +58,11 @@ flex = refl
 operator-0 : unfolded ([]) ([]) (0x00 ∷ 0x0e ∷ []) ≡ notPlain
 unfolding unfoldGlyph runBody walk stepAt operatorAt leave but targetOf numberAt rounded keep24
 operator-0 = refl
+
+-- an escape that is cut off
+escape-cut : unfolded ([]) ([]) (0x0c ∷ []) ≡ notPlain
+unfolding unfoldGlyph runBody walk stepAt operatorAt leave but targetOf numberAt rounded keep24
+escape-cut = refl
 
 -- an escape that is not allowed
 escape-0 : unfolded ([]) ([]) (0x0c ∷ 0x00 ∷ 0x0e ∷ []) ≡ notPlain
@@ -151,6 +156,16 @@ stems-97 : isPlain (unfolded [] [] ((times 48 0x8b ++ (0x12 ∷ [])) ++ ((times 
 unfolding unfoldGlyph runBody walk stepAt operatorAt leave but targetOf numberAt rounded keep24 times isPlain
 stems-97 = refl
 
+-- 96 stems at a mask, its own 24 among them: 12 bytes
+mask-96 : isPlain (unfolded [] [] ((times 48 0x8b ++ (0x12 ∷ [])) ++ ((times 48 0x8b ++ (0x12 ∷ [])) ++ ((times 48 0x8b ++ (0x12 ∷ [])) ++ (times 48 0x8b ++ (0x13 ∷ (times 12 0xff ++ (0x0e ∷ [])))))))) ≡ 1
+unfolding unfoldGlyph runBody walk stepAt operatorAt leave but targetOf numberAt rounded keep24 times isPlain
+mask-96 = refl
+
+-- 97 stems at a mask: 13 bytes
+mask-97 : isPlain (unfolded [] [] ((times 48 0x8b ++ (0x12 ∷ [])) ++ ((times 48 0x8b ++ (0x12 ∷ [])) ++ ((times 48 0x8b ++ (0x12 ∷ [])) ++ ((times 48 0x8b ++ (0x12 ∷ [])) ++ (0x8b ∷ 0x8b ∷ 0x13 ∷ (times 13 0xff ++ (0x0e ∷ [])))))))) ≡ 0
+unfolding unfoldGlyph runBody walk stepAt operatorAt leave but targetOf numberAt rounded keep24 times isPlain
+mask-97 = refl
+
 -- calls 10 deep
 deep-10 : isPlain (unfolded [] ((0x21 ∷ 0x0a ∷ 0x0b ∷ []) ∷ (0x22 ∷ 0x0a ∷ 0x0b ∷ []) ∷ (0x23 ∷ 0x0a ∷ 0x0b ∷ []) ∷ (0x24 ∷ 0x0a ∷ 0x0b ∷ []) ∷ (0x25 ∷ 0x0a ∷ 0x0b ∷ []) ∷ (0x26 ∷ 0x0a ∷ 0x0b ∷ []) ∷ (0x27 ∷ 0x0a ∷ 0x0b ∷ []) ∷ (0x28 ∷ 0x0a ∷ 0x0b ∷ []) ∷ (0x29 ∷ 0x0a ∷ 0x0b ∷ []) ∷ (0x0b ∷ []) ∷ []) (0x20 ∷ 0x0a ∷ 0x0e ∷ [])) ≡ 1
 unfolding unfoldGlyph runBody walk stepAt operatorAt leave but targetOf numberAt rounded keep24 times isPlain
@@ -172,3 +187,14 @@ tokens-65536 = refl
 tokens-65537 : leave (op 14) 0 0 (spent 65536) ended ≡ broken
 unfolding leave
 tokens-65537 = refl
+
+-- a call and its operand are one of them: with 65,534 before it and endchar behind it they are 65,536
+call-65536 : runBody [] ((0x0b ∷ []) ∷ []) 3 10 (glyph 7) (0x20 ∷ 0x0a ∷ 0x0e ∷ []) (spent 65534)
+    ≡ ended (record { args = 0; stems = 0; spent = 65536; out = op 14 ∷ []; met = record { kind = 0; fd = 3; number = 0; offset = 0; len = 0 } ∷ [] })
+unfolding runBody walk stepAt operatorAt leave but targetOf numberAt rounded keep24
+call-65536 = refl
+
+-- and with 65,535 one too many
+call-65537 : runBody [] ((0x0b ∷ []) ∷ []) 3 10 (glyph 7) (0x20 ∷ 0x0a ∷ 0x0e ∷ []) (spent 65535) ≡ broken
+unfolding runBody walk stepAt operatorAt leave but targetOf numberAt rounded keep24
+call-65537 = refl

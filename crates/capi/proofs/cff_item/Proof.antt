@@ -17,10 +17,10 @@ item-requires : tie.Need-item-requires
 item-requires c κs = search needs
 
 returns-2 : tie.Need-returns-2
-returns-2 c = item-no-bytes _ _ _ _ (c .before .before .before .before .cff-item-refusal .ensures) _ _ (c .before .before .before .if1 .left) _ _ (c .before .before .kind-of .ensures) (c .before .item .ensures) (c .if2 .taken)
+returns-2 c = item-no-bytes _ _ _ _ (c .before .before .before .before .cff-item-refusal .ensures) _ _ (c .before .before .before .if1 .left) _ _ (c .before .before .kind-of .ensures) (c .before .item .ensures .0) (c .if2 .taken)
 
 returns-3 : tie.Need-returns-3
-returns-3 c = item-no-word _ _ _ _ (c .before .before .before .before .before .cff-item-refusal .ensures) _ _ (c .before .before .before .before .if1 .left) _ _ (c .before .before .before .kind-of .ensures) (c .before .before .item .ensures) (c .before .if2 .left) (c .if3 .taken)
+returns-3 c = item-no-word _ _ _ _ (c .before .before .before .before .before .cff-item-refusal .ensures) _ _ (c .before .before .before .before .if1 .left) _ _ (c .before .before .before .kind-of .ensures) (c .before .before .item .ensures .0) (c .before .if2 .left) (c .if3 .taken)
 
 put-bytes-requires : tie.Need-put-bytes-requires
 put-bytes-requires c κs = search needs
@@ -35,7 +35,7 @@ same-length-2 : tie.Need-same-length-2
 same-length-2 c = search needs
 
 returns-4 : tie.Need-returns-4
-returns-4 c = item-written _ _ _ _ (c .before .before .before .before .before .before .before .before .before .cff-item-refusal .ensures) _ _ (c .before .before .before .before .before .before .before .before .if1 .left) _ _ (c .before .before .before .before .before .before .before .kind-of .ensures) (c .before .before .before .before .before .before .item .ensures) (c .before .before .before .before .before .if2 .left) (c .before .before .before .before .if3 .left) _ _ (c .before .before .put-bytes .ensures)
+returns-4 c = item-written _ _ _ _ (c .before .before .before .before .before .before .before .before .before .cff-item-refusal .ensures) _ _ (c .before .before .before .before .before .before .before .before .if1 .left) _ _ (c .before .before .before .before .before .before .before .kind-of .ensures) (c .before .before .before .before .before .before .item .ensures .0) (c .before .before .before .before .before .if2 .left) (c .before .before .before .before .if3 .left) _ _ (c .before .before .put-bytes .ensures)
 
 pub cff-item-spec : {M : Type 1} → statement M
 cff-item-spec =

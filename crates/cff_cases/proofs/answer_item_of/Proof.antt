@@ -23,7 +23,7 @@ item-requires : tie.Need-item-requires
 item-requires c κs = search needs
 
 returns-2 : tie.Need-returns-2
-returns-2 c = gives-none _ _ (of-kind-long _ _ _ _ (c .before .before .before .item-refusal .ensures) (c .before .before .if1 .left) _ (c .before .item .ensures) (c .if2 .taken))
+returns-2 c = gives-none _ _ (of-kind-long _ _ _ _ (c .before .before .before .item-refusal .ensures) (c .before .before .if1 .left) _ (c .before .item .ensures .0) (c .if2 .taken))
 
 put-byte-requires-2 : tie.Need-put-byte-requires-2
 put-byte-requires-2 c κs = search needs
@@ -35,7 +35,7 @@ same-length-2 : tie.Need-same-length-2
 same-length-2 c = search needs
 
 returns-3 : tie.Need-returns-3
-returns-3 c = gives-wrote _ _ _ _ _ (of-kind-found _ _ _ _ (c .before .before .before .before .before .before .before .before .before .before .before .item-refusal .ensures) (c .before .before .before .before .before .before .before .before .before .before .if1 .left) _ (c .before .before .before .before .before .before .before .before .before .item .ensures) (c .before .before .before .before .before .before .before .before .if2 .left)) (wrote-then (omega arith) (c .before .before .before .before .before .before .put-byte2 .ensures) (c .before .before .put-bytes .ensures))
+returns-3 c = gives-wrote _ _ _ _ _ (of-kind-found _ _ _ _ (c .before .before .before .before .before .before .before .before .before .before .before .item-refusal .ensures) (c .before .before .before .before .before .before .before .before .before .before .if1 .left) _ (c .before .before .before .before .before .before .before .before .before .item .ensures .0) (c .before .before .before .before .before .before .before .before .if2 .left)) (wrote-then (omega arith) (c .before .before .before .before .before .before .put-byte2 .ensures) (c .before .before .put-bytes .ensures))
 
 pub answer-item-of-spec : {M : Type 1} → statement M
 answer-item-of-spec =

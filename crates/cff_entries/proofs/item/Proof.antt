@@ -1,5 +1,6 @@
 -- `cff_entries::item` meets its contract: the item is the part of the font that its INDEX names.
 use Rattle.cff.specs.SetLaws.{items-good, item-found, item-refused, item-none}
+use Rattle.cff.specs.PlaceLaws.{lies-found, lies-refused, lies-none}
 use borrow.Author.Needs.{needs}
 use Rattle.cff_entries.proofs.item.Statement.{statement}
 use Rattle.cff_entries.proofs.item.Tie as tie
@@ -29,7 +30,12 @@ item-requires : tie.Need-item-requires
 item-requires c κs = (items-good (c .before .before .before .before .before .before .before .before .args .font .now) _ (c .before .before .before .before .before .before .read-font .ensures) _ (c .before .before .before .before .read .given .1) (c .before .before .before .before .before .before .before .before .args .kind) _ (c .before .before .index-in .ensures), c .if1 .taken)
 
 returns : tie.Need-returns
-returns c = item-found (c .before .before .before .before .before .before .before .before .before .args .font .now) _ (c .before .before .before .before .before .before .before .read-font .ensures) _ (c .before .before .before .before .before .read .given .1) (c .before .before .before .before .before .before .before .before .before .args .kind) _ (c .before .before .before .index-in .ensures) _ _ (c .item .ensures)
+returns c =
+    let s = c .before .before .before .before .before .before .before .before .before in
+    let o = c .before .before .before .before .before .before .before .read-font .ensures in (
+      item-found (s .args .font .now) _ o _ (c .before .before .before .before .before .read .given .1) (s .args .kind) _ (c .before .before .before .index-in .ensures) _ _ (c .item .ensures .0),
+      lies-found (s .args .font .now) _ o (s .args .kind) _ _ _ _ (c .before .before .before .before .before .read .given .1) _ (c .before .before .before .index-in .ensures) (c .item .ensures .1),
+    )
 
 sub-result-2 : tie.Need-sub-result-2
 sub-result-2 c = search needs
@@ -41,10 +47,20 @@ part-result-end-2 : tie.Need-part-result-end-2
 part-result-end-2 c = search needs
 
 returns-2 : tie.Need-returns-2
-returns-2 c = item-refused (c .before .before .before .before .before .args .font .now) _ (c .before .before .before .read-font .ensures) _ (c .before .enum-told .given .1) (c .before .before .before .before .before .args .kind) (c .before .before .before .before .before .args .number)
+returns-2 c =
+    let s = c .before .before .before .before .before in
+    let o = c .before .before .before .read-font .ensures in (
+      item-refused (s .args .font .now) _ o _ (c .before .enum-told .given .1) (s .args .kind) (s .args .number),
+      lies-refused (s .args .font .now) _ o (s .args .kind) (s .args .number) _ _ _ (c .before .enum-told .given .1),
+    )
 
 returns-3 : tie.Need-returns-3
-returns-3 c = item-none (c .before .before .before .before .before .before .before .before .before .args .font .now) _ (c .before .before .before .before .before .before .before .read-font .ensures) _ (c .before .before .before .before .before .read .given .1) (c .before .before .before .before .before .before .before .before .before .args .kind) _ (c .before .before .before .index-in .ensures) _ (c .before .if1 .left)
+returns-3 c =
+    let s = c .before .before .before .before .before .before .before .before .before in
+    let o = c .before .before .before .before .before .before .before .read-font .ensures in (
+      item-none (s .args .font .now) _ o _ (c .before .before .before .before .before .read .given .1) (s .args .kind) _ (c .before .before .before .index-in .ensures) _ (c .before .if1 .left),
+      lies-none (s .args .font .now) _ o (s .args .kind) (s .args .number) _ _ _ (c .before .before .before .before .before .read .given .1) _ (c .before .before .before .index-in .ensures) (c .before .if1 .left),
+    )
 
 pub item-spec : {M : Type 1} → statement M
 item-spec =

@@ -20,7 +20,7 @@ same-text-requires : tie.Need-same-text-requires
 same-text-requires c κs = search needs
 
 returns-2 : tie.Need-returns-2
-returns-2 c = let s = c .before .before .before .before .before .before in named-own _ (s .args .id) _ _ _ (omega arith) (c .before .item .ensures) (c .same-text .ensures)
+returns-2 c = let s = c .before .before .before .before .before .before in named-own _ (s .args .id) _ _ _ (omega arith) (c .before .item .ensures .0) (c .same-text .ensures)
 
 returns-3 : tie.Need-returns-3
 returns-3 c = let s = c .before .before .before .before in named-none (itemsOf (s .args .font .now) (s .args .strings)) (s .args .id) (s .args .name .now) (omega (arith, items-length (s .args .font .now) (s .args .strings)))

@@ -1,9 +1,11 @@
--- `index::item` meets its contract: the two offsets are those of the item, which a good INDEX keeps within the font.
-use Prim.Native.Nat.{_≤_, _+_}
+-- `index::item` meets its contract: the two offsets are those of the item, which a good INDEX keeps within the font; the part begins at the first.
+use Prim.Native.Nat.{ℕ, _≤_, _+_}
+use mathlib.Core.Path.{refl, ap, _∙_}
+use native.Mathlib.Nat.{add-comm}
 use native.Mathlib.Omega.{arith}
 use borrow.Author.Needs.{needs}
 use lib.ListN.{length}
-use denote.Ref.{now}
+use denote.Ref.{now, ptr}
 use Rattle.index.specs.Good.{offsetOf}
 use Rattle.index.specs.IndexLaws.{item-within, item-part}
 use Rattle.index.proofs.item.Statement.{statement}
@@ -42,8 +44,14 @@ part-result-end c = omega (arith, pair (c .before .before .before .before .befor
 returns : tie.Need-returns
 returns c =
     let d = c .before .before in
-    let s = d .before .before .before .before in
-    item-part (now (s .args .font)) (s .args .ix) (s .pre .0) (s .args .k) (s .pre .1) _ _ (d .before .before .offset .ensures) (d .offset2 .ensures)
+    let s = d .before .before .before .before in (
+      item-part (now (s .args .font)) (s .args .ix) (s .pre .0) (s .args .k) (s .pre .1) _ _ (d .before .before .offset .ensures) (d .offset2 .ensures),
+      (
+        refl,
+        add-comm (s .args .ix .base + d .before .before .offset .result) (ptr (s .args .font) .1)
+            ∙ ap (λ (o : ℕ). ptr (s .args .font) .1 + (s .args .ix .base + o)) (d .before .before .offset .ensures),
+      ),
+    )
 
 pub item-spec : {M : Type 1} → statement M
 item-spec =

@@ -12,7 +12,7 @@ item-requires : tie.Need-item-requires
 item-requires c κs = search needs
 
 returns : tie.Need-returns
-returns c = let s = c .before .before .before in text-item _ (s .args .sid) _ (s .pre .1) (c .item .ensures)
+returns c = let s = c .before .before .before in text-item _ (s .args .sid) _ (s .pre .1) (c .item .ensures .0)
 
 sub-result : tie.Need-sub-result
 sub-result c = search needs

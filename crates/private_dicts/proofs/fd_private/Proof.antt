@@ -7,10 +7,10 @@ item-requires : tie.Need-item-requires
 item-requires c κs = let s = c .before .before .before .before in (s .pre .0 .parts .dicts .good, fd-within _ _ (s .pre .0) _ (s .pre .1) (c .if1 .taken))
 
 read-fd-requires : tie.Need-read-fd-requires
-read-fd-requires c κs = let s = c .before .before .before .before .before in (s .pre .0 .begun .some, fd-read _ _ (s .pre .0) _ (s .pre .1) (c .before .if1 .taken) _ (c .item .ensures))
+read-fd-requires c κs = let s = c .before .before .before .before .before in (s .pre .0 .begun .some, fd-read _ _ (s .pre .0) _ (s .pre .1) (c .before .if1 .taken) _ (c .item .ensures .0))
 
 returns : tie.Need-returns
-returns c = let s = c .before .before .before .before .before .before in fd-answer _ _ (s .pre .0) _ (s .pre .1) (c .before .before .if1 .taken) _ (c .before .item .ensures) _ (c .read-fd .ensures)
+returns c = let s = c .before .before .before .before .before .before in fd-answer _ _ (s .pre .0) _ (s .pre .1) (c .before .before .if1 .taken) _ (c .before .item .ensures .0) _ (c .read-fd .ensures)
 
 returns-2 : tie.Need-returns-2
 returns-2 c = let s = c .before .before .before .before in fd-one _ _ (s .pre .0) _ (s .pre .1) (c .if1 .left)

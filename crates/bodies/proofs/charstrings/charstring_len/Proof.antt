@@ -31,7 +31,7 @@ body-len-requires c κs =
     let g = f .before in
     let s = S₁ g in
     charstring-inputs (s .pre .0) (s .args .i) (s .pre .1) (g .glyph-at .result) (f .fd-at .result) (g .glyph-at .ensures) (f .fd-at .ensures) (l .ranks-in .result) (l .ranks-in .ensures)
-    (now (c .item .result)) (c .item .ensures)
+    (now (c .item .result)) (c .item .ensures .0)
 
 returns : tie.Need-returns
 returns c =
@@ -41,7 +41,7 @@ returns c =
     let g = f .before in
     let s = S₁ g in
     charstring-len (s .pre .0) (s .args .i) (s .pre .1) (g .glyph-at .result) (f .fd-at .result) (g .glyph-at .ensures) (f .fd-at .ensures) (l .ranks-in .result) (l .ranks-in .ensures)
-    (now (i .item .result)) (i .item .ensures) (s .args .kept .way) (c .body-len .result) (c .body-len .ensures)
+    (now (i .item .result)) (i .item .ensures .0) (s .args .kept .way) (c .body-len .result) (c .body-len .ensures)
 
 pub charstring-len-spec : {M : Type 1} → statement M
 charstring-len-spec =

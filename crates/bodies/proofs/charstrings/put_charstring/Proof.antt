@@ -32,9 +32,9 @@ put-body-requires c κs =
     let g = f .before in
     let s = S₁ g in
     let q = charstring-room (s .pre .0) (s .args .i) (s .pre .1) (g .glyph-at .result) (f .fd-at .result) (g .glyph-at .ensures) (f .fd-at .ensures) (l .ranks-in .result)
-    (l .ranks-in .ensures) (now (i .item .result)) (i .item .ensures) (s .args .kept .way) (s .args .at) _ (s .pre .2) (s .pre .3) in (
+    (l .ranks-in .ensures) (now (i .item .result)) (i .item .ensures .0) (s .args .kept .way) (s .args .at) _ (s .pre .2) (s .pre .3) in (
       charstring-inputs (s .pre .0) (s .args .i) (s .pre .1) (g .glyph-at .result) (f .fd-at .result) (g .glyph-at .ensures) (f .fd-at .ensures) (l .ranks-in .result) (l .ranks-in .ensures)
-          (now (i .item .result)) (i .item .ensures),
+          (now (i .item .result)) (i .item .ensures .0),
       q .0,
       q .1,
     )
@@ -51,7 +51,7 @@ returns c =
     let g = f .before in
     let s = S₁ g in
     charstring-wrote (s .pre .0) (s .args .i) (s .pre .1) (g .glyph-at .result) (f .fd-at .result) (g .glyph-at .ensures) (f .fd-at .ensures) (l .ranks-in .result) (l .ranks-in .ensures)
-    (now (i .item .result)) (i .item .ensures) (s .args .kept .way) (d .put-body .ensures)
+    (now (i .item .result)) (i .item .ensures .0) (s .args .kept .way) (d .put-body .ensures)
 
 pub put-charstring-spec : {M : Type 1} → statement M
 put-charstring-spec =

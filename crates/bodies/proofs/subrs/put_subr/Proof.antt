@@ -60,8 +60,8 @@ put-body-requires c κs =
     let e = i .before .before in
     let s = e .before .before .before .before .before .before in
     let q = subr-room (s .args .from .way) (Q s) (R s) (C s) (s .args .from .of) (K s) (s .args .k) (siteOf (i .before .site-in .result)) (now (i .item .result))
-    (i .before .site-in .ensures .0) (i .item .ensures) (sym (e .before .is-stub .ensures) ∙ e .if1 .left) _ _ (s .pre .2) (s .pre .3) in
-    (item-inputs (s .pre .0) (s .args .k) (s .pre .1) _ (i .item .ensures) _ (i .before .site-in .ensures .1), q .0, q .1)
+    (i .before .site-in .ensures .0) (i .item .ensures .0) (sym (e .before .is-stub .ensures) ∙ e .if1 .left) _ _ (s .pre .2) (s .pre .3) in
+    (item-inputs (s .pre .0) (s .args .k) (s .pre .1) _ (i .item .ensures .0) _ (i .before .site-in .ensures .1), q .0, q .1)
 
 same-length-2 : tie.Need-same-length-2
 same-length-2 c = search needs
@@ -73,7 +73,7 @@ returns-2 c =
     let e = i .before .before in
     let s = e .before .before .before .before .before .before in
     subr-wrote (s .args .from .way) (Q s) (R s) (C s) (s .args .from .of) (K s) (s .args .k) (siteOf (i .before .site-in .result)) (now (i .item .result))
-    (i .before .site-in .ensures .0) (i .item .ensures) (sym (e .before .is-stub .ensures) ∙ e .if1 .left) (d .put-body .ensures)
+    (i .before .site-in .ensures .0) (i .item .ensures .0) (sym (e .before .is-stub .ensures) ∙ e .if1 .left) (d .put-body .ensures)
 
 pub put-subr-spec : {M : Type 1} → statement M
 put-subr-spec =

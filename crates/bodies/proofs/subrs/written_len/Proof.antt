@@ -39,7 +39,7 @@ item-requires c κs = search needs
 body-len-requires : tie.Need-body-len-requires
 body-len-requires c κs =
     let s = c .before .before .before .before .before .before .before in
-    item-inputs (s .pre .0) (s .args .k) (s .pre .1) _ (c .item .ensures) _ (c .before .site-in .ensures .1)
+    item-inputs (s .pre .0) (s .args .k) (s .pre .1) _ (c .item .ensures .0) _ (c .before .site-in .ensures .1)
 
 returns-2 : tie.Need-returns-2
 returns-2 c =
@@ -47,9 +47,9 @@ returns-2 c =
     let s = d .before .before .before .before .before in
     let e = c .body-len .ensures in (
       subr-len (s .args .from .way) (rowsOf (now (s .args .rows))) (R s) (C s) (s .args .from .of) (itemsOf (now (s .args .font)) (s .args .from .ix)) (s .args .k)
-          (siteOf (c .before .before .site-in .result)) (now (c .before .item .result)) (c .before .before .site-in .ensures .0) (c .before .item .ensures)
+          (siteOf (c .before .before .site-in .result)) (now (c .before .item .result)) (c .before .before .site-in .ensures .0) (c .before .item .ensures .0)
           (sym (d .before .is-stub .ensures) ∙ d .if1 .left) _ (e .0),
-      item-bound (now (s .args .font)) (s .args .from .ix) (s .pre .0 .good) (s .pre .0 .size) (s .args .k) (s .pre .1) (now (c .before .item .result)) (c .before .item .ensures) (c .body-len .result) (e .1),
+      item-bound (now (s .args .font)) (s .args .from .ix) (s .pre .0 .good) (s .pre .0 .size) (s .args .k) (s .pre .1) (now (c .before .item .result)) (c .before .item .ensures .0) (c .body-len .result) (e .1),
     )
 
 pub written-len-spec : {M : Type 1} → statement M

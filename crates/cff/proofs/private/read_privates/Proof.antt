@@ -28,13 +28,13 @@ enum-known-next : tie.Need-enum-known-next Inv-loop μ-loop
 enum-known-next c = search needs
 
 returns : tie.Need-returns Inv-loop μ-loop
-returns c = adding-refused _ _ _ _ _ (c .before .before .before .before .before .before .loop .inv .2) (omega (arith, c .before .before .before .before .before .loop-test .taken, c .before .before .before .before .before .before .loop .inv .0, items-length (c .before .before .before .before .before .before .before .before .args .font .now) (c .before .before .before .before .before .before .before .before .args .dicts))) _ (c .before .before .before .before .item .ensures) _ (c .before .before .before .fd-private .ensures) _ (c .before .next .given .1)
+returns c = adding-refused _ _ _ _ _ (c .before .before .before .before .before .before .loop .inv .2) (omega (arith, c .before .before .before .before .before .loop-test .taken, c .before .before .before .before .before .before .loop .inv .0, items-length (c .before .before .before .before .before .before .before .before .args .font .now) (c .before .before .before .before .before .before .before .before .args .dicts))) _ (c .before .before .before .before .item .ensures .0) _ (c .before .before .before .fd-private .ensures) _ (c .before .next .given .1)
 
 enum-known-next-2 : tie.Need-enum-known-next-2 Inv-loop μ-loop
 enum-known-next-2 c = search needs
 
 add-total : tie.Need-add-total Inv-loop μ-loop
-add-total c = let m = adding-more _ _ _ _ _ (c .before .before .before .before .before .before .before .loop .inv .2) (omega (arith, c .before .before .before .before .before .before .loop-test .taken, c .before .before .before .before .before .before .before .loop .inv .0, items-length (c .before .before .before .before .before .before .before .before .before .args .font .now) (c .before .before .before .before .before .before .before .before .before .args .dicts))) _ (c .before .before .before .before .before .item .ensures) _ (c .before .before .before .before .fd-private .ensures) _ (c .before .before .next2 .given .1) in omega (arith, m .few, c .before .before .before .before .before .before .loop-test .taken, c .before .before .before .before .before .before .before .loop .inv .1)
+add-total c = let m = adding-more _ _ _ _ _ (c .before .before .before .before .before .before .before .loop .inv .2) (omega (arith, c .before .before .before .before .before .before .loop-test .taken, c .before .before .before .before .before .before .before .loop .inv .0, items-length (c .before .before .before .before .before .before .before .before .before .args .font .now) (c .before .before .before .before .before .before .before .before .before .args .dicts))) _ (c .before .before .before .before .before .item .ensures .0) _ (c .before .before .before .before .fd-private .ensures) _ (c .before .before .next2 .given .1) in omega (arith, m .few, c .before .before .before .before .before .before .loop-test .taken, c .before .before .before .before .before .before .before .loop .inv .1)
 
 add-k : tie.Need-add-k Inv-loop μ-loop
 add-k c = omega (arith, c .before .before .before .before .before .before .loop-test .taken, c .before .before .before .before .before .before .before .loop .inv .1)
@@ -43,7 +43,7 @@ loop-less : tie.Need-loop-less Inv-loop μ-loop
 loop-less c = omega (arith, c .before .before .before .before .before .before .loop-test .taken)
 
 loop-again : tie.Need-loop-again Inv-loop μ-loop
-loop-again c = (c .before .before .before .before .before .before .before .loop .inv .0, c .before .before .before .before .before .before .before .loop .inv .1, adding-more _ _ _ _ _ (c .before .before .before .before .before .before .before .loop .inv .2) (omega (arith, c .before .before .before .before .before .before .loop-test .taken, c .before .before .before .before .before .before .before .loop .inv .0, items-length (c .before .before .before .before .before .before .before .before .before .args .font .now) (c .before .before .before .before .before .before .before .before .before .args .dicts))) _ (c .before .before .before .before .before .item .ensures) _ (c .before .before .before .before .fd-private .ensures) _ (c .before .before .next2 .given .1))
+loop-again c = (c .before .before .before .before .before .before .before .loop .inv .0, c .before .before .before .before .before .before .before .loop .inv .1, adding-more _ _ _ _ _ (c .before .before .before .before .before .before .before .loop .inv .2) (omega (arith, c .before .before .before .before .before .before .loop-test .taken, c .before .before .before .before .before .before .before .loop .inv .0, items-length (c .before .before .before .before .before .before .before .before .before .args .font .now) (c .before .before .before .before .before .before .before .before .before .args .dicts))) _ (c .before .before .before .before .before .item .ensures .0) _ (c .before .before .before .before .fd-private .ensures) _ (c .before .before .next2 .given .1))
 
 returns-2 : tie.Need-returns-2 Inv-loop μ-loop
 returns-2 c = let n = items-length (c .before .before .before .args .font .now) (c .before .before .before .args .dicts) in adding-over _ _ _ _ _ (c .before .loop .inv .2) (omega (arith, c .loop-test .left, c .before .loop .inv .0)) (omega (arith, c .before .loop .inv .0, c .before .loop .inv .1))

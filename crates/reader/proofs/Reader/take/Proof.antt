@@ -28,7 +28,7 @@ use denote.Laws.{Is, shows}
 use denote.Memory.{mem, cellAt}
 use denote.Plain.{uint-makes, uint-vals, uint-tells}
 use denote.Builtin.{u8, usize}
-use denote.Ref.{RefT, MutRef, ptr-vals, mut-tells, now}
+use denote.Ref.{RefT, MutRef, ptr, ptr-vals, mut-tells, now}
 use denote.Slice.{ShrSlice, shr-slice-lawful}
 use denote.Steps.{opens, closes, owned, peeks, heard, nothing}
 use denote.Struct.Laws as LL
@@ -82,7 +82,7 @@ module _ {M : Type 1} (𝓤 : URA M) (H : Heap 𝓤) (A : Atoms 𝓤) (W : Given
 
   -- what is said of the part
   abbrev Said : RefT (List ℕ) → Type 0
-  Said r = now r ≡ take n (drop-list (h .at) (now (h .src)))
+  Said r = (now r ≡ take n (drop-list (h .at) (now (h .src)))) × (ptr r .0 ≡ ptr (h .src) .0) × (ptr r .1 ≡ ptr (h .src) .1 + h .at)
 
   -- what the callee is passed
   abbrev passed : Vals called.signature (κ′, tt)
@@ -110,7 +110,7 @@ module _ {M : Type 1} (𝓤 : URA M) (H : Heap 𝓤) (A : Atoms 𝓤) (W : Given
   exits : (r : RefT (List ℕ)) (u : Val) → Said r → ent 𝓤 (⋆ 𝓤 H A (‵ (fobs γ (B κ′ .coded .code h′)) ∷ ‵ (fbor κ (Body (mem (B κ′)) b o γ)) ∷ ‵ (flft κ q) ∷ ‵ (Part κ′ .own r (u ∷ [])) ∷ (‵ (flft κ′ q′) ⊛ ‵ ftrue) ∷ [])) (Post u)
   exits r u e =
       qed W (‵ (fobs γ (B κ′ .coded .code h′)) ∷ ‵ (fbor κ (Body (mem (B κ′)) b o γ)) ∷ ‵ (flft κ q) ∷ ‵ (Part κ′ .own r (u ∷ [])) ∷ (‵ (flft κ′ q′) ⊛ ‵ ftrue) ∷ []) ∵
-      suffices ! _ (ends-at 𝓤 H A it.ended stayed (it.clauses 𝓤 H A at-mem run) W (((κ, (κ′, tt)), (q, (q′, tt)), bounds, x, at), tt) u r (h′, (tt, tt)) (tt, (tt, tt))) $ says ! (e, refl) $
+      suffices ! _ (ends-at 𝓤 H A it.ended stayed (it.clauses 𝓤 H A at-mem run) W (((κ, (κ′, tt)), (q, (q′, tt)), bounds, x, at), tt) u r (h′, (tt, tt)) (tt, (tt, tt))) $ says ! (e .0, e .1, e .2, refl) $
       move ! (2 ∷ 4 ∷ []) $ join ! $ frame ! $ feqI ! (List Val) (vptr b o ∷ []) (vptr b o ∷ []) refl $ fjoin3 ! $
       nothing ! $ owned ! usize (Is usize) (uint-makes 𝓤 H A W w64) n _ (refl, n-fits) $ fjoin ! $ move ! (1 ∷ 0 ∷ []) $ fjoin ! $ done !
 

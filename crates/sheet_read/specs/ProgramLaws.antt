@@ -18,9 +18,9 @@ use Rattle.sheet.specs.Sheet.{cutSheet}
 use Rattle.sheet.specs.Taking.{Took}
 use Rattle.sheet.specs.TakingLaws.{took-none}
 use Rattle.sheet_cut.specs.Cutting.{Given, given}
-use Rattle.cut.specs.Program.{Takes, takes, Came, Goes, Begun, begun, Prints, prints}
-use Rattle.cut.specs.declared.Next.{Next}
-use Rattle.cut.specs.declared.Next.the-variants.{Failed, End, More}
+use Rattle.sheet_read.specs.Program.{Takes, takes, Came, Goes, Begun, begun, Prints, prints}
+use Rattle.sheet_read.specs.declared.Next.{Next}
+use Rattle.sheet_read.specs.declared.Next.the-variants.{Failed, End, More}
 
 -- ---- one read
 

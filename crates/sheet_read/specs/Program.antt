@@ -8,8 +8,8 @@ use lib.ListN.{length, take}
 use Rattle.octets.specs.Octets.{Wrote}
 use Rattle.sheet.specs.Sheet.{cutSheet}
 use Rattle.sheet.specs.Taking.{Took}
-use Rattle.cut.specs.declared.Next.{Next}
-use Rattle.cut.specs.declared.Next.the-variants.{Failed, End, More}
+use Rattle.sheet_read.specs.declared.Next.{Next}
+use Rattle.sheet_read.specs.declared.Next.the-variants.{Failed, End, More}
 
 -- a piece is taken behind any text that was taken before
 pub data Takes (piece : List ℕ) (len mode : ℕ) (buffer buffer' : List ℕ) (r : Next) : Type 0 where

@@ -1,8 +1,8 @@
 -- `put_cut` meets its contract: what is printed of a text that was taken is that of `cut_taken`.
-use Rattle.cut.specs.ProgramLaws.{prints-given}
+use Rattle.sheet_read.specs.ProgramLaws.{prints-given}
 use borrow.Author.Needs.{needs}
-use Rattle.cut.proofs.put_cut.Statement.{statement}
-use Rattle.cut.proofs.put_cut.Tie as tie
+use Rattle.sheet_read.proofs.put_cut.Statement.{statement}
+use Rattle.sheet_read.proofs.put_cut.Tie as tie
 
 slice-aggregate-take-input : tie.Need-slice-aggregate-take-input
 slice-aggregate-take-input c = search needs

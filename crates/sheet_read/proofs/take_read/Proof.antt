@@ -2,10 +2,10 @@
 use mathlib.Core.Bool.{true, false}
 use lib.ListN.{length}
 use denote.Ref.{now}
-use Rattle.cut.specs.ProgramLaws.{below-zero, counted, goes-failed, goes-end, goes-more}
+use Rattle.sheet_read.specs.ProgramLaws.{below-zero, counted, goes-failed, goes-end, goes-more}
 use borrow.Author.Needs.{needs}
-use Rattle.cut.proofs.take_read.Statement.{statement}
-use Rattle.cut.proofs.take_read.Tie as tie
+use Rattle.sheet_read.proofs.take_read.Statement.{statement}
+use Rattle.sheet_read.proofs.take_read.Tie as tie
 
 returns : tie.Need-returns
 returns c = let s = c .before .before .before in goes-failed _ _ _ _ (s .args .got) (below-zero (s .args .got) true (s .fits .got) (c .if1 .taken))

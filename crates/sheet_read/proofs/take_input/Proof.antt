@@ -2,11 +2,11 @@
 use mathlib.Core.Path.{_≡_, refl}
 use native.Mathlib.Omega.{arith}
 use lib.ListN.{length}
-use Rattle.cut.specs.Program.{Begun}
-use Rattle.cut.specs.ProgramLaws.{begun-none, begun-more, given-end, given-begun, given-none}
+use Rattle.sheet_read.specs.Program.{Begun}
+use Rattle.sheet_read.specs.ProgramLaws.{begun-none, begun-more, given-end, given-begun, given-none}
 use borrow.Author.Needs.{needs}
-use Rattle.cut.proofs.take_input.Statement.{statement}
-use Rattle.cut.proofs.take_input.Tie as tie
+use Rattle.sheet_read.proofs.take_input.Statement.{statement}
+use Rattle.sheet_read.proofs.take_input.Tie as tie
 
 abbrev Inv-loop : tie.InvT-loop
 Inv-loop buffer₀ len₀ mode₀ turns₀ buffer len mode turns = (length buffer ≡ length buffer₀) × Begun len mode buffer

@@ -1,0 +1,1 @@
+// Demand 3 over the call itself: the theorem of specs/. No code.
