@@ -10,6 +10,17 @@
    uint16_t, uint32_t or uint64_t must be aligned. The calling thread must have 1.5 MiB of stack free for cff_subset and cff_subset_cid.
    Beyond this there is nothing that a caller must keep.
 
+   Time. A call is linear in its input but for three things, of which two come with hostile fonts and records: parts that the font
+   dictionaries or the fonts of a set share are read again wherever they are named (65,535 font dictionaries that alternate between
+   two Privates of 100 KB, a font of 1.1 MB: 49 seconds of cff_read), rows that do not rise are passed over for each hint mask (the
+   342,878 rows of all glyphs of Noto Sans CJK, shuffled: 119 seconds of cff_subset_cid, rising 0.2), and a top DICT is walked once
+   for each operator (60 MB of reals: 23 seconds). A service that takes uploads should limit the size of a file, put the rows of a
+   record in order, and call from a process of its own with a limit on its CPU time.
+
+   Composed glyphs. A glyph that is composed of two others (endchar with four operands, as accented letters of old fonts are) is not
+   plain: nothing is promised of it, and the subset does not add its parts. A caller that keeps one keeps its parts too: the glyphs
+   of the two standard names that the last two operands are the codes of.
+
    Each function returns 0, or the number of a refusal. With 0 the answer stands at the start of what was lent for it, and the rest
    stays as it was. With a refusal nothing is written, work words apart. The refusals of reading come first, then
    CFF_NO_SUCH_NUMBER, then CFF_OUTPUT; those of subsetting are said at cff_subset. */

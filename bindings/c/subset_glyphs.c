@@ -2,7 +2,8 @@
 
        subset_glyphs FONT NAME OUTPUT GLYPH...
 
-   All subroutines are copied: the glyphs are not traced. */
+   All subroutines are copied: the glyphs are not traced. A glyph that is composed of others (endchar with four operands) is kept
+   without its parts: name those too. */
 
 #include <stdio.h>
 #include <stdlib.h>
@@ -57,6 +58,18 @@ static void check(uint8_t refusal)
     }
 }
 
+/* The number that a word spells in decimal digits alone; a word that spells none is no glyph. */
+static unsigned long glyph_number(const char *word)
+{
+    char *end;
+    if (word[0] < '0' || word[0] > '9')
+        fail("a glyph is a decimal number");
+    unsigned long glyph = strtoul(word, &end, 10);
+    if (*end != '\0')
+        fail("a glyph is a decimal number");
+    return glyph;
+}
+
 int main(int argc, char **argv)
 {
     if (argc < 4)
@@ -69,7 +82,7 @@ int main(int argc, char **argv)
     size_t keep_len = (size_t)argc - 4;
     uint16_t *keep = allocated(keep_len * sizeof *keep);
     for (size_t k = 0; k < keep_len; k++) {
-        unsigned long glyph = strtoul(argv[4 + k], NULL, 10);
+        unsigned long glyph = glyph_number(argv[4 + k]);
         if (glyph >= counts[CFF_GLYPHS])
             check(CFF_NO_SUCH_NUMBER);
         keep[k] = (uint16_t)glyph;
