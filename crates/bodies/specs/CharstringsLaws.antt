@@ -28,25 +28,25 @@ use Rattle.bodies.specs.declared.charstrings.Kept.{Kept}
 pub fd-word : (cid : Bool) (ws : List ℕ) (n i r : ℕ) → cid ≡ true → r ≡ getD ws (n + i) 0 → r ≡ fdAt cid ws n i
 fd-word cid ws n i r e h = h ∙ ap (λ (b : Bool). pick b (getD ws (n + i) 0) 0) (sym e)
 
-module _ {b ws : List ℕ} {ix : Index} {kept : Kept} {ats counts reacheds : List ℕ} {globals : Ranks} {rows : List Row} {rising : Bool}
-    (w : CharstringsIn b ws ix kept ats counts reacheds globals rows rising) (i : ℕ) (h : i < kept .count) where
+module _ {b ws : List ℕ} {ix : Index} {kept : Kept} {table : List ℕ} {globals : Ranks} {rows : List Row} {rising : Bool}
+    (w : CharstringsIn b ws ix kept table globals rows rising) (i : ℕ) (h : i < kept .count) where
   module _ (fd : ℕ) (e : fd ≡ fdAt (kept .cid) ws (kept .all) i) where
     fd-few : fd < 256
     fd-few = subst (λ (x : ℕ). x < 256) (sym e) (w .fds i h)
 
     -- the FD is in the tables
-    pub fd-inside : (fd < length ats) × (fd < length counts) × (fd < length reacheds)
-    fd-inside = (omega (arith, fd-few, w .atsLong), omega (arith, fd-few, w .countsLong), omega (arith, fd-few, w .reachedsLong))
+    pub fd-inside : 512 + fd < length table
+    fd-inside = omega (arith, fd-few, w .tableLong)
 
     -- the ranks of its local subroutines
-    ranks-are : (locals : Ranks) → locals ≡ ranksIn ats counts reacheds fd → locals ≡ ranksIn ats counts reacheds (fdAt (kept .cid) ws (kept .all) i)
-    ranks-are locals l = l ∙ ap (ranksIn ats counts reacheds) e
+    ranks-are : (locals : Ranks) → locals ≡ ranksIn table fd → locals ≡ ranksIn table (fdAt (kept .cid) ws (kept .all) i)
+    ranks-are locals l = l ∙ ap (ranksIn table) e
 
   -- the glyph is in the font
   pub glyph-inside : (g : ℕ) → g ≡ glyphAt ws i → g < ix .count
   glyph-inside g e = subst (λ (x : ℕ). x < ix .count) (sym e) (w .glyphs i h)
 
-  module _ (g fd : ℕ) (eg : g ≡ glyphAt ws i) (ef : fd ≡ fdAt (kept .cid) ws (kept .all) i) (locals : Ranks) (el : locals ≡ ranksIn ats counts reacheds fd)
+  module _ (g fd : ℕ) (eg : g ≡ glyphAt ws i) (ef : fd ≡ fdAt (kept .cid) ws (kept .all) i) (locals : Ranks) (el : locals ≡ ranksIn table fd)
       (s : List ℕ) (es : s ≡ getD (itemsOf b ix) g []) where
     -- what renumbering it asks
     pub charstring-inputs : Inputs s ws locals globals rows rising (Glyph g)
@@ -63,7 +63,7 @@ module _ {b ws : List ℕ} {ix : Index} {kept : Kept} {ats counts reacheds : Lis
     module _ (way : ℕ) where
       -- the charstring of the i-th kept glyph
       abbrev body : May (List ℕ)
-      body = charstringBy way rows (kept .cid) ws (kept .all) ats counts reacheds globals (itemsOf b ix) i
+      body = charstringBy way rows (kept .cid) ws (kept .all) table globals (itemsOf b ix) i
 
       charstring-is : bodyBy way rows (callsBy ws locals globals) (glyph g) s ≡ body
       charstring-is =

@@ -122,44 +122,44 @@ mapped-placed {A} f h k (x ∷ l) same =
     ap (λ (m : A). m ∷ mapped f (those every (length l) (k + 1))) e
     ∙ ap (λ (m : List A). h x ∷ m) (mapped-placed f h (k + 1) l (λ i q. let y : k + 1 + i ≡ k + suc i = omega arith in ap f y ∙ same (suc i) (omega arith)))
 
-module _ (way : ℕ) (p : Program) (rows : List Row) (cid : Bool) (ws : List ℕ) (n : ℕ) (ats counts reacheds : List ℕ) (globals : Ranks) (order : List ℕ)
+module _ (way : ℕ) (p : Program) (rows : List Row) (cid : Bool) (ws : List ℕ) (n : ℕ) (table : List ℕ) (globals : Ranks) (order : List ℕ)
     (glyphs : (i : ℕ) → i < length order → glyphAt ws i ≡ getD order i 0)
     (alike : (i : ℕ) → i < length order → way ≡ 0 → (b : ℕ) (z : ℤ)
-    → callsAt way rows cid ws n ats counts reacheds globals (p .charstrings) i b z ≡ callsIn p rows (getD (p .fds) (getD order i 0) 0) b z) where
+    → callsAt way rows cid ws n table globals (p .charstrings) i b z ≡ callsIn p rows (getD (p .fds) (getD order i 0) 0) b z) where
   -- the charstring of a glyph by the record
   abbrev recordBody : ℕ → May (List ℕ)
   recordBody g = bodyBy way rows (callsIn p rows (getD (p .fds) g 0)) (glyph g) (getD (p .charstrings) g [])
 
-  placed-body : (i : ℕ) → i < length order → charstringBy way rows cid ws n ats counts reacheds globals (p .charstrings) (0 + i) ≡ recordBody (getD order i 0)
+  placed-body : (i : ℕ) → i < length order → charstringBy way rows cid ws n table globals (p .charstrings) (0 + i) ≡ recordBody (getD order i 0)
   placed-body i h =
       let z : 0 + i ≡ i = omega arith in
-      ap (charstringBy way rows cid ws n ats counts reacheds globals (p .charstrings)) z
-      ∙ ap (λ (g : ℕ). bodyBy way rows (callsAt way rows cid ws n ats counts reacheds globals (p .charstrings) i) (glyph g) (getD (p .charstrings) g [])) (glyphs i h)
-      ∙ body-by-alike way rows (callsAt way rows cid ws n ats counts reacheds globals (p .charstrings) i) (callsIn p rows (getD (p .fds) (getD order i 0) 0))
+      ap (charstringBy way rows cid ws n table globals (p .charstrings)) z
+      ∙ ap (λ (g : ℕ). bodyBy way rows (callsAt way rows cid ws n table globals (p .charstrings) i) (glyph g) (getD (p .charstrings) g [])) (glyphs i h)
+      ∙ body-by-alike way rows (callsAt way rows cid ws n table globals (p .charstrings) i) (callsIn p rows (getD (p .fds) (getD order i 0) 0))
       (glyph (getD order i 0)) (getD (p .charstrings) (getD order i 0) []) (alike i h)
 
   -- the charstrings by the words are those of the glyphs in their order
-  pub charstrings-record : charstringsBy way rows cid ws n ats counts reacheds globals (p .charstrings) (length order) ≡ each recordBody order
-  charstrings-record = each-placed (charstringBy way rows cid ws n ats counts reacheds globals (p .charstrings)) recordBody 0 order placed-body
+  pub charstrings-record : charstringsBy way rows cid ws n table globals (p .charstrings) (length order) ≡ each recordBody order
+  charstrings-record = each-placed (charstringBy way rows cid ws n table globals (p .charstrings)) recordBody 0 order placed-body
 
   placed-new : (i : ℕ) → i < length order
-      → newBody way rows (callsAt way rows cid ws n ats counts reacheds globals (p .charstrings) (0 + i)) (glyph (glyphAt ws (0 + i))) (getD (p .charstrings) (glyphAt ws (0 + i)) [])
+      → newBody way rows (callsAt way rows cid ws n table globals (p .charstrings) (0 + i)) (glyph (glyphAt ws (0 + i))) (getD (p .charstrings) (glyphAt ws (0 + i)) [])
       ≡ newBody way rows (callsIn p rows (getD (p .fds) (getD order i 0) 0)) (glyph (getD order i 0)) (getD (p .charstrings) (getD order i 0) [])
   placed-new i h =
       let z : 0 + i ≡ i = omega arith in
-      ap (λ (j : ℕ). newBody way rows (callsAt way rows cid ws n ats counts reacheds globals (p .charstrings) j) (glyph (glyphAt ws j)) (getD (p .charstrings) (glyphAt ws j) [])) z
-      ∙ ap (λ (g : ℕ). newBody way rows (callsAt way rows cid ws n ats counts reacheds globals (p .charstrings) i) (glyph g) (getD (p .charstrings) g [])) (glyphs i h)
-      ∙ new-body-alike way rows (callsAt way rows cid ws n ats counts reacheds globals (p .charstrings) i) (callsIn p rows (getD (p .fds) (getD order i 0) 0))
+      ap (λ (j : ℕ). newBody way rows (callsAt way rows cid ws n table globals (p .charstrings) j) (glyph (glyphAt ws j)) (getD (p .charstrings) (glyphAt ws j) [])) z
+      ∙ ap (λ (g : ℕ). newBody way rows (callsAt way rows cid ws n table globals (p .charstrings) i) (glyph g) (getD (p .charstrings) g [])) (glyphs i h)
+      ∙ new-body-alike way rows (callsAt way rows cid ws n table globals (p .charstrings) i) (callsIn p rows (getD (p .fds) (getD order i 0) 0))
       (glyph (getD order i 0)) (getD (p .charstrings) (getD order i 0) []) (alike i h)
 
   -- they are the charstrings of the bodies by the way
   pub new-charstrings-record : (used : List ℕ)
-      → newCharstrings way rows cid ws n ats counts reacheds globals (p .charstrings) (length order) ≡ bodiesBy p rows way used order .charstrings
+      → newCharstrings way rows cid ws n table globals (p .charstrings) (length order) ≡ bodiesBy p rows way used order .charstrings
   unfolding bodiesBy
   new-charstrings-record used = mapped-placed _ (λ g. newBody way rows (callsIn p rows (getD (p .fds) g 0)) (glyph g) (getD (p .charstrings) g [])) 0 order placed-new
 
   -- renumbered: none fails where that of no glyph does
-  pub charstrings-hold : way ≡ 0 → holds (charstringsBy way rows cid ws n ats counts reacheds globals (p .charstrings) (length order)) ≡ allHold (renumberedGlyph p rows) order
+  pub charstrings-hold : way ≡ 0 → holds (charstringsBy way rows cid ws n table globals (p .charstrings) (length order)) ≡ allHold (renumberedGlyph p rows) order
   charstrings-hold e =
       ap holds (charstrings-record ∙ ap (λ (w : ℕ). each (λ g. bodyBy w rows (callsIn p rows (getD (p .fds) g 0)) (glyph g) (getD (p .charstrings) g [])) order) e)
       ∙ holds-each (renumberedGlyph p rows) order

@@ -29,17 +29,17 @@ module _ (from : Source) (rows : List Row) (ws b : List ℕ) where
   abbrev pub newSubrsFrom : List (List ℕ)
   newSubrsFrom = newSubrs (from .way) rows (reachedIn ws (from .own)) (callsBy ws (from .locals) (from .globals)) (siteIn (from .of)) (itemsOf b (from .ix))
 
-module _ (kept : Kept) (rows : List Row) (ws ats counts reacheds b : List ℕ) where
+module _ (kept : Kept) (rows : List Row) (ws table b : List ℕ) where
   -- what charstrings ask of the font, the words and the tables
   abbrev pub KeptIn : Type 0
-  KeptIn = CharstringsIn b ws (kept .ix) kept ats counts reacheds (kept .globals) rows (kept .rising)
+  KeptIn = CharstringsIn b ws (kept .ix) kept table (kept .globals) rows (kept .rising)
 
   -- the i-th by the way; all, or that their renumbering fails; all
   abbrev pub charstringFrom : ℕ → May (List ℕ)
-  charstringFrom i = charstringBy (kept .way) rows (kept .cid) ws (kept .all) ats counts reacheds (kept .globals) (itemsOf b (kept .ix)) i
+  charstringFrom i = charstringBy (kept .way) rows (kept .cid) ws (kept .all) table (kept .globals) (itemsOf b (kept .ix)) i
 
   abbrev pub charstringsFrom : May (List (List ℕ))
-  charstringsFrom = charstringsBy (kept .way) rows (kept .cid) ws (kept .all) ats counts reacheds (kept .globals) (itemsOf b (kept .ix)) (kept .count)
+  charstringsFrom = charstringsBy (kept .way) rows (kept .cid) ws (kept .all) table (kept .globals) (itemsOf b (kept .ix)) (kept .count)
 
   abbrev pub newCharstringsFrom : List (List ℕ)
-  newCharstringsFrom = newCharstrings (kept .way) rows (kept .cid) ws (kept .all) ats counts reacheds (kept .globals) (itemsOf b (kept .ix)) (kept .count)
+  newCharstringsFrom = newCharstrings (kept .way) rows (kept .cid) ws (kept .all) table (kept .globals) (itemsOf b (kept .ix)) (kept .count)

@@ -114,9 +114,9 @@ glyphAt ws i = getD ws i 0 % 65536
 abbrev pub fdAt : Bool → List ℕ → ℕ → ℕ → ℕ
 fdAt cid ws n i = pick cid (getD ws (n + i) 0) 0
 
--- the ranks of the locals of an FD by three tables: where they stand, how many, how many reached
-abbrev pub ranksIn : List ℕ → List ℕ → List ℕ → ℕ → Ranks
-ranksIn ats counts reacheds fd = record { at = getD ats fd 0; count = getD counts fd 0; reached = getD reacheds fd 0 }
+-- the ranks of the locals of an FD by the table of all FDs: where they stand, behind that of each how many, behind these how many are reached
+abbrev pub ranksIn : List ℕ → ℕ → Ranks
+ranksIn table fd = record { at = getD table fd 0; count = getD table (256 + fd) 0; reached = getD table (512 + fd) 0 }
 
 -- the numbers below k
 abbrev pub every : ℕ → Bool
@@ -125,10 +125,10 @@ every i = true
 abbrev pub upTo : ℕ → List ℕ
 upTo k = those every k 0
 
-module _ (way : ℕ) (rows : List Row) (cid : Bool) (ws : List ℕ) (n : ℕ) (ats counts reacheds : List ℕ) (globals : Ranks) (items : List (List ℕ)) where
+module _ (way : ℕ) (rows : List Row) (cid : Bool) (ws : List ℕ) (n : ℕ) (table : List ℕ) (globals : Ranks) (items : List (List ℕ)) where
   -- the calls of the i-th kept glyph
   abbrev pub callsAt : ℕ → Calls
-  callsAt i = callsBy ws (ranksIn ats counts reacheds (fdAt cid ws n i)) globals
+  callsAt i = callsBy ws (ranksIn table (fdAt cid ws n i)) globals
 
   -- its charstring by the way, or that its renumbering fails
   abbrev pub charstringBy : ℕ → May (List ℕ)
@@ -142,17 +142,15 @@ module _ (way : ℕ) (rows : List Row) (cid : Bool) (ws : List ℕ) (n : ℕ) (a
   charstringsBy k = each charstringBy (upTo k)
 
 -- what the charstrings ask
-pub record CharstringsIn (b ws : List ℕ) (ix : Index) (kept : Kept) (ats counts reacheds : List ℕ) (globals : Ranks) (rows : List Row) (rising : Bool) : Type 0 where
+pub record CharstringsIn (b ws : List ℕ) (ix : Index) (kept : Kept) (table : List ℕ) (globals : Ranks) (rows : List Row) (rising : Bool) : Type 0 where
   pub good : Good b ix
   pub few : ix .count < 65536
   pub size : length b ≤ 67108864
   pub keptFew : kept .count < 65536
   pub inside : kept .all + kept .count ≤ length ws
-  pub atsLong : 256 ≤ length ats
-  pub countsLong : 256 ≤ length counts
-  pub reachedsLong : 256 ≤ length reacheds
+  pub tableLong : 768 ≤ length table
   pub glyphs : (i : ℕ) → i < kept .count → glyphAt ws i < ix .count
   pub fds : (i : ℕ) → i < kept .count → fdAt (kept .cid) ws (kept .all) i < 256
-  pub localRanks : (i : ℕ) → i < kept .count → Ranked ws (ranksIn ats counts reacheds (fdAt (kept .cid) ws (kept .all) i))
+  pub localRanks : (i : ℕ) → i < kept .count → Ranked ws (ranksIn table (fdAt (kept .cid) ws (kept .all) i))
   pub globalRanks : Ranked ws globals
   pub order : rising ≡ true → rises rows ≡ true

@@ -99,13 +99,13 @@ holds-each {A} f (k ∷ ks) = holds-and (f k) _ (allHold f ks) (λ b. rest b (ea
 
 -- ---- charstrings
 
-module _ (way : ℕ) (rows : List Row) (cid : Bool) (ws : List ℕ) (n : ℕ) (ats counts reacheds : List ℕ) (globals : Ranks) (items : List (List ℕ)) (k : ℕ) where
+module _ (way : ℕ) (rows : List Row) (cid : Bool) (ws : List ℕ) (n : ℕ) (table : List ℕ) (globals : Ranks) (items : List (List ℕ)) (k : ℕ) where
   -- those of the kept glyphs, of which none fails
-  pub new-charstrings-is : holds (charstringsBy way rows cid ws n ats counts reacheds globals items k) ≡ true
-      → newCharstrings way rows cid ws n ats counts reacheds globals items k ≡ manyOf (charstringsBy way rows cid ws n ats counts reacheds globals items k)
+  pub new-charstrings-is : holds (charstringsBy way rows cid ws n table globals items k) ≡ true
+      → newCharstrings way rows cid ws n table globals items k ≡ manyOf (charstringsBy way rows cid ws n table globals items k)
   new-charstrings-is h =
-      mapped-bodies (charstringBy way rows cid ws n ats counts reacheds globals items) _
-      (λ i. new-body-is way rows (callsAt way rows cid ws n ats counts reacheds globals items i) (glyph (glyphAt ws i)) (getD items (glyphAt ws i) [])) (upTo k) h
+      mapped-bodies (charstringBy way rows cid ws n table globals items) _
+      (λ i. new-body-is way rows (callsAt way rows cid ws n table globals items i) (glyph (glyphAt ws i)) (getD items (glyphAt ws i) [])) (upTo k) h
 
 -- ---- a font's
 

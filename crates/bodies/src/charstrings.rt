@@ -1,5 +1,5 @@
 // The charstrings of the kept glyphs by the way, in the order in which they are written: each word has a glyph, and in a CID-keyed font
-// another has its FD, whose local subroutines have their ranks where three tables say.
+// another has its FD, whose local subroutines have their ranks where a table says.
 ghost use mathlib.Core.Path.{_≡_};
 ghost use mathlib.Core.Bool.{true};
 ghost use Prim.Native.Nat.{_+_, _≤_, _<_};
@@ -48,14 +48,15 @@ fn fd_at(words: &[u32], cid: bool, n: usize, i: usize) -> usize
     0
 }
 
-// Where the ranks of the local subroutines of an FD stand.
-pub fn ranks_in(ats: &[usize], counts: &[usize], reacheds: &[usize], fd: usize) -> Ranks
-    requires { ⌜ (fd < length (now ats)) × (fd < length (now counts)) × (fd < length (now reacheds)) ⌝ }
-    ensures { λ r. ⌜ r ≡ ranksIn (now (ats .entry)) (now (counts .entry)) (now (reacheds .entry)) fd ⌝ }
+// Where the ranks of the local subroutines of an FD stand, by the table: 256 places, behind them 256 counts, and behind these how many are
+// reached.
+pub fn ranks_in(table: &[usize], fd: usize) -> Ranks
+    requires { ⌜ 512 + fd < length (now table) ⌝ }
+    ensures { λ r. ⌜ r ≡ ranksIn (now (table .entry)) fd ⌝ }
 {
-    let at = ats[fd];
-    let count = counts[fd];
-    let reached = reacheds[fd];
+    let at = table[fd];
+    let count = table[256 + fd];
+    let reached = table[512 + fd];
     Ranks { at, count, reached }
 }
 
@@ -64,19 +65,16 @@ fn charstring_len(
     kept: Kept,
     font: &[u8],
     words: &[u32],
-    ats: &[usize],
-    counts: &[usize],
-    reacheds: &[usize],
+    table: &[usize],
     rows: &[u8],
     i: usize,
 ) -> Sized
-    requires { ⌜ (KeptIn kept (rowsOf (now rows)) (now words) (now ats) (now counts) (now reacheds) (now font)) × (i < kept .count) ⌝ }
-    ensures { λ r. ⌜ (r ≡ sizedOf (charstringFrom kept (rowsOf (now (rows .entry))) (now (words .entry)) (now (ats .entry)) (now (counts .entry))
-        (now (reacheds .entry)) (now (font .entry)) i)) × (AtMost 335544320 r) ⌝ }
+    requires { ⌜ (KeptIn kept (rowsOf (now rows)) (now words) (now table) (now font)) × (i < kept .count) ⌝ }
+    ensures { λ r. ⌜ (r ≡ sizedOf (charstringFrom kept (rowsOf (now (rows .entry))) (now (words .entry)) (now (table .entry)) (now (font .entry)) i)) × (AtMost 335544320 r) ⌝ }
 {
     let g = glyph_at(words, i);
     let fd = fd_at(words, kept.cid, kept.all, i);
-    let locals = ranks_in(ats, counts, reacheds, fd);
+    let locals = ranks_in(table, fd);
     let code = index::item(font, kept.ix, g);
     let site = Site::Glyph(g);
     crate::body_len(
@@ -96,20 +94,17 @@ pub fn charstrings_total(
     kept: Kept,
     font: &[u8],
     words: &[u32],
-    ats: &[usize],
-    counts: &[usize],
-    reacheds: &[usize],
+    table: &[usize],
     rows: &[u8],
 ) -> Measured
-    requires { ⌜ KeptIn kept (rowsOf (now rows)) (now words) (now ats) (now counts) (now reacheds) (now font) ⌝ }
-    ensures { λ r. ⌜ (r ≡ measuredOf (charstringsFrom kept (rowsOf (now (rows .entry))) (now (words .entry)) (now (ats .entry)) (now (counts .entry))
-        (now (reacheds .entry)) (now (font .entry)))) × (Bounded r) ⌝ }
+    requires { ⌜ KeptIn kept (rowsOf (now rows)) (now words) (now table) (now font) ⌝ }
+    ensures { λ r. ⌜ (r ≡ measuredOf (charstringsFrom kept (rowsOf (now (rows .entry))) (now (words .entry)) (now (table .entry)) (now (font .entry)))) × (Bounded r) ⌝ }
 {
     let n = kept.count;
     let mut total: usize = 0;
     let mut i: usize = 0;
     while i < n {
-        match charstring_len(kept, font, words, ats, counts, reacheds, rows, i) {
+        match charstring_len(kept, font, words, table, rows, i) {
             Sized::Len(len) => {
                 total += len;
                 i += 1;
@@ -127,23 +122,20 @@ fn put_charstring(
     kept: Kept,
     font: &[u8],
     words: &[u32],
-    ats: &[usize],
-    counts: &[usize],
-    reacheds: &[usize],
+    table: &[usize],
     rows: &[u8],
     i: usize,
     out: &mut [u8],
     at: usize,
 ) -> usize
-    requires { ⌜ (KeptIn kept (rowsOf (now rows)) (now words) (now ats) (now counts) (now reacheds) (now font)) × (i < kept .count)
-        × (holds (charstringFrom kept (rowsOf (now rows)) (now words) (now ats) (now counts) (now reacheds) (now font) i) ≡ true)
-        × (at + length (bodyOf (charstringFrom kept (rowsOf (now rows)) (now words) (now ats) (now counts) (now reacheds) (now font) i)) ≤ length (now out)) ⌝ }
-    ensures { λ r. ⌜ Wrote (now (out .entry)) at (bodyOf (charstringFrom kept (rowsOf (now (rows .entry))) (now (words .entry)) (now (ats .entry))
-        (now (counts .entry)) (now (reacheds .entry)) (now (font .entry)) i)) (now (out .exit)) r ⌝ }
+    requires { ⌜ (KeptIn kept (rowsOf (now rows)) (now words) (now table) (now font)) × (i < kept .count)
+        × (holds (charstringFrom kept (rowsOf (now rows)) (now words) (now table) (now font) i) ≡ true)
+        × (at + length (bodyOf (charstringFrom kept (rowsOf (now rows)) (now words) (now table) (now font) i)) ≤ length (now out)) ⌝ }
+    ensures { λ r. ⌜ Wrote (now (out .entry)) at (bodyOf (charstringFrom kept (rowsOf (now (rows .entry))) (now (words .entry)) (now (table .entry)) (now (font .entry)) i)) (now (out .exit)) r ⌝ }
 {
     let g = glyph_at(words, i);
     let fd = fd_at(words, kept.cid, kept.all, i);
-    let locals = ranks_in(ats, counts, reacheds, fd);
+    let locals = ranks_in(table, fd);
     let code = index::item(font, kept.ix, g);
     let site = Site::Glyph(g);
     crate::put_body(
@@ -165,18 +157,15 @@ pub fn put_charstrings(
     kept: Kept,
     font: &[u8],
     words: &[u32],
-    ats: &[usize],
-    counts: &[usize],
-    reacheds: &[usize],
+    table: &[usize],
     rows: &[u8],
     total: usize,
     out: &mut [u8],
     at: usize,
 ) -> usize
-    requires { ⌜ (KeptIn kept (rowsOf (now rows)) (now words) (now ats) (now counts) (now reacheds) (now font))
-        × (Room (charstringsFrom kept (rowsOf (now rows)) (now words) (now ats) (now counts) (now reacheds) (now font)) total at (length (now out))) ⌝ }
-    ensures { λ r. ⌜ Wrote (now (out .entry)) at (indexBytes (newCharstringsFrom kept (rowsOf (now (rows .entry))) (now (words .entry)) (now (ats .entry))
-        (now (counts .entry)) (now (reacheds .entry)) (now (font .entry)))) (now (out .exit)) r ⌝ }
+    requires { ⌜ (KeptIn kept (rowsOf (now rows)) (now words) (now table) (now font))
+        × (Room (charstringsFrom kept (rowsOf (now rows)) (now words) (now table) (now font)) total at (length (now out))) ⌝ }
+    ensures { λ r. ⌜ Wrote (now (out .entry)) at (indexBytes (newCharstringsFrom kept (rowsOf (now (rows .entry))) (now (words .entry)) (now (table .entry)) (now (font .entry)))) (now (out .exit)) r ⌝ }
 {
     let n = kept.count;
     let to = index::index_for(at, n, total);
@@ -184,18 +173,7 @@ pub fn put_charstrings(
     let mut p = to.base + 1;
     let mut i: usize = 0;
     while i < n {
-        p = put_charstring(
-            kept,
-            font,
-            words,
-            ats,
-            counts,
-            reacheds,
-            rows,
-            i,
-            &mut *out,
-            p,
-        );
+        p = put_charstring(kept, font, words, table, rows, i, &mut *out, p);
         index::put_end(out, to, i, p);
         i += 1;
     }

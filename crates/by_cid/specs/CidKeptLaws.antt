@@ -216,9 +216,9 @@ module _ (b : List ℕ) (f : Font) (held : FontHeld b f) where
             ∙ table-new-fds p kept order (held .program) (order-same p kept) (all-below (length (p .charstrings)) keep order (order-in p kept)) ws n k (g .fds) table used long ranks
             ∙ ap (λ (l : List ℕ). newFds p l order) (sym fds-used)
 
-        pub cid-ready : (ats counts reacheds : List ℕ) → Ready b f rows used new r ats counts reacheds → r .kept .cid ≡ true
-            → CidReady b f rows used new r ats counts reacheds
-        cid-ready ats counts reacheds ready keyed =
+        pub cid-ready : (table : List ℕ) → Ready b f rows used new r table → r .kept .cid ≡ true
+            → CidReady b f rows used new r table
+        cid-ready table ready keyed =
             record {
               ready = ready;
               keyed = keyed;

@@ -11,14 +11,13 @@ ghost use Rattle.subset.specs.Cut.{allFound};
 ghost use Rattle.fds.specs.Locals.{fdsIn};
 ghost use Rattle.parts.specs.Ready.{FontHeld, Summed};
 ghost use Rattle.outcome.specs.Entry.{cutBehind, Cut, Passed};
-ghost use Rattle.cid_parts.specs.Cid.{sized, Gathered, StringsReady, CidReady, DictsReady, cidBytes, cidPlaces};
+ghost use Rattle.cid_parts.specs.Cid.{sized, Gathered, StringsReady, CidReady, cidBytes, cidPlaces};
 use cff::font::Font;
-use cid_parts::Places;
+use cid_parts::PlacedCut;
 use cid_parts::place_parts;
 use cid_parts::put_parts;
 use outcome::Answer;
-use own_strings::Own;
-use parts::Planned;
+use outcome::Prepared;
 use refusal::Refusal;
 ghost use Rattle.octets.specs.Lists.{allBelow};
 
@@ -38,61 +37,34 @@ fn gather(font: &[u8], f: Font, keep: &[u16], words: &mut [u32]) -> usize
 
 // The subset that has these places, by its length: in the front of the output, or refusal 10 or 11.
 fn put_sized(
-    r: Planned,
-    at: Places,
-    own: Own,
-    count: usize,
+    c: PlacedCut,
     font: &[u8],
-    f: Font,
     name: &[u8],
     slots: &[usize],
     used: &[u32],
     words: &[u32],
-    ats: &[usize],
-    counts: &[usize],
-    reacheds: &[usize],
+    table: &[usize],
     totals: &[usize],
     rows: &[u8],
-    sizes: &[usize],
-    lens: &[usize],
     out: &mut [u8],
 ) -> Answer
-    requires { ⌜ (CidReady (now font) f (rowsOf (now rows)) (now used) (now words) r (now ats) (now counts) (now reacheds))
-        × (Summed (now font) f (rowsOf (now rows)) (now used) (now words) r (now ats) (now counts) (now reacheds) (now totals))
-        × (StringsReady (programOf (now font) f) (now slots) own) × (length (now name) ≤ 65535)
-        × (at ≡ cidPlaces (now font) f (rowsOf (now rows)) (now used) (now words) r (now name))
-        × (at .end ≤ 67108864 → DictsReady (now font) f (rowsOf (now rows)) (now used) (now words) r (now sizes) (now lens) count (at .privates)) ⌝ }
-    ensures { λ a. ⌜ Cut (sized (r .kept .way) (cidBytes (now (font .entry)) f (rowsOf (now (rows .entry))) (now (used .entry)) (now (words .entry)) r (now (name .entry)))
-        (length (now (out .entry)))) (now (out .entry)) (now (out .exit)) a ⌝ }
+    requires { ⌜ (CidReady (now font) (c .cut .f) (rowsOf (now rows)) (now used) (now words) (c .cut .plan) (now table))
+        × (Summed (now font) (c .cut .f) (rowsOf (now rows)) (now used) (now words) (c .cut .plan) (now table) (now totals))
+        × (StringsReady (programOf (now font) (c .cut .f)) (now slots) (c .cut .own)) × (length (now name) ≤ 65535)
+        × (c .at ≡ cidPlaces (now font) (c .cut .f) (rowsOf (now rows)) (now used) (now words) (c .cut .plan) (now name))
+        × (c .cut .count ≡ length (fdsIn (now used))) ⌝ }
+    ensures { λ a. ⌜ Cut (sized (c .cut .plan .kept .way) (cidBytes (now (font .entry)) (c .cut .f) (rowsOf (now (rows .entry))) (now (used .entry)) (now (words .entry)) (c .cut .plan)
+        (now (name .entry))) (length (now (out .entry)))) (now (out .entry)) (now (out .exit)) a ⌝ }
 {
-    let kept = r.kept;
-    let end = at.end;
+    let kept = c.cut.plan.kept;
+    let end = c.at.end;
     if 67108864 < end {
         return Answer::Refused(Refusal::SUBSET);
     }
     if out.len() < end {
         return Answer::Refused(Refusal::OUTPUT);
     }
-    put_parts(
-        r,
-        at,
-        own,
-        count,
-        font,
-        f,
-        name,
-        slots,
-        used,
-        words,
-        ats,
-        counts,
-        reacheds,
-        totals,
-        rows,
-        sizes,
-        lens,
-        out,
-    );
+    put_parts(c, font, name, slots, used, words, table, totals, rows, out);
     Answer::Subset {
         way: kept.way,
         len: end,
@@ -101,28 +73,26 @@ fn put_sized(
 
 // The subset from its plan: measured, and then in the front of the output, or refusal 10 or 11.
 fn write_planned(
-    r: Planned,
-    own: Own,
-    count: usize,
+    cut: Prepared,
     font: &[u8],
-    f: Font,
     name: &[u8],
     slots: &[usize],
     used: &[u32],
     words: &[u32],
-    ats: &[usize],
-    counts: &[usize],
-    reacheds: &[usize],
+    table: &[usize],
     totals: &[usize],
     rows: &[u8],
     out: &mut [u8],
 ) -> Answer
-    requires { ⌜ (CidReady (now font) f (rowsOf (now rows)) (now used) (now words) r (now ats) (now counts) (now reacheds))
-        × (Summed (now font) f (rowsOf (now rows)) (now used) (now words) r (now ats) (now counts) (now reacheds) (now totals))
-        × (StringsReady (programOf (now font) f) (now slots) own) × (length (now name) ≤ 65535) × (count ≡ length (fdsIn (now used))) ⌝ }
-    ensures { λ a. ⌜ Cut (sized (r .kept .way) (cidBytes (now (font .entry)) f (rowsOf (now (rows .entry))) (now (used .entry)) (now (words .entry)) r (now (name .entry)))
-        (length (now (out .entry)))) (now (out .entry)) (now (out .exit)) a ⌝ }
+    requires { ⌜ (CidReady (now font) (cut .f) (rowsOf (now rows)) (now used) (now words) (cut .plan) (now table))
+        × (Summed (now font) (cut .f) (rowsOf (now rows)) (now used) (now words) (cut .plan) (now table) (now totals))
+        × (StringsReady (programOf (now font) (cut .f)) (now slots) (cut .own)) × (length (now name) ≤ 65535) × (cut .count ≡ length (fdsIn (now used))) ⌝ }
+    ensures { λ a. ⌜ Cut (sized (cut .plan .kept .way) (cidBytes (now (font .entry)) (cut .f) (rowsOf (now (rows .entry))) (now (used .entry)) (now (words .entry)) (cut .plan)
+        (now (name .entry))) (length (now (out .entry)))) (now (out .entry)) (now (out .exit)) a ⌝ }
 {
+    let f = cut.f;
+    let r = cut.plan;
+    let own = cut.own;
     let kept = r.kept;
     let k = kept.count;
     let charstrings = f.charstrings;
@@ -133,8 +103,7 @@ fn write_planned(
         font,
         f,
         used,
-        counts,
-        reacheds,
+        table,
         totals,
         &mut sizes,
         &mut lens,
@@ -143,27 +112,9 @@ fn write_planned(
     let globals = parts::globals_len(r);
     let select = glyph_tables::select::select_len(words, charstrings.count, k, used);
     let glyphs = parts::glyphs_len(r);
-    let at = place_parts(front, globals, k, select, glyphs, count, all);
-    put_sized(
-        r,
-        at,
-        own,
-        count,
-        font,
-        f,
-        name,
-        slots,
-        used,
-        words,
-        ats,
-        counts,
-        reacheds,
-        totals,
-        rows,
-        &sizes,
-        &lens,
-        out,
-    )
+    let at = place_parts(front, globals, k, select, glyphs, cut.count, all);
+    let c = PlacedCut { cut, at };
+    put_sized(c, font, name, slots, used, words, table, totals, rows, out)
 }
 
 // The subset in the front of the output, or refusal 10 or 11; refusal 12 cannot be, since a CID-keyed subset has at most 8 own strings. The
@@ -189,9 +140,7 @@ pub fn cut_cid(
     let own = front::prepare_cid(font, f, &mut slots);
     let mut used = [0u32; 256];
     let count = glyph_tables::fds::rank_fds(&*words, charstrings.count, k, &mut used);
-    let mut ats = [0usize; 256];
-    let mut counts = [0usize; 256];
-    let mut reacheds = [0usize; 256];
+    let mut table = [0usize; 768];
     let mut totals = [0usize; 256];
     let r = parts::plan_all(
         true,
@@ -202,24 +151,23 @@ pub fn cut_cid(
         traced,
         &used,
         &mut *words,
-        &mut ats,
-        &mut counts,
-        &mut reacheds,
+        &mut table,
         &mut totals,
     );
-    write_planned(
-        r,
+    let cut = Prepared {
+        f,
+        plan: r,
         own,
         count,
+    };
+    write_planned(
+        cut,
         font,
-        f,
         name,
         &slots,
         &used,
         &*words,
-        &ats,
-        &counts,
-        &reacheds,
+        &table,
         &totals,
         rows,
         out,

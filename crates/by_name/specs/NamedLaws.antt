@@ -24,7 +24,7 @@ use Rattle.outcome.specs.Layout.{named-length}
 use Rattle.outcome.specs.OutcomeLaws.{cut-long, cut-room, cut-written}
 use Rattle.outcome.specs.Entry.{Cut}
 use Rattle.named_parts.specs.Named.{namedOutcome, NamedPlan, NamedStrings, PlacedNamed}
-use Rattle.named_parts.specs.declared.Places.{Places}
+use Rattle.front.specs.declared.NamedPlaces.{NamedPlaces}
 use Rattle.outcome.specs.declared.Answer.the-variants.{Refused, Subset}
 
 -- ---- name-keyed
@@ -39,9 +39,9 @@ module _ (p : Program) (keyed : cidKeyed (p .top) ≡ false) where
 
 -- ---- measured, tested and written
 
-module _ (b : List ℕ) (f : Font) (rows : List Row) (used ws : List ℕ) (r : Planned) (ats counts reacheds totals : List ℕ)
-    (g : NamedPlan b f rows used ws r ats counts reacheds totals) (name slots : List ℕ) (own : Own)
-    (t : NamedStrings (programOf b f) (orderIn (r .kept .count) ws) slots own (length name)) (at : Places)
+module _ (b : List ℕ) (f : Font) (rows : List Row) (used ws : List ℕ) (r : Planned) (table totals : List ℕ)
+    (g : NamedPlan b f rows used ws r table totals) (name slots : List ℕ) (own : Own)
+    (t : NamedStrings (programOf b f) (orderIn (r .kept .count) ws) slots own (length name)) (at : NamedPlaces)
     (placed : PlacedNamed (programOf b f) name (orderIn (r .kept .count) ws) (bodiesFor b f rows used ws r) at) (out : List ℕ) where
   abbrev p : Program
   p = programOf b f

@@ -97,8 +97,8 @@ module _ (b : List ℕ) (f : Font) (ws : List ℕ) (k : ℕ) (h : NamedCut b f w
       }
 
   -- what planning leaves
-  module _ (rows : List Row) (ws' : List ℕ) (r : Planned) (ats counts reacheds totals : List ℕ)
-      (ready : Ready b f rows used ws' r ats counts reacheds) (summed : Summed b f rows used ws' r ats counts reacheds totals)
+  module _ (rows : List Row) (ws' : List ℕ) (r : Planned) (table totals : List ℕ)
+      (ready : Ready b f rows used ws' r table) (summed : Summed b f rows used ws' r table totals)
       (same : take (2 * n) ws' ≡ take (2 * n) ws) (count : r .kept .count ≡ k) where
     front-same : take k ws' ≡ take k ws
     front-same = part-stays 0 k (2 * n) ws ws' (omega (arith, h .names .front)) same
@@ -106,7 +106,7 @@ module _ (b : List ℕ) (f : Font) (ws : List ℕ) (k : ℕ) (h : NamedCut b f w
     order-same : orderIn (r .kept .count) ws' ≡ order
     order-same = ap (λ (m : ℕ). orderIn m ws') count ∙ ap (mapped (λ w. w % 65536)) front-same
 
-    pub prepared-plan : NamedPlan b f rows used ws' r ats counts reacheds totals
+    pub prepared-plan : NamedPlan b f rows used ws' r table totals
     prepared-plan =
         record {
           keyed = h .keyed;

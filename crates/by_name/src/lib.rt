@@ -9,78 +9,47 @@ ghost use Rattle.parts.specs.Ready.{FontHeld, bodiesFor};
 ghost use Rattle.outcome.specs.Entry.{cutBehind, Cut, Passed};
 ghost use Rattle.named_parts.specs.Named.{namedOutcome, NamedPlan, NamedStrings, NamedCut};
 use cff::font::Font;
+use named_parts::PlacedCut;
 use named_parts::places_named;
 use named_parts::put_named;
 use outcome::Answer;
+use outcome::Prepared;
 use own_strings::Own;
-use parts::Planned;
 use parts::plan_all;
 use refusal::Refusal;
 ghost use Rattle.kept.specs.Packed.{orderIn};
 
 // The subset by the plan, or refusal 10 or 11.
 fn cut_planned(
-    r: Planned,
+    cut: Prepared,
     font: &[u8],
-    f: Font,
     name: &[u8],
     slots: &[usize],
-    own: Own,
     used: &[u32],
     words: &[u32],
-    ats: &[usize],
-    counts: &[usize],
-    reacheds: &[usize],
+    table: &[usize],
     totals: &[usize],
     rows: &[u8],
     out: &mut [u8],
 ) -> Answer
-    requires { ⌜ (NamedPlan (now font) f (rowsOf (now rows)) (now used) (now words) r (now ats) (now counts) (now reacheds) (now totals))
-        × (NamedStrings (programOf (now font) f) (orderIn (r .kept .count) (now words)) (now slots) own (length (now name))) ⌝ }
-    ensures { λ a. ⌜ Cut (namedOutcome (programOf (now (font .entry)) f) (now (name .entry)) (orderIn (r .kept .count) (now (words .entry))) (length (now (out .entry)))
-        (record { way = r .kept .way; bodies = bodiesFor (now (font .entry)) f (rowsOf (now (rows .entry))) (now (used .entry)) (now (words .entry)) r }))
+    requires { ⌜ (NamedPlan (now font) (cut .f) (rowsOf (now rows)) (now used) (now words) (cut .plan) (now table) (now totals))
+        × (NamedStrings (programOf (now font) (cut .f)) (orderIn (cut .plan .kept .count) (now words)) (now slots) (cut .own) (length (now name))) ⌝ }
+    ensures { λ a. ⌜ Cut (namedOutcome (programOf (now (font .entry)) (cut .f)) (now (name .entry)) (orderIn (cut .plan .kept .count) (now (words .entry))) (length (now (out .entry)))
+        (record { way = cut .plan .kept .way; bodies = bodiesFor (now (font .entry)) (cut .f) (rowsOf (now (rows .entry))) (now (used .entry)) (now (words .entry)) (cut .plan) }))
         (now (out .entry)) (now (out .exit)) a ⌝ }
 {
+    let r = cut.plan;
     let kept = r.kept;
-    let places = places_named(
-        r,
-        font,
-        f,
-        name,
-        slots,
-        own,
-        used,
-        words,
-        ats,
-        counts,
-        reacheds,
-        totals,
-        rows,
-    );
-    let end = places.end;
+    let at = places_named(cut, font, name, slots, used, words, table, totals, rows);
+    let end = at.end;
     if 67108864 < end {
         return Answer::Refused(Refusal::SUBSET);
     }
     if out.len() < end {
         return Answer::Refused(Refusal::OUTPUT);
     }
-    put_named(
-        r,
-        font,
-        f,
-        name,
-        slots,
-        own,
-        used,
-        words,
-        ats,
-        counts,
-        reacheds,
-        totals,
-        rows,
-        places,
-        out,
-    );
+    let c = PlacedCut { cut, at };
+    put_named(c, font, name, slots, used, words, table, totals, rows, out);
     Answer::Subset {
         way: kept.way,
         len: end,
@@ -108,9 +77,7 @@ fn cut_prepared(
 {
     let mut used = [0u32; 256];
     used[0] = 1;
-    let mut ats = [0usize; 256];
-    let mut counts = [0usize; 256];
-    let mut reacheds = [0usize; 256];
+    let mut table = [0usize; 768];
     let mut totals = [0usize; 256];
     let r = plan_all(
         false,
@@ -121,23 +88,23 @@ fn cut_prepared(
         traced,
         &used,
         words,
-        &mut ats,
-        &mut counts,
-        &mut reacheds,
+        &mut table,
         &mut totals,
     );
-    cut_planned(
-        r,
-        font,
+    let cut = Prepared {
         f,
+        plan: r,
+        own,
+        count: 1,
+    };
+    cut_planned(
+        cut,
+        font,
         name,
         slots,
-        own,
         &used,
         words,
-        &ats,
-        &counts,
-        &reacheds,
+        &table,
         &totals,
         rows,
         out,

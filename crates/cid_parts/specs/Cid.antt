@@ -28,7 +28,7 @@ use Rattle.front.specs.Front.{SlotsReady, Measured, frontBytes}
 use Rattle.parts.specs.Ready.{bodiesFor, Ready}
 use Rattle.parts.specs.declared.Planned.{Planned}
 use Rattle.outcome.specs.Layout.{cidCharset, cidSelect, cidGlyphs, cidDicts, cidPrivates, cidEnd, cidTop}
-use Rattle.cid_parts.specs.declared.Places.{Places}
+use Rattle.front.specs.declared.CidPlaces.{CidPlaces}
 
 -- ---- outcome
 
@@ -59,7 +59,7 @@ pub record StringsReady (p : Program) (slots : List ℕ) (own : Own) : Type 0 wh
 -- ---- places
 
 -- those of parts of these lengths, one behind the other
-abbrev pub placesOf : ℕ → ℕ → ℕ → ℕ → ℕ → ℕ → ℕ → Places
+abbrev pub placesOf : ℕ → ℕ → ℕ → ℕ → ℕ → ℕ → ℕ → CidPlaces
 placesOf front globals ids select glyphs dicts all =
     record {
       charset = front + globals;
@@ -71,7 +71,7 @@ placesOf front globals ids select glyphs dicts all =
     }
 
 -- with the charset of k glyphs, and the INDEX of so many Font DICTs of 11 bytes
-unfoldable pub placesBy : ℕ → ℕ → ℕ → ℕ → ℕ → ℕ → ℕ → Places
+unfoldable pub placesBy : ℕ → ℕ → ℕ → ℕ → ℕ → ℕ → ℕ → CidPlaces
 placesBy front globals k select glyphs count all = placesOf front globals (charsetLen k) select glyphs (indexLen count (11 * count)) all
 
 -- as many bytes as numbers hold
@@ -98,8 +98,8 @@ module _ (b : List ℕ) (f : Font) (rows : List Row) (used ws : List ℕ) (r : P
   bodiesIn = bodiesFor b f rows used ws r
 
   -- what is ready: the bodies, and new numbers of the FDs
-  pub record CidReady (ats counts reacheds : List ℕ) : Type 0 where
-    pub ready : Ready b f rows used ws r ats counts reacheds
+  pub record CidReady (table : List ℕ) : Type 0 where
+    pub ready : Ready b f rows used ws r table
     pub keyed : r .kept .cid ≡ true
     pub some : 0 < r .kept .count
     pub numbered : Numbered used (partOf ws (f .charstrings .count) (r .kept .count))
@@ -110,11 +110,15 @@ module _ (b : List ℕ) (f : Font) (rows : List Row) (used ws : List ℕ) (r : P
     pub placed : Placed sizes lens count from
     pub are : fontDictsBy sizes lens count from ≡ fontDicts programIn from (fdsIn used) (bodiesIn .locals)
 
+  -- the Private parts from a place on are within what a subset may have
+  abbrev pub PrivatesEnd : ℕ → Type 0
+  PrivatesEnd from = from + length (privateParts programIn (fdsIn used) (bodiesIn .locals)) ≤ 67108864
+
   -- the subset, and the places of its parts
   unfoldable pub cidBytes : List ℕ → List ℕ
   cidBytes name = subsetByCid programIn name (fdsIn used) writtenIn bodiesIn
 
-  unfoldable pub cidPlaces : List ℕ → Places
+  unfoldable pub cidPlaces : List ℕ → CidPlaces
   cidPlaces name =
       record {
         charset = cidCharset programIn name (fdsIn used) writtenIn bodiesIn;

@@ -46,10 +46,10 @@ use Rattle.early_refusals.specs.RefusalLaws.{glyphs-are}
 use Rattle.outcome.specs.Layout.{cidPrivates, cid-length}
 use Rattle.parts.specs.CodeLaws.{globals-long, glyphs-long}
 use Rattle.parts.specs.PrivateLaws.{all-parts, dicts-placed, dicts-are, dicts-length}
-use Rattle.cid_parts.specs.Cid.{sized, StringsReady, placesOf, placesBy, PartsSmall, writtenIn, bodiesIn, CidReady, DictsReady, cidBytes, cidPlaces}
+use Rattle.cid_parts.specs.Cid.{sized, StringsReady, placesOf, placesBy, PartsSmall, writtenIn, bodiesIn, CidReady, DictsReady, PrivatesEnd, cidBytes, cidPlaces}
 use Rattle.outcome.specs.declared.Answer.{Answer}
 use Rattle.outcome.specs.declared.Answer.the-variants.{Refused, Subset}
-use Rattle.cid_parts.specs.declared.Places.{Places}
+use Rattle.front.specs.declared.CidPlaces.{CidPlaces}
 
 -- ---- places
 
@@ -70,12 +70,16 @@ places-same f g c s h d a f' g' c' s' h' d' a' e₁ e₂ e₃ e₄ e₅ e₆ e�
     ∙ ap (λ (x : ℕ). placesOf f' g' c' s' h' d' x) e₇
 
 -- the Private parts end the subset
-ends-at : (b : List ℕ) (f : Font) (rows : List Row) (used ws : List ℕ) (r : Planned) (name : List ℕ) (at : Places) → at ≡ cidPlaces b f rows used ws r name
+ends-at : (b : List ℕ) (f : Font) (rows : List Row) (used ws : List ℕ) (r : Planned) (name : List ℕ) (at : CidPlaces) → at ≡ cidPlaces b f rows used ws r name
     → at .end ≡ at .privates + length (privateParts (programOf b f) (fdsIn used) (bodiesIn b f rows used ws r .locals))
 unfolding cidPlaces
 ends-at b f rows used ws r name at e =
-    ap (λ (x : Places). x .end) e
-    ∙ ap (λ (x : Places). x .privates + length (privateParts (programOf b f) (fdsIn used) (bodiesIn b f rows used ws r .locals))) (sym e)
+    ap (λ (x : CidPlaces). x .end) e
+    ∙ ap (λ (x : CidPlaces). x .privates + length (privateParts (programOf b f) (fdsIn used) (bodiesIn b f rows used ws r .locals))) (sym e)
+
+pub privates-end : (b : List ℕ) (f : Font) (rows : List Row) (used ws : List ℕ) (r : Planned) (name : List ℕ) (at : CidPlaces) → at ≡ cidPlaces b f rows used ws r name
+    → at .end ≤ 67108864 → PrivatesEnd b f rows used ws r (at .privates)
+privates-end b f rows used ws r name at e small = subst (λ (m : ℕ). m ≤ 67108864) (ends-at b f rows used ws r name at e) small
 
 -- ---- strings
 
@@ -101,8 +105,11 @@ own-few p slots own s = omega (arith, s .few, ap (λ (o : Own). o .count) (s .me
 pub table-room : (table : List ℕ) → table ≡ replicate 256 0 → 256 ≤ length table
 table-room table e = omega (arith, ap length e, length-replicate {A = ℕ} 256 0)
 
-module _ (b : List ℕ) (f : Font) (rows : List Row) (used ws : List ℕ) (r : Planned) (ats counts reacheds : List ℕ)
-    (c : CidReady b f rows used ws r ats counts reacheds) where
+pub ranks-room : (table : List ℕ) → table ≡ replicate 768 0 → 768 ≤ length table
+ranks-room table e = omega (arith, ap length e, length-replicate {A = ℕ} 768 0)
+
+module _ (b : List ℕ) (f : Font) (rows : List Row) (used ws : List ℕ) (r : Planned) (table : List ℕ)
+    (c : CidReady b f rows used ws r table) where
   abbrev p : Program
   p = programOf b f
 
@@ -144,15 +151,15 @@ module _ (b : List ℕ) (f : Font) (rows : List Row) (used ws : List ℕ) (r : P
       let fds = newFdsBy used (partOf ws n k) in
       omega (arith, select-length fds, changes-few 256 0 fds, select-count ws n k used words-room, c .ready .asked .glyphs .keptFew)
 
-  module _ (totals : List ℕ) (summed : Summed b f rows used ws r ats counts reacheds totals) where
+  module _ (totals : List ℕ) (summed : Summed b f rows used ws r table totals) where
     -- the length of the subset
     pub bytes-long : (name : List ℕ) → length (cidBytes b f rows used ws r name) ≡ cidPlaces b f rows used ws r name .end
     unfolding cidBytes cidPlaces
     bytes-long name =
-        let dicts = dicts-length b f rows used ws ats counts reacheds r (c .ready) totals summed in
+        let dicts = dicts-length b f rows used ws table r (c .ready) totals summed in
         cid-length p name (fdsIn used) order (bodiesIn b f rows used ws r) (dicts (cidPrivates p name (fdsIn used) order (bodiesIn b f rows used ws r)) ∙ sym (dicts 0))
 
-    module _ {oldSizes oldLens sizes lens : List ℕ} {all : ℕ} (s : SizesParts p (r .kept .way) counts reacheds totals used oldSizes oldLens sizes lens all)
+    module _ {oldSizes oldLens sizes lens : List ℕ} {all : ℕ} (s : SizesParts p (r .kept .way) table totals used oldSizes oldLens sizes lens all)
         (sized-long : 256 ≤ length oldSizes) (lens-long : 256 ≤ length oldLens) (count : ℕ) (counted : count ≡ length (fdsIn used)) where
       module _ (name slots : List ℕ) (own : Own) (strings : StringsReady p slots own) (front globals select glyphs : ℕ)
           (front-is : front ≡ frontLen true (p .top) slots (length name) own)
@@ -178,23 +185,20 @@ module _ (b : List ℕ) (f : Font) (rows : List Row) (used ws : List ℕ) (r : P
         places-are =
             places-same front globals (charsetLen k) select glyphs (indexLen count (11 * count)) all _ _ _ _ _ _ _
             (front-is ∙ cid-front-sum p slots ws (strings .slotted) own (strings .measured .is) name 0 0 0 0)
-            (globals-is ∙ globals-long b f rows used ws ats counts reacheds r (c .ready))
+            (globals-is ∙ globals-long b f rows used ws table r (c .ready))
             (sym cids-long)
             (select-is ∙ ap (λ (l : List ℕ). length (fdSelectBytes l)) (c .news))
-            (glyphs-is ∙ glyphs-long b f rows used ws ats counts reacheds r (c .ready))
-            (ap (λ (m : ℕ). indexLen m (11 * m)) counted ∙ sym (dicts-length b f rows used ws ats counts reacheds r (c .ready) totals summed 0))
-            (all-parts b f rows used ws ats counts reacheds r (c .ready) totals summed s sized-long lens-long)
+            (glyphs-is ∙ glyphs-long b f rows used ws table r (c .ready))
+            (ap (λ (m : ℕ). indexLen m (11 * m)) counted ∙ sym (dicts-length b f rows used ws table r (c .ready) totals summed 0))
+            (all-parts b f rows used ws table r (c .ready) totals summed s sized-long lens-long)
 
       -- what the Font DICTs ask
-      pub dicts-ready : (name : List ℕ) (at : Places) → at ≡ cidPlaces b f rows used ws r name → at .end ≤ 67108864
-          → DictsReady b f rows used ws r sizes lens count (at .privates)
-      dicts-ready name at e small =
-          let l : at .privates + length (privateParts p (fdsIn used) (bodiesIn b f rows used ws r .locals)) ≤ 67108864
-          = subst (λ (m : ℕ). m ≤ 67108864) (ends-at b f rows used ws r name at e) small in
-          subst (λ (m : ℕ). DictsReady b f rows used ws r sizes lens m (at .privates)) (sym counted)
+      pub dicts-ready : (from : ℕ) → PrivatesEnd b f rows used ws r from → DictsReady b f rows used ws r sizes lens count from
+      dicts-ready from l =
+          subst (λ (m : ℕ). DictsReady b f rows used ws r sizes lens m from) (sym counted)
           (record {
-            placed = dicts-placed b f rows used ws ats counts reacheds r (c .ready) totals summed s sized-long lens-long (at .privates) l;
-            are = dicts-are b f rows used ws ats counts reacheds r (c .ready) totals summed s sized-long lens-long (at .privates);
+            placed = dicts-placed b f rows used ws table r (c .ready) totals summed s sized-long lens-long from l;
+            are = dicts-are b f rows used ws table r (c .ready) totals summed s sized-long lens-long from;
           })
 
 -- ---- the outcome

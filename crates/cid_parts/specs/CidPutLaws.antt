@@ -37,7 +37,7 @@ use Rattle.parts.specs.CodeLaws.{glyphs-asked, glyphs-are}
 use Rattle.parts.specs.PrivateLaws.{privates-asked, privates-are}
 use Rattle.cid_parts.specs.Cid.{StringsReady, placesOf, writtenIn, bodiesIn, CidReady, DictsReady, cidBytes, cidPlaces, headBytes, glyphBytes, tailBytes}
 use Rattle.cid_parts.specs.CidPlacesLaws.{held-small, words-room, cids-are, select-asked, bytes-long}
-use Rattle.cid_parts.specs.declared.Places.{Places}
+use Rattle.front.specs.declared.CidPlaces.{CidPlaces}
 
 -- where two parts end below a bound, so does the second behind the first
 second-below : (at : ℕ) (xs ys : List ℕ) (most p : ℕ) → at + length (xs ++ ys) ≤ most → p ≡ at + length xs → p + length ys ≤ most
@@ -58,7 +58,7 @@ three f g i s h l =
     append-assoc f (g ++ i) ((s ++ h) ++ l) ∙ ap (λ (x : List ℕ). f ++ x) (append-assoc g i ((s ++ h) ++ l))
     ∙ ap (λ (x : List ℕ). f ++ (g ++ (i ++ x))) (append-assoc s h l)
 
-module _ (b : List ℕ) (f : Font) (rows : List Row) (used ws : List ℕ) (r : Planned) (ats counts reacheds : List ℕ) where
+module _ (b : List ℕ) (f : Font) (rows : List Row) (used ws : List ℕ) (r : Planned) (table : List ℕ) where
   abbrev p : Program
   p = programOf b f
 
@@ -76,7 +76,7 @@ module _ (b : List ℕ) (f : Font) (rows : List Row) (used ws : List ℕ) (r : P
 
   -- ---- FDSelect and charstrings
 
-  module _ (c : CidReady b f rows used ws r ats counts reacheds) (at : ℕ) (out : List ℕ) (small : at + length (glyphBytes b f rows used ws r) ≤ 67108864)
+  module _ (c : CidReady b f rows used ws r table) (at : ℕ) (out : List ℕ) (small : at + length (glyphBytes b f rows used ws r) ≤ 67108864)
       (room : at + length (glyphBytes b f rows used ws r) ≤ length out) where
     abbrev select : List ℕ
     select = fdSelectBytes (newFds p (fdsIn used) order)
@@ -88,29 +88,29 @@ module _ (b : List ℕ) (f : Font) (rows : List Row) (used ws : List ℕ) (r : P
         × (at + length (fdSelectBytes (newFdsBy used (partOf ws n k))) ≤ length out)
     unfolding glyphBytes
     select-put =
-        let a = select-asked b f rows used ws r ats counts reacheds c in
+        let a = select-asked b f rows used ws r table c in
         (a .0, a .1, a .2, omega (arith, small), subst (λ (l : List ℕ). at + length (fdSelectBytes l) ≤ length out) (sym (c .news)) (room-first (length out) at select glyphs room))
 
     module _ {mid : List ℕ} {q : ℕ} (w : Wrote out at (fdSelectBytes (newFdsBy used (partOf ws n k))) mid q) where
       selected : Wrote out at select mid q
       selected = wrote-as w (ap fdSelectBytes (c .news))
 
-      pub glyphs-put : KeptIn (r .kept) rows ws ats counts reacheds b
-          × Room (charstringsFrom (r .kept) rows ws ats counts reacheds b) (r .«glyphs_total») q (length mid)
+      pub glyphs-put : KeptIn (r .kept) rows ws table b
+          × Room (charstringsFrom (r .kept) rows ws table b) (r .«glyphs_total») q (length mid)
       unfolding glyphBytes
       glyphs-put =
-          glyphs-asked b f rows used ws ats counts reacheds r (c .ready) q (length mid) (second-below at select glyphs 67108864 q small (selected .behind))
+          glyphs-asked b f rows used ws table r (c .ready) q (length mid) (second-below at select glyphs 67108864 q small (selected .behind))
           (room-then glyphs selected room)
 
-      pub glyphs-wrote : {new : List ℕ} {q' : ℕ} → Wrote mid q (indexBytes (newCharstringsFrom (r .kept) rows ws ats counts reacheds b)) new q'
+      pub glyphs-wrote : {new : List ℕ} {q' : ℕ} → Wrote mid q (indexBytes (newCharstringsFrom (r .kept) rows ws table b)) new q'
           → Wrote out at (glyphBytes b f rows used ws r) new q'
       unfolding glyphBytes
       glyphs-wrote v =
-          wrote-both room selected (wrote-as v (ap indexBytes (glyphs-are b f rows used ws ats counts reacheds r (c .ready))))
+          wrote-both room selected (wrote-as v (ap indexBytes (glyphs-are b f rows used ws table r (c .ready))))
 
   -- ---- the FD INDEX and the Private parts
 
-  module _ (ready : Ready b f rows used ws r ats counts reacheds) (totals : List ℕ) (summed : Summed b f rows used ws r ats counts reacheds totals)
+  module _ (ready : Ready b f rows used ws r table) (totals : List ℕ) (summed : Summed b f rows used ws r table totals)
       (sizes lens : List ℕ) (count from : ℕ) (d : DictsReady b f rows used ws r sizes lens count from) (at : ℕ) (out : List ℕ)
       (small : at + length (tailBytes b f rows used ws r from) ≤ 67108864) (room : at + length (tailBytes b f rows used ws r from) ≤ length out) where
     abbrev dicts : List ℕ
@@ -131,27 +131,27 @@ module _ (b : List ℕ) (f : Font) (rows : List Row) (used ws : List ℕ) (r : P
       listed : Wrote out at dicts mid q
       listed = wrote-as w (ap indexBytes (d .are))
 
-      pub privates-put : GoodFont b f × LocalsIn b p used ws ats counts reacheds (r .kept .globals) rows (r .kept .rising)
-          × PartsRoom (r .kept .way) p rows ws ats counts reacheds (r .kept .globals) used totals q (length mid)
+      pub privates-put : GoodFont b f × LocalsIn b p used ws table (r .kept .globals) rows (r .kept .rising)
+          × PartsRoom (r .kept .way) p rows ws table (r .kept .globals) used totals q (length mid)
       unfolding tailBytes
       privates-put =
-          let a = privates-asked b f rows used ws ats counts reacheds r ready totals summed q (length mid)
+          let a = privates-asked b f rows used ws table r ready totals summed q (length mid)
           (second-below at dicts privates 67108864 q small (listed .behind)) (room-then privates listed room) in
           (ready .read .font, a .0, a .1)
 
       pub privates-wrote : {new : List ℕ} {q' : ℕ}
-          → Wrote mid q (partsFor (r .kept .way) p rows ws ats counts reacheds (r .kept .globals) (fdsIn used)) new q'
+          → Wrote mid q (partsFor (r .kept .way) p rows ws table (r .kept .globals) (fdsIn used)) new q'
           → Wrote out at (tailBytes b f rows used ws r from) new q'
       unfolding tailBytes
       privates-wrote v =
-          wrote-both room listed (wrote-as v (privates-are b f rows used ws ats counts reacheds r ready totals summed))
+          wrote-both room listed (wrote-as v (privates-are b f rows used ws table r ready totals summed))
 
   -- ---- front, globals and charset
 
-  module _ (c : CidReady b f rows used ws r ats counts reacheds) (name slots : List ℕ) (own : Own) (strings : StringsReady p slots own) (short : length name ≤ 65535)
-      (at : Places) (is : at ≡ cidPlaces b f rows used ws r name) (small : at .end ≤ 67108864) (out : List ℕ) (room : at .end ≤ length out) where
+  module _ (c : CidReady b f rows used ws r table) (name slots : List ℕ) (own : Own) (strings : StringsReady p slots own) (short : length name ≤ 65535)
+      (at : CidPlaces) (is : at ≡ cidPlaces b f rows used ws r name) (small : at .end ≤ 67108864) (out : List ℕ) (room : at .end ≤ length out) where
     -- the front by the places, which are the subset's
-    abbrev frontAt : Places → List ℕ
+    abbrev frontAt : CidPlaces → List ℕ
     frontAt x = frontBytes (x .end) name (topByCid p (ownByCid p) (x .charset) (x .select) (x .glyphs) (x .dicts)) (ownByCid p)
 
     abbrev front : List ℕ
@@ -183,7 +183,7 @@ module _ (b : List ℕ) (f : Font) (rows : List Row) (used ws : List ℕ) (r : P
         let dicts = length (indexBytes (fontDicts p 0 (fdsIn used) (bodies .locals))) in
         let privates = length (privateParts p (fdsIn used) (bodies .locals)) in
         let end : at .end ≡ measured true (p .top) slots (length name) own + length globals + length ids + select + glyphs + dicts + privates
-        = ap (λ (x : Places). x .end) is
+        = ap (λ (x : CidPlaces). x .end) is
         ∙ ap (λ (m : ℕ). m + length globals + length ids + select + glyphs + dicts + privates) (sym sum) in
         within (length front) (length globals) (length ids) select glyphs dicts privates (at .end) (measured true (p .top) slots (length name) own)
         (length (front ++ (globals ++ ids))) end front-long (length-append front (globals ++ ids) ∙ ap (λ (m : ℕ). length front + m) (length-append globals ids))
@@ -207,7 +207,7 @@ module _ (b : List ℕ) (f : Font) (rows : List Row) (used ws : List ℕ) (r : P
               room = omega (arith, l, front-long, head-within, room);
             };
           },
-          subst (λ (x : Places). x .end ≤ 67108864 → Offsets (x .charset) (x .select) (x .glyphs) (x .dicts)) (sym is)
+          subst (λ (x : CidPlaces). x .end ≤ 67108864 → Offsets (x .charset) (x .select) (x .glyphs) (x .dicts)) (sym is)
               (low (frontLen name (topByCid p (ownByCid p) 0 0 0 0) (ownByCid p)) (length globals) (length ids) (length (fdSelectBytes (newFds p (fdsIn used) order)))
               (length (indexBytes (bodies .charstrings))) (length (indexBytes (fontDicts p 0 (fdsIn used) (bodies .locals))))
               (length (privateParts p (fdsIn used) (bodies .locals))))
@@ -222,7 +222,7 @@ module _ (b : List ℕ) (f : Font) (rows : List Row) (used ws : List ℕ) (r : P
       rest-room = room-then (globals ++ ids) fronted head-room
 
       -- what the globals ask
-      pub globals-put : Ready b f rows used ws r ats counts reacheds × (q + length globals ≤ 67108864) × (q + length globals ≤ length mid)
+      pub globals-put : Ready b f rows used ws r table × (q + length globals ≤ 67108864) × (q + length globals ≤ length mid)
       globals-put = (
         c .ready,
         omega (arith, fronted .behind, length-append front (globals ++ ids), length-append globals ids, head-within, small),
@@ -233,8 +233,8 @@ module _ (b : List ℕ) (f : Font) (rows : List Row) (used ws : List ℕ) (r : P
         -- what the charset asks
         pub charset-put : (k ≤ length ws) × (q2 + length (charsetBytes (highs ws k)) ≤ length mid2)
         charset-put = (
-          omega (arith, words-room b f rows used ws r ats counts reacheds c),
-          subst (λ (l : List ℕ). q2 + length (charsetBytes l) ≤ length mid2) (sym (cids-are b f rows used ws r ats counts reacheds c))
+          omega (arith, words-room b f rows used ws r table c),
+          subst (λ (l : List ℕ). q2 + length (charsetBytes l) ≤ length mid2) (sym (cids-are b f rows used ws r table c))
               (room-then ids v rest-room),
         )
 
@@ -242,12 +242,12 @@ module _ (b : List ℕ) (f : Font) (rows : List Row) (used ws : List ℕ) (r : P
         unfolding headBytes
         head-wrote u =
             wrote-both head-room fronted
-            (wrote-both rest-room v (wrote-as u (ap charsetBytes (cids-are b f rows used ws r ats counts reacheds c))))
+            (wrote-both rest-room v (wrote-as u (ap charsetBytes (cids-are b f rows used ws r table c))))
 
   -- ---- all
 
-  module _ (c : CidReady b f rows used ws r ats counts reacheds) (totals : List ℕ) (summed : Summed b f rows used ws r ats counts reacheds totals) (name : List ℕ)
-      (at : Places) (is : at ≡ cidPlaces b f rows used ws r name) (small : at .end ≤ 67108864) (out : List ℕ) (room : at .end ≤ length out) where
+  module _ (c : CidReady b f rows used ws r table) (totals : List ℕ) (summed : Summed b f rows used ws r table totals) (name : List ℕ)
+      (at : CidPlaces) (is : at ≡ cidPlaces b f rows used ws r name) (small : at .end ≤ 67108864) (out : List ℕ) (room : at .end ≤ length out) where
     abbrev head : List ℕ
     head = headBytes b f rows used ws r name
 
@@ -264,12 +264,12 @@ module _ (b : List ℕ) (f : Font) (rows : List Row) (used ws : List ℕ) (r : P
         let from = cidPrivates p name (fdsIn used) order bodies in
         let front = frontBytes (cidEnd p name (fdsIn used) order bodies) name (cidTop p name (fdsIn used) order bodies) (ownByCid p) in
         let last = indexBytes (fontDicts p from (fdsIn used) (bodies .locals)) ++ privateParts p (fdsIn used) (bodies .locals) in
-        ap (λ (x : Places). head ++ (middle ++ tailBytes b f rows used ws r (x .privates))) is
+        ap (λ (x : CidPlaces). head ++ (middle ++ tailBytes b f rows used ws r (x .privates))) is
         ∙ three front (indexBytes (bodies .globals)) (charsetBytes (cidsOf p order)) (fdSelectBytes (newFds p (fdsIn used) order)) (indexBytes (bodies .charstrings)) last
         ∙ sym (cid-parts p name (fdsIn used) order bodies)
 
     whole : length (head ++ (middle ++ tail)) ≡ at .end
-    whole = ap length groups ∙ bytes-long b f rows used ws r ats counts reacheds c totals summed name ∙ ap (λ (x : Places). x .end) (sym is)
+    whole = ap length groups ∙ bytes-long b f rows used ws r table c totals summed name ∙ ap (λ (x : CidPlaces). x .end) (sym is)
 
     all-room : 0 + length (head ++ (middle ++ tail)) ≤ length out
     all-room = omega (arith, whole, room)
@@ -281,7 +281,7 @@ module _ (b : List ℕ) (f : Font) (rows : List Row) (used ws : List ℕ) (r : P
       left-small : q + length (middle ++ tail) ≤ 67108864
       left-small = second-below 0 head (middle ++ tail) 67108864 q (omega (arith, whole, small)) (w .behind)
 
-      pub middle-put : CidReady b f rows used ws r ats counts reacheds × (q + length middle ≤ 67108864) × (q + length middle ≤ length mid)
+      pub middle-put : CidReady b f rows used ws r table × (q + length middle ≤ 67108864) × (q + length middle ≤ length mid)
       middle-put = (c, omega (arith, left-small, length-append middle tail), room-first (length mid) q middle tail left-room)
 
       module _ {mid2 : List ℕ} {q2 : ℕ} (v : Wrote mid q middle mid2 q2) where

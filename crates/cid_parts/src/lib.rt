@@ -5,20 +5,18 @@ ghost use lib.ListN.{length};
 ghost use Rattle.octets.specs.Octets.{Wrote};
 ghost use Rattle.record.specs.Record.{rowsOf};
 ghost use Rattle.cff.specs.Reads.{programOf};
-ghost use Rattle.parts.specs.Ready.{Ready, Summed};
-ghost use Rattle.cid_parts.specs.Cid.{StringsReady, placesBy, PartsSmall, CidReady, DictsReady, cidBytes, cidPlaces, headBytes, glyphBytes, tailBytes};
+ghost use Rattle.parts.specs.Ready.{Summed};
+ghost use Rattle.fds.specs.Locals.{fdsIn};
+ghost use Rattle.cid_parts.specs.Cid.{StringsReady, placesBy, PartsSmall, CidReady, PrivatesEnd, cidBytes, cidPlaces, headBytes, glyphBytes, tailBytes};
 use cff::font::Font;
-use own_strings::Own;
+use front::CidPlaces;
+use outcome::Prepared;
 use parts::Planned;
 
-// Where charset, FDSelect, charstrings, the FD INDEX and the Private parts stand; and where all ends.
-pub struct Places {
-    pub charset: usize,
-    pub select: usize,
-    pub glyphs: usize,
-    pub dicts: usize,
-    pub privates: usize,
-    pub end: usize,
+// A cut and the places of its parts.
+pub struct PlacedCut {
+    pub cut: Prepared,
+    pub at: CidPlaces,
 }
 
 // The places of parts of these lengths: k glyphs have a charset of format 0, and so many FDs Font DICTs of 11 bytes each.
@@ -30,7 +28,7 @@ pub fn place_parts(
     glyphs: usize,
     count: usize,
     all: usize,
-) -> Places
+) -> CidPlaces
     requires { ⌜ PartsSmall front globals k select glyphs count all ⌝ }
     ensures { λ r. ⌜ r ≡ placesBy front globals k select glyphs count all ⌝ }
 {
@@ -39,7 +37,7 @@ pub fn place_parts(
     let at3 = at2 + select;
     let at4 = at3 + glyphs;
     let at5 = at4 + index::index_len(count, 11 * count);
-    Places {
+    CidPlaces {
         charset: at1,
         select: at2,
         glyphs: at3,
@@ -51,56 +49,32 @@ pub fn place_parts(
 
 // Front, globals and charset, from the start of out on; the place after them.
 fn put_head(
-    r: Planned,
-    at: Places,
-    own: Own,
+    c: PlacedCut,
     font: &[u8],
-    f: Font,
     name: &[u8],
     slots: &[usize],
     used: &[u32],
     words: &[u32],
-    ats: &[usize],
-    counts: &[usize],
-    reacheds: &[usize],
+    table: &[usize],
     rows: &[u8],
     out: &mut [u8],
 ) -> usize
-    requires { ⌜ (CidReady (now font) f (rowsOf (now rows)) (now used) (now words) r (now ats) (now counts) (now reacheds))
-        × (StringsReady (programOf (now font) f) (now slots) own) × (length (now name) ≤ 65535)
-        × (at ≡ cidPlaces (now font) f (rowsOf (now rows)) (now used) (now words) r (now name))
-        × (at .end ≤ 67108864) × (at .end ≤ length (now out)) ⌝ }
+    requires { ⌜ (CidReady (now font) (c .cut .f) (rowsOf (now rows)) (now used) (now words) (c .cut .plan) (now table))
+        × (StringsReady (programOf (now font) (c .cut .f)) (now slots) (c .cut .own)) × (length (now name) ≤ 65535)
+        × (c .at ≡ cidPlaces (now font) (c .cut .f) (rowsOf (now rows)) (now used) (now words) (c .cut .plan) (now name))
+        × (c .at .end ≤ 67108864) × (c .at .end ≤ length (now out)) ⌝ }
     ensures { λ r'. ⌜ Wrote (now (out .entry)) 0
-        (headBytes (now (font .entry)) f (rowsOf (now (rows .entry))) (now (used .entry)) (now (words .entry)) r (now (name .entry))) (now (out .exit)) r' ⌝ }
+        (headBytes (now (font .entry)) (c .cut .f) (rowsOf (now (rows .entry))) (now (used .entry)) (now (words .entry)) (c .cut .plan) (now (name .entry)))
+        (now (out .exit)) r' ⌝ }
 {
+    let cut = c.cut;
+    let at = c.at;
+    let f = cut.f;
+    let r = cut.plan;
+    let own = cut.own;
     let kept = r.kept;
-    let p = front::put_front_cid(
-        font,
-        f,
-        name,
-        slots,
-        own,
-        words,
-        at.charset,
-        at.select,
-        at.glyphs,
-        at.dicts,
-        at.end,
-        &mut *out,
-    );
-    let q = parts::put_globals(
-        r,
-        font,
-        f,
-        used,
-        words,
-        ats,
-        counts,
-        reacheds,
-        rows,
-        &mut *out,
-        p,
-    );
+    let p = front::put_front_cid(font, f, name, slots, own, words, at, &mut *out);
+    let q = parts::put_globals(r, font, f, used, words, table, rows, &mut *out, p);
     glyph_tables::put_charset_cid(words, kept.count, out, q)
 }
 
@@ -111,14 +85,12 @@ fn put_glyphs(
     f: Font,
     used: &[u32],
     words: &[u32],
-    ats: &[usize],
-    counts: &[usize],
-    reacheds: &[usize],
+    table: &[usize],
     rows: &[u8],
     out: &mut [u8],
     at: usize,
 ) -> usize
-    requires { ⌜ (CidReady (now font) f (rowsOf (now rows)) (now used) (now words) r (now ats) (now counts) (now reacheds))
+    requires { ⌜ (CidReady (now font) f (rowsOf (now rows)) (now used) (now words) r (now table))
         × (at + length (glyphBytes (now font) f (rowsOf (now rows)) (now used) (now words) r) ≤ 67108864)
         × (at + length (glyphBytes (now font) f (rowsOf (now rows)) (now used) (now words) r) ≤ length (now out)) ⌝ }
     ensures { λ r'. ⌜ Wrote (now (out .entry)) at
@@ -134,142 +106,88 @@ fn put_glyphs(
         &mut *out,
         at,
     );
-    bodies::charstrings::put_charstrings(
-        kept,
-        font,
-        words,
-        ats,
-        counts,
-        reacheds,
-        rows,
-        r.glyphs_total,
-        out,
-        p,
-    )
+    bodies::charstrings::put_charstrings(kept, font, words, table, rows, r.glyphs_total, out, p)
 }
 
-// The FD INDEX of Private parts that stand from a place on, and these parts, from `at` on; the place after them.
+// The FD INDEX and the Private parts, from `at` on; the place after them.
 fn put_tail(
-    r: Planned,
-    count: usize,
-    from: usize,
+    c: PlacedCut,
     font: &[u8],
-    f: Font,
     used: &[u32],
     words: &[u32],
-    ats: &[usize],
-    counts: &[usize],
-    reacheds: &[usize],
+    table: &[usize],
     totals: &[usize],
     rows: &[u8],
-    sizes: &[usize],
-    lens: &[usize],
     out: &mut [u8],
     at: usize,
 ) -> usize
-    requires { ⌜ (Ready (now font) f (rowsOf (now rows)) (now used) (now words) r (now ats) (now counts) (now reacheds))
-        × (Summed (now font) f (rowsOf (now rows)) (now used) (now words) r (now ats) (now counts) (now reacheds) (now totals))
-        × (DictsReady (now font) f (rowsOf (now rows)) (now used) (now words) r (now sizes) (now lens) count from)
-        × (at + length (tailBytes (now font) f (rowsOf (now rows)) (now used) (now words) r from) ≤ 67108864)
-        × (at + length (tailBytes (now font) f (rowsOf (now rows)) (now used) (now words) r from) ≤ length (now out)) ⌝ }
+    requires { ⌜ (CidReady (now font) (c .cut .f) (rowsOf (now rows)) (now used) (now words) (c .cut .plan) (now table))
+        × (Summed (now font) (c .cut .f) (rowsOf (now rows)) (now used) (now words) (c .cut .plan) (now table) (now totals))
+        × (c .cut .count ≡ length (fdsIn (now used)))
+        × (PrivatesEnd (now font) (c .cut .f) (rowsOf (now rows)) (now used) (now words) (c .cut .plan) (c .at .privates))
+        × (at + length (tailBytes (now font) (c .cut .f) (rowsOf (now rows)) (now used) (now words) (c .cut .plan) (c .at .privates)) ≤ 67108864)
+        × (at + length (tailBytes (now font) (c .cut .f) (rowsOf (now rows)) (now used) (now words) (c .cut .plan) (c .at .privates)) ≤ length (now out)) ⌝ }
     ensures { λ r'. ⌜ Wrote (now (out .entry)) at
-        (tailBytes (now (font .entry)) f (rowsOf (now (rows .entry))) (now (used .entry)) (now (words .entry)) r from) (now (out .exit)) r' ⌝ }
+        (tailBytes (now (font .entry)) (c .cut .f) (rowsOf (now (rows .entry))) (now (used .entry)) (now (words .entry)) (c .cut .plan) (c .at .privates))
+        (now (out .exit)) r' ⌝ }
 {
-    let kept = r.kept;
-    let p = private_dicts::put_font_dicts(sizes, lens, count, from, &mut *out, at);
-    fds::privates::put_privates(
+    let cut = c.cut;
+    let f = cut.f;
+    let kept = cut.plan.kept;
+    let places = c.at;
+    let mut sizes = [0usize; 256];
+    let mut lens = [0usize; 256];
+    fds::parts::part_sizes(
         kept.way,
         font,
         f,
         used,
-        words,
-        ats,
-        counts,
-        reacheds,
+        table,
         totals,
-        kept.globals,
-        rows,
-        kept.rising,
-        out,
-        p,
-    )
+        &mut sizes,
+        &mut lens,
+    );
+    let p = private_dicts::put_font_dicts(&sizes, &lens, cut.count, places.privates, &mut *out, at);
+    fds::privates::put_privates(kept, font, f, used, words, table, totals, rows, out, p)
 }
 
 // The subset, from the start of out on; the place after it.
 pub fn put_parts(
-    r: Planned,
-    at: Places,
-    own: Own,
-    count: usize,
+    c: PlacedCut,
     font: &[u8],
-    f: Font,
     name: &[u8],
     slots: &[usize],
     used: &[u32],
     words: &[u32],
-    ats: &[usize],
-    counts: &[usize],
-    reacheds: &[usize],
+    table: &[usize],
     totals: &[usize],
     rows: &[u8],
-    sizes: &[usize],
-    lens: &[usize],
     out: &mut [u8],
 ) -> usize
-    requires { ⌜ (CidReady (now font) f (rowsOf (now rows)) (now used) (now words) r (now ats) (now counts) (now reacheds))
-        × (Summed (now font) f (rowsOf (now rows)) (now used) (now words) r (now ats) (now counts) (now reacheds) (now totals))
-        × (StringsReady (programOf (now font) f) (now slots) own) × (length (now name) ≤ 65535)
-        × (at ≡ cidPlaces (now font) f (rowsOf (now rows)) (now used) (now words) r (now name))
-        × (DictsReady (now font) f (rowsOf (now rows)) (now used) (now words) r (now sizes) (now lens) count (at .privates))
-        × (at .end ≤ 67108864) × (at .end ≤ length (now out)) ⌝ }
+    requires { ⌜ (CidReady (now font) (c .cut .f) (rowsOf (now rows)) (now used) (now words) (c .cut .plan) (now table))
+        × (Summed (now font) (c .cut .f) (rowsOf (now rows)) (now used) (now words) (c .cut .plan) (now table) (now totals))
+        × (StringsReady (programOf (now font) (c .cut .f)) (now slots) (c .cut .own)) × (length (now name) ≤ 65535)
+        × (c .at ≡ cidPlaces (now font) (c .cut .f) (rowsOf (now rows)) (now used) (now words) (c .cut .plan) (now name))
+        × (c .cut .count ≡ length (fdsIn (now used)))
+        × (c .at .end ≤ 67108864) × (c .at .end ≤ length (now out)) ⌝ }
     ensures { λ r'. ⌜ Wrote (now (out .entry)) 0
-        (cidBytes (now (font .entry)) f (rowsOf (now (rows .entry))) (now (used .entry)) (now (words .entry)) r (now (name .entry))) (now (out .exit)) r' ⌝ }
+        (cidBytes (now (font .entry)) (c .cut .f) (rowsOf (now (rows .entry))) (now (used .entry)) (now (words .entry)) (c .cut .plan) (now (name .entry)))
+        (now (out .exit)) r' ⌝ }
 {
-    let p = put_head(
-        r,
-        at,
-        own,
-        font,
-        f,
-        name,
-        slots,
-        used,
-        words,
-        ats,
-        counts,
-        reacheds,
-        rows,
-        &mut *out,
-    );
+    let cut = c.cut;
+    let f = cut.f;
+    let r = cut.plan;
+    let p = put_head(c, font, name, slots, used, words, table, rows, &mut *out);
     let q = put_glyphs(
-        r,
+        cut.plan,
         font,
-        f,
+        cut.f,
         used,
         words,
-        ats,
-        counts,
-        reacheds,
+        table,
         rows,
         &mut *out,
         p,
     );
-    put_tail(
-        r,
-        count,
-        at.privates,
-        font,
-        f,
-        used,
-        words,
-        ats,
-        counts,
-        reacheds,
-        totals,
-        rows,
-        sizes,
-        lens,
-        out,
-        q,
-    )
+    put_tail(c, font, used, words, table, totals, rows, out, q)
 }

@@ -94,13 +94,13 @@ module _ (p : Program) (rows : List Row) (used : List ℕ) where
 
 -- ---- what ranking leaves
 
-module _ (p : Program) (rec used : List ℕ) (at : ℕ) (old ws ats counts reacheds : List ℕ) (all : Bool)
-    (r : RanksLocals p (rowsOf rec) used at old ws ats counts reacheds all) (room : at + localsTotal (p .privates) ≤ length old)
+module _ (p : Program) (rec used : List ℕ) (at : ℕ) (old ws table : List ℕ) (all : Bool)
+    (r : RanksLocals p (rowsOf rec) used at old ws table all) (room : at + localsTotal (p .privates) ≤ length old)
     (f : ℕ) (below : f < 256) (u : inUse used f ≡ true) where
   abbrev own : Ranks
-  own = ranksIn ats counts reacheds f
+  own = ranksIn table f
 
-  told : RankedFd p (rowsOf rec) used at ats counts reacheds f
+  told : RankedFd p (rowsOf rec) used at table f
   told = r .tables f below u
 
   -- they stand in the words
@@ -154,7 +154,7 @@ module _ (p : Program) (rec used : List ℕ) (at : ℕ) (old ws ats counts reach
 
       module _ (way : ℕ) (globals : Ranks) (whole : way ≡ 0 → (all ≡ true) × HoldsRanks ws globals (globalSet (rowsOf rec)) × (globals .count ≡ length (p .globals))) where
         -- the new local subroutines by the words are those by the record
-        pub locals-record : localsBy way p (rowsOf rec) ws ats counts reacheds globals f
+        pub locals-record : localsBy way p (rowsOf rec) ws table globals f
             ≡ subrsBy way (rowsOf rec) (localSet (rowsOf rec) f) (callsIn p (rowsOf rec) f) (local f) (localsOf p f)
         locals-record =
             subrs-record way (rowsOf rec) (reachedIn ws own) (localSet (rowsOf rec) f) (callsBy ws own globals) (callsIn p (rowsOf rec) f) (local f) (localsOf p f)
@@ -163,7 +163,7 @@ module _ (p : Program) (rec used : List ℕ) (at : ℕ) (old ws ats counts reach
             let h = fd-holds (q .0) in
             (reached-same ws own (localSet (rowsOf rec) f) h, calls-in p (rowsOf rec) ws own globals (q .1) (q .2) f h (told .count)))
 
-        pub new-locals-record : newLocals way p (rowsOf rec) ws ats counts reacheds globals f
+        pub new-locals-record : newLocals way p (rowsOf rec) ws table globals f
             ≡ newSubrs way (rowsOf rec) (localSet (rowsOf rec) f) (callsIn p (rowsOf rec) f) (local f) (localsOf p f)
         new-locals-record =
             new-subrs-is way (rowsOf rec) (reachedIn ws own) (callsBy ws own globals) (local f) (localsOf p f) ∙ ap manyOf locals-record

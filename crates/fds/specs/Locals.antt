@@ -1,6 +1,6 @@
 -- The local subroutines of the FDs in use, as the code holds them (document 01, 'What must change shape': ranks in the work words): a table
--- tells by FD which are in use, and three more where the ranks of their locals stand in the work words, how many they are and how many are
--- reached.
+-- tells by FD which are in use, and another where the ranks of their locals stand in the work words, behind that of each how many they are,
+-- and behind these how many are reached.
 use Prim.Native.Nat.{ℕ, _+_, _≤_, _<_}
 use mathlib.Core.Path.{_≡_}
 use mathlib.Core.Bool.{Bool, true, false, not}
@@ -65,17 +65,17 @@ rankedLocals p rows f =
 
 module _ (p : Program) (rows : List Row) (used : List ℕ) (at : ℕ) where
   -- the tables tell an FD's own: the ranks of the FDs before it stand in front
-  pub record RankedFd (ats counts reacheds : List ℕ) (f : ℕ) : Type 0 where
-    pub place : getD ats f 0 ≡ at + localsFor p (usedBelow used f)
-    pub count : getD counts f 0 ≡ length (localsOf p f)
-    pub reached : getD reacheds f 0 ≡ countBelow (localSet rows f) (length (localsOf p f))
+  pub record RankedFd (table : List ℕ) (f : ℕ) : Type 0 where
+    pub place : getD table f 0 ≡ at + localsFor p (usedBelow used f)
+    pub count : getD table (256 + f) 0 ≡ length (localsOf p f)
+    pub reached : getD table (512 + f) 0 ≡ countBelow (localSet rows f) (length (localsOf p f))
 
   -- the tables tell those in use below n
-  abbrev pub RankedFds : List ℕ → List ℕ → List ℕ → ℕ → Type 0
-  RankedFds ats counts reacheds n = (f : ℕ) → f < n → inUse used f ≡ true → RankedFd ats counts reacheds f
+  abbrev pub RankedFds : List ℕ → ℕ → Type 0
+  RankedFds table n = (f : ℕ) → f < n → inUse used f ≡ true → RankedFd table f
 
   -- the words hold the ranks from `at` on, and the tables tell where; and whether the record has no other number
-  pub record RanksLocals (old new ats counts reacheds : List ℕ) (all : Bool) : Type 0 where
+  pub record RanksLocals (old new table : List ℕ) (all : Bool) : Type 0 where
     pub words : new ≡ put old at (ranksFor p rows (fdsIn used))
-    pub tables : RankedFds ats counts reacheds 256
+    pub tables : RankedFds table 256
     pub told : all ≡ allNumbered p rows (fdsIn used)

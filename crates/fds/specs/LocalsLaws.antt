@@ -5,7 +5,7 @@ use mathlib.Core.Bool.{Bool, true, false}
 use mathlib.Core.List.{List, [], _∷_, _++_}
 use native.Mathlib.Omega.{arith}
 use lib.Dec.{eqb}
-use lib.ListN.{length, getD, set}
+use lib.ListN.{length, getD, set, length-set}
 use lib.Seq.{getD-set-same, getD-set-other}
 use Rattle.octets.specs.Pick.{pick}
 use Rattle.octets.specs.Octets.{put}
@@ -53,19 +53,19 @@ fd-ranked p rows fd count words new at r e h = (
 
 module _ (p : Program) (rows : List Row) (used : List ℕ) (at : ℕ) (old : List ℕ) where
   -- the locals of the FDs in use below fd are ranked
-  pub record Ranking (words ats counts reacheds : List ℕ) (place : ℕ) (all : Bool) (fd : ℕ) : Type 0 where
+  pub record Ranking (words table : List ℕ) (place : ℕ) (all : Bool) (fd : ℕ) : Type 0 where
     pub held : words ≡ put old at (ranksFor p rows (usedBelow used fd))
     pub stands : place ≡ at + localsFor p (usedBelow used fd)
-    pub tables : RankedFds p rows used at ats counts reacheds fd
+    pub tables : RankedFds p rows used at table fd
     pub told : all ≡ allNumbered p rows (usedBelow used fd)
 
-  pub ranking-start : (ats counts reacheds : List ℕ) → Ranking old ats counts reacheds at true 0
+  pub ranking-start : (table : List ℕ) → Ranking old table at true 0
   unfolding those ranksFor localsFor allNumbered
-  ranking-start ats counts reacheds =
+  ranking-start table =
       record { held = sym (put-nil old at); stands = omega arith; tables = λ f h e. absurd (let y : ⊥ = omega arith in y); told = refl }
 
-  module _ (room : at + localsTotal (p .privates) ≤ length old) (words ats counts reacheds : List ℕ) (place : ℕ) (all : Bool) (fd : ℕ)
-      (h : Ranking words ats counts reacheds place all fd) where
+  module _ (room : at + localsTotal (p .privates) ≤ length old) (words table : List ℕ) (place : ℕ) (all : Bool) (fd : ℕ)
+      (h : Ranking words table place all fd) where
     pub ranking-length : length words ≡ length old
     ranking-length =
         ap length (h .held)
@@ -79,7 +79,7 @@ module _ (p : Program) (rows : List Row) (used : List ℕ) (at : ℕ) (old : Lis
     ranking-small e a t = omega (arith, h .stands, locals-within p used fd e)
 
     -- an FD that is not in use
-    pub ranking-pass : inUse used fd ≡ false → Ranking words ats counts reacheds place all (fd + 1)
+    pub ranking-pass : inUse used fd ≡ false → Ranking words table place all (fd + 1)
     ranking-pass e =
         let u = unused-next used fd e in
         record {
@@ -90,23 +90,38 @@ module _ (p : Program) (rows : List Row) (used : List ℕ) (at : ℕ) (old : Lis
         }
 
     -- an FD in use
-    module _ (e : inUse used fd ≡ true) (sized : fd < length ats) (counted : fd < length counts) (reachable : fd < length reacheds)
+    module _ (e : inUse used fd ≡ true) (long : 768 ≤ length table) (below : fd < 256)
         (r : RankedLocals) (is : r ≡ rankedLocals p rows fd) (new : List ℕ) (w : new ≡ put words place (fdRanks p rows fd)) where
-      here : RankedFd p rows used at (set ats fd place) (set counts fd (r .count)) (set reacheds fd (r .reached)) fd
+      abbrev withPlace : List ℕ
+      withPlace = set table fd place
+
+      abbrev withCount : List ℕ
+      withCount = set withPlace (256 + fd) (r .count)
+
+      abbrev withAll : List ℕ
+      withAll = set withCount (512 + fd) (r .reached)
+
+      here : RankedFd p rows used at withAll fd
       here =
           record {
-            place = getD-set-same ats fd place 0 sized ∙ h .stands;
-            count = getD-set-same counts fd (r .count) 0 counted ∙ ap (λ (x : RankedLocals). x .count) is;
-            reached = getD-set-same reacheds fd (r .reached) 0 reachable ∙ ap (λ (x : RankedLocals). x .reached) is;
+            place = getD-set-other withCount (512 + fd) fd (r .reached) 0 (λ d. let y : ⊥ = omega arith in y)
+                ∙ getD-set-other withPlace (256 + fd) fd (r .count) 0 (λ d. let y : ⊥ = omega arith in y) ∙ getD-set-same table fd place 0 (omega arith) ∙ h .stands;
+            count = getD-set-other withCount (512 + fd) (256 + fd) (r .reached) 0 (λ d. let y : ⊥ = omega arith in y)
+                ∙ getD-set-same withPlace (256 + fd) (r .count) 0 (omega (arith, length-set table fd place)) ∙ ap (λ (x : RankedLocals). x .count) is;
+            reached = getD-set-same withCount (512 + fd) (r .reached) 0 (omega (arith, length-set withPlace (256 + fd) (r .count), length-set table fd place))
+                ∙ ap (λ (x : RankedLocals). x .reached) is;
           }
 
-      other : (f : ℕ) → (f ≡ fd → ⊥) → RankedFd p rows used at ats counts reacheds f
-          → RankedFd p rows used at (set ats fd place) (set counts fd (r .count)) (set reacheds fd (r .reached)) f
-      other f n q =
+      -- the rest of the table is as it was
+      apart : (k : ℕ) → (k ≡ 512 + fd → ⊥) → (k ≡ 256 + fd → ⊥) → (k ≡ fd → ⊥) → getD withAll k 0 ≡ getD table k 0
+      apart k a b c = getD-set-other withCount (512 + fd) k (r .reached) 0 a ∙ getD-set-other withPlace (256 + fd) k (r .count) 0 b ∙ getD-set-other table fd k place 0 c
+
+      other : (f : ℕ) → f < 256 → (f ≡ fd → ⊥) → RankedFd p rows used at table f → RankedFd p rows used at withAll f
+      other f k n q =
           record {
-            place = getD-set-other ats fd f place 0 n ∙ q .place;
-            count = getD-set-other counts fd f (r .count) 0 n ∙ q .count;
-            reached = getD-set-other reacheds fd f (r .reached) 0 n ∙ q .reached;
+            place = apart f (λ d. let y : ⊥ = omega arith in y) (λ d. let y : ⊥ = omega arith in y) n ∙ q .place;
+            count = apart (256 + f) (λ d. let y : ⊥ = omega arith in y) (λ d. n (omega arith)) (λ d. let y : ⊥ = omega arith in y) ∙ q .count;
+            reached = apart (512 + f) (λ d. n (omega arith)) (λ d. let y : ⊥ = omega arith in y) (λ d. let y : ⊥ = omega arith in y) ∙ q .reached;
           }
 
       written : new ≡ put old at (ranksFor p rows (usedBelow used fd) ++ fdRanks p rows fd)
@@ -118,7 +133,7 @@ module _ (p : Program) (rows : List Row) (used : List ℕ) (at : ℕ) (old : Lis
           ∙ put-put old at (ranksFor p rows (usedBelow used fd)) (fdRanks p rows fd) k
 
       pub ranking-take : (both : Bool) → both ≡ pick all (r .all) false
-          → Ranking new (set ats fd place) (set counts fd (r .count)) (set reacheds fd (r .reached)) (place + r .count) both (fd + 1)
+          → Ranking new withAll (place + r .count) both (fd + 1)
       ranking-take both b =
           let u = used-next used fd e in
           let c : r .count ≡ length (localsOf p fd) = ap (λ (x : RankedLocals). x .count) is in
@@ -126,15 +141,15 @@ module _ (p : Program) (rows : List Row) (used : List ℕ) (at : ℕ) (old : Lis
           record {
             held = written ∙ ap (put old at) (sym (ap (ranksFor p rows) u ∙ ranks-last p rows (usedBelow used fd) fd));
             stands = omega (arith, h .stands, ap (localsFor p) u, locals-last p rows (usedBelow used fd) fd);
-            tables = λ f k t. by-number f fd (λ s. subst (λ (i : ℕ). RankedFd p rows used at (set ats fd place) (set counts fd (r .count)) (set reacheds fd (r .reached)) i) (sym s) here)
-                (λ n. other f n (h .tables f (omega arith) t));
+            tables = λ f k t. by-number f fd (λ s. subst (λ (i : ℕ). RankedFd p rows used at withAll i) (sym s) here)
+                (λ n. other f (omega arith) n (h .tables f (omega arith) t));
             told = b ∙ ap (λ (t : Bool). pick t (r .all) false) (h .told) ∙ ap (λ (t : Bool). pick (allNumbered p rows (usedBelow used fd)) t false) a
                 ∙ sym (ap (allNumbered p rows) u ∙ numbered-last p rows (usedBelow used fd) fd);
           }
 
   -- all FDs were passed
-  pub ranking-done : (words ats counts reacheds : List ℕ) (place : ℕ) (all : Bool) (fd : ℕ) → Ranking words ats counts reacheds place all fd → fd ≡ 256
-      → RanksLocals p rows used at old words ats counts reacheds all
-  ranking-done words ats counts reacheds place all fd h e =
-      let g = subst (Ranking words ats counts reacheds place all) e h in
+  pub ranking-done : (words table : List ℕ) (place : ℕ) (all : Bool) (fd : ℕ) → Ranking words table place all fd → fd ≡ 256
+      → RanksLocals p rows used at old words table all
+  ranking-done words table place all fd h e =
+      let g = subst (Ranking words table place all) e h in
       record { words = g .held; tables = g .tables; told = g .told }

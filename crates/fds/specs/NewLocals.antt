@@ -36,13 +36,13 @@ pub record FdIn (b : List ℕ) (p : Program) (ws : List ℕ) (own globals : Rank
   pub globalRanks : Ranked ws globals
   pub order : rising ≡ true → rises rows ≡ true
 
-module _ (way : ℕ) (p : Program) (rows : List Row) (ws ats counts reacheds : List ℕ) (globals : Ranks) where
+module _ (way : ℕ) (p : Program) (rows : List Row) (ws table : List ℕ) (globals : Ranks) where
   -- those of an FD by the tables
   abbrev pub localsBy : ℕ → May (List (List ℕ))
-  localsBy f = localsWith way p rows ws (ranksIn ats counts reacheds f) globals f
+  localsBy f = localsWith way p rows ws (ranksIn table f) globals f
 
   abbrev pub newLocals : ℕ → List (List ℕ)
-  newLocals f = newWith way p rows ws (ranksIn ats counts reacheds f) globals f
+  newLocals f = newWith way p rows ws (ranksIn table f) globals f
 
   -- whether no FD in use fails, and then the bytes of the new local subroutines of each
   pub record MeasuresLocals (used totals : List ℕ) (all : Bool) : Type 0 where
@@ -51,14 +51,12 @@ module _ (way : ℕ) (p : Program) (rows : List Row) (ws ats counts reacheds : L
     pub few : all ≡ true → (f : ℕ) → f < 256 → inUse used f ≡ true → getD totals f 0 ≤ 21989897011200
 
 -- what the FDs in use ask: tables of all FDs, ranks in the words, rows in order where that is said
-pub record LocalsIn (b : List ℕ) (p : Program) (used ws ats counts reacheds : List ℕ) (globals : Ranks) (rows : List Row) (rising : Bool) : Type 0 where
+pub record LocalsIn (b : List ℕ) (p : Program) (used ws table : List ℕ) (globals : Ranks) (rows : List Row) (rising : Bool) : Type 0 where
   pub size : length b ≤ 67108864
   pub usedLong : 256 ≤ length used
-  pub atsLong : 256 ≤ length ats
-  pub countsLong : 256 ≤ length counts
-  pub reachedsLong : 256 ≤ length reacheds
+  pub tableLong : 768 ≤ length table
   pub fds : UsedOf (length (p .privates)) used
-  pub many : (f : ℕ) → f < 256 → inUse used f ≡ true → getD counts f 0 ≡ length (localsOf p f)
-  pub ranks : (f : ℕ) → f < 256 → inUse used f ≡ true → Ranked ws (ranksIn ats counts reacheds f)
+  pub many : (f : ℕ) → f < 256 → inUse used f ≡ true → getD table (256 + f) 0 ≡ length (localsOf p f)
+  pub ranks : (f : ℕ) → f < 256 → inUse used f ≡ true → Ranked ws (ranksIn table f)
   pub globalRanks : Ranked ws globals
   pub order : rising ≡ true → rises rows ≡ true

@@ -101,9 +101,9 @@ module _ (way : ℕ) (b : List ℕ) (p : Program) (rows : List Row) (ws : List �
 
 -- ---- FD by FD
 
-module _ (b : List ℕ) (p : Program) (used ws ats counts reacheds : List ℕ) (globals : Ranks) (rows : List Row) (rising : Bool)
-    (w : LocalsIn b p used ws ats counts reacheds globals rows rising) where
-  pub fd-in : (f : ℕ) → f < 256 → inUse used f ≡ true → (own : Ranks) → own ≡ ranksIn ats counts reacheds f → FdIn b p ws own globals rows rising f
+module _ (b : List ℕ) (p : Program) (used ws table : List ℕ) (globals : Ranks) (rows : List Row) (rising : Bool)
+    (w : LocalsIn b p used ws table globals rows rising) where
+  pub fd-in : (f : ℕ) → f < 256 → inUse used f ≡ true → (own : Ranks) → own ≡ ranksIn table f → FdIn b p ws own globals rows rising f
   fd-in f h u own e =
       subst (λ (o : Ranks). FdIn b p ws o globals rows rising f) (sym e)
       (record {
@@ -116,40 +116,40 @@ module _ (b : List ℕ) (p : Program) (used ws ats counts reacheds : List ℕ) (
         order = w .order;
       })
 
-module _ (way : ℕ) (p : Program) (rows : List Row) (ws ats counts reacheds : List ℕ) (globals : Ranks) (used : List ℕ) where
+module _ (way : ℕ) (p : Program) (rows : List Row) (ws table : List ℕ) (globals : Ranks) (used : List ℕ) where
   -- the new local subroutines of the FDs in use below fd are measured, and none of these FDs fails
   pub record Summing (totals : List ℕ) (fd : ℕ) : Type 0 where
-    pub hold : allHold (localsBy way p rows ws ats counts reacheds globals) (usedBelow used fd) ≡ true
-    pub sums : (f : ℕ) → f < fd → inUse used f ≡ true → getD totals f 0 ≡ total (newLocals way p rows ws ats counts reacheds globals f)
+    pub hold : allHold (localsBy way p rows ws table globals) (usedBelow used fd) ≡ true
+    pub sums : (f : ℕ) → f < fd → inUse used f ≡ true → getD totals f 0 ≡ total (newLocals way p rows ws table globals f)
     pub few : (f : ℕ) → f < fd → inUse used f ≡ true → getD totals f 0 ≤ 21989897011200
 
   pub summing-start : (totals : List ℕ) → Summing totals 0
   summing-start totals =
-      record { hold = hold-start (localsBy way p rows ws ats counts reacheds globals) used; sums = λ f h e. absurd (let y : ⊥ = omega arith in y); few = λ f h e. absurd (let y : ⊥ = omega arith in y) }
+      record { hold = hold-start (localsBy way p rows ws table globals) used; sums = λ f h e. absurd (let y : ⊥ = omega arith in y); few = λ f h e. absurd (let y : ⊥ = omega arith in y) }
 
   module _ (totals : List ℕ) (fd : ℕ) (h : Summing totals fd) where
     pub summing-pass : inUse used fd ≡ false → Summing totals (fd + 1)
     summing-pass e =
         record {
-          hold = hold-pass (localsBy way p rows ws ats counts reacheds globals) used fd e ∙ h .hold;
+          hold = hold-pass (localsBy way p rows ws table globals) used fd e ∙ h .hold;
           sums = λ f k t. by-number f fd (λ s. absurd (unused-apart used f fd e s t)) (λ n. h .sums f (omega arith) t);
           few = λ f k t. by-number f fd (λ s. absurd (unused-apart used f fd e s t)) (λ n. h .few f (omega arith) t);
         }
 
-    module _ (u : inUse used fd ≡ true) (own : Ranks) (o : own ≡ ranksIn ats counts reacheds fd) (r : Measured)
+    module _ (u : inUse used fd ≡ true) (own : Ranks) (o : own ≡ ranksIn table fd) (r : Measured)
         (is : r ≡ measuredOf (localsWith way p rows ws own globals fd)) where
-      by-tables : r ≡ measuredOf (localsBy way p rows ws ats counts reacheds globals fd)
+      by-tables : r ≡ measuredOf (localsBy way p rows ws table globals fd)
       by-tables = is ∙ ap (λ (q : Ranks). measuredOf (localsWith way p rows ws q globals fd)) o
 
       pub summing-take : Bounded r → (t : ℕ) → r ≡ Total t → fd < length totals → Summing (set totals fd t) (fd + 1)
       summing-take m t e k =
           let most : t ≤ 21989897011200 = subst Bounded e m in
-          let q = measured-total (localsBy way p rows ws ats counts reacheds globals fd) t (sym by-tables ∙ e) in
-          let n : total (newLocals way p rows ws ats counts reacheds globals fd) ≡ t = ap total (new-subrs-is way rows _ _ (local fd) (localsOf p fd)) ∙ sym (q .1) in
+          let q = measured-total (localsBy way p rows ws table globals fd) t (sym by-tables ∙ e) in
+          let n : total (newLocals way p rows ws table globals fd) ≡ t = ap total (new-subrs-is way rows _ _ (local fd) (localsOf p fd)) ∙ sym (q .1) in
           record {
-            hold = hold-take (localsBy way p rows ws ats counts reacheds globals) used fd u ∙ both (allHold (localsBy way p rows ws ats counts reacheds globals) (usedBelow used fd)) _ (h .hold) (q .0);
+            hold = hold-take (localsBy way p rows ws table globals) used fd u ∙ both (allHold (localsBy way p rows ws table globals) (usedBelow used fd)) _ (h .hold) (q .0);
             sums = λ f l v. by-number f fd
-                (λ s. subst (λ (i : ℕ). getD (set totals fd t) i 0 ≡ total (newLocals way p rows ws ats counts reacheds globals i)) (sym s) (getD-set-same totals fd t 0 k ∙ sym n))
+                (λ s. subst (λ (i : ℕ). getD (set totals fd t) i 0 ≡ total (newLocals way p rows ws table globals i)) (sym s) (getD-set-same totals fd t 0 k ∙ sym n))
                 (λ d. getD-set-other totals fd f t 0 d ∙ h .sums f (omega arith) v);
             few = λ f l v. by-number f fd
                 (λ s. subst (λ (i : ℕ). getD (set totals fd t) i 0 ≤ 21989897011200) (sym s) (subst (λ (i : ℕ). i ≤ 21989897011200) (sym (getD-set-same totals fd t 0 k)) most))
@@ -160,16 +160,16 @@ module _ (way : ℕ) (p : Program) (rows : List Row) (ws ats counts reacheds : L
           both true c e f = f
           both false c e f = absurd (zero-one cc)
 
-      pub summing-fails : fd < 256 → r ≡ Failed → (new : List ℕ) → MeasuresLocals way p rows ws ats counts reacheds globals used new false
+      pub summing-fails : fd < 256 → r ≡ Failed → (new : List ℕ) → MeasuresLocals way p rows ws table globals used new false
       summing-fails k e new =
-          let q = measured-failed (localsBy way p rows ws ats counts reacheds globals fd) (sym by-tables ∙ e) in
+          let q = measured-failed (localsBy way p rows ws table globals fd) (sym by-tables ∙ e) in
           record {
-            told = sym (hold-fails (localsBy way p rows ws ats counts reacheds globals) used fd 256 k u q);
+            told = sym (hold-fails (localsBy way p rows ws table globals) used fd 256 k u q);
             sums = λ z. absurd (zero-one cc);
             few = λ z. absurd (zero-one cc);
           }
 
-    pub summing-done : fd ≡ 256 → MeasuresLocals way p rows ws ats counts reacheds globals used totals true
+    pub summing-done : fd ≡ 256 → MeasuresLocals way p rows ws table globals used totals true
     summing-done e =
         let g = subst (Summing totals) e h in
         record { told = sym (g .hold); sums = λ z. g .sums; few = λ z. g .few }

@@ -34,16 +34,16 @@ module _ (way : ℕ) (p : Program) (rows : List Row) (ws : List ℕ) where
     pub few : at + length (partWith own globals f) ≤ 67108864
     pub fits : at + length (partWith own globals f) ≤ room
 
-  module _ (ats counts reacheds : List ℕ) (globals : Ranks) where
+  module _ (table : List ℕ) (globals : Ranks) where
     -- the parts of some FDs
     abbrev pub partsFor : List ℕ → List ℕ
-    partsFor fs = privateParts p fs (mapped (newLocals way p rows ws ats counts reacheds globals) fs)
+    partsFor fs = privateParts p fs (mapped (newLocals way p rows ws table globals) fs)
 
     -- no FD in use fails, the tables tell their bytes, and there is room for their parts from a place on
     pub record PartsRoom (used totals : List ℕ) (at room : ℕ) : Type 0 where
-      pub counted : (f : ℕ) → f < 256 → inUse used f ≡ true → Counted ws (ranksIn ats counts reacheds f)
-      pub hold : allHold (localsBy way p rows ws ats counts reacheds globals) (fdsIn used) ≡ true
+      pub counted : (f : ℕ) → f < 256 → inUse used f ≡ true → Counted ws (ranksIn table f)
+      pub hold : allHold (localsBy way p rows ws table globals) (fdsIn used) ≡ true
       pub totalsLong : 256 ≤ length totals
-      pub sums : (f : ℕ) → f < 256 → inUse used f ≡ true → getD totals f 0 ≡ total (newLocals way p rows ws ats counts reacheds globals f)
+      pub sums : (f : ℕ) → f < 256 → inUse used f ≡ true → getD totals f 0 ≡ total (newLocals way p rows ws table globals f)
       pub few : at + length (partsFor (fdsIn used)) ≤ 67108864
       pub fits : at + length (partsFor (fdsIn used)) ≤ room

@@ -141,20 +141,20 @@ module _ (p : Program) (new : ℕ → List (List ℕ)) where
       ap (λ (l : List ℕ). privatePart (privateOf p x) (new x) ++ l) (parts-last fs f)
       ∙ sym (append-assoc (privatePart (privateOf p x) (new x)) (privateParts p fs (mapped new fs)) (privatePart (privateOf p f) (new f)))
 
-module _ (way : ℕ) (p : Program) (rows : List Row) (ws ats counts reacheds : List ℕ) (globals : Ranks) (used : List ℕ) where
+module _ (way : ℕ) (p : Program) (rows : List Row) (ws table : List ℕ) (globals : Ranks) (used : List ℕ) where
   abbrev before : ℕ → List ℕ
-  before n = partsFor way p rows ws ats counts reacheds globals (usedBelow used n)
+  before n = partsFor way p rows ws table globals (usedBelow used n)
 
   pub parts-start : before 0 ≡ []
   unfolding privateParts those
   parts-start = refl
 
   pub parts-pass : (n : ℕ) → inUse used n ≡ false → before (n + 1) ≡ before n
-  parts-pass n e = ap (partsFor way p rows ws ats counts reacheds globals) (unused-next used n e)
+  parts-pass n e = ap (partsFor way p rows ws table globals) (unused-next used n e)
 
-  pub parts-take : (n : ℕ) → inUse used n ≡ true → before (n + 1) ≡ before n ++ partWith way p rows ws (ranksIn ats counts reacheds n) globals n
+  pub parts-take : (n : ℕ) → inUse used n ≡ true → before (n + 1) ≡ before n ++ partWith way p rows ws (ranksIn table n) globals n
   parts-take n e =
-      ap (partsFor way p rows ws ats counts reacheds globals) (used-next used n e) ∙ parts-last p (newLocals way p rows ws ats counts reacheds globals) (usedBelow used n) n
+      ap (partsFor way p rows ws table globals) (used-next used n e) ∙ parts-last p (newLocals way p rows ws table globals) (usedBelow used n) n
 
   parts-grow : (n d : ℕ) → length (before n) ≤ length (before (n + d))
   parts-grow n zero = let e : length (before n) ≡ length (before (n + 0)) = ap (λ (k : ℕ). length (before k)) (let z : n ≡ n + 0 = omega arith in z) in omega arith
@@ -165,21 +165,21 @@ module _ (way : ℕ) (p : Program) (rows : List Row) (ws ats counts reacheds : L
     where
       go : (t : Bool) → inUse used (n + d) ≡ t → length (before (n + d)) ≤ length (before (n + d + 1))
       go true u =
-          omega (arith, ap length (parts-take (n + d) u), length-append (before (n + d)) (partWith way p rows ws (ranksIn ats counts reacheds (n + d)) globals (n + d)))
+          omega (arith, ap length (parts-take (n + d) u), length-append (before (n + d)) (partWith way p rows ws (ranksIn table (n + d)) globals (n + d)))
       go false u = omega (arith, ap length (parts-pass (n + d) u))
 
   -- an FD in use does not fail where none does
-  pub holds-one : (f : ℕ) → f < 256 → inUse used f ≡ true → allHold (localsBy way p rows ws ats counts reacheds globals) (fdsIn used) ≡ true
-      → holds (localsBy way p rows ws ats counts reacheds globals f) ≡ true
-  holds-one f h u a = go (holds (localsBy way p rows ws ats counts reacheds globals f)) refl
+  pub holds-one : (f : ℕ) → f < 256 → inUse used f ≡ true → allHold (localsBy way p rows ws table globals) (fdsIn used) ≡ true
+      → holds (localsBy way p rows ws table globals f) ≡ true
+  holds-one f h u a = go (holds (localsBy way p rows ws table globals f)) refl
     where
-      go : (t : Bool) → holds (localsBy way p rows ws ats counts reacheds globals f) ≡ t → holds (localsBy way p rows ws ats counts reacheds globals f) ≡ true
+      go : (t : Bool) → holds (localsBy way p rows ws table globals f) ≡ t → holds (localsBy way p rows ws table globals f) ≡ true
       go true e = e
       go false e =
-          let z : _≡_ {A = Bool} true false = sym a ∙ hold-fails (localsBy way p rows ws ats counts reacheds globals) used f 256 h u e in
+          let z : _≡_ {A = Bool} true false = sym a ∙ hold-fails (localsBy way p rows ws table globals) used f 256 h u e in
           absurd (zero-one cc)
 
-  module _ (old totals : List ℕ) (at : ℕ) (room : PartsRoom way p rows ws ats counts reacheds globals used totals at (length old)) where
+  module _ (old totals : List ℕ) (at : ℕ) (room : PartsRoom way p rows ws table globals used totals at (length old)) where
     module _ (mid : List ℕ) (to fd : ℕ) (v : Wrote old at (before fd) mid to) (below : fd ≤ 256) where
       whole : length (before fd) ≤ length (before 256)
       whole =
@@ -190,11 +190,11 @@ module _ (way : ℕ) (p : Program) (rows : List Row) (ws ats counts reacheds : L
       putting-length = wrote-length v (omega (arith, whole, room .fits))
 
     module _ (mid : List ℕ) (to fd : ℕ) (v : Wrote old at (before fd) mid to) (below : fd < 256) (u : inUse used fd ≡ true)
-        (own : Ranks) (o : own ≡ ranksIn ats counts reacheds fd) where
-      next : length (before fd) + length (partWith way p rows ws (ranksIn ats counts reacheds fd) globals fd) ≤ length (before 256)
+        (own : Ranks) (o : own ≡ ranksIn table fd) where
+      next : length (before fd) + length (partWith way p rows ws (ranksIn table fd) globals fd) ≤ length (before 256)
       next =
           let e : length (before (fd + 1 + (255 - fd))) ≡ length (before 256) = ap (λ (k : ℕ). length (before k)) (let z : fd + 1 + (255 - fd) ≡ 256 = omega arith in z) in
-          omega (arith, parts-grow (fd + 1) (255 - fd), ap length (parts-take fd u), length-append (before fd) (partWith way p rows ws (ranksIn ats counts reacheds fd) globals fd))
+          omega (arith, parts-grow (fd + 1) (255 - fd), ap length (parts-take fd u), length-append (before fd) (partWith way p rows ws (ranksIn table fd) globals fd))
 
       pub putting-room : PartRoom way p rows ws own globals (getD totals fd 0) to (length mid) fd
       putting-room =
@@ -214,5 +214,5 @@ module _ (way : ℕ) (p : Program) (rows : List Row) (ws ats counts reacheds : L
 
     -- all FDs were passed
     pub putting-done : (mid : List ℕ) (to fd : ℕ) → Wrote old at (before fd) mid to → fd ≡ 256
-        → Wrote old at (partsFor way p rows ws ats counts reacheds globals (fdsIn used)) mid to
+        → Wrote old at (partsFor way p rows ws table globals (fdsIn used)) mid to
     putting-done mid to fd v e = wrote-as v (ap before e)

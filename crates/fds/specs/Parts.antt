@@ -18,8 +18,8 @@ use Rattle.fds.specs.Locals.{inUse, fdsIn}
 use Rattle.fds.specs.declared.parts.Part.{Part}
 
 -- how many new local subroutines an FD has: those reached where they are renumbered, else all
-abbrev pub leftIn : ℕ → List ℕ → List ℕ → ℕ → ℕ
-leftIn way counts reacheds f = pick (eqb way 0) (getD reacheds f 0) (getD counts f 0)
+abbrev pub leftIn : ℕ → List ℕ → ℕ → ℕ
+leftIn way table f = pick (eqb way 0) (getD table (512 + f) 0) (getD table (256 + f) 0)
 
 -- how long the INDEX of so many local subroutines is that have t bytes together; none is written where there are none
 unfoldable pub subrsLen : ℕ → ℕ → ℕ
@@ -32,14 +32,14 @@ dictLen p left f = length (privateDictBy (privateOf p f .entries) left)
 abbrev pub partBy : Program → ℕ → ℕ → ℕ → Part
 partBy p left t f = record { size = dictLen p left f; len = dictLen p left f + subrsLen left t }
 
-module _ (p : Program) (way : ℕ) (counts reacheds totals : List ℕ) where
+module _ (p : Program) (way : ℕ) (table totals : List ℕ) where
   -- by the tables
   abbrev pub partAt : ℕ → Part
-  partAt f = partBy p (leftIn way counts reacheds f) (getD totals f 0) f
+  partAt f = partBy p (leftIn way table f) (getD totals f 0) f
 
   -- how many, and how many bytes, of an FD in use: as many as numbers hold
   pub record PartFits (f : ℕ) : Type 0 where
-    pub few : leftIn way counts reacheds f < 65536
+    pub few : leftIn way table f < 65536
     pub short : getD totals f 0 ≤ 281474976710656
 
   abbrev pub PartsFit : List ℕ → Type 0

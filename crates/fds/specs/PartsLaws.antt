@@ -37,11 +37,11 @@ use Rattle.fds.specs.declared.parts.Part.{Part}
 
 -- ---- how many new local subroutines
 
-pub renumbered-left : (way : ℕ) (counts reacheds : List ℕ) (f : ℕ) → way ≡ 0 → getD reacheds f 0 ≡ leftIn way counts reacheds f
-renumbered-left way counts reacheds f e = sym (ap (λ (t : Bool). pick t (getD reacheds f 0) (getD counts f 0)) (eq-eqb way 0 e))
+pub renumbered-left : (way : ℕ) (table : List ℕ) (f : ℕ) → way ≡ 0 → getD table (512 + f) 0 ≡ leftIn way table f
+renumbered-left way table f e = sym (ap (λ (t : Bool). pick t (getD table (512 + f) 0) (getD table (256 + f) 0)) (eq-eqb way 0 e))
 
-pub all-left : (way : ℕ) (counts reacheds : List ℕ) (f : ℕ) → (way ≡ 0 → ⊥) → getD counts f 0 ≡ leftIn way counts reacheds f
-all-left way counts reacheds f h = sym (ap (λ (t : Bool). pick t (getD reacheds f 0) (getD counts f 0)) (ne-eqb way 0 h))
+pub all-left : (way : ℕ) (table : List ℕ) (f : ℕ) → (way ≡ 0 → ⊥) → getD table (256 + f) 0 ≡ leftIn way table f
+all-left way table f h = sym (ap (λ (t : Bool). pick t (getD table (512 + f) 0) (getD table (256 + f) 0)) (ne-eqb way 0 h))
 
 -- ---- the INDEX of local subroutines
 
@@ -110,12 +110,12 @@ sum-last (y ∷ l) x = omega (arith, sum-last l x)
 pub used-count : (used : List ℕ) (n : ℕ) → length (usedBelow used n) ≤ n
 used-count used n = those-count (inUse used) n 0
 
-module _ (p : Program) (way : ℕ) (counts reacheds totals used oldSizes oldLens : List ℕ) where
+module _ (p : Program) (way : ℕ) (table totals used oldSizes oldLens : List ℕ) where
   abbrev sizeAt : ℕ → ℕ
-  sizeAt f = partAt p way counts reacheds totals f .size
+  sizeAt f = partAt p way table totals f .size
 
   abbrev lenAt : ℕ → ℕ
-  lenAt f = partAt p way counts reacheds totals f .len
+  lenAt f = partAt p way table totals f .len
 
   -- the parts of the FDs in use below fd are measured
   pub record Measuring (sizes lens : List ℕ) (all j fd : ℕ) : Type 0 where
@@ -156,7 +156,7 @@ module _ (p : Program) (way : ℕ) (counts reacheds totals used oldSizes oldLens
         ∙ put-snoc old 0 (mapped g fs) (g fd) k
         ∙ ap (put old 0) (sym (ap (mapped g) (used-next used fd e) ∙ mapped-last g fs fd))
 
-    module _ (e : inUse used fd ≡ true) (r : Part) (is : r ≡ partAt p way counts reacheds totals fd) where
+    module _ (e : inUse used fd ≡ true) (r : Part) (is : r ≡ partAt p way table totals fd) where
       -- it is no longer than numbers hold
       pub measuring-small : r .len ≤ 281482000000000 → all + r .len ≤ (fd + 1) * 281482000000000
       measuring-small l = omega (arith, h .small)
@@ -176,7 +176,7 @@ module _ (p : Program) (way : ℕ) (counts reacheds totals used oldSizes oldLens
             small = measuring-small l;
           }
 
-    pub measuring-done : fd ≡ 256 → SizesParts p way counts reacheds totals used oldSizes oldLens sizes lens all
+    pub measuring-done : fd ≡ 256 → SizesParts p way table totals used oldSizes oldLens sizes lens all
     measuring-done e =
         let g = subst (Measuring sizes lens all j) e h in
         record { dicts = g .dicts; parts = g .parts; together = g .together; small = g .small }
@@ -222,16 +222,16 @@ module _ (p : Program) (new : ℕ → List (List ℕ)) where
       ∙ ap (λ (n : ℕ). length (privatePart (privateOf p f) (new f)) + n) (parts-together fs)
 
   -- where the tables tell how many new local subroutines an FD has, and how many bytes
-  module _ (way : ℕ) (counts reacheds totals used : List ℕ)
-      (many : (f : ℕ) → f < 256 → inUse used f ≡ true → leftIn way counts reacheds f ≡ length (new f))
+  module _ (way : ℕ) (table totals used : List ℕ)
+      (many : (f : ℕ) → f < 256 → inUse used f ≡ true → leftIn way table f ≡ length (new f))
       (bytes : (f : ℕ) → f < 256 → inUse used f ≡ true → getD totals f 0 ≡ total (new f)) where
-    pub sizes-are : mapped (λ f. partAt p way counts reacheds totals f .size) (fdsIn used) ≡ sizesOf p (fdsIn used) (mapped new (fdsIn used))
+    pub sizes-are : mapped (λ f. partAt p way table totals f .size) (fdsIn used) ≡ sizesOf p (fdsIn used) (mapped new (fdsIn used))
     sizes-are =
         mapped-used _ (λ f. length (privateDict (privateOf p f) (new f))) used 256
         (λ f h u. ap (λ (n : ℕ). length (privateDictBy (privateOf p f .entries) n)) (many f h u) ∙ ap length (sym (private-dict-is (privateOf p f) (new f))))
         ∙ sym (sizes-mapped (fdsIn used))
 
-    pub lens-are : mapped (λ f. partAt p way counts reacheds totals f .len) (fdsIn used) ≡ lensOf p (fdsIn used) (mapped new (fdsIn used))
+    pub lens-are : mapped (λ f. partAt p way table totals f .len) (fdsIn used) ≡ lensOf p (fdsIn used) (mapped new (fdsIn used))
     lens-are =
         mapped-used _ (λ f. length (privatePart (privateOf p f) (new f))) used 256
         (λ f h u. ap (λ (n : ℕ). length (privateDictBy (privateOf p f .entries) n) + subrsLen n (getD totals f 0)) (many f h u)
@@ -239,5 +239,5 @@ module _ (p : Program) (new : ℕ → List (List ℕ)) where
         ∙ sym (part-length (privateOf p f) (new f)))
         ∙ sym (lens-mapped (fdsIn used))
 
-    pub parts-are : sumOf (mapped (λ f. partAt p way counts reacheds totals f .len) (fdsIn used)) ≡ length (privateParts p (fdsIn used) (mapped new (fdsIn used)))
+    pub parts-are : sumOf (mapped (λ f. partAt p way table totals f .len) (fdsIn used)) ≡ length (privateParts p (fdsIn used) (mapped new (fdsIn used)))
     parts-are = ap sumOf lens-are ∙ sym (parts-together (fdsIn used))

@@ -67,15 +67,13 @@ pub fn rank_locals(
     used: &[u32],
     words: &mut [u32],
     at: usize,
-    ats: &mut [usize],
-    counts: &mut [usize],
-    reacheds: &mut [usize],
+    table: &mut [usize],
 ) -> bool
     requires { ⌜ (GoodFont (now font) f) × (256 ≤ length (now used)) × (UsedOf (length (programOf (now font) f .privates)) (now used))
         × (at < 4294967296) × (at + localsTotal (programOf (now font) f .privates) ≤ length (now words))
-        × (256 ≤ length (now ats)) × (256 ≤ length (now counts)) × (256 ≤ length (now reacheds)) ⌝ }
+        × (768 ≤ length (now table)) ⌝ }
     ensures { λ r. ⌜ RanksLocals (programOf (now (font .entry)) f) (rowsOf (now (rows .entry))) (now (used .entry)) at
-        (now (words .entry)) (now (words .exit)) (now (ats .exit)) (now (counts .exit)) (now (reacheds .exit)) r ⌝ }
+        (now (words .entry)) (now (words .exit)) (now (table .exit)) r ⌝ }
 {
     let mut place = at;
     let mut all = true;
@@ -85,9 +83,9 @@ pub fn rank_locals(
             fd += 1;
         } else {
             let r = rank_fd(font, f, fd, rows, &mut *words, place);
-            ats[fd] = place;
-            counts[fd] = r.count;
-            reacheds[fd] = r.reached;
+            table[fd] = place;
+            table[256 + fd] = r.count;
+            table[512 + fd] = r.reached;
             all = both(all, r.all);
             place += r.count;
             fd += 1;

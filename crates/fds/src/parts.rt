@@ -14,14 +14,14 @@ pub struct Part {
 }
 
 // How many new local subroutines an FD has, by the way.
-fn left_in(way: u8, counts: &[usize], reacheds: &[usize], fd: usize) -> usize
-    requires { ⌜ (fd < length (now counts)) × (fd < length (now reacheds)) ⌝ }
-    ensures { λ r. ⌜ r ≡ leftIn way (now (counts .entry)) (now (reacheds .entry)) fd ⌝ }
+fn left_in(way: u8, table: &[usize], fd: usize) -> usize
+    requires { ⌜ 512 + fd < length (now table) ⌝ }
+    ensures { λ r. ⌜ r ≡ leftIn way (now (table .entry)) fd ⌝ }
 {
     if way == 0 {
-        return reacheds[fd];
+        return table[512 + fd];
     }
-    counts[fd]
+    table[256 + fd]
 }
 
 // How long the INDEX of so many local subroutines is; 0 where there are none.
@@ -61,18 +61,17 @@ pub fn part_sizes(
     font: &[u8],
     f: Font,
     used: &[u32],
-    counts: &[usize],
-    reacheds: &[usize],
+    table: &[usize],
     totals: &[usize],
     sizes: &mut [usize],
     lens: &mut [usize],
 ) -> usize
     requires { ⌜ (length (now font) ≤ 67108864) × (GoodFont (now font) f) × (256 ≤ length (now used))
         × (UsedOf (length (programOf (now font) f .privates)) (now used))
-        × (256 ≤ length (now counts)) × (256 ≤ length (now reacheds)) × (256 ≤ length (now totals))
-        × (PartsFit (programOf (now font) f) way (now counts) (now reacheds) (now totals) (now used))
+        × (768 ≤ length (now table)) × (256 ≤ length (now totals))
+        × (PartsFit (programOf (now font) f) way (now table) (now totals) (now used))
         × (256 ≤ length (now sizes)) × (256 ≤ length (now lens)) ⌝ }
-    ensures { λ r. ⌜ SizesParts (programOf (now (font .entry)) f) way (now (counts .entry)) (now (reacheds .entry)) (now (totals .entry)) (now (used .entry))
+    ensures { λ r. ⌜ SizesParts (programOf (now (font .entry)) f) way (now (table .entry)) (now (totals .entry)) (now (used .entry))
         (now (sizes .entry)) (now (lens .entry)) (now (sizes .exit)) (now (lens .exit)) r ⌝ }
 {
     let mut all: usize = 0;
@@ -82,7 +81,7 @@ pub fn part_sizes(
         if used[fd] == 0 {
             fd += 1;
         } else {
-            let left = left_in(way, counts, reacheds, fd);
+            let left = left_in(way, table, fd);
             let part = part_of(font, f, fd, left, totals[fd]);
             sizes[j] = part.size;
             lens[j] = part.len;

@@ -7,6 +7,7 @@ ghost use Rattle.cff.specs.Reads.{GoodFont, programOf};
 ghost use Rattle.fds.specs.Locals.{fdsIn};
 ghost use Rattle.fds.specs.NewLocals.{FdIn, LocalsIn};
 ghost use Rattle.fds.specs.NewParts.{partWith, PartRoom, partsFor, PartsRoom};
+use bodies::charstrings::Kept;
 use bodies::subrs::Source;
 use bodies::subrs::Subrs;
 use cff::font::Font;
@@ -14,24 +15,25 @@ use renumber::Ranks;
 
 // The Private part of an FD, from `at` on; the place after it.
 fn put_part(
-    way: u8,
+    kept: Kept,
     font: &[u8],
     f: Font,
     fd: usize,
     words: &[u32],
     own: Ranks,
-    globals: Ranks,
     rows: &[u8],
-    rising: bool,
     total: usize,
     out: &mut [u8],
     at: usize,
 ) -> usize
-    requires { ⌜ (GoodFont (now font) f) × (FdIn (now font) (programOf (now font) f) (now words) own globals (rowsOf (now rows)) rising fd)
-        × (PartRoom way (programOf (now font) f) (rowsOf (now rows)) (now words) own globals total at (length (now out)) fd) ⌝ }
+    requires { ⌜ (GoodFont (now font) f) × (FdIn (now font) (programOf (now font) f) (now words) own (kept .globals) (rowsOf (now rows)) (kept .rising) fd)
+        × (PartRoom (kept .way) (programOf (now font) f) (rowsOf (now rows)) (now words) own (kept .globals) total at (length (now out)) fd) ⌝ }
     ensures { λ r. ⌜ Wrote (now (out .entry)) at
-        (partWith way (programOf (now (font .entry)) f) (rowsOf (now (rows .entry))) (now (words .entry)) own globals fd) (now (out .exit)) r ⌝ }
+        (partWith (kept .way) (programOf (now (font .entry)) f) (rowsOf (now (rows .entry))) (now (words .entry)) own (kept .globals) fd) (now (out .exit)) r ⌝ }
 {
+    let way = kept.way;
+    let globals = kept.globals;
+    let rising = kept.rising;
     let q = private_dicts::fd_private(font, f, fd);
     let left = bodies::subrs::kept_count(way, own.reached, own.count);
     let p = private_dicts::put_dict(font, q, left, &mut *out, at);
@@ -54,28 +56,23 @@ fn put_part(
 
 // The Private parts of the FDs in use, from `at` on; the place after them.
 pub fn put_privates(
-    way: u8,
+    kept: Kept,
     font: &[u8],
     f: Font,
     used: &[u32],
     words: &[u32],
-    ats: &[usize],
-    counts: &[usize],
-    reacheds: &[usize],
+    table: &[usize],
     totals: &[usize],
-    globals: Ranks,
     rows: &[u8],
-    rising: bool,
     out: &mut [u8],
     at: usize,
 ) -> usize
     requires { ⌜ (GoodFont (now font) f)
-        × (LocalsIn (now font) (programOf (now font) f) (now used) (now words) (now ats) (now counts) (now reacheds) globals (rowsOf (now rows)) rising)
-        × (PartsRoom way (programOf (now font) f) (rowsOf (now rows)) (now words) (now ats) (now counts) (now reacheds) globals (now used) (now totals) at
+        × (LocalsIn (now font) (programOf (now font) f) (now used) (now words) (now table) (kept .globals) (rowsOf (now rows)) (kept .rising))
+        × (PartsRoom (kept .way) (programOf (now font) f) (rowsOf (now rows)) (now words) (now table) (kept .globals) (now used) (now totals) at
         (length (now out))) ⌝ }
     ensures { λ r. ⌜ Wrote (now (out .entry)) at
-        (partsFor way (programOf (now (font .entry)) f) (rowsOf (now (rows .entry))) (now (words .entry)) (now (ats .entry)) (now (counts .entry)) (now (reacheds .entry))
-        globals (fdsIn (now (used .entry)))) (now (out .exit)) r ⌝ }
+        (partsFor (kept .way) (programOf (now (font .entry)) f) (rowsOf (now (rows .entry))) (now (words .entry)) (now (table .entry)) (kept .globals) (fdsIn (now (used .entry)))) (now (out .exit)) r ⌝ }
 {
     let mut p = at;
     let mut fd: usize = 0;
@@ -83,17 +80,15 @@ pub fn put_privates(
         if used[fd] == 0 {
             fd += 1;
         } else {
-            let own = bodies::charstrings::ranks_in(ats, counts, reacheds, fd);
+            let own = bodies::charstrings::ranks_in(table, fd);
             p = put_part(
-                way,
+                kept,
                 font,
                 f,
                 fd,
                 words,
                 own,
-                globals,
                 rows,
-                rising,
                 totals[fd],
                 &mut *out,
                 p,

@@ -52,25 +52,22 @@ pub fn measure_locals(
     f: Font,
     used: &[u32],
     words: &[u32],
-    ats: &[usize],
-    counts: &[usize],
-    reacheds: &[usize],
+    table: &[usize],
     globals: Ranks,
     rows: &[u8],
     rising: bool,
     totals: &mut [usize],
 ) -> bool
     requires { ⌜ (GoodFont (now font) f) × (256 ≤ length (now totals))
-        × (LocalsIn (now font) (programOf (now font) f) (now used) (now words) (now ats) (now counts) (now reacheds) globals (rowsOf (now rows)) rising) ⌝ }
-    ensures { λ r. ⌜ MeasuresLocals way (programOf (now (font .entry)) f) (rowsOf (now (rows .entry))) (now (words .entry)) (now (ats .entry)) (now (counts .entry))
-        (now (reacheds .entry)) globals (now (used .entry)) (now (totals .exit)) r ⌝ }
+        × (LocalsIn (now font) (programOf (now font) f) (now used) (now words) (now table) globals (rowsOf (now rows)) rising) ⌝ }
+    ensures { λ r. ⌜ MeasuresLocals way (programOf (now (font .entry)) f) (rowsOf (now (rows .entry))) (now (words .entry)) (now (table .entry)) globals (now (used .entry)) (now (totals .exit)) r ⌝ }
 {
     let mut fd: usize = 0;
     while fd < 256 {
         if used[fd] == 0 {
             fd += 1;
         } else {
-            let own = ranks_in(ats, counts, reacheds, fd);
+            let own = ranks_in(table, fd);
             match locals_total(way, font, f, fd, words, own, globals, rows, rising) {
                 Measured::Total(t) => {
                     totals[fd] = t;

@@ -88,7 +88,16 @@ fn put_names(name: &[u8], total: usize, out: &mut [u8]) -> usize
     index::put_single(out, q, name)
 }
 
-// The front of a name-keyed subset of total bytes, from the start of out on; the place after it.
+// Where charset, charstrings and Private of a name-keyed subset stand, the size of the Private DICT, and the length of the subset.
+pub struct NamedPlaces {
+    pub charset: usize,
+    pub charstrings: usize,
+    pub size: usize,
+    pub private: usize,
+    pub end: usize,
+}
+
+// The front of a name-keyed subset with these places, from the start of out on; the place after it.
 pub fn put_front_named(
     font: &[u8],
     f: Font,
@@ -97,17 +106,14 @@ pub fn put_front_named(
     own: Own,
     words: &[u32],
     k: usize,
-    at1: usize,
-    at2: usize,
-    size: usize,
-    at3: usize,
-    total: usize,
+    at: NamedPlaces,
     out: &mut [u8],
 ) -> usize
-    requires { ⌜ (NamedFront (now font) f (now slots) own (now words) k (length (now name)) (length (now out))) × (Offsets at1 at2 size at3) ⌝ }
+    requires { ⌜ (NamedFront (now font) f (now slots) own (now words) k (length (now name)) (length (now out))) × (Offsets (at .charset) (at .charstrings) (at .size) (at .private)) ⌝ }
     ensures { λ r. ⌜ Wrote (now (out .entry)) 0
-        (frontBytes total (now (name .entry))
-        (topByName (programOf (now (font .entry)) f) (ownByName (programOf (now (font .entry)) f) (orderIn k (now (words .entry)))) at1 at2 size at3)
+        (frontBytes (at .end) (now (name .entry))
+        (topByName (programOf (now (font .entry)) f) (ownByName (programOf (now (font .entry)) f) (orderIn k (now (words .entry))))
+        (at .charset) (at .charstrings) (at .size) (at .private))
         (ownByName (programOf (now (font .entry)) f) (orderIn k (now (words .entry)))))
         (now (out .exit)) r ⌝ }
 {
@@ -117,12 +123,31 @@ pub fn put_front_named(
     let charstrings = f.charstrings;
     let n = charstrings.count;
     let d = &font[top..end];
-    let p = put_names(name, total, out);
-    let q = put_named_index(d, slots, at1, at2, size, at3, out, p);
+    let p = put_names(name, at.end, out);
+    let q = put_named_index(
+        d,
+        slots,
+        at.charset,
+        at.charstrings,
+        at.size,
+        at.private,
+        out,
+        p,
+    );
     put_strings(font, strings, slots, own, words, n, k, out, q)
 }
 
-// The front of a CID-keyed subset of total bytes, from the start of out on; the place after it.
+// Where charset, FDSelect, charstrings, the FD INDEX and the Private parts of a CID-keyed subset stand; and where all ends.
+pub struct CidPlaces {
+    pub charset: usize,
+    pub select: usize,
+    pub glyphs: usize,
+    pub dicts: usize,
+    pub privates: usize,
+    pub end: usize,
+}
+
+// The front of a CID-keyed subset with these places, from the start of out on; the place after it.
 pub fn put_front_cid(
     font: &[u8],
     f: Font,
@@ -130,17 +155,13 @@ pub fn put_front_cid(
     slots: &[usize],
     own: Own,
     words: &[u32],
-    at1: usize,
-    at2: usize,
-    at3: usize,
-    at4: usize,
-    total: usize,
+    at: CidPlaces,
     out: &mut [u8],
 ) -> usize
-    requires { ⌜ (CidFront (now font) f (now slots) own (length (now name)) (length (now out))) × (Offsets at1 at2 at3 at4) ⌝ }
+    requires { ⌜ (CidFront (now font) f (now slots) own (length (now name)) (length (now out))) × (Offsets (at .charset) (at .select) (at .glyphs) (at .dicts)) ⌝ }
     ensures { λ r. ⌜ Wrote (now (out .entry)) 0
-        (frontBytes total (now (name .entry))
-        (topByCid (programOf (now (font .entry)) f) (ownByCid (programOf (now (font .entry)) f)) at1 at2 at3 at4)
+        (frontBytes (at .end) (now (name .entry))
+        (topByCid (programOf (now (font .entry)) f) (ownByCid (programOf (now (font .entry)) f)) (at .charset) (at .select) (at .glyphs) (at .dicts))
         (ownByCid (programOf (now (font .entry)) f)))
         (now (out .exit)) r ⌝ }
 {
@@ -148,7 +169,7 @@ pub fn put_front_cid(
     let end = f.top_end;
     let strings = f.strings;
     let d = &font[top..end];
-    let p = put_names(name, total, out);
-    let q = put_cid_index(d, slots, at1, at2, at3, at4, out, p);
+    let p = put_names(name, at.end, out);
+    let q = put_cid_index(d, slots, at.charset, at.select, at.glyphs, at.dicts, out, p);
     put_strings(font, strings, slots, own, words, 0, 0, out, q)
 }

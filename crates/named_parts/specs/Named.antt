@@ -24,7 +24,7 @@ use Rattle.front.specs.Front.{Renamed, SlotsReady, Measured}
 use Rattle.parts.specs.Ready.{FontHeld, Ready, Summed}
 use Rattle.parts.specs.declared.Planned.{Planned}
 use Rattle.outcome.specs.Layout.{namedCharset, namedCharstrings, namedPrivate, namedEnd}
-use Rattle.named_parts.specs.declared.Places.{Places}
+use Rattle.front.specs.declared.NamedPlaces.{NamedPlaces}
 
 -- charset, charstrings and Private, one behind the other
 abbrev pub namedGlyphs : Program → List ℕ → Bodies → List ℕ
@@ -36,11 +36,11 @@ abbrev pub namedOutcome : Program → List ℕ → List ℕ → ℕ → Pruned �
 namedOutcome p name order room q = written p name order order room q
 
 -- the bodies are planned, those of FD 0 alone, and the new ids of the names stand behind the glyphs
-pub record NamedPlan (b : List ℕ) (f : Font) (rows : List Row) (used ws : List ℕ) (r : Planned) (ats counts reacheds totals : List ℕ) : Type 0 where
+pub record NamedPlan (b : List ℕ) (f : Font) (rows : List Row) (used ws : List ℕ) (r : Planned) (table totals : List ℕ) : Type 0 where
   pub keyed : cidKeyed (programOf b f .top) ≡ false
   pub some : 0 < r .kept .count
-  pub ready : Ready b f rows used ws r ats counts reacheds
-  pub summed : Summed b f rows used ws r ats counts reacheds totals
+  pub ready : Ready b f rows used ws r table
+  pub summed : Summed b f rows used ws r table totals
   pub only : fdsIn used ≡ 0 ∷ []
   pub names : Renamed (programOf b f) (f .charstrings .count) (r .kept .count) ws
 
@@ -56,7 +56,7 @@ pub record NamedStrings (p : Program) (order slots : List ℕ) (own : Own) (name
   pub short : name ≤ 65535
 
 -- the places of the parts, and the size of the Private DICT
-pub record PlacedNamed (p : Program) (name order : List ℕ) (b : Bodies) (at : Places) : Type 0 where
+pub record PlacedNamed (p : Program) (name order : List ℕ) (b : Bodies) (at : NamedPlaces) : Type 0 where
   pub charset : at .charset ≡ namedCharset p name order b
   pub charstrings : at .charstrings ≡ namedCharstrings p name order b
   pub size : at .size ≡ length (privateDict (privateOf p 0) (oneLocal b))

@@ -41,7 +41,7 @@ use Rattle.parts.specs.CodeLaws.{globals-long, glyphs-long, glyphs-asked, glyph
 use Rattle.parts.specs.PrivateLaws.{all-parts, sizes-held, privates-asked, privates-are}
 use Rattle.outcome.specs.Layout.{frontLen, namedCharset, namedCharstrings, namedPrivate, namedEnd, named-parts, named-length}
 use Rattle.named_parts.specs.Named.{namedGlyphs, NamedPlan, NamedStrings, PlacedNamed}
-use Rattle.named_parts.specs.declared.Places.{Places}
+use Rattle.front.specs.declared.NamedPlaces.{NamedPlaces}
 
 -- ---- one FD alone
 
@@ -71,8 +71,8 @@ bodies-size : (p : Program) (rows : List Row) (way : ℕ) (fs order sizes : List
 unfolding bodiesBy
 bodies-size p rows way fs order sizes e t = only-size p _ fs sizes e t
 
-module _ (b : List ℕ) (f : Font) (rows : List Row) (used ws : List ℕ) (r : Planned) (ats counts reacheds totals : List ℕ)
-    (g : NamedPlan b f rows used ws r ats counts reacheds totals) where
+module _ (b : List ℕ) (f : Font) (rows : List Row) (used ws : List ℕ) (r : Planned) (table totals : List ℕ)
+    (g : NamedPlan b f rows used ws r table totals) where
   abbrev p : Program
   p = programOf b f
 
@@ -120,15 +120,15 @@ module _ (b : List ℕ) (f : Font) (rows : List Row) (used ws : List ℕ) (r : P
       charset-ends : q ≡ at + length ids
       charset-ends = w .behind ∙ ap (λ (l : List ℕ). at + length l) charset-are
 
-      pub charstrings-asked : KeptIn (r .kept) rows ws ats counts reacheds b
-          × Room (charstringsFrom (r .kept) rows ws ats counts reacheds b) (r .«glyphs_total») q (length mid)
+      pub charstrings-asked : KeptIn (r .kept) rows ws table b
+          × Room (charstringsFrom (r .kept) rows ws table b) (r .«glyphs_total») q (length mid)
       charstrings-asked =
-          glyphs-asked b f rows used ws ats counts reacheds r (g .ready) q (length mid) (omega (arith, sums, charset-ends))
+          glyphs-asked b f rows used ws table r (g .ready) q (length mid) (omega (arith, sums, charset-ends))
           (writing-room room (split-append glyphs private) charset-put)
 
-      module _ {mid2 : List ℕ} {q2 : ℕ} (v : Wrote mid q (indexBytes (newCharstringsFrom (r .kept) rows ws ats counts reacheds b)) mid2 q2) where
+      module _ {mid2 : List ℕ} {q2 : ℕ} (v : Wrote mid q (indexBytes (newCharstringsFrom (r .kept) rows ws table b)) mid2 q2) where
         glyphs-put : Wrote mid q glyphs mid2 q2
-        glyphs-put = wrote-as v (ap indexBytes (glyphs-are b f rows used ws ats counts reacheds r (g .ready)))
+        glyphs-put = wrote-as v (ap indexBytes (glyphs-are b f rows used ws table r (g .ready)))
 
         charstrings-put : Writing (namedGlyphs p order bodies) out at private mid2 q2
         charstrings-put = writing-turn room (split-append glyphs private) charset-put glyphs-put
@@ -136,18 +136,18 @@ module _ (b : List ℕ) (f : Font) (rows : List Row) (used ws : List ℕ) (r : P
         private-len : length (privateParts p (fdsIn used) (bodies .locals)) ≡ length private
         private-len = ap length private-is
 
-        pub parts-asked : GoodFont b f × LocalsIn b p used ws ats counts reacheds (r .kept .globals) rows (r .kept .rising)
-            × PartsRoom (r .kept .way) p rows ws ats counts reacheds (r .kept .globals) used totals q2 (length mid2)
+        pub parts-asked : GoodFont b f × LocalsIn b p used ws table (r .kept .globals) rows (r .kept .rising)
+            × PartsRoom (r .kept .way) p rows ws table (r .kept .globals) used totals q2 (length mid2)
         parts-asked =
             let left : q2 + length private ≤ length mid2 = writing-left room charstrings-put in
-            let h = privates-asked b f rows used ws ats counts reacheds r (g .ready) totals (g .summed) q2 (length mid2)
+            let h = privates-asked b f rows used ws table r (g .ready) totals (g .summed) q2 (length mid2)
             (omega (arith, sums, charset-ends, glyphs-put .behind, private-len)) (omega (arith, left, private-len)) in
             (g .ready .read .font, h .0, h .1)
 
-        pub glyphs-wrote : {new : List ℕ} {q3 : ℕ} → Wrote mid2 q2 (partsFor (r .kept .way) p rows ws ats counts reacheds (r .kept .globals) (fdsIn used)) new q3
+        pub glyphs-wrote : {new : List ℕ} {q3 : ℕ} → Wrote mid2 q2 (partsFor (r .kept .way) p rows ws table (r .kept .globals) (fdsIn used)) new q3
             → Wrote out at (namedGlyphs p order bodies) new q3
         glyphs-wrote u =
-            writing-last room charstrings-put (wrote-as u (privates-are b f rows used ws ats counts reacheds r (g .ready) totals (g .summed) ∙ private-is))
+            writing-last room charstrings-put (wrote-as u (privates-are b f rows used ws table r (g .ready) totals (g .summed) ∙ private-is))
 
   -- ---- measured
 
@@ -166,9 +166,9 @@ module _ (b : List ℕ) (f : Font) (rows : List Row) (used ws : List ℕ) (r : P
     module _ (front globals many : ℕ) (front-is : front ≡ measuredLen false (p .top) slots (length name) own)
         (globals-is : globals ≡ indexLen (keptCount (r .kept .way) (r .kept .globals .reached) (r .kept .globals .count)) (r .«globals_total»))
         (many-is : many ≡ indexLen (r .kept .count) (r .«glyphs_total»))
-        {oldSizes oldLens sizes lens : List ℕ} {all : ℕ} (s : SizesParts p (r .kept .way) counts reacheds totals used oldSizes oldLens sizes lens all)
+        {oldSizes oldLens sizes lens : List ℕ} {all : ℕ} (s : SizesParts p (r .kept .way) table totals used oldSizes oldLens sizes lens all)
         (sized : 256 ≤ length oldSizes) (long : 256 ≤ length oldLens) where
-      pub places-are : (at : Places)
+      pub places-are : (at : NamedPlaces)
           → at ≡ record {
             charset = front + globals;
             charstrings = front + globals + (1 + 2 * (k - 1));
@@ -179,26 +179,26 @@ module _ (b : List ℕ) (f : Font) (rows : List Row) (used ws : List ℕ) (r : P
           → PlacedNamed p name order bodies at
       places-are at e =
           let c : front + globals ≡ namedCharset p name order bodies
-          = omega (arith, front-is, measured-is, globals-is, globals-long b f rows used ws ats counts reacheds r (g .ready)) in
+          = omega (arith, front-is, measured-is, globals-is, globals-long b f rows used ws table r (g .ready)) in
           let d : front + globals + (1 + 2 * (k - 1)) ≡ namedCharstrings p name order bodies = omega (arith, c, ids-long) in
           let q : front + globals + (1 + 2 * (k - 1)) + many ≡ namedPrivate p name order bodies
-          = omega (arith, d, many-is, glyphs-long b f rows used ws ats counts reacheds r (g .ready)) in
-          let o = all-parts b f rows used ws ats counts reacheds r (g .ready) totals (g .summed) s sized long in
+          = omega (arith, d, many-is, glyphs-long b f rows used ws table r (g .ready)) in
+          let o = all-parts b f rows used ws table r (g .ready) totals (g .summed) s sized long in
           let z : front + globals + (1 + 2 * (k - 1)) + many + all ≡ namedEnd p name order bodies = omega (arith, q, o, ap length private-is) in
-          subst (λ (a : Places). PlacedNamed p name order bodies a) (sym e)
+          subst (λ (a : NamedPlaces). PlacedNamed p name order bodies a) (sym e)
           (record {
             charset = c;
             charstrings = d;
             size =
                 bodies-size p rows (r .kept .way) (fdsIn used) order sizes (g .only)
-                (sizes-held b f rows used ws ats counts reacheds r (g .ready) totals (g .summed) s sized long);
+                (sizes-held b f rows used ws table r (g .ready) totals (g .summed) s sized long);
             private = q;
             end = z;
           })
 
     -- ---- all written
 
-    module _ (at : Places) (placed : PlacedNamed p name order bodies at) (out : List ℕ) (small : at .end ≤ 67108864) (room : at .end ≤ length out) where
+    module _ (at : NamedPlaces) (placed : PlacedNamed p name order bodies at) (out : List ℕ) (small : at .end ≤ 67108864) (room : at .end ≤ length out) where
       abbrev globals : List ℕ
       globals = indexBytes (bodies .globals)
 
@@ -265,7 +265,7 @@ module _ (b : List ℕ) (f : Font) (rows : List Row) (used ws : List ℕ) (r : P
         front-put : Writing whole out 0 (globals ++ namedGlyphs p order bodies) mid q
         front-put = writing-turn whole-room (split-append front (globals ++ namedGlyphs p order bodies)) (writing-start whole out 0) w
 
-        pub globals-there : Ready b f rows used ws r ats counts reacheds × (q + length globals ≤ 67108864) × (q + length globals ≤ length mid)
+        pub globals-there : Ready b f rows used ws r table × (q + length globals ≤ 67108864) × (q + length globals ≤ length mid)
         globals-there = (
           g .ready,
           omega (arith, long, halves, w .behind),
@@ -276,7 +276,7 @@ module _ (b : List ℕ) (f : Font) (rows : List Row) (used ws : List ℕ) (r : P
           globals-put : Writing whole out 0 (namedGlyphs p order bodies) mid2 q2
           globals-put = writing-turn whole-room (split-append globals (namedGlyphs p order bodies)) front-put v
 
-          pub glyphs-there : NamedPlan b f rows used ws r ats counts reacheds totals × (q2 + length (namedGlyphs p order bodies) ≤ 67108864)
+          pub glyphs-there : NamedPlan b f rows used ws r table totals × (q2 + length (namedGlyphs p order bodies) ≤ 67108864)
               × (q2 + length (namedGlyphs p order bodies) ≤ length mid2)
           glyphs-there = (g, omega (arith, long, halves, w .behind, v .behind), writing-left whole-room globals-put)
 

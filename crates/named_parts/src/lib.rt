@@ -9,20 +9,18 @@ ghost use Rattle.parts.specs.Ready.{bodiesFor};
 ghost use Rattle.named_parts.specs.Named.{namedGlyphs, NamedPlan, NamedStrings, PlacedNamed};
 use bodies::charstrings::put_charstrings;
 use cff::font::Font;
-use own_strings::Own;
+use front::NamedPlaces;
+use outcome::Prepared;
 use parts::Planned;
 use parts::globals_len;
 use parts::glyphs_len;
 use parts::put_globals;
 ghost use Rattle.kept.specs.Packed.{orderIn};
 
-// Where charset, charstrings and Private stand, the size of the Private DICT, and the length of the subset.
-pub struct Places {
-    pub charset: usize,
-    pub charstrings: usize,
-    pub size: usize,
-    pub private: usize,
-    pub end: usize,
+// A cut and the places of its parts.
+pub struct PlacedCut {
+    pub cut: Prepared,
+    pub at: NamedPlaces,
 }
 
 // Charset, charstrings and Private, from `at` on; the place after them.
@@ -32,15 +30,13 @@ fn put_glyphs(
     f: Font,
     used: &[u32],
     words: &[u32],
-    ats: &[usize],
-    counts: &[usize],
-    reacheds: &[usize],
+    table: &[usize],
     totals: &[usize],
     rows: &[u8],
     out: &mut [u8],
     at: usize,
 ) -> usize
-    requires { ⌜ (NamedPlan (now font) f (rowsOf (now rows)) (now used) (now words) r (now ats) (now counts) (now reacheds) (now totals))
+    requires { ⌜ (NamedPlan (now font) f (rowsOf (now rows)) (now used) (now words) r (now table) (now totals))
         × (at + length (namedGlyphs (programOf (now font) f) (orderIn (r .kept .count) (now words)) (bodiesFor (now font) f (rowsOf (now rows)) (now used) (now words) r)) ≤ 67108864)
         × (at + length (namedGlyphs (programOf (now font) f) (orderIn (r .kept .count) (now words)) (bodiesFor (now font) f (rowsOf (now rows)) (now used) (now words) r)) ≤ length (now out)) ⌝ }
     ensures { λ q. ⌜ Wrote (now (out .entry)) at
@@ -53,118 +49,64 @@ fn put_glyphs(
     let n = charstrings.count;
     let total = r.glyphs_total;
     let p = glyph_tables::put_charset_named(words, n, kept.count, out, at);
-    let q = put_charstrings(
-        kept,
-        font,
-        words,
-        ats,
-        counts,
-        reacheds,
-        rows,
-        total,
-        out,
-        p,
-    );
-    fds::privates::put_privates(
-        kept.way,
-        font,
-        f,
-        used,
-        words,
-        ats,
-        counts,
-        reacheds,
-        totals,
-        kept.globals,
-        rows,
-        kept.rising,
-        out,
-        q,
-    )
+    let q = put_charstrings(kept, font, words, table, rows, total, out, p);
+    fds::privates::put_privates(kept, font, f, used, words, table, totals, rows, out, q)
 }
 
 // The subset in the front of the output; the place after it.
 pub fn put_named(
-    r: Planned,
+    c: PlacedCut,
     font: &[u8],
-    f: Font,
     name: &[u8],
     slots: &[usize],
-    own: Own,
     used: &[u32],
     words: &[u32],
-    ats: &[usize],
-    counts: &[usize],
-    reacheds: &[usize],
+    table: &[usize],
     totals: &[usize],
     rows: &[u8],
-    places: Places,
     out: &mut [u8],
 ) -> usize
-    requires { ⌜ (NamedPlan (now font) f (rowsOf (now rows)) (now used) (now words) r (now ats) (now counts) (now reacheds) (now totals))
-        × (NamedStrings (programOf (now font) f) (orderIn (r .kept .count) (now words)) (now slots) own (length (now name)))
-        × (PlacedNamed (programOf (now font) f) (now name) (orderIn (r .kept .count) (now words))
-        (bodiesFor (now font) f (rowsOf (now rows)) (now used) (now words) r) places)
-        × (places .end ≤ 67108864) × (places .end ≤ length (now out)) ⌝ }
+    requires { ⌜ (NamedPlan (now font) (c .cut .f) (rowsOf (now rows)) (now used) (now words) (c .cut .plan) (now table) (now totals))
+        × (NamedStrings (programOf (now font) (c .cut .f)) (orderIn (c .cut .plan .kept .count) (now words)) (now slots) (c .cut .own) (length (now name)))
+        × (PlacedNamed (programOf (now font) (c .cut .f)) (now name) (orderIn (c .cut .plan .kept .count) (now words))
+        (bodiesFor (now font) (c .cut .f) (rowsOf (now rows)) (now used) (now words) (c .cut .plan)) (c .at))
+        × (c .at .end ≤ 67108864) × (c .at .end ≤ length (now out)) ⌝ }
     ensures { λ q. ⌜ Wrote (now (out .entry)) 0
-        (subsetByName (programOf (now (font .entry)) f) (now (name .entry)) (orderIn (r .kept .count) (now (words .entry)))
-        (bodiesFor (now (font .entry)) f (rowsOf (now (rows .entry))) (now (used .entry)) (now (words .entry)) r))
+        (subsetByName (programOf (now (font .entry)) (c .cut .f)) (now (name .entry)) (orderIn (c .cut .plan .kept .count) (now (words .entry)))
+        (bodiesFor (now (font .entry)) (c .cut .f) (rowsOf (now (rows .entry))) (now (used .entry)) (now (words .entry)) (c .cut .plan)))
         (now (out .exit)) q ⌝ }
 {
+    let cut = c.cut;
+    let at = c.at;
+    let f = cut.f;
+    let r = cut.plan;
+    let own = cut.own;
     let kept = r.kept;
-    let p = front::put_front_named(
-        font,
-        f,
-        name,
-        slots,
-        own,
-        words,
-        kept.count,
-        places.charset,
-        places.charstrings,
-        places.size,
-        places.private,
-        places.end,
-        out,
-    );
-    let q = put_globals(r, font, f, used, words, ats, counts, reacheds, rows, out, p);
-    put_glyphs(
-        r,
-        font,
-        f,
-        used,
-        words,
-        ats,
-        counts,
-        reacheds,
-        totals,
-        rows,
-        out,
-        q,
-    )
+    let p = front::put_front_named(font, f, name, slots, own, words, kept.count, at, out);
+    let q = put_globals(r, font, f, used, words, table, rows, out, p);
+    put_glyphs(r, font, f, used, words, table, totals, rows, out, q)
 }
 
 // Measures the parts of the subset: where they stand.
 pub fn places_named(
-    r: Planned,
+    cut: Prepared,
     font: &[u8],
-    f: Font,
     name: &[u8],
     slots: &[usize],
-    own: Own,
     used: &[u32],
     words: &[u32],
-    ats: &[usize],
-    counts: &[usize],
-    reacheds: &[usize],
+    table: &[usize],
     totals: &[usize],
     rows: &[u8],
-) -> Places
-    requires { ⌜ (NamedPlan (now font) f (rowsOf (now rows)) (now used) (now words) r (now ats) (now counts) (now reacheds) (now totals))
-        × (NamedStrings (programOf (now font) f) (orderIn (r .kept .count) (now words)) (now slots) own (length (now name))) ⌝ }
-    ensures { λ at. ⌜ PlacedNamed (programOf (now (font .entry)) f) (now (name .entry)) (orderIn (r .kept .count) (now (words .entry)))
-        (bodiesFor (now (font .entry)) f (rowsOf (now (rows .entry))) (now (used .entry)) (now (words .entry)) r) at ⌝ }
+) -> NamedPlaces
+    requires { ⌜ (NamedPlan (now font) (cut .f) (rowsOf (now rows)) (now used) (now words) (cut .plan) (now table) (now totals))
+        × (NamedStrings (programOf (now font) (cut .f)) (orderIn (cut .plan .kept .count) (now words)) (now slots) (cut .own) (length (now name))) ⌝ }
+    ensures { λ at. ⌜ PlacedNamed (programOf (now (font .entry)) (cut .f)) (now (name .entry)) (orderIn (cut .plan .kept .count) (now (words .entry)))
+        (bodiesFor (now (font .entry)) (cut .f) (rowsOf (now (rows .entry))) (now (used .entry)) (now (words .entry)) (cut .plan)) at ⌝ }
 {
+    let f = cut.f;
+    let r = cut.plan;
+    let own = cut.own;
     let kept = r.kept;
     let mut sizes = [0usize; 256];
     let mut lens = [0usize; 256];
@@ -173,8 +115,7 @@ pub fn places_named(
         font,
         f,
         used,
-        counts,
-        reacheds,
+        table,
         totals,
         &mut sizes,
         &mut lens,
@@ -182,11 +123,13 @@ pub fn places_named(
     let charset = front::front_len(false, font, f, name.len(), slots, own) + globals_len(r);
     let charstrings = charset + (1 + 2 * (kept.count - 1));
     let private = charstrings + glyphs_len(r);
-    Places {
+    let size = sizes[0];
+    let end = private + privates;
+    NamedPlaces {
         charset,
         charstrings,
-        size: sizes[0],
+        size,
         private,
-        end: private + privates,
+        end,
     }
 }

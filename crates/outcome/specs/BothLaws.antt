@@ -52,18 +52,18 @@ order-asked b f held keep ws below found words =
 
 -- ---- measures
 
-module _ (b : List ℕ) (f : Font) (rows : List Row) (used ws ats counts reacheds : List ℕ) (r : Planned) (ready : Ready b f rows used ws r ats counts reacheds) where
+module _ (b : List ℕ) (f : Font) (rows : List Row) (used ws table : List ℕ) (r : Planned) (ready : Ready b f rows used ws r table) where
   -- the INDEXes of the globals and of the charstrings can be measured
   pub globals-measured : (keptCount (r .kept .way) (r .kept .globals .reached) (r .kept .globals .count) ≤ 65535) × (r .«globals_total» ≤ 281474976710656)
-  globals-measured = (globals-few b f rows used ws ats counts reacheds r ready, omega (arith, ready .globalsFew))
+  globals-measured = (globals-few b f rows used ws table r ready, omega (arith, ready .globalsFew))
 
   pub glyphs-measured : (r .kept .count ≤ 65535) × (r .«glyphs_total» ≤ 281474976710656)
   glyphs-measured = (omega (arith, ready .asked .glyphs .keptFew), omega (arith, ready .glyphsFew))
 
   -- and so can the Private parts
-  pub parts-measured : (totals : List ℕ) → Summed b f rows used ws r ats counts reacheds totals → (sizes lens : ℕ) → 256 ≤ sizes → 256 ≤ lens
+  pub parts-measured : (totals : List ℕ) → Summed b f rows used ws r table totals → (sizes lens : ℕ) → 256 ≤ sizes → 256 ≤ lens
       → (length b ≤ 67108864) × GoodFont b f × (256 ≤ length used) × UsedOf (length (programOf b f .privates)) used
-      × (256 ≤ length counts) × (256 ≤ length reacheds) × (256 ≤ length totals) × PartsFit (programOf b f) (r .kept .way) counts reacheds totals used
+      × (768 ≤ length table) × (256 ≤ length totals) × PartsFit (programOf b f) (r .kept .way) table totals used
       × (256 ≤ sizes) × (256 ≤ lens)
   parts-measured totals summed sizes lens s l =
       let h = ready .asked .locals in (
@@ -71,10 +71,9 @@ module _ (b : List ℕ) (f : Font) (rows : List Row) (used ws ats counts reached
         ready .read .font,
         h .usedLong,
         h .fds,
-        h .countsLong,
-        h .reachedsLong,
+        h .tableLong,
         summed .long,
-        parts-fit b f rows used ws ats counts reacheds r ready totals summed,
+        parts-fit b f rows used ws table r ready totals summed,
         s,
         l,
       )

@@ -56,7 +56,7 @@ length-by : (items : List (List ℕ)) (count sum : ℕ) → count ≡ length ite
 length-by items count sum many is =
     ap (λ (n : ℕ). indexLen n sum) many ∙ ap (indexLen (length items)) is ∙ sym (length-index items)
 
-module _ (b : List ℕ) (f : Font) (rows : List Row) (used ws ats counts reacheds : List ℕ) (r : Planned) (ready : Ready b f rows used ws r ats counts reacheds) where
+module _ (b : List ℕ) (f : Font) (rows : List Row) (used ws table : List ℕ) (r : Planned) (ready : Ready b f rows used ws r table) where
   abbrev p : Program
   p = programOf b f
 
@@ -67,13 +67,13 @@ module _ (b : List ℕ) (f : Font) (rows : List Row) (used ws ats counts reached
   own = r .kept .globals
 
   abbrev across : Ranks
-  across = acrossBy ats counts reacheds (fdsIn used)
+  across = acrossBy table (fdsIn used)
 
   abbrev theGlobals : May (List (List ℕ))
-  theGlobals = globalsBy way p rows (r .kept .cid) ws used ats counts reacheds own (r .kept .count)
+  theGlobals = globalsBy way p rows (r .kept .cid) ws used table own (r .kept .count)
 
   abbrev theGlyphs : May (List (List ℕ))
-  theGlyphs = glyphsBy way p rows (r .kept .cid) ws used ats counts reacheds own (r .kept .count)
+  theGlyphs = glyphsBy way p rows (r .kept .cid) ws used table own (r .kept .count)
 
   -- neither fails
   globals-hold : holds theGlobals ≡ true
@@ -81,7 +81,7 @@ module _ (b : List ℕ) (f : Font) (rows : List Row) (used ws ats counts reached
 
   glyphs-hold : holds theGlyphs ≡ true
   glyphs-hold =
-      both-hold (allHold (localsBy way p rows ws ats counts reacheds own) (fdsIn used)) (holds theGlyphs)
+      both-hold (allHold (localsBy way p rows ws table own) (fdsIn used)) (holds theGlyphs)
       (both-hold (holds theGlobals) _ (ready .made) .1) .1
 
   -- ---- globals
@@ -93,7 +93,7 @@ module _ (b : List ℕ) (f : Font) (rows : List Row) (used ws ats counts reached
 
   many-are : manyOf theGlobals ≡ bodiesFor b f rows used ws r .globals
   many-are =
-      new-globals p (ready .read .program) rows (ready .narrow) used ws own ats counts reacheds (ready .ranked) (r .kept .cid) (r .kept .count)
+      new-globals p (ready .read .program) rows (ready .narrow) used ws own table (ready .ranked) (r .kept .cid) (r .kept .count)
       (orderIn (r .kept .count) ws) (ready .order) way (ready .numbered)
 
   new-are : newSubrs way rows (reachedIn ws own) (callsBy ws across own) global (p .globals) ≡ bodiesFor b f rows used ws r .globals
@@ -124,7 +124,7 @@ module _ (b : List ℕ) (f : Font) (rows : List Row) (used ws ats counts reached
         of = Global;
         ix = f .globals;
         own = r .kept .globals;
-        locals = acrossBy ats counts reacheds (fdsIn used);
+        locals = acrossBy table (fdsIn used);
         globals = r .kept .globals;
         rising = r .kept .rising;
       }) where
@@ -146,15 +146,15 @@ module _ (b : List ℕ) (f : Font) (rows : List Row) (used ws ats counts reached
   -- ---- charstrings
 
   -- by the font's own charstrings
-  glyphs-from : charstringsFrom (r .kept) rows ws ats counts reacheds b ≡ theGlyphs
+  glyphs-from : charstringsFrom (r .kept) rows ws table b ≡ theGlyphs
   glyphs-from =
-      ap (λ (n : ℕ). charstringsBy way rows (r .kept .cid) ws n ats counts reacheds own (itemsOf b (r .kept .ix)) (r .kept .count)) (ready .asked .all)
-      ∙ ap (λ (ix : Index). charstringsBy way rows (r .kept .cid) ws (length (p .charstrings)) ats counts reacheds own (itemsOf b ix) (r .kept .count)) (ready .asked .charstrings)
+      ap (λ (n : ℕ). charstringsBy way rows (r .kept .cid) ws n table own (itemsOf b (r .kept .ix)) (r .kept .count)) (ready .asked .all)
+      ∙ ap (λ (ix : Index). charstringsBy way rows (r .kept .cid) ws (length (p .charstrings)) table own (itemsOf b ix) (r .kept .count)) (ready .asked .charstrings)
 
   glyphs-many : manyOf theGlyphs ≡ bodiesFor b f rows used ws r .charstrings
   unfolding bodiesBy
   glyphs-many =
-      let e = new-glyphs p (ready .read .program) rows (ready .narrow) used ws own ats counts reacheds (ready .ranked) (r .kept .cid) (r .kept .count)
+      let e = new-glyphs p (ready .read .program) rows (ready .narrow) used ws own table (ready .ranked) (r .kept .cid) (r .kept .count)
       (orderIn (r .kept .count) ws) (ready .order) way (ready .numbered) in
       ap manyOf e
       ∙ sym (mapped-bodies (λ g. bodyBy way rows (callsIn p rows (getD (p .fds) g 0)) (glyph g) (getD (p .charstrings) g []))
@@ -173,14 +173,14 @@ module _ (b : List ℕ) (f : Font) (rows : List Row) (used ws ats counts reached
 
   pub glyphs-asked : (at room : ℕ) → at + length (indexBytes (bodiesFor b f rows used ws r .charstrings)) ≤ 67108864
       → at + length (indexBytes (bodiesFor b f rows used ws r .charstrings)) ≤ room
-      → KeptIn (r .kept) rows ws ats counts reacheds b × Room (charstringsFrom (r .kept) rows ws ats counts reacheds b) (r .«glyphs_total») at room
+      → KeptIn (r .kept) rows ws table b × Room (charstringsFrom (r .kept) rows ws table b) (r .«glyphs_total») at room
   glyphs-asked at room small fits = (
     ready .asked .glyphs,
-    room-for (charstringsFrom (r .kept) rows ws ats counts reacheds b) (bodiesFor b f rows used ws r .charstrings) (r .«glyphs_total») at room
+    room-for (charstringsFrom (r .kept) rows ws table b) (bodiesFor b f rows used ws r .charstrings) (r .«glyphs_total») at room
         (ap holds glyphs-from ∙ glyphs-hold) (ap manyOf glyphs-from ∙ glyphs-many) (ready .glyphsTotal) small fits,
   )
 
-  pub glyphs-are : newCharstringsFrom (r .kept) rows ws ats counts reacheds b ≡ bodiesFor b f rows used ws r .charstrings
+  pub glyphs-are : newCharstringsFrom (r .kept) rows ws table b ≡ bodiesFor b f rows used ws r .charstrings
   glyphs-are =
-      new-charstrings-is way rows (r .kept .cid) ws (r .kept .all) ats counts reacheds own (itemsOf b (r .kept .ix)) (r .kept .count) (ap holds glyphs-from ∙ glyphs-hold)
+      new-charstrings-is way rows (r .kept .cid) ws (r .kept .all) table own (itemsOf b (r .kept .ix)) (r .kept .count) (ap holds glyphs-from ∙ glyphs-hold)
       ∙ ap manyOf glyphs-from ∙ glyphs-many

@@ -72,7 +72,7 @@ module _ (b : List ℕ) (f : Font) (cid : Bool) (used old : List ℕ) (k : ℕ) 
   pub rank-room : 2 * f .charstrings .count + f .globals .count + localsTotal (p .privates) ≤ length old
   rank-room = omega (arith, h .room, items-length b (f .charstrings), items-length b (f .globals))
 
-  module _ (rows : List Row) (narrow : Narrow rows) (ws ats counts reacheds : List ℕ) (ranked : RankedAll) (s : RanksAll p rows used old ws ats counts reacheds ranked) where
+  module _ (rows : List Row) (narrow : Narrow rows) (ws table : List ℕ) (ranked : RankedAll) (s : RanksAll p rows used old ws table ranked) where
     -- ---- the words of the glyphs stay where the subroutines are ranked behind them
 
     glyphs-room : 2 * length (p .charstrings) ≤ length old
@@ -117,47 +117,47 @@ module _ (b : List ℕ) (f : Font) (cid : Bool) (used old : List ℕ) (k : ℕ) 
           within = o .within;
         })
 
-    module _ (rising : Bool) (sorted : rising ≡ rises rows) (atsLong : 256 ≤ length ats) (countsLong : 256 ≤ length counts) (reachedsLong : 256 ≤ length reacheds) where
+    module _ (rising : Bool) (sorted : rising ≡ rises rows) (tableLong : 768 ≤ length table) where
       -- the kept glyphs by a way
       abbrev keptBy : ℕ → Kept
       keptBy way =
           record { count = k; all = f .charstrings .count; cid = cid; way = way; ix = f .charstrings; globals = ranked .globals; rising = rising }
 
       -- what measuring asks
-      pub plan-asked : (way : ℕ) → MeasureIn b f used ws (keptBy way) ats counts reacheds rows
+      pub plan-asked : (way : ℕ) → MeasureIn b f used ws (keptBy way) table rows
       plan-asked way =
-          measure-in b f (h .read .font) (h .read .program) rows narrow used ws (ranked .globals) ats counts reacheds (s .ranked) way cid k (orderIn k ws) rising plan-order
-          (omega (arith, h .few, h .read .font .glyphs .held .few)) (h .read .size) (h .usedLong) atsLong countsLong reachedsLong (h .fds) (λ e. sym sorted ∙ e)
+          measure-in b f (h .read .font) (h .read .program) rows narrow used ws (ranked .globals) table (s .ranked) way cid k (orderIn k ws) rising plan-order
+          (omega (arith, h .few, h .read .font .glyphs .held .few)) (h .read .size) (h .usedLong) tableLong (h .fds) (λ e. sym sorted ∙ e)
 
       -- ---- what is found and measured
 
       module _ (traced : ℕ) (totals : List ℕ) (r : Plan)
-          (t : Plans p rows cid ws used ats counts reacheds (ranked .globals) k traced (ranked .all) totals r) where
+          (t : Plans p rows cid ws used table (ranked .globals) k traced (ranked .all) totals r) where
         abbrev planned : Planned
         planned = record { kept = keptBy (r .way); «globals_total» = r .«globals_total»; «glyphs_total» = r .«glyphs_total» }
 
         numbered : r .way ≡ 0 → everyNumbered p rows (fdsIn used) ≡ true
         numbered e =
             sym (s .told)
-            ∙ zero-way (eqb traced 0) (ranked .all) (allMade 0 p rows cid ws used ats counts reacheds (ranked .globals) k) (sym (t .is) ∙ e)
+            ∙ zero-way (eqb traced 0) (ranked .all) (allMade 0 p rows cid ws used table (ranked .globals) k) (sym (t .is) ∙ e)
 
-        made : allMade (r .way) p rows cid ws used ats counts reacheds (ranked .globals) k ≡ true
+        made : allMade (r .way) p rows cid ws used table (ranked .globals) k ≡ true
         made = sym (t .sizes .told)
 
         -- the charstrings that were measured are those of the subset
-        charstrings-are : manyOf (glyphsBy (r .way) p rows cid ws used ats counts reacheds (ranked .globals) k) ≡ bodiesFor b f rows used ws planned .charstrings
+        charstrings-are : manyOf (glyphsBy (r .way) p rows cid ws used table (ranked .globals) k) ≡ bodiesFor b f rows used ws planned .charstrings
         unfolding bodiesBy
         charstrings-are =
-            let g = new-glyphs p (h .read .program) rows narrow used ws (ranked .globals) ats counts reacheds (s .ranked) cid k (orderIn k ws) plan-order (r .way) numbered in
+            let g = new-glyphs p (h .read .program) rows narrow used ws (ranked .globals) table (s .ranked) cid k (orderIn k ws) plan-order (r .way) numbered in
             let body : ℕ → May (List ℕ) = λ g. bodyBy (r .way) rows (callsIn p rows (getD (p .fds) g 0)) (glyph g) (getD (p .charstrings) g []) in
-            let some : holds (glyphsBy (r .way) p rows cid ws used ats counts reacheds (ranked .globals) k) ≡ true
-            = last-holds (holds (globalsBy (r .way) p rows cid ws used ats counts reacheds (ranked .globals) k))
-            (allHold (localsBy (r .way) p rows ws ats counts reacheds (ranked .globals)) (fdsIn used)) _ made in
-            each-made body (orderIn k ws) (glyphsBy (r .way) p rows cid ws used ats counts reacheds (ranked .globals) k) (sym g) some
+            let some : holds (glyphsBy (r .way) p rows cid ws used table (ranked .globals) k) ≡ true
+            = last-holds (holds (globalsBy (r .way) p rows cid ws used table (ranked .globals) k))
+            (allHold (localsBy (r .way) p rows ws table (ranked .globals)) (fdsIn used)) _ made in
+            each-made body (orderIn k ws) (glyphsBy (r .way) p rows cid ws used table (ranked .globals) k) (sym g) some
             ∙ ap (λ (l : ℕ → List ℕ). mapped l (orderIn k ws))
             (fun-ext (λ g. sym (new-body-is (r .way) rows (callsIn p rows (getD (p .fds) g 0)) (glyph g) (getD (p .charstrings) g []))))
 
-        plan-ready : Ready b f rows used ws planned ats counts reacheds
+        plan-ready : Ready b f rows used ws planned table
         plan-ready =
             record {
               read = h .read;
@@ -168,13 +168,13 @@ module _ (b : List ℕ) (f : Font) (cid : Bool) (used old : List ℕ) (k : ℕ) 
               numbered = numbered;
               made = made;
               globalsTotal = t .sizes .ofGlobals refl
-                  ∙ ap total (new-globals p (h .read .program) rows narrow used ws (ranked .globals) ats counts reacheds (s .ranked) cid k (orderIn k ws) plan-order (r .way) numbered);
+                  ∙ ap total (new-globals p (h .read .program) rows narrow used ws (ranked .globals) table (s .ranked) cid k (orderIn k ws) plan-order (r .way) numbered);
               glyphsTotal = t .sizes .ofGlyphs refl ∙ ap total charstrings-are;
               globalsFew = t .sizes .fewGlobals;
               glyphsFew = t .sizes .fewGlyphs;
             }
 
-        plan-summed : 256 ≤ length totals → Summed b f rows used ws planned ats counts reacheds totals
+        plan-summed : 256 ≤ length totals → Summed b f rows used ws planned table totals
         plan-summed long = record { long = long; sums = t .sizes .ofLocals refl; few = t .sizes .fewLocals refl }
 
         -- the way and the bodies are the subset's
@@ -183,14 +183,14 @@ module _ (b : List ℕ) (f : Font) (cid : Bool) (used old : List ℕ) (k : ℕ) 
             let by = pruned-by p rows (fdsIn used) (orderIn k ws) traced in
             let e : r .way ≡ wayOf p rows (fdsIn used) (orderIn k ws) traced
             = t .is
-            ∙ way-is p (h .read .program) rows narrow used ws (ranked .globals) ats counts reacheds (s .ranked) cid k (orderIn k ws) plan-order traced (ranked .all) (s .told)
+            ∙ way-is p (h .read .program) rows narrow used ws (ranked .globals) table (s .ranked) cid k (orderIn k ws) plan-order traced (ranked .all) (s .told)
             ∙ ap (λ (q : Pruned). q .way) by in
             ap (λ (w : ℕ). record { way = w; bodies = bodiesBy p rows w (fdsIn used) (orderIn k ws) }) e
             ∙ sym by ∙ ap (λ (o : List ℕ). pruned p rows (fdsIn used) o traced) order-stays
 
         -- what the code returns
         pub returns-planned : 256 ≤ length totals
-            → Ready b f rows used ws planned ats counts reacheds × Summed b f rows used ws planned ats counts reacheds totals
+            → Ready b f rows used ws planned table × Summed b f rows used ws planned table totals
             × (take (2 * f .charstrings .count) ws ≡ take (2 * f .charstrings .count) old) × (planned .kept .cid ≡ cid) × (planned .kept .count ≡ k)
             × (record { way = r .way; bodies = bodiesFor b f rows used ws planned } ≡ pruned p rows (fdsIn used) (orderIn k old) traced)
         returns-planned long = (plan-ready, plan-summed long, plan-front, refl, refl, plan-pruned)

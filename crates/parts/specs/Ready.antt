@@ -41,22 +41,22 @@ module _ (b : List ℕ) (f : Font) (rows : List Row) (used ws : List ℕ) (r : P
   bodiesFor = bodiesBy (programOf b f) rows (r .kept .way) (fdsIn used) (orderIn (r .kept .count) ws)
 
   -- what the plan leaves
-  pub record Ready (ats counts reacheds : List ℕ) : Type 0 where
+  pub record Ready (table : List ℕ) : Type 0 where
     pub read : FontHeld b f
     pub narrow : Narrow rows
-    pub asked : MeasureIn b f used ws (r .kept) ats counts reacheds rows
+    pub asked : MeasureIn b f used ws (r .kept) table rows
     pub order : OrderIn (programOf b f) (r .kept .cid) used ws (r .kept .count) (orderIn (r .kept .count) ws)
-    pub ranked : AllRanked (programOf b f) rows used ws (r .kept .globals) ats counts reacheds
+    pub ranked : AllRanked (programOf b f) rows used ws (r .kept .globals) table
     pub numbered : r .kept .way ≡ 0 → everyNumbered (programOf b f) rows (fdsIn used) ≡ true
-    pub made : allMade (r .kept .way) (programOf b f) rows (r .kept .cid) ws used ats counts reacheds (r .kept .globals) (r .kept .count) ≡ true
+    pub made : allMade (r .kept .way) (programOf b f) rows (r .kept .cid) ws used table (r .kept .globals) (r .kept .count) ≡ true
     pub globalsTotal : r .«globals_total» ≡ total (bodiesFor .globals)
     pub glyphsTotal : r .«glyphs_total» ≡ total (bodiesFor .charstrings)
     pub globalsFew : r .«globals_total» ≤ 21989897011200
     pub glyphsFew : r .«glyphs_total» ≤ 21989897011200
 
   -- a table of the bytes of the new local subroutines of each FD in use
-  pub record Summed (ats counts reacheds totals : List ℕ) : Type 0 where
+  pub record Summed (table totals : List ℕ) : Type 0 where
     pub long : 256 ≤ length totals
     pub sums : (d : ℕ) → d < 256 → inUse used d ≡ true
-        → getD totals d 0 ≡ total (newLocals (r .kept .way) (programOf b f) rows ws ats counts reacheds (r .kept .globals) d)
+        → getD totals d 0 ≡ total (newLocals (r .kept .way) (programOf b f) rows ws table (r .kept .globals) d)
     pub few : (d : ℕ) → d < 256 → inUse used d ≡ true → getD totals d 0 ≤ 21989897011200

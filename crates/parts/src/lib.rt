@@ -35,17 +35,15 @@ pub fn plan_all(
     traced: u8,
     used: &[u32],
     words: &mut [u32],
-    ats: &mut [usize],
-    counts: &mut [usize],
-    reacheds: &mut [usize],
+    table: &mut [usize],
     totals: &mut [usize],
 ) -> Planned
-    requires { ⌜ (PlanIn (now font) f cid (now used) (now words) k) × (256 ≤ length (now ats)) × (256 ≤ length (now counts)) × (256 ≤ length (now reacheds))
+    requires { ⌜ (PlanIn (now font) f cid (now used) (now words) k) × (768 ≤ length (now table))
         × (256 ≤ length (now totals)) ⌝ }
     ensures { λ r. ⌜ (Ready (now (font .entry)) f (rowsOf (now (rows .entry))) (now (used .entry)) (now (words .exit)) r
-        (now (ats .exit)) (now (counts .exit)) (now (reacheds .exit)))
+        (now (table .exit)))
         × (Summed (now (font .entry)) f (rowsOf (now (rows .entry))) (now (used .entry)) (now (words .exit)) r
-        (now (ats .exit)) (now (counts .exit)) (now (reacheds .exit)) (now (totals .exit)))
+        (now (table .exit)) (now (totals .exit)))
         × (take (2 * f .charstrings .count) (now (words .exit)) ≡ take (2 * f .charstrings .count) (now (words .entry)))
         × (r .kept .cid ≡ cid) × (r .kept .count ≡ k)
         × (record { way = r .kept .way; bodies = bodiesFor (now (font .entry)) f (rowsOf (now (rows .entry))) (now (used .entry)) (now (words .exit)) r }
@@ -53,7 +51,7 @@ pub fn plan_all(
 {
     let ix = f.charstrings;
     let n = ix.count;
-    let ranked = plan::rank_all(font, f, rows, used, words, ats, counts, reacheds);
+    let ranked = plan::rank_all(font, f, rows, used, words, table);
     let rising = reach::masks::rises(rows);
     let globals = ranked.globals;
     let first = Kept {
@@ -71,9 +69,7 @@ pub fn plan_all(
         f,
         used,
         words,
-        ats,
-        counts,
-        reacheds,
+        table,
         rows,
         ranked.all,
         traced,
@@ -121,14 +117,12 @@ pub fn put_globals(
     f: Font,
     used: &[u32],
     words: &[u32],
-    ats: &[usize],
-    counts: &[usize],
-    reacheds: &[usize],
+    table: &[usize],
     rows: &[u8],
     out: &mut [u8],
     at: usize,
 ) -> usize
-    requires { ⌜ (Ready (now font) f (rowsOf (now rows)) (now used) (now words) r (now ats) (now counts) (now reacheds))
+    requires { ⌜ (Ready (now font) f (rowsOf (now rows)) (now used) (now words) r (now table))
         × (at + length (indexBytes (bodiesFor (now font) f (rowsOf (now rows)) (now used) (now words) r .globals)) ≤ 67108864)
         × (at + length (indexBytes (bodiesFor (now font) f (rowsOf (now rows)) (now used) (now words) r .globals)) ≤ length (now out)) ⌝ }
     ensures { λ next. ⌜ Wrote (now (out .entry)) at
@@ -137,7 +131,7 @@ pub fn put_globals(
     let ix = f.globals;
     let kept = r.kept;
     let own = kept.globals;
-    let locals = plan::sizes::across(used, ats, counts, reacheds);
+    let locals = plan::sizes::across(used, table);
     let of = Subrs::Global;
     let from = Source {
         way: kept.way,

@@ -56,14 +56,14 @@ module _ (used : List ℕ) (count last fd : ℕ) (h : Counting used count last f
 
 -- ---- the ranks of the only one
 
-module _ (ats counts reacheds : List ℕ) where
-  one-across : (fs : List ℕ) → length fs ≡ 1 → ranksIn ats counts reacheds (lastOf fs) ≡ acrossBy ats counts reacheds fs
+module _ (table : List ℕ) where
+  one-across : (fs : List ℕ) → length fs ≡ 1 → ranksIn table (lastOf fs) ≡ acrossBy table fs
   unfolding lastOf
   one-across [] e = absurd (let y : ⊥ = omega arith in y)
   one-across (f ∷ []) e = refl
   one-across (f ∷ g ∷ fs) e = absurd (let y : ⊥ = omega arith in y)
 
-  none-across : (fs : List ℕ) → (length fs ≡ 1 → ⊥) → noRanks ≡ acrossBy ats counts reacheds fs
+  none-across : (fs : List ℕ) → (length fs ≡ 1 → ⊥) → noRanks ≡ acrossBy table fs
   none-across [] e = refl
   none-across (f ∷ []) e = absurd (e refl)
   none-across (f ∷ g ∷ fs) e = refl
@@ -72,10 +72,10 @@ module _ (ats counts reacheds : List ℕ) where
     whole : usedBelow used fd ≡ fdsIn used
     whole = let e : fd ≡ 256 = omega (arith, h .among) in ap (usedBelow used) e
 
-    pub counted-one : count ≡ 1 → (r : Ranks) → r ≡ ranksIn ats counts reacheds last → r ≡ acrossBy ats counts reacheds (fdsIn used)
+    pub counted-one : count ≡ 1 → (r : Ranks) → r ≡ ranksIn table last → r ≡ acrossBy table (fdsIn used)
     counted-one e r q =
-        q ∙ ap (ranksIn ats counts reacheds) (h .is ∙ ap lastOf whole)
+        q ∙ ap (ranksIn table) (h .is ∙ ap lastOf whole)
         ∙ one-across (fdsIn used) (ap length (sym whole) ∙ sym (h .many) ∙ e)
 
-    pub counted-other : (count ≡ 1 → ⊥) → noRanks ≡ acrossBy ats counts reacheds (fdsIn used)
+    pub counted-other : (count ≡ 1 → ⊥) → noRanks ≡ acrossBy table (fdsIn used)
     counted-other n = none-across (fdsIn used) (λ e. n (h .many ∙ ap length whole ∙ e))

@@ -55,8 +55,8 @@ fds-at p [] i h = absurd (zero-one (omega arith))
 fds-at p (g ∷ order) zero h = refl
 fds-at p (g ∷ order) (suc i) h = fds-at p order i (omega arith)
 
-module _ (p : Program) (good : GoodProgram p) (rows : List Row) (narrow : Narrow rows) (used ws : List ℕ) (globals : Ranks) (ats counts reacheds : List ℕ)
-    (h : AllRanked p rows used ws globals ats counts reacheds) (way : ℕ) (all : way ≡ 0 → everyNumbered p rows (fdsIn used) ≡ true) where
+module _ (p : Program) (good : GoodProgram p) (rows : List Row) (narrow : Narrow rows) (used ws : List ℕ) (globals : Ranks) (table : List ℕ)
+    (h : AllRanked p rows used ws globals table) (way : ℕ) (all : way ≡ 0 → everyNumbered p rows (fdsIn used) ≡ true) where
   globals-all : way ≡ 0 → reached (globalSet rows) ≡ countBelow (globalSet rows) (length (p .globals))
   globals-all z = eqb-true _ _ (both-hold (globalsNumbered p rows) (allNumbered p rows (fdsIn used)) (all z) .0)
 
@@ -69,19 +69,19 @@ module _ (p : Program) (good : GoodProgram p) (rows : List Row) (narrow : Narrow
         eqb-true _ _ (numbered-of p rows (fdsIn used) f (both-hold (globalsNumbered p rows) (allNumbered p rows (fdsIn used)) (all z) .1)
         (those-has (inUse used) 256 0 f (omega arith) (omega arith) u))
 
-    locals-hold : way ≡ 0 → HoldsRanks ws (ranksIn ats counts reacheds f) (localSet rows f)
+    locals-hold : way ≡ 0 → HoldsRanks ws (ranksIn table f) (localSet rows f)
     locals-hold z =
-        stands-holds ws (ranksIn ats counts reacheds f) (localSet rows f) (length (localsOf p f)) (h .localRanks f k u) (good .locals f .count) (locals-all z) (narrow .locals f)
+        stands-holds ws (ranksIn table f) (localSet rows f) (length (localsOf p f)) (h .localRanks f k u) (good .locals f .count) (locals-all z) (narrow .locals f)
 
-    calls-same : way ≡ 0 → callsBy ws (ranksIn ats counts reacheds f) globals ≡ callsIn p rows f
+    calls-same : way ≡ 0 → callsBy ws (ranksIn table f) globals ≡ callsIn p rows f
     calls-same z =
         fun-ext (λ b. fun-ext (λ y.
-        calls-in p rows ws (ranksIn ats counts reacheds f) globals (globals-hold z) (h .globalRanks .many) f (locals-hold z) (h .localRanks f k u .many) b y))
+        calls-in p rows ws (ranksIn table f) globals (globals-hold z) (h .globalRanks .many) f (locals-hold z) (h .localRanks f k u .many) b y))
 
     -- the new locals of an FD in use
-    pub locals-same : localsBy way p rows ws ats counts reacheds globals f ≡ subrsBy way rows (localSet rows f) (callsIn p rows f) (local f) (localsOf p f)
+    pub locals-same : localsBy way p rows ws table globals f ≡ subrsBy way rows (localSet rows f) (callsIn p rows f) (local f) (localsOf p f)
     locals-same =
-        let own = ranksIn ats counts reacheds f in
+        let own = ranksIn table f in
         subrs-same way rows (reachedIn ws own) (localSet rows f) (callsBy ws own globals) (callsIn p rows f) (local f) (localsOf p f)
         (λ i l. stands-reached ws own (localSet rows f) (length (localsOf p f)) (h .localRanks f k u) i l)
         (λ z. (
@@ -89,7 +89,7 @@ module _ (p : Program) (good : GoodProgram p) (rows : List Row) (narrow : Narrow
           calls-same z,
         ))
 
-  across-same : way ≡ 0 → (fs : List ℕ) → fdsIn used ≡ fs → callsBy ws (acrossBy ats counts reacheds fs) globals ≡ callsAcross p rows fs
+  across-same : way ≡ 0 → (fs : List ℕ) → fdsIn used ≡ fs → callsBy ws (acrossBy table fs) globals ≡ callsAcross p rows fs
   across-same z [] e = fun-ext (λ b. fun-ext (λ y. calls-across-none p rows ws noRanks globals (globals-hold z) (h .globalRanks .many) refl b y))
   across-same z (f ∷ []) e =
       let m : isIn f (fdsIn used) ≡ true = subst (λ (l : List ℕ). isIn f l ≡ true) (sym e) (in-head f f [] refl) in
@@ -101,10 +101,10 @@ module _ (p : Program) (good : GoodProgram p) (rows : List Row) (narrow : Narrow
 
   module _ (cid : Bool) (k : ℕ) where
     -- the new globals
-    pub globals-same : globalsBy way p rows cid ws used ats counts reacheds globals k
+    pub globals-same : globalsBy way p rows cid ws used table globals k
         ≡ subrsBy way rows (globalSet rows) (callsAcross p rows (fdsIn used)) global (p .globals)
     globals-same =
-        subrs-same way rows (reachedIn ws globals) (globalSet rows) (callsBy ws (acrossBy ats counts reacheds (fdsIn used)) globals) (callsAcross p rows (fdsIn used))
+        subrs-same way rows (reachedIn ws globals) (globalSet rows) (callsBy ws (acrossBy table (fdsIn used)) globals) (callsAcross p rows (fdsIn used))
         global (p .globals)
         (λ i l. stands-reached ws globals (globalSet rows) (length (p .globals)) (h .globalRanks) i l)
         (λ z. (
@@ -134,10 +134,10 @@ module _ (p : Program) (good : GoodProgram p) (rows : List Row) (narrow : Narrow
               omega (arith, good .onePrivate (sym (kept .keyed) ∙ e), fd-there p (getD order i 0) good (kept .there i l))
 
       -- the new charstrings
-      pub glyphs-same : glyphsBy way p rows cid ws used ats counts reacheds globals k
+      pub glyphs-same : glyphsBy way p rows cid ws used table globals k
           ≡ each (λ g. bodyBy way rows (callsIn p rows (getD (p .fds) g 0)) (glyph g) (getD (p .charstrings) g [])) order
       glyphs-same = each-order _ _ k order (kept .many) (λ i l.
-          ap (λ (d : ℕ). bodyBy way rows (callsBy ws (ranksIn ats counts reacheds d) globals) (glyph (glyphAt ws i)) (getD (p .charstrings) (glyphAt ws i) [])) (fd-at i l)
-          ∙ ap (λ (g : ℕ). bodyBy way rows (callsBy ws (ranksIn ats counts reacheds (getD (p .fds) (getD order i 0) 0)) globals) (glyph g) (getD (p .charstrings) g [])) (glyph-at i l)
+          ap (λ (d : ℕ). bodyBy way rows (callsBy ws (ranksIn table d) globals) (glyph (glyphAt ws i)) (getD (p .charstrings) (glyphAt ws i) [])) (fd-at i l)
+          ∙ ap (λ (g : ℕ). bodyBy way rows (callsBy ws (ranksIn table (getD (p .fds) (getD order i 0) 0)) globals) (glyph g) (getD (p .charstrings) g [])) (glyph-at i l)
           ∙ body-same way rows _ (callsIn p rows (getD (p .fds) (getD order i 0) 0)) (glyph (getD order i 0)) (getD (p .charstrings) (getD order i 0) [])
           (calls-same (getD (p .fds) (getD order i 0) 0) (good .fds (getD order i 0)) (kept .within i l)))

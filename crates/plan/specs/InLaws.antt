@@ -28,15 +28,15 @@ none-ranked : (ws : List ℕ) → Ranked ws noRanks
 none-ranked ws = record { inside = omega arith; few = omega arith; fewReached = omega arith; below = λ i k. absurd (let y : ⊥ = omega arith in y) }
 
 module _ (b : List ℕ) (f : Font) (font : GoodFont b f) (good : GoodProgram (programOf b f)) (rows : List Row) (narrow : Narrow rows) (used ws : List ℕ)
-    (globals : Ranks) (ats counts reacheds : List ℕ) (h : AllRanked (programOf b f) rows used ws globals ats counts reacheds) where
-  local-ranked : (x : ℕ) → x < 256 → inUse used x ≡ true → Ranked ws (ranksIn ats counts reacheds x)
+    (globals : Ranks) (table : List ℕ) (h : AllRanked (programOf b f) rows used ws globals table) where
+  local-ranked : (x : ℕ) → x < 256 → inUse used x ≡ true → Ranked ws (ranksIn table x)
   local-ranked x k u =
-      stands-ranked ws (ranksIn ats counts reacheds x) (localSet rows x) (length (localsOf (programOf b f) x)) (h .localRanks x k u) (good .locals x .count)
+      stands-ranked ws (ranksIn table x) (localSet rows x) (length (localsOf (programOf b f) x)) (h .localRanks x k u) (good .locals x .count)
 
   global-ranked : Ranked ws globals
   global-ranked = stands-ranked ws globals (globalSet rows) (length (programOf b f .globals)) (h .globalRanks) (good .globals .count)
 
-  across-ranked : (fs : List ℕ) → fdsIn used ≡ fs → Ranked ws (acrossBy ats counts reacheds fs)
+  across-ranked : (fs : List ℕ) → fdsIn used ≡ fs → Ranked ws (acrossBy table fs)
   across-ranked [] e = none-ranked ws
   across-ranked (x ∷ []) e =
       let m : isIn x (fdsIn used) ≡ true = subst (λ (l : List ℕ). isIn x l ≡ true) (sym e) (in-head x x [] refl) in
@@ -46,22 +46,20 @@ module _ (b : List ℕ) (f : Font) (font : GoodFont b f) (good : GoodProgram (pr
   across-ranked (x ∷ y ∷ fs) e = none-ranked ws
 
   pub measure-in : (way : ℕ) (cid : Bool) (k : ℕ) (order : List ℕ) (rising : Bool) → OrderIn (programOf b f) cid used ws k order → k < 65536
-      → length b ≤ 67108864 → 256 ≤ length used → 256 ≤ length ats → 256 ≤ length counts → 256 ≤ length reacheds
+      → length b ≤ 67108864 → 256 ≤ length used → 768 ≤ length table
       → UsedOf (length (programOf b f .privates)) used → (rising ≡ true → rises rows ≡ true)
-      → MeasureIn b f used ws (record { count = k; all = f .charstrings .count; cid = cid; way = way; ix = f .charstrings; globals = globals; rising = rising }) ats counts reacheds rows
-  measure-in way cid k order rising kept few size u a c r fds sorted =
+      → MeasureIn b f used ws (record { count = k; all = f .charstrings .count; cid = cid; way = way; ix = f .charstrings; globals = globals; rising = rising }) table rows
+  measure-in way cid k order rising kept few size u a fds sorted =
       let n = items-length b (f .charstrings) in
-      let g = glyph-at (programOf b f) good rows narrow used ws globals ats counts reacheds h 1 (λ z. absurd (let y : ⊥ = omega arith in y)) cid k order kept in
+      let g = glyph-at (programOf b f) good rows narrow used ws globals table h 1 (λ z. absurd (let y : ⊥ = omega arith in y)) cid k order kept in
       let d : (i : ℕ) → i < k → fdAt cid ws (f .charstrings .count) i ≡ getD (programOf b f .fds) (getD order i 0) 0
-      = λ i l. ap (λ (m : ℕ). fdAt cid ws m i) (sym n) ∙ fd-at (programOf b f) good rows narrow used ws globals ats counts reacheds h 1 (λ z. absurd (let y : ⊥ = omega arith in y)) cid k order kept i l in
+      = λ i l. ap (λ (m : ℕ). fdAt cid ws m i) (sym n) ∙ fd-at (programOf b f) good rows narrow used ws globals table h 1 (λ z. absurd (let y : ⊥ = omega arith in y)) cid k order kept i l in
       record {
         font = font;
         locals = record {
           size = size;
           usedLong = u;
-          atsLong = a;
-          countsLong = c;
-          reachedsLong = r;
+          tableLong = a;
           fds = fds;
           many = λ x l v. h .localRanks x l v .many;
           ranks = local-ranked;
@@ -85,12 +83,10 @@ module _ (b : List ℕ) (f : Font) (font : GoodFont b f) (good : GoodProgram (pr
           size = size;
           keptFew = few;
           inside = omega (arith, kept .room, n);
-          atsLong = a;
-          countsLong = c;
-          reachedsLong = r;
+          tableLong = a;
           glyphs = λ i l. omega (arith, g i l, kept .there i l, n);
           fds = λ i l. subst (λ (m : ℕ). m < 256) (sym (d i l)) (good .fds (getD order i 0));
-          localRanks = λ i l. subst (λ (m : ℕ). Ranked ws (ranksIn ats counts reacheds m)) (sym (d i l)) (local-ranked (getD (programOf b f .fds) (getD order i 0) 0) (good .fds (getD order i 0)) (kept .within i l));
+          localRanks = λ i l. subst (λ (m : ℕ). Ranked ws (ranksIn table m)) (sym (d i l)) (local-ranked (getD (programOf b f .fds) (getD order i 0) 0) (good .fds (getD order i 0)) (kept .within i l));
           globalRanks = global-ranked;
           order = sorted;
         };

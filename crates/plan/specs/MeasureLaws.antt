@@ -47,29 +47,29 @@ every true true v a b e = e
 every true false v a b e = absurd (zero-one cc)
 every false u v a b e = absurd (zero-one cc)
 
-module _ (way : ℕ) (p : Program) (rows : List Row) (cid : Bool) (ws used ats counts reacheds : List ℕ) (globals : Ranks) (k : ℕ) where
+module _ (way : ℕ) (p : Program) (rows : List Row) (cid : Bool) (ws used table : List ℕ) (globals : Ranks) (k : ℕ) where
   -- the globals as they were measured, their calls by the ranks across
-  pub globals-measured : (calls : Ranks) → calls ≡ acrossBy ats counts reacheds (fdsIn used) → (m : Measured)
+  pub globals-measured : (calls : Ranks) → calls ≡ acrossBy table (fdsIn used) → (m : Measured)
       → m ≡ measuredOf (subrsBy way rows (reachedIn ws globals) (callsBy ws calls globals) (siteIn Global) (p .globals))
-      → m ≡ measuredOf (globalsBy way p rows cid ws used ats counts reacheds globals k)
+      → m ≡ measuredOf (globalsBy way p rows cid ws used table globals k)
   globals-measured calls across m is =
       is ∙ ap (λ (q : Ranks). measuredOf (subrsBy way rows (reachedIn ws globals) (callsBy ws q globals) (siteIn Global) (p .globals))) across
 
-module _ (way : ℕ) (p : Program) (rows : List Row) (cid : Bool) (ws used ats counts reacheds : List ℕ) (globals : Ranks) (k : ℕ) (totals : List ℕ) where
+module _ (way : ℕ) (p : Program) (rows : List Row) (cid : Bool) (ws used table : List ℕ) (globals : Ranks) (k : ℕ) (totals : List ℕ) where
   -- the globals and the charstrings by the way; whether the locals of no FD fail
   abbrev theGlobals : May (List (List ℕ))
-  theGlobals = globalsBy way p rows cid ws used ats counts reacheds globals k
+  theGlobals = globalsBy way p rows cid ws used table globals k
 
   abbrev theGlyphs : May (List (List ℕ))
-  theGlyphs = glyphsBy way p rows cid ws used ats counts reacheds globals k
+  theGlyphs = glyphsBy way p rows cid ws used table globals k
 
   abbrev localsHold : Bool
-  localsHold = allHold (localsBy way p rows ws ats counts reacheds globals) (fdsIn used)
+  localsHold = allHold (localsBy way p rows ws table globals) (fdsIn used)
 
   abbrev Whole : Measures → Type 0
-  Whole r = MeasuresAll way p rows cid ws used ats counts reacheds globals k totals r
+  Whole r = MeasuresAll way p rows cid ws used table globals k totals r
 
-  none : allMade way p rows cid ws used ats counts reacheds globals k ≡ false → Whole (measures false 0 0)
+  none : allMade way p rows cid ws used table globals k ≡ false → Whole (measures false 0 0)
   none e =
       record {
         told = sym e;
@@ -85,7 +85,7 @@ module _ (way : ℕ) (p : Program) (rows : List Row) (cid : Bool) (ws used ats c
   pub globals-fail : measuredOf theGlobals ≡ Failed → Whole (measures false 0 0)
   globals-fail e = none (first-fails (holds theGlobals) (pick localsHold (holds theGlyphs) false) (measured-failed theGlobals e))
 
-  module _ (t : Bool) (ls : MeasuresLocals way p rows ws ats counts reacheds globals used totals t) where
+  module _ (t : Bool) (ls : MeasuresLocals way p rows ws table globals used totals t) where
     -- the locals of an FD fail
     pub locals-fail : t ≡ false → Whole (measures false 0 0)
     locals-fail e =
@@ -120,16 +120,16 @@ module _ (way : ℕ) (p : Program) (rows : List Row) (cid : Bool) (ws used ats c
     pub returns-globals : m ≡ Failed → (r : Measures) → r ≡ measures false 0 0 → Whole r
     returns-globals e r a = subst Whole (sym a) (globals-fail (sym is ∙ e))
 
-    module _ (t : Bool) (ls : MeasuresLocals way p rows ws ats counts reacheds globals used totals t) where
+    module _ (t : Bool) (ls : MeasuresLocals way p rows ws table globals used totals t) where
       pub returns-locals : t ≡ false → (r : Measures) → r ≡ measures false 0 0 → Whole r
       returns-locals e r a = subst Whole (sym a) (locals-fail t ls e)
 
       module _ (n : ℕ) (many : n ≡ length (p .charstrings)) (b : List ℕ) (ix whole : Index) (same : ix ≡ whole) (items : itemsOf b whole ≡ p .charstrings) (d : Measured)
-          (ds : d ≡ measuredOf (charstringsBy way rows cid ws n ats counts reacheds globals (itemsOf b ix) k)) where
+          (ds : d ≡ measuredOf (charstringsBy way rows cid ws n table globals (itemsOf b ix) k)) where
         glyphs-told : (x : Measured) → d ≡ x → measuredOf theGlyphs ≡ x
         glyphs-told x e =
-            sym (ap (λ (l : List (List ℕ)). measuredOf (charstringsBy way rows cid ws n ats counts reacheds globals l k)) (ap (itemsOf b) same ∙ items)
-            ∙ ap (λ (i : ℕ). measuredOf (charstringsBy way rows cid ws i ats counts reacheds globals (p .charstrings) k)) many) ∙ sym ds ∙ e
+            sym (ap (λ (l : List (List ℕ)). measuredOf (charstringsBy way rows cid ws n table globals l k)) (ap (itemsOf b) same ∙ items)
+            ∙ ap (λ (i : ℕ). measuredOf (charstringsBy way rows cid ws i table globals (p .charstrings) k)) many) ∙ sym ds ∙ e
 
         pub returns-glyphs : d ≡ Failed → (r : Measures) → r ≡ measures false 0 0 → Whole r
         returns-glyphs e r a = subst Whole (sym a) (glyphs-fail t ls (glyphs-told Failed e))
@@ -138,9 +138,9 @@ module _ (way : ℕ) (p : Program) (rows : List Row) (cid : Bool) (ws used ats c
         returns-all few short g c e u v = all-measured t ls g c (sym is ∙ e) u (glyphs-told (Total c) v) (subst Bounded e few) (subst Bounded v short)
 
 -- what measuring asks does not name the way
-pub by-way : (way : ℕ) (b : List ℕ) (f : Font) (used ws : List ℕ) (kept : Kept) (ats counts reacheds : List ℕ) (rows : List Row)
-    → MeasureIn b f used ws kept ats counts reacheds rows → MeasureIn b f used ws (byWay way kept) ats counts reacheds rows
-by-way way b f used ws kept ats counts reacheds rows h =
+pub by-way : (way : ℕ) (b : List ℕ) (f : Font) (used ws : List ℕ) (kept : Kept) (table : List ℕ) (rows : List Row)
+    → MeasureIn b f used ws kept table rows → MeasureIn b f used ws (byWay way kept) table rows
+by-way way b f used ws kept table rows h =
     let g = h .glyphs in
     record {
       font = h .font;
@@ -152,9 +152,7 @@ by-way way b f used ws kept ats counts reacheds rows h =
         size = g .size;
         keptFew = g .keptFew;
         inside = g .inside;
-        atsLong = g .atsLong;
-        countsLong = g .countsLong;
-        reachedsLong = g .reachedsLong;
+        tableLong = g .tableLong;
         glyphs = g .glyphs;
         fds = g .fds;
         localRanks = g .localRanks;

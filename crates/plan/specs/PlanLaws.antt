@@ -41,24 +41,24 @@ module _ (traced : ℕ) (all : Bool) where
   pub first-stubbed : (traced ≡ 0 → ⊥) → all ≡ false → 1 ≡ firstWay traced all
   first-stubbed n a = sym (ap (λ (t : Bool). pick t 2 (pick all 0 1)) (ne-eqb traced 0 n) ∙ ap (λ (t : Bool). pick t 0 1) a)
 
-module _ (p : Program) (rows : List Row) (cid : Bool) (ws used ats counts reacheds : List ℕ) (globals : Ranks) (k : ℕ) where
+module _ (p : Program) (rows : List Row) (cid : Bool) (ws used table : List ℕ) (globals : Ranks) (k : ℕ) where
   abbrev Sized : ℕ → List ℕ → Measures → Type 0
-  Sized way totals m = MeasuresAll way p rows cid ws used ats counts reacheds globals k totals m
+  Sized way totals m = MeasuresAll way p rows cid ws used table globals k totals m
 
   -- the other ways hold
-  stubs-made : allMade 1 p rows cid ws used ats counts reacheds globals k ≡ true
+  stubs-made : allMade 1 p rows cid ws used table globals k ≡ true
   stubs-made =
-      ap (λ (t : Bool). pick t (holds (glyphsBy 1 p rows cid ws used ats counts reacheds globals k)) false)
-      (hold-all (localsBy 1 p rows ws ats counts reacheds globals) (λ f. refl) (fdsIn used))
-      ∙ holds-each (charstringBy 1 rows cid ws (length (p .charstrings)) ats counts reacheds globals (p .charstrings)) (upTo k)
-      ∙ hold-all (charstringBy 1 rows cid ws (length (p .charstrings)) ats counts reacheds globals (p .charstrings)) (λ i. refl) (upTo k)
+      ap (λ (t : Bool). pick t (holds (glyphsBy 1 p rows cid ws used table globals k)) false)
+      (hold-all (localsBy 1 p rows ws table globals) (λ f. refl) (fdsIn used))
+      ∙ holds-each (charstringBy 1 rows cid ws (length (p .charstrings)) table globals (p .charstrings)) (upTo k)
+      ∙ hold-all (charstringBy 1 rows cid ws (length (p .charstrings)) table globals (p .charstrings)) (λ i. refl) (upTo k)
 
-  copies-made : allMade 2 p rows cid ws used ats counts reacheds globals k ≡ true
+  copies-made : allMade 2 p rows cid ws used table globals k ≡ true
   copies-made =
-      ap (λ (t : Bool). pick t (holds (glyphsBy 2 p rows cid ws used ats counts reacheds globals k)) false)
-      (hold-all (localsBy 2 p rows ws ats counts reacheds globals) (λ f. refl) (fdsIn used))
-      ∙ holds-each (charstringBy 2 rows cid ws (length (p .charstrings)) ats counts reacheds globals (p .charstrings)) (upTo k)
-      ∙ hold-all (charstringBy 2 rows cid ws (length (p .charstrings)) ats counts reacheds globals (p .charstrings)) (λ i. refl) (upTo k)
+      ap (λ (t : Bool). pick t (holds (glyphsBy 2 p rows cid ws used table globals k)) false)
+      (hold-all (localsBy 2 p rows ws table globals) (λ f. refl) (fdsIn used))
+      ∙ holds-each (charstringBy 2 rows cid ws (length (p .charstrings)) table globals (p .charstrings)) (upTo k)
+      ∙ hold-all (charstringBy 2 rows cid ws (length (p .charstrings)) table globals (p .charstrings)) (λ i. refl) (upTo k)
 
   -- a measure that holds
   held : (way : ℕ) (totals : List ℕ) (m : Measures) → m .all ≡ true → Sized way totals m → Sized way totals (measures true (m .globals) (m .glyphs))
@@ -74,7 +74,7 @@ module _ (p : Program) (rows : List Row) (cid : Bool) (ws used ats counts reache
       }
 
   abbrev made : ℕ → Bool
-  made way = allMade way p rows cid ws used ats counts reacheds globals k
+  made way = allMade way p rows cid ws used table globals k
 
   -- the way that is tried first, or stubbed where a part fails by it
   first-or-stubbed : (t u : Bool) → _≡_ {A = ℕ} (pick (made (pick t 2 (pick u 0 1))) (pick t 2 (pick u 0 1)) 1) (pick t 2 (pick u (pick (made 0) 0 1) 1))
@@ -88,7 +88,7 @@ module _ (p : Program) (rows : List Row) (cid : Bool) (ws used ats counts reache
     way-found = ap (λ (w : ℕ). pick (made w) w 1) first ∙ first-or-stubbed (eqb traced 0) all
 
     abbrev Whole : List ℕ → Plan → Type 0
-    Whole totals r = Plans p rows cid ws used ats counts reacheds globals k traced all totals r
+    Whole totals r = Plans p rows cid ws used table globals k traced all totals r
 
     -- no part fails by the way that was tried first
     pub returns-first : (totals : List ℕ) (m : Measures) → Sized way totals m → m .all ≡ true

@@ -26,9 +26,9 @@ pub record Stands (ws : List ℕ) (q : Ranks) (set : ℕ → Bool) (n : ℕ) : T
   pub reaches : q .reached ≡ countBelow set (q .count)
 
 -- the words hold the ranks of the globals, and of the locals of each FD in use where the tables tell
-pub record AllRanked (p : Program) (rows : List Row) (used ws : List ℕ) (globals : Ranks) (ats counts reacheds : List ℕ) : Type 0 where
+pub record AllRanked (p : Program) (rows : List Row) (used ws : List ℕ) (globals : Ranks) (table : List ℕ) : Type 0 where
   pub globalRanks : Stands ws globals (globalSet rows) (length (p .globals))
-  pub localRanks : (f : ℕ) → f < 256 → inUse used f ≡ true → Stands ws (ranksIn ats counts reacheds f) (localSet rows f) (length (localsOf p f))
+  pub localRanks : (f : ℕ) → f < 256 → inUse used f ≡ true → Stands ws (ranksIn table f) (localSet rows f) (length (localsOf p f))
 
 module _ (p : Program) (rows : List Row) where
   -- the ranks one behind the other
@@ -43,7 +43,7 @@ module _ (p : Program) (rows : List Row) where
   everyNumbered fs = pick globalsNumbered (allNumbered p rows fs) false
 
 -- what ranking leaves: the ranks in the words from behind those of the glyphs on, all else as it was; and whether the record has no other number
-pub record RanksAll (p : Program) (rows : List Row) (used : List ℕ) (old new ats counts reacheds : List ℕ) (r : RankedAll) : Type 0 where
+pub record RanksAll (p : Program) (rows : List Row) (used : List ℕ) (old new table : List ℕ) (r : RankedAll) : Type 0 where
   pub words : new ≡ put old (2 * length (p .charstrings)) (allRanks p rows used)
-  pub ranked : AllRanked p rows used new (r .globals) ats counts reacheds
+  pub ranked : AllRanked p rows used new (r .globals) table
   pub told : r .all ≡ everyNumbered p rows (fdsIn used)

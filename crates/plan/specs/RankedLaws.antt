@@ -92,10 +92,10 @@ locals-room rows old mid at count more h w =
     let k : at + length (ranksOf (globalSet rows) 0 count) ≤ length old = omega arith in
     omega (arith, ap length w, put-length old at (ranksOf (globalSet rows) 0 count) k)
 
-module _ (p : Program) (rows : List Row) (used old mid new ats counts reacheds : List ℕ) (n count : ℕ) (glyphs : n ≡ length (p .charstrings))
+module _ (p : Program) (rows : List Row) (used old mid new table : List ℕ) (n count : ℕ) (glyphs : n ≡ length (p .charstrings))
     (many : count ≡ length (p .globals)) (room : 2 * n + count + localsTotal (p .privates) ≤ length old)
     (r : code.Ranked) (w : mid ≡ put old (2 * n) (ranksOf (globalSet rows) 0 count)) (is : r ≡ rankedOf (globalSet rows) count) where
-  module _ (all both : Bool) (h : RanksLocals p rows used (2 * n + count) mid new ats counts reacheds all) (b : both ≡ pick (r .all) all false) where
+  module _ (all both : Bool) (h : RanksLocals p rows used (2 * n + count) mid new table all) (b : both ≡ pick (r .all) all false) where
     whole : new ≡ put old (2 * n) (ranksOf (globalSet rows) 0 count ++ ranksFor p rows (fdsIn used))
     whole =
         let l = length-ranks (globalSet rows) 0 count in
@@ -120,7 +120,7 @@ module _ (p : Program) (rows : List Row) (used old mid new ats counts reacheds :
           reaches = ap (λ (x : code.Ranked). x .reached) is;
         }
 
-    locals-stand : (f : ℕ) → f < 256 → inUse used f ≡ true → Stands new (ranksIn ats counts reacheds f) (localSet rows f) (length (localsOf p f))
+    locals-stand : (f : ℕ) → f < 256 → inUse used f ≡ true → Stands new (ranksIn table f) (localSet rows f) (length (localsOf p f))
     locals-stand f k u =
         let t = h .tables f k u in
         let s = ranks-split p rows used f k u in
@@ -128,20 +128,20 @@ module _ (p : Program) (rows : List Row) (used old mid new ats counts reacheds :
         let front = ranksFor p rows (usedBelow used f) in
         let e : new ≡ put old (2 * n) ((g ++ front) ++ (fdRanks p rows f ++ s .0))
         = whole ∙ ap (λ (l : List ℕ). put old (2 * n) (g ++ l)) (s .1) ∙ ap (put old (2 * n)) (sym (append-assoc g front (fdRanks p rows f ++ s .0))) in
-        let at : getD ats f 0 ≡ 2 * n + length (g ++ front)
+        let at : getD table f 0 ≡ 2 * n + length (g ++ front)
         = omega (arith, t .place, length-append g front, length-ranks (globalSet rows) 0 count, ranks-length p rows (usedBelow used f)) in
-        let c : length (fdRanks p rows f) ≡ getD counts f 0 = length-ranks (localSet rows f) 0 (length (localsOf p f)) ∙ sym (t .count) in
+        let c : length (fdRanks p rows f) ≡ getD table (256 + f) 0 = length-ranks (localSet rows f) 0 (length (localsOf p f)) ∙ sym (t .count) in
         record {
           many = t .count;
           inside = omega (arith, t .place, t .count, new-length, locals-within p used f u);
-          words = ap (λ (ws : List ℕ). take (getD counts f 0) (drop (getD ats f 0) ws)) e
-              ∙ part-behind old (2 * n) (g ++ front) (fdRanks p rows f) (s .0) (getD ats f 0) (getD counts f 0) (omega arith) at c
+          words = ap (λ (ws : List ℕ). take (getD table (256 + f) 0) (drop (getD table f 0) ws)) e
+              ∙ part-behind old (2 * n) (g ++ front) (fdRanks p rows f) (s .0) (getD table f 0) (getD table (256 + f) 0) (omega arith) at c
               ∙ ap (ranksOf (localSet rows f) 0) (sym (t .count));
           reaches = t .reached ∙ ap (countBelow (localSet rows f)) (sym (t .count));
         }
 
     -- all are ranked
-    pub ranks-all : RanksAll p rows used old new ats counts reacheds (answer (ranksAt (2 * n) count (r .reached)) both)
+    pub ranks-all : RanksAll p rows used old new table (answer (ranksAt (2 * n) count (r .reached)) both)
     ranks-all =
         record {
           words = whole ∙ ap (λ (c : ℕ). put old (2 * n) (ranksOf (globalSet rows) 0 c ++ ranksFor p rows (fdsIn used))) many

@@ -31,10 +31,10 @@ abbrev pub noRanks : Ranks
 noRanks = record { at = 0; count = 0; reached = 0 }
 
 -- the ranks by which a global subroutine calls local ones: those of the FD in use where it is the only one
-abbrev pub acrossBy : List ℕ → List ℕ → List ℕ → List ℕ → Ranks
-acrossBy ats counts reacheds [] = noRanks
-acrossBy ats counts reacheds (f ∷ []) = ranksIn ats counts reacheds f
-acrossBy ats counts reacheds (f ∷ g ∷ fs) = noRanks
+abbrev pub acrossBy : List ℕ → List ℕ → Ranks
+acrossBy table [] = noRanks
+acrossBy table (f ∷ []) = ranksIn table f
+acrossBy table (f ∷ g ∷ fs) = noRanks
 
 -- the last of some FDs
 unfoldable pub lastOf : List ℕ → ℕ
@@ -52,23 +52,23 @@ pub record OrderIn (p : Program) (cid : Bool) (used ws : List ℕ) (k : ℕ) (or
   pub there : (i : ℕ) → i < k → getD order i 0 < length (p .charstrings)
   pub within : (i : ℕ) → i < k → inUse used (getD (p .fds) (getD order i 0) 0) ≡ true
 
-module _ (way : ℕ) (p : Program) (rows : List Row) (cid : Bool) (ws used ats counts reacheds : List ℕ) (globals : Ranks) (k : ℕ) where
+module _ (way : ℕ) (p : Program) (rows : List Row) (cid : Bool) (ws used table : List ℕ) (globals : Ranks) (k : ℕ) where
   -- the globals by the way, and the charstrings, or that their renumbering fails
   abbrev pub globalsBy : May (List (List ℕ))
-  globalsBy = subrsBy way rows (reachedIn ws globals) (callsBy ws (acrossBy ats counts reacheds (fdsIn used)) globals) global (p .globals)
+  globalsBy = subrsBy way rows (reachedIn ws globals) (callsBy ws (acrossBy table (fdsIn used)) globals) global (p .globals)
 
   abbrev pub glyphsBy : May (List (List ℕ))
-  glyphsBy = charstringsBy way rows cid ws (length (p .charstrings)) ats counts reacheds globals (p .charstrings) k
+  glyphsBy = charstringsBy way rows cid ws (length (p .charstrings)) table globals (p .charstrings) k
 
   -- whether no part fails
   abbrev pub allMade : Bool
-  allMade = pick (holds globalsBy) (pick (allHold (localsBy way p rows ws ats counts reacheds globals) (fdsIn used)) (holds glyphsBy) false) false
+  allMade = pick (holds globalsBy) (pick (allHold (localsBy way p rows ws table globals) (fdsIn used)) (holds glyphsBy) false) false
 
   -- whether no part fails, and then the bytes of the globals, of the charstrings, and of the locals of each FD in use: as many as numbers hold
   pub record MeasuresAll (totals : List ℕ) (r : Measures) : Type 0 where
     pub told : r .all ≡ allMade
     pub ofGlobals : r .all ≡ true → r .globals ≡ total (manyOf globalsBy)
-    pub ofLocals : r .all ≡ true → (f : ℕ) → f < 256 → inUse used f ≡ true → getD totals f 0 ≡ total (newLocals way p rows ws ats counts reacheds globals f)
+    pub ofLocals : r .all ≡ true → (f : ℕ) → f < 256 → inUse used f ≡ true → getD totals f 0 ≡ total (newLocals way p rows ws table globals f)
     pub ofGlyphs : r .all ≡ true → r .glyphs ≡ total (manyOf glyphsBy)
     pub fewGlobals : r .globals ≤ 21989897011200
     pub fewLocals : r .all ≡ true → (f : ℕ) → f < 256 → inUse used f ≡ true → getD totals f 0 ≤ 21989897011200
@@ -83,18 +83,18 @@ abbrev pub firstWay : ℕ → Bool → ℕ
 firstWay traced all = pick (eqb traced 0) 2 (pick all 0 1)
 
 -- a plan: the way, and the bytes of all bodies by it
-module _ (p : Program) (rows : List Row) (cid : Bool) (ws used ats counts reacheds : List ℕ) (globals : Ranks) (k : ℕ) where
+module _ (p : Program) (rows : List Row) (cid : Bool) (ws used table : List ℕ) (globals : Ranks) (k : ℕ) where
   pub record Plans (traced : ℕ) (all : Bool) (totals : List ℕ) (r : Plan) : Type 0 where
-    pub is : r .way ≡ wayBy traced all (allMade 0 p rows cid ws used ats counts reacheds globals k)
-    pub sizes : MeasuresAll (r .way) p rows cid ws used ats counts reacheds globals k totals
+    pub is : r .way ≡ wayBy traced all (allMade 0 p rows cid ws used table globals k)
+    pub sizes : MeasuresAll (r .way) p rows cid ws used table globals k totals
         (record { all = true; globals = r .«globals_total»; glyphs = r .«glyphs_total» })
 
 -- what measuring asks: the parts that the words and the tables hold, as their own measures ask for them
-pub record MeasureIn (b : List ℕ) (f : Font) (used ws : List ℕ) (kept : Kept) (ats counts reacheds : List ℕ) (rows : List Row) : Type 0 where
+pub record MeasureIn (b : List ℕ) (f : Font) (used ws : List ℕ) (kept : Kept) (table : List ℕ) (rows : List Row) : Type 0 where
   pub font : GoodFont b f
-  pub locals : LocalsIn b (programOf b f) used ws ats counts reacheds (kept .globals) rows (kept .rising)
-  pub subrs : SubrsIn b ws (f .globals) (kept .globals) (acrossBy ats counts reacheds (fdsIn used)) (kept .globals) rows (kept .rising) Global
-  pub glyphs : CharstringsIn b ws (kept .ix) kept ats counts reacheds (kept .globals) rows (kept .rising)
+  pub locals : LocalsIn b (programOf b f) used ws table (kept .globals) rows (kept .rising)
+  pub subrs : SubrsIn b ws (f .globals) (kept .globals) (acrossBy table (fdsIn used)) (kept .globals) rows (kept .rising) Global
+  pub glyphs : CharstringsIn b ws (kept .ix) kept table (kept .globals) rows (kept .rising)
   pub all : kept .all ≡ length (programOf b f .charstrings)
   pub charstrings : kept .ix ≡ f .charstrings
 

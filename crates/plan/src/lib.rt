@@ -30,15 +30,13 @@ pub fn rank_all(
     rows: &[u8],
     used: &[u32],
     words: &mut [u32],
-    ats: &mut [usize],
-    counts: &mut [usize],
-    reacheds: &mut [usize],
+    table: &mut [usize],
 ) -> RankedAll
     requires { ⌜ (GoodFont (now font) f) × (256 ≤ length (now used)) × (UsedOf (length (programOf (now font) f .privates)) (now used))
         × (2 * (f .charstrings .count) + f .globals .count + localsTotal (programOf (now font) f .privates) ≤ length (now words))
-        × (256 ≤ length (now ats)) × (256 ≤ length (now counts)) × (256 ≤ length (now reacheds)) ⌝ }
+        × (768 ≤ length (now table)) ⌝ }
     ensures { λ r. ⌜ RanksAll (programOf (now (font .entry)) f) (rowsOf (now (rows .entry))) (now (used .entry)) (now (words .entry)) (now (words .exit))
-        (now (ats .exit)) (now (counts .exit)) (now (reacheds .exit)) r ⌝ }
+        (now (table .exit)) r ⌝ }
 {
     let charstrings = f.charstrings;
     let globals = f.globals;
@@ -48,7 +46,7 @@ pub fn rank_all(
     let reached = r.reached;
     let first = r.all;
     let behind = at + count;
-    let rest = fds::rank_locals(font, f, rows, used, words, behind, ats, counts, reacheds);
+    let rest = fds::rank_locals(font, f, rows, used, words, behind, table);
     let all = fds::both(first, rest);
     RankedAll {
         globals: Ranks { at, count, reached },
@@ -94,47 +92,20 @@ pub fn plan_bodies(
     f: Font,
     used: &[u32],
     words: &[u32],
-    ats: &[usize],
-    counts: &[usize],
-    reacheds: &[usize],
+    table: &[usize],
     rows: &[u8],
     all: bool,
     traced: u8,
     totals: &mut [usize],
 ) -> Plan
-    requires { ⌜ (MeasureIn (now font) f (now used) (now words) kept (now ats) (now counts) (now reacheds) (rowsOf (now rows))) × (256 ≤ length (now totals)) ⌝ }
-    ensures { λ r. ⌜ Plans (programOf (now (font .entry)) f) (rowsOf (now (rows .entry))) (kept .cid) (now (words .entry)) (now (used .entry)) (now (ats .entry))
-        (now (counts .entry)) (now (reacheds .entry)) (kept .globals) (kept .count) traced all (now (totals .exit)) r ⌝ }
+    requires { ⌜ (MeasureIn (now font) f (now used) (now words) kept (now table) (rowsOf (now rows))) × (256 ≤ length (now totals)) ⌝ }
+    ensures { λ r. ⌜ Plans (programOf (now (font .entry)) f) (rowsOf (now (rows .entry))) (kept .cid) (now (words .entry)) (now (used .entry)) (now (table .entry)) (kept .globals) (kept .count) traced all (now (totals .exit)) r ⌝ }
 {
     let way = first_way(traced, all);
-    let m = measure(
-        way,
-        kept,
-        font,
-        f,
-        used,
-        words,
-        ats,
-        counts,
-        reacheds,
-        rows,
-        &mut *totals,
-    );
+    let m = measure(way, kept, font, f, used, words, table, rows, &mut *totals);
     if m.all {
         return planned(way, m);
     }
-    let s = measure(
-        1,
-        kept,
-        font,
-        f,
-        used,
-        words,
-        ats,
-        counts,
-        reacheds,
-        rows,
-        totals,
-    );
+    let s = measure(1, kept, font, f, used, words, table, rows, totals);
     planned(1, s)
 }

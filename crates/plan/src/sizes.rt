@@ -26,9 +26,9 @@ pub struct Measures {
 }
 
 // The ranks by which a global subroutine calls local ones: those of the FD in use where it is the only one, else none.
-pub fn across(used: &[u32], ats: &[usize], counts: &[usize], reacheds: &[usize]) -> Ranks
-    requires { ⌜ (256 ≤ length (now used)) × (256 ≤ length (now ats)) × (256 ≤ length (now counts)) × (256 ≤ length (now reacheds)) ⌝ }
-    ensures { λ r. ⌜ r ≡ acrossBy (now (ats .entry)) (now (counts .entry)) (now (reacheds .entry)) (fdsIn (now (used .entry))) ⌝ }
+pub fn across(used: &[u32], table: &[usize]) -> Ranks
+    requires { ⌜ (256 ≤ length (now used)) × (768 ≤ length (now table)) ⌝ }
+    ensures { λ r. ⌜ r ≡ acrossBy (now (table .entry)) (fdsIn (now (used .entry))) ⌝ }
 {
     let mut count: usize = 0;
     let mut last: usize = 0;
@@ -43,7 +43,7 @@ pub fn across(used: &[u32], ats: &[usize], counts: &[usize], reacheds: &[usize])
         }
     }
     if count == 1 {
-        return bodies::charstrings::ranks_in(ats, counts, reacheds, last);
+        return bodies::charstrings::ranks_in(table, last);
     }
     Ranks {
         at: 0,
@@ -70,18 +70,16 @@ fn globals_total(
     f: Font,
     used: &[u32],
     words: &[u32],
-    ats: &[usize],
-    counts: &[usize],
-    reacheds: &[usize],
+    table: &[usize],
     rows: &[u8],
 ) -> Measured
-    requires { ⌜ MeasureIn (now font) f (now used) (now words) kept (now ats) (now counts) (now reacheds) (rowsOf (now rows)) ⌝ }
+    requires { ⌜ MeasureIn (now font) f (now used) (now words) kept (now table) (rowsOf (now rows)) ⌝ }
     ensures { λ r. ⌜ (r ≡ measuredOf (globalsBy (kept .way) (programOf (now (font .entry)) f) (rowsOf (now (rows .entry))) (kept .cid) (now (words .entry))
-        (now (used .entry)) (now (ats .entry)) (now (counts .entry)) (now (reacheds .entry)) (kept .globals) (kept .count))) × (Bounded r) ⌝ }
+        (now (used .entry)) (now (table .entry)) (kept .globals) (kept .count))) × (Bounded r) ⌝ }
 {
     let ix = f.globals;
     let own = kept.globals;
-    let locals = across(used, ats, counts, reacheds);
+    let locals = across(used, table);
     let of = Subrs::Global;
     let from = Source {
         way: kept.way,
@@ -102,15 +100,12 @@ fn locals_totals(
     f: Font,
     used: &[u32],
     words: &[u32],
-    ats: &[usize],
-    counts: &[usize],
-    reacheds: &[usize],
+    table: &[usize],
     rows: &[u8],
     sums: &mut [usize],
 ) -> bool
-    requires { ⌜ (MeasureIn (now font) f (now used) (now words) kept (now ats) (now counts) (now reacheds) (rowsOf (now rows))) × (256 ≤ length (now sums)) ⌝ }
-    ensures { λ r. ⌜ MeasuresLocals (kept .way) (programOf (now (font .entry)) f) (rowsOf (now (rows .entry))) (now (words .entry)) (now (ats .entry))
-        (now (counts .entry)) (now (reacheds .entry)) (kept .globals) (now (used .entry)) (now (sums .exit)) r ⌝ }
+    requires { ⌜ (MeasureIn (now font) f (now used) (now words) kept (now table) (rowsOf (now rows))) × (256 ≤ length (now sums)) ⌝ }
+    ensures { λ r. ⌜ MeasuresLocals (kept .way) (programOf (now (font .entry)) f) (rowsOf (now (rows .entry))) (now (words .entry)) (now (table .entry)) (kept .globals) (now (used .entry)) (now (sums .exit)) r ⌝ }
 {
     let way = kept.way;
     let globals = kept.globals;
@@ -121,9 +116,7 @@ fn locals_totals(
         f,
         used,
         words,
-        ats,
-        counts,
-        reacheds,
+        table,
         globals,
         rows,
         rising,
@@ -138,21 +131,19 @@ fn measure_kept(
     f: Font,
     used: &[u32],
     words: &[u32],
-    ats: &[usize],
-    counts: &[usize],
-    reacheds: &[usize],
+    table: &[usize],
     rows: &[u8],
     sums: &mut [usize],
 ) -> Measures
-    requires { ⌜ (MeasureIn (now font) f (now used) (now words) by (now ats) (now counts) (now reacheds) (rowsOf (now rows))) × (256 ≤ length (now sums)) ⌝ }
+    requires { ⌜ (MeasureIn (now font) f (now used) (now words) by (now table) (rowsOf (now rows))) × (256 ≤ length (now sums)) ⌝ }
     ensures { λ r. ⌜ MeasuresAll (by .way) (programOf (now (font .entry)) f) (rowsOf (now (rows .entry))) (by .cid) (now (words .entry)) (now (used .entry))
-        (now (ats .entry)) (now (counts .entry)) (now (reacheds .entry)) (by .globals) (by .count) (now (sums .exit)) r ⌝ }
+        (now (table .entry)) (by .globals) (by .count) (now (sums .exit)) r ⌝ }
 {
-    match globals_total(by, font, f, used, words, ats, counts, reacheds, rows) {
+    match globals_total(by, font, f, used, words, table, rows) {
         Measured::Failed => failed(),
         Measured::Total(g) => {
-            if locals_totals(by, font, f, used, words, ats, counts, reacheds, rows, sums) {
-                match charstrings_total(by, font, words, ats, counts, reacheds, rows) {
+            if locals_totals(by, font, f, used, words, table, rows, sums) {
+                match charstrings_total(by, font, words, table, rows) {
                     Measured::Failed => failed(),
                     Measured::Total(c) => Measures {
                         all: true,
@@ -175,15 +166,13 @@ pub fn measure(
     f: Font,
     used: &[u32],
     words: &[u32],
-    ats: &[usize],
-    counts: &[usize],
-    reacheds: &[usize],
+    table: &[usize],
     rows: &[u8],
     sums: &mut [usize],
 ) -> Measures
-    requires { ⌜ (MeasureIn (now font) f (now used) (now words) kept (now ats) (now counts) (now reacheds) (rowsOf (now rows))) × (256 ≤ length (now sums)) ⌝ }
+    requires { ⌜ (MeasureIn (now font) f (now used) (now words) kept (now table) (rowsOf (now rows))) × (256 ≤ length (now sums)) ⌝ }
     ensures { λ r. ⌜ MeasuresAll way (programOf (now (font .entry)) f) (rowsOf (now (rows .entry))) (kept .cid) (now (words .entry)) (now (used .entry))
-        (now (ats .entry)) (now (counts .entry)) (now (reacheds .entry)) (kept .globals) (kept .count) (now (sums .exit)) r ⌝ }
+        (now (table .entry)) (kept .globals) (kept .count) (now (sums .exit)) r ⌝ }
 {
     let ix = kept.ix;
     let globals = kept.globals;
@@ -196,5 +185,5 @@ pub fn measure(
         globals,
         rising: kept.rising,
     };
-    measure_kept(by, font, f, used, words, ats, counts, reacheds, rows, sums)
+    measure_kept(by, font, f, used, words, table, rows, sums)
 }

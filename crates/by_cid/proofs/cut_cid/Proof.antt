@@ -4,14 +4,14 @@ use Rattle.record.specs.Record.{rowsOf}
 use mathlib.Core.Path.{refl, sym, _∙_}
 use lib.ListN.{replicate}
 use Rattle.by_cid.specs.CidKeptLaws.{ranks-asked, fds-counted, plan-asked, cid-ready, cut-planned}
-use Rattle.cid_parts.specs.CidPlacesLaws.{strings-ready, own-few, table-room}
+use Rattle.cid_parts.specs.CidPlacesLaws.{strings-ready, own-few, table-room, ranks-room}
 use borrow.Author.Needs.{needs}
 use Rattle.by_cid.proofs.cut_cid.Statement.{statement}
 use Rattle.by_cid.proofs.cut_cid.Tie as tie
 
 -- the FDs' table, the strings, the glyphs and the arguments behind the plan
 abbrev R : tie.After-plan-all → tie.After-rank-fds
-R p = p .before .before .before .before .before .before .before .before
+R p = p .before .before .before .before .before .before
 
 abbrev Q : tie.After-rank-fds → tie.After-prepare-cid
 Q r = r .before .before .before .before
@@ -50,23 +50,17 @@ slice-aggregate-plan-all-2 c = search needs
 slice-aggregate-plan-all-3 : tie.Need-slice-aggregate-plan-all-3
 slice-aggregate-plan-all-3 c = search needs
 
-slice-aggregate-plan-all-4 : tie.Need-slice-aggregate-plan-all-4
-slice-aggregate-plan-all-4 c = search needs
-
-slice-aggregate-plan-all-5 : tie.Need-slice-aggregate-plan-all-5
-slice-aggregate-plan-all-5 c = search needs
-
 plan-all-requires : tie.Need-plan-all-requires
 plan-all-requires c κs =
-    let r = c .before .before .before .before .before .before .before in
+    let r = c .before .before .before .before .before in
     let g = G (Q r) in
     let s = S g in
     let a = s .args in
-    (plan-asked (now (a .font)) (a .f) (s .pre .0) (now (a .keep)) _ _ _ (g .gather .ensures) _ _ (table-room _ refl) (r .rank-fds .ensures .0) (s .pre .1 .keying) (s .pre .1 .room), table-room _ refl, table-room _ refl, table-room _ refl, table-room _ refl)
+    (plan-asked (now (a .font)) (a .f) (s .pre .0) (now (a .keep)) _ _ _ (g .gather .ensures) _ _ (table-room _ refl) (r .rank-fds .ensures .0) (s .pre .1 .keying) (s .pre .1 .room), ranks-room _ refl, table-room _ refl)
 
 slice-aggregate-write-planned : tie.Need-slice-aggregate-write-planned
 slice-aggregate-write-planned c =
-    sym (c .before .before .before .before .before .before .before .before .before .before .before .before .before .before .before .before .before .before .before .prepare-cid .kept .1 .1 .0)
+    sym (c .before .before .before .before .before .before .before .before .before .before .before .before .before .before .before .prepare-cid .kept .1 .1 .0)
 
 slice-aggregate-write-planned-2 : tie.Need-slice-aggregate-write-planned-2
 slice-aggregate-write-planned-2 c = search needs
@@ -77,21 +71,15 @@ slice-aggregate-write-planned-3 c = search needs
 slice-aggregate-write-planned-4 : tie.Need-slice-aggregate-write-planned-4
 slice-aggregate-write-planned-4 c = search needs
 
-slice-aggregate-write-planned-5 : tie.Need-slice-aggregate-write-planned-5
-slice-aggregate-write-planned-5 c = search needs
-
-slice-aggregate-write-planned-6 : tie.Need-slice-aggregate-write-planned-6
-slice-aggregate-write-planned-6 c = search needs
-
 write-planned-requires : tie.Need-write-planned-requires
 write-planned-requires c κs =
-    let p = c .before .before .before .before .before .before .before .before .before .before .before .before .before .before in
+    let p = c .before .before .before .before .before .before .before .before .before .before in
     let r = R p in
     let q = Q r in
     let g = G q in
     let s = S g in
     let a = s .args in (
-      cid-ready (now (a .font)) (a .f) (s .pre .0) (now (a .keep)) _ _ _ (g .gather .ensures) _ _ (table-room _ refl) (r .rank-fds .ensures .0) (rowsOf (now (a .rows))) _ (p .plan-all .result) (p .plan-all .ensures .2) (p .plan-all .ensures .4) _ _ _ (p .plan-all .ensures .0) (p .plan-all .ensures .3),
+      cid-ready (now (a .font)) (a .f) (s .pre .0) (now (a .keep)) _ _ _ (g .gather .ensures) _ _ (table-room _ refl) (r .rank-fds .ensures .0) (rowsOf (now (a .rows))) _ (p .plan-all .result) (p .plan-all .ensures .2) (p .plan-all .ensures .4) _ (p .plan-all .ensures .0) (p .plan-all .ensures .3),
       p .plan-all .ensures .1,
       strings-ready (now (a .font)) (a .f) (s .pre .0) _ _ (q .prepare-cid .ensures .0) (q .prepare-cid .ensures .1),
       s .pre .1 .named,
@@ -100,14 +88,14 @@ write-planned-requires c κs =
 
 same-length : tie.Need-same-length
 same-length c =
-    c .before .before .before .before .before .before .before .before .before .before .before .before .before .before .before .before .before .plan-all .kept .1 .1 .1 .1 .1 .1 .1 .0 ∙ c .before .before .before .before .before .before .before .before .before .before .before .before .before .before .before .before .before .before .before .before .before .before .before .before .before .before .before .before .before .before .before .before .before .gather .kept .1 .1 .1 .0
+    c .before .before .before .before .before .before .before .before .before .before .before .before .before .plan-all .kept .1 .1 .1 .1 .1 .1 .1 .0 ∙ c .before .before .before .before .before .before .before .before .before .before .before .before .before .before .before .before .before .before .before .before .before .before .before .before .before .before .before .gather .kept .1 .1 .1 .0
 
 same-length-2 : tie.Need-same-length-2
 same-length-2 c = search needs
 
 returns : tie.Need-returns
 returns c =
-    let p = c .before .before .before .before .before .before .before .before .before .before .before .before .before .before .before .before .before in
+    let p = c .before .before .before .before .before .before .before .before .before .before .before .before .before in
     let r = R p in
     let q = Q r in
     let g = G q in
@@ -127,15 +115,11 @@ cut-cid-spec =
     slice-aggregate-plan-all
     slice-aggregate-plan-all-2
     slice-aggregate-plan-all-3
-    slice-aggregate-plan-all-4
-    slice-aggregate-plan-all-5
     plan-all-requires
     slice-aggregate-write-planned
     slice-aggregate-write-planned-2
     slice-aggregate-write-planned-3
     slice-aggregate-write-planned-4
-    slice-aggregate-write-planned-5
-    slice-aggregate-write-planned-6
     write-planned-requires
     same-length
     same-length-2

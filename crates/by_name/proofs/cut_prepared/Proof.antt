@@ -10,10 +10,10 @@ use Rattle.by_name.proofs.cut_prepared.Tie as tie
 
 -- the arguments, and after planning
 abbrev S : tie.After-totals → tie.Start
-S c = c .before .before .before .before .before .before .before .before .before .before .before .before
+S c = c .before .before .before .before .before .before .before .before .before .before
 
 abbrev P : tie.After-cut-planned-arg2 → tie.After-plan-all
-P c = c .before .before .before .before .before .before .before .before .before .before .before .before .before
+P c = c .before .before .before .before .before .before .before .before .before
 
 array-write-used : tie.Need-array-write-used
 array-write-used c = search needs
@@ -27,16 +27,11 @@ slice-aggregate-plan-all-2 c = search needs
 slice-aggregate-plan-all-3 : tie.Need-slice-aggregate-plan-all-3
 slice-aggregate-plan-all-3 c = search needs
 
-slice-aggregate-plan-all-4 : tie.Need-slice-aggregate-plan-all-4
-slice-aggregate-plan-all-4 c = search needs
-
-slice-aggregate-plan-all-5 : tie.Need-slice-aggregate-plan-all-5
-slice-aggregate-plan-all-5 c = search needs
-
 plan-all-requires : tie.Need-plan-all-requires
 plan-all-requires c κs =
     let h : 256 ≤ 256 = omega arith in
-    (plan-in _ _ _ _ (S c .pre .0) firstFd first-only h, h, h, h, h)
+    let t : 768 ≤ 768 = omega arith in
+    (plan-in _ _ _ _ (S c .pre .0) firstFd first-only h, t, h)
 
 slice-aggregate-cut-planned : tie.Need-slice-aggregate-cut-planned
 slice-aggregate-cut-planned c = search needs
@@ -47,19 +42,13 @@ slice-aggregate-cut-planned-2 c = search needs
 slice-aggregate-cut-planned-3 : tie.Need-slice-aggregate-cut-planned-3
 slice-aggregate-cut-planned-3 c = search needs
 
-slice-aggregate-cut-planned-4 : tie.Need-slice-aggregate-cut-planned-4
-slice-aggregate-cut-planned-4 c = search needs
-
-slice-aggregate-cut-planned-5 : tie.Need-slice-aggregate-cut-planned-5
-slice-aggregate-cut-planned-5 c = search needs
-
 cut-planned-requires : tie.Need-cut-planned-requires
 cut-planned-requires c κs =
     let w = P c in
     let s = S (w .before) in
     let e = w .plan-all .ensures in (
-      prepared-plan _ _ _ _ (s .pre .0) firstFd first-only _ _ _ _ _ _ _ (e .0) (e .1) (e .2) (e .4),
-      prepared-strings _ _ _ _ (s .pre .0) firstFd first-only _ _ _ _ _ _ _ (e .0) (e .1) (e .2) (e .4) _ _ _ (s .pre .1),
+      prepared-plan _ _ _ _ (s .pre .0) firstFd first-only _ _ _ _ _ (e .0) (e .1) (e .2) (e .4),
+      prepared-strings _ _ _ _ (s .pre .0) firstFd first-only _ _ _ _ _ (e .0) (e .1) (e .2) (e .4) _ _ _ (s .pre .1),
     )
 
 same-length : tie.Need-same-length
@@ -74,7 +63,7 @@ returns c =
     let w = P (u .before) in
     let s = S (w .before) in
     let e = w .plan-all .ensures in
-    prepared-cut _ _ _ _ (s .pre .0) firstFd first-only _ _ _ _ _ _ _ (e .0) (e .1) (e .2) (e .4) (s .args .traced) (e .5) (now (s .args .name)) (now (s .args .out)) _ _
+    prepared-cut _ _ _ _ (s .pre .0) firstFd first-only _ _ _ _ _ (e .0) (e .1) (e .2) (e .4) (s .args .traced) (e .5) (now (s .args .name)) (now (s .args .out)) _ _
     (u .cut-planned .ensures)
 
 pub cut-prepared-spec : {M : Type 1} → statement M
@@ -85,14 +74,10 @@ cut-prepared-spec =
     slice-aggregate-plan-all
     slice-aggregate-plan-all-2
     slice-aggregate-plan-all-3
-    slice-aggregate-plan-all-4
-    slice-aggregate-plan-all-5
     plan-all-requires
     slice-aggregate-cut-planned
     slice-aggregate-cut-planned-2
     slice-aggregate-cut-planned-3
-    slice-aggregate-cut-planned-4
-    slice-aggregate-cut-planned-5
     cut-planned-requires
     same-length
     same-length-2

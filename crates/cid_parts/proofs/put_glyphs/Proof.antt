@@ -8,16 +8,16 @@ use Rattle.cid_parts.proofs.put_glyphs.Tie as tie
 
 put-select-requires : tie.Need-put-select-requires
 put-select-requires c κs =
-    let s = c .before .before .before .before .before .before .before .before .before .before .before in
+    let s = c .before .before .before .before .before .before .before .before .before in
     let a = s .args in
-    select-put (now (a .font)) (a .f) (rowsOf (now (a .rows))) (now (a .used)) (now (a .words)) (a .r) (now (a .ats)) (now (a .counts)) (now (a .reacheds)) (s .pre .0) (a .at) (now (a .out)) (s .pre .1) (s .pre .2)
+    select-put (now (a .font)) (a .f) (rowsOf (now (a .rows))) (now (a .used)) (now (a .words)) (a .r) (now (a .table)) (s .pre .0) (a .at) (now (a .out)) (s .pre .1) (s .pre .2)
 
 put-charstrings-requires : tie.Need-put-charstrings-requires
 put-charstrings-requires c κs =
     let w = c .before .before .before in
-    let s = w .before .before .before .before .before .before .before .before .before .before .before .before in
+    let s = w .before .before .before .before .before .before .before .before .before .before in
     let a = s .args in
-    glyphs-put (now (a .font)) (a .f) (rowsOf (now (a .rows))) (now (a .used)) (now (a .words)) (a .r) (now (a .ats)) (now (a .counts)) (now (a .reacheds)) (s .pre .0) (a .at) (now (a .out)) (s .pre .1) (s .pre .2) (w .put-select .ensures)
+    glyphs-put (now (a .font)) (a .f) (rowsOf (now (a .rows))) (now (a .used)) (now (a .words)) (a .r) (now (a .table)) (s .pre .0) (a .at) (now (a .out)) (s .pre .1) (s .pre .2) (w .put-select .ensures)
 
 same-length : tie.Need-same-length
 same-length c = search needs
@@ -26,9 +26,9 @@ returns : tie.Need-returns
 returns c =
     let v = c .before .before in
     let w = v .before .before .before .before in
-    let s = w .before .before .before .before .before .before .before .before .before .before .before .before in
+    let s = w .before .before .before .before .before .before .before .before .before .before in
     let a = s .args in
-    glyphs-wrote (now (a .font)) (a .f) (rowsOf (now (a .rows))) (now (a .used)) (now (a .words)) (a .r) (now (a .ats)) (now (a .counts)) (now (a .reacheds)) (s .pre .0) (a .at) (now (a .out)) (s .pre .1) (s .pre .2) (w .put-select .ensures) (v .put-charstrings .ensures)
+    glyphs-wrote (now (a .font)) (a .f) (rowsOf (now (a .rows))) (now (a .used)) (now (a .words)) (a .r) (now (a .table)) (s .pre .0) (a .at) (now (a .out)) (s .pre .1) (s .pre .2) (w .put-select .ensures) (v .put-charstrings .ensures)
 
 pub put-glyphs-spec : {M : Type 1} → statement M
 put-glyphs-spec =

@@ -8,24 +8,24 @@ use Rattle.cid_parts.proofs.put_head.Tie as tie
 
 put-front-cid-requires : tie.Need-put-front-cid-requires
 put-front-cid-requires c κs =
-    let s = c .before .before .before .before .before .before .before .before .before .before .before .before in
+    let s = c .before .before .before .before .before .before .before .before .before .before .before .before .before .before .before in
     let a = s .args in
-    front-put (now (a .font)) (a .f) (rowsOf (now (a .rows))) (now (a .used)) (now (a .words)) (a .r) (now (a .ats)) (now (a .counts)) (now (a .reacheds)) (s .pre .0) (now (a .name)) (now (a .slots)) (a .own) (s .pre .1) (s .pre .2) (a .at) (s .pre .3) (s .pre .4) (now (a .out)) (s .pre .5)
+    front-put (now (a .font)) (a .c .cut .f) (rowsOf (now (a .rows))) (now (a .used)) (now (a .words)) (a .c .cut .plan) (now (a .table)) (s .pre .0) (now (a .name)) (now (a .slots)) (a .c .cut .own) (s .pre .1) (s .pre .2) (a .c .at) (s .pre .3) (s .pre .4) (now (a .out)) (s .pre .5)
 
 put-globals-requires : tie.Need-put-globals-requires
 put-globals-requires c κs =
     let w = c .before .before .before in
-    let s = w .before .before .before .before .before .before .before .before .before .before .before .before .before in
+    let s = w .before .before .before .before .before .before .before .before .before .before .before .before .before .before .before .before in
     let a = s .args in
-    globals-put (now (a .font)) (a .f) (rowsOf (now (a .rows))) (now (a .used)) (now (a .words)) (a .r) (now (a .ats)) (now (a .counts)) (now (a .reacheds)) (s .pre .0) (now (a .name)) (now (a .slots)) (a .own) (s .pre .1) (s .pre .2) (a .at) (s .pre .3) (s .pre .4) (now (a .out)) (s .pre .5) (w .put-front-cid .ensures)
+    globals-put (now (a .font)) (a .c .cut .f) (rowsOf (now (a .rows))) (now (a .used)) (now (a .words)) (a .c .cut .plan) (now (a .table)) (s .pre .0) (now (a .name)) (now (a .slots)) (a .c .cut .own) (s .pre .1) (s .pre .2) (a .c .at) (s .pre .3) (s .pre .4) (now (a .out)) (s .pre .5) (w .put-front-cid .ensures)
 
 put-charset-cid-requires : tie.Need-put-charset-cid-requires
 put-charset-cid-requires c κs =
     let v = c .before .before .before in
     let w = v .before .before .before .before in
-    let s = w .before .before .before .before .before .before .before .before .before .before .before .before .before in
+    let s = w .before .before .before .before .before .before .before .before .before .before .before .before .before .before .before .before in
     let a = s .args in
-    charset-put (now (a .font)) (a .f) (rowsOf (now (a .rows))) (now (a .used)) (now (a .words)) (a .r) (now (a .ats)) (now (a .counts)) (now (a .reacheds)) (s .pre .0) (now (a .name)) (now (a .slots)) (a .own) (s .pre .1) (s .pre .2) (a .at) (s .pre .3) (s .pre .4) (now (a .out)) (s .pre .5) (w .put-front-cid .ensures) (v .put-globals .ensures)
+    charset-put (now (a .font)) (a .c .cut .f) (rowsOf (now (a .rows))) (now (a .used)) (now (a .words)) (a .c .cut .plan) (now (a .table)) (s .pre .0) (now (a .name)) (now (a .slots)) (a .c .cut .own) (s .pre .1) (s .pre .2) (a .c .at) (s .pre .3) (s .pre .4) (now (a .out)) (s .pre .5) (w .put-front-cid .ensures) (v .put-globals .ensures)
 
 same-length : tie.Need-same-length
 same-length c = search needs
@@ -35,9 +35,9 @@ returns c =
     let u = c .before .before in
     let v = u .before .before .before .before in
     let w = v .before .before .before .before in
-    let s = w .before .before .before .before .before .before .before .before .before .before .before .before .before in
+    let s = w .before .before .before .before .before .before .before .before .before .before .before .before .before .before .before .before in
     let a = s .args in
-    head-wrote (now (a .font)) (a .f) (rowsOf (now (a .rows))) (now (a .used)) (now (a .words)) (a .r) (now (a .ats)) (now (a .counts)) (now (a .reacheds)) (s .pre .0) (now (a .name)) (now (a .slots)) (a .own) (s .pre .1) (s .pre .2) (a .at) (s .pre .3) (s .pre .4) (now (a .out)) (s .pre .5) (w .put-front-cid .ensures) (v .put-globals .ensures) (u .put-charset-cid .ensures)
+    head-wrote (now (a .font)) (a .c .cut .f) (rowsOf (now (a .rows))) (now (a .used)) (now (a .words)) (a .c .cut .plan) (now (a .table)) (s .pre .0) (now (a .name)) (now (a .slots)) (a .c .cut .own) (s .pre .1) (s .pre .2) (a .c .at) (s .pre .3) (s .pre .4) (now (a .out)) (s .pre .5) (w .put-front-cid .ensures) (v .put-globals .ensures) (u .put-charset-cid .ensures)
 
 pub put-head-spec : {M : Type 1} → statement M
 put-head-spec =

@@ -2,6 +2,7 @@
 use denote.Ref.{now}
 use Rattle.record.specs.Record.{rowsOf}
 use Rattle.cid_parts.specs.CidPutLaws.{middle-put, tail-small, tail-room, all-wrote}
+use Rattle.cid_parts.specs.CidPlacesLaws.{privates-end}
 use borrow.Author.Needs.{needs}
 use Rattle.cid_parts.proofs.put_parts.Statement.{statement}
 use Rattle.cid_parts.proofs.put_parts.Tie as tie
@@ -12,17 +13,17 @@ put-head-requires c κs = search needs
 put-glyphs-requires : tie.Need-put-glyphs-requires
 put-glyphs-requires c κs =
     let w = c .before .before .before in
-    let s = w .before .before .before .before .before .before .before .before .before .before .before .before .before .before .before in
+    let s = w .before .before .before .before .before .before .before .before .before .before .before .before .before .before in
     let a = s .args in
-    middle-put (now (a .font)) (a .f) (rowsOf (now (a .rows))) (now (a .used)) (now (a .words)) (a .r) (now (a .ats)) (now (a .counts)) (now (a .reacheds)) (s .pre .0) (now (a .totals)) (s .pre .1) (now (a .name)) (a .at) (s .pre .4) (s .pre .6) (now (a .out)) (s .pre .7) (w .put-head .ensures)
+    middle-put (now (a .font)) (a .c .cut .f) (rowsOf (now (a .rows))) (now (a .used)) (now (a .words)) (a .c .cut .plan) (now (a .table)) (s .pre .0) (now (a .totals)) (s .pre .1) (now (a .name)) (a .c .at) (s .pre .4) (s .pre .6) (now (a .out)) (s .pre .7) (w .put-head .ensures)
 
 put-tail-requires : tie.Need-put-tail-requires
 put-tail-requires c κs =
     let v = c .before .before .before in
     let w = v .before .before .before .before in
-    let s = w .before .before .before .before .before .before .before .before .before .before .before .before .before .before .before in
+    let s = w .before .before .before .before .before .before .before .before .before .before .before .before .before .before in
     let a = s .args in
-    (s .pre .0 .ready, s .pre .1, s .pre .5, tail-small (now (a .font)) (a .f) (rowsOf (now (a .rows))) (now (a .used)) (now (a .words)) (a .r) (now (a .ats)) (now (a .counts)) (now (a .reacheds)) (s .pre .0) (now (a .totals)) (s .pre .1) (now (a .name)) (a .at) (s .pre .4) (s .pre .6) (now (a .out)) (s .pre .7) (w .put-head .ensures) (v .put-glyphs .ensures), tail-room (now (a .font)) (a .f) (rowsOf (now (a .rows))) (now (a .used)) (now (a .words)) (a .r) (now (a .ats)) (now (a .counts)) (now (a .reacheds)) (s .pre .0) (now (a .totals)) (s .pre .1) (now (a .name)) (a .at) (s .pre .4) (s .pre .6) (now (a .out)) (s .pre .7) (w .put-head .ensures) (v .put-glyphs .ensures))
+    (s .pre .0, s .pre .1, s .pre .5, privates-end (now (a .font)) (a .c .cut .f) (rowsOf (now (a .rows))) (now (a .used)) (now (a .words)) (a .c .cut .plan) (now (a .name)) (a .c .at) (s .pre .4) (s .pre .6), tail-small (now (a .font)) (a .c .cut .f) (rowsOf (now (a .rows))) (now (a .used)) (now (a .words)) (a .c .cut .plan) (now (a .table)) (s .pre .0) (now (a .totals)) (s .pre .1) (now (a .name)) (a .c .at) (s .pre .4) (s .pre .6) (now (a .out)) (s .pre .7) (w .put-head .ensures) (v .put-glyphs .ensures), tail-room (now (a .font)) (a .c .cut .f) (rowsOf (now (a .rows))) (now (a .used)) (now (a .words)) (a .c .cut .plan) (now (a .table)) (s .pre .0) (now (a .totals)) (s .pre .1) (now (a .name)) (a .c .at) (s .pre .4) (s .pre .6) (now (a .out)) (s .pre .7) (w .put-head .ensures) (v .put-glyphs .ensures))
 
 same-length : tie.Need-same-length
 same-length c = search needs
@@ -32,9 +33,9 @@ returns c =
     let u = c .before .before in
     let v = u .before .before .before .before in
     let w = v .before .before .before .before in
-    let s = w .before .before .before .before .before .before .before .before .before .before .before .before .before .before .before in
+    let s = w .before .before .before .before .before .before .before .before .before .before .before .before .before .before in
     let a = s .args in
-    all-wrote (now (a .font)) (a .f) (rowsOf (now (a .rows))) (now (a .used)) (now (a .words)) (a .r) (now (a .ats)) (now (a .counts)) (now (a .reacheds)) (s .pre .0) (now (a .totals)) (s .pre .1) (now (a .name)) (a .at) (s .pre .4) (s .pre .6) (now (a .out)) (s .pre .7) (w .put-head .ensures) (v .put-glyphs .ensures) (u .put-tail .ensures)
+    all-wrote (now (a .font)) (a .c .cut .f) (rowsOf (now (a .rows))) (now (a .used)) (now (a .words)) (a .c .cut .plan) (now (a .table)) (s .pre .0) (now (a .totals)) (s .pre .1) (now (a .name)) (a .c .at) (s .pre .4) (s .pre .6) (now (a .out)) (s .pre .7) (w .put-head .ensures) (v .put-glyphs .ensures) (u .put-tail .ensures)
 
 pub put-parts-spec : {M : Type 1} → statement M
 put-parts-spec =

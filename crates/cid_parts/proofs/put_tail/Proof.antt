@@ -1,23 +1,54 @@
--- `cid_parts::put_tail` meets its contract: the Font DICTs, and the Private parts behind them.
+-- `cid_parts::put_tail` meets its contract: the Private DICTs are measured for the Font DICTs, and the Private parts stand behind these.
 use denote.Ref.{now}
+use mathlib.Core.Path.{refl}
+use lib.ListN.{replicate}
 use Rattle.record.specs.Record.{rowsOf}
+use Rattle.outcome.specs.BothLaws.{parts-measured}
+use Rattle.cid_parts.specs.CidPlacesLaws.{table-room, dicts-ready}
 use Rattle.cid_parts.specs.CidPutLaws.{dicts-put, privates-put, privates-wrote}
 use borrow.Author.Needs.{needs}
 use Rattle.cid_parts.proofs.put_tail.Statement.{statement}
 use Rattle.cid_parts.proofs.put_tail.Tie as tie
 
-put-font-dicts-requires : tie.Need-put-font-dicts-requires
-put-font-dicts-requires c κs =
+-- the arguments, and the measures behind the Font DICTs
+abbrev S : tie.After-part-sizes → tie.Start
+S m = m .before .before .before .before .before .before .before .before .before .before .before .before .before .before
+
+abbrev M : tie.After-put-font-dicts → tie.After-part-sizes
+M w = w .before .before .before .before .before .before
+
+slice-aggregate-part-sizes : tie.Need-slice-aggregate-part-sizes
+slice-aggregate-part-sizes c = search needs
+
+slice-aggregate-part-sizes-2 : tie.Need-slice-aggregate-part-sizes-2
+slice-aggregate-part-sizes-2 c = search needs
+
+part-sizes-requires : tie.Need-part-sizes-requires
+part-sizes-requires c κs =
     let s = c .before .before .before .before .before .before .before .before .before .before .before .before .before in
     let a = s .args in
-    dicts-put (now (a .font)) (a .f) (rowsOf (now (a .rows))) (now (a .used)) (now (a .words)) (a .r) (now (a .ats)) (now (a .counts)) (now (a .reacheds)) (s .pre .0) (now (a .totals)) (s .pre .1) (now (a .sizes)) (now (a .lens)) (a .count) (a .from) (s .pre .2) (a .at) (now (a .out)) (s .pre .3) (s .pre .4)
+    parts-measured (now (a .font)) (a .c .cut .f) (rowsOf (now (a .rows))) (now (a .used)) (now (a .words)) (now (a .table)) (a .c .cut .plan) (s .pre .0 .ready) (now (a .totals)) (s .pre .1) 256 256 (table-room (replicate 256 0) refl) (table-room (replicate 256 0) refl)
+
+slice-aggregate-put-font-dicts : tie.Need-slice-aggregate-put-font-dicts
+slice-aggregate-put-font-dicts c = search needs
+
+slice-aggregate-put-font-dicts-2 : tie.Need-slice-aggregate-put-font-dicts-2
+slice-aggregate-put-font-dicts-2 c = search needs
+
+put-font-dicts-requires : tie.Need-put-font-dicts-requires
+put-font-dicts-requires c κs =
+    let m = c .before .before .before .before .before in
+    let s = S m in
+    let a = s .args in
+    dicts-put (now (a .font)) (a .c .cut .f) (rowsOf (now (a .rows))) (now (a .used)) (now (a .words)) (a .c .cut .plan) (now (a .table)) (s .pre .0 .ready) (now (a .totals)) (s .pre .1) _ _ (a .c .cut .count) (a .c .at .privates) (dicts-ready (now (a .font)) (a .c .cut .f) (rowsOf (now (a .rows))) (now (a .used)) (now (a .words)) (a .c .cut .plan) (now (a .table)) (s .pre .0) (now (a .totals)) (s .pre .1) (m .part-sizes .ensures) (table-room _ refl) (table-room _ refl) (a .c .cut .count) (s .pre .2) (a .c .at .privates) (s .pre .3)) (a .at) (now (a .out)) (s .pre .4) (s .pre .5)
 
 put-privates-requires : tie.Need-put-privates-requires
 put-privates-requires c κs =
     let w = c .before .before .before in
-    let s = w .before .before .before .before .before .before .before .before .before .before .before .before .before .before in
+    let m = M w in
+    let s = S m in
     let a = s .args in
-    privates-put (now (a .font)) (a .f) (rowsOf (now (a .rows))) (now (a .used)) (now (a .words)) (a .r) (now (a .ats)) (now (a .counts)) (now (a .reacheds)) (s .pre .0) (now (a .totals)) (s .pre .1) (now (a .sizes)) (now (a .lens)) (a .count) (a .from) (s .pre .2) (a .at) (now (a .out)) (s .pre .3) (s .pre .4) (w .put-font-dicts .ensures)
+    privates-put (now (a .font)) (a .c .cut .f) (rowsOf (now (a .rows))) (now (a .used)) (now (a .words)) (a .c .cut .plan) (now (a .table)) (s .pre .0 .ready) (now (a .totals)) (s .pre .1) _ _ (a .c .cut .count) (a .c .at .privates) (dicts-ready (now (a .font)) (a .c .cut .f) (rowsOf (now (a .rows))) (now (a .used)) (now (a .words)) (a .c .cut .plan) (now (a .table)) (s .pre .0) (now (a .totals)) (s .pre .1) (m .part-sizes .ensures) (table-room _ refl) (table-room _ refl) (a .c .cut .count) (s .pre .2) (a .c .at .privates) (s .pre .3)) (a .at) (now (a .out)) (s .pre .4) (s .pre .5) (w .put-font-dicts .ensures)
 
 same-length : tie.Need-same-length
 same-length c = search needs
@@ -26,10 +57,21 @@ returns : tie.Need-returns
 returns c =
     let v = c .before .before in
     let w = v .before .before .before .before in
-    let s = w .before .before .before .before .before .before .before .before .before .before .before .before .before .before in
+    let m = M w in
+    let s = S m in
     let a = s .args in
-    privates-wrote (now (a .font)) (a .f) (rowsOf (now (a .rows))) (now (a .used)) (now (a .words)) (a .r) (now (a .ats)) (now (a .counts)) (now (a .reacheds)) (s .pre .0) (now (a .totals)) (s .pre .1) (now (a .sizes)) (now (a .lens)) (a .count) (a .from) (s .pre .2) (a .at) (now (a .out)) (s .pre .3) (s .pre .4) (w .put-font-dicts .ensures) (v .put-privates .ensures)
+    privates-wrote (now (a .font)) (a .c .cut .f) (rowsOf (now (a .rows))) (now (a .used)) (now (a .words)) (a .c .cut .plan) (now (a .table)) (s .pre .0 .ready) (now (a .totals)) (s .pre .1) _ _ (a .c .cut .count) (a .c .at .privates) (dicts-ready (now (a .font)) (a .c .cut .f) (rowsOf (now (a .rows))) (now (a .used)) (now (a .words)) (a .c .cut .plan) (now (a .table)) (s .pre .0) (now (a .totals)) (s .pre .1) (m .part-sizes .ensures) (table-room _ refl) (table-room _ refl) (a .c .cut .count) (s .pre .2) (a .c .at .privates) (s .pre .3)) (a .at) (now (a .out)) (s .pre .4) (s .pre .5) (w .put-font-dicts .ensures) (v .put-privates .ensures)
 
 pub put-tail-spec : {M : Type 1} → statement M
 put-tail-spec =
-    tie.close (tie.spec put-font-dicts-requires put-privates-requires same-length returns)
+    tie.close
+    (tie.spec
+    slice-aggregate-part-sizes
+    slice-aggregate-part-sizes-2
+    part-sizes-requires
+    slice-aggregate-put-font-dicts
+    slice-aggregate-put-font-dicts-2
+    put-font-dicts-requires
+    put-privates-requires
+    same-length
+    returns)

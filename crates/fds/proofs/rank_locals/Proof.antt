@@ -4,7 +4,7 @@ use mathlib.Core.Path.{_≡_, refl, ap}
 use mathlib.Core.Bool.{true}
 use native.Mathlib.Omega.{arith}
 use borrow.Author.Needs.{needs}
-use lib.ListN.{length}
+use lib.ListN.{length, length-set}
 use denote.Ref.{now}
 use Rattle.record.specs.Record.{rowsOf}
 use Rattle.cff.specs.Reads.{programOf}
@@ -17,16 +17,16 @@ use Rattle.fds.proofs.rank_locals.Statement.{statement}
 use Rattle.fds.proofs.rank_locals.Tie as tie
 
 abbrev Inv-loop : tie.InvT-loop
-Inv-loop font f rows used words₀ at ats₀ counts₀ reacheds₀ place₀ all₀ fd₀ words ats counts reacheds place all fd =
-    (fd ≤ 256) × (length words ≡ length words₀) × (length ats ≡ length ats₀) × (length counts ≡ length counts₀) × (length reacheds ≡ length reacheds₀)
-    × Ranking (programOf font f) (rowsOf rows) used at words₀ words ats counts reacheds place all fd
+Inv-loop font f rows used words₀ at table₀ place₀ all₀ fd₀ words table place all fd =
+    (fd ≤ 256) × (length words ≡ length words₀) × (length table ≡ length table₀)
+    × Ranking (programOf font f) (rowsOf rows) used at words₀ words table place all fd
 
 abbrev μ-loop : tie.MeasureT-loop
-μ-loop font f rows used words₀ at ats₀ counts₀ reacheds₀ place₀ all₀ fd₀ words ats counts reacheds place all fd = 256 - fd
+μ-loop font f rows used words₀ at table₀ place₀ all₀ fd₀ words table place all fd = 256 - fd
 
 -- the arguments, at a turn
 abbrev S : tie.At-loop Inv-loop μ-loop → tie.Start Inv-loop μ-loop
-S l = l .before .before .before .before .before .before .before .before
+S l = l .before .before .before .before .before .before
 
 abbrev L₁ : tie.Else1 Inv-loop μ-loop → tie.At-loop Inv-loop μ-loop
 L₁ e = e .before .before .before
@@ -38,10 +38,10 @@ in-use e = is-used (now (S (L₁ e) .args .used)) (L₁ e .loop .fd) (e .if1 .le
 room : (e : tie.Else1 Inv-loop μ-loop)
     → (let l = L₁ e in let s = S l in
     l .loop .place + length (localsOf (programOf (now (s .args .font)) (s .args .f)) (l .loop .fd)) ≤ length (l .loop .words))
-room e = let l = L₁ e in ranking-room _ _ _ _ _ (S l .pre .4) _ _ _ _ _ _ _ (l .loop .inv .5) (in-use e)
+room e = let l = L₁ e in ranking-room _ _ _ _ _ (S l .pre .4) _ _ _ _ _ (l .loop .inv .3) (in-use e)
 
 loop-holds : tie.Need-loop-holds Inv-loop μ-loop
-loop-holds c = (omega arith, refl, refl, refl, refl, ranking-start _ _ _ _ _ _ _ _)
+loop-holds c = (omega arith, refl, refl, ranking-start _ _ _ _ _ _)
 
 mul-if1 : tie.Need-mul-if1 Inv-loop μ-loop
 mul-if1 c = search needs
@@ -60,7 +60,7 @@ loop-again c =
     let t = c .before .before in
     let l = t .before in
     let i = l .loop .inv in
-    (omega (arith, t .loop-test .taken), i .1, i .2, i .3, i .4, ranking-pass _ _ _ _ _ (S l .pre .4) _ _ _ _ _ _ _ (i .5) (not-used (now (S l .args .used)) (l .loop .fd) (c .if1 .taken)))
+    (omega (arith, t .loop-test .taken), i .1, i .2, ranking-pass _ _ _ _ _ (S l .pre .4) _ _ _ _ _ (i .3) (not-used (now (S l .args .used)) (l .loop .fd) (c .if1 .taken)))
 
 rank-fd-requires : tie.Need-rank-fd-requires Inv-loop μ-loop
 rank-fd-requires c κs =
@@ -70,23 +70,35 @@ rank-fd-requires c κs =
     let t = e .before .before .loop-test .taken in
     (s .pre .0, t, s .pre .2 _ t (in-use e), room e)
 
-mul-ats : tie.Need-mul-ats Inv-loop μ-loop
-mul-ats c = search needs
+mul-table : tie.Need-mul-table Inv-loop μ-loop
+mul-table c = search needs
 
-slice-write-ats : tie.Need-slice-write-ats Inv-loop μ-loop
-slice-write-ats c = search needs
+slice-write-table : tie.Need-slice-write-table Inv-loop μ-loop
+slice-write-table c = search needs
 
-mul-counts : tie.Need-mul-counts Inv-loop μ-loop
-mul-counts c = search needs
+add-table : tie.Need-add-table Inv-loop μ-loop
+add-table c = search needs
 
-slice-write-counts : tie.Need-slice-write-counts Inv-loop μ-loop
-slice-write-counts c = search needs
+mul-table-2 : tie.Need-mul-table-2 Inv-loop μ-loop
+mul-table-2 c = search needs
 
-mul-reacheds : tie.Need-mul-reacheds Inv-loop μ-loop
-mul-reacheds c = search needs
+slice-write-table-2 : tie.Need-slice-write-table-2 Inv-loop μ-loop
+slice-write-table-2 c =
+    let e = c .before .before .before .before in
+    let l = L₁ e in
+    simp length-set (omega (arith, l .loop .inv .2, S l .pre .5, e .before .before .loop-test .taken))
 
-slice-write-reacheds : tie.Need-slice-write-reacheds Inv-loop μ-loop
-slice-write-reacheds c = search needs
+add-table-2 : tie.Need-add-table-2 Inv-loop μ-loop
+add-table-2 c = search needs
+
+mul-table-3 : tie.Need-mul-table-3 Inv-loop μ-loop
+mul-table-3 c = search needs
+
+slice-write-table-3 : tie.Need-slice-write-table-3 Inv-loop μ-loop
+slice-write-table-3 c =
+    let e = c .before .before .before .before in
+    let l = L₁ e in
+    simp length-set (omega (arith, l .loop .inv .2, S l .pre .5, e .before .before .loop-test .taken))
 
 both-requires : tie.Need-both-requires Inv-loop μ-loop
 both-requires c κs = search needs
@@ -100,7 +112,7 @@ add-place c =
     omega (
       arith,
       ap (λ (x : RankedLocals). x .count) (f .rank-fd .ensures .1),
-      ranking-small _ _ _ _ _ (s .pre .4) _ _ _ _ _ _ _ (l .loop .inv .5) (in-use e) (s .pre .3) (few-locals _ _ (s .pre .0)),
+      ranking-small _ _ _ _ _ (s .pre .4) _ _ _ _ _ (l .loop .inv .3) (in-use e) (s .pre .3) (few-locals _ _ (s .pre .0)),
     )
 
 add-fd-2 : tie.Need-add-fd-2 Inv-loop μ-loop
@@ -118,9 +130,9 @@ loop-again-2 c =
     let s = S l in
     let i = l .loop .inv in
     let t = e .before .before .loop-test .taken in
-    let m = ranking-take _ _ _ _ _ (s .pre .4) _ _ _ _ _ _ _ (i .5) (in-use e) (omega (arith, i .2, s .pre .5, t)) (omega (arith, i .3, s .pre .6, t)) (omega (arith, i .4, s .pre .7, t))
+    let m = ranking-take _ _ _ _ _ (s .pre .4) _ _ _ _ _ (i .3) (in-use e) (omega (arith, i .2, s .pre .5)) t
     _ (f .rank-fd .ensures .1) _ (f .rank-fd .ensures .0) _ (b .both .ensures) in
-    (omega (arith, t), search needs, search needs, search needs, search needs, m)
+    (omega (arith, t), search needs, search needs, m)
 
 same-length : tie.Need-same-length Inv-loop μ-loop
 same-length c = search needs
@@ -128,14 +140,8 @@ same-length c = search needs
 same-length-2 : tie.Need-same-length-2 Inv-loop μ-loop
 same-length-2 c = search needs
 
-same-length-3 : tie.Need-same-length-3 Inv-loop μ-loop
-same-length-3 c = search needs
-
-same-length-4 : tie.Need-same-length-4 Inv-loop μ-loop
-same-length-4 c = search needs
-
 returns : tie.Need-returns Inv-loop μ-loop
-returns c = let l = c .before in ranking-done _ _ _ _ _ _ _ _ _ _ _ _ (l .loop .inv .5) (omega (arith, l .loop .inv .0, c .loop-test .left))
+returns c = let l = c .before in ranking-done _ _ _ _ _ _ _ _ _ _ (l .loop .inv .3) (omega (arith, l .loop .inv .0, c .loop-test .left))
 
 pub rank-locals-spec : {M : Type 1} → statement M
 rank-locals-spec =
@@ -150,12 +156,14 @@ rank-locals-spec =
     loop-less
     loop-again
     rank-fd-requires
-    mul-ats
-    slice-write-ats
-    mul-counts
-    slice-write-counts
-    mul-reacheds
-    slice-write-reacheds
+    mul-table
+    slice-write-table
+    add-table
+    mul-table-2
+    slice-write-table-2
+    add-table-2
+    mul-table-3
+    slice-write-table-3
     both-requires
     add-place
     add-fd-2
@@ -163,6 +171,4 @@ rank-locals-spec =
     loop-again-2
     same-length
     same-length-2
-    same-length-3
-    same-length-4
     returns)

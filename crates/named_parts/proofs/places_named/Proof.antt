@@ -11,7 +11,7 @@ use Rattle.named_parts.proofs.places_named.Tie as tie
 
 -- the arguments; after the Private parts, and after the front, were measured
 abbrev S : tie.After-lens → tie.Start
-S c = c .before .before .before .before .before .before .before .before .before .before .before .before .before
+S c = c .before .before .before .before .before .before .before .before .before .before .before .before .before .before
 
 abbrev P : tie.After-front-len → tie.After-part-sizes
 P c = c .before .before .before
@@ -29,13 +29,13 @@ part-sizes-requires : tie.Need-part-sizes-requires
 part-sizes-requires c κs =
     let g = S c .pre .0 in
     let h : 256 ≤ 256 = omega arith in
-    parts-measured _ _ _ _ _ _ _ _ _ (g .ready) _ (g .summed) 256 256 h h
+    parts-measured _ _ _ _ _ _ _ (g .ready) _ (g .summed) 256 256 h h
 
 front-len-requires : tie.Need-front-len-requires
 front-len-requires c κs = search needs
 
 globals-len-requires : tie.Need-globals-len-requires
-globals-len-requires c κs = globals-measured _ _ _ _ _ _ _ _ _ (S (P c .before) .pre .0 .ready)
+globals-len-requires c κs = globals-measured _ _ _ _ _ _ _ (S (P c .before) .pre .0 .ready)
 
 add-charset : tie.Need-add-charset
 add-charset c = search needs
@@ -56,18 +56,18 @@ add-charstrings-2 c =
 glyphs-len-requires : tie.Need-glyphs-len-requires
 glyphs-len-requires c κs =
     let g = S (P (F c) .before) .pre .0 in
-    glyphs-measured _ _ _ _ _ _ _ _ _ (g .ready)
+    glyphs-measured _ _ _ _ _ _ _ (g .ready)
 
 add-private : tie.Need-add-private
 add-private c =
     let d = c .before in
     omega (arith, S (P (F d) .before) .pre .0 .names .few, F d .front-len .ensures .1, d .before .globals-len .ensures .1, c .glyphs-len .ensures .1)
 
-array-read-t26 : tie.Need-array-read-t26
-array-read-t26 c = search needs
+array-read-size : tie.Need-array-read-size
+array-read-size c = search needs
 
-add-t25 : tie.Need-add-t25
-add-t25 c =
+add-end : tie.Need-add-end
+add-end c =
     let d = c .before in
     let q = P (F d) in
     let g = S (q .before) .pre .0 in
@@ -87,7 +87,7 @@ returns c =
     let q = P (F d) in
     let s = S (q .before) in
     let h : 256 ≤ 256 = omega arith in
-    places-are _ _ _ _ _ _ _ _ _ _ (s .pre .0) (now (s .args .name)) _ _ (s .pre .1) _ _ _ (F d .front-len .ensures .0) (d .before .globals-len .ensures .0)
+    places-are _ _ _ _ _ _ _ _ (s .pre .0) (now (s .args .name)) _ _ (s .pre .1) _ _ _ (F d .front-len .ensures .0) (d .before .globals-len .ensures .0)
     (c .glyphs-len .ensures .0) (q .part-sizes .ensures) h h _ refl
 
 pub places-named-spec : {M : Type 1} → statement M
@@ -106,6 +106,6 @@ places-named-spec =
     add-charstrings-2
     glyphs-len-requires
     add-private
-    array-read-t26
-    add-t25
+    array-read-size
+    add-end
     returns)

@@ -7,7 +7,7 @@ use Rattle.named_parts.proofs.put_glyphs.Tie as tie
 
 -- the arguments; after the charset, and after the charstrings
 abbrev S : tie.After-put-charset-named-arg → tie.Start
-S c = c .before .before .before .before .before .before .before .before .before .before .before .before
+S c = c .before .before .before .before .before .before .before .before .before .before
 
 abbrev C : tie.After-put-charstrings-arg → tie.After-put-charset-named
 C c = c .before .before .before
@@ -18,20 +18,20 @@ G c = c .before .before .before
 put-charset-named-requires : tie.Need-put-charset-named-requires
 put-charset-named-requires c κs =
     let s = S c in
-    charset-asked _ _ _ _ _ _ _ _ _ _ (s .pre .0) (now (s .args .out)) (s .args .at) (s .pre .1) (s .pre .2)
+    charset-asked _ _ _ _ _ _ _ _ (s .pre .0) (now (s .args .out)) (s .args .at) (s .pre .1) (s .pre .2)
 
 put-charstrings-requires : tie.Need-put-charstrings-requires
 put-charstrings-requires c κs =
     let w = C c in
     let s = S (w .before) in
-    charstrings-asked _ _ _ _ _ _ _ _ _ _ (s .pre .0) (now (s .args .out)) (s .args .at) (s .pre .1) (s .pre .2) (w .put-charset-named .ensures)
+    charstrings-asked _ _ _ _ _ _ _ _ (s .pre .0) (now (s .args .out)) (s .args .at) (s .pre .1) (s .pre .2) (w .put-charset-named .ensures)
 
 put-privates-requires : tie.Need-put-privates-requires
 put-privates-requires c κs =
     let v = G c in
     let w = C (v .before) in
     let s = S (w .before) in
-    parts-asked _ _ _ _ _ _ _ _ _ _ (s .pre .0) (now (s .args .out)) (s .args .at) (s .pre .1) (s .pre .2) (w .put-charset-named .ensures) (v .put-charstrings .ensures)
+    parts-asked _ _ _ _ _ _ _ _ (s .pre .0) (now (s .args .out)) (s .args .at) (s .pre .1) (s .pre .2) (w .put-charset-named .ensures) (v .put-charstrings .ensures)
 
 same-length : tie.Need-same-length
 same-length c = search needs
@@ -42,7 +42,7 @@ returns c =
     let v = G (u .before) in
     let w = C (v .before) in
     let s = S (w .before) in
-    glyphs-wrote _ _ _ _ _ _ _ _ _ _ (s .pre .0) (now (s .args .out)) (s .args .at) (s .pre .1) (s .pre .2) (w .put-charset-named .ensures) (v .put-charstrings .ensures)
+    glyphs-wrote _ _ _ _ _ _ _ _ (s .pre .0) (now (s .args .out)) (s .args .at) (s .pre .1) (s .pre .2) (w .put-charset-named .ensures) (v .put-charstrings .ensures)
     (u .put-privates .ensures)
 
 pub put-glyphs-spec : {M : Type 1} → statement M

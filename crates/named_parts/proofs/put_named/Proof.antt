@@ -7,7 +7,7 @@ use Rattle.named_parts.proofs.put_named.Tie as tie
 
 -- the arguments; after the front, and after the globals
 abbrev S : tie.After-put-front-named-arg → tie.Start
-S c = c .before .before .before .before .before .before .before .before .before .before .before .before .before
+S c = c .before .before .before .before .before .before .before .before .before .before .before .before .before .before .before .before
 
 abbrev F : tie.After-put-globals-arg → tie.After-put-front-named
 F c = c .before .before .before
@@ -18,20 +18,20 @@ G c = c .before .before .before
 put-front-named-requires : tie.Need-put-front-named-requires
 put-front-named-requires c κs =
     let s = S c in
-    front-asked _ _ _ _ _ _ _ _ _ _ (s .pre .0) (now (s .args .name)) _ _ (s .pre .1) _ (s .pre .2) (now (s .args .out)) (s .pre .3) (s .pre .4)
+    front-asked _ _ _ _ _ _ _ _ (s .pre .0) (now (s .args .name)) _ _ (s .pre .1) _ (s .pre .2) (now (s .args .out)) (s .pre .3) (s .pre .4)
 
 put-globals-requires : tie.Need-put-globals-requires
 put-globals-requires c κs =
     let w = F c in
     let s = S (w .before) in
-    globals-there _ _ _ _ _ _ _ _ _ _ (s .pre .0) (now (s .args .name)) _ _ (s .pre .1) _ (s .pre .2) (now (s .args .out)) (s .pre .3) (s .pre .4) (w .put-front-named .ensures)
+    globals-there _ _ _ _ _ _ _ _ (s .pre .0) (now (s .args .name)) _ _ (s .pre .1) _ (s .pre .2) (now (s .args .out)) (s .pre .3) (s .pre .4) (w .put-front-named .ensures)
 
 put-glyphs-requires : tie.Need-put-glyphs-requires
 put-glyphs-requires c κs =
     let v = G c in
     let w = F (v .before) in
     let s = S (w .before) in
-    glyphs-there _ _ _ _ _ _ _ _ _ _ (s .pre .0) (now (s .args .name)) _ _ (s .pre .1) _ (s .pre .2) (now (s .args .out)) (s .pre .3) (s .pre .4) (w .put-front-named .ensures)
+    glyphs-there _ _ _ _ _ _ _ _ (s .pre .0) (now (s .args .name)) _ _ (s .pre .1) _ (s .pre .2) (now (s .args .out)) (s .pre .3) (s .pre .4) (w .put-front-named .ensures)
     (v .put-globals .ensures)
 
 same-length : tie.Need-same-length
@@ -43,7 +43,7 @@ returns c =
     let v = G (u .before) in
     let w = F (v .before) in
     let s = S (w .before) in
-    named-wrote _ _ _ _ _ _ _ _ _ _ (s .pre .0) (now (s .args .name)) _ _ (s .pre .1) _ (s .pre .2) (now (s .args .out)) (s .pre .3) (s .pre .4) (w .put-front-named .ensures)
+    named-wrote _ _ _ _ _ _ _ _ (s .pre .0) (now (s .args .name)) _ _ (s .pre .1) _ (s .pre .2) (now (s .args .out)) (s .pre .3) (s .pre .4) (w .put-front-named .ensures)
     (v .put-globals .ensures) (u .put-glyphs .ensures)
 
 pub put-named-spec : {M : Type 1} → statement M

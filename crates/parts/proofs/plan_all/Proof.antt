@@ -9,25 +9,25 @@ use Rattle.parts.proofs.plan_all.Statement.{statement}
 use Rattle.parts.proofs.plan_all.Tie as tie
 
 -- the arguments
-abbrev S : tie.After-rank-all-arg4 → tie.Start
-S c = c .before .before .before .before .before .before .before .before .before .before .before .before .before
+abbrev S : tie.After-rank-all-arg2 → tie.Start
+S c = c .before .before .before .before .before .before .before .before .before
 
 -- after the subroutines are ranked, and after the rows are known to rise or not
 abbrev G : tie.After-rises → tie.After-rank-all
-G c = c .before .before .before .before .before .before .before .before .before
+G c = c .before .before .before .before .before
 
-abbrev R : tie.After-plan-bodies-arg5 → tie.After-rises
-R c = c .before .before .before .before .before .before
+abbrev R : tie.After-plan-bodies-arg3 → tie.After-rises
+R c = c .before .before .before .before
 
 -- where the rows are known to be bytes
 abbrev K : tie.After-rank-all → tie.After-shared-slice-known2
-K c = c .before .before .before .before .before .before .before .before .before .before .before .before
+K c = c .before .before .before .before .before .before .before .before
 
 rank-all-requires : tie.Need-rank-all-requires
 rank-all-requires c κs =
     let p = S c .pre in
     let h = p .0 in
-    (h .read .font, h .usedLong, h .fds, rank-room _ _ _ _ _ _ h, p .1, p .2, p .3)
+    (h .read .font, h .usedLong, h .fds, rank-room _ _ _ _ _ _ h, p .1)
 
 rises-requires : tie.Need-rises-requires
 rises-requires c κs = search needs
@@ -39,11 +39,10 @@ plan-bodies-requires c κs =
     let s = S (u .before) in
     let a = s .args in
     let p = s .pre in (
-      plan-asked _ _ _ _ _ _ (p .0) (rowsOf (now (a .rows))) (narrow-rows (now (a .rows)) (λ i. (K u .shared-slice-known2 .given i) .fits)) _ _ _ _ _
+      plan-asked _ _ _ _ _ _ (p .0) (rowsOf (now (a .rows))) (narrow-rows (now (a .rows)) (λ i. (K u .shared-slice-known2 .given i) .fits)) _ _ _
           (u .rank-all .ensures) _ (v .rises .ensures)
-          (omega (arith, p .1, v .before .before .before .before .before .before .ats .given)) (omega (arith, p .2, v .before .before .before .before .counts .given))
-          (omega (arith, p .3, v .before .before .reacheds .given)) 0,
-      p .4,
+          (omega (arith, p .1, v .before .before .table .given)) 0,
+      p .2,
     )
 
 same-length : tie.Need-same-length
@@ -55,12 +54,6 @@ same-length-2 c = search needs
 same-length-3 : tie.Need-same-length-3
 same-length-3 c = search needs
 
-same-length-4 : tie.Need-same-length-4
-same-length-4 c = search needs
-
-same-length-5 : tie.Need-same-length-5
-same-length-5 c = search needs
-
 returns : tie.Need-returns
 returns c =
     let m = c .before .before in
@@ -69,11 +62,10 @@ returns c =
     let s = S (u .before) in
     let a = s .args in
     let p = s .pre in
-    returns-planned _ _ _ _ _ _ (p .0) (rowsOf (now (a .rows))) (narrow-rows (now (a .rows)) (λ i. (K u .shared-slice-known2 .given i) .fits)) _ _ _ _ _
+    returns-planned _ _ _ _ _ _ (p .0) (rowsOf (now (a .rows))) (narrow-rows (now (a .rows)) (λ i. (K u .shared-slice-known2 .given i) .fits)) _ _ _
     (u .rank-all .ensures) _ (v .rises .ensures)
-    (omega (arith, p .1, v .before .before .before .before .before .before .ats .given)) (omega (arith, p .2, v .before .before .before .before .counts .given))
-    (omega (arith, p .3, v .before .before .reacheds .given))
-    _ _ _ (m .plan-bodies .ensures) (omega (arith, p .4, c .before .totals .given))
+    (omega (arith, p .1, v .before .before .table .given))
+    _ _ _ (m .plan-bodies .ensures) (omega (arith, p .2, c .before .totals .given))
 
 pub plan-all-spec : {M : Type 1} → statement M
 plan-all-spec =
@@ -85,6 +77,4 @@ plan-all-spec =
     same-length
     same-length-2
     same-length-3
-    same-length-4
-    same-length-5
     returns)

@@ -33,9 +33,9 @@ across-requires c κs = search needs
 
 put-subrs-requires : tie.Need-put-subrs-requires
 put-subrs-requires c κs =
-    let s = c .before .before .before .before .before .before .before .before .before .before .before .before .before in
+    let s = c .before .before .before .before .before .before .before .before .before .before .before in
     let a = s .args in
-    globals-asked (now (a .font)) (a .f) (rowsOf (now (a .rows))) (now (a .used)) (now (a .words)) (now (a .ats)) (now (a .counts)) (now (a .reacheds)) (a .r)
+    globals-asked (now (a .font)) (a .f) (rowsOf (now (a .rows))) (now (a .used)) (now (a .words)) (now (a .table)) (a .r)
     (s .pre .0) (calling (a .r) (a .f) (c .before .across .result)) (ap (calling (a .r) (a .f)) (c .before .across .ensures))
     (a .at) (length (now (a .out))) (s .pre .1) (s .pre .2)
 
@@ -44,11 +44,11 @@ same-length c = search needs
 
 returns : tie.Need-returns
 returns c =
-    let s = c .before .before .before .before .before .before .before .before .before .before .before .before .before .before .before .before in
+    let s = c .before .before .before .before .before .before .before .before .before .before .before .before .before .before in
     let a = s .args in
     let w = c .before .before .before .before .across in
     wrote-as (c .before .before .put-subrs .ensures)
-    (ap indexBytes (globals-are (now (a .font)) (a .f) (rowsOf (now (a .rows))) (now (a .used)) (now (a .words)) (now (a .ats)) (now (a .counts)) (now (a .reacheds))
+    (ap indexBytes (globals-are (now (a .font)) (a .f) (rowsOf (now (a .rows))) (now (a .used)) (now (a .words)) (now (a .table))
     (a .r) (s .pre .0) (calling (a .r) (a .f) (w .result)) (ap (calling (a .r) (a .f)) (w .ensures))))
 
 pub put-globals-spec : {M : Type 1} → statement M

@@ -19,7 +19,7 @@ same-length c = search needs
 returns : tie.Need-returns
 returns c =
     let m = c .before .before .before .before in
-    returns-first _ _ _ _ _ _ _ _ _ _ _ _ _ (m .before .before .first-way .ensures) _ _ (m .measure .ensures) (c .before .if1 .taken) _ (c .planned .ensures)
+    returns-first _ _ _ _ _ _ _ _ _ _ _ (m .before .before .first-way .ensures) _ _ (m .measure .ensures) (c .before .if1 .taken) _ (c .planned .ensures)
 
 measure-requires-2 : tie.Need-measure-requires-2
 measure-requires-2 c κs = search needs
@@ -35,7 +35,7 @@ returns-2 c =
     let s = c .before .before .before in
     let e = s .before .before in
     let m = e .before .before .before in
-    returns-stubbed _ _ _ _ _ _ _ _ _ _ _ _ _ (m .before .before .first-way .ensures) _ _ (m .measure .ensures) (e .if1 .left) _ _ (s .measure2 .ensures) _ (c .planned2 .ensures)
+    returns-stubbed _ _ _ _ _ _ _ _ _ _ _ (m .before .before .first-way .ensures) _ _ (m .measure .ensures) (e .if1 .left) _ _ (s .measure2 .ensures) _ (c .planned2 .ensures)
 
 pub plan-bodies-spec : {M : Type 1} → statement M
 plan-bodies-spec =

@@ -12,11 +12,11 @@ use Rattle.plan.proofs.rank_all.Tie as tie
 
 -- the arguments
 abbrev S : tie.After-rank-reached → tie.Start
-S c = c .before .before .before .before .before .before .before .before .before .before .before .before
+S c = c .before .before .before .before .before .before .before .before .before .before
 
 -- after the globals are ranked
-abbrev G : tie.After-rank-locals-arg4 → tie.After-rank-reached
-G c = c .before .before .before .before .before .before
+abbrev G : tie.After-rank-locals-arg2 → tie.After-rank-reached
+G c = c .before .before .before .before
 
 mul-at : tie.Need-mul-at
 mul-at c = search needs
@@ -39,8 +39,6 @@ rank-locals-requires c κs =
       omega (arith, f .glyphs .held .few, f .begun .globals-held .few),
       locals-room (rowsOf (now (s .args .rows))) _ _ _ _ _ (p .3) (g .rank-reached .ensures .0),
       p .4,
-      p .5,
-      p .6,
     )
 
 both-requires : tie.Need-both-requires
@@ -52,20 +50,14 @@ same-length c = search needs
 same-length-2 : tie.Need-same-length-2
 same-length-2 c = search needs
 
-same-length-3 : tie.Need-same-length-3
-same-length-3 c = search needs
-
-same-length-4 : tie.Need-same-length-4
-same-length-4 c = search needs
-
 returns : tie.Need-returns
 returns c =
-    let l = c .before .before .before .before .before .before .before .before .before in
+    let l = c .before .before .before .before .before in
     let g = G (l .before) in
     let s = S g in
     let b = now (s .args .font) in
     let f = s .args .f in
-    ranks-all (programOf b f) (rowsOf (now (s .args .rows))) (now (s .args .used)) _ _ _ _ _ _ (f .charstrings .count) (f .globals .count)
+    ranks-all (programOf b f) (rowsOf (now (s .args .rows))) (now (s .args .used)) _ _ _ _ (f .charstrings .count) (f .globals .count)
     (sym (items-length b (f .charstrings))) (sym (items-length b (f .globals))) (s .pre .3) _ (g .rank-reached .ensures .0) (g .rank-reached .ensures .1)
     _ _ (l .rank-locals .ensures) (c .both .ensures)
 
@@ -80,6 +72,4 @@ rank-all-spec =
     both-requires
     same-length
     same-length-2
-    same-length-3
-    same-length-4
     returns)

@@ -7,7 +7,7 @@ use Rattle.bodies.proofs.charstrings.charstring_len.Statement.{statemen
 use Rattle.bodies.proofs.charstrings.charstring_len.Tie as tie
 
 abbrev S₁ : tie.After-glyph-at → tie.Start
-S₁ c = c .before .before .before .before .before .before .before
+S₁ c = c .before .before .before .before .before
 
 glyph-at-requires : tie.Need-glyph-at-requires
 glyph-at-requires c κs = search needs

@@ -15,23 +15,22 @@ use Rattle.bodies.proofs.charstrings.charstrings_total.Statement.{state
 use Rattle.bodies.proofs.charstrings.charstrings_total.Tie as tie
 
 abbrev Inv-loop : tie.InvT-loop
-Inv-loop kept font words ats counts reacheds rows n total₀ i₀ total i =
-    Adding (charstringFrom kept (rowsOf rows) words ats counts reacheds font) every (kept .count) i total
+Inv-loop kept font words table rows n total₀ i₀ total i =
+    Adding (charstringFrom kept (rowsOf rows) words table font) every (kept .count) i total
 
 abbrev μ-loop : tie.MeasureT-loop
-μ-loop kept font words ats counts reacheds rows n total₀ i₀ total i = kept .count - i
+μ-loop kept font words table rows n total₀ i₀ total i = kept .count - i
 
 -- the charstring of a kept glyph
 abbrev F : tie.Start Inv-loop μ-loop → ℕ → May (List ℕ)
 F s =
-    charstringBy (s .args .kept .way) (rowsOf (now (s .args .rows))) (s .args .kept .cid) (now (s .args .words)) (s .args .kept .all) (now (s .args .ats)) (now (s .args .counts))
-    (now (s .args .reacheds)) (s .args .kept .globals) (itemsOf (now (s .args .font)) (s .args .kept .ix))
+    charstringBy (s .args .kept .way) (rowsOf (now (s .args .rows))) (s .args .kept .cid) (now (s .args .words)) (s .args .kept .all) (now (s .args .table)) (s .args .kept .globals) (itemsOf (now (s .args .font)) (s .args .kept .ix))
 
 abbrev S₁ : tie.At-loop Inv-loop μ-loop → tie.Start Inv-loop μ-loop
-S₁ c = c .before .before .before .before .before .before .before
+S₁ c = c .before .before .before .before .before
 
 loop-holds : tie.Need-loop-holds Inv-loop μ-loop
-loop-holds c = let s = c .before .before .before .before .before .before in adding-start (F s) every (s .args .kept .count)
+loop-holds c = let s = c .before .before .before .before in adding-start (F s) every (s .args .kept .count)
 
 charstring-len-requires : tie.Need-charstring-len-requires Inv-loop μ-loop
 charstring-len-requires c κs = (S₁ (c .before) .pre, c .loop-test .taken)

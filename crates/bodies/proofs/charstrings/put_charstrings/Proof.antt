@@ -19,11 +19,11 @@ use Rattle.bodies.proofs.charstrings.put_charstrings.Statement.{stateme
 use Rattle.bodies.proofs.charstrings.put_charstrings.Tie as tie
 
 abbrev Inv-loop : tie.InvT-loop
-Inv-loop kept font words ats counts reacheds rows total out₀ at n to p₀ i₀ out p i =
-    Writing out₀ to (manyOf (charstringsFrom kept (rowsOf rows) words ats counts reacheds font)) every (kept .count) i i out p
+Inv-loop kept font words table rows total out₀ at n to p₀ i₀ out p i =
+    Writing out₀ to (manyOf (charstringsFrom kept (rowsOf rows) words table font)) every (kept .count) i i out p
 
 abbrev μ-loop : tie.MeasureT-loop
-μ-loop kept font words ats counts reacheds rows total out₀ at n to p₀ i₀ out p i = kept .count - i
+μ-loop kept font words table rows total out₀ at n to p₀ i₀ out p i = kept .count - i
 
 abbrev Start : Type 0
 Start = tie.Start Inv-loop μ-loop
@@ -31,16 +31,14 @@ Start = tie.Start Inv-loop μ-loop
 -- the charstring of a kept glyph, and all
 abbrev F : Start → ℕ → May (List ℕ)
 F s =
-    charstringBy (s .args .kept .way) (rowsOf (now (s .args .rows))) (s .args .kept .cid) (now (s .args .words)) (s .args .kept .all) (now (s .args .ats)) (now (s .args .counts))
-    (now (s .args .reacheds)) (s .args .kept .globals) (itemsOf (now (s .args .font)) (s .args .kept .ix))
+    charstringBy (s .args .kept .way) (rowsOf (now (s .args .rows))) (s .args .kept .cid) (now (s .args .words)) (s .args .kept .all) (now (s .args .table)) (s .args .kept .globals) (itemsOf (now (s .args .font)) (s .args .kept .ix))
 
 abbrev B : Start → May (List (List ℕ))
 B s =
-    charstringsBy (s .args .kept .way) (rowsOf (now (s .args .rows))) (s .args .kept .cid) (now (s .args .words)) (s .args .kept .all) (now (s .args .ats)) (now (s .args .counts))
-    (now (s .args .reacheds)) (s .args .kept .globals) (itemsOf (now (s .args .font)) (s .args .kept .ix)) (s .args .kept .count)
+    charstringsBy (s .args .kept .way) (rowsOf (now (s .args .rows))) (s .args .kept .cid) (now (s .args .words)) (s .args .kept .all) (now (s .args .table)) (s .args .kept .globals) (itemsOf (now (s .args .font)) (s .args .kept .ix)) (s .args .kept .count)
 
 abbrev S₀ : tie.After-index-for Inv-loop μ-loop → Start
-S₀ c = c .before .before .before .before .before .before .before .before
+S₀ c = c .before .before .before .before .before .before
 
 abbrev X₁ : tie.After-put-head Inv-loop μ-loop → tie.After-index-for Inv-loop μ-loop
 X₁ c = c .before .before
@@ -61,7 +59,7 @@ H₁ c = c .before .before .before .before
 
 index-for-requires : tie.Need-index-for-requires Inv-loop μ-loop
 index-for-requires c κs =
-    let s = c .before .before .before .before .before .before .before in
+    let s = c .before .before .before .before .before in
     (s .pre .1 .early, s .pre .0 .keptFew, s .pre .1 .few)
 
 put-head-requires : tie.Need-put-head-requires Inv-loop μ-loop
@@ -130,8 +128,7 @@ returns c =
     let x = X₁ h in
     wrote-as (writing-whole (B s) (F s) every (s .args .kept .count) refl (s .pre .1 .done) (now (s .args .out)) (s .args .at) (s .args .kept .count) (s .args .total) (x .index-for .result)
     (s .pre .1) (x .index-for .ensures) (sym (count-every (s .args .kept .count))) (h .put-head .ensures) (c .loop-test .left) (l .loop .inv))
-    (ap indexBytes (sym (new-charstrings-is (s .args .kept .way) (rowsOf (now (s .args .rows))) (s .args .kept .cid) (now (s .args .words)) (s .args .kept .all) (now (s .args .ats))
-    (now (s .args .counts)) (now (s .args .reacheds)) (s .args .kept .globals) (itemsOf (now (s .args .font)) (s .args .kept .ix)) (s .args .kept .count) (s .pre .1 .done))))
+    (ap indexBytes (sym (new-charstrings-is (s .args .kept .way) (rowsOf (now (s .args .rows))) (s .args .kept .cid) (now (s .args .words)) (s .args .kept .all) (now (s .args .table)) (s .args .kept .globals) (itemsOf (now (s .args .font)) (s .args .kept .ix)) (s .args .kept .count) (s .pre .1 .done))))
 
 pub put-charstrings-spec : {M : Type 1} → statement M
 put-charstrings-spec =

@@ -15,16 +15,16 @@ use Rattle.fds.proofs.parts.part_sizes.Statement.{statement}
 use Rattle.fds.proofs.parts.part_sizes.Tie as tie
 
 abbrev Inv-loop : tie.InvT-loop
-Inv-loop way font f used counts reacheds totals sizes₀ lens₀ all₀ j₀ fd₀ sizes lens all j fd =
+Inv-loop way font f used table totals sizes₀ lens₀ all₀ j₀ fd₀ sizes lens all j fd =
     (fd ≤ 256) × (j ≤ fd) × (length sizes ≡ length sizes₀) × (length lens ≡ length lens₀)
-    × Measuring (programOf font f) way counts reacheds totals used sizes₀ lens₀ sizes lens all j fd
+    × Measuring (programOf font f) way table totals used sizes₀ lens₀ sizes lens all j fd
 
 abbrev μ-loop : tie.MeasureT-loop
-μ-loop way font f used counts reacheds totals sizes₀ lens₀ all₀ j₀ fd₀ sizes lens all j fd = 256 - fd
+μ-loop way font f used table totals sizes₀ lens₀ all₀ j₀ fd₀ sizes lens all j fd = 256 - fd
 
 -- the arguments, at a turn
 abbrev S : tie.At-loop Inv-loop μ-loop → tie.Start Inv-loop μ-loop
-S l = l .before .before .before .before .before .before .before .before
+S l = l .before .before .before .before .before .before .before
 
 abbrev L₁ : tie.Else1 Inv-loop μ-loop → tie.At-loop Inv-loop μ-loop
 L₁ e = e .before .before .before
@@ -35,7 +35,7 @@ in-use e = is-used (now (S (L₁ e) .args .used)) (L₁ e .loop .fd) (e .if1 .le
 -- the part of an FD in use is the one by the tables
 part : (c : tie.After-part-of Inv-loop μ-loop)
     → (let e = c .before .before .before in let l = L₁ e in let a = S l .args in
-    c .part-of .result ≡ partAt (programOf (now (a .font)) (a .f)) (a .way) (now (a .counts)) (now (a .reacheds)) (now (a .totals)) (l .loop .fd))
+    c .part-of .result ≡ partAt (programOf (now (a .font)) (a .f)) (a .way) (now (a .table)) (now (a .totals)) (l .loop .fd))
 part c =
     let i = c .before .before in
     let l = L₁ (i .before) in
@@ -44,7 +44,7 @@ part c =
     ∙ ap (λ (n : ℕ). partBy (programOf (now (a .font)) (a .f)) n (getD (now (a .totals)) (l .loop .fd) 0) (l .loop .fd)) (i .left-in .ensures)
 
 loop-holds : tie.Need-loop-holds Inv-loop μ-loop
-loop-holds c = (omega arith, omega arith, refl, refl, measuring-start _ _ _ _ _ _ _ _)
+loop-holds c = (omega arith, omega arith, refl, refl, measuring-start _ _ _ _ _ _ _)
 
 mul-if1 : tie.Need-mul-if1 Inv-loop μ-loop
 mul-if1 c = search needs
@@ -67,7 +67,7 @@ loop-again c =
       omega (arith, i .1),
       i .2,
       i .3,
-      measuring-pass _ _ _ _ _ _ _ _ _ _ _ _ _ (i .4) (not-used (now (S l .args .used)) (l .loop .fd) (c .if1 .taken)),
+      measuring-pass _ _ _ _ _ _ _ _ _ _ _ _ (i .4) (not-used (now (S l .args .used)) (l .loop .fd) (c .if1 .taken)),
     )
 
 left-in-requires : tie.Need-left-in-requires Inv-loop μ-loop
@@ -86,7 +86,7 @@ part-of-requires c κs =
     let l = L₁ e in
     let s = S l in
     let t = e .before .before .loop-test .taken in
-    let q = s .pre .7 (l .loop .fd) t (in-use e) in
+    let q = s .pre .6 (l .loop .fd) t (in-use e) in
     (s .pre .0, s .pre .1, s .pre .3 _ t (in-use e), omega (arith, i .left-in .ensures, q .few), q .short)
 
 mul-sizes : tie.Need-mul-sizes Inv-loop μ-loop
@@ -106,7 +106,7 @@ add-all c =
     let b = c .before in
     let e = b .before .before .before in
     let l = L₁ e in
-    omega (arith, e .before .before .loop-test .taken, measuring-small _ _ _ _ _ _ _ _ _ _ _ _ _ (l .loop .inv .4) (in-use e) _ (part b) (b .part-of .ensures .1))
+    omega (arith, e .before .before .loop-test .taken, measuring-small _ _ _ _ _ _ _ _ _ _ _ _ (l .loop .inv .4) (in-use e) _ (part b) (b .part-of .ensures .1))
 
 add-j : tie.Need-add-j Inv-loop μ-loop
 add-j c = search needs
@@ -125,7 +125,7 @@ loop-again-2 c =
     let s = S l in
     let i = l .loop .inv in
     let t = e .before .before .loop-test .taken in
-    let m = measuring-take _ _ _ _ _ _ _ _ _ _ _ _ _ (i .4) (in-use e) _ (part b) (b .part-of .ensures .1) (omega (arith, i .1, t, s .pre .8)) (omega (arith, i .1, t, s .pre .9)) in
+    let m = measuring-take _ _ _ _ _ _ _ _ _ _ _ _ (i .4) (in-use e) _ (part b) (b .part-of .ensures .1) (omega (arith, i .1, t, s .pre .7)) (omega (arith, i .1, t, s .pre .8)) in
     (omega (arith, t), omega (arith, i .1), search needs, search needs, m)
 
 same-length : tie.Need-same-length Inv-loop μ-loop
@@ -135,7 +135,7 @@ same-length-2 : tie.Need-same-length-2 Inv-loop μ-loop
 same-length-2 c = search needs
 
 returns : tie.Need-returns Inv-loop μ-loop
-returns c = let l = c .before in measuring-done _ _ _ _ _ _ _ _ _ _ _ _ _ (l .loop .inv .4) (omega (arith, l .loop .inv .0, c .loop-test .left))
+returns c = let l = c .before in measuring-done _ _ _ _ _ _ _ _ _ _ _ _ (l .loop .inv .4) (omega (arith, l .loop .inv .0, c .loop-test .left))
 
 pub part-sizes-spec : {M : Type 1} → statement M
 part-sizes-spec =

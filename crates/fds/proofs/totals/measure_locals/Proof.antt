@@ -16,15 +16,15 @@ use Rattle.fds.proofs.totals.measure_locals.Statement.{statement}
 use Rattle.fds.proofs.totals.measure_locals.Tie as tie
 
 abbrev Inv-loop : tie.InvT-loop
-Inv-loop way font f used words ats counts reacheds globals rows rising totals₀ fd₀ totals fd =
-    (fd ≤ 256) × (length totals ≡ length totals₀) × Summing way (programOf font f) (rowsOf rows) words ats counts reacheds globals used totals fd
+Inv-loop way font f used words table globals rows rising totals₀ fd₀ totals fd =
+    (fd ≤ 256) × (length totals ≡ length totals₀) × Summing way (programOf font f) (rowsOf rows) words table globals used totals fd
 
 abbrev μ-loop : tie.MeasureT-loop
-μ-loop way font f used words ats counts reacheds globals rows rising totals₀ fd₀ totals fd = 256 - fd
+μ-loop way font f used words table globals rows rising totals₀ fd₀ totals fd = 256 - fd
 
 -- the arguments, at a turn
 abbrev S : tie.At-loop Inv-loop μ-loop → tie.Start Inv-loop μ-loop
-S l = l .before .before .before .before .before .before .before .before .before
+S l = l .before .before .before .before .before .before .before
 
 abbrev L₁ : tie.Else1 Inv-loop μ-loop → tie.At-loop Inv-loop μ-loop
 L₁ e = e .before .before .before
@@ -33,7 +33,7 @@ in-use : (e : tie.Else1 Inv-loop μ-loop) → inUse (now (S (L₁ e) .args .used
 in-use e = is-used (now (S (L₁ e) .args .used)) (L₁ e .loop .fd) (e .if1 .left)
 
 loop-holds : tie.Need-loop-holds Inv-loop μ-loop
-loop-holds c = (omega arith, refl, summing-start _ _ _ _ _ _ _ _ _ _)
+loop-holds c = (omega arith, refl, summing-start _ _ _ _ _ _ _ _)
 
 mul-if1 : tie.Need-mul-if1 Inv-loop μ-loop
 mul-if1 c = search needs
@@ -52,19 +52,19 @@ loop-again c =
     let t = c .before .before in
     let l = t .before in
     let i = l .loop .inv in
-    (omega (arith, t .loop-test .taken), i .1, summing-pass _ _ _ _ _ _ _ _ _ _ _ (i .2) (not-used (now (S l .args .used)) (l .loop .fd) (c .if1 .taken)))
+    (omega (arith, t .loop-test .taken), i .1, summing-pass _ _ _ _ _ _ _ _ _ (i .2) (not-used (now (S l .args .used)) (l .loop .fd) (c .if1 .taken)))
 
 ranks-in-requires : tie.Need-ranks-in-requires Inv-loop μ-loop
 ranks-in-requires c κs =
     let t = c .before .before .loop-test .taken in
     let w = S (L₁ c) .pre .2 in
-    (omega (arith, t, w .atsLong), omega (arith, t, w .countsLong), omega (arith, t, w .reachedsLong))
+    omega (arith, t, w .tableLong)
 
 locals-total-requires : tie.Need-locals-total-requires Inv-loop μ-loop
 locals-total-requires c κs =
     let e = c .before in
     let s = S (L₁ e) in
-    (s .pre .0, fd-in _ _ _ _ _ _ _ _ _ _ (s .pre .2) _ (e .before .before .loop-test .taken) (in-use e) _ (c .ranks-in .ensures))
+    (s .pre .0, fd-in _ _ _ _ _ _ _ _ (s .pre .2) _ (e .before .before .loop-test .taken) (in-use e) _ (c .ranks-in .ensures))
 
 enum-known-t : tie.Need-enum-known-t Inv-loop μ-loop
 enum-known-t c = search needs
@@ -92,7 +92,7 @@ loop-again-2 c =
     let t = e .before .before .loop-test .taken in (
       omega (arith, t),
       search needs,
-      summing-take _ _ _ _ _ _ _ _ _ _ _ (i .2) (in-use e) _ (r .ranks-in .ensures) _ (d .locals-total .ensures .0) (d .locals-total .ensures .1) _ (v .t .given .1) (omega (arith, t, i .1, S l .pre .1)),
+      summing-take _ _ _ _ _ _ _ _ _ (i .2) (in-use e) _ (r .ranks-in .ensures) _ (d .locals-total .ensures .0) (d .locals-total .ensures .1) _ (v .t .given .1) (omega (arith, t, i .1, S l .pre .1)),
     )
 
 enum-told : tie.Need-enum-told Inv-loop μ-loop
@@ -107,13 +107,13 @@ returns c =
     let r = d .before in
     let e = r .before in
     let l = L₁ e in
-    summing-fails _ _ _ _ _ _ _ _ _ _ _ (l .loop .inv .2) (in-use e) _ (r .ranks-in .ensures) _ (d .locals-total .ensures .0) (e .before .before .loop-test .taken) (c .enum-told .given .1) _
+    summing-fails _ _ _ _ _ _ _ _ _ (l .loop .inv .2) (in-use e) _ (r .ranks-in .ensures) _ (d .locals-total .ensures .0) (e .before .before .loop-test .taken) (c .enum-told .given .1) _
 
 same-length-2 : tie.Need-same-length-2 Inv-loop μ-loop
 same-length-2 c = search needs
 
 returns-2 : tie.Need-returns-2 Inv-loop μ-loop
-returns-2 c = let l = c .before in summing-done _ _ _ _ _ _ _ _ _ _ _ (l .loop .inv .2) (omega (arith, l .loop .inv .0, c .loop-test .left))
+returns-2 c = let l = c .before in summing-done _ _ _ _ _ _ _ _ _ (l .loop .inv .2) (omega (arith, l .loop .inv .0, c .loop-test .left))
 
 pub measure-locals-spec : {M : Type 1} → statement M
 measure-locals-spec =

@@ -9,14 +9,14 @@ use Rattle.plan.proofs.sizes.across.Statement.{statement}
 use Rattle.plan.proofs.sizes.across.Tie as tie
 
 abbrev Inv-loop : tie.InvT-loop
-Inv-loop used ats counts reacheds count₀ last₀ fd₀ count last fd = Counting used count last fd
+Inv-loop used table count₀ last₀ fd₀ count last fd = Counting used count last fd
 
 abbrev μ-loop : tie.MeasureT-loop
-μ-loop used ats counts reacheds count₀ last₀ fd₀ count last fd = 256 - fd
+μ-loop used table count₀ last₀ fd₀ count last fd = 256 - fd
 
 -- the arguments, at a turn
 abbrev S : tie.At-loop Inv-loop μ-loop → tie.Start Inv-loop μ-loop
-S l = l .before .before .before .before .before
+S l = l .before .before .before
 
 loop-holds : tie.Need-loop-holds Inv-loop μ-loop
 loop-holds c = counting-start _
@@ -59,19 +59,19 @@ ranks-in-requires c κs =
     let l = c .before .before in
     let p = S l .pre in
     let b = l .loop .inv .below in
-    (omega (arith, p .1), omega (arith, p .2), omega (arith, p .3))
+    omega (arith, p .1)
 
 returns : tie.Need-returns Inv-loop μ-loop
 returns c =
     let e = c .before .before in
     let l = e .before in
-    counted-one _ _ _ _ _ _ _ (l .loop .inv) (omega (arith, e .loop-test .left)) (c .before .if2 .taken) _ (c .ranks-in .ensures)
+    counted-one _ _ _ _ _ (l .loop .inv) (omega (arith, e .loop-test .left)) (c .before .if2 .taken) _ (c .ranks-in .ensures)
 
 returns-2 : tie.Need-returns-2 Inv-loop μ-loop
 returns-2 c =
     let e = c .before in
     let l = e .before in
-    counted-other _ _ _ _ _ _ _ (l .loop .inv) (omega (arith, e .loop-test .left)) (c .if2 .left)
+    counted-other _ _ _ _ _ (l .loop .inv) (omega (arith, e .loop-test .left)) (c .if2 .left)
 
 pub across-spec : {M : Type 1} → statement M
 across-spec =

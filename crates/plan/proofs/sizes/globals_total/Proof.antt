@@ -16,18 +16,17 @@ across-requires c κs = search needs
 
 subrs-total-requires : tie.Need-subrs-total-requires
 subrs-total-requires c κs =
-    let s = c .before .before .before .before .before .before .before .before .before .before in
+    let s = c .before .before .before .before .before .before .before .before in
     let k = s .args .kept in
     subst (λ (q : Ranks). SubrsIn (now (s .args .font)) (now (s .args .words)) (s .args .f .globals) (k .globals) q (k .globals) (rowsOf (now (s .args .rows))) (k .rising) Global)
     (sym (c .across .ensures)) (s .pre .subrs)
 
 returns : tie.Need-returns
 returns c =
-    let s = c .before .before .before .before .before .before .before .before .before .before .before in
+    let s = c .before .before .before .before .before .before .before .before .before in
     let a = s .args in
     let k = a .kept in (
-      globals-measured (k .way) (programOf (now (a .font)) (a .f)) (rowsOf (now (a .rows))) (k .cid) (now (a .words)) (now (a .used)) (now (a .ats)) (now (a .counts))
-          (now (a .reacheds)) (k .globals) (k .count) _ (c .before .across .ensures) _ (c .subrs-total .ensures .0),
+      globals-measured (k .way) (programOf (now (a .font)) (a .f)) (rowsOf (now (a .rows))) (k .cid) (now (a .words)) (now (a .used)) (now (a .table)) (k .globals) (k .count) _ (c .before .across .ensures) _ (c .subrs-total .ensures .0),
       c .subrs-total .ensures .1,
     )
 

@@ -8,9 +8,9 @@ use Rattle.plan.proofs.sizes.measure.Tie as tie
 
 measure-kept-requires : tie.Need-measure-kept-requires
 measure-kept-requires c κs =
-    let s = c .before .before .before .before .before .before .before .before .before .before .before in
+    let s = c .before .before .before .before .before .before .before .before .before in
     let a = s .args in (
-      by-way (a .way) (now (a .font)) (a .f) (now (a .used)) (now (a .words)) (a .kept) (now (a .ats)) (now (a .counts)) (now (a .reacheds)) (rowsOf (now (a .rows)))
+      by-way (a .way) (now (a .font)) (a .f) (now (a .used)) (now (a .words)) (a .kept) (now (a .table)) (rowsOf (now (a .rows)))
           (s .pre .0),
       s .pre .1,
     )

@@ -7,7 +7,7 @@ use Rattle.plan.proofs.sizes.measure_kept.Tie as tie
 
 -- the arguments
 abbrev S : tie.After-globals-total → tie.Start
-S c = c .before .before .before .before .before .before .before .before .before
+S c = c .before .before .before .before .before .before .before
 
 -- after the globals, and the locals, were measured
 abbrev G : tie.After-locals-totals → tie.After-globals-total
@@ -49,7 +49,7 @@ failed-requires-3 c κs = search needs
 returns : tie.Need-returns
 returns c =
     let u = c .before .before .before in
-    returns-globals _ _ _ _ _ _ _ _ _ _ _ _ _ (u .globals-total .ensures .0) (c .before .enum-told .given .1) _ (c .failed .ensures)
+    returns-globals _ _ _ _ _ _ _ _ _ _ _ (u .globals-total .ensures .0) (c .before .enum-told .given .1) _ (c .failed .ensures)
 
 same-length : tie.Need-same-length
 same-length c = search needs
@@ -60,7 +60,7 @@ returns-2 c =
     let l = L (d .before .before) in
     let u = G l in
     let i = S u .pre .0 in
-    returns-glyphs _ _ _ _ _ _ _ _ _ _ _ _ _ (u .globals-total .ensures .0) _ (l .locals-totals .ensures) _ (i .all) _ _ _ (i .charstrings) refl _ (d .charstrings-total .ensures .0)
+    returns-glyphs _ _ _ _ _ _ _ _ _ _ _ (u .globals-total .ensures .0) _ (l .locals-totals .ensures) _ (i .all) _ _ _ (i .charstrings) refl _ (d .charstrings-total .ensures .0)
     (c .before .enum-told2 .given .1) _ (c .failed2 .ensures)
 
 same-length-2 : tie.Need-same-length-2
@@ -72,7 +72,7 @@ returns-3 c =
     let l = L (d .before .before) in
     let u = G l in
     let i = S u .pre .0 in
-    returns-all _ _ _ _ _ _ _ _ _ _ _ _ _ (u .globals-total .ensures .0) _ (l .locals-totals .ensures) _ (i .all) _ _ _ (i .charstrings) refl _ (d .charstrings-total .ensures .0)
+    returns-all _ _ _ _ _ _ _ _ _ _ _ (u .globals-total .ensures .0) _ (l .locals-totals .ensures) _ (i .all) _ _ _ (i .charstrings) refl _ (d .charstrings-total .ensures .0)
     (u .globals-total .ensures .1) (d .charstrings-total .ensures .1) _ _ (l .before .before .before .g .given .1) (d .before .if1 .taken) (c .before .c .given .1)
 
 same-length-3 : tie.Need-same-length-3
@@ -82,7 +82,7 @@ returns-4 : tie.Need-returns-4
 returns-4 c =
     let l = L (c .before .before) in
     let u = G l in
-    returns-locals _ _ _ _ _ _ _ _ _ _ _ _ _ (u .globals-total .ensures .0) _ (l .locals-totals .ensures) (c .before .if1 .left) _ (c .failed3 .ensures)
+    returns-locals _ _ _ _ _ _ _ _ _ _ _ (u .globals-total .ensures .0) _ (l .locals-totals .ensures) (c .before .if1 .left) _ (c .failed3 .ensures)
 
 pub measure-kept-spec : {M : Type 1} → statement M
 measure-kept-spec =
