@@ -108,11 +108,14 @@ fn write_planned(
         &mut sizes,
         &mut lens,
     );
+    let mut listed = [0usize; 256];
+    fds::parts::list_used(used, &mut listed);
+    let matrices = private_dicts::matrices_len(font, f, &listed, cut.count);
     let front = front::front_len(true, font, f, name.len(), slots, own);
     let globals = parts::globals_len(r);
     let select = glyph_tables::select::select_len(words, charstrings.count, k, used);
     let glyphs = parts::glyphs_len(r);
-    let at = place_parts(front, globals, k, select, glyphs, cut.count, all);
+    let at = place_parts(front, globals, k, select, glyphs, cut.count, matrices, all);
     let c = PlacedCut { cut, at };
     put_sized(c, font, name, slots, used, words, table, totals, rows, out)
 }

@@ -15,6 +15,7 @@ use Rattle.dict.specs.declared.OffsetIn.{OffsetIn}
 use Rattle.dict.specs.declared.OffsetIn.the-variants.{Refused as RefusedOffset, At, Absent as NoOffset}
 use Rattle.dict.specs.declared.PrivateIn.{PrivateIn}
 use Rattle.dict.specs.declared.PrivateIn.the-variants.{Refused as RefusedPrivate, Private as PrivateEntry, Absent as NoPrivate}
+use Rattle.dict.specs.Places.{entriesOf}
 use Rattle.charset.specs.Listed.{Listed, refused as refusedList, listed}
 use Rattle.charset.specs.Charset.{charsetAt, isoAdobe}
 use Rattle.charset.specs.FdSelect.{fdSelectAt, noFds}
@@ -55,8 +56,15 @@ pub record Private : Type 0 where
 abbrev pub emptyPrivate : Private
 emptyPrivate = record { entries = []; locals = [] }
 
--- a font: the entries of its top DICT; strings, global subroutines and charstrings; the id of each glyph, a string id or a CID; the
--- Private DICT of each FD, in a name-keyed font the one; and the FD of each glyph
+-- what the keying adds to a font: the Private DICT of each FD, in a name-keyed font the one; the FD of each glyph; and the entries of each
+-- Font DICT, of which a name-keyed font has none
+pub record Added : Type 0 where
+  pub privates : List Private
+  pub fds : List ℕ
+  pub dicts : List (List Entry)
+
+-- a font: the entries of its top DICT; strings, global subroutines and charstrings; the id of each glyph, a string id or a CID; and what
+-- its keying adds
 pub record Program : Type 0 where
   pub top : List Entry
   pub strings : List (List ℕ)
@@ -65,6 +73,7 @@ pub record Program : Type 0 where
   pub ids : List ℕ
   pub privates : List Private
   pub fds : List ℕ
+  pub dicts : List (List Entry)
 
 -- ---- the parts' answers as steps
 
@@ -126,6 +135,11 @@ privatesAt b (d ∷ ds) =
     then (privateAt b (privateIn es)) (λ p.
     then (privatesAt b ds) (λ ps. got (p ∷ ps))))
 
+-- the entries of the Font DICTs
+unfoldable pub dictsAt : List (List ℕ) → List (List Entry)
+dictsAt [] = []
+dictsAt (d ∷ ds) = entriesOf d ∷ dictsAt ds
+
 -- ---- a font of the set
 
 -- the ids of n glyphs: the charset at an offset, of which 0 is ISOAdobe and 1 and 2, the expert ones, are unsupported
@@ -143,20 +157,20 @@ unfoldable pub encodingGot : List ℕ → ℕ → Got Unit
 encodingGot b v = pick (eqb v 0) (got tt) (pick (eqb v 1) (refused 3) (unless (encodingAt b v)))
 
 -- what a CID-keyed font adds: the Private DICTs of its FDs, which must be there, and FDs that exist
-unfoldable pub cidParts : List ℕ → List Entry → ℕ → Got (List Private × List ℕ)
+unfoldable pub cidParts : List ℕ → List Entry → ℕ → Got Added
 cidParts b es n =
     then (then (needed (offsetIn fdArray es)) (λ at. indexGot (readIndex b at))) (λ dicts.
     then (privatesAt b dicts) (λ ps.
     then (unless (pick (eqb (length ps) 0) 2 0)) (λ u.
     then (fdsAt b n (offsetIn fdSelect es)) (λ l.
-    pick (allBelow (length ps) l) (got (ps, l)) (refused 2)))))
+    pick (allBelow (length ps) l) (got (record { privates = ps; fds = l; dicts = dictsAt dicts })) (refused 2)))))
 
 -- what a name-keyed font adds: its Private DICT, and the encoding's checks
-unfoldable pub nameParts : List ℕ → List Entry → ℕ → Got (List Private × List ℕ)
+unfoldable pub nameParts : List ℕ → List Entry → ℕ → Got Added
 nameParts b es n =
     then (privateAt b (privateIn es)) (λ p.
     then (then (orZero (offsetIn encoding es)) (encodingGot b)) (λ u.
-    got (p ∷ [], noFds n)))
+    got (record { privates = p ∷ []; fds = noFds n; dicts = [] })))
 
 -- a font by the bytes of its top DICT
 unfoldable pub fontAt : List ℕ → List (List ℕ) → List (List ℕ) → List ℕ → Got Program
@@ -166,8 +180,17 @@ fontAt b strings globals top =
     then (then (needed (offsetIn charStrings es)) (λ at. indexGot (readIndex b at))) (λ charstrings.
     then (unless (pick (eqb (length charstrings) 0) 2 0)) (λ u.
     then (then (orZero (offsetIn charset es)) (idsAt b (length charstrings))) (λ ids.
-    then (pick (cidKeyed es) (cidParts b es (length charstrings)) (nameParts b es (length charstrings))) (λ parts.
-    got (record { top = es; strings = strings; globals = globals; charstrings = charstrings; ids = ids; privates = parts .0; fds = parts .1 })))))))
+    then (pick (cidKeyed es) (cidParts b es (length charstrings)) (nameParts b es (length charstrings))) (λ added.
+    got (record {
+      top = es;
+      strings = strings;
+      globals = globals;
+      charstrings = charstrings;
+      ids = ids;
+      privates = added .privates;
+      fds = added .fds;
+      dicts = added .dicts;
+    })))))))
 
 -- every font of the set
 unfoldable pub fontsAt : List ℕ → List (List ℕ) → List (List ℕ) → List (List ℕ) → Got (List Program)

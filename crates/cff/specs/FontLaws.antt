@@ -39,9 +39,9 @@ use Rattle.charset.specs.declared.CharsetAt.the-variants.{Refused as RefusedCha
 use Rattle.charset.specs.declared.fd_select.FdSelect.{FdSelect}
 use Rattle.charset.specs.declared.fd_select.FdSelectAt.{FdSelectAt}
 use Rattle.charset.specs.declared.fd_select.FdSelectAt.the-variants.{Refused as RefusedSelect, Found as FoundSelect}
-use Rattle.cff.specs.Font.{charset, encoding, charStrings, fdArray, fdSelect, Got, refused, got, then, Private, Program, indexGot, dictGot, listGot, unless, needed, orZero, privateAt, privatesAt, idsAt, fdsAt, encodingGot, cidParts, nameParts, fontAt}
+use Rattle.cff.specs.Font.{charset, encoding, charStrings, fdArray, fdSelect, Got, refused, got, then, Private, Added, Program, indexGot, dictGot, listGot, unless, needed, orZero, privateAt, privatesAt, dictsAt, idsAt, fdsAt, encodingGot, cidParts, nameParts, fontAt}
 use Rattle.cff.specs.Find.{localsTotal}
-use Rattle.cff.specs.Reads.{Holds, ReadsItems, privateOf, GoodPrivate, noPrivate, ReadsPrivate, fdPrivate, ReadsLocals, namedIndex, namedIds, namedEncoding, ReadsIds, ReadsFds, orNone, privatesOf, GoodParts, ReadsParts, partsBy, HasDicts, HasLocals, topOf, programOf, fontOf, HasTop, HasGlyphs, GoodFont, ReadsFont}
+use Rattle.cff.specs.Reads.{Holds, ReadsItems, privateOf, GoodPrivate, noPrivate, ReadsPrivate, fdPrivate, ReadsLocals, namedIndex, namedIds, namedEncoding, ReadsIds, ReadsFds, orNone, privatesOf, addedOf, GoodParts, ReadsParts, partsBy, HasDicts, HasLocals, topOf, programOf, fontOf, HasTop, HasGlyphs, GoodFont, ReadsFont}
 use Rattle.cff.specs.ReadsLaws.{no, reads-index, none-held, none-items, dict-refused, dict-good, dict-entries, empty-dict, then-refused, then-got, privates-split}
 use Rattle.cff.specs.declared.private.PrivateAt.{PrivateAt}
 use Rattle.cff.specs.declared.private.PrivateRead.{PrivateRead}
@@ -223,14 +223,21 @@ module _ (b : List ℕ) (es : List Entry) (n : ℕ) where
       has-locals z = record { array = d; some = z; read = h }
 
   module _ (dicts : Index) (total : ℕ) (l : HasLocals b es dicts total) where
+    -- what is added, by the FDs
+    abbrev addedBy : List Private → List ℕ → Added
+    addedBy ps fds = record { privates = ps; fds = fds; dicts = dictsAt (itemsOf b dicts) }
+
+    abbrev added : List ℕ → Added
+    added fds = addedBy (l .read .0) fds
+
     -- the FDSelect decides
-    cid-steps : cidParts b es n ≡ then (fdsAt b n (offsetIn fdSelect es)) (λ fds. pick (allBelow (dicts .count) fds) (got (l .read .0, fds)) (refused 2))
+    cid-steps : cidParts b es n ≡ then (fdsAt b n (offsetIn fdSelect es)) (λ fds. pick (allBelow (dicts .count) fds) (got (added fds)) (refused 2))
     unfolding cidParts
     cid-steps =
         let m : length (l .read .0) ≡ dicts .count = privates-length b (itemsOf b dicts) (l .read .0) (l .read .2) ∙ items-length b dicts in
         let k = ne-eqb (length (l .read .0)) 0 (λ z. l .some (sym m ∙ z)) in
         then-got _ _ (itemsOf b dicts) (l .array .is) ∙ then-got _ _ (l .read .0) (l .read .2)
-        ∙ rw k (ap (λ c. then (fdsAt b n (offsetIn fdSelect es)) (λ fds. pick (allBelow c fds) (got (l .read .0, fds)) (refused 2))) m)
+        ∙ rw k (ap (λ c. then (fdsAt b n (offsetIn fdSelect es)) (λ fds. pick (allBelow c fds) (got (added fds)) (refused 2))) m)
 
     module _ (r : FdSelectAt) (reads : ReadsFds b n (fdsAt b n (offsetIn fdSelect es)) r) where
       pub cid-unselected : (e : ℕ) → r ≡ RefusedSelect e → ReadsParts b true n (cidParts b es n) (RefusedParts e)
@@ -247,7 +254,7 @@ module _ (b : List ℕ) (es : List Entry) (n : ℕ) where
           pub cid-past : t ≡ false → ReadsParts b true n (cidParts b es n) (RefusedParts 2)
           cid-past f =
               cid-steps ∙ then-got _ _ (fdsOf b s n) (selected .1)
-              ∙ ap (λ x. pick x (got (l .read .0, fdsOf b s n)) (refused 2)) (sym below ∙ f)
+              ∙ ap (λ x. pick x (got (added (fdsOf b s n))) (refused 2)) (sym below ∙ f)
 
           pub cid-found : t ≡ true → 2 ≤ length b → (p : PrivateAt) → p ≡ noPrivate
               → ReadsParts b true n (cidParts b es n) (FoundParts (record { dicts = dicts; private = p; select = s; locals = total }))
@@ -263,11 +270,15 @@ module _ (b : List ℕ) (es : List Entry) (n : ℕ) where
                   few = l .read .3;
                 },
                 cid-steps ∙ then-got _ _ (fdsOf b s n) (selected .1)
-                    ∙ ap (λ x. pick x (got (l .read .0, fdsOf b s n)) (refused 2)) (sym below ∙ f)
-                    ∙ ap (λ x. got (x, fdsOf b s n)) (sym u),
+                    ∙ ap (λ x. pick x (got (added (fdsOf b s n))) (refused 2)) (sym below ∙ f)
+                    ∙ ap (λ (x : List Private). got (addedBy x (fdsOf b s n))) (sym u),
               )
 
 -- ---- the parts of a name-keyed font
+
+-- what is added, by the Private DICT and the FDs
+abbrev addedOne : Private → List ℕ → Added
+addedOne p fds = record { privates = p ∷ []; fds = fds; dicts = [] }
 
 not-both : false ≡ true → ⊥
 not-both z = no cc
@@ -299,7 +310,7 @@ module _ (b : List ℕ) (es : List Entry) (n : ℕ) (r : PrivateRead) (reads : R
         few = let k = found .0 .locals .few in omega arith;
       },
       then-got _ _ (privateOf b p) (found .1) ∙ then-got _ _ tt (checked ∙ unless-passed e h)
-          ∙ ap (λ l. got (privateOf b p ∷ [], l)) (sym (no-select-fds b n) ∙ ap (λ x. fdsOf b x n) (sym j)),
+          ∙ ap (λ (l : List ℕ). got (addedOne (privateOf b p) l)) (sym (no-select-fds b n) ∙ ap (λ x. fdsOf b x n) (sym j)),
     )
 
 -- by the keying
@@ -318,15 +329,16 @@ module _ (b : List ℕ) (top end : ℕ) (strings globals : Index) where
   glyphSteps charstrings n =
       then (unless (pick (eqb n 0) 2 0)) (λ u.
       then (namedIds b (entriesOf (topOf b top end)) n) (λ ids.
-      then (partsBy (cidKeyed (entriesOf (topOf b top end))) b (entriesOf (topOf b top end)) n) (λ parts.
+      then (partsBy (cidKeyed (entriesOf (topOf b top end))) b (entriesOf (topOf b top end)) n) (λ added.
       got (record {
         top = entriesOf (topOf b top end);
         strings = itemsOf b strings;
         globals = itemsOf b globals;
         charstrings = itemsOf b charstrings;
         ids = ids;
-        privates = parts .0;
-        fds = parts .1;
+        privates = added .privates;
+        fds = added .fds;
+        dicts = added .dicts;
       }))))
 
   module _ (n : ℕ) (checked : n ≡ refusalOf (dictOf (topOf b top end))) where
@@ -367,15 +379,16 @@ module _ (b : List ℕ) (top end : ℕ) (strings globals : Index) where
     module _ (some : charstrings .count ≡ 0 → ⊥) (r : CharsetAt) (reads : ReadsIds b (charstrings .count) (namedIds b (entriesOf (topOf b top end)) (charstrings .count)) r) where
       begun : glyphSteps charstrings (charstrings .count)
           ≡ then (namedIds b (entriesOf (topOf b top end)) (charstrings .count)) (λ ids.
-          then (partsBy (cidKeyed (entriesOf (topOf b top end))) b (entriesOf (topOf b top end)) (charstrings .count)) (λ parts.
+          then (partsBy (cidKeyed (entriesOf (topOf b top end))) b (entriesOf (topOf b top end)) (charstrings .count)) (λ added.
           got (record {
             top = entriesOf (topOf b top end);
             strings = itemsOf b strings;
             globals = itemsOf b globals;
             charstrings = itemsOf b charstrings;
             ids = ids;
-            privates = parts .0;
-            fds = parts .1;
+            privates = added .privates;
+            fds = added .fds;
+            dicts = added .dicts;
           })))
       begun = let k = ne-eqb (charstrings .count) 0 some in rw k
 

@@ -22,7 +22,7 @@ use Rattle.charset.specs.declared.CharsetAt.{CharsetAt}
 use Rattle.charset.specs.declared.CharsetAt.the-variants.{Refused as RefusedCharset, Found as FoundCharset}
 use Rattle.charset.specs.declared.fd_select.FdSelectAt.{FdSelectAt}
 use Rattle.charset.specs.declared.fd_select.FdSelectAt.the-variants.{Refused as RefusedSelect, Found as FoundSelect}
-use Rattle.cff.specs.Font.{charset, encoding, charStrings, fdArray, Got, refused, got, then, Private, Program, indexGot, dictGot, needed, orZero, privateData, privateAt, privatesAt, idsAt, encodingGot, cidParts, nameParts, fontAt, fontsAt, firstOf, indexThen}
+use Rattle.cff.specs.Font.{charset, encoding, charStrings, fdArray, Got, refused, got, then, Private, Added, Program, indexGot, dictGot, needed, orZero, privateData, privateAt, privatesAt, dictsAt, idsAt, encodingGot, cidParts, nameParts, fontAt, fontsAt, firstOf, indexThen}
 use Rattle.cff.specs.Find.{localsTotal}
 use Rattle.cff.specs.declared.private.PrivateAt.{PrivateAt}
 use Rattle.cff.specs.declared.private.PrivateRead.{PrivateRead}
@@ -124,6 +124,14 @@ abbrev pub privatesOf : List ℕ → Bool → Index → PrivateAt → List Priva
 privatesOf b true dicts q = orNone (privatesAt b (itemsOf b dicts))
 privatesOf b false dicts q = privateOf b q ∷ []
 
+-- the entries of the Font DICTs: none in a name-keyed font
+abbrev pub dictsOf : List ℕ → Bool → Index → List (List Entry)
+dictsOf b cid dicts = pick cid (dictsAt (itemsOf b dicts)) []
+
+-- what the keying adds, at these places
+abbrev pub addedOf : List ℕ → Bool → ℕ → Parts → Added
+addedOf b cid n q = record { privates = privatesOf b cid (q .dicts) (q .private); fds = fdsOf b (q .select) n; dicts = dictsOf b cid (q .dicts) }
+
 -- they were read, and no glyph of a CID-keyed font has an FD past them
 pub record GoodParts (b : List ℕ) (cid : Bool) (n : ℕ) (q : Parts) : Type 0 where
   pub dicts : Holds b (q .dicts)
@@ -134,12 +142,12 @@ pub record GoodParts (b : List ℕ) (cid : Bool) (n : ℕ) (q : Parts) : Type 0 
   pub locals : q .locals ≡ localsTotal (privatesOf b cid (q .dicts) (q .private))
   pub few : q .locals ≤ 4294967296
 
-abbrev pub ReadsParts : List ℕ → Bool → ℕ → Got (List Private × List ℕ) → PartsRead → Type 0
+abbrev pub ReadsParts : List ℕ → Bool → ℕ → Got Added → PartsRead → Type 0
 ReadsParts b cid n g (RefusedParts e) = g ≡ refused e
-ReadsParts b cid n g (FoundParts q) = GoodParts b cid n q × (g ≡ got (privatesOf b cid (q .dicts) (q .private), fdsOf b (q .select) n))
+ReadsParts b cid n g (FoundParts q) = GoodParts b cid n q × (g ≡ got (addedOf b cid n q))
 
 -- by the font's keying
-abbrev pub partsBy : Bool → List ℕ → List Entry → ℕ → Got (List Private × List ℕ)
+abbrev pub partsBy : Bool → List ℕ → List Entry → ℕ → Got Added
 partsBy cid b es n = pick cid (cidParts b es n) (nameParts b es n)
 
 -- the FD array was read; and the Private DICTs of its FDs, of which there are some
@@ -169,6 +177,7 @@ programOf b f =
       ids = idsOf b (f .charset) (f .charstrings .count);
       privates = privatesOf b (f .cid) (f .dicts) (f .private);
       fds = fdsOf b (f .select) (f .charstrings .count);
+      dicts = dictsOf b (f .cid) (f .dicts);
     }
 
 -- the step that reads it

@@ -70,12 +70,14 @@ placesOf front globals ids select glyphs dicts all =
       end = front + globals + ids + select + glyphs + dicts + all;
     }
 
--- with the charset of k glyphs, and the INDEX of so many Font DICTs of 11 bytes
-unfoldable pub placesBy : ℕ → ℕ → ℕ → ℕ → ℕ → ℕ → ℕ → CidPlaces
-placesBy front globals k select glyphs count all = placesOf front globals (charsetLen k) select glyphs (indexLen count (11 * count)) all
+-- with the charset of k glyphs, and the INDEX of so many Font DICTs, which have FontMatrix entries of so many bytes together and a Private
+-- of 11 bytes each
+unfoldable pub placesBy : ℕ → ℕ → ℕ → ℕ → ℕ → ℕ → ℕ → ℕ → CidPlaces
+placesBy front globals k select glyphs count matrices all =
+    placesOf front globals (charsetLen k) select glyphs (indexLen count (matrices + 11 * count)) all
 
 -- as many bytes as numbers hold
-pub record PartsSmall (front globals k select glyphs count all : ℕ) : Type 0 where
+pub record PartsSmall (front globals k select glyphs count matrices all : ℕ) : Type 0 where
   pub front-small : front ≤ 844424931000004
   pub globals-small : globals ≤ 281474977000000
   pub some : 0 < k
@@ -83,6 +85,7 @@ pub record PartsSmall (front globals k select glyphs count all : ℕ) : Type 0 w
   pub select-small : select ≤ 200000
   pub glyphs-small : glyphs ≤ 281474977000000
   pub fds : count ≤ 256
+  pub matrices-small : matrices ≤ 1792000000000
   pub all-small : all ≤ 72059392000000000
 
 -- ---- parts
@@ -106,9 +109,10 @@ module _ (b : List ℕ) (f : Font) (rows : List Row) (used ws : List ℕ) (r : P
     pub news : newFdsBy used (partOf ws (f .charstrings .count) (r .kept .count)) ≡ newFds programIn (fdsIn used) writtenIn
 
   -- the tables of the Font DICTs, the first Private part standing at a place
-  pub record DictsReady (sizes lens : List ℕ) (count from : ℕ) : Type 0 where
-    pub placed : Placed sizes lens count from
-    pub are : fontDictsBy sizes lens count from ≡ fontDicts programIn from (fdsIn used) (bodiesIn .locals)
+  pub record DictsReady (fds sizes lens : List ℕ) (count from : ℕ) : Type 0 where
+    pub cid : f .cid ≡ true
+    pub placed : Placed programIn fds sizes lens count from
+    pub are : fontDictsBy programIn fds sizes lens count from ≡ fontDicts programIn from (fdsIn used) (bodiesIn .locals)
 
   -- the Private parts from a place on are within what a subset may have
   abbrev pub PrivatesEnd : ℕ → Type 0

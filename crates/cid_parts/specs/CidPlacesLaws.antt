@@ -4,16 +4,14 @@ use Prim.Native.Nat.{ℕ, _+_, _*_, _≤_, _<_}
 use mathlib.Core.Path.{_≡_, refl, sym, ap, _∙_, subst}
 use mathlib.Core.Bool.{Bool, true, false}
 use mathlib.Core.List.{List}
-use native.Mathlib.Nat.{mul-le-mul}
 use native.Mathlib.Omega.{arith}
 use borrow.Author.Tests.{lt-ltb, le-ltb}
-use lib.Dec.{ltb, eqb}
-use lib.ListN.{length, replicate, length-replicate}
-use Rattle.octets.specs.Pick.{pick, pick-ind}
+use lib.Dec.{ltb}
+use lib.ListN.{length, take, replicate, length-replicate, length-append}
+use Rattle.octets.specs.Pick.{pick}
 use Rattle.octets.specs.Octets.{Wrote}
 use Rattle.octets.specs.Lists.{partOf}
-use Rattle.index.specs.Write.{sizeFor, indexLen}
-use Rattle.index.specs.WriteLaws.{size-high}
+use Rattle.index.specs.Write.{total, indexBytes, indexLen}
 use Rattle.unfold.specs.Unfold.{Row}
 use Rattle.charset.specs.CharsetBytes.{charsetBytes, charsetLen}
 use Rattle.charset.specs.CharsetBytesLaws.{charset-length}
@@ -26,7 +24,7 @@ use Rattle.cff.specs.declared.font.Font.{Font}
 use Rattle.subset.specs.Kept.{usedFds}
 use Rattle.subset.specs.KeptListLaws.{those-count}
 use Rattle.subset.specs.Pruned.{Pruned}
-use Rattle.subset.specs.Subset.{privateParts, ownByName, ownByCid, cidsOf, subsetByCid, subsetByName, subsetBytes}
+use Rattle.subset.specs.Subset.{privateParts, fontDicts, ownByName, ownByCid, cidsOf, subsetByCid, subsetByName, subsetBytes}
 use Rattle.subset.specs.Cut.{Outcome, refused, subset, ownOf, written}
 use Rattle.glyph_tables.specs.Tables.{highs, newFdsBy, Numbered}
 use Rattle.glyph_tables.specs.PartLaws.{highs-length}
@@ -34,6 +32,8 @@ use Rattle.glyph_tables.specs.SelectLaws.{select-count}
 use Rattle.glyph_tables.specs.UsedTableLaws.{highs-cids}
 use Rattle.fds.specs.Locals.{inUse, fdsIn}
 use Rattle.fds.specs.Parts.{SizesParts}
+use Rattle.fds.specs.ListLaws.{Listed}
+use Rattle.private_dicts.specs.Privates.{matricesBy}
 use Rattle.bodies.specs.Ways.{keptCount}
 use Rattle.own_strings.specs.declared.Own.{Own}
 use Rattle.front.specs.Front.{SmallFont, SlotsReady, Measured, frontLen}
@@ -46,20 +46,12 @@ use Rattle.early_refusals.specs.RefusalLaws.{glyphs-are}
 use Rattle.outcome.specs.Layout.{cidPrivates, cid-length}
 use Rattle.parts.specs.CodeLaws.{globals-long, glyphs-long}
 use Rattle.parts.specs.PrivateLaws.{all-parts, dicts-placed, dicts-are, dicts-length}
-use Rattle.cid_parts.specs.Cid.{sized, StringsReady, placesOf, placesBy, PartsSmall, writtenIn, bodiesIn, CidReady, DictsReady, PrivatesEnd, cidBytes, cidPlaces}
+use Rattle.cid_parts.specs.Cid.{sized, StringsReady, placesOf, placesBy, PartsSmall, writtenIn, bodiesIn, CidReady, DictsReady, PrivatesEnd, cidBytes, cidPlaces, tailBytes}
 use Rattle.outcome.specs.declared.Answer.{Answer}
 use Rattle.outcome.specs.declared.Answer.the-variants.{Refused, Subset}
 use Rattle.front.specs.declared.CidPlaces.{CidPlaces}
 
 -- ---- places
-
--- the INDEX of at most 256 Font DICTs is short
-pub dicts-short : (count : ℕ) → count ≤ 256 → indexLen count (11 * count) ≤ 5000
-unfolding indexLen
-dicts-short count h =
-    let s : (count + 1) * sizeFor (11 * count + 1) ≤ 257 * 4
-    = mul-le-mul {n₁ = count + 1} {m₁ = sizeFor (11 * count + 1)} {n₂ = 257} {m₂ = 4} (omega arith) (size-high (11 * count + 1)) in
-    pick-ind (λ (k : ℕ). 2 + k ≤ 5000) (eqb count 0) 0 (1 + ((count + 1) * sizeFor (11 * count + 1) + 11 * count)) (λ t. omega arith) (λ t. omega (arith, s))
 
 -- equal lengths give equal places
 places-same : (f g c s h d a f' g' c' s' h' d' a' : ℕ) → f ≡ f' → g ≡ g' → c ≡ c' → s ≡ s' → h ≡ h' → d ≡ d' → a ≡ a'
@@ -128,6 +120,10 @@ module _ (b : List ℕ) (f : Font) (rows : List Row) (used ws : List ℕ) (r : P
   few-glyphs : n < 65536
   few-glyphs = c .ready .read .font .glyphs .held .few
 
+  -- the font is CID-keyed
+  pub keyed : f .cid ≡ true
+  keyed = c .ready .read .font .cid ∙ sym (c .ready .order .keyed) ∙ c .keyed
+
   pub words-room : n + k ≤ length ws
   words-room = omega (arith, c .ready .order .room, many-glyphs)
 
@@ -160,13 +156,15 @@ module _ (b : List ℕ) (f : Font) (rows : List Row) (used ws : List ℕ) (r : P
         cid-length p name (fdsIn used) order (bodiesIn b f rows used ws r) (dicts (cidPrivates p name (fdsIn used) order (bodiesIn b f rows used ws r)) ∙ sym (dicts 0))
 
     module _ {oldSizes oldLens sizes lens : List ℕ} {all : ℕ} (s : SizesParts p (r .kept .way) table totals used oldSizes oldLens sizes lens all)
-        (sized-long : 256 ≤ length oldSizes) (lens-long : 256 ≤ length oldLens) (count : ℕ) (counted : count ≡ length (fdsIn used)) where
-      module _ (name slots : List ℕ) (own : Own) (strings : StringsReady p slots own) (front globals select glyphs : ℕ)
+        (sized-long : 256 ≤ length oldSizes) (lens-long : 256 ≤ length oldLens) {fds : List ℕ} (listed : Listed used fds)
+        (count : ℕ) (counted : count ≡ length (fdsIn used)) where
+      module _ (name slots : List ℕ) (own : Own) (strings : StringsReady p slots own) (front globals select glyphs matrices : ℕ)
           (front-is : front ≡ frontLen true (p .top) slots (length name) own)
           (globals-is : globals ≡ indexLen (keptCount (r .kept .way) (r .kept .globals .reached) (r .kept .globals .count)) (r .«globals_total»))
-          (select-is : select ≡ length (fdSelectBytes (newFdsBy used (partOf ws n k)))) (glyphs-is : glyphs ≡ indexLen k (r .«glyphs_total»)) where
+          (select-is : select ≡ length (fdSelectBytes (newFdsBy used (partOf ws n k)))) (glyphs-is : glyphs ≡ indexLen k (r .«glyphs_total»))
+          (matrices-are : (matrices ≡ total (matricesBy p (take count fds))) × (matrices ≤ 1792000000000)) where
         -- what the places ask
-        pub places-asked : front ≤ 844424931000004 → globals ≤ 281474977000000 → glyphs ≤ 281474977000000 → PartsSmall front globals k select glyphs count all
+        pub places-asked : front ≤ 844424931000004 → globals ≤ 281474977000000 → glyphs ≤ 281474977000000 → PartsSmall front globals k select glyphs count matrices all
         places-asked f-small g-small h-small =
             record {
               front-small = f-small;
@@ -176,29 +174,43 @@ module _ (b : List ℕ) (f : Font) (rows : List Row) (used ws : List ℕ) (r : P
               select-small = omega (arith, select-is, select-short);
               glyphs-small = h-small;
               fds = omega (arith, counted, those-count (inUse used) 256 0);
+              matrices-small = matrices-are .1;
               all-small = s .small;
             }
 
+        matrices-long : indexLen count (matrices + 11 * count) ≡ indexLen (length (fdsIn used)) (total (matricesBy p (fdsIn used)) + 11 * length (fdsIn used))
+        matrices-long =
+            let e : matrices ≡ total (matricesBy p (fdsIn used))
+            = matrices-are .0 ∙ ap (λ (m : ℕ). total (matricesBy p (take m fds))) counted ∙ ap (λ (l : List ℕ). total (matricesBy p l)) (listed .front) in
+            ap (λ (m : ℕ). indexLen m (matrices + 11 * m)) counted
+            ∙ ap (λ (m : ℕ). indexLen (length (fdsIn used)) (m + 11 * length (fdsIn used))) e
+
         -- they are the subset's
-        pub places-are : placesBy front globals k select glyphs count all ≡ cidPlaces b f rows used ws r name
+        pub places-are : placesBy front globals k select glyphs count matrices all ≡ cidPlaces b f rows used ws r name
         unfolding placesBy cidPlaces
         places-are =
-            places-same front globals (charsetLen k) select glyphs (indexLen count (11 * count)) all _ _ _ _ _ _ _
+            places-same front globals (charsetLen k) select glyphs (indexLen count (matrices + 11 * count)) all _ _ _ _ _ _ _
             (front-is ∙ cid-front-sum p slots ws (strings .slotted) own (strings .measured .is) name 0 0 0 0)
             (globals-is ∙ globals-long b f rows used ws table r (c .ready))
             (sym cids-long)
             (select-is ∙ ap (λ (l : List ℕ). length (fdSelectBytes l)) (c .news))
             (glyphs-is ∙ glyphs-long b f rows used ws table r (c .ready))
-            (ap (λ (m : ℕ). indexLen m (11 * m)) counted ∙ sym (dicts-length b f rows used ws table r (c .ready) totals summed 0))
+            (matrices-long ∙ sym (dicts-length b f rows used ws table r (c .ready) totals summed 0))
             (all-parts b f rows used ws table r (c .ready) totals summed s sized-long lens-long)
 
-      -- what the Font DICTs ask
-      pub dicts-ready : (from : ℕ) → PrivatesEnd b f rows used ws r from → DictsReady b f rows used ws r sizes lens count from
-      dicts-ready from l =
-          subst (λ (m : ℕ). DictsReady b f rows used ws r sizes lens m from) (sym counted)
+      -- what the Font DICTs ask, where they are within what a subset may have
+      pub dicts-ready : (from : ℕ) → PrivatesEnd b f rows used ws r from → (at : ℕ) → at + length (tailBytes b f rows used ws r from) ≤ 67108864
+          → DictsReady b f rows used ws r fds sizes lens count from
+      unfolding tailBytes
+      dicts-ready from l at small =
+          let locals = bodiesIn b f rows used ws r .locals in
+          let dicts = indexBytes (fontDicts p from (fdsIn used) locals) in
+          subst (λ (m : ℕ). DictsReady b f rows used ws r fds sizes lens m from) (sym counted)
           (record {
-            placed = dicts-placed b f rows used ws table r (c .ready) totals summed s sized-long lens-long from l;
-            are = dicts-are b f rows used ws table r (c .ready) totals summed s sized-long lens-long from;
+            cid = keyed;
+            placed = dicts-placed b f rows used ws table r (c .ready) totals summed s sized-long lens-long listed from l
+                (omega (arith, small, length-append dicts (privateParts p (fdsIn used) locals)));
+            are = dicts-are b f rows used ws table r (c .ready) totals summed s sized-long lens-long listed from;
           })
 
 -- ---- the outcome

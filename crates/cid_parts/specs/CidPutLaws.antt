@@ -111,7 +111,7 @@ module _ (b : List ℕ) (f : Font) (rows : List Row) (used ws : List ℕ) (r : P
   -- ---- the FD INDEX and the Private parts
 
   module _ (ready : Ready b f rows used ws r table) (totals : List ℕ) (summed : Summed b f rows used ws r table totals)
-      (sizes lens : List ℕ) (count from : ℕ) (d : DictsReady b f rows used ws r sizes lens count from) (at : ℕ) (out : List ℕ)
+      (fds sizes lens : List ℕ) (count from : ℕ) (d : DictsReady b f rows used ws r fds sizes lens count from) (at : ℕ) (out : List ℕ)
       (small : at + length (tailBytes b f rows used ws r from) ≤ 67108864) (room : at + length (tailBytes b f rows used ws r from) ≤ length out) where
     abbrev dicts : List ℕ
     dicts = indexBytes (fontDicts p from (fdsIn used) (bodies .locals))
@@ -119,15 +119,19 @@ module _ (b : List ℕ) (f : Font) (rows : List Row) (used ws : List ℕ) (r : P
     abbrev privates : List ℕ
     privates = privateParts p (fdsIn used) (bodies .locals)
 
-    pub dicts-put : Placed sizes lens count from × (at < 4294967296) × (at + length (indexBytes (fontDictsBy sizes lens count from)) ≤ length out)
+    pub dicts-put : (length b ≤ 67108864) × GoodFont b f × (f .cid ≡ true) × Placed p fds sizes lens count from × (at < 4294967296)
+        × (at + length (indexBytes (fontDictsBy p fds sizes lens count from)) ≤ length out)
     unfolding tailBytes
     dicts-put = (
+      ready .read .size,
+      ready .read .font,
+      d .cid,
       d .placed,
       omega (arith, small),
       subst (λ (l : List (List ℕ)). at + length (indexBytes l) ≤ length out) (sym (d .are)) (room-first (length out) at dicts privates room),
     )
 
-    module _ {mid : List ℕ} {q : ℕ} (w : Wrote out at (indexBytes (fontDictsBy sizes lens count from)) mid q) where
+    module _ {mid : List ℕ} {q : ℕ} (w : Wrote out at (indexBytes (fontDictsBy p fds sizes lens count from)) mid q) where
       listed : Wrote out at dicts mid q
       listed = wrote-as w (ap indexBytes (d .are))
 

@@ -19,7 +19,8 @@ pub struct PlacedCut {
     pub at: CidPlaces,
 }
 
-// The places of parts of these lengths: k glyphs have a charset of format 0, and so many FDs Font DICTs of 11 bytes each.
+// The places of parts of these lengths: k glyphs have a charset of format 0, and so many FDs Font DICTs, each with a Private of 11 bytes, and
+// FontMatrix entries of so many bytes together.
 pub fn place_parts(
     front: usize,
     globals: usize,
@@ -27,16 +28,17 @@ pub fn place_parts(
     select: usize,
     glyphs: usize,
     count: usize,
+    matrices: usize,
     all: usize,
 ) -> CidPlaces
-    requires { ⌜ PartsSmall front globals k select glyphs count all ⌝ }
-    ensures { λ r. ⌜ r ≡ placesBy front globals k select glyphs count all ⌝ }
+    requires { ⌜ PartsSmall front globals k select glyphs count matrices all ⌝ }
+    ensures { λ r. ⌜ r ≡ placesBy front globals k select glyphs count matrices all ⌝ }
 {
     let at1 = front + globals;
     let at2 = at1 + (1 + 2 * (k - 1));
     let at3 = at2 + select;
     let at4 = at3 + glyphs;
-    let at5 = at4 + index::index_len(count, 11 * count);
+    let at5 = at4 + index::index_len(count, matrices + 11 * count);
     CidPlaces {
         charset: at1,
         select: at2,
@@ -147,7 +149,19 @@ fn put_tail(
         &mut sizes,
         &mut lens,
     );
-    let p = private_dicts::put_font_dicts(&sizes, &lens, cut.count, places.privates, &mut *out, at);
+    let mut listed = [0usize; 256];
+    fds::parts::list_used(used, &mut listed);
+    let p = private_dicts::put_font_dicts(
+        font,
+        f,
+        &listed,
+        &sizes,
+        &lens,
+        cut.count,
+        places.privates,
+        &mut *out,
+        at,
+    );
     fds::privates::put_privates(kept, font, f, used, words, table, totals, rows, out, p)
 }
 

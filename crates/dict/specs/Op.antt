@@ -14,7 +14,7 @@ esc e = 3072 + e
 abbrev pub isOperator : ℕ → Bool
 isOperator op = pick (eqb op 12) false (pick (ltb op 22) true (pick (ltb op 3072) false (ltb op 3328)))
 
--- Private, Subrs, PaintType, CharstringType, ROS, CIDCount
+-- Private, Subrs, PaintType, FontMatrix, CharstringType, ROS, CIDCount
 abbrev pub private : ℕ
 private = 18
 
@@ -23,6 +23,9 @@ subrs = 19
 
 abbrev pub paintType : ℕ
 paintType = esc 5
+
+abbrev pub fontMatrix : ℕ
+fontMatrix = esc 7
 
 abbrev pub charstringType : ℕ
 charstringType = esc 6

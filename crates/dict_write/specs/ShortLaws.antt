@@ -19,11 +19,15 @@ use Rattle.decimal.specs.Written.{int5Bytes, intBytes, packed, realText, realBy
 use Rattle.decimal_write.specs.IntLaws.{length-int5}
 use Rattle.decimal_write.specs.TextLaws.{packed-small}
 use Rattle.dict.specs.Dict.{Entry, Token, bad, operand, operator, tokenAt, Reading, stopped, got, after, onward, entryFrom, entryAt, followed, readingsFrom, readingsAt}
-use Rattle.dict.specs.Places.{listed, entriesOf, orNone, operandsAt}
+use Rattle.dict.specs.Lookup.{lastOf}
+use Rattle.dict.specs.Places.{listed, entriesOf, placeOf, orNone, operandsAt}
+use Rattle.dict.specs.declared.Found.{Found}
+use Rattle.dict.specs.declared.Found.the-variants.{Absent, Entry as FoundAt}
 use Rattle.dict.specs.TokenLaws.{Passes, token-passes}
 use Rattle.dict.specs.EntryLaws.{Entered, entered, from-entered}
 use Rattle.dict.specs.LookupLaws.{number-out}
-use Rattle.dict_write.specs.Written.{opBytes, operandsBytes, entryBytes, entriesBytes, without, privateBytes}
+use Rattle.dict_write.specs.Written.{opBytes, operandsBytes, entryBytes, entriesBytes, copiedEntry, without, privateBytes}
+use Rattle.dict_write.specs.WriteLaws.{copied-absent, copied-found}
 
 no : _≡_ {A = ℕ} 0 1 → ⊥
 no h = omega arith
@@ -127,3 +131,13 @@ module _ (b : List ℕ) (o : Octets b) where
   pub private-short : length (privateBytes (entriesOf b)) ≤ 103 * length b
   unfolding readingsAt
   private-short = omega (arith, all-short 19 (length b) 0)
+
+-- ---- what is copied is not much longer than the DICT
+
+module _ (b : List ℕ) (o : Octets b) (few : length b ≤ 67108864) where
+  found-short : (op : ℕ) (r : Found) → r ≡ placeOf op b → length (copiedEntry op (lastOf op (entriesOf b))) ≤ 7000000000
+  found-short op Absent e = omega (arith, ap length (copied-absent b op Absent e refl))
+  found-short op (FoundAt start end count) e = omega (arith, ap length (copied-found b op (FoundAt start end count) e start end count refl), entry-short b o op count start)
+
+  pub copied-short : (op : ℕ) → length (copiedEntry op (lastOf op (entriesOf b))) ≤ 7000000000
+  copied-short op = found-short op (placeOf op b) refl

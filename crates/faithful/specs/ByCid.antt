@@ -4,7 +4,7 @@ use mathlib.Core.Path.{_≡_, refl, sym, ap, _∙_, subst}
 use mathlib.Core.Bool.{Bool, true}
 use mathlib.Core.List.{List, [], _∷_, _++_, append-nil}
 use native.Mathlib.Omega.{arith}
-use lib.ListN.{length, drop, getD}
+use lib.ListN.{length, drop, getD, length-append}
 use Rattle.octets.specs.Pick.{pick}
 use Rattle.octets.specs.Lists.{allBelow}
 use Rattle.octets.specs.Octets.{Octets}
@@ -12,19 +12,21 @@ use Rattle.index.specs.Index.{found, readIndex}
 use Rattle.index.specs.Write.{total, sizeFor, indexBytes, indexLen}
 use Rattle.index.specs.WriteLaws.{length-index}
 use Rattle.dict.specs.Dict.{Entry, entries, dictOf}
-use Rattle.dict.specs.Lookup.{rosIn}
+use Rattle.dict.specs.Lookup.{absent, lastOf, rosIn}
+use Rattle.dict.specs.Op.{fontMatrix}
+use Rattle.dict_write.specs.Written.{copiedEntry, privateEntry}
 use Rattle.dict_write.specs.WriteLaws.{private-length}
 use Rattle.charset.specs.Listed.{listed}
 use Rattle.charset.specs.CharsetBytes.{Ids, charsetBytes}
 use Rattle.charset.specs.FdSelect.{fdSelectAt}
 use Rattle.charset.specs.FdSelectBytes.{fdSelectBytes}
 use Rattle.charset.specs.FdSelectRound.{select-round}
-use Rattle.cff.specs.Font.{got, Private, Program, privatesAt, idsAt, cidParts, nameParts, fontAt, readFont, emptyPrivate}
+use Rattle.cff.specs.Font.{got, Private, Program, privatesAt, dictsAt, idsAt, cidParts, nameParts, fontAt, readFont, emptyPrivate}
 use Rattle.subset.specs.Kept.{privateOf}
 use Rattle.subset.specs.Pruned.{Bodies}
-use Rattle.subset.specs.Subset.{privateDict, privatePart, privateParts, fontDicts, ownByCid, topByCid, cidsOf, newFds, subsetByCid}
+use Rattle.subset.specs.Subset.{privateDict, privatePart, privateParts, matrixOf, fontDict, fontDicts, ownByCid, topByCid, cidsOf, newFds, subsetByCid}
 use Rattle.subset.specs.Cut.{hasRos}
-use Rattle.faithful.specs.Laid.{GoodProgram, Fitting, ReadsAs}
+use Rattle.faithful.specs.Laid.{GoodProgram, Fitting, matricesOf, ReadsAs}
 use Rattle.faithful.specs.LiesLaws.{lies-behind, lies-within, index-back}
 use Rattle.faithful.specs.PrivateBack.{privates-back}
 use Rattle.faithful.specs.SetBack.{setBytes, restAt, rest-lies, rest-within, set-back}
@@ -58,17 +60,28 @@ dicts-count p at [] lss same = refl
 dicts-count p at (f ∷ fs) [] same = absurd (omega arith)
 dicts-count p at (f ∷ fs) (ls ∷ lss) same = ap suc (dicts-count p _ fs lss (omega arith))
 
--- of eleven bytes, wherever its Private DICT stands
-dicts-total : (p : Program) (at : ℕ) (used : List ℕ) (lss : List (List (List ℕ))) → length lss ≡ length used → total (fontDicts p at used lss) ≡ 11 * length used
-unfolding fontDicts total
+-- of eleven bytes and its FontMatrix, wherever its Private DICT stands
+unfoldable matricesLen : Program → List ℕ → ℕ
+matricesLen p [] = 0
+matricesLen p (f ∷ fs) = length (copiedEntry fontMatrix (matrixOf p f)) + matricesLen p fs
+
+dicts-total : (p : Program) (at : ℕ) (used : List ℕ) (lss : List (List (List ℕ))) → length lss ≡ length used
+    → total (fontDicts p at used lss) ≡ matricesLen p used + 11 * length used
+unfolding fontDicts total matricesLen
 dicts-total p at [] lss same = refl
 dicts-total p at (f ∷ fs) [] same = absurd (omega arith)
 dicts-total p at (f ∷ fs) (ls ∷ lss) same =
-    omega (arith, private-length (length (privateDict (privateOf p f) ls)) at, dicts-total p (at + length (privatePart (privateOf p f) ls)) fs lss (omega arith))
+    let size = length (privateDict (privateOf p f) ls) in
+    omega (
+      arith,
+      length-append (copiedEntry fontMatrix (matrixOf p f)) (privateEntry size at),
+      private-length size at,
+      dicts-total p (at + length (privatePart (privateOf p f) ls)) fs lss (omega arith),
+    )
 
 -- so that the length of the FD INDEX does not depend on it
 dicts-length : (p : Program) (at : ℕ) (used : List ℕ) (lss : List (List (List ℕ))) → length lss ≡ length used
-    → length (indexBytes (fontDicts p at used lss)) ≡ indexLen (length used) (11 * length used)
+    → length (indexBytes (fontDicts p at used lss)) ≡ indexLen (length used) (matricesLen p used + 11 * length used)
 dicts-length p at used lss same =
     length-index (fontDicts p at used lss) ∙ ap (λ (n : ℕ). indexLen n (total (fontDicts p at used lss))) (dicts-count p at used lss same)
     ∙ ap (indexLen (length used)) (dicts-total p at used lss same)
@@ -155,21 +168,24 @@ module _ (p : Program) (used order : List ℕ) (b : Bodies) (at₁ : ℕ) where
       -- and the Private DICTs
       private-dicts : (ps : List Private) × (privatesAt bs dictsWritten ≡ got ps) × (length ps ≡ length used)
           × ((k : ℕ) → k < length used → getD ps k emptyPrivate .locals ≡ getD (b .locals) k [])
+          × ((k : ℕ) → lastOf fontMatrix (getD (dictsAt dictsWritten) k []) ≡ getD (matricesOf p used) k absent)
       private-dicts = privates-back bs privatesPlace p used (b .locals) [] good (fitting .fds) (fitting .locals) short privates-within privates-lie
 
       -- the font that is read, by the entries of its top DICT
       abbrev fontRead : List Entry → Program
-      fontRead es = fontOf (ownByCid p) (b .globals) es (b .charstrings) (cidsOf p order) (private-dicts .0) (newFds p used order)
+      fontRead es =
+          fontOf (ownByCid p) (b .globals) es (b .charstrings) (cidsOf p order)
+          (record { privates = private-dicts .0; fds = newFds p used order; dicts = dictsAt dictsWritten })
 
       font-read : (top : List ℕ) (es : List Entry) → dictOf top ≡ entries es → CidTop es at₁ selectPlace glyphsPlace arrayPlace
           → 3 ≤ at₁ → 0 < length order → getD (cidsOf p order) 0 0 ≡ 0 → fontAt bs (ownByCid p) (b .globals) top ≡ got (fontRead es)
       font-read top es dict t far some first =
           let ps = private-dicts .0 in
           let n = private-dicts .2 in
-          let q : cidParts bs es (length (b .charstrings)) ≡ got (ps, newFds p used order)
+          let q : cidParts bs es (length (b .charstrings)) ≡ got (record { privates = ps; fds = newFds p used order; dicts = dictsAt dictsWritten })
           = cid-parts-back bs es (length (b .charstrings)) arrayPlace selectPlace _ dictsWritten ps (newFds p used order) (t .fdArrayAt) (t .fdSelectAt) array-read
           (private-dicts .1) (omega arith) select-read (ap (λ (k : ℕ). allBelow k (newFds p used order)) n ∙ below) in
-          font-back bs (ownByCid p) (b .globals) top es (b .charstrings) (cidsOf p order) ps (newFds p used order) dict (t .charstringTypeNone) at₁ glyphsPlace _
+          font-back bs (ownByCid p) (b .globals) top es (b .charstrings) (cidsOf p order) _ dict (t .charstringTypeNone) at₁ glyphsPlace _
           (t .charsetAt) (t .charStringsAt) glyphs-read (omega (arith, fitting .glyphs)) (ids-read far some first)
           (ap (λ (k : Bool). pick k (cidParts bs es (length (b .charstrings))) (nameParts bs es (length (b .charstrings)))) (t .keying) ∙ q)
 
@@ -215,7 +231,7 @@ pub by-cid : (p : Program) (name used order : List ℕ) (b : Bodies) → GoodPro
     → 0 < length order → length order < 65536 → getD (cidsOf p order) 0 0 ≡ 0 → 0 < length used → length used < 65536
     → allBelow (length used) (newFds p used order) ≡ true → Octets (newFds p used order)
     → length (ownByCid p) ≤ 64609 → length (subsetByCid p name used order b) ≤ 67108864
-    → ReadsAs true (ownByCid p) (cidsOf p order) (newFds p used order) b (subsetByCid p name used order b)
+    → ReadsAs true (ownByCid p) (cidsOf p order) (newFds p used order) (matricesOf p used) b (subsetByCid p name used order b)
 by-cid p name used order b good there fitting some few first someFds fewFds below small fewStrings short =
     let bs = subsetByCid p name used order b in
     let at₁ = charsetPlace p name used order b in
@@ -228,7 +244,9 @@ by-cid p name used order b good there fitting some few first someFds fewFds belo
     let ps = private-dicts p used order b at₁ fitting bs (r .0) (r .1) good short few fewFds someFds below small in
     let font = font-read p used order b at₁ fitting bs (r .0) (r .1) good short few fewFds someFds below small _ (top .0) (top .1) (top .2) (omega arith) some first in
     record {
-      program = fontOf (ownByCid p) (b .globals) (top .0) (b .charstrings) (cidsOf p order) (ps .0) (newFds p used order);
+      program =
+          fontOf (ownByCid p) (b .globals) (top .0) (b .charstrings) (cidsOf p order)
+          (record { privates = ps .0; fds = newFds p used order; dicts = dictsAt (dictsWritten p used order b at₁) });
       reads = subset-back p name used order b (omega arith) (fitting .globals) short _ font;
       keying = top .2 .keying;
       strings = refl;
@@ -236,5 +254,6 @@ by-cid p name used order b good there fitting some few first someFds fewFds belo
       charstrings = refl;
       ids = refl;
       fds = refl;
+      matrix = ps .4;
       locals = λ k h. ps .3 k (omega (arith, fitting .fds));
     }

@@ -12,6 +12,7 @@ use Rattle.index.specs.Write.{sizeFor, indexBytes}
 use Rattle.charset.specs.Charset.{charsetAt}
 use Rattle.charset.specs.CharsetBytes.{Ids, charsetBytes}
 use Rattle.charset.specs.FdSelect.{noFds}
+use Rattle.dict.specs.Lookup.{lastFrom, lastOf}
 use Rattle.dict.specs.Dict.{Entry, entries, dictOf}
 use Rattle.cff.specs.Font.{got, Private, Program, privateData, privateAt, idsAt, encodingGot, cidParts, nameParts, fontAt, readFont, emptyPrivate}
 use Rattle.cff.specs.ReadsLaws.{no}
@@ -41,7 +42,7 @@ ids-small own (t ∷ ts) few (suc i) = ids-small own ts few i
 
 -- what a name-keyed font adds: that Private DICT, and no encoding
 name-parts-back : (bs : List ℕ) (es : List Entry) (n at₁ at₂ size at₃ : ℕ) (q : Private) → NameTop es at₁ at₂ size at₃ → privateData bs size at₃ ≡ got q
-    → nameParts bs es n ≡ got (q ∷ [], noFds n)
+    → nameParts bs es n ≡ got (record { privates = q ∷ []; fds = noFds n; dicts = [] })
 unfolding nameParts privateAt encodingGot
 name-parts-back bs es n at₁ at₂ size at₃ q t d = rw (t .privateAt, d, t .encodingNone)
 
@@ -110,14 +111,15 @@ module _ (p : Program) (order : List ℕ) (b : Bodies) (at₁ : ℕ) where
       -- the font that is read, by the entries of its top DICT
       abbrev fontRead : List Entry → Program
       fontRead es =
-          fontOf (ownByName p order) (b .globals) es (b .charstrings) ids (record { entries = private-read .0; locals = oneLocal b } ∷ []) (noFds (length (b .charstrings)))
+          fontOf (ownByName p order) (b .globals) es (b .charstrings) ids
+          (record { privates = record { entries = private-read .0; locals = oneLocal b } ∷ []; fds = noFds (length (b .charstrings)); dicts = [] })
 
       -- it is what its top DICT gives
       font-read : (top : List ℕ) (es : List Entry) → dictOf top ≡ entries es → NameTop es at₁ glyphsPlace (length dict) privatePlace → 3 ≤ at₁
           → fontAt bs (ownByName p order) (b .globals) top ≡ got (fontRead es)
       font-read top es d t far =
           let n = length (b .charstrings) in
-          font-back bs (ownByName p order) (b .globals) top es (b .charstrings) ids _ _ d (t .charstringTypeNone) at₁ glyphsPlace privatePlace (t .charsetAt) (t .charStringsAt)
+          font-back bs (ownByName p order) (b .globals) top es (b .charstrings) ids _ d (t .charstringTypeNone) at₁ glyphsPlace privatePlace (t .charsetAt) (t .charStringsAt)
           glyphs-read (omega (arith, fit .glyphs)) (ids-read far)
           (ap (λ (k : Bool). pick k (cidParts bs es n) (nameParts bs es n)) (t .keying)
           ∙ name-parts-back bs es n at₁ glyphsPlace (length dict) privatePlace _ t (private-read .1))
@@ -163,7 +165,8 @@ module _ (p : Program) (name order : List ℕ) (b : Bodies) where
 pub by-name : (p : Program) (name order : List ℕ) (b : Bodies) → GoodProgram p → Fitting (length order) (0 ∷ []) b
     → 0 < length order → length order < 65536 → getD (newIds (ownByName p order) (namesOf p order)) 0 0 ≡ 0
     → length (ownByName p order) ≤ 64609 → length (subsetByName p name order b) ≤ 67108864
-    → ReadsAs false (ownByName p order) (newIds (ownByName p order) (namesOf p order)) (noFds (length order)) b (subsetByName p name order b)
+    → ReadsAs false (ownByName p order) (newIds (ownByName p order) (namesOf p order)) (noFds (length order)) [] b (subsetByName p name order b)
+unfolding lastOf lastFrom
 by-name p name order b good fit some count first few short =
     let bs = subsetByName p name order b in
     let at₁ = charsetPlace p name order b in
@@ -183,5 +186,6 @@ by-name p name order b good fit some count first few short =
       charstrings = refl;
       ids = refl;
       fds = ap noFds (fit .glyphs);
+      matrix = λ k. refl;
       locals = one-local (q .0) (b .locals) (fit .fds);
     }

@@ -59,6 +59,7 @@ sheetProgram =
       ids = 0 ∷ 1 ∷ [];
       privates = emptyPrivate ∷ [];
       fds = 0 ∷ 0 ∷ [];
+      dicts = [];
     }
 
 sheet-reads : readFont sheet ≡ got sheetProgram

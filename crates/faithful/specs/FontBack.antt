@@ -20,7 +20,7 @@ use Rattle.charset.specs.Charset.{charsetAt, isoAdobe}
 use Rattle.charset.specs.CharsetBytes.{Ids, charsetBytes}
 use Rattle.charset.specs.CharsetRound.{charset-round}
 use Rattle.charset.specs.FdSelect.{fdSelectAt}
-use Rattle.cff.specs.Font.{charset, charStrings, fdArray, fdSelect, Got, refused, got, then, indexGot, dictGot, listGot, unless, needed, orZero, Private, privatesAt, Program, idsAt, fdsAt, cidParts, nameParts, fontAt}
+use Rattle.cff.specs.Font.{charset, charStrings, fdArray, fdSelect, Got, refused, got, then, indexGot, dictGot, listGot, unless, needed, orZero, Private, Added, privatesAt, dictsAt, Program, idsAt, fdsAt, cidParts, nameParts, fontAt}
 use Rattle.cff.specs.ReadsLaws.{then-got}
 
 -- a count that is not 0 passes
@@ -44,10 +44,20 @@ ids-back b at ids post far lies some first small =
     ∙ ap listGot (charset-round b at ids post lies some first small)
 
 -- the font of these parts
-abbrev pub fontOf : List (List ℕ) → List (List ℕ) → List Entry → List (List ℕ) → List ℕ → List Private → List ℕ → Program
-fontOf own globals es cs ids ps fds = record { top = es; strings = own; globals = globals; charstrings = cs; ids = ids; privates = ps; fds = fds }
+abbrev pub fontOf : List (List ℕ) → List (List ℕ) → List Entry → List (List ℕ) → List ℕ → Added → Program
+fontOf own globals es cs ids added =
+    record {
+      top = es;
+      strings = own;
+      globals = globals;
+      charstrings = cs;
+      ids = ids;
+      privates = added .privates;
+      fds = added .fds;
+      dicts = added .dicts;
+    }
 
-module _ (b : List ℕ) (own globals : List (List ℕ)) (top : List ℕ) (es : List Entry) (cs : List (List ℕ)) (ids : List ℕ) (ps : List Private) (fds : List ℕ)
+module _ (b : List ℕ) (own globals : List (List ℕ)) (top : List ℕ) (es : List Entry) (cs : List (List ℕ)) (ids : List ℕ) (added : Added)
     (dict : dictOf top ≡ entries es) (type2 : charstringTypeIn es ≡ 0) (at₁ at₂ end : ℕ)
     (ofCharset : offsetIn charset es ≡ At at₁) (ofCharStrings : offsetIn charStrings es ≡ At at₂)
     (read : readIndex b at₂ ≡ found cs end) (some : 0 < length cs) (named : idsAt b (length cs) at₁ ≡ got ids) where
@@ -56,19 +66,19 @@ module _ (b : List ℕ) (own globals : List (List ℕ)) (top : List ℕ) (es : L
   ids-got = ap (λ (o : OffsetIn). then (orZero o) (idsAt b (length cs))) ofCharset ∙ named
 
   -- a font whose keying adds these parts
-  pub font-back : pick (cidKeyed es) (cidParts b es (length cs)) (nameParts b es (length cs)) ≡ got (ps, fds)
-      → fontAt b own globals top ≡ got (fontOf own globals es cs ids ps fds)
+  pub font-back : pick (cidKeyed es) (cidParts b es (length cs)) (nameParts b es (length cs)) ≡ got added → fontAt b own globals top ≡ got (fontOf own globals es cs ids added)
   unfolding fontAt
   font-back parts =
       then-got _ _ es (ap dictGot dict) ∙ then-got _ _ tt (ap unless type2) ∙ then-got _ _ cs (named-index b charStrings es at₂ cs end ofCharStrings read)
-      ∙ then-got _ _ tt (some-passes (length cs) some) ∙ then-got _ _ ids ids-got ∙ then-got _ _ (ps, fds) parts
+      ∙ then-got _ _ tt (some-passes (length cs) some) ∙ then-got _ _ ids ids-got ∙ then-got _ _ added parts
 
 -- what a CID-keyed font adds, by its parts
 pub cid-parts-back : (b : List ℕ) (es : List Entry) (n at₁ at₂ end : ℕ) (dicts : List (List ℕ)) (ps : List Private) (fds : List ℕ)
     → offsetIn fdArray es ≡ At at₁ → offsetIn fdSelect es ≡ At at₂ → readIndex b at₁ ≡ found dicts end → privatesAt b dicts ≡ got ps → 0 < length ps
-    → fdSelectAt b at₂ n ≡ listed fds → allBelow (length ps) fds ≡ true → cidParts b es n ≡ got (ps, fds)
+    → fdSelectAt b at₂ n ≡ listed fds → allBelow (length ps) fds ≡ true → cidParts b es n ≡ got (record { privates = ps; fds = fds; dicts = dictsAt dicts })
 unfolding cidParts fdsAt
 cid-parts-back b es n at₁ at₂ end dicts ps fds ofArray ofSelect read privates some select below =
+    let added : Added = record { privates = ps; fds = fds; dicts = dictsAt dicts } in
     then-got _ _ dicts (named-index b fdArray es at₁ dicts end ofArray read) ∙ then-got _ _ ps privates ∙ then-got _ _ tt (some-passes (length ps) some)
     ∙ then-got _ _ fds (ap (fdsAt b n) ofSelect ∙ ap listGot select)
-    ∙ ap (λ (t : Bool). pick t (got (ps, fds)) (refused 2)) below
+    ∙ ap (λ (t : Bool). pick t (got added) (refused 2)) below

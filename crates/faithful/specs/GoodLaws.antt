@@ -1,6 +1,6 @@
 -- What holds of every font that was read (document 01, 'Entries and their refusals'), from what holds of its parts: the program that
 -- reading gives is one that a subset can be cut from.
-use Prim.Native.Nat.{ℕ}
+use Prim.Native.Nat.{ℕ, zero, suc}
 use mathlib.Core.Path.{_≡_, sym, ap, _∙_, subst}
 use mathlib.Core.Bool.{Bool, true, false}
 use mathlib.Core.List.{List, [], _∷_}
@@ -12,9 +12,10 @@ use Rattle.octets.specs.Lists.{allBelow}
 use Rattle.index.specs.Index.{readIndex}
 use Rattle.dict.specs.Dict.{Entry, dictOf}
 use Rattle.dict.specs.Lookup.{offsetIn, privateIn, cidKeyed, charstringTypeIn}
-use Rattle.dict.specs.ProperLaws.{dict-proper}
+use Rattle.dict.specs.Proper.{AllProper}
+use Rattle.dict.specs.ProperLaws.{entries-proper, dict-proper}
 use Rattle.charset.specs.FdSelect.{noFds}
-use Rattle.cff.specs.Font.{charset, encoding, charStrings, fdArray, fdSelect, got, then, Private, Program, indexGot, dictGot, unless, needed, orZero, privateAt, privatesAt, idsAt, fdsAt, encodingGot, cidParts, nameParts, fontAt, fontsAt, firstOf, setAt, readFont, emptyPrivate}
+use Rattle.cff.specs.Font.{charset, encoding, charStrings, fdArray, fdSelect, got, then, Private, Added, Program, indexGot, dictGot, unless, needed, orZero, privateAt, privatesAt, dictsAt, idsAt, fdsAt, encodingGot, cidParts, nameParts, fontAt, fontsAt, firstOf, setAt, readFont, emptyPrivate}
 use Rattle.cff.specs.ReadsLaws.{no}
 use Rattle.faithful.specs.Laid.{GoodBodies, GoodProgram}
 use Rattle.faithful.specs.GoodPartsLaws.{then-gave, got-same, index-gave, index-good, test-past, test-held, dict-got, some-got, offset-good, Sound, none-sound, sound-front, private-sound, privates-sound, ids-good, FdsFor, no-fds, no-fds-below, fds-good}
@@ -22,12 +23,24 @@ use Rattle.faithful.specs.GoodPartsLaws.{then-gave, got-same, index-gave
 -- ---- what the keying adds
 
 -- Private DICTs and the FDs of n glyphs: each FD has its Private DICT
-record PartsFor (n : ℕ) (parts : List Private × List ℕ) : Type 0 where
-  sound : (f : ℕ) → Sound (getD (parts .0) f emptyPrivate)
-  fds : FdsFor n (parts .1)
-  there : allBelow (length (parts .0)) (parts .1) ≡ true
+record PartsFor (n : ℕ) (parts : Added) : Type 0 where
+  sound : (f : ℕ) → Sound (getD (parts .privates) f emptyPrivate)
+  fds : FdsFor n (parts .fds)
+  there : allBelow (length (parts .privates)) (parts .fds) ≡ true
+  dicts : (f : ℕ) → AllProper (getD (parts .dicts) f [])
 
-module _ (b : List ℕ) (o : Octets b) (es : List Entry) (n : ℕ) (parts : List Private × List ℕ) where
+none-proper : AllProper []
+unfolding AllProper
+none-proper = tt
+
+-- the entries of Font DICTs that are bytes are proper
+dicts-proper : (items : List (List ℕ)) → ((i : ℕ) → Octets (getD items i [])) → (f : ℕ) → AllProper (getD (dictsAt items) f [])
+unfolding dictsAt AllProper
+dicts-proper [] o f = tt
+dicts-proper (d ∷ ds) o zero = entries-proper d (o 0)
+dicts-proper (d ∷ ds) o (suc f) = dicts-proper ds (λ i. o (suc i)) f
+
+module _ (b : List ℕ) (o : Octets b) (es : List Entry) (n : ℕ) (parts : Added) where
   -- CID-keyed
   cid-good : cidParts b es n ≡ got parts → PartsFor n parts
   unfolding cidParts
@@ -37,24 +50,24 @@ module _ (b : List ℕ) (o : Octets b) (es : List Entry) (n : ℕ) (parts : List
       let u = then-gave (unless (pick (eqb (length (q .0)) 0) 2 0)) _ parts (q .2) in
       let l = then-gave (fdsAt b n (offsetIn fdSelect es)) _ parts (u .2) in
       let t = test-held (allBelow (length (q .0)) (l .0)) 2 _ parts (l .2) in
-      let e : (q .0, l .0) ≡ parts = cc in
+      let e : record { privates = q .0; fds = l .0; dicts = dictsAt (d .0) } ≡ parts = cc in
       subst (PartsFor n) e
-      (record { sound = privates-sound b o (d .0) (q .0) (q .1); fds = fds-good b o n (offsetIn fdSelect es) (l .0) (l .1); there = t .0 })
+      (record { sound = privates-sound b o (d .0) (q .0) (q .1); fds = fds-good b o n (offsetIn fdSelect es) (l .0) (l .1); there = t .0; dicts = dicts-proper (d .0) (offset-good b o (needed (offsetIn fdArray es)) (d .0) (d .1) .octets) })
 
   -- name-keyed: one Private DICT, and FD 0 for each glyph
-  name-good : nameParts b es n ≡ got parts → PartsFor n parts × (length (parts .0) ≡ 1)
+  name-good : nameParts b es n ≡ got parts → PartsFor n parts × (length (parts .privates) ≡ 1)
   unfolding nameParts
   name-good h =
       let q = then-gave (privateAt b (privateIn es)) _ parts h in
       let u = then-gave (then (orZero (offsetIn encoding es)) (encodingGot b)) _ parts (q .2) in
-      let e : (q .0 ∷ [], noFds n) ≡ parts = cc in
+      let e : record { privates = q .0 ∷ []; fds = noFds n; dicts = [] } ≡ parts = cc in
       let s = private-sound b o (privateIn es) (q .0) (q .1) in (
-        subst (PartsFor n) e (record { sound = sound-front (q .0) [] s (λ f. none-sound); fds = no-fds n; there = no-fds-below 0 n }),
-        sym (ap (λ x. length (x .0)) e),
+        subst (PartsFor n) e (record { sound = sound-front (q .0) [] s (λ f. none-sound); fds = no-fds n; there = no-fds-below 0 n; dicts = λ f. none-proper }),
+        sym (ap (λ (x : Added). length (x .privates)) e),
       )
 
   -- either, by the keying
-  parts-good : (cid : Bool) → pick cid (cidParts b es n) (nameParts b es n) ≡ got parts → PartsFor n parts × (cid ≡ false → length (parts .0) ≡ 1)
+  parts-good : (cid : Bool) → pick cid (cidParts b es n) (nameParts b es n) ≡ got parts → PartsFor n parts × (cid ≡ false → length (parts .privates) ≡ 1)
   parts-good true h = (cid-good h, λ e. absurd (no cc))
   parts-good false h = let g = name-good h in (g .0, λ e. g .1)
 
@@ -78,7 +91,7 @@ module _ (b : List ℕ) (o : Octets b) (strings globals : List (List ℕ)) (good
       let some = some-got n (v .1) in
       let ids = ids-good b o n (glyphs .count) some (j .0) (i .0) (j .2) in
       let parts = parts-good b o es n (k .0) (cidKeyed es) (k .1) in
-      let e : record { top = es; strings = strings; globals = globals; charstrings = c .0; ids = i .0; privates = k .0 .0; fds = k .0 .1 } ≡ p = got-same _ p (k .2) in
+      let e : record { top = es; strings = strings; globals = globals; charstrings = c .0; ids = i .0; privates = k .0 .privates; fds = k .0 .fds; dicts = k .0 .dicts } ≡ p = got-same _ p (k .2) in
       subst GoodProgram e
       (record {
         some = some;
@@ -94,6 +107,7 @@ module _ (b : List ℕ) (o : Octets b) (strings globals : List (List ℕ)) (good
         onePrivate = parts .1;
         top = dict-proper top t es (dict-got _ es (d .1));
         privates = λ f. parts .0 .sound f .proper;
+        dicts = parts .0 .dicts;
       })
 
   -- the first of the set

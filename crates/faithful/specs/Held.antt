@@ -11,25 +11,26 @@ use Rattle.octets.specs.Pick.{pick}
 use Rattle.octets.specs.Octets.{Octets}
 use Rattle.unfold.specs.Unfold.{Tok, Row, plain, unfoldGlyph}
 use Rattle.record.specs.Record.{rowsOf}
-use Rattle.dict.specs.Lookup.{cidKeyed, rosIn}
+use Rattle.dict.specs.Lookup.{Operands, cidKeyed, rosIn}
 use Rattle.charset.specs.ListedLaws.{list-at}
 use Rattle.charset.specs.FdSelect.{noFds}
 use Rattle.cff.specs.Font.{Got, Program, readFont}
 use Rattle.cff.specs.Find.{foundAs, nameAs, cidAs}
-use Rattle.cff.specs.declared.FoundAs.the-variants.{Absent}
+use Rattle.cff.specs.declared.FoundAs.the-variants.{Glyph as TheGlyph, Absent}
 use Rattle.find.specs.Find.{glyphWithId, glyphWithText}
 use Rattle.subset.specs.Kept.{isIn, keptOf, localsOf, sortedBy, writtenOrder, usedFds, newFd}
 use Rattle.subset.specs.Texts.{nameOf, namesOf}
 use Rattle.subset.specs.Pruned.{Bodies, pruned}
-use Rattle.subset.specs.Subset.{ownByName, ownByCid, newIds, cidsOf, newFds, subsetByName, subsetByCid, subsetBytes}
+use Rattle.subset.specs.Subset.{matrixOf, ownByName, ownByCid, newIds, cidsOf, newFds, subsetByName, subsetByCid, subsetBytes}
 use Rattle.subset.specs.Cut.{allFound, hasRos, ownOf}
-use Rattle.faithful.specs.Faithful.{unfolded, IsKept, Recorded, Holds}
-use Rattle.faithful.specs.Laid.{GoodProgram, Fitting, ReadsAs}
+use Rattle.faithful.specs.Faithful.{unfolded, IsKept, Recorded, foundFor, Holds}
+use Rattle.faithful.specs.Matrices.{matrixFor, KeepsMatrices}
+use Rattle.faithful.specs.Laid.{GoodProgram, Fitting, matricesOf, ReadsAs}
 use Rattle.subset.specs.KeptListLaws.{in-at}
 use Rattle.faithful.specs.KeptLaws.{kept-is, kept-some, order-count, order-has, order-in, all-below}
 use Rattle.faithful.specs.FirstLaws.{first-name, first-cid}
 use Rattle.faithful.specs.FoundLaws.{found-name, found-cid}
-use Rattle.faithful.specs.UsedLaws.{used-has, used-some, used-count, used-one, new-fd-at, new-fds-there, new-fds-fit, new-fds-at}
+use Rattle.faithful.specs.UsedLaws.{used-has, used-some, used-count, used-one, new-fd-at, matrices-at, new-fds-there, new-fds-fit, new-fds-at}
 use Rattle.faithful.specs.PrunedLaws.{pruned-fits, pruned-unfolds}
 use Rattle.faithful.specs.ByName.{by-name}
 use Rattle.faithful.specs.ByCid.{by-cid}
@@ -55,11 +56,11 @@ module _ (p : Program) (keep rec : List ℕ) (flag : ℕ) (good : GoodProgram p)
     bodies = pruned p (rowsOf rec) used order flag .bodies
 
     -- the i-th glyph of the subset unfolds as the glyph that it was
-    new-unfolds : (cid : Bool) (own : List (List ℕ)) (ids fds : List ℕ) (bs : List ℕ) (r : ReadsAs cid own ids fds bodies bs) (i : ℕ) → i < length order
+    new-unfolds : (cid : Bool) (own : List (List ℕ)) (ids fds : List ℕ) (ms : List Operands) (bs : List ℕ) (r : ReadsAs cid own ids fds ms bodies bs) (i : ℕ) → i < length order
         → getD fds i 0 ≡ newFd used (getD (p .fds) (getD order i 0) 0)
         → (ts : List Tok) (met : List Row) → unfolded p (getD order i 0) ≡ plain ts met → Recorded rec flag met
         → (met' : List Row) × (unfolded (r .program) i ≡ plain ts met')
-    new-unfolds cid own ids fds bs r i h fd ts met e listed =
+    new-unfolds cid own ids fds ms bs r i h fd ts met e listed =
         let f = newFd used (getD (p .fds) (getD order i 0) 0) in
         let u = used-has p kept (getD order i 0) good (inside i h) (all-below (length (p .charstrings)) keep order inside i h) in
         let n : f < length (bodies .locals) = subst (λ (k : ℕ). f < k) (sym (pruned-fits p (rowsOf rec) used order flag good .fds)) (new-fd-at used (getD (p .fds) (getD order i 0) 0) u .0) in
@@ -90,7 +91,7 @@ module _ (p : Program) (keep rec : List ℕ) (flag : ℕ) (good : GoodProgram p)
     byName = subsetByName p name kept (bodies kept kept-inside)
 
     name-reads : length byName ≤ 67108864
-        → ReadsAs false (ownByName p kept) (newIds (ownByName p kept) (namesOf p kept)) (noFds (length kept)) (bodies kept kept-inside) byName
+        → ReadsAs false (ownByName p kept) (newIds (ownByName p kept) (namesOf p kept)) (noFds (length kept)) [] (bodies kept kept-inside) byName
     name-reads size =
         by-name p name kept (bodies kept kept-inside) good
         (subst (λ (l : List ℕ). Fitting (length kept) l (bodies kept kept-inside)) (used-one p kept good named (some .0) (all-below (length (p .charstrings)) keep kept kept-inside))
@@ -109,7 +110,7 @@ module _ (p : Program) (keep rec : List ℕ) (flag : ℕ) (good : GoodProgram p)
         → Holds p (getD kept i 0) ts byName
     name-held size i h ts met e listed =
         let r = name-reads size in
-        let u = new-unfolds kept kept-inside false (ownByName p kept) (newIds (ownByName p kept) (namesOf p kept)) (noFds (length kept)) byName r i h (name-fd i h) ts met e listed in
+        let u = new-unfolds kept kept-inside false (ownByName p kept) (newIds (ownByName p kept) (namesOf p kept)) (noFds (length kept)) [] byName r i h (name-fd i h) ts met e listed in
         let text = nameOf p (getD kept i 0) in
         record {
           program = r .program;
@@ -145,31 +146,65 @@ module _ (p : Program) (keep rec : List ℕ) (flag : ℕ) (good : GoodProgram p)
     abbrev ofCid : List ℕ
     ofCid = subsetByCid p name used sorted (bodies sorted sorted-inside)
 
-    cid-reads : length ofCid ≤ 67108864 → ReadsAs true (ownByCid p) (cidsOf p sorted) (newFds p used sorted) (bodies sorted sorted-inside) ofCid
+    cid-reads : length ofCid ≤ 67108864 → ReadsAs true (ownByCid p) (cidsOf p sorted) (newFds p used sorted) (matricesOf p used) (bodies sorted sorted-inside) ofCid
     cid-reads size =
         let n = sorted-count in
         by-cid p name used sorted (bodies sorted sorted-inside) good ros (pruned-fits p (rowsOf rec) used sorted flag good)
         (omega (arith, some .0)) (omega (arith, few)) (first-cid p keep good) (used-some p kept (getD kept 0 0) good (kept-inside 0 (some .0)) (all-below (length (p .charstrings)) keep kept kept-inside 0 (some .0))) (used-count p kept good)
         (new-fds-there p kept good sorted sorted-inside (all-below (length (p .charstrings)) keep sorted sorted-inside)) (new-fds-fit p kept good sorted sorted-inside (all-below (length (p .charstrings)) keep sorted sorted-inside)) strings size
 
+    -- what finding gives for the CID of the i-th glyph
+    cid-given : (size : length ofCid ≤ 67108864) (i : ℕ) → i < length sorted → foundFor p (getD sorted i 0) ofCid ≡ TheGlyph i
+    cid-given size i h =
+        let r = cid-reads size in
+        let id = getD (p .ids) (getD sorted i 0) 0 in
+        ap (λ (t : Bool). pick t (cidAs (readFont ofCid) id) (nameAs (readFont ofCid) (nameOf p (getD sorted i 0)))) keyed
+        ∙ ap (λ (q : Got Program). cidAs q id) (r .reads)
+        ∙ ap (λ (t : Bool). pick t (foundAs (glyphWithId id 0 (r .program .ids))) Absent) (r .keying)
+        ∙ ap (λ (l : List ℕ). foundAs (glyphWithId id 0 l)) (r .ids)
+        ∙ found-cid p (length (p .charstrings)) keep keyed found i h
+
     cid-held : (size : length ofCid ≤ 67108864) (i : ℕ) → i < length sorted → (ts : List Tok) (met : List Row) → unfolded p (getD sorted i 0) ≡ plain ts met → Recorded rec flag met
         → Holds p (getD sorted i 0) ts ofCid
     cid-held size i h ts met e listed =
         let r = cid-reads size in
-        let u = new-unfolds sorted sorted-inside true (ownByCid p) (cidsOf p sorted) (newFds p used sorted) ofCid r i h (new-fds-at p used sorted i h) ts met e listed in
-        let id = getD (p .ids) (getD sorted i 0) 0 in
+        let u = new-unfolds sorted sorted-inside true (ownByCid p) (cidsOf p sorted) (newFds p used sorted) (matricesOf p used) ofCid r i h (new-fds-at p used sorted i h) ts met e listed in
         record {
           program = r .program;
           reads = r .reads;
           new = i;
-          found =
-              ap (λ (t : Bool). pick t (cidAs (readFont ofCid) id) (nameAs (readFont ofCid) (nameOf p (getD sorted i 0)))) keyed
-              ∙ ap (λ (q : Got Program). cidAs q id) (r .reads)
-              ∙ ap (λ (t : Bool). pick t (foundAs (glyphWithId id 0 (r .program .ids))) Absent) (r .keying)
-              ∙ ap (λ (l : List ℕ). foundAs (glyphWithId id 0 l)) (r .ids)
-              ∙ found-cid p (length (p .charstrings)) keep keyed found i h;
+          found = cid-given size i h;
           met = u .0;
           unfolds = u .1;
+        }
+
+    -- the matrices of the FDs in use, and of the i-th glyph
+    fd-matrix : (size : length ofCid ≤ 67108864) (k : ℕ) → k < length used → matrixOf (cid-reads size .program) k ≡ matrixOf p (getD used k 0)
+    fd-matrix size k h = cid-reads size .matrix k ∙ matrices-at p used k h
+
+    glyph-matrix : (size : length ofCid ≤ 67108864) (i : ℕ) → i < length sorted → matrixFor (cid-reads size .program) i ≡ matrixFor p (getD sorted i 0)
+    glyph-matrix size i h =
+        let fd = getD (p .fds) (getD sorted i 0) 0 in
+        let u = used-has p kept (getD sorted i 0) good (sorted-inside i h) (all-below (length (p .charstrings)) keep sorted sorted-inside i h) in
+        let n = new-fd-at used fd u in
+        ap (λ (l : List ℕ). matrixOf (cid-reads size .program) (getD l i 0)) (cid-reads size .fds)
+        ∙ ap (matrixOf (cid-reads size .program)) (new-fds-at p used sorted i h)
+        ∙ fd-matrix size (newFd used fd) (n .0) ∙ ap (matrixOf p) (n .1)
+
+    -- a glyph that is kept stands among the sorted ones
+    sorted-has : (g : ℕ) → IsKept p keep g → (i : ℕ) × (i < length sorted) × (getD sorted i 0 ≡ g)
+    sorted-has g k =
+        subst (λ (l : List ℕ). (i : ℕ) × (i < length l) × (getD l i 0 ≡ g)) order-is (order-has p kept g (kept-is p keep g k))
+
+    cid-matrices : length ofCid ≤ 67108864 → KeepsMatrices p keep ofCid
+    cid-matrices size =
+        record {
+          program = cid-reads size .program;
+          reads = cid-reads size .reads;
+          fds = fd-matrix size;
+          glyphs = λ g k. let at = sorted-has g k in
+              subst (λ (h : ℕ). (new : ℕ) × (foundFor p h ofCid ≡ TheGlyph new) × (matrixFor (cid-reads size .program) new ≡ matrixFor p h)) (at .2)
+              (at .0, cid-given size (at .0) (at .1), glyph-matrix size (at .0) (at .1));
         }
 
   -- ---- both
@@ -194,6 +229,19 @@ module _ (p : Program) (keep rec : List ℕ) (flag : ℕ) (good : GoodProgram p)
   -- a glyph kept stands in the order
   placed : (g : ℕ) → IsKept p keep g → (i : ℕ) × (i < length (orderBy (cidKeyed (p .top)))) × (getD (orderBy (cidKeyed (p .top))) i 0 ≡ g)
   placed g k = order-has p kept g (kept-is p keep g k)
+
+  -- Wish 2 for a font that was read, and that is not refused
+  pub matrices-kept : (name : List ℕ) → cidKeyed (p .top) ≡ true → pick (cidKeyed (p .top)) (hasRos (rosIn (p .top))) true ≡ true → allFound p kept ≡ true
+      → length (ownOf p (writtenOrder p kept)) ≤ 64609
+      → length (subsetBytes p name kept (writtenOrder p kept) (pruned p (rowsOf rec) used (writtenOrder p kept) flag .bodies)) ≤ 67108864
+      → KeepsMatrices p keep (subsetBytes p name kept (writtenOrder p kept) (pruned p (rowsOf rec) used (writtenOrder p kept) flag .bodies))
+  unfolding subsetBytes
+  matrices-kept name keyed = subst Kept (sym keyed) (λ ros found strings size. cid-matrices name keyed ros found strings size)
+    where
+      Kept : Bool → Type 0
+      Kept cid =
+          pick cid (hasRos (rosIn (p .top))) true ≡ true → allFound p kept ≡ true → length (pick cid (ownByCid p) (ownByName p (orderBy cid))) ≤ 64609
+          → length (bytesBy cid name) ≤ 67108864 → KeepsMatrices p keep (bytesBy cid name)
 
   -- demand 3 for a font that was read, and that is not refused
   pub glyph-held : (name : List ℕ) → pick (cidKeyed (p .top)) (hasRos (rosIn (p .top))) true ≡ true → allFound p kept ≡ true

@@ -2,16 +2,17 @@
 use Prim.Native.Nat.{ℕ, _<_}
 use mathlib.Core.Path.{_≡_}
 use mathlib.Core.Bool.{Bool, true, false}
-use mathlib.Core.List.{List, []}
+use mathlib.Core.List.{List, [], _∷_}
 use lib.ListN.{length, getD}
 use Rattle.octets.specs.Octets.{Octets}
 use Rattle.octets.specs.Lists.{allBelow}
-use Rattle.dict.specs.Lookup.{cidKeyed}
+use Rattle.dict.specs.Lookup.{Operands, absent, cidKeyed}
 use Rattle.dict.specs.Proper.{AllProper}
 use Rattle.charset.specs.CharsetBytes.{Ids}
 use Rattle.cff.specs.Font.{got, Program, readFont}
 use Rattle.subset.specs.Kept.{privateOf, localsOf}
 use Rattle.subset.specs.Pruned.{Bodies}
+use Rattle.subset.specs.Subset.{matrixOf}
 
 -- bodies that are bytes, and few enough for an INDEX
 pub record GoodBodies (l : List (List ℕ)) : Type 0 where
@@ -33,6 +34,7 @@ pub record GoodProgram (p : Program) : Type 0 where
   pub onePrivate : cidKeyed (p .top) ≡ false → length (p .privates) ≡ 1
   pub top : AllProper (p .top)
   pub privates : (f : ℕ) → AllProper (privateOf p f .entries)
+  pub dicts : (f : ℕ) → AllProper (getD (p .dicts) f [])
 
 -- bodies for n glyphs and for the FDs in use, few enough for their INDEXes
 pub record Fitting (n : ℕ) (used : List ℕ) (b : Bodies) : Type 0 where
@@ -41,8 +43,13 @@ pub record Fitting (n : ℕ) (used : List ℕ) (b : Bodies) : Type 0 where
   pub fds : length (b .locals) ≡ length used
   pub locals : (k : ℕ) → length (getD (b .locals) k []) < 65536
 
--- bytes that read back as a font of the same keying with these strings, ids, FDs and bodies
-pub record ReadsAs (cid : Bool) (own : List (List ℕ)) (newIds newFds : List ℕ) (b : Bodies) (bs : List ℕ) : Type 0 where
+-- the FontMatrix of each of these FDs
+unfoldable pub matricesOf : Program → List ℕ → List Operands
+matricesOf p [] = []
+matricesOf p (f ∷ fs) = matrixOf p f ∷ matricesOf p fs
+
+-- bytes that read back as a font of the same keying with these strings, ids, FDs, matrices by FD, and bodies
+pub record ReadsAs (cid : Bool) (own : List (List ℕ)) (newIds newFds : List ℕ) (matrices : List Operands) (b : Bodies) (bs : List ℕ) : Type 0 where
   pub program : Program
   pub reads : readFont bs ≡ got program
   pub keying : cidKeyed (program .top) ≡ cid
@@ -51,4 +58,5 @@ pub record ReadsAs (cid : Bool) (own : List (List ℕ)) (newIds newFds : List �
   pub charstrings : program .charstrings ≡ b .charstrings
   pub ids : program .ids ≡ newIds
   pub fds : program .fds ≡ newFds
+  pub matrix : (k : ℕ) → matrixOf program k ≡ getD matrices k absent
   pub locals : (k : ℕ) → k < length (b .locals) → localsOf program k ≡ getD (b .locals) k []

@@ -1,4 +1,5 @@
 pub mod Faithful
+pub mod Matrices
 pub mod Laid
 pub mod GoodPartsLaws
 pub mod GoodLaws

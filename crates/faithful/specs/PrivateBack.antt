@@ -13,23 +13,26 @@ use Rattle.octets.specs.Pick.{pick}
 use Rattle.index.specs.Index.{readIndex}
 use Rattle.index.specs.Write.{indexBytes}
 use Rattle.decimal.specs.Decimal.{whole}
-use Rattle.dict.specs.Op.{private, subrs}
+use Rattle.dict.specs.Op.{private, subrs, fontMatrix}
 use Rattle.dict.specs.Dict.{Entry, Dict, entries, dictOf}
 use Rattle.dict.specs.Lookup.{Operands, absent, operands, lastFrom, lastOf, only, offsetTold, offsetAs, offsetIn, privateIn}
 use Rattle.dict.specs.Proper.{AllProper}
+use Rattle.dict.specs.Places.{entriesOf}
+use Rattle.dict.specs.LookupLaws.{entries-are}
 use Rattle.dict.specs.declared.OffsetIn.the-variants.{At, Absent}
 use Rattle.dict.specs.declared.PrivateIn.{PrivateIn}
 use Rattle.dict.specs.declared.PrivateIn.the-variants.{Private as PrivateEntry}
-use Rattle.dict_write.specs.Written.{offsetEntry, privateEntry, without, privateBytes}
+use Rattle.dict_write.specs.Written.{entryBytes, copiedEntry, offsetEntry, privateEntry, without, privateBytes}
 use Rattle.dict_write.specs.WriteLaws.{subrs-length}
 use Rattle.dict_write.specs.Parts.{Part, partsBytes, partsEntries, AllFit}
 use Rattle.dict_write.specs.DictRound.{parts-read}
 use Rattle.dict_write.specs.EntriesRound.{entries-read, offset-read, without-proper}
-use Rattle.cff.specs.Font.{Got, refused, got, then, indexGot, dictGot, localsAt, Private, privateData, privateAt, privatesAt, Program, emptyPrivate}
+use Rattle.cff.specs.Font.{Got, refused, got, then, indexGot, dictGot, localsAt, Private, privateData, privateAt, privatesAt, dictsAt, Program, emptyPrivate}
 use Rattle.subset.specs.Kept.{privateOf}
-use Rattle.subset.specs.Subset.{privateDict, privatePart, privateParts, fontDicts}
-use Rattle.faithful.specs.Laid.{GoodProgram}
+use Rattle.subset.specs.Subset.{privateDict, privatePart, privateParts, matrixOf, fontDict, fontDicts}
+use Rattle.faithful.specs.Laid.{GoodProgram, matricesOf}
 use Rattle.faithful.specs.WholeLaws.{offset-whole, private-whole, last-snoc, last-without}
+use Rattle.faithful.specs.TopFitLaws.{NormalOperands, last-normal}
 use Rattle.faithful.specs.LiesLaws.{lies-behind, lies-part, lies-within, index-back}
 
 -- ---- one Private DICT
@@ -118,45 +121,69 @@ private-back bs at q (x ∷ xs) post proper few short within lies =
 
 -- ---- those of the FDs in use
 
--- a Font DICT that was written names its Private DICT
-font-dict-back : (size at : ℕ) → size < 2147483648 → at < 2147483648
-    → dictOf (privateEntry size at) ≡ entries (record { op = private; operands = whole size ∷ whole at ∷ [] } ∷ [])
-unfolding partsBytes partsEntries AllFit
-font-dict-back size at h k = ap dictOf (sym (append-nil (privateEntry size at))) ∙ parts-read (Part.privatePart size at ∷ []) ((h, k), tt)
+-- the entries of a Font DICT with this FontMatrix
+abbrev dictEntries : Operands → ℕ → ℕ → List Entry
+dictEntries absent size at = record { op = private; operands = whole size ∷ whole at ∷ [] } ∷ []
+dictEntries (operands ds) size at = record { op = fontMatrix; operands = ds } ∷ record { op = private; operands = whole size ∷ whole at ∷ [] } ∷ []
 
--- where it was written
-private-named : (size at : ℕ) → size < 2147483648 → at < 2147483648
-    → privateIn (record { op = private; operands = whole size ∷ whole at ∷ [] } ∷ []) ≡ PrivateEntry size at
+-- a Font DICT that was written reads back
+font-dict-back : (o : Operands) → NormalOperands o → (size at : ℕ) → size < 2147483648 → at < 2147483648
+    → dictOf (copiedEntry fontMatrix o ++ privateEntry size at) ≡ entries (dictEntries o size at)
+unfolding partsBytes partsEntries AllFit copiedEntry
+font-dict-back absent n size at h k = ap dictOf (sym (append-nil (privateEntry size at))) ∙ parts-read (Part.privatePart size at ∷ []) ((h, k), tt)
+font-dict-back (operands ds) n size at h k =
+    ap (λ (l : List ℕ). dictOf (entryBytes fontMatrix ds ++ l)) (sym (append-nil (privateEntry size at)))
+    ∙ parts-read (Part.plain (record { op = fontMatrix; operands = ds }) ∷ Part.privatePart size at ∷ []) (record { operator = refl; numbers = n }, ((h, k), tt))
+
+-- it names its Private DICT where that was written, and has that FontMatrix
+private-named : (o : Operands) (size at : ℕ) → size < 2147483648 → at < 2147483648 → privateIn (dictEntries o size at) ≡ PrivateEntry size at
 unfolding lastOf lastFrom
-private-named size at h k = private-whole size at h k
+private-named absent size at h k = private-whole size at h k
+private-named (operands ds) size at h k = private-whole size at h k
 
--- the Private DICTs that these Font DICTs name, with their local subroutines
-record Back (bs : List ℕ) (dicts : List (List ℕ)) (lss : List (List (List ℕ))) : Type 0 where
+matrix-named : (o : Operands) (size at : ℕ) → lastOf fontMatrix (dictEntries o size at) ≡ o
+unfolding lastOf lastFrom
+matrix-named absent size at = refl
+matrix-named (operands ds) size at = refl
+
+-- the FontMatrix of an FD has numbers that a DICT can hold
+matrix-normal : (p : Program) → GoodProgram p → (f : ℕ) → NormalOperands (matrixOf p f)
+unfolding lastOf
+matrix-normal p good f = last-normal fontMatrix absent (getD (p .dicts) f []) (good .dicts f) tt
+
+-- the Private DICTs that these Font DICTs name, with their local subroutines; and the FontMatrix of each Font DICT
+record Back (bs : List ℕ) (dicts : List (List ℕ)) (lss : List (List (List ℕ))) (matrices : List Operands) : Type 0 where
   privates : List Private
   read : privatesAt bs dicts ≡ got privates
   many : length privates ≡ length lss
   locals : (k : ℕ) → k < length lss → getD privates k emptyPrivate .locals ≡ getD lss k []
+  matrix : (k : ℕ) → lastOf fontMatrix (getD (dictsAt dicts) k []) ≡ getD matrices k absent
 
 -- no Font DICT
-back-none : (bs : List ℕ) → Back bs [] []
-unfolding privatesAt
-back-none bs = record { privates = []; read = refl; many = refl; locals = λ k h. absurd (not-suc-le-zero h) }
+back-none : (bs : List ℕ) → Back bs [] [] []
+unfolding privatesAt dictsAt lastOf lastFrom
+back-none bs = record { privates = []; read = refl; many = refl; locals = λ k h. absurd (not-suc-le-zero h); matrix = λ k. refl }
 
-module _ (bs : List ℕ) (size at : ℕ) (h : size < 2147483648) (k : at < 2147483648) (p : Private) (is : privateData bs size at ≡ got p)
-    (dicts : List (List ℕ)) (lss : List (List (List ℕ))) (more : Back bs dicts lss) where
+module _ (bs : List ℕ) (o : Operands) (n : NormalOperands o) (size at : ℕ) (h : size < 2147483648) (k : at < 2147483648) (p : Private)
+    (is : privateData bs size at ≡ got p) (dicts : List (List ℕ)) (lss : List (List (List ℕ))) (matrices : List Operands) (more : Back bs dicts lss matrices) where
   -- one Font DICT more
-  first-read : privatesAt bs (privateEntry size at ∷ dicts) ≡ got (p ∷ more .privates)
+  first-read : privatesAt bs ((copiedEntry fontMatrix o ++ privateEntry size at) ∷ dicts) ≡ got (p ∷ more .privates)
   unfolding privatesAt privateAt
   first-read =
       let rest : Got Private → Got (List Private) = λ g. then g (λ p. then (privatesAt bs dicts) (λ ps. got (p ∷ ps))) in
-      ap (λ (d : Dict). then (dictGot d) (λ es. rest (privateAt bs (privateIn es)))) (font-dict-back size at h k)
-      ∙ ap (λ (x : PrivateIn). rest (privateAt bs x)) (private-named size at h k)
+      ap (λ (d : Dict). then (dictGot d) (λ es. rest (privateAt bs (privateIn es)))) (font-dict-back o n size at h k)
+      ∙ ap (λ (x : PrivateIn). rest (privateAt bs x)) (private-named o size at h k)
       ∙ ap rest is
       ∙ ap (λ (g : Got (List Private)). then g (λ ps. got (p ∷ ps))) (more .read)
 
-  back-more : (ls : List (List ℕ)) → p .locals ≡ ls → Back bs (privateEntry size at ∷ dicts) (ls ∷ lss)
-  back-more ls e = record { privates = p ∷ more .privates; read = first-read; many = ap suc (more .many); locals = each }
+  back-more : (ls : List (List ℕ)) → p .locals ≡ ls → Back bs ((copiedEntry fontMatrix o ++ privateEntry size at) ∷ dicts) (ls ∷ lss) (o ∷ matrices)
+  unfolding dictsAt
+  back-more ls e = record { privates = p ∷ more .privates; read = first-read; many = ap suc (more .many); locals = each; matrix = its }
     where
+      its : (j : ℕ) → lastOf fontMatrix (getD (entriesOf (copiedEntry fontMatrix o ++ privateEntry size at) ∷ dictsAt dicts) j []) ≡ getD (o ∷ matrices) j absent
+      its zero = ap (lastOf fontMatrix) (entries-are _ _ (font-dict-back o n size at h k)) ∙ matrix-named o size at
+      its (suc j) = more .matrix j
+
       each : (j : ℕ) → j < suc (length lss) → getD (p ∷ more .privates) j emptyPrivate .locals ≡ getD (ls ∷ lss) j []
       each zero g = e
       each (suc j) g = more .locals j (omega arith)
@@ -164,8 +191,8 @@ module _ (bs : List ℕ) (size at : ℕ) (h : size < 2147483648) (k : at < 21474
 module _ (bs : List ℕ) (p : Program) (good : GoodProgram p) (short : length bs ≤ 67108864) where
   -- all of them
   all-back : (at : ℕ) (used : List ℕ) (lss : List (List (List ℕ))) (post : List ℕ) → length lss ≡ length used → ((k : ℕ) → length (getD lss k []) < 65536)
-      → at ≤ length bs → drop at bs ≡ privateParts p used lss ++ post → Back bs (fontDicts p at used lss) lss
-  unfolding privateParts fontDicts
+      → at ≤ length bs → drop at bs ≡ privateParts p used lss ++ post → Back bs (fontDicts p at used lss) lss (matricesOf p used)
+  unfolding privateParts fontDicts matricesOf
   all-back at [] [] post same few within lies = back-none bs
   all-back at [] (ls ∷ lss) post same few within lies = absurd (omega arith)
   all-back at (f ∷ fs) [] post same few within lies = absurd (omega arith)
@@ -175,8 +202,8 @@ module _ (bs : List ℕ) (p : Program) (good : GoodProgram p) (short : length bs
       let w = lies-within bs at (privatePart q ls) (privateParts p fs lss ++ post) l within in
       let b = private-back bs at q ls (privateParts p fs lss ++ post) (good .privates f) (few 0) short within l in
       let n = length-append (privateDict q ls) (pick (eqb (length ls) 0) [] (indexBytes ls)) in
-      back-more bs (length (privateDict q ls)) at (omega arith) (omega arith) (record { entries = b .0; locals = ls }) (b .1)
-      (fontDicts p (at + length (privatePart q ls)) fs lss) lss
+      back-more bs (matrixOf p f) (matrix-normal p good f) (length (privateDict q ls)) at (omega arith) (omega arith) (record { entries = b .0; locals = ls }) (b .1)
+      (fontDicts p (at + length (privatePart q ls)) fs lss) lss (matricesOf p fs)
       (all-back (at + length (privatePart q ls)) fs lss post (omega arith) (λ k. few (suc k)) w (lies-behind bs at (privatePart q ls) (privateParts p fs lss ++ post) l))
       ls refl
 
@@ -186,6 +213,7 @@ pub privates-back : (bs : List ℕ) (at : ℕ) (p : Program) (used : List ℕ) (
     → drop at bs ≡ privateParts p used lss ++ post
     → (ps : List Private) × (privatesAt bs (fontDicts p at used lss) ≡ got ps) × (length ps ≡ length used)
     × ((k : ℕ) → k < length used → getD ps k emptyPrivate .locals ≡ getD lss k [])
+    × ((k : ℕ) → lastOf fontMatrix (getD (dictsAt (fontDicts p at used lss)) k []) ≡ getD (matricesOf p used) k absent)
 privates-back bs at p used lss post good same few short within lies =
     let b = all-back bs p good short at used lss post same few within lies in
-    (b .privates, b .read, b .many ∙ same, λ k h. b .locals k (omega arith))
+    (b .privates, b .read, b .many ∙ same, (λ k h. b .locals k (omega arith)), b .matrix)

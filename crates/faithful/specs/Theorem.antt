@@ -23,7 +23,8 @@ use Rattle.faithful.specs.Faithful.{unfolded, IsKept, Holds, Faithful}
 use Rattle.faithful.specs.Laid.{GoodProgram}
 use Rattle.faithful.specs.GoodPartsLaws.{got-same}
 use Rattle.faithful.specs.GoodLaws.{font-good}
-use Rattle.faithful.specs.Held.{keptIn, glyph-held}
+use Rattle.faithful.specs.Matrices.{KeepsMatrices, Scaled}
+use Rattle.faithful.specs.Held.{keptIn, glyph-held, matrices-kept}
 
 -- two that are the same
 pub same-bool : (a b : Bool) → sameBool a b ≡ true → a ≡ b
@@ -31,10 +32,8 @@ same-bool true b e = sym e
 same-bool false true e = absurd (zero-one cc)
 same-bool false false e = refl
 
-module _ (font name keep rec : List ℕ) (flag room : ℕ) (octets : Octets rec) (p : Program) (good : GoodProgram p) (is : readFont font ≡ got p) where
-  abbrev Meets : Outcome → Type 0
-  Meets o = Faithful font keep rec flag o
-
+-- what holds of a refusal, and of a subset that is within its limits, holds of the outcome
+module _ (name keep rec : List ℕ) (flag room : ℕ) (p : Program) (Meets : Outcome → Type 0) (refuses : (n : ℕ) → Meets (refused n)) where
   -- the order, what becomes of the bodies, the subset, and its own strings
   abbrev order : List ℕ
   order = writtenOrder p (keptIn p keep)
@@ -48,37 +47,47 @@ module _ (font name keep rec : List ℕ) (flag room : ℕ) (octets : Octets rec)
   abbrev Keyed : Type 0
   Keyed = pick (cidKeyed (p .top)) (hasRos (rosIn (p .top))) true ≡ true
 
-  -- a subset that is within its limits
-  subset-meets : (way : ℕ) → Keyed → allFound p (keptIn p keep) ≡ true → length (ownOf p order) ≤ 64609 → length bytes ≤ 67108864 → Meets (subset way bytes)
-  subset-meets way ros found strings size q e g k ts met u listed =
-      let same : p ≡ q = got-same p q (sym is ∙ e) in
-      subst (λ (x : Program). IsKept x keep g → unfolded x g ≡ plain ts met → Holds x g ts bytes) same
-      (λ h v. glyph-held p keep rec flag good octets name ros found strings size g h ts met v listed) k u
+  module _ (meets : (way : ℕ) → Keyed → allFound p (keptIn p keep) ≡ true → length (ownOf p order) ≤ 64609 → length bytes ≤ 67108864 → Meets (subset way bytes)) where
+    written-meets : Keyed → allFound p (keptIn p keep) ≡ true → Meets (written p name (keptIn p keep) order room cut)
+    written-meets ros found =
+        let last = pick (ltb room (length bytes)) (refused 11) (subset (cut .way) bytes) in
+        pick-ind Meets (ltb 64609 (length (ownOf p order))) (refused 12) (pick (ltb 67108864 (length bytes)) (refused 10) last) (λ t. refuses 12)
+        (λ own. pick-ind Meets (ltb 67108864 (length bytes)) (refused 10) last (λ t. refuses 10)
+        (λ size. pick-ind Meets (ltb room (length bytes)) (refused 11) (subset (cut .way) bytes) (λ t. refuses 11)
+        (λ fits. meets (cut .way) ros found (ltb-false 64609 (length (ownOf p order)) own) (ltb-false 67108864 (length bytes) size))))
 
-  written-meets : Keyed → allFound p (keptIn p keep) ≡ true → Meets (written p name (keptIn p keep) order room cut)
-  written-meets ros found =
-      let last = pick (ltb room (length bytes)) (refused 11) (subset (cut .way) bytes) in
-      pick-ind Meets (ltb 64609 (length (ownOf p order))) (refused 12) (pick (ltb 67108864 (length bytes)) (refused 10) last) (λ t. tt)
-      (λ own. pick-ind Meets (ltb 67108864 (length bytes)) (refused 10) last (λ t. tt)
-      (λ size. pick-ind Meets (ltb room (length bytes)) (refused 11) (subset (cut .way) bytes) (λ t. tt)
-      (λ fits. subset-meets (cut .way) ros found (ltb-false 64609 (length (ownOf p order)) own) (ltb-false 67108864 (length bytes) size))))
+    program-meets : (cid : Bool) (words : ℕ) → Meets (cutProgram cid p name keep rec flag words room)
+    program-meets cid words =
+        pick-ind Meets (sameBool cid (cidKeyed (p .top))) _ (refused 3)
+        (λ k. pick-ind Meets (strokedIn (p .top)) (refused 3) _ (λ t. refuses 3)
+        (λ s. pick-ind Meets (pick cid (hasRos (rosIn (p .top))) true) _ (refused 2)
+        (λ ros. pick-ind Meets (ltb 65535 (length name)) (refused 4) _ (λ t. refuses 4)
+        (λ n. pick-ind Meets (allBelow (length (p .charstrings)) keep) _ (refused 6)
+        (λ b. pick-ind Meets (allFound p (keptIn p keep)) _ (refused 7)
+        (λ found. pick-ind Meets (recordFine cid rec flag) _ (refused 8)
+        (λ r. pick-ind Meets (ltb words (workSize p)) (refused 9) _ (λ t. refuses 9)
+        (λ w. written-meets (subst (λ (c : Bool). pick c (hasRos (rosIn (p .top))) true ≡ true) (same-bool cid (cidKeyed (p .top)) k) ros) found))
+        (λ t. refuses 8))
+        (λ t. refuses 7))
+        (λ t. refuses 6)))
+        (λ t. refuses 2)))
+        (λ t. refuses 3)
 
-  program-meets : (cid : Bool) (words : ℕ) → Meets (cutProgram cid p name keep rec flag words room)
-  program-meets cid words =
-      pick-ind Meets (sameBool cid (cidKeyed (p .top))) _ (refused 3)
-      (λ k. pick-ind Meets (strokedIn (p .top)) (refused 3) _ (λ t. tt)
-      (λ s. pick-ind Meets (pick cid (hasRos (rosIn (p .top))) true) _ (refused 2)
-      (λ ros. pick-ind Meets (ltb 65535 (length name)) (refused 4) _ (λ t. tt)
-      (λ n. pick-ind Meets (allBelow (length (p .charstrings)) keep) _ (refused 6)
-      (λ b. pick-ind Meets (allFound p (keptIn p keep)) _ (refused 7)
-      (λ found. pick-ind Meets (recordFine cid rec flag) _ (refused 8)
-      (λ r. pick-ind Meets (ltb words (workSize p)) (refused 9) _ (λ t. tt)
-      (λ w. written-meets (subst (λ (c : Bool). pick c (hasRos (rosIn (p .top))) true ≡ true) (same-bool cid (cidKeyed (p .top)) k) ros) found))
-      (λ t. tt))
-      (λ t. tt))
-      (λ t. tt)))
-      (λ t. tt)))
-      (λ t. tt)
+module _ (font name keep rec : List ℕ) (flag room : ℕ) (octets : Octets rec) (p : Program) (good : GoodProgram p) (is : readFont font ≡ got p) where
+  -- demand 3 and Wish 2, of a font that was read
+  program-faithful : (cid : Bool) (words : ℕ) → Faithful font keep rec flag (cutProgram cid p name keep rec flag words room)
+  program-faithful =
+      program-meets name keep rec flag room p (Faithful font keep rec flag) (λ n. tt)
+      (λ way ros found strings size q e g k ts met u listed.
+      subst (λ (x : Program). IsKept x keep g → unfolded x g ≡ plain ts met → Holds x g ts (bytes name keep rec flag room p (Faithful font keep rec flag) (λ n. tt)))
+      (got-same p q (sym is ∙ e)) (λ h v. glyph-held p keep rec flag good octets name ros found strings size g h ts met v listed) k u)
+
+  program-scaled : (cid : Bool) (words : ℕ) → Scaled font keep (cutProgram cid p name keep rec flag words room)
+  program-scaled =
+      program-meets name keep rec flag room p (Scaled font keep) (λ n. tt)
+      (λ way ros found strings size q e keyed.
+      subst (λ (x : Program). cidKeyed (x .top) ≡ true → KeepsMatrices x keep (bytes name keep rec flag room p (Scaled font keep) (λ n. tt)))
+      (got-same p q (sym is ∙ e)) (λ k. matrices-kept p keep rec flag good octets name k ros found strings size) keyed)
 
 -- THE THEOREM: demand 3, whatever the font, the new name, the keep list, the record and the flag are
 pub faithful : (cid : Bool) (font name keep rec : List ℕ) (flag words room : ℕ) → Octets font → Octets rec
@@ -88,4 +97,13 @@ faithful cid font name keep rec flag words room bytes octets = go (readFont font
   where
     go : (x : Got Program) → readFont font ≡ x → Faithful font keep rec flag (cutRead cid x name keep rec flag words room)
     go (refusedFont n) e = tt
-    go (got p) e = program-meets font name keep rec flag room octets p (font-good font p bytes e) e cid words
+    go (got p) e = program-faithful font name keep rec flag room octets p (font-good font p bytes e) e cid words
+
+-- Wish 2: each FD of a subset has the FontMatrix that it had
+pub matrix-back : (cid : Bool) (font name keep rec : List ℕ) (flag words room : ℕ) → Octets font → Octets rec → Scaled font keep (cutOf cid font name keep rec flag words room)
+unfolding cutOf
+matrix-back cid font name keep rec flag words room bytes octets = go (readFont font) refl
+  where
+    go : (x : Got Program) → readFont font ≡ x → Scaled font keep (cutRead cid x name keep rec flag words room)
+    go (refusedFont n) e = tt
+    go (got p) e = program-scaled font name keep rec flag room octets p (font-good font p bytes e) e cid words

@@ -143,12 +143,12 @@ module _ (p : Program) (own : List (List ℕ)) (few : length own ≤ 64609) wher
   named-fit (op ∷ ops) o = named-one-fits op (o .0) (idIn op (p .top)) (namedEntries p ops) (named-fit ops (o .1))
 
 -- the operands of an entry that was found are numbers of a DICT
-abbrev NormalOperands : Operands → Type 0
+abbrev pub NormalOperands : Operands → Type 0
 NormalOperands absent = Unit
 NormalOperands (operands ds) = AllNormal ds
 
 -- of the last entry
-last-normal : (op : ℕ) (o : Operands) (es : List Entry) → AllProper es → NormalOperands o → NormalOperands (lastFrom op o es)
+pub last-normal : (op : ℕ) (o : Operands) (es : List Entry) → AllProper es → NormalOperands o → NormalOperands (lastFrom op o es)
 unfolding lastFrom AllProper
 last-normal op o [] h n = n
 last-normal op o (e ∷ es) h n =

@@ -15,11 +15,11 @@ use Rattle.octets.specs.Pick.{pick, pick-ind}
 use Rattle.octets.specs.Lists.{allBelow}
 use Rattle.octets.specs.ListLaws.{below-at}
 use Rattle.octets.specs.Octets.{Octets}
-use Rattle.dict.specs.Lookup.{cidKeyed}
+use Rattle.dict.specs.Lookup.{absent, cidKeyed}
 use Rattle.cff.specs.Font.{Program}
 use Rattle.subset.specs.Kept.{isIn, those, fdsOf, usedFds, newFd}
-use Rattle.subset.specs.Subset.{newFds}
-use Rattle.faithful.specs.Laid.{GoodProgram}
+use Rattle.subset.specs.Subset.{matrixOf, newFds}
+use Rattle.faithful.specs.Laid.{GoodProgram, matricesOf}
 use Rattle.subset.specs.KeptListLaws.{in-none, in-head, in-more, in-cases, in-at, in-some, those-has, those-in, those-few, those-high}
 
 -- ---- FDs of glyphs
@@ -92,6 +92,13 @@ new-fd-at (x ∷ xs) f h =
     (λ t e. (omega arith, eqb-true x f t))
     (λ t e. let r = new-fd-at xs f (rw t at e) in (omega arith, rw add-one (r .1)))
     h
+
+-- the matrix of the FD at a place of a list
+pub matrices-at : (p : Program) (used : List ℕ) (k : ℕ) → k < length used → getD (matricesOf p used) k absent ≡ matrixOf p (getD used k 0)
+unfolding matricesOf
+matrices-at p [] k h = absurd (not-suc-le-zero h)
+matrices-at p (f ∷ fs) zero h = refl
+matrices-at p (f ∷ fs) (suc k) h = matrices-at p fs k (le-of-suc-le-suc h)
 
 -- the new number of an FD in use is not above the old one
 pub new-fd-low : (p : Program) (kept : List ℕ) (f : ℕ) → isIn f (usedFds p kept) ≡ true → newFd (usedFds p kept) f ≤ f

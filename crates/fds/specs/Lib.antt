@@ -5,6 +5,7 @@ pub mod NewParts
 pub mod UsedLaws
 pub mod LocalsLaws
 pub mod PartsLaws
+pub mod ListLaws
 pub mod NewLocalsLaws
 pub mod NewPartsLaws
 pub mod HeldLaws

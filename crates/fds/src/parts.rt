@@ -2,8 +2,9 @@
 ghost use mathlib.Core.Path.{_≡_};
 ghost use Prim.Native.Nat.{_+_, _≤_, _<_};
 ghost use lib.ListN.{length};
+ghost use Rattle.octets.specs.Octets.{put};
 ghost use Rattle.cff.specs.Reads.{GoodFont, programOf};
-ghost use Rattle.fds.specs.Locals.{UsedOf};
+ghost use Rattle.fds.specs.Locals.{fdsIn, UsedOf};
 ghost use Rattle.fds.specs.Parts.{leftIn, subrsLen, dictLen, partBy, PartsFit, SizesParts};
 use cff::font::Font;
 
@@ -11,6 +12,25 @@ use cff::font::Font;
 pub struct Part {
     pub size: usize,
     pub len: usize,
+}
+
+// The FDs in use, rising, from the front of fds on; how many they are.
+pub fn list_used(used: &[u32], fds: &mut [usize]) -> usize
+    requires { ⌜ (256 ≤ length (now used)) × (256 ≤ length (now fds)) ⌝ }
+    ensures { λ r. ⌜ (now (fds .exit) ≡ put (now (fds .entry)) 0 (fdsIn (now (used .entry)))) × (r ≡ length (fdsIn (now (used .entry)))) × (r ≤ 256) ⌝ }
+{
+    let mut j: usize = 0;
+    let mut fd: usize = 0;
+    while fd < 256 {
+        if used[fd] == 0 {
+            fd += 1;
+        } else {
+            fds[j] = fd;
+            j += 1;
+            fd += 1;
+        }
+    }
+    j
 }
 
 // How many new local subroutines an FD has, by the way.

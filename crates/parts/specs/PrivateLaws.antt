@@ -14,10 +14,10 @@ use Rattle.octets.specs.Octets.{put}
 use Rattle.octets.specs.PutLaws.{put-length, take-put}
 use Rattle.octets.specs.Lists.{sumOf}
 use Rattle.index.specs.Write.{total, indexBytes, indexLen}
-use Rattle.index.specs.WriteLaws.{length-index}
+use Rattle.index.specs.WriteLaws.{length-index, total-within}
 use Rattle.unfold.specs.Unfold.{Row, local}
 use Rattle.cff.specs.Font.{Program}
-use Rattle.cff.specs.Reads.{programOf}
+use Rattle.cff.specs.Reads.{GoodFont, programOf}
 use Rattle.cff.specs.declared.font.Font.{Font}
 use Rattle.subset.specs.Kept.{localsOf, privateOf}
 use Rattle.subset.specs.Pruned.{mapped, countBelow, reached, localSet, callsIn}
@@ -31,12 +31,13 @@ use Rattle.bodies.specs.Pruning.{allHold, bodiesBy}
 use Rattle.bodies.specs.WritingLaws.{items-many}
 use Rattle.bodies.specs.SubrsLaws.{reached-all, subrs-each, new-subrs-is, kept-many}
 use Rattle.bodies.specs.RecordLaws.{reached-told}
-use Rattle.private_dicts.specs.Privates.{dictsBy, fontDictsBy, Placed, sizesOf, lensOf}
-use Rattle.private_dicts.specs.DictsLaws.{font-dicts-are, dicts-long}
+use Rattle.private_dicts.specs.Privates.{matricesBy, dictsBy, fontDictsBy, Placed, sizesOf, lensOf}
+use Rattle.private_dicts.specs.DictsLaws.{matrices-length, font-dicts-are, dicts-long}
 use Rattle.fds.specs.Locals.{inUse, fdsIn}
 use Rattle.fds.specs.NewLocals.{localsBy, newLocals, LocalsIn}
 use Rattle.fds.specs.Parts.{leftIn, partAt, PartsFit, SizesParts}
 use Rattle.fds.specs.PartsLaws.{used-count, mapped-used, sizes-are, lens-are, parts-are}
+use Rattle.fds.specs.ListLaws.{Listed, listed-there}
 use Rattle.fds.specs.NewParts.{Counted, partsFor, PartsRoom}
 use Rattle.fds.specs.NewPartsLaws.{holds-one}
 use Rattle.plan.specs.Ranked.{Stands}
@@ -177,43 +178,68 @@ module _ (b : List ℕ) (f : Font) (rows : List Row) (used ws table : List ℕ) 
     pub lens-held : take (length (fdsIn used)) lens ≡ lensOf p (fdsIn used) locals
     lens-held = lens-put ∙ lens-same
 
-    -- ---- Font DICTs
+    -- ---- Font DICTs, the FDs in use being listed
 
-    pub dicts-placed : (from : ℕ) → from + length (privateParts p (fdsIn used) locals) ≤ 67108864 → Placed sizes lens (length (fdsIn used)) from
-    dicts-placed from small =
-        let n : length (fdsIn used) ≤ 256 = used-count used 256 in
-        let e : length (mapped sizeAt (fdsIn used)) ≡ length (fdsIn used) = length-mapped sizeAt (fdsIn used) in
-        let g : length (mapped lenAt (fdsIn used)) ≡ length (fdsIn used) = length-mapped lenAt (fdsIn used) in
-        let i : length sizes ≡ length oldSizes = ap length (s .dicts) ∙ put-length oldSizes 0 (mapped sizeAt (fdsIn used)) (omega arith) in
-        let j : length lens ≡ length oldLens = ap length (s .parts) ∙ put-length oldLens 0 (mapped lenAt (fdsIn used)) (omega arith) in
-        record {
-          few = omega arith;
-          sized = omega arith;
-          long = omega arith;
-          small = λ k l.
-              let v : getD sizes k 0 ≡ getD (sizesOf p (fdsIn used) locals) k 0
-              = sym (getD-take (length (fdsIn used)) sizes k 0 l) ∙ ap (λ (x : List ℕ). getD x k 0) sizes-held in
-              omega (arith, size-within p (fdsIn used) locals k);
-          ends = let v : sumOf (take (length (fdsIn used)) lens) ≡ length (privateParts p (fdsIn used) locals) = ap sumOf lens-put ∙ parts-same in omega arith;
-        }
+    module _ {fds : List ℕ} (listed : Listed used fds) where
+      pub dicts-are : (from : ℕ) → fontDictsBy p fds sizes lens (length (fdsIn used)) from ≡ fontDicts p from (fdsIn used) locals
+      dicts-are from =
+          let n = length (fdsIn used) in
+          ap (λ (l : List ℕ). dictsBy (matricesBy p l) (take n sizes) (take n lens) from) (listed .front)
+          ∙ ap (λ (l : List ℕ). dictsBy (matricesBy p (fdsIn used)) l (take n lens) from) sizes-held
+          ∙ ap (λ (l : List ℕ). dictsBy (matricesBy p (fdsIn used)) (sizesOf p (fdsIn used) locals) l from) lens-held
+          ∙ sym (font-dicts-are p from (fdsIn used) locals)
 
-    pub dicts-are : (from : ℕ) → fontDictsBy sizes lens (length (fdsIn used)) from ≡ fontDicts p from (fdsIn used) locals
-    dicts-are from =
-        ap (λ (l : List ℕ). dictsBy l (take (length (fdsIn used)) lens) from) sizes-held
-        ∙ ap (λ (l : List ℕ). dictsBy (sizesOf p (fdsIn used) locals) l from) lens-held ∙ sym (font-dicts-are p from (fdsIn used) locals)
+      pub dicts-placed : (from : ℕ) → from + length (privateParts p (fdsIn used) locals) ≤ 67108864
+          → length (indexBytes (fontDicts p from (fdsIn used) locals)) ≤ 67108864 → Placed p fds sizes lens (length (fdsIn used)) from
+      dicts-placed from small few =
+          let n : length (fdsIn used) ≤ 256 = used-count used 256 in
+          let e : length (mapped sizeAt (fdsIn used)) ≡ length (fdsIn used) = length-mapped sizeAt (fdsIn used) in
+          let g : length (mapped lenAt (fdsIn used)) ≡ length (fdsIn used) = length-mapped lenAt (fdsIn used) in
+          let i : length sizes ≡ length oldSizes = ap length (s .dicts) ∙ put-length oldSizes 0 (mapped sizeAt (fdsIn used)) (omega arith) in
+          let j : length lens ≡ length oldLens = ap length (s .parts) ∙ put-length oldLens 0 (mapped lenAt (fdsIn used)) (omega arith) in
+          record {
+            few = omega arith;
+            listed = listed .long;
+            there = listed-there listed (length (p .privates)) (ready .asked .locals .fds);
+            short = omega (arith, ap total (dicts-are from), total-within (fontDicts p from (fdsIn used) locals));
+            sized = omega arith;
+            long = omega arith;
+            small = λ k l.
+                let v : getD sizes k 0 ≡ getD (sizesOf p (fdsIn used) locals) k 0
+                = sym (getD-take (length (fdsIn used)) sizes k 0 l) ∙ ap (λ (x : List ℕ). getD x k 0) sizes-held in
+                omega (arith, size-within p (fdsIn used) locals k);
+            ends = let v : sumOf (take (length (fdsIn used)) lens) ≡ length (privateParts p (fdsIn used) locals) = ap sumOf lens-put ∙ parts-same in omega arith;
+          }
+
+  -- their FontMatrix entries can be measured
+  pub matrices-asked : f .cid ≡ true → {fds : List ℕ} → Listed used fds → (count : ℕ) → count ≡ length (fdsIn used)
+      → (length b ≤ 67108864) × GoodFont b f × (f .cid ≡ true) × (count ≤ 256) × (count ≤ length fds)
+      × ((k : ℕ) → k < count → getD fds k 0 < length (p .privates))
+  matrices-asked keyed listed count counted = (
+    ready .read .size,
+    ready .read .font,
+    keyed,
+    omega (arith, used-count used 256),
+    omega (arith, listed .long),
+    (λ k h. listed-there listed (length (p .privates)) (ready .asked .locals .fds) k (omega arith)),
+  )
 
   -- their INDEX is as long wherever the Privates stand
-  pub dicts-length : (from : ℕ) → length (indexBytes (fontDicts p from (fdsIn used) locals)) ≡ indexLen (length (fdsIn used)) (11 * length (fdsIn used))
+  pub dicts-length : (from : ℕ) → length (indexBytes (fontDicts p from (fdsIn used) locals))
+      ≡ indexLen (length (fdsIn used)) (total (matricesBy p (fdsIn used)) + 11 * length (fdsIn used))
   dicts-length from =
+      let ms = matricesBy p (fdsIn used) in
       let ss = sizesOf p (fdsIn used) locals in
       let ls = lensOf p (fdsIn used) locals in
+      let o : length ms ≡ length (fdsIn used) = matrices-length p (fdsIn used) in
       let m : length ss ≡ length (fdsIn used)
       = ap length (sym sizes-same) ∙ length-mapped sizeAt (fdsIn used) in
       let n : length ls ≡ length (fdsIn used)
       = ap length (sym lens-same) ∙ length-mapped lenAt (fdsIn used) in
-      let k = dicts-long ss ls from (m ∙ sym n) in
-      ap (λ (x : List (List ℕ)). length (indexBytes x)) (font-dicts-are p from (fdsIn used) locals) ∙ length-index (dictsBy ss ls from)
-      ∙ ap (λ (x : ℕ). indexLen x (total (dictsBy ss ls from))) (k .0 ∙ m) ∙ ap (indexLen (length (fdsIn used))) (k .1 ∙ ap (λ (x : ℕ). 11 * x) m)
+      let k = dicts-long ms ss ls from (record { sized = m ∙ sym o; long = n ∙ sym o }) in
+      ap (λ (x : List (List ℕ)). length (indexBytes x)) (font-dicts-are p from (fdsIn used) locals) ∙ length-index (dictsBy ms ss ls from)
+      ∙ ap (λ (x : ℕ). indexLen x (total (dictsBy ms ss ls from))) (k .0 ∙ o)
+      ∙ ap (indexLen (length (fdsIn used))) (k .1 ∙ ap (λ (x : ℕ). total ms + 11 * x) o)
 
   -- ---- written
 

@@ -1,3 +1,4 @@
 pub mod Privates
 pub mod PrivatesLaws
+pub mod MatrixLaws
 pub mod DictsLaws

@@ -8,13 +8,14 @@ use lib.Dec.{eqb}
 use lib.ListN.{length, take, getD}
 use Rattle.octets.specs.Pick.{pick}
 use Rattle.octets.specs.Lists.{sumOf}
-use Rattle.dict.specs.Op.{subrs}
+use Rattle.index.specs.Write.{total}
+use Rattle.dict.specs.Op.{subrs, fontMatrix}
 use Rattle.dict.specs.Dict.{Entry}
-use Rattle.dict_write.specs.Written.{offsetEntry, privateEntry, privateBytes}
+use Rattle.dict_write.specs.Written.{copiedEntry, offsetEntry, privateEntry, privateBytes}
 use Rattle.cff.specs.Font.{got, Private, Program}
 use Rattle.cff.specs.Reads.{fdPrivate}
 use Rattle.subset.specs.Kept.{privateOf}
-use Rattle.subset.specs.Subset.{privateDict, privatePart}
+use Rattle.subset.specs.Subset.{matrixOf, privateDict, privatePart}
 
 -- the Private DICT of the FD with these bytes was read
 pub record FdRead (b d : List ℕ) : Type 0 where
@@ -29,19 +30,29 @@ subrsEntry left n = pick (eqb left 0) [] (offsetEntry subrs (n + 6))
 unfoldable pub privateDictBy : List Entry → ℕ → List ℕ
 privateDictBy es left = privateBytes es ++ subrsEntry left (length (privateBytes es))
 
--- the Font DICTs of Private DICTs of these sizes, the parts that hold them being so long and standing one behind the other from a place on
-unfoldable pub dictsBy : List ℕ → List ℕ → ℕ → List (List ℕ)
-dictsBy [] lens from = []
-dictsBy (s ∷ ss) [] from = []
-dictsBy (s ∷ ss) (l ∷ ls) from = privateEntry s from ∷ dictsBy ss ls (from + l)
+-- the FontMatrix entries of FDs, as they are copied
+unfoldable pub matricesBy : Program → List ℕ → List (List ℕ)
+matricesBy p [] = []
+matricesBy p (f ∷ fs) = copiedEntry fontMatrix (matrixOf p f) ∷ matricesBy p fs
 
--- the first so many
-abbrev pub fontDictsBy : List ℕ → List ℕ → ℕ → ℕ → List (List ℕ)
-fontDictsBy sizes lens count from = dictsBy (take count sizes) (take count lens) from
+-- the Font DICTs with these FontMatrix entries and Private DICTs of these sizes, the parts that hold them being so long and standing one behind
+-- the other from a place on
+unfoldable pub dictsBy : List (List ℕ) → List ℕ → List ℕ → ℕ → List (List ℕ)
+dictsBy [] sizes lens from = []
+dictsBy (m ∷ ms) [] lens from = []
+dictsBy (m ∷ ms) (s ∷ ss) [] from = []
+dictsBy (m ∷ ms) (s ∷ ss) (l ∷ ls) from = (m ++ privateEntry s from) ∷ dictsBy ms ss ls (from + l)
 
--- there are so many, and the five-byte form holds the sizes and the places
-pub record Placed (sizes lens : List ℕ) (count from : ℕ) : Type 0 where
-  pub few : count < 65536
+-- of the first so many FDs of a list
+abbrev pub fontDictsBy : Program → List ℕ → List ℕ → List ℕ → ℕ → ℕ → List (List ℕ)
+fontDictsBy p fds sizes lens count from = dictsBy (matricesBy p (take count fds)) (take count sizes) (take count lens) from
+
+-- there are so many, FDs of the font, their INDEX is not too long, and the five-byte form holds the sizes and the places
+pub record Placed (p : Program) (fds sizes lens : List ℕ) (count from : ℕ) : Type 0 where
+  pub few : count ≤ 256
+  pub listed : count ≤ length fds
+  pub there : (k : ℕ) → k < count → getD fds k 0 < length (p .privates)
+  pub short : total (fontDictsBy p fds sizes lens count from) < 4294967295
   pub sized : count ≤ length sizes
   pub long : count ≤ length lens
   pub small : (k : ℕ) → k < count → getD sizes k 0 < 2147483648

@@ -1,20 +1,27 @@
 // The Private DICTs of a subset and the Font DICTs of a CID-keyed one, measured first and then written (the Rust's subset and subset_cid).
 ghost use mathlib.Core.Path.{_≡_};
-ghost use Prim.Native.Nat.{_+_, _≤_, _<_};
-ghost use lib.ListN.{length};
+ghost use mathlib.Core.Bool.{true};
+ghost use mathlib.Core.List.{_++_};
+ghost use Prim.Native.Nat.{ℕ, _+_, _≤_, _<_};
+ghost use lib.ListN.{length, take, getD};
 ghost use Rattle.octets.specs.Octets.{Wrote};
 ghost use Rattle.dict.specs.Places.{entriesOf};
-ghost use Rattle.index.specs.Write.{indexBytes};
+ghost use Rattle.dict.specs.Op.{fontMatrix};
+ghost use Rattle.dict_write.specs.Written.{copiedEntry, privateEntry};
+ghost use Rattle.index.specs.Write.{total, indexBytes};
 ghost use Rattle.cff.specs.Font.{got};
 ghost use Rattle.cff.specs.Reads.{GoodPrivate, GoodFont, programOf, fdPrivate};
 ghost use Rattle.cff.specs.Reads as reads;
 ghost use Rattle.subset.specs.Kept.{privateOf};
-ghost use Rattle.private_dicts.specs.Privates.{FdRead, privateDictBy, fontDictsBy, Placed};
+ghost use Rattle.subset.specs.Subset.{matrixOf};
+ghost use Rattle.private_dicts.specs.Privates.{FdRead, privateDictBy, matricesBy, fontDictsBy, Placed};
 use cff::font::Font;
 use cff::private::PrivateAt;
 use cff::private::PrivateRead;
 use dict::op::Op;
+use dict_write::copied_len;
 use dict_write::private_len;
+use dict_write::put_copied;
 use dict_write::put_offset_entry;
 use dict_write::put_private;
 use dict_write::put_private_entry;
@@ -92,9 +99,57 @@ pub fn put_dict(font: &[u8], q: PrivateAt, left: usize, out: &mut [u8], at: usiz
     put_bytes(d, left, out, at)
 }
 
-// The FD INDEX: Font DICTs of a Private entry each, for parts of these lengths that stand one behind the other, the first at `from`; the
-// place after it.
+// The length of the FontMatrix of an FD, as it is copied.
+fn matrix_len(font: &[u8], f: Font, fd: usize) -> usize
+    requires { ⌜ (length (now font) ≤ 67108864) × (GoodFont (now font) f) × (f .cid ≡ true) × (fd < length (programOf (now font) f .privates)) ⌝ }
+    ensures { λ r. ⌜ (r ≡ length (copiedEntry fontMatrix (matrixOf (programOf (now (font .entry)) f) fd))) × (r ≤ 7000000000) ⌝ }
+{
+    let dicts = f.dicts;
+    let d = index::item(font, dicts, fd);
+    copied_len(d, Op::FONT_MATRIX)
+}
+
+// The length of the FontMatrix entries of the first so many FDs of a list.
+pub fn matrices_len(font: &[u8], f: Font, fds: &[usize], count: usize) -> usize
+    requires { ⌜ (length (now font) ≤ 67108864) × (GoodFont (now font) f) × (f .cid ≡ true) × (count ≤ 256) × (count ≤ length (now fds))
+        × ((k : ℕ) → k < count → getD (now fds) k 0 < length (programOf (now font) f .privates)) ⌝ }
+    ensures { λ r. ⌜ (r ≡ total (matricesBy (programOf (now (font .entry)) f) (take count (now (fds .entry))))) × (r ≤ 1792000000000) ⌝ }
+{
+    let mut len: usize = 0;
+    let mut k: usize = 0;
+    while k < count {
+        len += matrix_len(font, f, fds[k]);
+        k += 1;
+    }
+    len
+}
+
+// A Font DICT: the FontMatrix of the FD, and a Private DICT of a size at a place; the place after it.
+fn put_font_dict(
+    font: &[u8],
+    f: Font,
+    fd: usize,
+    size: usize,
+    place: usize,
+    out: &mut [u8],
+    at: usize,
+) -> usize
+    requires { ⌜ (GoodFont (now font) f) × (f .cid ≡ true) × (fd < length (programOf (now font) f .privates)) × (size < 2147483648) × (place < 2147483648)
+        × (at + length (copiedEntry fontMatrix (matrixOf (programOf (now font) f) fd) ++ privateEntry size place) ≤ length (now out)) ⌝ }
+    ensures { λ r. ⌜ Wrote (now (out .entry)) at (copiedEntry fontMatrix (matrixOf (programOf (now (font .entry)) f) fd) ++ privateEntry size place) (now (out .exit)) r ⌝ }
+{
+    let dicts = f.dicts;
+    let d = index::item(font, dicts, fd);
+    let p = put_copied(d, Op::FONT_MATRIX, &mut *out, at);
+    put_private_entry(size, place, out, p)
+}
+
+// The FD INDEX: the Font DICTs of the first so many FDs of a list, for parts of these lengths that stand one behind the other, the first at
+// `from`; the place after it.
 pub fn put_font_dicts(
+    font: &[u8],
+    f: Font,
+    fds: &[usize],
     sizes: &[usize],
     lens: &[usize],
     count: usize,
@@ -102,17 +157,20 @@ pub fn put_font_dicts(
     out: &mut [u8],
     at: usize,
 ) -> usize
-    requires { ⌜ (Placed (now sizes) (now lens) count from) × (at < 4294967296)
-        × (at + length (indexBytes (fontDictsBy (now sizes) (now lens) count from)) ≤ length (now out)) ⌝ }
-    ensures { λ r. ⌜ Wrote (now (out .entry)) at (indexBytes (fontDictsBy (now (sizes .entry)) (now (lens .entry)) count from)) (now (out .exit)) r ⌝ }
+    requires { ⌜ (length (now font) ≤ 67108864) × (GoodFont (now font) f) × (f .cid ≡ true)
+        × (Placed (programOf (now font) f) (now fds) (now sizes) (now lens) count from) × (at < 4294967296)
+        × (at + length (indexBytes (fontDictsBy (programOf (now font) f) (now fds) (now sizes) (now lens) count from)) ≤ length (now out)) ⌝ }
+    ensures { λ r. ⌜ Wrote (now (out .entry)) at
+        (indexBytes (fontDictsBy (programOf (now (font .entry)) f) (now (fds .entry)) (now (sizes .entry)) (now (lens .entry)) count from)) (now (out .exit)) r ⌝ }
 {
-    let ix = index::index_for(at, count, 11 * count);
-    index::put_head(out, at, count, 11 * count);
+    let total = matrices_len(font, f, fds, count) + 11 * count;
+    let ix = index::index_for(at, count, total);
+    index::put_head(out, at, count, total);
     let mut p = ix.base + 1;
     let mut place = from;
     let mut k: usize = 0;
     while k < count {
-        p = put_private_entry(sizes[k], place, &mut *out, p);
+        p = put_font_dict(font, f, fds[k], sizes[k], place, &mut *out, p);
         index::put_end(&mut *out, ix, k, p);
         place += lens[k];
         k += 1;

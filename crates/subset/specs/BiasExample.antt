@@ -28,6 +28,7 @@ manyLocals =
       ids = 0 ∷ 1 ∷ [];
       privates = (record { entries = []; locals = replicate 1240 (0x0b ∷ []) }) ∷ [];
       fds = 0 ∷ 0 ∷ [];
+      dicts = [];
     }
 
 -- the record

@@ -11,14 +11,15 @@ use Rattle.decimal.specs.Decimal.{zerosOf, zeros, stripped, normal, whole}
 use Rattle.decimal.specs.Number.{numberAt, realAt}
 use Rattle.decimal.specs.Values.{truncOf}
 use Rattle.dict.specs.Dict.{tokenAt, operatorAt, entryFrom, entryAt, readingsFrom, readingsAt, gathered, dictOf}
-use Rattle.dict.specs.Op.{subrs, ros}
+use Rattle.dict.specs.Op.{private, subrs, ros}
+use Rattle.dict.specs.Places.{listed}
 use Rattle.dict.specs.Lookup.{lastFrom, lastOf}
 use Rattle.charset.specs.Listed.{listOf}
 use Rattle.charset.specs.Charset.{idsFrom, charsetAt}
 use Rattle.charset.specs.FdSelect as select
 use Rattle.unfold.specs.Unfold.{Row, local, global, entered, masked}
 use Rattle.record.specs.Record.{rowsFrom, rowsOf}
-use Rattle.cff.specs.Font.{got, Program, charset, charStrings, fdArray, fdSelect, readFont, setAt, fontsAt, fontAt, cidParts, fdsAt, idsAt, privatesAt, privateAt, privateData, localsAt, emptyPrivate}
+use Rattle.cff.specs.Font.{got, Program, charset, charStrings, fdArray, fdSelect, readFont, setAt, fontsAt, fontAt, cidParts, fdsAt, idsAt, dictsAt, privatesAt, privateAt, privateData, localsAt, emptyPrivate}
 
 -- the font's bytes
 abbrev pub cidFont : List ℕ
@@ -81,6 +82,11 @@ cidProgram =
           })
           ∷ [];
       fds = 0 ∷ 2 ∷ 2 ∷ 0 ∷ 2 ∷ [];
+      dicts =
+          ((record { op = private; operands = whole 2 ∷ whole 119 ∷ [] }) ∷ [])
+          ∷ []
+          ∷ ((record { op = private; operands = whole 4 ∷ whole 131 ∷ [] }) ∷ [])
+          ∷ [];
     }
 
 -- and that reading gives it
@@ -88,7 +94,7 @@ pub reads : readFont cidFont ≡ got cidProgram
 unfolding
     readFont setAt fontsAt fontAt cidParts fdsAt idsAt privatesAt privateAt privateData localsAt readIndex told itemsOf pieces indexAt tableAt dataAt judged runOf
     offsets numAt be dictOf gathered readingsAt readingsFrom entryAt entryFrom tokenAt operatorAt numberAt realAt normal stripped zeros zerosOf truncOf lastOf
-    lastFrom listOf idsFrom charsetAt select.fdSelectAt allBelow
+    lastFrom listOf idsFrom charsetAt select.fdSelectAt allBelow dictsAt listed
 reads = refl
 
 -- the record of glyphs 0, 1, 3 and 4, as the Rust's trace gives it

@@ -12,6 +12,7 @@ pub mod Examples
 pub mod CidFont
 pub mod BodiesExample
 pub mod CidExample
+pub mod MatrixExample
 pub mod NameExample
 pub mod BiasExample
 pub mod RecordExample

@@ -83,6 +83,7 @@ nameProgram =
           })
           ∷ [];
       fds = 0 ∷ 0 ∷ 0 ∷ [];
+      dicts = [];
     }
 
 -- and that reading gives it

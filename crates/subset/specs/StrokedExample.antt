@@ -43,7 +43,7 @@ use Rattle.subset.specs.Cut.{Outcome, refused, subset, allFound, cutOf}
 -- ---- name-keyed
 
 -- the font, with further entries of its top DICT
-abbrev nameFont : List ℕ → List ℕ
+abbrev pub nameFont : List ℕ → List ℕ
 nameFont es =
     -- header
     0x01 ∷ 0x00 ∷ 0x04 ∷ 0x01
@@ -54,11 +54,11 @@ nameFont es =
     -- strings, global subroutines: none
     ++ (0x00 ∷ 0x00 ∷ 0x00 ∷ 0x00 ∷ []))
 
-abbrev byName : List ℕ → Outcome
+abbrev pub byName : List ℕ → Outcome
 byName es = cutOf false (nameFont es) (0x41 ∷ []) [] [] 1 8192 32768
 
 -- its subset, without either entry
-abbrev nameSubset : Outcome
+abbrev pub nameSubset : Outcome
 nameSubset =
     subset 0
     (0x01 ∷ 0x00 ∷ 0x04 ∷ 0x01 ∷ 0x00 ∷ 0x01 ∷ 0x01 ∷ 0x01 ∷ 0x02 ∷ 0x41 ∷ 0x00 ∷ 0x01 ∷ 0x01 ∷ 0x01 ∷ 0x18 ∷ 0x1d
@@ -78,15 +78,8 @@ unfolding
     dict.operatorAt dict.tokenAt font.readFont font.setAt font.fontsAt font.fontAt font.nameParts font.privateAt font.idsAt font.encodingGot listOf
 name-stroked = (refl, refl, refl, refl)
 
--- neither; PaintType 0; of two operands; of none; the last of 1 and 0; StrokeWidth alone; PaintType 0 and StrokeWidth
-name-filled :
-    (byName [] ≡ nameSubset)
-    × (byName (0x8b ∷ 0x0c ∷ 0x05 ∷ []) ≡ nameSubset)
-    × (byName (0x8c ∷ 0x8c ∷ 0x0c ∷ 0x05 ∷ []) ≡ nameSubset)
-    × (byName (0x0c ∷ 0x05 ∷ []) ≡ nameSubset)
-    × (byName (0x8c ∷ 0x0c ∷ 0x05 ∷ 0x8b ∷ 0x0c ∷ 0x05 ∷ []) ≡ nameSubset)
-    × (byName (0x8c ∷ 0x0c ∷ 0x08 ∷ []) ≡ nameSubset)
-    × (byName (0x8b ∷ 0x0c ∷ 0x05 ∷ 0x8c ∷ 0x0c ∷ 0x08 ∷ []) ≡ nameSubset)
+-- StrokeWidth alone: dropped. cut_examples has the other fonts that are not refused
+name-width : byName (0x8c ∷ 0x0c ∷ 0x08 ∷ []) ≡ nameSubset
 unfolding
     cutOf allBelow allFound subsetBytes subsetByName newIds namedBytes copiedBytes namesOf textsOf namedEntries newId placeIn ownStrings hasText pruned renumbered
     renumberedSubrs renumberedBody each countBelow those isIn fdsOf recordFine rowsFine rowsOf rowsFrom lists givenIn twoLengths disagrees renumberCharstring renumber
@@ -95,12 +88,12 @@ unfolding
     offsets encode bytesOf numAt be keep24 rounded t2.numberAt t2e.numberBytes t2e.integerBytes t2e.fixedBytes tok.tokensOf tok.tokensFrom tok.tokenAt dec.numberAt dec.realAt
     decw.int5Bytes decw.numberBytes decw.intBytes dict.dictOf dict.gathered dict.readingsAt dict.readingsFrom dict.entryAt dict.entryFrom dict.operatorAt dict.tokenAt
     font.readFont font.setAt font.fontsAt font.fontAt font.nameParts font.privateAt font.idsAt font.encodingGot cfffind.localsTotal
-name-filled = (refl, refl, refl, refl, refl, refl, refl)
+name-width = refl
 
 -- ---- CID-keyed
 
 -- the font, with the operands of ROS and further entries of its top DICT
-abbrev cidFont : List ℕ → List ℕ → List ℕ
+abbrev pub cidFont : List ℕ → List ℕ → List ℕ
 cidFont ros es =
     -- header
     0x01 ∷ 0x00 ∷ 0x04 ∷ 0x01
@@ -112,14 +105,14 @@ cidFont ros es =
     ++ (0x00 ∷ 0x00 ∷ 0x00 ∷ 0x00 ∷ []))))
 
 -- with a ROS of three operands; and with one of none, which cannot be used
-abbrev byCid : List ℕ → Outcome
+abbrev pub byCid : List ℕ → Outcome
 byCid es = cutOf true (cidFont (0x8b ∷ 0x8b ∷ 0x8b ∷ []) es) (0x41 ∷ []) [] [] 1 8192 32768
 
-abbrev badRos : List ℕ → Outcome
+abbrev pub badRos : List ℕ → Outcome
 badRos es = cutOf true (cidFont [] es) (0x41 ∷ []) [] [] 1 8192 32768
 
 -- its subset, without either entry
-abbrev cidSubset : Outcome
+abbrev pub cidSubset : Outcome
 cidSubset =
     subset 0
     (0x01 ∷ 0x00 ∷ 0x04 ∷ 0x01 ∷ 0x00 ∷ 0x01 ∷ 0x01 ∷ 0x01 ∷ 0x02 ∷ 0x41 ∷ 0x00 ∷ 0x01 ∷ 0x01 ∷ 0x01 ∷ 0x25 ∷ 0x8b
@@ -140,21 +133,3 @@ unfolding
     dec.realAt dict.dictOf dict.gathered dict.readingsAt dict.readingsFrom dict.entryAt dict.entryFrom dict.operatorAt dict.tokenAt font.readFont font.setAt
     font.fontsAt font.fontAt font.cidParts font.fdsAt font.idsAt font.privatesAt font.privateAt font.privateData font.localsAt listOf
 cid-stroked = (refl, refl, refl, refl)
-
--- neither; PaintType 0; of two operands; StrokeWidth alone
-cid-filled :
-    (byCid [] ≡ cidSubset)
-    × (byCid (0x8b ∷ 0x0c ∷ 0x05 ∷ []) ≡ cidSubset)
-    × (byCid (0x8c ∷ 0x8c ∷ 0x0c ∷ 0x05 ∷ []) ≡ cidSubset)
-    × (byCid (0x8c ∷ 0x0c ∷ 0x08 ∷ []) ≡ cidSubset)
-unfolding
-    cutOf allBelow allFound glyphWithId subsetBytes subsetByCid newFds cidsOf fontDicts privateParts copiedBytes namedBytes textsOf namedEntries newId placeIn ownStrings
-    hasText pruned renumbered renumberedSubrs renumberedBody each countBelow those isIn placed sortedBy fdsOf newFd recordFine rowsFine rowsOf rowsFrom lists givenIn
-    twoLengths disagrees renumberCharstring renumber stringText standardString standardStrings sidOf sidIn codes sameText standardNames charsetBytes idBytes
-    select.changes select.entryBytes select.fdSelectBytes listOf opBytes operandsBytes entryBytes entriesBytes offsetEntry copiedEntry privateEntry without lastOf
-    lastFrom truncOf normal stripped zeros zerosOf indexBytes itemsBytes headBytes tableBytes ends sizeFor joined total readIndex told itemsOf pieces indexAt tableAt
-    dataAt judged runOf offsets encode bytesOf numAt be keep24 rounded t2.numberAt t2e.numberBytes t2e.integerBytes t2e.fixedBytes tok.tokensOf tok.tokensFrom
-    tok.tokenAt dec.numberAt dec.realAt decw.int5Bytes decw.numberBytes decw.intBytes dict.dictOf dict.gathered dict.readingsAt dict.readingsFrom dict.entryAt
-    dict.entryFrom dict.operatorAt dict.tokenAt font.readFont font.setAt font.fontsAt font.fontAt font.cidParts font.fdsAt font.idsAt font.privatesAt font.privateAt
-    font.privateData font.localsAt cfffind.localsTotal
-cid-filled = (refl, refl, refl, refl)

@@ -7,7 +7,7 @@ use lib.Dec.{eqb}
 use lib.ListN.{length, getD}
 use Rattle.octets.specs.Pick.{pick}
 use Rattle.decimal.specs.Decimal.{normal, whole}
-use Rattle.dict.specs.Op.{subrs, ros, cidCount, copiedTopEntries, copiedTopStrings}
+use Rattle.dict.specs.Op.{subrs, fontMatrix, ros, cidCount, copiedTopEntries, copiedTopStrings}
 use Rattle.dict.specs.Dict.{Entry}
 use Rattle.dict.specs.Lookup.{Operands, absent, operands, lastOf, rosIn, cidCountIn, cidKeyed}
 use Rattle.dict.specs.declared.RosIn.{RosIn}
@@ -52,6 +52,13 @@ privateDict q ls = privateBytes (q .entries) ++ pick (eqb (length ls) 0) [] (off
 abbrev pub privatePart : Private → List (List ℕ) → List ℕ
 privatePart q ls = privateDict q ls ++ pick (eqb (length ls) 0) [] (indexBytes ls)
 
+-- a Font DICT: the last FontMatrix entry of the FD, as a copied top entry is (document 02, Wish 2), then Private
+abbrev pub matrixOf : Program → ℕ → Operands
+matrixOf p f = lastOf fontMatrix (getD (p .dicts) f [])
+
+abbrev pub fontDict : Program → ℕ → ℕ → ℕ → List ℕ
+fontDict p f size at = copiedEntry fontMatrix (matrixOf p f) ++ privateEntry size at
+
 -- those of the FDs in use, one behind the other; and their Font DICTs, the first Private standing at a place
 unfoldable pub privateParts : Program → List ℕ → List (List (List ℕ)) → List ℕ
 privateParts p [] lss = []
@@ -62,7 +69,7 @@ unfoldable pub fontDicts : Program → ℕ → List ℕ → List (List (List ℕ
 fontDicts p at [] lss = []
 fontDicts p at (f ∷ fs) [] = []
 fontDicts p at (f ∷ fs) (ls ∷ lss) =
-    privateEntry (length (privateDict (privateOf p f) ls)) at ∷ fontDicts p (at + length (privatePart (privateOf p f) ls)) fs lss
+    fontDict p f (length (privateDict (privateOf p f) ls)) at ∷ fontDicts p (at + length (privatePart (privateOf p f) ls)) fs lss
 
 -- ---- name-keyed
 

@@ -10,7 +10,6 @@ use lib.Dec.{eqb, lit≤, lit<}
 use lib.ListN.{length, drop, getD, length-append, drop-of-length-le}
 use lib.Seq.{drop-cons}
 use Rattle.octets.specs.Pick.{pick}
-use Rattle.octets.specs.Octets.{Octets}
 use Rattle.decimal.specs.declared.Signed.{Signed}
 use Rattle.decimal.specs.Decimal.{normal, whole}
 use Rattle.decimal.specs.Values.{truncOf, i32Of}
@@ -19,16 +18,14 @@ use Rattle.decimal.specs.TakenLaws.{whole-normal}
 use Rattle.dict.specs.Op.{isOperator, ros, cidCount, copiedTopEntries, copiedTopStrings}
 use Rattle.dict.specs.Dict.{Entry}
 use Rattle.dict.specs.Lookup.{Operands, absent, operands, lastOf, oneOf, rosAs, rosIn, countAs, cidCountIn}
-use Rattle.dict.specs.Places.{entriesOf, placeOf}
-use Rattle.dict.specs.declared.Found.{Found}
-use Rattle.dict.specs.declared.Found.the-variants.{Absent, Entry as FoundAt}
+use Rattle.dict.specs.Places.{entriesOf}
 use Rattle.dict.specs.declared.One.{One}
 use Rattle.dict.specs.declared.One.the-variants.{Number, Absent as NoNumber}
 use Rattle.dict.specs.declared.RosIn.{RosIn}
 use Rattle.dict.specs.declared.RosIn.the-variants.{Ros, None}
 use Rattle.dict_write.specs.Written.{opBytes, copiedEntry}
-use Rattle.dict_write.specs.WriteLaws.{offset-length, private-length, copied-absent, copied-found}
-use Rattle.dict_write.specs.ShortLaws.{number-short, entry-short}
+use Rattle.dict_write.specs.WriteLaws.{offset-length, private-length}
+use Rattle.dict_write.specs.ShortLaws.{number-short}
 use Rattle.subset.specs.Subset.{copiedBytes}
 use Rattle.top_dict.specs.Top.{Filled, valueEntry, slotEntry, slotEntries, idsBytes, rosOf, carried, namedOffsets, glyphOffsets, cidOffsets, topNamed, cidFront, topCid, topLen}
 use Rattle.top_dict.specs.Writing.{Split, split-append, split-length}
@@ -124,16 +121,6 @@ copied-next es k h op i =
 pub copied-over : (es : List Entry) (k : ℕ) → 6 ≤ k → copiedFrom es k ≡ []
 unfolding copiedBytes
 copied-over es k h = ap (copiedBytes es) (drop-of-length-le copiedTopEntries {i = k} h)
-
--- ---- what is copied is not much longer than the DICT
-
-module _ (b : List ℕ) (o : Octets b) (few : length b ≤ 67108864) where
-  found-short : (op : ℕ) (r : Found) → r ≡ placeOf op b → length (copiedEntry op (lastOf op (entriesOf b))) ≤ 7000000000
-  found-short op Absent e = omega (arith, ap length (copied-absent b op Absent e refl))
-  found-short op (FoundAt start end count) e = omega (arith, ap length (copied-found b op (FoundAt start end count) e start end count refl), entry-short b o op count start)
-
-  pub copied-short : (op : ℕ) → length (copiedEntry op (lastOf op (entriesOf b))) ≤ 7000000000
-  copied-short op = found-short op (placeOf op b) refl
 
 -- ---- ROS and CIDCount
 

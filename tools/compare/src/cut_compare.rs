@@ -51,6 +51,7 @@ pub fn compare(library: &Library, case: &Case, seed: u64, tally: &mut CutTally, 
     let mut g = Generator::new(mixed(seed ^ file, case.number as u64));
     let mut given = false;
     for cut in asks(&mut g, &opened) {
+        let inside = inside && domain::inside_too(&case.font, &before, &cut, WISHES);
         let outcome = cut::cut(opened.bytes, opened.read, opened.program, &cut);
         if panicked(case, seed, &cut, &outcome, tally) {
             continue;

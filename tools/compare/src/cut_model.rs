@@ -16,6 +16,7 @@ use std::collections::{BTreeMap, BTreeSet};
 
 const ROS: u16 = 12 << 8 | 30;
 const CID_COUNT: u16 = 12 << 8 | 34;
+const FONT_MATRIX: u16 = 12 << 8 | 7;
 /// The six string entries and the eight others that a subset copies.
 const STRING_ENTRIES: [u16; 6] = [0, 1, 12 << 8, 2, 3, 4];
 const ENTRIES: [u16; 8] = [
@@ -26,7 +27,7 @@ const ENTRIES: [u16; 8] = [
     12 << 8 | 4,
     12 << 8 | 5,
     12 << 8 | 8,
-    12 << 8 | 7,
+    FONT_MATRIX,
 ];
 /// PaintType and StrokeWidth, which document 02, Wish 11, drops.
 const STROKES: [u16; 2] = [12 << 8 | 5, 12 << 8 | 8];
@@ -258,12 +259,14 @@ impl Model<'_> {
             parts.push(fd_select(&select));
         }
         parts.push(index(&charstrings));
-        let fd_length = index(&vec![vec![0; 11]; self.fds.len()]).len();
+        let matrices: Vec<Vec<u8>> = self.fds.iter().map(|&fd| self.matrix(fd)).collect();
+        let measured: Vec<Vec<u8>> = matrices.iter().map(|m| vec![0; m.len() + 11]).collect();
+        let fd_length = index(&measured).len();
         let mut private_at =
             at + parts.iter().map(Vec::len).sum::<usize>() + if cid_keyed { fd_length } else { 0 };
         let mut entries = Vec::new();
-        for (length, bytes) in &privates {
-            entries.push([five(*length), five(private_at), vec![18]].concat());
+        for ((length, bytes), matrix) in privates.iter().zip(matrices) {
+            entries.push([matrix, five(*length), five(private_at), vec![18]].concat());
             private_at += bytes.len();
         }
         if cid_keyed {
@@ -294,6 +297,17 @@ impl Model<'_> {
             .rev()
             .find(|e| e.0 == operator)
             .map(|e| &e.1)
+    }
+
+    /// Document 02, Wish 2: the last FontMatrix of an FD, which stands before Private in the new one.
+    fn matrix(&self, fd: u8) -> Vec<u8> {
+        let mut out = Vec::new();
+        let last = self.parts.matrices.get(usize::from(fd));
+        if let Some(Some(operands)) = last.filter(|_| self.wishes.contains(&2)) {
+            operands.iter().for_each(|n| decimal(n, &mut out));
+            operator(FONT_MATRIX, &mut out);
+        }
+        out
     }
 
     /// The new id of an old one's text.

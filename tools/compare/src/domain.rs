@@ -4,7 +4,8 @@
 //! Inside, the library, the model with its switches on and the original must agree. Outside, the library must agree with the
 //! model with its switches on, and the original with the model that has them off, which is document 01's.
 
-use crate::model::Reading;
+use crate::cut::Cut;
+use crate::model::{self, Reading};
 
 /// Wishes of document 02 by their numbers: the switches of a model that are on.
 pub type Wishes = &'static [u8];
@@ -13,7 +14,7 @@ pub type Wishes = &'static [u8];
 pub const NONE: Wishes = &[];
 
 /// The model of the library: the wishes that it follows.
-pub const WISHES: Wishes = &[5, 11];
+pub const WISHES: Wishes = &[2, 5, 11];
 
 /// What is asked of a font: what reading gives, items and finding among it, or a subset.
 #[derive(Clone, Copy, Debug, PartialEq, Eq)]
@@ -42,6 +43,23 @@ pub fn inside(call: Call, reading: &Reading, wishes: Wishes) -> bool {
     let strokes =
         wishes.contains(&11) && call == Call::Subset && (has(PAINT_TYPE) || has(STROKE_WIDTH));
     !begins_elsewhere && !strokes
+}
+
+/// Whether a cut of a font in the domain is in it too. Wish 2, 'Letter size in CID fonts': "the Rust is the reference for fonts whose
+/// used FDs have no FontMatrix".
+pub fn inside_too(font: &[u8], reading: &Reading, cut: &Cut, wishes: Wishes) -> bool {
+    let glyphs = match &reading.font {
+        Ok(font) if wishes.contains(&2) && reading.notes.contains(FD_MATRIX) => font.charset.len(),
+        _ => return true,
+    };
+    let Some(parts) = model::parts(font, glyphs) else {
+        return true;
+    };
+    let sized = |&glyph: &u16| {
+        let fd = parts.select.get(usize::from(glyph));
+        fd.is_some_and(|&fd| matches!(parts.matrices.get(usize::from(fd)), Some(Some(_))))
+    };
+    !cut.keep.iter().chain([&0]).any(sized)
 }
 
 /// Notes with the wish that speaks of them. Few stored cases have one, so that a wish changes few lines.

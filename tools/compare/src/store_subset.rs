@@ -125,8 +125,13 @@ fn candidates(seed: u64) -> Vec<Candidate> {
                 continue;
             }
             // Outside the domain the model's answer is stored.
-            let stored = (!domain::inside(Call::Subset, &before, WISHES))
-                .then(|| cut::by_model(&case.font, read, opened.program, &cut, WISHES));
+            let inside = domain::inside(Call::Subset, &before, WISHES)
+                && domain::inside_too(&case.font, &before, &cut, WISHES);
+            let stored =
+                (!inside).then(|| cut::by_model(&case.font, read, opened.program, &cut, WISHES));
+            // A subset that a wish makes longer is lent so much more.
+            let length = stored.as_ref().map_or(0, length);
+            let more = length.saturating_sub(self::length(&outcome));
             for lent in cut_compare::lents(&mut g, &outcome) {
                 let answer = outcome.answer(lent);
                 let Some(plain) = line(&case.font, &cut, lent, &answer) else {
@@ -135,6 +140,8 @@ fn candidates(seed: u64) -> Vec<Candidate> {
                 let stored = match &stored {
                     None => plain.clone(),
                     Some(stored) => {
+                        let room = lent.room + more;
+                        let lent = Lent { room, ..lent };
                         let stored = stored.answer(lent);
                         line(&case.font, &cut, lent, &stored).expect("no longer than another")
                     }
@@ -153,6 +160,13 @@ fn candidates(seed: u64) -> Vec<Candidate> {
         }
     }
     all
+}
+
+fn length(outcome: &Outcome) -> usize {
+    match outcome {
+        Outcome::Ready(_, Ok(subset)) => subset.bytes.len(),
+        _ => 0,
+    }
 }
 
 fn letter(cut: &Cut) -> char {

@@ -1,7 +1,6 @@
--- `cid_parts::place_parts` meets its contract: each place is the sum of the lengths before it, and the FD INDEX is short.
+-- `cid_parts::place_parts` meets its contract: each place is the sum of the lengths before it.
 use native.Mathlib.Omega.{arith}
 use Rattle.cid_parts.specs.Cid.{placesBy}
-use Rattle.cid_parts.specs.CidPlacesLaws.{dicts-short}
 use borrow.Author.Needs.{needs}
 use Rattle.cid_parts.proofs.place_parts.Statement.{statement}
 use Rattle.cid_parts.proofs.place_parts.Tie as tie
@@ -30,18 +29,21 @@ add-at4 c = search needs
 mul-index-len : tie.Need-mul-index-len
 mul-index-len c = search needs
 
+add-index-len : tie.Need-add-index-len
+add-index-len c = search needs
+
 index-len-requires : tie.Need-index-len-requires
 index-len-requires c κs = search needs
 
 add-at5 : tie.Need-add-at5
 add-at5 c =
     let h = c .before .pre in
-    omega (arith, c .index-len .ensures .0, dicts-short (c .before .args .count) (h .fds), h .front-small, h .globals-small, h .few, h .select-small, h .glyphs-small)
+    omega (arith, c .index-len .ensures .0, c .index-len .ensures .1, h .front-small, h .globals-small, h .few, h .select-small, h .glyphs-small)
 
 add-t14 : tie.Need-add-t14
 add-t14 c =
     let h = c .before .pre in
-    omega (arith, c .index-len .ensures .0, dicts-short (c .before .args .count) (h .fds), h .front-small, h .globals-small, h .few, h .select-small, h .glyphs-small, h .all-small)
+    omega (arith, c .index-len .ensures .0, c .index-len .ensures .1, h .front-small, h .globals-small, h .few, h .select-small, h .glyphs-small, h .all-small)
 
 returns : tie.Need-returns
 unfolding placesBy
@@ -60,6 +62,7 @@ place-parts-spec =
     add-at3
     add-at4
     mul-index-len
+    add-index-len
     index-len-requires
     add-at5
     add-t14

@@ -2,7 +2,8 @@
 use Prim.Native.Nat.{_-_, _*_, _≤_}
 use native.Mathlib.Omega.{arith}
 use Rattle.top_dict.specs.Writing.{Measuring, measuring-start, measuring-turn, measuring-end}
-use Rattle.top_dict.specs.TopLaws.{copiedFrom, copied-next, copied-over, copied-short}
+use Rattle.top_dict.specs.TopLaws.{copiedFrom, copied-next, copied-over}
+use Rattle.dict_write.specs.ShortLaws.{copied-short}
 use Rattle.dict.specs.Op.{copiedTopEntries}
 use Rattle.dict.specs.Places.{entriesOf}
 use Rattle.subset.specs.Subset.{copiedBytes}

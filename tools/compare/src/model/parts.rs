@@ -2,6 +2,7 @@
 
 use super::dict::{Dict, Entries, operator};
 use super::{Index, Reader, number};
+use crate::decimal::Decimal;
 use crate::domain::NONE;
 
 /// A Private and its local subroutines.
@@ -13,6 +14,8 @@ pub struct Private {
 /// What a subset is made of, beside what `Font` tells.
 pub struct Parts {
     pub top: Entries,
+    /// The operands of the last FontMatrix of each FD.
+    pub matrices: Vec<Option<Vec<Decimal>>>,
     /// Of each FD; of a name-keyed font the one.
     pub privates: Vec<Private>,
     /// The FD of each glyph.
@@ -25,6 +28,7 @@ pub fn parts(bytes: &[u8], glyphs: usize) -> Option<Parts> {
     let names = reader.index(u64::from(bytes[2]), "").ok()?;
     let tops = reader.index(names.end as u64, "").ok()?;
     let top = reader.dict(tops.span(bytes, 0), "").ok()?;
+    let mut matrices = Vec::new();
     let mut privates = Vec::new();
     let mut select = vec![0; glyphs];
     if top.last(operator::ROS).is_some() {
@@ -33,6 +37,7 @@ pub fn parts(bytes: &[u8], glyphs: usize) -> Option<Parts> {
             .ok()?;
         for k in 0..array.count {
             let fd = reader.dict(array.span(bytes, k), "").ok()?;
+            matrices.push(fd.last(operator::FONT_MATRIX).map(<[Decimal]>::to_vec));
             privates.push(reader.private_parts(&fd)?);
         }
         if let Some(at) = top.place(operator::FD_SELECT, "").ok()? {
@@ -43,6 +48,7 @@ pub fn parts(bytes: &[u8], glyphs: usize) -> Option<Parts> {
     }
     Some(Parts {
         top: top.entries,
+        matrices,
         privates,
         select,
     })
