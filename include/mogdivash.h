@@ -7,7 +7,7 @@
    bytes are. None keeps anything from one call to the next or allocates; of other libraries they call memcpy and memset alone.
 
    A slice is a pointer and the number of its elements. What is lent for writing must not overlap what else is lent, and a
-   uint16_t, uint32_t or uint64_t must be aligned. The calling thread must have 1.5 MiB of stack free for cff_subset and cff_subset_cid.
+   uint16_t, uint32_t or uint64_t must be aligned. The calling thread must have 1.5 MiB of stack free for cff_subset, cff_subset_cid and cff_trace.
    Beyond this there is nothing that a caller must keep.
 
    Time. A call is linear in its input but for three things, of which two come with hostile fonts and records: parts that the font
@@ -106,6 +106,23 @@ uint8_t cff_subset(const uint8_t *font, size_t font_len, const uint8_t *name, si
 uint8_t cff_subset_cid(const uint8_t *font, size_t font_len, const uint8_t *name, size_t name_len, const uint16_t *keep,
                        size_t keep_len, const uint8_t *record, size_t record_len, uint8_t traced, uint32_t *work,
                        size_t work_len, uint8_t *out, size_t out_len, uint64_t *answer, size_t answer_len);
+
+/* The words of the answer of tracing. */
+#define CFF_FLAG 0          /* 1, or 0 with an empty record where a kept glyph is not plain */
+#define CFF_RECORD_LENGTH 1 /* how many bytes the record has */
+#define CFF_TRACE_WORDS 2   /* how many words there are */
+
+/* Traces glyph 0 and the glyphs of the keep list: writes the reach record of document 01 to the start of record, ten bytes a row in
+   rising order without repeats, and answers two words: the flag and the length. What is written is what cff_subset and cff_subset_cid
+   take, with the flag for traced: a subset cut by it holds every plain kept glyph.
+
+   The refusals are reading's, then CFF_NO_SUCH_NUMBER, CFF_NOT_FOUND, and CFF_OUTPUT for a record that is longer than what is lent, or
+   for fewer than two words of answer. With a refusal record and answer stay as they were; bytes behind the record always do.
+
+   A glyph costs up to 65,536 steps a pass, whatever its size; there is one pass over the kept glyphs for each 65,536 rows, and as many
+   again to write them where there are more than 65,535. The calling thread must have 1.5 MiB of stack free. */
+uint8_t cff_trace(const uint8_t *font, size_t font_len, const uint16_t *keep, size_t keep_len, uint8_t *record,
+                  size_t record_len, uint64_t *answer, size_t answer_len);
 
 #ifdef __cplusplus
 }

@@ -185,8 +185,8 @@ def row(what, roots, lines=0):
     return f"| {what} | {len(ours)} | {sum(map(size, ours)) + lines} | {len(files)} | {len(seen) - len(ours)} |"
 
 
-C = ["cff_read", "cff_find_name", "cff_find_cid", "cff_item", "cff_item_refusal", "cff_subset", "cff_subset_cid"]
-ROOTS = {"`Faithful` (demand 3)": ({("faithful", "Faithful", "Faithful")}, 0), "`Cuts` (a call of subsetting)": ({("write", "Entry", "Cuts")}, 0)}
+C = ["cff_read", "cff_find_name", "cff_find_cid", "cff_item", "cff_item_refusal", "cff_subset", "cff_subset_cid", "cff_trace"]
+ROOTS = {"`Faithful` (demand 3)": ({("faithful", "Faithful", "Faithful")}, 0), "`Cuts` (a call of subsetting)": ({("outcome", "Entry", "Cuts")}, 0)}
 ROOTS |= {f"`{f}`": contract("capi", f) for f in C}
 table = ["| believed for | definitions | lines | files | names of the kit |", "|---|---|---|---|---|", *(row(w, *r) for w, r in ROOTS.items())]
 if "--list" in sys.argv:

@@ -2,8 +2,8 @@
 
        subset_glyphs FONT NAME OUTPUT GLYPH...
 
-   All subroutines are copied: the glyphs are not traced. A glyph that is composed of others (endchar with four operands) is kept
-   without its parts: name those too. */
+   The glyphs are traced: the subset has only the subroutines that they reach, or all where one of them is not plain. A glyph that is
+   composed of others (endchar with four operands) is not, and is kept without its parts: name those too. */
 
 #include <stdio.h>
 #include <stdlib.h>
@@ -70,6 +70,29 @@ static unsigned long glyph_number(const char *word)
     return glyph;
 }
 
+/* A reach record and its flag; it is asked for again with more room where there is too little. */
+struct record {
+    uint8_t *bytes;
+    size_t len;
+    uint8_t flag;
+};
+
+static struct record traced(const uint8_t *font, size_t font_len, const uint16_t *keep, size_t keep_len)
+{
+    for (size_t room = 65536;; room *= 4) {
+        uint8_t *bytes = allocated(room);
+        uint64_t answer[CFF_TRACE_WORDS];
+        uint8_t refusal = cff_trace(font, font_len, keep, keep_len, bytes, room, answer, CFF_TRACE_WORDS);
+        if (refusal == 0) {
+            struct record record = {bytes, (size_t)answer[CFF_RECORD_LENGTH], (uint8_t)answer[CFF_FLAG]};
+            return record;
+        }
+        free(bytes);
+        if (refusal != CFF_OUTPUT || room > SIZE_MAX / 4)
+            check(refusal);
+    }
+}
+
 int main(int argc, char **argv)
 {
     if (argc < 4)
@@ -88,6 +111,7 @@ int main(int argc, char **argv)
         keep[k] = (uint16_t)glyph;
     }
 
+    struct record record = traced(font, font_len, keep, keep_len);
     if (counts[CFF_WORK] > MOST_WORDS)
         check(CFF_WORK_WORDS);
     size_t work_len = (size_t)counts[CFF_WORK];
@@ -98,14 +122,16 @@ int main(int argc, char **argv)
     uint64_t answer[CFF_SUBSET_WORDS];
     uint8_t (*cut)(const uint8_t *, size_t, const uint8_t *, size_t, const uint16_t *, size_t, const uint8_t *, size_t, uint8_t,
                    uint32_t *, size_t, uint8_t *, size_t, uint64_t *, size_t) = counts[CFF_CID] ? cff_subset_cid : cff_subset;
-    check(cut(font, font_len, (const uint8_t *)argv[2], strlen(argv[2]), keep, keep_len, (const uint8_t *)"", 0, 0, work, work_len,
-              out, out_len, answer, CFF_SUBSET_WORDS));
+    check(cut(font, font_len, (const uint8_t *)argv[2], strlen(argv[2]), keep, keep_len, record.bytes, record.len, record.flag, work,
+              work_len, out, out_len, answer, CFF_SUBSET_WORDS));
 
     write_file(argv[3], out, (size_t)answer[CFF_LENGTH]);
-    printf("%zu of %llu glyphs kept, %llu of %zu bytes, way %llu\n", keep_len, (unsigned long long)counts[CFF_GLYPHS],
-           (unsigned long long)answer[CFF_LENGTH], font_len, (unsigned long long)answer[CFF_WAY]);
+    static const char *const ways[] = {"renumbered", "stubbed where they are not reached", "copied"};
+    printf("%zu of %llu glyphs kept, %llu of %zu bytes, subroutines %s\n", keep_len, (unsigned long long)counts[CFF_GLYPHS],
+           (unsigned long long)answer[CFF_LENGTH], font_len, ways[answer[CFF_WAY]]);
     free(out);
     free(work);
+    free(record.bytes);
     free(keep);
     free(font);
     return 0;

@@ -47,6 +47,18 @@ unsafe extern "C" {
     /// The refusal of that lookup, or 0.
     pub fn cff_item_refusal(font: *const u8, font_len: usize, kind: u8, number: u64) -> u8;
 
+    /// The reach record of the kept glyphs: font, kept numbers, record, answer (the flag and the length).
+    pub fn cff_trace(
+        font: *const u8,
+        font_len: usize,
+        keep: *const u16,
+        keep_len: usize,
+        record: *mut u8,
+        record_len: usize,
+        answer: *mut u64,
+        answer_len: usize,
+    ) -> u8;
+
     /// The subset of a name-keyed font: font, new name, kept numbers, record, flag, work words, output, answer.
     pub fn cff_subset(
         font: *const u8,

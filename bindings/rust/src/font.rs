@@ -155,6 +155,45 @@ impl<'a> Font<'a> {
         Ok(out)
     }
 
+    /// The reach record of glyph 0 and the glyphs of the keep list. It is [`Record::untraced`] where one of them is not plain
+    /// (document 01, 'Plain glyphs').
+    pub fn trace(&self, keep: &[u16]) -> Result<Record, Refusal> {
+        // Sheets have some hundred rows; where there is no room for a record, it is asked for again with more.
+        let mut wanted: usize = 1 << 16;
+        loop {
+            let mut rows = room(wanted).ok_or(Refusal::Output)?;
+            let mut answer = [0; ffi::ANSWER];
+            // SAFETY: the slices are lent for the call, which only writes to `rows`: its first bytes, as many as it answers.
+            let returned = unsafe {
+                ffi::cff_trace(
+                    self.bytes.as_ptr(),
+                    self.bytes.len(),
+                    keep.as_ptr(),
+                    keep.len(),
+                    rows.as_mut_ptr(),
+                    rows.capacity(),
+                    answer.as_mut_ptr(),
+                    answer.len(),
+                )
+            };
+            match Refusal::check(returned) {
+                Err(Refusal::Output) => wanted = wanted.checked_mul(4).ok_or(Refusal::Output)?,
+                Err(refusal) => return Err(refusal),
+                Ok(()) => {
+                    // SAFETY: the record stands in the first bytes.
+                    unsafe { rows.set_len(answer[1] as usize) };
+                    rows.shrink_to_fit();
+                    return Ok(Record::answered(answer[0] != 0, rows));
+                }
+            }
+        }
+    }
+
+    /// The subset of glyph 0 and the glyphs of the keep list, traced: [`Font::trace`] and then [`Font::subset`].
+    pub fn subset_traced(&self, name: &[u8], keep: &[u16]) -> Result<Subset, Refusal> {
+        self.subset(name, keep, &self.trace(keep)?)
+    }
+
     /// The subset of glyph 0 and the glyphs of the keep list under a new name. The record says which subroutines they
     /// reach. Work words and output are allocated for the call; W above 33,554,432 is refused by [`Refusal::Work`], and
     /// [`Font::subset_into`] takes as many as the caller lends.

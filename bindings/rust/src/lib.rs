@@ -5,7 +5,7 @@
 //! lent and gives its answer a type.
 //!
 //! ```no_run
-//! use mogdivash::{Font, Record};
+//! use mogdivash::Font;
 //!
 //! let bytes = std::fs::read("font.cff")?;
 //! let font = Font::read(&bytes)?;
@@ -13,7 +13,7 @@
 //!     .iter()
 //!     .filter_map(|name| font.find_name(name.as_bytes()))
 //!     .collect();
-//! let subset = font.subset(b"ABCDEF+Font", &keep, &Record::untraced())?;
+//! let subset = font.subset_traced(b"ABCDEF+Font", &keep)?;
 //! std::fs::write("subset.cff", &subset.bytes)?;
 //! # Ok::<(), Box<dyn std::error::Error>>(())
 //! ```

@@ -129,6 +129,14 @@ impl Record {
         }
     }
 
+    /// What tracing answered: its rows rise already.
+    pub(crate) fn answered(flag: bool, bytes: Vec<u8>) -> Record {
+        Record {
+            bytes,
+            traced: flag,
+        }
+    }
+
     /// The rows' bytes.
     pub fn bytes(&self) -> &[u8] {
         &self.bytes

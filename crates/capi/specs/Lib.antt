@@ -3,3 +3,5 @@ pub mod CapiLaws
 pub mod Numbers
 pub mod Subset
 pub mod SubsetLaws
+pub mod Trace
+pub mod TraceLaws

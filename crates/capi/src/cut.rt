@@ -9,7 +9,7 @@ use outcome::Answer;
 use refusal::Refusal;
 
 // The room for a subset: none where fewer than two words are lent for its answer.
-fn room_for(words: usize, room: usize) -> usize
+pub fn room_for(words: usize, room: usize) -> usize
     ensures { λ r. ⌜ r ≡ roomFor words room ⌝ }
 {
     if words < 2 {
@@ -19,7 +19,7 @@ fn room_for(words: usize, room: usize) -> usize
 }
 
 // Writes two numbers to the lent words.
-fn put_two(first: u64, second: u64, answer: &mut [u64]) -> u8
+pub fn put_two(first: u64, second: u64, answer: &mut [u64]) -> u8
     ensures { λ r. ⌜ Answers (given (first ∷ second ∷ [])) (now (answer .entry)) (now (answer .exit)) r ⌝ }
 {
     if answer.len() < 2 {

@@ -65,7 +65,7 @@ test-held true n g y h = (refl, h)
 test-held false n g y h = absurd (no cc)
 
 -- an INDEX that was got
-index-got : (r : Read) (items : List (List ℕ)) → indexGot r ≡ got items → (end : ℕ) × (r ≡ found items end)
+pub index-got : (r : Read) (items : List (List ℕ)) → indexGot r ≡ got items → (end : ℕ) × (r ≡ found items end)
 index-got (refusedRead n) items h = absurd (no cc)
 index-got (found l end) items h = let e : l ≡ items = cc in (end, ap (λ x. found x end) e)
 

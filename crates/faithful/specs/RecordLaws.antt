@@ -28,7 +28,7 @@ other-fails false u e f = absurd (zero-one cc)
 -- ---- rows
 
 -- rows with the same fields
-row-is : (r q : Row) → r .kind ≡ q .kind → r .fd ≡ q .fd → r .number ≡ q .number → r .offset ≡ q .offset → r .len ≡ q .len → r ≡ q
+pub row-is : (r q : Row) → r .kind ≡ q .kind → r .fd ≡ q .fd → r .number ≡ q .number → r .offset ≡ q .offset → r .len ≡ q .len → r ≡ q
 row-is r q a b c d e =
     ap (λ (k : ℕ). record { kind = k; fd = r .fd; number = r .number; offset = r .offset; len = r .len }) a
     ∙ ap (λ (f : ℕ). record { kind = q .kind; fd = f; number = r .number; offset = r .offset; len = r .len }) b
@@ -37,7 +37,7 @@ row-is r q a b c d e =
     ∙ ap (λ (l : ℕ). record { kind = q .kind; fd = q .fd; number = q .number; offset = q .offset; len = l }) e
 
 -- a row that is another one
-same-row : (r q : Row) → sameRow r q ≡ true → r ≡ q
+pub same-row : (r q : Row) → sameRow r q ≡ true → r ≡ q
 same-row r q e =
     let a = eqb (r .kind) (q .kind) in
     let b = eqb (r .fd) (q .fd) in

@@ -42,7 +42,7 @@ use Rattle.subset.specs.Cut.{Outcome, subset, allFound, written, cutRead
 use Rattle.subset.specs.ReachedLaws.{numbersBelow, lists-past, count-past}
 
 -- the font's bytes
-abbrev nameFont : List ℕ
+abbrev pub nameFont : List ℕ
 nameFont =
     -- header
     0x01 ∷ 0x00 ∷ 0x04 ∷ 0x01
@@ -63,7 +63,7 @@ nameFont =
     ∷ 0x8d ∷ 0x14 ∷ 0x8f ∷ 0x13 ∷ 0x00 ∷ 0x04 ∷ 0x01 ∷ 0x01 ∷ 0x02 ∷ 0x05 ∷ 0x06 ∷ 0x09 ∷ 0x0b ∷ 0x8d ∷ 0x16 ∷ 0x0b ∷ 0x0b ∷ 0x21 ∷ 0x0a ∷ 0x0b ∷ []
 
 -- what it holds
-abbrev nameProgram : Program
+abbrev pub nameProgram : Program
 nameProgram =
     record {
       top =
@@ -87,7 +87,7 @@ nameProgram =
     }
 
 -- and that reading gives it
-reads : readFont nameFont ≡ got nameProgram
+pub reads : readFont nameFont ≡ got nameProgram
 unfolding
     readFont setAt fontsAt fontAt nameParts idsAt privateAt privateData localsAt encodingGot readIndex told itemsOf pieces indexAt tableAt dataAt judged runOf offsets
     numAt be dictOf gathered readingsAt readingsFrom entryAt entryFrom tokenAt operatorAt numberAt realAt normal stripped zeros zerosOf truncOf lastOf lastFrom
@@ -95,7 +95,7 @@ unfolding
 reads = refl
 
 -- the record, as the Rust's trace gives it
-abbrev reach : List ℕ
+abbrev pub reach : List ℕ
 reach =
     0x00 ∷ 0x00 ∷ 0x00 ∷ 0x01 ∷ 0x00 ∷ 0x00 ∷ 0x00 ∷ 0x00 ∷ 0x00 ∷ 0x00
     ∷ 0x00 ∷ 0x00 ∷ 0x00 ∷ 0x03 ∷ 0x00 ∷ 0x00 ∷ 0x00 ∷ 0x00 ∷ 0x00 ∷ 0x00 ∷ []
@@ -159,7 +159,7 @@ bodies-renumbered = simp (few-reached, below-four, below-three, below-one, no-gl
 -- ---- the whole
 
 -- the call, with a record and a flag
-abbrev cut : List ℕ → ℕ → Outcome
+abbrev pub cut : List ℕ → ℕ → Outcome
 cut rec flag = cutOf false nameFont (0x4e ∷ []) (1 ∷ 2 ∷ []) rec flag 8192 32768
 
 -- what is written of bodies
@@ -175,7 +175,7 @@ unfolding
 cut-written rec flag fine = ap (λ g. cutRead false g (0x4e ∷ []) (1 ∷ 2 ∷ []) rec flag 8192 32768) reads ∙ rw fine
 
 -- the subset
-abbrev renumberedBytes : List ℕ
+abbrev pub renumberedBytes : List ℕ
 renumberedBytes =
     -- header
     0x01 ∷ 0x00 ∷ 0x04 ∷ 0x01
@@ -204,7 +204,7 @@ unfolding
 written-renumbered = refl
 
 -- the whole call
-renumbers : cut reach 1 ≡ subset 0 renumberedBytes
+pub renumbers : cut reach 1 ≡ subset 0 renumberedBytes
 renumbers =
     cut-written reach 1 fine-reach ∙ ap (λ rs. writtenOf (pruned nameProgram rs (0 ∷ []) (0 ∷ 1 ∷ 2 ∷ []) 1)) reach-rows ∙ ap (λ q. writtenOf q) bodies-renumbered
     ∙ written-renumbered

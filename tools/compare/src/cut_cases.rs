@@ -87,7 +87,7 @@ pub fn any(g: &mut Generator, opened: &Opened<'_>) -> Cut {
 }
 
 /// Numbers from a list in any order, with repeats: none, few, many or all of them.
-fn listed(g: &mut Generator, found: &[u16]) -> Vec<u16> {
+pub fn listed(g: &mut Generator, found: &[u16]) -> Vec<u16> {
     let count = match g.below(8) {
         0 => 0,
         1 => 1,

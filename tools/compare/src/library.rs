@@ -1,6 +1,7 @@
 //! The library under test by its C interface (bindings/rust, `ffi`).
 
 use crate::cut::{Cut, Lent, WORDS};
+use crate::trace;
 use mogdivash::ffi;
 
 /// Memory to write to: its first `lent` elements are lent, those behind them must stay as they are.
@@ -21,6 +22,9 @@ pub type ItemFn = fn(&[u8], (u8, u64), &mut Room<'_, u8>, &mut Room<'_, u64>) ->
 /// Font, what is asked by the entry of that keying, what is lent.
 pub type SubsetFn = fn(&[u8], &Cut, &mut Rooms<'_>) -> u8;
 
+/// Font, keep list, record, its answer.
+pub type TraceFn = fn(&[u8], &[u16], &mut Room<'_, u8>, &mut Room<'_, u64>) -> u8;
+
 /// The functions of the crate `capi`, or others in their place: each returns 0 or a refusal.
 #[derive(Clone, Copy)]
 pub struct Library {
@@ -34,6 +38,7 @@ pub struct Library {
     /// Font, kind and number.
     pub item_refusal: fn(&[u8], (u8, u64)) -> u8,
     pub subset: SubsetFn,
+    pub trace: TraceFn,
 }
 
 /// What a call of subsetting may write to.
@@ -194,6 +199,50 @@ impl Library {
         };
         Ok(Subsetted { answer, zeros })
     }
+
+    /// A record and its flag. The message says where the call wrote that it must not.
+    pub fn trace(&self, font: &[u8], keep: &[u16], lent: trace::Lent) -> Checked<(u64, Vec<u8>)> {
+        let mut out: Vec<u8> = (0..lent.room + BEYOND).map(found_byte).collect();
+        let mut answer = [WORD; trace::WORDS + 1];
+        let mut record = Room {
+            all: &mut out,
+            lent: lent.room,
+        };
+        let all = &mut answer;
+        let lent_words = lent.words;
+        let refusal = (self.trace)(
+            font,
+            keep,
+            &mut record,
+            &mut Room {
+                all,
+                lent: lent_words,
+            },
+        );
+        let from = if refusal == 0 { answer[1] } else { 0 };
+        if from > lent.room as u64 {
+            return Err(format!("a record of {from} bytes, with {} lent", lent.room));
+        }
+        let from = from as usize;
+        if let Some(k) = (from..out.len()).find(|&k| out[k] != found_byte(k)) {
+            return Err(format!(
+                "number {refusal}, a record of {from} bytes: byte {k} was written"
+            ));
+        }
+        if refusal != 0 {
+            return untouched(refusal, &answer);
+        }
+        if answer[2] != WORD {
+            return Err("a third word of the answer was written".to_string());
+        }
+        out.truncate(from);
+        Ok(Ok((answer[0], out)))
+    }
+}
+
+/// What a byte of a record's slice holds before a call: another than its neighbours'.
+fn found_byte(k: usize) -> u8 {
+    BYTE ^ (k % 251) as u8
 }
 
 /// What a work word holds before a call: not 0, and another in each place.
@@ -249,6 +298,18 @@ pub fn library() -> Library {
             ffi::cff_item_refusal(font.as_ptr(), font.len(), kind, number)
         },
         subset,
+        trace: |font, keep, record, answer| unsafe {
+            ffi::cff_trace(
+                font.as_ptr(),
+                font.len(),
+                keep.as_ptr(),
+                keep.len(),
+                record.at(),
+                record.lent,
+                answer.at(),
+                answer.lent,
+            )
+        },
     }
 }
 

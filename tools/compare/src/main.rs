@@ -37,6 +37,14 @@ mod store_subset;
 #[cfg(test)]
 mod stub;
 mod tally;
+mod trace;
+mod trace_cases;
+mod trace_compare;
+mod trace_edges;
+mod trace_model;
+mod trace_tally;
+#[cfg(test)]
+mod trace_tests;
 
 #[allow(dead_code)]
 #[path = "../../oracle/src/generator.rs"]
@@ -58,11 +66,14 @@ use std::process::ExitCode;
 use std::sync::{Arc, Mutex, mpsc};
 use std::{env, fs, thread};
 use tally::Tally;
+use trace_tally::TraceTally;
 
 const USAGE: &str = "usage: tools/compare/run cff SEED COUNT
        tools/compare/run store-cff SEED COUNT
        tools/compare/run subset SEED COUNT
        tools/compare/run store-subset SEED COUNT
+       tools/compare/run trace SEED COUNT
+       tools/compare/run trace-time FILE
        tools/compare/run cut FOLDER
        tools/compare/run case SEED NUMBER
        tools/compare/run ask original|model|library FILE
@@ -70,6 +81,7 @@ const USAGE: &str = "usage: tools/compare/run cff SEED COUNT
        tools/compare/run heavy locals FDS LOCALS
        tools/compare/run heavy strings FONTS STRINGS
        tools/compare/run heavy work GLYPHS GLOBALS FDS LOCALS
+       tools/compare/run heavy tokens|calls GLYPHS
        tools/compare/run extract FOLDER FILE...";
 
 /// The stack of a thread that runs the original.
@@ -89,6 +101,8 @@ fn main() -> ExitCode {
         ["store-cff", seed, count] => seeded(seed, count, store),
         ["subset", seed, count] => seeded(seed, count, subset),
         ["store-subset", seed, count] => seeded(seed, count, stored_subsets),
+        ["trace", seed, count] => seeded(seed, count, trace),
+        ["trace-time", file] => trace_time(file),
         ["cut", folder] => cut_tables(Path::new(folder)),
         ["case", seed, number] => seeded(seed, number, case),
         ["ask", who, file] => ask(who, file),
@@ -101,6 +115,8 @@ fn main() -> ExitCode {
                 ("work", &[glyphs, globals, fds, locals]) => {
                     write(&heavy::work(glyphs, globals, fds, locals))
                 }
+                ("tokens", &[glyphs]) => write(&trace_edges::tokens(glyphs)),
+                ("calls", &[glyphs]) => write(&trace_edges::calls(glyphs)),
                 _ => usage(),
             }
         }
@@ -209,6 +225,76 @@ fn subset(seed: u64, count: usize) -> ExitCode {
     println!("seed {seed}, {count} made fonts, {tables} tables of real fonts");
     print!("{}", tally.report(&target().join("compare")));
     status(tally.differences())
+}
+
+/// Traces of `count` made fonts, of those at the edges, and of the tables in target/fonts with two damaged copies each.
+fn trace(seed: u64, count: usize) -> ExitCode {
+    let (tally, tables) = on_large_stack(move || {
+        let library = library::library();
+        let mut tally = TraceTally::default();
+        for case in cut_cases::fonts(seed).take(count) {
+            trace_compare::compare(&library, &case, seed, &mut tally, &trace_cases::made);
+        }
+        for case in trace_edges::fonts(seed) {
+            trace_compare::compare(&library, &case, seed, &mut tally, &trace_cases::each);
+        }
+        let tables = cases::tables(&target().join("fonts"), seed);
+        for table in &tables {
+            for (k, case) in table.cases().take(3).enumerate() {
+                let asks = if k == 0 {
+                    trace_cases::real
+                } else {
+                    trace_cases::few
+                };
+                trace_compare::compare(&library, &case, seed, &mut tally, &asks);
+            }
+        }
+        (tally, tables.len())
+    });
+    println!("seed {seed}, {count} made fonts, {tables} tables of real fonts");
+    print!("{}", tally.report(&target().join("compare")));
+    status(tally.differences())
+}
+
+/// The time of one trace of all glyphs of a file that finding gives.
+fn trace_time(file: &str) -> ExitCode {
+    let font = match fs::read(file) {
+        Ok(font) => font,
+        Err(error) => {
+            eprintln!("{file}: {error}");
+            return ExitCode::FAILURE;
+        }
+    };
+    let reading = model::read(&font, domain::WISHES);
+    let keep: Vec<u16> = match &reading.font {
+        Err(_) => Vec::new(),
+        Ok(read) => trace_model::Tracer::new(&font, read, trace_model::LIMITS)
+            .map_or(Vec::new(), |tracer| trace_cases::found(&tracer)),
+    };
+    let mut record = vec![0; 10 << 20];
+    let mut answer = [0; trace::WORDS];
+    let start = std::time::Instant::now();
+    let number = (library::library().trace)(
+        &font,
+        &keep,
+        &mut library::Room {
+            lent: record.len(),
+            all: &mut record,
+        },
+        &mut library::Room {
+            lent: answer.len(),
+            all: &mut answer,
+        },
+    );
+    let time = start.elapsed();
+    println!(
+        "{} bytes, {} glyphs kept: number {number}, flag {}, {} rows\n{time:?}",
+        font.len(),
+        keep.len(),
+        answer[0],
+        answer[1] / 10
+    );
+    ExitCode::SUCCESS
 }
 
 /// Cases of subsetting for the gate, a line each, to standard output.

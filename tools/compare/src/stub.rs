@@ -7,6 +7,8 @@ use crate::compare::MEMORY;
 use crate::cut::{self, Cut, Lent, Outcome};
 use crate::domain::{self, Call, NONE, WISHES};
 use crate::library::{ABSENT, Library, NO_ROOM, Room, Rooms};
+use crate::trace::{self, Outcome as Traced};
+use crate::trace_model::{LIMITS, Limits, Tracer};
 use crate::{model, original};
 use std::cell::RefCell;
 use std::rc::Rc;
@@ -19,6 +21,7 @@ pub fn library() -> Library {
         item,
         item_refusal,
         subset,
+        trace,
     }
 }
 
@@ -190,6 +193,39 @@ fn told(outcome: &Outcome, rooms: &mut Rooms<'_>) -> u8 {
             rooms.out.lent()[..subset.bytes.len()].copy_from_slice(&subset.bytes);
             let counts = [u64::from(subset.way), subset.bytes.len() as u64];
             answered(&counts, &mut rooms.answer)
+        }
+    }
+}
+
+/// The model's answer: it tests that what is lent is looked at.
+fn trace(font: &[u8], keep: &[u16], record: &mut Room<'_, u8>, answer: &mut Room<'_, u64>) -> u8 {
+    trace_within(LIMITS, font, keep, record, answer)
+}
+
+/// The same with other limits.
+pub fn trace_within(
+    limits: Limits,
+    font: &[u8],
+    keep: &[u16],
+    record: &mut Room<'_, u8>,
+    answer: &mut Room<'_, u64>,
+) -> u8 {
+    let outcome = match model::read(font, WISHES).font {
+        Err(refused) => Traced::Refused(refused.number),
+        Ok(read) => match Tracer::new(font, &read, limits) {
+            None => return 255,
+            Some(tracer) => tracer.trace(keep),
+        },
+    };
+    let lent = trace::Lent {
+        room: record.lent,
+        words: answer.lent,
+    };
+    match outcome.answer(lent) {
+        Err(number) => number,
+        Ok((flag, bytes)) => {
+            record.lent()[..bytes.len()].copy_from_slice(bytes);
+            answered(&[u64::from(flag), bytes.len() as u64], answer)
         }
     }
 }

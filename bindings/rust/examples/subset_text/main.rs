@@ -1,10 +1,11 @@
-//! Cuts an OpenType font with CFF outlines down to the letters of a text, and writes the subset as a bare CFF font.
+//! Cuts an OpenType font with CFF outlines down to the letters of a text, and writes the subset as a bare CFF font. The letters are
+//! traced: where all are plain, the subset has only the subroutines that they reach.
 //!
 //!     cargo run --release --example subset_text -- FONT TEXT OUTPUT
 
 mod sfnt;
 
-use mogdivash::{Font, Record};
+use mogdivash::{Font, Way};
 use std::error::Error;
 use std::process::ExitCode;
 use std::{env, fs};
@@ -37,15 +38,19 @@ fn run(font_file: &str, text: &str, output: &str) -> Result<(), Box<dyn Error>> 
     keep.sort_unstable();
     keep.dedup();
     let name = format!("{}+Subset", tag(&keep));
-    let subset = font.subset(name.as_bytes(), &keep, &Record::untraced())?;
+    let subset = font.subset_traced(name.as_bytes(), &keep)?;
     fs::write(output, &subset.bytes)?;
+    let way = match subset.way {
+        Way::Renumbered => "subroutines renumbered",
+        Way::Stubbed => "subroutines that are not reached stubbed",
+        Way::Copied => "all subroutines copied",
+    };
     println!(
-        "{} of {} glyphs, {} of {} bytes, {:?}",
+        "{} of {} glyphs, {} of {} bytes, {way}",
         keep.len(),
         font.glyphs(),
         subset.bytes.len(),
-        cff.len(),
-        subset.way
+        cff.len()
     );
     Ok(())
 }

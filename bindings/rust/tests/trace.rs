@@ -1,0 +1,200 @@
+//! Tracing a small font: its rows, a glyph that is not plain, the refusals, and a subset by what was traced.
+
+use mogdivash::{Font, Record, Refusal, Row, Way};
+
+/// An INDEX with offsets of one byte.
+fn index(items: &[&[u8]]) -> Vec<u8> {
+    let mut out = (items.len() as u16).to_be_bytes().to_vec();
+    if items.is_empty() {
+        return out;
+    }
+    out.extend([1, 1]);
+    let mut offset = 1;
+    for item in items {
+        offset += item.len() as u8;
+        out.push(offset);
+    }
+    out.extend(items.concat());
+    out
+}
+
+/// The five-byte form of a DICT's integer.
+fn number(value: usize) -> Vec<u8> {
+    let mut out = vec![29];
+    out.extend((value as u32).to_be_bytes());
+    out
+}
+
+/// The bytes of operators, and of the operands that call subroutines 0 and 1 of a few.
+const CALL_LOCAL: u8 = 10;
+const CALL_GLOBAL: u8 = 29;
+const RETURN: u8 = 11;
+const ENDCHAR: u8 = 14;
+const VSTEMHM: u8 = 23;
+const HINTMASK: u8 = 19;
+const FIRST: u8 = 139 - 107;
+const SECOND: u8 = FIRST + 1;
+
+/// Glyph 1 has a stem and a mask and calls the second local subroutine, which has two stems more and a mask, and calls the global
+/// one. Glyph 2 calls a subroutine that there is not. Glyph 3 is empty. Glyph 4 has the name of glyph 1.
+fn font() -> Vec<u8> {
+    let charstrings = index(&[
+        &[ENDCHAR],
+        &[
+            139, 140, VSTEMHM, HINTMASK, 0x80, SECOND, CALL_LOCAL, ENDCHAR,
+        ],
+        &[139, CALL_LOCAL, ENDCHAR],
+        &[],
+        &[ENDCHAR],
+    ]);
+    let locals = index(&[
+        &[RETURN],
+        &[
+            139,
+            140,
+            139,
+            140,
+            HINTMASK,
+            0xe0,
+            FIRST,
+            CALL_GLOBAL,
+            RETURN,
+        ],
+    ]);
+    let globals = index(&[&[RETURN]]);
+    // Format 0: A, B, C, A by their standard string ids.
+    let charset = [0, 0, 34, 0, 35, 0, 36, 0, 34];
+    let top = |charset, charstrings, private| {
+        [
+            number(charset),
+            vec![15],
+            number(charstrings),
+            vec![17],
+            number(6),
+            number(private),
+            vec![18],
+        ]
+        .concat()
+    };
+    let front = |top: &[u8]| {
+        [
+            vec![1, 0, 4, 4],
+            index(&[b"A"]),
+            index(&[top]),
+            index(&[]),
+            globals.clone(),
+        ]
+        .concat()
+    };
+    let start = front(&top(0, 0, 0)).len();
+    let charstrings_at = start + charset.len();
+    let private_at = charstrings_at + charstrings.len();
+    [
+        front(&top(start, charstrings_at, private_at)),
+        charset.to_vec(),
+        charstrings,
+        // The local subroutines stand behind the six bytes of the Private DICT.
+        [number(6), vec![19]].concat(),
+        locals,
+    ]
+    .concat()
+}
+
+fn rows() -> [Row; 4] {
+    [
+        Row::Local { fd: 0, number: 1 },
+        Row::Global { number: 0 },
+        Row::GlyphMask {
+            glyph: 1,
+            offset: 3,
+            length: 1,
+        },
+        Row::LocalMask {
+            fd: 0,
+            number: 1,
+            offset: 4,
+            length: 1,
+        },
+    ]
+}
+
+#[test]
+fn rows_that_are_met() {
+    let bytes = font();
+    let font = Font::read(&bytes).expect("a font that is read");
+    let record = font.trace(&[3, 1, 1]).expect("a record");
+    assert_eq!(record, Record::traced(rows()));
+    assert!(record.is_traced());
+    // Glyph 0 is always kept, and meets nothing here.
+    assert_eq!(font.trace(&[]), Ok(Record::traced([])));
+    assert_eq!(font.trace(&[0, 1]), Ok(Record::traced(rows())));
+}
+
+#[test]
+fn a_glyph_that_is_not_plain() {
+    let bytes = font();
+    let font = Font::read(&bytes).expect("a font that is read");
+    assert_eq!(font.trace(&[1, 2]), Ok(Record::untraced()));
+    let subset = font.subset_traced(b"B", &[1, 2]).expect("a subset");
+    assert_eq!(subset.way, Way::Copied);
+}
+
+#[test]
+fn refusals() {
+    let bytes = font();
+    let font = Font::read(&bytes).expect("a font that is read");
+    assert_eq!(font.trace(&[1, 5]), Err(Refusal::NoSuchNumber));
+    assert_eq!(font.trace(&[4, 5]), Err(Refusal::NoSuchNumber));
+    assert_eq!(font.trace(&[1, 4]), Err(Refusal::NotFound));
+    assert_eq!(font.subset_traced(b"B", &[5]), Err(Refusal::NoSuchNumber));
+}
+
+#[test]
+fn a_subset_by_the_trace() {
+    let bytes = font();
+    let font = Font::read(&bytes).expect("a font that is read");
+    let subset = font.subset_traced(b"B", &[1]).expect("a subset");
+    assert_eq!(subset.way, Way::Renumbered);
+    let record = Record::traced(rows());
+    assert_eq!(font.subset(b"B", &[1], &record), Ok(subset.clone()));
+    // What it keeps is traced again: one local subroutine is left.
+    let again = Font::read(&subset.bytes).expect("its subset");
+    assert_eq!((again.glyphs(), again.globals()), (2, 1));
+    let new = rows().map(|row| match row {
+        Row::Local { fd, .. } => Row::Local { fd, number: 0 },
+        Row::LocalMask {
+            fd, offset, length, ..
+        } => Row::LocalMask {
+            fd,
+            number: 0,
+            offset,
+            length,
+        },
+        row => row,
+    });
+    assert_eq!(again.trace(&[1]), Ok(Record::traced(new)));
+}
+
+/// A record that is longer than what the binding lends at first.
+#[test]
+fn many_rows() {
+    let mask = [HINTMASK].repeat(12_000);
+    let glyph = [mask, vec![ENDCHAR]].concat();
+    let mut charstrings = vec![0, 1, 2, 0, 1];
+    charstrings.extend((1 + glyph.len() as u16).to_be_bytes());
+    charstrings.extend(&glyph);
+    let top = |at| [number(at), vec![17]].concat();
+    let front = |at| {
+        let parts = [index(&[b"A"]), index(&[&top(at)]), index(&[]), index(&[])];
+        [vec![1, 0, 4, 4], parts.concat()].concat()
+    };
+    let bytes = [front(front(0).len()), charstrings].concat();
+    let font = Font::read(&bytes).expect("a font that is read");
+    // Masks of no stem have no bytes.
+    let rows = (0..12_000).map(|offset| Row::GlyphMask {
+        glyph: 0,
+        offset,
+        length: 0,
+    });
+    assert_eq!(font.trace(&[]), Ok(Record::traced(rows)));
+}

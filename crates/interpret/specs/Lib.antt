@@ -1,0 +1,9 @@
+pub mod Trace
+pub mod TraceLaws
+pub mod Rows
+pub mod RowsLaws
+pub mod Run
+pub mod RunLaws
+pub mod StandingLaws
+pub mod GlyphLaws
+pub mod Examples

@@ -1,0 +1,7 @@
+pub mod Window
+pub mod Key
+pub mod WindowLaws
+pub mod PlaceLaws
+pub mod KeyLaws
+pub mod NextLaws
+pub mod Examples

@@ -1,0 +1,4 @@
+pub mod Tracing
+pub mod FillLaws
+pub mod WindowsLaws
+pub mod AnswerLaws
