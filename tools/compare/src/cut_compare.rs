@@ -109,7 +109,7 @@ fn panicked(case: &Case, seed: u64, cut: &Cut, outcome: &Outcome, tally: &mut Cu
 }
 
 /// Whether the model is asked too: it looks through the rows for each body.
-fn modelled(font: &Font, cut: &Cut) -> bool {
+pub fn modelled(font: &Font, cut: &Cut) -> bool {
     font.work() < 100_000 && cut.keep.len() * cut.record.len() < 100_000_000
 }
 

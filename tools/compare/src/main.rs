@@ -82,6 +82,7 @@ const USAGE: &str = "usage: tools/compare/run cff SEED COUNT
        tools/compare/run heavy strings FONTS STRINGS
        tools/compare/run heavy work GLYPHS GLOBALS FDS LOCALS
        tools/compare/run heavy tokens|calls GLYPHS
+       tools/compare/run heavy falling SUBROUTINES MASKS
        tools/compare/run extract FOLDER FILE...";
 
 /// The stack of a thread that runs the original.
@@ -117,6 +118,7 @@ fn main() -> ExitCode {
                 }
                 ("tokens", &[glyphs]) => write(&trace_edges::tokens(glyphs)),
                 ("calls", &[glyphs]) => write(&trace_edges::calls(glyphs)),
+                ("falling", &[count, masks]) => write(&trace_edges::falling(count, masks)),
                 _ => usage(),
             }
         }
@@ -256,6 +258,13 @@ fn trace(seed: u64, count: usize) -> ExitCode {
     status(tally.differences())
 }
 
+/// The time that this thread has had of a processor.
+fn cpu_time() -> std::time::Duration {
+    let text = fs::read_to_string("/proc/thread-self/schedstat").unwrap_or_default();
+    let nanoseconds = text.split(' ').next().and_then(|n| n.parse().ok());
+    std::time::Duration::from_nanos(nanoseconds.unwrap_or(0))
+}
+
 /// The time of one trace of all glyphs of a file that finding gives.
 fn trace_time(file: &str) -> ExitCode {
     let font = match fs::read(file) {
@@ -273,7 +282,7 @@ fn trace_time(file: &str) -> ExitCode {
     };
     let mut record = vec![0; 10 << 20];
     let mut answer = [0; trace::WORDS];
-    let start = std::time::Instant::now();
+    let start = cpu_time();
     let number = (library::library().trace)(
         &font,
         &keep,
@@ -286,7 +295,7 @@ fn trace_time(file: &str) -> ExitCode {
             all: &mut answer,
         },
     );
-    let time = start.elapsed();
+    let time = cpu_time() - start;
     println!(
         "{} bytes, {} glyphs kept: number {number}, flag {}, {} rows\n{time:?}",
         font.len(),

@@ -9,6 +9,7 @@ use crate::cut_compare::{self, Opened};
 use crate::domain::{self, Call, NONE, WISHES};
 use crate::generator::Generator;
 use crate::library::Library;
+use crate::model::Reading;
 use crate::record::{self, Row};
 use crate::trace::{Lent, Outcome, WORDS};
 use crate::trace_model::{LIMITS, Tracer};
@@ -45,8 +46,8 @@ struct Original<'a> {
     alone: BTreeSet<u16>,
     /// The library's rows of glyph 0, where it is plain.
     first: Option<BTreeSet<Row>>,
-    /// Whether subsets are compared with it too.
-    cuts: bool,
+    /// Document 01's reading of the font.
+    before: &'a Reading,
 }
 
 pub fn compare(library: &Library, case: &Case, seed: u64, tally: &mut TraceTally, asks: &Asks<'_>) {
@@ -73,10 +74,16 @@ pub fn compare(library: &Library, case: &Case, seed: u64, tally: &mut TraceTally
         seed,
         tally,
     };
-    let mut original = program.as_ref().filter(|_| tracer.is_some()).map(|p| {
-        let cuts = domain::inside(Call::Subset, &before, WISHES);
-        comparison.original(p, cuts)
-    });
+    let mut original = match (&program, &tracer) {
+        (Some(program), Some(tracer)) => Some(Original {
+            program,
+            rows: BTreeMap::new(),
+            alone: BTreeSet::new(),
+            first: comparison.rows(&[], tracer.trace(&[]).length()),
+            before: &before,
+        }),
+        _ => None,
+    };
     // Copies of one number in several files are asked different things.
     let file = case.file.bytes().fold(0, |n, b| mixed(n, u64::from(b)));
     let mut g = Generator::new(mixed(seed ^ file, case.number as u64));
@@ -188,16 +195,6 @@ impl Comparison<'_> {
         }
     }
 
-    fn original<'a>(&mut self, program: &'a CffProgram, cuts: bool) -> Original<'a> {
-        Original {
-            program,
-            rows: BTreeMap::new(),
-            alone: BTreeSet::new(),
-            first: self.rows(&[], 10 * 65_536),
-            cuts,
-        }
-    }
-
     /// The kept glyphs against the original: all of them by the model, and some alone by the library.
     fn glyphs(&mut self, tracer: &Tracer<'_>, original: &mut Original<'_>, keep: &[u16]) {
         let kept = cut::glyphs(keep);
@@ -293,8 +290,8 @@ impl Comparison<'_> {
             return;
         }
         self.tally.note("record the original's own");
-        if !original.cuts || keep.len() > MANY {
-            self.tally.note("its subset not asked for");
+        if keep.len() > MANY {
+            self.tally.note("its subset not asked for, for its size");
             return;
         }
         let cut = Cut {
@@ -305,7 +302,20 @@ impl Comparison<'_> {
             flag: *flag,
             record_kind: OWN,
         };
-        self.subset(opened, font.work() as usize, &cut);
+        let before = original.before;
+        let inside = domain::inside(Call::Subset, before, WISHES)
+            && domain::inside_too(opened.bytes, before, &cut, WISHES);
+        let outcome = if inside {
+            cut::cut(opened.bytes, opened.read, opened.program, &cut)
+        } else if cut_compare::modelled(font, &cut) {
+            self.tally
+                .note("its subset the model's, outside the domain");
+            cut::by_model(opened.bytes, opened.read, opened.program, &cut, WISHES)
+        } else {
+            self.tally.note("its subset not asked for, for its size");
+            return;
+        };
+        self.subset(opened.bytes, font.work() as usize, &cut, &outcome);
     }
 
     /// The record that the original's trace gives.
@@ -321,17 +331,14 @@ impl Comparison<'_> {
         Outcome::Record(1, record::bytes(&all))
     }
 
-    fn subset(&mut self, opened: &Opened<'_>, work: usize, cut: &Cut) {
-        let outcome = cut::cut(opened.bytes, opened.read, opened.program, cut);
+    /// The library's subset against the one wanted.
+    fn subset(&mut self, font: &[u8], work: usize, cut: &Cut, outcome: &cut::Outcome) {
         if let cut::Outcome::Panicked(message) = outcome {
-            self.differ(
-                &cut.keep,
-                "nothing",
-                format!("the original panics: {message}"),
-            );
+            let message = format!("the original panics, or the model fails: {message}");
+            self.differ(&cut.keep, "nothing", message);
             return;
         }
-        let room = match &outcome {
+        let room = match outcome {
             cut::Outcome::Ready(_, Ok(subset)) => subset.bytes.len(),
             _ => 0,
         };
@@ -349,7 +356,7 @@ impl Comparison<'_> {
             ][usize::from(subset.way)],
             Err(_) => "subset by the traced record, refused",
         });
-        if let Err(message) = cut_compare::agrees(self.library, opened.bytes, cut, lent, &want) {
+        if let Err(message) = cut_compare::agrees(self.library, font, cut, lent, &want) {
             let message = format!("the subset by the traced record: {message}");
             self.differ(&cut.keep, &format!("{lent:?}"), message);
         }

@@ -339,6 +339,23 @@ pub fn calls(glyphs: usize) -> Vec<u8> {
     calling(glyphs, vec![body, vec![11]])
 }
 
+/// A CID-keyed font of `count` subroutines of `masks` masks each, which have no stems and no bytes; glyphs call them from the last to
+/// the first, so that the rows fall.
+pub fn falling(count: usize, masks: usize) -> Vec<u8> {
+    let every = (65_000 / (masks + 1)).max(1);
+    let numbers: Vec<usize> = (0..count).rev().collect();
+    let glyph = |numbers: &[usize]| {
+        let calls: Vec<u8> = numbers.iter().flat_map(|&k| call(10, k, count)).collect();
+        [calls, vec![14]].concat()
+    };
+    let bodies = Bodies {
+        glyphs: numbers.chunks(every).map(glyph).collect(),
+        globals: Vec::new(),
+        locals: vec![vec![[vec![19; masks], vec![11]].concat(); count]],
+    };
+    bodies.font(true)
+}
+
 fn calling(glyphs: usize, locals: Vec<Vec<u8>>) -> Vec<u8> {
     let bodies = Bodies {
         glyphs: vec![vec![32, 10, 14]; glyphs],
@@ -378,7 +395,7 @@ pub fn fonts(seed: u64) -> Vec<Case> {
     let mut g = Generator::new(seed);
     for (globals, locals) in [(1239, 1240), (33_900, 1241), (2, 33_900)] {
         let font = fonts::make_biased(&mut g, globals, locals);
-        list.push(("steps of the bias", font));
+        list.push(("made at the steps of the bias", font));
     }
     list.into_iter()
         .enumerate()

@@ -156,6 +156,15 @@ fn the_stub_is_right() {
     assert!(!differs(trace, cut_cases::fonts(5).take(1000)));
 }
 
+#[test]
+fn edges_are_read() {
+    for case in trace_edges::fonts(5) {
+        let read = model::read(&case.font, WISHES).font;
+        let made = case.state.starts_with("made");
+        assert!(made || read.is_ok(), "{} {}", case.number, case.state);
+    }
+}
+
 /// Limits that are one too low or too high show at the edges.
 #[test]
 fn other_limits_are_found() {
