@@ -11,6 +11,12 @@ pub fn cut(bytes: &[u8], keep: &[u16], record: &Record) -> Vec<u8> {
     font.subset(NAME, keep, record).expect("a subset").bytes
 }
 
+/// `Font::read`, then `Font::subset_traced`, which traces the glyphs itself.
+pub fn traced(bytes: &[u8], keep: &[u16]) -> Vec<u8> {
+    let font = Font::read(bytes).expect("a font that is read");
+    font.subset_traced(NAME, keep).expect("a subset").bytes
+}
+
 /// `Font::read`, then `Font::find_name` for each name.
 pub fn find(bytes: &[u8], names: &[String]) -> Vec<Option<u16>> {
     let font = Font::read(bytes).expect("a font that is read");

@@ -7,6 +7,8 @@ use crate::{harfbuzz, original, ours, sheet};
 /// One cut of one font: times in microseconds.
 struct Times {
     ours: f64,
+    /// Ours with our own trace.
+    traced: f64,
     /// The original's, and of it what its trace of the kept glyphs takes.
     theirs: f64,
     trace: f64,
@@ -17,17 +19,22 @@ struct Times {
     length: usize,
 }
 
-/// The three in turn. Ours has the record that the original's trace gives, and must give the original's bytes.
+/// The three in turn. Ours has the record that the original's trace gives, and our own; by both it must give the original's bytes. A
+/// CID-keyed font may have a FontMatrix in an FD, which only ours keeps (document 02, Wish 2): then it is longer.
 fn times(bytes: &[u8], program: &CffProgram, keep: &[u16]) -> Times {
     let (trace, record) = least(|| original::record(program, keep));
     let kept = original::kept(program, keep);
     let (theirs, wanted) = least(|| original::cut(bytes, ours::NAME, &kept));
     let (ours, given) = least(|| ours::cut(bytes, keep, &record));
-    assert!(given == wanted, "the subsets differ");
+    let longer = program.is_cid_keyed() && given.len() > wanted.len();
+    assert!(given == wanted || longer, "the subsets differ");
+    let (traced, by_own) = least(|| ours::traced(bytes, keep));
+    assert!(by_own == given, "the subset by our own trace differs");
     let wrapped = harfbuzz::wrapped(bytes, program.charset().len());
     let (time, answer) = least(|| harfbuzz::cut(&wrapped, keep));
     Times {
         ours,
+        traced,
         theirs,
         trace,
         harfbuzz: answer.map(|_| time),
@@ -37,19 +44,21 @@ fn times(bytes: &[u8], program: &CffProgram, keep: &[u16]) -> Times {
 }
 
 fn row(name: &str, bytes: &[u8], program: &CffProgram, t: &Times) {
-    let other = t.harfbuzz.map_or(String::from("– | –"), |time| {
-        format!("{time:.0} | {:.1}", time / t.ours)
+    let other = t.harfbuzz.map_or(String::from("– | – | –"), |time| {
+        format!("{time:.0} | {:.1} | {:.1}", time / t.ours, time / t.traced)
     });
     println!(
-        "| {name} | {} | {} | {} | {} | {:.0} | {:.0} | {:.0} | {:.1} | {other} |",
+        "| {name} | {} | {} | {} | {} | {:.0} | {:.0} | {:.0} | {:.0} | {:.1} | {:.1} | {other} |",
         bytes.len(),
         program.charset().len(),
         t.kept,
         t.length,
         t.ours,
+        t.traced,
         t.theirs,
         t.trace,
-        t.theirs / t.ours
+        t.theirs / t.ours,
+        t.theirs / t.traced
     );
 }
 
@@ -57,31 +66,31 @@ fn smallest(ratios: &[f64]) -> f64 {
     ratios.iter().copied().fold(f64::INFINITY, f64::min)
 }
 
-/// How often our time goes into theirs, over all fonts.
-fn summary(all: &[Times]) {
-    let ratios: Vec<f64> = all.iter().map(|t| t.theirs / t.ours).collect();
-    let cut: Vec<f64> = all
-        .iter()
-        .map(|t| (t.theirs - t.trace).max(1.0) / t.ours)
-        .collect();
-    let other: Vec<f64> = all
-        .iter()
-        .filter_map(|t| Some(t.harfbuzz? / t.ours))
-        .collect();
-    println!(
-        "\n{} fonts. The original's time over ours: geometric mean {:.2}, least {:.2}; without its trace: mean {:.2}.",
-        all.len(),
-        mean(&ratios),
-        smallest(&ratios),
-        mean(&cut)
-    );
-    if !other.is_empty() {
+/// How often a time goes into others, over all fonts.
+fn ratios(what: &str, of: &[f64]) {
+    if !of.is_empty() {
         println!(
-            "HarfBuzz's time over ours: mean {:.2}, least {:.2}.",
-            mean(&other),
-            smallest(&other)
+            "{what}: geometric mean {:.2}, least {:.2}.",
+            mean(of),
+            smallest(of)
         );
     }
+}
+
+fn summary(all: &[Times]) {
+    let over = |time: &dyn Fn(&Times) -> Option<f64>, ours: &dyn Fn(&Times) -> f64| -> Vec<f64> {
+        let ratio = |t: &Times| Some(time(t)?.max(1.0) / ours(t));
+        all.iter().filter_map(ratio).collect()
+    };
+    let theirs = |t: &Times| Some(t.theirs);
+    let untraced = |t: &Times| Some(t.theirs - t.trace);
+    let (ours, traced) = (|t: &Times| t.ours, |t: &Times| t.traced);
+    println!("\n{} fonts.", all.len());
+    ratios("The original's time over ours", &over(&theirs, &ours));
+    ratios("without its trace", &over(&untraced, &ours));
+    ratios("over ours with our trace", &over(&theirs, &traced));
+    ratios("HarfBuzz's time over ours", &over(&|t| t.harfbuzz, &ours));
+    ratios("over ours with our trace", &over(&|t| t.harfbuzz, &traced));
     println!();
 }
 
@@ -130,9 +139,10 @@ pub fn print(fonts: &[(String, Vec<u8>)]) {
         println!("## {title}\n");
         println!("Microseconds, the least of several runs.\n");
         println!(
-            "| font | bytes | glyphs | kept | subset | ours | Rust | of it trace | Rust / ours | HarfBuzz | HarfBuzz / ours |"
+            "| font | bytes | glyphs | kept | subset | ours | traced | Rust | of it trace | Rust / ours | Rust / traced | HarfBuzz | \
+             HarfBuzz / ours | HarfBuzz / traced |"
         );
-        println!("|---|---|---|---|---|---|---|---|---|---|---|");
+        println!("|---|---|---|---|---|---|---|---|---|---|---|---|---|---|");
         let mut all = Vec::new();
         for (name, bytes) in fonts {
             let Ok(program) = CffProgram::parse(bytes) else {
