@@ -160,7 +160,10 @@ fn subset(font: &[u8], cut: &Cut, rooms: &mut Rooms<'_>) -> u8 {
         Ok(Font::Original(program)) => Some(program),
         _ => None,
     };
-    let outcome = if domain::inside(Call::Subset, &model::read(font, NONE), WISHES) {
+    let before = model::read(font, NONE);
+    let inside = domain::inside(Call::Subset, &before, WISHES)
+        && domain::inside_too(font, &before, cut, WISHES);
+    let outcome = if inside {
         cut::cut(font, read, program, cut)
     } else {
         cut::by_model(font, read, program, cut, WISHES)
