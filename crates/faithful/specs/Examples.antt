@@ -24,16 +24,19 @@ use Rattle.decimal.specs.Decimal.{zerosOf, zeros, stripped, normal, whole}
 use Rattle.decimal.specs.Number.{realAt, numberAt}
 use Rattle.decimal.specs.Values.{truncOf}
 use Rattle.dict.specs.Dict.{tokenAt, operatorAt, entryFrom, entryAt, readingsFrom, readingsAt, gathered, dictOf}
-use Rattle.dict.specs.Lookup.{lastFrom, lastOf}
+use Rattle.dict.specs.Lookup.{absent, lastFrom, lastOf, cidKeyed}
 use Rattle.charset.specs.Listed.{listOf}
 use Rattle.cff.specs.Font.{got, Program, emptyPrivate, charStrings, readFont, setAt, fontsAt, fontAt, nameParts, privateAt, idsAt, encodingGot}
-use Rattle.subset.specs.Kept.{isIn}
+use Rattle.cff.specs.declared.FoundAs.the-variants.{Glyph as TheGlyph}
+use Rattle.subset.specs.Kept.{isIn, those, fdsOf, keptOf, usedFds}
+use Rattle.subset.specs.Subset.{matrixOf}
 use Rattle.subset.specs.Cut.{Outcome, subset}
 use Rattle.subset.specs.Examples.{sheet, sheetSubset, the-sheet}
 use Rattle.subset.specs.CidFont.{cidFont, cidProgram, reads, reach, wrongReach}
 use Rattle.subset.specs.CidExample.{renumberedBytes, unrenumberedBytes, renumbers, stubs, copies}
-use Rattle.faithful.specs.Faithful.{unfolded, IsKept, Recorded, Holds, Faithful}
-use Rattle.faithful.specs.Theorem.{faithful}
+use Rattle.faithful.specs.Faithful.{unfolded, IsKept, foundFor, Recorded, Holds, Faithful}
+use Rattle.faithful.specs.Matrices.{matrixFor, KeepsMatrices, Scaled}
+use Rattle.faithful.specs.Theorem.{faithful, matrix-back}
 
 -- a glyph of the keep list is kept
 asked-kept : (p : Program) (keep : List ℕ) (g : ℕ) → g < length (p .charstrings) → isIn g keep ≡ true → IsKept p keep g
@@ -185,3 +188,29 @@ mask-unlisted = refl
 not-promised : Recorded otherLength 1 met-1 → ⊥
 not-promised (inl e) = zero-one (sym e)
 not-promised (inr (one h (one m none))) = false≢true (sym mask-unlisted ∙ m)
+
+-- ---- Wish 2, on the same font, whose FDs have no FontMatrix
+
+keyed : cidKeyed (cidProgram .top) ≡ true
+unfolding lastOf lastFrom
+keyed = refl
+
+font-scaled : KeepsMatrices cidProgram keep renumberedBytes
+font-scaled =
+    subst (λ (o : Outcome). Scaled cidFont keep o) renumbers
+    (matrix-back true cidFont (0x41 ∷ []) keep reach 1 8192 32768 (octets-of cidFont font-octets) (octets-of reach reach-octets))
+    cidProgram reads keyed
+
+-- FDs 0 and 2 are in use
+fds-used : usedFds cidProgram (keptOf (length (cidProgram .charstrings)) keep) ≡ 0 ∷ 2 ∷ []
+unfolding isIn those fdsOf
+fds-used = refl
+
+-- the second FD of the subset has none, and the FD of what is found for glyph 1 has none
+second-fd : matrixOf (font-scaled .program) 1 ≡ absent
+unfolding isIn those fdsOf lastOf lastFrom
+second-fd = font-scaled .fds 1 (omega arith)
+
+glyph-1 : (new : ℕ) × (foundFor cidProgram 1 renumberedBytes ≡ TheGlyph new) × (matrixFor (font-scaled .program) new ≡ absent)
+unfolding lastOf lastFrom
+glyph-1 = font-scaled .glyphs 1 kept-1
