@@ -14,7 +14,7 @@ use Rattle.charset.specs.CharsetBytes.{Ids, charsetBytes}
 use Rattle.charset.specs.FdSelect.{noFds}
 use Rattle.dict.specs.Lookup.{lastFrom, lastOf}
 use Rattle.dict.specs.Dict.{Entry, entries, dictOf}
-use Rattle.cff.specs.Font.{got, Private, Program, privateData, privateAt, idsAt, encodingGot, cidParts, nameParts, fontAt, readFont, emptyPrivate}
+use Rattle.cff.specs.Font.{got, Private, Program, privateData, privateAt, idsAt, codingAt, encodingGot, cidParts, nameParts, fontAt, readFont, emptyPrivate}
 use Rattle.cff.specs.ReadsLaws.{no}
 use Rattle.subset.specs.Kept.{privateOf}
 use Rattle.subset.specs.Texts.{namesOf}
@@ -43,7 +43,7 @@ ids-small own (t ∷ ts) few (suc i) = ids-small own ts few i
 -- what a name-keyed font adds: that Private DICT, and no encoding
 name-parts-back : (bs : List ℕ) (es : List Entry) (n at₁ at₂ size at₃ : ℕ) (q : Private) → NameTop es at₁ at₂ size at₃ → privateData bs size at₃ ≡ got q
     → nameParts bs es n ≡ got (record { privates = q ∷ []; fds = noFds n; dicts = [] })
-unfolding nameParts privateAt encodingGot
+unfolding nameParts privateAt codingAt encodingGot
 name-parts-back bs es n at₁ at₂ size at₃ q t d = rw (t .privateAt, d, t .encodingNone)
 
 -- it is within its part

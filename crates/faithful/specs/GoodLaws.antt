@@ -15,7 +15,7 @@ use Rattle.dict.specs.Lookup.{offsetIn, privateIn, cidKeyed, charstringTypeIn}
 use Rattle.dict.specs.Proper.{AllProper}
 use Rattle.dict.specs.ProperLaws.{entries-proper, dict-proper}
 use Rattle.charset.specs.FdSelect.{noFds}
-use Rattle.cff.specs.Font.{charset, encoding, charStrings, fdArray, fdSelect, got, then, Private, Added, Program, indexGot, dictGot, unless, needed, orZero, privateAt, privatesAt, dictsAt, idsAt, fdsAt, encodingGot, cidParts, nameParts, fontAt, fontsAt, firstOf, setAt, readFont, emptyPrivate}
+use Rattle.cff.specs.Font.{charset, encoding, charStrings, fdArray, fdSelect, got, then, Private, Added, Program, indexGot, dictGot, unless, needed, orZero, privateAt, privatesAt, dictsAt, idsAt, fdsAt, codingAt, encodingGot, cidParts, nameParts, fontAt, fontsAt, firstOf, setAt, readFont, emptyPrivate}
 use Rattle.cff.specs.ReadsLaws.{no}
 use Rattle.faithful.specs.Laid.{GoodBodies, GoodProgram}
 use Rattle.faithful.specs.GoodPartsLaws.{then-gave, got-same, index-gave, index-good, test-past, test-held, dict-got, some-got, offset-good, Sound, none-sound, sound-front, private-sound, privates-sound, ids-good, FdsFor, no-fds, no-fds-below, fds-good}

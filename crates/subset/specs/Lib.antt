@@ -1,8 +1,11 @@
 pub mod Kept
 pub mod Pruned
 pub mod Texts
+pub mod Codes
+pub mod CodesExample
 pub mod Subset
 pub mod Cut
+pub mod Next
 pub mod RankLaws
 pub mod EachLaws
 pub mod KeptListLaws

@@ -75,7 +75,7 @@ name-stroked :
 unfolding
     cutOf lastOf lastFrom truncOf normal stripped zeros zerosOf nibbles textOf expDigits exponent mantissa formOf valueOf readIndex told itemsOf pieces indexAt tableAt
     dataAt judged runOf offsets numAt be dec.numberAt dec.realAt dict.dictOf dict.gathered dict.readingsAt dict.readingsFrom dict.entryAt dict.entryFrom
-    dict.operatorAt dict.tokenAt font.readFont font.setAt font.fontsAt font.fontAt font.nameParts font.privateAt font.idsAt font.encodingGot listOf
+    dict.operatorAt dict.tokenAt font.readFont font.setAt font.fontsAt font.fontAt font.nameParts font.privateAt font.idsAt font.codingAt font.encodingGot listOf
 name-stroked = (refl, refl, refl, refl)
 
 -- StrokeWidth alone: dropped. cut_examples has the other fonts that are not refused
@@ -87,7 +87,7 @@ unfolding
     normal stripped zeros zerosOf indexBytes itemsBytes headBytes tableBytes ends sizeFor joined total readIndex told itemsOf pieces indexAt tableAt dataAt judged runOf
     offsets encode bytesOf numAt be keep24 rounded t2.numberAt t2e.numberBytes t2e.integerBytes t2e.fixedBytes tok.tokensOf tok.tokensFrom tok.tokenAt dec.numberAt dec.realAt
     decw.int5Bytes decw.numberBytes decw.intBytes dict.dictOf dict.gathered dict.readingsAt dict.readingsFrom dict.entryAt dict.entryFrom dict.operatorAt dict.tokenAt
-    font.readFont font.setAt font.fontsAt font.fontAt font.nameParts font.privateAt font.idsAt font.encodingGot cfffind.localsTotal
+    font.readFont font.setAt font.fontsAt font.fontAt font.nameParts font.privateAt font.idsAt font.codingAt font.encodingGot cfffind.localsTotal
 name-width = refl
 
 -- ---- CID-keyed

@@ -20,7 +20,7 @@ use Rattle.dict.specs.declared.OffsetIn.the-variants.{Refused as RefusedOffset,
 use Rattle.dict.specs.declared.PrivateIn.{PrivateIn}
 use Rattle.dict.specs.declared.PrivateIn.the-variants.{Refused as RefusedPrivate, Private as PrivateEntry, Absent as NoPrivate}
 use Rattle.charset.specs.FdSelect.{noFds}
-use Rattle.cff.specs.Font.{charset, encoding, charStrings, fdArray, fdSelect, Got, refused as refusedFont, got, then, Private, Added, Program, indexGot, dictGot, unless, needed, orZero, localsAt, privateData, privateAt, privatesAt, dictsAt, idsAt, fdsAt, encodingGot, cidParts, nameParts, fontAt, fontsAt, firstOf, setAt, readFont, emptyPrivate}
+use Rattle.cff.specs.Font.{charset, encoding, charStrings, fdArray, fdSelect, Got, refused as refusedFont, got, then, Private, Added, Program, indexGot, dictGot, unless, needed, orZero, localsAt, privateData, privateAt, privatesAt, dictsAt, idsAt, fdsAt, codingAt, encodingGot, cidParts, nameParts, fontAt, fontsAt, firstOf, setAt, readFont, emptyPrivate}
 use Rattle.cff.specs.ReadsLaws.{no}
 use Rattle.subset.specs.Kept.{localsOf}
 use Rattle.faithful.specs.GoodPartsLaws.{then-gave, got-same, index-gave, index-got, test-past, test-held}
