@@ -26,7 +26,7 @@ use Rattle.decimal.specs.Values.{truncOf}
 use Rattle.dict.specs.Dict.{tokenAt, operatorAt, entryFrom, entryAt, readingsFrom, readingsAt, gathered, dictOf}
 use Rattle.dict.specs.Lookup.{absent, lastFrom, lastOf, cidKeyed}
 use Rattle.charset.specs.Listed.{listOf}
-use Rattle.cff.specs.Font.{got, Program, emptyPrivate, charStrings, readFont, setAt, fontsAt, fontAt, nameParts, privateAt, idsAt, codingAt, encodingGot}
+use Rattle.cff.specs.Font.{got, standard, Program, emptyPrivate, charStrings, readFont, setAt, fontsAt, fontAt, nameParts, privateAt, idsAt, codingAt, encodingGot}
 use Rattle.cff.specs.declared.FoundAs.the-variants.{Glyph as TheGlyph}
 use Rattle.subset.specs.Kept.{isIn, those, fdsOf, keptOf, usedFds}
 use Rattle.subset.specs.Subset.{matrixOf}
@@ -63,6 +63,7 @@ sheetProgram =
       privates = emptyPrivate ∷ [];
       fds = 0 ∷ 0 ∷ [];
       dicts = [];
+      coding = standard;
     }
 
 sheet-reads : readFont sheet ≡ got sheetProgram

@@ -58,7 +58,7 @@ module _ (name keep rec : List ℕ) (flag words room : ℕ) where
 
   -- the outcome by the keying of the font
   pub cut-by-keying : (font : List ℕ)
-      → pick (unsupported (cutOf false font name keep rec flag words room)) (cutOf true font name keep rec flag words room) (cutOf false font name keep rec flag words room)
-      ≡ cutOf (keying (readFont font)) font name keep rec flag words room
+      → pick (unsupported (cutOf false false font name keep rec flag words room)) (cutOf true false font name keep rec flag words room) (cutOf false false font name keep rec flag words room)
+      ≡ cutOf (keying (readFont font)) false font name keep rec flag words room
   unfolding cutOf
   cut-by-keying font = read-by (readFont font)

@@ -62,7 +62,7 @@ fn cut_parts(
     page: &mut [u8],
 ) -> usize
     requires { ⌜ 98316 ≤ length (now page) ⌝ }
-    ensures { λ r. ⌜ Wrote (now (page .entry)) 0 (printed (cutOf (keying (readFont (now (font .entry)))) (now (font .entry)) (now (name .entry))
+    ensures { λ r. ⌜ Wrote (now (page .entry)) 0 (printed (cutOf (keying (readFont (now (font .entry)))) false (now (font .entry)) (now (name .entry))
         (now (keep .entry)) (now (rows .entry)) traced 8192 32768)) (now (page .exit)) r ⌝ }
 {
     let mut work = [0u32; 8192];

@@ -1,5 +1,5 @@
--- The glyphs of codes (TN5176, section 12; document 02, Wish 4), and the encoding of a subset: format 0 with no codes of its own, and a supplement for each
--- code whose glyph is kept, codes rising.
+-- The glyphs of codes (TN5176, section 12; document 02, Wish 4), and the encoding of a subset: format 0 without codes of its own, and a
+-- supplement for each code whose glyph is kept, codes rising.
 use Prim.Native.Nat.{ℕ, zero, suc, _+_}
 use mathlib.Core.Bool.{Bool, true, false}
 use mathlib.Core.List.{List, [], _∷_, _++_}
@@ -14,15 +14,9 @@ use Rattle.find.specs.Find.{glyphWithText}
 use Rattle.find.specs.declared.Found.{Found}
 use Rattle.find.specs.declared.Found.the-variants.{Absent, Glyph}
 use Rattle.dict_write.specs.Written.{offsetEntry}
-use Rattle.cff.specs.Font.{Program, encoding}
+use Rattle.cff.specs.Font.{Coding, standard, expert, custom, Program, encoding}
 use Rattle.subset.specs.Kept.{isIn}
 use Rattle.subset.specs.Texts.{nameOf, newId}
-
--- an encoding: one of the two predefined ones, or what a table of the font says (to stand in cff, Font.antt: Program has a field of it)
-pub data Coding : Type 0 where
-  standard : Coding
-  expert : Coding
-  custom : List Naming → Coding
 
 -- ---- the glyph of a code
 
@@ -48,13 +42,10 @@ unfoldable pub lastNamed : Program → ℕ → Found → List Naming → Found
 lastNamed p code f [] = f
 lastNamed p code f (n ∷ ns) = lastNamed p code (pick (eqb (codeOf n) code) (orElse (glyphBy p n) f) f) ns
 
--- by a predefined table, in which 0 stands for no string
-abbrev pub listedGlyph : Program → ℕ → Found
-listedGlyph p sid = pick (eqb sid 0) Absent (stringGlyph p sid)
-
+-- by a predefined table, or by the font's own
 unfoldable pub glyphOf : Program → Coding → ℕ → Found
-glyphOf p standard code = listedGlyph p (getD standardEncoding code 0)
-glyphOf p expert code = listedGlyph p (getD expertEncoding code 0)
+glyphOf p standard code = stringGlyph p (getD standardEncoding code 0)
+glyphOf p expert code = stringGlyph p (getD expertEncoding code 0)
 glyphOf p (custom ns) code = lastNamed p code Absent ns
 
 -- ---- the encoding of a subset
@@ -73,41 +64,49 @@ unfoldable pub pairsFrom : Program → List Naming → List ℕ → List (List �
 pairsFrom p ns kept own zero code = []
 pairsFrom p ns kept own (suc n) code = pairOf p kept own code (lastNamed p code Absent ns) ++ pairsFrom p ns kept own n (code + 1)
 
--- what a subset has: no encoding, a predefined one, or these pairs
+-- what a subset has: no encoding, the Expert one, or these pairs
 pub data Coded : Type 0 where
   none : Coded
-  predefined : ℕ → Coded
+  predefined : Coded
   pairs : List Pair → Coded
 
 unfoldable pub codedBy : Program → List ℕ → List (List ℕ) → Coding → Coded
 codedBy p kept own standard = none
-codedBy p kept own expert = predefined 1
+codedBy p kept own expert = predefined
 codedBy p kept own (custom ns) = pairs (pairsFrom p ns kept own 256 0)
 
 -- where it was asked for
-abbrev pub codedIf : Bool → Program → List ℕ → List (List ℕ) → Coding → Coded
-codedIf ask p kept own coding = pick ask (codedBy p kept own coding) none
+abbrev pub codedIf : Bool → Program → List ℕ → List (List ℕ) → Coded
+codedIf ask p kept own = pick ask (codedBy p kept own (p .coding)) none
 
 -- how many pairs there are: 13 above 255
 abbrev pub pairCount : Coded → ℕ
 pairCount none = 0
-pairCount (predefined n) = 0
+pairCount predefined = 0
 pairCount (pairs ps) = length ps
 
 unfoldable pub pairBytes : List Pair → List ℕ
 pairBytes [] = []
 pairBytes (q ∷ qs) = q .code ∷ (bytesOf 2 (q .id) ++ pairBytes qs)
 
--- its bytes behind the charset, and its entry of the top DICT, the bytes standing at a place
-unfoldable pub codedBytes : Coded → List ℕ
-codedBytes none = []
-codedBytes (predefined n) = []
-codedBytes (pairs ps) = 0x80 ∷ 0x00 ∷ length ps ∷ pairBytes ps
+abbrev pub encodingBytes : List Pair → List ℕ
+encodingBytes ps = 0x80 ∷ 0x00 ∷ length ps ∷ pairBytes ps
 
-unfoldable pub codedEntry : Coded → ℕ → List ℕ
-codedEntry none at = []
-codedEntry (predefined n) at = offsetEntry encoding n
-codedEntry (pairs ps) at = offsetEntry encoding at
+-- its bytes behind the charset
+abbrev pub codedBytes : Coded → List ℕ
+codedBytes none = []
+codedBytes predefined = []
+codedBytes (pairs ps) = encodingBytes ps
+
+-- its offset, the bytes standing at a place: 0, the standard encoding, for none, and 1 for the Expert one
+abbrev pub codedAt : Coded → ℕ → ℕ
+codedAt none at = 0
+codedAt predefined at = 1
+codedAt (pairs ps) at = at
+
+-- the entry of the top DICT: none for the standard encoding
+abbrev pub encodingEntry : ℕ → List ℕ
+encodingEntry v = pick (eqb v 0) [] (offsetEntry encoding v)
 
 -- ---- reading the subset: each code whose glyph is kept has the glyph of the same name, and no other code has any
 

@@ -48,7 +48,7 @@ sheetSubset =
     ∷ 0x1d ∷ 0x00 ∷ 0x00 ∷ 0x00 ∷ 0x35 ∷ 0x12 ∷ 0x00 ∷ 0x00 ∷ 0x00 ∷ 0x00 ∷ 0x00 ∷ 0x00 ∷ 0x01 ∷ 0x00 ∷ 0x02 ∷ 0x01
     ∷ 0x01 ∷ 0x02 ∷ 0x03 ∷ 0x0e ∷ 0x0e ∷ []
 
-pub the-sheet : cutOf false sheet (0x41 ∷ []) (1 ∷ []) [] 1 8192 32768 ≡ subset 0 sheetSubset
+pub the-sheet : cutOf false false sheet (0x41 ∷ []) (1 ∷ []) [] 1 8192 32768 ≡ subset 0 sheetSubset
 unfolding
     cutOf allBelow allFound subsetBytes subsetByName newIds namedBytes copiedBytes namesOf textsOf namedEntries newId placeIn ownStrings hasText pruned renumbered
     renumberedSubrs renumberedBody each countBelow those isIn fdsOf recordFine rowsFine rowsOf rowsFrom lists givenIn twoLengths disagrees renumberCharstring renumber

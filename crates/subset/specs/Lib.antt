@@ -5,7 +5,6 @@ pub mod Codes
 pub mod CodesExample
 pub mod Subset
 pub mod Cut
-pub mod Next
 pub mod RankLaws
 pub mod EachLaws
 pub mod KeptListLaws

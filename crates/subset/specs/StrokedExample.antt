@@ -55,7 +55,7 @@ nameFont es =
     ++ (0x00 ∷ 0x00 ∷ 0x00 ∷ 0x00 ∷ []))
 
 abbrev pub byName : List ℕ → Outcome
-byName es = cutOf false (nameFont es) (0x41 ∷ []) [] [] 1 8192 32768
+byName es = cutOf false false (nameFont es) (0x41 ∷ []) [] [] 1 8192 32768
 
 -- its subset, without either entry
 abbrev pub nameSubset : Outcome
@@ -106,10 +106,10 @@ cidFont ros es =
 
 -- with a ROS of three operands; and with one of none, which cannot be used
 abbrev pub byCid : List ℕ → Outcome
-byCid es = cutOf true (cidFont (0x8b ∷ 0x8b ∷ 0x8b ∷ []) es) (0x41 ∷ []) [] [] 1 8192 32768
+byCid es = cutOf true false (cidFont (0x8b ∷ 0x8b ∷ 0x8b ∷ []) es) (0x41 ∷ []) [] [] 1 8192 32768
 
 abbrev pub badRos : List ℕ → Outcome
-badRos es = cutOf true (cidFont [] es) (0x41 ∷ []) [] [] 1 8192 32768
+badRos es = cutOf true false (cidFont [] es) (0x41 ∷ []) [] [] 1 8192 32768
 
 -- its subset, without either entry
 abbrev pub cidSubset : Outcome

@@ -179,9 +179,9 @@ pub judged-cuts : {cid : Bool} {font name keep rec : List ℕ} {flag : ℕ} {wor
     → Cuts cid font name keep rec flag work out work' out' r
     → work ≡ replicate (length work) lentWord → out ≡ replicate (length out) lentByte
     → (w : ℕ) → w ≡ workIn (readFont font)
-    → judged r w work' out' ≡ some (outcomeBytes (cutOf cid font name keep rec flag (length work) (length out)))
+    → judged r w work' out' ≡ some (outcomeBytes (cutOf cid false font name keep rec flag (length work) (length out)))
 judged-cuts {cid} {font} {name} {keep} {rec} {flag} {work} {out} {work'} {out'} {r} c e f w g =
-    let o = cutOf cid font name keep rec flag (length work) (length out) in
+    let o = cutOf cid false font name keep rec flag (length work) (length out) in
     let v = workIn (readFont font) in
     ap (λ (a : Answer). judged a w work' out') (c .answers)
     ∙ ap (λ (k : ℕ). judged (answerOf o) k work' out') g

@@ -51,7 +51,7 @@ module _ (cid : Bool) (font name keep s : List ℕ) where
 
       -- as many words and bytes as the code lends
       pub lent-found : room ≤ 4094 → (w o : ℕ) → w ≡ words → o ≡ room
-          → lentAnswer cid font name keep s ≡ some (outcomeBytes (cutOf cid font name keep (take (length s - 5) (drop 5 s)) (getD s 0 0) w o))
+          → lentAnswer cid font name keep s ≡ some (outcomeBytes (cutOf cid false font name keep (take (length s - 5) (drop 5 s)) (getD s 0 0) w o))
       unfolding lentAnswer
       lent-found m w o i j =
           let l : numAt s 1 2 ≤ 1024 = omega (arith, e) in
@@ -59,9 +59,9 @@ module _ (cid : Bool) (font name keep s : List ℕ) where
           let p : numAt s 1 2 ≡ w = sym (i ∙ e) in
           let q : numAt s 3 2 ≡ o = sym (j ∙ f) in
           rw (le-ltb (length s) 5 h, le-ltb 1024 (numAt s 1 2) l, le-ltb 4094 (numAt s 3 2) n)
-          (ap (λ (x : List ℕ). some (outcomeBytes (cutOf cid font name keep x (getD s 0 0) (numAt s 1 2) (numAt s 3 2)))) (sym (rest 5 s))
-          ∙ ap (λ (x : ℕ). some (outcomeBytes (cutOf cid font name keep (take (length s - 5) (drop 5 s)) (getD s 0 0) x (numAt s 3 2)))) p
-          ∙ ap (λ (x : ℕ). some (outcomeBytes (cutOf cid font name keep (take (length s - 5) (drop 5 s)) (getD s 0 0) w x))) q)
+          (ap (λ (x : List ℕ). some (outcomeBytes (cutOf cid false font name keep x (getD s 0 0) (numAt s 1 2) (numAt s 3 2)))) (sym (rest 5 s))
+          ∙ ap (λ (x : ℕ). some (outcomeBytes (cutOf cid false font name keep (take (length s - 5) (drop 5 s)) (getD s 0 0) x (numAt s 3 2)))) p
+          ∙ ap (λ (x : ℕ). some (outcomeBytes (cutOf cid false font name keep (take (length s - 5) (drop 5 s)) (getD s 0 0) w x))) q)
 
 -- ---- the numbers that are kept
 

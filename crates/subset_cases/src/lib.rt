@@ -61,7 +61,7 @@ fn answer_cut(
 ) -> Answered
     requires { ⌜ (now work ≡ replicate (length (now work)) lentWord) × (now found ≡ replicate (length (now found)) lentByte)
         × (length (now found) ≤ 4094) × (4096 ≤ length (now out)) ⌝ }
-    ensures { λ r. ⌜ Gives (some (outcomeBytes (cutOf cid (now (font .entry)) (now (name .entry)) (now (keep .entry)) (now (rows .entry)) traced
+    ensures { λ r. ⌜ Gives (some (outcomeBytes (cutOf cid false (now (font .entry)) (now (name .entry)) (now (keep .entry)) (now (rows .entry)) traced
         (length (now (work .entry))) (length (now (found .entry)))))) (now (out .exit)) r ⌝ }
 {
     let r = cut(cid, font, name, keep, rows, traced, &mut *work, &mut *found);

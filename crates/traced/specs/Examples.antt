@@ -17,7 +17,7 @@ use Rattle.strings.specs.Text.{codes, sameText}
 use Rattle.strings.specs.Strings.{stringText, standardString, standardStrings}
 use Rattle.find.specs.Find.{glyphWithId, glyphWithText}
 use Rattle.unfold.specs.Unfold.{leave, but, targetOf, operatorAt, stepAt, walk, runBody, unfoldGlyph}
-use Rattle.cff.specs.Font.{Program, privateAt, idsAt, codingAt, encodingGot, nameParts, fontAt, fontsAt, setAt, readFont}
+use Rattle.cff.specs.Font.{standard, Program, privateAt, idsAt, codingAt, encodingGot, nameParts, fontAt, fontsAt, setAt, readFont}
 use Rattle.cff.specs.Examples.{sheet}
 use Rattle.subset.specs.Kept.{isIn, those}
 use Rattle.subset.specs.Cut.{allFound}
@@ -43,6 +43,7 @@ small =
       privates = (record { entries = []; locals = (0x13 ∷ 0x80 ∷ 0x0b ∷ []) ∷ (0x0b ∷ []) ∷ [] }) ∷ [];
       fds = 0 ∷ 0 ∷ 0 ∷ 0 ∷ 0 ∷ [];
       dicts = [];
+      coding = standard;
     }
 
 -- the rows of glyphs 0 and 1: locals 0 and 1 entered, the mask of glyph 1 at offset 5, that of local 0 at offset 0

@@ -28,7 +28,7 @@ use Rattle.find.specs.Find.{glyphWithText}
 use Rattle.unfold.specs.Unfold.{Tok, num, op, Row, notPlain, plain, local, entered, leave, but, targetOf, operatorAt, stepAt, walk, runBody, unfoldGlyph}
 use Rattle.prune.specs.Bodies.{All}
 use Rattle.record.specs.Record.{rowsFrom, rowsOf, recordFine, lists}
-use Rattle.cff.specs.Font.{got, Program, charStrings, privateAt, idsAt, codingAt, encodingGot, nameParts, fontAt, fontsAt, setAt, readFont, emptyPrivate}
+use Rattle.cff.specs.Font.{got, standard, Program, charStrings, privateAt, idsAt, codingAt, encodingGot, nameParts, fontAt, fontsAt, setAt, readFont, emptyPrivate}
 use Rattle.subset.specs.Kept.{isIn, those, keeps}
 use Rattle.subset.specs.Cut.{allFound}
 use Rattle.subset.specs.NameExample.{nameFont, nameProgram, reads, reach, renumberedBytes, renumbers}
@@ -133,6 +133,7 @@ badProgram =
       privates = emptyPrivate ∷ [];
       fds = 0 ∷ 0 ∷ [];
       dicts = [];
+      coding = standard;
     }
 
 bad-reads : readFont badFont ≡ got badProgram
