@@ -26,5 +26,6 @@ pub mod EncodingLaws
 pub mod Predefined
 pub mod PredefinedLaws
 pub mod Codes
+pub mod CodesRound
 pub mod CodesExamples
 pub mod Examples

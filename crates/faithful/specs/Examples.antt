@@ -91,7 +91,7 @@ none-octets i = omega arith
 sheet-faithful : Faithful sheet (1 ∷ []) [] 1 (subset 0 sheetSubset)
 sheet-faithful =
     subst (λ (o : Outcome). Faithful sheet (1 ∷ []) [] 1 o) the-sheet
-    (faithful false sheet (0x41 ∷ []) (1 ∷ []) [] 1 8192 32768 (octets-of sheet sheet-octets) none-octets)
+    (faithful false false sheet (0x41 ∷ []) (1 ∷ []) [] 1 8192 32768 (octets-of sheet sheet-octets) none-octets)
 
 -- the subset holds glyph 1
 sheet-held : Holds sheetProgram 1 (op 14 ∷ []) sheetSubset
@@ -153,7 +153,7 @@ listed-1 = inr (one refl (one refl none))
 renumbered-held : Holds cidProgram 1 tokens-1 renumberedBytes
 renumbered-held =
     subst (λ (o : Outcome). Faithful cidFont keep reach 1 o) renumbers
-    (faithful true cidFont (0x41 ∷ []) keep reach 1 8192 32768 (octets-of cidFont font-octets) (octets-of reach reach-octets))
+    (faithful true false cidFont (0x41 ∷ []) keep reach 1 8192 32768 (octets-of cidFont font-octets) (octets-of reach reach-octets))
     cidProgram reads 1 kept-1 tokens-1 met-1 unfolds-1 listed-1
 
 -- stubbed: a row more, of a subroutine that is not there
@@ -164,7 +164,7 @@ listed-3 = inr (one refl (one refl (one refl none)))
 stubbed-held : Holds cidProgram 3 tokens-3 (unrenumberedBytes 0x0b)
 stubbed-held =
     subst (λ (o : Outcome). Faithful cidFont keep wrongReach 1 o) stubs
-    (faithful true cidFont (0x41 ∷ []) keep wrongReach 1 8192 32768 (octets-of cidFont font-octets) (octets-of wrongReach wrong-octets))
+    (faithful true false cidFont (0x41 ∷ []) keep wrongReach 1 8192 32768 (octets-of cidFont font-octets) (octets-of wrongReach wrong-octets))
     cidProgram reads 3 kept-3 tokens-3 met-3 unfolds-3 listed-3
 
 -- copied: with flag 0 nothing need be listed
@@ -174,7 +174,7 @@ unlisted-3 = inl refl
 copied-held : Holds cidProgram 3 tokens-3 (unrenumberedBytes 0x0e)
 copied-held =
     subst (λ (o : Outcome). Faithful cidFont keep [] 0 o) copies
-    (faithful true cidFont (0x41 ∷ []) keep [] 0 8192 32768 (octets-of cidFont font-octets) none-octets)
+    (faithful true false cidFont (0x41 ∷ []) keep [] 0 8192 32768 (octets-of cidFont font-octets) none-octets)
     cidProgram reads 3 kept-3 tokens-3 met-3 unfolds-3 unlisted-3
 
 -- ---- nothing is promised where the record lists the mask with another length alone
@@ -199,7 +199,7 @@ keyed = refl
 font-scaled : KeepsMatrices cidProgram keep renumberedBytes
 font-scaled =
     subst (λ (o : Outcome). Scaled cidFont keep o) renumbers
-    (matrix-back true cidFont (0x41 ∷ []) keep reach 1 8192 32768 (octets-of cidFont font-octets) (octets-of reach reach-octets))
+    (matrix-back true false cidFont (0x41 ∷ []) keep reach 1 8192 32768 (octets-of cidFont font-octets) (octets-of reach reach-octets))
     cidProgram reads keyed
 
 -- FDs 0 and 2 are in use
