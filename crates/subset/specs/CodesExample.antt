@@ -18,8 +18,15 @@ use Rattle.subset.specs.Codes.{lastNamed, glyphOf, pairsFrom, codedBy, p
 abbrev font : Program
 font =
     record {
-      top = []; strings = (0x41 ∷ []) ∷ []; globals = []; charstrings = [] ∷ [] ∷ [] ∷ [] ∷ [];
-      ids = 0 ∷ 1 ∷ 2 ∷ 391 ∷ []; privates = emptyPrivate ∷ []; fds = 0 ∷ 0 ∷ 0 ∷ 0 ∷ []; dicts = []; coding = standard;
+      top = [];
+      strings = (0x41 ∷ []) ∷ [];
+      globals = [];
+      charstrings = [] ∷ [] ∷ [] ∷ [] ∷ [];
+      ids = 0 ∷ 1 ∷ 2 ∷ 391 ∷ [];
+      privates = emptyPrivate ∷ [];
+      fds = 0 ∷ 0 ∷ 0 ∷ 0 ∷ [];
+      dicts = [];
+      coding = standard;
     }
 
 -- the last glyph counts; a number past the font and a string that no glyph has are passed over
