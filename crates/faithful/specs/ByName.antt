@@ -1,23 +1,25 @@
 -- A name-keyed subset reads back (document 01, 'Layout'; document 02, Wish 4): the font with the strings, ids, encoding and bodies that were written.
-use Prim.Native.Nat.{ℕ, zero, suc, _+_, _*_, _≤_, _<_}
+use Prim.Native.Nat.{ℕ, zero, suc, _+_, _≤_, _<_}
 use mathlib.Core.Path.{_≡_, refl, sym, ap, _∙_, subst}
 use mathlib.Core.Bool.{Bool, false}
 use mathlib.Core.List.{List, [], _∷_, _++_, append-nil}
 use native.Mathlib.Omega.{arith}
-use borrow.Author.Tests.{le-ltb, ne-eqb}
+use borrow.Author.Tests.{ne-eqb}
 use lib.Dec.{ltb, eqb, lit<}
 use lib.ListN.{length, drop, getD, length-append}
 use Rattle.octets.specs.Pick.{pick, pick-ind}
-use Rattle.octets.specs.OctetsLaws.{length-bytes}
+use Rattle.octets.specs.Octets.{bytesOf}
 use Rattle.index.specs.Index.{found, readIndex}
 use Rattle.index.specs.Write.{sizeFor, indexBytes}
 use Rattle.charset.specs.Charset.{charsetAt}
 use Rattle.charset.specs.CharsetBytes.{Ids, charsetBytes}
 use Rattle.charset.specs.FdSelect.{noFds}
 use Rattle.charset.specs.Encoding.{encodingAt}
+use Rattle.charset.specs.Codes.{namingsAt}
+use Rattle.charset.specs.CodesRound.{supplementBytes, encoding-passes, encoding-back}
 use Rattle.dict.specs.Lookup.{lastFrom, lastOf}
 use Rattle.dict.specs.Dict.{Entry, entries, dictOf}
-use Rattle.cff.specs.Font.{Got, got, then, unless, Coding, codingRefusal, orZero, encoding, Private, Program, privateData, privateAt, idsAt, codingAt, encodingGot, cidParts, nameParts, fontAt, readFont, emptyPrivate}
+use Rattle.cff.specs.Font.{got, Coding, standard, expert, custom, codingRefusal, Private, Program, privateData, privateAt, idsAt, codingAt, encodingGot, cidParts, nameParts, fontAt, readFont, emptyPrivate}
 use Rattle.cff.specs.ReadsLaws.{no}
 use Rattle.subset.specs.Kept.{privateOf}
 use Rattle.subset.specs.Texts.{namesOf}
@@ -26,6 +28,7 @@ use Rattle.subset.specs.Pruned.{Bodies}
 use Rattle.subset.specs.Codes.{Pair, Coded, none, predefined, pairs, pairBytes, encodingBytes, codedBytes, codedAt}
 use Rattle.subset.specs.Subset.{privateDict, privatePart, ownByName, topByName, newIds, oneLocal, subsetByName}
 use Rattle.faithful.specs.Laid.{GoodProgram, Fitting, ReadsAs}
+use Rattle.faithful.specs.CodesLaws.{codingOf, SmallIds}
 use Rattle.faithful.specs.LiesLaws.{lies-behind, lies-within, index-back}
 use Rattle.faithful.specs.PrivateBack.{private-back}
 use Rattle.faithful.specs.TopFitLaws.{new-below}
@@ -44,27 +47,34 @@ ids-small own (t ∷ ts) few (suc i) = ids-small own ts few i
 
 -- ---- the encoding
 
--- supplements of three bytes each
-pairs-length : (ps : List Pair) → length (pairBytes ps) ≡ length ps * 3
-unfolding pairBytes
-pairs-length [] = refl
-pairs-length (q ∷ ps) = rw length-append (omega (arith, length-bytes 2 (q .id), pairs-length ps))
+-- the pairs are supplements
+pairs-supplied : (ps : List Pair) → pairBytes ps ≡ supplementBytes (λ q. q .code) (λ q. q .id) ps
+unfolding pairBytes supplementBytes
+pairs-supplied [] = refl
+pairs-supplied (q ∷ ps) = ap (λ (l : List ℕ). q .code ∷ (bytesOf 2 (q .id) ++ l)) (pairs-supplied ps)
 
--- they pass the checks of an encoding
-pairs-pass : (bs : List ℕ) (at : ℕ) (ps : List Pair) (post : List ℕ) → drop at bs ≡ encodingBytes ps ++ post → encodingAt bs at ≡ 0
-unfolding encodingAt
-pairs-pass bs at ps post lies =
-    let n : length ps * 3 ≤ length (pairBytes ps ++ post) = omega (arith, pairs-length ps, length-append (pairBytes ps) post) in
-    let last : List ℕ → ℕ → ℕ = λ l k. pick (ltb (length l) k) 1 0 in
-    rw lies (ap (λ (t : Bool). pick t 1 (last (pairBytes ps ++ post) (length ps * 3))) (le-ltb (length (length ps ∷ (pairBytes ps ++ post))) 0 (omega arith))
-    ∙ ap (λ (t : Bool). pick {A = ℕ} t 1 0) (le-ltb (length (pairBytes ps ++ post)) (length ps * 3) n))
+pairs-lie : (bs : List ℕ) (at : ℕ) (ps : List Pair) (post : List ℕ) → drop at bs ≡ encodingBytes ps ++ post
+    → drop at bs ≡ (0x80 ∷ 0x00 ∷ length ps ∷ supplementBytes (λ q. q .code) (λ q. q .id) ps) ++ post
+pairs-lie bs at ps post lies = lies ∙ ap (λ (l : List ℕ). (0x80 ∷ 0x00 ∷ length ps ∷ l) ++ post) (pairs-supplied ps)
 
--- so that the encoding behind the charset is read, as are the two predefined ones
+-- so that the encoding behind the charset passes its checks; the two predefined ones have none
 coded-pass : (bs : List ℕ) (at : ℕ) (coded : Coded) (post : List ℕ) → drop at bs ≡ codedBytes coded ++ post → codingRefusal bs (codedAt coded at) ≡ 0
 coded-pass bs at none post lies = refl
 coded-pass bs at predefined post lies = refl
 coded-pass bs at (pairs ps) post lies =
-    pick-ind (λ (n : ℕ). n ≡ 0) (ltb at 2) 0 (encodingAt bs at) (λ t. refl) (λ t. pairs-pass bs at ps post lies)
+    pick-ind (λ (n : ℕ). n ≡ 0) (ltb at 2) 0 (encodingAt bs at) (λ t. refl) (λ t. encoding-passes (λ q. q .code) (λ q. q .id) bs at ps post (pairs-lie bs at ps post lies))
+
+-- and is read as it was written
+coded-back : (bs : List ℕ) (at : ℕ) (coded : Coded) (post : List ℕ) → 2 ≤ at → drop at bs ≡ codedBytes coded ++ post → SmallIds coded
+    → codingAt bs (codedAt coded at) ≡ codingOf coded
+unfolding codingAt
+coded-back bs at none post far lies small = refl
+coded-back bs at predefined post far lies small = refl
+coded-back bs at (pairs ps) post far lies small =
+    let own : Coding = custom (namingsAt bs at) in
+    ap (λ (t : Bool). pick t standard (pick (eqb at 1) expert own)) (ne-eqb at 0 (λ e. omega arith))
+    ∙ ap (λ (t : Bool). pick t expert own) (ne-eqb at 1 (λ e. omega arith))
+    ∙ ap custom (encoding-back (λ q. q .code) (λ q. q .id) bs at ps post (pairs-lie bs at ps post lies) small)
 
 -- its offset is within the bytes, and is 0 where it would be 0 elsewhere
 coded-within : (coded : Coded) (at n : ℕ) → at ≤ n → 0 < n → codedAt coded at ≤ n
@@ -221,9 +231,15 @@ module _ (p : Program) (coded : Coded) (name order : List ℕ) (b : Bodies) wher
   subset-back fewStrings fewGlobals short font e =
       set-back sizeWritten name topWritten (ownByName p order) (b .globals) (behindGlobals p coded order b charsetPlace) fewStrings fewGlobals short font e
 
-  -- the place of its encoding, and its offset
+  -- the offset of its encoding, which reads back
   abbrev pub codesWritten : ℕ
   codesWritten = codesAt p coded order b charsetPlace
+
+  pub codes-read : SmallIds coded → codingAt (subsetByName p coded name order b) codesWritten ≡ codingOf coded
+  codes-read small =
+      let bs = subsetByName p coded name order b in
+      coded-back bs (codesPlace p coded order b charsetPlace) coded _ (omega arith)
+      (liesᵥ p coded order b charsetPlace bs (rest-place .0) (rest-place .1)) small
 
 -- a name-keyed subset reads back
 pub by-name : (p : Program) (coded : Coded) (name order : List ℕ) (b : Bodies) → GoodProgram p → Fitting (length order) (0 ∷ []) b

@@ -14,14 +14,14 @@ use Rattle.record.specs.Record.{rowsOf}
 use Rattle.dict.specs.Lookup.{Operands, cidKeyed, rosIn}
 use Rattle.charset.specs.ListedLaws.{list-at}
 use Rattle.charset.specs.FdSelect.{noFds}
-use Rattle.cff.specs.Font.{Got, Coding, standard, Program, codingAt, readFont}
+use Rattle.cff.specs.Font.{Got, got, Coding, standard, Program, codingAt, readFont}
 use Rattle.cff.specs.Find.{foundAs, nameAs, cidAs}
 use Rattle.cff.specs.declared.FoundAs.the-variants.{Glyph as TheGlyph, Absent}
 use Rattle.find.specs.Find.{glyphWithId, glyphWithText}
 use Rattle.subset.specs.Kept.{isIn, keptOf, localsOf, sortedBy, writtenOrder, usedFds, newFd}
 use Rattle.subset.specs.Texts.{nameOf, namesOf}
 use Rattle.subset.specs.Pruned.{Bodies, pruned}
-use Rattle.subset.specs.Codes.{Coded}
+use Rattle.subset.specs.Codes.{Coded, codedBy, codedIf}
 use Rattle.subset.specs.Subset.{matrixOf, ownByName, ownByCid, newIds, cidsOf, newFds, subsetByName, subsetByCid, subsetBytes}
 use Rattle.subset.specs.Cut.{allFound, hasRos, ownOf}
 use Rattle.faithful.specs.Faithful.{unfolded, IsKept, Recorded, foundFor, Holds}
@@ -33,7 +33,9 @@ use Rattle.faithful.specs.FirstLaws.{first-name, first-cid}
 use Rattle.faithful.specs.FoundLaws.{found-name, found-cid}
 use Rattle.faithful.specs.UsedLaws.{used-has, used-some, used-count, used-one, new-fd-at, matrices-at, new-fds-there, new-fds-fit, new-fds-at}
 use Rattle.faithful.specs.PrunedLaws.{pruned-fits, pruned-unfolds}
-use Rattle.faithful.specs.ByName.{codesWritten, by-name}
+use Rattle.faithful.specs.ByName.{codesWritten, codes-read, by-name}
+use Rattle.faithful.specs.Codes.{CodesKept}
+use Rattle.faithful.specs.CodesLaws.{codingOf, SmallIds, coded-by-small, codes-meant}
 use Rattle.faithful.specs.ByCid.{by-cid}
 
 -- ---- numbers of the glyphs kept
@@ -131,6 +133,16 @@ module _ (p : Program) (keep rec : List ℕ) (flag : ℕ) (good : GoodProgram p)
           met = u .0;
           unfolds = u .1;
         }
+
+    -- Wish 4: what the codes mean
+    name-codes : length byName ≤ 67108864 → coded ≡ codedBy p kept (ownByName p kept) (p .coding)
+        → (q : Program) × (readFont byName ≡ got q) × CodesKept p keep q
+    name-codes size is =
+        let r = name-reads size in
+        let small : SmallIds coded = subst SmallIds (sym is) (coded-by-small p kept (ownByName p kept) strings (p .coding)) in
+        let read : r .program .coding ≡ codingOf (codedBy p kept (ownByName p kept) (p .coding)) =
+        r .codes ∙ codes-read p coded name kept (bodies kept kept-inside) small ∙ ap codingOf is in
+        (r .program, r .reads, record { codes = codes-meant p (length (p .charstrings)) keep named found (r .program) (r .strings) (r .ids) read })
 
   -- ---- CID-keyed
 
@@ -259,3 +271,19 @@ module _ (p : Program) (keep rec : List ℕ) (flag : ℕ) (good : GoodProgram p)
       let at = placed g k in
       subst (λ (h : ℕ). Holds p h ts (bytesBy (cidKeyed (p .top)) coded name)) (at .2)
       (held (cidKeyed (p .top)) coded name refl ros found strings size (at .0) (at .1) ts met (ap (unfolded p) (at .2) ∙ e) listed)
+
+  -- Wish 4 for a font that was read, and that is not refused
+  pub codes-kept : (ask : Bool) (name : List ℕ) → ask ≡ true → cidKeyed (p .top) ≡ false → allFound p kept ≡ true
+      → length (ownOf p (writtenOrder p kept)) ≤ 64609
+      → length (subsetBytes p (codedIf ask p kept (ownOf p (writtenOrder p kept))) name kept (writtenOrder p kept) (pruned p (rowsOf rec) used (writtenOrder p kept) flag .bodies)) ≤ 67108864
+      → (q : Program) × (readFont (subsetBytes p (codedIf ask p kept (ownOf p (writtenOrder p kept))) name kept (writtenOrder p kept) (pruned p (rowsOf rec) used (writtenOrder p kept) flag .bodies)) ≡ got q) × CodesKept p keep q
+  unfolding subsetBytes
+  codes-kept ask name asked named =
+      subst (λ (t : Bool). Kept t (cidKeyed (p .top))) (sym asked)
+      (subst (Kept true) (sym named) (λ found strings size. name-codes (codedBy p kept (ownByName p kept) (p .coding)) name named found strings size refl))
+    where
+      Kept : Bool → Bool → Type 0
+      Kept t cid =
+          allFound p kept ≡ true → length (pick cid (ownByCid p) (ownByName p (orderBy cid))) ≤ 64609
+          → length (bytesBy cid (codedIf t p kept (pick cid (ownByCid p) (ownByName p (orderBy cid)))) name) ≤ 67108864
+          → (q : Program) × (readFont (bytesBy cid (codedIf t p kept (pick cid (ownByCid p) (ownByName p (orderBy cid)))) name) ≡ got q) × CodesKept p keep q

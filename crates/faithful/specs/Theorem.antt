@@ -25,7 +25,8 @@ use Rattle.faithful.specs.Laid.{GoodProgram}
 use Rattle.faithful.specs.GoodPartsLaws.{got-same}
 use Rattle.faithful.specs.GoodLaws.{font-good}
 use Rattle.faithful.specs.Matrices.{KeepsMatrices, Scaled}
-use Rattle.faithful.specs.Held.{keptIn, glyph-held, matrices-kept}
+use Rattle.faithful.specs.Codes.{CodesKept, KeepsCodes}
+use Rattle.faithful.specs.Held.{keptIn, glyph-held, matrices-kept, codes-kept}
 
 -- two that are the same
 pub same-bool : (a b : Bool) → sameBool a b ≡ true → a ≡ b
@@ -95,6 +96,15 @@ module _ (ask : Bool) (font name keep rec : List ℕ) (flag room : ℕ) (octets 
       subst (λ (x : Program). cidKeyed (x .top) ≡ true → KeepsMatrices x keep (bytes ask name keep rec flag room p (Scaled font keep) (λ n. tt)))
       (got-same p q (sym is ∙ e)) (λ k. matrices-kept p keep rec flag good octets _ name k ros found strings size) keyed)
 
+  -- Wish 4
+  program-coded : (cid : Bool) (words : ℕ) → KeepsCodes ask font keep (cutProgram cid ask p name keep rec flag words room)
+  program-coded =
+      program-meets ask name keep rec flag room p (KeepsCodes ask font keep) (λ n. tt)
+      (λ way ros found strings size asked q e named.
+      subst (λ (x : Program). cidKeyed (x .top) ≡ false
+      → (r : Program) × (readFont (bytes ask name keep rec flag room p (KeepsCodes ask font keep) (λ n. tt)) ≡ got r) × CodesKept x keep r)
+      (got-same p q (sym is ∙ e)) (λ k. codes-kept p keep rec flag good octets ask name asked k found strings size) named)
+
 -- THE THEOREM: demand 3, whatever the font, the new name, the keep list, the record and the flag are
 pub faithful : (cid ask : Bool) (font name keep rec : List ℕ) (flag words room : ℕ) → Octets font → Octets rec
     → Faithful font keep rec flag (cutOf cid ask font name keep rec flag words room)
@@ -113,3 +123,13 @@ matrix-back cid ask font name keep rec flag words room bytes octets = go (readFo
     go : (x : Got Program) → readFont font ≡ x → Scaled font keep (cutRead cid ask x name keep rec flag words room)
     go (refusedFont n) e = tt
     go (got p) e = program-scaled ask font name keep rec flag room octets p (font-good font p bytes e) e cid words
+
+-- Wish 4: where the encoding was asked for, each code whose glyph is kept has in the subset the glyph of the same name, and no other code any
+pub codes-back : (cid ask : Bool) (font name keep rec : List ℕ) (flag words room : ℕ) → Octets font → Octets rec
+    → KeepsCodes ask font keep (cutOf cid ask font name keep rec flag words room)
+unfolding cutOf
+codes-back cid ask font name keep rec flag words room bytes octets = go (readFont font) refl
+  where
+    go : (x : Got Program) → readFont font ≡ x → KeepsCodes ask font keep (cutRead cid ask x name keep rec flag words room)
+    go (refusedFont n) e = tt
+    go (got p) e = program-coded ask font name keep rec flag room octets p (font-good font p bytes e) e cid words

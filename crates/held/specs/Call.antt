@@ -35,5 +35,5 @@ module _ (font keep rec : List ℕ) (flag way len : ℕ) (out out' : List ℕ) w
       λ p reads g kept ts met plainly recorded. subst (λ (l : List ℕ). Holds p g ts l) front (f p reads g kept ts met plainly recorded)
 
   -- THE CALL: what it leaves, where it answered a way and a length
-  pub call-holds : (cid : Bool) (name work work' : List ℕ) → Cuts cid font name keep rec flag work out work' out' (Subset way len) → HoldsAll
-  call-holds cid name work work' c = outcome-holds (cutOf cid font name keep rec flag (length work) (length out)) (c .answers) (c .output) (c .faithful)
+  pub call-holds : (cid ask : Bool) (name work work' : List ℕ) → Cuts cid ask font name keep rec flag work out work' out' (Subset way len) → HoldsAll
+  call-holds cid ask name work work' c = outcome-holds (cutOf cid ask font name keep rec flag (length work) (length out)) (c .answers) (c .output) (c .faithful)

@@ -97,7 +97,7 @@ fine = trace-fine nameFont keep 20 bytes nameProgram reads 1 reach traces
 -- the subset cut with the record holds the glyph
 held : Holds nameProgram 2 tokens renumberedBytes
 held =
-    trace-held nameFont keep 20 bytes nameProgram reads 1 reach traces false (0x4e ∷ []) 8192 32768 0 renumberedBytes renumbers 2 kept tokens met unfolds
+    trace-held nameFont keep 20 bytes nameProgram reads 1 reach traces false false (0x4e ∷ []) 8192 32768 0 renumberedBytes renumbers 2 kept tokens met unfolds
 
 -- the keep list in another order, with a repeat
 same : (g : ℕ) → keeps keep g ≡ keeps (2 ∷ 1 ∷ 2 ∷ []) g
