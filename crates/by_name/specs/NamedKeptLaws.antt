@@ -36,8 +36,8 @@ use Rattle.outcome.specs.declared.Answer.{Answer}
 use Rattle.outcome.specs.declared.Answer.the-variants.{Refused}
 use Rattle.by_name.specs.NamedLaws.{named-strings}
 
-module _ (b : List ℕ) (f : Font) (read : FontHeld b f) (name keep rec : List ℕ) (flag : ℕ) (ws : List ℕ)
-    (passed : Passed false (programOf b f) (length name) keep rec flag (length ws)) where
+module _ (b : List ℕ) (f : Font) (read : FontHeld b f) (ask : Bool) (name keep rec : List ℕ) (flag : ℕ) (ws : List ℕ)
+    (passed : Passed false ask (programOf b f) (length name) keep rec flag (length ws)) where
   abbrev p : Program
   p = programOf b f
 
@@ -71,11 +71,19 @@ module _ (b : List ℕ) (f : Font) (read : FontHeld b f) (name keep rec : List �
   one-used : usedFds p kept ≡ 0 ∷ []
   one-used = used-one p kept (read .program) keyed (some .0) below
 
-  -- the outcome of the cut by the kept glyphs alone
-  outcome-is : (room : ℕ) → cutBehind p name keep rec flag room ≡ namedOutcome p name kept room (pruned p (rowsOf rec) (0 ∷ []) kept flag)
+  -- what the subset has of an encoding, and the outcome of the cut, by the kept glyphs alone
+  codedOf : List ℕ → Coded
+  codedOf order = codedIf ask p kept (ownOf p order)
+
+  coded-is : codedOf (writtenOrder p kept) ≡ codedIf ask p kept (ownByName p kept)
+  coded-is = ap codedOf as-kept ∙ ap (codedIf ask p kept) (named-strings p keyed kept)
+
+  outcome-is : (room : ℕ)
+      → cutBehind ask p name keep rec flag room ≡ namedOutcome p (codedIf ask p kept (ownByName p kept)) name kept room (pruned p (rowsOf rec) (0 ∷ []) kept flag)
   outcome-is room =
-      ap (λ (l : List ℕ). written p name kept l room (pruned p (rowsOf rec) (usedFds p kept) l flag)) as-kept
-      ∙ ap (λ (fs : List ℕ). written p name kept kept room (pruned p (rowsOf rec) fs kept flag)) one-used
+      ap (λ (c : Coded). written p c name kept (writtenOrder p kept) room (pruned p (rowsOf rec) (usedFds p kept) (writtenOrder p kept) flag)) coded-is
+      ∙ ap (λ (l : List ℕ). written p (codedIf ask p kept (ownByName p kept)) name kept l room (pruned p (rowsOf rec) (usedFds p kept) l flag)) as-kept
+      ∙ ap (λ (fs : List ℕ). written p (codedIf ask p kept (ownByName p kept)) name kept kept room (pruned p (rowsOf rec) fs kept flag)) one-used
 
   module _ (ws₁ : List ℕ) (k : ℕ) (begins : Begins ws n (packed p (writtenOrder p (keptOf n keep))) ws₁) (many : k ≡ length (keptOf n keep)) where
     many-kept : k ≡ length kept
@@ -115,33 +123,75 @@ module _ (b : List ℕ) (f : Font) (read : FontHeld b f) (name keep rec : List �
           ∙ sym (ap length (named-strings p keyed (writtenOrder p kept)))
 
       -- too many own strings
-      pub named-refused : (out : List ℕ) → 64609 < own .count → Cut (cutBehind p name keep rec flag (length out)) out out (Refused 12)
+      pub named-refused : (out : List ℕ) → 64609 < own .count → Cut (cutBehind ask p name keep rec flag (length out)) out out (Refused 12)
       named-refused out l =
-          cut-strings p name kept (writtenOrder p kept) (length out) (pruned p (rowsOf rec) (usedFds p kept) (writtenOrder p kept) flag) out
+          cut-strings p (codedOf (writtenOrder p kept)) name kept (writtenOrder p kept) (length out) (pruned p (rowsOf rec) (usedFds p kept) (writtenOrder p kept) flag) out
           (subst (λ (m : ℕ). 64609 < m) counted l)
 
-      pub prepared-asked : own .count ≤ 64609 → NamedCut b f ws₂ k × NamedStrings p (orderIn k ws₂) slots own (length name)
-      prepared-asked few = (
-        record {
-          read = read;
-          keyed = keyed;
-          some = omega (arith, many-kept, some .0);
-          there =
-              λ i l. subst (λ (o : List ℕ). getD o i 0 < length (p .charstrings)) (sym (order-same ∙ order-kept)) (below i (subst (λ (m : ℕ). i < m) many-kept l));
-          names = renamed;
-          room = omega (arith, passed .room, begins .size, long);
-        },
-        record {
-          ready = ready;
-          measured = subst (λ (o : List ℕ). Measured (ownByName p o) own) (sym order-same) measured;
-          few = few;
-          short = passed .named;
-        },
-      )
+      -- what encoding asks
+      pub encode-asked : GoodFont b f × (length b ≤ 67108864) × (k ≤ n) × (n + k ≤ length ws₂)
+          × (take k (drop n ws₂) ≡ newIds (ownByName p (orderIn k ws₂)) (namesOf p (orderIn k ws₂))) × (256 ≤ 256)
+      encode-asked = (read .font, read .size, renamed .front, renamed .room, renamed .ids, omega arith)
 
-      pub named-cut : (out out' : List ℕ) (a : Answer)
-          → Cut (namedOutcome p name (orderIn k ws₂) (length out) (pruned p (rowsOf rec) (0 ∷ []) (orderIn k ws₂) flag)) out out' a
-          → Cut (cutBehind p name keep rec flag (length out)) out out' a
-      named-cut out out' a c =
-          subst (λ (o : Outcome). Cut o out out' a) (sym (outcome-is (length out)))
-          (subst (λ (l : List ℕ). Cut (namedOutcome p name l (length out) (pruned p (rowsOf rec) (0 ∷ []) l flag)) out out' a) (order-same ∙ order-kept) c)
+      module _ (few : own .count ≤ 64609) (table : List ℕ) (long₁ : length table ≡ 256) (e : Encoding)
+          (encodes : Encodes (codedIf ask p (orderIn k ws₂) (ownByName p (orderIn k ws₂))) table e) where
+        -- the slots, and behind them the codes
+        slots₂ : List ℕ
+        slots₂ = take 16 slots ++ table
+
+        coded-kept : codedIf ask p (orderIn k ws₂) (ownByName p (orderIn k ws₂)) ≡ codedIf ask p kept (ownByName p kept)
+        coded-kept = ap (λ (l : List ℕ). codedIf ask p l (ownByName p l)) (order-same ∙ order-kept)
+
+        encodes-kept : Encodes (codedIf ask p kept (ownByName p kept)) table e
+        encodes-kept = subst (λ (c : Coded). Encodes c table e) coded-kept encodes
+
+        -- too many pairs
+        pub pairs-refused : (out : List ℕ) → 255 < e .pairs → Cut (cutBehind ask p name keep rec flag (length out)) out out (Refused 13)
+        pairs-refused out l =
+            subst (λ (o : Outcome). Cut o out out (Refused 13)) (sym (outcome-is (length out)))
+            (cut-pairs p (codedIf ask p kept (ownByName p kept)) name kept kept (length out) (pruned p (rowsOf rec) (0 ∷ []) kept flag) out
+            (omega (arith, few, ap (λ (o : Own). o .count) (measured .is), ap (λ (l : List ℕ). length (ownByName p l)) order-kept, ap length (named-strings p keyed kept)))
+            (omega (arith, l, encodes-kept .many)))
+
+        module _ (fit : e .pairs ≤ 255) (slots₃ : List ℕ) (slots-are : slots₃ ≡ slots₂) where
+          front-is : take 16 slots₃ ≡ take 16 slots
+          front-is = ap (take 16) slots-are ∙ take-front slots table 16 (ready .given .room)
+
+          table-is : drop 16 slots₃ ≡ table
+          table-is = ap (drop 16) slots-are ∙ drop-front slots table 16 (ready .given .room)
+
+          pub prepared-asked : NamedCut b f ws₂ k × NamedStrings p (orderIn k ws₂) slots₃ own (length name) × NamedCodes e slots₃
+          prepared-asked = (
+            record {
+              read = read;
+              keyed = keyed;
+              some = omega (arith, many-kept, some .0);
+              there =
+                  λ i l. subst (λ (o : List ℕ). getD o i 0 < length (p .charstrings)) (sym (order-same ∙ order-kept)) (below i (subst (λ (m : ℕ). i < m) many-kept l));
+              names = renamed;
+              room = omega (arith, passed .room, begins .size, long);
+            },
+            record {
+              ready = slots-stay p false slots slots₃ ready (omega (arith, slots-long)) front-is;
+              measured = subst (λ (o : List ℕ). Measured (ownByName p o) own) (sym order-same) measured;
+              few = few;
+              short = passed .named;
+            },
+            record {
+              is = subst (λ (l : List ℕ). Encodes (codedIn (e .kind) l) l e) (sym table-is) (encodes-self _ table e encodes);
+              few = fit;
+              long = omega (arith, slots-long);
+            },
+          )
+            where
+              slots-long : length slots₃ ≡ 272
+              slots-long = ap length slots-are ∙ length-append (take 16 slots) table ∙ omega (arith, length-take-le 16 slots (ready .given .room), long₁)
+
+          pub named-cut : (out out' : List ℕ) (a : Answer)
+              → Cut (namedOutcome p (codedFor e slots₃) name (orderIn k ws₂) (length out) (pruned p (rowsOf rec) (0 ∷ []) (orderIn k ws₂) flag)) out out' a
+              → Cut (cutBehind ask p name keep rec flag (length out)) out out' a
+          named-cut out out' a c =
+              subst (λ (o : Outcome). Cut o out out' a) (sym (outcome-is (length out)))
+              (subst (λ (x : Coded). Cut (namedOutcome p x name kept (length out) (pruned p (rowsOf rec) (0 ∷ []) kept flag)) out out' a)
+              (ap (codedIn (e .kind)) table-is ∙ encodes-kept .is)
+              (subst (λ (l : List ℕ). Cut (namedOutcome p (codedFor e slots₃) name l (length out) (pruned p (rowsOf rec) (0 ∷ []) l flag)) out out' a) (order-same ∙ order-kept) c))

@@ -82,7 +82,7 @@ coded-within none at n h s = omega arith
 coded-within predefined at n h s = s
 coded-within (pairs ps) at n h s = h
 
-coded-there : (coded : Coded) (at : ℕ) → 0 < at → eqb (codedAt coded at) 0 ≡ eqb (codedAt coded 1) 0
+pub coded-there : (coded : Coded) (at : ℕ) → 0 < at → eqb (codedAt coded at) 0 ≡ eqb (codedAt coded 1) 0
 coded-there none at h = refl
 coded-there predefined at h = refl
 coded-there (pairs ps) at h = ne-eqb at 0 (λ e. omega arith)
