@@ -26,10 +26,10 @@ pub fn cut_by_keying(
     work: &mut [u32],
     out: &mut [u8],
 ) -> Answer
-    ensures { λ r. ⌜ Cuts (keying (readFont (now (font .entry)))) (now (font .entry)) (now (name .entry)) (now (keep .entry)) (now (rows .entry)) traced
+    ensures { λ r. ⌜ Cuts (keying (readFont (now (font .entry)))) false (now (font .entry)) (now (name .entry)) (now (keep .entry)) (now (rows .entry)) traced
         (now (work .entry)) (now (out .entry)) (now (work .exit)) (now (out .exit)) r ⌝ }
 {
-    let first = subset(font, name, keep, rows, traced, &mut *work, &mut *out);
+    let first = subset(font, name, keep, rows, traced, false, &mut *work, &mut *out);
     match first {
         Answer::Refused(n) => {
             if n == 3 {

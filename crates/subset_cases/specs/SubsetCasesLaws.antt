@@ -1,7 +1,7 @@
 -- Laws of the answers to stored cases of subsetting, by the code's ways out.
 use Prim.Native.Nat.{ℕ, _+_, _-_, _*_, _≤_, _<_}
 use mathlib.Core.Path.{_≡_, sym, ap, _∙_, subst}
-use mathlib.Core.Bool.{Bool}
+use mathlib.Core.Bool.{Bool, false}
 use mathlib.Core.List.{List}
 use mathlib.Core.Option.{none, some}
 use native.Mathlib.Omega.{arith}
@@ -19,9 +19,9 @@ use Rattle.subset_cases.specs.SubsetCases.{outcomeBytes, lentAnswer, kep
 
 -- a call of a keying
 pub cuts-as : {a b : Bool} {font name keep rec : List ℕ} {flag : ℕ} {work out work' out' : List ℕ} {r : Answer}
-    → Cuts a font name keep rec flag work out work' out' r → b ≡ a → Cuts b font name keep rec flag work out work' out' r
+    → Cuts a false font name keep rec flag work out work' out' r → b ≡ a → Cuts b false font name keep rec flag work out work' out' r
 cuts-as {font = font} {name = name} {keep = keep} {rec = rec} {flag = flag} {work = work} {out = out} {work' = work'} {out' = out'} {r = r} c e =
-    subst (λ (x : Bool). Cuts x font name keep rec flag work out work' out' r) (sym e) c
+    subst (λ (x : Bool). Cuts x false font name keep rec flag work out work' out' r) (sym e) c
 
 -- a part from a place on, as the code lends it
 rest : (n : ℕ) (s : List ℕ) → take (length s - n) (drop n s) ≡ drop n s

@@ -39,12 +39,12 @@ fn cut(
     work: &mut [u32],
     out: &mut [u8],
 ) -> Answer
-    ensures { λ r. ⌜ Cuts cid (now (font .entry)) (now (name .entry)) (now (keep .entry)) (now (rows .entry)) traced (now (work .entry)) (now (out .entry)) (now (work .exit)) (now (out .exit)) r ⌝ }
+    ensures { λ r. ⌜ Cuts cid false (now (font .entry)) (now (name .entry)) (now (keep .entry)) (now (rows .entry)) traced (now (work .entry)) (now (out .entry)) (now (work .exit)) (now (out .exit)) r ⌝ }
 {
     if cid {
         return subset_cid(font, name, keep, rows, traced, work, out);
     }
-    subset(font, name, keep, rows, traced, work, out)
+    subset(font, name, keep, rows, traced, false, work, out)
 }
 
 // What a call answers and leaves, with work words and an output that were filled.

@@ -14,7 +14,7 @@ use Rattle.octets.specs.PickLaws.{pick-same}
 use Rattle.octets.specs.Octets.{Octets}
 use Rattle.octets.specs.Lists.{allBelow}
 use Rattle.record.specs.Record.{rowsOf, recordFine}
-use Rattle.dict.specs.Lookup.{rosIn, cidKeyed, strokedIn}
+use Rattle.dict.specs.Lookup.{rosIn, cidKeyed}
 use Rattle.cff.specs.Font.{Got, refused as refusedFont, got, Program, readFont}
 use Rattle.cff.specs.Find.{workSize}
 use Rattle.cff.specs.Reads.{programOf, GoodFont}
@@ -175,7 +175,7 @@ not-refused cid ask p name keep rec flag words z =
     (allFound p (keptOf (length (p .charstrings)) keep)) (recordFine cid rec flag) (ltb words (workSize p)) z in
     record {
       keying = same-bool cid (cidKeyed (p .top)) (h .0);
-      filled = h .1;
+      supported = h .1;
       ros = h .2;
       named = ltb-false 65535 name (h .3);
       below = h .4;
@@ -243,7 +243,7 @@ module _ (cid ask : Bool) (font : List ℕ) (f : Font) (name keep rec : List ℕ
           let h = passed-read in
           record {
             keying = h .keying;
-            filled = h .filled;
+            supported = h .supported;
             ros = h .ros;
             named = h .named;
             below = h .below;
