@@ -1,5 +1,6 @@
 // Document 01, 'One sheet, whole': from the input that the program `cut` has taken to what it prints.
 ghost use mathlib.Core.List.{List};
+ghost use mathlib.Core.Bool.{false};
 ghost use Prim.Native.Nat.{ℕ, _+_, _*_, _≤_};
 ghost use lib.ListN.{length};
 ghost use Rattle.octets.specs.Octets.{Wrote};

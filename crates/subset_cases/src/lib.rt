@@ -4,6 +4,7 @@ pub mod left;
 
 ghost use Prim.Native.Nat.{_≤_};
 ghost use mathlib.Core.Path.{_≡_};
+ghost use mathlib.Core.Bool.{false};
 ghost use mathlib.Core.Option.{some};
 ghost use lib.ListN.{length, replicate};
 ghost use Rattle.cases.specs.Answers.{Gives};
