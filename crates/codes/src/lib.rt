@@ -9,10 +9,9 @@ ghost use Rattle.octets.specs.Pick.{pick};
 ghost use Rattle.charset.specs.Codes.{codesFrom, rangeFrom, rangesFrom, suppliedFrom, namingsAt};
 ghost use Rattle.find.specs.Find.{glyphWithText};
 ghost use Rattle.find.specs.declared.Found.the-variants.{Absent, Glyph};
-ghost use Rattle.cff.specs.Font.{Program};
 ghost use Rattle.cff.specs.Reads.{GoodFont, programOf};
 ghost use Rattle.subset.specs.Codes.{stringGlyph};
-ghost use Rattle.codes.specs.Filled.{stored, filled};
+ghost use Rattle.codes.specs.Filled.{stored, filled, Fills};
 use cff::font::Font;
 use find::Found;
 
@@ -33,8 +32,7 @@ fn name_glyph(table: &mut [usize], n: usize, code: usize, glyph: usize)
 // Format 0: count codes, of the glyphs from 1 on.
 fn fill_codes(font: &[u8], at: usize, count: usize, n: usize, table: &mut [usize])
     requires { ⌜ (256 ≤ length (now table)) × (at + count ≤ length (now font)) × (count < 256) ⌝ }
-    ensures { λ r. ⌜ (p : Program) → length (p .charstrings) ≡ n
-        → now (table .exit) ≡ filled p (now (table .entry)) (codesFrom 1 (take count (drop at (now (font .entry))))) ⌝ }
+    ensures { λ r. ⌜ Fills n (now (table .entry)) (codesFrom 1 (take count (drop at (now (font .entry))))) (now (table .exit)) ⌝ }
 {
     let mut q = at;
     let mut glyph = 1;
@@ -50,7 +48,7 @@ fn fill_codes(font: &[u8], at: usize, count: usize, n: usize, table: &mut [usize
 // A range of count codes from one on, of the glyphs from one on.
 fn fill_range(n: usize, first: usize, from: usize, count: usize, table: &mut [usize])
     requires { ⌜ (256 ≤ length (now table)) × (first < 256) × (from ≤ 65536) × (count ≤ 256) ⌝ }
-    ensures { λ r. ⌜ (p : Program) → length (p .charstrings) ≡ n → now (table .exit) ≡ filled p (now (table .entry)) (rangeFrom count first from) ⌝ }
+    ensures { λ r. ⌜ Fills n (now (table .entry)) (rangeFrom count first from) (now (table .exit)) ⌝ }
 {
     let mut code = first;
     let mut glyph = from;
@@ -66,8 +64,7 @@ fn fill_range(n: usize, first: usize, from: usize, count: usize, table: &mut [us
 // Format 1: count ranges, of the glyphs from 1 on; a glyph at a code above 255 counts.
 fn fill_ranges(font: &[u8], at: usize, count: usize, n: usize, table: &mut [usize])
     requires { ⌜ (256 ≤ length (now table)) × (at + count * 2 ≤ length (now font)) × (count < 256) ⌝ }
-    ensures { λ r. ⌜ (p : Program) → length (p .charstrings) ≡ n
-        → now (table .exit) ≡ filled p (now (table .entry)) (rangesFrom count 1 (drop at (now (font .entry)))) ⌝ }
+    ensures { λ r. ⌜ Fills n (now (table .entry)) (rangesFrom count 1 (drop at (now (font .entry)))) (now (table .exit)) ⌝ }
 {
     let mut q = at;
     let mut glyph = 1;
@@ -85,9 +82,9 @@ fn fill_ranges(font: &[u8], at: usize, count: usize, n: usize, table: &mut [usiz
 // The codes or ranges of a format.
 fn fill_first(font: &[u8], at: usize, kind: usize, count: usize, n: usize, table: &mut [usize])
     requires { ⌜ (256 ≤ length (now table)) × (kind ≤ 1) × (at + count * (kind + 1) ≤ length (now font)) × (count < 256) ⌝ }
-    ensures { λ r. ⌜ (p : Program) → length (p .charstrings) ≡ n
-        → now (table .exit) ≡ filled p (now (table .entry))
-        (pick (eqb kind 0) (codesFrom 1 (take count (drop at (now (font .entry))))) (rangesFrom count 1 (drop at (now (font .entry))))) ⌝ }
+    ensures { λ r. ⌜ Fills n (now (table .entry))
+        (pick (eqb kind 0) (codesFrom 1 (take count (drop at (now (font .entry))))) (rangesFrom count 1 (drop at (now (font .entry)))))
+        (now (table .exit)) ⌝ }
 {
     if kind == 0 {
         return fill_codes(font, at, count, n, table);
