@@ -12,7 +12,7 @@ use Rattle.octets.specs.Pick.{pick}
 use Rattle.octets.specs.Octets.{numAt}
 use Rattle.charset.specs.Encoding.{encodingAt}
 use Rattle.charset.specs.Codes.{Naming, byNumber, byString, codesFrom, rangeFrom, rangesFrom, suppliedFrom, namingsBy, namingsAt}
-use Rattle.charset.specs.CodesFound.{GoodEncoding, encoding-good}
+use Rattle.charset.specs.CodesFound.{supplementsAt, GoodEncoding, encoding-good}
 use Rattle.find.specs.declared.Found.{Found}
 use Rattle.find.specs.declared.Found.the-variants.{Absent, Glyph}
 use Rattle.cff.specs.Font.{Program}
@@ -157,7 +157,7 @@ kind-ranges at count kind n e l h =
     let z = ap (λ (k : ℕ). count * (k + 1)) o in
     omega arith
 
-module _ {n : ℕ} {old new : List ℕ} {xs ys : List Naming} (kind : ℕ) where
+module _ {n : ℕ} {old new : List ℕ} (xs ys : List Naming) (kind : ℕ) where
   pub fills-codes : kind ≡ 0 → Fills n old xs new → Fills n old (pick (eqb kind 0) xs ys) new
   fills-codes e f = rw (eq-eqb kind 0 e) f
 
@@ -208,3 +208,26 @@ module _ (p : Program) (b : List ℕ) (at n format count : ℕ) (many : length (
           ap (λ (c : Bool). pick c [] (suppliedFrom (getD (drop (at + 2) b) m 0) (drop (m + 1) (drop (at + 2) b)))) t
           ∙ ap (λ (q : ℕ). suppliedFrom q (drop (m + 1) (drop (at + 2) b))) x ∙ ap (suppliedFrom k) y in
       is ∙ sym (ap (filled p mid) z) ∙ all-namings
+
+-- what is read of it lies within the font
+module _ (b : List ℕ) (at format count : ℕ) (g : GoodEncoding b at) (is-format : format ≡ getD b at 0) (is-count : count ≡ getD b (at + 1) 0) where
+  sups-same : at + 2 + count * (format % 128 + 1) ≡ supplementsAt b at
+  sups-same = ap (λ (x : ℕ). at + 2 + count * (x % 128 + 1)) is-format ∙ ap (λ (x : ℕ). at + 2 + x * (getD b at 0 % 128 + 1)) is-count
+
+  pub encoding-within : (format % 128 ≤ 1) × (at + 2 + count * (format % 128 + 1) ≤ length b)
+  encoding-within =
+      let f = ap (λ (x : ℕ). x % 128) is-format in
+      (omega (arith, g .kind), omega (arith, sups-same, g .codes))
+
+  module _ (more : format / 128 ≡ 0 → ⊥) where
+    supplied-there : getD b at 0 / 128 ≡ 0 → ⊥
+    supplied-there z = more (ap (λ (x : ℕ). x / 128) is-format ∙ z)
+
+    pub count-within : at + 2 + count * (format % 128 + 1) < length b
+    count-within = omega (arith, sups-same, g .counted supplied-there)
+
+    pub supplied-within : (k : ℕ) → k ≡ getD b (at + 2 + count * (format % 128 + 1)) 0 → at + 2 + count * (format % 128 + 1) + 1 + k * 3 ≤ length b
+    supplied-within k e =
+        let same = e ∙ ap (λ (x : ℕ). getD b x 0) sups-same in
+        let z = ap (λ (x : ℕ). x * 3) same in
+        omega (arith, sups-same, g .supplied supplied-there)

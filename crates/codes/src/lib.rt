@@ -164,7 +164,7 @@ fn fill_supplements(font: &[u8], f: Font, at: usize, count: usize, table: &mut [
 
 // All that the encoding of a font says, which has one of its own: the codes or ranges, and then the supplements.
 pub fn fill(font: &[u8], f: Font, table: &mut [usize])
-    requires { ⌜ GoodFont (now font) f × (2 ≤ f .encoding) × (256 ≤ length (now table)) ⌝ }
+    requires { ⌜ GoodFont (now font) f × (length (now font) ≤ 67108864) × (2 ≤ f .encoding) × (256 ≤ length (now table)) ⌝ }
     ensures { λ r. ⌜ now (table .exit) ≡ filled (programOf (now (font .entry)) f) (now (table .entry)) (namingsAt (now (font .entry)) (f .encoding)) ⌝ }
 {
     let charstrings = f.charstrings;
