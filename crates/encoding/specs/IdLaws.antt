@@ -98,19 +98,21 @@ module _ (p : Program) (own : List (List ℕ)) (words : List ℕ) (n k : ℕ) (f
   abbrev slot : ℕ → Bool → ℕ
   slot g t = pick t (newId own (nameOf p g) + 1) 0
 
-  ids-by : (g m i : ℕ) → i + m ≡ k → idFrom words n m i g ≡ slot g (isIn g (drop i (orderIn k words)))
-  here : (g m i : ℕ) → i + suc m ≡ k → (t : Bool) → eqb (getD words i 0 % 65536) g ≡ t
+  -- one glyph and those behind it
+  here : (g m i : ℕ) → i + suc m ≡ k → idFrom words n m (i + 1) g ≡ slot g (isIn g (drop (i + 1) (orderIn k words))) → (t : Bool) → eqb (getD words i 0 % 65536) g ≡ t
       → pick t (getD words (n + i) 0 + 1) (idFrom words n m (i + 1) g) ≡ slot g (pick t true (isIn g (drop (i + 1) (orderIn k words))))
-  unfolding idFrom isIn
-  ids-by g zero i e = sym (ap (λ (l : List ℕ). slot g (isIn g l)) (drop-of-length-le (orderIn k words) (omega (arith, order-length))))
-  ids-by g (suc m) i e =
-      here g m i e (eqb (getD words i 0 % 65536) g) refl
-      ∙ ap (λ (x : ℕ). slot g (pick (eqb x g) true (isIn g (drop (i + 1) (orderIn k words))))) (sym (order-at i (omega arith)))
-      ∙ ap (λ (l : List ℕ). slot g (isIn g l)) (sym (ahead (orderIn k words) i (omega (arith, order-length))))
-  here g m i e true t =
+  here g m i e later true t =
       let s : getD (orderIn k words) i 0 ≡ g = order-at i (omega arith) ∙ eqb-true (getD words i 0 % 65536) g t in
       ap (λ (x : ℕ). x + 1) (id-at i (omega arith)) ∙ ap (λ (x : ℕ). newId own (nameOf p x) + 1) s
-  here g m i e false t = ids-by g m (i + 1) (omega arith)
+  here g m i e later false t = later
+
+  ids-by : (g m i : ℕ) → i + m ≡ k → idFrom words n m i g ≡ slot g (isIn g (drop i (orderIn k words)))
+  unfolding idFrom isIn
+  ids-by g zero i e = sym (ap (λ (l : List ℕ). slot g (isIn g l)) (drop-of-length-le (orderIn k words) {i = i} (omega (arith, order-length))))
+  ids-by g (suc m) i e =
+      here g m i e (ids-by g m (i + 1) (omega arith)) (eqb (getD words i 0 % 65536) g) refl
+      ∙ ap (λ (x : ℕ). slot g (pick (eqb x g) true (isIn g (drop (i + 1) (orderIn k words))))) (sym (order-at i (omega arith)))
+      ∙ ap (λ (l : List ℕ). slot g (isIn g l)) (sym (ahead (orderIn k words) i (omega (arith, order-length))))
 
   pub id-kept : (g : ℕ) → idFrom words n k 0 g ≡ pick (isIn g (orderIn k words)) (newId own (nameOf p g) + 1) 0
   id-kept g = ids-by g k 0 (omega arith)

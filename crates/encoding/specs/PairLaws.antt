@@ -47,7 +47,7 @@ pub pairs-none : (table : List ℕ) (c : ℕ) → 256 ≤ c → pairsIn table (2
 unfolding pairsIn
 pairs-none table c h = let e : 256 - c ≡ 0 = omega arith in ap (λ (m : ℕ). pairsIn table m c) e
 
-one-length : (c held : ℕ) (t : Bool) → length (pick t [] (record { code = c; id = held - 1 } ∷ [])) ≡ pick t 0 1
+one-length : (c held : ℕ) (t : Bool) → length {A = Pair} (pick t [] (record { code = c; id = held - 1 } ∷ [])) ≡ pick t 0 1
 one-length c held true = refl
 one-length c held false = refl
 

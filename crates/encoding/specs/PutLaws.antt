@@ -35,7 +35,7 @@ one-none old at code held h = wrote-as (wrote-none old at) (sym (no-pair-bytes c
 module _ (old : List ℕ) (at code held : ℕ) (h : held ≡ 0 → ⊥) (room : at + length (pairBytes (pairIn code held)) ≤ length old) where
   pub one-room : at + 3 ≤ length old
   one-room =
-      let l : length (pairBytes (pairIn code held)) ≡ 1 + length (bytesOf 2 (held - 1)) = ap length (one-bytes code held h) in
+      let l : length (pairBytes (pairIn code held)) ≡ suc (length (bytesOf 2 (held - 1))) = ap length (one-bytes code held h) in
       omega (arith, length-bytes 2 (held - 1))
 
   pub one-second : {mid : List ℕ} {p : ℕ} → Wrote old at (code ∷ []) mid p → p + 2 ≤ length mid
@@ -114,7 +114,7 @@ module _ (out : List ℕ) (at : ℕ) (table : List ℕ) (e : Encoding) (s : Enco
 
   pub whole-room : at + 3 + length rest ≤ length out
   whole-room =
-      let l : length (codedBytes (codedIn (e .kind) table)) ≡ 3 + length rest = ap length all-bytes in
+      let l : length (codedBytes (codedIn (e .kind) table)) ≡ suc (suc (suc (length rest))) = ap length all-bytes in
       omega arith
 
   pub count-room : {mid : List ℕ} {p : ℕ} → Wrote out at (0x80 ∷ 0x00 ∷ []) mid p → p < length mid

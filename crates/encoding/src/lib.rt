@@ -65,7 +65,7 @@ fn rename(words: &[u32], n: usize, k: usize, named: &[usize], table: &mut [usize
 
 // How many pairs a place of the table holds.
 fn pairs_of(held: usize) -> usize
-    ensures { λ r. ⌜ r ≡ pick (eqb held 0) 0 1 ⌝ }
+    ensures { λ r. ⌜ (r ≡ pick (eqb held 0) 0 1) × (r ≤ 1) ⌝ }
 {
     if held == 0 {
         return 0;
@@ -135,8 +135,10 @@ pub fn encoding_len(e: Encoding) -> usize
     requires { ⌜ e .pairs ≤ 256 ⌝ }
     ensures { λ r. ⌜ (r ≡ encodingLen e) × (r ≤ 771) ⌝ }
 {
-    if e.kind == 2 {
-        return 3 + 3 * e.pairs;
+    let kind = e.kind;
+    let pairs = e.pairs;
+    if kind == 2 {
+        return 3 + 3 * pairs;
     }
     0
 }
@@ -145,10 +147,11 @@ pub fn encoding_len(e: Encoding) -> usize
 pub fn encoding_at(e: Encoding, at: usize) -> usize
     ensures { λ r. ⌜ r ≡ offsetFor e at ⌝ }
 {
-    if e.kind == 0 {
+    let kind = e.kind;
+    if kind == 0 {
         return 0;
     }
-    if e.kind == 1 {
+    if kind == 1 {
         return 1;
     }
     at
@@ -187,8 +190,9 @@ pub fn put_encoding(e: Encoding, table: &[usize], out: &mut [u8], at: usize) -> 
         × (at + length (codedBytes (codedIn (e .kind) (now table))) ≤ length (now out)) ⌝ }
     ensures { λ r. ⌜ Wrote (now (out .entry)) at (codedBytes (codedIn (e .kind) (now (table .entry)))) (now (out .exit)) r ⌝ }
 {
+    let kind = e.kind;
     let pairs = e.pairs;
-    if e.kind < 2 {
+    if kind < 2 {
         return at;
     }
     let p = octets::put_pair(out, at, 0x80, 0);
