@@ -83,3 +83,12 @@ module _ (coded : Coded) (table : List ℕ) (e : Encoding) (s : Encodes coded ta
 
   pub encodes-offset : (at : ℕ) → codedAt coded at ≡ offsetFor e at
   encodes-offset at = sym (ap (λ (c : Coded). codedAt c at) (s .is)) ∙ offset-by table (e .kind) at (s .kind-small)
+
+-- ---- asked for or not
+
+module _ (coded : Coded) (ask : Bool) (table : List ℕ) where
+  pub asked-for : (e : Encoding) → ask ≡ true → Encodes coded table e → Encodes (pick ask coded none) table e
+  asked-for e t s = rw t s
+
+  pub not-asked-for : ask ≡ false → Encodes (pick ask coded none) table (record { kind = 0; pairs = 0 })
+  not-asked-for t = rw t (encodes-none table)

@@ -72,6 +72,13 @@ module _ (words : List ℕ) (n k : ℕ) (named table : List ℕ) (code held : �
   pub renames-next : Renames words n k named (code + 1) (set table code held)
   renames-next = record { each = λ c l. renamed-each c l (eqb c code) refl }
 
+pub renames-done : (words : List ℕ) (n k : ℕ) (named table : List ℕ) (code : ℕ) → Renames words n k named code table → 256 ≤ code → Renames words n k named 256 table
+renames-done words n k named table code r h = record { each = λ c l. r .each c (omega arith) }
+
+-- a code with a glyph
+pub held-some : (words : List ℕ) (n k held : ℕ) → (held ≡ 0 → ⊥) → idFrom words n k 0 (held - 1) ≡ heldFor words n k held
+held-some words n k held h = sym (ap (λ (t : Bool). pick t 0 (idFrom words n k 0 (held - 1))) (ne-eqb held 0 h))
+
 -- ---- of a kept glyph
 
 new-ids-at : (own : List (List ℕ)) (p : Program) (gs : List ℕ) (i : ℕ) → i < length gs → getD (newIds own (namesOf p gs)) i 0 ≡ newId own (nameOf p (getD gs i 0))

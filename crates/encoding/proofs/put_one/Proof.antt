@@ -14,7 +14,7 @@ cast-put-byte : tie.Need-cast-put-byte
 cast-put-byte c = search needs
 
 put-byte-requires : tie.Need-put-byte-requires
-put-byte-requires c κs = let h : c .before .before .before .args .at < length (c .before .before .before .args .out .now) = omega (arith, one-room _ _ _ _ (c .before .if1 .left) (c .before .before .before .pre .1)) in h
+put-byte-requires c κs = let a = c .before .before .before .args in let h : a .at < length (a .out .now) = omega (arith, one-room (a .out .now) (a .at) (a .code) (a .held) (c .before .if1 .left) (c .before .before .before .pre .1)) in h
 
 sub-put-num : tie.Need-sub-put-num
 sub-put-num c = search needs
