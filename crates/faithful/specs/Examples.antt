@@ -43,7 +43,7 @@ asked-kept : (p : Program) (keep : List ℕ) (g : ℕ) → g < length (p .charst
 asked-kept p keep g there e = record { there = there; asked = inr e }
 
 -- a list of numbers below 256
-octets-of : (b : List ℕ) → allBelow 256 b ≡ true → Octets b
+pub octets-of : (b : List ℕ) → allBelow 256 b ≡ true → Octets b
 unfolding allBelow
 octets-of [] e i = omega arith
 octets-of (x ∷ xs) e zero = ltb-true x 256 (both-hold (ltb x 256) (allBelow 256 xs) e .0)
@@ -85,7 +85,7 @@ sheet-unfolds : unfolded sheetProgram 1 ≡ plain (op 14 ∷ []) []
 unfolding u.unfoldGlyph u.runBody u.walk u.stepAt u.operatorAt u.leave u.but u.targetOf t2.numberAt t2.rounded t2.keep24
 sheet-unfolds = refl
 
-none-octets : Octets []
+pub none-octets : Octets []
 none-octets i = omega arith
 
 sheet-faithful : Faithful sheet (1 ∷ []) [] 1 (subset 0 sheetSubset)
