@@ -77,7 +77,7 @@ coded-back bs at (pairs ps) post far lies small =
     ∙ ap custom (encoding-back (λ q. q .code) (λ q. q .id) bs at ps post (pairs-lie bs at ps post lies) small)
 
 -- its offset is within the bytes, and is 0 where it would be 0 elsewhere
-coded-within : (coded : Coded) (at n : ℕ) → at ≤ n → 0 < n → codedAt coded at ≤ n
+pub coded-within : (coded : Coded) (at n : ℕ) → at ≤ n → 0 < n → codedAt coded at ≤ n
 coded-within none at n h s = omega arith
 coded-within predefined at n h s = s
 coded-within (pairs ps) at n h s = h

@@ -19,10 +19,10 @@ use Rattle.cff.specs.declared.font.Font.{Font}
 use Rattle.subset.specs.Kept.{privateOf}
 use Rattle.subset.specs.Texts.{namesOf}
 use Rattle.subset.specs.Pruned.{Bodies, mapped}
-use Rattle.subset.specs.Codes.{Coded, none, predefined, pairs, codedBytes, codedAt}
+use Rattle.subset.specs.Codes.{Coded, codedBytes, codedAt}
 use Rattle.subset.specs.Subset.{privateDict, privatePart, privateParts, ownByName, topByName, newIds, oneLocal, subsetByName}
 use Rattle.kept.specs.Packed.{orderIn}
-use Rattle.faithful.specs.ByName.{dict-within}
+use Rattle.faithful.specs.ByName.{coded-within, dict-within}
 use Rattle.private_dicts.specs.Privates.{sizesOf}
 use Rattle.own_strings.specs.declared.Own.{Own}
 use Rattle.top_dict.specs.Top.{Offsets}
@@ -46,12 +46,6 @@ use Rattle.front.specs.declared.NamedPlaces.{NamedPlaces}
 use Rattle.encoding.specs.Encoded.{encodingLen, offsetFor}
 use Rattle.encoding.specs.EncodedLaws.{encodes-self, encodes-length, encodes-offset}
 use Rattle.encoding.specs.declared.Encoding.{Encoding}
-
--- the encoding's offset is no further than its place
-coded-within : (coded : Coded) (at n : ℕ) → at ≤ n → 0 < n → codedAt coded at ≤ n
-coded-within none at n h s = omega arith
-coded-within predefined at n h s = s
-coded-within (pairs ps) at n h s = h
 
 -- charset and encoding, one behind the other
 module _ (e : Encoding) (slots ws : List ℕ) (n k : ℕ) (coding : NamedCodes e slots) (out : List ℕ) (at : ℕ)

@@ -49,6 +49,10 @@ output = 11
 abbrev pub stringId : ℕ
 stringId = 12
 
+-- an encoding of more than 255 pairs (document 02, Wish 4)
+abbrev pub pairs : ℕ
+pairs = 13
+
 -- a number that a refused call can answer
 abbrev pub isRefusal : ℕ → Bool
-isRefusal n = pick (ltb n truncated) false (leb n stringId)
+isRefusal n = pick (ltb n truncated) false (leb n pairs)

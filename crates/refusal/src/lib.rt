@@ -29,6 +29,8 @@ impl Refusal {
     pub const OUTPUT: u8 = 11;
     // A new string id above 64,999.
     pub const STRING_ID: u8 = 12;
+    // An encoding of more than 255 pairs (document 02, Wish 4).
+    pub const PAIRS: u8 = 13;
 
     // Whether a number is one of these.
     pub fn known(n: u8) -> bool
@@ -37,6 +39,6 @@ impl Refusal {
         if n < Refusal::TRUNCATED {
             return false;
         }
-        n <= Refusal::STRING_ID
+        n <= Refusal::PAIRS
     }
 }
