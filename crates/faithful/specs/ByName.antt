@@ -33,7 +33,7 @@ use Rattle.faithful.specs.LiesLaws.{lies-behind, lies-within, index-back
 use Rattle.faithful.specs.PrivateBack.{private-back}
 use Rattle.faithful.specs.TopFitLaws.{new-below}
 use Rattle.faithful.specs.TopLaws.{NameTop, name-top-back, name-top-length, single-length}
-use Rattle.faithful.specs.SetBack.{setBytes, restAt, rest-lies, rest-within, set-back}
+use Rattle.faithful.specs.SetBack.{setBytes, restAt, rest-lies, rest-within, size-small, set-back}
 use Rattle.faithful.specs.FontBack.{ids-back, fontOf, font-back}
 
 -- ---- the ids of the names
@@ -229,7 +229,7 @@ module _ (p : Program) (coded : Coded) (name order : List ℕ) (b : Bodies) wher
       → readFont (subsetByName p coded name order b) ≡ got font
   unfolding subsetByName
   subset-back fewStrings fewGlobals short font e =
-      set-back sizeWritten name topWritten (ownByName p order) (b .globals) (behindGlobals p coded order b charsetPlace) fewStrings fewGlobals short font e
+      set-back sizeWritten name topWritten (ownByName p order) (b .globals) (behindGlobals p coded order b charsetPlace) (size-small (privatePlace p order b charsetPlace + length (part p order b charsetPlace))) fewStrings fewGlobals short font e
 
   -- the offset of its encoding, which reads back
   abbrev pub codesWritten : ℕ

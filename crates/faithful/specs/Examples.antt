@@ -32,7 +32,8 @@ use Rattle.strings.specs.Table.{standardNames}
 use Rattle.strings.specs.Text.{codes, sameText}
 use Rattle.strings.specs.Strings.{stringText, standardString, standardStrings}
 use Rattle.find.specs.Find.{glyphWithText}
-use Rattle.cff.specs.Font.{Got, got, standard, Program, emptyPrivate, charStrings, readFont, setAt, fontsAt, fontAt, nameParts, privateAt, idsAt, codingAt, encodingGot}
+use Rattle.opentype.specs.Opentype.{placeOf}
+use Rattle.cff.specs.Font.{Got, got, standard, Program, emptyPrivate, charStrings, readTable, readFont, setAt, fontsAt, fontAt, nameParts, privateAt, idsAt, codingAt, encodingGot}
 use Rattle.cff.specs.declared.FoundAs.the-variants.{Glyph as TheGlyph}
 use Rattle.subset.specs.Kept.{isIn, those, fdsOf, keptOf, usedFds}
 use Rattle.subset.specs.Codes.{glyphOf, codedBy, nothing, named, meant, keptMeant}
@@ -76,7 +77,7 @@ sheetProgram =
 
 sheet-reads : readFont sheet ≡ got sheetProgram
 unfolding
-    readFont setAt fontsAt fontAt nameParts privateAt idsAt codingAt encodingGot readIndex told indexAt tableAt dataAt runOf judged offsets pieces itemsOf numAt be dictOf
+    readFont readTable placeOf setAt fontsAt fontAt nameParts privateAt idsAt codingAt encodingGot readIndex told indexAt tableAt dataAt runOf judged offsets pieces itemsOf numAt be dictOf
     gathered readingsAt readingsFrom entryAt entryFrom tokenAt operatorAt numberAt realAt normal zeros zerosOf stripped lastOf lastFrom truncOf listOf
 sheet-reads = refl
 

@@ -53,6 +53,10 @@ stringId = 12
 abbrev pub pairs : ℕ
 pairs = 13
 
+-- an OpenType file without a table `CFF ` (document 02, Wish 9)
+abbrev pub noTable : ℕ
+noTable = 15
+
 -- a number that a refused call can answer
 abbrev pub isRefusal : ℕ → Bool
-isRefusal n = pick (ltb n truncated) false (leb n pairs)
+isRefusal n = pick (ltb n truncated) false (leb n noTable)
