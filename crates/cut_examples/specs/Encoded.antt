@@ -32,6 +32,7 @@ use Rattle.strings.specs.Strings.{stringText, standardString, standardStrings, 
 use Rattle.find.specs.Find.{glyphWithText}
 use Rattle.prune.specs.Renumber.{renumber, renumberCharstring}
 use Rattle.record.specs.Record.{rowsFrom, rowsOf, rowsFine, recordFine, lists, givenIn, disagrees, twoLengths}
+use Rattle.opentype.specs.Opentype.{placeOf}
 use Rattle.cff.specs.Font as font
 use Rattle.cff.specs.Font.{got, Program}
 use Rattle.cff.specs.Find as cfffind
@@ -87,7 +88,7 @@ customProgram =
 
 custom-reads : font.readFont customFont ≡ got customProgram
 unfolding
-    font.readFont font.setAt font.fontsAt font.fontAt font.nameParts font.privateAt font.idsAt font.codingAt font.encodingGot readIndex told itemsOf pieces indexAt tableAt
+    font.readFont font.readTable placeOf font.setAt font.fontsAt font.fontAt font.nameParts font.privateAt font.idsAt font.codingAt font.encodingGot readIndex told itemsOf pieces indexAt tableAt
     dataAt judged runOf offsets numAt be dec.numberAt dec.realAt dict.dictOf dict.gathered dict.readingsAt dict.readingsFrom dict.entryAt dict.entryFrom dict.operatorAt
     dict.tokenAt normal stripped zeros zerosOf truncOf lastOf lastFrom listOf idsFrom charsetAt namingsAt namingsBy codesFrom rangesFrom rangeFrom suppliedFrom encodingAt
 custom-reads = refl
@@ -195,7 +196,7 @@ expertProgram =
 
 expert-reads : font.readFont expertFont ≡ got expertProgram
 unfolding
-    font.readFont font.setAt font.fontsAt font.fontAt font.nameParts font.privateAt font.idsAt font.codingAt font.encodingGot readIndex told itemsOf pieces indexAt tableAt
+    font.readFont font.readTable placeOf font.setAt font.fontsAt font.fontAt font.nameParts font.privateAt font.idsAt font.codingAt font.encodingGot readIndex told itemsOf pieces indexAt tableAt
     dataAt judged runOf offsets numAt be dec.numberAt dec.realAt dict.dictOf dict.gathered dict.readingsAt dict.readingsFrom dict.entryAt dict.entryFrom dict.operatorAt
     dict.tokenAt normal stripped zeros zerosOf truncOf lastOf lastFrom listOf idsFrom charsetAt
 expert-reads = refl
@@ -305,7 +306,7 @@ standardProgram =
 
 standard-reads : font.readFont standardFont ≡ got standardProgram
 unfolding
-    font.readFont font.setAt font.fontsAt font.fontAt font.nameParts font.privateAt font.idsAt font.codingAt font.encodingGot readIndex told itemsOf pieces indexAt tableAt
+    font.readFont font.readTable placeOf font.setAt font.fontsAt font.fontAt font.nameParts font.privateAt font.idsAt font.codingAt font.encodingGot readIndex told itemsOf pieces indexAt tableAt
     dataAt judged runOf offsets numAt be dec.numberAt dec.realAt dict.dictOf dict.gathered dict.readingsAt dict.readingsFrom dict.entryAt dict.entryFrom dict.operatorAt
     dict.tokenAt normal stripped zeros zerosOf truncOf lastOf lastFrom listOf idsFrom charsetAt
 standard-reads = refl
