@@ -67,14 +67,14 @@ fn fill_ranges(font: &[u8], at: usize, count: usize, n: usize, table: &mut [usiz
     ensures { λ r. ⌜ Fills n (now (table .entry)) (rangesFrom count 1 (drop at (now (font .entry)))) (now (table .exit)) ⌝ }
 {
     let mut q = at;
-    let mut glyph = 1;
+    let mut next = 1;
     let mut left = count;
     while 0 < left {
         let first = octets::u8_at(font, q);
         let many = octets::u8_at(font, q + 1) + 1;
-        fill_range(n, first, glyph, many, table);
+        fill_range(n, first, next, many, table);
         q += 2;
-        glyph += many;
+        next += many;
         left -= 1;
     }
 }

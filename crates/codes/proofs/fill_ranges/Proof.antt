@@ -8,10 +8,10 @@ use Rattle.codes.proofs.fill_ranges.Statement.{statement}
 use Rattle.codes.proofs.fill_ranges.Tie as tie
 
 abbrev Inv-loop : tie.InvT-loop
-Inv-loop font at count n table₀ q₀ glyph₀ left₀ table q glyph left = RangesLeft font at count n table₀ table q glyph left
+Inv-loop font at count n table₀ q₀ next₀ left₀ table q next left = RangesLeft font at count n table₀ table q next left
 
 abbrev μ-loop : tie.MeasureT-loop
-μ-loop font at count n table₀ q₀ glyph₀ left₀ table q glyph left = left
+μ-loop font at count n table₀ q₀ next₀ left₀ table q next left = left
 
 loop-holds : tie.Need-loop-holds Inv-loop μ-loop
 loop-holds c = ranges-start _ _ _ _ _ (c .before .before .pre .1) (c .before .before .pre .2)
@@ -37,8 +37,8 @@ fill-range-requires c κs =
 add-q : tie.Need-add-q Inv-loop μ-loop
 add-q c = search needs
 
-add-glyph : tie.Need-add-glyph Inv-loop μ-loop
-add-glyph c = omega (arith, c .before .before .before .before .before .before .before .loop .inv .few, c .before .before .before .before .u8-at2 .ensures .1)
+add-next : tie.Need-add-next Inv-loop μ-loop
+add-next c = omega (arith, c .before .before .before .before .before .before .before .loop .inv .few, c .before .before .before .before .u8-at2 .ensures .1)
 
 sub-left : tie.Need-sub-left Inv-loop μ-loop
 sub-left c = search needs
@@ -69,7 +69,7 @@ fill-ranges-spec =
     add-many
     fill-range-requires
     add-q
-    add-glyph
+    add-next
     sub-left
     loop-less
     loop-again
