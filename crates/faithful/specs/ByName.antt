@@ -229,7 +229,7 @@ module _ (p : Program) (coded : Coded) (name order : List ℕ) (b : Bodies) wher
       → readFont (subsetByName p coded name order b) ≡ got font
   unfolding subsetByName
   subset-back fewStrings fewGlobals short font e =
-      set-back sizeWritten name topWritten (ownByName p order) (b .globals) (behindGlobals p coded order b charsetPlace) (size-small (privatePlace p order b charsetPlace + length (part p order b charsetPlace))) fewStrings fewGlobals short font e
+      set-back sizeWritten name topWritten (ownByName p order) (b .globals) (behindGlobals p coded order b charsetPlace) (size-small (privatePlace p coded order b charsetPlace + length (part p coded order b charsetPlace))) fewStrings fewGlobals short font e
 
   -- the offset of its encoding, which reads back
   abbrev pub codesWritten : ℕ
