@@ -1,6 +1,6 @@
 // The cut of a CID-keyed font (the Rust's subset_cid).
 ghost use mathlib.Core.Path.{_≡_};
-ghost use mathlib.Core.Bool.{true};
+ghost use mathlib.Core.Bool.{true, false};
 ghost use Prim.Native.Nat.{_≤_};
 ghost use lib.ListN.{length};
 ghost use Rattle.record.specs.Record.{rowsOf};

@@ -1,12 +1,18 @@
 // The cut of a name-keyed font (the Rust's subset).
 ghost use mathlib.Core.Bool.{false};
 ghost use mathlib.Core.List.{[], _∷_};
-ghost use lib.ListN.{length};
+ghost use Prim.Native.Nat.{_+_, _≤_};
+ghost use mathlib.Core.Path.{_≡_};
+ghost use lib.ListN.{length, take, drop};
 ghost use Rattle.record.specs.Record.{rowsOf};
-ghost use Rattle.cff.specs.Reads.{programOf};
+ghost use Rattle.cff.specs.Reads.{programOf, GoodFont};
+ghost use Rattle.subset.specs.Texts.{namesOf};
+ghost use Rattle.subset.specs.Codes.{codedIf};
+ghost use Rattle.subset.specs.Subset.{ownByName, newIds};
 ghost use Rattle.subset.specs.Pruned.{pruned};
 ghost use Rattle.parts.specs.Ready.{FontHeld, bodiesFor};
 ghost use Rattle.outcome.specs.Entry.{cutBehind, Cut, Passed};
+ghost use Rattle.by_name.specs.NamedKeptLaws.{CodesBehind};
 ghost use Rattle.named_parts.specs.Named.{codedFor, namedOutcome, NamedPlan, NamedStrings, NamedCodes, NamedCut};
 use cff::font::Font;
 use encoding::Encoding;
@@ -118,6 +124,18 @@ fn cut_prepared(
     cut_planned(c, font, name, slots, &used, words, &table, &totals, rows, out)
 }
 
+// What the subset has of an encoding; its codes stand behind the sixteen slots.
+fn encode_behind(font: &[u8], f: Font, ask: bool, words: &[u32], k: usize, slots: &mut [usize]) -> Encoding
+    requires { ⌜ GoodFont (now font) f × (length (now font) ≤ 67108864) × (k ≤ f .charstrings .count) × (f .charstrings .count + k ≤ length (now words))
+        × (take k (drop (f .charstrings .count) (now words))
+        ≡ newIds (ownByName (programOf (now font) f) (orderIn k (now words))) (namesOf (programOf (now font) f) (orderIn k (now words))))
+        × (272 ≤ length (now slots)) ⌝ }
+    ensures { λ r. ⌜ CodesBehind (codedIf ask (programOf (now (font .entry)) f) (orderIn k (now (words .entry))) (ownByName (programOf (now (font .entry)) f) (orderIn k (now (words .entry)))))
+        (now (slots .entry)) (now (slots .exit)) r ⌝ }
+{
+    encode(font, f, ask, words, k, &mut slots[16..])
+}
+
 // The subset in the front of the output, with its encoding where it is asked for, or refusal 12, 13, 10 or 11. The work words are used.
 pub fn cut_named(
     font: &[u8],
@@ -141,7 +159,7 @@ pub fn cut_named(
     if 64609 < own.count {
         return Answer::Refused(Refusal::STRING_ID);
     }
-    let encoding = encode(font, f, ask, words, count, &mut slots[16..]);
+    let encoding = encode_behind(font, f, ask, words, count, &mut slots);
     if 255 < encoding.pairs {
         return Answer::Refused(Refusal::PAIRS);
     }
