@@ -189,8 +189,18 @@ not-refused cid ask p name keep rec flag words z =
 
 -- the keying that is asked for, when it was found
 pub passed-keyed : (cid ask t : Bool) (p : Program) (name : ℕ) (keep rec : List ℕ) (flag words : ℕ) → Passed cid ask p name keep rec flag words → cid ≡ t
-    → Passed t p name keep rec flag words
+    → Passed t ask p name keep rec flag words
 passed-keyed cid ask t p name keep rec flag words h e = subst (λ (x : Bool). Passed x ask p name keep rec flag words) e h
+
+-- a CID-keyed font, whose encoding is not asked for
+module _ (cid ask : Bool) (no : cid ≡ true → ask ≡ false) (is : cid ≡ true) (p : Program) where
+  pub passed-cid : (name : ℕ) (keep rec : List ℕ) (flag words : ℕ) → Passed cid ask p name keep rec flag words → Passed true false p name keep rec flag words
+  passed-cid name keep rec flag words h =
+      subst (λ (a : Bool). Passed true a p name keep rec flag words) (no is) (passed-keyed cid ask true p name keep rec flag words h is)
+
+  pub cut-as-cid : (name keep rec : List ℕ) (flag : ℕ) (out out' : List ℕ) (r : Answer) → Cut (cutBehind false p name keep rec flag (length out)) out out' r
+      → Cut (cutBehind ask p name keep rec flag (length out)) out out' r
+  cut-as-cid name keep rec flag out out' r c = subst (λ (a : Bool). Cut (cutBehind a p name keep rec flag (length out)) out out' r) (sym (no is)) c
 
 -- what the cut asks of the table's bytes
 pub font-held : (file : List ℕ) (f : Font) (b : List ℕ) → Octets file → InFile file f b → FontHeld b f
@@ -244,7 +254,7 @@ module _ (cid ask : Bool) (font : List ℕ) (f : Font) (b : List ℕ) (name keep
           }
 
       -- cut with them, which are then cleared
-      pub late-read : (used cleared out' : List ℕ) (r : Answer) → Cut (cutBehind (programOf b f) name keep rec flag (length out)) out out' r
+      pub late-read : (used cleared out' : List ℕ) (r : Answer) → Cut (cutBehind ask (programOf b f) name keep rec flag (length out)) out out' r
           → length used ≡ length (take w work) → cleared ≡ replicate (length used) 0 → Cuts cid ask font name keep rec flag work out (cleared ++ drop w work) out' r
       late-read used cleared out' r k l e =
           late-cuts cid ask font name keep rec flag work out bytes octets (programOf b f) (held .is) (cleared ++ drop w work) out' r none k

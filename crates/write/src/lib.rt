@@ -75,7 +75,7 @@ fn cut(
     work: &mut [u32],
     out: &mut [u8],
 ) -> Answer
-    requires { ⌜ cid ≡ true → ask ≡ false ⌝ }
+    requires { ⌜ (cid ≡ true → ask ≡ false) ⌝ }
     ensures { λ r. ⌜ Cuts cid ask (now (font .entry)) (now (name .entry)) (now (keep .entry)) (now (rows .entry)) traced (now (work .entry)) (now (out .entry))
         (now (work .exit)) (now (out .exit)) r ⌝ }
 {
