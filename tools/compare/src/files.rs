@@ -154,7 +154,11 @@ fn damaged(g: &mut Generator, fonts: &[Vec<u8>]) -> (&'static str, Vec<u8>) {
         let tag = *g.one_of(&[b"BASE", b"CFF2", b"OS/2", b"cff ", b"head"]);
         let font = &fonts[g.below(fonts.len())];
         let row = (from + behind.len()) as u32;
-        let tag = if k == at || g.once_in(8) { *b"CFF " } else { tag };
+        let tag = if k == at || g.once_in(8) {
+            *b"CFF "
+        } else {
+            tag
+        };
         rows.push((tag, row, font.len() as u32));
         behind.extend(font);
     }
@@ -209,7 +213,11 @@ fn damaged(g: &mut Generator, fonts: &[Vec<u8>]) -> (&'static str, Vec<u8>) {
         }
         3 => {
             let k = g.below(4);
-            file[k] = if g.once_in(2) { g.byte() } else { file[k] ^ 0x20 };
+            file[k] = if g.once_in(2) {
+                g.byte()
+            } else {
+                file[k] ^ 0x20
+            };
             ("version", file)
         }
         4 => {
