@@ -8,7 +8,7 @@ use crate::cut_tally::CutTally;
 use crate::domain::WISHES;
 use crate::generator::Generator;
 use crate::library::{COUNTS, Library, NO_ROOM, ONE, library};
-use crate::model::{self, LONGEST, TOO_LONG, TRUNCATED};
+use crate::model::{self, LONGEST, TOO_LONG, TRUNCATED, UNSUPPORTED};
 use crate::tally::Tally;
 use crate::trace;
 use crate::trace_cases;
@@ -154,7 +154,11 @@ fn damaged(g: &mut Generator, fonts: &[Vec<u8>]) -> (&'static str, Vec<u8>) {
         let tag = *g.one_of(&[b"BASE", b"CFF2", b"OS/2", b"cff ", b"head"]);
         let font = &fonts[g.below(fonts.len())];
         let row = (from + behind.len()) as u32;
-        let tag = if k == at || g.once_in(8) { *b"CFF " } else { tag };
+        let tag = if k == at || g.once_in(8) {
+            *b"CFF "
+        } else {
+            tag
+        };
         rows.push((tag, row, font.len() as u32));
         behind.extend(font);
     }
@@ -209,7 +213,11 @@ fn damaged(g: &mut Generator, fonts: &[Vec<u8>]) -> (&'static str, Vec<u8>) {
         }
         3 => {
             let k = g.below(4);
-            file[k] = if g.once_in(2) { g.byte() } else { file[k] ^ 0x20 };
+            file[k] = if g.once_in(2) {
+                g.byte()
+            } else {
+                file[k] ^ 0x20
+            };
             ("version", file)
         }
         4 => {
@@ -308,8 +316,16 @@ pub fn directories(seed: u64, count: usize) -> Directories {
         let keep = [0, 1, g.below(4) as u16];
         let of_file = answers(&library, &file, &keep);
         all.calls += of_file.len() as u64;
+        let as_of_table = |of_file: &Vec<String>| {
+            placed.is_ok_and(|(start, length)| {
+                *of_file == answers(&library, &file[start..start + length], &keep)
+            })
+        };
         let alike = match placed {
-            Ok((start, length)) => of_file == answers(&library, &file[start..start + length], &keep),
+            // A table that begins with `OTTO` is a font of another version, and by itself a file.
+            Ok((start, _)) if start != 0 || !file.starts_with(b"OTTO") => as_of_table(&of_file),
+            Ok((_, length)) if length < 4 => as_of_table(&of_file),
+            Ok(_) => all_refused(&of_file, UNSUPPORTED),
             Err(number) => all_refused(&of_file, number),
         };
         if !alike {
