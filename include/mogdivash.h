@@ -1,4 +1,5 @@
-/* Mogdivash for C: reading a CFF font, finding a glyph, the items of its INDEXes, and subsets, as functions of the static library capi.
+/* Mogdivash for C: reading a CFF font, finding a glyph, the items of its INDEXes, subsets, and short charstrings, as functions of the
+   static library capi.
 
        rt staticlib capi          writes target/staticlib/libcapi.a, for x86-64 Linux
        cc program.c target/staticlib/libcapi.a
@@ -130,6 +131,16 @@ uint8_t cff_subset_cid(const uint8_t *font, size_t font_len, const uint8_t *name
    font. */
 uint8_t cff_trace(const uint8_t *font, size_t font_len, const uint16_t *keep, size_t keep_len, uint8_t *record,
                   size_t record_len, uint64_t *answer, size_t answer_len);
+
+/* The next short charstring. Short are the plain charstrings of 1 to 4 bytes that make no call and whose last byte is their only endchar:
+   2,059,854 of them, the shorter ones first, those of one length rising byte by byte. Given one of them, or nothing, the next is written
+   to the start of out, and one word, size, answers how many bytes it has: 0 where none is left. Called with nothing and then with each
+   answer, each of them comes once. No font is read.
+
+   Other bytes are CFF_MALFORMED; then CFF_OUTPUT for fewer bytes than the next one has (four are always enough), or for no word. With a
+   refusal, and where none is left, out stays as it was. */
+uint8_t cff_next_charstring(const uint8_t *code, size_t code_len, uint8_t *out, size_t out_len, uint64_t *size,
+                            size_t size_len);
 
 #ifdef __cplusplus
 }

@@ -59,6 +59,16 @@ unsafe extern "C" {
         answer_len: usize,
     ) -> u8;
 
+    /// The next short charstring behind `code`, one of them or nothing, to `out`, and its length, 0 for none left, to `size`.
+    pub fn cff_next_charstring(
+        code: *const u8,
+        code_len: usize,
+        out: *mut u8,
+        out_len: usize,
+        size: *mut u64,
+        size_len: usize,
+    ) -> u8;
+
     /// The subset of a name-keyed font: font, new name, kept numbers, record, flag, work words, output, answer.
     pub fn cff_subset(
         font: *const u8,

@@ -24,7 +24,9 @@ pub mod ffi;
 mod font;
 mod record;
 mod refusal;
+mod short;
 
 pub use font::{Font, Item, Subset, Way};
 pub use record::{Record, Row};
 pub use refusal::Refusal;
+pub use short::{next_charstring, ShortCharstrings};

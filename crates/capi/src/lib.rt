@@ -2,6 +2,7 @@
 // lent slices only. A call returns 0 and writes its answer to the start of what was lent, or returns a refusal and writes nothing.
 // 11 stands for lent words or bytes that are too few, after every other refusal. include/mogdivash.h has the C declarations.
 pub mod cut;
+pub mod short;
 pub mod trace;
 
 ghost use mathlib.Core.Path.{_≡_};

@@ -1,0 +1,10 @@
+pub mod Short
+pub mod Next
+pub mod CodeLaws
+pub mod AnswerLaws
+pub mod OrderLaws
+pub mod NextLaws
+pub mod AllShort
+pub mod AllShortLaws
+pub mod Tokens
+pub mod Examples
