@@ -1,4 +1,4 @@
-//! Refusals: document 01, 'Entries and their refusals'.
+//! Refusals: document 01, 'Entries and their refusals', and document 02.
 
 use std::error::Error;
 use std::fmt;
@@ -11,7 +11,8 @@ pub enum Refusal {
     Truncated = 1,
     /// Another fault in a structure of the font.
     Malformed = 2,
-    /// A form that is not handled, a font of the other keying, or, to subsetting, a stroked font.
+    /// A form that is not handled, a font of the other keying, or, to subsetting, a stroked font, or one with the Expert encoding
+    /// that the subset is not to have.
     Unsupported = 3,
     /// A font of more than 67,108,864 bytes, or a new name of more than 65,535.
     TooLong = 4,
@@ -31,11 +32,13 @@ pub enum Refusal {
     Output = 11,
     /// A subset with a string id above 64,999.
     Strings = 12,
+    /// An encoding of more than 255 codes of kept glyphs, all 256: document 02, Wish 4.
+    Pairs = 13,
 }
 
 impl Refusal {
     /// All refusals, by number.
-    pub const ALL: [Refusal; 12] = [
+    pub const ALL: [Refusal; 13] = [
         Refusal::Truncated,
         Refusal::Malformed,
         Refusal::Unsupported,
@@ -48,17 +51,19 @@ impl Refusal {
         Refusal::SubsetTooLong,
         Refusal::Output,
         Refusal::Strings,
+        Refusal::Pairs,
     ];
 
-    /// Document 01's number, 1 to 12.
+    /// Its number in documents 01 and 02, 1 to 13.
     pub fn number(self) -> u8 {
         self as u8
     }
 
     /// The refusal of that number.
     pub fn from_number(number: u8) -> Option<Refusal> {
-        let place = usize::from(number).checked_sub(1)?;
-        Refusal::ALL.get(place).copied()
+        Refusal::ALL
+            .into_iter()
+            .find(|refusal| refusal.number() == number)
     }
 
     /// What a C function returned: 0, or a refusal.
@@ -85,6 +90,7 @@ impl fmt::Display for Refusal {
             Refusal::SubsetTooLong => "the subset is too long",
             Refusal::Output => "too little room for the answer",
             Refusal::Strings => "the subset has too many strings",
+            Refusal::Pairs => "the subset has too many codes",
         })
     }
 }
