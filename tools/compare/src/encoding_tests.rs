@@ -2,12 +2,16 @@
 
 use crate::cff::STANDARD_STRINGS;
 use crate::cut::{self, Cut, Outcome, Subset};
+use crate::cut_cases;
 use crate::cut_model_codes::{self as codes, By};
+use crate::cut_tally::CutTally;
 use crate::domain::{NONE, WISHES, Wishes};
 use crate::encoding::STANDARD_ENCODING;
+use crate::encoding_compare::{self, Notes};
 use crate::layout::{Num, Part, SOUND, entry, one_font, place};
+use crate::library::{Library, SubsetFn};
 use crate::model::{self, EXPERT, STANDARD};
-use crate::original;
+use crate::{original, stub};
 
 /// The Encoding of a font that is tried.
 #[derive(Clone, Copy)]
@@ -194,4 +198,32 @@ fn predefined() {
     // Without the request 6 bytes fewer, and no encoding.
     let bare = answer(&standard, &[1], 0, WISHES).expect("a subset").bytes;
     assert_eq!(subset.len(), bare.len() + 6);
+}
+
+/// How many cuts of 500 fonts show a difference.
+fn differences(subset: SubsetFn) -> u64 {
+    let library = Library {
+        subset,
+        ..stub::library()
+    };
+    let mut tally = CutTally::default();
+    let mut notes = Notes::default();
+    for case in cut_cases::coded(3).take(500) {
+        let asks = &cut_cases::made;
+        encoding_compare::compare(&library, &case, 3, &mut tally, &mut notes, asks);
+    }
+    tally.differences()
+}
+
+#[test]
+fn a_library_that_passes_the_request_over_is_found() {
+    assert_eq!(differences(stub::library().subset), 0);
+    let over: SubsetFn = |font, cut, rooms| {
+        let cut = Cut {
+            encoding: 0,
+            ..cut.clone()
+        };
+        (stub::library().subset)(font, &cut, rooms)
+    };
+    assert!(differences(over) > 0);
 }
