@@ -4,8 +4,8 @@
     codes.py freetype SEED SUBSETTER FILE...      each FILE cut five times, its codes and the subsets' read by FreeType
     codes.py drawn SUBSETTER FILE...              lines of codes of each FILE, drawn by poppler and mupdf
 
-A FILE is a bare CFF font or a Type 1 font (.pfb, .t1), of which a CFF font with the same outlines, names and codes is made: format 0 or
-1, further codes of a glyph as supplements. SUBSETTER is bindings/c/subset_glyphs, which -e asks for the encoding. `freetype` wants
+A FILE is a bare CFF font or a Type 1 font (.pfb, .t1), of which a CFF font with the same outlines, names and codes is made: in format 0,
+or in format 1 with up to 15 codes more, as supplements. SUBSETTER is bindings/c/subset_glyphs, which -e asks for the encoding. `freetype` wants
 for each code of the font whose glyph is kept the glyph of the same name, and no other code. `drawn` makes PDFs whose font has
 no /Encoding, so that the font's own counts: the whole font and its subset must give the same pictures, and a subset without the encoding
 another. Ends with status 1 where one of these does not hold.
@@ -103,31 +103,22 @@ def from_type1(path, ranges):
         charstring.compile()
         glyphs[name] = charstring.bytecode
     codes = {code: name for code, name in enumerate(encoding) if name in glyphs and name != ".notdef"}
+    if ranges:
+        # Some glyphs by a second code too, which is a supplement.
+        free = [code for code in range(256) if code not in codes]
+        codes.update(zip(free[:15], [codes[code] for code in sorted(codes)][20:]))
     return cff_font(glyphs, codes, ranges)
 
 
-def from_cff(data):
-    """The same font with codes of its own: its first 300 glyphs behind .notdef, from code 1 on, and letters and digits twice."""
+def first_font(data):
     fonts = CFFFontSet()
     fonts.decompile(io.BytesIO(data), None)
-    font = fonts[0]
-    if hasattr(font, "ROS"):
-        return None
-    return font
-
-
-def names(data):
-    """Glyph names in their order."""
-    fonts = CFFFontSet()
-    fonts.decompile(io.BytesIO(data), None)
-    return fonts[0].charset
+    return fonts[0]
 
 
 def has_codes(data):
     """Whether a CFF font is name-keyed and has an encoding that is not the standard one."""
-    fonts = CFFFontSet()
-    fonts.decompile(io.BytesIO(data), None)
-    top = fonts[0].rawDict
+    top = first_font(data).rawDict
     return "ROS" not in top and top.get("Encoding", 0) != 0
 
 
@@ -158,19 +149,29 @@ def code_maps(program, fonts, folder):
     return [dict(pair.split("=", 1) for pair in line.split()[1:]) for line in lines]
 
 
+def compiled(folder):
+    """code_map.c, compiled."""
+    program = Path(folder, "code_map")
+    flags = subprocess.run(["pkg-config", "--cflags", "--libs", "freetype2"], check=True, capture_output=True, text=True).stdout.split()
+    subprocess.run(["cc", "-O2", "-Wall", "-o", program, HERE / "code_map.c", *flags], check=True)
+    return program
+
+
+# A font that draws nothing.
+NO_OUTLINES = cff_font({".notdef": b"\x0e"}, {}, False)
+
+
 def freetype(seed, subsetter, files):
     choose = random.Random(seed)
     fonts = subsets = codes = without = 0
     with tempfile.TemporaryDirectory() as folder:
-        program = Path(folder, "code_map")
-        flags = subprocess.run(["pkg-config", "--cflags", "--libs", "freetype2"], check=True, capture_output=True, text=True).stdout.split()
-        subprocess.run(["cc", "-O2", "-Wall", "-o", program, HERE / "code_map.c", *flags], check=True)
+        program = compiled(folder)
         for k, path in enumerate(sorted(files)):
             font = font_of(path, k % 2 == 1)
             if font is None:
                 without += 1
                 continue
-            order = names(font)
+            order = first_font(font).charset
             fonts += 1
             kept = []
             for count in (0, 1, 20, 75, len(order)):
@@ -227,36 +228,27 @@ def picture(drawer, document, folder):
 
 
 def drawn(subsetter, files):
-    """Each fifth code that the font has, in its own order, with whole font, subset with and without its encoding."""
+    """A third of the codes that each font has, drawn from the whole font, and from subsets with and without its encoding."""
+    count = 0
     with tempfile.TemporaryDirectory() as folder:
-        count = 0
+        program = compiled(folder)
         for k, path in enumerate(sorted(files)):
             font = font_of(path, k % 2 == 1)
             if font is None:
                 continue
-            fonts = CFFFontSet()
-            fonts.decompile(io.BytesIO(font), None)
-            order = fonts[0].charset
-            encoding = [name for name in encoding_of(path)]
-            codes = [code for code, name in enumerate(encoding) if name in order and name != ".notdef"][::3]
-            keep = sorted({order.index(encoding[code]) for code in codes})
+            order = first_font(font).charset
+            (whole_map,) = code_maps(program, [font], folder)
+            codes = [int(code) for code in whole_map][::3]
+            keep = sorted({order.index(whole_map[str(code)]) for code in codes})
             with_codes, without = (cut(subsetter, font, keep, folder, asked) for asked in (True, False))
             for drawer in ("poppler", "mupdf"):
-                whole, same, other = (picture(drawer, pdf(f, codes), folder) for f in (font, with_codes, without))
-                blank = picture(drawer, pdf(font, []), folder)
+                whole, same, other, blank = (picture(drawer, pdf(f, codes), folder) for f in (font, with_codes, without, NO_OUTLINES))
+                assert whole != blank, f"{path}: {drawer} draws nothing"
                 assert whole == same, f"{path}: {drawer} draws another picture from the subset"
                 assert whole != other, f"{path}: {drawer} draws the same without the encoding"
-                assert len(set(whole[20:])) > 2, f"{path}: {drawer} draws nothing"
-                assert blank != whole
             count += 1
             print(f"{Path(path).name}: {len(codes)} codes, {len(font)} and {len(with_codes)} bytes, the same pictures by poppler and mupdf")
     assert count > 0, "no font with codes of its own"
-
-
-def encoding_of(path):
-    font = t1Lib.T1Font(str(path))
-    font.parse()
-    return font.font["Encoding"]
 
 
 def main(words):
