@@ -34,11 +34,13 @@ pub enum Refusal {
     Strings = 12,
     /// An encoding of more than 255 codes of kept glyphs, all 256: document 02, Wish 4.
     Pairs = 13,
+    /// An OpenType file without a table `CFF `.
+    NoTable = 15,
 }
 
 impl Refusal {
     /// All refusals, by number.
-    pub const ALL: [Refusal; 13] = [
+    pub const ALL: [Refusal; 14] = [
         Refusal::Truncated,
         Refusal::Malformed,
         Refusal::Unsupported,
@@ -52,9 +54,10 @@ impl Refusal {
         Refusal::Output,
         Refusal::Strings,
         Refusal::Pairs,
+        Refusal::NoTable,
     ];
 
-    /// Its number in documents 01 and 02, 1 to 13.
+    /// Its number in documents 01 and 02, 1 to 15.
     pub fn number(self) -> u8 {
         self as u8
     }
@@ -91,6 +94,7 @@ impl fmt::Display for Refusal {
             Refusal::Output => "too little room for the answer",
             Refusal::Strings => "the subset has too many strings",
             Refusal::Pairs => "the subset has too many codes",
+            Refusal::NoTable => "the OpenType file has no table of CFF outlines",
         })
     }
 }

@@ -143,7 +143,7 @@ pub fn cut_named(
     }
     let encoding = encode(font, f, ask, words, count, &mut slots[16..]);
     if 255 < encoding.pairs {
-        return Answer::Refused(13);
+        return Answer::Refused(Refusal::PAIRS);
     }
     let names = Names {
         own,

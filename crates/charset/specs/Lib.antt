@@ -26,6 +26,7 @@ pub mod EncodingLaws
 pub mod Predefined
 pub mod PredefinedLaws
 pub mod Codes
+pub mod CodesFound
 pub mod CodesRound
 pub mod CodesExamples
 pub mod Examples

@@ -253,6 +253,6 @@ cut-sized p name kept order room q keyed few =
     let own : ltb 64609 (length (ownOf p order)) ≡ false
     = ap (λ (t : Bool). ltb 64609 (length (pick t (ownByCid p) (ownByName p order)))) (sym keyed) ∙ le-ltb 64609 (length (ownByCid p)) few in
     let bs : subsetBytes p none name kept order (q .bodies) ≡ subsetByCid p name (usedFds p kept) order (q .bodies)
-    = ap (λ (t : Bool). pick t (subsetByCid p name (usedFds p kept) order (q .bodies)) (subsetByName p name order (q .bodies))) (sym keyed) in
+    = ap (λ (t : Bool). pick t (subsetByCid p name (usedFds p kept) order (q .bodies)) (subsetByName p none name order (q .bodies))) (sym keyed) in
     ap (λ (t : Bool). pick t (refused 12) (sized (q .way) (subsetBytes p none name kept order (q .bodies)) room)) own
     ∙ ap (λ (l : List ℕ). sized (q .way) l room) bs

@@ -33,7 +33,7 @@ use Rattle.faithful.specs.LiesLaws.{lies-behind, lies-within, index-back
 use Rattle.faithful.specs.PrivateBack.{private-back}
 use Rattle.faithful.specs.TopFitLaws.{new-below}
 use Rattle.faithful.specs.TopLaws.{NameTop, name-top-back, name-top-length, single-length}
-use Rattle.faithful.specs.SetBack.{setBytes, restAt, rest-lies, rest-within, set-back}
+use Rattle.faithful.specs.SetBack.{setBytes, restAt, rest-lies, rest-within, size-small, set-back}
 use Rattle.faithful.specs.FontBack.{ids-back, fontOf, font-back}
 
 -- ---- the ids of the names
@@ -77,7 +77,7 @@ coded-back bs at (pairs ps) post far lies small =
     ∙ ap custom (encoding-back (λ q. q .code) (λ q. q .id) bs at ps post (pairs-lie bs at ps post lies) small)
 
 -- its offset is within the bytes, and is 0 where it would be 0 elsewhere
-coded-within : (coded : Coded) (at n : ℕ) → at ≤ n → 0 < n → codedAt coded at ≤ n
+pub coded-within : (coded : Coded) (at n : ℕ) → at ≤ n → 0 < n → codedAt coded at ≤ n
 coded-within none at n h s = omega arith
 coded-within predefined at n h s = s
 coded-within (pairs ps) at n h s = h
@@ -229,7 +229,7 @@ module _ (p : Program) (coded : Coded) (name order : List ℕ) (b : Bodies) wher
       → readFont (subsetByName p coded name order b) ≡ got font
   unfolding subsetByName
   subset-back fewStrings fewGlobals short font e =
-      set-back sizeWritten name topWritten (ownByName p order) (b .globals) (behindGlobals p coded order b charsetPlace) fewStrings fewGlobals short font e
+      set-back sizeWritten name topWritten (ownByName p order) (b .globals) (behindGlobals p coded order b charsetPlace) (size-small (privatePlace p coded order b charsetPlace + length (part p coded order b charsetPlace))) fewStrings fewGlobals short font e
 
   -- the offset of its encoding, which reads back
   abbrev pub codesWritten : ℕ

@@ -67,6 +67,7 @@ module _ (p : Program) (kept : List ℕ) (own : List (List ℕ)) (few : length o
   pairs-small ns zero code = small-none
   pairs-small ns (suc n) code = pair-small code (lastNamed p code Absent ns) (pairsFrom p ns kept own n (code + 1)) (pairs-small ns n (code + 1))
 
+  -- so that the encoding of a subset reads back
   pub coded-by-small : (c : Coding) → SmallIds (codedBy p kept own c)
   unfolding codedBy
   coded-by-small standard = tt
@@ -80,10 +81,12 @@ abbrev pairGlyph : Program → List ℕ → List (List ℕ) → Program → Foun
 pairGlyph p kept own q Absent = Absent
 pairGlyph p kept own q (Glyph g) = pick (isIn g kept) (stringGlyph q (newId own (nameOf p g))) Absent
 
+-- by the two ways of a test
 by-test : {A : Type 0} (t : Bool) → (t ≡ true → A) → (t ≡ false → A) → A
 by-test true f g = f refl
 by-test false f g = g refl
 
+-- a code below another one
 above : (c code : ℕ) → c ≤ code → (c ≡ code → ⊥) → c + 1 ≤ code
 above c code h f = omega (arith, f)
 
@@ -107,6 +110,7 @@ module _ (p : Program) (ns : List Naming) (kept : List ℕ) (own : List (List �
       pair-past c (ne-eqb c code (λ e. omega arith)) (lastNamed p c Absent ns) x (pairsFrom p ns kept own n (c + 1))
       ∙ pairs-past n (c + 1) (omega arith) x
 
+  -- no glyph before it
   or-none : (f : Found) → orElse f Absent ≡ f
   or-none Absent = refl
   or-none (Glyph g) = refl

@@ -5,7 +5,7 @@ use mathlib.Core.Bool.{false}
 use mathlib.Core.List.{List, [], _∷_, _++_, append-assoc, append-nil}
 use native.Mathlib.Omega.{arith}
 use lib.ListN.{length, take, drop, getD, length-append, length-drop}
-use lib.Seq.{length-take-le, getD-take}
+use lib.Seq.{length-take-le, getD-take, take-all}
 use Rattle.octets.specs.Octets.{Wrote}
 use Rattle.octets.specs.PutLaws.{wrote-as}
 use Rattle.octets.specs.Lists.{partOf}
@@ -19,10 +19,10 @@ use Rattle.cff.specs.declared.font.Font.{Font}
 use Rattle.subset.specs.Kept.{privateOf}
 use Rattle.subset.specs.Texts.{namesOf}
 use Rattle.subset.specs.Pruned.{Bodies, mapped}
-use Rattle.subset.specs.Codes.{Coded, none, predefined, pairs, codedBytes, codedAt}
+use Rattle.subset.specs.Codes.{Coded, codedBytes, codedAt}
 use Rattle.subset.specs.Subset.{privateDict, privatePart, privateParts, ownByName, topByName, newIds, oneLocal, subsetByName}
 use Rattle.kept.specs.Packed.{orderIn}
-use Rattle.faithful.specs.ByName.{dict-within}
+use Rattle.faithful.specs.ByName.{coded-within, dict-within}
 use Rattle.private_dicts.specs.Privates.{sizesOf}
 use Rattle.own_strings.specs.declared.Own.{Own}
 use Rattle.top_dict.specs.Top.{Offsets}
@@ -43,34 +43,47 @@ use Rattle.parts.specs.PrivateLaws.{all-parts, sizes-held, privates-asked, priv
 use Rattle.outcome.specs.Layout.{frontLen, namedCharset, namedCodes, namedCharstrings, namedPrivate, namedEnd, namedTop, named-parts, named-length}
 use Rattle.named_parts.specs.Named.{codedFor, namedTables, namedGlyphs, NamedPlan, NamedStrings, NamedCodes, PlacedNamed}
 use Rattle.front.specs.declared.NamedPlaces.{NamedPlaces}
-use Rattle.encoding.specs.Encoded.{encodingLen, offsetFor}
-use Rattle.encoding.specs.EncodedLaws.{encodes-self, encodes-length, encodes-offset}
+use Rattle.encoding.specs.Encoded.{codedIn, Encodes, encodingLen, offsetFor}
+use Rattle.encoding.specs.EncodedLaws.{encodes-length, encodes-offset}
 use Rattle.encoding.specs.declared.Encoding.{Encoding}
-
--- the encoding's offset is no further than its place
-coded-within : (coded : Coded) (at n : ℕ) → at ≤ n → 0 < n → codedAt coded at ≤ n
-coded-within none at n h s = omega arith
-coded-within predefined at n h s = s
-coded-within (pairs ps) at n h s = h
 
 -- charset and encoding, one behind the other
 module _ (e : Encoding) (slots ws : List ℕ) (n k : ℕ) (coding : NamedCodes e slots) (out : List ℕ) (at : ℕ)
     (room : at + length (namedTables ws n k (codedFor e slots)) ≤ length out) where
-  abbrev charset : List ℕ
-  charset = charsetBytes (partOf ws n k)
+  abbrev charsetPart : List ℕ
+  charsetPart = charsetBytes (partOf ws n k)
 
-  abbrev coded : List ℕ
-  coded = codedBytes (codedFor e slots)
+  abbrev codedPart : List ℕ
+  codedPart = codedBytes (codedFor e slots)
 
-  pub charset-room : at + length charset ≤ length out
-  charset-room = split-room at (length out) room (split-append charset coded)
+  pub charset-room : at + length charsetPart ≤ length out
+  charset-room = split-room at (length out) room (split-append charsetPart codedPart)
 
-  module _ {mid : List ℕ} {q : ℕ} (w : Wrote out at charset mid q) where
-    pub coded-room : q + length coded ≤ length mid
-    coded-room = writing-left room (writing-turn room (split-append charset coded) (writing-start (charset ++ coded) out at) w)
+  module _ {mid : List ℕ} {q : ℕ} (w : Wrote out at charsetPart mid q) where
+    pub coded-room : q + length codedPart ≤ length mid
+    coded-room = writing-left room (writing-turn room (split-append charsetPart codedPart) (writing-start (charsetPart ++ codedPart) out at) w)
 
-    pub tables-wrote : {new : List ℕ} {q2 : ℕ} → Wrote mid q coded new q2 → Wrote out at (namedTables ws n k (codedFor e slots)) new q2
-    tables-wrote v = writing-last room (writing-turn room (split-append charset coded) (writing-start (charset ++ coded) out at) w) v
+    -- what writing the encoding asks, of the codes behind the slots
+    module _ (table : List ℕ) (is : table ≡ drop 16 slots) where
+      codes-are : codedIn (e .kind) table ≡ codedFor e slots
+      codes-are = ap (codedIn (e .kind)) is
+
+      pub codes-asked : Encodes (codedIn (e .kind) table) table e × (e .pairs ≤ 255) × (256 ≤ length table) × (q + length (codedBytes (codedIn (e .kind) table)) ≤ length mid)
+      codes-asked = (
+        subst (λ (l : List ℕ). Encodes (codedIn (e .kind) l) l e) (sym is) (coding .is),
+        coding .few,
+        omega (arith, ap length is, length-drop 16 slots, coding .long),
+        omega (arith, ap (λ (c : Coded). length (codedBytes c)) codes-are, coded-room),
+      )
+
+      pub tables-wrote : {new : List ℕ} {q2 : ℕ} → Wrote mid q (codedBytes (codedIn (e .kind) table)) new q2 → Wrote out at (namedTables ws n k (codedFor e slots)) new q2
+      tables-wrote v =
+          writing-last room (writing-turn room (split-append charsetPart codedPart) (writing-start (charsetPart ++ codedPart) out at) w)
+          (wrote-as v (ap codedBytes codes-are))
+
+-- what stands behind the slots
+pub behind-slots : (slots : List ℕ) → partOf slots 16 (length slots - 16) ≡ drop 16 slots
+behind-slots slots = take-all (length slots - 16) (drop 16 slots) (omega (arith, length-drop 16 slots))
 
 -- ---- one FD alone
 

@@ -24,6 +24,7 @@ mod domain;
 mod encoding_compare;
 #[cfg(test)]
 mod encoding_tests;
+mod files;
 mod fonts;
 mod heavy;
 mod hooked;
@@ -78,6 +79,7 @@ const USAGE: &str = "usage: tools/compare/run cff SEED COUNT
        tools/compare/run store-subset SEED COUNT
        tools/compare/run encoding SEED COUNT
        tools/compare/run trace SEED COUNT
+       tools/compare/run opentype SEED COUNT
        tools/compare/run trace-time FILE
        tools/compare/run cut FOLDER
        tools/compare/run case SEED NUMBER
@@ -109,6 +111,7 @@ fn main() -> ExitCode {
         ["store-subset", seed, count] => seeded(seed, count, stored_subsets),
         ["encoding", seed, count] => seeded(seed, count, encoding),
         ["trace", seed, count] => seeded(seed, count, trace),
+        ["opentype", seed, count] => seeded(seed, count, opentype),
         ["trace-time", file] => trace_time(file),
         ["cut", folder] => cut_tables(Path::new(folder)),
         ["case", seed, number] => seeded(seed, number, case),
@@ -303,6 +306,18 @@ fn trace(seed: u64, count: usize) -> ExitCode {
     println!("seed {seed}, {count} made fonts, {tables} tables of real fonts");
     print!("{}", tally.report(&target().join("compare")));
     status(tally.differences())
+}
+
+/// `count` files with damaged directories, the .otf files in target/otf, and made fonts in files.
+fn opentype(seed: u64, count: usize) -> ExitCode {
+    let (text, differences) = on_large_stack(move || {
+        let directories = files::directories(seed, count);
+        let mut whole = files::whole(&target().join("otf"), seed, count);
+        files::report(&directories, &mut whole, &target().join("compare"))
+    });
+    println!("seed {seed}, {count} damaged directories");
+    print!("{text}");
+    status(differences)
 }
 
 /// The time that this thread has had of a processor.

@@ -7,7 +7,7 @@ use Rattle.named_parts.proofs.put_glyphs.Tie as tie
 
 -- the arguments; after the charstrings
 abbrev S : tie.After-put-charstrings-arg → tie.Start
-S c = c .before .before .before .before .before .before .before .before
+S c = c .before .before .before .before .before .before .before .before .before
 
 abbrev G : tie.After-put-privates-arg → tie.After-put-charstrings
 G c = c .before .before .before

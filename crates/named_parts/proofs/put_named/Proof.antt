@@ -7,7 +7,7 @@ use Rattle.named_parts.proofs.put_named.Tie as tie
 
 -- the arguments; after the front, after the globals, and after charset and encoding
 abbrev S : tie.After-put-front-named-arg → tie.Start
-S c = c .before .before .before .before .before .before .before .before .before .before .before .before .before .before .before .before
+S c = c .before .before .before .before .before .before .before .before .before .before .before .before .before .before .before .before .before
 
 abbrev F : tie.After-put-globals-arg → tie.After-put-front-named
 F c = c .before .before .before
