@@ -102,7 +102,7 @@ uint8_t cff_item_refusal(const uint8_t *font, size_t font_len, uint8_t kind, uin
    it each code whose glyph is kept has the glyph of the same name in the subset, and no other code has any: its codes stand behind
    the charset, rising, each with a string id; of the standard encoding nothing is written, of the Expert one its number, 1. All 256
    codes are refused by CFF_PAIRS. Without it a subset has no encoding, which means the standard one, and a font with the Expert
-   encoding is refused by CFF_UNSUPPORTED.
+   encoding is refused by CFF_UNSUPPORTED. Each supplement of the font's encoding, 255 at most, costs a look through the glyphs' names.
 
    The refusals are reading's, then CFF_UNSUPPORTED, CFF_MALFORMED, CFF_TOO_LONG, CFF_NO_SUCH_NUMBER, CFF_NOT_FOUND, CFF_RECORD,
    CFF_WORK_WORDS, CFF_STRING_ID, CFF_PAIRS, CFF_SUBSET, CFF_OUTPUT, in this order; CFF_OUTPUT also for fewer than two words of
