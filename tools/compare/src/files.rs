@@ -270,6 +270,7 @@ fn answers(library: &Library, font: &[u8], keep: &[u16]) -> Vec<String> {
             record: record.clone(),
             flag,
             record_kind: "traced",
+            encoding: 0,
         };
         let lent = Lent {
             work: words,
@@ -323,9 +324,11 @@ pub fn directories(seed: u64, count: usize) -> Directories {
         };
         let alike = match placed {
             // A table that begins with `OTTO` is a font of another version, and by itself a file.
-            Ok((start, _)) if start != 0 || !file.starts_with(b"OTTO") => as_of_table(&of_file),
+            Ok((start, _)) if start != 0 || !file.starts_with(b"OTTO") => as_of_table(&{
+                of_file),
             Ok((_, length)) if length < 4 => as_of_table(&of_file),
-            Ok(_) => all_refused(&of_file, UNSUPPORTED),
+            Ok(_) => all_refused(&of_file, UNSUPPORTED)
+            }
             Err(number) => all_refused(&of_file, number),
         };
         if !alike {
