@@ -324,11 +324,9 @@ pub fn directories(seed: u64, count: usize) -> Directories {
         };
         let alike = match placed {
             // A table that begins with `OTTO` is a font of another version, and by itself a file.
-            Ok((start, _)) if start != 0 || !file.starts_with(b"OTTO") => as_of_table(&{
-                of_file),
+            Ok((start, _)) if start != 0 || !file.starts_with(b"OTTO") => as_of_table(&of_file),
             Ok((_, length)) if length < 4 => as_of_table(&of_file),
-            Ok(_) => all_refused(&of_file, UNSUPPORTED)
-            }
+            Ok(_) => all_refused(&of_file, UNSUPPORTED),
             Err(number) => all_refused(&of_file, number),
         };
         if !alike {
