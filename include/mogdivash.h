@@ -7,6 +7,9 @@
    Each function is proved to end without a fault and to answer as crates/capi/specs/Capi.antt and Subset.antt say, whatever the
    bytes are. None keeps anything from one call to the next or allocates; of other libraries they call memcpy and memset alone.
 
+   A font is a file as it comes: an OpenType file (.otf), which begins with `OTTO` and whose first table `CFF ` is the font, or a bare
+   CFF font. A subset is a bare font.
+
    A slice is a pointer and the number of its elements. What is lent for writing must not overlap what else is lent, and a
    uint16_t, uint32_t or uint64_t must be aligned. The calling thread must have 1.5 MiB of stack free for cff_subset and
    cff_subset_cid, and 2.5 MiB for cff_trace. Beyond this there is nothing that a caller must keep.
@@ -36,11 +39,11 @@
 extern "C" {
 #endif
 
-/* Refusals: document 01, 'Entries and their refusals'. The first five are reading's. */
+/* Refusals: document 01, 'Entries and their refusals', and document 02. The first five and CFF_NO_TABLE are reading's. */
 #define CFF_TRUNCATED 1      /* a structure ends before what was being read */
 #define CFF_MALFORMED 2      /* another fault in a structure */
 #define CFF_UNSUPPORTED 3    /* a form that is not handled; to subsetting also a font of the other keying or a stroked one */
-#define CFF_TOO_LONG 4       /* a font of more than 67,108,864 bytes; a new name of more than 65,535 */
+#define CFF_TOO_LONG 4       /* a file of more than 67,108,864 bytes; a new name of more than 65,535 */
 #define CFF_REAL 5           /* a well-formed real past its limits */
 #define CFF_NO_SUCH_NUMBER 6 /* no item of that number, or no such kind; to subsetting a number past the font's glyphs */
 #define CFF_NOT_FOUND 7      /* a glyph to keep that finding its own name or CID does not give */
@@ -49,6 +52,7 @@ extern "C" {
 #define CFF_SUBSET 10        /* a subset of more than 67,108,864 bytes */
 #define CFF_OUTPUT 11        /* fewer elements lent than the answer has */
 #define CFF_STRING_ID 12     /* a string id above 64,999 */
+#define CFF_NO_TABLE 15      /* an OpenType file without a table `CFF ` */
 
 /* The words of cff_read's answer. */
 #define CFF_GLYPHS 0  /* glyphs */

@@ -1,4 +1,4 @@
-/* Cuts a bare CFF font down to glyph 0 and the glyphs that are named by their numbers.
+/* Cuts a CFF font, an OpenType file (.otf) as it is or a bare font, down to glyph 0 and the glyphs that are named by their numbers.
 
        subset_glyphs FONT NAME OUTPUT GLYPH...
 

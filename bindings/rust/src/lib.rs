@@ -1,4 +1,4 @@
-//! Cuts a CFF font down to the glyphs in use, as a document embeds it.
+//! Cuts a CFF font, bare or in an OpenType file, down to the glyphs in use, as a document embeds it.
 //!
 //! The work is done by the static library of the crate `capi`, every function of which is proved: whatever the bytes are, a call
 //! ends without a fault, answers as its definition says, and a refusal writes nothing. This crate allocates what a call is
@@ -7,7 +7,7 @@
 //! ```no_run
 //! use mogdivash::Font;
 //!
-//! let bytes = std::fs::read("font.cff")?;
+//! let bytes = std::fs::read("font.otf")?;
 //! let font = Font::read(&bytes)?;
 //! let keep: Vec<u16> = ["R", "i", "d", "e", "r"]
 //!     .iter()

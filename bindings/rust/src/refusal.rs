@@ -1,4 +1,4 @@
-//! Refusals: document 01, 'Entries and their refusals'.
+//! Refusals: document 01, 'Entries and their refusals', and document 02.
 
 use std::error::Error;
 use std::fmt;
@@ -31,11 +31,13 @@ pub enum Refusal {
     Output = 11,
     /// A subset with a string id above 64,999.
     Strings = 12,
+    /// An OpenType file without a table `CFF `.
+    NoTable = 15,
 }
 
 impl Refusal {
     /// All refusals, by number.
-    pub const ALL: [Refusal; 12] = [
+    pub const ALL: [Refusal; 13] = [
         Refusal::Truncated,
         Refusal::Malformed,
         Refusal::Unsupported,
@@ -48,17 +50,19 @@ impl Refusal {
         Refusal::SubsetTooLong,
         Refusal::Output,
         Refusal::Strings,
+        Refusal::NoTable,
     ];
 
-    /// Document 01's number, 1 to 12.
+    /// Its number in documents 01 and 02, 1 to 15.
     pub fn number(self) -> u8 {
         self as u8
     }
 
     /// The refusal of that number.
     pub fn from_number(number: u8) -> Option<Refusal> {
-        let place = usize::from(number).checked_sub(1)?;
-        Refusal::ALL.get(place).copied()
+        Refusal::ALL
+            .into_iter()
+            .find(|refusal| refusal.number() == number)
     }
 
     /// What a C function returned: 0, or a refusal.
@@ -85,6 +89,7 @@ impl fmt::Display for Refusal {
             Refusal::SubsetTooLong => "the subset is too long",
             Refusal::Output => "too little room for the answer",
             Refusal::Strings => "the subset has too many strings",
+            Refusal::NoTable => "the OpenType file has no table of CFF outlines",
         })
     }
 }

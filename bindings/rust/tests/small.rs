@@ -4,13 +4,15 @@ use mogdivash::{Font, Record, Refusal, Row};
 
 #[test]
 fn refusals_have_their_numbers() {
-    for (k, refusal) in Refusal::ALL.iter().enumerate() {
-        assert_eq!(usize::from(refusal.number()), k + 1);
+    for refusal in &Refusal::ALL {
         assert_eq!(Refusal::from_number(refusal.number()), Some(*refusal));
         assert!(!refusal.to_string().is_empty());
     }
     assert_eq!(Refusal::from_number(0), None);
-    assert_eq!(Refusal::from_number(13), None);
+    assert_eq!(Refusal::from_number(12), Some(Refusal::Strings));
+    assert_eq!(Refusal::from_number(15), Some(Refusal::NoTable));
+    assert_eq!(Refusal::from_number(16), None);
+    assert!(Refusal::ALL.is_sorted_by_key(|refusal| refusal.number()));
 }
 
 #[test]

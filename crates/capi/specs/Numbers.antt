@@ -15,15 +15,14 @@ use Rattle.find.specs.declared.Found.the-variants.{Absent as NoGlyph, Glyph as 
 use Rattle.dict.specs.Lookup.{cidKeyed}
 use Rattle.cff.specs.Font.{Got, refused as refusedFont, got, Program, readFont}
 use Rattle.cff.specs.Find.{readAs, foundAs, nameAs, cidAs, itemsIn, itemRefusal, itemOf}
-use Rattle.cff.specs.PartRefusals.{Refusal}
-use Rattle.cff.specs.ReadingRefusals.{reading-refusal}
+use Rattle.cff.specs.ReadingRefusals.{FileRefusal, reading-refusal}
 use Rattle.cff.specs.declared.FoundAs.the-variants.{Absent}
 use Rattle.cff_entries.specs.Kinds.{kindOf}
 use Rattle.capi.specs.Capi.{Answer, refused, given, readAnswer, foundAnswer, Answers, lookupRefusal, itemAnswer, AnswersItem}
 
 -- an answer of the entries: a refusal of reading or 6, or what is given
 data Sound : Answer → Type 0 where
-  sound-refused : {n : ℕ} → 1 ≤ n → n ≤ 6 → Sound (refused n)
+  sound-refused : {n : ℕ} → 1 ≤ n → n ≤ 15 → Sound (refused n)
   sound-given : {ws : List ℕ} → Sound (given ws)
 
 -- a call with one lent slice: by 0 it was answered, and by a refusal not
@@ -53,12 +52,12 @@ says (given ws) old new r sound-given h = says-given ws old new r (ltb (length o
 -- ---- the answers are sound
 
 -- a font that is refused
-module _ (g : Got Program) (low : (n : ℕ) → g ≡ refusedFont n → Refusal n) where
+module _ (g : Got Program) (low : (n : ℕ) → g ≡ refusedFont n → FileRefusal n) where
   low-refused : (n : ℕ) → g ≡ refusedFont n → Sound (refused n)
-  low-refused n e = let r = low n e in let m : n ≤ 6 = omega (arith, r .most) in sound-refused (r .least) m
+  low-refused n e = let r = low n e in sound-refused (r .least) (r .most)
 
 -- by what reading says
-read-sound : (g : Got Program) → ((n : ℕ) → g ≡ refusedFont n → Refusal n) → Sound (readAnswer (readAs g))
+read-sound : (g : Got Program) → ((n : ℕ) → g ≡ refusedFont n → FileRefusal n) → Sound (readAnswer (readAs g))
 read-sound (refusedFont n) low = low-refused (refusedFont n) low n refl
 read-sound (got p) low = sound-given
 
@@ -75,26 +74,26 @@ if-cid : (t : Bool) (x : Found) → Sound (foundAnswer (pick t (foundAs x) Absen
 if-cid true x = found-sound x
 if-cid false x = sound-given
 
-name-sound : (g : Got Program) (name : List ℕ) → ((n : ℕ) → g ≡ refusedFont n → Refusal n) → Sound (foundAnswer (nameAs g name))
+name-sound : (g : Got Program) (name : List ℕ) → ((n : ℕ) → g ≡ refusedFont n → FileRefusal n) → Sound (foundAnswer (nameAs g name))
 name-sound (refusedFont n) name low = low-refused (refusedFont n) low n refl
 name-sound (got p) name low = unless-cid (cidKeyed (p .top)) (glyphWithText (p .strings) name 0 (p .ids))
 
-cid-sound : (g : Got Program) (cid : ℕ) → ((n : ℕ) → g ≡ refusedFont n → Refusal n) → Sound (foundAnswer (cidAs g cid))
+cid-sound : (g : Got Program) (cid : ℕ) → ((n : ℕ) → g ≡ refusedFont n → FileRefusal n) → Sound (foundAnswer (cidAs g cid))
 cid-sound (refusedFont n) cid low = low-refused (refusedFont n) low n refl
 cid-sound (got p) cid low = if-cid (cidKeyed (p .top)) (glyphWithId cid 0 (p .ids))
 
 -- an item that is not there is refusal 6
-six : (t : Bool) → pick t 0 6 ≤ 6
+six : (t : Bool) → pick t 0 6 ≤ 15
 six true = omega arith
 six false = omega arith
 
-lookup-most : (g : Got Program) (kind number : ℕ) → ((n : ℕ) → g ≡ refusedFont n → Refusal n) → lookupRefusal g kind number ≤ 6
+lookup-most : (g : Got Program) (kind number : ℕ) → ((n : ℕ) → g ≡ refusedFont n → FileRefusal n) → lookupRefusal g kind number ≤ 15
 unfolding lookupRefusal
 lookup-most (refusedFont n) kind number low =
-    let m : n ≤ 6 = omega (arith, low n refl .most) in
-    pick-ind (λ (k : ℕ). k ≤ 6) (ltb kind 3) n n (λ e. m) (λ e. m)
+    let m = low n refl .most in
+    pick-ind (λ (k : ℕ). k ≤ 15) (ltb kind 3) n n (λ e. m) (λ e. m)
 lookup-most (got p) kind number low =
-    pick-ind (λ (k : ℕ). k ≤ 6) (ltb kind 3) (itemRefusal (got p) (kindOf kind) number) 6
+    pick-ind (λ (k : ℕ). k ≤ 15) (ltb kind 3) (itemRefusal (got p) (kindOf kind) number) 6
     (λ e. six (ltb number (length (itemsIn (kindOf kind) p)))) (λ e. omega arith)
 
 -- a number that is not 0
@@ -102,7 +101,7 @@ positive : (m : ℕ) → eqb m 0 ≡ false → 1 ≤ m
 positive zero e = absurd (let z : _≡_ {A = ℕ} 0 1 = cc in omega arith)
 positive (suc m) e = omega arith
 
-item-sound : (g : Got Program) (kind number : ℕ) → ((n : ℕ) → g ≡ refusedFont n → Refusal n) → Sound (itemAnswer g kind number)
+item-sound : (g : Got Program) (kind number : ℕ) → ((n : ℕ) → g ≡ refusedFont n → FileRefusal n) → Sound (itemAnswer g kind number)
 unfolding itemAnswer
 item-sound g kind number low =
     pick-ind Sound (eqb (lookupRefusal g kind number) 0) (given (itemOf g (kindOf kind) number)) (refused (lookupRefusal g kind number))

@@ -17,8 +17,7 @@ use Rattle.dict.specs.Lookup.{rosIn, cidKeyed, strokedIn}
 use Rattle.record.specs.Record.{rowsOf, recordFine}
 use Rattle.cff.specs.Font.{Got, refused as refusedFont, got, Program, readFont}
 use Rattle.cff.specs.Find.{workSize}
-use Rattle.cff.specs.PartRefusals.{Refusal}
-use Rattle.cff.specs.ReadingRefusals.{reading-refusal}
+use Rattle.cff.specs.ReadingRefusals.{FileRefusal, reading-refusal}
 use Rattle.subset.specs.Kept.{keptOf, writtenOrder, usedFds}
 use Rattle.subset.specs.Pruned.{Pruned, Bodies, pruned}
 use Rattle.subset.specs.Subset.{subsetByName, subsetByCid, subsetBytes}
@@ -32,18 +31,18 @@ use Rattle.capi.specs.Subset.{roomFor, cutAnswer, outcomeFor, AnswersCut
 
 -- ---- outcomes
 
--- a refusal of document 01, or a subset for which there is room: at least its header
+-- a refusal of documents 01 and 02, or a subset for which there is room: at least its header
 pub data Sound (room : ℕ) : Outcome → Type 0 where
-  sound-refused : {n : ℕ} → 1 ≤ n → n ≤ 12 → Sound room (refusedCut n)
+  sound-refused : {n : ℕ} → 1 ≤ n → n ≤ 15 → Sound room (refusedCut n)
   sound-subset : {way : ℕ} {bs : List ℕ} → 0 < length bs → length bs ≤ room → Sound room (subset way bs)
 
 module _ (room : ℕ) where
   -- a test that refuses by n where it holds, or where it does not
-  unless : (t : Bool) (n : ℕ) (o : Outcome) → 1 ≤ n → n ≤ 12 → Sound room o → Sound room (pick t (refusedCut n) o)
+  unless : (t : Bool) (n : ℕ) (o : Outcome) → 1 ≤ n → n ≤ 15 → Sound room o → Sound room (pick t (refusedCut n) o)
   unless true n o l m s = sound-refused l m
   unless false n o l m s = s
 
-  provided : (t : Bool) (n : ℕ) (o : Outcome) → 1 ≤ n → n ≤ 12 → Sound room o → Sound room (pick t o (refusedCut n))
+  provided : (t : Bool) (n : ℕ) (o : Outcome) → 1 ≤ n → n ≤ 15 → Sound room o → Sound room (pick t o (refusedCut n))
   provided true n o l m s = s
   provided false n o l m s = sound-refused l m
 
@@ -81,8 +80,8 @@ module _ (cid : Bool) (name keep rec : List ℕ) (flag words room : ℕ) where
       (unless room (ltb words (workSize p)) 9 _ (omega arith) (omega arith)
       (written-sound p name kept order room (pruned p (rowsOf rec) (usedFds p kept) order flag)))))))))
 
-  read-sound : (g : Got Program) → ((n : ℕ) → g ≡ refusedFont n → Refusal n) → Sound room (cutRead cid g name keep rec flag words room)
-  read-sound (refusedFont n) low = let r = low n refl in let m : n ≤ 12 = omega (arith, r .most) in sound-refused (r .least) m
+  read-sound : (g : Got Program) → ((n : ℕ) → g ≡ refusedFont n → FileRefusal n) → Sound room (cutRead cid g name keep rec flag words room)
+  read-sound (refusedFont n) low = let r = low n refl in sound-refused (r .least) (r .most)
   read-sound (got p) low = program-sound p
 
   pub cut-sound : (font : List ℕ) → Sound room (cutOf cid font name keep rec flag words room)
@@ -151,10 +150,10 @@ module _ (cid : Bool) (font name keep rec : List ℕ) (flag : ℕ) (work out ans
 pub data SaysCut (o : Outcome) (out out' answer answer' : List ℕ) : ℕ → Type 0 where
   answered-cut : (way : ℕ) (bs : List ℕ) → o ≡ subset way bs → out' ≡ put out 0 bs → answer' ≡ put answer 0 (way ∷ length bs ∷ [])
       → SaysCut o out out' answer answer' 0
-  no-cut : {r : ℕ} → 1 ≤ r → r ≤ 12 → o ≡ refusedCut r → out' ≡ out → answer' ≡ answer → SaysCut o out out' answer answer' r
+  no-cut : {r : ℕ} → 1 ≤ r → r ≤ 15 → o ≡ refusedCut r → out' ≡ out → answer' ≡ answer → SaysCut o out out' answer answer' r
 
 module _ (out out' answer answer' : List ℕ) where
-  says-refused : (n r : ℕ) → 1 ≤ n → n ≤ 12 → r ≡ n → out' ≡ out → answer' ≡ answer → SaysCut (refusedCut n) out out' answer answer' r
+  says-refused : (n r : ℕ) → 1 ≤ n → n ≤ 15 → r ≡ n → out' ≡ out → answer' ≡ answer → SaysCut (refusedCut n) out out' answer answer' r
   says-refused n r l m e f g = subst (SaysCut (refusedCut n) out out' answer answer') (sym e) (no-cut l m refl f g)
 
   says-subset : (t : Bool) (way : ℕ) (bs : List ℕ) (r : ℕ) → Sound (pick t 0 (length out)) (subset way bs) → out' ≡ put out 0 bs

@@ -18,7 +18,8 @@ use Rattle.strings.specs.Table.{standardNames}
 use Rattle.strings.specs.Text.{codes, sameText}
 use Rattle.strings.specs.Strings.{standardStrings, standardString, stringText}
 use Rattle.find.specs.Find.{glyphWithId, glyphWithText}
-use Rattle.cff.specs.Font.{localsAt, privateData, privateAt, privatesAt, idsAt, fdsAt, encodingGot, cidParts, nameParts, fontAt, fontsAt, setAt, readFont}
+use Rattle.opentype.specs.Opentype.{placeOf}
+use Rattle.cff.specs.Font.{localsAt, privateData, privateAt, privatesAt, idsAt, fdsAt, encodingGot, cidParts, nameParts, fontAt, fontsAt, setAt, readTable, readFont}
 use Rattle.cff.specs.Examples.{sheet}
 use Rattle.cff.specs.Find.{localsTotal, readAs, nameAs, cidAs}
 use Rattle.cff.specs.declared.ReadAs.the-variants.{Font}
@@ -47,7 +48,7 @@ cidFont =
 
 cid-read : readAs (readFont cidFont) ≡ Font (record { glyphs = 2; globals = 0; strings = 0; cid = true; work = 5 })
 unfolding
-    readFont setAt fontsAt fontAt cidParts privatesAt privateAt privateData localsAt fdsAt fdSelectAt allBelow idsAt charsetAt idsFrom readIndex told indexAt tableAt
+    readFont readTable placeOf setAt fontsAt fontAt cidParts privatesAt privateAt privateData localsAt fdsAt fdSelectAt allBelow idsAt charsetAt idsFrom readIndex told indexAt tableAt
     dataAt runOf judged offsets pieces itemsOf numAt be dictOf gathered readingsAt readingsFrom entryAt entryFrom tokenAt operatorAt numberAt realAt normal zeros
     zerosOf stripped lastOf lastFrom truncOf listOf localsTotal
 cid-read = refl
@@ -55,21 +56,21 @@ cid-read = refl
 -- CID 5 is glyph 1, and no glyph has CID 1; no glyph of a CID-keyed font has a name
 cid-5 : cidAs (readFont cidFont) 5 ≡ Glyph 1
 unfolding
-    readFont setAt fontsAt fontAt cidParts privatesAt privateAt privateData localsAt fdsAt fdSelectAt allBelow idsAt charsetAt idsFrom readIndex told indexAt tableAt
+    readFont readTable placeOf setAt fontsAt fontAt cidParts privatesAt privateAt privateData localsAt fdsAt fdSelectAt allBelow idsAt charsetAt idsFrom readIndex told indexAt tableAt
     dataAt runOf judged offsets pieces itemsOf numAt be dictOf gathered readingsAt readingsFrom entryAt entryFrom tokenAt operatorAt numberAt realAt normal zeros
     zerosOf stripped lastOf lastFrom truncOf listOf glyphWithId
 cid-5 = refl
 
 cid-1 : cidAs (readFont cidFont) 1 ≡ Absent
 unfolding
-    readFont setAt fontsAt fontAt cidParts privatesAt privateAt privateData localsAt fdsAt fdSelectAt allBelow idsAt charsetAt idsFrom readIndex told indexAt tableAt
+    readFont readTable placeOf setAt fontsAt fontAt cidParts privatesAt privateAt privateData localsAt fdsAt fdSelectAt allBelow idsAt charsetAt idsFrom readIndex told indexAt tableAt
     dataAt runOf judged offsets pieces itemsOf numAt be dictOf gathered readingsAt readingsFrom entryAt entryFrom tokenAt operatorAt numberAt realAt normal zeros
     zerosOf stripped lastOf lastFrom truncOf listOf glyphWithId
 cid-1 = refl
 
 cid-no-name : nameAs (readFont cidFont) space ≡ Absent
 unfolding
-    readFont setAt fontsAt fontAt cidParts privatesAt privateAt privateData localsAt fdsAt fdSelectAt allBelow idsAt charsetAt idsFrom readIndex told indexAt tableAt
+    readFont readTable placeOf setAt fontsAt fontAt cidParts privatesAt privateAt privateData localsAt fdsAt fdSelectAt allBelow idsAt charsetAt idsFrom readIndex told indexAt tableAt
     dataAt runOf judged offsets pieces itemsOf numAt be dictOf gathered readingsAt readingsFrom entryAt entryFrom tokenAt operatorAt numberAt realAt normal zeros
     zerosOf stripped lastOf lastFrom truncOf listOf
 cid-no-name = refl
@@ -77,20 +78,20 @@ cid-no-name = refl
 -- the font of document 01's sheet has the glyphs .notdef and space, none of the name A, and no CIDs
 sheet-space : nameAs (readFont sheet) space ≡ Glyph 1
 unfolding
-    readFont setAt fontsAt fontAt nameParts privateAt idsAt encodingGot readIndex told indexAt tableAt dataAt runOf judged offsets pieces itemsOf numAt be dictOf
+    readFont readTable placeOf setAt fontsAt fontAt nameParts privateAt idsAt encodingGot readIndex told indexAt tableAt dataAt runOf judged offsets pieces itemsOf numAt be dictOf
     gathered readingsAt readingsFrom entryAt entryFrom tokenAt operatorAt numberAt realAt normal zeros zerosOf stripped lastOf lastFrom truncOf listOf
     glyphWithText stringText standardString standardStrings standardNames codes sameText
 sheet-space = refl
 
 sheet-A : nameAs (readFont sheet) (0x41 ∷ []) ≡ Absent
 unfolding
-    readFont setAt fontsAt fontAt nameParts privateAt idsAt encodingGot readIndex told indexAt tableAt dataAt runOf judged offsets pieces itemsOf numAt be dictOf
+    readFont readTable placeOf setAt fontsAt fontAt nameParts privateAt idsAt encodingGot readIndex told indexAt tableAt dataAt runOf judged offsets pieces itemsOf numAt be dictOf
     gathered readingsAt readingsFrom entryAt entryFrom tokenAt operatorAt numberAt realAt normal zeros zerosOf stripped lastOf lastFrom truncOf listOf
     glyphWithText stringText standardString standardStrings standardNames codes sameText
 sheet-A = refl
 
 sheet-no-cid : cidAs (readFont sheet) 1 ≡ Absent
 unfolding
-    readFont setAt fontsAt fontAt nameParts privateAt idsAt encodingGot readIndex told indexAt tableAt dataAt runOf judged offsets pieces itemsOf numAt be dictOf
+    readFont readTable placeOf setAt fontsAt fontAt nameParts privateAt idsAt encodingGot readIndex told indexAt tableAt dataAt runOf judged offsets pieces itemsOf numAt be dictOf
     gathered readingsAt readingsFrom entryAt entryFrom tokenAt operatorAt numberAt realAt normal zeros zerosOf stripped lastOf lastFrom truncOf listOf
 sheet-no-cid = refl

@@ -22,9 +22,13 @@ use Rattle.strings.specs.Table.{standardNames}
 use Rattle.strings.specs.Text.{codes, sameText}
 use Rattle.strings.specs.Strings.{standardStrings, standardString, stringText}
 use Rattle.find.specs.Find.{glyphWithId, glyphWithText}
-use Rattle.cff.specs.Font.{localsAt, privateData, privateAt, privatesAt, idsAt, fdsAt, encodingGot, cidParts, nameParts, fontAt, fontsAt, setAt, readFont}
+use Rattle.opentype.specs.Opentype.{placeOf}
+use Rattle.cff.specs.Font.{localsAt, privateData, privateAt, privatesAt, idsAt, fdsAt, encodingGot, cidParts, nameParts, fontAt, fontsAt, setAt, readTable, readAt, readFont}
 use Rattle.cff.specs.Find.{localsTotal, readAs, nameAs, cidAs, itemRefusal, itemOf}
-use Rattle.cff.specs.SetLaws.{font-long, font-other}
+use Rattle.opentype.specs.OpentypeLaws.{file-long}
+use Rattle.opentype.specs.declared.Place.{Place}
+use Rattle.cff.specs.SetLaws.{font-other}
+use Rattle.cff.specs.FileLaws.{bare}
 use Rattle.cff.specs.Examples.{sheet}
 use Rattle.cff.specs.declared.ReadAs.the-variants.{Refused, Font}
 use Rattle.cff.specs.declared.FoundAs.the-variants.{Glyph}
@@ -40,7 +44,7 @@ offset0 =
 
 offset-0 : readAs (readFont offset0) ≡ Refused 2
 unfolding
-    readFont setAt fontsAt fontAt nameParts privateAt idsAt charsetAt idsFrom encodingGot readIndex told indexAt tableAt dataAt runOf judged offsets pieces itemsOf numAt
+    readFont readTable placeOf setAt fontsAt fontAt nameParts privateAt idsAt charsetAt idsFrom encodingGot readIndex told indexAt tableAt dataAt runOf judged offsets pieces itemsOf numAt
     be dictOf gathered readingsAt readingsFrom entryAt entryFrom tokenAt operatorAt numberAt realAt nibbles textOf expDigits exponent mantissa formOf valueOf normal
     zeros zerosOf stripped lastOf lastFrom truncOf listOf localsTotal
 offset-0 = refl
@@ -52,7 +56,7 @@ noCharstrings =
 
 no-charstrings : readAs (readFont noCharstrings) ≡ Refused 2
 unfolding
-    readFont setAt fontsAt fontAt nameParts privateAt idsAt charsetAt idsFrom encodingGot readIndex told indexAt tableAt dataAt runOf judged offsets pieces itemsOf numAt
+    readFont readTable placeOf setAt fontsAt fontAt nameParts privateAt idsAt charsetAt idsFrom encodingGot readIndex told indexAt tableAt dataAt runOf judged offsets pieces itemsOf numAt
     be dictOf gathered readingsAt readingsFrom entryAt entryFrom tokenAt operatorAt numberAt realAt nibbles textOf expDigits exponent mantissa formOf valueOf normal
     zeros zerosOf stripped lastOf lastFrom truncOf listOf localsTotal
 no-charstrings = refl
@@ -60,10 +64,14 @@ no-charstrings = refl
 -- ---- 4: above 67,108,864 bytes, and not at it
 
 too-long : (b : List ℕ) → 67108864 < length b → readAs (readFont b) ≡ Refused 4
-too-long b h = ap readAs (font-long b h)
+unfolding readFont
+too-long b h = ap (λ (x : Place). readAs (readAt b x)) (sym (file-long b h))
 
-longest : (b : List ℕ) → length b ≡ 67108864 → getD b 0 0 ≡ 2 → readAs (readFont b) ≡ Refused 3
-longest b h two = ap readAs (font-other b (omega (arith, h)) (omega (arith, h)) 2 (sym two) (λ e. absurd (omega (arith, e))))
+longest : (rest : List ℕ) → length (2 ∷ 0 ∷ 4 ∷ 1 ∷ rest) ≡ 67108864 → readAs (readFont (2 ∷ 0 ∷ 4 ∷ 1 ∷ rest)) ≡ Refused 3
+unfolding numAt be
+longest rest h =
+    let b : List ℕ = 2 ∷ 0 ∷ 4 ∷ 1 ∷ rest in
+    ap readAs (bare b (omega (arith, h)) (λ e. omega (arith, e)) ∙ font-other b (omega (arith, h)) 2 refl (λ e. absurd (omega (arith, e))))
 
 -- ---- 5: a real of 16 digits; one of 15 is read
 
@@ -74,7 +82,7 @@ digits16 =
 
 digits-16 : readAs (readFont digits16) ≡ Refused 5
 unfolding
-    readFont setAt fontsAt fontAt nameParts privateAt idsAt charsetAt idsFrom encodingGot readIndex told indexAt tableAt dataAt runOf judged offsets pieces itemsOf numAt
+    readFont readTable placeOf setAt fontsAt fontAt nameParts privateAt idsAt charsetAt idsFrom encodingGot readIndex told indexAt tableAt dataAt runOf judged offsets pieces itemsOf numAt
     be dictOf gathered readingsAt readingsFrom entryAt entryFrom tokenAt operatorAt numberAt realAt nibbles textOf expDigits exponent mantissa formOf valueOf normal
     zeros zerosOf stripped lastOf lastFrom truncOf listOf localsTotal
 digits-16 = refl
@@ -86,7 +94,7 @@ digits15 =
 
 digits-15 : readAs (readFont digits15) ≡ Font (record { glyphs = 1; globals = 0; strings = 0; cid = false; work = 2 })
 unfolding
-    readFont setAt fontsAt fontAt nameParts privateAt idsAt charsetAt idsFrom encodingGot readIndex told indexAt tableAt dataAt runOf judged offsets pieces itemsOf numAt
+    readFont readTable placeOf setAt fontsAt fontAt nameParts privateAt idsAt charsetAt idsFrom encodingGot readIndex told indexAt tableAt dataAt runOf judged offsets pieces itemsOf numAt
     be dictOf gathered readingsAt readingsFrom entryAt entryFrom tokenAt operatorAt numberAt realAt nibbles textOf expDigits exponent mantissa formOf valueOf normal
     zeros zerosOf stripped lastOf lastFrom truncOf listOf localsTotal
 digits-15 = refl
@@ -95,35 +103,35 @@ digits-15 = refl
 
 no-glyph-2 : itemRefusal (readFont sheet) Charstring 2 ≡ 6
 unfolding
-    readFont setAt fontsAt fontAt nameParts privateAt idsAt charsetAt idsFrom encodingGot readIndex told indexAt tableAt dataAt runOf judged offsets pieces itemsOf numAt
+    readFont readTable placeOf setAt fontsAt fontAt nameParts privateAt idsAt charsetAt idsFrom encodingGot readIndex told indexAt tableAt dataAt runOf judged offsets pieces itemsOf numAt
     be dictOf gathered readingsAt readingsFrom entryAt entryFrom tokenAt operatorAt numberAt realAt nibbles textOf expDigits exponent mantissa formOf valueOf normal
     zeros zerosOf stripped lastOf lastFrom truncOf listOf localsTotal
 no-glyph-2 = refl
 
 no-global-0 : itemRefusal (readFont sheet) Global 0 ≡ 6
 unfolding
-    readFont setAt fontsAt fontAt nameParts privateAt idsAt charsetAt idsFrom encodingGot readIndex told indexAt tableAt dataAt runOf judged offsets pieces itemsOf numAt
+    readFont readTable placeOf setAt fontsAt fontAt nameParts privateAt idsAt charsetAt idsFrom encodingGot readIndex told indexAt tableAt dataAt runOf judged offsets pieces itemsOf numAt
     be dictOf gathered readingsAt readingsFrom entryAt entryFrom tokenAt operatorAt numberAt realAt nibbles textOf expDigits exponent mantissa formOf valueOf normal
     zeros zerosOf stripped lastOf lastFrom truncOf listOf localsTotal
 no-global-0 = refl
 
 no-string-0 : itemRefusal (readFont sheet) Text 0 ≡ 6
 unfolding
-    readFont setAt fontsAt fontAt nameParts privateAt idsAt charsetAt idsFrom encodingGot readIndex told indexAt tableAt dataAt runOf judged offsets pieces itemsOf numAt
+    readFont readTable placeOf setAt fontsAt fontAt nameParts privateAt idsAt charsetAt idsFrom encodingGot readIndex told indexAt tableAt dataAt runOf judged offsets pieces itemsOf numAt
     be dictOf gathered readingsAt readingsFrom entryAt entryFrom tokenAt operatorAt numberAt realAt nibbles textOf expDigits exponent mantissa formOf valueOf normal
     zeros zerosOf stripped lastOf lastFrom truncOf listOf localsTotal
 no-string-0 = refl
 
 glyph-1-there : itemRefusal (readFont sheet) Charstring 1 ≡ 0
 unfolding
-    readFont setAt fontsAt fontAt nameParts privateAt idsAt charsetAt idsFrom encodingGot readIndex told indexAt tableAt dataAt runOf judged offsets pieces itemsOf numAt
+    readFont readTable placeOf setAt fontsAt fontAt nameParts privateAt idsAt charsetAt idsFrom encodingGot readIndex told indexAt tableAt dataAt runOf judged offsets pieces itemsOf numAt
     be dictOf gathered readingsAt readingsFrom entryAt entryFrom tokenAt operatorAt numberAt realAt nibbles textOf expDigits exponent mantissa formOf valueOf normal
     zeros zerosOf stripped lastOf lastFrom truncOf listOf localsTotal
 glyph-1-there = refl
 
 nothing-of-glyph-2 : itemOf (readFont sheet) Charstring 2 ≡ []
 unfolding
-    readFont setAt fontsAt fontAt nameParts privateAt idsAt charsetAt idsFrom encodingGot readIndex told indexAt tableAt dataAt runOf judged offsets pieces itemsOf numAt
+    readFont readTable placeOf setAt fontsAt fontAt nameParts privateAt idsAt charsetAt idsFrom encodingGot readIndex told indexAt tableAt dataAt runOf judged offsets pieces itemsOf numAt
     be dictOf gathered readingsAt readingsFrom entryAt entryFrom tokenAt operatorAt numberAt realAt nibbles textOf expDigits exponent mantissa formOf valueOf normal
     zeros zerosOf stripped lastOf lastFrom truncOf listOf localsTotal
 nothing-of-glyph-2 = refl
@@ -138,7 +146,7 @@ twoFonts =
 
 two-fonts : readAs (readFont twoFonts) ≡ Font (record { glyphs = 1; globals = 0; strings = 0; cid = false; work = 2 })
 unfolding
-    readFont setAt fontsAt fontAt nameParts privateAt idsAt charsetAt idsFrom encodingGot readIndex told indexAt tableAt dataAt runOf judged offsets pieces itemsOf numAt
+    readFont readTable placeOf setAt fontsAt fontAt nameParts privateAt idsAt charsetAt idsFrom encodingGot readIndex told indexAt tableAt dataAt runOf judged offsets pieces itemsOf numAt
     be dictOf gathered readingsAt readingsFrom entryAt entryFrom tokenAt operatorAt numberAt realAt nibbles textOf expDigits exponent mantissa formOf valueOf normal
     zeros zerosOf stripped lastOf lastFrom truncOf listOf localsTotal
 two-fonts = refl
@@ -151,7 +159,7 @@ secondBad =
 
 second-bad : readAs (readFont secondBad) ≡ Refused 2
 unfolding
-    readFont setAt fontsAt fontAt nameParts privateAt idsAt charsetAt idsFrom encodingGot readIndex told indexAt tableAt dataAt runOf judged offsets pieces itemsOf numAt
+    readFont readTable placeOf setAt fontsAt fontAt nameParts privateAt idsAt charsetAt idsFrom encodingGot readIndex told indexAt tableAt dataAt runOf judged offsets pieces itemsOf numAt
     be dictOf gathered readingsAt readingsFrom entryAt entryFrom tokenAt operatorAt numberAt realAt nibbles textOf expDigits exponent mantissa formOf valueOf normal
     zeros zerosOf stripped lastOf lastFrom truncOf listOf localsTotal
 second-bad = refl
@@ -164,7 +172,7 @@ unequalCounts =
 
 unequal-counts : readAs (readFont unequalCounts) ≡ Refused 2
 unfolding
-    readFont setAt fontsAt fontAt nameParts privateAt idsAt charsetAt idsFrom encodingGot readIndex told indexAt tableAt dataAt runOf judged offsets pieces itemsOf numAt
+    readFont readTable placeOf setAt fontsAt fontAt nameParts privateAt idsAt charsetAt idsFrom encodingGot readIndex told indexAt tableAt dataAt runOf judged offsets pieces itemsOf numAt
     be dictOf gathered readingsAt readingsFrom entryAt entryFrom tokenAt operatorAt numberAt realAt nibbles textOf expDigits exponent mantissa formOf valueOf normal
     zeros zerosOf stripped lastOf lastFrom truncOf listOf localsTotal
 unequal-counts = refl
@@ -179,7 +187,7 @@ repeatedName =
 
 first-of-a-name : nameAs (readFont repeatedName) (0x73 ∷ 0x70 ∷ 0x61 ∷ 0x63 ∷ 0x65 ∷ []) ≡ Glyph 1
 unfolding
-    readFont setAt fontsAt fontAt nameParts privateAt idsAt charsetAt idsFrom encodingGot readIndex told indexAt tableAt dataAt runOf judged offsets pieces itemsOf numAt
+    readFont readTable placeOf setAt fontsAt fontAt nameParts privateAt idsAt charsetAt idsFrom encodingGot readIndex told indexAt tableAt dataAt runOf judged offsets pieces itemsOf numAt
     be dictOf gathered readingsAt readingsFrom entryAt entryFrom tokenAt operatorAt numberAt realAt nibbles textOf expDigits exponent mantissa formOf valueOf normal
     zeros zerosOf stripped lastOf lastFrom truncOf listOf localsTotal glyphWithText stringText standardString standardStrings standardNames codes
     sameText
@@ -193,7 +201,7 @@ emptyName =
 
 empty-name : nameAs (readFont emptyName) [] ≡ Glyph 1
 unfolding
-    readFont setAt fontsAt fontAt nameParts privateAt idsAt charsetAt idsFrom encodingGot readIndex told indexAt tableAt dataAt runOf judged offsets pieces itemsOf numAt
+    readFont readTable placeOf setAt fontsAt fontAt nameParts privateAt idsAt charsetAt idsFrom encodingGot readIndex told indexAt tableAt dataAt runOf judged offsets pieces itemsOf numAt
     be dictOf gathered readingsAt readingsFrom entryAt entryFrom tokenAt operatorAt numberAt realAt nibbles textOf expDigits exponent mantissa formOf valueOf normal
     zeros zerosOf stripped lastOf lastFrom truncOf listOf localsTotal glyphWithText stringText standardString standardStrings standardNames codes
     sameText
@@ -208,7 +216,7 @@ repeatedCid =
 
 first-of-a-cid : cidAs (readFont repeatedCid) 5 ≡ Glyph 1
 unfolding
-    readFont setAt fontsAt fontAt cidParts privatesAt privateAt privateData localsAt fdsAt fdSelectAt allBelow idsAt charsetAt idsFrom readIndex told indexAt tableAt
+    readFont readTable placeOf setAt fontsAt fontAt cidParts privatesAt privateAt privateData localsAt fdsAt fdSelectAt allBelow idsAt charsetAt idsFrom readIndex told indexAt tableAt
     dataAt runOf judged offsets pieces itemsOf numAt be dictOf gathered readingsAt readingsFrom entryAt entryFrom tokenAt operatorAt numberAt realAt normal zeros
     zerosOf stripped lastOf lastFrom truncOf listOf localsTotal glyphWithId
 first-of-a-cid = refl
@@ -223,7 +231,7 @@ fdPast =
 
 fd-past : readAs (readFont fdPast) ≡ Refused 2
 unfolding
-    readFont setAt fontsAt fontAt cidParts privatesAt privateAt privateData localsAt fdsAt fdSelectAt allBelow idsAt charsetAt idsFrom readIndex told indexAt tableAt
+    readFont readTable placeOf setAt fontsAt fontAt cidParts privatesAt privateAt privateData localsAt fdsAt fdSelectAt allBelow idsAt charsetAt idsFrom readIndex told indexAt tableAt
     dataAt runOf judged offsets pieces itemsOf numAt be dictOf gathered readingsAt readingsFrom entryAt entryFrom tokenAt operatorAt numberAt realAt normal zeros
     zerosOf stripped lastOf lastFrom truncOf listOf localsTotal glyphWithId
 fd-past = refl

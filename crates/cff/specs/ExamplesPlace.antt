@@ -39,5 +39,5 @@ module _ (ix : Index) (good : Good sheet ix) (holds : itemsOf sheet ix ≡ two) 
       absurd (omega (arith, same))
 
 -- charstring 1 is not the part at 27
-not-the-first : (r s : RefT (List ℕ)) → ptr r .1 ≡ ptr s .1 + 27 → ItemAt sheet two 1 r s → ⊥
+not-the-first : (r s : RefT (List ℕ)) → ptr r .1 ≡ ptr s .1 + 27 → ItemAt sheet 0 two 1 r s → ⊥
 not-the-first r s e i = not-27 (i .index) (i .good) (i .holds) (omega (arith, e, i .starts .1))

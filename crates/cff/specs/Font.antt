@@ -1,12 +1,13 @@
 -- Reading a font (TN5176; the Rust's parse_fonts, from_top, private_of and PrivateDict::parse): from its bytes to a refusal number or a
--- program, in exactly the Rust's order of steps. 4 above 67,108,864 bytes comes first; 5 stands where a real is met.
+-- program, in exactly the Rust's order of steps. 4 above 67,108,864 bytes comes first, then where the font stands in the file (document 02, Wish 9);
+-- 5 stands where a real is met.
 use Prim.Native.Nat.{ℕ, _+_}
 use mathlib.Core.Bool.{Bool, true, false}
 use mathlib.Core.List.{List, [], _∷_}
 use lib.Dec.{ltb, eqb}
 use lib.ListN.{length, take, drop, getD}
 use Rattle.octets.specs.Pick.{pick}
-use Rattle.octets.specs.Lists.{allBelow}
+use Rattle.octets.specs.Lists.{allBelow, partOf}
 use Rattle.index.specs.Index.{Read, refused as refusedIndex, found, readIndex}
 use Rattle.dict.specs.Dict.{Entry, Dict, refused as refusedDict, entries, dictOf}
 use Rattle.dict.specs.Op.{esc, subrs}
@@ -20,6 +21,9 @@ use Rattle.charset.specs.Listed.{Listed, refused as refusedList, listed}
 use Rattle.charset.specs.Charset.{charsetAt, isoAdobe}
 use Rattle.charset.specs.FdSelect.{fdSelectAt, noFds}
 use Rattle.charset.specs.Encoding.{encodingAt}
+use Rattle.opentype.specs.Opentype.{placeOf}
+use Rattle.opentype.specs.declared.Place.{Place}
+use Rattle.opentype.specs.declared.Place.the-variants.{Refused as RefusedPlace, Table}
 
 -- the operators of the offsets that reading follows
 abbrev pub charset : ℕ
@@ -218,9 +222,15 @@ setAt b at =
     indexThen (readIndex b at₃) (λ globals at₄.
     pick (eqb (length names) (length tops)) (then (fontsAt b strings globals tops) firstOf) (refused 2)))))
 
--- the header: four bytes, major version 1, its size in the third
+-- a table. The header: four bytes, major version 1, its size in the third
+unfoldable pub readTable : List ℕ → Got Program
+readTable b = pick (ltb (length b) 4) (refused 1) (pick (eqb (getD b 0 0) 1) (setAt b (getD b 2 0)) (refused 3))
+
+-- the font at a place of a file (document 02, Wish 9): all its places count from the table's start
+abbrev pub readAt : List ℕ → Place → Got Program
+readAt file (RefusedPlace n) = refused n
+readAt file (Table start len) = readTable (partOf file start len)
+
+-- the font of a file
 unfoldable pub readFont : List ℕ → Got Program
-readFont b =
-    pick (ltb 67108864 (length b)) (refused 4)
-    (pick (ltb (length b) 4) (refused 1)
-    (pick (eqb (getD b 0 0) 1) (setAt b (getD b 2 0)) (refused 3)))
+readFont file = readAt file (placeOf file)

@@ -412,6 +412,8 @@ module _ (b : List ℕ) (top end : ℕ) (strings globals : Index) where
         pub font-found : HasTop b top end strings globals → (p : Parts) → x ≡ FoundParts p
             → ReadsFont b (fontOf b strings globals top end)
             (FoundFont (record {
+              start = 0;
+              len = length b;
               cid = cid;
               top = top;
               «top_end» = end;

@@ -5,6 +5,8 @@ pub mod ExamplesFind
 pub mod Reads
 pub mod ReadsLaws
 pub mod FontLaws
+pub mod File
+pub mod FileLaws
 pub mod SetLaws
 pub mod Place
 pub mod PlaceLaws

@@ -1,6 +1,6 @@
--- Reading is refused by one of the numbers 1 to 5 (document 01, 'Entries and their refusals'), so that 0 is free to say that a call was
+-- Reading is refused by one of the numbers 1 to 5 (document 01, 'Entries and their refusals') or 15 (document 02, Wish 9), so that 0 is free to say that a call was
 -- not refused, and 6 and 11 that it was refused by another step.
-use Prim.Native.Nat.{ℕ, zero, suc, _+_, _≤_}
+use Prim.Native.Nat.{ℕ, zero, suc, _+_, _≤_, _<_}
 use mathlib.Core.Path.{_≡_, refl, sym, subst}
 use mathlib.Core.Bool.{Bool, true, false}
 use mathlib.Core.List.{List, [], _∷_}
@@ -8,7 +8,7 @@ use native.Mathlib.Omega.{arith}
 use lib.Dec.{ltb, eqb}
 use lib.ListN.{length, take, drop, getD}
 use Rattle.octets.specs.Pick.{pick}
-use Rattle.octets.specs.Lists.{allBelow}
+use Rattle.octets.specs.Lists.{allBelow, partOf}
 use Rattle.decimal.specs.declared.Decimal.{Decimal}
 use Rattle.decimal.specs.declared.OffsetOf.{OffsetOf}
 use Rattle.decimal.specs.declared.OffsetOf.the-variants.{Refused as RefusedOffsetOf, Offset}
@@ -27,7 +27,11 @@ use Rattle.charset.specs.Listed.{Listed}
 use Rattle.charset.specs.Charset.{charsetAt, isoAdobe}
 use Rattle.charset.specs.FdSelect.{fdSelectAt, noFds}
 use Rattle.charset.specs.Encoding.{encodingAt}
-use Rattle.cff.specs.Font.{charset, encoding, charStrings, fdArray, fdSelect, Got, refused, got, then, Private, Program, indexGot, dictGot, listGot, unless, needed, orZero, localsAt, privateData, privateAt, privatesAt, idsAt, fdsAt, encodingGot, cidParts, nameParts, fontAt, fontsAt, firstOf, indexThen, setAt, readFont}
+use Rattle.opentype.specs.Opentype.{placeOf}
+use Rattle.opentype.specs.OpentypeLaws.{Numbered, place-numbered}
+use Rattle.opentype.specs.declared.Place.{Place}
+use Rattle.opentype.specs.declared.Place.the-variants.{Refused as RefusedPlace, Table}
+use Rattle.cff.specs.Font.{charset, encoding, charStrings, fdArray, fdSelect, Got, refused, got, then, Private, Program, indexGot, dictGot, listGot, unless, needed, orZero, localsAt, privateData, privateAt, privatesAt, idsAt, fdsAt, encodingGot, cidParts, nameParts, fontAt, fontsAt, firstOf, indexThen, setAt, readTable, readAt, readFont}
 use Rattle.cff.specs.FontLaws.{unless-refused}
 use Rattle.cff.specs.PartRefusals.{Refusal, Refusal?, truncated, malformed, unsupported, too-long, of-both, OfRead, read-refused, read-found, index-refusal, OfDict, dict-refused, dict-entries, dict-refusal, OfList, list-refused, list-listed, charset-refusal, none-refused, one-refused, fd-select-refusal, encoding-refusal}
 
@@ -221,17 +225,35 @@ set-refusal b at =
 
 -- ---- the whole
 
-read-step : (b : List ℕ) → OfStep (readFont b)
-unfolding readFont
-read-step b =
-    of-both OfStep (ltb 67108864 (length b)) (step-refused too-long)
-    (of-both OfStep (ltb (length b) 4) (step-refused truncated)
-    (of-both OfStep (eqb (getD b 0 0) 1) (set-refusal b (getD b 2 0)) (step-refused unsupported)))
+table-step : (b : List ℕ) → OfStep (readTable b)
+unfolding readTable
+table-step b =
+    of-both OfStep (ltb (length b) 4) (step-refused truncated)
+    (of-both OfStep (eqb (getD b 0 0) 1) (set-refusal b (getD b 2 0)) (step-refused unsupported))
+
+refused-same : {A : Type 0} (m n : ℕ) → _≡_ {A = Got A} (refused m) (refused n) → m ≡ n
+refused-same m n e = cc
 
 -- the number of a step that is refused
 refused-number : {A : Type 0} {n : ℕ} → OfStep {A = A} (refused n) → Refusal n
 refused-number (step-refused r) = r
 
--- a font that is refused is refused by a number from 1 to 5
-pub reading-refusal : (b : List ℕ) (n : ℕ) → readFont b ≡ refused n → Refusal n
-reading-refusal b n e = refused-number (subst OfStep e (read-step b))
+-- a number by which reading a file is refused: from 1 to 5, or 15
+pub record FileRefusal (n : ℕ) : Type 0 where
+  pub least : 1 ≤ n
+  pub most : n ≤ 15
+  pub only : 5 < n → n ≡ 15
+
+of-font : {n : ℕ} → Refusal n → FileRefusal n
+of-font r = record { least = r .least; most = omega (arith, r .most); only = λ h. absurd (omega (arith, h, r .most)) }
+
+no-table : FileRefusal 15
+no-table = record { least = omega arith; most = omega arith; only = λ h. refl }
+
+pub reading-refusal : (b : List ℕ) (n : ℕ) → readFont b ≡ refused n → FileRefusal n
+unfolding readFont
+reading-refusal b n = go (placeOf b) (place-numbered FileRefusal (of-font truncated) (of-font too-long) no-table b)
+  where
+    go : (x : Place) → Numbered FileRefusal x → readAt b x ≡ refused n → FileRefusal n
+    go (RefusedPlace m) r e = subst FileRefusal (refused-same m n e) r
+    go (Table start len) r e = of-font (refused-number (subst OfStep e (table-step (partOf b start len))))

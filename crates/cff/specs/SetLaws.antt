@@ -22,9 +22,10 @@ use Rattle.charset.specs.CharsetPlaces.{idsOf}
 use Rattle.find.specs.Find.{glyphWithId, glyphWithText}
 use Rattle.find.specs.declared.Found.{Found}
 use Rattle.find.specs.declared.Found.the-variants.{Absent as NoGlyph, Glyph as TheGlyph}
-use Rattle.cff.specs.Font.{Got, refused, got, then, Program, fontAt, fontsAt, firstOf, indexThen, setAt, readFont}
+use Rattle.cff.specs.Font.{Got, refused, got, then, Program, fontAt, fontsAt, firstOf, indexThen, setAt, readTable, readFont}
 use Rattle.cff.specs.Find.{localsTotal, countsOf, readAs, foundAs, findName, findCid, nameAs, cidAs, itemsIn, itemRefusal, itemOf}
 use Rattle.cff.specs.Reads.{Holds, topOf, fontOf, programOf, HasTop, GoodFont, ReadsFont, indexIn, HasSet, fontWith, fontsOf, behindTops}
+use Rattle.cff.specs.File.{InFile, HasFont, ReadsFile}
 use Rattle.cff.specs.ReadsLaws.{no, drop-over, then-refused, then-got}
 use Rattle.cff.specs.declared.Counts.{Counts}
 use Rattle.cff.specs.declared.ReadAs.{ReadAs}
@@ -195,24 +196,18 @@ module _ (b : List ℕ) (at : ℕ) (x : IndexAt) (i : x ≡ indexAt b at) where
 -- ---- the header
 
 module _ (b : List ℕ) where
-  pub font-long : 67108864 < length b → ReadsFont b (readFont b) (RefusedFont 4)
-  unfolding readFont
-  font-long h = rw (lt-ltb 67108864 (length b) h)
+  pub font-short : length b < 4 → ReadsFont b (readTable b) (RefusedFont 1)
+  unfolding readTable
+  font-short k = rw (lt-ltb (length b) 4 k)
 
-  module _ (h : length b ≤ 67108864) where
-    pub font-short : length b < 4 → ReadsFont b (readFont b) (RefusedFont 1)
-    unfolding readFont
-    font-short k = rw (le-ltb 67108864 (length b) h, lt-ltb (length b) 4 k)
+  module _ (k : 4 ≤ length b) (major : ℕ) (m : major ≡ getD b 0 0) where
+    pub font-other : (major ≡ 1 → ⊥) → ReadsFont b (readTable b) (RefusedFont 3)
+    unfolding readTable
+    font-other z = rw (le-ltb (length b) 4 k, ne-eqb (getD b 0 0) 1 (λ e. z (m ∙ e)))
 
-    module _ (k : 4 ≤ length b) (major : ℕ) (m : major ≡ getD b 0 0) where
-      pub font-other : (major ≡ 1 → ⊥) → ReadsFont b (readFont b) (RefusedFont 3)
-      unfolding readFont
-      font-other z = rw (le-ltb 67108864 (length b) h, le-ltb (length b) 4 k, ne-eqb (getD b 0 0) 1 (λ e. z (m ∙ e)))
-
-      pub font-set : major ≡ 1 → (at : ℕ) → at ≡ getD b 2 0 → (r : FontRead) → ReadsFont b (setAt b at) r → ReadsFont b (readFont b) r
-      unfolding readFont
-      font-set z at i r reads =
-          rw (le-ltb 67108864 (length b) h, le-ltb (length b) 4 k, eq-eqb (getD b 0 0) 1 (sym m ∙ z)) (subst (λ n. ReadsFont b (setAt b n) r) i reads)
+    pub font-set : major ≡ 1 → (at : ℕ) → at ≡ getD b 2 0 → (r : FontRead) → ReadsFont b (setAt b at) r → ReadsFont b (readTable b) r
+    unfolding readTable
+    font-set z at i r reads = rw (le-ltb (length b) 4 k, eq-eqb (getD b 0 0) 1 (sym m ∙ z)) (subst (λ n. ReadsFont b (setAt b n) r) i reads)
 
 -- ---- what is asked of a font
 
@@ -239,47 +234,41 @@ items-are b f Charstring = refl
 items-are b f Global = refl
 items-are b f Text = refl
 
-module _ (b : List ℕ) (r : FontRead) (reads : ReadsFont b (readFont b) r) where
-  pub refused-as : (n : ℕ) → r ≡ RefusedFont n → readFont b ≡ refused n
-  refused-as n q = subst (ReadsFont b (readFont b)) q reads
+module _ (file : List ℕ) (r : FontRead) (reads : ReadsFile file r) where
+  pub refused-as : (n : ℕ) → r ≡ RefusedFont n → readFont file ≡ refused n
+  refused-as n q = subst (ReadsFile file) q reads
 
-  pub item-refused : (n : ℕ) → r ≡ RefusedFont n → (kind : ItemKind) (k : ℕ) → [] ≡ itemOf (readFont b) kind k
+  pub item-refused : (n : ℕ) → r ≡ RefusedFont n → (kind : ItemKind) (k : ℕ) → [] ≡ itemOf (readFont file) kind k
   item-refused n q kind k = sym (ap (λ g. itemOf g kind k) (refused-as n q))
 
-  module _ (f : Font) (q : r ≡ FoundFont f) where
-    found : ReadsFont b (readFont b) (FoundFont f)
-    found = subst (ReadsFont b (readFont b)) q reads
+  pub found-font : (f : Font) → r ≡ FoundFont f → HasFont file f
+  found-font f q = subst (ReadsFile file) q reads
 
-    pub found-good-font : GoodFont b f
-    found-good-font = found .0
+-- its items, where b are the bytes of its table
+module _ (file : List ℕ) (f : Font) (b : List ℕ) (found : InFile file f b) (kind : ItemKind) (ix : Index) (i : ix ≡ indexIn kind f) where
+  pub items-good : Good b ix
+  items-good = subst (Good b) (sym i) (items-held b f (found .good) kind .good)
 
-    pub read-is : readFont b ≡ got (programOf b f)
-    read-is = found .1
+  pub items-is : itemsIn kind (programOf b f) ≡ itemsOf b ix
+  items-is = sym (items-are b f kind) ∙ ap (itemsOf b) (sym i)
 
-    module _ (kind : ItemKind) (ix : Index) (i : ix ≡ indexIn kind f) where
-      pub items-good : Good b ix
-      items-good = subst (Good b) (sym i) (items-held b f (found .0) kind .good)
+  pub item-found : (k : ℕ) (l : List ℕ) → l ≡ getD (itemsOf b ix) k [] → l ≡ itemOf (readFont file) kind k
+  item-found k l e = e ∙ ap (λ items. getD items k []) (sym items-is) ∙ sym (ap (λ g. itemOf g kind k) (found .is))
 
-      pub items-is : itemsIn kind (programOf b f) ≡ itemsOf b ix
-      items-is = sym (items-are b f kind) ∙ ap (itemsOf b) (sym i)
+  pub many : length (itemsIn kind (programOf b f)) ≡ ix .count
+  many = ap length items-is ∙ items-length b ix
 
-      pub item-found : (k : ℕ) (l : List ℕ) → l ≡ getD (itemsOf b ix) k [] → l ≡ itemOf (readFont b) kind k
-      item-found k l e = e ∙ ap (λ items. getD items k []) (sym items-is) ∙ sym (ap (λ g. itemOf g kind k) (found .1))
+  pub item-none : (k : ℕ) → ix .count ≤ k → [] ≡ itemOf (readFont file) kind k
+  item-none k h =
+      sym (ap (λ g. itemOf g kind k) (found .is) ∙ List·getD-eq-default (itemsIn kind (programOf b f)) [] (omega (arith, many)))
 
-      pub many : length (itemsIn kind (programOf b f)) ≡ ix .count
-      many = ap length items-is ∙ items-length b ix
+  pub refusal-none : (k : ℕ) → k < ix .count → 0 ≡ itemRefusal (readFont file) kind k
+  refusal-none k h =
+      sym (ap (λ g. itemRefusal g kind k) (found .is) ∙ ap (λ t. pick t 0 6) (lt-ltb k (length (itemsIn kind (programOf b f))) (omega (arith, many))))
 
-      pub item-none : (k : ℕ) → ix .count ≤ k → [] ≡ itemOf (readFont b) kind k
-      item-none k h =
-          sym (ap (λ g. itemOf g kind k) (found .1) ∙ List·getD-eq-default (itemsIn kind (programOf b f)) [] (omega (arith, many)))
-
-      pub refusal-none : (k : ℕ) → k < ix .count → 0 ≡ itemRefusal (readFont b) kind k
-      refusal-none k h =
-          sym (ap (λ g. itemRefusal g kind k) (found .1) ∙ ap (λ t. pick t 0 6) (lt-ltb k (length (itemsIn kind (programOf b f))) (omega (arith, many))))
-
-      pub refusal-six : (k : ℕ) → ix .count ≤ k → 6 ≡ itemRefusal (readFont b) kind k
-      refusal-six k h =
-          sym (ap (λ g. itemRefusal g kind k) (found .1) ∙ ap (λ t. pick t 0 6) (le-ltb k (length (itemsIn kind (programOf b f))) (omega (arith, many))))
+  pub refusal-six : (k : ℕ) → ix .count ≤ k → 6 ≡ itemRefusal (readFont file) kind k
+  refusal-six k h =
+      sym (ap (λ g. itemRefusal g kind k) (found .is) ∙ ap (λ t. pick t 0 6) (le-ltb k (length (itemsIn kind (programOf b f))) (omega (arith, many))))
 
 -- ---- finding
 

@@ -35,8 +35,10 @@ pub enum PartsRead {
     Found(Parts),
 }
 
-// A font, by positions: whether it is CID-keyed, its top DICT, its INDEXes, the ids of its glyphs, and its font dictionaries.
+// A font, by positions: where its table starts in the file and how long it is, from where all other positions count; whether it is CID-keyed, its top DICT, its INDEXes, the ids of its glyphs, and its font dictionaries.
 pub struct Font {
+    pub start: usize,
+    pub len: usize,
     pub cid: bool,
     pub top: usize,
     pub top_end: usize,
@@ -251,6 +253,8 @@ fn glyphs_at(
                     let private = parts.private;
                     let select = parts.select;
                     FontRead::Found(Font {
+                        start: 0,
+                        len: font.len(),
                         cid,
                         top,
                         top_end: end,

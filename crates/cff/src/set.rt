@@ -4,17 +4,17 @@ ghost use mathlib.Core.List.{[]};
 ghost use Prim.Native.Nat.{_≤_, _<_};
 ghost use lib.ListN.{length, getD};
 ghost use Rattle.index.specs.Index.{itemsOf};
-ghost use Rattle.cff.specs.Font.{setAt, readFont};
+ghost use Rattle.index.specs.Place.{StartsAt};
+ghost use Rattle.cff.specs.Font.{setAt, readTable, readFont};
 ghost use Rattle.cff.specs.Reads.{Holds, ReadsFont, HasSet, fontWith, fontsOf, behindTops};
+ghost use Rattle.cff.specs.File.{InFile, HasFont, ReadsFile};
 ghost use Rattle.cff.specs.declared.font.FontRead.the-variants.{Found as FoundFont};
 use crate::font::Font;
 use crate::font::FontRead;
 use index::Index;
 use index::IndexAt;
+use opentype::Place;
 use refusal::Refusal;
-
-// The longest font that is read, in bytes (document 01, 'Entries and their refusals').
-const LONGEST: usize = 67108864;
 
 // The k-th font of a set, whose top DICTs are the items of an INDEX.
 fn font_of(font: &[u8], tops: Index, k: usize, strings: Index, globals: Index) -> FontRead
@@ -106,14 +106,11 @@ fn set_at(font: &[u8], at: usize) -> FontRead
     }
 }
 
-// The first font of the set that the bytes are, of which every font is read; or the refusal.
-pub fn read_font(font: &[u8]) -> FontRead
-    ensures { λ r. ⌜ ReadsFont (now (font .entry)) (readFont (now (font .entry))) r ⌝ }
+// The first font of the set that the bytes of a table are, of which every font is read; or the refusal.
+fn read_table(font: &[u8]) -> FontRead
+    ensures { λ r. ⌜ ReadsFont (now (font .entry)) (readTable (now (font .entry))) r ⌝ }
 {
     let n = font.len();
-    if LONGEST < n {
-        return FontRead::Refused(Refusal::TOO_LONG);
-    }
     if n < 4 {
         return FontRead::Refused(Refusal::TRUNCATED);
     }
@@ -123,4 +120,33 @@ pub fn read_font(font: &[u8]) -> FontRead
         return set_at(font, header.size);
     }
     FontRead::Refused(Refusal::UNSUPPORTED)
+}
+
+// The font of a file, an OpenType one or a bare font; or the refusal.
+pub fn read_font(file: &[u8]) -> FontRead
+    ensures { λ r. ⌜ ReadsFile (now (file .entry)) r ⌝ }
+{
+    match opentype::place_of(file) {
+        Place::Refused(n) => FontRead::Refused(n),
+        Place::Table { start, len } => {
+            let read = read_table(opentype::table(file, start, len));
+            match read {
+                FontRead::Refused(n) => FontRead::Refused(n),
+                FontRead::Found(f) => {
+                    let mut g = f;
+                    g.start = start;
+                    g.len = len;
+                    FontRead::Found(g)
+                }
+            }
+        }
+    }
+}
+
+// The bytes of a font that was read: the part of the file from which its positions count.
+pub fn table(file: &[u8], f: Font) -> &[u8]
+    requires { ⌜ HasFont (now file) f ⌝ }
+    ensures { λ r. ⌜ (InFile (now (file .entry)) f (now r)) × (StartsAt r (file .entry) (f .start)) ⌝ }
+{
+    opentype::table(file, f.start, f.len)
 }

@@ -1,6 +1,8 @@
-// What is asked of a font (the Rust's CffProgram): the entries read, find and item, and the numbers of keyings and kinds of items.
+// What is asked of a font (the Rust's CffProgram): the entries read, find and item, and the numbers of keyings and kinds of items. The font is
+// a file, an OpenType one or a bare font (document 02, Wish 9).
 ghost use mathlib.Core.Path.{_≡_};
 ghost use Rattle.octets.specs.Pick.{pick};
+ghost use Rattle.opentype.specs.Opentype.{placeOf};
 ghost use Rattle.cff.specs.Font.{readFont};
 ghost use Rattle.cff.specs.Find.{readAs, findName, findCid, nameAs, cidAs, itemRefusal, itemOf};
 ghost use Rattle.cff.specs.Reads.{programOf, GoodFont, indexIn};
@@ -89,7 +91,7 @@ pub fn find_name(font: &[u8], name: &[u8]) -> FoundAs
     let read = cff::set::read_font(font);
     match read {
         FontRead::Refused(n) => FoundAs::Refused(n),
-        FontRead::Found(f) => name_in(font, f, name),
+        FontRead::Found(f) => name_in(cff::set::table(font, f), f, name),
     }
 }
 
@@ -100,7 +102,7 @@ pub fn find_cid(font: &[u8], cid: usize) -> FoundAs
     let read = cff::set::read_font(font);
     match read {
         FontRead::Refused(n) => FoundAs::Refused(n),
-        FontRead::Found(f) => cid_in(font, f, cid),
+        FontRead::Found(f) => cid_in(cff::set::table(font, f), f, cid),
     }
 }
 
@@ -118,7 +120,7 @@ fn index_in(f: Font, kind: ItemKind) -> Index
 // An item of an INDEX: the part of the caller's bytes itself, empty where the lookup is refused.
 pub fn item(font: &[u8], kind: ItemKind, number: usize) -> &[u8]
     ensures { λ r. ⌜ (now r ≡ itemOf (readFont (now (font .entry))) kind number)
-        × (LiesIn (now (font .entry)) (readFont (now (font .entry))) kind number r (font .entry)) ⌝ }
+        × (LiesIn (now (font .entry)) (placeOf (now (font .entry))) kind number r (font .entry)) ⌝ }
 {
     let read = cff::set::read_font(font);
     match read {
@@ -126,7 +128,7 @@ pub fn item(font: &[u8], kind: ItemKind, number: usize) -> &[u8]
         FontRead::Found(f) => {
             let ix = index_in(f, kind);
             if number < ix.count {
-                return index::item(font, ix, number);
+                return index::item(cff::set::table(font, f), ix, number);
             }
             &font[0..0]
         }

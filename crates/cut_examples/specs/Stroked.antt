@@ -31,6 +31,7 @@ use Rattle.strings.specs.Strings.{stringText, standardString, standardStrings, 
 use Rattle.find.specs.Find.{glyphWithText, glyphWithId}
 use Rattle.prune.specs.Renumber.{renumber, renumberCharstring}
 use Rattle.record.specs.Record.{rowsFrom, rowsOf, rowsFine, recordFine, lists, givenIn, disagrees, twoLengths}
+use Rattle.opentype.specs.Opentype.{placeOf}
 use Rattle.cff.specs.Font as font
 use Rattle.cff.specs.Find as cfffind
 use Rattle.subset.specs.Kept.{isIn, those, placed, sortedBy, fdsOf, newFd}
@@ -57,7 +58,7 @@ unfolding
     normal stripped zeros zerosOf indexBytes itemsBytes headBytes tableBytes ends sizeFor joined total readIndex told itemsOf pieces indexAt tableAt dataAt judged runOf
     offsets encode bytesOf numAt be keep24 rounded t2.numberAt t2e.numberBytes t2e.integerBytes t2e.fixedBytes tok.tokensOf tok.tokensFrom tok.tokenAt dec.numberAt dec.realAt
     decw.int5Bytes decw.numberBytes decw.intBytes dict.dictOf dict.gathered dict.readingsAt dict.readingsFrom dict.entryAt dict.entryFrom dict.operatorAt dict.tokenAt
-    font.readFont font.setAt font.fontsAt font.fontAt font.nameParts font.privateAt font.idsAt font.encodingGot cfffind.localsTotal
+    font.readFont font.readTable placeOf font.setAt font.fontsAt font.fontAt font.nameParts font.privateAt font.idsAt font.encodingGot cfffind.localsTotal
 name-filled = (refl, refl, refl, refl, refl, refl, refl)
 
 -- neither; PaintType 0; of two operands; StrokeWidth alone
@@ -74,6 +75,6 @@ unfolding
     lastFrom truncOf normal stripped zeros zerosOf indexBytes itemsBytes headBytes tableBytes ends sizeFor joined total readIndex told itemsOf pieces indexAt tableAt
     dataAt judged runOf offsets encode bytesOf numAt be keep24 rounded t2.numberAt t2e.numberBytes t2e.integerBytes t2e.fixedBytes tok.tokensOf tok.tokensFrom
     tok.tokenAt dec.numberAt dec.realAt decw.int5Bytes decw.numberBytes decw.intBytes dict.dictOf dict.gathered dict.readingsAt dict.readingsFrom dict.entryAt
-    dict.entryFrom dict.operatorAt dict.tokenAt font.readFont font.setAt font.fontsAt font.fontAt font.cidParts font.fdsAt font.idsAt font.privatesAt font.privateAt
+    dict.entryFrom dict.operatorAt dict.tokenAt font.readFont font.readTable placeOf font.setAt font.fontsAt font.fontAt font.cidParts font.fdsAt font.idsAt font.privatesAt font.privateAt
     font.privateData font.localsAt font.dictsAt cfffind.localsTotal listed
 cid-filled = (refl, refl, refl, refl)

@@ -29,7 +29,7 @@ use Rattle.subset.specs.Cut.{hasRos}
 use Rattle.faithful.specs.Laid.{GoodProgram, Fitting, matricesOf, ReadsAs}
 use Rattle.faithful.specs.LiesLaws.{lies-behind, lies-within, index-back}
 use Rattle.faithful.specs.PrivateBack.{privates-back}
-use Rattle.faithful.specs.SetBack.{setBytes, restAt, rest-lies, rest-within, set-back}
+use Rattle.faithful.specs.SetBack.{setBytes, restAt, rest-lies, rest-within, size-small, set-back}
 use Rattle.faithful.specs.FontBack.{fontOf, ids-back, font-back, cid-parts-back}
 use Rattle.faithful.specs.TopLaws.{CidTop, cid-top-back, cid-top-length, single-length}
 
@@ -224,7 +224,7 @@ module _ (p : Program) (name used order : List ℕ) (b : Bodies) where
       → fontAt (subsetByCid p name used order b) (ownByCid p) (b .globals) topWritten ≡ got font → readFont (subsetByCid p name used order b) ≡ got font
   unfolding subsetByCid
   subset-back manyStrings manyGlobals short font e =
-      set-back sizeWritten name topWritten (ownByCid p) (b .globals) (behindGlobals p used order b charsetPlace) manyStrings manyGlobals short font e
+      set-back sizeWritten name topWritten (ownByCid p) (b .globals) (behindGlobals p used order b charsetPlace) (size-small (privatesPlace p used order b charsetPlace + length (privateParts p used (b .locals)))) manyStrings manyGlobals short font e
 
 -- a CID-keyed subset reads back
 pub by-cid : (p : Program) (name used order : List ℕ) (b : Bodies) → GoodProgram p → hasRos (rosIn (p .top)) ≡ true → Fitting (length order) used b

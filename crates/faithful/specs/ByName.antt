@@ -26,7 +26,7 @@ use Rattle.faithful.specs.LiesLaws.{lies-behind, lies-within, index-back
 use Rattle.faithful.specs.PrivateBack.{private-back}
 use Rattle.faithful.specs.TopFitLaws.{new-below}
 use Rattle.faithful.specs.TopLaws.{NameTop, name-top-back, name-top-length, single-length}
-use Rattle.faithful.specs.SetBack.{setBytes, restAt, rest-lies, rest-within, set-back}
+use Rattle.faithful.specs.SetBack.{setBytes, restAt, rest-lies, rest-within, size-small, set-back}
 use Rattle.faithful.specs.FontBack.{ids-back, fontOf, font-back}
 
 -- ---- the ids of the names
@@ -159,7 +159,7 @@ module _ (p : Program) (name order : List ℕ) (b : Bodies) where
       → fontAt (subsetByName p name order b) (ownByName p order) (b .globals) topWritten ≡ got font → readFont (subsetByName p name order b) ≡ got font
   unfolding subsetByName
   subset-back fewStrings fewGlobals short font e =
-      set-back sizeWritten name topWritten (ownByName p order) (b .globals) (behindGlobals p order b charsetPlace) fewStrings fewGlobals short font e
+      set-back sizeWritten name topWritten (ownByName p order) (b .globals) (behindGlobals p order b charsetPlace) (size-small (privatePlace p order b charsetPlace + length (part p order b charsetPlace))) fewStrings fewGlobals short font e
 
 -- a name-keyed subset reads back
 pub by-name : (p : Program) (name order : List ℕ) (b : Bodies) → GoodProgram p → Fitting (length order) (0 ∷ []) b

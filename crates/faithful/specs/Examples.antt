@@ -26,7 +26,8 @@ use Rattle.decimal.specs.Values.{truncOf}
 use Rattle.dict.specs.Dict.{tokenAt, operatorAt, entryFrom, entryAt, readingsFrom, readingsAt, gathered, dictOf}
 use Rattle.dict.specs.Lookup.{absent, lastFrom, lastOf, cidKeyed}
 use Rattle.charset.specs.Listed.{listOf}
-use Rattle.cff.specs.Font.{got, Program, emptyPrivate, charStrings, readFont, setAt, fontsAt, fontAt, nameParts, privateAt, idsAt, encodingGot}
+use Rattle.opentype.specs.Opentype.{placeOf}
+use Rattle.cff.specs.Font.{got, Program, emptyPrivate, charStrings, readTable, readFont, setAt, fontsAt, fontAt, nameParts, privateAt, idsAt, encodingGot}
 use Rattle.cff.specs.declared.FoundAs.the-variants.{Glyph as TheGlyph}
 use Rattle.subset.specs.Kept.{isIn, those, fdsOf, keptOf, usedFds}
 use Rattle.subset.specs.Subset.{matrixOf}
@@ -67,7 +68,7 @@ sheetProgram =
 
 sheet-reads : readFont sheet ≡ got sheetProgram
 unfolding
-    readFont setAt fontsAt fontAt nameParts privateAt idsAt encodingGot readIndex told indexAt tableAt dataAt runOf judged offsets pieces itemsOf numAt be dictOf
+    readFont readTable placeOf setAt fontsAt fontAt nameParts privateAt idsAt encodingGot readIndex told indexAt tableAt dataAt runOf judged offsets pieces itemsOf numAt be dictOf
     gathered readingsAt readingsFrom entryAt entryFrom tokenAt operatorAt numberAt realAt normal zeros zerosOf stripped lastOf lastFrom truncOf listOf
 sheet-reads = refl
 

@@ -15,7 +15,8 @@ use Rattle.dict.specs.Lookup.{offsetIn, privateIn, cidKeyed, charstringTypeIn}
 use Rattle.dict.specs.Proper.{AllProper}
 use Rattle.dict.specs.ProperLaws.{entries-proper, dict-proper}
 use Rattle.charset.specs.FdSelect.{noFds}
-use Rattle.cff.specs.Font.{charset, encoding, charStrings, fdArray, fdSelect, got, then, Private, Added, Program, indexGot, dictGot, unless, needed, orZero, privateAt, privatesAt, dictsAt, idsAt, fdsAt, encodingGot, cidParts, nameParts, fontAt, fontsAt, firstOf, setAt, readFont, emptyPrivate}
+use Rattle.cff.specs.Font.{charset, encoding, charStrings, fdArray, fdSelect, got, then, Private, Added, Program, indexGot, dictGot, unless, needed, orZero, privateAt, privatesAt, dictsAt, idsAt, fdsAt, encodingGot, cidParts, nameParts, fontAt, fontsAt, firstOf, setAt, readTable, readFont, emptyPrivate}
+use Rattle.cff.specs.FileLaws.{read-within, within-octets}
 use Rattle.cff.specs.ReadsLaws.{no}
 use Rattle.faithful.specs.Laid.{GoodBodies, GoodProgram}
 use Rattle.faithful.specs.GoodPartsLaws.{then-gave, got-same, index-gave, index-good, test-past, test-held, dict-got, some-got, offset-good, Sound, none-sound, sound-front, private-sound, privates-sound, ids-good, FdsFor, no-fds, no-fds-below, fds-good}
@@ -136,10 +137,12 @@ set-good b o at p h =
     first-good b o (strings .0) (globals .0) (index-good b o (strings .1) (globals .0) (globals .1) (globals .2)) (tops .0)
     (index-good b o (names .1) (tops .0) (tops .1) (tops .2)) p (t .1)
 
--- what holds of a font that was read
-pub font-good : (b : List ℕ) (p : Program) → Octets b → readFont b ≡ got p → GoodProgram p
-unfolding readFont
-font-good b p o h =
-    let s = test-past (ltb 67108864 (length b)) 4 _ p h in
-    let m = test-past (ltb (length b) 4) 1 _ p s in
+table-good : (b : List ℕ) (p : Program) → Octets b → readTable b ≡ got p → GoodProgram p
+unfolding readTable
+table-good b p o h =
+    let m = test-past (ltb (length b) 4) 1 _ p h in
     set-good b o (getD b 2 0) p (test-held (eqb (getD b 0 0) 1) 3 _ p m .1)
+
+-- what holds of a font that was read in a file
+pub font-good : (file : List ℕ) (p : Program) → Octets file → readFont file ≡ got p → GoodProgram p
+font-good file p o h = let w = read-within file p h in table-good _ p (within-octets file p w o) (w .is)

@@ -8,10 +8,12 @@ use native.Mathlib.Omega.{arith}
 use borrow.Author.Tests.{le-ltb}
 use lib.Dec.{ltb}
 use lib.ListN.{length, drop, length-append}
-use Rattle.octets.specs.Pick.{pick}
+use Rattle.octets.specs.Pick.{pick, pick-ind}
+use Rattle.octets.specs.Octets.{be, numAt}
 use Rattle.index.specs.Index.{Read, found}
-use Rattle.index.specs.Write.{indexBytes}
-use Rattle.cff.specs.Font.{Got, refused, got, then, Program, fontAt, fontsAt, firstOf, indexThen, setAt, readFont}
+use Rattle.index.specs.Write.{sizeFor, indexBytes}
+use Rattle.cff.specs.Font.{Got, refused, got, then, Program, fontAt, fontsAt, firstOf, indexThen, setAt, readTable, readFont}
+use Rattle.cff.specs.FileLaws.{bare}
 use Rattle.faithful.specs.LiesLaws.{lies-behind, index-back}
 
 -- an INDEX that is found, and what stands after it
@@ -35,6 +37,14 @@ globalsAt name top own = stringsAt name top + length (indexBytes own)
 
 abbrev pub restAt : List ℕ → List ℕ → List (List ℕ) → List (List ℕ) → ℕ
 restAt name top own globals = globalsAt name top own + length (indexBytes globals)
+
+-- an offset size is a byte
+pub size-small : (v : ℕ) → sizeFor v < 256
+unfolding sizeFor
+size-small v =
+    pick-ind (λ (n : ℕ). n < 256) (ltb v 256) 1 _ (λ e. omega arith)
+    (λ e. pick-ind (λ (n : ℕ). n < 256) (ltb v 65536) 2 _ (λ e. omega arith)
+    (λ e. pick-ind (λ (n : ℕ). n < 256) (ltb v 16777216) 3 4 (λ e. omega arith) (λ e. omega arith)))
 
 module _ (offSize : ℕ) (name top : List ℕ) (own globals : List (List ℕ)) (rest : List ℕ) where
   -- the bytes
@@ -62,7 +72,7 @@ module _ (offSize : ℕ) (name top : List ℕ) (own globals : List (List ℕ)) (
   pub rest-within : restAt name top own globals ≤ length bs
   rest-within = simp length-append (omega arith)
 
-  module _ (manyStrings : length own < 65536) (manyGlobals : length globals < 65536) (short : length bs ≤ 67108864) where
+  module _ (small : offSize < 256) (manyStrings : length own < 65536) (manyGlobals : length globals < 65536) (short : length bs ≤ 67108864) where
     -- the INDEXes read back
     set-read : setAt bs 4 ≡ then (fontsAt bs own globals (top ∷ [])) firstOf
     unfolding setAt
@@ -72,11 +82,19 @@ module _ (offSize : ℕ) (name top : List ℕ) (own globals : List (List ℕ)) (
         ∙ read-then _ (index-back bs (stringsAt name top) own _ manyStrings short strings-lie)
         ∙ read-then _ (index-back bs (globalsAt name top own) globals _ manyGlobals short globals-lie)
 
+    -- it begins with 1 and not with `OTTO`, so it is a bare font
+    begins : numAt bs 0 4 ≡ 16778240 + offSize
+    unfolding numAt be
+    begins = omega arith
+
+    set-bare : readFont bs ≡ readTable bs
+    set-bare = bare bs short (λ e. omega (arith, begins, e, small))
+
     -- it is read as its one font
     pub set-back : (p : Program) → fontAt bs own globals top ≡ got p → readFont bs ≡ got p
-    unfolding readFont fontsAt
+    unfolding readTable fontsAt
     set-back p e =
-        ap (λ (t : Bool). pick t (refused 4) (pick (ltb (length bs) 4) (refused 1) (setAt bs 4))) (le-ltb 67108864 (length bs) short)
+        set-bare
         ∙ ap (λ (t : Bool). pick t (refused 1) (setAt bs 4)) (le-ltb (length bs) 4 (omega arith))
         ∙ set-read
         ∙ ap (λ (g : Got Program). then (then g (λ p. then (fontsAt bs own globals []) (λ ps. got (p ∷ ps)))) firstOf) e

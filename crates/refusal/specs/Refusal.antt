@@ -49,6 +49,10 @@ output = 11
 abbrev pub stringId : ℕ
 stringId = 12
 
+-- an OpenType file without a table `CFF ` (document 02, Wish 9)
+abbrev pub noTable : ℕ
+noTable = 15
+
 -- a number that a refused call can answer
 abbrev pub isRefusal : ℕ → Bool
-isRefusal n = pick (ltb n truncated) false (leb n stringId)
+isRefusal n = pick (ltb n truncated) false (leb n noTable)

@@ -1,4 +1,4 @@
-// Why a call is refused: document 01's refusal numbers ('Entries and their refusals'), the counterpart of program.rs.
+// Why a call is refused: the refusal numbers of documents 01 ('Entries and their refusals') and 02, the counterpart of program.rs.
 ghost use mathlib.Core.Path.{_≡_};
 ghost use Rattle.refusal.specs.Refusal.{isRefusal};
 
@@ -29,6 +29,8 @@ impl Refusal {
     pub const OUTPUT: u8 = 11;
     // A new string id above 64,999.
     pub const STRING_ID: u8 = 12;
+    // An OpenType file without a table `CFF `.
+    pub const NO_TABLE: u8 = 15;
 
     // Whether a number is one of these.
     pub fn known(n: u8) -> bool
@@ -37,6 +39,6 @@ impl Refusal {
         if n < Refusal::TRUNCATED {
             return false;
         }
-        n <= Refusal::STRING_ID
+        n <= Refusal::NO_TABLE
     }
 }

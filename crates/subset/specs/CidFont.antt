@@ -19,7 +19,8 @@ use Rattle.charset.specs.Charset.{idsFrom, charsetAt}
 use Rattle.charset.specs.FdSelect as select
 use Rattle.unfold.specs.Unfold.{Row, local, global, entered, masked}
 use Rattle.record.specs.Record.{rowsFrom, rowsOf}
-use Rattle.cff.specs.Font.{got, Program, charset, charStrings, fdArray, fdSelect, readFont, setAt, fontsAt, fontAt, cidParts, fdsAt, idsAt, dictsAt, privatesAt, privateAt, privateData, localsAt, emptyPrivate}
+use Rattle.opentype.specs.Opentype.{placeOf}
+use Rattle.cff.specs.Font.{got, Program, charset, charStrings, fdArray, fdSelect, readTable, readFont, setAt, fontsAt, fontAt, cidParts, fdsAt, idsAt, dictsAt, privatesAt, privateAt, privateData, localsAt, emptyPrivate}
 
 -- the font's bytes
 abbrev pub cidFont : List ℕ
@@ -92,7 +93,7 @@ cidProgram =
 -- and that reading gives it
 pub reads : readFont cidFont ≡ got cidProgram
 unfolding
-    readFont setAt fontsAt fontAt cidParts fdsAt idsAt privatesAt privateAt privateData localsAt readIndex told itemsOf pieces indexAt tableAt dataAt judged runOf
+    readFont readTable placeOf setAt fontsAt fontAt cidParts fdsAt idsAt privatesAt privateAt privateData localsAt readIndex told itemsOf pieces indexAt tableAt dataAt judged runOf
     offsets numAt be dictOf gathered readingsAt readingsFrom entryAt entryFrom tokenAt operatorAt numberAt realAt normal stripped zeros zerosOf truncOf lastOf
     lastFrom listOf idsFrom charsetAt select.fdSelectAt allBelow dictsAt listed
 reads = refl

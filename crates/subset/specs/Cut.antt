@@ -100,9 +100,9 @@ unfoldable pub zeros : ℕ → List ℕ
 zeros zero = []
 zeros (suc n) = 0 ∷ zeros n
 
--- the work words: the first W end as zeros from 9 passed on (refusals 10, 11, 12 and a subset), the others stay
+-- the work words: the first W end as zeros from 9 passed on (refusals 10 to 13 and a subset; 14 and 15 are tested before), the others stay
 abbrev pub usesWork : Outcome → Bool
-usesWork (refused n) = ltb 9 n
+usesWork (refused n) = pick (ltb 9 n) (ltb n 14) false
 usesWork (subset way bs) = true
 
 abbrev pub leavesWork : Outcome → ℕ → List ℕ → List ℕ

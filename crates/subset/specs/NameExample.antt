@@ -32,7 +32,8 @@ use Rattle.find.specs.Find.{glyphWithText}
 use Rattle.unfold.specs.Unfold.{Row, local, entered}
 use Rattle.record.specs.Record.{rowsFrom, rowsOf, rowsFine, recordFine, lists, givenIn, disagrees, twoLengths}
 use Rattle.prune.specs.Renumber.{oldOf, renumber, renumberCharstring}
-use Rattle.cff.specs.Font.{got, Program, charset, charStrings, readFont, setAt, fontsAt, fontAt, nameParts, idsAt, privateAt, privateData, localsAt, encodingGot}
+use Rattle.opentype.specs.Opentype.{placeOf}
+use Rattle.cff.specs.Font.{got, Program, charset, charStrings, readTable, readFont, setAt, fontsAt, fontAt, nameParts, idsAt, privateAt, privateData, localsAt, encodingGot}
 use Rattle.cff.specs.Find.{localsTotal}
 use Rattle.subset.specs.Kept.{isIn, those, fdsOf}
 use Rattle.subset.specs.Pruned.{Bodies, Pruned, countBelow, reached, localSet, each, renumberedBody, renumberedSubrs, renumbered, pruned}
@@ -89,7 +90,7 @@ nameProgram =
 -- and that reading gives it
 pub reads : readFont nameFont ≡ got nameProgram
 unfolding
-    readFont setAt fontsAt fontAt nameParts idsAt privateAt privateData localsAt encodingGot readIndex told itemsOf pieces indexAt tableAt dataAt judged runOf offsets
+    readFont readTable placeOf setAt fontsAt fontAt nameParts idsAt privateAt privateData localsAt encodingGot readIndex told itemsOf pieces indexAt tableAt dataAt judged runOf offsets
     numAt be dictOf gathered readingsAt readingsFrom entryAt entryFrom tokenAt operatorAt numberAt realAt normal stripped zeros zerosOf truncOf lastOf lastFrom
     listOf idsFrom charsetAt
 reads = refl

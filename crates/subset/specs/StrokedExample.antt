@@ -32,6 +32,7 @@ use Rattle.strings.specs.Strings.{stringText, standardString, standardStrings, 
 use Rattle.find.specs.Find.{glyphWithText, glyphWithId}
 use Rattle.prune.specs.Renumber.{renumber, renumberCharstring}
 use Rattle.record.specs.Record.{rowsFrom, rowsOf, rowsFine, recordFine, lists, givenIn, disagrees, twoLengths}
+use Rattle.opentype.specs.Opentype.{placeOf}
 use Rattle.cff.specs.Font as font
 use Rattle.cff.specs.Find as cfffind
 use Rattle.subset.specs.Kept.{isIn, those, placed, sortedBy, fdsOf, newFd}
@@ -75,7 +76,7 @@ name-stroked :
 unfolding
     cutOf lastOf lastFrom truncOf normal stripped zeros zerosOf nibbles textOf expDigits exponent mantissa formOf valueOf readIndex told itemsOf pieces indexAt tableAt
     dataAt judged runOf offsets numAt be dec.numberAt dec.realAt dict.dictOf dict.gathered dict.readingsAt dict.readingsFrom dict.entryAt dict.entryFrom
-    dict.operatorAt dict.tokenAt font.readFont font.setAt font.fontsAt font.fontAt font.nameParts font.privateAt font.idsAt font.encodingGot listOf
+    dict.operatorAt dict.tokenAt font.readFont font.readTable placeOf font.setAt font.fontsAt font.fontAt font.nameParts font.privateAt font.idsAt font.encodingGot listOf
 name-stroked = (refl, refl, refl, refl)
 
 -- StrokeWidth alone: dropped. cut_examples has the other fonts that are not refused
@@ -87,7 +88,7 @@ unfolding
     normal stripped zeros zerosOf indexBytes itemsBytes headBytes tableBytes ends sizeFor joined total readIndex told itemsOf pieces indexAt tableAt dataAt judged runOf
     offsets encode bytesOf numAt be keep24 rounded t2.numberAt t2e.numberBytes t2e.integerBytes t2e.fixedBytes tok.tokensOf tok.tokensFrom tok.tokenAt dec.numberAt dec.realAt
     decw.int5Bytes decw.numberBytes decw.intBytes dict.dictOf dict.gathered dict.readingsAt dict.readingsFrom dict.entryAt dict.entryFrom dict.operatorAt dict.tokenAt
-    font.readFont font.setAt font.fontsAt font.fontAt font.nameParts font.privateAt font.idsAt font.encodingGot cfffind.localsTotal
+    font.readFont font.readTable placeOf font.setAt font.fontsAt font.fontAt font.nameParts font.privateAt font.idsAt font.encodingGot cfffind.localsTotal
 name-width = refl
 
 -- ---- CID-keyed
@@ -130,6 +131,6 @@ cid-stroked :
     × (badRos (0x8c ∷ 0x8c ∷ 0x0c ∷ 0x05 ∷ []) ≡ refused 2)
 unfolding
     cutOf allBelow lastOf lastFrom truncOf normal stripped zeros zerosOf readIndex told itemsOf pieces indexAt tableAt dataAt judged runOf offsets numAt be dec.numberAt
-    dec.realAt dict.dictOf dict.gathered dict.readingsAt dict.readingsFrom dict.entryAt dict.entryFrom dict.operatorAt dict.tokenAt font.readFont font.setAt
+    dec.realAt dict.dictOf dict.gathered dict.readingsAt dict.readingsFrom dict.entryAt dict.entryFrom dict.operatorAt dict.tokenAt font.readFont font.readTable placeOf font.setAt
     font.fontsAt font.fontAt font.cidParts font.fdsAt font.idsAt font.privatesAt font.privateAt font.privateData font.localsAt listOf
 cid-stroked = (refl, refl, refl, refl)

@@ -17,9 +17,9 @@ lentWord = 2779096485
 abbrev pub lentByte : ℕ
 lentByte = 165
 
--- how many work words are zeros after an answer: W from refusal 9 passed on
+-- how many work words are zeros after an answer: W from refusal 9 passed on (14 and 15 are tested before)
 abbrev pub zeroed : Answer → ℕ → ℕ
-zeroed (Refused n) w = pick (ltb 9 n) w 0
+zeroed (Refused n) w = pick (pick (ltb 9 n) (ltb n 14) false) w 0
 zeroed (Subset way len) w = w
 
 -- are the words, the first of which has number i, zeros below k, and else as they were lent?

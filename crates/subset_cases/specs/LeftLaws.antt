@@ -63,11 +63,18 @@ module _ (found : List ℕ) (i : ℕ) where
 
 -- ---- the code's ways out
 
-pub zeroed-late : (n w : ℕ) → 9 < n → zeroed (Refused n) w ≡ w
-zeroed-late n w h = rw (lt-ltb 9 n h)
+pub zeroed-early : (n w : ℕ) → n < 10 → zeroed (Refused n) w ≡ 0
+zeroed-early n w h = let k : n ≤ 9 = omega arith in rw (le-ltb 9 n k)
 
-pub zeroed-early : (n w : ℕ) → n ≤ 9 → zeroed (Refused n) w ≡ 0
-zeroed-early n w h = rw (le-ltb 9 n h)
+module _ (n w : ℕ) (h : 10 ≤ n) where
+  past-nine : ltb 9 n ≡ true
+  past-nine = lt-ltb 9 n (omega arith)
+
+  pub zeroed-late : n < 14 → zeroed (Refused n) w ≡ w
+  zeroed-late k = rw (past-nine, lt-ltb n 14 k)
+
+  pub zeroed-before : 14 ≤ n → zeroed (Refused n) w ≡ 0
+  zeroed-before k = rw (past-nine, le-ltb n 14 k)
 
 pub refused-kept : (n : ℕ) (out : List ℕ) → bytesLeft out ≡ true → refusedBytes n out ≡ some (n ∷ [])
 unfolding refusedBytes
@@ -168,7 +175,7 @@ put-lent way bs m =
 judged-outcome : (o : Outcome) (w n m : ℕ)
     → judged (answerOf o) w (leavesWork o w (replicate n lentWord)) (leavesOut o (replicate m lentByte)) ≡ some (outcomeBytes o)
 judged-outcome (refused x) w n m =
-    judged-kept (Refused x) w (leavesWork (refused x) w (replicate n lentWord)) (replicate m lentByte) (zeroed (Refused x) w) refl (words-kept (ltb 9 x) w n)
+    judged-kept (Refused x) w (leavesWork (refused x) w (replicate n lentWord)) (replicate m lentByte) (zeroed (Refused x) w) refl (words-kept (pick (ltb 9 x) (ltb x 14) false) w n)
     ∙ refused-kept x (replicate m lentByte) (bytes-lent m 0)
 judged-outcome (subset way bs) w n m =
     judged-kept (Subset way (length bs)) w (leavesWork (subset way bs) w (replicate n lentWord)) (put (replicate m lentByte) 0 bs) w refl (words-kept true w n)

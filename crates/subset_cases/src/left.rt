@@ -51,13 +51,16 @@ fn bytes_left(found: &[u8], at: usize) -> bool
     true
 }
 
-// How many work words should be zeros after an answer: w from refusal 9 passed on.
+// How many work words should be zeros after an answer: w from refusal 9 passed on (14 and 15 are tested before).
 fn zeroed(r: Answer, w: usize) -> usize
     ensures { λ k. ⌜ k ≡ zeroed r w ⌝ }
 {
     match r {
         Answer::Refused(n) => {
-            if 9 < n {
+            if n < 10 {
+                return 0;
+            }
+            if n < 14 {
                 return w;
             }
             0

@@ -20,7 +20,8 @@ use Rattle.dict.specs.declared.OffsetIn.the-variants.{Refused as RefusedOffset,
 use Rattle.dict.specs.declared.PrivateIn.{PrivateIn}
 use Rattle.dict.specs.declared.PrivateIn.the-variants.{Refused as RefusedPrivate, Private as PrivateEntry, Absent as NoPrivate}
 use Rattle.charset.specs.FdSelect.{noFds}
-use Rattle.cff.specs.Font.{charset, encoding, charStrings, fdArray, fdSelect, Got, refused as refusedFont, got, then, Private, Added, Program, indexGot, dictGot, unless, needed, orZero, localsAt, privateData, privateAt, privatesAt, dictsAt, idsAt, fdsAt, encodingGot, cidParts, nameParts, fontAt, fontsAt, firstOf, setAt, readFont, emptyPrivate}
+use Rattle.cff.specs.Font.{charset, encoding, charStrings, fdArray, fdSelect, Got, refused as refusedFont, got, then, Private, Added, Program, indexGot, dictGot, unless, needed, orZero, localsAt, privateData, privateAt, privatesAt, dictsAt, idsAt, fdsAt, encodingGot, cidParts, nameParts, fontAt, fontsAt, firstOf, setAt, readTable, readFont, emptyPrivate}
+use Rattle.cff.specs.FileLaws.{read-within, within-short}
 use Rattle.cff.specs.ReadsLaws.{no}
 use Rattle.subset.specs.Kept.{localsOf}
 use Rattle.faithful.specs.GoodPartsLaws.{then-gave, got-same, index-gave, index-got, test-past, test-held}
@@ -172,19 +173,16 @@ module _ (b : List ℕ) where
       first-short (strings .0) (globals .0) (index-short (strings .1) (globals .0) (globals .1) (globals .2)) (tops .0) p (t .1)
 
 -- no body of a font that was read has more than 67,108,864 bytes
-pub font-short : (b : List ℕ) (p : Program) → readFont b ≡ got p → ShortBodies 67108864 p
-unfolding readFont
-font-short b p h =
-    let s = past (ltb 67108864 (length b)) refl h in
-    let m = test-past (ltb (length b) 4) 1 _ p (s .1) in
+table-bodies : (b : List ℕ) (p : Program) → length b ≤ 67108864 → readTable b ≡ got p → ShortBodies 67108864 p
+unfolding readTable
+table-bodies b p n h =
+    let m = test-past (ltb (length b) 4) 1 _ p h in
     let q = set-short b (getD b 2 0) p (test-held (eqb (getD b 0 0) 1) 3 _ p m .1) in
-    let n = ltb-false 67108864 (length b) (s .0) in
     record {
       charstrings = λ i. omega (arith, q .charstrings i, n);
       globals = λ i. omega (arith, q .globals i, n);
       locals = λ f i. omega (arith, q .locals f i, n);
     }
-  where
-    past : (t : Bool) → ltb 67108864 (length b) ≡ t → {g : Got Program} → pick t (refusedFont 4) g ≡ got p → (ltb 67108864 (length b) ≡ false) × (g ≡ got p)
-    past true e h = absurd (no cc)
-    past false e h = (e, h)
+
+pub font-short : (file : List ℕ) (p : Program) → readFont file ≡ got p → ShortBodies 67108864 p
+font-short file p h = let w = read-within file p h in table-bodies _ p (within-short file p w) (w .is)

@@ -17,7 +17,8 @@ use Rattle.strings.specs.Text.{codes, sameText}
 use Rattle.strings.specs.Strings.{stringText, standardString, standardStrings}
 use Rattle.find.specs.Find.{glyphWithId, glyphWithText}
 use Rattle.unfold.specs.Unfold.{leave, but, targetOf, operatorAt, stepAt, walk, runBody, unfoldGlyph}
-use Rattle.cff.specs.Font.{Program, privateAt, idsAt, encodingGot, nameParts, fontAt, fontsAt, setAt, readFont}
+use Rattle.opentype.specs.Opentype.{placeOf}
+use Rattle.cff.specs.Font.{Program, privateAt, idsAt, encodingGot, nameParts, fontAt, fontsAt, setAt, readTable, readFont}
 use Rattle.cff.specs.Examples.{sheet}
 use Rattle.subset.specs.Kept.{isIn, those}
 use Rattle.subset.specs.Cut.{allFound}
@@ -143,7 +144,7 @@ cid-traces = ap (λ g. traceRead g (4 ∷ 1 ∷ 3 ∷ []) 50) reads ∙ cid-rows
 sheet-traces : traceOf sheet (1 ∷ []) 0 ≡ traced 1 []
 unfolding
     traceOf metAll recordOf tensBytes gathered unfoldGlyph runBody walk stepAt operatorAt leave but targetOf t2.numberAt t2.rounded t2.keep24 bytesOf allBelow
-    allFound glyphWithText stringText standardString standardStrings codes sameText standardNames isIn those readFont setAt fontsAt fontAt nameParts idsAt
+    allFound glyphWithText stringText standardString standardStrings codes sameText standardNames isIn those readFont readTable placeOf setAt fontsAt fontAt nameParts idsAt
     privateAt encodingGot readIndex told indexAt tableAt dataAt runOf judged offsets pieces itemsOf numAt be entries.dictOf entries.gathered entries.readingsAt entries.readingsFrom
     entries.entryAt entries.entryFrom entries.tokenAt entries.operatorAt numberAt realAt normal zeros zerosOf stripped lastOf lastFrom truncOf listOf
 sheet-traces = refl

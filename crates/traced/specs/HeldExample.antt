@@ -28,7 +28,8 @@ use Rattle.find.specs.Find.{glyphWithText}
 use Rattle.unfold.specs.Unfold.{Tok, num, op, Row, notPlain, plain, local, entered, leave, but, targetOf, operatorAt, stepAt, walk, runBody, unfoldGlyph}
 use Rattle.prune.specs.Bodies.{All}
 use Rattle.record.specs.Record.{rowsFrom, rowsOf, recordFine, lists}
-use Rattle.cff.specs.Font.{got, Program, charStrings, privateAt, idsAt, encodingGot, nameParts, fontAt, fontsAt, setAt, readFont, emptyPrivate}
+use Rattle.opentype.specs.Opentype.{placeOf}
+use Rattle.cff.specs.Font.{got, Program, charStrings, privateAt, idsAt, encodingGot, nameParts, fontAt, fontsAt, setAt, readTable, readFont, emptyPrivate}
 use Rattle.subset.specs.Kept.{isIn, those, keeps}
 use Rattle.subset.specs.Cut.{allFound}
 use Rattle.subset.specs.NameExample.{nameFont, nameProgram, reads, reach, renumberedBytes, renumbers}
@@ -137,7 +138,7 @@ badProgram =
 
 bad-reads : readFont badFont ≡ got badProgram
 unfolding
-    readFont setAt fontsAt fontAt nameParts idsAt privateAt encodingGot readIndex told indexAt tableAt dataAt runOf judged offsets pieces itemsOf numAt be entries.dictOf
+    readFont readTable placeOf setAt fontsAt fontAt nameParts idsAt privateAt encodingGot readIndex told indexAt tableAt dataAt runOf judged offsets pieces itemsOf numAt be entries.dictOf
     entries.gathered entries.readingsAt entries.readingsFrom entries.entryAt entries.entryFrom entries.tokenAt entries.operatorAt numberAt realAt normal zeros zerosOf
     stripped lastOf lastFrom truncOf listOf
 bad-reads = refl

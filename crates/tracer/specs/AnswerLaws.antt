@@ -17,6 +17,8 @@ use Rattle.prune.specs.Bodies.{All, none as noRow}
 use Rattle.prune.specs.StepLaws.{zero-one}
 use Rattle.cff.specs.Font.{Got, refused as refusedFont, got, Program, readFont}
 use Rattle.cff.specs.Reads.{programOf, GoodFont}
+use Rattle.cff.specs.File.{InFile}
+use Rattle.cff.specs.FileLaws.{table-short}
 use Rattle.cff.specs.declared.font.Font.{Font}
 use Rattle.subset.specs.Kept.{those, keeps, keptOf}
 use Rattle.subset.specs.Pruned.{May, fail, yes}
@@ -133,15 +135,6 @@ was-true : (r : Bool) → not r ≡ false → r ≡ true
 was-true true e = refl
 was-true false e = absurd (zero-one cc)
 
--- a font that was read is not too long
-font-size : (b : List ℕ) (p : Program) → readFont b ≡ got p → length b ≤ 67108864
-unfolding readFont
-font-size b p h = by (ltb 67108864 (length b)) refl _ h
-  where
-    by : (t : Bool) → ltb 67108864 (length b) ≡ t → (g : Got Program) → pick t (refusedFont 4) g ≡ got p → length b ≤ 67108864
-    by true e g k = absurd (zero-one cc)
-    by false e g k = ltb-false 67108864 (length b) e
-
 traces-as : (b keep out out' : List ℕ) (r : TracedAs) (t : Traced) → traceOf b keep (length out) ≡ t → Answers t out out' r → Traces b keep out out' r
 traces-as b keep out out' r t e a = record { answers = a .answers ∙ ap tracedAs (sym e); output = a .output ∙ ap (λ (x : Traced). leavesRecord x out) (sym e) }
 
@@ -153,7 +146,7 @@ pub trace-unread : (b keep out : List ℕ) (n : ℕ) → readFont b ≡ refusedF
 unfolding traceOf
 trace-unread b keep out n e = traces-as b keep out out (Refused n) (refused n) (ap (λ (g : Got Program). traceRead g keep (length out)) e) (stays n out)
 
-module _ (b : List ℕ) (f : Font) (octets : Octets b) (good : GoodFont b f) (is : readFont b ≡ got (programOf b f)) (keep out : List ℕ) where
+module _ (file : List ℕ) (f : Font) (b : List ℕ) (octets : Octets file) (held : InFile file f b) (keep out : List ℕ) where
   abbrev p : Program
   p = programOf b f
 
@@ -164,20 +157,20 @@ module _ (b : List ℕ) (f : Font) (octets : Octets b) (good : GoodFont b f) (is
   many = items-length b (f .charstrings)
 
   pub font-held : Held b f
-  font-held = record { font = good; size = font-size b p is; program = font-good b p octets is }
+  font-held = record { font = held .good; size = table-short file f b held; program = font-good file p octets (held .is) }
 
-  tested : traceOf b keep (length out) ≡ pick (allBelow glyphs keep) (pick (allFound p (keptOf glyphs keep)) (answered (length out) (metAll p (keptOf glyphs keep))) (refused 7)) (refused 6)
+  tested : traceOf file keep (length out) ≡ pick (allBelow glyphs keep) (pick (allFound p (keptOf glyphs keep)) (answered (length out) (metAll p (keptOf glyphs keep))) (refused 7)) (refused 6)
   unfolding traceOf
-  tested = ap (λ (g : Got Program). traceRead g keep (length out)) is
+  tested = ap (λ (g : Got Program). traceRead g keep (length out)) (held .is)
 
   module _ (r₁ : Bool) (e₁ : r₁ ≡ allBelow (f .charstrings .count) keep) where
     below : (t : Bool) → r₁ ≡ t → allBelow glyphs keep ≡ t
     below t h = ap (λ (n : ℕ). allBelow n keep) many ∙ sym e₁ ∙ h
 
     -- 6
-    pub trace-number : not r₁ ≡ true → Traces b keep out out (Refused 6)
+    pub trace-number : not r₁ ≡ true → Traces file keep out out (Refused 6)
     trace-number t =
-        traces-as b keep out out (Refused 6) (refused 6)
+        traces-as file keep out out (Refused 6) (refused 6)
         (tested ∙ ap (λ (x : Bool). pick x (pick (allFound p (keptOf glyphs keep)) (answered (length out) (metAll p (keptOf glyphs keep))) (refused 7)) (refused 6)) (below false (was-false r₁ t)))
         (stays 6 out)
 
@@ -185,28 +178,28 @@ module _ (b : List ℕ) (f : Font) (octets : Octets b) (good : GoodFont b f) (is
     trace-below t = sym e₁ ∙ was-true r₁ t
 
     module _ (t₁ : not r₁ ≡ false) (r₂ : Bool) (e₂ : r₂ ≡ allFound p (keptOf (f .charstrings .count) keep)) where
-      found : (t : Bool) → r₂ ≡ t → traceOf b keep (length out) ≡ pick t (answered (length out) (metAll p (keptOf glyphs keep))) (refused 7)
+      found : (t : Bool) → r₂ ≡ t → traceOf file keep (length out) ≡ pick t (answered (length out) (metAll p (keptOf glyphs keep))) (refused 7)
       found t h =
           tested
           ∙ ap (λ (x : Bool). pick x (pick (allFound p (keptOf glyphs keep)) (answered (length out) (metAll p (keptOf glyphs keep))) (refused 7)) (refused 6)) (below true (was-true r₁ t₁))
           ∙ ap (λ (x : Bool). pick x (answered (length out) (metAll p (keptOf glyphs keep))) (refused 7)) (ap (λ (n : ℕ). allFound p (keptOf n keep)) many ∙ sym e₂ ∙ h)
 
       -- 7
-      pub trace-found : not r₂ ≡ true → Traces b keep out out (Refused 7)
-      trace-found t = traces-as b keep out out (Refused 7) (refused 7) (found false (was-false r₂ t)) (stays 7 out)
+      pub trace-found : not r₂ ≡ true → Traces file keep out out (Refused 7)
+      trace-found t = traces-as file keep out out (Refused 7) (refused 7) (found false (was-false r₂ t)) (stays 7 out)
 
       -- the kept glyphs are those that are marked
       module _ (t₂ : not r₂ ≡ false) (old marks : List ℕ) (m : Marks (f .charstrings .count) (keeps keep) old marks) where
         met-kept : metAll p (keptOf glyphs keep) ≡ metIn b f marks
-        met-kept = ap (λ (n : ℕ). metAll p (keptOf n keep)) many ∙ ap (metAll p) (sym (kept-marked b f good keep old marks m))
+        met-kept = ap (λ (n : ℕ). metAll p (keptOf n keep)) many ∙ ap (metAll p) (sym (kept-marked b f (held .good) keep old marks m))
 
         pub marked-fits : RowsFit (metIn b f marks)
         marked-fits = record { fits = by (metIn b f marks) refl }
           where
             by : (x : May (List Row)) → metIn b f marks ≡ x → All RowFits (orNone x)
             by fail e = noRow
-            by (yes rows) e = kept-fits b keep 0 octets p is rows (met-kept ∙ e)
+            by (yes rows) e = kept-fits file keep 0 octets p (held .is) rows (met-kept ∙ e)
 
-        pub trace-done : (out' : List ℕ) (r : TracedAs) → Answers (answered (length out) (metIn b f marks)) out out' r → Traces b keep out out' r
+        pub trace-done : (out' : List ℕ) (r : TracedAs) → Answers (answered (length out) (metIn b f marks)) out out' r → Traces file keep out out' r
         trace-done out' r a =
-            traces-as b keep out out' r (answered (length out) (metIn b f marks)) (found true (was-true r₂ t₂) ∙ ap (answered (length out)) met-kept) a
+            traces-as file keep out out' r (answered (length out) (metIn b f marks)) (found true (was-true r₂ t₂) ∙ ap (answered (length out)) met-kept) a

@@ -17,8 +17,9 @@ use Rattle.record.specs.Record.{rowsOf, recordFine}
 use Rattle.dict.specs.Lookup.{rosIn, cidKeyed, strokedIn}
 use Rattle.cff.specs.Font.{Got, refused as refusedFont, got, Program, readFont}
 use Rattle.cff.specs.Find.{workSize}
-use Rattle.cff.specs.Reads.{programOf, GoodFont}
-use Rattle.cff.specs.ReadsLaws.{no}
+use Rattle.cff.specs.Reads.{programOf}
+use Rattle.cff.specs.File.{InFile}
+use Rattle.cff.specs.FileLaws.{table-short}
 use Rattle.cff.specs.declared.font.Font.{Font}
 use Rattle.subset.specs.Kept.{keptOf, writtenOrder, usedFds}
 use Rattle.subset.specs.Pruned.{Pruned, pruned}
@@ -109,7 +110,7 @@ module _ (cid : Bool) (font name keep rec : List ℕ) (flag : ℕ) (work out : L
   unfolding cutOf zeros
   unread-cuts n e =
       refused-cuts n (ap (λ (x : Got Program). cutRead cid x name keep rec flag (length work) (length out)) e)
-      (ap (λ (x : Got Program). leavesWork (refused n) (workIn x) work) e ∙ pick-same (ltb 9 n) work)
+      (ap (λ (x : Got Program). leavesWork (refused n) (workIn x) work) e ∙ pick-same (usesWork (refused n)) work)
 
   module _ (p : Program) (is : readFont font ≡ got p) where
     abbrev refusal : ℕ
@@ -126,7 +127,7 @@ module _ (cid : Bool) (font name keep rec : List ℕ) (flag : ℕ) (work out : L
     early-cuts h =
         let t : eqb refusal 0 ≡ false = ne-eqb refusal 0 (λ e. omega arith) in
         refused-cuts refusal (outcome-is ∙ ap (λ (b : Bool). pick b (cutBehind p name keep rec flag (length out)) (refused refusal)) t)
-        (ap (λ (t : Bool). pick t (zeros (workIn (readFont font)) ++ drop (workIn (readFont font)) work) work)
+        (ap (λ (t : Bool). pick (pick t (ltb refusal 14) false) (zeros (workIn (readFont font)) ++ drop (workIn (readFont font)) work) work)
         (le-ltb 9 refusal (number-low cid p name keep rec flag (length work) (length out))))
 
     -- cut, the first W words then cleared
@@ -186,44 +187,34 @@ pub passed-keyed : (cid t : Bool) (p : Program) (name : ℕ) (keep rec : List �
     → Passed t p name keep rec flag words
 passed-keyed cid t p name keep rec flag words h e = subst (λ (x : Bool). Passed x p name keep rec flag words) e h
 
--- a test that was passed did not hold
-not-held : (t : Bool) (n : ℕ) (g : Got Program) (p : Program) → pick t (refusedFont n) g ≡ got p → t ≡ false
-not-held true n g p h = absurd (no cc)
-not-held false n g p h = refl
-
--- a font that was read is not too long
-pub read-short : (b : List ℕ) (p : Program) → readFont b ≡ got p → length b ≤ 67108864
-unfolding readFont
-read-short b p h = ltb-false 67108864 (length b) (not-held (ltb 67108864 (length b)) 4 _ p h)
-
-pub font-held : (b : List ℕ) (f : Font) → Octets b → GoodFont b f → readFont b ≡ got (programOf b f) → FontHeld b f
-font-held b f o good is = record { font = good; size = read-short b (programOf b f) is; program = font-good b (programOf b f) o is }
+-- what the cut asks of the table's bytes
+pub font-held : (file : List ℕ) (f : Font) (b : List ℕ) → Octets file → InFile file f b → FontHeld b f
+font-held file f b o h = record { font = h .good; size = table-short file f b h; program = font-good file (programOf b f) o (h .is) }
 
 zeros-are : (n : ℕ) → replicate n 0 ≡ zeros n
 unfolding zeros
 zeros-are zero = refl
 zeros-are (suc n) = ap (λ (l : List ℕ). 0 ∷ l) (zeros-are n)
 
-module _ (cid : Bool) (font : List ℕ) (f : Font) (name keep rec : List ℕ) (flag : ℕ) (work out : List ℕ) (bytes : Octets font) (octets : Octets rec)
-    (good : GoodFont font f) (is : readFont font ≡ got (programOf font f)) (n : ℕ)
-    (number : n ≡ refusalOf cid (programOf font f) (length name) keep rec flag (length work)) where
+module _ (cid : Bool) (font : List ℕ) (f : Font) (b : List ℕ) (name keep rec : List ℕ) (flag : ℕ) (work out : List ℕ) (bytes : Octets font) (octets : Octets rec)
+    (held : InFile font f b) (n : ℕ) (number : n ≡ refusalOf cid (programOf b f) (length name) keep rec flag (length work)) where
   -- refused before the cut
   pub early-read : 0 < n → Cuts cid font name keep rec flag work out work out (Refused n)
   early-read h =
       subst (λ (m : ℕ). Cuts cid font name keep rec flag work out work out (Refused m)) (sym number)
-      (early-cuts cid font name keep rec flag work out bytes octets (programOf font f) is (subst (λ (m : ℕ). 0 < m) number h))
+      (early-cuts cid font name keep rec flag work out bytes octets (programOf b f) (held .is) (subst (λ (m : ℕ). 0 < m) number h))
 
   module _ (l : n ≤ 0) where
-    none : refusalOf cid (programOf font f) (length name) keep rec flag (length work) ≡ 0
+    none : refusalOf cid (programOf b f) (length name) keep rec flag (length work) ≡ 0
     none = let z : n ≡ 0 = omega arith in sym number ∙ z
 
     -- what the cut asks
-    pub passed-read : Passed cid (programOf font f) (length name) keep rec flag (length work)
-    passed-read = not-refused cid (programOf font f) (length name) keep rec flag (length work) none
+    pub passed-read : Passed cid (programOf b f) (length name) keep rec flag (length work)
+    passed-read = not-refused cid (programOf b f) (length name) keep rec flag (length work) none
 
     module _ (w : ℕ) (size : w ≡ 2 * f .charstrings .count + f .globals .count + f .locals) where
-      wide : w ≡ workSize (programOf font f)
-      wide = size ∙ work-is font f good
+      wide : w ≡ workSize (programOf b f)
+      wide = size ∙ work-is b f (held .good)
 
       -- the first W words are there
       pub words-room : w ≤ length work
@@ -233,7 +224,7 @@ module _ (cid : Bool) (font : List ℕ) (f : Font) (name keep rec : List ℕ) (f
       words-taken = sym (length-take-le w work words-room)
 
       -- what the cut of the first W words asks
-      pub passed-words : Passed cid (programOf font f) (length name) keep rec flag (length (take w work))
+      pub passed-words : Passed cid (programOf b f) (length name) keep rec flag (length (take w work))
       passed-words =
           let h = passed-read in
           record {
@@ -248,9 +239,9 @@ module _ (cid : Bool) (font : List ℕ) (f : Font) (name keep rec : List ℕ) (f
           }
 
       -- cut with them, which are then cleared
-      pub late-read : (used cleared out' : List ℕ) (r : Answer) → Cut (cutBehind (programOf font f) name keep rec flag (length out)) out out' r
+      pub late-read : (used cleared out' : List ℕ) (r : Answer) → Cut (cutBehind (programOf b f) name keep rec flag (length out)) out out' r
           → length used ≡ length (take w work) → cleared ≡ replicate (length used) 0 → Cuts cid font name keep rec flag work out (cleared ++ drop w work) out' r
       late-read used cleared out' r k l e =
-          late-cuts cid font name keep rec flag work out bytes octets (programOf font f) is (cleared ++ drop w work) out' r none k
+          late-cuts cid font name keep rec flag work out bytes octets (programOf b f) (held .is) (cleared ++ drop w work) out' r none k
           (ap (λ (x : List ℕ). x ++ drop w work) (e ∙ ap (λ (m : ℕ). replicate m 0) (l ∙ sym words-taken) ∙ zeros-are w)
           ∙ ap (λ (m : ℕ). zeros m ++ drop m work) wide)

@@ -2,8 +2,8 @@
 ghost use mathlib.Core.Path.{_≡_};
 ghost use mathlib.Core.Bool.{true, false};
 ghost use lib.ListN.{length};
-ghost use Rattle.cff.specs.Font.{got, readFont};
-ghost use Rattle.cff.specs.Reads.{programOf, GoodFont};
+ghost use Rattle.cff.specs.Reads.{programOf};
+ghost use Rattle.cff.specs.File.{HasFont};
 ghost use Rattle.parts.specs.Ready.{FontHeld};
 ghost use Rattle.outcome.specs.Entry.{cutBehind, Cuts, Cut, Passed};
 use cff::font::Font;
@@ -33,7 +33,7 @@ fn cut_glyphs(
     by_name::cut_named(font, f, name, keep, rows, traced, words, out)
 }
 
-// The cut of a font that was read: refused before the work words are used, or with the first W of them, which end as zeros.
+// The cut of a font that was read in a file, by the bytes of its table: refused before the work words are used, or with the first W of them, which end as zeros.
 fn cut_font(
     cid: bool,
     font: &[u8],
@@ -45,17 +45,18 @@ fn cut_font(
     work: &mut [u32],
     out: &mut [u8],
 ) -> Answer
-    requires { ⌜ (GoodFont (now font) f) × (readFont (now font) ≡ got (programOf (now font) f)) ⌝ }
+    requires { ⌜ HasFont (now font) f ⌝ }
     ensures { λ r. ⌜ Cuts cid (now (font .entry)) (now (name .entry)) (now (keep .entry)) (now (rows .entry)) traced (now (work .entry)) (now (out .entry))
         (now (work .exit)) (now (out .exit)) r ⌝ }
 {
-    let n = early_refusals::refusal(cid, font, f, name.len(), keep, rows, traced, work.len());
+    let table = cff::set::table(font, f);
+    let n = early_refusals::refusal(cid, table, f, name.len(), keep, rows, traced, work.len());
     if 0 < n {
         return Answer::Refused(n);
     }
     let w = early_refusals::work_size(f);
     let words = &mut work[..w];
-    let r = cut_glyphs(cid, font, f, name, keep, rows, traced, &mut *words, out);
+    let r = cut_glyphs(cid, table, f, name, keep, rows, traced, &mut *words, out);
     reach::ranks::clear(words);
     r
 }

@@ -20,6 +20,7 @@ mod cut_tests;
 mod damage;
 mod decimal;
 mod domain;
+mod files;
 mod fonts;
 mod heavy;
 mod hooked;
@@ -73,6 +74,7 @@ const USAGE: &str = "usage: tools/compare/run cff SEED COUNT
        tools/compare/run subset SEED COUNT
        tools/compare/run store-subset SEED COUNT
        tools/compare/run trace SEED COUNT
+       tools/compare/run opentype SEED COUNT
        tools/compare/run trace-time FILE
        tools/compare/run cut FOLDER
        tools/compare/run case SEED NUMBER
@@ -103,6 +105,7 @@ fn main() -> ExitCode {
         ["subset", seed, count] => seeded(seed, count, subset),
         ["store-subset", seed, count] => seeded(seed, count, stored_subsets),
         ["trace", seed, count] => seeded(seed, count, trace),
+        ["opentype", seed, count] => seeded(seed, count, opentype),
         ["trace-time", file] => trace_time(file),
         ["cut", folder] => cut_tables(Path::new(folder)),
         ["case", seed, number] => seeded(seed, number, case),
@@ -256,6 +259,18 @@ fn trace(seed: u64, count: usize) -> ExitCode {
     println!("seed {seed}, {count} made fonts, {tables} tables of real fonts");
     print!("{}", tally.report(&target().join("compare")));
     status(tally.differences())
+}
+
+/// `count` files with damaged directories, the .otf files in target/otf, and made fonts in files.
+fn opentype(seed: u64, count: usize) -> ExitCode {
+    let (text, differences) = on_large_stack(move || {
+        let directories = files::directories(seed, count);
+        let mut whole = files::whole(&target().join("otf"), seed, count);
+        files::report(&directories, &mut whole, &target().join("compare"))
+    });
+    println!("seed {seed}, {count} damaged directories");
+    print!("{text}");
+    status(differences)
 }
 
 /// The time that this thread has had of a processor.

@@ -1,4 +1,4 @@
-//! Cuts an OpenType font with CFF outlines down to the letters of a text, and writes the subset as a bare CFF font. The letters are
+//! Cuts an OpenType file with CFF outlines, as it comes, down to the letters of a text, and writes the subset as a bare CFF font. The letters are
 //! traced: where all are plain, the subset has only the subroutines that they reach.
 //!
 //!     cargo run --release --example subset_text -- FONT TEXT OUTPUT
@@ -25,9 +25,8 @@ fn tag(keep: &[u16]) -> String {
 
 fn run(font_file: &str, text: &str, output: &str) -> Result<(), Box<dyn Error>> {
     let file = fs::read(font_file)?;
-    let cff = sfnt::table(&file, *b"CFF ").ok_or("the file has no table of CFF outlines")?;
+    let font = Font::read(&file)?;
     let cmap = sfnt::table(&file, *b"cmap").ok_or("the file has no table of characters")?;
-    let font = Font::read(cff)?;
     let mut keep = Vec::new();
     for letter in text.chars() {
         match sfnt::glyph(cmap, letter) {
@@ -50,7 +49,7 @@ fn run(font_file: &str, text: &str, output: &str) -> Result<(), Box<dyn Error>> 
         keep.len(),
         font.glyphs(),
         subset.bytes.len(),
-        cff.len()
+        file.len()
     );
     Ok(())
 }

@@ -5,15 +5,10 @@ fn number(bytes: &[u8], at: usize, n: usize) -> Option<usize> {
     Some(part.iter().fold(0, |v, &b| v << 8 | usize::from(b)))
 }
 
-/// A table of the file, or of the first font of a collection.
+/// A table of the file.
 pub fn table(file: &[u8], tag: [u8; 4]) -> Option<&[u8]> {
-    let at = if file.starts_with(b"ttcf") {
-        number(file, 12, 4)?
-    } else {
-        0
-    };
-    for k in 0..number(file, at + 4, 2)? {
-        let row = at + 12 + 16 * k;
+    for k in 0..number(file, 4, 2)? {
+        let row = 12 + 16 * k;
         if file.get(row..row + 4)? == tag {
             let start = number(file, row + 8, 4)?;
             return file.get(start..start.checked_add(number(file, row + 12, 4)?)?);

@@ -1,7 +1,7 @@
 -- `cff_entries::find_cid` meets its contract: the font that was read is the one that the definition reads.
 use mathlib.Core.Path.{sym, ap, _∙_}
 use Rattle.cff.specs.Find.{cidAs}
-use Rattle.cff.specs.SetLaws.{refused-as, found-good-font, read-is}
+use Rattle.cff.specs.SetLaws.{refused-as, found-font}
 use borrow.Author.Needs.{needs}
 use Rattle.cff_entries.proofs.find_cid.Statement.{statement}
 use Rattle.cff_entries.proofs.find_cid.Tie as tie
@@ -15,14 +15,19 @@ enum-known-read c = search needs
 enum-known-read-2 : tie.Need-enum-known-read-2
 enum-known-read-2 c = search needs
 
+table-requires : tie.Need-table-requires
+table-requires c κs = found-font (c .before .before .before .before .before .args .font .now) _ (c .before .before .before .read-font .ensures) _ (c .before .read2 .given .1)
+
 cid-in-requires : tie.Need-cid-in-requires
-cid-in-requires c κs = found-good-font (c .before .before .before .before .before .args .font .now) _ (c .before .before .before .read-font .ensures) _ (c .before .read2 .given .1)
+cid-in-requires c κs = c .table .ensures .0 .good
 
 returns : tie.Need-returns
 returns c = sym (ap (λ g. cidAs g (c .before .before .before .before .before .args .cid)) (refused-as (c .before .before .before .before .before .args .font .now) _ (c .before .before .before .read-font .ensures) _ (c .before .read .given .1)))
 
 returns-2 : tie.Need-returns-2
-returns-2 c = c .cid-in .ensures ∙ sym (ap (λ g. cidAs g (c .before .before .before .before .before .before .args .cid)) (read-is (c .before .before .before .before .before .before .args .font .now) _ (c .before .before .before .before .read-font .ensures) _ (c .before .before .read2 .given .1)))
+returns-2 c =
+    c .cid-in .ensures
+    ∙ sym (ap (λ g. cidAs g (c .before .before .before .before .before .before .before .args .cid)) (c .before .table .ensures .0 .is))
 
 pub find-cid-spec : {M : Type 1} → statement M
 find-cid-spec =
@@ -31,6 +36,7 @@ find-cid-spec =
     read-font-requires
     enum-known-read
     enum-known-read-2
+    table-requires
     cid-in-requires
     returns
     returns-2)

@@ -1,5 +1,5 @@
 -- `cff_entries::item` meets its contract: the item is the part of the font that its INDEX names.
-use Rattle.cff.specs.SetLaws.{items-good, item-found, item-refused, item-none}
+use Rattle.cff.specs.SetLaws.{refused-as, found-font, items-good, item-found, item-refused, item-none}
 use Rattle.cff.specs.PlaceLaws.{lies-found, lies-refused, lies-none}
 use borrow.Author.Needs.{needs}
 use Rattle.cff_entries.proofs.item.Statement.{statement}
@@ -26,15 +26,22 @@ enum-known-read c = search needs
 index-in-requires : tie.Need-index-in-requires
 index-in-requires c κs = search needs
 
+table-requires : tie.Need-table-requires
+table-requires c κs =
+    let r = c .before .before .before .before .before .before in
+    found-font (r .before .before .args .font .now) _ (r .read-font .ensures) _ (c .before .before .before .before .read .given .1)
+
 item-requires : tie.Need-item-requires
-item-requires c κs = (items-good (c .before .before .before .before .before .before .before .before .args .font .now) _ (c .before .before .before .before .before .before .read-font .ensures) _ (c .before .before .before .before .read .given .1) (c .before .before .before .before .before .before .before .before .args .kind) _ (c .before .before .index-in .ensures), c .if1 .taken)
+item-requires c κs = let a = c .before in let s = a .before .before .before .before .before .before .before .before in (items-good (s .args .font .now) _ _ (c .table .ensures .0) (s .args .kind) _ (a .before .before .index-in .ensures), a .if1 .taken)
 
 returns : tie.Need-returns
 returns c =
-    let s = c .before .before .before .before .before .before .before .before .before in
-    let o = c .before .before .before .before .before .before .before .read-font .ensures in (
-      item-found (s .args .font .now) _ o _ (c .before .before .before .before .before .read .given .1) (s .args .kind) _ (c .before .before .before .index-in .ensures) _ _ (c .item .ensures .0),
-      lies-found (s .args .font .now) _ o (s .args .kind) _ _ _ _ (c .before .before .before .before .before .read .given .1) _ (c .before .before .before .index-in .ensures) (c .item .ensures .1),
+    let t = c .before in
+    let a = t .before in
+    let s = a .before .before .before .before .before .before .before .before in
+    let i = a .before .before .index-in .ensures in (
+      item-found (s .args .font .now) _ _ (t .table .ensures .0) (s .args .kind) _ i _ _ (c .item .ensures .0),
+      lies-found (s .args .font .now) _ _ (t .table .ensures .0) (s .args .kind) _ _ _ _ i (t .table .result) (t .table .ensures .1) (c .item .ensures .1),
     )
 
 sub-result-2 : tie.Need-sub-result-2
@@ -51,15 +58,18 @@ returns-2 c =
     let s = c .before .before .before .before .before in
     let o = c .before .before .before .read-font .ensures in (
       item-refused (s .args .font .now) _ o _ (c .before .enum-told .given .1) (s .args .kind) (s .args .number),
-      lies-refused (s .args .font .now) _ o (s .args .kind) (s .args .number) _ _ _ (c .before .enum-told .given .1),
+      lies-refused (s .args .font .now) (s .args .kind) (s .args .number) _ _ _ (refused-as (s .args .font .now) _ o _ (c .before .enum-told .given .1)),
     )
 
 returns-3 : tie.Need-returns-3
 returns-3 c =
-    let s = c .before .before .before .before .before .before .before .before .before in
-    let o = c .before .before .before .before .before .before .before .read-font .ensures in (
-      item-none (s .args .font .now) _ o _ (c .before .before .before .before .before .read .given .1) (s .args .kind) _ (c .before .before .before .index-in .ensures) _ (c .before .if1 .left),
-      lies-none (s .args .font .now) _ o (s .args .kind) (s .args .number) _ _ _ (c .before .before .before .before .before .read .given .1) _ (c .before .before .before .index-in .ensures) (c .before .if1 .left),
+    let a = c .before in
+    let r = a .before .before .before .before .before .before in
+    let s = r .before .before in
+    let h = found-font (s .args .font .now) _ (r .read-font .ensures) _ (a .before .before .before .before .read .given .1) in
+    let i = a .before .before .index-in .ensures in (
+      item-none (s .args .font .now) _ _ h (s .args .kind) _ i _ (a .if1 .left),
+      lies-none (s .args .font .now) _ _ h (s .args .kind) (s .args .number) _ _ _ i (a .if1 .left),
     )
 
 pub item-spec : {M : Type 1} → statement M
@@ -73,6 +83,7 @@ item-spec =
     part-result-end
     enum-known-read
     index-in-requires
+    table-requires
     item-requires
     returns
     sub-result-2

@@ -1,7 +1,7 @@
 -- `cff_entries::item_refusal` meets its contract: the count of the INDEX is the count of its items.
 use mathlib.Core.Path.{sym, ap}
 use Rattle.cff.specs.Find.{itemRefusal}
-use Rattle.cff.specs.SetLaws.{refused-as, refusal-none, refusal-six}
+use Rattle.cff.specs.SetLaws.{refused-as, found-font, refusal-none, refusal-six}
 use borrow.Author.Needs.{needs}
 use Rattle.cff_entries.proofs.item_refusal.Statement.{statement}
 use Rattle.cff_entries.proofs.item_refusal.Tie as tie
@@ -19,13 +19,19 @@ index-in-requires : tie.Need-index-in-requires
 index-in-requires c κs = search needs
 
 returns : tie.Need-returns
-returns c = refusal-none (c .before .before .before .before .before .before .before .before .args .font .now) _ (c .before .before .before .before .before .before .read-font .ensures) _ (c .before .before .before .before .read2 .given .1) (c .before .before .before .before .before .before .before .before .args .kind) _ (c .before .before .index-in .ensures) _ (c .if1 .taken)
+returns c =
+    let r = c .before .before .before .before .before .before in
+    let h = found-font (r .before .before .args .font .now) _ (r .read-font .ensures) _ (c .before .before .before .before .read2 .given .1) in
+    refusal-none (r .before .before .args .font .now) _ _ h (r .before .before .args .kind) _ (c .before .before .index-in .ensures) _ (c .if1 .taken)
 
 returns-2 : tie.Need-returns-2
 returns-2 c = sym (ap (λ g. itemRefusal g (c .before .before .before .before .before .args .kind) (c .before .before .before .before .before .args .number)) (refused-as (c .before .before .before .before .before .args .font .now) _ (c .before .before .before .read-font .ensures) _ (c .before .read .given .1)))
 
 returns-3 : tie.Need-returns-3
-returns-3 c = refusal-six (c .before .before .before .before .before .before .before .before .args .font .now) _ (c .before .before .before .before .before .before .read-font .ensures) _ (c .before .before .before .before .read2 .given .1) (c .before .before .before .before .before .before .before .before .args .kind) _ (c .before .before .index-in .ensures) _ (c .if1 .left)
+returns-3 c =
+    let r = c .before .before .before .before .before .before in
+    let h = found-font (r .before .before .args .font .now) _ (r .read-font .ensures) _ (c .before .before .before .before .read2 .given .1) in
+    refusal-six (r .before .before .args .font .now) _ _ h (r .before .before .args .kind) _ (c .before .before .index-in .ensures) _ (c .if1 .left)
 
 pub item-refusal-spec : {M : Type 1} → statement M
 item-refusal-spec =

@@ -1,6 +1,6 @@
 -- `write::cut` meets its contract: a font that is refused leaves all as it was, and one that is read is cut.
 use borrow.Author.Needs.{needs}
-use Rattle.cff.specs.SetLaws.{refused-as, found-good-font, read-is}
+use Rattle.cff.specs.SetLaws.{refused-as, found-font}
 use Rattle.write.specs.EntryLaws.{unread-cuts}
 use Rattle.write.proofs.cut.Statement.{statement}
 use Rattle.write.proofs.cut.Tie as tie
@@ -15,7 +15,7 @@ enum-known-f : tie.Need-enum-known-f
 enum-known-f c = search needs
 
 cut-font-requires : tie.Need-cut-font-requires
-cut-font-requires c κs = let a = c .before .before .before .before .before in let f = a .before .before .before .before .before .before .before .args .font .now in (found-good-font f _ (a .read-font .ensures) _ (c .before .before .before .f .given .1), read-is f _ (a .read-font .ensures) _ (c .before .before .before .f .given .1))
+cut-font-requires c κs = let a = c .before .before .before .before .before in found-font (a .before .before .before .before .before .before .before .args .font .now) _ (a .read-font .ensures) _ (c .before .before .before .f .given .1)
 
 returns : tie.Need-returns
 returns c = let a = c .before .before .before in let s = a .before .before .before .before .before .before .before in unread-cuts (s .args .cid) (s .args .font .now) (s .args .name .now) (s .args .keep .now) (s .args .rows .now) (s .args .traced) (s .args .work .now) (s .args .out .now) (λ i. (a .before .before .before .before .before .before .shared-slice-known .given i) .fits) (λ i. (a .before .before .before .shared-slice-known4 .given i) .fits) _ (refused-as (s .args .font .now) _ (a .read-font .ensures) _ (c .before .n .given .1))
