@@ -69,7 +69,18 @@ fn cut_planned(
         return Answer::Refused(Refusal::OUTPUT);
     }
     let placed = PlacedCut { cut, encoding, at };
-    put_named(placed, font, name, slots, used, words, table, totals, rows, out);
+    put_named(
+        placed,
+        font,
+        name,
+        slots,
+        used,
+        words,
+        table,
+        totals,
+        rows,
+        out,
+    );
     Answer::Subset {
         way: kept.way,
         len: end,
@@ -121,11 +132,29 @@ fn cut_prepared(
         count: 1,
     };
     let c = CodedCut { cut, encoding };
-    cut_planned(c, font, name, slots, &used, words, &table, &totals, rows, out)
+    cut_planned(
+        c,
+        font,
+        name,
+        slots,
+        &used,
+        words,
+        &table,
+        &totals,
+        rows,
+        out,
+    )
 }
 
 // What the subset has of an encoding; its codes stand behind the sixteen slots.
-fn encode_behind(font: &[u8], f: Font, ask: bool, words: &[u32], k: usize, slots: &mut [usize]) -> Encoding
+fn encode_behind(
+    font: &[u8],
+    f: Font,
+    ask: bool,
+    words: &[u32],
+    k: usize,
+    slots: &mut [usize],
+) -> Encoding
     requires { ⌜ GoodFont (now font) f × (length (now font) ≤ 67108864) × (k ≤ f .charstrings .count) × (f .charstrings .count + k ≤ length (now words))
         × (take k (drop (f .charstrings .count) (now words))
         ≡ newIds (ownByName (programOf (now font) f) (orderIn k (now words))) (namesOf (programOf (now font) f) (orderIn k (now words))))

@@ -59,7 +59,16 @@ pub extern "C" fn cff_subset(
 {
     let asked = encoding != 0;
     let room = room_for(answer.len(), out.len());
-    let cut = write::subset(font, name, keep, rows, traced, asked, work, &mut out[..room]);
+    let cut = write::subset(
+        font,
+        name,
+        keep,
+        rows,
+        traced,
+        asked,
+        work,
+        &mut out[..room],
+    );
     put_cut(cut, answer)
 }
 

@@ -28,7 +28,7 @@ module _ (b : List ℕ) (p size : ℕ) (rest : List ℕ → ℕ) (e : entries si
   entries-there =
       let l : length b < suc (length b) = omega arith in
       let k : p + 1 + getD b p 0 * size < suc (length b) =
-          lt-of-not-le (λ (h : suc (length b) ≤ p + 1 + getD b p 0 * size). let z : 1 ≡ 0 = entries-lost b p size (getD b p 0) rest count-there refl h ∙ e in omega arith) in
+      lt-of-not-le (λ (h : suc (length b) ≤ p + 1 + getD b p 0 * size). let z : 1 ≡ 0 = entries-lost b p size (getD b p 0) rest count-there refl h ∙ e in omega arith) in
       omega arith
 
   rest-passed : rest (drop (p + 1 + getD b p 0 * size) b) ≡ 0

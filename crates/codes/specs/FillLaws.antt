@@ -42,8 +42,8 @@ module _ (b : List ℕ) (at count n : ℕ) (old table : List ℕ) (q glyph left 
         within = omega (arith, l .within);
         few = omega (arith, l .few);
         is = λ p h. number-next p n h table new code glyph (codesFrom (glyph + 1) (take (left - 1) (drop (q + 1) b))) e
-        ∙ ap (λ (k : ℕ). filled p table (byNumber k glyph ∷ codesFrom (glyph + 1) (take (left - 1) (drop (q + 1) b)))) c
-        ∙ ap (filled p table) (sym (codes-next b q left glyph some (l .within))) ∙ l .is p h;
+            ∙ ap (λ (k : ℕ). filled p table (byNumber k glyph ∷ codesFrom (glyph + 1) (take (left - 1) (drop (q + 1) b)))) c
+            ∙ ap (filled p table) (sym (codes-next b q left glyph some (l .within))) ∙ l .is p h;
       }
 
   pub codes-done : left ≤ 0 → Fills n old (codesFrom 1 (take count (drop at b))) table
@@ -72,7 +72,7 @@ module _ (n first from count : ℕ) (old table : List ℕ) (code glyph left : �
         codes = omega (arith, l .codes);
         few = omega (arith, l .few);
         is = λ p h. number-next p n h table new code glyph (rangeFrom (left - 1) (code + 1) (glyph + 1)) e
-        ∙ ap (filled p table) (sym (range-next left code glyph some)) ∙ l .is p h;
+            ∙ ap (filled p table) (sym (range-next left code glyph some)) ∙ l .is p h;
       }
 
   pub range-done : left ≤ 0 → Fills n old (rangeFrom count first from) table
@@ -102,10 +102,10 @@ module _ (b : List ℕ) (at count n : ℕ) (old table : List ℕ) (q glyph left 
         within = omega (arith, l .within);
         few = omega (arith, l .few);
         is = λ p h. ap (λ (t : List ℕ). filled p t rest) (f .is p h)
-        ∙ sym (filled-append p table (rangeFrom (more + 1) first glyph) rest)
-        ∙ ap (λ (x : ℕ). filled p table (rangeFrom (more + 1) x glyph ++ rest)) a
-        ∙ ap (λ (x : ℕ). filled p table (rangeFrom (x + 1) (getD b q 0) glyph ++ rangesFrom (left - 1) (glyph + (x + 1)) (drop (q + 2) b))) m
-        ∙ ap (filled p table) (sym (ranges-next b q left glyph some)) ∙ l .is p h;
+            ∙ sym (filled-append p table (rangeFrom (more + 1) first glyph) rest)
+            ∙ ap (λ (x : ℕ). filled p table (rangeFrom (more + 1) x glyph ++ rest)) a
+            ∙ ap (λ (x : ℕ). filled p table (rangeFrom (x + 1) (getD b q 0) glyph ++ rangesFrom (left - 1) (glyph + (x + 1)) (drop (q + 2) b))) m
+            ∙ ap (filled p table) (sym (ranges-next b q left glyph some)) ∙ l .is p h;
       }
 
   pub ranges-done : left ≤ 0 → Fills n old (rangesFrom count 1 (drop at b)) table
@@ -133,7 +133,7 @@ module _ (p : Program) (b : List ℕ) (at count : ℕ) (old table : List ℕ) (q
       let f : filled p new rest ≡ filled p table (byString code sid ∷ rest) = ap (λ (t : List ℕ). filled p t rest) e in
       let g : filled p table (byString code sid ∷ rest) ≡ filled p table (byString (getD b q 0) sid ∷ rest) = ap (λ (x : ℕ). filled p table (byString x sid ∷ rest)) c in
       let h : filled p table (byString (getD b q 0) sid ∷ rest) ≡ filled p table (byString (getD b q 0) (numAt b (q + 1) 2) ∷ rest) =
-          ap (λ (x : ℕ). filled p table (byString (getD b q 0) x ∷ rest)) s in
+      ap (λ (x : ℕ). filled p table (byString (getD b q 0) x ∷ rest)) s in
       record {
         size = ap length e ∙ stored-length table code (stringGlyph p sid) ∙ l .size;
         within = omega (arith, l .within);
@@ -205,8 +205,8 @@ module _ (p : Program) (b : List ℕ) (at n format count : ℕ) (many : length (
       let y : drop (m + 1) (drop (at + 2) b) ≡ drop (sups + 1) b = drop-drop (m + 1) (at + 2) b ∙ ap (λ (q : ℕ). drop q b) a in
       let t : eqb (format / 128) 0 ≡ false = ne-eqb (format / 128) 0 h in
       let z : behind ≡ suppliedFrom k (drop (sups + 1) b) =
-          ap (λ (c : Bool). pick c [] (suppliedFrom (getD (drop (at + 2) b) m 0) (drop (m + 1) (drop (at + 2) b)))) t
-          ∙ ap (λ (q : ℕ). suppliedFrom q (drop (m + 1) (drop (at + 2) b))) x ∙ ap (suppliedFrom k) y in
+      ap (λ (c : Bool). pick c [] (suppliedFrom (getD (drop (at + 2) b) m 0) (drop (m + 1) (drop (at + 2) b)))) t
+      ∙ ap (λ (q : ℕ). suppliedFrom q (drop (m + 1) (drop (at + 2) b))) x ∙ ap (suppliedFrom k) y in
       is ∙ sym (ap (filled p mid) z) ∙ all-namings
 
 -- what is read of it lies within the font

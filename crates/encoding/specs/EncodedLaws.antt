@@ -51,10 +51,10 @@ module _ (b : List ℕ) (f : Font) (own : List (List ℕ)) (words : List ℕ) (n
       let ns = namingsAt b (f .encoding) in
       let c : codingAt b (f .encoding) ≡ custom ns = coding-pairs b (f .encoding) custom-one in
       let is-pairs : pairsIn table 256 0 ≡ pairsFrom p ns (orderIn k words) own 256 0 =
-          pairs-same p own words n k front room ids ns named table
-          (λ x h. ap (λ (l : List ℕ). getD l x 0) e ∙ filled-empty p empty ns z x h) renames 256 0 (omega arith) in
+      pairs-same p own words n k front room ids ns named table
+      (λ x h. ap (λ (l : List ℕ). getD l x 0) e ∙ filled-empty p empty ns z x h) renames 256 0 (omega arith) in
       let is-coded : pairs (pairsIn table 256 0) ≡ codedBy p (orderIn k words) own (codingAt b (f .encoding)) =
-          ap pairs is-pairs ∙ ap (codedBy p (orderIn k words) own) (sym c) in
+      ap pairs is-pairs ∙ ap (codedBy p (orderIn k words) own) (sym c) in
       record { is = is-coded; kind-small = omega arith; many = many .0 ∙ ap pairCount is-coded; small = many .1 }
 
 pub encodes-none : (table : List ℕ) → Encodes none table (record { kind = 0; pairs = 0 })

@@ -67,7 +67,7 @@ module _ (table : List ℕ) (pairs c : ℕ) (l : Counting table pairs c) where
   pub counting-next : c < 256 → (held r : ℕ) → held ≡ getD table c 0 → r ≡ pick (eqb held 0) 0 1 → Counting table (pairs + r) (c + 1)
   counting-next h held r e f =
       let m : length (pairsIn table (256 - c) c) ≡ length (pairIn c (getD table c 0)) + length (pairsIn table (256 - (c + 1)) (c + 1)) =
-          ap length (pairs-more table c h) ∙ length-append (pairIn c (getD table c 0)) (pairsIn table (256 - (c + 1)) (c + 1)) in
+      ap length (pairs-more table c h) ∙ length-append (pairIn c (getD table c 0)) (pairsIn table (256 - (c + 1)) (c + 1)) in
       let o : r ≡ length (pairIn c (getD table c 0)) = f ∙ sym (one-length c held (eqb held 0)) ∙ ap (λ (x : ℕ). length (pairIn c x)) e in
       let q : r ≤ 1 = omega (arith, f, one-few (eqb held 0)) in
       record { within = omega arith; few = omega (arith, l .few); is = omega (arith, l .is) }

@@ -114,7 +114,14 @@ fn encode_asked(font: &[u8], f: Font, words: &[u32], k: usize, table: &mut [usiz
 
 // The encoding of the subset of a name-keyed font, where it is asked for. The first k words hold the kept glyphs, and the new ids of their names stand
 // from the number of glyphs on.
-pub fn encode(font: &[u8], f: Font, ask: bool, words: &[u32], k: usize, table: &mut [usize]) -> Encoding
+pub fn encode(
+    font: &[u8],
+    f: Font,
+    ask: bool,
+    words: &[u32],
+    k: usize,
+    table: &mut [usize],
+) -> Encoding
     requires { ⌜ GoodFont (now font) f × (length (now font) ≤ 67108864) × (k ≤ f .charstrings .count)
         × (f .charstrings .count + k ≤ length (now words))
         × (take k (drop (f .charstrings .count) (now words))

@@ -65,7 +65,15 @@ pub fn prepare_cid(font: &[u8], f: Font, slots: &mut [usize]) -> Own
 }
 
 // The length of the front for an Encoding at v, which is 0 or not, and a new name of so many bytes, whatever the offsets are.
-pub fn front_len(cid: bool, v: usize, font: &[u8], f: Font, name: usize, slots: &[usize], own: Own) -> usize
+pub fn front_len(
+    cid: bool,
+    v: usize,
+    font: &[u8],
+    f: Font,
+    name: usize,
+    slots: &[usize],
+    own: Own,
+) -> usize
     requires { ⌜ (SmallFont (now font) f) × (SlotsReady (programOf (now font) f) cid (now slots)) × (name ≤ 65535)
         × (own .count ≤ 65544) × (own .total ≤ 4398583382016) ⌝ }
     ensures { λ r. ⌜ (r ≡ frontLen cid v (programOf (now (font .entry)) f .top) (now (slots .entry)) name own) × (r ≤ 844424931000004) ⌝ }

@@ -112,7 +112,15 @@ pub fn put_named(
     let charstrings = f.charstrings;
     let p = front::put_front_named(font, f, name, slots, own, words, kept.count, at, out);
     let q = put_globals(r, font, f, used, words, table, rows, out, p);
-    let t = put_tables(c.encoding, charstrings.count, kept.count, slots, words, out, q);
+    let t = put_tables(
+        c.encoding,
+        charstrings.count,
+        kept.count,
+        slots,
+        words,
+        out,
+        q,
+    );
     put_glyphs(r, font, f, used, words, table, totals, rows, out, t)
 }
 

@@ -52,13 +52,34 @@ fn cut_font(
         (now (work .exit)) (now (out .exit)) r ⌝ }
 {
     let table = cff::set::table(font, f);
-    let n = early_refusals::refusal(cid, ask, table, f, name.len(), keep, rows, traced, work.len());
+    let n = early_refusals::refusal(
+        cid,
+        ask,
+        table,
+        f,
+        name.len(),
+        keep,
+        rows,
+        traced,
+        work.len(),
+    );
     if 0 < n {
         return Answer::Refused(n);
     }
     let w = early_refusals::work_size(f);
     let words = &mut work[..w];
-    let r = cut_glyphs(cid, ask, table, f, name, keep, rows, traced, &mut *words, out);
+    let r = cut_glyphs(
+        cid,
+        ask,
+        table,
+        f,
+        name,
+        keep,
+        rows,
+        traced,
+        &mut *words,
+        out,
+    );
     reach::ranks::clear(words);
     r
 }

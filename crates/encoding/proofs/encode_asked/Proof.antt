@@ -27,7 +27,7 @@ same-length : tie.Need-same-length
 same-length c = search needs
 
 returns-2 : tie.Need-returns-2
-returns-2 c = 
+returns-2 c =
     let s = c .before .before .before .before .before .before .before .before .before .before .before .before .before .before .before in
     encodes-pairs _ (s .args .f) _ _ _ _ (s .pre .2) (s .pre .3) (s .pre .4) (c .before .before .before .before .before .before .before .before .before .before .if1 .left) _ _ _ refl (c .before .before .before .before .before .before .before .before .fill .ensures) (c .before .before .before .before .rename .ensures) _ (c .pair-count .ensures)
 

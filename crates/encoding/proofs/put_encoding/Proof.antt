@@ -11,7 +11,7 @@ returns : tie.Need-returns
 returns c = predefined-wrote _ _ _ _ (c .if1 .taken)
 
 put-pair-requires : tie.Need-put-pair-requires
-put-pair-requires c κs = 
+put-pair-requires c κs =
     let s = c .before .before .before .before in
     let a = s .args in
     let h : a .at + 2 ≤ length (a .out .now) = omega (arith, whole-room (a .out .now) (a .at) (a .table .now) (a .e) (s .pre .0) (c .before .if1 .left) (s .pre .3)) in

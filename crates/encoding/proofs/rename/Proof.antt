@@ -40,7 +40,7 @@ loop-less : tie.Need-loop-less Inv-loop μ-loop
 loop-less c = omega (arith, c .before .before .loop-test .taken)
 
 loop-again : tie.Need-loop-again Inv-loop μ-loop
-loop-again c = 
+loop-again c =
     let l = c .before .before .before .loop in
     (renames-next _ _ _ _ _ _ _ (l .inv .0) (omega (arith, l .inv .1, c .before .before .loop-test .taken, c .before .before .before .before .before .before .before .pre .3)) (c .held-for .ensures), length-set (l .table) (l .code) (c .held-for .result) ∙ l .inv .1)
 
