@@ -42,7 +42,8 @@ extern "C" {
 /* Refusals: document 01, 'Entries and their refusals', and document 02. The first five and CFF_NO_TABLE are reading's. */
 #define CFF_TRUNCATED 1      /* a structure ends before what was being read */
 #define CFF_MALFORMED 2      /* another fault in a structure */
-#define CFF_UNSUPPORTED 3    /* a form that is not handled; to subsetting also a font of the other keying or a stroked one */
+#define CFF_UNSUPPORTED 3    /* a form that is not handled; to subsetting also a font of the other keying, a stroked one, or the Expert
+                                encoding where the subset is to have none */
 #define CFF_TOO_LONG 4       /* a file of more than 67,108,864 bytes; a new name of more than 65,535 */
 #define CFF_REAL 5           /* a well-formed real past its limits */
 #define CFF_NO_SUCH_NUMBER 6 /* no item of that number, or no such kind; to subsetting a number past the font's glyphs */
@@ -52,6 +53,7 @@ extern "C" {
 #define CFF_SUBSET 10        /* a subset of more than 67,108,864 bytes */
 #define CFF_OUTPUT 11        /* fewer elements lent than the answer has */
 #define CFF_STRING_ID 12     /* a string id above 64,999 */
+#define CFF_PAIRS 13         /* an encoding of more than 255 codes of kept glyphs */
 #define CFF_NO_TABLE 15      /* an OpenType file without a table `CFF ` */
 
 /* The words of cff_read's answer. */
@@ -97,17 +99,23 @@ uint8_t cff_item_refusal(const uint8_t *font, size_t font_len, uint8_t kind, uin
    the subset to the start of out, and answers two words: the way and the length. A kept glyph that is plain, and for which the
    record lists what it meets, or the flag is 0, is found in the subset by its name and unfolds there to the same list.
 
+   encoding says whether the subset is to have the font's encoding, for a printer that is driven by codes: 0 no, any other yes. With
+   it each code whose glyph is kept has the glyph of the same name in the subset, and no other code has any: its codes stand behind
+   the charset, rising, each with a string id; of the standard encoding nothing is written, of the Expert one its number, 1. All 256
+   codes are refused by CFF_PAIRS. Without it a subset has no encoding, which means the standard one, and a font with the Expert
+   encoding is refused by CFF_UNSUPPORTED. Each supplement of the font's encoding, 255 at most, costs a look through the glyphs' names.
+
    The refusals are reading's, then CFF_UNSUPPORTED, CFF_MALFORMED, CFF_TOO_LONG, CFF_NO_SUCH_NUMBER, CFF_NOT_FOUND, CFF_RECORD,
-   CFF_WORK_WORDS, CFF_STRING_ID, CFF_SUBSET, CFF_OUTPUT, in this order; CFF_OUTPUT also for fewer than two words of answer. With
-   a refusal out and answer stay as they were.
+   CFF_WORK_WORDS, CFF_STRING_ID, CFF_PAIRS, CFF_SUBSET, CFF_OUTPUT, in this order; CFF_OUTPUT also for fewer than two words of
+   answer. With a refusal out and answer stay as they were.
 
    The first W work words (CFF_WORK of cff_read) end as zeros with 0 and with each refusal after CFF_WORK_WORDS in this order. With
    the others all stay as they were, and those behind W always do. */
 uint8_t cff_subset(const uint8_t *font, size_t font_len, const uint8_t *name, size_t name_len, const uint16_t *keep,
-                   size_t keep_len, const uint8_t *record, size_t record_len, uint8_t traced, uint32_t *work, size_t work_len,
-                   uint8_t *out, size_t out_len, uint64_t *answer, size_t answer_len);
+                   size_t keep_len, const uint8_t *record, size_t record_len, uint8_t traced, uint8_t encoding, uint32_t *work,
+                   size_t work_len, uint8_t *out, size_t out_len, uint64_t *answer, size_t answer_len);
 
-/* The same for a CID-keyed font, in which glyphs are found by their CIDs. */
+/* The same for a CID-keyed font, in which glyphs are found by their CIDs. It has no codes, and its subset no encoding. */
 uint8_t cff_subset_cid(const uint8_t *font, size_t font_len, const uint8_t *name, size_t name_len, const uint16_t *keep,
                        size_t keep_len, const uint8_t *record, size_t record_len, uint8_t traced, uint32_t *work,
                        size_t work_len, uint8_t *out, size_t out_len, uint64_t *answer, size_t answer_len);

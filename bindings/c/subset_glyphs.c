@@ -1,6 +1,8 @@
 /* Cuts a CFF font, an OpenType file (.otf) as it is or a bare font, down to glyph 0 and the glyphs that are named by their numbers.
 
-       subset_glyphs FONT NAME OUTPUT GLYPH...
+       subset_glyphs [-e] FONT NAME OUTPUT GLYPH...
+
+   With -e the subset of a name-keyed font has the font's encoding: its codes have the glyphs that they had, where these are kept.
 
    The glyphs are traced: the subset has only the subroutines that they reach, or all where one of them is not plain. A glyph that is
    composed of others (endchar with four operands) is not, and is kept without its parts: name those too. */
@@ -95,8 +97,11 @@ static struct record traced(const uint8_t *font, size_t font_len, const uint16_t
 
 int main(int argc, char **argv)
 {
+    uint8_t encoding = argc > 1 && strcmp(argv[1], "-e") == 0;
+    argc -= encoding;
+    argv += encoding;
     if (argc < 4)
-        fail("usage: subset_glyphs FONT NAME OUTPUT GLYPH...");
+        fail("usage: subset_glyphs [-e] FONT NAME OUTPUT GLYPH...");
     size_t font_len;
     uint8_t *font = file_bytes(argv[1], &font_len);
     uint64_t counts[CFF_COUNTS];
@@ -120,10 +125,14 @@ int main(int argc, char **argv)
     size_t out_len = 67108864;
     uint8_t *out = allocated(out_len);
     uint64_t answer[CFF_SUBSET_WORDS];
-    uint8_t (*cut)(const uint8_t *, size_t, const uint8_t *, size_t, const uint16_t *, size_t, const uint8_t *, size_t, uint8_t,
-                   uint32_t *, size_t, uint8_t *, size_t, uint64_t *, size_t) = counts[CFF_CID] ? cff_subset_cid : cff_subset;
-    check(cut(font, font_len, (const uint8_t *)argv[2], strlen(argv[2]), keep, keep_len, record.bytes, record.len, record.flag, work,
-              work_len, out, out_len, answer, CFF_SUBSET_WORDS));
+    const uint8_t *name = (const uint8_t *)argv[2];
+    size_t name_len = strlen(argv[2]);
+    if (counts[CFF_CID])
+        check(cff_subset_cid(font, font_len, name, name_len, keep, keep_len, record.bytes, record.len, record.flag, work, work_len,
+                             out, out_len, answer, CFF_SUBSET_WORDS));
+    else
+        check(cff_subset(font, font_len, name, name_len, keep, keep_len, record.bytes, record.len, record.flag, encoding, work,
+                         work_len, out, out_len, answer, CFF_SUBSET_WORDS));
 
     write_file(argv[3], out, (size_t)answer[CFF_LENGTH]);
     static const char *const ways[] = {"renumbered", "stubbed where they are not reached", "copied"};

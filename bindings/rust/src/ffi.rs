@@ -69,7 +69,8 @@ unsafe extern "C" {
         size_len: usize,
     ) -> u8;
 
-    /// The subset of a name-keyed font: font, new name, kept numbers, record, flag, work words, output, answer.
+    /// The subset of a name-keyed font: font, new name, kept numbers, record, flag, whether with the font's encoding, work words,
+    /// output, answer.
     pub fn cff_subset(
         font: *const u8,
         font_len: usize,
@@ -80,6 +81,7 @@ unsafe extern "C" {
         record: *const u8,
         record_len: usize,
         traced: u8,
+        encoding: u8,
         work: *mut u32,
         work_len: usize,
         out: *mut u8,

@@ -212,6 +212,28 @@ impl<'a> Font<'a> {
     /// reach. Work words and output are allocated for the call; W above 33,554,432 is refused by [`Refusal::Work`], and
     /// [`Font::subset_into`] takes as many as the caller lends.
     pub fn subset(&self, name: &[u8], keep: &[u16], record: &Record) -> Result<Subset, Refusal> {
+        self.subset_as(name, keep, record, false)
+    }
+
+    /// The same with the font's own encoding (document 02, Wish 4): each code whose glyph is kept has that glyph in the subset, and
+    /// no other code has any. All 256 codes are one too many ([`Refusal::Pairs`]). A CID-keyed font has no codes: its subset is that
+    /// of [`Font::subset`].
+    pub fn subset_with_encoding(
+        &self,
+        name: &[u8],
+        keep: &[u16],
+        record: &Record,
+    ) -> Result<Subset, Refusal> {
+        self.subset_as(name, keep, record, true)
+    }
+
+    fn subset_as(
+        &self,
+        name: &[u8],
+        keep: &[u16],
+        record: &Record,
+        encoding: bool,
+    ) -> Result<Subset, Refusal> {
         // Without work words the call is refused in document 01's order, by 9 at the latest.
         let mut work = zeros(self.work_words()).unwrap_or_default();
         // A subset of all glyphs may be a little longer than its font; where there is no room, it is asked for again with more.
@@ -222,7 +244,7 @@ impl<'a> Font<'a> {
             // SAFETY: `out` has room for as many bytes, of which the call only writes the first, as many as it answers.
             let answer = unsafe {
                 let (at, len) = (out.as_mut_ptr(), out.capacity());
-                self.cut(name, keep, record, &mut work, at, len)
+                self.cut(name, keep, record, encoding, &mut work, at, len)
             };
             match answer {
                 Err(Refusal::Output) if wanted < LONGEST => wanted = (2 * wanted).min(LONGEST),
@@ -237,7 +259,7 @@ impl<'a> Font<'a> {
         }
     }
 
-    /// The same in lent memory: the way, and the length of the subset, which stands in the front of the output. A refusal
+    /// [`Font::subset`] in lent memory: the way, and the length of the subset, which stands in the front of the output. A refusal
     /// leaves the output as it was; the first W work words end as zeros from [`Refusal::Work`] passed on.
     pub fn subset_into(
         &self,
@@ -248,7 +270,7 @@ impl<'a> Font<'a> {
         out: &mut [u8],
     ) -> Result<(Way, usize), Refusal> {
         // SAFETY: `out` is lent for the call.
-        unsafe { self.cut(name, keep, record, work, out.as_mut_ptr(), out.len()) }
+        unsafe { self.cut(name, keep, record, false, work, out.as_mut_ptr(), out.len()) }
     }
 
     /// The entry of the font's keying.
@@ -256,40 +278,39 @@ impl<'a> Font<'a> {
     /// # Safety
     ///
     /// From `out` on as many bytes can be written as `out_len` says, and nothing else that is lent lies there.
+    #[allow(clippy::too_many_arguments)]
     unsafe fn cut(
         &self,
         name: &[u8],
         keep: &[u16],
         record: &Record,
+        encoding: bool,
         work: &mut [u32],
         out: *mut u8,
         out_len: usize,
     ) -> Result<(Way, usize), Refusal> {
-        let call = if self.is_cid_keyed() {
-            ffi::cff_subset_cid
-        } else {
-            ffi::cff_subset
-        };
+        let (font, font_len) = (self.bytes.as_ptr(), self.bytes.len());
+        let (name, name_len) = (name.as_ptr(), name.len());
+        let (kept, kept_len) = (keep.as_ptr(), keep.len());
+        let (rows, rows_len) = (record.bytes().as_ptr(), record.bytes().len());
+        let flag = u8::from(record.is_traced());
+        let (words, words_len) = (work.as_mut_ptr(), work.len());
         let mut answer = [0; ffi::ANSWER];
+        let (told, told_len) = (answer.as_mut_ptr(), answer.len());
         // SAFETY: the slices are lent for the call, and those for writing do not overlap any other.
         let returned = unsafe {
-            call(
-                self.bytes.as_ptr(),
-                self.bytes.len(),
-                name.as_ptr(),
-                name.len(),
-                keep.as_ptr(),
-                keep.len(),
-                record.bytes().as_ptr(),
-                record.bytes().len(),
-                u8::from(record.is_traced()),
-                work.as_mut_ptr(),
-                work.len(),
-                out,
-                out_len,
-                answer.as_mut_ptr(),
-                answer.len(),
-            )
+            if self.is_cid_keyed() {
+                ffi::cff_subset_cid(
+                    font, font_len, name, name_len, kept, kept_len, rows, rows_len, flag, words,
+                    words_len, out, out_len, told, told_len,
+                )
+            } else {
+                let asked = u8::from(encoding);
+                ffi::cff_subset(
+                    font, font_len, name, name_len, kept, kept_len, rows, rows_len, flag, asked,
+                    words, words_len, out, out_len, told, told_len,
+                )
+            }
         };
         Refusal::check(returned)?;
         let way = match answer[0] {

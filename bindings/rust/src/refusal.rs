@@ -11,7 +11,8 @@ pub enum Refusal {
     Truncated = 1,
     /// Another fault in a structure of the font.
     Malformed = 2,
-    /// A form that is not handled, a font of the other keying, or, to subsetting, a stroked font.
+    /// A form that is not handled, a font of the other keying, or, to subsetting, a stroked font, or one with the Expert encoding
+    /// that the subset is not to have.
     Unsupported = 3,
     /// A font of more than 67,108,864 bytes, or a new name of more than 65,535.
     TooLong = 4,
@@ -31,13 +32,15 @@ pub enum Refusal {
     Output = 11,
     /// A subset with a string id above 64,999.
     Strings = 12,
+    /// An encoding of more than 255 codes of kept glyphs, all 256: document 02, Wish 4.
+    Pairs = 13,
     /// An OpenType file without a table `CFF `.
     NoTable = 15,
 }
 
 impl Refusal {
     /// All refusals, by number.
-    pub const ALL: [Refusal; 13] = [
+    pub const ALL: [Refusal; 14] = [
         Refusal::Truncated,
         Refusal::Malformed,
         Refusal::Unsupported,
@@ -50,6 +53,7 @@ impl Refusal {
         Refusal::SubsetTooLong,
         Refusal::Output,
         Refusal::Strings,
+        Refusal::Pairs,
         Refusal::NoTable,
     ];
 
@@ -89,6 +93,7 @@ impl fmt::Display for Refusal {
             Refusal::SubsetTooLong => "the subset is too long",
             Refusal::Output => "too little room for the answer",
             Refusal::Strings => "the subset has too many strings",
+            Refusal::Pairs => "the subset has too many codes",
             Refusal::NoTable => "the OpenType file has no table of CFF outlines",
         })
     }

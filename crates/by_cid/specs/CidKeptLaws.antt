@@ -23,6 +23,7 @@ use Rattle.subset.specs.KeptListLaws.{those-has}
 use Rattle.subset.specs.EachLaws.{length-mapped}
 use Rattle.subset.specs.Pruned.{countBelow, pruned}
 use Rattle.subset.specs.Subset.{ownByCid, newFds, subsetByCid}
+use Rattle.subset.specs.Codes.{none}
 use Rattle.subset.specs.Cut.{Outcome, written}
 use Rattle.faithful.specs.KeptLaws.{kept-some, order-same, order-in, all-below}
 use Rattle.faithful.specs.UsedLaws.{used-there}
@@ -232,15 +233,15 @@ module _ (b : List ℕ) (f : Font) (held : FontHeld b f) where
         pub cut-planned : (name : List ℕ) (room flag : ℕ) → true ≡ cidKeyed (p .top) → length (ownByCid p) ≤ 64609
             → record { way = r .kept .way; bodies = bodiesFor b f rows used new r } ≡ pruned p rows (fdsIn used) (orderIn k ws) flag
             → {out out' : List ℕ} {a : Answer} → Cut (sized (r .kept .way) (cidBytes b f rows used new r name) room) out out' a
-            → Cut (written p name kept order room (pruned p rows (usedFds p kept) order flag)) out out' a
+            → Cut (written p none name kept order room (pruned p rows (usedFds p kept) order flag)) out out' a
         unfolding cidBytes
         cut-planned name room flag keyed few plans {out} {out'} {a} x =
             let bodies = bodiesFor b f rows used new r in
             let q : pruned p rows (usedFds p kept) order flag ≡ record { way = r .kept .way; bodies = bodies }
             = ap (λ (l : List ℕ). pruned p rows l order flag) (sym fds-used) ∙ ap (λ (l : List ℕ). pruned p rows (fdsIn used) l flag) (sym order-held) ∙ sym plans in
-            let e : written p name kept order room (pruned p rows (usedFds p kept) order flag)
+            let e : written p none name kept order room (pruned p rows (usedFds p kept) order flag)
             ≡ sized (r .kept .way) (subsetByCid p name (fdsIn used) (orderIn (r .kept .count) new) bodies) room
-            = ap (written p name kept order room) q ∙ cut-sized p name kept order room (record { way = r .kept .way; bodies = bodies }) keyed few
+            = ap (written p none name kept order room) q ∙ cut-sized p name kept order room (record { way = r .kept .way; bodies = bodies }) keyed few
             ∙ ap (λ (l : List ℕ). sized (r .kept .way) (subsetByCid p name l order bodies) room) (sym fds-used)
             ∙ ap (λ (l : List ℕ). sized (r .kept .way) (subsetByCid p name (fdsIn used) l bodies) room) (sym order-planned) in
             subst (λ (o : Outcome). Cut o out out' a) (sym e) x

@@ -1,6 +1,6 @@
 // The cut of a CID-keyed font (the Rust's subset_cid).
 ghost use mathlib.Core.Path.{_≡_};
-ghost use mathlib.Core.Bool.{true};
+ghost use mathlib.Core.Bool.{true, false};
 ghost use Prim.Native.Nat.{_≤_};
 ghost use lib.ListN.{length};
 ghost use Rattle.record.specs.Record.{rowsOf};
@@ -111,7 +111,7 @@ fn write_planned(
     let mut listed = [0usize; 256];
     fds::parts::list_used(used, &mut listed);
     let matrices = private_dicts::matrices_len(font, f, &listed, cut.count);
-    let front = front::front_len(true, font, f, name.len(), slots, own);
+    let front = front::front_len(true, 0, font, f, name.len(), slots, own);
     let globals = parts::globals_len(r);
     let select = glyph_tables::select::select_len(words, charstrings.count, k, used);
     let glyphs = parts::glyphs_len(r);
@@ -133,8 +133,8 @@ pub fn cut_cid(
     out: &mut [u8],
 ) -> Answer
     requires { ⌜ (FontHeld (now font) f)
-        × (Passed true (programOf (now font) f) (length (now name)) (now keep) (now rows) traced (length (now words))) ⌝ }
-    ensures { λ r. ⌜ Cut (cutBehind (programOf (now (font .entry)) f) (now (name .entry)) (now (keep .entry)) (now (rows .entry)) traced (length (now (out .entry))))
+        × (Passed true false (programOf (now font) f) (length (now name)) (now keep) (now rows) traced (length (now words))) ⌝ }
+    ensures { λ r. ⌜ Cut (cutBehind false (programOf (now (font .entry)) f) (now (name .entry)) (now (keep .entry)) (now (rows .entry)) traced (length (now (out .entry))))
         (now (out .entry)) (now (out .exit)) r ⌝ }
 {
     let charstrings = f.charstrings;

@@ -28,6 +28,7 @@ use Rattle.front.specs.ByNameLaws.{renamed-stays}
 use Rattle.own_strings.specs.declared.Own.{Own}
 use Rattle.parts.specs.Ready.{PlanIn, bodiesFor, Ready, Summed}
 use Rattle.parts.specs.declared.Planned.{Planned}
+use Rattle.subset.specs.Codes.{Coded}
 use Rattle.outcome.specs.BothLaws.{part-stays}
 use Rattle.outcome.specs.Entry.{Cut}
 use Rattle.named_parts.specs.Named.{namedOutcome, NamedPlan, NamedStrings, NamedCut, firstFd}
@@ -124,10 +125,10 @@ module _ (b : List ℕ) (f : Font) (ws : List ℕ) (k : ℕ) (h : NamedCut b f w
     prepared-strings slots own m s = subst (λ (l : List ℕ). NamedStrings p l slots own m) (sym order-same) s
 
     pub prepared-cut : (traced : ℕ) → record { way = r .kept .way; bodies = bodiesFor b f rows used ws' r } ≡ pruned p rows (fdsIn used) order traced
-        → (name out out' : List ℕ) (a : Answer)
-        → Cut (namedOutcome p name (orderIn (r .kept .count) ws') (length out) (record { way = r .kept .way; bodies = bodiesFor b f rows used ws' r })) out out' a
-        → Cut (namedOutcome p name order (length out) (pruned p rows (0 ∷ []) order traced)) out out' a
-    prepared-cut traced e name out out' a c =
-        subst (λ (fs : List ℕ). Cut (namedOutcome p name order (length out) (pruned p rows fs order traced)) out out' a) only
-        (subst (λ (q : Pruned). Cut (namedOutcome p name order (length out) q) out out' a) e
-        (subst (λ (l : List ℕ). Cut (namedOutcome p name l (length out) (record { way = r .kept .way; bodies = bodiesFor b f rows used ws' r })) out out' a) order-same c))
+        → (coded : Coded) (name out out' : List ℕ) (a : Answer)
+        → Cut (namedOutcome p coded name (orderIn (r .kept .count) ws') (length out) (record { way = r .kept .way; bodies = bodiesFor b f rows used ws' r })) out out' a
+        → Cut (namedOutcome p coded name order (length out) (pruned p rows (0 ∷ []) order traced)) out out' a
+    prepared-cut traced e coded name out out' a c =
+        subst (λ (fs : List ℕ). Cut (namedOutcome p coded name order (length out) (pruned p rows fs order traced)) out out' a) only
+        (subst (λ (q : Pruned). Cut (namedOutcome p coded name order (length out) q) out out' a) e
+        (subst (λ (l : List ℕ). Cut (namedOutcome p coded name l (length out) (record { way = r .kept .way; bodies = bodiesFor b f rows used ws' r })) out out' a) order-same c))

@@ -13,7 +13,7 @@ use Rattle.octets.specs.Pick.{pick, pick-ind}
 use Rattle.octets.specs.Octets.{put}
 use Rattle.octets.specs.PutLaws.{put-two}
 use Rattle.octets.specs.Lists.{allBelow}
-use Rattle.dict.specs.Lookup.{rosIn, cidKeyed, strokedIn}
+use Rattle.dict.specs.Lookup.{rosIn, cidKeyed}
 use Rattle.record.specs.Record.{rowsOf, recordFine}
 use Rattle.cff.specs.Font.{Got, refused as refusedFont, got, Program, readFont}
 use Rattle.cff.specs.Find.{workSize}
@@ -21,8 +21,10 @@ use Rattle.cff.specs.ReadingRefusals.{FileRefusal, reading-refusal}
 use Rattle.subset.specs.Kept.{keptOf, writtenOrder, usedFds}
 use Rattle.subset.specs.Pruned.{Pruned, Bodies, pruned}
 use Rattle.subset.specs.Subset.{subsetByName, subsetByCid, subsetBytes}
-use Rattle.subset.specs.Cut.{Outcome, refused as refusedCut, subset, allFound, hasRos, sameBool, ownOf, written, cutProgram, cutRead, cutOf, leavesOut, leavesWork}
+use Rattle.subset.specs.Codes.{Coded, codedIf, pairCount}
+use Rattle.subset.specs.Cut.{Outcome, refused as refusedCut, subset, allFound, hasRos, sameBool, ownOf, written, cutProgram, cutRead, cutOf, leavesOut, leavesWork, unsupportedIn}
 use Rattle.faithful.specs.Faithful.{Faithful}
+use Rattle.faithful.specs.Codes.{KeepsCodes}
 use Rattle.outcome.specs.Entry.{answerOf, workIn, Cuts}
 use Rattle.outcome.specs.declared.Answer.{Answer as CutAnswer}
 use Rattle.capi.specs.Capi.{Answer, refused, given, Answers}
@@ -53,38 +55,39 @@ module _ (room : ℕ) where
       (λ e. sound-subset some (ltb-false room (length bs) e))
 
 -- a subset has a header
-bytes-some : (p : Program) (name kept order : List ℕ) (b : Bodies) → 0 < length (subsetBytes p name kept order b)
+bytes-some : (p : Program) (coded : Coded) (name kept order : List ℕ) (b : Bodies) → 0 < length (subsetBytes p coded name kept order b)
 unfolding subsetBytes subsetByCid subsetByName
-bytes-some p name kept order b =
-    pick-ind (λ (l : List ℕ). 0 < length l) (cidKeyed (p .top)) (subsetByCid p name (usedFds p kept) order b) (subsetByName p name order b)
+bytes-some p coded name kept order b =
+    pick-ind (λ (l : List ℕ). 0 < length l) (cidKeyed (p .top)) (subsetByCid p name (usedFds p kept) order b) (subsetByName p coded name order b)
     (λ e. omega arith) (λ e. omega arith)
 
-written-sound : (p : Program) (name kept order : List ℕ) (room : ℕ) (q : Pruned) → Sound room (written p name kept order room q)
-written-sound p name kept order room q =
-    let bs = subsetBytes p name kept order (q .bodies) in
+written-sound : (p : Program) (coded : Coded) (name kept order : List ℕ) (room : ℕ) (q : Pruned) → Sound room (written p coded name kept order room q)
+written-sound p coded name kept order room q =
+    let bs = subsetBytes p coded name kept order (q .bodies) in
     unless room (ltb 64609 (length (ownOf p order))) 12 _ (omega arith) (omega arith)
-    (unless room (ltb 67108864 (length bs)) 10 _ (omega arith) (omega arith) (roomy room (q .way) bs (bytes-some p name kept order (q .bodies))))
+    (unless room (ltb 255 (pairCount coded)) 13 _ (omega arith) (omega arith)
+    (unless room (ltb 67108864 (length bs)) 10 _ (omega arith) (omega arith) (roomy room (q .way) bs (bytes-some p coded name kept order (q .bodies)))))
 
-module _ (cid : Bool) (name keep rec : List ℕ) (flag words room : ℕ) where
-  program-sound : (p : Program) → Sound room (cutProgram cid p name keep rec flag words room)
+module _ (cid ask : Bool) (name keep rec : List ℕ) (flag words room : ℕ) where
+  program-sound : (p : Program) → Sound room (cutProgram cid ask p name keep rec flag words room)
   program-sound p =
       let kept = keptOf (length (p .charstrings)) keep in
       let order = writtenOrder p kept in
       provided room (sameBool cid (cidKeyed (p .top))) 3 _ (omega arith) (omega arith)
-      (unless room (strokedIn (p .top)) 3 _ (omega arith) (omega arith)
+      (unless room (unsupportedIn ask p) 3 _ (omega arith) (omega arith)
       (provided room (pick cid (hasRos (rosIn (p .top))) true) 2 _ (omega arith) (omega arith)
       (unless room (ltb 65535 (length name)) 4 _ (omega arith) (omega arith)
       (provided room (allBelow (length (p .charstrings)) keep) 6 _ (omega arith) (omega arith)
       (provided room (allFound p kept) 7 _ (omega arith) (omega arith)
       (provided room (recordFine cid rec flag) 8 _ (omega arith) (omega arith)
       (unless room (ltb words (workSize p)) 9 _ (omega arith) (omega arith)
-      (written-sound p name kept order room (pruned p (rowsOf rec) (usedFds p kept) order flag)))))))))
+      (written-sound p (codedIf ask p kept (ownOf p order)) name kept order room (pruned p (rowsOf rec) (usedFds p kept) order flag)))))))))
 
-  read-sound : (g : Got Program) → ((n : ℕ) → g ≡ refusedFont n → FileRefusal n) → Sound room (cutRead cid g name keep rec flag words room)
+  read-sound : (g : Got Program) → ((n : ℕ) → g ≡ refusedFont n → FileRefusal n) → Sound room (cutRead cid ask g name keep rec flag words room)
   read-sound (refusedFont n) low = let r = low n refl in sound-refused (r .least) (r .most)
   read-sound (got p) low = program-sound p
 
-  pub cut-sound : (font : List ℕ) → Sound room (cutOf cid font name keep rec flag words room)
+  pub cut-sound : (font : List ℕ) → Sound room (cutOf cid ask font name keep rec flag words room)
   unfolding cutOf
   cut-sound font = read-sound (readFont font) (reading-refusal font)
 
@@ -123,18 +126,18 @@ room-whole : (t : Bool) (n way : ℕ) (bs : List ℕ) → Sound (pick t 0 n) (su
 room-whole true n way bs s = absurd (no-subset 0 way bs s refl)
 room-whole false n way bs s = refl
 
-module _ (cid : Bool) (font name keep rec : List ℕ) (flag : ℕ) (work out answer : List ℕ) where
+module _ (cid ask : Bool) (font name keep rec : List ℕ) (flag : ℕ) (work out answer : List ℕ) where
   abbrev outcome : ℕ → Outcome
-  outcome room = cutOf cid font name keep rec flag (length work) room
+  outcome room = cutOf cid ask font name keep rec flag (length work) room
 
   pub cut-answers : (r : ℕ) → r ≡ roomFor (length answer) (length out) → (work' part answer' : List ℕ) (a : CutAnswer) (n : ℕ)
-      → Cuts cid font name keep rec flag work (take r out) work' part a → Answers (cutAnswer a) answer answer' n
-      → AnswersCut cid font name keep rec flag work out answer work' (part ++ drop r out) answer' n
+      → Cuts cid ask font name keep rec flag work (take r out) work' part a → Answers (cutAnswer a) answer answer' n
+      → AnswersCut cid ask font name keep rec flag work out answer work' (part ++ drop r out) answer' n
   cut-answers r is work' part answer' a n h k =
       let room = roomFor (length answer) (length out) in
       let e : outcome (length (take r out)) ≡ outcome room = ap outcome (sym (room-taken (length answer) out r is) ∙ is) in
       let all : (way : ℕ) (bs : List ℕ) → outcome room ≡ subset way bs → r ≡ length out =
-      λ way bs q. is ∙ room-whole (ltb (length answer) 2) (length out) way bs (subst (Sound room) q (cut-sound cid name keep rec flag (length work) room font)) in
+      λ way bs q. is ∙ room-whole (ltb (length answer) 2) (length out) way bs (subst (Sound room) q (cut-sound cid ask name keep rec flag (length work) room font)) in
       record {
         answers = subst (λ (x : CutAnswer). Answers (cutAnswer x) answer answer' n) (h .answers ∙ ap answerOf e) k;
         output =
@@ -142,6 +145,7 @@ module _ (cid : Bool) (font name keep rec : List ℕ) (flag : ℕ) (work out ans
             ∙ front-back (outcome room) r out all;
         words = h .words ∙ ap (λ (o : Outcome). leavesWork o (workIn (readFont font)) work) e;
         faithful = subst (Faithful font keep rec flag) e (h .faithful);
+        codes = subst (KeepsCodes ask font keep) e (h .codes);
       }
 
 -- ---- what the number that a call returns says
@@ -166,9 +170,9 @@ module _ (out out' answer answer' : List ℕ) where
   says-cut (refusedCut n) r (sound-refused l m) f h = says-refused n r l m (h .number) f (h .written)
   says-cut (subset way bs) r s f h = says-subset (ltb (length answer) 2) way bs r s f (h .number) (h .written)
 
-pub cut-says : (cid : Bool) (font name keep rec : List ℕ) (flag : ℕ) (work out answer work' out' answer' : List ℕ) (r : ℕ)
-    → AnswersCut cid font name keep rec flag work out answer work' out' answer' r
-    → SaysCut (outcomeFor cid font name keep rec flag work out answer) out out' answer answer' r
-cut-says cid font name keep rec flag work out answer work' out' answer' r h =
-    says-cut out out' answer answer' (outcomeFor cid font name keep rec flag work out answer) r
-    (cut-sound cid name keep rec flag (length work) (roomFor (length answer) (length out)) font) (h .output) (h .answers)
+pub cut-says : (cid ask : Bool) (font name keep rec : List ℕ) (flag : ℕ) (work out answer work' out' answer' : List ℕ) (r : ℕ)
+    → AnswersCut cid ask font name keep rec flag work out answer work' out' answer' r
+    → SaysCut (outcomeFor cid ask font name keep rec flag work out answer) out out' answer answer' r
+cut-says cid ask font name keep rec flag work out answer work' out' answer' r h =
+    says-cut out out' answer answer' (outcomeFor cid ask font name keep rec flag work out answer) r
+    (cut-sound cid ask name keep rec flag (length work) (roomFor (length answer) (length out)) font) (h .output) (h .answers)

@@ -1,7 +1,8 @@
 // The entries of subsetting for C and Rust to link (document 01, 'Entries and their refusals'). The answer is two words, the way and the
 // length of the subset, which stands at the start of the lent bytes. Fewer than two words are no room, so 11 stands for these too.
 ghost use mathlib.Core.Path.{_≡_};
-ghost use mathlib.Core.Bool.{true, false};
+ghost use mathlib.Core.Bool.{true, false, not};
+ghost use lib.Dec.{eqb};
 ghost use mathlib.Core.List.{[], _∷_};
 ghost use Rattle.capi.specs.Capi.{given, Answers};
 ghost use Rattle.capi.specs.Subset.{roomFor, cutAnswer, AnswersCut};
@@ -40,7 +41,7 @@ fn put_cut(cut: Answer, answer: &mut [u64]) -> u8
     }
 }
 
-// The subset of a name-keyed font: glyph 0 and the glyphs of the keep list.
+// The subset of a name-keyed font: glyph 0 and the glyphs of the keep list; with the font's encoding where `encoding` is not 0.
 #[no_mangle]
 pub extern "C" fn cff_subset(
     font: &[u8],
@@ -48,15 +49,26 @@ pub extern "C" fn cff_subset(
     keep: &[u16],
     rows: &[u8],
     traced: u8,
+    encoding: u8,
     work: &mut [u32],
     out: &mut [u8],
     answer: &mut [u64],
 ) -> u8
-    ensures { λ r. ⌜ AnswersCut false (now (font .entry)) (now (name .entry)) (now (keep .entry)) (now (rows .entry)) traced
+    ensures { λ r. ⌜ AnswersCut false (not (eqb encoding 0)) (now (font .entry)) (now (name .entry)) (now (keep .entry)) (now (rows .entry)) traced
         (now (work .entry)) (now (out .entry)) (now (answer .entry)) (now (work .exit)) (now (out .exit)) (now (answer .exit)) r ⌝ }
 {
+    let asked = encoding != 0;
     let room = room_for(answer.len(), out.len());
-    let cut = write::subset(font, name, keep, rows, traced, work, &mut out[..room]);
+    let cut = write::subset(
+        font,
+        name,
+        keep,
+        rows,
+        traced,
+        asked,
+        work,
+        &mut out[..room],
+    );
     put_cut(cut, answer)
 }
 
@@ -72,7 +84,7 @@ pub extern "C" fn cff_subset_cid(
     out: &mut [u8],
     answer: &mut [u64],
 ) -> u8
-    ensures { λ r. ⌜ AnswersCut true (now (font .entry)) (now (name .entry)) (now (keep .entry)) (now (rows .entry)) traced
+    ensures { λ r. ⌜ AnswersCut true false (now (font .entry)) (now (name .entry)) (now (keep .entry)) (now (rows .entry)) traced
         (now (work .entry)) (now (out .entry)) (now (answer .entry)) (now (work .exit)) (now (out .exit)) (now (answer .exit)) r ⌝ }
 {
     let room = room_for(answer.len(), out.len());

@@ -19,7 +19,7 @@ use Rattle.strings.specs.Text.{codes, sameText}
 use Rattle.strings.specs.Strings.{standardStrings, standardString, stringText}
 use Rattle.find.specs.Find.{glyphWithId, glyphWithText}
 use Rattle.opentype.specs.Opentype.{placeOf}
-use Rattle.cff.specs.Font.{localsAt, privateData, privateAt, privatesAt, idsAt, fdsAt, encodingGot, cidParts, nameParts, fontAt, fontsAt, setAt, readTable, readFont}
+use Rattle.cff.specs.Font.{localsAt, privateData, privateAt, privatesAt, idsAt, fdsAt, codingAt, encodingGot, cidParts, nameParts, fontAt, fontsAt, setAt, readTable, readFont}
 use Rattle.cff.specs.Examples.{sheet}
 use Rattle.cff.specs.Find.{localsTotal, readAs, nameAs, cidAs}
 use Rattle.cff.specs.declared.ReadAs.the-variants.{Font}
@@ -78,20 +78,20 @@ cid-no-name = refl
 -- the font of document 01's sheet has the glyphs .notdef and space, none of the name A, and no CIDs
 sheet-space : nameAs (readFont sheet) space ≡ Glyph 1
 unfolding
-    readFont readTable placeOf setAt fontsAt fontAt nameParts privateAt idsAt encodingGot readIndex told indexAt tableAt dataAt runOf judged offsets pieces itemsOf numAt be dictOf
+    readFont readTable placeOf setAt fontsAt fontAt nameParts privateAt idsAt codingAt encodingGot readIndex told indexAt tableAt dataAt runOf judged offsets pieces itemsOf numAt be dictOf
     gathered readingsAt readingsFrom entryAt entryFrom tokenAt operatorAt numberAt realAt normal zeros zerosOf stripped lastOf lastFrom truncOf listOf
     glyphWithText stringText standardString standardStrings standardNames codes sameText
 sheet-space = refl
 
 sheet-A : nameAs (readFont sheet) (0x41 ∷ []) ≡ Absent
 unfolding
-    readFont readTable placeOf setAt fontsAt fontAt nameParts privateAt idsAt encodingGot readIndex told indexAt tableAt dataAt runOf judged offsets pieces itemsOf numAt be dictOf
+    readFont readTable placeOf setAt fontsAt fontAt nameParts privateAt idsAt codingAt encodingGot readIndex told indexAt tableAt dataAt runOf judged offsets pieces itemsOf numAt be dictOf
     gathered readingsAt readingsFrom entryAt entryFrom tokenAt operatorAt numberAt realAt normal zeros zerosOf stripped lastOf lastFrom truncOf listOf
     glyphWithText stringText standardString standardStrings standardNames codes sameText
 sheet-A = refl
 
 sheet-no-cid : cidAs (readFont sheet) 1 ≡ Absent
 unfolding
-    readFont readTable placeOf setAt fontsAt fontAt nameParts privateAt idsAt encodingGot readIndex told indexAt tableAt dataAt runOf judged offsets pieces itemsOf numAt be dictOf
+    readFont readTable placeOf setAt fontsAt fontAt nameParts privateAt idsAt codingAt encodingGot readIndex told indexAt tableAt dataAt runOf judged offsets pieces itemsOf numAt be dictOf
     gathered readingsAt readingsFrom entryAt entryFrom tokenAt operatorAt numberAt realAt normal zeros zerosOf stripped lastOf lastFrom truncOf listOf
 sheet-no-cid = refl

@@ -23,7 +23,7 @@ use Rattle.strings.specs.Text.{codes, sameText}
 use Rattle.strings.specs.Strings.{standardStrings, standardString, stringText}
 use Rattle.find.specs.Find.{glyphWithId, glyphWithText}
 use Rattle.opentype.specs.Opentype.{placeOf}
-use Rattle.cff.specs.Font.{localsAt, privateData, privateAt, privatesAt, idsAt, fdsAt, encodingGot, cidParts, nameParts, fontAt, fontsAt, setAt, readTable, readAt, readFont}
+use Rattle.cff.specs.Font.{localsAt, privateData, privateAt, privatesAt, idsAt, fdsAt, codingAt, encodingGot, cidParts, nameParts, fontAt, fontsAt, setAt, readTable, readAt, readFont}
 use Rattle.cff.specs.Find.{localsTotal, readAs, nameAs, cidAs, itemRefusal, itemOf}
 use Rattle.opentype.specs.OpentypeLaws.{file-long}
 use Rattle.opentype.specs.declared.Place.{Place}
@@ -44,7 +44,7 @@ offset0 =
 
 offset-0 : readAs (readFont offset0) ≡ Refused 2
 unfolding
-    readFont readTable placeOf setAt fontsAt fontAt nameParts privateAt idsAt charsetAt idsFrom encodingGot readIndex told indexAt tableAt dataAt runOf judged offsets pieces itemsOf numAt
+    readFont readTable placeOf setAt fontsAt fontAt nameParts privateAt idsAt charsetAt idsFrom codingAt encodingGot readIndex told indexAt tableAt dataAt runOf judged offsets pieces itemsOf numAt
     be dictOf gathered readingsAt readingsFrom entryAt entryFrom tokenAt operatorAt numberAt realAt nibbles textOf expDigits exponent mantissa formOf valueOf normal
     zeros zerosOf stripped lastOf lastFrom truncOf listOf localsTotal
 offset-0 = refl
@@ -56,7 +56,7 @@ noCharstrings =
 
 no-charstrings : readAs (readFont noCharstrings) ≡ Refused 2
 unfolding
-    readFont readTable placeOf setAt fontsAt fontAt nameParts privateAt idsAt charsetAt idsFrom encodingGot readIndex told indexAt tableAt dataAt runOf judged offsets pieces itemsOf numAt
+    readFont readTable placeOf setAt fontsAt fontAt nameParts privateAt idsAt charsetAt idsFrom codingAt encodingGot readIndex told indexAt tableAt dataAt runOf judged offsets pieces itemsOf numAt
     be dictOf gathered readingsAt readingsFrom entryAt entryFrom tokenAt operatorAt numberAt realAt nibbles textOf expDigits exponent mantissa formOf valueOf normal
     zeros zerosOf stripped lastOf lastFrom truncOf listOf localsTotal
 no-charstrings = refl
@@ -82,7 +82,7 @@ digits16 =
 
 digits-16 : readAs (readFont digits16) ≡ Refused 5
 unfolding
-    readFont readTable placeOf setAt fontsAt fontAt nameParts privateAt idsAt charsetAt idsFrom encodingGot readIndex told indexAt tableAt dataAt runOf judged offsets pieces itemsOf numAt
+    readFont readTable placeOf setAt fontsAt fontAt nameParts privateAt idsAt charsetAt idsFrom codingAt encodingGot readIndex told indexAt tableAt dataAt runOf judged offsets pieces itemsOf numAt
     be dictOf gathered readingsAt readingsFrom entryAt entryFrom tokenAt operatorAt numberAt realAt nibbles textOf expDigits exponent mantissa formOf valueOf normal
     zeros zerosOf stripped lastOf lastFrom truncOf listOf localsTotal
 digits-16 = refl
@@ -94,7 +94,7 @@ digits15 =
 
 digits-15 : readAs (readFont digits15) ≡ Font (record { glyphs = 1; globals = 0; strings = 0; cid = false; work = 2 })
 unfolding
-    readFont readTable placeOf setAt fontsAt fontAt nameParts privateAt idsAt charsetAt idsFrom encodingGot readIndex told indexAt tableAt dataAt runOf judged offsets pieces itemsOf numAt
+    readFont readTable placeOf setAt fontsAt fontAt nameParts privateAt idsAt charsetAt idsFrom codingAt encodingGot readIndex told indexAt tableAt dataAt runOf judged offsets pieces itemsOf numAt
     be dictOf gathered readingsAt readingsFrom entryAt entryFrom tokenAt operatorAt numberAt realAt nibbles textOf expDigits exponent mantissa formOf valueOf normal
     zeros zerosOf stripped lastOf lastFrom truncOf listOf localsTotal
 digits-15 = refl
@@ -103,35 +103,35 @@ digits-15 = refl
 
 no-glyph-2 : itemRefusal (readFont sheet) Charstring 2 ≡ 6
 unfolding
-    readFont readTable placeOf setAt fontsAt fontAt nameParts privateAt idsAt charsetAt idsFrom encodingGot readIndex told indexAt tableAt dataAt runOf judged offsets pieces itemsOf numAt
+    readFont readTable placeOf setAt fontsAt fontAt nameParts privateAt idsAt charsetAt idsFrom codingAt encodingGot readIndex told indexAt tableAt dataAt runOf judged offsets pieces itemsOf numAt
     be dictOf gathered readingsAt readingsFrom entryAt entryFrom tokenAt operatorAt numberAt realAt nibbles textOf expDigits exponent mantissa formOf valueOf normal
     zeros zerosOf stripped lastOf lastFrom truncOf listOf localsTotal
 no-glyph-2 = refl
 
 no-global-0 : itemRefusal (readFont sheet) Global 0 ≡ 6
 unfolding
-    readFont readTable placeOf setAt fontsAt fontAt nameParts privateAt idsAt charsetAt idsFrom encodingGot readIndex told indexAt tableAt dataAt runOf judged offsets pieces itemsOf numAt
+    readFont readTable placeOf setAt fontsAt fontAt nameParts privateAt idsAt charsetAt idsFrom codingAt encodingGot readIndex told indexAt tableAt dataAt runOf judged offsets pieces itemsOf numAt
     be dictOf gathered readingsAt readingsFrom entryAt entryFrom tokenAt operatorAt numberAt realAt nibbles textOf expDigits exponent mantissa formOf valueOf normal
     zeros zerosOf stripped lastOf lastFrom truncOf listOf localsTotal
 no-global-0 = refl
 
 no-string-0 : itemRefusal (readFont sheet) Text 0 ≡ 6
 unfolding
-    readFont readTable placeOf setAt fontsAt fontAt nameParts privateAt idsAt charsetAt idsFrom encodingGot readIndex told indexAt tableAt dataAt runOf judged offsets pieces itemsOf numAt
+    readFont readTable placeOf setAt fontsAt fontAt nameParts privateAt idsAt charsetAt idsFrom codingAt encodingGot readIndex told indexAt tableAt dataAt runOf judged offsets pieces itemsOf numAt
     be dictOf gathered readingsAt readingsFrom entryAt entryFrom tokenAt operatorAt numberAt realAt nibbles textOf expDigits exponent mantissa formOf valueOf normal
     zeros zerosOf stripped lastOf lastFrom truncOf listOf localsTotal
 no-string-0 = refl
 
 glyph-1-there : itemRefusal (readFont sheet) Charstring 1 ≡ 0
 unfolding
-    readFont readTable placeOf setAt fontsAt fontAt nameParts privateAt idsAt charsetAt idsFrom encodingGot readIndex told indexAt tableAt dataAt runOf judged offsets pieces itemsOf numAt
+    readFont readTable placeOf setAt fontsAt fontAt nameParts privateAt idsAt charsetAt idsFrom codingAt encodingGot readIndex told indexAt tableAt dataAt runOf judged offsets pieces itemsOf numAt
     be dictOf gathered readingsAt readingsFrom entryAt entryFrom tokenAt operatorAt numberAt realAt nibbles textOf expDigits exponent mantissa formOf valueOf normal
     zeros zerosOf stripped lastOf lastFrom truncOf listOf localsTotal
 glyph-1-there = refl
 
 nothing-of-glyph-2 : itemOf (readFont sheet) Charstring 2 ≡ []
 unfolding
-    readFont readTable placeOf setAt fontsAt fontAt nameParts privateAt idsAt charsetAt idsFrom encodingGot readIndex told indexAt tableAt dataAt runOf judged offsets pieces itemsOf numAt
+    readFont readTable placeOf setAt fontsAt fontAt nameParts privateAt idsAt charsetAt idsFrom codingAt encodingGot readIndex told indexAt tableAt dataAt runOf judged offsets pieces itemsOf numAt
     be dictOf gathered readingsAt readingsFrom entryAt entryFrom tokenAt operatorAt numberAt realAt nibbles textOf expDigits exponent mantissa formOf valueOf normal
     zeros zerosOf stripped lastOf lastFrom truncOf listOf localsTotal
 nothing-of-glyph-2 = refl
@@ -146,7 +146,7 @@ twoFonts =
 
 two-fonts : readAs (readFont twoFonts) ≡ Font (record { glyphs = 1; globals = 0; strings = 0; cid = false; work = 2 })
 unfolding
-    readFont readTable placeOf setAt fontsAt fontAt nameParts privateAt idsAt charsetAt idsFrom encodingGot readIndex told indexAt tableAt dataAt runOf judged offsets pieces itemsOf numAt
+    readFont readTable placeOf setAt fontsAt fontAt nameParts privateAt idsAt charsetAt idsFrom codingAt encodingGot readIndex told indexAt tableAt dataAt runOf judged offsets pieces itemsOf numAt
     be dictOf gathered readingsAt readingsFrom entryAt entryFrom tokenAt operatorAt numberAt realAt nibbles textOf expDigits exponent mantissa formOf valueOf normal
     zeros zerosOf stripped lastOf lastFrom truncOf listOf localsTotal
 two-fonts = refl
@@ -159,7 +159,7 @@ secondBad =
 
 second-bad : readAs (readFont secondBad) ≡ Refused 2
 unfolding
-    readFont readTable placeOf setAt fontsAt fontAt nameParts privateAt idsAt charsetAt idsFrom encodingGot readIndex told indexAt tableAt dataAt runOf judged offsets pieces itemsOf numAt
+    readFont readTable placeOf setAt fontsAt fontAt nameParts privateAt idsAt charsetAt idsFrom codingAt encodingGot readIndex told indexAt tableAt dataAt runOf judged offsets pieces itemsOf numAt
     be dictOf gathered readingsAt readingsFrom entryAt entryFrom tokenAt operatorAt numberAt realAt nibbles textOf expDigits exponent mantissa formOf valueOf normal
     zeros zerosOf stripped lastOf lastFrom truncOf listOf localsTotal
 second-bad = refl
@@ -172,7 +172,7 @@ unequalCounts =
 
 unequal-counts : readAs (readFont unequalCounts) ≡ Refused 2
 unfolding
-    readFont readTable placeOf setAt fontsAt fontAt nameParts privateAt idsAt charsetAt idsFrom encodingGot readIndex told indexAt tableAt dataAt runOf judged offsets pieces itemsOf numAt
+    readFont readTable placeOf setAt fontsAt fontAt nameParts privateAt idsAt charsetAt idsFrom codingAt encodingGot readIndex told indexAt tableAt dataAt runOf judged offsets pieces itemsOf numAt
     be dictOf gathered readingsAt readingsFrom entryAt entryFrom tokenAt operatorAt numberAt realAt nibbles textOf expDigits exponent mantissa formOf valueOf normal
     zeros zerosOf stripped lastOf lastFrom truncOf listOf localsTotal
 unequal-counts = refl
@@ -187,7 +187,7 @@ repeatedName =
 
 first-of-a-name : nameAs (readFont repeatedName) (0x73 ∷ 0x70 ∷ 0x61 ∷ 0x63 ∷ 0x65 ∷ []) ≡ Glyph 1
 unfolding
-    readFont readTable placeOf setAt fontsAt fontAt nameParts privateAt idsAt charsetAt idsFrom encodingGot readIndex told indexAt tableAt dataAt runOf judged offsets pieces itemsOf numAt
+    readFont readTable placeOf setAt fontsAt fontAt nameParts privateAt idsAt charsetAt idsFrom codingAt encodingGot readIndex told indexAt tableAt dataAt runOf judged offsets pieces itemsOf numAt
     be dictOf gathered readingsAt readingsFrom entryAt entryFrom tokenAt operatorAt numberAt realAt nibbles textOf expDigits exponent mantissa formOf valueOf normal
     zeros zerosOf stripped lastOf lastFrom truncOf listOf localsTotal glyphWithText stringText standardString standardStrings standardNames codes
     sameText
@@ -201,7 +201,7 @@ emptyName =
 
 empty-name : nameAs (readFont emptyName) [] ≡ Glyph 1
 unfolding
-    readFont readTable placeOf setAt fontsAt fontAt nameParts privateAt idsAt charsetAt idsFrom encodingGot readIndex told indexAt tableAt dataAt runOf judged offsets pieces itemsOf numAt
+    readFont readTable placeOf setAt fontsAt fontAt nameParts privateAt idsAt charsetAt idsFrom codingAt encodingGot readIndex told indexAt tableAt dataAt runOf judged offsets pieces itemsOf numAt
     be dictOf gathered readingsAt readingsFrom entryAt entryFrom tokenAt operatorAt numberAt realAt nibbles textOf expDigits exponent mantissa formOf valueOf normal
     zeros zerosOf stripped lastOf lastFrom truncOf listOf localsTotal glyphWithText stringText standardString standardStrings standardNames codes
     sameText

@@ -21,6 +21,7 @@ use Rattle.charset.specs.Listed.{Listed, refused as refusedList, listed}
 use Rattle.charset.specs.Charset.{charsetAt, isoAdobe}
 use Rattle.charset.specs.FdSelect.{fdSelectAt, noFds}
 use Rattle.charset.specs.Encoding.{encodingAt}
+use Rattle.charset.specs.Codes.{Naming, namingsAt}
 use Rattle.opentype.specs.Opentype.{placeOf}
 use Rattle.opentype.specs.declared.Place.{Place}
 use Rattle.opentype.specs.declared.Place.the-variants.{Refused as RefusedPlace, Table}
@@ -60,12 +61,19 @@ pub record Private : Type 0 where
 abbrev pub emptyPrivate : Private
 emptyPrivate = record { entries = []; locals = [] }
 
--- what the keying adds to a font: the Private DICT of each FD, in a name-keyed font the one; the FD of each glyph; and the entries of each
--- Font DICT, of which a name-keyed font has none
+-- an encoding: one of the two predefined ones, or what a table of the font says
+pub data Coding : Type 0 where
+  standard : Coding
+  expert : Coding
+  custom : List Naming → Coding
+
+-- what the keying adds to a font: the Private DICT of each FD, in a name-keyed font the one; the FD of each glyph; the entries of each
+-- Font DICT, of which a name-keyed font has none; and the encoding, which a CID-keyed font does not have: the standard one stands for none
 pub record Added : Type 0 where
   pub privates : List Private
   pub fds : List ℕ
   pub dicts : List (List Entry)
+  pub coding : Coding
 
 -- a font: the entries of its top DICT; strings, global subroutines and charstrings; the id of each glyph, a string id or a CID; and what
 -- its keying adds
@@ -78,6 +86,7 @@ pub record Program : Type 0 where
   pub privates : List Private
   pub fds : List ℕ
   pub dicts : List (List Entry)
+  pub coding : Coding
 
 -- ---- the parts' answers as steps
 
@@ -156,9 +165,15 @@ fdsAt b n NoOffset = got (noFds n)
 fdsAt b n (RefusedOffset e) = refused e
 fdsAt b n (At v) = listGot (fdSelectAt b v n)
 
--- the encoding's checks: 0 is the standard one, 1, the expert one, is unsupported
-unfoldable pub encodingGot : List ℕ → ℕ → Got Unit
-encodingGot b v = pick (eqb v 0) (got tt) (pick (eqb v 1) (refused 3) (unless (encodingAt b v)))
+-- the encoding at an offset: 0 is the standard one and 1 the expert one (document 02, Wish 4), which have no checks
+unfoldable pub codingAt : List ℕ → ℕ → Coding
+codingAt b v = pick (eqb v 0) standard (pick (eqb v 1) expert (custom (namingsAt b v)))
+
+abbrev pub codingRefusal : List ℕ → ℕ → ℕ
+codingRefusal b v = pick (ltb v 2) 0 (encodingAt b v)
+
+unfoldable pub encodingGot : List ℕ → ℕ → Got Coding
+encodingGot b v = then (unless (codingRefusal b v)) (λ u. got (codingAt b v))
 
 -- what a CID-keyed font adds: the Private DICTs of its FDs, which must be there, and FDs that exist
 unfoldable pub cidParts : List ℕ → List Entry → ℕ → Got Added
@@ -167,14 +182,14 @@ cidParts b es n =
     then (privatesAt b dicts) (λ ps.
     then (unless (pick (eqb (length ps) 0) 2 0)) (λ u.
     then (fdsAt b n (offsetIn fdSelect es)) (λ l.
-    pick (allBelow (length ps) l) (got (record { privates = ps; fds = l; dicts = dictsAt dicts })) (refused 2)))))
+    pick (allBelow (length ps) l) (got (record { privates = ps; fds = l; dicts = dictsAt dicts; coding = standard })) (refused 2)))))
 
--- what a name-keyed font adds: its Private DICT, and the encoding's checks
+-- what a name-keyed font adds: its Private DICT, and its encoding
 unfoldable pub nameParts : List ℕ → List Entry → ℕ → Got Added
 nameParts b es n =
     then (privateAt b (privateIn es)) (λ p.
-    then (then (orZero (offsetIn encoding es)) (encodingGot b)) (λ u.
-    got (record { privates = p ∷ []; fds = noFds n; dicts = [] })))
+    then (then (orZero (offsetIn encoding es)) (encodingGot b)) (λ coding.
+    got (record { privates = p ∷ []; fds = noFds n; dicts = []; coding = coding })))
 
 -- a font by the bytes of its top DICT
 unfoldable pub fontAt : List ℕ → List (List ℕ) → List (List ℕ) → List ℕ → Got Program
@@ -194,6 +209,7 @@ fontAt b strings globals top =
       privates = added .privates;
       fds = added .fds;
       dicts = added .dicts;
+      coding = added .coding;
     })))))))
 
 -- every font of the set

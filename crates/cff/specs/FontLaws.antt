@@ -16,13 +16,9 @@ use Rattle.index.specs.declared.Index.{Index}
 use Rattle.index.specs.declared.IndexAt.{IndexAt}
 use Rattle.index.specs.declared.IndexAt.the-variants.{Refused as RefusedIndex, Found as FoundIndex}
 use Rattle.decimal.specs.Values.{truncOf}
-use Rattle.decimal.specs.declared.OffsetOf.{OffsetOf}
-use Rattle.decimal.specs.declared.OffsetOf.the-variants.{Refused as NotOffset, Offset}
 use Rattle.dict.specs.Dict.{Entry, dictOf}
-use Rattle.dict.specs.Lookup.{oneOf, offsetTold, offsetAs, offsetIn, privateIn, cidKeyed, charstringTypeIn}
+use Rattle.dict.specs.Lookup.{offsetIn, privateIn, cidKeyed, charstringTypeIn}
 use Rattle.dict.specs.Places.{refusalOf, entriesOf, Good as GoodDict}
-use Rattle.dict.specs.declared.One.{One}
-use Rattle.dict.specs.declared.One.the-variants.{Number, Absent as NoNumber}
 use Rattle.dict.specs.declared.OffsetIn.{OffsetIn}
 use Rattle.dict.specs.declared.OffsetIn.the-variants.{Refused as RefusedOffset, At, Absent as NoOffset}
 use Rattle.charset.specs.Listed.{Listed, refused as refusedList, listed}
@@ -39,15 +35,17 @@ use Rattle.charset.specs.declared.CharsetAt.the-variants.{Refused as RefusedCha
 use Rattle.charset.specs.declared.fd_select.FdSelect.{FdSelect}
 use Rattle.charset.specs.declared.fd_select.FdSelectAt.{FdSelectAt}
 use Rattle.charset.specs.declared.fd_select.FdSelectAt.the-variants.{Refused as RefusedSelect, Found as FoundSelect}
-use Rattle.cff.specs.Font.{charset, encoding, charStrings, fdArray, fdSelect, Got, refused, got, then, Private, Added, Program, indexGot, dictGot, listGot, unless, needed, orZero, privateAt, privatesAt, dictsAt, idsAt, fdsAt, encodingGot, cidParts, nameParts, fontAt}
+use Rattle.cff.specs.Font.{charset, encoding, charStrings, fdArray, fdSelect, Got, refused, got, then, standard, Coding, Private, Added, Program, indexGot, dictGot, listGot, unless, needed, orZero, privateAt, privatesAt, dictsAt, idsAt, fdsAt, codingAt, encodingGot, cidParts, nameParts, fontAt}
 use Rattle.cff.specs.Find.{localsTotal}
-use Rattle.cff.specs.Reads.{Holds, ReadsItems, privateOf, GoodPrivate, noPrivate, ReadsPrivate, fdPrivate, ReadsLocals, namedIndex, namedIds, namedEncoding, ReadsIds, ReadsFds, orNone, privatesOf, addedOf, GoodParts, ReadsParts, partsBy, HasDicts, HasLocals, topOf, programOf, fontOf, HasTop, HasGlyphs, GoodFont, ReadsFont}
+use Rattle.cff.specs.Reads.{Holds, ReadsItems, privateOf, GoodPrivate, noPrivate, ReadsPrivate, fdPrivate, ReadsLocals, namedIndex, namedIds, namedEncoding, ReadsIds, ReadsCoding, ReadsFds, orNone, privatesOf, addedOf, GoodParts, ReadsParts, partsBy, HasDicts, HasLocals, topOf, programOf, fontOf, HasTop, HasGlyphs, GoodFont, ReadsFont}
 use Rattle.cff.specs.ReadsLaws.{no, reads-index, none-held, none-items, dict-refused, dict-good, dict-entries, empty-dict, then-refused, then-got, privates-split}
 use Rattle.cff.specs.declared.private.PrivateAt.{PrivateAt}
 use Rattle.cff.specs.declared.private.PrivateRead.{PrivateRead}
 use Rattle.cff.specs.declared.private.PrivateRead.the-variants.{Refused as RefusedPrivate, Found as FoundPrivate}
 use Rattle.cff.specs.declared.private.LocalsRead.{LocalsRead}
 use Rattle.cff.specs.declared.private.LocalsRead.the-variants.{Refused as RefusedLocals, Total}
+use Rattle.cff.specs.declared.font.EncodingAt.{EncodingAt}
+use Rattle.cff.specs.declared.font.EncodingAt.the-variants.{Refused as RefusedEncoding, Found as FoundEncoding}
 use Rattle.cff.specs.declared.font.Parts.{Parts}
 use Rattle.cff.specs.declared.font.PartsRead.{PartsRead}
 use Rattle.cff.specs.declared.font.PartsRead.the-variants.{Refused as RefusedParts, Found as FoundParts}
@@ -142,42 +140,30 @@ pub unless-passed : (n : ℕ) → n ≤ 0 → unless n ≡ got tt
 unless-passed n h = let k = eq-eqb n 0 (omega arith) in rw k
 
 module _ (b : List ℕ) (v : ℕ) where
-  pub encoding-standard : v ≡ 0 → encodingGot b v ≡ unless 0
+  pub encoding-predefined : v < 2 → ReadsCoding b (encodingGot b v) (FoundEncoding v)
   unfolding encodingGot
-  encoding-standard q = rw (eq-eqb v 0 q)
+  encoding-predefined h = let k = lt-ltb v 2 h in (rw k, rw k)
 
-  pub encoding-expert : (v ≡ 0 → ⊥) → v ≡ 1 → encodingGot b v ≡ unless 3
+  pub encoding-refused : 2 ≤ v → (n : ℕ) → n ≡ encodingAt b v → 0 < n → ReadsCoding b (encodingGot b v) (RefusedEncoding n)
   unfolding encodingGot
-  encoding-expert z q = rw (ne-eqb v 0 z, eq-eqb v 1 q)
+  encoding-refused h n i p = rw (le-ltb v 2 h, ← i) (then-refused _ _ n (unless-refused n p))
 
-  pub encoding-checked : (v ≡ 0 → ⊥) → (v ≡ 1 → ⊥) → (r : ℕ) → r ≡ encodingAt b v → encodingGot b v ≡ unless r
+  pub encoding-checked : 2 ≤ v → (n : ℕ) → n ≡ encodingAt b v → n ≤ 0 → ReadsCoding b (encodingGot b v) (FoundEncoding v)
   unfolding encodingGot
-  encoding-checked z q r i = rw (ne-eqb v 0 z, ne-eqb v 1 q) (ap unless (sym i))
-
-two-pick : (s t : Bool) (m n : ℕ) → offsetTold (pick s (NotOffset 2) (pick t (Offset m) (NotOffset 2))) ≡ RefusedOffset n → n ≡ 2
-two-pick true t m n h = cc
-two-pick false true m n h = absurd (no cc)
-two-pick false false m n h = cc
-
--- an offset is refused as malformed
-refused-two : (o : One) (n : ℕ) → offsetAs o ≡ RefusedOffset n → n ≡ 2
-refused-two NoNumber n h = absurd (no cc)
-refused-two (Number d) n h = two-pick (d .neg) (eqb (d .down) 0) _ n h
+  encoding-checked h n i p = let k = le-ltb v 2 h in (rw k (omega (arith, i)), rw (k, ← i) (then-got _ _ tt (unless-passed n p)))
 
 module _ (b : List ℕ) (es : List Entry) (r : OffsetIn) (e : r ≡ offsetIn encoding es) where
   encoding-as : (o : OffsetIn) → r ≡ o → namedEncoding b es ≡ then (orZero o) (encodingGot b)
   encoding-as o q = ap (λ x. then (orZero x) (encodingGot b)) (sym e ∙ q)
 
-  pub named-encoding-absent : r ≡ NoOffset → (n : ℕ) → encodingGot b 0 ≡ unless n → namedEncoding b es ≡ unless n
-  named-encoding-absent q n h = encoding-as NoOffset q ∙ h
+  pub named-encoding-absent : r ≡ NoOffset → (x : EncodingAt) → ReadsCoding b (encodingGot b 0) x → ReadsCoding b (namedEncoding b es) x
+  named-encoding-absent q x h = subst (λ g. ReadsCoding b g x) (sym (encoding-as NoOffset q)) h
 
-  pub named-encoding-refused : (n : ℕ) → r ≡ RefusedOffset n → namedEncoding b es ≡ unless n
-  named-encoding-refused n q =
-      let k : n ≡ 2 = refused-two (oneOf encoding es) n (sym e ∙ q) in
-      encoding-as (RefusedOffset n) q ∙ sym (unless-refused n (omega arith))
+  pub named-encoding-refused : (n : ℕ) → r ≡ RefusedOffset n → ReadsCoding b (namedEncoding b es) (RefusedEncoding n)
+  named-encoding-refused n q = encoding-as (RefusedOffset n) q
 
-  pub named-encoding-read : (v : ℕ) → r ≡ At v → (n : ℕ) → encodingGot b v ≡ unless n → namedEncoding b es ≡ unless n
-  named-encoding-read v q n h = encoding-as (At v) q ∙ h
+  pub named-encoding-read : (v : ℕ) → r ≡ At v → (x : EncodingAt) → ReadsCoding b (encodingGot b v) x → ReadsCoding b (namedEncoding b es) x
+  named-encoding-read v q x h = subst (λ g. ReadsCoding b g x) (sym (encoding-as (At v) q)) h
 
 -- ---- the parts of a CID-keyed font
 
@@ -225,7 +211,7 @@ module _ (b : List ℕ) (es : List Entry) (n : ℕ) where
   module _ (dicts : Index) (total : ℕ) (l : HasLocals b es dicts total) where
     -- what is added, by the FDs
     abbrev addedBy : List Private → List ℕ → Added
-    addedBy ps fds = record { privates = ps; fds = fds; dicts = dictsAt (itemsOf b dicts) }
+    addedBy ps fds = record { privates = ps; fds = fds; dicts = dictsAt (itemsOf b dicts); coding = standard }
 
     abbrev added : List ℕ → Added
     added fds = addedBy (l .read .0) fds
@@ -257,7 +243,8 @@ module _ (b : List ℕ) (es : List Entry) (n : ℕ) where
               ∙ ap (λ x. pick x (got (added (fdsOf b s n))) (refused 2)) (sym below ∙ f)
 
           pub cid-found : t ≡ true → 2 ≤ length b → (p : PrivateAt) → p ≡ noPrivate
-              → ReadsParts b true n (cidParts b es n) (FoundParts (record { dicts = dicts; private = p; select = s; locals = total }))
+              → ReadsParts b true n (cidParts b es n) (FoundParts (record { dicts = dicts; private = p; select = s; encoding = 0; locals = total }))
+          unfolding codingAt
           cid-found f w p i =
               let u : privatesOf b true dicts p ≡ l .read .0 = ap orNone (l .read .2) in (
                 record {
@@ -266,6 +253,7 @@ module _ (b : List ℕ) (es : List Entry) (n : ℕ) where
                   read = λ z. l .read .2 ∙ ap got (sym u);
                   select = selected .0;
                   below = λ z. sym below ∙ f;
+                  coded = refl;
                   locals = sym (l .read .1) ∙ ap localsTotal (sym u);
                   few = l .read .3;
                 },
@@ -276,9 +264,9 @@ module _ (b : List ℕ) (es : List Entry) (n : ℕ) where
 
 -- ---- the parts of a name-keyed font
 
--- what is added, by the Private DICT and the FDs
-abbrev addedOne : Private → List ℕ → Added
-addedOne p fds = record { privates = p ∷ []; fds = fds; dicts = [] }
+-- what is added, by the Private DICT, the FDs and the encoding
+abbrev addedOne : Private → List ℕ → Coding → Added
+addedOne p fds coding = record { privates = p ∷ []; fds = fds; dicts = []; coding = coding }
 
 not-both : false ≡ true → ⊥
 not-both z = no cc
@@ -288,30 +276,32 @@ module _ (b : List ℕ) (es : List Entry) (n : ℕ) (r : PrivateRead) (reads : R
   unfolding nameParts
   name-unread e q = then-refused _ _ e (subst (ReadsPrivate b (privateAt b (privateIn es))) q reads)
 
-  module _ (p : PrivateAt) (q : r ≡ FoundPrivate p) (e : ℕ) (checked : namedEncoding b es ≡ unless e) where
+  module _ (p : PrivateAt) (q : r ≡ FoundPrivate p) (x : EncodingAt) (coded : ReadsCoding b (namedEncoding b es) x) where
     found : ReadsPrivate b (privateAt b (privateIn es)) (FoundPrivate p)
     found = subst (ReadsPrivate b (privateAt b (privateIn es))) q reads
 
-    pub name-unencoded : 0 < e → ReadsParts b false n (nameParts b es n) (RefusedParts e)
+    pub name-unencoded : (e : ℕ) → x ≡ RefusedEncoding e → ReadsParts b false n (nameParts b es n) (RefusedParts e)
     unfolding nameParts
-    name-unencoded h = then-got _ _ (privateOf b p) (found .1) ∙ then-refused _ _ e (checked ∙ unless-refused e h)
+    name-unencoded e i = then-got _ _ (privateOf b p) (found .1) ∙ then-refused _ _ e (subst (ReadsCoding b (namedEncoding b es)) i coded)
 
-    pub name-found : e ≤ 0 → 2 ≤ length b → (ix : Index) → ix ≡ emptyAt 0 → (s : FdSelect) → s ≡ noSelect
-        → ReadsParts b false n (nameParts b es n) (FoundParts (record { dicts = ix; private = p; select = s; locals = p .locals .count }))
+    pub name-found : (v : ℕ) → x ≡ FoundEncoding v → 2 ≤ length b → (ix : Index) → ix ≡ emptyAt 0 → (s : FdSelect) → s ≡ noSelect
+        → ReadsParts b false n (nameParts b es n) (FoundParts (record { dicts = ix; private = p; select = s; encoding = v; locals = p .locals .count }))
     unfolding nameParts localsTotal
-    name-found h w ix i s j = (
-      record {
-        dicts = subst (Holds b) (sym i) (none-held b w);
-        private = found .0;
-        read = λ z. absurd (not-both z);
-        select = subst (GoodSelect b) (sym j) (no-select-good b);
-        below = λ z. absurd (not-both z);
-        locals = let k = items-length b (p .locals) in omega arith;
-        few = let k = found .0 .locals .few in omega arith;
-      },
-      then-got _ _ (privateOf b p) (found .1) ∙ then-got _ _ tt (checked ∙ unless-passed e h)
-          ∙ ap (λ (l : List ℕ). got (addedOne (privateOf b p) l)) (sym (no-select-fds b n) ∙ ap (λ x. fdsOf b x n) (sym j)),
-    )
+    name-found v k w ix i s j =
+        let g = subst (ReadsCoding b (namedEncoding b es)) k coded in (
+          record {
+            dicts = subst (Holds b) (sym i) (none-held b w);
+            private = found .0;
+            read = λ z. absurd (not-both z);
+            select = subst (GoodSelect b) (sym j) (no-select-good b);
+            below = λ z. absurd (not-both z);
+            coded = g .0;
+            locals = let k = items-length b (p .locals) in omega arith;
+            few = let k = found .0 .locals .few in omega arith;
+          },
+          then-got _ _ (privateOf b p) (found .1) ∙ then-got _ _ (codingAt b v) (g .1)
+              ∙ ap (λ (l : List ℕ). got (addedOne (privateOf b p) l (codingAt b v))) (sym (no-select-fds b n) ∙ ap (λ x. fdsOf b x n) (sym j)),
+        )
 
 -- by the keying
 module _ (b : List ℕ) (es : List Entry) (n : ℕ) (x : PartsRead) (cid : Bool) where
@@ -339,6 +329,7 @@ module _ (b : List ℕ) (top end : ℕ) (strings globals : Index) where
         privates = added .privates;
         fds = added .fds;
         dicts = added .dicts;
+        coding = added .coding;
       }))))
 
   module _ (n : ℕ) (checked : n ≡ refusalOf (dictOf (topOf b top end))) where
@@ -389,6 +380,7 @@ module _ (b : List ℕ) (top end : ℕ) (strings globals : Index) where
             privates = added .privates;
             fds = added .fds;
             dicts = added .dicts;
+            coding = added .coding;
           })))
       begun = let k = ne-eqb (charstrings .count) 0 some in rw k
 
@@ -424,6 +416,7 @@ module _ (b : List ℕ) (top end : ℕ) (strings globals : Index) where
               dicts = p .dicts;
               private = p .private;
               select = p .select;
+              encoding = p .encoding;
               locals = p .locals;
             }))
         font-found t p i =

@@ -31,7 +31,7 @@ use Rattle.opentype.specs.Opentype.{placeOf}
 use Rattle.opentype.specs.OpentypeLaws.{Numbered, place-numbered}
 use Rattle.opentype.specs.declared.Place.{Place}
 use Rattle.opentype.specs.declared.Place.the-variants.{Refused as RefusedPlace, Table}
-use Rattle.cff.specs.Font.{charset, encoding, charStrings, fdArray, fdSelect, Got, refused, got, then, Private, Program, indexGot, dictGot, listGot, unless, needed, orZero, localsAt, privateData, privateAt, privatesAt, idsAt, fdsAt, encodingGot, cidParts, nameParts, fontAt, fontsAt, firstOf, indexThen, setAt, readTable, readAt, readFont}
+use Rattle.cff.specs.Font.{charset, encoding, charStrings, fdArray, fdSelect, Got, refused, got, then, Private, Program, indexGot, dictGot, listGot, unless, needed, orZero, localsAt, privateData, privateAt, privatesAt, idsAt, fdsAt, codingRefusal, encodingGot, cidParts, nameParts, fontAt, fontsAt, firstOf, indexThen, setAt, readTable, readAt, readFont}
 use Rattle.cff.specs.FontLaws.{unless-refused}
 use Rattle.cff.specs.PartRefusals.{Refusal, Refusal?, truncated, malformed, unsupported, too-long, of-both, OfRead, read-refused, read-found, index-refusal, OfDict, dict-refused, dict-entries, dict-refusal, OfList, list-refused, list-listed, charset-refusal, none-refused, one-refused, fd-select-refusal, encoding-refusal}
 
@@ -172,8 +172,7 @@ fds-refusal b n of-absent = step-passed
 encoding-got-refusal : (b : List ℕ) (v : ℕ) → OfStep (encodingGot b v)
 unfolding encodingGot
 encoding-got-refusal b v =
-    of-both OfStep (eqb v 0) step-passed
-    (of-both OfStep (eqb v 1) (step-refused unsupported) (unless-refusal (encodingAt b v) (encoding-refusal b v)))
+    then-refusal (unless-refusal (codingRefusal b v) (of-both Refusal? (ltb v 2) none-refused (encoding-refusal b v))) _ (λ u. step-passed)
 
 -- a list that may not be empty
 some-refusal : (n : ℕ) → OfStep (unless (pick (eqb n 0) 2 0))

@@ -22,7 +22,7 @@ use Rattle.charset.specs.declared.CharsetAt.{CharsetAt}
 use Rattle.charset.specs.declared.CharsetAt.the-variants.{Refused as RefusedCharset, Found as FoundCharset}
 use Rattle.charset.specs.declared.fd_select.FdSelectAt.{FdSelectAt}
 use Rattle.charset.specs.declared.fd_select.FdSelectAt.the-variants.{Refused as RefusedSelect, Found as FoundSelect}
-use Rattle.cff.specs.Font.{charset, encoding, charStrings, fdArray, Got, refused, got, then, Private, Added, Program, indexGot, dictGot, needed, orZero, privateData, privateAt, privatesAt, dictsAt, idsAt, encodingGot, cidParts, nameParts, fontAt, fontsAt, firstOf, indexThen}
+use Rattle.cff.specs.Font.{charset, encoding, charStrings, fdArray, Got, refused, got, then, Private, Coding, Added, Program, indexGot, dictGot, needed, orZero, privateData, privateAt, privatesAt, dictsAt, idsAt, codingAt, codingRefusal, encodingGot, cidParts, nameParts, fontAt, fontsAt, firstOf, indexThen}
 use Rattle.cff.specs.Find.{localsTotal}
 use Rattle.cff.specs.declared.private.PrivateAt.{PrivateAt}
 use Rattle.cff.specs.declared.private.PrivateRead.{PrivateRead}
@@ -34,6 +34,8 @@ use Rattle.cff.specs.declared.private.LocalsRead.{LocalsRead}
 use Rattle.cff.specs.declared.private.LocalsRead.the-variants.{Refused as RefusedLocals, Total}
 use Rattle.cff.specs.declared.ItemKind.{ItemKind}
 use Rattle.cff.specs.declared.ItemKind.the-variants.{Charstring, Global, Text}
+use Rattle.cff.specs.declared.font.EncodingAt.{EncodingAt}
+use Rattle.cff.specs.declared.font.EncodingAt.the-variants.{Refused as RefusedEncoding, Found as FoundEncoding}
 use Rattle.cff.specs.declared.font.Parts.{Parts}
 use Rattle.cff.specs.declared.font.PartsRead.{PartsRead}
 use Rattle.cff.specs.declared.font.PartsRead.the-variants.{Refused as RefusedParts, Found as FoundParts}
@@ -94,19 +96,23 @@ ReadsLocals g (Total t) = (ps : List Private) × (localsTotal ps ≡ t) × (g �
 
 -- ---- what an operator of a DICT names
 
--- an INDEX that must be there; the ids; the encoding's checks
+-- an INDEX that must be there; the ids; the encoding
 abbrev pub namedIndex : List ℕ → List Entry → ℕ → Got (List (List ℕ))
 namedIndex b es op = then (needed (offsetIn op es)) (λ at. indexGot (readIndex b at))
 
 abbrev pub namedIds : List ℕ → List Entry → ℕ → Got (List ℕ)
 namedIds b es n = then (orZero (offsetIn charset es)) (idsAt b n)
 
-abbrev pub namedEncoding : List ℕ → List Entry → Got Unit
+abbrev pub namedEncoding : List ℕ → List Entry → Got Coding
 namedEncoding b es = then (orZero (offsetIn encoding es)) (encodingGot b)
 
 abbrev pub ReadsIds : List ℕ → ℕ → Got (List ℕ) → CharsetAt → Type 0
 ReadsIds b n g (RefusedCharset e) = g ≡ refused e
 ReadsIds b n g (FoundCharset c) = GoodCharset b c n × (g ≡ got (idsOf b c n))
+
+abbrev pub ReadsCoding : List ℕ → Got Coding → EncodingAt → Type 0
+ReadsCoding b g (RefusedEncoding e) = g ≡ refused e
+ReadsCoding b g (FoundEncoding v) = (codingRefusal b v ≡ 0) × (g ≡ got (codingAt b v))
 
 abbrev pub ReadsFds : List ℕ → ℕ → Got (List ℕ) → FdSelectAt → Type 0
 ReadsFds b n g (RefusedSelect e) = g ≡ refused e
@@ -130,7 +136,7 @@ dictsOf b cid dicts = pick cid (dictsAt (itemsOf b dicts)) []
 
 -- what the keying adds, at these places
 abbrev pub addedOf : List ℕ → Bool → ℕ → Parts → Added
-addedOf b cid n q = record { privates = privatesOf b cid (q .dicts) (q .private); fds = fdsOf b (q .select) n; dicts = dictsOf b cid (q .dicts) }
+addedOf b cid n q = record { privates = privatesOf b cid (q .dicts) (q .private); fds = fdsOf b (q .select) n; dicts = dictsOf b cid (q .dicts); coding = codingAt b (q .encoding) }
 
 -- they were read, and no glyph of a CID-keyed font has an FD past them
 pub record GoodParts (b : List ℕ) (cid : Bool) (n : ℕ) (q : Parts) : Type 0 where
@@ -139,6 +145,7 @@ pub record GoodParts (b : List ℕ) (cid : Bool) (n : ℕ) (q : Parts) : Type 0 
   pub read : cid ≡ true → privatesAt b (itemsOf b (q .dicts)) ≡ got (privatesOf b cid (q .dicts) (q .private))
   pub select : GoodSelect b (q .select)
   pub below : cid ≡ true → allBelow (q .dicts .count) (fdsOf b (q .select) n) ≡ true
+  pub coded : codingRefusal b (q .encoding) ≡ 0
   pub locals : q .locals ≡ localsTotal (privatesOf b cid (q .dicts) (q .private))
   pub few : q .locals ≤ 4294967296
 
@@ -178,6 +185,7 @@ programOf b f =
       privates = privatesOf b (f .cid) (f .dicts) (f .private);
       fds = fdsOf b (f .select) (f .charstrings .count);
       dicts = dictsOf b (f .cid) (f .dicts);
+      coding = codingAt b (f .encoding);
     }
 
 -- the step that reads it
@@ -206,7 +214,7 @@ pub record GoodFont (b : List ℕ) (f : Font) : Type 0 where
   pub some : 0 < f .charstrings .count
   pub cid : f .cid ≡ cidKeyed (entriesOf (topOf b (f .top) (f .«top_end»)))
   pub ids : GoodCharset b (f .charset) (f .charstrings .count)
-  pub parts : GoodParts b (f .cid) (f .charstrings .count) (record { dicts = f .dicts; private = f .private; select = f .select; locals = f .locals })
+  pub parts : GoodParts b (f .cid) (f .charstrings .count) (record { dicts = f .dicts; private = f .private; select = f .select; encoding = f .encoding; locals = f .locals })
 
 abbrev pub ReadsFont : List ℕ → Got Program → FontRead → Type 0
 ReadsFont b g (RefusedFont n) = g ≡ refused n

@@ -5,8 +5,8 @@ ghost use Prim.Native.Nat.{_+_, _≤_, _<_};
 ghost use lib.ListN.{length};
 ghost use Rattle.dict.specs.Lookup.{offsetIn};
 ghost use Rattle.dict.specs.Places.{entriesOf};
-ghost use Rattle.cff.specs.Font.{fdSelect, unless, idsAt, fdsAt, encodingGot, cidParts, nameParts};
-ghost use Rattle.cff.specs.Reads.{ReadsItems, namedIndex, namedIds, namedEncoding, ReadsIds, ReadsFds, ReadsParts, HasDicts, HasLocals, partsBy, HasTop, HasGlyphs, fontOf, ReadsFont};
+ghost use Rattle.cff.specs.Font.{fdSelect, idsAt, fdsAt, encodingGot, cidParts, nameParts};
+ghost use Rattle.cff.specs.Reads.{ReadsItems, namedIndex, namedIds, namedEncoding, ReadsIds, ReadsCoding, ReadsFds, ReadsParts, HasDicts, HasLocals, partsBy, HasTop, HasGlyphs, fontOf, ReadsFont};
 use crate::private::LocalsRead;
 use crate::private::PrivateAt;
 use crate::private::PrivateRead;
@@ -20,12 +20,19 @@ use index::Index;
 use index::IndexAt;
 use refusal::Refusal;
 
-// The font dictionaries of a font. Of a CID-keyed font: the DICTs of its FDs, and its FDSelect. Of a name-keyed one: its Private DICT.
-// And the local subroutines of all Private DICTs together.
+// What reading the encoding finds: a refusal, or where it stands: 0 is the standard one and 1 the expert one.
+pub enum EncodingAt {
+    Refused(u8),
+    Found(usize),
+}
+
+// The font dictionaries of a font. Of a CID-keyed font: the DICTs of its FDs, and its FDSelect. Of a name-keyed one: its Private DICT, and
+// its encoding. And the local subroutines of all Private DICTs together.
 pub struct Parts {
     pub dicts: Index,
     pub private: PrivateAt,
     pub select: FdSelect,
+    pub encoding: usize,
     pub locals: usize,
 }
 
@@ -35,7 +42,7 @@ pub enum PartsRead {
     Found(Parts),
 }
 
-// A font, by positions: where its table starts in the file and how long it is, from where all other positions count; whether it is CID-keyed, its top DICT, its INDEXes, the ids of its glyphs, and its font dictionaries.
+// A font, by positions: where its table starts in the file and how long it is, from where all other positions count; whether it is CID-keyed, its top DICT, its INDEXes, the ids of its glyphs, its font dictionaries and its encoding.
 pub struct Font {
     pub start: usize,
     pub len: usize,
@@ -49,6 +56,7 @@ pub struct Font {
     pub dicts: Index,
     pub private: PrivateAt,
     pub select: FdSelect,
+    pub encoding: usize,
     pub locals: usize,
 }
 
@@ -110,27 +118,28 @@ fn read_fds(font: &[u8], d: &[u8], n: usize) -> FdSelectAt
     }
 }
 
-// The refusal of the encoding at an offset, or 0; 0 is the standard encoding, and 1 the expert one.
-fn encoding_at(font: &[u8], v: usize) -> u8
-    ensures { λ r. ⌜ encodingGot (now (font .entry)) v ≡ unless r ⌝ }
+// The encoding at an offset: 0 is the standard one, and 1 the expert one.
+fn encoding_at(font: &[u8], v: usize) -> EncodingAt
+    ensures { λ r. ⌜ ReadsCoding (now (font .entry)) (encodingGot (now (font .entry)) v) r ⌝ }
 {
-    if v == 0 {
-        return 0;
+    if v < 2 {
+        return EncodingAt::Found(v);
     }
-    if v == 1 {
-        return Refusal::UNSUPPORTED;
+    let e = charset::encoding::check_encoding(font, v);
+    if 0 < e {
+        return EncodingAt::Refused(e);
     }
-    charset::encoding::check_encoding(font, v)
+    EncodingAt::Found(v)
 }
 
-// The refusal of the encoding of the font whose top DICT has the bytes d, or 0.
-fn check_encoding_of(font: &[u8], d: &[u8]) -> u8
-    ensures { λ r. ⌜ namedEncoding (now (font .entry)) (entriesOf (now (d .entry))) ≡ unless r ⌝ }
+// The encoding of the font whose top DICT has the bytes d.
+fn read_encoding(font: &[u8], d: &[u8]) -> EncodingAt
+    ensures { λ r. ⌜ ReadsCoding (now (font .entry)) (namedEncoding (now (font .entry)) (entriesOf (now (d .entry)))) r ⌝ }
 {
     let at = dict::offset(d, Op::ENCODING);
     match at {
         OffsetIn::Absent => encoding_at(font, 0),
-        OffsetIn::Refused(e) => e,
+        OffsetIn::Refused(e) => EncodingAt::Refused(e),
         OffsetIn::At(v) => encoding_at(font, v),
     }
 }
@@ -150,6 +159,7 @@ fn fd_parts(font: &[u8], d: &[u8], n: usize, dicts: Index, total: usize) -> Part
                     dicts,
                     private: crate::private::no_private(),
                     select,
+                    encoding: 0,
                     locals: total,
                 });
             }
@@ -197,17 +207,17 @@ fn name_parts(font: &[u8], d: &[u8], n: usize) -> PartsRead
     match read {
         PrivateRead::Refused(e) => PartsRead::Refused(e),
         PrivateRead::Found(q) => {
-            let e = check_encoding_of(font, d);
-            if 0 < e {
-                return PartsRead::Refused(e);
-            }
             let locals = q.locals;
-            PartsRead::Found(Parts {
-                dicts: crate::private::no_items(),
-                private: q,
-                select: charset::fd_select::no_fd_select(),
-                locals: locals.count,
-            })
+            match read_encoding(font, d) {
+                EncodingAt::Refused(e) => PartsRead::Refused(e),
+                EncodingAt::Found(encoding) => PartsRead::Found(Parts {
+                    dicts: crate::private::no_items(),
+                    private: q,
+                    select: charset::fd_select::no_fd_select(),
+                    encoding,
+                    locals: locals.count,
+                }),
+            }
         }
     }
 }
@@ -265,6 +275,7 @@ fn glyphs_at(
                         dicts,
                         private,
                         select,
+                        encoding: parts.encoding,
                         locals: parts.locals,
                     })
                 }

@@ -23,4 +23,10 @@ pub mod FdWriter
 pub mod FdWriterLaws
 pub mod Encoding
 pub mod EncodingLaws
+pub mod Predefined
+pub mod PredefinedLaws
+pub mod Codes
+pub mod CodesFound
+pub mod CodesRound
+pub mod CodesExamples
 pub mod Examples

@@ -25,6 +25,7 @@ use Rattle.subset.specs.Kept.{usedFds}
 use Rattle.subset.specs.KeptListLaws.{those-count}
 use Rattle.subset.specs.Pruned.{Pruned}
 use Rattle.subset.specs.Subset.{privateParts, fontDicts, ownByName, ownByCid, cidsOf, subsetByCid, subsetByName, subsetBytes}
+use Rattle.subset.specs.Codes.{none}
 use Rattle.subset.specs.Cut.{Outcome, refused, subset, ownOf, written}
 use Rattle.glyph_tables.specs.Tables.{highs, newFdsBy, Numbered}
 use Rattle.glyph_tables.specs.PartLaws.{highs-length}
@@ -159,7 +160,7 @@ module _ (b : List ℕ) (f : Font) (rows : List Row) (used ws : List ℕ) (r : P
         (sized-long : 256 ≤ length oldSizes) (lens-long : 256 ≤ length oldLens) {fds : List ℕ} (listed : Listed used fds)
         (count : ℕ) (counted : count ≡ length (fdsIn used)) where
       module _ (name slots : List ℕ) (own : Own) (strings : StringsReady p slots own) (front globals select glyphs matrices : ℕ)
-          (front-is : front ≡ frontLen true (p .top) slots (length name) own)
+          (front-is : front ≡ frontLen true 0 (p .top) slots (length name) own)
           (globals-is : globals ≡ indexLen (keptCount (r .kept .way) (r .kept .globals .reached) (r .kept .globals .count)) (r .«globals_total»))
           (select-is : select ≡ length (fdSelectBytes (newFdsBy used (partOf ws n k)))) (glyphs-is : glyphs ≡ indexLen k (r .«glyphs_total»))
           (matrices-are : (matrices ≡ total (matricesBy p (take count fds))) × (matrices ≤ 1792000000000)) where
@@ -246,12 +247,12 @@ module _ (way : ℕ) (bs out : List ℕ) where
 
 -- the outcome of the cut of a CID-keyed font is that of its subset, own strings being few
 pub cut-sized : (p : Program) (name kept order : List ℕ) (room : ℕ) (q : Pruned) → true ≡ cidKeyed (p .top) → length (ownByCid p) ≤ 64609
-    → written p name kept order room q ≡ sized (q .way) (subsetByCid p name (usedFds p kept) order (q .bodies)) room
+    → written p none name kept order room q ≡ sized (q .way) (subsetByCid p name (usedFds p kept) order (q .bodies)) room
 unfolding subsetBytes
 cut-sized p name kept order room q keyed few =
     let own : ltb 64609 (length (ownOf p order)) ≡ false
     = ap (λ (t : Bool). ltb 64609 (length (pick t (ownByCid p) (ownByName p order)))) (sym keyed) ∙ le-ltb 64609 (length (ownByCid p)) few in
-    let bs : subsetBytes p name kept order (q .bodies) ≡ subsetByCid p name (usedFds p kept) order (q .bodies)
-    = ap (λ (t : Bool). pick t (subsetByCid p name (usedFds p kept) order (q .bodies)) (subsetByName p name order (q .bodies))) (sym keyed) in
-    ap (λ (t : Bool). pick t (refused 12) (sized (q .way) (subsetBytes p name kept order (q .bodies)) room)) own
+    let bs : subsetBytes p none name kept order (q .bodies) ≡ subsetByCid p name (usedFds p kept) order (q .bodies)
+    = ap (λ (t : Bool). pick t (subsetByCid p name (usedFds p kept) order (q .bodies)) (subsetByName p none name order (q .bodies))) (sym keyed) in
+    ap (λ (t : Bool). pick t (refused 12) (sized (q .way) (subsetBytes p none name kept order (q .bodies)) room)) own
     ∙ ap (λ (l : List ℕ). sized (q .way) l room) bs

@@ -172,7 +172,7 @@ module _ (b : List ℕ) (f : Font) (rows : List Row) (used ws : List ℕ) (r : P
     front-is = ap frontAt is
 
     -- how long it is, and that front, globals and charset are within the subset
-    front-long : length front ≡ measured true (p .top) slots (length name) own
+    front-long : length front ≡ measured true 0 (p .top) slots (length name) own
     front-long =
         cid-front-len p slots ws (strings .slotted) own (strings .measured .is) (cidEnd p name (fdsIn used) order bodies) name
         (cidCharset p name (fdsIn used) order bodies) (cidSelect p name (fdsIn used) order bodies) (cidGlyphs p name (fdsIn used) order bodies)
@@ -186,10 +186,10 @@ module _ (b : List ℕ) (f : Font) (rows : List Row) (used ws : List ℕ) (r : P
         let glyphs = length (indexBytes (bodies .charstrings)) in
         let dicts = length (indexBytes (fontDicts p 0 (fdsIn used) (bodies .locals))) in
         let privates = length (privateParts p (fdsIn used) (bodies .locals)) in
-        let end : at .end ≡ measured true (p .top) slots (length name) own + length globals + length ids + select + glyphs + dicts + privates
+        let end : at .end ≡ measured true 0 (p .top) slots (length name) own + length globals + length ids + select + glyphs + dicts + privates
         = ap (λ (x : CidPlaces). x .end) is
         ∙ ap (λ (m : ℕ). m + length globals + length ids + select + glyphs + dicts + privates) (sym sum) in
-        within (length front) (length globals) (length ids) select glyphs dicts privates (at .end) (measured true (p .top) slots (length name) own)
+        within (length front) (length globals) (length ids) select glyphs dicts privates (at .end) (measured true 0 (p .top) slots (length name) own)
         (length (front ++ (globals ++ ids))) end front-long (length-append front (globals ++ ids) ∙ ap (λ (m : ℕ). length front + m) (length-append globals ids))
 
     head-room : 0 + length (front ++ (globals ++ ids)) ≤ length out

@@ -1,1 +1,2 @@
 pub mod Stroked
+pub mod Encoded

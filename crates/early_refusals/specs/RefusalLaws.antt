@@ -1,16 +1,19 @@
 -- The refusal of a call before the work words are used, test by test: what each test of the code answered, and the number that it gives.
-use Prim.Native.Nat.{ℕ, _+_, _*_, _≤_, _<_}
+use Prim.Native.Nat.{ℕ, zero, suc, _+_, _*_, _≤_, _<_}
 use mathlib.Core.Path.{_≡_, refl, sym, ap, _∙_, subst}
 use mathlib.Core.Bool.{Bool, true, false, not}
 use mathlib.Core.List.{List}
-use borrow.Author.Tests.{lt-ltb, le-ltb}
+use native.Mathlib.Omega.{arith}
+use borrow.Author.Tests.{ne-eqb, lt-ltb, le-ltb}
 use Rattle.prune.specs.StepLaws.{zero-one}
+use lib.Dec.{eqb}
 use lib.ListN.{length}
 use Rattle.octets.specs.Pick.{pick}
 use Rattle.octets.specs.Lists.{allBelow}
 use Rattle.record.specs.Record.{recordFine}
+use Rattle.dict.specs.Dict.{Entry}
 use Rattle.dict.specs.Lookup.{rosIn, cidKeyed, strokedIn}
-use Rattle.cff.specs.Font.{Program}
+use Rattle.cff.specs.Font.{Program, codingAt}
 use Rattle.cff.specs.Find.{workSize}
 use Rattle.cff.specs.Reads.{programOf, GoodFont}
 use Rattle.cff.specs.SetLaws.{counts-are}
@@ -18,7 +21,7 @@ use Rattle.cff.specs.declared.Counts.{Counts}
 use Rattle.cff.specs.declared.font.Font.{Font}
 use Rattle.index.specs.IndexLaws.{items-length}
 use Rattle.subset.specs.Kept.{keptOf}
-use Rattle.subset.specs.Cut.{allFound, hasRos, sameBool}
+use Rattle.subset.specs.Cut.{allFound, hasRos, sameBool, isExpert, unsupportedIn}
 use Rattle.outcome.specs.Entry.{refusalOf}
 
 -- a font's counts
@@ -56,29 +59,57 @@ fit true true e = absurd (zero-one cc)
 fit true false e = (refl, refl)
 fit false t e = absurd (zero-one cc)
 
-module _ (b : List ℕ) (f : Font) (good : GoodFont b f) (cid : Bool) (name : ℕ) (keep rec : List ℕ) (flag words : ℕ) where
+-- the test of the encoding by its offset
+abbrev pub unsupportedAt : Bool → ℕ → List Entry → Bool
+unsupportedAt ask v es = pick (strokedIn es) true (pick ask false (eqb v 1))
+
+expert-is : (b : List ℕ) (v : ℕ) → isExpert (codingAt b v) ≡ eqb v 1
+unfolding codingAt
+expert-is b zero = refl
+expert-is b (suc zero) = refl
+expert-is b (suc (suc v)) =
+    let z = ne-eqb (suc (suc v)) 0 (λ q. zero-one (omega (arith, q))) in
+    let o = ne-eqb (suc (suc v)) 1 (λ q. zero-one (omega (arith, q))) in
+    rw (z, o)
+
+pub unsupported-is : (b : List ℕ) (f : Font) (ask : Bool) → unsupportedIn ask (programOf b f) ≡ unsupportedAt ask (f .encoding) (programOf b f .top)
+unsupported-is b f ask = ap (λ (t : Bool). pick (strokedIn (programOf b f .top)) true (pick ask false t)) (expert-is b (f .encoding))
+
+-- what the code says of it, test by test
+pub stroked-first : (s t r : Bool) → r ≡ s → r ≡ true → true ≡ pick s true t
+stroked-first s t r e h = ap (λ (x : Bool). pick x true t) (sym h ∙ e)
+
+pub asked-next : (s ask t r : Bool) → r ≡ s → r ≡ false → ask ≡ true → false ≡ pick s true (pick ask false t)
+asked-next s ask t r e h a = ap (λ (x : Bool). pick x true (pick true false t)) (sym h ∙ e) ∙ ap (λ (x : Bool). pick s true (pick x false t)) (sym a)
+
+pub expert-last : (s ask t r : Bool) → r ≡ s → r ≡ false → ask ≡ false → t ≡ pick s true (pick ask false t)
+expert-last s ask t r e h a = ap (λ (x : Bool). pick x true (pick false false t)) (sym h ∙ e) ∙ ap (λ (x : Bool). pick s true (pick x false t)) (sym a)
+
+module _ (b : List ℕ) (f : Font) (good : GoodFont b f) (cid ask : Bool) (name : ℕ) (keep rec : List ℕ) (flag words : ℕ) where
   abbrev p : Program
   p = programOf b f
 
   abbrev numbered : ℕ
-  numbered = refusalOf cid p name keep rec flag words
+  numbered = refusalOf cid ask p name keep rec flag words
 
-  module _ (r₁ : Bool) (e₁ : r₁ ≡ pick (sameBool cid (f .cid)) (not (strokedIn (p .top))) false) where
-    same : (t : Bool) → r₁ ≡ t → pick (sameBool cid (cidKeyed (p .top))) (not (strokedIn (p .top))) false ≡ t
-    same t h = ap (λ (k : Bool). pick (sameBool cid k) (not (strokedIn (p .top))) false) (sym (good .cid)) ∙ sym e₁ ∙ h
+  module _ (r₁ : Bool) (e₁ : r₁ ≡ pick (sameBool cid (f .cid)) (not (unsupportedAt ask (f .encoding) (p .top))) false) where
+    same : (t : Bool) → r₁ ≡ t → pick (sameBool cid (cidKeyed (p .top))) (not (unsupportedIn ask p)) false ≡ t
+    same t h =
+        ap (λ (k : Bool). pick (sameBool cid k) (not (unsupportedIn ask p)) false) (sym (good .cid))
+        ∙ ap (λ (u : Bool). pick (sameBool cid (f .cid)) (not u) false) (unsupported-is b f ask) ∙ sym e₁ ∙ h
 
     pub read-unfit : not r₁ ≡ true → 3 ≡ numbered
     unfolding refusalOf
-    read-unfit t = unfit (sameBool cid (cidKeyed (p .top))) (strokedIn (p .top)) _ (same false (was-false r₁ t))
+    read-unfit t = unfit (sameBool cid (cidKeyed (p .top))) (unsupportedIn ask p) _ (same false (was-false r₁ t))
 
     module _ (t₁ : not r₁ ≡ false) (r₂ : Bool) (e₂ : r₂ ≡ pick cid (hasRos (rosIn (p .top))) true) where
-      both : (sameBool cid (cidKeyed (p .top)) ≡ true) × (strokedIn (p .top) ≡ false)
-      both = fit (sameBool cid (cidKeyed (p .top))) (strokedIn (p .top)) (same true (was-true r₁ t₁))
+      both : (sameBool cid (cidKeyed (p .top)) ≡ true) × (unsupportedIn ask p ≡ false)
+      both = fit (sameBool cid (cidKeyed (p .top))) (unsupportedIn ask p) (same true (was-true r₁ t₁))
 
       a : sameBool cid (cidKeyed (p .top)) ≡ true
       a = both .0
 
-      s : strokedIn (p .top) ≡ false
+      s : unsupportedIn ask p ≡ false
       s = both .1
 
       pub read-ros : not r₂ ≡ true → 2 ≡ numbered

@@ -3,11 +3,12 @@ ghost use mathlib.Core.Path.{_≡_};
 ghost use mathlib.Core.Bool.{true, false, not};
 ghost use Prim.Native.Nat.{_+_, _*_, _≤_, _<_};
 ghost use Rattle.octets.specs.Pick.{pick};
-ghost use Rattle.dict.specs.Lookup.{rosIn, strokedIn};
+ghost use Rattle.dict.specs.Lookup.{rosIn};
 ghost use Rattle.dict.specs.Places.{entriesOf};
 ghost use Rattle.cff.specs.Reads.{programOf, GoodFont};
 ghost use Rattle.subset.specs.Cut.{hasRos, sameBool};
 ghost use Rattle.outcome.specs.Entry.{refusalOf};
+ghost use Rattle.early_refusals.specs.RefusalLaws.{unsupportedAt};
 use cff::font::Font;
 use dict::RosIn;
 use refusal::Refusal;
@@ -36,12 +37,25 @@ fn same_keying(a: bool, b: bool) -> bool
     !b
 }
 
-// Whether a font has the keying that is asked for and is not stroked.
-fn is_fit(cid: bool, keyed: bool, d: &[u8]) -> bool
-    ensures { λ r. ⌜ r ≡ pick (sameBool cid keyed) (not (strokedIn (entriesOf (now (d .entry))))) false ⌝ }
+// Whether a font is stroked, or has an Expert encoding, offset 1, that is not asked for.
+fn is_unsupported(ask: bool, encoding: usize, d: &[u8]) -> bool
+    ensures { λ r. ⌜ r ≡ unsupportedAt ask encoding (entriesOf (now (d .entry))) ⌝ }
+{
+    if dict::is_stroked(d) {
+        return true;
+    }
+    if ask {
+        return false;
+    }
+    encoding == 1
+}
+
+// Whether a font has the keying that is asked for and is supported.
+fn is_fit(cid: bool, ask: bool, keyed: bool, encoding: usize, d: &[u8]) -> bool
+    ensures { λ r. ⌜ r ≡ pick (sameBool cid keyed) (not (unsupportedAt ask encoding (entriesOf (now (d .entry))))) false ⌝ }
 {
     if same_keying(cid, keyed) {
-        return !dict::is_stroked(d);
+        return !is_unsupported(ask, encoding, d);
     }
     false
 }
@@ -69,6 +83,7 @@ pub fn work_size(f: Font) -> usize
 // The refusal of a font that was read, before the work words are used, or 0.
 pub fn refusal(
     cid: bool,
+    ask: bool,
     font: &[u8],
     f: Font,
     name: usize,
@@ -78,12 +93,12 @@ pub fn refusal(
     words: usize,
 ) -> u8
     requires { ⌜ GoodFont (now font) f ⌝ }
-    ensures { λ r. ⌜ r ≡ refusalOf cid (programOf (now (font .entry)) f) name (now (keep .entry)) (now (rows .entry)) traced words ⌝ }
+    ensures { λ r. ⌜ r ≡ refusalOf cid ask (programOf (now (font .entry)) f) name (now (keep .entry)) (now (rows .entry)) traced words ⌝ }
 {
     let charstrings = f.charstrings;
     let top = f.top;
     let end = f.top_end;
-    if !is_fit(cid, f.cid, &font[top..end]) {
+    if !is_fit(cid, ask, f.cid, f.encoding, &font[top..end]) {
         return Refusal::UNSUPPORTED;
     }
     if !ros_fine(cid, &font[top..end]) {

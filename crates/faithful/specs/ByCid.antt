@@ -21,7 +21,7 @@ use Rattle.charset.specs.CharsetBytes.{Ids, charsetBytes}
 use Rattle.charset.specs.FdSelect.{fdSelectAt}
 use Rattle.charset.specs.FdSelectBytes.{fdSelectBytes}
 use Rattle.charset.specs.FdSelectRound.{select-round}
-use Rattle.cff.specs.Font.{got, Private, Program, privatesAt, dictsAt, idsAt, cidParts, nameParts, fontAt, readFont, emptyPrivate}
+use Rattle.cff.specs.Font.{got, Private, standard, Program, privatesAt, dictsAt, idsAt, cidParts, nameParts, fontAt, readFont, emptyPrivate}
 use Rattle.subset.specs.Kept.{privateOf}
 use Rattle.subset.specs.Pruned.{Bodies}
 use Rattle.subset.specs.Subset.{privateDict, privatePart, privateParts, matrixOf, fontDict, fontDicts, ownByCid, topByCid, cidsOf, newFds, subsetByCid}
@@ -175,14 +175,14 @@ module _ (p : Program) (used order : List ℕ) (b : Bodies) (at₁ : ℕ) where
       abbrev fontRead : List Entry → Program
       fontRead es =
           fontOf (ownByCid p) (b .globals) es (b .charstrings) (cidsOf p order)
-          (record { privates = private-dicts .0; fds = newFds p used order; dicts = dictsAt dictsWritten })
+          (record { privates = private-dicts .0; fds = newFds p used order; dicts = dictsAt dictsWritten; coding = standard })
 
       font-read : (top : List ℕ) (es : List Entry) → dictOf top ≡ entries es → CidTop es at₁ selectPlace glyphsPlace arrayPlace
           → 3 ≤ at₁ → 0 < length order → getD (cidsOf p order) 0 0 ≡ 0 → fontAt bs (ownByCid p) (b .globals) top ≡ got (fontRead es)
       font-read top es dict t far some first =
           let ps = private-dicts .0 in
           let n = private-dicts .2 in
-          let q : cidParts bs es (length (b .charstrings)) ≡ got (record { privates = ps; fds = newFds p used order; dicts = dictsAt dictsWritten })
+          let q : cidParts bs es (length (b .charstrings)) ≡ got (record { privates = ps; fds = newFds p used order; dicts = dictsAt dictsWritten; coding = standard })
           = cid-parts-back bs es (length (b .charstrings)) arrayPlace selectPlace _ dictsWritten ps (newFds p used order) (t .fdArrayAt) (t .fdSelectAt) array-read
           (private-dicts .1) (omega arith) select-read (ap (λ (k : ℕ). allBelow k (newFds p used order)) n ∙ below) in
           font-back bs (ownByCid p) (b .globals) top es (b .charstrings) (cidsOf p order) _ dict (t .charstringTypeNone) at₁ glyphsPlace _
@@ -231,7 +231,7 @@ pub by-cid : (p : Program) (name used order : List ℕ) (b : Bodies) → GoodPro
     → 0 < length order → length order < 65536 → getD (cidsOf p order) 0 0 ≡ 0 → 0 < length used → length used < 65536
     → allBelow (length used) (newFds p used order) ≡ true → Octets (newFds p used order)
     → length (ownByCid p) ≤ 64609 → length (subsetByCid p name used order b) ≤ 67108864
-    → ReadsAs true (ownByCid p) (cidsOf p order) (newFds p used order) (matricesOf p used) b (subsetByCid p name used order b)
+    → ReadsAs true (ownByCid p) (cidsOf p order) (newFds p used order) (matricesOf p used) standard b (subsetByCid p name used order b)
 by-cid p name used order b good there fitting some few first someFds fewFds below small fewStrings short =
     let bs = subsetByCid p name used order b in
     let at₁ = charsetPlace p name used order b in
@@ -246,7 +246,7 @@ by-cid p name used order b good there fitting some few first someFds fewFds belo
     record {
       program =
           fontOf (ownByCid p) (b .globals) (top .0) (b .charstrings) (cidsOf p order)
-          (record { privates = ps .0; fds = newFds p used order; dicts = dictsAt (dictsWritten p used order b at₁) });
+          (record { privates = ps .0; fds = newFds p used order; dicts = dictsAt (dictsWritten p used order b at₁); coding = standard });
       reads = subset-back p name used order b (omega arith) (fitting .globals) short _ font;
       keying = top .2 .keying;
       strings = refl;
@@ -254,6 +254,7 @@ by-cid p name used order b good there fitting some few first someFds fewFds belo
       charstrings = refl;
       ids = refl;
       fds = refl;
+      codes = refl;
       matrix = ps .4;
       locals = λ k h. ps .3 k (omega (arith, fitting .fds));
     }

@@ -1,7 +1,8 @@
 -- Demand 3 used: what the theorem gives for glyph 1 of document 01's font, for glyphs of a CID-keyed font with a mask in a subroutine, cut
--- in each of the three ways, and a record that lists the mask with another length alone, for which it gives nothing.
+-- in each of the three ways, and a record that lists the mask with another length alone, for which it gives nothing; and what the codes of the
+-- first font's subset mean (document 02, Wish 4), of which cut_examples has more.
 use Prim.Native.Nat.{ℕ, zero, suc, _<_}
-use mathlib.Core.Path.{_≡_, refl, sym, _∙_, subst}
+use mathlib.Core.Path.{_≡_, refl, sym, ap, _∙_, subst}
 use mathlib.Core.Logic.{_⊎_, inl, inr}
 use mathlib.Core.Bool.{true, false, false≢true}
 use mathlib.Core.List.{List, [], _∷_, _++_}
@@ -26,25 +27,32 @@ use Rattle.decimal.specs.Values.{truncOf}
 use Rattle.dict.specs.Dict.{tokenAt, operatorAt, entryFrom, entryAt, readingsFrom, readingsAt, gathered, dictOf}
 use Rattle.dict.specs.Lookup.{absent, lastFrom, lastOf, cidKeyed}
 use Rattle.charset.specs.Listed.{listOf}
+use Rattle.charset.specs.Predefined.{standardEncoding}
+use Rattle.strings.specs.Table.{standardNames}
+use Rattle.strings.specs.Text.{codes, sameText}
+use Rattle.strings.specs.Strings.{stringText, standardString, standardStrings}
+use Rattle.find.specs.Find.{glyphWithText}
 use Rattle.opentype.specs.Opentype.{placeOf}
-use Rattle.cff.specs.Font.{got, Program, emptyPrivate, charStrings, readTable, readFont, setAt, fontsAt, fontAt, nameParts, privateAt, idsAt, encodingGot}
+use Rattle.cff.specs.Font.{Got, got, standard, Program, emptyPrivate, charStrings, readTable, readFont, setAt, fontsAt, fontAt, nameParts, privateAt, idsAt, codingAt, encodingGot}
 use Rattle.cff.specs.declared.FoundAs.the-variants.{Glyph as TheGlyph}
 use Rattle.subset.specs.Kept.{isIn, those, fdsOf, keptOf, usedFds}
+use Rattle.subset.specs.Codes.{glyphOf, codedBy, nothing, named, meant, keptMeant}
 use Rattle.subset.specs.Subset.{matrixOf}
-use Rattle.subset.specs.Cut.{Outcome, subset}
+use Rattle.subset.specs.Cut.{Outcome, subset, cutRead, cutOf}
 use Rattle.subset.specs.Examples.{sheet, sheetSubset, the-sheet}
 use Rattle.subset.specs.CidFont.{cidFont, cidProgram, reads, reach, wrongReach}
 use Rattle.subset.specs.CidExample.{renumberedBytes, unrenumberedBytes, renumbers, stubs, copies}
 use Rattle.faithful.specs.Faithful.{unfolded, IsKept, foundFor, Recorded, Holds, Faithful}
 use Rattle.faithful.specs.Matrices.{matrixFor, KeepsMatrices, Scaled}
-use Rattle.faithful.specs.Theorem.{faithful, matrix-back}
+use Rattle.faithful.specs.Codes.{KeepsCodes}
+use Rattle.faithful.specs.Theorem.{faithful, matrix-back, codes-back}
 
 -- a glyph of the keep list is kept
 asked-kept : (p : Program) (keep : List ℕ) (g : ℕ) → g < length (p .charstrings) → isIn g keep ≡ true → IsKept p keep g
 asked-kept p keep g there e = record { there = there; asked = inr e }
 
 -- a list of numbers below 256
-octets-of : (b : List ℕ) → allBelow 256 b ≡ true → Octets b
+pub octets-of : (b : List ℕ) → allBelow 256 b ≡ true → Octets b
 unfolding allBelow
 octets-of [] e i = omega arith
 octets-of (x ∷ xs) e zero = ltb-true x 256 (both-hold (ltb x 256) (allBelow 256 xs) e .0)
@@ -64,11 +72,12 @@ sheetProgram =
       privates = emptyPrivate ∷ [];
       fds = 0 ∷ 0 ∷ [];
       dicts = [];
+      coding = standard;
     }
 
 sheet-reads : readFont sheet ≡ got sheetProgram
 unfolding
-    readFont readTable placeOf setAt fontsAt fontAt nameParts privateAt idsAt encodingGot readIndex told indexAt tableAt dataAt runOf judged offsets pieces itemsOf numAt be dictOf
+    readFont readTable placeOf setAt fontsAt fontAt nameParts privateAt idsAt codingAt encodingGot readIndex told indexAt tableAt dataAt runOf judged offsets pieces itemsOf numAt be dictOf
     gathered readingsAt readingsFrom entryAt entryFrom tokenAt operatorAt numberAt realAt normal zeros zerosOf stripped lastOf lastFrom truncOf listOf
 sheet-reads = refl
 
@@ -85,18 +94,47 @@ sheet-unfolds : unfolded sheetProgram 1 ≡ plain (op 14 ∷ []) []
 unfolding u.unfoldGlyph u.runBody u.walk u.stepAt u.operatorAt u.leave u.but u.targetOf t2.numberAt t2.rounded t2.keep24
 sheet-unfolds = refl
 
-none-octets : Octets []
+pub none-octets : Octets []
 none-octets i = omega arith
 
 sheet-faithful : Faithful sheet (1 ∷ []) [] 1 (subset 0 sheetSubset)
 sheet-faithful =
     subst (λ (o : Outcome). Faithful sheet (1 ∷ []) [] 1 o) the-sheet
-    (faithful false sheet (0x41 ∷ []) (1 ∷ []) [] 1 8192 32768 (octets-of sheet sheet-octets) none-octets)
+    (faithful false false sheet (0x41 ∷ []) (1 ∷ []) [] 1 8192 32768 (octets-of sheet sheet-octets) none-octets)
 
 -- the subset holds glyph 1
 sheet-held : Holds sheetProgram 1 (op 14 ∷ []) sheetSubset
 sheet-held =
     sheet-faithful sheetProgram sheet-reads 1 (asked-kept sheetProgram (1 ∷ []) 1 (omega arith) asked-1) (op 14 ∷ []) [] sheet-unfolds (inr none)
+
+-- its encoding asked for, which is the standard one: the same subset, in which code 32 is space and code 33, exclam, has no glyph
+sheet-asked : cutOf false true sheet (0x41 ∷ []) (1 ∷ []) [] 1 8192 32768 ≡ subset 0 sheetSubset
+unfolding cutOf codedBy
+sheet-asked =
+    ap (λ (g : Got Program). cutRead false true g (0x41 ∷ []) (1 ∷ []) [] 1 8192 32768) sheet-reads
+    ∙ sym (ap (λ (g : Got Program). cutRead false false g (0x41 ∷ []) (1 ∷ []) [] 1 8192 32768) sheet-reads) ∙ the-sheet
+
+sheet-named : cidKeyed (sheetProgram .top) ≡ false
+unfolding lastOf lastFrom
+sheet-named = refl
+
+code-32 : keptMeant sheetProgram (keptOf 2 (1 ∷ [])) (glyphOf sheetProgram standard 32) ≡ named (0x73 ∷ 0x70 ∷ 0x61 ∷ 0x63 ∷ 0x65 ∷ [])
+unfolding glyphOf standardEncoding glyphWithText stringText standardString standardStrings standardNames sameText codes those isIn
+code-32 = refl
+
+code-33 : keptMeant sheetProgram (keptOf 2 (1 ∷ [])) (glyphOf sheetProgram standard 33) ≡ nothing
+unfolding glyphOf standardEncoding glyphWithText stringText standardString standardStrings standardNames sameText codes those isIn
+code-33 = refl
+
+sheet-codes : (q : Program) × (readFont sheetSubset ≡ got q)
+    × (meant q (glyphOf q (q .coding) 32) ≡ named (0x73 ∷ 0x70 ∷ 0x61 ∷ 0x63 ∷ 0x65 ∷ []))
+    × (meant q (glyphOf q (q .coding) 33) ≡ nothing)
+sheet-codes =
+    let keeps : KeepsCodes true sheet (1 ∷ []) (subset 0 sheetSubset)
+    = subst (KeepsCodes true sheet (1 ∷ [])) sheet-asked
+    (codes-back false true sheet (0x41 ∷ []) (1 ∷ []) [] 1 8192 32768 (octets-of sheet sheet-octets) none-octets) in
+    let k = keeps refl sheetProgram sheet-reads sheet-named in
+    (k .0, k .1, k .2 .codes 32 (omega arith) ∙ code-32, k .2 .codes 33 (omega arith) ∙ code-33)
 
 -- ---- a CID-keyed font
 
@@ -153,7 +191,7 @@ listed-1 = inr (one refl (one refl none))
 renumbered-held : Holds cidProgram 1 tokens-1 renumberedBytes
 renumbered-held =
     subst (λ (o : Outcome). Faithful cidFont keep reach 1 o) renumbers
-    (faithful true cidFont (0x41 ∷ []) keep reach 1 8192 32768 (octets-of cidFont font-octets) (octets-of reach reach-octets))
+    (faithful true false cidFont (0x41 ∷ []) keep reach 1 8192 32768 (octets-of cidFont font-octets) (octets-of reach reach-octets))
     cidProgram reads 1 kept-1 tokens-1 met-1 unfolds-1 listed-1
 
 -- stubbed: a row more, of a subroutine that is not there
@@ -164,7 +202,7 @@ listed-3 = inr (one refl (one refl (one refl none)))
 stubbed-held : Holds cidProgram 3 tokens-3 (unrenumberedBytes 0x0b)
 stubbed-held =
     subst (λ (o : Outcome). Faithful cidFont keep wrongReach 1 o) stubs
-    (faithful true cidFont (0x41 ∷ []) keep wrongReach 1 8192 32768 (octets-of cidFont font-octets) (octets-of wrongReach wrong-octets))
+    (faithful true false cidFont (0x41 ∷ []) keep wrongReach 1 8192 32768 (octets-of cidFont font-octets) (octets-of wrongReach wrong-octets))
     cidProgram reads 3 kept-3 tokens-3 met-3 unfolds-3 listed-3
 
 -- copied: with flag 0 nothing need be listed
@@ -174,7 +212,7 @@ unlisted-3 = inl refl
 copied-held : Holds cidProgram 3 tokens-3 (unrenumberedBytes 0x0e)
 copied-held =
     subst (λ (o : Outcome). Faithful cidFont keep [] 0 o) copies
-    (faithful true cidFont (0x41 ∷ []) keep [] 0 8192 32768 (octets-of cidFont font-octets) none-octets)
+    (faithful true false cidFont (0x41 ∷ []) keep [] 0 8192 32768 (octets-of cidFont font-octets) none-octets)
     cidProgram reads 3 kept-3 tokens-3 met-3 unfolds-3 unlisted-3
 
 -- ---- nothing is promised where the record lists the mask with another length alone
@@ -199,7 +237,7 @@ keyed = refl
 font-scaled : KeepsMatrices cidProgram keep renumberedBytes
 font-scaled =
     subst (λ (o : Outcome). Scaled cidFont keep o) renumbers
-    (matrix-back true cidFont (0x41 ∷ []) keep reach 1 8192 32768 (octets-of cidFont font-octets) (octets-of reach reach-octets))
+    (matrix-back true false cidFont (0x41 ∷ []) keep reach 1 8192 32768 (octets-of cidFont font-octets) (octets-of reach reach-octets))
     cidProgram reads keyed
 
 -- FDs 0 and 2 are in use

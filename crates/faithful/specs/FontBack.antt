@@ -20,7 +20,7 @@ use Rattle.charset.specs.Charset.{charsetAt, isoAdobe}
 use Rattle.charset.specs.CharsetBytes.{Ids, charsetBytes}
 use Rattle.charset.specs.CharsetRound.{charset-round}
 use Rattle.charset.specs.FdSelect.{fdSelectAt}
-use Rattle.cff.specs.Font.{charset, charStrings, fdArray, fdSelect, Got, refused, got, then, indexGot, dictGot, listGot, unless, needed, orZero, Private, Added, privatesAt, dictsAt, Program, idsAt, fdsAt, cidParts, nameParts, fontAt}
+use Rattle.cff.specs.Font.{charset, charStrings, fdArray, fdSelect, Got, refused, got, then, indexGot, dictGot, listGot, unless, needed, orZero, Private, standard, Added, privatesAt, dictsAt, Program, idsAt, fdsAt, cidParts, nameParts, fontAt}
 use Rattle.cff.specs.ReadsLaws.{then-got}
 
 -- a count that is not 0 passes
@@ -55,6 +55,7 @@ fontOf own globals es cs ids added =
       privates = added .privates;
       fds = added .fds;
       dicts = added .dicts;
+      coding = added .coding;
     }
 
 module _ (b : List ℕ) (own globals : List (List ℕ)) (top : List ℕ) (es : List Entry) (cs : List (List ℕ)) (ids : List ℕ) (added : Added)
@@ -75,10 +76,10 @@ module _ (b : List ℕ) (own globals : List (List ℕ)) (top : List ℕ) (es : L
 -- what a CID-keyed font adds, by its parts
 pub cid-parts-back : (b : List ℕ) (es : List Entry) (n at₁ at₂ end : ℕ) (dicts : List (List ℕ)) (ps : List Private) (fds : List ℕ)
     → offsetIn fdArray es ≡ At at₁ → offsetIn fdSelect es ≡ At at₂ → readIndex b at₁ ≡ found dicts end → privatesAt b dicts ≡ got ps → 0 < length ps
-    → fdSelectAt b at₂ n ≡ listed fds → allBelow (length ps) fds ≡ true → cidParts b es n ≡ got (record { privates = ps; fds = fds; dicts = dictsAt dicts })
+    → fdSelectAt b at₂ n ≡ listed fds → allBelow (length ps) fds ≡ true → cidParts b es n ≡ got (record { privates = ps; fds = fds; dicts = dictsAt dicts; coding = standard })
 unfolding cidParts fdsAt
 cid-parts-back b es n at₁ at₂ end dicts ps fds ofArray ofSelect read privates some select below =
-    let added : Added = record { privates = ps; fds = fds; dicts = dictsAt dicts } in
+    let added : Added = record { privates = ps; fds = fds; dicts = dictsAt dicts; coding = standard } in
     then-got _ _ dicts (named-index b fdArray es at₁ dicts end ofArray read) ∙ then-got _ _ ps privates ∙ then-got _ _ tt (some-passes (length ps) some)
     ∙ then-got _ _ fds (ap (fdsAt b n) ofSelect ∙ ap listGot select)
     ∙ ap (λ (t : Bool). pick t (got added) (refused 2)) below

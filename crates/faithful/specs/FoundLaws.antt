@@ -1,8 +1,9 @@
 -- Finding in a subset (document 01, 'Entries and their refusals', refusal 7): where finding gives each kept glyph of the font for its own name or
--- CID, kept names and CIDs differ, and finding in the subset gives the glyph at the place where it was written.
+-- CID, kept names and CIDs differ, and finding in the subset gives the glyph at the place where it was written; and a text whose glyph is not kept is
+-- absent there.
 use Prim.Native.Nat.{ℕ, zero, suc, _+_, _<_}
-use mathlib.Core.Path.{_≡_, refl, sym, ap, _∙_}
-use mathlib.Core.Bool.{true, false}
+use mathlib.Core.Path.{_≡_, refl, sym, ap, _∙_, subst}
+use mathlib.Core.Bool.{Bool, true, false}
 use mathlib.Core.List.{List, [], _∷_, _++_}
 use mathlib.Core.Logic.{⊎-elim}
 use native.Mathlib.Nat.{le-of-suc-le-suc, not-suc-le-zero, add-zero}
@@ -11,10 +12,12 @@ use borrow.Author.Tests.{eqb-true, eq-eqb, ne-eqb}
 use lib.ListN.{length, getD}
 use Rattle.octets.specs.Pick.{pick, pick-ind}
 use Rattle.prune.specs.StepLaws.{zero-one}
-use Rattle.strings.specs.TextLaws.{same-refl, same-not}
+use Rattle.strings.specs.Text.{sameText}
+use Rattle.strings.specs.TextLaws.{same-refl, same-true, same-not}
 use Rattle.strings.specs.Strings.{stringText}
 use Rattle.find.specs.Find.{glyphWithId, glyphWithText}
-use Rattle.find.specs.declared.Found.the-variants.{Glyph as TheGlyph}
+use Rattle.find.specs.declared.Found.{Found}
+use Rattle.find.specs.declared.Found.the-variants.{Absent as NoGlyph, Glyph as TheGlyph}
 use Rattle.dict.specs.Lookup.{cidKeyed}
 use Rattle.cff.specs.Font.{Program}
 use Rattle.cff.specs.Find.{foundAs, findName, findCid}
@@ -24,9 +27,9 @@ use Rattle.subset.specs.Kept.{isIn, keptOf, sortedBy}
 use Rattle.subset.specs.Texts.{newId, textsOf, nameOf, namesOf}
 use Rattle.subset.specs.Subset.{named, ownByName, newIds, cidsOf}
 use Rattle.subset.specs.Cut.{isGlyph, isFound, allFound}
-use Rattle.subset.specs.KeptListLaws.{in-none, in-head, in-more, in-cases, in-at, Distinct, one, sorted-in, sorted-distinct}
+use Rattle.subset.specs.KeptListLaws.{in-none, in-head, in-more, in-cases, in-at, in-place, Distinct, one, sorted-in, sorted-distinct}
 use Rattle.faithful.specs.KeptLaws.{kept-distinct}
-use Rattle.subset.specs.TextsLaws.{has-right, new-text, names-has}
+use Rattle.subset.specs.TextsLaws.{has-right, new-text, names-has, ids-length, names-length}
 
 -- ---- refusal 7 passed
 
@@ -109,19 +112,88 @@ with-text p own (x ∷ xs) k (suc i) (one n d) f t h =
     (with-text p own xs (k + 1) i d (λ g h a c e. f g h (in-more x g xs a) (in-more x h xs c) e) (λ g a. t g (in-more x g xs a)) (le-of-suc-le-suc h)
     ∙ ap TheGlyph z))
 
--- ---- finding in the subset
+-- ---- any text
 
--- the name of the i-th kept glyph gives glyph i
-pub found-name : (p : Program) (n : ℕ) (keep : List ℕ) → cidKeyed (p .top) ≡ false → allFound p (keptOf n keep) ≡ true
-    → (i : ℕ) → i < length (keptOf n keep)
-    → foundAs (glyphWithText (ownByName p (keptOf n keep)) (nameOf p (getD (keptOf n keep) i 0)) 0
-    (newIds (ownByName p (keptOf n keep)) (namesOf p (keptOf n keep)))) ≡ Glyph i
-found-name p n keep k all i h =
-    let kept = keptOf n keep in
-    let z : 0 + i ≡ i = omega arith in
-    ap foundAs (with-text p (ownByName p kept) kept 0 i (kept-distinct n keep) (names-differ p kept all k)
-    (λ g a. new-text (textsOf (named p) ++ namesOf p kept) (nameOf p g) (has-right (nameOf p g) (textsOf (named p)) (namesOf p kept) (names-has p kept g a))) h
-    ∙ ap TheGlyph z)
+-- a glyph that is found has the text
+text-at : (strings : List (List ℕ)) (t : List ℕ) (k : ℕ) (ids : List ℕ) (g : ℕ) → glyphWithText strings t k ids ≡ TheGlyph g
+    → (i : ℕ) × (k + i ≡ g) × (i < length ids) × (stringText strings (getD ids i 0) ≡ t)
+unfolding glyphWithText
+text-at strings t k [] g e = absurd (zero-one cc)
+text-at strings t k (x ∷ ids) g e =
+    pick-ind (λ (f : Found). f ≡ TheGlyph g → (i : ℕ) × (k + i ≡ g) × (i < length (x ∷ ids)) × (stringText strings (getD (x ∷ ids) i 0) ≡ t))
+    (sameText (stringText strings x) t) (TheGlyph k) (glyphWithText strings t (k + 1) ids)
+    (λ s h. let z : k ≡ g = cc in (0, omega arith, omega arith, same-true (stringText strings x) t s))
+    (λ s h. let r = text-at strings t (k + 1) ids g h in (suc (r .0), omega (arith, r .1), omega (arith, r .2), r .3))
+    e
+
+-- the new id at a place
+new-id-at : (p : Program) (own : List (List ℕ)) (order : List ℕ) (i : ℕ) → i < length order
+    → getD (newIds own (namesOf p order)) i 0 ≡ newId own (nameOf p (getD order i 0))
+unfolding newIds namesOf
+new-id-at p own [] i h = absurd (not-suc-le-zero h)
+new-id-at p own (x ∷ xs) zero h = refl
+new-id-at p own (x ∷ xs) (suc i) h = new-id-at p own xs i (le-of-suc-le-suc h)
+
+-- what was found
+found-as : (f : Found) (g : ℕ) → foundAs f ≡ Glyph g → f ≡ TheGlyph g
+found-as NoGlyph g e = absurd (zero-one cc)
+found-as (TheGlyph h) g e = cc
+
+module _ (p : Program) (n : ℕ) (keep : List ℕ) (keyed : cidKeyed (p .top) ≡ false) (all : allFound p (keptOf n keep) ≡ true) where
+  abbrev kept : List ℕ
+  kept = keptOf n keep
+
+  abbrev own : List (List ℕ)
+  own = ownByName p kept
+
+  abbrev ids : List ℕ
+  ids = newIds own (namesOf p kept)
+
+  -- the new id of a kept glyph names it
+  pub new-names : (g : ℕ) → isIn g kept ≡ true → stringText own (newId own (nameOf p g)) ≡ nameOf p g
+  new-names g a = new-text (textsOf (named p) ++ namesOf p kept) (nameOf p g) (has-right (nameOf p g) (textsOf (named p)) (namesOf p kept) (names-has p kept g a))
+
+  -- so that the i-th glyph of the subset has the name of the i-th kept one
+  pub new-name-at : (i : ℕ) → i < length kept → stringText own (getD ids i 0) ≡ nameOf p (getD kept i 0)
+  new-name-at i h = ap (stringText own) (new-id-at p own kept i h) ∙ new-names (getD kept i 0) (in-at kept i h)
+
+  -- finding its own name in the font gives a kept glyph
+  pub text-found : (g : ℕ) → isIn g kept ≡ true → glyphWithText (p .strings) (nameOf p g) 0 (p .ids) ≡ TheGlyph g
+  text-found g h =
+      let f = glyphWithText (p .strings) (nameOf p g) 0 (p .ids) in
+      found-as f g (ap (λ (t : Bool). pick t Absent (foundAs f)) (sym keyed) ∙ name-found p kept all keyed g h)
+
+  -- the name of the i-th kept glyph gives glyph i in the subset
+  text-new : (i : ℕ) → i < length kept → glyphWithText own (nameOf p (getD kept i 0)) 0 ids ≡ TheGlyph i
+  text-new i h =
+      let z : 0 + i ≡ i = omega arith in
+      with-text p own kept 0 i (kept-distinct n keep) (names-differ p kept all keyed) new-names h ∙ ap TheGlyph z
+
+  -- a text whose glyph is kept is found in the subset
+  pub kept-there : (t : List ℕ) (g : ℕ) → glyphWithText (p .strings) t 0 (p .ids) ≡ TheGlyph g → isIn g kept ≡ true
+      → (i : ℕ) × (glyphWithText own t 0 ids ≡ TheGlyph i)
+  kept-there t g e h =
+      let r = text-at (p .strings) t 0 (p .ids) g e in
+      let at = in-place kept g h in
+      let z : r .0 ≡ getD kept (at .0) 0 = omega (arith, r .1, at .2) in
+      let name : nameOf p (getD kept (at .0) 0) ≡ t = ap (nameOf p) (sym z) ∙ r .3 in
+      (at .0, ap (λ (x : List ℕ). glyphWithText own x 0 ids) (sym name) ∙ text-new (at .0) (at .1))
+
+  -- and a text that is found there has a kept glyph, whose name is the new one's: a text whose glyph is not kept is no kept glyph's name
+  pub there-kept : (t : List ℕ) (i : ℕ) → glyphWithText own t 0 ids ≡ TheGlyph i
+      → (i < length kept) × (glyphWithText (p .strings) t 0 (p .ids) ≡ TheGlyph (getD kept i 0))
+  there-kept t i e =
+      let r = text-at own t 0 ids i e in
+      let z : r .0 ≡ i = omega (arith, r .1) in
+      let count : length ids ≡ length kept = ids-length own (namesOf p kept) ∙ names-length p kept in
+      let l : i < length kept = omega (arith, r .2) in
+      let name : nameOf p (getD kept i 0) ≡ t = sym (new-name-at i l) ∙ ap (λ (j : ℕ). stringText own (getD ids j 0)) (sym z) ∙ r .3 in
+      (l, ap (λ (x : List ℕ). glyphWithText (p .strings) x 0 (p .ids)) (sym name) ∙ text-found (getD kept i 0) (in-at kept i l))
+
+  -- ---- finding in the subset
+
+  pub found-name : (i : ℕ) → i < length kept → foundAs (glyphWithText own (nameOf p (getD kept i 0)) 0 ids) ≡ Glyph i
+  found-name i h = ap foundAs (text-new i h)
 
 -- the CID of the i-th glyph that is written gives glyph i
 pub found-cid : (p : Program) (n : ℕ) (keep : List ℕ) → cidKeyed (p .top) ≡ true → allFound p (keptOf n keep) ≡ true

@@ -15,7 +15,7 @@ use Rattle.dict.specs.Lookup.{offsetIn, privateIn, cidKeyed, charstringTypeIn}
 use Rattle.dict.specs.Proper.{AllProper}
 use Rattle.dict.specs.ProperLaws.{entries-proper, dict-proper}
 use Rattle.charset.specs.FdSelect.{noFds}
-use Rattle.cff.specs.Font.{charset, encoding, charStrings, fdArray, fdSelect, got, then, Private, Added, Program, indexGot, dictGot, unless, needed, orZero, privateAt, privatesAt, dictsAt, idsAt, fdsAt, encodingGot, cidParts, nameParts, fontAt, fontsAt, firstOf, setAt, readTable, readFont, emptyPrivate}
+use Rattle.cff.specs.Font.{charset, encoding, charStrings, fdArray, fdSelect, got, then, Private, standard, Added, Program, indexGot, dictGot, unless, needed, orZero, privateAt, privatesAt, dictsAt, idsAt, fdsAt, codingAt, encodingGot, cidParts, nameParts, fontAt, fontsAt, firstOf, setAt, readTable, readFont, emptyPrivate}
 use Rattle.cff.specs.FileLaws.{read-within, within-octets}
 use Rattle.cff.specs.ReadsLaws.{no}
 use Rattle.faithful.specs.Laid.{GoodBodies, GoodProgram}
@@ -51,7 +51,7 @@ module _ (b : List ℕ) (o : Octets b) (es : List Entry) (n : ℕ) (parts : Adde
       let u = then-gave (unless (pick (eqb (length (q .0)) 0) 2 0)) _ parts (q .2) in
       let l = then-gave (fdsAt b n (offsetIn fdSelect es)) _ parts (u .2) in
       let t = test-held (allBelow (length (q .0)) (l .0)) 2 _ parts (l .2) in
-      let e : record { privates = q .0; fds = l .0; dicts = dictsAt (d .0) } ≡ parts = cc in
+      let e : record { privates = q .0; fds = l .0; dicts = dictsAt (d .0); coding = standard } ≡ parts = cc in
       subst (PartsFor n) e
       (record { sound = privates-sound b o (d .0) (q .0) (q .1); fds = fds-good b o n (offsetIn fdSelect es) (l .0) (l .1); there = t .0; dicts = dicts-proper (d .0) (offset-good b o (needed (offsetIn fdArray es)) (d .0) (d .1) .octets) })
 
@@ -61,7 +61,7 @@ module _ (b : List ℕ) (o : Octets b) (es : List Entry) (n : ℕ) (parts : Adde
   name-good h =
       let q = then-gave (privateAt b (privateIn es)) _ parts h in
       let u = then-gave (then (orZero (offsetIn encoding es)) (encodingGot b)) _ parts (q .2) in
-      let e : record { privates = q .0 ∷ []; fds = noFds n; dicts = [] } ≡ parts = cc in
+      let e : record { privates = q .0 ∷ []; fds = noFds n; dicts = []; coding = u .0 } ≡ parts = cc in
       let s = private-sound b o (privateIn es) (q .0) (q .1) in (
         subst (PartsFor n) e (record { sound = sound-front (q .0) [] s (λ f. none-sound); fds = no-fds n; there = no-fds-below 0 n; dicts = λ f. none-proper }),
         sym (ap (λ (x : Added). length (x .privates)) e),
@@ -92,7 +92,7 @@ module _ (b : List ℕ) (o : Octets b) (strings globals : List (List ℕ)) (good
       let some = some-got n (v .1) in
       let ids = ids-good b o n (glyphs .count) some (j .0) (i .0) (j .2) in
       let parts = parts-good b o es n (k .0) (cidKeyed es) (k .1) in
-      let e : record { top = es; strings = strings; globals = globals; charstrings = c .0; ids = i .0; privates = k .0 .privates; fds = k .0 .fds; dicts = k .0 .dicts } ≡ p = got-same _ p (k .2) in
+      let e : record { top = es; strings = strings; globals = globals; charstrings = c .0; ids = i .0; privates = k .0 .privates; fds = k .0 .fds; dicts = k .0 .dicts; coding = k .0 .coding } ≡ p = got-same _ p (k .2) in
       subst GoodProgram e
       (record {
         some = some;

@@ -14,13 +14,14 @@ use Rattle.record.specs.Record.{rowsOf}
 use Rattle.dict.specs.Lookup.{Operands, cidKeyed, rosIn}
 use Rattle.charset.specs.ListedLaws.{list-at}
 use Rattle.charset.specs.FdSelect.{noFds}
-use Rattle.cff.specs.Font.{Got, Program, readFont}
+use Rattle.cff.specs.Font.{Got, got, Coding, standard, Program, codingAt, readFont}
 use Rattle.cff.specs.Find.{foundAs, nameAs, cidAs}
 use Rattle.cff.specs.declared.FoundAs.the-variants.{Glyph as TheGlyph, Absent}
 use Rattle.find.specs.Find.{glyphWithId, glyphWithText}
 use Rattle.subset.specs.Kept.{isIn, keptOf, localsOf, sortedBy, writtenOrder, usedFds, newFd}
 use Rattle.subset.specs.Texts.{nameOf, namesOf}
 use Rattle.subset.specs.Pruned.{Bodies, pruned}
+use Rattle.subset.specs.Codes.{Coded, codedBy, codedIf}
 use Rattle.subset.specs.Subset.{matrixOf, ownByName, ownByCid, newIds, cidsOf, newFds, subsetByName, subsetByCid, subsetBytes}
 use Rattle.subset.specs.Cut.{allFound, hasRos, ownOf}
 use Rattle.faithful.specs.Faithful.{unfolded, IsKept, Recorded, foundFor, Holds}
@@ -32,7 +33,9 @@ use Rattle.faithful.specs.FirstLaws.{first-name, first-cid}
 use Rattle.faithful.specs.FoundLaws.{found-name, found-cid}
 use Rattle.faithful.specs.UsedLaws.{used-has, used-some, used-count, used-one, new-fd-at, matrices-at, new-fds-there, new-fds-fit, new-fds-at}
 use Rattle.faithful.specs.PrunedLaws.{pruned-fits, pruned-unfolds}
-use Rattle.faithful.specs.ByName.{by-name}
+use Rattle.faithful.specs.ByName.{codesWritten, codes-read, by-name}
+use Rattle.faithful.specs.Codes.{CodesKept}
+use Rattle.faithful.specs.CodesLaws.{codingOf, SmallIds, coded-by-small, codes-meant}
 use Rattle.faithful.specs.ByCid.{by-cid}
 
 -- ---- numbers of the glyphs kept
@@ -56,11 +59,11 @@ module _ (p : Program) (keep rec : List ℕ) (flag : ℕ) (good : GoodProgram p)
     bodies = pruned p (rowsOf rec) used order flag .bodies
 
     -- the i-th glyph of the subset unfolds as the glyph that it was
-    new-unfolds : (cid : Bool) (own : List (List ℕ)) (ids fds : List ℕ) (ms : List Operands) (bs : List ℕ) (r : ReadsAs cid own ids fds ms bodies bs) (i : ℕ) → i < length order
+    new-unfolds : (cid : Bool) (own : List (List ℕ)) (ids fds : List ℕ) (ms : List Operands) (coding : Coding) (bs : List ℕ) (r : ReadsAs cid own ids fds ms coding bodies bs) (i : ℕ) → i < length order
         → getD fds i 0 ≡ newFd used (getD (p .fds) (getD order i 0) 0)
         → (ts : List Tok) (met : List Row) → unfolded p (getD order i 0) ≡ plain ts met → Recorded rec flag met
         → (met' : List Row) × (unfolded (r .program) i ≡ plain ts met')
-    new-unfolds cid own ids fds ms bs r i h fd ts met e listed =
+    new-unfolds cid own ids fds ms coding bs r i h fd ts met e listed =
         let f = newFd used (getD (p .fds) (getD order i 0) 0) in
         let u = used-has p kept (getD order i 0) good (inside i h) (all-below (length (p .charstrings)) keep order inside i h) in
         let n : f < length (bodies .locals) = subst (λ (k : ℕ). f < k) (sym (pruned-fits p (rowsOf rec) used order flag good .fds)) (new-fd-at used (getD (p .fds) (getD order i 0) 0) u .0) in
@@ -86,14 +89,18 @@ module _ (p : Program) (keep rec : List ℕ) (flag : ℕ) (good : GoodProgram p)
 
   -- ---- name-keyed
 
-  module _ (name : List ℕ) (named : cidKeyed (p .top) ≡ false) (found : allFound p kept ≡ true) (strings : length (ownByName p kept) ≤ 64609) where
+  module _ (coded : Coded) (name : List ℕ) (named : cidKeyed (p .top) ≡ false) (found : allFound p kept ≡ true) (strings : length (ownByName p kept) ≤ 64609) where
     abbrev byName : List ℕ
-    byName = subsetByName p name kept (bodies kept kept-inside)
+    byName = subsetByName p coded name kept (bodies kept kept-inside)
+
+    -- the encoding that is read there
+    abbrev codesRead : Coding
+    codesRead = codingAt byName (codesWritten p coded name kept (bodies kept kept-inside))
 
     name-reads : length byName ≤ 67108864
-        → ReadsAs false (ownByName p kept) (newIds (ownByName p kept) (namesOf p kept)) (noFds (length kept)) [] (bodies kept kept-inside) byName
+        → ReadsAs false (ownByName p kept) (newIds (ownByName p kept) (namesOf p kept)) (noFds (length kept)) [] codesRead (bodies kept kept-inside) byName
     name-reads size =
-        by-name p name kept (bodies kept kept-inside) good
+        by-name p coded name kept (bodies kept kept-inside) good
         (subst (λ (l : List ℕ). Fitting (length kept) l (bodies kept kept-inside)) (used-one p kept good named (some .0) (all-below (length (p .charstrings)) keep kept kept-inside))
         (pruned-fits p (rowsOf rec) used kept flag good))
         (some .0) few (first-name p keep good (ownByName p kept)) strings size
@@ -110,7 +117,7 @@ module _ (p : Program) (keep rec : List ℕ) (flag : ℕ) (good : GoodProgram p)
         → Holds p (getD kept i 0) ts byName
     name-held size i h ts met e listed =
         let r = name-reads size in
-        let u = new-unfolds kept kept-inside false (ownByName p kept) (newIds (ownByName p kept) (namesOf p kept)) (noFds (length kept)) [] byName r i h (name-fd i h) ts met e listed in
+        let u = new-unfolds kept kept-inside false (ownByName p kept) (newIds (ownByName p kept) (namesOf p kept)) (noFds (length kept)) [] codesRead byName r i h (name-fd i h) ts met e listed in
         let text = nameOf p (getD kept i 0) in
         record {
           program = r .program;
@@ -126,6 +133,16 @@ module _ (p : Program) (keep rec : List ℕ) (flag : ℕ) (good : GoodProgram p)
           met = u .0;
           unfolds = u .1;
         }
+
+    -- Wish 4: what the codes mean
+    name-codes : length byName ≤ 67108864 → coded ≡ codedBy p kept (ownByName p kept) (p .coding)
+        → (q : Program) × (readFont byName ≡ got q) × CodesKept p keep q
+    name-codes size is =
+        let r = name-reads size in
+        let small : SmallIds coded = subst SmallIds (sym is) (coded-by-small p kept (ownByName p kept) strings (p .coding)) in
+        let read : r .program .coding ≡ codingOf (codedBy p kept (ownByName p kept) (p .coding)) =
+        r .codes ∙ codes-read p coded name kept (bodies kept kept-inside) small ∙ ap codingOf is in
+        (r .program, r .reads, record { codes = codes-meant p (length (p .charstrings)) keep named found (r .program) (r .strings) (r .ids) read })
 
   -- ---- CID-keyed
 
@@ -146,7 +163,7 @@ module _ (p : Program) (keep rec : List ℕ) (flag : ℕ) (good : GoodProgram p)
     abbrev ofCid : List ℕ
     ofCid = subsetByCid p name used sorted (bodies sorted sorted-inside)
 
-    cid-reads : length ofCid ≤ 67108864 → ReadsAs true (ownByCid p) (cidsOf p sorted) (newFds p used sorted) (matricesOf p used) (bodies sorted sorted-inside) ofCid
+    cid-reads : length ofCid ≤ 67108864 → ReadsAs true (ownByCid p) (cidsOf p sorted) (newFds p used sorted) (matricesOf p used) standard (bodies sorted sorted-inside) ofCid
     cid-reads size =
         let n = sorted-count in
         by-cid p name used sorted (bodies sorted sorted-inside) good ros (pruned-fits p (rowsOf rec) used sorted flag good)
@@ -168,7 +185,7 @@ module _ (p : Program) (keep rec : List ℕ) (flag : ℕ) (good : GoodProgram p)
         → Holds p (getD sorted i 0) ts ofCid
     cid-held size i h ts met e listed =
         let r = cid-reads size in
-        let u = new-unfolds sorted sorted-inside true (ownByCid p) (cidsOf p sorted) (newFds p used sorted) (matricesOf p used) ofCid r i h (new-fds-at p used sorted i h) ts met e listed in
+        let u = new-unfolds sorted sorted-inside true (ownByCid p) (cidsOf p sorted) (newFds p used sorted) (matricesOf p used) standard ofCid r i h (new-fds-at p used sorted i h) ts met e listed in
         record {
           program = r .program;
           reads = r .reads;
@@ -216,41 +233,57 @@ module _ (p : Program) (keep rec : List ℕ) (flag : ℕ) (good : GoodProgram p)
   abbrev bodiesBy : Bool → Bodies
   bodiesBy cid = pruned p (rowsOf rec) used (orderBy cid) flag .bodies
 
-  abbrev bytesBy : Bool → List ℕ → List ℕ
-  bytesBy cid name = pick cid (subsetByCid p name used (orderBy cid) (bodiesBy cid)) (subsetByName p name (orderBy cid) (bodiesBy cid))
+  abbrev bytesBy : Bool → Coded → List ℕ → List ℕ
+  bytesBy cid coded name = pick cid (subsetByCid p name used (orderBy cid) (bodiesBy cid)) (subsetByName p coded name (orderBy cid) (bodiesBy cid))
 
-  held : (cid : Bool) (name : List ℕ) → cidKeyed (p .top) ≡ cid → pick cid (hasRos (rosIn (p .top))) true ≡ true → allFound p kept ≡ true
-      → length (pick cid (ownByCid p) (ownByName p (orderBy cid))) ≤ 64609 → length (bytesBy cid name) ≤ 67108864
+  held : (cid : Bool) (coded : Coded) (name : List ℕ) → cidKeyed (p .top) ≡ cid → pick cid (hasRos (rosIn (p .top))) true ≡ true → allFound p kept ≡ true
+      → length (pick cid (ownByCid p) (ownByName p (orderBy cid))) ≤ 64609 → length (bytesBy cid coded name) ≤ 67108864
       → (i : ℕ) → i < length (orderBy cid) → (ts : List Tok) (met : List Row) → unfolded p (getD (orderBy cid) i 0) ≡ plain ts met → Recorded rec flag met
-      → Holds p (getD (orderBy cid) i 0) ts (bytesBy cid name)
-  held true name k ros found strings size i h ts met e listed = cid-held name k ros found strings size i h ts met e listed
-  held false name k ros found strings size i h ts met e listed = name-held name k found strings size i h ts met e listed
+      → Holds p (getD (orderBy cid) i 0) ts (bytesBy cid coded name)
+  held true coded name k ros found strings size i h ts met e listed = cid-held name k ros found strings size i h ts met e listed
+  held false coded name k ros found strings size i h ts met e listed = name-held coded name k found strings size i h ts met e listed
 
   -- a glyph kept stands in the order
   placed : (g : ℕ) → IsKept p keep g → (i : ℕ) × (i < length (orderBy (cidKeyed (p .top)))) × (getD (orderBy (cidKeyed (p .top))) i 0 ≡ g)
   placed g k = order-has p kept g (kept-is p keep g k)
 
   -- Wish 2 for a font that was read, and that is not refused
-  pub matrices-kept : (name : List ℕ) → cidKeyed (p .top) ≡ true → pick (cidKeyed (p .top)) (hasRos (rosIn (p .top))) true ≡ true → allFound p kept ≡ true
+  pub matrices-kept : (coded : Coded) (name : List ℕ) → cidKeyed (p .top) ≡ true → pick (cidKeyed (p .top)) (hasRos (rosIn (p .top))) true ≡ true → allFound p kept ≡ true
       → length (ownOf p (writtenOrder p kept)) ≤ 64609
-      → length (subsetBytes p name kept (writtenOrder p kept) (pruned p (rowsOf rec) used (writtenOrder p kept) flag .bodies)) ≤ 67108864
-      → KeepsMatrices p keep (subsetBytes p name kept (writtenOrder p kept) (pruned p (rowsOf rec) used (writtenOrder p kept) flag .bodies))
+      → length (subsetBytes p coded name kept (writtenOrder p kept) (pruned p (rowsOf rec) used (writtenOrder p kept) flag .bodies)) ≤ 67108864
+      → KeepsMatrices p keep (subsetBytes p coded name kept (writtenOrder p kept) (pruned p (rowsOf rec) used (writtenOrder p kept) flag .bodies))
   unfolding subsetBytes
-  matrices-kept name keyed = subst Kept (sym keyed) (λ ros found strings size. cid-matrices name keyed ros found strings size)
+  matrices-kept coded name keyed = subst Kept (sym keyed) (λ ros found strings size. cid-matrices name keyed ros found strings size)
     where
       Kept : Bool → Type 0
       Kept cid =
           pick cid (hasRos (rosIn (p .top))) true ≡ true → allFound p kept ≡ true → length (pick cid (ownByCid p) (ownByName p (orderBy cid))) ≤ 64609
-          → length (bytesBy cid name) ≤ 67108864 → KeepsMatrices p keep (bytesBy cid name)
+          → length (bytesBy cid coded name) ≤ 67108864 → KeepsMatrices p keep (bytesBy cid coded name)
 
   -- demand 3 for a font that was read, and that is not refused
-  pub glyph-held : (name : List ℕ) → pick (cidKeyed (p .top)) (hasRos (rosIn (p .top))) true ≡ true → allFound p kept ≡ true
+  pub glyph-held : (coded : Coded) (name : List ℕ) → pick (cidKeyed (p .top)) (hasRos (rosIn (p .top))) true ≡ true → allFound p kept ≡ true
       → length (ownOf p (writtenOrder p kept)) ≤ 64609
-      → length (subsetBytes p name kept (writtenOrder p kept) (pruned p (rowsOf rec) used (writtenOrder p kept) flag .bodies)) ≤ 67108864
+      → length (subsetBytes p coded name kept (writtenOrder p kept) (pruned p (rowsOf rec) used (writtenOrder p kept) flag .bodies)) ≤ 67108864
       → (g : ℕ) → IsKept p keep g → (ts : List Tok) (met : List Row) → unfolded p g ≡ plain ts met → Recorded rec flag met
-      → Holds p g ts (subsetBytes p name kept (writtenOrder p kept) (pruned p (rowsOf rec) used (writtenOrder p kept) flag .bodies))
+      → Holds p g ts (subsetBytes p coded name kept (writtenOrder p kept) (pruned p (rowsOf rec) used (writtenOrder p kept) flag .bodies))
   unfolding subsetBytes
-  glyph-held name ros found strings size g k ts met e listed =
+  glyph-held coded name ros found strings size g k ts met e listed =
       let at = placed g k in
-      subst (λ (h : ℕ). Holds p h ts (bytesBy (cidKeyed (p .top)) name)) (at .2)
-      (held (cidKeyed (p .top)) name refl ros found strings size (at .0) (at .1) ts met (ap (unfolded p) (at .2) ∙ e) listed)
+      subst (λ (h : ℕ). Holds p h ts (bytesBy (cidKeyed (p .top)) coded name)) (at .2)
+      (held (cidKeyed (p .top)) coded name refl ros found strings size (at .0) (at .1) ts met (ap (unfolded p) (at .2) ∙ e) listed)
+
+  -- Wish 4 for a font that was read, and that is not refused
+  pub codes-kept : (ask : Bool) (name : List ℕ) → ask ≡ true → cidKeyed (p .top) ≡ false → allFound p kept ≡ true
+      → length (ownOf p (writtenOrder p kept)) ≤ 64609
+      → length (subsetBytes p (codedIf ask p kept (ownOf p (writtenOrder p kept))) name kept (writtenOrder p kept) (pruned p (rowsOf rec) used (writtenOrder p kept) flag .bodies)) ≤ 67108864
+      → (q : Program) × (readFont (subsetBytes p (codedIf ask p kept (ownOf p (writtenOrder p kept))) name kept (writtenOrder p kept) (pruned p (rowsOf rec) used (writtenOrder p kept) flag .bodies)) ≡ got q) × CodesKept p keep q
+  unfolding subsetBytes
+  codes-kept ask name asked named =
+      subst (λ (t : Bool). Kept t (cidKeyed (p .top))) (sym asked)
+      (subst (Kept true) (sym named) (λ found strings size. name-codes (codedBy p kept (ownByName p kept) (p .coding)) name named found strings size refl))
+    where
+      Kept : Bool → Bool → Type 0
+      Kept t cid =
+          allFound p kept ≡ true → length (pick cid (ownByCid p) (ownByName p (orderBy cid))) ≤ 64609
+          → length (bytesBy cid (codedIf t p kept (pick cid (ownByCid p) (ownByName p (orderBy cid)))) name) ≤ 67108864
+          → (q : Program) × (readFont (bytesBy cid (codedIf t p kept (pick cid (ownByCid p) (ownByName p (orderBy cid)))) name) ≡ got q) × CodesKept p keep q

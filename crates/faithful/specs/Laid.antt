@@ -9,7 +9,7 @@ use Rattle.octets.specs.Lists.{allBelow}
 use Rattle.dict.specs.Lookup.{Operands, absent, cidKeyed}
 use Rattle.dict.specs.Proper.{AllProper}
 use Rattle.charset.specs.CharsetBytes.{Ids}
-use Rattle.cff.specs.Font.{got, Program, readFont}
+use Rattle.cff.specs.Font.{got, Coding, Program, readFont}
 use Rattle.subset.specs.Kept.{privateOf, localsOf}
 use Rattle.subset.specs.Pruned.{Bodies}
 use Rattle.subset.specs.Subset.{matrixOf}
@@ -48,8 +48,8 @@ unfoldable pub matricesOf : Program → List ℕ → List Operands
 matricesOf p [] = []
 matricesOf p (f ∷ fs) = matrixOf p f ∷ matricesOf p fs
 
--- bytes that read back as a font of the same keying with these strings, ids, FDs, matrices by FD, and bodies
-pub record ReadsAs (cid : Bool) (own : List (List ℕ)) (newIds newFds : List ℕ) (matrices : List Operands) (b : Bodies) (bs : List ℕ) : Type 0 where
+-- bytes that read back as a font of the same keying with these strings, ids, FDs, matrices by FD, encoding, and bodies
+pub record ReadsAs (cid : Bool) (own : List (List ℕ)) (newIds newFds : List ℕ) (matrices : List Operands) (coding : Coding) (b : Bodies) (bs : List ℕ) : Type 0 where
   pub program : Program
   pub reads : readFont bs ≡ got program
   pub keying : cidKeyed (program .top) ≡ cid
@@ -58,5 +58,6 @@ pub record ReadsAs (cid : Bool) (own : List (List ℕ)) (newIds newFds : List �
   pub charstrings : program .charstrings ≡ b .charstrings
   pub ids : program .ids ≡ newIds
   pub fds : program .fds ≡ newFds
+  pub codes : program .coding ≡ coding
   pub matrix : (k : ℕ) → matrixOf program k ≡ getD matrices k absent
   pub locals : (k : ℕ) → k < length (b .locals) → localsOf program k ≡ getD (b .locals) k []

@@ -1,5 +1,6 @@
 pub mod Faithful
 pub mod Matrices
+pub mod Codes
 pub mod Laid
 pub mod GoodPartsLaws
 pub mod GoodLaws
@@ -19,6 +20,7 @@ pub mod FontBack
 pub mod TopParts
 pub mod TopFitLaws
 pub mod TopLaws
+pub mod CodesLaws
 pub mod ByName
 pub mod ByCid
 pub mod Held

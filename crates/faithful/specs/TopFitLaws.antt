@@ -1,7 +1,7 @@
 -- The top DICT of a subset is its parts, and each part fits a DICT: operators that there are, and numbers within the limits.
 use Prim.Native.Nat.{ℕ, _+_, _≤_, _<_, min}
 use mathlib.Core.Path.{_≡_, refl, ap, _∙_}
-use mathlib.Core.Bool.{true, false}
+use mathlib.Core.Bool.{Bool, true, false}
 use mathlib.Core.List.{List, [], _∷_, _++_, append-nil}
 use native.Mathlib.Omega.{arith}
 use lib.Dec.{eqb}
@@ -30,11 +30,12 @@ use Rattle.dict.specs.declared.RosIn.the-variants.{Ros, None}
 use Rattle.dict_write.specs.Written.{copiedEntry, entryBytes, offsetEntry, privateEntry}
 use Rattle.dict_write.specs.Parts.{Part, plain, offset, privatePart, partBytes, partsBytes, AllFit}
 use Rattle.dict_write.specs.EntriesRound.{parts-append, fit-append}
-use Rattle.cff.specs.Font.{Program, charset, charStrings, fdArray, fdSelect}
+use Rattle.cff.specs.Font.{Program, charset, encoding, charStrings, fdArray, fdSelect}
 use Rattle.subset.specs.Texts.{Named, namedBy, namedEntries, placeIn, idAfter, newId}
+use Rattle.subset.specs.Codes.{encodingEntry}
 use Rattle.subset.specs.Subset.{named, namedBytes, copiedBytes, rosEntry, topByName, topByCid}
 use Rattle.faithful.specs.Laid.{GoodProgram}
-use Rattle.faithful.specs.TopParts.{namedParts, copiedPart, copiedParts, rosParts, sharedParts, nameTopParts, cidTopParts}
+use Rattle.faithful.specs.TopParts.{namedParts, copiedPart, copiedParts, rosParts, sharedParts, encodingParts, nameTopParts, cidTopParts}
 
 -- ---- the bytes
 
@@ -71,14 +72,23 @@ shared-bytes p own ps =
     parts-append (namedParts own (named p)) (copied ++ ps) ∙ ap (λ (l : List ℕ). l ++ partsBytes (copied ++ ps)) (named-bytes own (named p))
     ∙ ap (λ (l : List ℕ). namedBytes own (named p) ++ l) (parts-append copied ps ∙ ap (λ (l : List ℕ). l ++ partsBytes ps) (copied-bytes (p .top) copiedTopEntries))
 
+-- of the encoding
+encoding-bytes : (t : Bool) (v : ℕ) (ps : List Part)
+    → partsBytes (pick t [] (offset encoding v ∷ []) ++ ps) ≡ pick t [] (offsetEntry encoding v) ++ partsBytes ps
+unfolding partsBytes
+encoding-bytes true v ps = refl
+encoding-bytes false v ps = refl
+
 module _ (p : Program) (own : List (List ℕ)) where
   -- the top DICT of a name-keyed subset
-  pub name-bytes : (at₁ at₂ size at₃ : ℕ) → partsBytes (nameTopParts p own at₁ at₂ size at₃) ≡ topByName p own at₁ at₂ size at₃
+  pub name-bytes : (at₁ v at₂ size at₃ : ℕ) → partsBytes (nameTopParts p own at₁ v at₂ size at₃) ≡ topByName p own at₁ v at₂ size at₃
   unfolding partsBytes
-  name-bytes at₁ at₂ size at₃ =
-      shared-bytes p own (offset charset at₁ ∷ offset charStrings at₂ ∷ privatePart size at₃ ∷ [])
-      ∙ ap (λ (l : List ℕ). namedBytes own (named p) ++ (copiedBytes (p .top) copiedTopEntries ++ (offsetEntry charset at₁ ++ (offsetEntry charStrings at₂ ++ l))))
-      (append-nil (privateEntry size at₃))
+  name-bytes at₁ v at₂ size at₃ =
+      let rest = offset charStrings at₂ ∷ privatePart size at₃ ∷ [] in
+      let front : List ℕ → List ℕ = λ l. namedBytes own (named p) ++ (copiedBytes (p .top) copiedTopEntries ++ (offsetEntry charset at₁ ++ l)) in
+      shared-bytes p own (offset charset at₁ ∷ (encodingParts v ++ rest))
+      ∙ ap front (encoding-bytes (eqb v 0) v rest)
+      ∙ ap (λ (l : List ℕ). front (encodingEntry v ++ (offsetEntry charStrings at₂ ++ l))) (append-nil (privateEntry size at₃))
 
   -- the top DICT of a CID-keyed subset
   pub cid-bytes : (at₁ at₂ at₃ at₄ : ℕ) → partsBytes (cidTopParts p own at₁ at₂ at₃ at₄) ≡ topByCid p own at₁ at₂ at₃ at₄
@@ -203,6 +213,12 @@ count-small : (o : One) → countAs o < 4294967296
 count-small NoNumber = omega arith
 count-small (Number d) = pick-ind (λ (n : ℕ). n < 4294967296) (d .neg) 0 (min (truncOf d) 4294967295) (λ t. omega arith) (λ t. omega arith)
 
+-- the encoding
+encoding-fits : (t : Bool) (v : ℕ) (ps : List Part) → v < 2147483648 → AllFit ps → AllFit (pick t [] (offset encoding v ∷ []) ++ ps)
+unfolding AllFit
+encoding-fits true v ps h f = f
+encoding-fits false v ps h f = ((refl, h), f)
+
 module _ (p : Program) (own : List (List ℕ)) (good : GoodProgram p) (few : length own ≤ 64609) where
   -- what both keyings share
   shared-fit : (ps : List Part) → AllFit ps → AllFit (sharedParts p own ps)
@@ -212,9 +228,13 @@ module _ (p : Program) (own : List (List ℕ)) (good : GoodProgram p) (few : len
       (fit-append (copiedParts (p .top) copiedTopEntries) ps (copied-fit (p .top) (good .top) copiedTopEntries (refl, (refl, (refl, (refl, (refl, (refl, tt))))))) h)
 
   -- the parts of the top DICT of a name-keyed subset
-  pub name-fit : (at₁ at₂ size at₃ : ℕ) → at₁ < 2147483648 → at₂ < 2147483648 → size < 2147483648 → at₃ < 2147483648 → AllFit (nameTopParts p own at₁ at₂ size at₃)
+  pub name-fit : (at₁ v at₂ size at₃ : ℕ) → at₁ < 2147483648 → v < 2147483648 → at₂ < 2147483648 → size < 2147483648 → at₃ < 2147483648
+      → AllFit (nameTopParts p own at₁ v at₂ size at₃)
   unfolding AllFit
-  name-fit at₁ at₂ size at₃ h₁ h₂ h h₃ = shared-fit _ ((refl, h₁), ((refl, h₂), ((h, h₃), tt)))
+  name-fit at₁ v at₂ size at₃ h₁ hᵥ h₂ h h₃ =
+      let rest : List Part = offset charStrings at₂ ∷ privatePart size at₃ ∷ [] in
+      let fits : AllFit rest = ((refl, h₂), ((h, h₃), tt)) in
+      shared-fit _ ((refl, h₁), encoding-fits (eqb v 0) v rest hᵥ fits)
 
   -- the parts of the top DICT of a CID-keyed subset
   pub cid-fit : (at₁ at₂ at₃ at₄ : ℕ) → at₁ < 2147483648 → at₂ < 2147483648 → at₃ < 2147483648 → at₄ < 2147483648 → AllFit (cidTopParts p own at₁ at₂ at₃ at₄)

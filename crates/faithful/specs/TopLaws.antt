@@ -5,6 +5,7 @@ use mathlib.Core.Path.{_≡_, refl, sym, ap, _∙_}
 use mathlib.Core.Bool.{Bool, true, false}
 use mathlib.Core.List.{List, [], _∷_, _++_}
 use native.Mathlib.Omega.{arith}
+use borrow.Author.Tests.{eqb-true}
 use lib.Dec.{eqb}
 use lib.ListN.{length, length-append}
 use Rattle.octets.specs.Pick.{pick}
@@ -17,7 +18,7 @@ use Rattle.decimal.specs.Decimal.{whole}
 use Rattle.dict.specs.Op.{private, charstringType, ros, cidCount, copiedTopEntries, copiedTopStrings}
 use Rattle.dict.specs.Dict.{Entry, entries, dictOf}
 use Rattle.dict.specs.Lookup.{Operands, absent, operands, lastFrom, lastOf, only, offsetTold, offsetAs, offsetIn, privateAs, privateIn, idIn, isThere, cidKeyed, rosIn, cidCountIn, typeAs, charstringTypeIn}
-use Rattle.dict.specs.declared.OffsetIn.the-variants.{At, Absent as NoOffset}
+use Rattle.dict.specs.declared.OffsetIn.the-variants.{At}
 use Rattle.dict.specs.declared.PrivateIn.the-variants.{Private as PrivateEntry}
 use Rattle.dict.specs.declared.RosIn.{RosIn}
 use Rattle.dict.specs.declared.RosIn.the-variants.{Ros, None}
@@ -26,14 +27,15 @@ use Rattle.dict_write.specs.WriteLaws.{offset-length, private-length}
 use Rattle.dict_write.specs.Parts.{Part, plain, offset, privatePart, partsEntries}
 use Rattle.dict_write.specs.DictRound.{parts-read}
 use Rattle.cff.specs.ReadsLaws.{no}
-use Rattle.cff.specs.Font.{Program, charset, encoding, charStrings, fdArray, fdSelect}
+use Rattle.cff.specs.Font.{got, orZero, Program, charset, encoding, charStrings, fdArray, fdSelect}
 use Rattle.subset.specs.Kept.{isIn}
 use Rattle.subset.specs.Cut.{hasRos}
 use Rattle.subset.specs.Texts.{Named, namedBy, namedEntries}
+use Rattle.subset.specs.Codes.{encodingEntry}
 use Rattle.subset.specs.Subset.{topByName, topByCid}
 use Rattle.faithful.specs.Laid.{GoodProgram}
 use Rattle.faithful.specs.WholeLaws.{offset-whole, private-whole}
-use Rattle.faithful.specs.TopParts.{namedParts, copiedPart, copiedParts, rosParts, sharedParts, nameTopParts, cidTopParts}
+use Rattle.faithful.specs.TopParts.{namedParts, copiedPart, copiedParts, rosParts, sharedParts, encodingParts, nameTopParts, cidTopParts}
 use Rattle.faithful.specs.TopFitLaws.{name-bytes, cid-bytes, name-fit, cid-fit}
 
 -- ---- the last entry of an operator that some parts lack
@@ -86,6 +88,13 @@ module _ (op : ℕ) (o : Operands) (rest : List Part) where
   ros-leaves p own e None = refl
   ros-leaves p own e (Ros registry ordering s) = ap (λ (x : Operands). lastFrom op x (partsEntries rest)) (other-leaves ros e _)
 
+  -- the encoding leaves it
+  encoding-leaves : (v : ℕ) → eqb encoding op ≡ false → (t : Bool)
+      → lastFrom op o (partsEntries (pick t [] (offset encoding v ∷ []) ++ rest)) ≡ lastFrom op o (partsEntries rest)
+  unfolding partsEntries lastFrom
+  encoding-leaves v e true = refl
+  encoding-leaves v e false = ap (λ (x : Operands). lastFrom op x (partsEntries rest)) (other-leaves encoding e _)
+
 -- what both keyings share leaves it
 pub shared-leave : (op : ℕ) (o : Operands) (rest : List Part) (p : Program) (own : List (List ℕ))
     → isIn op copiedTopStrings ≡ false → isIn op copiedTopEntries ≡ false
@@ -95,12 +104,13 @@ shared-leave op o rest p own h k =
 
 -- ---- what is looked up
 
--- of a name-keyed subset: no ROS, no CharstringType, no Encoding; the charset, the charstrings and Private where they are said to be
-pub record NameTop (es : List Entry) (at₁ at₂ size at₃ : ℕ) : Type 0 where
+-- of a name-keyed subset: no ROS, no CharstringType; the charset, the encoding, the charstrings and Private where they are said to be, an encoding
+-- that is not there being at 0
+pub record NameTop (es : List Entry) (at₁ v at₂ size at₃ : ℕ) : Type 0 where
   pub keying : cidKeyed es ≡ false
   pub charstringTypeNone : charstringTypeIn es ≡ 0
-  pub encodingNone : offsetIn encoding es ≡ NoOffset
   pub charsetAt : offsetIn charset es ≡ At at₁
+  pub encodingAt : orZero (offsetIn encoding es) ≡ got v
   pub charStringsAt : offsetIn charStrings es ≡ At at₂
   pub privateAt : privateIn es ≡ PrivateEntry size at₃
 
@@ -117,31 +127,47 @@ pub record CidTop (es : List Entry) (at₁ at₂ at₃ at₄ : ℕ) : Type 0 whe
 at-offset : (op v : ℕ) (es : List Entry) → v < 2147483648 → lastOf op es ≡ operands (whole v ∷ []) → offsetIn op es ≡ At v
 at-offset op v es h e = ap (λ (o : Operands). offsetAs (only o)) e ∙ ap offsetTold (offset-whole v h)
 
-module _ (p : Program) (own : List (List ℕ)) (at₁ at₂ size at₃ : ℕ)
-    (h₁ : at₁ < 2147483648) (h₂ : at₂ < 2147483648) (h : size < 2147483648) (h₃ : at₃ < 2147483648) where
+-- the encoding's offset, which is 0 where its entry is not there, in front of parts that have none
+encoding-offset : (v : ℕ) (rest : List Part) (es : List Entry) → v < 2147483648 → (t : Bool) → eqb v 0 ≡ t
+    → ((o : Operands) → lastFrom encoding o (partsEntries rest) ≡ o)
+    → lastOf encoding es ≡ lastFrom encoding absent (partsEntries (pick t [] (offset encoding v ∷ []) ++ rest))
+    → orZero (offsetIn encoding es) ≡ got v
+unfolding partsEntries lastFrom
+encoding-offset v rest es h true e k l = ap (λ (x : Operands). orZero (offsetAs (only x))) (l ∙ k absent) ∙ ap got (sym (eqb-true v 0 e))
+encoding-offset v rest es h false e k l = ap orZero (at-offset encoding v es h (l ∙ k (operands (whole v ∷ []))))
+
+module _ (p : Program) (own : List (List ℕ)) (at₁ v at₂ size at₃ : ℕ)
+    (h₁ : at₁ < 2147483648) (hᵥ : v < 2147483648) (h₂ : at₂ < 2147483648) (h : size < 2147483648) (h₃ : at₃ < 2147483648) where
   -- the entries of a name-keyed subset's top DICT, and the parts at its end
   abbrev nameEntries : List Entry
-  nameEntries = partsEntries (nameTopParts p own at₁ at₂ size at₃)
+  nameEntries = partsEntries (nameTopParts p own at₁ v at₂ size at₃)
 
   abbrev nameTail : List Part
-  nameTail = offset charset at₁ ∷ offset charStrings at₂ ∷ privatePart size at₃ ∷ []
+  nameTail = offset charStrings at₂ ∷ privatePart size at₃ ∷ []
 
   -- what is not among the copied operators is looked up at the end
-  name-last : (op : ℕ) → isIn op copiedTopStrings ≡ false → isIn op copiedTopEntries ≡ false → lastOf op nameEntries ≡ lastFrom op absent (partsEntries nameTail)
+  name-last : (op : ℕ) → isIn op copiedTopStrings ≡ false → isIn op copiedTopEntries ≡ false
+      → lastOf op nameEntries ≡ lastFrom op absent (partsEntries (offset charset at₁ ∷ (encodingParts v ++ nameTail)))
   unfolding lastOf
-  name-last op h k = shared-leave op absent nameTail p own h k
+  name-last op h k = shared-leave op absent (offset charset at₁ ∷ (encodingParts v ++ nameTail)) p own h k
+
+  -- past the encoding
+  name-past : (op : ℕ) → isIn op copiedTopStrings ≡ false → isIn op copiedTopEntries ≡ false → eqb encoding op ≡ false
+      → lastOf op nameEntries ≡ lastFrom op absent (partsEntries (offset charset at₁ ∷ nameTail))
+  unfolding lastFrom partsEntries
+  name-past op h k e = name-last op h k ∙ encoding-leaves op _ nameTail v e (eqb v 0)
 
   -- so that each lookup gives what was written
-  name-top : NameTop nameEntries at₁ at₂ size at₃
+  name-top : NameTop nameEntries at₁ v at₂ size at₃
   unfolding lastFrom partsEntries isIn
   name-top =
       record {
-        keying = ap isThere (name-last ros refl refl);
-        charstringTypeNone = ap (λ (o : Operands). typeAs (only o)) (name-last charstringType refl refl);
-        encodingNone = ap (λ (o : Operands). offsetAs (only o)) (name-last encoding refl refl);
-        charsetAt = at-offset charset at₁ nameEntries h₁ (name-last charset refl refl);
-        charStringsAt = at-offset charStrings at₂ nameEntries h₂ (name-last charStrings refl refl);
-        privateAt = ap privateAs (name-last private refl refl) ∙ private-whole size at₃ h h₃;
+        keying = ap isThere (name-past ros refl refl refl);
+        charstringTypeNone = ap (λ (o : Operands). typeAs (only o)) (name-past charstringType refl refl refl);
+        charsetAt = at-offset charset at₁ nameEntries h₁ (name-past charset refl refl refl);
+        encodingAt = encoding-offset v nameTail nameEntries hᵥ (eqb v 0) refl (λ x. refl) (name-last encoding refl refl);
+        charStringsAt = at-offset charStrings at₂ nameEntries h₂ (name-past charStrings refl refl refl);
+        privateAt = ap privateAs (name-past private refl refl refl) ∙ private-whole size at₃ h h₃;
       }
 
 module _ (p : Program) (own : List (List ℕ)) (there : hasRos (rosIn (p .top)) ≡ true) (at₁ at₂ at₃ at₄ : ℕ)
@@ -183,13 +209,14 @@ module _ (p : Program) (own : List (List ℕ)) (there : hasRos (rosIn (p .top)) 
 -- ---- the top DICT reads back
 
 -- of a name-keyed subset
-pub name-top-back : (p : Program) (own : List (List ℕ)) (at₁ at₂ size at₃ : ℕ) → GoodProgram p → length own ≤ 64609
-    → at₁ < 2147483648 → at₂ < 2147483648 → size < 2147483648 → at₃ < 2147483648
-    → (es : List Entry) × (dictOf (topByName p own at₁ at₂ size at₃) ≡ entries es) × NameTop es at₁ at₂ size at₃
-name-top-back p own at₁ at₂ size at₃ good few h₁ h₂ h h₃ = (
-  nameEntries p own at₁ at₂ size at₃ h₁ h₂ h h₃,
-  ap dictOf (sym (name-bytes p own at₁ at₂ size at₃)) ∙ parts-read (nameTopParts p own at₁ at₂ size at₃) (name-fit p own good few at₁ at₂ size at₃ h₁ h₂ h h₃),
-  name-top p own at₁ at₂ size at₃ h₁ h₂ h h₃,
+pub name-top-back : (p : Program) (own : List (List ℕ)) (at₁ v at₂ size at₃ : ℕ) → GoodProgram p → length own ≤ 64609
+    → at₁ < 2147483648 → v < 2147483648 → at₂ < 2147483648 → size < 2147483648 → at₃ < 2147483648
+    → (es : List Entry) × (dictOf (topByName p own at₁ v at₂ size at₃) ≡ entries es) × NameTop es at₁ v at₂ size at₃
+name-top-back p own at₁ v at₂ size at₃ good few h₁ hᵥ h₂ h h₃ = (
+  nameEntries p own at₁ v at₂ size at₃ h₁ hᵥ h₂ h h₃,
+  ap dictOf (sym (name-bytes p own at₁ v at₂ size at₃))
+      ∙ parts-read (nameTopParts p own at₁ v at₂ size at₃) (name-fit p own good few at₁ v at₂ size at₃ h₁ hᵥ h₂ h h₃),
+  name-top p own at₁ v at₂ size at₃ h₁ hᵥ h₂ h h₃,
 )
 
 -- of a CID-keyed subset
@@ -208,11 +235,17 @@ cid-top-back p own at₁ at₂ at₃ at₄ good there few h₁ h₂ h₃ h₄ = 
 same-offset : (op v w : ℕ) → length (offsetEntry op v) ≡ length (offsetEntry op w)
 same-offset op v w = sym (offset-length op v (length (opBytes op)) refl) ∙ offset-length op w (length (opBytes op)) refl
 
+-- nor that of the encoding's, where neither or both are there
+same-encoding : (t : Bool) (v w : ℕ) → length (pick t [] (offsetEntry encoding v)) ≡ length (pick t [] (offsetEntry encoding w))
+same-encoding true v w = refl
+same-encoding false v w = same-offset encoding v w
+
 module _ (p : Program) (own : List (List ℕ)) where
   -- of a name-keyed subset
-  pub name-top-length : (at₁ at₂ size at₃ : ℕ) → length (topByName p own at₁ at₂ size at₃) ≡ length (topByName p own 0 0 0 0)
-  name-top-length at₁ at₂ size at₃ =
-      simp length-append (omega (arith, same-offset charset at₁ 0, same-offset charStrings at₂ 0, private-length size at₃, private-length 0 0))
+  pub name-top-length : (at₁ v w at₂ size at₃ : ℕ) → eqb v 0 ≡ eqb w 0 → length (topByName p own at₁ v at₂ size at₃) ≡ length (topByName p own 0 w 0 0 0)
+  name-top-length at₁ v w at₂ size at₃ e =
+      let c : length (encodingEntry v) ≡ length (encodingEntry w) = ap (λ (t : Bool). length (pick t [] (offsetEntry encoding v))) e ∙ same-encoding (eqb w 0) v w in
+      simp length-append (omega (arith, same-offset charset at₁ 0, c, same-offset charStrings at₂ 0, private-length size at₃, private-length 0 0))
 
   -- of a CID-keyed subset
   pub cid-top-length : (at₁ at₂ at₃ at₄ : ℕ) → length (topByCid p own at₁ at₂ at₃ at₄) ≡ length (topByCid p own 0 0 0 0)

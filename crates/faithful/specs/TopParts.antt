@@ -1,7 +1,9 @@
 -- The top DICT of a subset part by part (document 01, 'Layout'): for CID ROS, then the string entries, the copied entries, for CID CIDCount,
--- the offsets, and for a name-keyed subset Private.
+-- the offsets, for a name-keyed subset the encoding's among them where it has one (document 02, Wish 4), and Private.
 use Prim.Native.Nat.{ℕ}
 use mathlib.Core.List.{List, [], _∷_, _++_}
+use lib.Dec.{eqb}
+use Rattle.octets.specs.Pick.{pick}
 use Rattle.decimal.specs.Decimal.{normal, whole}
 use Rattle.dict.specs.Op.{ros, cidCount, copiedTopEntries}
 use Rattle.dict.specs.Dict.{Entry}
@@ -10,7 +12,7 @@ use Rattle.dict.specs.declared.RosIn.{RosIn}
 use Rattle.dict.specs.declared.RosIn.the-variants.{Ros, None}
 use Rattle.dict_write.specs.Parts.{Part, plain, offset, privatePart}
 use Rattle.strings.specs.Strings.{stringText}
-use Rattle.cff.specs.Font.{Program, charset, charStrings, fdArray, fdSelect}
+use Rattle.cff.specs.Font.{Program, charset, encoding, charStrings, fdArray, fdSelect}
 use Rattle.subset.specs.Texts.{Named, newId}
 use Rattle.subset.specs.Subset.{named}
 
@@ -42,9 +44,14 @@ rosParts p own (Ros registry ordering s) =
 abbrev pub sharedParts : Program → List (List ℕ) → List Part → List Part
 sharedParts p own rest = namedParts own (named p) ++ (copiedParts (p .top) copiedTopEntries ++ rest)
 
+-- the encoding, its offset being v: none at 0
+abbrev pub encodingParts : ℕ → List Part
+encodingParts v = pick (eqb v 0) [] (offset encoding v ∷ [])
+
 -- the top DICT of a name-keyed subset
-abbrev pub nameTopParts : Program → List (List ℕ) → ℕ → ℕ → ℕ → ℕ → List Part
-nameTopParts p own at₁ at₂ size at₃ = sharedParts p own (offset charset at₁ ∷ offset charStrings at₂ ∷ privatePart size at₃ ∷ [])
+abbrev pub nameTopParts : Program → List (List ℕ) → ℕ → ℕ → ℕ → ℕ → ℕ → List Part
+nameTopParts p own at₁ v at₂ size at₃ =
+    sharedParts p own (offset charset at₁ ∷ (encodingParts v ++ (offset charStrings at₂ ∷ privatePart size at₃ ∷ [])))
 
 -- the top DICT of a CID-keyed subset
 abbrev pub cidTopParts : Program → List (List ℕ) → ℕ → ℕ → ℕ → ℕ → List Part

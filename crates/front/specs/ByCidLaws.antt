@@ -50,13 +50,13 @@ module _ (p : Program) (slots words : List ℕ) (ready : SlotsReady p true slots
 
   -- the length that is measured is that of the subset's front, whatever the offsets are
   pub cid-front-len : (o : Own) → o ≡ ownOf (ownByCid p) → (all : ℕ) (name : List ℕ) (at₁ at₂ at₃ at₄ : ℕ)
-      → length (frontBytes all name (topByCid p (ownByCid p) at₁ at₂ at₃ at₄) (ownByCid p)) ≡ frontLen true (p .top) slots (length name) o
+      → length (frontBytes all name (topByCid p (ownByCid p) at₁ at₂ at₃ at₄) (ownByCid p)) ≡ frontLen true 0 (p .top) slots (length name) o
   cid-front-len o e all name at₁ at₂ at₃ at₄ =
       ap length (sym (cid-front all name at₁ at₂ at₃ at₄))
-      ∙ measured-front p true slots o all name (topCid (p .top) slots at₁ at₂ at₃ at₄) own (cid-measured (p .top) slots at₁ at₂ at₃ at₄) (cid-own-of o e)
+      ∙ measured-front p true 0 slots o all name (topCid (p .top) slots at₁ at₂ at₃ at₄) own (cid-measured (p .top) slots 0 at₁ at₂ at₃ at₄) (cid-own-of o e)
 
   pub cid-front-sum : (o : Own) → o ≡ ownOf (ownByCid p) → (name : List ℕ) (at₁ at₂ at₃ at₄ : ℕ)
-      → frontLen true (p .top) slots (length name) o
+      → frontLen true 0 (p .top) slots (length name) o
       ≡ 4 + length (indexBytes (name ∷ [])) + length (indexBytes (topByCid p (ownByCid p) at₁ at₂ at₃ at₄ ∷ [])) + length (indexBytes (ownByCid p))
   cid-front-sum o e name at₁ at₂ at₃ at₄ =
       sym (cid-front-len o e 0 name at₁ at₂ at₃ at₄) ∙ front-sum 0 name (topByCid p (ownByCid p) at₁ at₂ at₃ at₄) (ownByCid p)
@@ -79,26 +79,26 @@ module _ (b : List ℕ) (f : Font) (slots : List ℕ) (own : Own) (words : List 
   abbrev strings : List (List ℕ)
   strings = allOwn (p .strings) slots (take 0 words)
 
-  measured : topLen true (p .top) slots ≡ length top
-  measured = cid-measured (p .top) slots at₁ at₂ at₃ at₄
+  measured : topLen true 0 (p .top) slots ≡ length top
+  measured = cid-measured (p .top) slots 0 at₁ at₂ at₃ at₄
 
   counted : own ≡ ownOf strings
   counted = cid-own-of p slots words (g .ready) own (g .is)
 
   room : 0 + length (frontBytes all name top strings) ≤ length out
-  room = front-room p true slots own name out (g .fits) all top strings measured counted
+  room = front-room p true 0 slots own name out (g .fits) all top strings measured counted
 
   pub names-asked : (length name ≤ 65535) × (length (headerBytes all ++ indexBytes (name ∷ [])) ≤ length out)
   names-asked = (g .fits .short, names-room all name top strings out room)
 
   module _ {mid : List ℕ} {q : ℕ} (w : Wrote out 0 (headerBytes all ++ indexBytes (name ∷ [])) mid q) where
     pub top-asked : Offsets at₁ at₂ at₃ at₄ → (length (topOf b (f .top) (f .«top_end»)) ≤ 67108864) × Filled slots × Offsets at₁ at₂ at₃ at₄
-        × (topLen true (p .top) slots < 4294967295) × (q + length (indexBytes (top ∷ [])) ≤ length mid)
+        × (topLen true 0 (p .top) slots < 4294967295) × (q + length (indexBytes (top ∷ [])) ≤ length mid)
     top-asked o = (
       top-small b f (g .font),
       ready-filled b f true slots (g .font) (g .ready),
       o,
-      top-short p true slots own name out (g .fits) all top strings measured counted,
+      top-short p true 0 slots own name out (g .fits) all top strings measured counted,
       top-room all name top strings out room w,
     )
 
@@ -108,7 +108,7 @@ module _ (b : List ℕ) (f : Font) (slots : List ℕ) (own : Own) (words : List 
         has-strings b f (g .font),
         g .ready .given,
         none-given (p .strings) slots words,
-        strings-asked p true slots own name out (g .fits) all top strings measured counted w v,
+        strings-asked p true 0 slots own name out (g .fits) all top strings measured counted w v,
       )
 
       pub all-wrote : {new : List ℕ} {r : ℕ} → Wrote mid2 q2 (indexBytes strings) new r

@@ -59,9 +59,9 @@ pub record Measured (all : List (List ℕ)) (own : Own) : Type 0 where
 
 -- ---- the front
 
--- the length of the front, for a name of so many bytes
-abbrev pub frontLen : Bool → List Entry → List ℕ → ℕ → Own → ℕ
-frontLen cid es slots name own = 4 + indexLen 1 name + indexLen 1 (topLen cid es slots) + indexLen (own .count) (own .total)
+-- the length of the front, for an Encoding at v and a name of so many bytes
+abbrev pub frontLen : Bool → ℕ → List Entry → List ℕ → ℕ → Own → ℕ
+frontLen cid v es slots name own = 4 + indexLen 1 name + indexLen 1 (topLen cid v es slots) + indexLen (own .count) (own .total)
 
 -- the header of a subset of so many bytes
 abbrev pub headerBytes : ℕ → List ℕ
@@ -72,23 +72,23 @@ abbrev pub frontBytes : ℕ → List ℕ → List ℕ → List (List ℕ) → Li
 frontBytes total name top own = 1 ∷ 0 ∷ 4 ∷ sizeFor total ∷ (indexBytes (name ∷ []) ++ (indexBytes (top ∷ []) ++ indexBytes own))
 
 -- own strings are few, and the front that was measured is not too long and has room
-pub record Fits (cid : Bool) (es : List Entry) (slots : List ℕ) (own : Own) (name out : ℕ) : Type 0 where
+pub record Fits (cid : Bool) (v : ℕ) (es : List Entry) (slots : List ℕ) (own : Own) (name out : ℕ) : Type 0 where
   pub few : own .count ≤ 64609
   pub short : name ≤ 65535
-  pub small : frontLen cid es slots name own ≤ 67108864
-  pub room : frontLen cid es slots name own ≤ out
+  pub small : frontLen cid v es slots name own ≤ 67108864
+  pub room : frontLen cid v es slots name own ≤ out
 
 -- what is ready when the front of a name-keyed subset is written
-pub record NamedFront (b : List ℕ) (f : Font) (slots : List ℕ) (own : Own) (words : List ℕ) (k name out : ℕ) : Type 0 where
+pub record NamedFront (b : List ℕ) (f : Font) (v : ℕ) (slots : List ℕ) (own : Own) (words : List ℕ) (k name out : ℕ) : Type 0 where
   pub font : SmallFont b f
   pub ready : SlotsReady (programOf b f) false slots
   pub names : Renamed (programOf b f) (f .charstrings .count) k words
   pub is : own ≡ ownOf (ownByName (programOf b f) (orderIn k words))
-  pub fits : Fits false (programOf b f .top) slots own name out
+  pub fits : Fits false v (programOf b f .top) slots own name out
 
 -- and that of a CID-keyed one
 pub record CidFront (b : List ℕ) (f : Font) (slots : List ℕ) (own : Own) (name out : ℕ) : Type 0 where
   pub font : SmallFont b f
   pub ready : SlotsReady (programOf b f) true slots
   pub is : own ≡ ownOf (ownByCid (programOf b f))
-  pub fits : Fits true (programOf b f .top) slots own name out
+  pub fits : Fits true 0 (programOf b f .top) slots own name out

@@ -110,31 +110,31 @@ pub ready-filled : (b : List ℕ) (f : Font) (cid : Bool) (slots : List ℕ) →
 ready-filled b f cid slots s g = slots-filled b (f .strings) (has-strings b f s) slots (g .given)
 
 -- the measured length is that of the front with any top DICT of the measured length
-pub measured-front : (p : Program) (cid : Bool) (slots : List ℕ) (own : Own) (all : ℕ) (name top : List ℕ) (strings : List (List ℕ))
-    → topLen cid (p .top) slots ≡ length top → own ≡ ownOf strings → length (frontBytes all name top strings) ≡ frontLen cid (p .top) slots (length name) own
-measured-front p cid slots own all name top strings m e =
+pub measured-front : (p : Program) (cid : Bool) (v : ℕ) (slots : List ℕ) (own : Own) (all : ℕ) (name top : List ℕ) (strings : List (List ℕ))
+    → topLen cid v (p .top) slots ≡ length top → own ≡ ownOf strings → length (frontBytes all name top strings) ≡ frontLen cid v (p .top) slots (length name) own
+measured-front p cid v slots own all name top strings m e =
     front-length all name top strings
     ∙ ap (λ (t : ℕ). 4 + indexLen 1 (length name) + indexLen 1 t + indexLen (length strings) (total strings)) (sym m)
-    ∙ ap (λ (o : Own). 4 + indexLen 1 (length name) + indexLen 1 (topLen cid (p .top) slots) + indexLen (o .count) (o .total)) (sym e)
+    ∙ ap (λ (o : Own). 4 + indexLen 1 (length name) + indexLen 1 (topLen cid v (p .top) slots) + indexLen (o .count) (o .total)) (sym e)
 
-module _ (p : Program) (cid : Bool) (slots : List ℕ) (own : Own) (name out : List ℕ) (fits : Fits cid (p .top) slots own (length name) (length out))
-    (all : ℕ) (top : List ℕ) (strings : List (List ℕ)) (m : topLen cid (p .top) slots ≡ length top) (e : own ≡ ownOf strings) where
-  whole : length (frontBytes all name top strings) ≡ frontLen cid (p .top) slots (length name) own
-  whole = measured-front p cid slots own all name top strings m e
+module _ (p : Program) (cid : Bool) (v : ℕ) (slots : List ℕ) (own : Own) (name out : List ℕ) (fits : Fits cid v (p .top) slots own (length name) (length out))
+    (all : ℕ) (top : List ℕ) (strings : List (List ℕ)) (m : topLen cid v (p .top) slots ≡ length top) (e : own ≡ ownOf strings) where
+  whole : length (frontBytes all name top strings) ≡ frontLen cid v (p .top) slots (length name) own
+  whole = measured-front p cid v slots own all name top strings m e
 
   pub front-room : 0 + length (frontBytes all name top strings) ≤ length out
   front-room = omega (arith, whole, fits .room)
 
-  pub top-short : topLen cid (p .top) slots < 4294967295
+  pub top-short : topLen cid v (p .top) slots < 4294967295
   top-short = omega (arith, m, front-top all name top strings, whole, fits .small)
 
   pub strings-asked : {mid mid2 : List ℕ} {q q2 : ℕ} → Wrote out 0 (headerBytes all ++ indexBytes (name ∷ [])) mid q → Wrote mid q (indexBytes (top ∷ [])) mid2 q2
       → IndexRoom mid2 q2 strings own
-  strings-asked w v =
+  strings-asked w x =
       record {
         is = e;
         few = omega (arith, fits .few);
         small = omega (arith, ap (λ (o : Own). o .total) e, front-strings all name top strings, whole, fits .small);
-        low = omega (arith, strings-low all name top strings out front-room w v, whole, fits .small);
-        room = strings-room all name top strings out front-room w v;
+        low = omega (arith, strings-low all name top strings out front-room w x, whole, fits .small);
+        room = strings-room all name top strings out front-room w x;
       }

@@ -3,7 +3,7 @@
 ghost use mathlib.Core.Path.{_≡_};
 ghost use mathlib.Core.Bool.{true, false};
 ghost use mathlib.Core.List.{[], _∷_, _++_};
-ghost use Prim.Native.Nat.{_+_, _≤_};
+ghost use Prim.Native.Nat.{_+_, _≤_, _<_};
 ghost use lib.ListN.{length};
 ghost use Rattle.octets.specs.Octets.{put, Wrote};
 ghost use Rattle.index.specs.Write.{indexBytes};
@@ -64,17 +64,25 @@ pub fn prepare_cid(font: &[u8], f: Font, slots: &mut [usize]) -> Own
     prepare_slots(font, f, true, slots)
 }
 
-// The length of the front for a new name of so many bytes, whatever the offsets are.
-pub fn front_len(cid: bool, font: &[u8], f: Font, name: usize, slots: &[usize], own: Own) -> usize
+// The length of the front for an Encoding at v, which is 0 or not, and a new name of so many bytes, whatever the offsets are.
+pub fn front_len(
+    cid: bool,
+    v: usize,
+    font: &[u8],
+    f: Font,
+    name: usize,
+    slots: &[usize],
+    own: Own,
+) -> usize
     requires { ⌜ (SmallFont (now font) f) × (SlotsReady (programOf (now font) f) cid (now slots)) × (name ≤ 65535)
         × (own .count ≤ 65544) × (own .total ≤ 4398583382016) ⌝ }
-    ensures { λ r. ⌜ (r ≡ frontLen cid (programOf (now (font .entry)) f .top) (now (slots .entry)) name own) × (r ≤ 844424931000004) ⌝ }
+    ensures { λ r. ⌜ (r ≡ frontLen cid v (programOf (now (font .entry)) f .top) (now (slots .entry)) name own) × (r ≤ 844424931000004) ⌝ }
 {
     let top = f.top;
     let end = f.top_end;
     let count = own.count;
     let total = own.total;
-    let n = top_len(cid, &font[top..end], slots);
+    let n = top_len(cid, v, &font[top..end], slots);
     4 + index::index_len(1, name) + index::index_len(1, n) + index::index_len(count, total)
 }
 
@@ -88,9 +96,11 @@ fn put_names(name: &[u8], total: usize, out: &mut [u8]) -> usize
     index::put_single(out, q, name)
 }
 
-// Where charset, charstrings and Private of a name-keyed subset stand, the size of the Private DICT, and the length of the subset.
+// Where charset, charstrings and Private of a name-keyed subset stand, the Encoding's offset, which is 0 for none, the size of the Private DICT,
+// and the length of the subset.
 pub struct NamedPlaces {
     pub charset: usize,
+    pub encoding: usize,
     pub charstrings: usize,
     pub size: usize,
     pub private: usize,
@@ -109,11 +119,12 @@ pub fn put_front_named(
     at: NamedPlaces,
     out: &mut [u8],
 ) -> usize
-    requires { ⌜ (NamedFront (now font) f (now slots) own (now words) k (length (now name)) (length (now out))) × (Offsets (at .charset) (at .charstrings) (at .size) (at .private)) ⌝ }
+    requires { ⌜ (NamedFront (now font) f (at .encoding) (now slots) own (now words) k (length (now name)) (length (now out)))
+        × (Offsets (at .charset) (at .charstrings) (at .size) (at .private)) × (at .encoding < 2147483648) ⌝ }
     ensures { λ r. ⌜ Wrote (now (out .entry)) 0
         (frontBytes (at .end) (now (name .entry))
         (topByName (programOf (now (font .entry)) f) (ownByName (programOf (now (font .entry)) f) (orderIn k (now (words .entry))))
-        (at .charset) (at .charstrings) (at .size) (at .private))
+        (at .charset) (at .encoding) (at .charstrings) (at .size) (at .private))
         (ownByName (programOf (now (font .entry)) f) (orderIn k (now (words .entry)))))
         (now (out .exit)) r ⌝ }
 {
@@ -128,6 +139,7 @@ pub fn put_front_named(
         d,
         slots,
         at.charset,
+        at.encoding,
         at.charstrings,
         at.size,
         at.private,

@@ -3,7 +3,8 @@ use Prim.Native.Nat.{ℕ, _≤_, _<_}
 use mathlib.Core.Path.{_≡_}
 use mathlib.Core.Bool.{false}
 use mathlib.Core.List.{List, [], _∷_, _++_}
-use lib.ListN.{length, getD, set, replicate}
+use lib.ListN.{length, drop, getD, set, replicate}
+use Rattle.octets.specs.Lists.{partOf}
 use Rattle.index.specs.Write.{indexBytes}
 use Rattle.charset.specs.CharsetBytes.{charsetBytes}
 use Rattle.unfold.specs.Unfold.{Row}
@@ -13,9 +14,9 @@ use Rattle.cff.specs.Find.{workSize}
 use Rattle.cff.specs.Reads.{programOf}
 use Rattle.cff.specs.declared.font.Font.{Font}
 use Rattle.subset.specs.Kept.{privateOf}
-use Rattle.subset.specs.Texts.{namesOf}
 use Rattle.subset.specs.Pruned.{Bodies, Pruned}
-use Rattle.subset.specs.Subset.{privateDict, privatePart, ownByName, newIds, oneLocal}
+use Rattle.subset.specs.Codes.{Coded, codedBytes, codedAt}
+use Rattle.subset.specs.Subset.{privateDict, privatePart, ownByName, oneLocal}
 use Rattle.subset.specs.Cut.{Outcome, written}
 use Rattle.kept.specs.Packed.{orderIn}
 use Rattle.own_strings.specs.declared.Own.{Own}
@@ -23,17 +24,26 @@ use Rattle.fds.specs.Locals.{fdsIn}
 use Rattle.front.specs.Front.{Renamed, SlotsReady, Measured}
 use Rattle.parts.specs.Ready.{FontHeld, Ready, Summed}
 use Rattle.parts.specs.declared.Planned.{Planned}
-use Rattle.outcome.specs.Layout.{namedCharset, namedCharstrings, namedPrivate, namedEnd}
+use Rattle.outcome.specs.Layout.{namedCharset, namedCodes, namedCharstrings, namedPrivate, namedEnd}
 use Rattle.front.specs.declared.NamedPlaces.{NamedPlaces}
+use Rattle.encoding.specs.Encoded.{codedIn, Encodes}
+use Rattle.encoding.specs.declared.Encoding.{Encoding}
 
--- charset, charstrings and Private, one behind the other
-abbrev pub namedGlyphs : Program → List ℕ → Bodies → List ℕ
-namedGlyphs p order b =
-    charsetBytes (newIds (ownByName p order) (namesOf p order)) ++ (indexBytes (b .charstrings) ++ privatePart (privateOf p 0) (oneLocal b))
+-- the encoding of a subset, whose codes stand behind the sixteen slots
+abbrev pub codedFor : Encoding → List ℕ → Coded
+codedFor e slots = codedIn (e .kind) (drop 16 slots)
+
+-- charset, whose ids are k words from n on, and encoding
+abbrev pub namedTables : List ℕ → ℕ → ℕ → Coded → List ℕ
+namedTables ws n k coded = charsetBytes (partOf ws n k) ++ codedBytes coded
+
+-- charstrings and Private
+abbrev pub namedGlyphs : Program → Bodies → List ℕ
+namedGlyphs p b = indexBytes (b .charstrings) ++ privatePart (privateOf p 0) (oneLocal b)
 
 -- the outcome by the glyphs in the order in which they are written, which in a name-keyed font is that of the kept ones
-abbrev pub namedOutcome : Program → List ℕ → List ℕ → ℕ → Pruned → Outcome
-namedOutcome p name order room q = written p name order order room q
+abbrev pub namedOutcome : Program → Coded → List ℕ → List ℕ → ℕ → Pruned → Outcome
+namedOutcome p coded name order room q = written p coded name order order room q
 
 -- the bodies are planned, those of FD 0 alone, and the new ids of the names stand behind the glyphs
 pub record NamedPlan (b : List ℕ) (f : Font) (rows : List Row) (used ws : List ℕ) (r : Planned) (table totals : List ℕ) : Type 0 where
@@ -55,13 +65,20 @@ pub record NamedStrings (p : Program) (order slots : List ℕ) (own : Own) (name
   pub few : own .count ≤ 64609
   pub short : name ≤ 65535
 
+-- its encoding: there are not too many pairs
+pub record NamedCodes (e : Encoding) (slots : List ℕ) : Type 0 where
+  pub is : Encodes (codedFor e slots) (drop 16 slots) e
+  pub few : e .pairs ≤ 255
+  pub long : 272 ≤ length slots
+
 -- the places of the parts, and the size of the Private DICT
-pub record PlacedNamed (p : Program) (name order : List ℕ) (b : Bodies) (at : NamedPlaces) : Type 0 where
-  pub charset : at .charset ≡ namedCharset p name order b
-  pub charstrings : at .charstrings ≡ namedCharstrings p name order b
+pub record PlacedNamed (p : Program) (coded : Coded) (name order : List ℕ) (b : Bodies) (at : NamedPlaces) : Type 0 where
+  pub charset : at .charset ≡ namedCharset p coded name order b
+  pub encoding : at .encoding ≡ codedAt coded (namedCodes p coded name order b)
+  pub charstrings : at .charstrings ≡ namedCharstrings p coded name order b
   pub size : at .size ≡ length (privateDict (privateOf p 0) (oneLocal b))
-  pub private : at .private ≡ namedPrivate p name order b
-  pub end : at .end ≡ namedEnd p name order b
+  pub private : at .private ≡ namedPrivate p coded name order b
+  pub end : at .end ≡ namedEnd p coded name order b
 
 -- the words hold the k glyphs of a name-keyed font that are kept, and the new ids of their names behind them
 pub record NamedCut (b : List ℕ) (f : Font) (ws : List ℕ) (k : ℕ) : Type 0 where

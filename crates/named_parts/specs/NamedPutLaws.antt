@@ -2,10 +2,10 @@
 use Prim.Native.Nat.{ℕ, _+_, _*_, _-_, _≤_, _<_}
 use mathlib.Core.Path.{_≡_, sym, ap, _∙_, subst}
 use mathlib.Core.Bool.{false}
-use mathlib.Core.List.{List, [], _∷_, _++_, append-nil}
+use mathlib.Core.List.{List, [], _∷_, _++_, append-assoc, append-nil}
 use native.Mathlib.Omega.{arith}
 use lib.ListN.{length, take, drop, getD, length-append, length-drop}
-use lib.Seq.{length-take-le, getD-take}
+use lib.Seq.{length-take-le, getD-take, take-all}
 use Rattle.octets.specs.Octets.{Wrote}
 use Rattle.octets.specs.PutLaws.{wrote-as}
 use Rattle.octets.specs.Lists.{partOf}
@@ -19,13 +19,14 @@ use Rattle.cff.specs.declared.font.Font.{Font}
 use Rattle.subset.specs.Kept.{privateOf}
 use Rattle.subset.specs.Texts.{namesOf}
 use Rattle.subset.specs.Pruned.{Bodies, mapped}
+use Rattle.subset.specs.Codes.{Coded, codedBytes, codedAt}
 use Rattle.subset.specs.Subset.{privateDict, privatePart, privateParts, ownByName, topByName, newIds, oneLocal, subsetByName}
 use Rattle.kept.specs.Packed.{orderIn}
-use Rattle.faithful.specs.ByName.{dict-within}
+use Rattle.faithful.specs.ByName.{coded-within, dict-within}
 use Rattle.private_dicts.specs.Privates.{sizesOf}
 use Rattle.own_strings.specs.declared.Own.{Own}
 use Rattle.top_dict.specs.Top.{Offsets}
-use Rattle.top_dict.specs.Writing.{split-append, Writing, writing-start, writing-room, writing-turn, writing-left, writing-last}
+use Rattle.top_dict.specs.Writing.{split-append, split-room, Writing, writing-start, writing-room, writing-turn, writing-left, writing-last}
 use Rattle.bodies.specs.Ways.{Room, keptCount}
 use Rattle.bodies.specs.Pruning.{bodiesBy}
 use Rattle.bodies.specs.Sources.{KeptIn, charstringsFrom, newCharstringsFrom}
@@ -39,9 +40,50 @@ use Rattle.parts.specs.Ready.{bodiesFor, Ready}
 use Rattle.parts.specs.declared.Planned.{Planned}
 use Rattle.parts.specs.CodeLaws.{globals-long, glyphs-long, glyphs-asked, glyphs-are}
 use Rattle.parts.specs.PrivateLaws.{all-parts, sizes-held, privates-asked, privates-are}
-use Rattle.outcome.specs.Layout.{frontLen, namedCharset, namedCharstrings, namedPrivate, namedEnd, named-parts, named-length}
-use Rattle.named_parts.specs.Named.{namedGlyphs, NamedPlan, NamedStrings, PlacedNamed}
+use Rattle.outcome.specs.Layout.{frontLen, namedCharset, namedCodes, namedCharstrings, namedPrivate, namedEnd, namedTop, named-parts, named-length}
+use Rattle.named_parts.specs.Named.{codedFor, namedTables, namedGlyphs, NamedPlan, NamedStrings, NamedCodes, PlacedNamed}
 use Rattle.front.specs.declared.NamedPlaces.{NamedPlaces}
+use Rattle.encoding.specs.Encoded.{codedIn, Encodes, encodingLen, offsetFor}
+use Rattle.encoding.specs.EncodedLaws.{encodes-length, encodes-offset}
+use Rattle.encoding.specs.declared.Encoding.{Encoding}
+
+-- charset and encoding, one behind the other
+module _ (e : Encoding) (slots ws : List ℕ) (n k : ℕ) (coding : NamedCodes e slots) (out : List ℕ) (at : ℕ)
+    (room : at + length (namedTables ws n k (codedFor e slots)) ≤ length out) where
+  abbrev charsetPart : List ℕ
+  charsetPart = charsetBytes (partOf ws n k)
+
+  abbrev codedPart : List ℕ
+  codedPart = codedBytes (codedFor e slots)
+
+  pub charset-room : at + length charsetPart ≤ length out
+  charset-room = split-room at (length out) room (split-append charsetPart codedPart)
+
+  module _ {mid : List ℕ} {q : ℕ} (w : Wrote out at charsetPart mid q) where
+    pub coded-room : q + length codedPart ≤ length mid
+    coded-room = writing-left room (writing-turn room (split-append charsetPart codedPart) (writing-start (charsetPart ++ codedPart) out at) w)
+
+    -- what writing the encoding asks, of the codes behind the slots
+    module _ (table : List ℕ) (is : table ≡ drop 16 slots) where
+      codes-are : codedIn (e .kind) table ≡ codedFor e slots
+      codes-are = ap (codedIn (e .kind)) is
+
+      pub codes-asked : Encodes (codedIn (e .kind) table) table e × (e .pairs ≤ 255) × (256 ≤ length table) × (q + length (codedBytes (codedIn (e .kind) table)) ≤ length mid)
+      codes-asked = (
+        subst (λ (l : List ℕ). Encodes (codedIn (e .kind) l) l e) (sym is) (coding .is),
+        coding .few,
+        omega (arith, ap length is, length-drop 16 slots, coding .long),
+        omega (arith, ap (λ (c : Coded). length (codedBytes c)) codes-are, coded-room),
+      )
+
+      pub tables-wrote : {new : List ℕ} {q2 : ℕ} → Wrote mid q (codedBytes (codedIn (e .kind) table)) new q2 → Wrote out at (namedTables ws n k (codedFor e slots)) new q2
+      tables-wrote v =
+          writing-last room (writing-turn room (split-append charsetPart codedPart) (writing-start (charsetPart ++ codedPart) out at) w)
+          (wrote-as v (ap codedBytes codes-are))
+
+-- what stands behind the slots
+pub behind-slots : (slots : List ℕ) → partOf slots 16 (length slots - 16) ≡ drop 16 slots
+behind-slots slots = take-all (length slots - 16) (drop 16 slots) (omega (arith, length-drop 16 slots))
 
 -- ---- one FD alone
 
@@ -100,94 +142,91 @@ module _ (b : List ℕ) (f : Font) (rows : List Row) (used ws : List ℕ) (r : P
   private-is : privateParts p (fdsIn used) (bodies .locals) ≡ private
   private-is = bodies-part p rows (r .kept .way) (fdsIn used) order (g .only)
 
-  -- ---- charset, charstrings and Private written
+  -- ---- charstrings and Private written
 
-  module _ (out : List ℕ) (at : ℕ) (small : at + length (namedGlyphs p order bodies) ≤ 67108864) (room : at + length (namedGlyphs p order bodies) ≤ length out) where
-    sums : length (namedGlyphs p order bodies) ≡ length ids + (length glyphs + length private)
-    sums = length-append ids (glyphs ++ private) ∙ ap (λ (m : ℕ). length ids + m) (length-append glyphs private)
+  module _ (out : List ℕ) (at : ℕ) (small : at + length (namedGlyphs p bodies) ≤ 67108864) (room : at + length (namedGlyphs p bodies) ≤ length out) where
+    sums : length (namedGlyphs p bodies) ≡ length glyphs + length private
+    sums = length-append glyphs private
 
-    charset-are : charsetBytes (partOf ws n k) ≡ ids
-    charset-are = ap charsetBytes (g .names .ids)
+    pub charstrings-asked : KeptIn (r .kept) rows ws table b × Room (charstringsFrom (r .kept) rows ws table b) (r .«glyphs_total») at (length out)
+    charstrings-asked = glyphs-asked b f rows used ws table r (g .ready) at (length out) (omega (arith, sums)) (split-room at (length out) room (split-append glyphs private))
 
-    pub charset-asked : (n + k ≤ length ws) × (at + length (charsetBytes (partOf ws n k)) ≤ length out)
-    charset-asked = (g .names .room, omega (arith, sums, ap length charset-are))
+    module _ {mid : List ℕ} {q : ℕ} (v : Wrote out at (indexBytes (newCharstringsFrom (r .kept) rows ws table b)) mid q) where
+      glyphs-put : Wrote out at glyphs mid q
+      glyphs-put = wrote-as v (ap indexBytes (glyphs-are b f rows used ws table r (g .ready)))
 
-    module _ {mid : List ℕ} {q : ℕ} (w : Wrote out at (charsetBytes (partOf ws n k)) mid q) where
-      charset-put : Writing (namedGlyphs p order bodies) out at (glyphs ++ private) mid q
-      charset-put =
-          writing-turn room (split-append ids (glyphs ++ private)) (writing-start (namedGlyphs p order bodies) out at) (wrote-as w charset-are)
+      charstrings-put : Writing (namedGlyphs p bodies) out at private mid q
+      charstrings-put = writing-turn room (split-append glyphs private) (writing-start (namedGlyphs p bodies) out at) glyphs-put
 
-      charset-ends : q ≡ at + length ids
-      charset-ends = w .behind ∙ ap (λ (l : List ℕ). at + length l) charset-are
+      private-len : length (privateParts p (fdsIn used) (bodies .locals)) ≡ length private
+      private-len = ap length private-is
 
-      pub charstrings-asked : KeptIn (r .kept) rows ws table b
-          × Room (charstringsFrom (r .kept) rows ws table b) (r .«glyphs_total») q (length mid)
-      charstrings-asked =
-          glyphs-asked b f rows used ws table r (g .ready) q (length mid) (omega (arith, sums, charset-ends))
-          (writing-room room (split-append glyphs private) charset-put)
+      pub parts-asked : GoodFont b f × LocalsIn b p used ws table (r .kept .globals) rows (r .kept .rising)
+          × PartsRoom (r .kept .way) p rows ws table (r .kept .globals) used totals q (length mid)
+      parts-asked =
+          let left : q + length private ≤ length mid = writing-left room charstrings-put in
+          let h = privates-asked b f rows used ws table r (g .ready) totals (g .summed) q (length mid)
+          (omega (arith, sums, glyphs-put .behind, private-len)) (omega (arith, left, private-len)) in
+          (g .ready .read .font, h .0, h .1)
 
-      module _ {mid2 : List ℕ} {q2 : ℕ} (v : Wrote mid q (indexBytes (newCharstringsFrom (r .kept) rows ws table b)) mid2 q2) where
-        glyphs-put : Wrote mid q glyphs mid2 q2
-        glyphs-put = wrote-as v (ap indexBytes (glyphs-are b f rows used ws table r (g .ready)))
-
-        charstrings-put : Writing (namedGlyphs p order bodies) out at private mid2 q2
-        charstrings-put = writing-turn room (split-append glyphs private) charset-put glyphs-put
-
-        private-len : length (privateParts p (fdsIn used) (bodies .locals)) ≡ length private
-        private-len = ap length private-is
-
-        pub parts-asked : GoodFont b f × LocalsIn b p used ws table (r .kept .globals) rows (r .kept .rising)
-            × PartsRoom (r .kept .way) p rows ws table (r .kept .globals) used totals q2 (length mid2)
-        parts-asked =
-            let left : q2 + length private ≤ length mid2 = writing-left room charstrings-put in
-            let h = privates-asked b f rows used ws table r (g .ready) totals (g .summed) q2 (length mid2)
-            (omega (arith, sums, charset-ends, glyphs-put .behind, private-len)) (omega (arith, left, private-len)) in
-            (g .ready .read .font, h .0, h .1)
-
-        pub glyphs-wrote : {new : List ℕ} {q3 : ℕ} → Wrote mid2 q2 (partsFor (r .kept .way) p rows ws table (r .kept .globals) (fdsIn used)) new q3
-            → Wrote out at (namedGlyphs p order bodies) new q3
-        glyphs-wrote u =
-            writing-last room charstrings-put (wrote-as u (privates-are b f rows used ws table r (g .ready) totals (g .summed) ∙ private-is))
+      pub glyphs-wrote : {new : List ℕ} {q3 : ℕ} → Wrote mid q (partsFor (r .kept .way) p rows ws table (r .kept .globals) (fdsIn used)) new q3
+          → Wrote out at (namedGlyphs p bodies) new q3
+      glyphs-wrote u =
+          writing-last room charstrings-put (wrote-as u (privates-are b f rows used ws table r (g .ready) totals (g .summed) ∙ private-is))
 
   -- ---- measured
 
-  module _ (name slots : List ℕ) (own : Own) (t : NamedStrings p order slots own (length name)) where
+  module _ (name slots : List ℕ) (own : Own) (t : NamedStrings p order slots own (length name)) (e : Encoding) (coding : NamedCodes e slots) where
     abbrev strings : List (List ℕ)
     strings = ownByName p order
 
-    measured-is : measuredLen false (p .top) slots (length name) own ≡ frontLen name (topByName p strings 0 0 0 0) strings
-    measured-is = named-front-sum p slots ws k (t .ready) (g .names .is) own (t .measured .is) name 0 0 0 0
+    abbrev coded : Coded
+    coded = codedFor e slots
+
+    abbrev codes : List ℕ
+    codes = codedBytes coded
+
+    measured-is : measuredLen false (codedAt coded 1) (p .top) slots (length name) own ≡ frontLen name (topByName p strings 0 (codedAt coded 1) 0 0 0) strings
+    measured-is = named-front-sum p slots ws k (t .ready) (g .names .is) own (t .measured .is) name 0 (codedAt coded 1) 0 0 0
 
     ids-long : length ids ≡ 1 + 2 * (k - 1)
     ids-long =
         let m : length (take k (drop n ws)) ≡ k = length-take-le k (drop n ws) (omega (arith, length-drop n ws, g .names .room)) in
         charset-length (newIds strings (namesOf p order)) ∙ ap (λ (l : List ℕ). 1 + 2 * (length l - 1)) (sym (g .names .ids)) ∙ ap (λ (m : ℕ). 1 + 2 * (m - 1)) m
 
-    module _ (front globals many : ℕ) (front-is : front ≡ measuredLen false (p .top) slots (length name) own)
+    module _ (v front globals len at₂ many : ℕ) (v-is : v ≡ offsetFor e 1) (front-is : front ≡ measuredLen false v (p .top) slots (length name) own)
         (globals-is : globals ≡ indexLen (keptCount (r .kept .way) (r .kept .globals .reached) (r .kept .globals .count)) (r .«globals_total»))
+        (len-is : len ≡ encodingLen e) (at-is : at₂ ≡ offsetFor e (front + globals + (1 + 2 * (k - 1))))
         (many-is : many ≡ indexLen (r .kept .count) (r .«glyphs_total»))
         {oldSizes oldLens sizes lens : List ℕ} {all : ℕ} (s : SizesParts p (r .kept .way) table totals used oldSizes oldLens sizes lens all)
         (sized : 256 ≤ length oldSizes) (long : 256 ≤ length oldLens) where
       pub places-are : (at : NamedPlaces)
           → at ≡ record {
             charset = front + globals;
-            charstrings = front + globals + (1 + 2 * (k - 1));
+            encoding = at₂;
+            charstrings = front + globals + (1 + 2 * (k - 1)) + len;
             size = getD sizes 0 0;
-            private = front + globals + (1 + 2 * (k - 1)) + many;
-            end = front + globals + (1 + 2 * (k - 1)) + many + all;
+            private = front + globals + (1 + 2 * (k - 1)) + len + many;
+            end = front + globals + (1 + 2 * (k - 1)) + len + many + all;
           }
-          → PlacedNamed p name order bodies at
-      places-are at e =
-          let c : front + globals ≡ namedCharset p name order bodies
-          = omega (arith, front-is, measured-is, globals-is, globals-long b f rows used ws table r (g .ready)) in
-          let d : front + globals + (1 + 2 * (k - 1)) ≡ namedCharstrings p name order bodies = omega (arith, c, ids-long) in
-          let q : front + globals + (1 + 2 * (k - 1)) + many ≡ namedPrivate p name order bodies
+          → PlacedNamed p coded name order bodies at
+      places-are at i =
+          let v₁ : v ≡ codedAt coded 1 = v-is ∙ sym (encodes-offset coded (drop 16 slots) e (coding .is) 1) in
+          let m : front ≡ frontLen name (topByName p strings 0 (codedAt coded 1) 0 0 0) strings
+          = front-is ∙ ap (λ (x : ℕ). measuredLen false x (p .top) slots (length name) own) v₁ ∙ measured-is in
+          let c : front + globals ≡ namedCharset p coded name order bodies
+          = omega (arith, m, globals-is, globals-long b f rows used ws table r (g .ready)) in
+          let x : front + globals + (1 + 2 * (k - 1)) ≡ namedCodes p coded name order bodies = omega (arith, c, ids-long) in
+          let d : front + globals + (1 + 2 * (k - 1)) + len ≡ namedCharstrings p coded name order bodies
+          = omega (arith, x, len-is, encodes-length coded (drop 16 slots) e (coding .is)) in
+          let q : front + globals + (1 + 2 * (k - 1)) + len + many ≡ namedPrivate p coded name order bodies
           = omega (arith, d, many-is, glyphs-long b f rows used ws table r (g .ready)) in
           let o = all-parts b f rows used ws table r (g .ready) totals (g .summed) s sized long in
-          let z : front + globals + (1 + 2 * (k - 1)) + many + all ≡ namedEnd p name order bodies = omega (arith, q, o, ap length private-is) in
-          subst (λ (a : NamedPlaces). PlacedNamed p name order bodies a) (sym e)
+          let z : front + globals + (1 + 2 * (k - 1)) + len + many + all ≡ namedEnd p coded name order bodies = omega (arith, q, o, ap length private-is) in
+          subst (λ (a : NamedPlaces). PlacedNamed p coded name order bodies a) (sym i)
           (record {
             charset = c;
+            encoding = at-is ∙ sym (encodes-offset coded (drop 16 slots) e (coding .is) _) ∙ ap (codedAt coded) x;
             charstrings = d;
             size =
                 bodies-size p rows (r .kept .way) (fdsIn used) order sizes (g .only)
@@ -198,46 +237,76 @@ module _ (b : List ℕ) (f : Font) (rows : List Row) (used ws : List ℕ) (r : P
 
     -- ---- all written
 
-    module _ (at : NamedPlaces) (placed : PlacedNamed p name order bodies at) (out : List ℕ) (small : at .end ≤ 67108864) (room : at .end ≤ length out) where
+    module _ (at : NamedPlaces) (placed : PlacedNamed p coded name order bodies at) (out : List ℕ) (small : at .end ≤ 67108864) (room : at .end ≤ length out) where
       abbrev globals : List ℕ
       globals = indexBytes (bodies .globals)
 
+      abbrev tables : List ℕ
+      tables = namedTables ws n k coded
+
+      abbrev rest : List ℕ
+      rest = namedGlyphs p bodies
+
+      abbrev topAt : ℕ → ℕ → ℕ → ℕ → ℕ → List ℕ
+      topAt = topByName p strings
+
       abbrev front : List ℕ
-      front =
-          frontBytes (at .end) name (topByName p strings (at .charset) (at .charstrings) (at .size) (at .private)) strings
+      front = frontBytes (at .end) name (topAt (at .charset) (at .encoding) (at .charstrings) (at .size) (at .private)) strings
 
       abbrev whole : List ℕ
-      whole = front ++ (globals ++ namedGlyphs p order bodies)
+      whole = front ++ (globals ++ (tables ++ rest))
 
-      whole-is : whole ≡ subsetByName p name order bodies
+      -- charset, encoding and what follows, as the subset has them
+      tables-are : tables ++ rest ≡ ids ++ (codes ++ rest)
+      tables-are = append-assoc (charsetBytes (partOf ws n k)) codes rest ∙ ap (λ (l : List ℕ). charsetBytes l ++ (codes ++ rest)) (g .names .ids)
+
+      front-is : front ≡ frontBytes (namedEnd p coded name order bodies) name (namedTop p coded name order bodies) strings
+      front-is =
+          ap (λ (m : ℕ). frontBytes m name (topAt (at .charset) (at .encoding) (at .charstrings) (at .size) (at .private)) strings) (placed .end)
+          ∙ ap (λ (m : ℕ). frontBytes end name (topAt m (at .encoding) (at .charstrings) (at .size) (at .private)) strings) (placed .charset)
+          ∙ ap (λ (m : ℕ). frontBytes end name (topAt at₁ m (at .charstrings) (at .size) (at .private)) strings) (placed .encoding)
+          ∙ ap (λ (m : ℕ). frontBytes end name (topAt at₁ v m (at .size) (at .private)) strings) (placed .charstrings)
+          ∙ ap (λ (m : ℕ). frontBytes end name (topAt at₁ v at₂ m (at .private)) strings) (placed .size)
+          ∙ ap (λ (m : ℕ). frontBytes end name (topAt at₁ v at₂ (length (privateDict (privateOf p 0) (oneLocal bodies))) m) strings) (placed .private)
+        where
+          end : ℕ
+          end = namedEnd p coded name order bodies
+
+          at₁ : ℕ
+          at₁ = namedCharset p coded name order bodies
+
+          v : ℕ
+          v = codedAt coded (namedCodes p coded name order bodies)
+
+          at₂ : ℕ
+          at₂ = namedCharstrings p coded name order bodies
+
+      whole-is : whole ≡ subsetByName p coded name order bodies
       whole-is =
-          ap (λ (m : ℕ). frontBytes m name (topByName p strings (at .charset) (at .charstrings) (at .size) (at .private)) strings
-          ++ (globals ++ namedGlyphs p order bodies)) (placed .end)
-          ∙ ap (λ (m : ℕ). frontBytes (namedEnd p name order bodies) name (topByName p strings m (at .charstrings) (at .size) (at .private)) strings
-          ++ (globals ++ namedGlyphs p order bodies)) (placed .charset)
-          ∙ ap (λ (m : ℕ). frontBytes (namedEnd p name order bodies) name (topByName p strings (namedCharset p name order bodies) m (at .size) (at .private)) strings
-          ++ (globals ++ namedGlyphs p order bodies)) (placed .charstrings)
-          ∙ ap (λ (m : ℕ). frontBytes (namedEnd p name order bodies) name (topByName p strings (namedCharset p name order bodies) (namedCharstrings p name order bodies) m (at .private)) strings
-          ++ (globals ++ namedGlyphs p order bodies)) (placed .size)
-          ∙ ap (λ (m : ℕ). frontBytes (namedEnd p name order bodies) name
-          (topByName p strings (namedCharset p name order bodies) (namedCharstrings p name order bodies) (length (privateDict (privateOf p 0) (oneLocal bodies))) m) strings
-          ++ (globals ++ namedGlyphs p order bodies)) (placed .private)
-          ∙ sym (named-parts p name order bodies)
+          ap (λ (l : List ℕ). front ++ (globals ++ l)) tables-are ∙ ap (λ (l : List ℕ). l ++ (globals ++ (ids ++ (codes ++ rest)))) front-is
+          ∙ sym (named-parts p coded name order bodies)
 
       long : length whole ≡ at .end
-      long = ap length whole-is ∙ named-length p name order bodies ∙ sym (placed .end)
+      long = ap length whole-is ∙ named-length p coded name order bodies ∙ sym (placed .end)
 
-      halves : length whole ≡ length front + (length globals + length (namedGlyphs p order bodies))
-      halves = length-append front (globals ++ namedGlyphs p order bodies) ∙ ap (λ (m : ℕ). length front + m) (length-append globals (namedGlyphs p order bodies))
+      halves : length whole ≡ length front + (length globals + (length tables + length rest))
+      halves =
+          length-append front (globals ++ (tables ++ rest))
+          ∙ ap (λ (m : ℕ). length front + m) (length-append globals (tables ++ rest) ∙ ap (λ (m : ℕ). length globals + m) (length-append tables rest))
 
-      front-long : length front ≡ measuredLen false (p .top) slots (length name) own
+      front-long : length front ≡ measuredLen false (at .encoding) (p .top) slots (length name) own
       front-long =
-          named-front-len p slots ws k (t .ready) (g .names .is) own (t .measured .is) (at .end) name (at .charset) (at .charstrings) (at .size) (at .private)
+          named-front-len p slots ws k (t .ready) (g .names .is) own (t .measured .is) (at .end) name (at .charset) (at .encoding) (at .charstrings) (at .size) (at .private)
 
       whole-room : 0 + length whole ≤ length out
       whole-room = omega (arith, long)
 
-      pub front-asked : NamedFront b f slots own ws k (length name) (length out) × Offsets (at .charset) (at .charstrings) (at .size) (at .private)
+      encoding-low : at .encoding ≤ at .end
+      encoding-low =
+          omega (arith, placed .encoding, coded-within coded (namedCodes p coded name order bodies) (at .end) (omega (arith, placed .end)) (omega (arith, placed .end)))
+
+      pub front-asked : NamedFront b f (at .encoding) slots own ws k (length name) (length out) × Offsets (at .charset) (at .charstrings) (at .size) (at .private)
+          × (at .encoding < 2147483648)
       front-asked =
           let d = dict-within (privateOf p 0) (oneLocal bodies) in (
             record {
@@ -259,27 +328,33 @@ module _ (b : List ℕ) (f : Font) (rows : List Row) (used ws : List ℕ) (r : P
               third = omega (arith, placed .charset, placed .charstrings, placed .private, placed .end, placed .size, d);
               fourth = omega (arith, placed .charset, placed .charstrings, placed .private, placed .end);
             },
+            omega (arith, encoding-low),
           )
 
       module _ {mid : List ℕ} {q : ℕ} (w : Wrote out 0 front mid q) where
-        front-put : Writing whole out 0 (globals ++ namedGlyphs p order bodies) mid q
-        front-put = writing-turn whole-room (split-append front (globals ++ namedGlyphs p order bodies)) (writing-start whole out 0) w
+        front-put : Writing whole out 0 (globals ++ (tables ++ rest)) mid q
+        front-put = writing-turn whole-room (split-append front (globals ++ (tables ++ rest))) (writing-start whole out 0) w
 
         pub globals-there : Ready b f rows used ws r table × (q + length globals ≤ 67108864) × (q + length globals ≤ length mid)
         globals-there = (
           g .ready,
           omega (arith, long, halves, w .behind),
-          writing-room whole-room (split-append globals (namedGlyphs p order bodies)) front-put,
+          writing-room whole-room (split-append globals (tables ++ rest)) front-put,
         )
 
         module _ {mid2 : List ℕ} {q2 : ℕ} (v : Wrote mid q globals mid2 q2) where
-          globals-put : Writing whole out 0 (namedGlyphs p order bodies) mid2 q2
-          globals-put = writing-turn whole-room (split-append globals (namedGlyphs p order bodies)) front-put v
+          globals-put : Writing whole out 0 (tables ++ rest) mid2 q2
+          globals-put = writing-turn whole-room (split-append globals (tables ++ rest)) front-put v
 
-          pub glyphs-there : NamedPlan b f rows used ws r table totals × (q2 + length (namedGlyphs p order bodies) ≤ 67108864)
-              × (q2 + length (namedGlyphs p order bodies) ≤ length mid2)
-          glyphs-there = (g, omega (arith, long, halves, w .behind, v .behind), writing-left whole-room globals-put)
+          pub tables-there : NamedCodes e slots × (n + k ≤ length ws) × (q2 + length tables ≤ length mid2)
+          tables-there = (coding, g .names .room, writing-room whole-room (split-append tables rest) globals-put)
 
-          pub named-wrote : {new : List ℕ} {q3 : ℕ} → Wrote mid2 q2 (namedGlyphs p order bodies) new q3
-              → Wrote out 0 (subsetByName p name order bodies) new q3
-          named-wrote u = wrote-as (writing-last whole-room globals-put u) whole-is
+          module _ {mid3 : List ℕ} {q3 : ℕ} (x : Wrote mid2 q2 tables mid3 q3) where
+            tables-put : Writing whole out 0 rest mid3 q3
+            tables-put = writing-turn whole-room (split-append tables rest) globals-put x
+
+            pub glyphs-there : NamedPlan b f rows used ws r table totals × (q3 + length rest ≤ 67108864) × (q3 + length rest ≤ length mid3)
+            glyphs-there = (g, omega (arith, long, halves, w .behind, v .behind, x .behind), writing-left whole-room tables-put)
+
+            pub named-wrote : {new : List ℕ} {q4 : ℕ} → Wrote mid3 q3 rest new q4 → Wrote out 0 (subsetByName p coded name order bodies) new q4
+            named-wrote u = wrote-as (writing-last whole-room tables-put u) whole-is

@@ -6,9 +6,13 @@ ghost use Rattle.record.specs.Record.{rowsOf};
 ghost use Rattle.cff.specs.Reads.{programOf};
 ghost use Rattle.subset.specs.Subset.{subsetByName};
 ghost use Rattle.parts.specs.Ready.{bodiesFor};
-ghost use Rattle.named_parts.specs.Named.{namedGlyphs, NamedPlan, NamedStrings, PlacedNamed};
+ghost use Rattle.named_parts.specs.Named.{codedFor, namedTables, namedGlyphs, NamedPlan, NamedStrings, NamedCodes, PlacedNamed};
 use bodies::charstrings::put_charstrings;
 use cff::font::Font;
+use encoding::Encoding;
+use encoding::encoding_at;
+use encoding::encoding_len;
+use encoding::put_encoding;
 use front::NamedPlaces;
 use outcome::Prepared;
 use parts::Planned;
@@ -17,13 +21,38 @@ use parts::glyphs_len;
 use parts::put_globals;
 ghost use Rattle.kept.specs.Packed.{orderIn};
 
+// A cut, and what its subset has of an encoding.
+pub struct CodedCut {
+    pub cut: Prepared,
+    pub encoding: Encoding,
+}
+
 // A cut and the places of its parts.
 pub struct PlacedCut {
     pub cut: Prepared,
+    pub encoding: Encoding,
     pub at: NamedPlaces,
 }
 
-// Charset, charstrings and Private, from `at` on; the place after them.
+// Charset and encoding, from `at` on; the place after them.
+fn put_tables(
+    e: Encoding,
+    n: usize,
+    k: usize,
+    slots: &[usize],
+    words: &[u32],
+    out: &mut [u8],
+    at: usize,
+) -> usize
+    requires { ⌜ (NamedCodes e (now slots)) × (n + k ≤ length (now words))
+        × (at + length (namedTables (now words) n k (codedFor e (now slots))) ≤ length (now out)) ⌝ }
+    ensures { λ q. ⌜ Wrote (now (out .entry)) at (namedTables (now (words .entry)) n k (codedFor e (now (slots .entry)))) (now (out .exit)) q ⌝ }
+{
+    let p = glyph_tables::put_charset_named(words, n, k, out, at);
+    put_encoding(e, &slots[16..], out, p)
+}
+
+// Charstrings and Private, from `at` on; the place after them.
 fn put_glyphs(
     r: Planned,
     font: &[u8],
@@ -37,19 +66,15 @@ fn put_glyphs(
     at: usize,
 ) -> usize
     requires { ⌜ (NamedPlan (now font) f (rowsOf (now rows)) (now used) (now words) r (now table) (now totals))
-        × (at + length (namedGlyphs (programOf (now font) f) (orderIn (r .kept .count) (now words)) (bodiesFor (now font) f (rowsOf (now rows)) (now used) (now words) r)) ≤ 67108864)
-        × (at + length (namedGlyphs (programOf (now font) f) (orderIn (r .kept .count) (now words)) (bodiesFor (now font) f (rowsOf (now rows)) (now used) (now words) r)) ≤ length (now out)) ⌝ }
+        × (at + length (namedGlyphs (programOf (now font) f) (bodiesFor (now font) f (rowsOf (now rows)) (now used) (now words) r)) ≤ 67108864)
+        × (at + length (namedGlyphs (programOf (now font) f) (bodiesFor (now font) f (rowsOf (now rows)) (now used) (now words) r)) ≤ length (now out)) ⌝ }
     ensures { λ q. ⌜ Wrote (now (out .entry)) at
-        (namedGlyphs (programOf (now (font .entry)) f) (orderIn (r .kept .count) (now (words .entry)))
-        (bodiesFor (now (font .entry)) f (rowsOf (now (rows .entry))) (now (used .entry)) (now (words .entry)) r))
+        (namedGlyphs (programOf (now (font .entry)) f) (bodiesFor (now (font .entry)) f (rowsOf (now (rows .entry))) (now (used .entry)) (now (words .entry)) r))
         (now (out .exit)) q ⌝ }
 {
     let kept = r.kept;
-    let charstrings = f.charstrings;
-    let n = charstrings.count;
     let total = r.glyphs_total;
-    let p = glyph_tables::put_charset_named(words, n, kept.count, out, at);
-    let q = put_charstrings(kept, font, words, table, rows, total, out, p);
+    let q = put_charstrings(kept, font, words, table, rows, total, out, at);
     fds::privates::put_privates(kept, font, f, used, words, table, totals, rows, out, q)
 }
 
@@ -68,11 +93,13 @@ pub fn put_named(
 ) -> usize
     requires { ⌜ (NamedPlan (now font) (c .cut .f) (rowsOf (now rows)) (now used) (now words) (c .cut .plan) (now table) (now totals))
         × (NamedStrings (programOf (now font) (c .cut .f)) (orderIn (c .cut .plan .kept .count) (now words)) (now slots) (c .cut .own) (length (now name)))
-        × (PlacedNamed (programOf (now font) (c .cut .f)) (now name) (orderIn (c .cut .plan .kept .count) (now words))
+        × (NamedCodes (c .encoding) (now slots))
+        × (PlacedNamed (programOf (now font) (c .cut .f)) (codedFor (c .encoding) (now slots)) (now name) (orderIn (c .cut .plan .kept .count) (now words))
         (bodiesFor (now font) (c .cut .f) (rowsOf (now rows)) (now used) (now words) (c .cut .plan)) (c .at))
         × (c .at .end ≤ 67108864) × (c .at .end ≤ length (now out)) ⌝ }
     ensures { λ q. ⌜ Wrote (now (out .entry)) 0
-        (subsetByName (programOf (now (font .entry)) (c .cut .f)) (now (name .entry)) (orderIn (c .cut .plan .kept .count) (now (words .entry)))
+        (subsetByName (programOf (now (font .entry)) (c .cut .f)) (codedFor (c .encoding) (now (slots .entry))) (now (name .entry))
+        (orderIn (c .cut .plan .kept .count) (now (words .entry)))
         (bodiesFor (now (font .entry)) (c .cut .f) (rowsOf (now (rows .entry))) (now (used .entry)) (now (words .entry)) (c .cut .plan)))
         (now (out .exit)) q ⌝ }
 {
@@ -82,14 +109,24 @@ pub fn put_named(
     let r = cut.plan;
     let own = cut.own;
     let kept = r.kept;
+    let charstrings = f.charstrings;
     let p = front::put_front_named(font, f, name, slots, own, words, kept.count, at, out);
     let q = put_globals(r, font, f, used, words, table, rows, out, p);
-    put_glyphs(r, font, f, used, words, table, totals, rows, out, q)
+    let t = put_tables(
+        c.encoding,
+        charstrings.count,
+        kept.count,
+        slots,
+        words,
+        out,
+        q,
+    );
+    put_glyphs(r, font, f, used, words, table, totals, rows, out, t)
 }
 
 // Measures the parts of the subset: where they stand.
 pub fn places_named(
-    cut: Prepared,
+    c: CodedCut,
     font: &[u8],
     name: &[u8],
     slots: &[usize],
@@ -99,11 +136,14 @@ pub fn places_named(
     totals: &[usize],
     rows: &[u8],
 ) -> NamedPlaces
-    requires { ⌜ (NamedPlan (now font) (cut .f) (rowsOf (now rows)) (now used) (now words) (cut .plan) (now table) (now totals))
-        × (NamedStrings (programOf (now font) (cut .f)) (orderIn (cut .plan .kept .count) (now words)) (now slots) (cut .own) (length (now name))) ⌝ }
-    ensures { λ at. ⌜ PlacedNamed (programOf (now (font .entry)) (cut .f)) (now (name .entry)) (orderIn (cut .plan .kept .count) (now (words .entry)))
-        (bodiesFor (now (font .entry)) (cut .f) (rowsOf (now (rows .entry))) (now (used .entry)) (now (words .entry)) (cut .plan)) at ⌝ }
+    requires { ⌜ (NamedPlan (now font) (c .cut .f) (rowsOf (now rows)) (now used) (now words) (c .cut .plan) (now table) (now totals))
+        × (NamedStrings (programOf (now font) (c .cut .f)) (orderIn (c .cut .plan .kept .count) (now words)) (now slots) (c .cut .own) (length (now name)))
+        × (NamedCodes (c .encoding) (now slots)) ⌝ }
+    ensures { λ at. ⌜ PlacedNamed (programOf (now (font .entry)) (c .cut .f)) (codedFor (c .encoding) (now (slots .entry))) (now (name .entry)) (orderIn (c .cut .plan .kept .count) (now (words .entry)))
+        (bodiesFor (now (font .entry)) (c .cut .f) (rowsOf (now (rows .entry))) (now (used .entry)) (now (words .entry)) (c .cut .plan)) at ⌝ }
 {
+    let cut = c.cut;
+    let encoding = c.encoding;
     let f = cut.f;
     let r = cut.plan;
     let own = cut.own;
@@ -120,13 +160,16 @@ pub fn places_named(
         &mut sizes,
         &mut lens,
     );
-    let charset = front::front_len(false, font, f, name.len(), slots, own) + globals_len(r);
-    let charstrings = charset + (1 + 2 * (kept.count - 1));
+    let v = encoding_at(encoding, 1);
+    let charset = front::front_len(false, v, font, f, name.len(), slots, own) + globals_len(r);
+    let codes = charset + (1 + 2 * (kept.count - 1));
+    let charstrings = codes + encoding_len(encoding);
     let private = charstrings + glyphs_len(r);
     let size = sizes[0];
     let end = private + privates;
     NamedPlaces {
         charset,
+        encoding: encoding_at(encoding, codes),
         charstrings,
         size,
         private,

@@ -1,5 +1,5 @@
 -- The entries of subsetting (document 01, 'Entries and their refusals'): what a call answers, and what it leaves in the output and in the work
--- words, as the outcome says; and demand 3.
+-- words, as the outcome says; demand 3; and, where the encoding was asked for, that the subset keeps the codes (document 02, Wish 4).
 use Prim.Native.Nat.{ℕ, _≤_}
 use mathlib.Core.Path.{_≡_}
 use mathlib.Core.Bool.{Bool, true, false}
@@ -9,13 +9,15 @@ use lib.ListN.{length}
 use Rattle.octets.specs.Pick.{pick}
 use Rattle.octets.specs.Lists.{allBelow}
 use Rattle.record.specs.Record.{rowsOf, recordFine}
-use Rattle.dict.specs.Lookup.{rosIn, cidKeyed, strokedIn}
+use Rattle.dict.specs.Lookup.{rosIn, cidKeyed}
 use Rattle.cff.specs.Font.{Got, refused as refusedFont, got, Program, readFont}
 use Rattle.cff.specs.Find.{workSize}
 use Rattle.subset.specs.Kept.{keptOf, writtenOrder, usedFds}
 use Rattle.subset.specs.Pruned.{pruned}
-use Rattle.subset.specs.Cut.{Outcome, refused, subset, allFound, hasRos, sameBool, written, cutOf, leavesOut, leavesWork}
+use Rattle.subset.specs.Codes.{codedIf}
+use Rattle.subset.specs.Cut.{Outcome, refused, subset, allFound, hasRos, sameBool, ownOf, written, unsupportedIn, cutOf, leavesOut, leavesWork}
 use Rattle.faithful.specs.Faithful.{Faithful}
+use Rattle.faithful.specs.Codes.{KeepsCodes}
 use Rattle.outcome.specs.declared.Answer.{Answer}
 use Rattle.outcome.specs.declared.Answer.the-variants.{Refused, Subset}
 
@@ -30,19 +32,20 @@ workIn (refusedFont n) = 0
 workIn (got p) = workSize p
 
 -- a call on these inputs, with these work words and this output before and after, answered r
-pub record Cuts (cid : Bool) (font name keep rec : List ℕ) (flag : ℕ) (work out work' out' : List ℕ) (r : Answer) : Type 0 where
-  pub answers : r ≡ answerOf (cutOf cid font name keep rec flag (length work) (length out))
-  pub output : out' ≡ leavesOut (cutOf cid font name keep rec flag (length work) (length out)) out
-  pub words : work' ≡ leavesWork (cutOf cid font name keep rec flag (length work) (length out)) (workIn (readFont font)) work
-  pub faithful : Faithful font keep rec flag (cutOf cid font name keep rec flag (length work) (length out))
+pub record Cuts (cid ask : Bool) (font name keep rec : List ℕ) (flag : ℕ) (work out work' out' : List ℕ) (r : Answer) : Type 0 where
+  pub answers : r ≡ answerOf (cutOf cid ask font name keep rec flag (length work) (length out))
+  pub output : out' ≡ leavesOut (cutOf cid ask font name keep rec flag (length work) (length out)) out
+  pub words : work' ≡ leavesWork (cutOf cid ask font name keep rec flag (length work) (length out)) (workIn (readFont font)) work
+  pub faithful : Faithful font keep rec flag (cutOf cid ask font name keep rec flag (length work) (length out))
+  pub codes : KeepsCodes ask font keep (cutOf cid ask font name keep rec flag (length work) (length out))
 
 -- ---- the refusals before the work words are used
 
--- those of a font that was read: 3 (the keying), 3 (stroked), 2, 4, 6, 7, 8, 9 in this order, or 0
-unfoldable pub refusalOf : Bool → Program → ℕ → List ℕ → List ℕ → ℕ → ℕ → ℕ
-refusalOf cid p name keep rec flag words =
+-- those of a font that was read: 3 (the keying), 3 (stroked, or an Expert encoding that is not asked for), 2, 4, 6, 7, 8, 9 in this order, or 0
+unfoldable pub refusalOf : Bool → Bool → Program → ℕ → List ℕ → List ℕ → ℕ → ℕ → ℕ
+refusalOf cid ask p name keep rec flag words =
     pick (sameBool cid (cidKeyed (p .top)))
-    (pick (strokedIn (p .top)) 3
+    (pick (unsupportedIn ask p) 3
     (pick (pick cid (hasRos (rosIn (p .top))) true)
     (pick (ltb 65535 name) 4
     (pick (allBelow (length (p .charstrings)) keep)
@@ -53,10 +56,10 @@ refusalOf cid p name keep rec flag words =
 -- ---- what the cut of a font that passes them does
 
 -- the outcome of the cut
-abbrev pub cutBehind : Program → List ℕ → List ℕ → List ℕ → ℕ → ℕ → Outcome
-cutBehind p name keep rec flag room =
+abbrev pub cutBehind : Bool → Program → List ℕ → List ℕ → List ℕ → ℕ → ℕ → Outcome
+cutBehind ask p name keep rec flag room =
     let kept = keptOf (length (p .charstrings)) keep in
-    written p name kept (writtenOrder p kept) room (pruned p (rowsOf rec) (usedFds p kept) (writtenOrder p kept) flag)
+    written p (codedIf ask p kept (ownOf p (writtenOrder p kept))) name kept (writtenOrder p kept) room (pruned p (rowsOf rec) (usedFds p kept) (writtenOrder p kept) flag)
 
 -- the answer and the output are an outcome's
 pub record Cut (o : Outcome) (out out' : List ℕ) (r : Answer) : Type 0 where
@@ -64,9 +67,9 @@ pub record Cut (o : Outcome) (out out' : List ℕ) (r : Answer) : Type 0 where
   pub output : out' ≡ leavesOut o out
 
 -- a font, a new name, a keep list, a record and a flag that are not refused before the cut
-pub record Passed (cid : Bool) (p : Program) (name : ℕ) (keep rec : List ℕ) (flag words : ℕ) : Type 0 where
+pub record Passed (cid ask : Bool) (p : Program) (name : ℕ) (keep rec : List ℕ) (flag words : ℕ) : Type 0 where
   pub keying : cid ≡ cidKeyed (p .top)
-  pub filled : strokedIn (p .top) ≡ false
+  pub supported : unsupportedIn ask p ≡ false
   pub ros : pick cid (hasRos (rosIn (p .top))) true ≡ true
   pub named : name ≤ 65535
   pub below : allBelow (length (p .charstrings)) keep ≡ true

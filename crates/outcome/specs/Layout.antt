@@ -12,8 +12,10 @@ use Rattle.cff.specs.Font.{Program}
 use Rattle.subset.specs.Kept.{privateOf}
 use Rattle.subset.specs.Texts.{namesOf}
 use Rattle.subset.specs.Pruned.{Bodies}
+use Rattle.subset.specs.Codes.{Coded, codedBytes, codedAt}
 use Rattle.subset.specs.Subset.{privateDict, privatePart, privateParts, fontDicts, ownByName, ownByCid, topByName, topByCid, newIds, cidsOf, newFds, oneLocal, subsetByName, subsetByCid}
 use Rattle.front.specs.Front.{frontBytes}
+use Rattle.faithful.specs.ByName.{coded-there}
 use Rattle.faithful.specs.TopLaws.{name-top-length, cid-top-length, single-length}
 
 -- its length, which the places in the top DICT do not change
@@ -27,15 +29,15 @@ front-length name top own all = rw (length-append, length-append) (omega arith)
 after-one : (a l : List ℕ) (m n : ℕ) → length a ≡ m → length l ≡ n → length (a ++ l) ≡ m + n
 after-one a l m n e f = length-append a l ∙ ap (λ (k : ℕ). k + length l) e ∙ ap (λ (k : ℕ). m + k) f
 
-sums-four : (f g i c q : ℕ) → f + (g + (i + (c + q))) ≡ f + g + i + c + q
-sums-four f g i c q = omega arith
+sums-five : (f g i e c q : ℕ) → f + (g + (i + (e + (c + q)))) ≡ f + g + i + e + c + q
+sums-five f g i e c q = omega arith
 
 sums-six : (f g i s c d q : ℕ) → f + (g + (i + (s + (c + (d + q))))) ≡ f + g + i + s + c + d + q
 sums-six f g i s c d q = omega arith
 
 -- ---- name-keyed
 
-module _ (p : Program) (name order : List ℕ) (b : Bodies) where
+module _ (p : Program) (coded : Coded) (name order : List ℕ) (b : Bodies) where
   abbrev own : List (List ℕ)
   own = ownByName p order
 
@@ -45,18 +47,27 @@ module _ (p : Program) (name order : List ℕ) (b : Bodies) where
   abbrev ids : List ℕ
   ids = charsetBytes (newIds own (namesOf p order))
 
+  abbrev codes : List ℕ
+  codes = codedBytes coded
+
   abbrev charstrings : List ℕ
   charstrings = indexBytes (b .charstrings)
 
   abbrev private : List ℕ
   private = privatePart (privateOf p 0) (oneLocal b)
 
-  -- the places of charset, charstrings and Private, and the length of all
+  -- the top DICT as it is measured; the places of charset, encoding, charstrings and Private, and the length of all
+  abbrev measuredTop : List ℕ
+  measuredTop = topByName p own 0 (codedAt coded 1) 0 0 0
+
   abbrev pub namedCharset : ℕ
-  namedCharset = frontLen name (topByName p own 0 0 0 0) own + length globals
+  namedCharset = frontLen name measuredTop own + length globals
+
+  abbrev pub namedCodes : ℕ
+  namedCodes = namedCharset + length ids
 
   abbrev pub namedCharstrings : ℕ
-  namedCharstrings = namedCharset + length ids
+  namedCharstrings = namedCodes + length codes
 
   abbrev pub namedPrivate : ℕ
   namedPrivate = namedCharstrings + length charstrings
@@ -65,28 +76,30 @@ module _ (p : Program) (name order : List ℕ) (b : Bodies) where
   namedEnd = namedPrivate + length private
 
   abbrev pub namedTop : List ℕ
-  namedTop = topByName p own namedCharset namedCharstrings (length (privateDict (privateOf p 0) (oneLocal b))) namedPrivate
+  namedTop = topByName p own namedCharset (codedAt coded namedCodes) namedCharstrings (length (privateDict (privateOf p 0) (oneLocal b))) namedPrivate
 
   -- the front, and part behind part
-  pub named-parts : subsetByName p name order b ≡ frontBytes namedEnd name namedTop own ++ (globals ++ (ids ++ (charstrings ++ private)))
+  pub named-parts : subsetByName p coded name order b ≡ frontBytes namedEnd name namedTop own ++ (globals ++ (ids ++ (codes ++ (charstrings ++ private))))
   unfolding subsetByName
   named-parts =
       ap (λ (l : List ℕ). 1 ∷ 0 ∷ 4 ∷ sizeFor namedEnd ∷ l)
-      (sym (append-assoc (indexBytes (name ∷ [])) (indexBytes (namedTop ∷ []) ++ indexBytes own) (globals ++ (ids ++ (charstrings ++ private)))
-      ∙ ap (λ (l : List ℕ). indexBytes (name ∷ []) ++ l) (append-assoc (indexBytes (namedTop ∷ [])) (indexBytes own) (globals ++ (ids ++ (charstrings ++ private))))))
+      (sym (append-assoc (indexBytes (name ∷ [])) (indexBytes (namedTop ∷ []) ++ indexBytes own) (globals ++ (ids ++ (codes ++ (charstrings ++ private))))
+      ∙ ap (λ (l : List ℕ). indexBytes (name ∷ []) ++ l) (append-assoc (indexBytes (namedTop ∷ [])) (indexBytes own) (globals ++ (ids ++ (codes ++ (charstrings ++ private)))))))
 
   -- so long in all
-  pub named-length : length (subsetByName p name order b) ≡ namedEnd
+  pub named-length : length (subsetByName p coded name order b) ≡ namedEnd
   named-length =
       let size = length (privateDict (privateOf p 0) (oneLocal b)) in
-      let front : length (frontBytes namedEnd name namedTop own) ≡ frontLen name (topByName p own 0 0 0 0) own
+      let front : length (frontBytes namedEnd name namedTop own) ≡ frontLen name measuredTop own
       = front-length name namedTop own namedEnd
       ∙ ap (λ (k : ℕ). 4 + length (indexBytes (name ∷ [])) + k + length (indexBytes own))
-      (single-length namedTop (topByName p own 0 0 0 0) (name-top-length p own namedCharset namedCharstrings size namedPrivate)) in
+      (single-length namedTop measuredTop
+      (name-top-length p own namedCharset (codedAt coded namedCodes) (codedAt coded 1) namedCharstrings size namedPrivate (coded-there coded namedCodes (omega arith)))) in
       ap length named-parts
-      ∙ after-one (frontBytes namedEnd name namedTop own) (globals ++ (ids ++ (charstrings ++ private))) _ _ front
-      (after-one globals (ids ++ (charstrings ++ private)) _ _ refl (after-one ids (charstrings ++ private) _ _ refl (length-append charstrings private)))
-      ∙ sums-four (frontLen name (topByName p own 0 0 0 0) own) (length globals) (length ids) (length charstrings) (length private)
+      ∙ after-one (frontBytes namedEnd name namedTop own) (globals ++ (ids ++ (codes ++ (charstrings ++ private)))) _ _ front
+      (after-one globals (ids ++ (codes ++ (charstrings ++ private))) _ _ refl
+      (after-one ids (codes ++ (charstrings ++ private)) _ _ refl (after-one codes (charstrings ++ private) _ _ refl (length-append charstrings private))))
+      ∙ sums-five (frontLen name measuredTop own) (length globals) (length ids) (length codes) (length charstrings) (length private)
 
 -- ---- CID-keyed
 

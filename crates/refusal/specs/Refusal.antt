@@ -49,6 +49,10 @@ output = 11
 abbrev pub stringId : ℕ
 stringId = 12
 
+-- an encoding of more than 255 pairs (document 02, Wish 4)
+abbrev pub pairs : ℕ
+pairs = 13
+
 -- an OpenType file without a table `CFF ` (document 02, Wish 9)
 abbrev pub noTable : ℕ
 noTable = 15

@@ -29,6 +29,8 @@ impl Refusal {
     pub const OUTPUT: u8 = 11;
     // A new string id above 64,999.
     pub const STRING_ID: u8 = 12;
+    // An encoding of more than 255 pairs (document 02, Wish 4).
+    pub const PAIRS: u8 = 13;
     // An OpenType file without a table `CFF `.
     pub const NO_TABLE: u8 = 15;
 

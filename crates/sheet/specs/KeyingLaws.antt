@@ -39,26 +39,26 @@ first-stays o false e = refl
 
 module _ (name keep rec : List ℕ) (flag words room : ℕ) where
   program-by : (p : Program) (b : Bool) → cidKeyed (p .top) ≡ b
-      → pick (unsupported (cutProgram false p name keep rec flag words room)) (cutProgram true p name keep rec flag words room) (cutProgram false p name keep rec flag words room)
-      ≡ cutProgram (cidKeyed (p .top)) p name keep rec flag words room
+      → pick (unsupported (cutProgram false false p name keep rec flag words room)) (cutProgram true false p name keep rec flag words room) (cutProgram false false p name keep rec flag words room)
+      ≡ cutProgram (cidKeyed (p .top)) false p name keep rec flag words room
   program-by p false e =
-      let o = cutProgram false p name keep rec flag words room in
-      let k : cutProgram true p name keep rec flag words room ≡ refused 3 = cid-other (cidKeyed (p .top)) _ e in
+      let o = cutProgram false false p name keep rec flag words room in
+      let k : cutProgram true false p name keep rec flag words room ≡ refused 3 = cid-other (cidKeyed (p .top)) _ e in
       ap (λ (x : Outcome). pick (unsupported o) x o) k ∙ first-stays o (unsupported o) refl
-      ∙ ap (λ (c : Bool). cutProgram c p name keep rec flag words room) (sym e)
+      ∙ ap (λ (c : Bool). cutProgram c false p name keep rec flag words room) (sym e)
   program-by p true e =
-      let k : cutProgram false p name keep rec flag words room ≡ refused 3 = name-other (cidKeyed (p .top)) _ e in
-      ap (λ (o : Outcome). pick (unsupported o) (cutProgram true p name keep rec flag words room) o) k
-      ∙ ap (λ (c : Bool). cutProgram c p name keep rec flag words room) (sym e)
+      let k : cutProgram false false p name keep rec flag words room ≡ refused 3 = name-other (cidKeyed (p .top)) _ e in
+      ap (λ (o : Outcome). pick (unsupported o) (cutProgram true false p name keep rec flag words room) o) k
+      ∙ ap (λ (c : Bool). cutProgram c false p name keep rec flag words room) (sym e)
 
-  read-by : (g : Got Program) → pick (unsupported (cutRead false g name keep rec flag words room)) (cutRead true g name keep rec flag words room) (cutRead false g name keep rec flag words room)
-      ≡ cutRead (keying g) g name keep rec flag words room
+  read-by : (g : Got Program) → pick (unsupported (cutRead false false g name keep rec flag words room)) (cutRead true false g name keep rec flag words room) (cutRead false false g name keep rec flag words room)
+      ≡ cutRead (keying g) false g name keep rec flag words room
   read-by (refusedFont n) = pick-same (eqb n 3) (refused n)
   read-by (got p) = program-by p (cidKeyed (p .top)) refl
 
   -- the outcome by the keying of the font
   pub cut-by-keying : (font : List ℕ)
-      → pick (unsupported (cutOf false font name keep rec flag words room)) (cutOf true font name keep rec flag words room) (cutOf false font name keep rec flag words room)
-      ≡ cutOf (keying (readFont font)) font name keep rec flag words room
+      → pick (unsupported (cutOf false false font name keep rec flag words room)) (cutOf true false font name keep rec flag words room) (cutOf false false font name keep rec flag words room)
+      ≡ cutOf (keying (readFont font)) false font name keep rec flag words room
   unfolding cutOf
   cut-by-keying font = read-by (readFont font)

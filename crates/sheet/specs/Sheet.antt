@@ -110,7 +110,7 @@ keying (got p) = cidKeyed (p .top)
 
 -- a sheet, cut by the keying of its font, with 8,192 work words and 32,768 output bytes lent
 unfoldable pub cutOfSheet : Sheet → Outcome
-cutOfSheet s = cutOf (keying (readFont (s .font))) (s .font) (s .name) (s .keep) (s .rec) (s .flag) 8192 32768
+cutOfSheet s = cutOf (keying (readFont (s .font))) false (s .font) (s .name) (s .keep) (s .rec) (s .flag) 8192 32768
 
 -- `ff00` for other input
 unfoldable pub answerTo : Option Sheet → List ℕ

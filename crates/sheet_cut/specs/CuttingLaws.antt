@@ -13,6 +13,7 @@ use Rattle.octets.specs.Octets.{put}
 use Rattle.cff.specs.Font.{readFont}
 use Rattle.subset.specs.Cut.{Outcome, refused, subset, cutOf, leavesOut, leavesWork}
 use Rattle.faithful.specs.Faithful.{Faithful}
+use Rattle.faithful.specs.Codes.{KeepsCodes}
 use Rattle.outcome.specs.Entry.{answerOf, workIn, Cuts}
 use Rattle.outcome.specs.declared.Answer.{Answer}
 use Rattle.outcome.specs.declared.Answer.the-variants.{Refused, Subset}
@@ -44,54 +45,55 @@ subset-other (subset w bs) way len e = refl
 module _ (font name keep rec : List ℕ) (flag : ℕ) where
   -- the same outcome under another keying
   cuts-as : (cid cid' : Bool) (work out work' out' : List ℕ) (r : Answer)
-      → cutOf cid font name keep rec flag (length work) (length out) ≡ cutOf cid' font name keep rec flag (length work) (length out)
-      → Cuts cid font name keep rec flag work out work' out' r → Cuts cid' font name keep rec flag work out work' out' r
+      → cutOf cid false font name keep rec flag (length work) (length out) ≡ cutOf cid' false font name keep rec flag (length work) (length out)
+      → Cuts cid false font name keep rec flag work out work' out' r → Cuts cid' false font name keep rec flag work out work' out' r
   cuts-as cid cid' work out work' out' r e c = record {
     answers = subst (λ (o : Outcome). r ≡ answerOf o) e (c .answers);
     output = subst (λ (o : Outcome). out' ≡ leavesOut o out) e (c .output);
     words = subst (λ (o : Outcome). work' ≡ leavesWork o (workIn (readFont font)) work) e (c .words);
     faithful = subst (λ (o : Outcome). Faithful font keep rec flag o) e (c .faithful);
+    codes = subst (λ (o : Outcome). KeepsCodes false font keep o) e (c .codes);
   }
 
   abbrev byKeying : List ℕ → List ℕ → List ℕ → List ℕ → Answer → Type 0
-  byKeying work out work' out' r = Cuts (keying (readFont font)) font name keep rec flag work out work' out' r
+  byKeying work out work' out' r = Cuts (keying (readFont font)) false font name keep rec flag work out work' out' r
 
   -- the first call is not refused with 3
   first-is : (work out work' out' : List ℕ) (r : Answer)
-      → unsupported (cutOf false font name keep rec flag (length work) (length out)) ≡ false
-      → Cuts false font name keep rec flag work out work' out' r → byKeying work out work' out' r
+      → unsupported (cutOf false false font name keep rec flag (length work) (length out)) ≡ false
+      → Cuts false false font name keep rec flag work out work' out' r → byKeying work out work' out' r
   first-is work out work' out' r e c =
       let n = length work in
       let m = length out in
       cuts-as false (keying (readFont font)) work out work' out' r
-      (sym (ap (λ (t : Bool). pick t (cutOf true font name keep rec flag n m) (cutOf false font name keep rec flag n m)) e)
+      (sym (ap (λ (t : Bool). pick t (cutOf true false font name keep rec flag n m) (cutOf false false font name keep rec flag n m)) e)
       ∙ cut-by-keying name keep rec flag n m font) c
 
-  pub first-refused : (work out work' out' : List ℕ) (a : Answer) (n : ℕ) → Cuts false font name keep rec flag work out work' out' a → a ≡ Refused n → (n ≡ 3 → ⊥)
+  pub first-refused : (work out work' out' : List ℕ) (a : Answer) (n : ℕ) → Cuts false false font name keep rec flag work out work' out' a → a ≡ Refused n → (n ≡ 3 → ⊥)
       → byKeying work out work' out' (Refused n)
   first-refused work out work' out' a n c e h =
-      let d = subst (λ (x : Answer). Cuts false font name keep rec flag work out work' out' x) e c in
-      first-is work out work' out' (Refused n) (not-three (cutOf false font name keep rec flag (length work) (length out)) n (d .answers) h) d
+      let d = subst (λ (x : Answer). Cuts false false font name keep rec flag work out work' out' x) e c in
+      first-is work out work' out' (Refused n) (not-three (cutOf false false font name keep rec flag (length work) (length out)) n (d .answers) h) d
 
-  pub first-subset : (work out work' out' : List ℕ) (a : Answer) (way len : ℕ) → Cuts false font name keep rec flag work out work' out' a → a ≡ Subset way len
+  pub first-subset : (work out work' out' : List ℕ) (a : Answer) (way len : ℕ) → Cuts false false font name keep rec flag work out work' out' a → a ≡ Subset way len
       → byKeying work out work' out' (Subset way len)
   first-subset work out work' out' a way len c e =
-      let d = subst (λ (x : Answer). Cuts false font name keep rec flag work out work' out' x) e c in
-      first-is work out work' out' (Subset way len) (subset-other (cutOf false font name keep rec flag (length work) (length out)) way len (d .answers)) d
+      let d = subst (λ (x : Answer). Cuts false false font name keep rec flag work out work' out' x) e c in
+      first-is work out work' out' (Subset way len) (subset-other (cutOf false false font name keep rec flag (length work) (length out)) way len (d .answers)) d
 
   -- the first call is refused with 3, and has left all as it was
-  pub second-cuts : (work out work₁ out₁ work' out' : List ℕ) (a r : Answer) (n : ℕ) → Cuts false font name keep rec flag work out work₁ out₁ a → a ≡ Refused n
-      → n ≡ 3 → Cuts true font name keep rec flag work₁ out₁ work' out' r → byKeying work out work' out' r
+  pub second-cuts : (work out work₁ out₁ work' out' : List ℕ) (a r : Answer) (n : ℕ) → Cuts false false font name keep rec flag work out work₁ out₁ a → a ≡ Refused n
+      → n ≡ 3 → Cuts true false font name keep rec flag work₁ out₁ work' out' r → byKeying work out work' out' r
   second-cuts work out work₁ out₁ work' out' a r n c e h s =
       let k = length work in
       let m = length out in
-      let o : cutOf false font name keep rec flag k m ≡ refused 3 = three (cutOf false font name keep rec flag k m) n (sym e ∙ c .answers) h in
+      let o : cutOf false false font name keep rec flag k m ≡ refused 3 = three (cutOf false false font name keep rec flag k m) n (sym e ∙ c .answers) h in
       let w : work₁ ≡ work = c .words ∙ ap (λ (x : Outcome). leavesWork x (workIn (readFont font)) work) o in
       let u : out₁ ≡ out = c .output ∙ ap (λ (x : Outcome). leavesOut x out) o in
-      let t : Cuts true font name keep rec flag work out₁ work' out' r = subst (λ (l : List ℕ). Cuts true font name keep rec flag l out₁ work' out' r) w s in
-      let t' : Cuts true font name keep rec flag work out work' out' r = subst (λ (l : List ℕ). Cuts true font name keep rec flag work l work' out' r) u t in
+      let t : Cuts true false font name keep rec flag work out₁ work' out' r = subst (λ (l : List ℕ). Cuts true false font name keep rec flag l out₁ work' out' r) w s in
+      let t' : Cuts true false font name keep rec flag work out work' out' r = subst (λ (l : List ℕ). Cuts true false font name keep rec flag work l work' out' r) u t in
       cuts-as true (keying (readFont font)) work out work' out' r
-      (sym (ap (λ (x : Outcome). pick (unsupported x) (cutOf true font name keep rec flag k m) (cutOf false font name keep rec flag k m)) o)
+      (sym (ap (λ (x : Outcome). pick (unsupported x) (cutOf true false font name keep rec flag k m) (cutOf false false font name keep rec flag k m)) o)
       ∙ cut-by-keying name keep rec flag k m font) t'
 
 -- ---- what is printed of an answer
@@ -124,9 +126,9 @@ unfolding put
 answer-told (refused n) out = refl
 answer-told (subset way bs) out = ap (subset way) (take-append-seam bs (drop (0 + length bs) out))
 
-module _ (cid : Bool) (font name keep rec : List ℕ) (flag : ℕ) (work out work' out' : List ℕ) (r : Answer) (c : Cuts cid font name keep rec flag work out work' out' r) where
+module _ (cid : Bool) (font name keep rec : List ℕ) (flag : ℕ) (work out work' out' : List ℕ) (r : Answer) (c : Cuts cid false font name keep rec flag work out work' out' r) where
   abbrev outcome : Outcome
-  outcome = cutOf cid font name keep rec flag (length work) (length out)
+  outcome = cutOf cid false font name keep rec flag (length work) (length out)
 
   -- the subset is within the output
   pub cuts-within : lengthIn r ≤ length out'
@@ -135,13 +137,13 @@ module _ (cid : Bool) (font name keep rec : List ℕ) (flag : ℕ) (work out wor
       (subst (λ (l : List ℕ). lengthIn (answerOf outcome) ≤ length l) (sym (c .output)) (answer-within outcome out))
 
   -- answer and output tell the outcome
-  pub cuts-told : (n m : ℕ) → n ≡ length work → m ≡ length out → printed (outcomeIn r out') ≡ printed (cutOf cid font name keep rec flag n m)
+  pub cuts-told : (n m : ℕ) → n ≡ length work → m ≡ length out → printed (outcomeIn r out') ≡ printed (cutOf cid false font name keep rec flag n m)
   cuts-told n m e f =
       ap (λ (a : Answer). printed (outcomeIn a out')) (c .answers)
       ∙ ap (λ (l : List ℕ). printed (outcomeIn (answerOf outcome) l)) (c .output)
       ∙ ap printed (answer-told outcome out)
-      ∙ ap (λ (i : ℕ). printed (cutOf cid font name keep rec flag i (length out))) (sym e)
-      ∙ ap (λ (i : ℕ). printed (cutOf cid font name keep rec flag n i)) (sym f)
+      ∙ ap (λ (i : ℕ). printed (cutOf cid false font name keep rec flag i (length out))) (sym e)
+      ∙ ap (λ (i : ℕ). printed (cutOf cid false font name keep rec flag n i)) (sym f)
 
 -- ---- a sheet that was read into the buffers
 
@@ -154,13 +156,13 @@ front-is : (n : ℕ) (l xs : List ℕ) → n ≡ length xs → take (length xs) 
 front-is n l xs e t = ap (λ (i : ℕ). take i l) e ∙ t
 
 cut-same : (f f' n n' k k' r r' : List ℕ) (flag flag' : ℕ) → f ≡ f' → n ≡ n' → k ≡ k' → r ≡ r' → flag ≡ flag'
-    → printed (cutOf (keying (readFont f)) f n k r flag 8192 32768) ≡ printed (cutOf (keying (readFont f')) f' n' k' r' flag' 8192 32768)
+    → printed (cutOf (keying (readFont f)) false f n k r flag 8192 32768) ≡ printed (cutOf (keying (readFont f')) false f' n' k' r' flag' 8192 32768)
 cut-same f f' n n' k k' r r' flag flag' a b c d e =
-    ap (λ (x : List ℕ). printed (cutOf (keying (readFont x)) x n k r flag 8192 32768)) a
-    ∙ ap (λ (x : List ℕ). printed (cutOf (keying (readFont f')) f' x k r flag 8192 32768)) b
-    ∙ ap (λ (x : List ℕ). printed (cutOf (keying (readFont f')) f' n' x r flag 8192 32768)) c
-    ∙ ap (λ (x : List ℕ). printed (cutOf (keying (readFont f')) f' n' k' x flag 8192 32768)) d
-    ∙ ap (λ (x : ℕ). printed (cutOf (keying (readFont f')) f' n' k' r' x 8192 32768)) e
+    ap (λ (x : List ℕ). printed (cutOf (keying (readFont x)) false x n k r flag 8192 32768)) a
+    ∙ ap (λ (x : List ℕ). printed (cutOf (keying (readFont f')) false f' x k r flag 8192 32768)) b
+    ∙ ap (λ (x : List ℕ). printed (cutOf (keying (readFont f')) false f' n' x r flag 8192 32768)) c
+    ∙ ap (λ (x : List ℕ). printed (cutOf (keying (readFont f')) false f' n' k' x flag 8192 32768)) d
+    ∙ ap (λ (x : ℕ). printed (cutOf (keying (readFont f')) false f' n' k' r' x 8192 32768)) e
 
 -- so many bytes and numbers are in front of the buffers
 pub record Fronts (font name keep rec : List ℕ) (m n k l : ℕ) : Type 0 where
@@ -187,7 +189,7 @@ module _ (font name keep rec : List ℕ) (r : SheetIn) where
       }
 
   read-cut : (o : Option Sheet) (m n k l flag : ℕ) → Reads o font name keep rec r → r ≡ Parts m n k l flag
-      → printed (cutOf (keying (readFont (take m font))) (take m font) (take n name) (take k keep) (take l rec) flag 8192 32768) ≡ answerTo o
+      → printed (cutOf (keying (readFont (take m font))) false (take m font) (take n name) (take k keep) (take l rec) flag 8192 32768) ≡ answerTo o
   unfolding Reads answerTo cutOfSheet
   read-cut none m n k l flag h e = let x : Other ≡ Parts m n k l flag = sym h ∙ e in cc
   read-cut (some s) m n k l flag h e =
@@ -215,7 +217,7 @@ module _ (font name keep rec : List ℕ) (r : SheetIn) where
 
   -- what is printed of them is what the text asks for
   pub taken-cut : (text : List ℕ) (m n k l flag : ℕ) → Reads (sheetOf text) font name keep rec r → r ≡ Parts m n k l flag
-      → printed (cutOf (keying (readFont (take m font))) (take m font) (take n name) (take k keep) (take l rec) flag 8192 32768) ≡ cutSheet text
+      → printed (cutOf (keying (readFont (take m font))) false (take m font) (take n name) (take k keep) (take l rec) flag 8192 32768) ≡ cutSheet text
   unfolding cutSheet
   taken-cut text m n k l flag h e = read-cut (sheetOf text) m n k l flag h e
 

@@ -1,5 +1,6 @@
 // Document 01, 'One sheet, whole': from the input that the program `cut` has taken to what it prints.
 ghost use mathlib.Core.List.{List};
+ghost use mathlib.Core.Bool.{false};
 ghost use Prim.Native.Nat.{ℕ, _+_, _*_, _≤_};
 ghost use lib.ListN.{length};
 ghost use Rattle.octets.specs.Octets.{Wrote};
@@ -26,10 +27,10 @@ pub fn cut_by_keying(
     work: &mut [u32],
     out: &mut [u8],
 ) -> Answer
-    ensures { λ r. ⌜ Cuts (keying (readFont (now (font .entry)))) (now (font .entry)) (now (name .entry)) (now (keep .entry)) (now (rows .entry)) traced
+    ensures { λ r. ⌜ Cuts (keying (readFont (now (font .entry)))) false (now (font .entry)) (now (name .entry)) (now (keep .entry)) (now (rows .entry)) traced
         (now (work .entry)) (now (out .entry)) (now (work .exit)) (now (out .exit)) r ⌝ }
 {
-    let first = subset(font, name, keep, rows, traced, &mut *work, &mut *out);
+    let first = subset(font, name, keep, rows, traced, false, &mut *work, &mut *out);
     match first {
         Answer::Refused(n) => {
             if n == 3 {
@@ -62,7 +63,7 @@ fn cut_parts(
     page: &mut [u8],
 ) -> usize
     requires { ⌜ 98316 ≤ length (now page) ⌝ }
-    ensures { λ r. ⌜ Wrote (now (page .entry)) 0 (printed (cutOf (keying (readFont (now (font .entry)))) (now (font .entry)) (now (name .entry))
+    ensures { λ r. ⌜ Wrote (now (page .entry)) 0 (printed (cutOf (keying (readFont (now (font .entry)))) false (now (font .entry)) (now (name .entry))
         (now (keep .entry)) (now (rows .entry)) traced 8192 32768)) (now (page .exit)) r ⌝ }
 {
     let mut work = [0u32; 8192];

@@ -13,7 +13,7 @@ use Rattle.charstring.specs.Encode.{encode}
 use Rattle.unfold.specs.Unfold.{Row, glyph, local, entered}
 use Rattle.record.specs.Record.{lists, givenIn, disagrees, twoLengths}
 use Rattle.prune.specs.Renumber.{oldOf, renumber, renumberCharstring}
-use Rattle.cff.specs.Font.{Program}
+use Rattle.cff.specs.Font.{standard, Program}
 use Rattle.subset.specs.Pruned.{yes, countBelow, reached, localSet, callsIn, renumberedBody}
 use Rattle.subset.specs.ReachedLaws.{numbersBelow, lists-past, count-past}
 
@@ -29,6 +29,7 @@ manyLocals =
       privates = (record { entries = []; locals = replicate 1240 (0x0b ∷ []) }) ∷ [];
       fds = 0 ∷ 0 ∷ [];
       dicts = [];
+      coding = standard;
     }
 
 -- the record

@@ -2,7 +2,7 @@
 -- expected are those of the Rust's subset_cid, with its own trace, with a record that renumber_cid refuses, and without a trace.
 use Prim.Native.Nat.{ℕ}
 use mathlib.Core.Path.{_≡_, refl, ap, _∙_}
-use mathlib.Core.Bool.{true}
+use mathlib.Core.Bool.{true, false}
 use mathlib.Core.List.{List, [], _∷_}
 use Rattle.octets.specs.Octets.{be, numAt, bytesOf}
 use Rattle.octets.specs.Lists.{allBelow, joined}
@@ -23,6 +23,7 @@ use Rattle.cff.specs.Find.{localsTotal}
 use Rattle.subset.specs.Kept.{isIn, those, placed, sortedBy, fdsOf, newFd}
 use Rattle.subset.specs.Pruned.{Pruned, pruned}
 use Rattle.subset.specs.Texts.{hasText, ownStrings, placeIn, newId, namedEntries, textsOf}
+use Rattle.subset.specs.Codes.{none}
 use Rattle.subset.specs.Subset.{namedBytes, copiedBytes, privateParts, fontDicts, cidsOf, newFds, subsetByCid, subsetBytes}
 use Rattle.subset.specs.Cut.{Outcome, subset, allFound, written, cutRead, cutOf}
 use Rattle.subset.specs.CidFont.{cidFont, cidProgram, reads, reach, reach-rows, wrongReach, wrong-rows}
@@ -30,7 +31,7 @@ use Rattle.subset.specs.BodiesExample.{used, order, renumberedBodies, un
 
 -- the call, with a record and a flag
 abbrev pub cut : List ℕ → ℕ → Outcome
-cut rec flag = cutOf true cidFont (0x41 ∷ []) (1 ∷ 3 ∷ 4 ∷ []) rec flag 8192 32768
+cut rec flag = cutOf true false cidFont (0x41 ∷ []) (1 ∷ 3 ∷ 4 ∷ []) rec flag 8192 32768
 
 -- way 0
 abbrev pub renumberedBytes : List ℕ
@@ -94,12 +95,12 @@ unrenumberedBytes unreached =
 
 -- what is written of bodies
 abbrev writtenOf : Pruned → Outcome
-writtenOf q = written cidProgram (0x41 ∷ []) (0 ∷ 1 ∷ 3 ∷ 4 ∷ []) order 32768 q
+writtenOf q = written cidProgram none (0x41 ∷ []) (0 ∷ 1 ∷ 3 ∷ 4 ∷ []) order 32768 q
 
 -- a call whose record and flag are of the right form is not refused before it is written
 cut-written : (rec : List ℕ) (flag : ℕ) → recordFine true rec flag ≡ true → cut rec flag ≡ writtenOf (pruned cidProgram (rowsOf rec) used order flag)
 unfolding cutOf allBelow allFound glyphWithId isIn those placed sortedBy fdsOf lastOf lastFrom truncOf localsTotal normal stripped zeros zerosOf
-cut-written rec flag fine = ap (λ g. cutRead true g (0x41 ∷ []) (1 ∷ 3 ∷ 4 ∷ []) rec flag 8192 32768) reads ∙ rw fine
+cut-written rec flag fine = ap (λ g. cutRead true false g (0x41 ∷ []) (1 ∷ 3 ∷ 4 ∷ []) rec flag 8192 32768) reads ∙ rw fine
 
 -- what is written of the renumbered bodies
 written-renumbered : writtenOf (record { way = 0; bodies = renumberedBodies }) ≡ subset 0 renumberedBytes

@@ -20,7 +20,7 @@ use Rattle.charset.specs.FdSelect as select
 use Rattle.unfold.specs.Unfold.{Row, local, global, entered, masked}
 use Rattle.record.specs.Record.{rowsFrom, rowsOf}
 use Rattle.opentype.specs.Opentype.{placeOf}
-use Rattle.cff.specs.Font.{got, Program, charset, charStrings, fdArray, fdSelect, readTable, readFont, setAt, fontsAt, fontAt, cidParts, fdsAt, idsAt, dictsAt, privatesAt, privateAt, privateData, localsAt, emptyPrivate}
+use Rattle.cff.specs.Font.{standard, got, Program, charset, charStrings, fdArray, fdSelect, readTable, readFont, setAt, fontsAt, fontAt, cidParts, fdsAt, idsAt, dictsAt, privatesAt, privateAt, privateData, localsAt, emptyPrivate}
 
 -- the font's bytes
 abbrev pub cidFont : List ℕ
@@ -88,6 +88,7 @@ cidProgram =
           ∷ []
           ∷ ((record { op = private; operands = whole 4 ∷ whole 131 ∷ [] }) ∷ [])
           ∷ [];
+      coding = standard;
     }
 
 -- and that reading gives it

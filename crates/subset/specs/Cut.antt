@@ -12,13 +12,14 @@ use Rattle.dict.specs.Lookup.{rosIn, cidKeyed, strokedIn}
 use Rattle.dict.specs.declared.RosIn.{RosIn}
 use Rattle.dict.specs.declared.RosIn.the-variants.{Ros, None}
 use Rattle.record.specs.Record.{rowsOf, recordFine}
-use Rattle.cff.specs.Font.{Got, refused as refusedFont, got, Program, readFont}
+use Rattle.cff.specs.Font.{Got, refused as refusedFont, got, Coding, standard, expert, custom, Program, readFont}
 use Rattle.cff.specs.Find.{workSize, findName, findCid}
 use Rattle.cff.specs.declared.FoundAs.{FoundAs}
 use Rattle.cff.specs.declared.FoundAs.the-variants.{Refused, Absent, Glyph}
 use Rattle.subset.specs.Kept.{keptOf, writtenOrder, usedFds}
 use Rattle.subset.specs.Texts.{nameOf}
 use Rattle.subset.specs.Pruned.{Pruned, pruned}
+use Rattle.subset.specs.Codes.{Coded, codedIf, pairCount}
 use Rattle.subset.specs.Subset.{ownByName, ownByCid, subsetBytes}
 
 -- a refusal's number, or the way and the subset
@@ -56,38 +57,49 @@ sameBool false b = not b
 abbrev pub ownOf : Program → List ℕ → List (List ℕ)
 ownOf p order = pick (cidKeyed (p .top)) (ownByCid p) (ownByName p order)
 
--- from 9 passed on: 12 a string id above 64,999, 10 a subset above 67,108,864 bytes, 11 above the room
-abbrev pub written : Program → List ℕ → List ℕ → List ℕ → ℕ → Pruned → Outcome
-written p name kept order room q =
+-- from 9 passed on: 12 a string id above 64,999, 13 more than 255 pairs, 10 a subset above 67,108,864 bytes, 11 above the room
+abbrev pub written : Program → Coded → List ℕ → List ℕ → List ℕ → ℕ → Pruned → Outcome
+written p coded name kept order room q =
     pick (ltb 64609 (length (ownOf p order))) (refused 12)
-    (pick (ltb 67108864 (length (subsetBytes p name kept order (q .bodies)))) (refused 10)
-    (pick (ltb room (length (subsetBytes p name kept order (q .bodies)))) (refused 11)
-    (subset (q .way) (subsetBytes p name kept order (q .bodies)))))
+    (pick (ltb 255 (pairCount coded)) (refused 13)
+    (pick (ltb 67108864 (length (subsetBytes p coded name kept order (q .bodies)))) (refused 10)
+    (pick (ltb room (length (subsetBytes p coded name kept order (q .bodies)))) (refused 11)
+    (subset (q .way) (subsetBytes p coded name kept order (q .bodies))))))
 
--- a font that was read: 3 the other keying, 3 a stroked font, 2 a ROS that cannot be used, 4 a long name, 6 a number past the font, 7 a glyph
--- that finding would not give, 8 the record or the flag, 9 too few work words
-abbrev pub cutProgram : Bool → Program → List ℕ → List ℕ → List ℕ → ℕ → ℕ → ℕ → Outcome
-cutProgram cid p name keep rec flag words room =
+-- the Expert encoding is unsupported where no encoding is asked for, as it is in the Rust; and a stroked font always
+abbrev pub isExpert : Coding → Bool
+isExpert standard = false
+isExpert expert = true
+isExpert (custom ns) = false
+
+abbrev pub unsupportedIn : Bool → Program → Bool
+unsupportedIn ask p = pick (strokedIn (p .top)) true (pick ask false (isExpert (p .coding)))
+
+-- a font that was read: 3 the other keying, 3 a stroked font or an Expert encoding that is not asked for, 2 a ROS that cannot be used, 4 a long
+-- name, 6 a number past the font, 7 a glyph that finding would not give, 8 the record or the flag, 9 too few work words
+abbrev pub cutProgram : Bool → Bool → Program → List ℕ → List ℕ → List ℕ → ℕ → ℕ → ℕ → Outcome
+cutProgram cid ask p name keep rec flag words room =
     let kept = keptOf (length (p .charstrings)) keep in
     let order = writtenOrder p kept in
     pick (sameBool cid (cidKeyed (p .top)))
-    (pick (strokedIn (p .top)) (refused 3)
+    (pick (unsupportedIn ask p) (refused 3)
     (pick (pick cid (hasRos (rosIn (p .top))) true)
     (pick (ltb 65535 (length name)) (refused 4)
     (pick (allBelow (length (p .charstrings)) keep)
     (pick (allFound p kept)
     (pick (recordFine cid rec flag)
     (pick (ltb words (workSize p)) (refused 9)
-    (written p name kept order room (pruned p (rowsOf rec) (usedFds p kept) order flag)))
+    (written p (codedIf ask p kept (ownOf p order)) name kept order room (pruned p (rowsOf rec) (usedFds p kept) order flag)))
     (refused 8)) (refused 7)) (refused 6))) (refused 2))) (refused 3)
 
-abbrev pub cutRead : Bool → Got Program → List ℕ → List ℕ → List ℕ → ℕ → ℕ → ℕ → Outcome
-cutRead cid (refusedFont n) name keep rec flag words room = refused n
-cutRead cid (got p) name keep rec flag words room = cutProgram cid p name keep rec flag words room
+abbrev pub cutRead : Bool → Bool → Got Program → List ℕ → List ℕ → List ℕ → ℕ → ℕ → ℕ → Outcome
+cutRead cid ask (refusedFont n) name keep rec flag words room = refused n
+cutRead cid ask (got p) name keep rec flag words room = cutProgram cid ask p name keep rec flag words room
 
--- a call: the keying asked for, the font, the new name, the kept numbers, the record, the flag, how many words and how much room are lent
-unfoldable pub cutOf : Bool → List ℕ → List ℕ → List ℕ → List ℕ → ℕ → ℕ → ℕ → Outcome
-cutOf cid font name keep rec flag words room = cutRead cid (readFont font) name keep rec flag words room
+-- a call: the keying asked for, whether the encoding is, the font, the new name, the kept numbers, the record, the flag, how many words and how
+-- much room are lent
+unfoldable pub cutOf : Bool → Bool → List ℕ → List ℕ → List ℕ → List ℕ → ℕ → ℕ → ℕ → Outcome
+cutOf cid ask font name keep rec flag words room = cutRead cid ask (readFont font) name keep rec flag words room
 
 -- ---- what is left
 

@@ -49,7 +49,7 @@ sheetSubset =
     ∷ 0x1d ∷ 0x00 ∷ 0x00 ∷ 0x00 ∷ 0x35 ∷ 0x12 ∷ 0x00 ∷ 0x00 ∷ 0x00 ∷ 0x00 ∷ 0x00 ∷ 0x00 ∷ 0x01 ∷ 0x00 ∷ 0x02 ∷ 0x01
     ∷ 0x01 ∷ 0x02 ∷ 0x03 ∷ 0x0e ∷ 0x0e ∷ []
 
-pub the-sheet : cutOf false sheet (0x41 ∷ []) (1 ∷ []) [] 1 8192 32768 ≡ subset 0 sheetSubset
+pub the-sheet : cutOf false false sheet (0x41 ∷ []) (1 ∷ []) [] 1 8192 32768 ≡ subset 0 sheetSubset
 unfolding
     cutOf allBelow allFound subsetBytes subsetByName newIds namedBytes copiedBytes namesOf textsOf namedEntries newId placeIn ownStrings hasText pruned renumbered
     renumberedSubrs renumberedBody each countBelow those isIn fdsOf recordFine rowsFine rowsOf rowsFrom lists givenIn twoLengths disagrees renumberCharstring renumber
@@ -57,5 +57,5 @@ unfolding
     normal stripped zeros zerosOf indexBytes itemsBytes headBytes tableBytes ends sizeFor joined total readIndex told itemsOf pieces indexAt tableAt dataAt judged runOf
     offsets encode bytesOf numAt be keep24 rounded t2.numberAt t2e.numberBytes t2e.integerBytes t2e.fixedBytes tok.tokensOf tok.tokensFrom tok.tokenAt dec.numberAt dec.realAt
     decw.int5Bytes decw.numberBytes decw.intBytes dict.dictOf dict.gathered dict.readingsAt dict.readingsFrom dict.entryAt dict.entryFrom dict.operatorAt dict.tokenAt
-    font.readFont font.readTable placeOf font.setAt font.fontsAt font.fontAt font.nameParts font.privateAt font.idsAt font.encodingGot cfffind.localsTotal
+    font.readFont font.readTable placeOf font.setAt font.fontsAt font.fontAt font.nameParts font.privateAt font.idsAt font.codingAt font.encodingGot cfffind.localsTotal
 the-sheet = refl

@@ -1,6 +1,8 @@
 pub mod Kept
 pub mod Pruned
 pub mod Texts
+pub mod Codes
+pub mod CodesExample
 pub mod Subset
 pub mod Cut
 pub mod RankLaws

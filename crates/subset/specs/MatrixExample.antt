@@ -12,7 +12,7 @@ use Rattle.dict.specs.Op.{private, fontMatrix}
 use Rattle.dict.specs.Dict.{Entry}
 use Rattle.dict.specs.Lookup.{lastFrom, lastOf}
 use Rattle.dict_write.specs.Written.{opBytes, operandsBytes, entryBytes, entriesBytes, copiedEntry, offsetEntry, privateEntry, without}
-use Rattle.cff.specs.Font.{Program, emptyPrivate}
+use Rattle.cff.specs.Font.{standard, Program, emptyPrivate}
 use Rattle.subset.specs.Subset.{fontDicts}
 
 -- FontMatrix with one size for both directions
@@ -39,6 +39,7 @@ program =
           ∷ (sized (normal false 5 0 1) ∷ named ∷ sized (normal false 2 0 3) ∷ [])
           ∷ (record { op = fontMatrix; operands = [] } ∷ named ∷ [])
           ∷ [];
+      coding = standard;
     }
 
 -- FDs 0 and 2 in use: the new FD 1 has the last FontMatrix of FD 2, before Private; that of FD 1 is not written

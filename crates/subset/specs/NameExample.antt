@@ -33,11 +33,12 @@ use Rattle.unfold.specs.Unfold.{Row, local, entered}
 use Rattle.record.specs.Record.{rowsFrom, rowsOf, rowsFine, recordFine, lists, givenIn, disagrees, twoLengths}
 use Rattle.prune.specs.Renumber.{oldOf, renumber, renumberCharstring}
 use Rattle.opentype.specs.Opentype.{placeOf}
-use Rattle.cff.specs.Font.{got, Program, charset, charStrings, readTable, readFont, setAt, fontsAt, fontAt, nameParts, idsAt, privateAt, privateData, localsAt, encodingGot}
+use Rattle.cff.specs.Font.{got, standard, Program, charset, charStrings, readTable, readFont, setAt, fontsAt, fontAt, nameParts, idsAt, privateAt, privateData, localsAt, codingAt, encodingGot}
 use Rattle.cff.specs.Find.{localsTotal}
 use Rattle.subset.specs.Kept.{isIn, those, fdsOf}
 use Rattle.subset.specs.Pruned.{Bodies, Pruned, countBelow, reached, localSet, each, renumberedBody, renumberedSubrs, renumbered, pruned}
 use Rattle.subset.specs.Texts.{hasText, ownStrings, placeIn, newId, namedEntries, textsOf, namesOf}
+use Rattle.subset.specs.Codes.{none}
 use Rattle.subset.specs.Subset.{namedBytes, copiedBytes, newIds, subsetByName, subsetBytes}
 use Rattle.subset.specs.Cut.{Outcome, subset, allFound, written, cutRead, cutOf}
 use Rattle.subset.specs.ReachedLaws.{numbersBelow, lists-past, count-past}
@@ -85,12 +86,13 @@ nameProgram =
           ∷ [];
       fds = 0 ∷ 0 ∷ 0 ∷ [];
       dicts = [];
+      coding = standard;
     }
 
 -- and that reading gives it
 pub reads : readFont nameFont ≡ got nameProgram
 unfolding
-    readFont readTable placeOf setAt fontsAt fontAt nameParts idsAt privateAt privateData localsAt encodingGot readIndex told itemsOf pieces indexAt tableAt dataAt judged runOf offsets
+    readFont readTable placeOf setAt fontsAt fontAt nameParts idsAt privateAt privateData localsAt codingAt encodingGot readIndex told itemsOf pieces indexAt tableAt dataAt judged runOf offsets
     numAt be dictOf gathered readingsAt readingsFrom entryAt entryFrom tokenAt operatorAt numberAt realAt normal stripped zeros zerosOf truncOf lastOf lastFrom
     listOf idsFrom charsetAt
 reads = refl
@@ -161,11 +163,11 @@ bodies-renumbered = simp (few-reached, below-four, below-three, below-one, no-gl
 
 -- the call, with a record and a flag
 abbrev pub cut : List ℕ → ℕ → Outcome
-cut rec flag = cutOf false nameFont (0x4e ∷ []) (1 ∷ 2 ∷ []) rec flag 8192 32768
+cut rec flag = cutOf false false nameFont (0x4e ∷ []) (1 ∷ 2 ∷ []) rec flag 8192 32768
 
 -- what is written of bodies
 abbrev writtenOf : Pruned → Outcome
-writtenOf q = written nameProgram (0x4e ∷ []) (0 ∷ 1 ∷ 2 ∷ []) (0 ∷ 1 ∷ 2 ∷ []) 32768 q
+writtenOf q = written nameProgram none (0x4e ∷ []) (0 ∷ 1 ∷ 2 ∷ []) (0 ∷ 1 ∷ 2 ∷ []) 32768 q
 
 -- a call whose record and flag are of the right form is not refused before it is written
 cut-written : (rec : List ℕ) (flag : ℕ) → recordFine false rec flag ≡ true
@@ -173,7 +175,7 @@ cut-written : (rec : List ℕ) (flag : ℕ) → recordFine false rec flag ≡ tr
 unfolding
     cutOf allBelow allFound glyphWithText stringText standardString standardStrings codes sameText standardNames isIn those fdsOf lastOf lastFrom truncOf localsTotal
     normal stripped zeros zerosOf
-cut-written rec flag fine = ap (λ g. cutRead false g (0x4e ∷ []) (1 ∷ 2 ∷ []) rec flag 8192 32768) reads ∙ rw fine
+cut-written rec flag fine = ap (λ g. cutRead false false g (0x4e ∷ []) (1 ∷ 2 ∷ []) rec flag 8192 32768) reads ∙ rw fine
 
 -- the subset
 abbrev pub renumberedBytes : List ℕ

@@ -56,7 +56,7 @@ nameFont es =
     ++ (0x00 ∷ 0x00 ∷ 0x00 ∷ 0x00 ∷ []))
 
 abbrev pub byName : List ℕ → Outcome
-byName es = cutOf false (nameFont es) (0x41 ∷ []) [] [] 1 8192 32768
+byName es = cutOf false false (nameFont es) (0x41 ∷ []) [] [] 1 8192 32768
 
 -- its subset, without either entry
 abbrev pub nameSubset : Outcome
@@ -76,7 +76,7 @@ name-stroked :
 unfolding
     cutOf lastOf lastFrom truncOf normal stripped zeros zerosOf nibbles textOf expDigits exponent mantissa formOf valueOf readIndex told itemsOf pieces indexAt tableAt
     dataAt judged runOf offsets numAt be dec.numberAt dec.realAt dict.dictOf dict.gathered dict.readingsAt dict.readingsFrom dict.entryAt dict.entryFrom
-    dict.operatorAt dict.tokenAt font.readFont font.readTable placeOf font.setAt font.fontsAt font.fontAt font.nameParts font.privateAt font.idsAt font.encodingGot listOf
+    dict.operatorAt dict.tokenAt font.readFont font.readTable placeOf font.setAt font.fontsAt font.fontAt font.nameParts font.privateAt font.idsAt font.codingAt font.encodingGot listOf
 name-stroked = (refl, refl, refl, refl)
 
 -- StrokeWidth alone: dropped. cut_examples has the other fonts that are not refused
@@ -88,7 +88,7 @@ unfolding
     normal stripped zeros zerosOf indexBytes itemsBytes headBytes tableBytes ends sizeFor joined total readIndex told itemsOf pieces indexAt tableAt dataAt judged runOf
     offsets encode bytesOf numAt be keep24 rounded t2.numberAt t2e.numberBytes t2e.integerBytes t2e.fixedBytes tok.tokensOf tok.tokensFrom tok.tokenAt dec.numberAt dec.realAt
     decw.int5Bytes decw.numberBytes decw.intBytes dict.dictOf dict.gathered dict.readingsAt dict.readingsFrom dict.entryAt dict.entryFrom dict.operatorAt dict.tokenAt
-    font.readFont font.readTable placeOf font.setAt font.fontsAt font.fontAt font.nameParts font.privateAt font.idsAt font.encodingGot cfffind.localsTotal
+    font.readFont font.readTable placeOf font.setAt font.fontsAt font.fontAt font.nameParts font.privateAt font.idsAt font.codingAt font.encodingGot cfffind.localsTotal
 name-width = refl
 
 -- ---- CID-keyed
@@ -107,10 +107,10 @@ cidFont ros es =
 
 -- with a ROS of three operands; and with one of none, which cannot be used
 abbrev pub byCid : List ℕ → Outcome
-byCid es = cutOf true (cidFont (0x8b ∷ 0x8b ∷ 0x8b ∷ []) es) (0x41 ∷ []) [] [] 1 8192 32768
+byCid es = cutOf true false (cidFont (0x8b ∷ 0x8b ∷ 0x8b ∷ []) es) (0x41 ∷ []) [] [] 1 8192 32768
 
 abbrev pub badRos : List ℕ → Outcome
-badRos es = cutOf true (cidFont [] es) (0x41 ∷ []) [] [] 1 8192 32768
+badRos es = cutOf true false (cidFont [] es) (0x41 ∷ []) [] [] 1 8192 32768
 
 -- its subset, without either entry
 abbrev pub cidSubset : Outcome

@@ -1,5 +1,5 @@
 -- The subset's bytes (the Rust's subset and subset_cid; document 01, 'Layout'): header, names, top DICT, strings, globals, charset format 0,
--- for CID FDSelect, charstrings, for CID the FD INDEX, then each Private with its local subroutines. Offsets have the five-byte form, so
+-- where it was asked for the encoding (document 02, Wish 4), for CID FDSelect, charstrings, for CID the FD INDEX, then each Private with its local subroutines. Offsets have the five-byte form, so
 -- that the top DICT's length does not depend on them.
 use Prim.Native.Nat.{ℕ, _+_}
 use mathlib.Core.List.{List, [], _∷_, _++_}
@@ -21,6 +21,7 @@ use Rattle.cff.specs.Font.{Private, Program, charset, charStrings, fdArray, fdS
 use Rattle.subset.specs.Kept.{usedFds, newFd, privateOf}
 use Rattle.subset.specs.Texts.{Named, namedEntries, textsOf, namesOf, ownStrings, newId}
 use Rattle.subset.specs.Pruned.{Bodies}
+use Rattle.subset.specs.Codes.{Coded, codedBytes, codedAt, encodingEntry}
 
 -- ---- entries of the top DICT
 
@@ -79,10 +80,11 @@ named p = namedEntries p copiedTopStrings
 abbrev pub ownByName : Program → List ℕ → List (List ℕ)
 ownByName p order = ownStrings [] (textsOf (named p) ++ namesOf p order)
 
-abbrev pub topByName : Program → List (List ℕ) → ℕ → ℕ → ℕ → ℕ → List ℕ
-topByName p own at₁ at₂ size at₃ =
+-- the encoding's offset being v
+abbrev pub topByName : Program → List (List ℕ) → ℕ → ℕ → ℕ → ℕ → ℕ → List ℕ
+topByName p own at₁ v at₂ size at₃ =
     namedBytes own (named p) ++ (copiedBytes (p .top) copiedTopEntries
-    ++ (offsetEntry charset at₁ ++ (offsetEntry charStrings at₂ ++ privateEntry size at₃)))
+    ++ (offsetEntry charset at₁ ++ (encodingEntry v ++ (offsetEntry charStrings at₂ ++ privateEntry size at₃))))
 
 -- the ids of texts
 unfoldable pub newIds : List (List ℕ) → List (List ℕ) → List ℕ
@@ -92,21 +94,23 @@ newIds own (t ∷ ts) = newId own t ∷ newIds own ts
 abbrev pub oneLocal : Bodies → List (List ℕ)
 oneLocal b = getD (b .locals) 0 []
 
-unfoldable pub subsetByName : Program → List ℕ → List ℕ → Bodies → List ℕ
-subsetByName p name order b =
+unfoldable pub subsetByName : Program → Coded → List ℕ → List ℕ → Bodies → List ℕ
+subsetByName p coded name order b =
     let own = ownByName p order in
     let names = indexBytes (name ∷ []) in
     let strings = indexBytes own in
     let globals = indexBytes (b .globals) in
     let ids = charsetBytes (newIds own (namesOf p order)) in
+    let codes = codedBytes coded in
     let charstrings = indexBytes (b .charstrings) in
     let private = privatePart (privateOf p 0) (oneLocal b) in
     let size = length (privateDict (privateOf p 0) (oneLocal b)) in
-    let at₁ = 4 + length names + length (indexBytes (topByName p own 0 0 0 0 ∷ [])) + length strings + length globals in
+    let at₁ = 4 + length names + length (indexBytes (topByName p own 0 (codedAt coded 1) 0 0 0 ∷ [])) + length strings + length globals in
     let at₂ = at₁ + length ids in
-    let at₃ = at₂ + length charstrings in
-    1 ∷ 0 ∷ 4 ∷ sizeFor (at₃ + length private) ∷ (names ++ (indexBytes (topByName p own at₁ at₂ size at₃ ∷ [])
-    ++ (strings ++ (globals ++ (ids ++ (charstrings ++ private))))))
+    let at₃ = at₂ + length codes in
+    let at₄ = at₃ + length charstrings in
+    1 ∷ 0 ∷ 4 ∷ sizeFor (at₄ + length private) ∷ (names ++ (indexBytes (topByName p own at₁ (codedAt coded at₂) at₃ size at₄ ∷ [])
+    ++ (strings ++ (globals ++ (ids ++ (codes ++ (charstrings ++ private)))))))
 
 -- ---- CID-keyed
 
@@ -147,5 +151,5 @@ subsetByCid p name used order b =
     ++ (strings ++ (globals ++ (ids ++ (select ++ (charstrings ++ (indexBytes (fontDicts p at₅ used (b .locals)) ++ privates))))))))
 
 -- the subset of the glyphs kept, written in an order
-unfoldable pub subsetBytes : Program → List ℕ → List ℕ → List ℕ → Bodies → List ℕ
-subsetBytes p name kept order b = pick (cidKeyed (p .top)) (subsetByCid p name (usedFds p kept) order b) (subsetByName p name order b)
+unfoldable pub subsetBytes : Program → Coded → List ℕ → List ℕ → List ℕ → Bodies → List ℕ
+subsetBytes p coded name kept order b = pick (cidKeyed (p .top)) (subsetByCid p name (usedFds p kept) order b) (subsetByName p coded name order b)

@@ -183,12 +183,12 @@ judged-outcome (subset way bs) w n m =
 
 -- the work words and the output being filled before the call, its answer is judged to be the outcome's
 pub judged-cuts : {cid : Bool} {font name keep rec : List ℕ} {flag : ℕ} {work out work' out' : List ℕ} {r : Answer}
-    → Cuts cid font name keep rec flag work out work' out' r
+    → Cuts cid false font name keep rec flag work out work' out' r
     → work ≡ replicate (length work) lentWord → out ≡ replicate (length out) lentByte
     → (w : ℕ) → w ≡ workIn (readFont font)
-    → judged r w work' out' ≡ some (outcomeBytes (cutOf cid font name keep rec flag (length work) (length out)))
+    → judged r w work' out' ≡ some (outcomeBytes (cutOf cid false font name keep rec flag (length work) (length out)))
 judged-cuts {cid} {font} {name} {keep} {rec} {flag} {work} {out} {work'} {out'} {r} c e f w g =
-    let o = cutOf cid font name keep rec flag (length work) (length out) in
+    let o = cutOf cid false font name keep rec flag (length work) (length out) in
     let v = workIn (readFont font) in
     ap (λ (a : Answer). judged a w work' out') (c .answers)
     ∙ ap (λ (k : ℕ). judged (answerOf o) k work' out') g

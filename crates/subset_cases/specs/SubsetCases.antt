@@ -21,7 +21,7 @@ lentAnswer cid font name keep s =
     pick (ltb (length s) 5) none
     (pick (ltb 1024 (numAt s 1 2)) none
     (pick (ltb 4094 (numAt s 3 2)) none
-    (some (outcomeBytes (cutOf cid font name keep (drop 5 s) (getD s 0 0) (numAt s 1 2) (numAt s 3 2))))))
+    (some (outcomeBytes (cutOf cid false font name keep (drop 5 s) (getD s 0 0) (numAt s 1 2) (numAt s 3 2))))))
 
 -- how many numbers are kept, at most 256, and the numbers
 unfoldable pub keptAnswer : Bool → List ℕ → List ℕ → List ℕ → Option (List ℕ)

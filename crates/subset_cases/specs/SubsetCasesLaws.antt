@@ -1,7 +1,7 @@
 -- Laws of the answers to stored cases of subsetting, by the code's ways out.
 use Prim.Native.Nat.{ℕ, _+_, _-_, _*_, _≤_, _<_}
 use mathlib.Core.Path.{_≡_, sym, ap, _∙_, subst}
-use mathlib.Core.Bool.{Bool}
+use mathlib.Core.Bool.{Bool, false}
 use mathlib.Core.List.{List}
 use mathlib.Core.Option.{none, some}
 use native.Mathlib.Omega.{arith}
@@ -19,9 +19,9 @@ use Rattle.subset_cases.specs.SubsetCases.{outcomeBytes, lentAnswer, kep
 
 -- a call of a keying
 pub cuts-as : {a b : Bool} {font name keep rec : List ℕ} {flag : ℕ} {work out work' out' : List ℕ} {r : Answer}
-    → Cuts a font name keep rec flag work out work' out' r → b ≡ a → Cuts b font name keep rec flag work out work' out' r
+    → Cuts a false font name keep rec flag work out work' out' r → b ≡ a → Cuts b false font name keep rec flag work out work' out' r
 cuts-as {font = font} {name = name} {keep = keep} {rec = rec} {flag = flag} {work = work} {out = out} {work' = work'} {out' = out'} {r = r} c e =
-    subst (λ (x : Bool). Cuts x font name keep rec flag work out work' out' r) (sym e) c
+    subst (λ (x : Bool). Cuts x false font name keep rec flag work out work' out' r) (sym e) c
 
 -- a part from a place on, as the code lends it
 rest : (n : ℕ) (s : List ℕ) → take (length s - n) (drop n s) ≡ drop n s
@@ -51,7 +51,7 @@ module _ (cid : Bool) (font name keep s : List ℕ) where
 
       -- as many words and bytes as the code lends
       pub lent-found : room ≤ 4094 → (w o : ℕ) → w ≡ words → o ≡ room
-          → lentAnswer cid font name keep s ≡ some (outcomeBytes (cutOf cid font name keep (take (length s - 5) (drop 5 s)) (getD s 0 0) w o))
+          → lentAnswer cid font name keep s ≡ some (outcomeBytes (cutOf cid false font name keep (take (length s - 5) (drop 5 s)) (getD s 0 0) w o))
       unfolding lentAnswer
       lent-found m w o i j =
           let l : numAt s 1 2 ≤ 1024 = omega (arith, e) in
@@ -59,9 +59,9 @@ module _ (cid : Bool) (font name keep s : List ℕ) where
           let p : numAt s 1 2 ≡ w = sym (i ∙ e) in
           let q : numAt s 3 2 ≡ o = sym (j ∙ f) in
           rw (le-ltb (length s) 5 h, le-ltb 1024 (numAt s 1 2) l, le-ltb 4094 (numAt s 3 2) n)
-          (ap (λ (x : List ℕ). some (outcomeBytes (cutOf cid font name keep x (getD s 0 0) (numAt s 1 2) (numAt s 3 2)))) (sym (rest 5 s))
-          ∙ ap (λ (x : ℕ). some (outcomeBytes (cutOf cid font name keep (take (length s - 5) (drop 5 s)) (getD s 0 0) x (numAt s 3 2)))) p
-          ∙ ap (λ (x : ℕ). some (outcomeBytes (cutOf cid font name keep (take (length s - 5) (drop 5 s)) (getD s 0 0) w x))) q)
+          (ap (λ (x : List ℕ). some (outcomeBytes (cutOf cid false font name keep x (getD s 0 0) (numAt s 1 2) (numAt s 3 2)))) (sym (rest 5 s))
+          ∙ ap (λ (x : ℕ). some (outcomeBytes (cutOf cid false font name keep (take (length s - 5) (drop 5 s)) (getD s 0 0) x (numAt s 3 2)))) p
+          ∙ ap (λ (x : ℕ). some (outcomeBytes (cutOf cid false font name keep (take (length s - 5) (drop 5 s)) (getD s 0 0) w x))) q)
 
 -- ---- the numbers that are kept
 

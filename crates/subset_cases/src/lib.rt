@@ -4,6 +4,7 @@ pub mod left;
 
 ghost use Prim.Native.Nat.{_≤_};
 ghost use mathlib.Core.Path.{_≡_};
+ghost use mathlib.Core.Bool.{false};
 ghost use mathlib.Core.Option.{some};
 ghost use lib.ListN.{length, replicate};
 ghost use Rattle.cases.specs.Answers.{Gives};
@@ -39,12 +40,12 @@ fn cut(
     work: &mut [u32],
     out: &mut [u8],
 ) -> Answer
-    ensures { λ r. ⌜ Cuts cid (now (font .entry)) (now (name .entry)) (now (keep .entry)) (now (rows .entry)) traced (now (work .entry)) (now (out .entry)) (now (work .exit)) (now (out .exit)) r ⌝ }
+    ensures { λ r. ⌜ Cuts cid false (now (font .entry)) (now (name .entry)) (now (keep .entry)) (now (rows .entry)) traced (now (work .entry)) (now (out .entry)) (now (work .exit)) (now (out .exit)) r ⌝ }
 {
     if cid {
         return subset_cid(font, name, keep, rows, traced, work, out);
     }
-    subset(font, name, keep, rows, traced, work, out)
+    subset(font, name, keep, rows, traced, false, work, out)
 }
 
 // What a call answers and leaves, with work words and an output that were filled.
@@ -61,7 +62,7 @@ fn answer_cut(
 ) -> Answered
     requires { ⌜ (now work ≡ replicate (length (now work)) lentWord) × (now found ≡ replicate (length (now found)) lentByte)
         × (length (now found) ≤ 4094) × (4096 ≤ length (now out)) ⌝ }
-    ensures { λ r. ⌜ Gives (some (outcomeBytes (cutOf cid (now (font .entry)) (now (name .entry)) (now (keep .entry)) (now (rows .entry)) traced
+    ensures { λ r. ⌜ Gives (some (outcomeBytes (cutOf cid false (now (font .entry)) (now (name .entry)) (now (keep .entry)) (now (rows .entry)) traced
         (length (now (work .entry))) (length (now (found .entry)))))) (now (out .exit)) r ⌝ }
 {
     let r = cut(cid, font, name, keep, rows, traced, &mut *work, &mut *found);

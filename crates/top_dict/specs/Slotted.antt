@@ -20,8 +20,9 @@ use Rattle.dict_write.specs.Written.{opBytes, operandsBytes, entryBytes, offset
 use Rattle.strings.specs.Strings.{stringText}
 use Rattle.cff.specs.Font.{Program, charset, charStrings, fdArray, fdSelect}
 use Rattle.subset.specs.Texts.{Named, namedBy, namedEntries, newId, slotOf}
+use Rattle.subset.specs.Codes.{encodingEntry}
 use Rattle.subset.specs.Subset.{namedBytes, named, copiedBytes, rosEntry, topByName, topByCid}
-use Rattle.top_dict.specs.Top.{valueEntry, slotEntry, slotEntries, stringEntries, idsBytes, rosOf, carried, namedOffsets, glyphOffsets, cidOffsets, topNamed, cidFront, topCid}
+use Rattle.top_dict.specs.Top.{valueEntry, slotEntry, slotEntries, stringEntries, idsBytes, rosOf, carried, codeOffsets, namedOffsets, glyphOffsets, cidOffsets, topNamed, cidFront, topCid}
 use Rattle.top_dict.specs.TopLaws.{slot-there, slot-none}
 
 -- the slots hold the six string ids, and the new ids of those that are there; in a CID-keyed font those of registry and ordering too
@@ -83,11 +84,17 @@ module _ (p : Program) (own : List (List ℕ)) (slots : List ℕ) where
 
   -- ---- the top DICT
 
-  pub top-named-is : (cid : Bool) → Slotted p cid own slots → (at₁ at₂ size at₃ : ℕ) → topNamed (p .top) slots at₁ at₂ size at₃ ≡ topByName p own at₁ at₂ size at₃
-  unfolding topNamed carried namedOffsets
-  top-named-is cid w at₁ at₂ size at₃ =
-      append-assoc (stringEntries slots) (copiedBytes (p .top) copiedTopEntries) (offsetEntry charset at₁ ++ (offsetEntry charStrings at₂ ++ privateEntry size at₃))
-      ∙ ap (λ (l : List ℕ). l ++ (copiedBytes (p .top) copiedTopEntries ++ (offsetEntry charset at₁ ++ (offsetEntry charStrings at₂ ++ privateEntry size at₃)))) (strings-named cid w)
+  by-name : (s c a e d f : List ℕ) → (s ++ c) ++ ((a ++ e) ++ (d ++ f)) ≡ s ++ (c ++ (a ++ (e ++ (d ++ f))))
+  by-name s c a e d f = simp append-assoc
+
+  pub top-named-is : (cid : Bool) → Slotted p cid own slots → (at₁ v at₂ size at₃ : ℕ)
+      → topNamed (p .top) slots at₁ v at₂ size at₃ ≡ topByName p own at₁ v at₂ size at₃
+  unfolding topNamed carried namedOffsets codeOffsets
+  top-named-is cid w at₁ v at₂ size at₃ =
+      by-name (stringEntries slots) (copiedBytes (p .top) copiedTopEntries) (offsetEntry charset at₁) (encodingEntry v) (offsetEntry charStrings at₂) (privateEntry size at₃)
+      ∙ ap
+      (λ (l : List ℕ). l ++ (copiedBytes (p .top) copiedTopEntries ++ (offsetEntry charset at₁ ++ (encodingEntry v ++ (offsetEntry charStrings at₂ ++ privateEntry size at₃)))))
+      (strings-named cid w)
 
   regroup : (r s c v a b d e : List ℕ) → (r ++ ((s ++ c) ++ v)) ++ ((a ++ b) ++ (d ++ e)) ≡ r ++ (s ++ (c ++ (v ++ (a ++ (b ++ (d ++ e))))))
   regroup r s c v a b d e = simp append-assoc

@@ -4,7 +4,7 @@
 use Prim.Native.Nat.{ℕ, _+_, _≤_, _<_}
 use mathlib.Core.Bool.{Bool}
 use mathlib.Core.List.{List, [], _∷_, _++_}
-use lib.Dec.{ltb}
+use lib.Dec.{ltb, eqb}
 use lib.ListN.{length, getD}
 use Rattle.octets.specs.Pick.{pick}
 use Rattle.octets.specs.Octets.{bytesOf}
@@ -18,6 +18,7 @@ use Rattle.dict.specs.declared.RosIn.the-variants.{Ros, None}
 use Rattle.dict_write.specs.Written.{opBytes, entryBytes, offsetEntry, privateEntry}
 use Rattle.index.specs.Write.{sizeFor, headBytes}
 use Rattle.cff.specs.Font.{charset, charStrings, fdArray, fdSelect}
+use Rattle.subset.specs.Codes.{encodingEntry}
 use Rattle.subset.specs.Subset.{copiedBytes}
 
 -- sixteen slots whose new ids are string ids
@@ -62,9 +63,12 @@ rosOf slots (Ros registry ordering s) = idsBytes slots ++ (numberBytes (normal (
 unfoldable pub carried : List Entry → List ℕ → List ℕ
 carried es slots = stringEntries slots ++ copiedBytes es copiedTopEntries
 
--- the offsets of a name-keyed subset: charset, CharStrings and Private
-unfoldable pub namedOffsets : ℕ → ℕ → ℕ → ℕ → List ℕ
-namedOffsets at₁ at₂ size at₃ = offsetEntry charset at₁ ++ (offsetEntry charStrings at₂ ++ privateEntry size at₃)
+-- the offsets of a name-keyed subset: charset and Encoding, which is v, CharStrings and Private
+unfoldable pub codeOffsets : ℕ → ℕ → List ℕ
+codeOffsets at₁ v = offsetEntry charset at₁ ++ encodingEntry v
+
+unfoldable pub namedOffsets : ℕ → ℕ → ℕ → ℕ → ℕ → List ℕ
+namedOffsets at₁ v at₂ size at₃ = codeOffsets at₁ v ++ (offsetEntry charStrings at₂ ++ privateEntry size at₃)
 
 -- those of a CID-keyed one: charset and FDSelect, CharStrings and FDArray
 unfoldable pub glyphOffsets : ℕ → ℕ → List ℕ
@@ -74,8 +78,8 @@ unfoldable pub cidOffsets : ℕ → ℕ → ℕ → ℕ → List ℕ
 cidOffsets at₁ at₂ at₃ at₄ = glyphOffsets at₁ at₂ ++ (offsetEntry charStrings at₃ ++ offsetEntry fdArray at₄)
 
 -- the top DICT of a name-keyed subset
-unfoldable pub topNamed : List Entry → List ℕ → ℕ → ℕ → ℕ → ℕ → List ℕ
-topNamed es slots at₁ at₂ size at₃ = carried es slots ++ namedOffsets at₁ at₂ size at₃
+unfoldable pub topNamed : List Entry → List ℕ → ℕ → ℕ → ℕ → ℕ → ℕ → List ℕ
+topNamed es slots at₁ v at₂ size at₃ = carried es slots ++ namedOffsets at₁ v at₂ size at₃
 
 -- that of a CID-keyed one: ROS in front, and CIDCount before the offsets
 unfoldable pub cidFront : List Entry → List ℕ → List ℕ
@@ -84,9 +88,13 @@ cidFront es slots = rosOf slots (rosIn es) ++ (carried es slots ++ valueEntry ci
 unfoldable pub topCid : List Entry → List ℕ → ℕ → ℕ → ℕ → ℕ → List ℕ
 topCid es slots at₁ at₂ at₃ at₄ = cidFront es slots ++ cidOffsets at₁ at₂ at₃ at₄
 
--- the length of the top DICT, which does not depend on the offsets
-abbrev pub topLen : Bool → List Entry → List ℕ → ℕ
-topLen cid es slots = pick cid (length (topCid es slots 0 0 0 0)) (length (topNamed es slots 0 0 0 0))
+-- how many bytes the Encoding's entry takes
+abbrev pub encodingLen : ℕ → ℕ
+encodingLen v = pick (eqb v 0) 0 6
+
+-- the length of the top DICT, which depends on no offset but on whether the Encoding's is 0
+abbrev pub topLen : Bool → ℕ → List Entry → List ℕ → ℕ
+topLen cid v es slots = pick cid (length (topCid es slots 0 0 0 0)) (length (topNamed es slots 0 v 0 0 0))
 
 -- what stands before the item of an INDEX of one item of n bytes
 unfoldable pub singleHead : ℕ → List ℕ

@@ -5,11 +5,13 @@ use mathlib.Core.Bool.{Bool, true, false}
 use mathlib.Core.List.{List, [], _∷_, _++_}
 use native.Mathlib.Nat.{min-le-right}
 use native.Mathlib.Omega.{arith}
-use borrow.Author.Tests.{lt-ltb, le-ltb}
+use borrow.Author.Tests.{eq-eqb, ne-eqb, lt-ltb, le-ltb}
 use lib.Dec.{eqb, lit≤, lit<}
 use lib.ListN.{length, drop, getD, length-append, drop-of-length-le}
 use lib.Seq.{drop-cons}
 use Rattle.octets.specs.Pick.{pick}
+use Rattle.octets.specs.Octets.{Wrote}
+use Rattle.octets.specs.PutLaws.{wrote-none, wrote-as}
 use Rattle.decimal.specs.declared.Signed.{Signed}
 use Rattle.decimal.specs.Decimal.{normal, whole}
 use Rattle.decimal.specs.Values.{truncOf, i32Of}
@@ -23,11 +25,12 @@ use Rattle.dict.specs.declared.One.{One}
 use Rattle.dict.specs.declared.One.the-variants.{Number, Absent as NoNumber}
 use Rattle.dict.specs.declared.RosIn.{RosIn}
 use Rattle.dict.specs.declared.RosIn.the-variants.{Ros, None}
-use Rattle.dict_write.specs.Written.{opBytes, copiedEntry}
+use Rattle.dict_write.specs.Written.{opBytes, copiedEntry, offsetEntry, privateEntry}
 use Rattle.dict_write.specs.WriteLaws.{offset-length, private-length}
 use Rattle.dict_write.specs.ShortLaws.{number-short}
+use Rattle.subset.specs.Codes.{encodingEntry}
 use Rattle.subset.specs.Subset.{copiedBytes}
-use Rattle.top_dict.specs.Top.{Filled, valueEntry, slotEntry, slotEntries, idsBytes, rosOf, carried, namedOffsets, glyphOffsets, cidOffsets, topNamed, cidFront, topCid, topLen}
+use Rattle.top_dict.specs.Top.{Filled, valueEntry, slotEntry, slotEntries, idsBytes, rosOf, carried, codeOffsets, namedOffsets, glyphOffsets, cidOffsets, topNamed, cidFront, topCid, encodingLen, topLen}
 use Rattle.top_dict.specs.Writing.{Split, split-append, split-length}
 use Rattle.top_dict.specs.TopParts.{ids-parts}
 
@@ -187,10 +190,37 @@ count-small es = omega (arith, one-small (oneOf cidCount es))
 
 -- ---- lengths, whatever the offsets are
 
-pub named-length : (at₁ at₂ size at₃ : ℕ) → length (namedOffsets at₁ at₂ size at₃) ≡ 23
-unfolding namedOffsets opBytes
-named-length at₁ at₂ size at₃ =
-    rw (length-append, length-append) (omega (arith, offset-length 15 at₁ 1 refl, offset-length 17 at₂ 1 refl, private-length size at₃))
+pub encoding-length : (v : ℕ) → length (encodingEntry v) ≡ encodingLen v
+unfolding opBytes
+encoding-length v = go (eqb v 0)
+  where
+    go : (t : Bool) → length (pick t [] (offsetEntry 16 v)) ≡ pick t 0 6
+    go true = refl
+    go false = sym (offset-length 16 v 1 refl)
+
+pub encoding-none : (v : ℕ) → v ≡ 0 → ([] ≡ encodingEntry v) × (0 ≡ encodingLen v)
+encoding-none v e = let k = eq-eqb v 0 e in (rw k, rw k)
+
+pub encoding-there : (v : ℕ) → (v ≡ 0 → ⊥) → (offsetEntry 16 v ≡ encodingEntry v) × (6 ≡ encodingLen v)
+encoding-there v e = let k = ne-eqb v 0 e in (rw k, rw k)
+
+-- and it is written so
+pub encoding-wrote : (v : ℕ) → v ≡ 0 → (out : List ℕ) (at : ℕ) → Wrote out at (encodingEntry v) out at
+encoding-wrote v e out at = wrote-as (wrote-none out at) (encoding-none v e .0)
+
+pub named-length : (at₁ v at₂ size at₃ : ℕ) → length (namedOffsets at₁ v at₂ size at₃) ≡ 23 + encodingLen v
+unfolding namedOffsets codeOffsets opBytes
+named-length at₁ v at₂ size at₃ =
+    omega (
+      arith,
+      length-append (offsetEntry 15 at₁ ++ encodingEntry v) (offsetEntry 17 at₂ ++ privateEntry size at₃),
+      length-append (offsetEntry 15 at₁) (encodingEntry v),
+      length-append (offsetEntry 17 at₂) (privateEntry size at₃),
+      offset-length 15 at₁ 1 refl,
+      encoding-length v,
+      offset-length 17 at₂ 1 refl,
+      private-length size at₃,
+    )
 
 pub cid-length : (at₁ at₂ at₃ at₄ : ℕ) → length (cidOffsets at₁ at₂ at₃ at₄) ≡ 26
 unfolding cidOffsets glyphOffsets opBytes
@@ -199,9 +229,10 @@ cid-length at₁ at₂ at₃ at₄ =
     (omega (arith, offset-length 15 at₁ 1 refl, offset-length 3109 at₂ 2 refl, offset-length 17 at₃ 1 refl, offset-length 3108 at₄ 2 refl))
 
 module _ (es : List Entry) (slots : List ℕ) where
-  pub top-named-length : (at₁ at₂ size at₃ : ℕ) → length (topNamed es slots at₁ at₂ size at₃) ≡ length (carried es slots) + 23
+  pub top-named-length : (at₁ v at₂ size at₃ : ℕ) → length (topNamed es slots at₁ v at₂ size at₃) ≡ length (carried es slots) + (23 + encodingLen v)
   unfolding topNamed
-  top-named-length at₁ at₂ size at₃ = length-append (carried es slots) (namedOffsets at₁ at₂ size at₃) ∙ ap (λ (n : ℕ). length (carried es slots) + n) (named-length at₁ at₂ size at₃)
+  top-named-length at₁ v at₂ size at₃ =
+      length-append (carried es slots) (namedOffsets at₁ v at₂ size at₃) ∙ ap (λ (n : ℕ). length (carried es slots) + n) (named-length at₁ v at₂ size at₃)
 
   pub front-length : length (cidFront es slots) ≡ length (rosOf slots (rosIn es)) + length (carried es slots) + length (valueEntry cidCount (cidCountIn es))
   unfolding cidFront
@@ -212,20 +243,25 @@ module _ (es : List Entry) (slots : List ℕ) where
   top-cid-length at₁ at₂ at₃ at₄ = length-append (cidFront es slots) (cidOffsets at₁ at₂ at₃ at₄) ∙ ap (λ (n : ℕ). length (cidFront es slots) + n) (cid-length at₁ at₂ at₃ at₄)
 
   -- the length that is measured is that of what is written
-  pub named-measured : (at₁ at₂ size at₃ : ℕ) → topLen false es slots ≡ length (topNamed es slots at₁ at₂ size at₃)
-  named-measured at₁ at₂ size at₃ = top-named-length 0 0 0 0 ∙ sym (top-named-length at₁ at₂ size at₃)
+  pub named-measured : (at₁ v at₂ size at₃ : ℕ) → topLen false v es slots ≡ length (topNamed es slots at₁ v at₂ size at₃)
+  named-measured at₁ v at₂ size at₃ = top-named-length 0 v 0 0 0 ∙ sym (top-named-length at₁ v at₂ size at₃)
 
-  pub cid-measured : (at₁ at₂ at₃ at₄ : ℕ) → topLen true es slots ≡ length (topCid es slots at₁ at₂ at₃ at₄)
-  cid-measured at₁ at₂ at₃ at₄ = top-cid-length 0 0 0 0 ∙ sym (top-cid-length at₁ at₂ at₃ at₄)
+  -- whatever the Encoding's offset is, but for 0
+  pub named-same : (v w : ℕ) → eqb v 0 ≡ eqb w 0 → topLen false v es slots ≡ topLen false w es slots
+  named-same v w e =
+      top-named-length 0 v 0 0 0 ∙ ap (λ (t : Bool). length (carried es slots) + (23 + pick t 0 6)) e ∙ sym (top-named-length 0 w 0 0 0)
+
+  pub cid-measured : (v at₁ at₂ at₃ at₄ : ℕ) → topLen true v es slots ≡ length (topCid es slots at₁ at₂ at₃ at₄)
+  cid-measured v at₁ at₂ at₃ at₄ = top-cid-length 0 0 0 0 ∙ sym (top-cid-length at₁ at₂ at₃ at₄)
 
   -- the sums that the code makes
-  pub cid-sum : (cid : Bool) → cid ≡ true → (r n k : ℕ) → r ≡ length (rosOf slots (rosIn es)) → n ≡ length (carried es slots)
-      → k ≡ length (valueEntry cidCount (cidCountIn es)) → r + n + k + 26 ≡ topLen cid es slots
-  cid-sum cid t r n k e f g =
-      let s : r + n + k + 26 ≡ topLen true es slots = omega (arith, top-cid-length 0 0 0 0, front-length) in
-      s ∙ ap (λ (x : Bool). topLen x es slots) (sym t)
+  pub cid-sum : (cid : Bool) (v : ℕ) → cid ≡ true → (r n k : ℕ) → r ≡ length (rosOf slots (rosIn es)) → n ≡ length (carried es slots)
+      → k ≡ length (valueEntry cidCount (cidCountIn es)) → r + n + k + 26 ≡ topLen cid v es slots
+  cid-sum cid v t r n k e f g =
+      let s : r + n + k + 26 ≡ topLen true v es slots = omega (arith, top-cid-length 0 0 0 0, front-length) in
+      s ∙ ap (λ (x : Bool). topLen x v es slots) (sym t)
 
-  pub named-sum : (cid : Bool) → cid ≡ false → (n : ℕ) → n ≡ length (carried es slots) → n + 23 ≡ topLen cid es slots
-  named-sum cid t n e =
-      let s : n + 23 ≡ topLen false es slots = omega (arith, top-named-length 0 0 0 0) in
-      s ∙ ap (λ (x : Bool). topLen x es slots) (sym t)
+  pub named-sum : (cid : Bool) (v : ℕ) → cid ≡ false → (n k : ℕ) → n ≡ length (carried es slots) → k ≡ encodingLen v → n + 23 + k ≡ topLen cid v es slots
+  named-sum cid v t n k e f =
+      let s : n + 23 + k ≡ topLen false v es slots = omega (arith, top-named-length 0 v 0 0 0) in
+      s ∙ ap (λ (x : Bool). topLen x v es slots) (sym t)

@@ -13,8 +13,9 @@ use Rattle.index.specs.Write.{sizeFor, headBytes, indexBytes}
 use Rattle.index.specs.WriteLaws.{index-single}
 use Rattle.decimal.specs.Decimal.{whole}
 use Rattle.cff.specs.Font.{charset, charStrings, fdArray, fdSelect}
+use Rattle.subset.specs.Codes.{encodingEntry}
 use Rattle.subset.specs.Subset.{copiedBytes}
-use Rattle.top_dict.specs.Top.{valueEntry, stringEntries, idsBytes, rosOf, carried, namedOffsets, glyphOffsets, cidOffsets, topNamed, cidFront, topCid, singleHead}
+use Rattle.top_dict.specs.Top.{valueEntry, stringEntries, idsBytes, rosOf, carried, codeOffsets, namedOffsets, glyphOffsets, cidOffsets, topNamed, cidFront, topCid, singleHead}
 use Rattle.top_dict.specs.Writing.{Split, split-append}
 
 -- ---- an entry of one number
@@ -39,9 +40,13 @@ pub carried-parts : (es : List Entry) (slots : List ℕ) → Split (carried es s
 unfolding carried
 carried-parts es slots = record { is = refl }
 
-pub named-parts : (at₁ at₂ size at₃ : ℕ) → Split (namedOffsets at₁ at₂ size at₃) (offsetEntry charset at₁) (offsetEntry charStrings at₂ ++ privateEntry size at₃)
+pub code-parts : (at₁ v : ℕ) → Split (codeOffsets at₁ v) (offsetEntry charset at₁) (encodingEntry v)
+unfolding codeOffsets
+code-parts at₁ v = record { is = refl }
+
+pub named-parts : (at₁ v at₂ size at₃ : ℕ) → Split (namedOffsets at₁ v at₂ size at₃) (codeOffsets at₁ v) (offsetEntry charStrings at₂ ++ privateEntry size at₃)
 unfolding namedOffsets
-named-parts at₁ at₂ size at₃ = record { is = refl }
+named-parts at₁ v at₂ size at₃ = record { is = refl }
 
 pub named-rest : (at₂ size at₃ : ℕ) → Split (offsetEntry charStrings at₂ ++ privateEntry size at₃) (offsetEntry charStrings at₂) (privateEntry size at₃)
 named-rest at₂ size at₃ = split-append (offsetEntry charStrings at₂) (privateEntry size at₃)
@@ -57,10 +62,10 @@ cid-parts at₁ at₂ at₃ at₄ = record { is = refl }
 pub cid-rest : (at₃ at₄ : ℕ) → Split (offsetEntry charStrings at₃ ++ offsetEntry fdArray at₄) (offsetEntry charStrings at₃) (offsetEntry fdArray at₄)
 cid-rest at₃ at₄ = split-append (offsetEntry charStrings at₃) (offsetEntry fdArray at₄)
 
-pub top-named-parts : (es : List Entry) (slots : List ℕ) (at₁ at₂ size at₃ : ℕ)
-    → Split (topNamed es slots at₁ at₂ size at₃) (carried es slots) (namedOffsets at₁ at₂ size at₃)
+pub top-named-parts : (es : List Entry) (slots : List ℕ) (at₁ v at₂ size at₃ : ℕ)
+    → Split (topNamed es slots at₁ v at₂ size at₃) (carried es slots) (namedOffsets at₁ v at₂ size at₃)
 unfolding topNamed
-top-named-parts es slots at₁ at₂ size at₃ = record { is = refl }
+top-named-parts es slots at₁ v at₂ size at₃ = record { is = refl }
 
 pub front-parts : (es : List Entry) (slots : List ℕ)
     → Split (cidFront es slots) (rosOf slots (rosIn es)) (carried es slots ++ valueEntry cidCount (cidCountIn es))

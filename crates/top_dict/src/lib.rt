@@ -11,8 +11,9 @@ ghost use Rattle.dict.specs.Op.{isOperator, cidCount, copiedTopEntries};
 ghost use Rattle.dict.specs.Lookup.{rosIn, cidCountIn};
 ghost use Rattle.dict.specs.Places.{entriesOf};
 ghost use Rattle.index.specs.Write.{indexBytes};
+ghost use Rattle.subset.specs.Codes.{encodingEntry};
 ghost use Rattle.subset.specs.Subset.{copiedBytes};
-ghost use Rattle.top_dict.specs.Top.{Filled, Offsets, valueEntry, slotEntry, stringEntries, idsBytes, rosOf, carried, namedOffsets, glyphOffsets, cidOffsets, topNamed, cidFront, topCid, topLen, singleHead};
+ghost use Rattle.top_dict.specs.Top.{Filled, Offsets, valueEntry, slotEntry, stringEntries, idsBytes, rosOf, carried, codeOffsets, namedOffsets, glyphOffsets, cidOffsets, topNamed, cidFront, topCid, encodingLen, topLen, singleHead};
 use decimal::whole;
 use decimal_write::number_len;
 use decimal_write::put_number;
@@ -223,31 +224,63 @@ fn put_count(d: &[u8], out: &mut [u8], at: usize) -> usize
     put_value(Op::CID_COUNT, cid_count(d), out, at)
 }
 
-// The length of the top DICT, whatever its offsets are: 23 bytes for those of a name-keyed subset, 26 for those of a CID-keyed one.
-pub fn top_len(cid: bool, d: &[u8], slots: &[usize]) -> usize
+// How many bytes the Encoding's entry takes: none for offset 0, the standard encoding.
+fn encoding_len(v: usize) -> usize
+    ensures { λ r. ⌜ (r ≡ encodingLen v) × (r ≤ 6) ⌝ }
+{
+    if v == 0 {
+        return 0;
+    }
+    6
+}
+
+// The length of the top DICT, whatever its offsets are: 23 bytes for those of a name-keyed subset and 6 for its Encoding, 26 for those of a
+// CID-keyed one.
+pub fn top_len(cid: bool, v: usize, d: &[u8], slots: &[usize]) -> usize
     requires { ⌜ (length (now d) ≤ 67108864) × (Filled (now slots)) ⌝ }
-    ensures { λ r. ⌜ (r ≡ topLen cid (entriesOf (now (d .entry))) (now (slots .entry))) × (r ≤ 60000001052) ⌝ }
+    ensures { λ r. ⌜ (r ≡ topLen cid v (entriesOf (now (d .entry))) (now (slots .entry))) × (r ≤ 60000001058) ⌝ }
 {
     let n = carried_len(d, slots);
     if cid {
         return ros_len(d, slots) + n + count_len(d) + 26;
     }
-    n + 23
+    n + 23 + encoding_len(v)
+}
+
+// The Encoding's entry, from `at` on; the place after it.
+fn put_encoding_entry(v: usize, out: &mut [u8], at: usize) -> usize
+    requires { ⌜ (v < 2147483648) × (at + length (encodingEntry v) ≤ length (now out)) ⌝ }
+    ensures { λ r. ⌜ Wrote (now (out .entry)) at (encodingEntry v) (now (out .exit)) r ⌝ }
+{
+    if v == 0 {
+        return at;
+    }
+    put_offset_entry(Op::ENCODING, v, out, at)
+}
+
+// The offsets of charset and Encoding, from `at` on; the place after them.
+fn put_code_offsets(at1: usize, v: usize, out: &mut [u8], at: usize) -> usize
+    requires { ⌜ (at1 < 2147483648) × (v < 2147483648) × (at + length (codeOffsets at1 v) ≤ length (now out)) ⌝ }
+    ensures { λ r. ⌜ Wrote (now (out .entry)) at (codeOffsets at1 v) (now (out .exit)) r ⌝ }
+{
+    let p = put_offset_entry(Op::CHARSET, at1, out, at);
+    put_encoding_entry(v, out, p)
 }
 
 // The offsets of a name-keyed subset, from `at` on; the place after them.
 fn put_named_offsets(
     at1: usize,
+    v: usize,
     at2: usize,
     size: usize,
     at3: usize,
     out: &mut [u8],
     at: usize,
 ) -> usize
-    requires { ⌜ (Offsets at1 at2 size at3) × (at + length (namedOffsets at1 at2 size at3) ≤ length (now out)) ⌝ }
-    ensures { λ r. ⌜ Wrote (now (out .entry)) at (namedOffsets at1 at2 size at3) (now (out .exit)) r ⌝ }
+    requires { ⌜ (Offsets at1 at2 size at3) × (v < 2147483648) × (at + length (namedOffsets at1 v at2 size at3) ≤ length (now out)) ⌝ }
+    ensures { λ r. ⌜ Wrote (now (out .entry)) at (namedOffsets at1 v at2 size at3) (now (out .exit)) r ⌝ }
 {
-    let p = put_offset_entry(Op::CHARSET, at1, out, at);
+    let p = put_code_offsets(at1, v, out, at);
     let q = put_offset_entry(Op::CHARSTRINGS, at2, out, p);
     put_private_entry(size, at3, out, q)
 }
@@ -283,17 +316,18 @@ pub fn put_top_named(
     d: &[u8],
     slots: &[usize],
     at1: usize,
+    v: usize,
     at2: usize,
     size: usize,
     at3: usize,
     out: &mut [u8],
     at: usize,
 ) -> usize
-    requires { ⌜ (Filled (now slots)) × (Offsets at1 at2 size at3) × (at + length (topNamed (entriesOf (now d)) (now slots) at1 at2 size at3) ≤ length (now out)) ⌝ }
-    ensures { λ r. ⌜ Wrote (now (out .entry)) at (topNamed (entriesOf (now (d .entry))) (now (slots .entry)) at1 at2 size at3) (now (out .exit)) r ⌝ }
+    requires { ⌜ (Filled (now slots)) × (Offsets at1 at2 size at3) × (v < 2147483648) × (at + length (topNamed (entriesOf (now d)) (now slots) at1 v at2 size at3) ≤ length (now out)) ⌝ }
+    ensures { λ r. ⌜ Wrote (now (out .entry)) at (topNamed (entriesOf (now (d .entry))) (now (slots .entry)) at1 v at2 size at3) (now (out .exit)) r ⌝ }
 {
     let p = put_carried(d, slots, out, at);
-    put_named_offsets(at1, at2, size, at3, out, p)
+    put_named_offsets(at1, v, at2, size, at3, out, p)
 }
 
 // What a CID-keyed subset's top DICT holds before its offsets, from `at` on; the place after it.
@@ -338,19 +372,20 @@ pub fn put_named_index(
     d: &[u8],
     slots: &[usize],
     at1: usize,
+    v: usize,
     at2: usize,
     size: usize,
     at3: usize,
     out: &mut [u8],
     at: usize,
 ) -> usize
-    requires { ⌜ (length (now d) ≤ 67108864) × (Filled (now slots)) × (Offsets at1 at2 size at3) × (topLen false (entriesOf (now d)) (now slots) < 4294967295)
-        × (at + length (indexBytes (topNamed (entriesOf (now d)) (now slots) at1 at2 size at3 ∷ [])) ≤ length (now out)) ⌝ }
-    ensures { λ r. ⌜ Wrote (now (out .entry)) at (indexBytes (topNamed (entriesOf (now (d .entry))) (now (slots .entry)) at1 at2 size at3 ∷ [])) (now (out .exit)) r ⌝ }
+    requires { ⌜ (length (now d) ≤ 67108864) × (Filled (now slots)) × (Offsets at1 at2 size at3) × (v < 2147483648) × (topLen false v (entriesOf (now d)) (now slots) < 4294967295)
+        × (at + length (indexBytes (topNamed (entriesOf (now d)) (now slots) at1 v at2 size at3 ∷ [])) ≤ length (now out)) ⌝ }
+    ensures { λ r. ⌜ Wrote (now (out .entry)) at (indexBytes (topNamed (entriesOf (now (d .entry))) (now (slots .entry)) at1 v at2 size at3 ∷ [])) (now (out .exit)) r ⌝ }
 {
-    let n = top_len(false, d, slots);
+    let n = top_len(false, v, d, slots);
     let p = put_single_head(n, out, at);
-    put_top_named(d, slots, at1, at2, size, at3, out, p)
+    put_top_named(d, slots, at1, v, at2, size, at3, out, p)
 }
 
 // The INDEX of the top DICT of a CID-keyed subset, from `at` on; the place after it.
@@ -364,11 +399,11 @@ pub fn put_cid_index(
     out: &mut [u8],
     at: usize,
 ) -> usize
-    requires { ⌜ (length (now d) ≤ 67108864) × (Filled (now slots)) × (Offsets at1 at2 at3 at4) × (topLen true (entriesOf (now d)) (now slots) < 4294967295)
+    requires { ⌜ (length (now d) ≤ 67108864) × (Filled (now slots)) × (Offsets at1 at2 at3 at4) × (topLen true 0 (entriesOf (now d)) (now slots) < 4294967295)
         × (at + length (indexBytes (topCid (entriesOf (now d)) (now slots) at1 at2 at3 at4 ∷ [])) ≤ length (now out)) ⌝ }
     ensures { λ r. ⌜ Wrote (now (out .entry)) at (indexBytes (topCid (entriesOf (now (d .entry))) (now (slots .entry)) at1 at2 at3 at4 ∷ [])) (now (out .exit)) r ⌝ }
 {
-    let n = top_len(true, d, slots);
+    let n = top_len(true, 0, d, slots);
     let p = put_single_head(n, out, at);
     put_top_cid(d, slots, at1, at2, at3, at4, out, p)
 }

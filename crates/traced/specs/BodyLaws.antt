@@ -20,7 +20,7 @@ use Rattle.dict.specs.declared.OffsetIn.the-variants.{Refused as RefusedOffset,
 use Rattle.dict.specs.declared.PrivateIn.{PrivateIn}
 use Rattle.dict.specs.declared.PrivateIn.the-variants.{Refused as RefusedPrivate, Private as PrivateEntry, Absent as NoPrivate}
 use Rattle.charset.specs.FdSelect.{noFds}
-use Rattle.cff.specs.Font.{charset, encoding, charStrings, fdArray, fdSelect, Got, refused as refusedFont, got, then, Private, Added, Program, indexGot, dictGot, unless, needed, orZero, localsAt, privateData, privateAt, privatesAt, dictsAt, idsAt, fdsAt, encodingGot, cidParts, nameParts, fontAt, fontsAt, firstOf, setAt, readTable, readFont, emptyPrivate}
+use Rattle.cff.specs.Font.{charset, encoding, charStrings, fdArray, fdSelect, Got, refused as refusedFont, got, then, Private, standard, Added, Program, indexGot, dictGot, unless, needed, orZero, localsAt, privateData, privateAt, privatesAt, dictsAt, idsAt, fdsAt, codingAt, encodingGot, cidParts, nameParts, fontAt, fontsAt, firstOf, setAt, readTable, readFont, emptyPrivate}
 use Rattle.cff.specs.FileLaws.{read-within, within-short}
 use Rattle.cff.specs.ReadsLaws.{no}
 use Rattle.subset.specs.Kept.{localsOf}
@@ -114,7 +114,7 @@ module _ (b : List ℕ) where
         let u = then-gave (unless (pick (eqb (length (q .0)) 0) 2 0)) _ parts (q .2) in
         let l = then-gave (fdsAt b n (offsetIn fdSelect es)) _ parts (u .2) in
         let t = test-held (allBelow (length (q .0)) (l .0)) 2 _ parts (l .2) in
-        let e : record { privates = q .0; fds = l .0; dicts = dictsAt (d .0) } ≡ parts = cc in
+        let e : record { privates = q .0; fds = l .0; dicts = dictsAt (d .0); coding = standard } ≡ parts = cc in
         subst (λ (x : Added). AllShort (x .privates)) e (privates-short (d .0) (q .0) (q .1))
 
     name-short : nameParts b es n ≡ got parts → AllShort (parts .privates)
@@ -122,7 +122,7 @@ module _ (b : List ℕ) where
     name-short h =
         let q = then-gave (privateAt b (privateIn es)) _ parts h in
         let u = then-gave (then (orZero (offsetIn encoding es)) (encodingGot b)) _ parts (q .2) in
-        let e : record { privates = q .0 ∷ []; fds = noFds n; dicts = [] } ≡ parts = cc in
+        let e : record { privates = q .0 ∷ []; fds = noFds n; dicts = []; coding = u .0 } ≡ parts = cc in
         subst (λ (x : Added). AllShort (x .privates)) e (short-front (q .0) [] (private-short (privateIn es) (q .0) (q .1)) (λ f. none-short))
 
     parts-short : (cid : Bool) → pick cid (cidParts b es n) (nameParts b es n) ≡ got parts → AllShort (parts .privates)
@@ -143,7 +143,7 @@ module _ (b : List ℕ) where
         let v = then-gave (unless (pick (eqb n 0) 2 0)) _ p (c .2) in
         let i = then-gave (then (orZero (offsetIn charset es)) (idsAt b n)) _ p (v .2) in
         let k = then-gave (pick (cidKeyed es) (cidParts b es n) (nameParts b es n)) _ p (i .2) in
-        let e : record { top = es; strings = strings; globals = globals; charstrings = c .0; ids = i .0; privates = k .0 .privates; fds = k .0 .fds; dicts = k .0 .dicts } ≡ p = got-same _ p (k .2) in
+        let e : record { top = es; strings = strings; globals = globals; charstrings = c .0; ids = i .0; privates = k .0 .privates; fds = k .0 .fds; dicts = k .0 .dicts; coding = k .0 .coding } ≡ p = got-same _ p (k .2) in
         subst (ShortBodies (length b)) e
         (record {
           charstrings = offset-short (needed (offsetIn charStrings es)) (c .0) (c .1);

@@ -10,13 +10,14 @@ use Rattle.octets.specs.Pick.{pick, pick-ind}
 use Rattle.octets.specs.Lists.{allBelow}
 use Rattle.prune.specs.StepLaws.{zero-one}
 use Rattle.record.specs.Record.{rowsOf, recordFine}
-use Rattle.dict.specs.Lookup.{cidKeyed, strokedIn, rosIn}
+use Rattle.dict.specs.Lookup.{cidKeyed, rosIn}
 use Rattle.cff.specs.Font.{Program}
 use Rattle.cff.specs.Find.{workSize}
 use Rattle.subset.specs.Kept.{keptOf, writtenOrder, usedFds}
 use Rattle.subset.specs.Pruned.{Pruned, pruned}
+use Rattle.subset.specs.Codes.{Coded, codedIf, pairCount}
 use Rattle.subset.specs.Subset.{subsetBytes}
-use Rattle.subset.specs.Cut.{Outcome, refused, subset, allFound, hasRos, sameBool, ownOf, written, cutProgram}
+use Rattle.subset.specs.Cut.{Outcome, refused, subset, allFound, hasRos, sameBool, ownOf, written, unsupportedIn, cutProgram}
 use Rattle.faithful.specs.Theorem.{same-bool}
 
 -- an outcome that is not refusal 8
@@ -29,7 +30,7 @@ other n d e = d cc
 cut-other : (way : ℕ) (bs : List ℕ) → Other (subset way bs)
 cut-other way bs e = zero-one cc
 
-module _ (p : Program) (name keep rec : List ℕ) (flag lent : ℕ) where
+module _ (ask : Bool) (p : Program) (name keep rec : List ℕ) (flag lent : ℕ) where
   abbrev kept : List ℕ
   kept = keptOf (length (p .charstrings)) keep
 
@@ -39,22 +40,27 @@ module _ (p : Program) (name keep rec : List ℕ) (flag lent : ℕ) where
   abbrev cut : Pruned
   cut = pruned p (rowsOf rec) (usedFds p kept) order flag
 
-  abbrev bytes : List ℕ
-  bytes = subsetBytes p name kept order (cut .bodies)
+  abbrev coded : Coded
+  coded = codedIf ask p kept (ownOf p order)
 
-  written-other : Other (written p name kept order lent cut)
+  abbrev bytes : List ℕ
+  bytes = subsetBytes p coded name kept order (cut .bodies)
+
+  written-other : Other (written p coded name kept order lent cut)
   written-other =
       let last = pick (ltb lent (length bytes)) (refused 11) (subset (cut .way) bytes) in
-      pick-ind Other (ltb 64609 (length (ownOf p order))) (refused 12) (pick (ltb 67108864 (length bytes)) (refused 10) last) (λ t. other 12 (λ d. omega (arith, d)))
-      (λ t. pick-ind Other (ltb 67108864 (length bytes)) (refused 10) last (λ u. other 10 (λ d. omega (arith, d)))
+      let sized = pick (ltb 67108864 (length bytes)) (refused 10) last in
+      pick-ind Other (ltb 64609 (length (ownOf p order))) (refused 12) (pick (ltb 255 (pairCount coded)) (refused 13) sized) (λ t. other 12 (λ d. omega (arith, d)))
+      (λ t. pick-ind Other (ltb 255 (pairCount coded)) (refused 13) sized (λ s. other 13 (λ d. omega (arith, d)))
+      (λ s. pick-ind Other (ltb 67108864 (length bytes)) (refused 10) last (λ u. other 10 (λ d. omega (arith, d)))
       (λ u. pick-ind Other (ltb lent (length bytes)) (refused 11) (subset (cut .way) bytes) (λ v. other 11 (λ d. omega (arith, d)))
-      (λ v. cut-other (cut .way) bytes)))
+      (λ v. cut-other (cut .way) bytes))))
 
   -- a call whose record and flag are of the right form for the font's keying
-  pub not-eight : recordFine (cidKeyed (p .top)) rec flag ≡ true → (cid : Bool) (words : ℕ) → Other (cutProgram cid p name keep rec flag words lent)
+  pub not-eight : recordFine (cidKeyed (p .top)) rec flag ≡ true → (cid : Bool) (words : ℕ) → Other (cutProgram cid ask p name keep rec flag words lent)
   not-eight fine cid words =
       pick-ind Other (sameBool cid (cidKeyed (p .top))) _ (refused 3)
-      (λ k. pick-ind Other (strokedIn (p .top)) (refused 3) _ (λ t. other 3 (λ d. omega (arith, d)))
+      (λ k. pick-ind Other (unsupportedIn ask p) (refused 3) _ (λ t. other 3 (λ d. omega (arith, d)))
       (λ q. pick-ind Other (pick cid (hasRos (rosIn (p .top))) true) _ (refused 2)
       (λ ros. pick-ind Other (ltb 65535 (length name)) (refused 4) _ (λ t. other 4 (λ d. omega (arith, d)))
       (λ n. pick-ind Other (allBelow (length (p .charstrings)) keep) _ (refused 6)

@@ -18,7 +18,7 @@ use Rattle.strings.specs.Strings.{stringText, standardString, standardStrings}
 use Rattle.find.specs.Find.{glyphWithId, glyphWithText}
 use Rattle.unfold.specs.Unfold.{leave, but, targetOf, operatorAt, stepAt, walk, runBody, unfoldGlyph}
 use Rattle.opentype.specs.Opentype.{placeOf}
-use Rattle.cff.specs.Font.{Program, privateAt, idsAt, encodingGot, nameParts, fontAt, fontsAt, setAt, readTable, readFont}
+use Rattle.cff.specs.Font.{standard, Program, privateAt, idsAt, codingAt, encodingGot, nameParts, fontAt, fontsAt, setAt, readTable, readFont}
 use Rattle.cff.specs.Examples.{sheet}
 use Rattle.subset.specs.Kept.{isIn, those}
 use Rattle.subset.specs.Cut.{allFound}
@@ -44,6 +44,7 @@ small =
       privates = (record { entries = []; locals = (0x13 ∷ 0x80 ∷ 0x0b ∷ []) ∷ (0x0b ∷ []) ∷ [] }) ∷ [];
       fds = 0 ∷ 0 ∷ 0 ∷ 0 ∷ 0 ∷ [];
       dicts = [];
+      coding = standard;
     }
 
 -- the rows of glyphs 0 and 1: locals 0 and 1 entered, the mask of glyph 1 at offset 5, that of local 0 at offset 0
@@ -145,6 +146,6 @@ sheet-traces : traceOf sheet (1 ∷ []) 0 ≡ traced 1 []
 unfolding
     traceOf metAll recordOf tensBytes gathered unfoldGlyph runBody walk stepAt operatorAt leave but targetOf t2.numberAt t2.rounded t2.keep24 bytesOf allBelow
     allFound glyphWithText stringText standardString standardStrings codes sameText standardNames isIn those readFont readTable placeOf setAt fontsAt fontAt nameParts idsAt
-    privateAt encodingGot readIndex told indexAt tableAt dataAt runOf judged offsets pieces itemsOf numAt be entries.dictOf entries.gathered entries.readingsAt entries.readingsFrom
+    privateAt codingAt encodingGot readIndex told indexAt tableAt dataAt runOf judged offsets pieces itemsOf numAt be entries.dictOf entries.gathered entries.readingsAt entries.readingsFrom
     entries.entryAt entries.entryFrom entries.tokenAt entries.operatorAt numberAt realAt normal zeros zerosOf stripped lastOf lastFrom truncOf listOf
 sheet-traces = refl

@@ -29,7 +29,7 @@ use Rattle.unfold.specs.Unfold.{Tok, num, op, Row, notPlain, plain, local, ente
 use Rattle.prune.specs.Bodies.{All}
 use Rattle.record.specs.Record.{rowsFrom, rowsOf, recordFine, lists}
 use Rattle.opentype.specs.Opentype.{placeOf}
-use Rattle.cff.specs.Font.{got, Program, charStrings, privateAt, idsAt, encodingGot, nameParts, fontAt, fontsAt, setAt, readTable, readFont, emptyPrivate}
+use Rattle.cff.specs.Font.{got, standard, Program, charStrings, privateAt, idsAt, codingAt, encodingGot, nameParts, fontAt, fontsAt, setAt, readTable, readFont, emptyPrivate}
 use Rattle.subset.specs.Kept.{isIn, those, keeps}
 use Rattle.subset.specs.Cut.{allFound}
 use Rattle.subset.specs.NameExample.{nameFont, nameProgram, reads, reach, renumberedBytes, renumbers}
@@ -98,7 +98,7 @@ fine = trace-fine nameFont keep 20 bytes nameProgram reads 1 reach traces
 -- the subset cut with the record holds the glyph
 held : Holds nameProgram 2 tokens renumberedBytes
 held =
-    trace-held nameFont keep 20 bytes nameProgram reads 1 reach traces false (0x4e ∷ []) 8192 32768 0 renumberedBytes renumbers 2 kept tokens met unfolds
+    trace-held nameFont keep 20 bytes nameProgram reads 1 reach traces false false (0x4e ∷ []) 8192 32768 0 renumberedBytes renumbers 2 kept tokens met unfolds
 
 -- the keep list in another order, with a repeat
 same : (g : ℕ) → keeps keep g ≡ keeps (2 ∷ 1 ∷ 2 ∷ []) g
@@ -134,11 +134,12 @@ badProgram =
       privates = emptyPrivate ∷ [];
       fds = 0 ∷ 0 ∷ [];
       dicts = [];
+      coding = standard;
     }
 
 bad-reads : readFont badFont ≡ got badProgram
 unfolding
-    readFont readTable placeOf setAt fontsAt fontAt nameParts idsAt privateAt encodingGot readIndex told indexAt tableAt dataAt runOf judged offsets pieces itemsOf numAt be entries.dictOf
+    readFont readTable placeOf setAt fontsAt fontAt nameParts idsAt privateAt codingAt encodingGot readIndex told indexAt tableAt dataAt runOf judged offsets pieces itemsOf numAt be entries.dictOf
     entries.gathered entries.readingsAt entries.readingsFrom entries.entryAt entries.entryFrom entries.tokenAt entries.operatorAt numberAt realAt normal zeros zerosOf
     stripped lastOf lastFrom truncOf listOf
 bad-reads = refl

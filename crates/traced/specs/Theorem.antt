@@ -197,30 +197,30 @@ module _ (font keep : List ℕ) (room : ℕ) (octets : Octets font) (p : Program
       (told flag rec e)
 
   -- so no subset call with what was traced is refused by 8
-  pub trace-not-eight : (flag : ℕ) (rec : List ℕ) → traceOf font keep room ≡ traced flag rec → (cid : Bool) (name asked : List ℕ) (words lent : ℕ)
-      → cutOf cid font name asked rec flag words lent ≡ refusedCut 8 → ⊥
+  pub trace-not-eight : (flag : ℕ) (rec : List ℕ) → traceOf font keep room ≡ traced flag rec → (cid ask : Bool) (name asked : List ℕ) (words lent : ℕ)
+      → cutOf cid ask font name asked rec flag words lent ≡ refusedCut 8 → ⊥
   unfolding cutOf
-  trace-not-eight flag rec e cid name asked words lent c =
-      not-eight p name asked rec flag lent (trace-fine flag rec e) cid words (ap (λ (g : Got Program). cutRead cid g name asked rec flag words lent) (sym is) ∙ c)
+  trace-not-eight flag rec e cid ask name asked words lent c =
+      not-eight ask p name asked rec flag lent (trace-fine flag rec e) cid words (ap (λ (g : Got Program). cutRead cid ask g name asked rec flag words lent) (sym is) ∙ c)
 
   -- THE THEOREM: what was traced and then cut with what was traced, not refused, holds every plain kept glyph
   pub trace-held : (flag : ℕ) (rec : List ℕ) → traceOf font keep room ≡ traced flag rec
-      → (cid : Bool) (name : List ℕ) (words lent way : ℕ) (bs : List ℕ) → cutOf cid font name keep rec flag words lent ≡ subset way bs
+      → (cid ask : Bool) (name : List ℕ) (words lent way : ℕ) (bs : List ℕ) → cutOf cid ask font name keep rec flag words lent ≡ subset way bs
       → (g : ℕ) → IsKept p keep g → (ts : List Tok) (met : List Row) → unfolded p g ≡ plain ts met → Holds p g ts bs
-  trace-held flag rec e cid name words lent way bs c g k ts met u =
+  trace-held flag rec e cid ask name words lent way bs c g k ts met u =
       let f : Faithful font keep rec flag (subset way bs)
-      = subst (Faithful font keep rec flag) c (faithful cid font name keep rec flag words lent octets (trace-octets flag rec e)) in
+      = subst (Faithful font keep rec flag) c (faithful cid ask font name keep rec flag words lent octets (trace-octets flag rec e)) in
       let r : Recorded rec flag met
       = ⊎-elim (λ z. inl z) (λ o. inr (trace-lists rec (e ∙ ap (λ (n : ℕ). traced n rec) o) g k ts met u)) (trace-flags flag rec e) in
       f p is g k ts met u r
 
   -- with flag 1 that is every kept glyph
   pub trace-all-held : (rec : List ℕ) → traceOf font keep room ≡ traced 1 rec
-      → (cid : Bool) (name : List ℕ) (words lent way : ℕ) (bs : List ℕ) → cutOf cid font name keep rec 1 words lent ≡ subset way bs
+      → (cid ask : Bool) (name : List ℕ) (words lent way : ℕ) (bs : List ℕ) → cutOf cid ask font name keep rec 1 words lent ≡ subset way bs
       → (g : ℕ) → IsKept p keep g → (ts : List Tok) × (met : List Row) × (unfolded p g ≡ plain ts met) × Holds p g ts bs
-  trace-all-held rec e cid name words lent way bs c g k =
+  trace-all-held rec e cid ask name words lent way bs c g k =
       let a = trace-all rec e g k in
-      (a .0, a .1, a .2, trace-held 1 rec e cid name words lent way bs c g k (a .0) (a .1) (a .2))
+      (a .0, a .1, a .2, trace-held 1 rec e cid ask name words lent way bs c g k (a .0) (a .1) (a .2))
 
 -- ---- the keep list
 

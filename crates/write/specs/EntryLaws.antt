@@ -14,7 +14,7 @@ use Rattle.octets.specs.PickLaws.{pick-same}
 use Rattle.octets.specs.Octets.{Octets}
 use Rattle.octets.specs.Lists.{allBelow}
 use Rattle.record.specs.Record.{rowsOf, recordFine}
-use Rattle.dict.specs.Lookup.{rosIn, cidKeyed, strokedIn}
+use Rattle.dict.specs.Lookup.{rosIn, cidKeyed}
 use Rattle.cff.specs.Font.{Got, refused as refusedFont, got, Program, readFont}
 use Rattle.cff.specs.Find.{workSize}
 use Rattle.cff.specs.Reads.{programOf}
@@ -24,8 +24,9 @@ use Rattle.cff.specs.declared.font.Font.{Font}
 use Rattle.subset.specs.Kept.{keptOf, writtenOrder, usedFds}
 use Rattle.subset.specs.Pruned.{Pruned, pruned}
 use Rattle.subset.specs.Subset.{subsetBytes}
-use Rattle.subset.specs.Cut.{Outcome, refused, subset, allFound, hasRos, sameBool, ownOf, written, cutProgram, cutRead, cutOf, leavesOut, zeros, usesWork, leavesWork}
-use Rattle.faithful.specs.Theorem.{faithful, same-bool}
+use Rattle.subset.specs.Codes.{Coded, codedIf, pairCount}
+use Rattle.subset.specs.Cut.{Outcome, refused, subset, allFound, hasRos, sameBool, ownOf, written, unsupportedIn, cutProgram, cutRead, cutOf, leavesOut, zeros, usesWork, leavesWork}
+use Rattle.faithful.specs.Theorem.{faithful, codes-back, same-bool}
 use Rattle.faithful.specs.GoodLaws.{font-good}
 use Rattle.parts.specs.Ready.{FontHeld}
 use Rattle.early_refusals.specs.RefusalLaws.{work-is}
@@ -60,30 +61,31 @@ low true false true false true true false g = omega arith
 low true false true false true true true true = omega arith
 low true false true false true true true false = omega arith
 
-module _ (cid : Bool) (p : Program) (name keep rec : List ℕ) (flag words room : ℕ) where
+module _ (cid ask : Bool) (p : Program) (name keep rec : List ℕ) (flag words room : ℕ) where
   abbrev number : ℕ
-  number = refusalOf cid p (length name) keep rec flag words
+  number = refusalOf cid ask p (length name) keep rec flag words
 
   -- a font that was read: refused, or cut
-  pub program-cut : cutProgram cid p name keep rec flag words room ≡ pick (eqb number 0) (cutBehind p name keep rec flag room) (refused number)
+  pub program-cut : cutProgram cid ask p name keep rec flag words room ≡ pick (eqb number 0) (cutBehind ask p name keep rec flag room) (refused number)
   unfolding refusalOf
   program-cut =
-      chain (sameBool cid (cidKeyed (p .top))) (strokedIn (p .top)) (pick cid (hasRos (rosIn (p .top))) true) (ltb 65535 (length name)) (allBelow (length (p .charstrings)) keep)
-      (allFound p (keptOf (length (p .charstrings)) keep)) (recordFine cid rec flag) (ltb words (workSize p)) (cutBehind p name keep rec flag room)
+      chain (sameBool cid (cidKeyed (p .top))) (unsupportedIn ask p) (pick cid (hasRos (rosIn (p .top))) true) (ltb 65535 (length name)) (allBelow (length (p .charstrings)) keep)
+      (allFound p (keptOf (length (p .charstrings)) keep)) (recordFine cid rec flag) (ltb words (workSize p)) (cutBehind ask p name keep rec flag room)
 
   number-low : number ≤ 9
   unfolding refusalOf
   number-low =
-      low (sameBool cid (cidKeyed (p .top))) (strokedIn (p .top)) (pick cid (hasRos (rosIn (p .top))) true) (ltb 65535 (length name)) (allBelow (length (p .charstrings)) keep)
+      low (sameBool cid (cidKeyed (p .top))) (unsupportedIn ask p) (pick cid (hasRos (rosIn (p .top))) true) (ltb 65535 (length name)) (allBelow (length (p .charstrings)) keep)
       (allFound p (keptOf (length (p .charstrings)) keep)) (recordFine cid rec flag) (ltb words (workSize p))
 
 -- what a cut leaves: the words are used, whatever its outcome is
-pub written-uses : (p : Program) (name kept order : List ℕ) (room : ℕ) (q : Pruned) → usesWork (written p name kept order room q) ≡ true
-written-uses p name kept order room q =
-    let bs = subsetBytes p name kept order (q .bodies) in
-    pick-used (ltb 64609 (length (ownOf p order))) 12 (pick (ltb 67108864 (length bs)) (refused 10) (pick (ltb room (length bs)) (refused 11) (subset (q .way) bs))) refl
-    (pick-used (ltb 67108864 (length bs)) 10 (pick (ltb room (length bs)) (refused 11) (subset (q .way) bs)) refl
-    (pick-used (ltb room (length bs)) 11 (subset (q .way) bs) refl refl))
+pub written-uses : (p : Program) (coded : Coded) (name kept order : List ℕ) (room : ℕ) (q : Pruned) → usesWork (written p coded name kept order room q) ≡ true
+written-uses p coded name kept order room q =
+    let bs = subsetBytes p coded name kept order (q .bodies) in
+    let last = pick (ltb room (length bs)) (refused 11) (subset (q .way) bs) in
+    pick-used (ltb 64609 (length (ownOf p order))) 12 (pick (ltb 255 (pairCount coded)) (refused 13) (pick (ltb 67108864 (length bs)) (refused 10) last)) refl
+    (pick-used (ltb 255 (pairCount coded)) 13 (pick (ltb 67108864 (length bs)) (refused 10) last) refl
+    (pick-used (ltb 67108864 (length bs)) 10 last refl (pick-used (ltb room (length bs)) 11 (subset (q .way) bs) refl refl)))
   where
     pick-used : (t : Bool) (n : ℕ) (o : Outcome) → usesWork (refused n) ≡ true → usesWork o ≡ true → usesWork (pick t (refused n) o) ≡ true
     pick-used true n o h k = h
@@ -91,61 +93,64 @@ written-uses p name kept order room q =
 
 -- ---- calls
 
-module _ (cid : Bool) (font name keep rec : List ℕ) (flag : ℕ) (work out : List ℕ) (bytes : Octets font) (octets : Octets rec) where
+module _ (cid ask : Bool) (font name keep rec : List ℕ) (flag : ℕ) (work out : List ℕ) (bytes : Octets font) (octets : Octets rec) where
   abbrev outcome : Outcome
-  outcome = cutOf cid font name keep rec flag (length work) (length out)
+  outcome = cutOf cid ask font name keep rec flag (length work) (length out)
 
   -- a refusal that leaves the words leaves all as it was
-  refused-cuts : (n : ℕ) → outcome ≡ refused n → leavesWork (refused n) (workIn (readFont font)) work ≡ work → Cuts cid font name keep rec flag work out work out (Refused n)
+  refused-cuts : (n : ℕ) → outcome ≡ refused n → leavesWork (refused n) (workIn (readFont font)) work ≡ work → Cuts cid ask font name keep rec flag work out work out (Refused n)
   refused-cuts n e l =
       record {
         answers = ap answerOf (sym e);
         output = ap (λ (o : Outcome). leavesOut o out) (sym e);
         words = sym (ap (λ (o : Outcome). leavesWork o (workIn (readFont font)) work) e ∙ l);
-        faithful = faithful cid font name keep rec flag (length work) (length out) bytes octets;
+        faithful = faithful cid ask font name keep rec flag (length work) (length out) bytes octets;
+        codes = codes-back cid ask font name keep rec flag (length work) (length out) bytes octets;
       }
 
   -- a font that is not read has no W
-  pub unread-cuts : (n : ℕ) → readFont font ≡ refusedFont n → Cuts cid font name keep rec flag work out work out (Refused n)
+  pub unread-cuts : (n : ℕ) → readFont font ≡ refusedFont n → Cuts cid ask font name keep rec flag work out work out (Refused n)
   unfolding cutOf zeros
   unread-cuts n e =
-      refused-cuts n (ap (λ (x : Got Program). cutRead cid x name keep rec flag (length work) (length out)) e)
+      refused-cuts n (ap (λ (x : Got Program). cutRead cid ask x name keep rec flag (length work) (length out)) e)
       (ap (λ (x : Got Program). leavesWork (refused n) (workIn x) work) e ∙ pick-same (usesWork (refused n)) work)
 
   module _ (p : Program) (is : readFont font ≡ got p) where
     abbrev refusal : ℕ
-    refusal = refusalOf cid p (length name) keep rec flag (length work)
+    refusal = refusalOf cid ask p (length name) keep rec flag (length work)
 
-    outcome-is : outcome ≡ pick (eqb refusal 0) (cutBehind p name keep rec flag (length out)) (refused refusal)
+    outcome-is : outcome ≡ pick (eqb refusal 0) (cutBehind ask p name keep rec flag (length out)) (refused refusal)
     unfolding cutOf
     outcome-is =
-        ap (λ (x : Got Program). cutRead cid x name keep rec flag (length work) (length out)) is
-        ∙ program-cut cid p name keep rec flag (length work) (length out)
+        ap (λ (x : Got Program). cutRead cid ask x name keep rec flag (length work) (length out)) is
+        ∙ program-cut cid ask p name keep rec flag (length work) (length out)
 
     -- refused before the words are used
-    pub early-cuts : (0 < refusal) → Cuts cid font name keep rec flag work out work out (Refused refusal)
+    pub early-cuts : (0 < refusal) → Cuts cid ask font name keep rec flag work out work out (Refused refusal)
     early-cuts h =
         let t : eqb refusal 0 ≡ false = ne-eqb refusal 0 (λ e. omega arith) in
-        refused-cuts refusal (outcome-is ∙ ap (λ (b : Bool). pick b (cutBehind p name keep rec flag (length out)) (refused refusal)) t)
+        refused-cuts refusal (outcome-is ∙ ap (λ (b : Bool). pick b (cutBehind ask p name keep rec flag (length out)) (refused refusal)) t)
         (ap (λ (t : Bool). pick (pick t (ltb refusal 14) false) (zeros (workIn (readFont font)) ++ drop (workIn (readFont font)) work) work)
-        (le-ltb 9 refusal (number-low cid p name keep rec flag (length work) (length out))))
+        (le-ltb 9 refusal (number-low cid ask p name keep rec flag (length work) (length out))))
 
     -- cut, the first W words then cleared
-    pub late-cuts : (work' out' : List ℕ) (r : Answer) → refusal ≡ 0 → Cut (cutBehind p name keep rec flag (length out)) out out' r
-        → work' ≡ zeros (workSize p) ++ drop (workSize p) work → Cuts cid font name keep rec flag work out work' out' r
+    pub late-cuts : (work' out' : List ℕ) (r : Answer) → refusal ≡ 0 → Cut (cutBehind ask p name keep rec flag (length out)) out out' r
+        → work' ≡ zeros (workSize p) ++ drop (workSize p) work → Cuts cid ask font name keep rec flag work out work' out' r
     late-cuts work' out' r z k c =
-        let o = cutBehind p name keep rec flag (length out) in
+        let o = cutBehind ask p name keep rec flag (length out) in
         let e : outcome ≡ o = outcome-is ∙ ap (λ (b : Bool). pick b o (refused refusal)) (eq-eqb refusal 0 z) in
         let kept = keptOf (length (p .charstrings)) keep in
         let u : usesWork outcome ≡ true
-        = ap usesWork e ∙ written-uses p name kept (writtenOrder p kept) (length out) (pruned p (rowsOf rec) (usedFds p kept) (writtenOrder p kept) flag) in
+        = ap usesWork e ∙ written-uses p (codedIf ask p kept (ownOf p (writtenOrder p kept))) name kept (writtenOrder p kept) (length out)
+        (pruned p (rowsOf rec) (usedFds p kept) (writtenOrder p kept) flag) in
         record {
           answers = k .answers ∙ ap answerOf (sym e);
           output = k .output ∙ ap (λ (x : Outcome). leavesOut x out) (sym e);
           words =
               c ∙ ap (λ (w : ℕ). zeros w ++ drop w work) (sym (ap workIn is))
               ∙ sym (ap (λ (t : Bool). pick t (zeros (workIn (readFont font)) ++ drop (workIn (readFont font)) work) work) u);
-          faithful = faithful cid font name keep rec flag (length work) (length out) bytes octets;
+          faithful = faithful cid ask font name keep rec flag (length work) (length out) bytes octets;
+          codes = codes-back cid ask font name keep rec flag (length work) (length out) bytes octets;
         }
 
 -- ---- what refusal 0 says
@@ -162,16 +167,16 @@ passes true false true false true true false g h = absurd (zero-one (omega arith
 passes true false true false true true true true h = absurd (zero-one (omega arith))
 passes true false true false true true true false h = (refl, refl, refl, refl, refl, refl, refl, refl)
 
-pub not-refused : (cid : Bool) (p : Program) (name : ℕ) (keep rec : List ℕ) (flag words : ℕ) → refusalOf cid p name keep rec flag words ≡ 0
-    → Passed cid p name keep rec flag words
+pub not-refused : (cid ask : Bool) (p : Program) (name : ℕ) (keep rec : List ℕ) (flag words : ℕ) → refusalOf cid ask p name keep rec flag words ≡ 0
+    → Passed cid ask p name keep rec flag words
 unfolding refusalOf
-not-refused cid p name keep rec flag words z =
+not-refused cid ask p name keep rec flag words z =
     let h =
-    passes (sameBool cid (cidKeyed (p .top))) (strokedIn (p .top)) (pick cid (hasRos (rosIn (p .top))) true) (ltb 65535 name) (allBelow (length (p .charstrings)) keep)
+    passes (sameBool cid (cidKeyed (p .top))) (unsupportedIn ask p) (pick cid (hasRos (rosIn (p .top))) true) (ltb 65535 name) (allBelow (length (p .charstrings)) keep)
     (allFound p (keptOf (length (p .charstrings)) keep)) (recordFine cid rec flag) (ltb words (workSize p)) z in
     record {
       keying = same-bool cid (cidKeyed (p .top)) (h .0);
-      filled = h .1;
+      supported = h .1;
       ros = h .2;
       named = ltb-false 65535 name (h .3);
       below = h .4;
@@ -183,9 +188,19 @@ not-refused cid p name keep rec flag words z =
 -- ---- the entries' code
 
 -- the keying that is asked for, when it was found
-pub passed-keyed : (cid t : Bool) (p : Program) (name : ℕ) (keep rec : List ℕ) (flag words : ℕ) → Passed cid p name keep rec flag words → cid ≡ t
-    → Passed t p name keep rec flag words
-passed-keyed cid t p name keep rec flag words h e = subst (λ (x : Bool). Passed x p name keep rec flag words) e h
+pub passed-keyed : (cid ask t : Bool) (p : Program) (name : ℕ) (keep rec : List ℕ) (flag words : ℕ) → Passed cid ask p name keep rec flag words → cid ≡ t
+    → Passed t ask p name keep rec flag words
+passed-keyed cid ask t p name keep rec flag words h e = subst (λ (x : Bool). Passed x ask p name keep rec flag words) e h
+
+-- a CID-keyed font, whose encoding is not asked for
+module _ (cid ask : Bool) (no : cid ≡ true → ask ≡ false) (is : cid ≡ true) (p : Program) where
+  pub passed-cid : (name : ℕ) (keep rec : List ℕ) (flag words : ℕ) → Passed cid ask p name keep rec flag words → Passed true false p name keep rec flag words
+  passed-cid name keep rec flag words h =
+      subst (λ (a : Bool). Passed true a p name keep rec flag words) (no is) (passed-keyed cid ask true p name keep rec flag words h is)
+
+  pub cut-as-cid : (name keep rec : List ℕ) (flag : ℕ) (out out' : List ℕ) (r : Answer) → Cut (cutBehind false p name keep rec flag (length out)) out out' r
+      → Cut (cutBehind ask p name keep rec flag (length out)) out out' r
+  cut-as-cid name keep rec flag out out' r c = subst (λ (a : Bool). Cut (cutBehind a p name keep rec flag (length out)) out out' r) (sym (no is)) c
 
 -- what the cut asks of the table's bytes
 pub font-held : (file : List ℕ) (f : Font) (b : List ℕ) → Octets file → InFile file f b → FontHeld b f
@@ -196,21 +211,21 @@ unfolding zeros
 zeros-are zero = refl
 zeros-are (suc n) = ap (λ (l : List ℕ). 0 ∷ l) (zeros-are n)
 
-module _ (cid : Bool) (font : List ℕ) (f : Font) (b : List ℕ) (name keep rec : List ℕ) (flag : ℕ) (work out : List ℕ) (bytes : Octets font) (octets : Octets rec)
-    (held : InFile font f b) (n : ℕ) (number : n ≡ refusalOf cid (programOf b f) (length name) keep rec flag (length work)) where
+module _ (cid ask : Bool) (font : List ℕ) (f : Font) (b : List ℕ) (name keep rec : List ℕ) (flag : ℕ) (work out : List ℕ) (bytes : Octets font) (octets : Octets rec)
+    (held : InFile font f b) (n : ℕ) (number : n ≡ refusalOf cid ask (programOf b f) (length name) keep rec flag (length work)) where
   -- refused before the cut
-  pub early-read : 0 < n → Cuts cid font name keep rec flag work out work out (Refused n)
+  pub early-read : 0 < n → Cuts cid ask font name keep rec flag work out work out (Refused n)
   early-read h =
-      subst (λ (m : ℕ). Cuts cid font name keep rec flag work out work out (Refused m)) (sym number)
-      (early-cuts cid font name keep rec flag work out bytes octets (programOf b f) (held .is) (subst (λ (m : ℕ). 0 < m) number h))
+      subst (λ (m : ℕ). Cuts cid ask font name keep rec flag work out work out (Refused m)) (sym number)
+      (early-cuts cid ask font name keep rec flag work out bytes octets (programOf b f) (held .is) (subst (λ (m : ℕ). 0 < m) number h))
 
   module _ (l : n ≤ 0) where
-    none : refusalOf cid (programOf b f) (length name) keep rec flag (length work) ≡ 0
+    none : refusalOf cid ask (programOf b f) (length name) keep rec flag (length work) ≡ 0
     none = let z : n ≡ 0 = omega arith in sym number ∙ z
 
     -- what the cut asks
-    pub passed-read : Passed cid (programOf b f) (length name) keep rec flag (length work)
-    passed-read = not-refused cid (programOf b f) (length name) keep rec flag (length work) none
+    pub passed-read : Passed cid ask (programOf b f) (length name) keep rec flag (length work)
+    passed-read = not-refused cid ask (programOf b f) (length name) keep rec flag (length work) none
 
     module _ (w : ℕ) (size : w ≡ 2 * f .charstrings .count + f .globals .count + f .locals) where
       wide : w ≡ workSize (programOf b f)
@@ -224,12 +239,12 @@ module _ (cid : Bool) (font : List ℕ) (f : Font) (b : List ℕ) (name keep rec
       words-taken = sym (length-take-le w work words-room)
 
       -- what the cut of the first W words asks
-      pub passed-words : Passed cid (programOf b f) (length name) keep rec flag (length (take w work))
+      pub passed-words : Passed cid ask (programOf b f) (length name) keep rec flag (length (take w work))
       passed-words =
           let h = passed-read in
           record {
             keying = h .keying;
-            filled = h .filled;
+            supported = h .supported;
             ros = h .ros;
             named = h .named;
             below = h .below;
@@ -239,9 +254,9 @@ module _ (cid : Bool) (font : List ℕ) (f : Font) (b : List ℕ) (name keep rec
           }
 
       -- cut with them, which are then cleared
-      pub late-read : (used cleared out' : List ℕ) (r : Answer) → Cut (cutBehind (programOf b f) name keep rec flag (length out)) out out' r
-          → length used ≡ length (take w work) → cleared ≡ replicate (length used) 0 → Cuts cid font name keep rec flag work out (cleared ++ drop w work) out' r
+      pub late-read : (used cleared out' : List ℕ) (r : Answer) → Cut (cutBehind ask (programOf b f) name keep rec flag (length out)) out out' r
+          → length used ≡ length (take w work) → cleared ≡ replicate (length used) 0 → Cuts cid ask font name keep rec flag work out (cleared ++ drop w work) out' r
       late-read used cleared out' r k l e =
-          late-cuts cid font name keep rec flag work out bytes octets (programOf b f) (held .is) (cleared ++ drop w work) out' r none k
+          late-cuts cid ask font name keep rec flag work out bytes octets (programOf b f) (held .is) (cleared ++ drop w work) out' r none k
           (ap (λ (x : List ℕ). x ++ drop w work) (e ∙ ap (λ (m : ℕ). replicate m 0) (l ∙ sym words-taken) ∙ zeros-are w)
           ∙ ap (λ (m : ℕ). zeros m ++ drop m work) wide)

@@ -13,6 +13,7 @@ use outcome::Answer;
 // The cut by the keying that is asked for.
 fn cut_glyphs(
     cid: bool,
+    ask: bool,
     font: &[u8],
     f: Font,
     name: &[u8],
@@ -22,20 +23,21 @@ fn cut_glyphs(
     words: &mut [u32],
     out: &mut [u8],
 ) -> Answer
-    requires { ⌜ (FontHeld (now font) f)
-        × (Passed cid (programOf (now font) f) (length (now name)) (now keep) (now rows) traced (length (now words))) ⌝ }
-    ensures { λ r. ⌜ Cut (cutBehind (programOf (now (font .entry)) f) (now (name .entry)) (now (keep .entry)) (now (rows .entry)) traced (length (now (out .entry))))
+    requires { ⌜ (cid ≡ true → ask ≡ false) × (FontHeld (now font) f)
+        × (Passed cid ask (programOf (now font) f) (length (now name)) (now keep) (now rows) traced (length (now words))) ⌝ }
+    ensures { λ r. ⌜ Cut (cutBehind ask (programOf (now (font .entry)) f) (now (name .entry)) (now (keep .entry)) (now (rows .entry)) traced (length (now (out .entry))))
         (now (out .entry)) (now (out .exit)) r ⌝ }
 {
     if cid {
         return by_cid::cut_cid(font, f, name, keep, rows, traced, words, out);
     }
-    by_name::cut_named(font, f, name, keep, rows, traced, words, out)
+    by_name::cut_named(font, f, ask, name, keep, rows, traced, words, out)
 }
 
 // The cut of a font that was read in a file, by the bytes of its table: refused before the work words are used, or with the first W of them, which end as zeros.
 fn cut_font(
     cid: bool,
+    ask: bool,
     font: &[u8],
     f: Font,
     name: &[u8],
@@ -45,25 +47,47 @@ fn cut_font(
     work: &mut [u32],
     out: &mut [u8],
 ) -> Answer
-    requires { ⌜ HasFont (now font) f ⌝ }
-    ensures { λ r. ⌜ Cuts cid (now (font .entry)) (now (name .entry)) (now (keep .entry)) (now (rows .entry)) traced (now (work .entry)) (now (out .entry))
+    requires { ⌜ (cid ≡ true → ask ≡ false) × HasFont (now font) f ⌝ }
+    ensures { λ r. ⌜ Cuts cid ask (now (font .entry)) (now (name .entry)) (now (keep .entry)) (now (rows .entry)) traced (now (work .entry)) (now (out .entry))
         (now (work .exit)) (now (out .exit)) r ⌝ }
 {
     let table = cff::set::table(font, f);
-    let n = early_refusals::refusal(cid, table, f, name.len(), keep, rows, traced, work.len());
+    let n = early_refusals::refusal(
+        cid,
+        ask,
+        table,
+        f,
+        name.len(),
+        keep,
+        rows,
+        traced,
+        work.len(),
+    );
     if 0 < n {
         return Answer::Refused(n);
     }
     let w = early_refusals::work_size(f);
     let words = &mut work[..w];
-    let r = cut_glyphs(cid, table, f, name, keep, rows, traced, &mut *words, out);
+    let r = cut_glyphs(
+        cid,
+        ask,
+        table,
+        f,
+        name,
+        keep,
+        rows,
+        traced,
+        &mut *words,
+        out,
+    );
     reach::ranks::clear(words);
     r
 }
 
-// The cut of a font, CID-keyed or not.
+// The cut of a font, CID-keyed or, with its encoding where it is asked for, not.
 fn cut(
     cid: bool,
+    ask: bool,
     font: &[u8],
     name: &[u8],
     keep: &[u16],
@@ -72,29 +96,31 @@ fn cut(
     work: &mut [u32],
     out: &mut [u8],
 ) -> Answer
-    ensures { λ r. ⌜ Cuts cid (now (font .entry)) (now (name .entry)) (now (keep .entry)) (now (rows .entry)) traced (now (work .entry)) (now (out .entry))
+    requires { ⌜ (cid ≡ true → ask ≡ false) ⌝ }
+    ensures { λ r. ⌜ Cuts cid ask (now (font .entry)) (now (name .entry)) (now (keep .entry)) (now (rows .entry)) traced (now (work .entry)) (now (out .entry))
         (now (work .exit)) (now (out .exit)) r ⌝ }
 {
     match cff::set::read_font(font) {
         FontRead::Refused(n) => Answer::Refused(n),
-        FontRead::Found(f) => cut_font(cid, font, f, name, keep, rows, traced, work, out),
+        FontRead::Found(f) => cut_font(cid, ask, font, f, name, keep, rows, traced, work, out),
     }
 }
 
-// The subset of a name-keyed font: glyph 0 and the glyphs of the keep list.
+// The subset of a name-keyed font: glyph 0 and the glyphs of the keep list; and where it is asked for, its encoding (document 02, Wish 4).
 pub fn subset(
     font: &[u8],
     name: &[u8],
     keep: &[u16],
     rows: &[u8],
     traced: u8,
+    encoding: bool,
     work: &mut [u32],
     out: &mut [u8],
 ) -> Answer
-    ensures { λ r. ⌜ Cuts false (now (font .entry)) (now (name .entry)) (now (keep .entry)) (now (rows .entry)) traced (now (work .entry)) (now (out .entry))
+    ensures { λ r. ⌜ Cuts false encoding (now (font .entry)) (now (name .entry)) (now (keep .entry)) (now (rows .entry)) traced (now (work .entry)) (now (out .entry))
         (now (work .exit)) (now (out .exit)) r ⌝ }
 {
-    cut(false, font, name, keep, rows, traced, work, out)
+    cut(false, encoding, font, name, keep, rows, traced, work, out)
 }
 
 // The subset of a CID-keyed font.
@@ -107,8 +133,8 @@ pub fn subset_cid(
     work: &mut [u32],
     out: &mut [u8],
 ) -> Answer
-    ensures { λ r. ⌜ Cuts true (now (font .entry)) (now (name .entry)) (now (keep .entry)) (now (rows .entry)) traced (now (work .entry)) (now (out .entry))
+    ensures { λ r. ⌜ Cuts true false (now (font .entry)) (now (name .entry)) (now (keep .entry)) (now (rows .entry)) traced (now (work .entry)) (now (out .entry))
         (now (work .exit)) (now (out .exit)) r ⌝ }
 {
-    cut(true, font, name, keep, rows, traced, work, out)
+    cut(true, false, font, name, keep, rows, traced, work, out)
 }

@@ -3,7 +3,7 @@
 use crate::cff::{CffProgram, STANDARD_STRINGS, op, write};
 use crate::domain::{NONE, Wishes};
 use crate::hooked::{self, Given};
-use crate::model::{Font, LONGEST, MALFORMED, NO_SUCH_ITEM, TOO_LONG, UNSUPPORTED};
+use crate::model::{EXPERT, Font, LONGEST, MALFORMED, NO_SUCH_ITEM, TOO_LONG, UNSUPPORTED};
 use crate::{cut_model, original, record};
 use std::collections::BTreeSet;
 
@@ -13,10 +13,11 @@ pub const WORK: u8 = 9;
 pub const SUBSET_TOO_LONG: u8 = 10;
 pub const NO_ROOM: u8 = 11;
 pub const STRING_IDS: u8 = 12;
+pub const PAIRS: u8 = 13;
 
 /// The longest new name, and the largest new string id.
 pub const LONGEST_NAME: usize = 65_535;
-const LARGEST_ID: usize = 64_999;
+pub const LARGEST_ID: usize = 64_999;
 
 /// The top DICT's six string entries.
 const TOP_STRINGS: [u16; 6] = [
@@ -39,6 +40,8 @@ pub struct Cut {
     pub flag: u8,
     /// What the record is.
     pub record_kind: &'static str,
+    /// Whether the font's encoding is asked for: not by 0, and not of `cff_subset_cid`. Document 02, Wish 4.
+    pub encoding: u8,
 }
 
 /// What is lent to a call.
@@ -64,7 +67,7 @@ pub struct Subset {
 pub enum Outcome {
     /// Refused before the work words are counted.
     Early(u8),
-    /// Work words, and then a subset or refusal 12 or 10.
+    /// Work words, and then a subset or refusal 12, 13 or 10.
     Ready(u64, Result<Subset, u8>),
     /// The original panics, or the model has no subset.
     Panicked(String),
@@ -114,12 +117,17 @@ pub fn cut(
     program: Option<&CffProgram>,
     cut: &Cut,
 ) -> Outcome {
-    outcome(bytes, read, program, cut, NONE, |_, program| {
-        original::caught(|| written(program, cut))
+    outcome(bytes, read, program, cut, NONE, |_| {
+        let program = program.expect("a font that both read");
+        if own_strings(program, cut) + STANDARD_STRINGS.len() > LARGEST_ID + 1 {
+            return Ok(Err(STRING_IDS));
+        }
+        original::caught(|| Ok(written(program, cut)))
     })
 }
 
-/// The same by wishes, the subset being the model's: outside the domain of the comparison with the original.
+/// The same by wishes, the subset being the model's: outside the domain of the comparison with the original, which then need not
+/// read the font.
 pub fn by_model(
     bytes: &[u8],
     read: Result<&Font, u8>,
@@ -127,8 +135,8 @@ pub fn by_model(
     cut: &Cut,
     wishes: Wishes,
 ) -> Outcome {
-    outcome(bytes, read, program, cut, wishes, |font, _| {
-        cut_model::subset(bytes, font, cut, wishes).ok_or("the model gives none".to_string())
+    outcome(bytes, read, program, cut, wishes, |font| {
+        cut_model::cut(bytes, font, cut, wishes).ok_or("the model gives none".to_string())
     })
 }
 
@@ -138,30 +146,31 @@ fn outcome(
     program: Option<&CffProgram>,
     cut: &Cut,
     wishes: Wishes,
-    subset: impl FnOnce(&Font, &CffProgram) -> Result<Subset, String>,
+    subset: impl FnOnce(&Font) -> Result<Result<Subset, u8>, String>,
 ) -> Outcome {
     let font = match read {
         Err(number) => return Outcome::Early(number),
         Ok(font) => font,
     };
-    let program = program.expect("a font that both read");
     if let Some(number) = early(bytes, font, program, cut, wishes) {
         return Outcome::Early(number);
     }
-    let subset = if own_strings(program, cut) + STANDARD_STRINGS.len() > LARGEST_ID + 1 {
-        Err(STRING_IDS)
-    } else {
-        match subset(font, program) {
-            Err(message) => return Outcome::Panicked(message),
-            Ok(s) if s.bytes.len() > LONGEST => Err(SUBSET_TOO_LONG),
-            Ok(s) => Ok(s),
-        }
+    let subset = match subset(font) {
+        Err(message) => return Outcome::Panicked(message),
+        Ok(Ok(s)) if s.bytes.len() > LONGEST => Err(SUBSET_TOO_LONG),
+        Ok(answer) => answer,
     };
     Outcome::Ready(font.work(), subset)
 }
 
 /// The refusals from wrong keying to a malformed record, in their order.
-fn early(bytes: &[u8], font: &Font, program: &CffProgram, cut: &Cut, wishes: Wishes) -> Option<u8> {
+fn early(
+    bytes: &[u8],
+    font: &Font,
+    program: Option<&CffProgram>,
+    cut: &Cut,
+    wishes: Wishes,
+) -> Option<u8> {
     if font.cid_keyed != cut.cid_keyed {
         return Some(UNSUPPORTED);
     }
@@ -169,7 +178,15 @@ fn early(bytes: &[u8], font: &Font, program: &CffProgram, cut: &Cut, wishes: Wis
     if wishes.contains(&11) && font.stroked {
         return Some(UNSUPPORTED);
     }
-    if font.cid_keyed && program.ros().is_none() {
+    // Wish 4: the Expert encoding is refused as before where it is not asked for.
+    if font.encoding == EXPERT && cut.encoding == 0 {
+        return Some(UNSUPPORTED);
+    }
+    let has_ros = || match program {
+        Some(program) => program.ros().is_some(),
+        None => cut_model::has_ros(bytes, font),
+    };
+    if font.cid_keyed && !has_ros() {
         return Some(MALFORMED);
     }
     if cut.name.len() > LONGEST_NAME {
@@ -182,7 +199,11 @@ fn early(bytes: &[u8], font: &Font, program: &CffProgram, cut: &Cut, wishes: Wis
     {
         return Some(NO_SUCH_ITEM);
     }
-    if cut.keep.iter().any(|&k| !found(bytes, font, program, k)) {
+    let is_found = |&k: &u16| match program {
+        Some(program) => found(bytes, font, program, k),
+        None => font.first(bytes, font.charset[usize::from(k)]) == Some(k),
+    };
+    if !cut.keep.iter().all(is_found) {
         return Some(NOT_FOUND);
     }
     if !record::sound(&cut.record, cut.flag, font.cid_keyed) {

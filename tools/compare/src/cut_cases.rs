@@ -15,9 +15,21 @@ pub fn fonts(seed: u64) -> Families {
     Families::new(seed ^ 0x9fb2_1c65_1e98_df25, family)
 }
 
-/// One font, and up to two damaged copies of it.
+/// Those made for their encodings.
+pub fn coded(seed: u64) -> Families {
+    Families::new(seed ^ 0x4cf5_ad43_2745_937f, |g| {
+        let made = fonts::make_coded(g);
+        copied(g, made)
+    })
+}
+
 fn family(g: &mut Generator) -> Vec<Member> {
     let made = fonts::make_to_cut(g);
+    copied(g, made)
+}
+
+/// A font, and up to two damaged copies of it.
+fn copied(g: &mut Generator, made: fonts::Made) -> Vec<Member> {
     let copies = [0, 0, 1, 2][g.below(4)];
     let mut members = vec![(made.kind, INTACT, made.bytes.clone())];
     if copies > 0 {
@@ -50,6 +62,7 @@ pub fn any(g: &mut Generator, opened: &Opened<'_>) -> Cut {
             record: Vec::new(),
             flag: g.below(2) as u8,
             record_kind: "no rows",
+            encoding: 0,
         };
     };
     let glyphs = font.charset.len();
@@ -83,6 +96,7 @@ pub fn any(g: &mut Generator, opened: &Opened<'_>) -> Cut {
         record: record.bytes,
         flag: record.flag,
         record_kind: record.kind,
+        encoding: 0,
     }
 }
 
@@ -169,6 +183,7 @@ pub fn real(g: &mut Generator, opened: &Opened<'_>) -> Vec<Cut> {
             record: bytes,
             flag,
             record_kind: kind,
+            encoding: 0,
         });
     };
     for what in AMOUNTS {
@@ -202,5 +217,6 @@ pub fn few(g: &mut Generator, opened: &Opened<'_>) -> Vec<Cut> {
         record: record.bytes,
         flag: record.flag,
         record_kind: record.kind,
+        encoding: 0,
     }]
 }

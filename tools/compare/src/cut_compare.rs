@@ -61,15 +61,22 @@ pub fn compare(library: &Library, case: &Case, seed: u64, tally: &mut CutTally, 
         {
             tally.modelled += 1;
             let wishes = if inside { WISHES } else { NONE };
-            let mine = cut_model::subset(&case.font, font, &cut, wishes);
-            let verdict = mine.map_or(Err("none".to_string()), |mine| {
-                same(u64::from(mine.way), &mine.bytes, subset)
-            });
+            let verdict = match cut_model::cut(&case.font, font, &cut, wishes) {
+                None => Err("none".to_string()),
+                Some(Err(number)) => Err(format!("refusal {number}")),
+                Some(Ok(mine)) => same(u64::from(mine.way), &mine.bytes, subset),
+            };
             if let Err(message) = verdict {
                 let message = format!("the model and the original differ: {message}");
                 differ(case, seed, &cut, "nothing", message, tally);
             }
         }
+        // Wish 4: of one font, not asked for its encoding, the answer stays.
+        let as_before = before.notes.contains(domain::EXPERT) && reading.fonts == 1;
+        let before_it = match (&outcome, before.font.as_ref()) {
+            (Outcome::Early(number), Err(_)) if as_before => Some(*number),
+            _ => None,
+        };
         let outcome = if inside {
             outcome
         } else {
@@ -80,6 +87,12 @@ pub fn compare(library: &Library, case: &Case, seed: u64, tally: &mut CutTally, 
             }
             cut::by_model(opened.bytes, read, opened.program, &cut, WISHES)
         };
+        if let (Some(before), Outcome::Early(number)) = (before_it, &outcome)
+            && before != *number
+        {
+            let message = format!("refusal {number} for one font, the original's is {before}");
+            differ(case, seed, &cut, "nothing", message, tally);
+        }
         if panicked(case, seed, &cut, &outcome, tally) {
             continue;
         }
@@ -113,7 +126,14 @@ pub fn modelled(font: &Font, cut: &Cut) -> bool {
     font.work() < 100_000 && cut.keep.len() * cut.record.len() < 100_000_000
 }
 
-fn differ(case: &Case, seed: u64, cut: &Cut, lent: &str, message: String, tally: &mut CutTally) {
+pub fn differ(
+    case: &Case,
+    seed: u64,
+    cut: &Cut,
+    lent: &str,
+    message: String,
+    tally: &mut CutTally,
+) {
     tally.difference(Difference {
         case: case.label(seed),
         message,
@@ -251,6 +271,7 @@ pub fn subsets(library: &Library, font: &[u8]) -> Vec<(&'static str, Vec<u8>)> {
             record: record.bytes,
             flag: record.flag,
             record_kind: record.kind,
+            encoding: 0,
         };
         let lent = Lent {
             work: opened.read.map_or(0, |f| f.work() as usize),

@@ -118,6 +118,7 @@ fn copied(cid_keyed: bool, name: Vec<u8>, keep: Vec<u16>) -> Cut {
         record: Vec::new(),
         flag: 0,
         record_kind: "flag 0",
+        encoding: 0,
     }
 }
 
@@ -195,6 +196,7 @@ fn some(g: &mut Generator, opened: &Opened<'_>) -> Vec<Cut> {
             record: record.bytes,
             flag: record.flag,
             record_kind: record.kind,
+            encoding: 0,
         });
     }
     cuts

@@ -3,8 +3,9 @@
 //! model.rs.
 
 use crate::cff::STANDARD_STRINGS;
-use crate::cut::{Cut, Subset};
+use crate::cut::{Cut, LARGEST_ID, PAIRS, STRING_IDS, Subset};
 use crate::cut_model_bodies::{Numbers, rewritten};
+use crate::cut_model_codes as codes;
 use crate::cut_model_dicts::{
     clamped, decimal, fd_select, five, index, integer, offset_size, operator, private,
 };
@@ -17,6 +18,7 @@ use std::collections::{BTreeMap, BTreeSet};
 const ROS: u16 = 12 << 8 | 30;
 const CID_COUNT: u16 = 12 << 8 | 34;
 const FONT_MATRIX: u16 = 12 << 8 | 7;
+const ENCODING: u8 = 16;
 /// The six string entries and the eight others that a subset copies.
 const STRING_ENTRIES: [u16; 6] = [0, 1, 12 << 8, 2, 3, 4];
 const ENTRIES: [u16; 8] = [
@@ -41,6 +43,8 @@ struct Model<'a> {
     kept: BTreeSet<u16>,
     /// The FDs in use.
     fds: Vec<u8>,
+    /// Whether the encoding is asked for.
+    asked: bool,
     wishes: Wishes,
 }
 
@@ -51,8 +55,8 @@ struct Bodies {
     locals: Vec<Vec<Vec<u8>>>,
 }
 
-/// The subset, for a cut that nothing refuses.
-pub fn subset(bytes: &[u8], font: &Font, cut: &Cut, wishes: Wishes) -> Option<Subset> {
+/// The subset, or refusal 12 or 13, for a cut that nothing else refuses.
+pub fn cut(bytes: &[u8], font: &Font, cut: &Cut, wishes: Wishes) -> Option<Result<Subset, u8>> {
     let parts = model::parts(bytes, font.charset.len())?;
     let kept: BTreeSet<u16> = cut.keep.iter().copied().chain([0]).collect();
     let fds: BTreeSet<u8> = kept.iter().map(|&k| parts.select[usize::from(k)]).collect();
@@ -63,6 +67,7 @@ pub fn subset(bytes: &[u8], font: &Font, cut: &Cut, wishes: Wishes) -> Option<Su
         rows: record::rows(&cut.record),
         kept,
         fds: fds.into_iter().collect(),
+        asked: cut.encoding != 0 && !font.cid_keyed && wishes.contains(&4),
         wishes,
     };
     let (way, bodies) = if cut.flag == 0 {
@@ -73,7 +78,14 @@ pub fn subset(bytes: &[u8], font: &Font, cut: &Cut, wishes: Wishes) -> Option<Su
         (1, model.unpruned(Some(&model.rows)))
     };
     let bytes = model.layout(&cut.name, bodies);
-    Some(Subset { way, bytes })
+    Some(bytes.map(|bytes| Subset { way, bytes }))
+}
+
+/// Whether a ROS can be used: it has three operands.
+pub fn has_ros(bytes: &[u8], font: &Font) -> bool {
+    let parts = model::parts(bytes, font.charset.len());
+    let last = parts.and_then(|parts| parts.top.into_iter().rev().find(|e| e.0 == ROS));
+    last.is_some_and(|(_, operands)| operands.len() == 3)
 }
 
 impl Model<'_> {
@@ -203,7 +215,7 @@ impl Model<'_> {
         Some(bodies)
     }
 
-    fn layout(&self, name: &[u8], bodies: Bodies) -> Vec<u8> {
+    fn layout(&self, name: &[u8], bodies: Bodies) -> Result<Vec<u8>, u8> {
         let cid_keyed = self.font.cid_keyed;
         let mut order: Vec<u16> = self.kept.iter().copied().collect();
         let id = |k: &u16| self.font.charset[usize::from(*k)];
@@ -223,6 +235,11 @@ impl Model<'_> {
                 charset.extend_from_slice(&new.to_be_bytes());
             }
         }
+        if STANDARD_STRINGS.len() + strings.len() > LARGEST_ID + 1 {
+            return Err(STRING_IDS);
+        }
+        // Document 02, Wish 4. A kept glyph has its name's new id, so that no string is added.
+        let encoding = self.encoding(&mut strings)?;
         let select: Vec<u8> = order
             .iter()
             .map(|&k| {
@@ -246,6 +263,8 @@ impl Model<'_> {
         // The parts in their order; offsets in the top DICT take 5 bytes each.
         let offsets: &[&[u8]] = if cid_keyed {
             &[&[15], &[12, 37], &[17], &[12, 36]]
+        } else if encoding.is_some() {
+            &[&[15], &[ENCODING], &[17]]
         } else {
             &[&[15], &[17]]
         };
@@ -258,6 +277,7 @@ impl Model<'_> {
         if cid_keyed {
             parts.push(fd_select(&select));
         }
+        parts.extend(encoding);
         parts.push(index(&charstrings));
         let matrices: Vec<Vec<u8>> = self.fds.iter().map(|&fd| self.matrix(fd)).collect();
         let measured: Vec<Vec<u8>> = matrices.iter().map(|m| vec![0; m.len() + 11]).collect();
@@ -273,7 +293,8 @@ impl Model<'_> {
             parts.push(index(&entries));
         }
         for (operator, part) in offsets.iter().zip(&parts) {
-            top.extend(five(at));
+            let predefined = *operator == [ENCODING] && self.font.encoding == model::EXPERT;
+            top.extend(five(if predefined { 1 } else { at }));
             top.extend_from_slice(operator);
             at += part.len();
         }
@@ -286,7 +307,36 @@ impl Model<'_> {
         out.extend(front);
         parts.iter().for_each(|part| out.extend(part));
         privates.iter().for_each(|(_, bytes)| out.extend(bytes));
-        out
+        Ok(out)
+    }
+
+    /// The encoding's bytes where it has an entry: none of the Expert one. More than 255 pairs are refused.
+    fn encoding(&self, strings: &mut Vec<Vec<u8>>) -> Result<Option<Vec<u8>>, u8> {
+        if !self.asked || self.font.encoding == model::STANDARD {
+            return Ok(None);
+        }
+        if self.font.encoding == model::EXPERT {
+            return Ok(Some(Vec::new()));
+        }
+        let mut pairs = Vec::new();
+        for (code, glyph) in codes::of(self.bytes, self.font, codes::By::String)
+            .into_iter()
+            .enumerate()
+        {
+            if let Some(glyph) = glyph.filter(|g| self.kept.contains(g)) {
+                let id = self.new_id(self.font.charset[usize::from(glyph)], strings);
+                pairs.push((code as u8, id));
+            }
+        }
+        let Ok(count) = u8::try_from(pairs.len()) else {
+            return Err(PAIRS);
+        };
+        let mut out = vec![0x80, 0, count];
+        for (code, id) in pairs {
+            out.push(code);
+            out.extend_from_slice(&id.to_be_bytes());
+        }
+        Ok(Some(out))
     }
 
     /// The operands of the last entry of an operator in the top DICT.

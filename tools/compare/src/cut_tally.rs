@@ -18,8 +18,8 @@ pub struct Difference {
     pub lent: String,
 }
 
-/// Ways 0 to 2, then refusals 1 to 12.
-const COLUMNS: usize = 15;
+/// Ways 0 to 2, then refusals 1 to 13.
+const COLUMNS: usize = 16;
 type ByAnswer = [u64; COLUMNS];
 
 fn column(answer: &Answer<'_>) -> usize {
@@ -153,8 +153,9 @@ impl Difference {
         let short = |bytes: &[u8]| hex(&bytes[..bytes.len().min(2000)]);
         let _ = writeln!(
             out,
-            "  CID entry {}, name {}, keep {}, flag {}, record {}",
+            "  CID entry {}, encoding {}, name {}, keep {}, flag {}, record {}",
             cut.cid_keyed,
+            cut.encoding,
             short(&cut.name[..cut.name.len().min(20)]),
             short(&keep),
             cut.flag,
@@ -165,7 +166,7 @@ impl Difference {
 
 fn header(out: &mut String) {
     let ways = (0..3).map(|way| format!("w{way}"));
-    let refusals = (1..=12).map(|number| number.to_string());
+    let refusals = (1..=13).map(|number| number.to_string());
     let last = ["all".to_string()];
     report::row(out, "", WIDTH, ways.chain(refusals).chain(last));
 }

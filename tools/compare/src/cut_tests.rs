@@ -25,6 +25,7 @@ fn sheet() -> Cut {
         record: Vec::new(),
         flag: 1,
         record_kind: cut::OWN,
+        encoding: 0,
     }
 }
 

@@ -14,7 +14,7 @@ pub type Wishes = &'static [u8];
 pub const NONE: Wishes = &[];
 
 /// The model of the library: the wishes that it follows.
-pub const WISHES: Wishes = &[2, 5, 11];
+pub const WISHES: Wishes = &[2, 4, 5, 11];
 
 /// What is asked of a font: what reading gives, items and finding among it, or a subset.
 #[derive(Clone, Copy, Debug, PartialEq, Eq)]
@@ -42,7 +42,10 @@ pub fn inside(call: Call, reading: &Reading, wishes: Wishes) -> bool {
     // Wish 11, 'Stroked fonts retired': "Comparison with the Rust keeps to fonts that have neither entry." Reading is as it was.
     let strokes =
         wishes.contains(&11) && call == Call::Subset && (has(PAINT_TYPE) || has(STROKE_WIDTH));
-    !begins_elsewhere && !strokes
+    // Wish 4, 'Keep the club's own codes': reading takes the Expert encoding, which the Rust does not. A subset of one font that does not
+    // ask for it is refused by the Rust's number all the same; in a set another font may be the one that is refused.
+    let expert = wishes.contains(&4) && has(EXPERT);
+    !begins_elsewhere && !strokes && !expert
 }
 
 /// Whether a cut of a font in the domain is in it too. Wish 2, 'Letter size in CID fonts': "the Rust is the reference for fonts whose

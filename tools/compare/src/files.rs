@@ -270,6 +270,7 @@ fn answers(library: &Library, font: &[u8], keep: &[u16]) -> Vec<String> {
             record: record.clone(),
             flag,
             record_kind: "traced",
+            encoding: 0,
         };
         let lent = Lent {
             work: words,

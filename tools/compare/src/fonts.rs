@@ -16,6 +16,9 @@ pub const CID_KEYED: &str = "CID-keyed";
 pub const SET: &str = "set of fonts";
 pub const NO_FONT: &str = "set of none";
 
+/// The string id of `A`.
+const LETTERS: usize = 34;
+
 /// A font and its kind.
 pub struct Made {
     pub kind: &'static str,
@@ -36,6 +39,10 @@ struct Maker<'a> {
     /// outside the domain of the comparison with the original.
     gaps: bool,
     stroked: bool,
+    /// Whether the font is made for its encoding.
+    coded: bool,
+    /// The string ids or CIDs of the glyphs, as the last charset says them.
+    ids: Vec<u16>,
 }
 
 pub fn make(g: &mut Generator) -> Made {
@@ -45,7 +52,7 @@ pub fn make(g: &mut Generator) -> Made {
         12..=16 => 40,
         _ => 12,
     };
-    made(g, odds, None)
+    made(g, odds, None, false)
 }
 
 /// A font to cut: its charstrings and subroutines have sense, and it is seldom faulty.
@@ -57,7 +64,14 @@ pub fn make_to_cut(g: &mut Generator) -> Made {
         _ => 12,
     };
     let plan = Plan::new(g);
-    made(g, odds, Some(plan))
+    made(g, odds, Some(plan), false)
+}
+
+/// A font to cut that is name-keyed as a rule and has an encoding of its own, or the Expert one.
+pub fn make_coded(g: &mut Generator) -> Made {
+    let odds = [0, 0, 0, 0, 120, 30][g.below(6)];
+    let plan = Plan::new(g);
+    made(g, odds, Some(plan), true)
 }
 
 /// A font to cut that has so many global subroutines, and so many local ones as a rule; every call can be rewritten.
@@ -69,20 +83,22 @@ pub fn make_biased(g: &mut Generator, globals: usize, locals: usize) -> Vec<u8> 
         stems: 3,
         care: Care::Sound,
     };
-    made(g, 0, Some(plan)).bytes
+    made(g, 0, Some(plan), false).bytes
 }
 
-fn made(g: &mut Generator, odds: usize, plan: Option<Plan>) -> Made {
+fn made(g: &mut Generator, odds: usize, plan: Option<Plan>, coded: bool) -> Made {
     // Those at the steps of the bias are few, and stay inside.
     let biased = plan.is_some_and(|plan| plan.wanted.is_some());
     let mut maker = Maker {
-        gaps: g.once_in(10) && !biased,
-        stroked: g.once_in(6) && !biased,
+        gaps: g.once_in(10) && !biased && !coded,
+        stroked: g.once_in(6) && !biased && !(coded && g.below(4) > 0),
         g,
         layout: Layout::default(),
         odds,
         strings: 0,
         plan,
+        coded,
+        ids: Vec::new(),
     };
     maker.file()
 }
@@ -168,7 +184,7 @@ impl Maker<'_> {
         let mut kind = NO_FONT;
         let mut dicts = Vec::new();
         for k in 0..fonts {
-            let cid_keyed = self.g.once_in(2);
+            let cid_keyed = self.g.once_in(if self.coded { 30 } else { 2 });
             kind = match (fonts, cid_keyed) {
                 (1, false) => NAME_KEYED,
                 (1, true) => CID_KEYED,
@@ -226,6 +242,11 @@ impl Maker<'_> {
         for _ in 0..self.strings {
             let item = match self.g.below(8) {
                 0 => Vec::new(),
+                // In a font made for its encoding names that supplements have too.
+                4 if self.coded => {
+                    let k = LETTERS + self.g.below(6);
+                    STANDARD_STRINGS[k].as_bytes().to_vec()
+                }
                 1 => {
                     let k = self.g.below(STANDARD_STRINGS.len());
                     STANDARD_STRINGS[k].as_bytes().to_vec()

@@ -314,30 +314,53 @@ pub fn library() -> Library {
 }
 
 fn subset(font: &[u8], cut: &Cut, rooms: &mut Rooms<'_>) -> u8 {
-    let entry = if cut.cid_keyed {
-        ffi::cff_subset_cid
-    } else {
-        ffi::cff_subset
-    };
     let Rooms { work, out, answer } = rooms;
+    let (at, length) = (font.as_ptr(), font.len());
+    let (name, name_length) = (cut.name.as_ptr(), cut.name.len());
+    let (keep, kept) = (cut.keep.as_ptr(), cut.keep.len());
+    let (record, record_length) = (cut.record.as_ptr(), cut.record.len());
+    let (flag, encoding) = (cut.flag, cut.encoding);
+    let (words, lent, bytes, room) = (work.at(), work.lent, out.at(), out.lent);
+    let (told, told_length) = (answer.at(), answer.lent);
     // SAFETY: as above.
     unsafe {
-        entry(
-            font.as_ptr(),
-            font.len(),
-            cut.name.as_ptr(),
-            cut.name.len(),
-            cut.keep.as_ptr(),
-            cut.keep.len(),
-            cut.record.as_ptr(),
-            cut.record.len(),
-            cut.flag,
-            work.at(),
-            work.lent,
-            out.at(),
-            out.lent,
-            answer.at(),
-            answer.lent,
-        )
+        if cut.cid_keyed {
+            ffi::cff_subset_cid(
+                at,
+                length,
+                name,
+                name_length,
+                keep,
+                kept,
+                record,
+                record_length,
+                flag,
+                words,
+                lent,
+                bytes,
+                room,
+                told,
+                told_length,
+            )
+        } else {
+            ffi::cff_subset(
+                at,
+                length,
+                name,
+                name_length,
+                keep,
+                kept,
+                record,
+                record_length,
+                flag,
+                encoding,
+                words,
+                lent,
+                bytes,
+                room,
+                told,
+                told_length,
+            )
+        }
     }
 }

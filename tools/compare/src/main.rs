@@ -12,6 +12,7 @@ mod cut_compare;
 mod cut_large;
 mod cut_model;
 mod cut_model_bodies;
+mod cut_model_codes;
 mod cut_model_dicts;
 mod cut_records;
 mod cut_tally;
@@ -20,6 +21,9 @@ mod cut_tests;
 mod damage;
 mod decimal;
 mod domain;
+mod encoding_compare;
+#[cfg(test)]
+mod encoding_tests;
 mod files;
 mod fonts;
 mod heavy;
@@ -73,6 +77,7 @@ const USAGE: &str = "usage: tools/compare/run cff SEED COUNT
        tools/compare/run store-cff SEED COUNT
        tools/compare/run subset SEED COUNT
        tools/compare/run store-subset SEED COUNT
+       tools/compare/run encoding SEED COUNT
        tools/compare/run trace SEED COUNT
        tools/compare/run opentype SEED COUNT
        tools/compare/run trace-time FILE
@@ -104,6 +109,7 @@ fn main() -> ExitCode {
         ["store-cff", seed, count] => seeded(seed, count, store),
         ["subset", seed, count] => seeded(seed, count, subset),
         ["store-subset", seed, count] => seeded(seed, count, stored_subsets),
+        ["encoding", seed, count] => seeded(seed, count, encoding),
         ["trace", seed, count] => seeded(seed, count, trace),
         ["opentype", seed, count] => seeded(seed, count, opentype),
         ["trace-time", file] => trace_time(file),
@@ -230,6 +236,47 @@ fn subset(seed: u64, count: usize) -> ExitCode {
     println!("seed {seed}, {count} made fonts, {tables} tables of real fonts");
     print!("{}", tally.report(&target().join("compare")));
     status(tally.differences())
+}
+
+/// Cuts with their encoding, and without it, of `count` fonts made for it; with it of the tables in target/fonts.
+fn encoding(seed: u64, count: usize) -> ExitCode {
+    let (asked, not_asked, notes, tables) = on_large_stack(move || {
+        let library = library::library();
+        let (mut asked, mut not_asked) = (CutTally::default(), CutTally::default());
+        let mut notes = encoding_compare::Notes::default();
+        let mut with = |case: &Case, asks: &cut_compare::Asks<'_>| {
+            asked.fonts += 1;
+            encoding_compare::compare(&library, case, seed, &mut asked, &mut notes, asks);
+        };
+        for case in cut_cases::coded(seed).take(count) {
+            cut_compare::compare(&library, &case, seed, &mut not_asked, &cut_cases::made);
+            with(&case, &cut_cases::made);
+        }
+        let tables = cases::tables(&target().join("fonts"), seed);
+        for table in &tables {
+            table
+                .cases()
+                .take(1)
+                .for_each(|case| with(&case, &cut_cases::real));
+            table
+                .cases()
+                .skip(1)
+                .take(2)
+                .for_each(|case| with(&case, &cut_cases::few));
+        }
+        (asked, not_asked, notes, tables.len())
+    });
+    println!("seed {seed}, {count} made fonts, {tables} tables of real fonts");
+    print!(
+        "\n==== asked for the encoding\n{}",
+        asked.report(&target().join("compare"))
+    );
+    print!("{}", notes.report());
+    print!(
+        "\n==== not asked for it\n{}",
+        not_asked.report(&target().join("compare"))
+    );
+    status(asked.differences() + not_asked.differences())
 }
 
 /// Traces of `count` made fonts, of those at the edges, and of the tables in target/fonts with two damaged copies each.

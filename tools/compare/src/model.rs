@@ -12,9 +12,9 @@ mod parts;
 mod privates;
 
 pub use dict::Entries;
-pub use font::Font;
+pub use font::{EXPERT, Font, STANDARD};
 pub use index::Index;
-pub use parts::{Parts, parts};
+pub use parts::{Parts, parts, without_encoding};
 
 use crate::domain::Wishes;
 use privates::Fds;

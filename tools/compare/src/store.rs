@@ -130,7 +130,7 @@ pub fn lines(seed: u64, count: usize) -> Vec<String> {
     lines
 }
 
-/// Some lines of one font: two of a refused one.
+/// Some lines of one font: two of one that is refused, by document 01 or now.
 fn lines_of(bytes: &[u8], g: &mut Generator) -> Vec<String> {
     let before = model::read(bytes, NONE);
     let reading = model::read(bytes, WISHES);
@@ -140,7 +140,8 @@ fn lines_of(bytes: &[u8], g: &mut Generator) -> Vec<String> {
     let mut names = Vec::new();
     let mut cids = Vec::new();
     let mut items = Vec::new();
-    match font {
+    // A font that a wish takes is asked what a refused one is, so that the choice of lines stays.
+    match before.font.as_ref().map_err(|r| r.number).and(font) {
         Err(_) => match g.below(3) {
             0 => names.push(any(g, |g| compare::names(g, None, bytes))),
             1 => cids.push(any(g, |g| compare::cids(g, None))),

@@ -109,6 +109,11 @@ fn candidates(seed: u64) -> Vec<Candidate> {
         let reading = model::read(&case.font, WISHES);
         let read = reading.font.as_ref().map_err(|r| r.number);
         store::checked(&case.font, &before, read);
+        // A font that a wish takes shows what it showed before, so that the choice of lines stays.
+        let shown = match (&before.font, read) {
+            (Err(_), Ok(_)) => &before,
+            _ => &reading,
+        };
         let program = match original::read(&case.font) {
             original::Outcome::Program(program) => Some(program),
             _ => None,
@@ -148,7 +153,7 @@ fn candidates(seed: u64) -> Vec<Candidate> {
                 };
                 let length = plain.len();
                 if seen.insert(plain) {
-                    let shows = shows(&before, &reading, &cut, &answer);
+                    let shows = shows(&before, shown, &cut, &answer);
                     all.push(Candidate {
                         line: stored,
                         length,

@@ -163,7 +163,7 @@ fn subset(font: &[u8], cut: &Cut, rooms: &mut Rooms<'_>) -> u8 {
     let before = model::read(font, NONE);
     let inside = domain::inside(Call::Subset, &before, WISHES)
         && domain::inside_too(font, &before, cut, WISHES);
-    let outcome = if inside {
+    let outcome = if inside && cut.encoding == 0 {
         cut::cut(font, read, program, cut)
     } else {
         cut::by_model(font, read, program, cut, WISHES)

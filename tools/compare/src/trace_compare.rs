@@ -301,6 +301,7 @@ impl Comparison<'_> {
             record: record.clone(),
             flag: *flag,
             record_kind: OWN,
+            encoding: 0,
         };
         let before = original.before;
         let inside = domain::inside(Call::Subset, before, WISHES)

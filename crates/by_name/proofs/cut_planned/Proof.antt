@@ -7,7 +7,7 @@ use Rattle.by_name.proofs.cut_planned.Tie as tie
 
 -- the arguments
 abbrev S : tie.After-places-named → tie.Start
-S c = c .before .before .before .before .before .before .before .before .before .before .before .before
+S c = c .before .before .before .before .before .before .before .before .before .before .before .before .before .before
 
 places-named-requires : tie.Need-places-named-requires
 places-named-requires c κs = search needs
@@ -16,13 +16,13 @@ returns : tie.Need-returns
 returns c =
     let w = c .before in
     let s = S w in
-    planned-long _ _ _ _ _ _ _ _ (s .pre .0) (now (s .args .name)) _ _ (s .pre .1) _ (w .places-named .ensures) (now (s .args .out)) (c .if1 .taken)
+    planned-long _ _ _ _ _ _ _ _ (s .pre .0) (now (s .args .name)) _ _ (s .pre .1) _ (s .pre .2) _ (w .places-named .ensures) (now (s .args .out)) (c .if1 .taken)
 
 returns-2 : tie.Need-returns-2
 returns-2 c =
     let w = c .before .before in
     let s = S w in
-    planned-room _ _ _ _ _ _ _ _ (s .pre .0) (now (s .args .name)) _ _ (s .pre .1) _ (w .places-named .ensures) (now (s .args .out)) (c .before .if1 .left) (c .if2 .taken)
+    planned-room _ _ _ _ _ _ _ _ (s .pre .0) (now (s .args .name)) _ _ (s .pre .1) _ (s .pre .2) _ (w .places-named .ensures) (now (s .args .out)) (c .before .if1 .left) (c .if2 .taken)
 
 put-named-requires : tie.Need-put-named-requires
 put-named-requires c κs = search needs
@@ -36,7 +36,7 @@ returns-3 c =
     let e = u .before .before in
     let w = e .before .before in
     let s = S w in
-    planned-written _ _ _ _ _ _ _ _ (s .pre .0) (now (s .args .name)) _ _ (s .pre .1) _ (w .places-named .ensures) (now (s .args .out)) (e .before .if1 .left) (e .if2 .left)
+    planned-written _ _ _ _ _ _ _ _ (s .pre .0) (now (s .args .name)) _ _ (s .pre .1) _ (s .pre .2) _ (w .places-named .ensures) (now (s .args .out)) (e .before .if1 .left) (e .if2 .left)
     _ _ (u .put-named .ensures)
 
 pub cut-planned-spec : {M : Type 1} → statement M

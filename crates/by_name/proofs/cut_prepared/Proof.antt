@@ -2,7 +2,7 @@
 use Prim.Native.Nat.{_≤_}
 use native.Mathlib.Omega.{arith}
 use denote.Ref.{now}
-use Rattle.named_parts.specs.Named.{firstFd}
+use Rattle.named_parts.specs.Named.{codedFor, firstFd}
 use Rattle.by_name.specs.NamedPlanLaws.{first-only, plan-in, prepared-plan, prepared-strings, prepared-cut}
 use borrow.Author.Needs.{needs}
 use Rattle.by_name.proofs.cut_prepared.Statement.{statement}
@@ -10,7 +10,7 @@ use Rattle.by_name.proofs.cut_prepared.Tie as tie
 
 -- the arguments, and after planning
 abbrev S : tie.After-totals → tie.Start
-S c = c .before .before .before .before .before .before .before .before .before .before
+S c = c .before .before .before .before .before .before .before .before .before .before .before .before
 
 abbrev P : tie.After-cut-planned-arg2 → tie.After-plan-all
 P c = c .before .before .before .before .before .before .before .before .before
@@ -49,6 +49,7 @@ cut-planned-requires c κs =
     let e = w .plan-all .ensures in (
       prepared-plan _ _ _ _ (s .pre .0) firstFd first-only _ _ _ _ _ (e .0) (e .1) (e .2) (e .4),
       prepared-strings _ _ _ _ (s .pre .0) firstFd first-only _ _ _ _ _ (e .0) (e .1) (e .2) (e .4) _ _ _ (s .pre .1),
+      s .pre .2,
     )
 
 same-length : tie.Need-same-length
@@ -63,7 +64,7 @@ returns c =
     let w = P (u .before) in
     let s = S (w .before) in
     let e = w .plan-all .ensures in
-    prepared-cut _ _ _ _ (s .pre .0) firstFd first-only _ _ _ _ _ (e .0) (e .1) (e .2) (e .4) (s .args .traced) (e .5) (now (s .args .name)) (now (s .args .out)) _ _
+    prepared-cut _ _ _ _ (s .pre .0) firstFd first-only _ _ _ _ _ (e .0) (e .1) (e .2) (e .4) (s .args .traced) (e .5) (codedFor (s .args .names .encoding) (now (s .args .slots))) (now (s .args .name)) (now (s .args .out)) _ _
     (u .cut-planned .ensures)
 
 pub cut-prepared-spec : {M : Type 1} → statement M

@@ -18,14 +18,14 @@ put-names-requires : tie.Need-put-names-requires
 put-names-requires c κs =
     let s = c .before .before .before .before .before .before .before .before .before in
     let a = s .args in
-    names-asked (now (a .font)) (a .f) (now (a .slots)) (a .own) (now (a .words)) (a .k) (now (a .name)) (now (a .out)) (s .pre .0) (a .at .end) (a .at .charset) (a .at .charstrings) (a .at .size) (a .at .private)
+    names-asked (now (a .font)) (a .f) (now (a .slots)) (a .own) (now (a .words)) (a .k) (now (a .name)) (now (a .out)) (a .at .end) (a .at .charset) (a .at .encoding) (a .at .charstrings) (a .at .size) (a .at .private) (s .pre .0)
 
 put-named-index-requires : tie.Need-put-named-index-requires
 put-named-index-requires c κs =
     let w = c .before .before .before in
     let s = w .before .before .before .before .before .before .before .before .before .before in
     let a = s .args in
-    top-asked (now (a .font)) (a .f) (now (a .slots)) (a .own) (now (a .words)) (a .k) (now (a .name)) (now (a .out)) (s .pre .0) (a .at .end) (a .at .charset) (a .at .charstrings) (a .at .size) (a .at .private) (w .put-names .ensures) (s .pre .1)
+    top-asked (now (a .font)) (a .f) (now (a .slots)) (a .own) (now (a .words)) (a .k) (now (a .name)) (now (a .out)) (a .at .end) (a .at .charset) (a .at .encoding) (a .at .charstrings) (a .at .size) (a .at .private) (s .pre .0) (w .put-names .ensures) (s .pre .1) (s .pre .2)
 
 put-strings-requires : tie.Need-put-strings-requires
 put-strings-requires c κs =
@@ -33,7 +33,7 @@ put-strings-requires c κs =
     let w = v .before .before .before .before in
     let s = w .before .before .before .before .before .before .before .before .before .before in
     let a = s .args in
-    own-asked (now (a .font)) (a .f) (now (a .slots)) (a .own) (now (a .words)) (a .k) (now (a .name)) (now (a .out)) (s .pre .0) (a .at .end) (a .at .charset) (a .at .charstrings) (a .at .size) (a .at .private) (w .put-names .ensures) (v .put-named-index .ensures)
+    own-asked (now (a .font)) (a .f) (now (a .slots)) (a .own) (now (a .words)) (a .k) (now (a .name)) (now (a .out)) (a .at .end) (a .at .charset) (a .at .encoding) (a .at .charstrings) (a .at .size) (a .at .private) (s .pre .0) (w .put-names .ensures) (v .put-named-index .ensures)
 
 same-length : tie.Need-same-length
 same-length c = search needs
@@ -45,7 +45,7 @@ returns c =
     let w = v .before .before .before .before in
     let s = w .before .before .before .before .before .before .before .before .before .before in
     let a = s .args in
-    all-wrote (now (a .font)) (a .f) (now (a .slots)) (a .own) (now (a .words)) (a .k) (now (a .name)) (now (a .out)) (s .pre .0) (a .at .end) (a .at .charset) (a .at .charstrings) (a .at .size) (a .at .private) (w .put-names .ensures) (v .put-named-index .ensures) (u .put-strings .ensures)
+    all-wrote (now (a .font)) (a .f) (now (a .slots)) (a .own) (now (a .words)) (a .k) (now (a .name)) (now (a .out)) (a .at .end) (a .at .charset) (a .at .encoding) (a .at .charstrings) (a .at .size) (a .at .private) (s .pre .0) (w .put-names .ensures) (v .put-named-index .ensures) (u .put-strings .ensures)
 
 pub put-front-named-spec : {M : Type 1} → statement M
 put-front-named-spec =

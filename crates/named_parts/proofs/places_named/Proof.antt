@@ -9,12 +9,12 @@ use Rattle.named_parts.specs.NamedPutLaws.{places-are}
 use Rattle.named_parts.proofs.places_named.Statement.{statement}
 use Rattle.named_parts.proofs.places_named.Tie as tie
 
--- the arguments; after the Private parts, and after the front, were measured
+-- the arguments; after the Private parts, after the front, and after the globals were measured
 abbrev S : tie.After-lens → tie.Start
-S c = c .before .before .before .before .before .before .before .before .before .before .before .before .before .before
+S c = c .before .before .before .before .before .before .before .before .before .before .before .before .before .before .before .before
 
 abbrev P : tie.After-front-len → tie.After-part-sizes
-P c = c .before .before .before
+P c = c .before .before .before .before
 
 abbrev F : tie.After-struct-known → tie.After-front-len
 F c = c .before .before
@@ -31,6 +31,9 @@ part-sizes-requires c κs =
     let h : 256 ≤ 256 = omega arith in
     parts-measured _ _ _ _ _ _ _ (g .ready) _ (g .summed) 256 256 h h
 
+encoding-at-requires : tie.Need-encoding-at-requires
+encoding-at-requires c κs = search needs
+
 front-len-requires : tie.Need-front-len-requires
 front-len-requires c κs = search needs
 
@@ -40,55 +43,75 @@ globals-len-requires c κs = globals-measured _ _ _ _ _ _ _ (S (P c .before) .pr
 add-charset : tie.Need-add-charset
 add-charset c = search needs
 
-sub-charstrings : tie.Need-sub-charstrings
-sub-charstrings c = omega (arith, S (P (F c) .before) .pre .0 .some)
+sub-codes : tie.Need-sub-codes
+sub-codes c = omega (arith, S (P (F c) .before) .pre .0 .some)
 
-mul-charstrings : tie.Need-mul-charstrings
-mul-charstrings c = omega (arith, S (P (F c) .before) .pre .0 .names .few)
+mul-codes : tie.Need-mul-codes
+mul-codes c = omega (arith, S (P (F c) .before) .pre .0 .names .few)
+
+add-codes : tie.Need-add-codes
+add-codes c = omega (arith, S (P (F c) .before) .pre .0 .names .few)
+
+add-codes-2 : tie.Need-add-codes-2
+add-codes-2 c =
+    omega (arith, S (P (F c) .before) .pre .0 .names .few, F c .front-len .ensures .1, c .before .globals-len .ensures .1)
+
+encoding-len-requires : tie.Need-encoding-len-requires
+encoding-len-requires c κs = omega (arith, S (P (F c) .before) .pre .2 .few)
 
 add-charstrings : tie.Need-add-charstrings
-add-charstrings c = omega (arith, S (P (F c) .before) .pre .0 .names .few)
-
-add-charstrings-2 : tie.Need-add-charstrings-2
-add-charstrings-2 c =
-    omega (arith, S (P (F c) .before) .pre .0 .names .few, F c .front-len .ensures .1, c .before .globals-len .ensures .1)
+add-charstrings c =
+    let d = c .before in
+    omega (arith, S (P (F d) .before) .pre .0 .names .few, F d .front-len .ensures .1, d .before .globals-len .ensures .1, c .encoding-len .ensures .1)
 
 glyphs-len-requires : tie.Need-glyphs-len-requires
 glyphs-len-requires c κs =
-    let g = S (P (F c) .before) .pre .0 in
+    let g = S (P (F (c .before)) .before) .pre .0 in
     glyphs-measured _ _ _ _ _ _ _ (g .ready)
 
 add-private : tie.Need-add-private
 add-private c =
-    let d = c .before in
-    omega (arith, S (P (F d) .before) .pre .0 .names .few, F d .front-len .ensures .1, d .before .globals-len .ensures .1, c .glyphs-len .ensures .1)
+    let d = c .before .before in
+    omega (
+      arith,
+      S (P (F d) .before) .pre .0 .names .few,
+      F d .front-len .ensures .1,
+      d .before .globals-len .ensures .1,
+      c .before .encoding-len .ensures .1,
+      c .glyphs-len .ensures .1,
+    )
 
 array-read-size : tie.Need-array-read-size
 array-read-size c = search needs
 
 add-end : tie.Need-add-end
 add-end c =
-    let d = c .before in
+    let d = c .before .before in
     let q = P (F d) in
     let g = S (q .before) .pre .0 in
-    let h : 256 ≤ 256 = omega arith in
     omega (
       arith,
       g .names .few,
       F d .front-len .ensures .1,
       d .before .globals-len .ensures .1,
+      c .before .encoding-len .ensures .1,
       c .glyphs-len .ensures .1,
       q .part-sizes .ensures .small,
     )
 
+encoding-at-requires-2 : tie.Need-encoding-at-requires-2
+encoding-at-requires-2 c κs = search needs
+
 returns : tie.Need-returns
 returns c =
-    let d = c .before in
+    let g = c .before in
+    let l = g .before in
+    let d = l .before in
     let q = P (F d) in
     let s = S (q .before) in
     let h : 256 ≤ 256 = omega arith in
-    places-are _ _ _ _ _ _ _ _ (s .pre .0) (now (s .args .name)) _ _ (s .pre .1) _ _ _ (F d .front-len .ensures .0) (d .before .globals-len .ensures .0)
-    (c .glyphs-len .ensures .0) (q .part-sizes .ensures) h h _ refl
+    places-are _ _ _ _ _ _ _ _ (s .pre .0) (now (s .args .name)) _ _ (s .pre .1) _ (s .pre .2) _ _ _ _ _ _ (F d .before .encoding-at .ensures) (F d .front-len .ensures .0)
+    (d .before .globals-len .ensures .0) (l .encoding-len .ensures .0) (c .encoding-at2 .ensures) (g .glyphs-len .ensures .0) (q .part-sizes .ensures) h h _ refl
 
 pub places-named-spec : {M : Type 1} → statement M
 places-named-spec =
@@ -97,15 +120,19 @@ places-named-spec =
     slice-aggregate-part-sizes
     slice-aggregate-part-sizes-2
     part-sizes-requires
+    encoding-at-requires
     front-len-requires
     globals-len-requires
     add-charset
-    sub-charstrings
-    mul-charstrings
+    sub-codes
+    mul-codes
+    add-codes
+    add-codes-2
+    encoding-len-requires
     add-charstrings
-    add-charstrings-2
     glyphs-len-requires
     add-private
     array-read-size
     add-end
+    encoding-at-requires-2
     returns)

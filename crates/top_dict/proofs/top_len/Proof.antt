@@ -24,13 +24,19 @@ add-result-3 : tie.Need-add-result-3
 add-result-3 c = search needs
 
 returns : tie.Need-returns
-returns c = (cid-sum _ _ _ (c .before .before .if1 .taken) _ _ _ (c .before .ros-len .ensures .0) (c .before .before .before .carried-len .ensures .0) (c .count-len .ensures .0), omega (arith, c .before .ros-len .ensures .1, c .before .before .before .carried-len .ensures .1, c .count-len .ensures .1))
+returns c = (cid-sum _ _ _ _ (c .before .before .if1 .taken) _ _ _ (c .before .ros-len .ensures .0) (c .before .before .before .carried-len .ensures .0) (c .count-len .ensures .0), omega (arith, c .before .ros-len .ensures .1, c .before .before .before .carried-len .ensures .1, c .count-len .ensures .1))
 
 add-result-4 : tie.Need-add-result-4
 add-result-4 c = search needs
 
+encoding-len-requires : tie.Need-encoding-len-requires
+encoding-len-requires c κs = search needs
+
+add-result-5 : tie.Need-add-result-5
+add-result-5 c = search needs
+
 returns-2 : tie.Need-returns-2
-returns-2 c = (named-sum _ _ _ (c .if1 .left) _ (c .before .carried-len .ensures .0), omega (arith, c .before .carried-len .ensures .1))
+returns-2 c = (named-sum _ _ _ _ (c .before .if1 .left) _ _ (c .before .before .carried-len .ensures .0) (c .encoding-len .ensures .0), omega (arith, c .before .before .carried-len .ensures .1, c .encoding-len .ensures .1))
 
 pub top-len-spec : {M : Type 1} → statement M
 top-len-spec =
@@ -44,4 +50,6 @@ top-len-spec =
     add-result-3
     returns
     add-result-4
+    encoding-len-requires
+    add-result-5
     returns-2)

@@ -1,6 +1,6 @@
 //! What a made font tells of each glyph: charset, Encoding, FDSelect.
 
-use super::Maker;
+use super::{LETTERS, Maker};
 use crate::cff::STANDARD_STRINGS;
 use crate::layout::{Num, Part};
 
@@ -23,6 +23,7 @@ impl Maker<'_> {
                     2 | 3 => STANDARD_STRINGS.len() + self.g.below(strings + 2),
                     4 => ids.last().map_or(0, |&id| usize::from(id)) + 1,
                     5 if cid_keyed => self.g.below(10),
+                    5 if self.coded => LETTERS + self.g.below(6),
                     _ => self.g.below(STANDARD_STRINGS.len()),
                 },
             };
@@ -33,7 +34,9 @@ impl Maker<'_> {
 
     /// The operands of the charset entry, and the charset.
     pub(super) fn charset(&mut self, glyphs: usize, cid_keyed: bool) -> Option<Vec<Num>> {
+        self.ids = (0..glyphs as u16).collect();
         match self.g.below(10) {
+            0..=5 if self.coded && glyphs > 200 => return None,
             0 | 1 => return None,
             2 => return Some(vec![self.small(0)]),
             _ => {}
@@ -43,6 +46,7 @@ impl Maker<'_> {
             return Some(vec![self.small(value)]);
         }
         let ids = self.ids(glyphs, cid_keyed);
+        self.ids = [&[0], ids.as_slice()].concat();
         let mut out;
         match self.g.below(3) {
             0 => {
@@ -87,6 +91,9 @@ impl Maker<'_> {
     }
 
     pub(super) fn encoding(&mut self, glyphs: usize) -> Option<Vec<Num>> {
+        if self.coded {
+            return self.codes(glyphs);
+        }
         match self.g.below(6) {
             0..=2 => return None,
             3 => return Some(vec![self.small(0)]),
@@ -122,6 +129,119 @@ impl Maker<'_> {
         }
         let part = self.layout.add(Part::Bytes(out));
         Some(self.offset_of(part))
+    }
+
+    /// An encoding with what document 02, Wish 4, speaks of: codes twice, ranges past 255, numbers past the font, supplements of each
+    /// kind of string, and all codes.
+    fn codes(&mut self, glyphs: usize) -> Option<Vec<Num>> {
+        match self.g.below(30) {
+            0 => return None,
+            1 => return Some(vec![self.small(0)]),
+            2..=4 => return Some(vec![self.small(1)]),
+            // Two operands are none.
+            5 => return Some(vec![self.small(1), self.small(1)]),
+            _ => {}
+        }
+        let mut out = match self.g.below(12) {
+            0 | 1 => self.all_codes(glyphs),
+            n => {
+                let format = (n % 2) as u8;
+                let mut out = vec![format];
+                out.extend(if format == 0 {
+                    self.listed_codes(glyphs)
+                } else {
+                    self.ranges(glyphs)
+                });
+                if self.g.below(3) > 0 {
+                    out[0] |= 0x80;
+                    let count = self.g.one_of(&[0, 1, 1, 2, 3, 5, 9, 30]);
+                    out.push(count as u8);
+                    for _ in 0..count {
+                        out.push(self.code());
+                        let id = self.supplied();
+                        out.extend_from_slice(&id.to_be_bytes());
+                    }
+                }
+                out
+            }
+        };
+        if self.wrong() {
+            out[0] = self.g.one_of(&[2, 3, 0x7f, 0x82, 0xff]);
+        }
+        if self.wrong() {
+            let n = self.g.below(out.len());
+            out.truncate(n);
+        }
+        let part = self.layout.add(Part::Bytes(out));
+        Some(self.offset_of(part))
+    }
+
+    /// A code: one of few, or any.
+    fn code(&mut self) -> u8 {
+        match self.g.below(4) {
+            0 | 1 => b'A' + self.g.below(6) as u8,
+            2 => self.g.one_of(&[0, 1, 254, 255]),
+            _ => self.g.below(256) as u8,
+        }
+    }
+
+    /// A supplement's string id: a glyph's, one of few names, an own string's or one past them, any.
+    fn supplied(&mut self) -> u16 {
+        let id = match self.g.below(9) {
+            0..=3 if !self.ids.is_empty() => return self.ids[self.g.below(self.ids.len())],
+            4 | 5 => LETTERS + self.g.below(6),
+            6 => STANDARD_STRINGS.len() + self.g.below(self.strings + 3),
+            7 => 0,
+            _ => self.g.below(65536),
+        };
+        id as u16
+    }
+
+    fn listed_codes(&mut self, glyphs: usize) -> Vec<u8> {
+        let last = glyphs.saturating_sub(1);
+        let count = match self.g.below(6) {
+            0 => 0,
+            1 => last + self.g.below(4),
+            2 => self.g.below(256),
+            _ => last,
+        };
+        let count = count.min(255);
+        let mut out = vec![count as u8];
+        out.extend((0..count).map(|_| self.code()));
+        out
+    }
+
+    fn ranges(&mut self, glyphs: usize) -> Vec<u8> {
+        let count = self.g.one_of(&[0, 1, 1, 2, 3, 6, 20]);
+        let mut out = vec![count as u8];
+        for _ in 0..count {
+            out.push(self.code());
+            out.push(match self.g.below(5) {
+                0 => self.g.below(256) as u8,
+                1 => glyphs.min(255) as u8,
+                _ => self.g.below(4) as u8,
+            });
+        }
+        out
+    }
+
+    /// All codes but one at most: by a range where there are as many glyphs, else by one code and supplements.
+    fn all_codes(&mut self, glyphs: usize) -> Vec<u8> {
+        if glyphs > 255 && self.g.below(4) > 0 {
+            return vec![1, 1, self.g.below(2) as u8, 255];
+        }
+        let supplements = 255 - self.g.below(2);
+        let mut out = vec![0x80, 1, 0, supplements as u8];
+        for code in 1..=supplements {
+            out.push(code as u8);
+            let id = if self.ids.is_empty() || self.g.once_in(2000) {
+                self.supplied()
+            } else {
+                self.ids[self.g.below(self.ids.len())]
+            };
+            out.extend_from_slice(&id.to_be_bytes());
+        }
+        out
     }
 
     pub(super) fn fd_select(&mut self, glyphs: usize, fds: usize) -> Vec<u8> {

@@ -17,7 +17,12 @@ impl Maker<'_> {
             41 if self.g.once_in(12) => 65_000 + self.g.below(536),
             _ => 1 + self.g.below(8),
         };
-        let glyphs = if self.wrong() { 0 } else { glyphs };
+        let glyphs = match glyphs {
+            _ if self.wrong() => 0,
+            // A little above the codes that there are; seldom more.
+            229.. if self.coded => 250 + self.g.below(20),
+            _ => glyphs,
+        };
         let mut top = Vec::new();
         if cid_keyed {
             let odds = if self.stroked { 8 } else { 25 };

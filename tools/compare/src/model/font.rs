@@ -3,7 +3,7 @@
 use super::dict::{Dict, operator};
 use super::{Index, MALFORMED, NO_SUCH_ITEM, Reader, Step, UNSUPPORTED, refuse};
 use crate::cff::STANDARD_STRINGS;
-use crate::domain::{EXPERT, PAINT_TYPE, STROKE_WIDTH, STROKED};
+use crate::domain::{self, PAINT_TYPE, STROKE_WIDTH, STROKED};
 use std::collections::BTreeSet;
 use std::ops::Range;
 
@@ -20,7 +20,13 @@ pub struct Font {
     pub locals: u64,
     /// Whether the last PaintType entry of the top DICT is one number other than 0: document 02, Wish 11.
     pub stroked: bool,
+    /// The Encoding entry of a name-keyed font: `STANDARD`, `EXPERT`, or where its own encoding stands.
+    pub encoding: u64,
 }
+
+/// Numbers of the predefined encodings, TN5176, section 12.
+pub const STANDARD: u64 = 0;
+pub const EXPERT: u64 = 1;
 
 impl Font {
     pub fn work(&self) -> u64 {
@@ -47,6 +53,15 @@ impl Font {
             .iter()
             .position(|&c| c == cid)
             .map(|k| k as u16)
+    }
+
+    /// The glyph that finding gives for the name of a string id, or for a CID.
+    pub fn first(&self, bytes: &[u8], id: u16) -> Option<u16> {
+        if self.cid_keyed {
+            self.find_cid(id)
+        } else {
+            self.find_name(bytes, self.text(bytes, id))
+        }
     }
 
     /// The INDEX of an item's kind.
@@ -121,6 +136,7 @@ impl Reader<'_> {
         };
         let cid_keyed = top.last(operator::ROS).is_some();
         self.note_ids(&charset, cid_keyed, strings);
+        let mut encoding = STANDARD;
         let locals = if cid_keyed {
             let Some(at) = top.place(operator::FD_ARRAY, "FDArray entry")? else {
                 return refuse(MALFORMED, "FDArray entry", "absent", 0);
@@ -151,14 +167,16 @@ impl Reader<'_> {
         } else {
             let (locals, memory) = self.private_entry(&top, "Private entry", "Private")?;
             self.memory += memory;
-            match top
-                .place(operator::ENCODING, "Encoding entry")?
-                .unwrap_or(0)
-            {
-                0 => {}
-                1 => {
-                    self.note(EXPERT);
-                    return refuse(UNSUPPORTED, "Encoding entry", EXPERT, 0);
+            let entry = top.place(operator::ENCODING, "Encoding entry")?;
+            encoding = entry.unwrap_or(STANDARD);
+            match encoding {
+                STANDARD => {}
+                EXPERT => {
+                    self.note(domain::EXPERT);
+                    // Document 02, Wish 4: it is read.
+                    if !self.wishes.contains(&4) {
+                        return refuse(UNSUPPORTED, "Encoding entry", domain::EXPERT, 0);
+                    }
                 }
                 at => self.encoding(at)?,
             }
@@ -172,6 +190,7 @@ impl Reader<'_> {
             charset,
             locals,
             stroked,
+            encoding,
         })
     }
 

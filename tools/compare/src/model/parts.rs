@@ -4,6 +4,7 @@ use super::dict::{Dict, Entries, operator};
 use super::{Index, Reader, number};
 use crate::decimal::Decimal;
 use crate::domain::NONE;
+use std::ops::Range;
 
 /// A Private and its local subroutines.
 pub struct Private {
@@ -54,6 +55,23 @@ pub fn parts(bytes: &[u8], glyphs: usize) -> Option<Parts> {
     })
 }
 
+/// A copy of a font whose top DICTs have no Encoding entry: another operator, UniqueID, stands in its place.
+pub fn without_encoding(bytes: &[u8]) -> Option<Vec<u8>> {
+    const UNIQUE_ID: u8 = 13;
+    let mut reader = Reader::new(bytes, NONE);
+    let names = reader.index(u64::from(*bytes.get(2)?), "").ok()?;
+    let tops = reader.index(names.end as u64, "").ok()?;
+    let mut copy = bytes.to_vec();
+    for k in 0..tops.count {
+        for place in reader.operators(tops.span(bytes, k)) {
+            if u16::from(copy[place]) == operator::ENCODING {
+                copy[place] = UNIQUE_ID;
+            }
+        }
+    }
+    Some(copy)
+}
+
 /// The FD of each glyph by an FDSelect that is read.
 fn selected(table: &[u8], glyphs: usize) -> Vec<u8> {
     if table[0] == 0 {
@@ -71,6 +89,31 @@ fn selected(table: &[u8], glyphs: usize) -> Vec<u8> {
 }
 
 impl Reader<'_> {
+    /// Where the operators of one byte stand in a DICT that is read.
+    fn operators(&self, span: Range<usize>) -> Vec<usize> {
+        let mut places = Vec::new();
+        let mut at = span.start;
+        while at < span.end {
+            let first = self.bytes[at];
+            match first {
+                0..=11 | 13..=21 => places.push(at),
+                30 => {
+                    let ends = |b: &u8| b & 15 == 15 || b >> 4 == 15;
+                    let rest = &self.bytes[at + 1..span.end];
+                    at += 1 + rest.iter().position(ends).unwrap_or(rest.len());
+                }
+                _ => {}
+            }
+            at += match first {
+                12 | 247..=254 => 2,
+                28 => 3,
+                29 => 5,
+                _ => 1,
+            };
+        }
+        places
+    }
+
     fn private_parts(&mut self, dict: &Dict) -> Option<Private> {
         let Some([size, offset]) = dict.last(operator::PRIVATE) else {
             return Some(Private {

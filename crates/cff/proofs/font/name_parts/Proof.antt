@@ -14,11 +14,14 @@ enum-known-read c = search needs
 enum-known-read-2 : tie.Need-enum-known-read-2
 enum-known-read-2 c = search needs
 
-check-encoding-of-requires : tie.Need-check-encoding-of-requires
-check-encoding-of-requires c κs = search needs
+read-encoding-requires : tie.Need-read-encoding-requires
+read-encoding-requires c κs = search needs
 
-returns : tie.Need-returns
-returns c = name-unencoded (c .before .before .before .before .before .before .before .before .args .font .now) (entriesOf (c .before .before .before .before .before .before .before .before .args .d .now)) (c .before .before .before .before .before .before .before .before .args .n) _ (c .before .before .before .before .before .private-at .ensures) _ (c .before .before .before .read2 .given .1) _ (c .before .check-encoding-of .ensures) (c .if1 .taken)
+enum-known-e : tie.Need-enum-known-e
+enum-known-e c = search needs
+
+enum-known-encoding : tie.Need-enum-known-encoding
+enum-known-encoding c = search needs
 
 no-items-requires : tie.Need-no-items-requires
 no-items-requires c κs = search needs
@@ -26,11 +29,14 @@ no-items-requires c κs = search needs
 no-fd-select-requires : tie.Need-no-fd-select-requires
 no-fd-select-requires c κs = search needs
 
+returns : tie.Need-returns
+returns c = name-unread (c .before .before .before .before .before .before .args .font .now) (entriesOf (c .before .before .before .before .before .before .args .d .now)) (c .before .before .before .before .before .before .args .n) _ (c .before .before .before .private-at .ensures) _ (c .before .read .given .1)
+
 returns-2 : tie.Need-returns-2
-returns-2 c = name-unread (c .before .before .before .before .before .before .args .font .now) (entriesOf (c .before .before .before .before .before .before .args .d .now)) (c .before .before .before .before .before .before .args .n) _ (c .before .before .before .private-at .ensures) _ (c .before .read .given .1)
+returns-2 c = name-unencoded (c .before .before .before .before .before .before .before .before .before .before .before .args .font .now) (entriesOf (c .before .before .before .before .before .before .before .before .before .before .before .args .d .now)) (c .before .before .before .before .before .before .before .before .before .before .before .args .n) _ (c .before .before .before .before .before .before .before .before .private-at .ensures) _ (c .before .before .before .before .before .before .read2 .given .1) _ (c .before .before .before .read-encoding .ensures) _ (c .before .e .given .1)
 
 returns-3 : tie.Need-returns-3
-returns-3 c = name-found (c .before .before .before .before .before .before .before .before .before .before .before .args .font .now) (entriesOf (c .before .before .before .before .before .before .before .before .before .before .before .args .d .now)) (c .before .before .before .before .before .before .before .before .before .before .before .args .n) _ (c .before .before .before .before .before .before .before .before .private-at .ensures) _ (c .before .before .before .before .before .before .read2 .given .1) _ (c .before .before .before .before .check-encoding-of .ensures) (c .before .before .before .if1 .left) (c .before .before .before .before .before .before .before .before .before .before .before .pre) _ (c .before .no-items .ensures) _ (c .no-fd-select .ensures)
+returns-3 c = name-found (c .before .before .before .before .before .before .before .before .before .before .before .before .before .args .font .now) (entriesOf (c .before .before .before .before .before .before .before .before .before .before .before .before .before .args .d .now)) (c .before .before .before .before .before .before .before .before .before .before .before .before .before .args .n) _ (c .before .before .before .before .before .before .before .before .before .before .private-at .ensures) _ (c .before .before .before .before .before .before .before .before .read2 .given .1) _ (c .before .before .before .before .before .read-encoding .ensures) _ (c .before .before .before .encoding .given .1) (c .before .before .before .before .before .before .before .before .before .before .before .before .before .pre) _ (c .before .no-items .ensures) _ (c .no-fd-select .ensures)
 
 pub name-parts-spec : {M : Type 1} → statement M
 name-parts-spec =
@@ -39,9 +45,11 @@ name-parts-spec =
     private-at-requires
     enum-known-read
     enum-known-read-2
-    check-encoding-of-requires
-    returns
+    read-encoding-requires
+    enum-known-e
+    enum-known-encoding
     no-items-requires
     no-fd-select-requires
+    returns
     returns-2
     returns-3)

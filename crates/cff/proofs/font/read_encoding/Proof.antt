@@ -1,9 +1,9 @@
--- `cff::font::check_encoding_of` meets its contract: each answer of `offset` is one case of `orZero`.
+-- `cff::font::read_encoding` meets its contract: each answer of `offset` is one case of `orZero`.
 use Rattle.dict.specs.Places.{entriesOf}
 use Rattle.cff.specs.FontLaws.{named-encoding-absent, named-encoding-refused, named-encoding-read}
 use borrow.Author.Needs.{needs}
-use Rattle.cff.proofs.font.check_encoding_of.Statement.{statement}
-use Rattle.cff.proofs.font.check_encoding_of.Tie as tie
+use Rattle.cff.proofs.font.read_encoding.Statement.{statement}
+use Rattle.cff.proofs.font.read_encoding.Tie as tie
 
 offset-requires : tie.Need-offset-requires
 offset-requires c κs = search needs
@@ -32,8 +32,8 @@ returns-2 c = named-encoding-refused (c .before .before .before .before .before 
 returns-3 : tie.Need-returns-3
 returns-3 c = named-encoding-read (c .before .before .before .before .before .before .before .args .font .now) (entriesOf (c .before .before .before .before .before .before .before .args .d .now)) _ (c .before .before .before .before .offset .ensures) _ (c .before .before .at2 .given .1) (c .encoding-at2 .result) (c .encoding-at2 .ensures)
 
-pub check-encoding-of-spec : {M : Type 1} → statement M
-check-encoding-of-spec =
+pub read-encoding-spec : {M : Type 1} → statement M
+read-encoding-spec =
     tie.close
     (tie.spec
     offset-requires
