@@ -1,9 +1,11 @@
--- Edges of the codes (document 02, Wish 4), computed: what a code names, which encoding a top DICT says, and refusal 13.
+-- Edges of the codes (document 02, Wish 4), computed: what a code names, which encodings are read, and refusal 13.
 use Prim.Native.Nat.{ℕ, zero, suc}
 use mathlib.Core.Path.{_≡_, refl}
+use mathlib.Core.Bool.{false}
 use mathlib.Core.List.{List, [], _∷_}
 use Rattle.octets.specs.Octets.{be, numAt, bytesOf}
 use Rattle.octets.specs.Lists.{joined}
+use Rattle.index.specs.Index.{offsets, runOf, judged, dataAt, tableAt, indexAt, pieces, itemsOf, told, readIndex}
 use Rattle.index.specs.Write.{total, sizeFor, ends, tableBytes, headBytes, itemsBytes, indexBytes}
 use Rattle.decimal.specs.Decimal.{zerosOf, zeros, stripped, normal}
 use Rattle.decimal.specs.Real.{nibbles, textOf, expDigits, exponent, mantissa, formOf, valueOf}
@@ -22,7 +24,10 @@ use Rattle.strings.specs.Text.{codes, sameText}
 use Rattle.strings.specs.Strings.{stringText, standardString, standardStrings, sidIn, sidOf}
 use Rattle.find.specs.Find.{glyphWithText}
 use Rattle.find.specs.declared.Found.the-variants.{Absent, Glyph}
-use Rattle.cff.specs.Font.{Got, refused as refusedFont, got, then, orZero, Coding, standard, expert, custom, Program, emptyPrivate, encoding, codingAt, encodingGot}
+use Rattle.opentype.specs.Opentype.{placeOf}
+use Rattle.cff.specs.Font.{Got, refused as refusedFont, got, then, orZero, Coding, standard, expert, custom, Program, emptyPrivate, encoding, codingAt, encodingGot, idsAt, privateAt, nameParts, fontAt, fontsAt, setAt, readTable, readFont}
+use Rattle.cff.specs.Find.{localsTotal, readAs}
+use Rattle.cff.specs.declared.ReadAs.the-variants.{Font}
 use Rattle.subset.specs.Kept.{isIn}
 use Rattle.subset.specs.Texts.{hasText, ownStrings, placeIn, newId, namedEntries, textsOf, namesOf}
 use Rattle.subset.specs.Pruned.{Pruned}
@@ -92,6 +97,28 @@ codings :
 unfolding be numAt zerosOf zeros stripped normal nibbles textOf expDigits exponent mantissa formOf valueOf dec.realAt dec.numberAt dict.operatorAt dict.tokenAt
     dict.entryFrom dict.entryAt dict.readingsFrom dict.readingsAt dict.gathered dict.dictOf listed lastFrom lastOf truncOf encodingAt codingAt encodingGot
 codings = (refl, refl, refl, refl, refl, refl, refl, refl)
+
+-- the Expert charsets stay unsupported
+charset-1 : idsAt [] 1 1 ≡ refusedFont 3
+unfolding idsAt
+charset-1 = refl
+
+charset-2 : idsAt [] 1 2 ≡ refusedFont 3
+unfolding idsAt
+charset-2 = refl
+
+-- two fonts, of which the second has the Expert Encoding
+abbrev laterExpert : List ℕ
+laterExpert =
+    0x01 ∷ 0x00 ∷ 0x04 ∷ 0x01 ∷ 0x00 ∷ 0x02 ∷ 0x01 ∷ 0x01 ∷ 0x02 ∷ 0x03 ∷ 0x58 ∷ 0x59 ∷ 0x00 ∷ 0x02 ∷ 0x01 ∷ 0x01 ∷ 0x03 ∷ 0x07 ∷ 0xa7 ∷ 0x11 ∷ 0xad ∷ 0x11 ∷ 0x8c ∷ 0x10
+    ∷ 0x00 ∷ 0x00 ∷ 0x00 ∷ 0x00 ∷ 0x00 ∷ 0x01 ∷ 0x01 ∷ 0x01 ∷ 0x02 ∷ 0x0e ∷ 0x00 ∷ 0x02 ∷ 0x01 ∷ 0x01 ∷ 0x02 ∷ 0x03 ∷ 0x0e ∷ 0x0e ∷ []
+
+later-expert : readAs (readFont laterExpert) ≡ Font (record { glyphs = 1; globals = 0; strings = 0; cid = false; work = 2 })
+unfolding
+    readFont readTable placeOf setAt fontsAt fontAt nameParts privateAt idsAt codingAt encodingGot readIndex told indexAt tableAt dataAt runOf judged offsets pieces itemsOf numAt be
+    dict.dictOf dict.gathered dict.readingsAt dict.readingsFrom dict.entryAt dict.entryFrom dict.tokenAt dict.operatorAt dec.numberAt dec.realAt normal zeros zerosOf stripped lastOf lastFrom
+    truncOf localsTotal
+later-expert = refl
 
 -- ---- 13: more than 255 pairs, before 10 and 11
 
