@@ -1,2 +1,3 @@
 pub mod Stroked
 pub mod Encoded
+pub mod EncodedEdges

@@ -71,8 +71,11 @@ pub fn compare(library: &Library, case: &Case, seed: u64, tally: &mut CutTally, 
                 differ(case, seed, &cut, "nothing", message, tally);
             }
         }
-        // Wish 4: of one font, not asked for its encoding, the answer stays.
-        let as_before = before.notes.contains(domain::EXPERT) && reading.fonts == 1;
+        // Wish 4: of one font, not asked for its encoding, the answer stays; but an INDEX that begins elsewhere than at 1 is refused
+        // before the encoding is read (Wish 5).
+        let as_before = before.notes.contains(domain::EXPERT)
+            && !before.notes.contains(domain::FIRST_OFFSET)
+            && reading.fonts == 1;
         let before_it = match (&outcome, before.font.as_ref()) {
             (Outcome::Early(number), Err(_)) if as_before => Some(*number),
             _ => None,
