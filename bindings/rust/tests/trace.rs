@@ -215,16 +215,17 @@ fn long_index(items: &[Vec<u8>]) -> Vec<u8> {
 
 /// 5,000 glyphs with names of 128 bytes, the last of which has the name of the first. Glyph 1 has 5,000 masks.
 fn many_glyphs() -> Vec<u8> {
-    let mut names: Vec<Vec<u8>> = (0..4_998).map(|i| format!("{i:0128}").into_bytes()).collect();
+    let mut names: Vec<Vec<u8>> = (0..4_998)
+        .map(|i| format!("{i:0128}").into_bytes())
+        .collect();
     names.push(names[0].clone());
     let mut charstrings = vec![vec![ENDCHAR]; 5_000];
     charstrings[1] = [[HINTMASK].repeat(5_000), vec![ENDCHAR]].concat();
     let charstrings = long_index(&charstrings);
     // Format 2: string ids from 391 on.
     let charset = [2, 1, 135, 19, 134];
-    let top = |charset, charstrings| {
-        [number(charset), vec![15], number(charstrings), vec![17]].concat()
-    };
+    let top =
+        |charset, charstrings| [number(charset), vec![15], number(charstrings), vec![17]].concat();
     let front = |top: &[u8]| {
         [
             vec![1, 0, 4, 4],
