@@ -11,8 +11,8 @@
    CFF font. A subset is a bare font.
 
    A slice is a pointer and the number of its elements. What is lent for writing must not overlap what else is lent, and a
-   uint16_t, uint32_t or uint64_t must be aligned. The calling thread must have 1.5 MiB of stack free for cff_subset and
-   cff_subset_cid, and 2.5 MiB for cff_trace. Beyond this there is nothing that a caller must keep.
+   uint16_t, uint32_t or uint64_t must be aligned. The calling thread must have 1.5 MiB of stack free for cff_subset,
+   cff_subset_cid and cff_trace. Beyond this there is nothing that a caller must keep.
 
    Time. A call is linear in its input but for what is said at cff_trace and three things, of which two come with hostile fonts and
    records: parts that the font dictionaries or the fonts of a set share are read again wherever they are named (65,535 font
@@ -135,8 +135,7 @@ uint8_t cff_subset_cid(const uint8_t *font, size_t font_len, const uint8_t *name
    A glyph costs up to 65,536 steps a pass, whatever its size; there is one pass over the kept glyphs for each 65,536 rows, and as many
    again to write them where there are more than 65,535. 1,000 kept glyphs that each make 65,530 calls, a font of 137 KB, take 1.7
    seconds; a row that is met after greater ones moves those that the pass holds (200,050 rows in falling order, a font of 200 KB: 8.4
-   seconds, rising 0.02). The calling thread must have 2.5 MiB of stack free: 2,061 KiB were enough when tried, 1,294 KiB for a CID-keyed
-   font. */
+   seconds, rising 0.02). */
 uint8_t cff_trace(const uint8_t *font, size_t font_len, const uint16_t *keep, size_t keep_len, uint8_t *record,
                   size_t record_len, uint64_t *answer, size_t answer_len);
 

@@ -12,9 +12,6 @@ const LONGEST: usize = 67_108_864;
 /// a font of some kilobytes can ask for gigabytes.
 const MOST_WORDS: u64 = 1 << 25;
 
-/// The stack of the thread that traces: the library takes 2.1 MiB for a name-keyed font, and Rust's own threads have 2 MiB.
-const TRACE_STACK: usize = 4 << 20;
-
 /// An item of an INDEX of the font.
 #[derive(Clone, Copy, Debug, PartialEq, Eq)]
 pub enum Item {
@@ -159,19 +156,8 @@ impl<'a> Font<'a> {
     }
 
     /// The reach record of glyph 0 and the glyphs of the keep list. It is [`Record::untraced`] where one of them is not plain
-    /// (document 01, 'Plain glyphs'). The work is done by a thread with a stack of its own; [`Refusal::Output`] also where none is
-    /// to be had.
+    /// (document 01, 'Plain glyphs').
     pub fn trace(&self, keep: &[u16]) -> Result<Record, Refusal> {
-        std::thread::scope(|scope| {
-            let thread = std::thread::Builder::new().stack_size(TRACE_STACK);
-            let spawned = thread.spawn_scoped(scope, || self.trace_here(keep));
-            let joined = spawned.map_err(|_| Refusal::Output)?.join();
-            joined.unwrap_or(Err(Refusal::Output))
-        })
-    }
-
-    /// The same on this thread.
-    fn trace_here(&self, keep: &[u16]) -> Result<Record, Refusal> {
         // Sheets have some hundred rows; where there is no room for a record, it is asked for again with more.
         let mut wanted: usize = 1 << 16;
         loop {

@@ -198,3 +198,73 @@ fn many_rows() {
     });
     assert_eq!(font.trace(&[]), Ok(Record::traced(rows)));
 }
+
+/// An INDEX with offsets of four bytes.
+fn long_index(items: &[Vec<u8>]) -> Vec<u8> {
+    let mut out = (items.len() as u16).to_be_bytes().to_vec();
+    out.push(4);
+    let mut offset: u32 = 1;
+    out.extend(offset.to_be_bytes());
+    for item in items {
+        offset += item.len() as u32;
+        out.extend(offset.to_be_bytes());
+    }
+    out.extend(items.concat());
+    out
+}
+
+/// 5,000 glyphs with names of 128 bytes, the last of which has the name of the first. Glyph 1 has 5,000 masks.
+fn many_glyphs() -> Vec<u8> {
+    let mut names: Vec<Vec<u8>> = (0..4_998)
+        .map(|i| format!("{i:0128}").into_bytes())
+        .collect();
+    names.push(names[0].clone());
+    let mut charstrings = vec![vec![ENDCHAR]; 5_000];
+    charstrings[1] = [[HINTMASK].repeat(5_000), vec![ENDCHAR]].concat();
+    let charstrings = long_index(&charstrings);
+    // Format 2: string ids from 391 on.
+    let charset = [2, 1, 135, 19, 134];
+    let top =
+        |charset, charstrings| [number(charset), vec![15], number(charstrings), vec![17]].concat();
+    let front = |top: &[u8]| {
+        [
+            vec![1, 0, 4, 4],
+            index(&[b"A"]),
+            index(&[top]),
+            long_index(&names),
+            index(&[]),
+        ]
+        .concat()
+    };
+    let start = front(&top(0, 0)).len();
+    [
+        front(&top(start, start + charset.len())),
+        charset.to_vec(),
+        charstrings,
+    ]
+    .concat()
+}
+
+/// The stack that a call takes at most, as include/mogdivash.h says.
+const STACK: usize = 3 << 19;
+
+/// The names are sorted, and the rows are gathered in large windows: the most stack that tracing takes.
+#[test]
+fn stack() {
+    let run = || {
+        let bytes = many_glyphs();
+        let font = Font::read(&bytes).expect("a font that is read");
+        let rows = (0..5_000).map(|offset| Row::GlyphMask {
+            glyph: 1,
+            offset,
+            length: 0,
+        });
+        let keep: Vec<u16> = (1..4_999).collect();
+        assert_eq!(font.trace(&keep), Ok(Record::traced(rows.clone())));
+        assert_eq!(font.trace(&keep[..4]), Ok(Record::traced(rows)));
+        assert_eq!(font.trace(&[1, 4_999]), Err(Refusal::NotFound));
+    };
+    let thread = std::thread::Builder::new().stack_size(STACK);
+    let run = thread.spawn(run).expect("a thread");
+    run.join().expect("traced");
+}

@@ -16,7 +16,7 @@ use Rattle.strings.specs.Strings.{stringText}
 use Rattle.find.specs.Find.{glyphWithId, glyphWithText}
 use Rattle.find.specs.declared.Found.{Found}
 use Rattle.find.specs.declared.Found.the-variants.{Glyph as TheGlyph}
-use Rattle.kept.specs.Packed.{marked, cidFound, nameFound}
+use Rattle.kept.specs.Packed.{cidFound, nameFound}
 use Rattle.first_glyphs.specs.FoundLaws.{glyph-as, first-before, Seen}
 
 -- one at place h or before it is found where the one at place h has the name
@@ -39,8 +39,8 @@ again-not strings ids g h l m e =
     let r = named-before strings (stringText strings (getD ids g 0)) 0 ids h (omega arith) (ap (stringText strings) e) in
     glyph-as g _ _ (r .2) ∙ ne-eqb (r .0) g (λ q. omega (arith, r .1))
 
-pub seen-not-named : (strings : List (List ℕ)) (ids : List ℕ) (g : ℕ) (seen : List ℕ) → Seen ids g seen → (id : ℕ) → id ≡ getD ids g 0 → g < length ids
-    → marked seen id ≡ true → nameFound strings ids g ≡ false
+pub seen-not-named : (strings : List (List ℕ)) (ids : List ℕ) (g : ℕ) (seen : ℕ → Bool) → Seen ids g seen → (id : ℕ) → id ≡ getD ids g 0 → g < length ids
+    → seen id ≡ true → nameFound strings ids g ≡ false
 seen-not-named strings ids g seen s id is h m = let o = s .only id m in again-not strings ids g (o .0) (o .1) h (o .2 ∙ is)
 
 -- each id has a first glyph

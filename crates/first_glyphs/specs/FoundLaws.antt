@@ -7,7 +7,7 @@ use native.Mathlib.Nat.{not-suc-le-zero}
 use native.Mathlib.Omega.{arith}
 use borrow.Author.Tests.{eq-eqb, ne-eqb, eqb-true, eqb-false}
 use lib.Dec.{eqb}
-use lib.ListN.{length, getD, set, length-set}
+use lib.ListN.{length, getD}
 use Rattle.octets.specs.Pick.{pick, pick-ind}
 use Rattle.prune.specs.StepLaws.{zero-one}
 use Rattle.strings.specs.Strings.{stringText}
@@ -17,9 +17,8 @@ use Rattle.find.specs.declared.Found.the-variants.{Glyph as TheGlyph}
 use Rattle.cff.specs.Find.{foundAs}
 use Rattle.subset.specs.Kept.{those}
 use Rattle.subset.specs.Cut.{isGlyph}
-use Rattle.kept.specs.Packed.{marked, Empty, allOf, cidFound, textFound, nameFound}
-use Rattle.kept.specs.MarkLaws.{mark-same, mark-other}
-use Rattle.kept.specs.GatherLaws.{mark-not, those-taken, those-passed, those-done, those-whole}
+use Rattle.kept.specs.Packed.{allOf, cidFound, textFound, nameFound}
+use Rattle.kept.specs.GatherLaws.{those-taken, those-passed, those-done, those-whole}
 
 -- ---- a test of all
 
@@ -83,68 +82,53 @@ first-before id s (x ∷ l) (suc h) m e =
 
 -- ---- ids that were seen
 
--- the ids of the first g glyphs are marked, and no others
-pub record Seen (ids : List ℕ) (g : ℕ) (seen : List ℕ) : Type 0 where
-  pub size : length seen ≡ 65536
-  pub all : (h : ℕ) → h < g → marked seen (getD ids h 0) ≡ true
-  pub only : (c : ℕ) → marked seen c ≡ true → (h : ℕ) × (h < g) × (getD ids h 0 ≡ c)
+-- the ids of the first g glyphs are in a set, and no others
+pub record Seen (ids : List ℕ) (g : ℕ) (seen : ℕ → Bool) : Type 0 where
+  pub all : (h : ℕ) → h < g → seen (getD ids h 0) ≡ true
+  pub only : (c : ℕ) → seen c ≡ true → (h : ℕ) × (h < g) × (getD ids h 0 ≡ c)
 
-pub seen-none : (ids seen : List ℕ) → Empty seen → Seen ids 0 seen
+pub seen-none : (ids : List ℕ) (seen : ℕ → Bool) → ((c : ℕ) → seen c ≡ false) → Seen ids 0 seen
 seen-none ids seen e =
     record {
-      size = e .size;
       all = λ h m. absurd (not-suc-le-zero m);
-      only = λ c t. let f : marked seen c ≡ false = mark-not seen c (omega (arith, e .none c)) in absurd (zero-one cc);
+      only = λ c t. let f : seen c ≡ false = e c in absurd (zero-one cc);
     }
 
-module _ (ids : List ℕ) (g : ℕ) (seen : List ℕ) (s : Seen ids g seen) (id : ℕ) (is : id ≡ getD ids g 0) (h : g < length ids) where
-  -- an id that was seen: another glyph is found, and nothing is new
-  module _ (m : marked seen id ≡ true) where
-    pub seen-not : cidFound ids g ≡ false
-    seen-not =
-        let o = s .only id m in
-        let r = first-before (getD ids g 0) 0 ids (o .0) (omega (arith, o .1)) (o .2 ∙ is) in
-        glyph-as g _ _ (r .3) ∙ ne-eqb (0 + r .0) g (λ e. omega (arith, r .1, o .1))
-
-    seen-again-all : (k : ℕ) → k < g + 1 → (t : Bool) → eqb k g ≡ t → marked seen (getD ids k 0) ≡ true
-    seen-again-all k l true t = ap (λ (j : ℕ). marked seen (getD ids j 0)) (eqb-true k g t) ∙ ap (marked seen) (sym is) ∙ m
-    seen-again-all k l false t = let d = eqb-false k g t in s .all k (omega arith)
-
-    pub seen-again : Seen ids (g + 1) seen
-    seen-again =
-        record {
-          size = s .size;
-          all = λ k l. seen-again-all k l (eqb k g) refl;
-          only = λ c t. let o = s .only c t in (o .0, omega (arith, o .1), o .2);
-        }
+module _ (ids : List ℕ) (g : ℕ) (seen : ℕ → Bool) (s : Seen ids g seen) (id : ℕ) (is : id ≡ getD ids g 0) where
+  -- an id that was seen: another glyph is found
+  pub seen-not : g < length ids → seen id ≡ true → cidFound ids g ≡ false
+  seen-not h m =
+      let o = s .only id m in
+      let r = first-before (getD ids g 0) 0 ids (o .0) (omega (arith, o .1)) (o .2 ∙ is) in
+      glyph-as g _ _ (r .3) ∙ ne-eqb (0 + r .0) g (λ e. omega (arith, r .1, o .1))
 
   -- a new id: the glyph is found
-  module _ (m : marked seen id ≡ false) (small : id < 65536) where
-    pub seen-found : cidFound ids g ≡ true
-    seen-found =
-        let f = first-is (getD ids g 0) 0 ids g h refl (λ k l e. let t : marked seen id ≡ true = ap (marked seen) (is ∙ sym e) ∙ s .all k l in zero-one cc) in
-        glyph-as g _ _ f ∙ eq-eqb (0 + g) g (omega arith)
+  pub seen-found : g < length ids → seen id ≡ false → cidFound ids g ≡ true
+  seen-found h m =
+      let f = first-is (getD ids g 0) 0 ids g h refl (λ k l e. let t : seen id ≡ true = ap seen (is ∙ sym e) ∙ s .all k l in zero-one cc) in
+      glyph-as g _ _ f ∙ eq-eqb (0 + g) g (omega arith)
 
-    seen-new-all : (k : ℕ) → k < g + 1 → (t : Bool) → eqb (getD ids k 0) id ≡ t → marked (set seen id 1) (getD ids k 0) ≡ true
-    seen-new-all k l true t = ap (marked (set seen id 1)) (eqb-true (getD ids k 0) id t) ∙ mark-same seen id 1 (omega (arith, s .size)) (omega arith)
-    seen-new-all k l false t =
+  -- its id is in the set, and was there or not
+  module _ (then : ℕ → Bool) (grows : (c : ℕ) → then c ≡ pick (eqb c id) true (seen c)) where
+    seen-stays : (c : ℕ) → seen c ≡ true → (t : Bool) → pick t true (seen c) ≡ true
+    seen-stays c m true = refl
+    seen-stays c m false = m
+
+    seen-all : (k : ℕ) → k < g + 1 → (t : Bool) → eqb (getD ids k 0) id ≡ t → then (getD ids k 0) ≡ true
+    seen-all k l true t = grows (getD ids k 0) ∙ ap (λ (b : Bool). pick b true (seen (getD ids k 0))) t
+    seen-all k l false t =
         let d = eqb-false (getD ids k 0) id t in
         let n : k ≡ g → ⊥ = λ e. d (ap (λ (j : ℕ). getD ids j 0) e ∙ sym is) in
-        mark-other seen id 1 (getD ids k 0) d ∙ s .all k (omega arith)
+        grows (getD ids k 0) ∙ seen-stays (getD ids k 0) (s .all k (omega arith)) (eqb (getD ids k 0) id)
 
-    seen-new-only : (c : ℕ) → marked (set seen id 1) c ≡ true → (t : Bool) → eqb c id ≡ t → (k : ℕ) × (k < g + 1) × (getD ids k 0 ≡ c)
-    seen-new-only c q true t = (g, omega arith, sym is ∙ sym (eqb-true c id t))
-    seen-new-only c q false t =
-        let o = s .only c (sym (mark-other seen id 1 c (eqb-false c id t)) ∙ q) in
+    seen-only : (c : ℕ) → then c ≡ true → (t : Bool) → eqb c id ≡ t → (k : ℕ) × (k < g + 1) × (getD ids k 0 ≡ c)
+    seen-only c q true t = (g, omega arith, sym is ∙ sym (eqb-true c id t))
+    seen-only c q false t =
+        let o = s .only c (sym (grows c ∙ ap (λ (b : Bool). pick b true (seen c)) t) ∙ q) in
         (o .0, omega (arith, o .1), o .2)
 
-    pub seen-new : Seen ids (g + 1) (set seen id 1)
-    seen-new =
-        record {
-          size = simp length-set (s .size);
-          all = λ k l. seen-new-all k l (eqb (getD ids k 0) id) refl;
-          only = λ c q. seen-new-only c q (eqb c id) refl;
-        }
+    pub seen-next : Seen ids (g + 1) then
+    seen-next = record { all = λ k l. seen-all k l (eqb (getD ids k 0) id) refl; only = λ c q. seen-only c q (eqb c id) refl }
 
 -- a test of a number that is 0, and of one that is not
 pub zero-passes : (x : ℕ) (r : Bool) → x ≡ 0 → true ≡ pick (eqb x 0) true r

@@ -1,3 +1,5 @@
+pub mod Bits
+pub mod BitsLaws
 pub mod FoundLaws
 pub mod FirstLaws
 pub mod Lead

@@ -1,22 +1,24 @@
 -- Laws of marks of names (document 01, refusal 7): a glyph whose name is not among the marked ones is found.
 use Prim.Native.Nat.{ℕ, _+_, _*_, _-_, _%_, _≤_, _<_}
 use mathlib.Core.Path.{_≡_, refl, sym, ap, _∙_, subst}
-use mathlib.Core.Bool.{Bool, true, false}
+use mathlib.Core.Bool.{Bool, true, false, not}
 use mathlib.Core.List.{List, []}
 use native.Mathlib.Nat.{not-suc-le-zero}
 use native.Mathlib.Omega.{arith}
-use borrow.Author.Tests.{eq-eqb, eqb-true, eqb-false}
+use borrow.Author.Tests.{eq-eqb, ne-eqb, eqb-true, eqb-false}
 use lib.Dec.{eqb}
-use lib.ListN.{length, drop, getD, set, length-set, drop-of-length-le, replicate, length-replicate}
+use lib.ListN.{length, drop, getD, drop-of-length-le, replicate, length-replicate}
 use Rattle.octets.specs.Pick.{pick}
 use Rattle.prune.specs.StepLaws.{zero-one}
 use Rattle.strings.specs.Strings.{stringText}
 use Rattle.subset.specs.Kept.{those}
 use Rattle.kept.specs.Packed.{marked, allOf, nameFound}
-use Rattle.kept.specs.MarkLaws.{ahead, mark-same, mark-other}
+use Rattle.kept.specs.MarkLaws.{ahead}
 use Rattle.kept.specs.GatherLaws.{those-passed}
 use Rattle.first_glyphs.specs.FoundLaws.{glyph-as, all-stops, all-passed, all-taken, Seen}
-use Rattle.found.specs.Hash.{hashFrom, hashOf, lowPlace, highPlace, isNew, withHash, Met, MetNames, told}
+use Rattle.bits.specs.Bits.{bitIn}
+use Rattle.first_glyphs.specs.Bits.{Sees}
+use Rattle.found.specs.Hash.{hashFrom, hashOf, lowPlace, highPlace, isNew, withHash, Marked, Met, MetNames, told}
 use Rattle.found.specs.declared.Told.{Told}
 use Rattle.first_glyphs.specs.FirstLaws.{first-named}
 
@@ -39,88 +41,92 @@ hash-by strings ids g id text h i t e = e ∙ ap hashOf (t ∙ ap (stringText st
 
 -- ---- marks
 
--- a mark stays
-mark-stays : (ws : List ℕ) (k j : ℕ) → marked ws k ≡ true → j < length ws → marked (set ws j 1) k ≡ true
-mark-stays ws k j m h = stays (eqb k j) refl
-  where
-    stays : (t : Bool) → eqb k j ≡ t → marked (set ws j 1) k ≡ true
-    stays true t = ap (marked (set ws j 1)) (eqb-true k j t) ∙ mark-same ws j 1 h (omega arith)
-    stays false t = mark-other ws j 1 k (eqb-false k j t) ∙ m
+-- marks by marks: those of a hash are set, and the others stay
+module _ (marks then : ℕ → Bool) (h : ℕ) (grows : (j : ℕ) → then j ≡ withHash marks h j) where
+  -- a mark stays
+  mark-stays : (j : ℕ) → marks j ≡ true → then j ≡ true
+  mark-stays j m = grows j ∙ stays (eqb j (highPlace h)) (eqb j (lowPlace h))
+    where
+      stays : (t u : Bool) → pick t true (pick u true (marks j)) ≡ true
+      stays true u = refl
+      stays false true = refl
+      stays false false = m
 
-module _ (marks : List ℕ) (size : length marks ≡ 131072) (h : ℕ) (small : h < 4294967296) where
-  places : (lowPlace h < length marks) × (highPlace h < length (set marks (lowPlace h) 1))
-  places = (omega (arith, size), omega (arith, size, length-set marks (lowPlace h) 1))
+  met-still : (text : List ℕ) → Met marks text → Met then text
+  met-still text m = record { low = mark-stays (lowPlace (hashOf text)) (m .low); high = mark-stays (highPlace (hashOf text)) (m .high) }
 
-  met-still : (text : List ℕ) → Met marks text → Met (withHash marks h) text
-  met-still text m =
-      record {
-        low = mark-stays (set marks (lowPlace h) 1) (lowPlace (hashOf text)) (highPlace h) (mark-stays marks (lowPlace (hashOf text)) (lowPlace h) (m .low) (places .0)) (places .1);
-        high = mark-stays (set marks (lowPlace h) 1) (highPlace (hashOf text)) (highPlace h) (mark-stays marks (highPlace (hashOf text)) (lowPlace h) (m .high) (places .0)) (places .1);
-      }
+  met-now : (text : List ℕ) → h ≡ hashOf text → Met then text
+  met-now text e = record { low = subst (λ (x : ℕ). then (lowPlace x) ≡ true) e low-set; high = subst (λ (x : ℕ). then (highPlace x) ≡ true) e high-set }
+    where
+      either : (t : Bool) → pick t true true ≡ true
+      either true = refl
+      either false = refl
 
-  met-now : (text : List ℕ) → h ≡ hashOf text → Met (withHash marks h) text
-  met-now text e =
-      record {
-        low = subst (λ (x : ℕ). marked (withHash marks h) (lowPlace x) ≡ true) e
-            (mark-stays (set marks (lowPlace h) 1) (lowPlace h) (highPlace h) (mark-same marks (lowPlace h) 1 (places .0) (omega arith)) (places .1));
-        high = subst (λ (x : ℕ). marked (withHash marks h) (highPlace x) ≡ true) e (mark-same (set marks (lowPlace h) 1) (highPlace h) 1 (places .1) (omega arith));
-      }
+      high-set : then (highPlace h) ≡ true
+      high-set = grows (highPlace h) ∙ rw (eq-eqb (highPlace h) (highPlace h) refl)
+
+      low-set : then (lowPlace h) ≡ true
+      low-set = grows (lowPlace h) ∙ rw (eq-eqb (lowPlace h) (lowPlace h) refl) (either (eqb (lowPlace h) (highPlace h)))
 
 -- one of its marks is missing: it was not met
-new-not-met : (marks text : List ℕ) (h : ℕ) → h ≡ hashOf text → isNew marks h ≡ true → Met marks text → ⊥
-new-not-met marks text h e n m = not-both (getD marks (lowPlace h) 0) (getD marks (highPlace h) 0) n
-    (subst (λ (x : ℕ). marked marks (lowPlace x) ≡ true) (sym e) (m .low)) (subst (λ (x : ℕ). marked marks (highPlace x) ≡ true) (sym e) (m .high))
+new-not-met : (marks : ℕ → Bool) (text : List ℕ) (h : ℕ) → h ≡ hashOf text → isNew marks h ≡ true → Met marks text → ⊥
+new-not-met marks text h e n m = not-both (marks (lowPlace h)) (marks (highPlace h)) n
+    (subst (λ (x : ℕ). marks (lowPlace x) ≡ true) (sym e) (m .low)) (subst (λ (x : ℕ). marks (highPlace x) ≡ true) (sym e) (m .high))
   where
-    either : (s t : Bool) → pick s true t ≡ true → pick s false true ≡ true → pick t false true ≡ true → ⊥
-    either true t a b c = zero-one cc
-    either false true a b c = zero-one cc
-    either false false a b c = zero-one cc
+    not-both : (s t : Bool) → pick s (not t) true ≡ true → s ≡ true → t ≡ true → ⊥
+    not-both true true a b c = zero-one cc
+    not-both true false a b c = zero-one cc
+    not-both false t a b c = zero-one cc
 
-    not-both : (x y : ℕ) → pick (eqb x 0) true (eqb y 0) ≡ true → pick (eqb x 0) false true ≡ true → pick (eqb y 0) false true ≡ true → ⊥
-    not-both x y a b c = either (eqb x 0) (eqb y 0) a b c
+-- both places asked and marked one after the other
+pub marked-both : (old mid new : List ℕ) (h : ℕ) (a b : Bool) → Sees old (lowPlace h) mid a → Sees mid (highPlace h) new b → (r : Bool) → r ≡ pick a (not b) true → Marked old h new r
+marked-both old mid new h a b s t r e =
+    let d : eqb (highPlace h) (lowPlace h) ≡ false = ne-eqb (highPlace h) (lowPlace h) (λ z. omega arith) in
+    let w : b ≡ bitIn old 0 (highPlace h) = t .was ∙ s .bits (highPlace h) ∙ ap (λ (x : Bool). pick x true (bitIn old 0 (highPlace h))) d in
+    record {
+      size = t .size ∙ s .size;
+      is = e ∙ ap (λ (x : Bool). pick x (not b) true) (s .was) ∙ ap (λ (x : Bool). pick (bitIn old 0 (lowPlace h)) (not x) true) w;
+      bits = λ j. t .bits j ∙ ap (λ (x : Bool). pick (eqb j (highPlace h)) true x) (s .bits j);
+    }
 
 -- marks that hold nothing
-pub marks-long : (marks : List ℕ) → marks ≡ replicate 131072 0 → length marks ≡ 131072
-marks-long marks e = ap length e ∙ length-replicate {A = ℕ} 131072 0
+pub marks-long : (marks : List ℕ) → marks ≡ replicate 4096 0 → length marks ≡ 4096
+marks-long marks e = ap length e ∙ length-replicate {A = ℕ} 4096 0
 
 -- ---- names
 
-pub met-none : (strings : List (List ℕ)) (ids marks : List ℕ) → length marks ≡ 131072 → MetNames strings ids 0 marks
-met-none strings ids marks e = record { size = e; all = λ k m. absurd (not-suc-le-zero m) }
+pub met-none : (strings : List (List ℕ)) (ids : List ℕ) (marks : ℕ → Bool) → MetNames strings ids 0 marks
+met-none strings ids marks = record { all = λ k m. absurd (not-suc-le-zero m) }
 
-module _ (strings : List (List ℕ)) (ids : List ℕ) (g : ℕ) (marks : List ℕ) (s : MetNames strings ids g marks) (h : ℕ) (is : h ≡ hashOf (stringText strings (getD ids g 0))) where
-  -- a new name: its glyph is found
-  pub new-found : g < length ids → isNew marks h ≡ true → nameFound strings ids g ≡ true
-  new-found l n =
-      let f = first-named strings (stringText strings (getD ids g 0)) 0 ids g l refl
-      (λ k m e. new-not-met marks (stringText strings (getD ids g 0)) h is n (subst (Met marks) e (s .all k m))) in
-      glyph-as g _ _ f ∙ eq-eqb (0 + g) g (omega arith)
+module _ (strings : List (List ℕ)) (ids : List ℕ) (g : ℕ) (marks : ℕ → Bool) (s : MetNames strings ids g marks) where
+  module _ (h : ℕ) (is : h ≡ hashOf (stringText strings (getD ids g 0))) where
+    -- a new name: its glyph is found
+    pub new-found : g < length ids → isNew marks h ≡ true → nameFound strings ids g ≡ true
+    new-found l n =
+        let f = first-named strings (stringText strings (getD ids g 0)) 0 ids g l refl
+        (λ k m e. new-not-met marks (stringText strings (getD ids g 0)) h is n (subst (Met marks) e (s .all k m))) in
+        glyph-as g _ _ f ∙ eq-eqb (0 + g) g (omega arith)
 
-  -- one name more
-  met-all : h < 4294967296 → (k : ℕ) → k < g + 1 → (t : Bool) → eqb k g ≡ t → Met (withHash marks h) (stringText strings (getD ids k 0))
-  met-all small k l true t =
-      subst (λ (j : ℕ). Met (withHash marks h) (stringText strings (getD ids j 0))) (sym (eqb-true k g t)) (met-now marks (s .size) h small (stringText strings (getD ids g 0)) is)
-  met-all small k l false t =
-      let d = eqb-false k g t in met-still marks (s .size) h small (stringText strings (getD ids k 0)) (s .all k (omega arith))
+    -- one name more
+    module _ (then : ℕ → Bool) (grows : (j : ℕ) → then j ≡ withHash marks h j) where
+      met-all : (k : ℕ) → k < g + 1 → (t : Bool) → eqb k g ≡ t → Met then (stringText strings (getD ids k 0))
+      met-all k l true t =
+          subst (λ (j : ℕ). Met then (stringText strings (getD ids j 0))) (sym (eqb-true k g t)) (met-now marks then h grows (stringText strings (getD ids g 0)) is)
+      met-all k l false t = let d = eqb-false k g t in met-still marks then h grows (stringText strings (getD ids k 0)) (s .all k (omega arith))
 
-  pub met-next : h < 4294967296 → MetNames strings ids (g + 1) (withHash marks h)
-  met-next small =
-      record {
-        size = length-set (set marks (lowPlace h) 1) (highPlace h) 1 ∙ length-set marks (lowPlace h) 1 ∙ s .size;
-        all = λ k l. met-all small k l (eqb k g) refl;
-      }
+      pub met-next : MetNames strings ids (g + 1) then
+      met-next = record { all = λ k l. met-all k l (eqb k g) refl }
 
--- the name of an id that was seen is marked
-pub met-again : (strings : List (List ℕ)) (ids : List ℕ) (g : ℕ) (marks seen : List ℕ) → MetNames strings ids g marks → Seen ids g seen → (id : ℕ) → id ≡ getD ids g 0
-    → marked seen id ≡ true → MetNames strings ids (g + 1) marks
-met-again strings ids g marks seen s d id is m = record { size = s .size; all = λ k l. met k l (eqb k g) refl }
-  where
-    met : (k : ℕ) → k < g + 1 → (t : Bool) → eqb k g ≡ t → Met marks (stringText strings (getD ids k 0))
-    met k l true t =
-        let o = d .only id m in
-        let e : getD ids (o .0) 0 ≡ getD ids k 0 = o .2 ∙ is ∙ ap (λ (j : ℕ). getD ids j 0) (sym (eqb-true k g t)) in
-        subst (λ (x : ℕ). Met marks (stringText strings x)) e (s .all (o .0) (o .1))
-    met k l false t = let n = eqb-false k g t in s .all k (omega arith)
+  -- the name of an id that was seen is marked
+  pub met-again : (seen : ℕ → Bool) → Seen ids g seen → (id : ℕ) → id ≡ getD ids g 0 → seen id ≡ true → MetNames strings ids (g + 1) marks
+  met-again seen d id is m = record { all = λ k l. met k l (eqb k g) refl }
+    where
+      met : (k : ℕ) → k < g + 1 → (t : Bool) → eqb k g ≡ t → Met marks (stringText strings (getD ids k 0))
+      met k l true t =
+          let o = d .only id m in
+          let e : getD ids (o .0) 0 ≡ getD ids k 0 = o .2 ∙ is ∙ ap (λ (j : ℕ). getD ids j 0) (sym (eqb-true k g t)) in
+          subst (λ (x : ℕ). Met marks (stringText strings x)) e (s .all (o .0) (o .1))
+      met k l false t = let n = eqb-false k g t in s .all k (omega arith)
 
 -- ---- the marked glyphs up to the last
 

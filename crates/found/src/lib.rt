@@ -16,9 +16,10 @@ ghost use Rattle.index.specs.Good.{Good};
 ghost use Rattle.charset.specs.CharsetPlaces.{idsOf, GoodCharset};
 ghost use Rattle.cff.specs.Reads.{programOf, GoodFont};
 ghost use Rattle.cff.specs.Find.{foundAs};
-ghost use Rattle.subset.specs.Kept.{keptOf, those};
+ghost use Rattle.subset.specs.Kept.{keptOf, keeps, those};
 ghost use Rattle.subset.specs.Cut.{allFound, isGlyph};
-ghost use Rattle.kept.specs.Packed.{marked, Empty, allOf, textFound, nameFound};
+ghost use Rattle.kept.specs.Packed.{marked, Marks, allOf, textFound, nameFound};
+ghost use Rattle.first_glyphs.specs.Bits.{Unseen};
 ghost use Rattle.found.specs.Hash.{told};
 use cff::font::Font;
 use charset::Charset;
@@ -124,7 +125,7 @@ fn looks_left(looks: usize, flag: u32, new: bool, size: usize) -> usize
 }
 
 // Whether finding the name of each marked glyph gives that glyph, by one pass up to the last of them. The caller lends the tables of the
-// standard strings, marks that are empty and bytes `seen` with a place for each id: only the first glyph of an id is found, so each string is
+// standard strings, marks of which none is set and words `seen` with a bit for each id: only the first glyph of an id is found, so each string is
 // read once. Only a name whose marks are both there is looked for among all glyphs. Where that were to happen too often, the answer is open.
 fn names_met<'a>(
     font: &'a [u8],
@@ -134,11 +135,11 @@ fn names_met<'a>(
     names: &'a [u8],
     offsets: &[u16],
     flags: &[u32],
-    marks: &mut [u8],
-    seen: &mut [u8],
+    marks: &mut [u32],
+    seen: &mut [u32],
 ) -> Told
     requires { ⌜ (GoodCharset (now font) c n) × (Good (now font) strings) × (n ≤ length (now flags))
-        × (now names ≡ standardText) × (now offsets ≡ standardOffsets) × (length (now marks) ≡ 131072) × Empty (now seen) ⌝ }
+        × (now names ≡ standardText) × (now offsets ≡ standardOffsets) × (length (now marks) ≡ 4096) × Unseen (now seen) ⌝ }
     ensures { λ r. ⌜ told r (allOf (nameFound (itemsOf (now (font .entry)) strings) (idsOf (now (font .entry)) c n)) (those (marked (now (flags .entry))) n 0))
         ≡ allOf (nameFound (itemsOf (now (font .entry)) strings) (idsOf (now (font .entry)) c n)) (those (marked (now (flags .entry))) n 0) ⌝ }
 {
@@ -151,13 +152,12 @@ fn names_met<'a>(
         let sid = s.id;
         u = s.next;
         let flag = flags[g];
-        if 0 < seen[sid] {
+        if first_glyphs::see(&mut *seen, sid) {
             if 0 < flag {
                 return Told::No;
             }
             g += 1;
         } else {
-            seen[sid] = 1;
             let name = name_order::text_at(font, strings, names, offsets, sid);
             let new = marks::meet(&mut *marks, marks::hash_of(name));
             looks = looks_left(looks, flag, new, name.len());
@@ -181,10 +181,10 @@ pub fn names_found(font: &[u8], c: Charset, n: usize, strings: Index, flags: &[u
 {
     let names = strings::table::STANDARD_TEXT;
     let offsets = strings::table::STANDARD_OFFSETS;
-    // Two marks for each of 65,536 halves of a hash: 128 KiB.
-    let mut marks = [0u8; 131072];
-    // A mark for each id: 64 KiB.
-    let mut seen = [0u8; 65536];
+    // A bit for each of the 65,536 values of either half of a hash: 16 KiB.
+    let mut marks = [0u32; 4096];
+    // A bit for each id: 8 KiB.
+    let mut seen = [0u32; 2048];
     let met = names_met(
         font,
         c,
@@ -203,22 +203,37 @@ pub fn names_found(font: &[u8], c: Charset, n: usize, strings: Index, flags: &[u
     }
 }
 
-// Whether finding the name or the CID of glyph 0 and of each glyph to keep gives that glyph: refusal 7 where not.
-pub fn all_found(font: &[u8], f: Font, keep: &[u16]) -> bool
-    requires { ⌜ (GoodFont (now font) f) × (allBelow (f .charstrings .count) (now keep) ≡ true) ⌝ }
-    ensures { λ r. ⌜ r ≡ allFound (programOf (now (font .entry)) f) (keptOf (f .charstrings .count) (now (keep .entry))) ⌝ }
+// Marks glyph 0 and each glyph to keep by the flags that the caller lends; whether finding the name or the CID of each gives that glyph.
+pub fn kept_found(font: &[u8], f: Font, keep: &[u16], flags: &mut [u32]) -> bool
+    requires { ⌜ (GoodFont (now font) f) × (allBelow (f .charstrings .count) (now keep) ≡ true) × (f .charstrings .count ≤ length (now flags)) ⌝ }
+    ensures { λ r. ⌜ (r ≡ allFound (programOf (now (font .entry)) f) (keptOf (f .charstrings .count) (now (keep .entry))))
+        × Marks (f .charstrings .count) (keeps (now (keep .entry))) (now (flags .entry)) (now (flags .exit)) ⌝ }
 {
     let charset = f.charset;
     let charstrings = f.charstrings;
     let texts = f.strings;
     let cid = f.cid;
     let n = charstrings.count;
-    // A word for each glyph of the largest font, and below one for each CID: 256 KiB each.
-    let mut flags = [0u32; 65536];
-    kept::order::mark(keep, &mut flags, n);
+    kept::order::mark(keep, &mut *flags, n);
     if cid {
-        let mut seen = [0u32; 65536];
-        return first_glyphs::cids_found(font, charset, n, &flags, &mut seen);
+        // A bit for each CID: 8 KiB.
+        let mut seen = [0u32; 2048];
+        return first_glyphs::cids_found(font, charset, n, flags, &mut seen);
     }
-    names_found(font, charset, n, texts, &flags)
+    names_found(font, charset, n, texts, flags)
+}
+
+// Whether finding the name or the CID of glyph 0 and of each glyph to keep gives that glyph: refusal 7 where not. A flag for each glyph stands
+// on the stack: 16 KiB for most fonts, 256 KiB for the largest.
+pub fn all_found(font: &[u8], f: Font, keep: &[u16]) -> bool
+    requires { ⌜ (GoodFont (now font) f) × (allBelow (f .charstrings .count) (now keep) ≡ true) ⌝ }
+    ensures { λ r. ⌜ r ≡ allFound (programOf (now (font .entry)) f) (keptOf (f .charstrings .count) (now (keep .entry))) ⌝ }
+{
+    let charstrings = f.charstrings;
+    if charstrings.count <= 4096 {
+        let mut flags = [0u32; 4096];
+        return kept_found(font, f, keep, &mut flags);
+    }
+    let mut flags = [0u32; 65536];
+    kept_found(font, f, keep, &mut flags)
 }

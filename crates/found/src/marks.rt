@@ -2,7 +2,7 @@
 ghost use mathlib.Core.Path.{_≡_};
 ghost use Prim.Native.Nat.{_<_};
 ghost use lib.ListN.{length};
-ghost use Rattle.found.specs.Hash.{hashOf, isNew, withHash};
+ghost use Rattle.found.specs.Hash.{hashOf, Marked};
 
 // The hash of a text.
 pub fn hash_of(text: &[u8]) -> usize
@@ -19,18 +19,14 @@ pub fn hash_of(text: &[u8]) -> usize
 }
 
 // Marks both places of a hash; whether one of them was not marked.
-pub fn meet(marks: &mut [u8], h: usize) -> bool
-    requires { ⌜ (length (now marks) ≡ 131072) × (h < 4294967296) ⌝ }
-    ensures { λ r. ⌜ (r ≡ isNew (now (marks .entry)) h) × (now (marks .exit) ≡ withHash (now (marks .entry)) h) ⌝ }
+pub fn meet(marks: &mut [u32], h: usize) -> bool
+    requires { ⌜ (length (now marks) ≡ 4096) × (h < 4294967296) ⌝ }
+    ensures { λ r. ⌜ Marked (now (marks .entry)) h (now (marks .exit)) r ⌝ }
 {
-    let low = h % 65536;
-    let high = 65536 + h / 65536;
-    let a = marks[low];
-    let b = marks[high];
-    marks[low] = 1;
-    marks[high] = 1;
-    if a == 0 {
-        return true;
+    let low = first_glyphs::see(&mut *marks, h % 65536);
+    let high = first_glyphs::see(marks, 65536 + h / 65536);
+    if low {
+        return !high;
     }
-    b == 0
+    true
 }

@@ -7,9 +7,10 @@ use native.Mathlib.Omega.{arith}
 use borrow.Author.Tests.{lt-ltb, le-ltb, ltb-false}
 use lib.Dec.{ltb}
 use lib.ListN.{length, take}
+use lib.Seq.{length-take-le}
 use Rattle.octets.specs.Pick.{pick}
 use Rattle.octets.specs.Octets.{Octets, Wrote}
-use Rattle.octets.specs.PutLaws.{put-nil}
+use Rattle.octets.specs.PutLaws.{put-nil, wrote-as}
 use Rattle.octets.specs.Lists.{allBelow, partOf}
 use Rattle.index.specs.IndexLaws.{items-length}
 use Rattle.unfold.specs.Unfold.{Row}
@@ -29,6 +30,7 @@ use Rattle.faithful.specs.GoodLaws.{font-good}
 use Rattle.row_window.specs.Window.{gathered, within, Gathers}
 use Rattle.row_window.specs.Key.{keysBytes}
 use Rattle.row_window.specs.KeyLaws.{keys-length}
+use Rattle.row_window.specs.NextLaws.{within-all, window-whole}
 use Rattle.interpret.specs.declared.Met.{Met}
 use Rattle.interpret.specs.declared.Met.the-variants.{NotPlain, Plain}
 use Rattle.traced.specs.Traced.{metAll, recordOf, Traced, refused, traced, answered, traceProgram, traceRead, traceOf, tracedAs, leavesRecord, Traces}
@@ -37,8 +39,8 @@ use Rattle.traced.specs.RowLaws.{RowFits, record-keys}
 use Rattle.traced.specs.Theorem.{kept-fits}
 use Rattle.traced.specs.declared.TracedAs.{TracedAs}
 use Rattle.traced.specs.declared.TracedAs.the-variants.{Refused, Record}
-use Rattle.tracer.specs.Tracing.{top, Held, metIn, orNone, RowsFit, Plainly, keysIn, sortedIn, Filling, Fills, Shown, Counted, Answers}
-use Rattle.tracer.specs.WindowsLaws.{keys-below, refill-plain, shows-first, shows-count, Putting, put-start, put-done}
+use Rattle.tracer.specs.Tracing.{top, Held, metIn, orNone, RowsFit, Plainly, keysIn, sortedIn, Filling, Fills, Shown, Counted, Answers, metKept, keptAnswer}
+use Rattle.tracer.specs.WindowsLaws.{keys-below, refill-plain, shows-first, shows-last}
 
 -- ---- the record by its keys
 
@@ -75,22 +77,23 @@ module _ (b : List ℕ) (f : Font) (marks : List ℕ) (p : Plainly b f marks) wh
     pub more-room : (n : ℕ) → Counted (sortedIn b f marks) room n → n ≤ room → 10 * length (sortedIn b f marks) ≤ length out
     more-room n c h = omega (arith, c .whole h, is, h)
 
-    -- from the first window, where it is not full
-    module _ (keys : List ℕ) (n : ℕ) (s : Shown (keysIn b f marks) keys n) (last : n ≡ 65536 → ⊥) where
+    -- from a window that has all
+    module _ (keys : List ℕ) (n : ℕ) (fits : n ≤ length keys) (all : take n keys ≡ sortedIn b f marks) where
       one-long : n ≡ length (sortedIn b f marks)
-      one-long = omega (arith, shows-count (keysIn b f marks) [] keys n s last)
+      one-long = sym (length-take-le n keys fits) ∙ ap length all
 
       pub one-past : room < n → Answers (answered (length out) (metIn b f marks)) out out (Refused 11)
       one-past h = answer-long n (omega (arith, one-long)) h
 
-      pub one-fits : n ≤ room → 0 + 10 * (n - 0) ≤ length out
-      one-fits h = omega (arith, is)
-
       pub one-written : n ≤ room → (out' : List ℕ) (len : ℕ) → Wrote out 0 (keysBytes (partOf keys 0 (n - 0))) out' len
           → Answers (answered (length out) (metIn b f marks)) out out' (Record 1 len)
       one-written h out' len w =
-          answer-written (omega (arith, one-long)) out' len
-          (put-done (keysIn b f marks) keys n out out 0 (put-start (keysIn b f marks) keys n out s) (omega (arith, one-long, is, h)) last out' len w)
+          let e : n - 0 ≡ n = omega arith in
+          answer-written (omega (arith, one-long)) out' len (wrote-as w (ap (λ (m : ℕ). keysBytes (partOf keys 0 m)) e ∙ ap keysBytes all))
+
+-- a first window that is not full has all
+pub windows-all : (ks keys : List ℕ) (n : ℕ) → Shown ks keys n → (n ≡ 65536 → ⊥) → (n ≤ length keys) × (take n keys ≡ gathered [] ks)
+windows-all ks keys n s h = (omega (arith, s .size, s .fits), sym (shows-last ks [] keys n s h))
 
 -- ---- the marked glyphs
 
@@ -116,6 +119,16 @@ module _ (b : List ℕ) (f : Font) (marks : List ℕ) (fit : RowsFit (metIn b f 
     pub marked-shown : length keys ≡ 65536 → Shown (keysIn b f marks) keys' n
     marked-shown l =
         shows-first (keysIn b f marks) keys keys' n (keys-below (orNone (metIn b f marks)) (fit .fits)) l (refill-plain b f marks marked-plainly 0 keys keys' a w n e)
+
+    -- a window that is not full has all
+    pub marked-few : n < length keys → (n ≤ length keys') × (take n keys' ≡ sortedIn b f marks)
+    marked-few h =
+        let g = refill-plain b f marks marked-plainly 0 keys keys' a w n e in
+        let ks = keysIn b f marks in (
+          g .window .fits,
+          window-whole (length keys) n keys' (gathered [] (within 0 top ks)) (g .window .fits) h (g .holds)
+              ∙ ap (gathered []) (within-all top ks (keys-below (orNone (metIn b f marks)) (fit .fits))),
+        )
 
 pub shown-as : (ks keys : List ℕ) (n m : ℕ) → n ≡ m → Shown ks keys n → Shown ks keys m
 shown-as ks keys n m e s = subst (λ (k : ℕ). Shown ks keys k) e s
@@ -177,29 +190,43 @@ module _ (file : List ℕ) (f : Font) (b : List ℕ) (octets : Octets file) (hel
     pub trace-below : not r₁ ≡ false → allBelow (f .charstrings .count) keep ≡ true
     trace-below t = sym e₁ ∙ was-true r₁ t
 
-    module _ (t₁ : not r₁ ≡ false) (r₂ : Bool) (e₂ : r₂ ≡ allFound p (keptOf (f .charstrings .count) keep)) where
-      found : (t : Bool) → r₂ ≡ t → traceOf file keep (length out) ≡ pick t (answered (length out) (metAll p (keptOf glyphs keep))) (refused 7)
-      found t h =
-          tested
-          ∙ ap (λ (x : Bool). pick x (pick (allFound p (keptOf glyphs keep)) (answered (length out) (metAll p (keptOf glyphs keep))) (refused 7)) (refused 6)) (below true (was-true r₁ t₁))
-          ∙ ap (λ (x : Bool). pick x (answered (length out) (metAll p (keptOf glyphs keep))) (refused 7)) (ap (λ (n : ℕ). allFound p (keptOf n keep)) many ∙ sym e₂ ∙ h)
+    -- the outcome behind refusal 6
+    pub trace-done : not r₁ ≡ false → (out' : List ℕ) (r : TracedAs) → Answers (keptAnswer b f keep (length out)) out out' r → Traces file keep out out' r
+    trace-done t out' r a =
+        traces-as file keep out out' r (keptAnswer b f keep (length out))
+        (tested
+        ∙ ap (λ (x : Bool). pick x (pick (allFound p (keptOf glyphs keep)) (answered (length out) (metAll p (keptOf glyphs keep))) (refused 7)) (refused 6)) (below true (was-true r₁ t))
+        ∙ ap (λ (n : ℕ). pick (allFound p (keptOf n keep)) (answered (length out) (metAll p (keptOf n keep))) (refused 7)) many)
+        a
 
-      -- 7
-      pub trace-found : not r₂ ≡ true → Traces file keep out out (Refused 7)
-      trace-found t = traces-as file keep out out (Refused 7) (refused 7) (found false (was-false r₂ t)) (stays 7 out)
+  -- the rows of the kept glyphs fit
+  pub kept-rows : RowsFit (metKept b f keep)
+  kept-rows = record { fits = by (metKept b f keep) refl }
+    where
+      by : (x : May (List Row)) → metKept b f keep ≡ x → All RowFits (orNone x)
+      by fail e = noRow
+      by (yes rows) e = kept-fits file keep 0 octets p (held .is) rows (ap (λ (n : ℕ). metAll p (keptOf n keep)) many ∙ e)
 
-      -- the kept glyphs are those that are marked
-      module _ (t₂ : not r₂ ≡ false) (old marks : List ℕ) (m : Marks (f .charstrings .count) (keeps keep) old marks) where
-        met-kept : metAll p (keptOf glyphs keep) ≡ metIn b f marks
-        met-kept = ap (λ (n : ℕ). metAll p (keptOf n keep)) many ∙ ap (metAll p) (sym (kept-marked b f (held .good) keep old marks m))
+-- ---- the kept glyphs
 
-        pub marked-fits : RowsFit (metIn b f marks)
-        marked-fits = record { fits = by (metIn b f marks) refl }
-          where
-            by : (x : May (List Row)) → metIn b f marks ≡ x → All RowFits (orNone x)
-            by fail e = noRow
-            by (yes rows) e = kept-fits file keep 0 octets p (held .is) rows (met-kept ∙ e)
+module _ (b : List ℕ) (f : Font) (held : Held b f) (keep out : List ℕ) (r : Bool) (e : r ≡ allFound (programOf b f) (keptOf (f .charstrings .count) keep)) where
+  -- 7
+  pub kept-missing : not r ≡ true → Answers (keptAnswer b f keep (length out)) out out (Refused 7)
+  kept-missing t =
+      subst (λ (x : Traced). Answers x out out (Refused 7))
+      (sym (ap (λ (x : Bool). pick x (answered (length out) (metKept b f keep)) (refused 7)) (sym e ∙ was-false r t))) (stays 7 out)
 
-        pub trace-done : (out' : List ℕ) (r : TracedAs) → Answers (answered (length out) (metIn b f marks)) out out' r → Traces file keep out out' r
-        trace-done out' r a =
-            traces-as file keep out out' r (answered (length out) (metIn b f marks)) (found true (was-true r₂ t₂) ∙ ap (answered (length out)) met-kept) a
+  -- the kept glyphs are those that are marked
+  module _ (old marks : List ℕ) (m : Marks (f .charstrings .count) (keeps keep) old marks) where
+    kept-met : metIn b f marks ≡ metKept b f keep
+    kept-met = ap (metAll (programOf b f)) (kept-marked b f (held .font) keep old marks m)
+
+    pub marked-rows : RowsFit (metKept b f keep) → RowsFit (metIn b f marks)
+    marked-rows = subst RowsFit (sym kept-met)
+
+    pub kept-answered : not r ≡ false → (out' : List ℕ) (t : TracedAs) → Answers (answered (length out) (metIn b f marks)) out out' t
+        → Answers (keptAnswer b f keep (length out)) out out' t
+    kept-answered z out' t a =
+        subst (λ (x : Traced). Answers x out out' t)
+        (ap (answered (length out)) kept-met ∙ sym (ap (λ (x : Bool). pick x (answered (length out) (metKept b f keep)) (refused 7)) (sym e ∙ was-true r z)))
+        a

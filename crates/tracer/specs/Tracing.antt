@@ -4,11 +4,13 @@ use Prim.Native.Nat.{ℕ, _≤_, _<_}
 use mathlib.Core.Path.{_≡_}
 use mathlib.Core.List.{List, [], _++_, map}
 use lib.ListN.{length, take, getD}
+use Rattle.octets.specs.Pick.{pick}
 use Rattle.unfold.specs.Unfold.{Row}
 use Rattle.prune.specs.Bodies.{All}
 use Rattle.cff.specs.Reads.{programOf, GoodFont}
 use Rattle.cff.specs.declared.font.Font.{Font}
-use Rattle.subset.specs.Kept.{those, localsOf}
+use Rattle.subset.specs.Kept.{those, localsOf, keptOf}
+use Rattle.subset.specs.Cut.{allFound}
 use Rattle.subset.specs.Pruned.{May, fail, yes}
 use Rattle.faithful.specs.Laid.{GoodProgram}
 use Rattle.kept.specs.Packed.{marked}
@@ -18,7 +20,7 @@ use Rattle.interpret.specs.declared.Subrs.{Subrs}
 use Rattle.interpret.specs.declared.Range.{Range}
 use Rattle.interpret.specs.declared.Met.{Met}
 use Rattle.interpret.specs.declared.Met.the-variants.{NotPlain, Plain}
-use Rattle.traced.specs.Traced.{metAll, Traced, tracedAs, leavesRecord}
+use Rattle.traced.specs.Traced.{metAll, Traced, refused, answered, tracedAs, leavesRecord}
 use Rattle.traced.specs.RowLaws.{RowFits}
 use Rattle.traced.specs.declared.TracedAs.{TracedAs}
 
@@ -104,3 +106,11 @@ pub record Counted (all : List ℕ) (room r : ℕ) : Type 0 where
 pub record Answers (t : Traced) (out out' : List ℕ) (r : TracedAs) : Type 0 where
   pub answers : r ≡ tracedAs t
   pub output : out' ≡ leavesRecord t out
+
+-- the rows that the kept glyphs meet, where all are plain
+abbrev pub metKept : List ℕ → Font → List ℕ → May (List Row)
+metKept b f keep = metAll (programOf b f) (keptOf (f .charstrings .count) keep)
+
+-- the outcome behind refusal 6
+abbrev pub keptAnswer : List ℕ → Font → List ℕ → ℕ → Traced
+keptAnswer b f keep room = pick (allFound (programOf b f) (keptOf (f .charstrings .count) keep)) (answered room (metKept b f keep)) (refused 7)

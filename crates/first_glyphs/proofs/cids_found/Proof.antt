@@ -1,26 +1,64 @@
 -- `first_glyphs::cids_found` meets its contract. The invariant: the CIDs of the glyphs that were passed are marked, and the glyphs that are left are
 -- found exactly where all are.
-use Prim.Native.Nat.{ℕ, _-_}
-use mathlib.Core.Path.{_≡_, refl, ap, _∙_}
+use Prim.Native.Nat.{ℕ, _+_, _-_, _<_}
+use mathlib.Core.Path.{_≡_, refl, sym, ap, _∙_}
 use mathlib.Core.List.{List}
+use native.Mathlib.Omega.{arith}
 use borrow.Author.Needs.{needs}
-use lib.ListN.{length, length-set}
+use lib.ListN.{length, getD}
 use denote.Ref.{now}
+use Rattle.bits.specs.Bits.{bitIn}
 use Rattle.find.specs.FindLaws.{idsAhead, ids-ahead, Passing, passing-start, passing-inside, passing-ready, passing-id, passing-next}
 use Rattle.subset.specs.Kept.{those}
 use Rattle.kept.specs.Packed.{marked, allOf, cidFound}
 use Rattle.kept.specs.GatherLaws.{mark-is, mark-not}
-use Rattle.first_glyphs.specs.FoundLaws.{all-start, all-stops, all-passed, all-either, all-done, Seen, seen-none, seen-not, seen-again, seen-found, seen-new}
+use Rattle.first_glyphs.specs.FoundLaws.{all-start, all-stops, all-passed, all-either, all-done, Seen, seen-none, seen-not, seen-found, seen-next}
 use Rattle.first_glyphs.proofs.cids_found.Statement.{statement}
 use Rattle.first_glyphs.proofs.cids_found.Tie as tie
+use Rattle.first_glyphs.proofs.cids_found.Reads as reads
+use Rattle.first_glyphs.proofs.cids_found.Lts as lts
+use Rattle.charset.proofs.charset_start.Reads as charset-start-reads
+use Rattle.charset.proofs.next_id.Reads as next-id-reads
+use Rattle.first_glyphs.proofs.see.Reads as see-reads
 
 abbrev Inv-loop : tie.InvT-loop
 Inv-loop font n flags seen₀ u₀ g₀ seen u g =
-    Passing font u₀ n u g × Seen (idsAhead font u₀ n) g seen × (length seen ≡ 65536) × (length seen ≡ length seen₀)
+    Passing font u₀ n u g × Seen (idsAhead font u₀ n) g (bitIn seen 0) × (length seen ≡ 2048) × (length seen ≡ length seen₀)
     × (allOf (cidFound (idsAhead font u₀ n)) (those (marked flags) (n - g) g) ≡ allOf (cidFound (idsAhead font u₀ n)) (those (marked flags) n 0))
 
 abbrev μ-loop : tie.MeasureT-loop
 μ-loop font n flags seen₀ u₀ g₀ seen u g = n - g
+
+-- a turn behind the look at the glyph's id
+abbrev Test : Type 0
+Test = tie.After-slice-known2 Inv-loop μ-loop
+
+abbrev asked : Test → tie.After-see Inv-loop μ-loop
+asked t = t .before .before
+
+abbrev step : Test → tie.After-next-id Inv-loop μ-loop
+step t = asked t .before .before .before
+
+abbrev top : Test → tie.At-loop Inv-loop μ-loop
+top t = step t .before .before
+
+abbrev start : Test → tie.Start Inv-loop μ-loop
+start t = top t .before .before .before .before .before
+
+abbrev ids : Test → List ℕ
+ids t = idsAhead (now (start t .args .font)) (top t .before .charset-start .result) (start t .args .n)
+
+id-is : (t : Test) → step t .next-id .result .id ≡ getD (ids t) (top t .loop .g) 0
+id-is t = passing-id _ _ _ (top t .loop .u) _ (top t .loop .inv .0) (step t .before .loop-test .taken) _ (step t .next-id .ensures .0)
+
+inside : (t : Test) → top t .loop .g < length (ids t)
+inside t = passing-inside _ _ _ (top t .loop .u) _ (top t .loop .inv .0) (step t .before .loop-test .taken)
+
+passed : (t : Test) → Passing (now (start t .args .font)) (top t .before .charset-start .result) (start t .args .n) (step t .next-id .result .next) (top t .loop .g + 1)
+passed t = passing-next _ _ _ _ _ (top t .loop .inv .0) (step t .before .loop-test .taken) _ (step t .next-id .ensures .0)
+
+seen-then : (t : Test) → Seen (ids t) (top t .loop .g + 1) (bitIn (asked t .see .last .0) 0)
+seen-then t = seen-next (ids t) (top t .loop .g) _ (top t .loop .inv .1) _ (id-is t) _ (asked t .see .ensures .bits)
 
 charset-start-requires : tie.Need-charset-start-requires Inv-loop μ-loop
 charset-start-requires c κs = search needs
@@ -28,16 +66,13 @@ charset-start-requires c κs = search needs
 loop-holds : tie.Need-loop-holds Inv-loop μ-loop
 loop-holds c =
     let s = c .before .before .before .before in
-    (passing-start _ (s .args .c) _ _ (s .pre .0) (c .charset-start .ensures), seen-none _ _ (s .pre .2), s .pre .2 .size, refl, all-start _ _ _)
+    (passing-start _ (s .args .c) _ _ (s .pre .0) (c .charset-start .ensures), seen-none _ _ (s .pre .2 .none), s .pre .2 .size, refl, all-start _ _ _)
 
 next-id-requires : tie.Need-next-id-requires Inv-loop μ-loop
 next-id-requires c κs = passing-ready _ _ _ _ _ (c .before .loop .inv .0) (c .loop-test .taken)
 
-mul-if1 : tie.Need-mul-if1 Inv-loop μ-loop
-mul-if1 c = search needs
-
-slice-read-if1 : tie.Need-slice-read-if1 Inv-loop μ-loop
-slice-read-if1 c = search needs
+see-requires : tie.Need-see-requires Inv-loop μ-loop
+see-requires c κs = let x = c .before .before in omega (arith, x .next-id .ensures .1, x .before .before .loop .inv .2)
 
 mul-if2 : tie.Need-mul-if2 Inv-loop μ-loop
 mul-if2 c = search needs
@@ -50,20 +85,13 @@ same-length c = search needs
 
 returns : tie.Need-returns Inv-loop μ-loop
 returns c =
-    let t = c .before .before in
-    let x = t .before .before .before in
-    let i = x .before in
-    let l = i .before in
-    let s = l .before .before .before .before .before in
-    let b = now (s .args .font) in
-    let u = l .before .charset-start .result in
-    let n = s .args .n in
-    let p = l .loop .inv .0 in
-    let e = passing-id b u n (l .loop .u) (l .loop .g) p (i .loop-test .taken) _ (x .next-id .ensures .0) in
-    let h = passing-inside b u n (l .loop .u) (l .loop .g) p (i .loop-test .taken) in
-    all-stops _ (marked (now (s .args .flags))) n (l .loop .g) (i .loop-test .taken) (mark-is (now (s .args .flags)) (l .loop .g) (c .if2 .taken))
-    (seen-not _ _ (l .loop .seen) (l .loop .inv .1) _ e h (mark-is (l .loop .seen) (x .next-id .result .id) (t .if1 .taken))) ∙ l .loop .inv .4
-    ∙ ap (λ (ids : List ℕ). allOf (cidFound ids) (those (marked (now (s .args .flags))) n 0)) (ids-ahead b (s .args .c) n u (l .before .charset-start .ensures))
+    let t = c .before .before .before in
+    let s = start t in
+    let l = top t .loop in
+    all-stops _ (marked (now (s .args .flags))) (s .args .n) (l .g) (step t .before .loop-test .taken) (mark-is (now (s .args .flags)) (l .g) (c .if2 .taken))
+    (seen-not _ _ _ (l .inv .1) _ (id-is t) (inside t) (sym (asked t .see .ensures .was) ∙ c .before .before .if1 .taken)) ∙ l .inv .4
+    ∙ ap (λ (x : List ℕ). allOf (cidFound x) (those (marked (now (s .args .flags))) (s .args .n) 0))
+    (ids-ahead (now (s .args .font)) (s .args .c) (s .args .n) (top t .before .charset-start .result) (top t .before .charset-start .ensures))
 
 add-g : tie.Need-add-g Inv-loop μ-loop
 add-g c = search needs
@@ -73,29 +101,15 @@ loop-less c = search needs
 
 loop-again : tie.Need-loop-again Inv-loop μ-loop
 loop-again c =
-    let t = c .before .before in
-    let x = t .before .before .before in
-    let i = x .before in
-    let l = i .before in
-    let s = l .before .before .before .before .before in
-    let b = now (s .args .font) in
-    let u = l .before .charset-start .result in
-    let n = s .args .n in
-    let p = l .loop .inv .0 in
-    let e = passing-id b u n (l .loop .u) (l .loop .g) p (i .loop-test .taken) _ (x .next-id .ensures .0) in
-    let h = passing-inside b u n (l .loop .u) (l .loop .g) p (i .loop-test .taken) in (
-      passing-next b u n (l .loop .u) (l .loop .g) p (i .loop-test .taken) _ (x .next-id .ensures .0),
-      seen-again _ _ (l .loop .seen) (l .loop .inv .1) _ e h (mark-is (l .loop .seen) (x .next-id .result .id) (t .if1 .taken)),
-      l .loop .inv .2,
-      l .loop .inv .3,
-      all-passed _ (marked (now (s .args .flags))) n (l .loop .g) (i .loop-test .taken) (mark-not (now (s .args .flags)) (l .loop .g) (c .if2 .left)) ∙ l .loop .inv .4,
+    let t = c .before .before .before in
+    let s = start t in
+    let l = top t .loop in (
+      passed t,
+      seen-then t,
+      asked t .see .ensures .size ∙ l .inv .2,
+      asked t .see .ensures .size ∙ l .inv .3,
+      all-passed _ (marked (now (s .args .flags))) (s .args .n) (l .g) (step t .before .loop-test .taken) (mark-not (now (s .args .flags)) (l .g) (c .if2 .left)) ∙ l .inv .4,
     )
-
-mul-seen : tie.Need-mul-seen Inv-loop μ-loop
-mul-seen c = search needs
-
-slice-write-seen : tie.Need-slice-write-seen Inv-loop μ-loop
-slice-write-seen c = search needs
 
 add-g-2 : tie.Need-add-g-2 Inv-loop μ-loop
 add-g-2 c = search needs
@@ -105,24 +119,15 @@ loop-less-2 c = search needs
 
 loop-again-2 : tie.Need-loop-again-2 Inv-loop μ-loop
 loop-again-2 c =
-    let x = c .before .before .before in
-    let i = x .before in
-    let l = i .before in
-    let s = l .before .before .before .before .before in
-    let b = now (s .args .font) in
-    let u = l .before .charset-start .result in
-    let n = s .args .n in
-    let p = l .loop .inv .0 in
-    let e = passing-id b u n (l .loop .u) (l .loop .g) p (i .loop-test .taken) _ (x .next-id .ensures .0) in
-    let h = passing-inside b u n (l .loop .u) (l .loop .g) p (i .loop-test .taken) in
-    let m = mark-not (l .loop .seen) (x .next-id .result .id) (c .if1 .left) in
-    let q = seen-new _ _ (l .loop .seen) (l .loop .inv .1) _ e h m (x .next-id .ensures .1) in (
-      passing-next b u n (l .loop .u) (l .loop .g) p (i .loop-test .taken) _ (x .next-id .ensures .0),
-      q,
-      q .size,
-      simp length-set (l .loop .inv .3),
-      all-either _ (marked (now (s .args .flags))) n (l .loop .g) (i .loop-test .taken)
-          (seen-found _ _ (l .loop .seen) (l .loop .inv .1) _ e h m (x .next-id .ensures .1)) (marked (now (s .args .flags)) (l .loop .g)) refl ∙ l .loop .inv .4,
+    let t = c .before in
+    let s = start t in
+    let l = top t .loop in (
+      passed t,
+      seen-then t,
+      asked t .see .ensures .size ∙ l .inv .2,
+      asked t .see .ensures .size ∙ l .inv .3,
+      all-either _ (marked (now (s .args .flags))) (s .args .n) (l .g) (step t .before .loop-test .taken)
+          (seen-found _ _ _ (l .inv .1) _ (id-is t) (inside t) (sym (asked t .see .ensures .was) ∙ c .if1 .left)) (marked (now (s .args .flags)) (l .g)) refl ∙ l .inv .4,
     )
 
 same-length-2 : tie.Need-same-length-2 Inv-loop μ-loop
@@ -145,8 +150,7 @@ cids-found-spec =
     charset-start-requires
     loop-holds
     next-id-requires
-    mul-if1
-    slice-read-if1
+    see-requires
     mul-if2
     shared-slice-read-if2
     same-length
@@ -154,8 +158,6 @@ cids-found-spec =
     add-g
     loop-less
     loop-again
-    mul-seen
-    slice-write-seen
     add-g-2
     loop-less-2
     loop-again-2

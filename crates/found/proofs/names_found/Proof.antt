@@ -3,7 +3,7 @@ use mathlib.Core.Path.{refl}
 use Rattle.strings.specs.Table.{standardNames, standardOffsets}
 use Rattle.strings.specs.Text.{codes}
 use Rattle.strings.specs.Strings.{standardStrings, standardText}
-use Rattle.kept.specs.SlotLaws.{slots-empty}
+use Rattle.first_glyphs.specs.BitsLaws.{unseen}
 use Rattle.found.specs.HashLaws.{marks-long, told-as}
 use Rattle.found.specs.declared.Told.the-variants.{Yes, No}
 use borrow.Author.Needs.{needs}
@@ -27,7 +27,7 @@ names-met-requires : tie.Need-names-met-requires
 unfolding standardNames standardOffsets codes standardStrings joined standardText
 names-met-requires c κs =
     let s = c .before .before .before .before .before .before in
-    (s .pre .0, s .pre .1, s .pre .2, refl, refl, marks-long _ refl, slots-empty _ refl)
+    (s .pre .0, s .pre .1, s .pre .2, refl, refl, marks-long _ refl, unseen _ refl)
 
 enum-told : tie.Need-enum-told
 enum-told c = search needs

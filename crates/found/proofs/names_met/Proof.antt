@@ -1,12 +1,13 @@
 -- `found::names_met` meets its contract. The invariant: the names and the ids of the glyphs that were passed are marked, and the glyphs that are
 -- left are found exactly where all are. An open answer says nothing.
 use Prim.Native.Nat.{ℕ, _+_, _≤_, _<_, _-_}
-use mathlib.Core.Path.{_≡_, refl, sym, ap, _∙_, subst}
+use mathlib.Core.Path.{_≡_, refl, sym, ap, _∙_}
 use mathlib.Core.List.{List}
 use native.Mathlib.Omega.{arith}
 use borrow.Author.Needs.{needs}
-use lib.ListN.{length, getD, length-set}
+use lib.ListN.{length, getD}
 use denote.Ref.{now}
+use Rattle.bits.specs.Bits.{bitIn}
 use Rattle.index.specs.Index.{itemsOf}
 use Rattle.strings.specs.Strings.{stringText}
 use Rattle.charset.specs.CharsetPlaces.{idsOf}
@@ -15,7 +16,7 @@ use Rattle.find.specs.FindLaws.{ids-ahead, Passing, passing-start, passing-read
 use Rattle.subset.specs.Kept.{those}
 use Rattle.kept.specs.Packed.{marked, allOf, nameFound}
 use Rattle.kept.specs.GatherLaws.{mark-is, mark-not}
-use Rattle.first_glyphs.specs.FoundLaws.{all-start, all-stops, all-passed, Seen, seen-none, seen-again, seen-new}
+use Rattle.first_glyphs.specs.FoundLaws.{all-start, all-stops, all-passed, Seen, seen-none, seen-next}
 use Rattle.first_glyphs.specs.FirstLaws.{seen-not-named}
 use Rattle.found.specs.Hash.{hashOf, MetNames}
 use Rattle.found.specs.HashLaws.{hash-by, met-none, new-found, met-next, met-again, all-next, all-fails, all-ended}
@@ -24,20 +25,23 @@ use Rattle.found.proofs.names_met.Tie as tie
 
 abbrev Inv-loop : tie.InvT-loop
 Inv-loop font c n strings names offsets flags marks₀ seen₀ end u₀ g₀ looks₀ marks seen u g looks =
-    Passing font u₀ n u g × MetNames (itemsOf font strings) (idsOf font c n) g marks × Seen (idsOf font c n) g seen × (length marks ≡ 131072) × (length marks ≡ length marks₀)
-    × (length seen ≡ 65536) × (length seen ≡ length seen₀) × (0 < looks) × (g ≤ end)
+    Passing font u₀ n u g × MetNames (itemsOf font strings) (idsOf font c n) g (bitIn marks 0) × Seen (idsOf font c n) g (bitIn seen 0) × (length marks ≡ 4096) × (length marks ≡ length marks₀)
+    × (length seen ≡ 2048) × (length seen ≡ length seen₀) × (0 < looks) × (g ≤ end)
     × (allOf (nameFound (itemsOf font strings) (idsOf font c n)) (those (marked flags) (n - g) g)
     ≡ allOf (nameFound (itemsOf font strings) (idsOf font c n)) (those (marked flags) n 0))
 
 abbrev μ-loop : tie.MeasureT-loop
 μ-loop font c n strings names offsets flags marks₀ seen₀ end u₀ g₀ looks₀ marks seen u g looks = end - g
 
--- a turn before its first test: the glyph is one of n, and its id is known
+-- a turn behind the look at the glyph's id: the glyph is one of n, and its id is known
 abbrev Test : Type 0
 Test = tie.After-slice-known3 Inv-loop μ-loop
 
+abbrev asked : Test → tie.After-see Inv-loop μ-loop
+asked t = t .before .before
+
 abbrev step : Test → tie.After-next-id Inv-loop μ-loop
-step t = t .before .before .before
+step t = asked t .before .before .before .before
 
 abbrev top : Test → tie.At-loop Inv-loop μ-loop
 top t = step t .before .before
@@ -80,6 +84,9 @@ hashed : (q : Turn) → place q .before .hash-of .result
     (getD (idsOf (now (start (test q) .args .font)) (start (test q) .args .c) (start (test q) .args .n)) (top (test q) .loop .g) 0))
 hashed q = hash-by _ (idsOf (now (start (test q) .args .font)) (start (test q) .args .c) (start (test q) .args .n)) (top (test q) .loop .g) (step (test q) .next-id .result .id) _ _ (id-is (test q)) (place q .before .before .before .text-at .ensures) (place q .before .hash-of .ensures .0)
 
+seen-then : (t : Test) → Seen (idsOf (now (start t .args .font)) (start t .args .c) (start t .args .n)) (top t .loop .g + 1) (bitIn (asked t .see .last .0) 0)
+seen-then t = seen-next _ (top t .loop .g) _ (top t .loop .inv .2) _ (id-is t) _ (asked t .see .ensures .bits)
+
 flags-end-requires : tie.Need-flags-end-requires Inv-loop μ-loop
 flags-end-requires c κs = search needs
 
@@ -90,8 +97,8 @@ loop-holds : tie.Need-loop-holds Inv-loop μ-loop
 loop-holds c =
     let s = c .before .before .before .before .before .before .before .before in (
       passing-start _ (s .args .c) _ _ (s .pre .0) (c .charset-start .ensures),
-      met-none _ _ _ (s .pre .5),
-      seen-none _ _ (s .pre .6),
+      met-none _ _ _,
+      seen-none _ _ (s .pre .6 .none),
       s .pre .5,
       refl,
       s .pre .6 .size,
@@ -112,8 +119,8 @@ mul-flag c = search needs
 shared-slice-read-flag : tie.Need-shared-slice-read-flag Inv-loop μ-loop
 shared-slice-read-flag c = search needs
 
-slice-read-if1 : tie.Need-slice-read-if1 Inv-loop μ-loop
-slice-read-if1 c = omega (arith, step c .next-id .ensures .1, top c .loop .inv .5)
+see-requires : tie.Need-see-requires Inv-loop μ-loop
+see-requires c κs = let x = c .before .before .before in omega (arith, x .next-id .ensures .1, x .before .before .loop .inv .5)
 
 same-length : tie.Need-same-length Inv-loop μ-loop
 same-length c = search needs
@@ -128,7 +135,7 @@ returns c =
     let l = top t .loop in
     all-stops (nameFound (itemsOf (now (s .args .font)) (s .args .strings)) (idsOf (now (s .args .font)) (s .args .c) (s .args .n)))
     (marked (now (s .args .flags))) (s .args .n) (l .g) (below t) (mark-is (now (s .args .flags)) (l .g) (c .if2 .taken))
-    (seen-not-named _ _ (l .g) (l .seen) (l .inv .2) _ (id-is t) (inside t) (mark-is (l .seen) (step t .next-id .result .id) (c .before .if1 .taken))) ∙ l .inv .9
+    (seen-not-named _ _ (l .g) _ (l .inv .2) _ (id-is t) (inside t) (sym (asked t .see .ensures .was) ∙ c .before .if1 .taken)) ∙ l .inv .9
 
 add-g : tie.Need-add-g Inv-loop μ-loop
 add-g c = search needs
@@ -140,23 +147,19 @@ loop-again : tie.Need-loop-again Inv-loop μ-loop
 loop-again c =
     let t = c .before .before in
     let s = start t in
-    let l = top t .loop in
-    let m = mark-is (l .seen) (step t .next-id .result .id) (c .before .if1 .taken) in (
+    let l = top t .loop in (
       passed t,
-      met-again _ _ (l .g) (l .marks) (l .seen) (l .inv .1) (l .inv .2) _ (id-is t) m,
-      seen-again _ (l .g) (l .seen) (l .inv .2) _ (id-is t) (inside t) m,
+      met-again _ _ (l .g) _ (l .inv .1) _ (l .inv .2) _ (id-is t) (sym (asked t .see .ensures .was) ∙ c .before .if1 .taken),
+      seen-then t,
       l .inv .3,
       l .inv .4,
-      l .inv .5,
-      l .inv .6,
+      asked t .see .ensures .size ∙ l .inv .5,
+      asked t .see .ensures .size ∙ l .inv .6,
       l .inv .7,
       omega (arith, step t .before .loop-test .taken),
       all-passed (nameFound (itemsOf (now (s .args .font)) (s .args .strings)) (idsOf (now (s .args .font)) (s .args .c) (s .args .n)))
           (marked (now (s .args .flags))) (s .args .n) (l .g) (below t) (mark-not (now (s .args .flags)) (l .g) (c .if2 .left)) ∙ l .inv .9,
     )
-
-slice-write-seen : tie.Need-slice-write-seen Inv-loop μ-loop
-slice-write-seen c = let t = c .before in omega (arith, step t .next-id .ensures .1, top t .loop .inv .5)
 
 text-at-requires : tie.Need-text-at-requires Inv-loop μ-loop
 text-at-requires c κs = search needs
@@ -187,7 +190,7 @@ flagged-found-requires c κs =
       s .pre .0,
       s .pre .1,
       below (test q),
-      λ e. new-found _ _ (l .g) (l .marks) (l .inv .1) _ (hashed q) (inside (test q)) (sym (place q .meet .ensures .0) ∙ e),
+      λ e. new-found _ _ (l .g) _ (l .inv .1) _ (hashed q) (inside (test q)) (sym (place q .meet .ensures .is) ∙ e),
     )
 
 add-g-2 : tie.Need-add-g-2 Inv-loop μ-loop
@@ -202,17 +205,14 @@ loop-again-2 c =
     let t = test q in
     let s = start t in
     let l = top t .loop in
-    let b = now (s .args .font) in
-    let m = met-next _ _ (l .g) (l .marks) (l .inv .1) _ (hashed q) (place q .before .hash-of .ensures .1) in
-    let z = ap length (place q .meet .ensures .1) ∙ m .size in
-    let d = seen-new _ (l .g) (l .seen) (l .inv .2) _ (id-is t) (inside t) (mark-not (l .seen) (step t .next-id .result .id) (new-id q .if1 .left)) (step t .next-id .ensures .1) in (
+    let b = now (s .args .font) in (
       passed t,
-      subst (MetNames (itemsOf b (s .args .strings)) (idsOf b (s .args .c) (s .args .n)) (l .g + 1)) (sym (place q .meet .ensures .1)) m,
-      d,
-      z,
-      z ∙ sym (s .pre .5),
-      d .size,
-      simp length-set (l .inv .6),
+      met-next _ _ (l .g) _ (l .inv .1) _ (hashed q) _ (place q .meet .ensures .bits),
+      seen-then t,
+      place q .meet .ensures .size ∙ l .inv .3,
+      place q .meet .ensures .size ∙ l .inv .4,
+      asked t .see .ensures .size ∙ l .inv .5,
+      asked t .see .ensures .size ∙ l .inv .6,
       omega (arith, c .before .before .if3 .left),
       omega (arith, step t .before .loop-test .taken),
       all-next (nameFound (itemsOf b (s .args .strings)) (idsOf b (s .args .c) (s .args .n))) (now (s .args .flags)) (s .args .n) (l .g) (below t)
@@ -258,14 +258,13 @@ names-met-spec =
     next-id-requires
     mul-flag
     shared-slice-read-flag
-    slice-read-if1
+    see-requires
     same-length
     same-length-2
     returns
     add-g
     loop-less
     loop-again
-    slice-write-seen
     text-at-requires
     hash-of-requires
     meet-requires

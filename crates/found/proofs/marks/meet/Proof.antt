@@ -1,49 +1,40 @@
 -- `found::marks::meet` meets its contract: what both places held, before they were set.
-use mathlib.Core.Path.{refl}
-use native.Mathlib.Omega.{arith}
-use lib.ListN.{length-set}
-use Rattle.first_glyphs.specs.FoundLaws.{zero-passes, other-as}
+use mathlib.Core.Path.{sym, ap}
+use mathlib.Core.Bool.{Bool, true, not}
+use Rattle.octets.specs.Pick.{pick}
+use Rattle.found.specs.HashLaws.{marked-both}
 use borrow.Author.Needs.{needs}
 use Rattle.found.proofs.marks.meet.Statement.{statement}
 use Rattle.found.proofs.marks.meet.Tie as tie
 
-add-high : tie.Need-add-high
-add-high c = search needs
+see-requires : tie.Need-see-requires
+see-requires c κs = search needs
 
-slice-read-a : tie.Need-slice-read-a
-slice-read-a c = search needs
+add-see : tie.Need-add-see
+add-see c = search needs
 
-slice-read-b : tie.Need-slice-read-b
-slice-read-b c = search needs
-
-slice-write-marks : tie.Need-slice-write-marks
-slice-write-marks c = search needs
-
-slice-write-marks-2 : tie.Need-slice-write-marks-2
-slice-write-marks-2 c = simp length-set (omega arith)
+see-requires-2 : tie.Need-see-requires-2
+see-requires-2 c κs = search needs
 
 same-length : tie.Need-same-length
 same-length c = search needs
 
 returns : tie.Need-returns
-returns c = (zero-passes _ _ (c .if1 .taken), refl)
+returns c =
+    let b = c .before .before .before in
+    let a = b .before .before .before .before in
+    marked-both _ _ _ _ _ _ (a .see .ensures) (b .see2 .ensures) _ (sym (ap (λ (x : Bool). pick x (not (b .see2 .result)) true) (c .if1 .taken)))
 
 same-length-2 : tie.Need-same-length-2
 same-length-2 c = search needs
 
 returns-2 : tie.Need-returns-2
-returns-2 c = (other-as _ _ _ (c .if1 .left) refl, refl)
+returns-2 c =
+    let b = c .before .before .before in
+    let a = b .before .before .before .before in
+    marked-both _ _ _ _ _ _ (a .see .ensures) (b .see2 .ensures) _ (sym (ap (λ (x : Bool). pick x (not (b .see2 .result)) true) (c .if1 .left)))
 
 pub meet-spec : {M : Type 1} → statement M
 meet-spec =
     tie.close
-    (tie.spec
-    add-high
-    slice-read-a
-    slice-read-b
-    slice-write-marks
-    slice-write-marks-2
-    same-length
-    returns
-    same-length-2
-    returns-2)
+    (tie.spec see-requires add-see see-requires-2 same-length returns same-length-2 returns-2)
