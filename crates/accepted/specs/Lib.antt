@@ -1,0 +1,5 @@
+pub mod Accepted
+pub mod RowsLaws
+pub mod EnteredLaws
+pub mod StubLaws
+pub mod Theorem
