@@ -60,7 +60,7 @@ pub record Accepted (p : Program) (keep rec : List ℕ) : Type 0 where
   pub globals : (k : ℕ) → lists (rowsOf rec) (entered (global k)) ≡ true → k < length (p .globals)
 
 -- an FD that is in use is that of a kept glyph
-fd-from : (p : Program) (gs : List ℕ) (f : ℕ) → isIn f (fdsOf p gs) ≡ true → (g : ℕ) × (isIn g gs ≡ true) × (getD (p .fds) g 0 ≡ f)
+pub fd-from : (p : Program) (gs : List ℕ) (f : ℕ) → isIn f (fdsOf p gs) ≡ true → (g : ℕ) × (isIn g gs ≡ true) × (getD (p .fds) g 0 ≡ f)
 unfolding fdsOf
 fd-from p [] f h = absurd (in-none f h)
 fd-from p (x ∷ gs) f h =
