@@ -162,12 +162,7 @@ impl<'a> Font<'a> {
     /// (document 01, 'Plain glyphs'). The work is done by a thread with a stack of its own; [`Refusal::Output`] also where none is
     /// to be had.
     pub fn trace(&self, keep: &[u16]) -> Result<Record, Refusal> {
-        std::thread::scope(|scope| {
-            let thread = std::thread::Builder::new().stack_size(TRACE_STACK);
-            let spawned = thread.spawn_scoped(scope, || self.trace_here(keep));
-            let joined = spawned.map_err(|_| Refusal::Output)?.join();
-            joined.unwrap_or(Err(Refusal::Output))
-        })
+        on_own_stack(|| self.trace_here(keep))
     }
 
     /// The same on this thread.
@@ -201,6 +196,27 @@ impl<'a> Font<'a> {
                 }
             }
         }
+    }
+
+    /// Whether a record of another tracer is accepted for glyph 0 and the glyphs of the keep list: each of them is plain, the record
+    /// lists all that they meet, and each subroutine that it lists exists, those of font dictionaries not in use aside. Its rows are
+    /// taken as traced. [`Refusal::NotAccepted`] where it is not; with one that is, [`Font::subset`] keeps every kept glyph. The
+    /// work is done as that of [`Font::trace`].
+    pub fn check_record(&self, keep: &[u16], record: &Record) -> Result<(), Refusal> {
+        on_own_stack(|| {
+            let rows = record.bytes();
+            // SAFETY: the slices are lent for the call, which writes to none.
+            Refusal::check(unsafe {
+                ffi::cff_check_record(
+                    self.bytes.as_ptr(),
+                    self.bytes.len(),
+                    keep.as_ptr(),
+                    keep.len(),
+                    rows.as_ptr(),
+                    rows.len(),
+                )
+            })
+        })
     }
 
     /// The subset of glyph 0 and the glyphs of the keep list, traced: [`Font::trace`] and then [`Font::subset`].
@@ -320,6 +336,16 @@ impl<'a> Font<'a> {
         };
         Ok((way, answer[1] as usize))
     }
+}
+
+/// Work done by a thread with a stack of its own.
+fn on_own_stack<T: Send>(work: impl FnOnce() -> Result<T, Refusal> + Send) -> Result<T, Refusal> {
+    std::thread::scope(|scope| {
+        let thread = std::thread::Builder::new().stack_size(TRACE_STACK);
+        let spawned = thread.spawn_scoped(scope, work);
+        let joined = spawned.map_err(|_| Refusal::Output)?.join();
+        joined.unwrap_or(Err(Refusal::Output))
+    })
 }
 
 /// An empty list with room for so many bytes, if that is to be had.

@@ -64,7 +64,7 @@ module _ (rows : List Row) where
   unfolding renumberedSubrs
   subrs-fail set calls site subrs k is h e =
       let f = each-fails (λ j. renumberedBody rows calls (site j) (getD subrs j [])) (those set (length subrs) 0) k
-          (those-has set (length subrs) 0 k (omega arith) (omega (arith, h)) is) (body-fails calls (site k) (getD subrs k []) e) in
+      (those-has set (length subrs) 0 k (omega arith) (omega (arith, h)) is) (body-fails calls (site k) (getD subrs k []) e) in
       let there = eqb (reached set) (countBelow set (length subrs)) in
       ap (λ (m : May (List (List ℕ))). pick there m fail) f ∙ pick-same there fail
 

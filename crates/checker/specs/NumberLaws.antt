@@ -83,8 +83,8 @@ module _ (b : List ℕ) (f : Font) (marks : List ℕ) where
         within = omega arith;
         known = record { size = u .size; own = λ x h n. absurd (n (u .none x h)) };
         left = λ x h.
-        ap (λ (l : List ℕ). pick (isIn x (fdsOf p l)) (length (localsOf p x)) (getD limits x 0)) (those-whole (marked marks) glyphs)
-        ∙ ap (pick (isIn x allFds) (length (localsOf p x))) (u .none x h);
+            ap (λ (l : List ℕ). pick (isIn x (fdsOf p l)) (length (localsOf p x)) (getD limits x 0)) (those-whole (marked marks) glyphs)
+            ∙ ap (pick (isIn x allFds) (length (localsOf p x))) (u .none x h);
       }
 
   module _ (limits : List ℕ) (g : ℕ) (s : Limiting limits g) where
@@ -103,8 +103,8 @@ module _ (b : List ℕ) (f : Font) (marks : List ℕ) where
             within = omega arith;
             known = s .known;
             left = λ x l.
-            ap (λ (gs : List ℕ). pick (isIn x (fdsOf p gs)) (length (localsOf p x)) (getD limits x 0)) (sym (those-passed (marked marks) glyphs g h (mark-not marks g (omega (arith, e)))))
-            ∙ s .left x l;
+                ap (λ (gs : List ℕ). pick (isIn x (fdsOf p gs)) (length (localsOf p x)) (getD limits x 0)) (sym (those-passed (marked marks) glyphs g h (mark-not marks g (omega (arith, e)))))
+                ∙ s .left x l;
           }
 
       pub limits-put : (getD marks g 0 ≡ 0 → ⊥) → (limits' : List ℕ) → Limited p (fdFor b f g) limits limits' → Limiting limits' (g + 1)
@@ -141,7 +141,7 @@ filled-at (suc n) (suc f) h = filled-at n f (omega arith)
 
 -- the table before the first glyph
 pub no-limits : (limits : List ℕ) → limits ≡ replicate 256 65536 → Unlimited limits
-no-limits limits e = record { size = ap length e ∙ length-replicate 256 65536; none = λ f h. ap (λ (l : List ℕ). getD l f 0) e ∙ filled-at 256 f h }
+no-limits limits e = record { size = ap length e ∙ length-replicate {A = ℕ} 256 65536; none = λ f h. ap (λ (l : List ℕ). getD l f 0) e ∙ filled-at 256 f h }
 
 -- ---- rows against the table
 
@@ -188,6 +188,7 @@ module _ (b : List ℕ) (f : Font) (held : Held b f) (marks : List ℕ) (limits 
       ∙ ap (λ (n : ℕ). pick (eqb (r .kind) 0) (pick (isIn (r .fd) (usedFds (programOf b f) some)) (ltb (r .number) (length (localsOf (programOf b f) (r .fd)))) true) (pick (eqb (r .kind) 1) (ltb (r .number) n) true))
       (e ∙ sym (items-length b (f .globals)))
     where
+      many : ℕ
       many = length (localsOf (programOf b f) (r .fd))
 
       limited : (t : Bool) → ltb (r .number) (pick t many 65536) ≡ pick t (ltb (r .number) many) true

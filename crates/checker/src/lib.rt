@@ -32,28 +32,28 @@ fn windows_listed(
     marks: &[u32],
     keys: &mut [u64],
     first: usize,
-    record: &[u8],
+    rows: &[u8],
 ) -> bool
     requires { ⌜ (Held (now font) f) × (f .charstrings .count ≤ length (now marks)) × (Plainly (now font) f (now marks))
         × (Asks (keysIn (now font) f (now marks)) (now keys) first 0) ⌝ }
-    ensures { λ r. ⌜ r ≡ allIn (rowKeys (now (record .entry))) (sortedIn (now (font .entry)) f (now (marks .entry))) ⌝ }
+    ensures { λ r. ⌜ r ≡ allIn (rowKeys (now (rows .entry))) (sortedIn (now (font .entry)) f (now (marks .entry))) ⌝ }
 {
     let mut n = first;
     let mut low: u64 = 0;
     while n == WINDOW {
-        if !listed::window_listed(keys, n, record) {
+        if !listed::window_listed(keys, n, rows) {
             return false;
         }
         low = keys[WINDOW - 1] + 1;
         n = tracer::refill(font, f, marks, low, &mut *keys);
     }
-    listed::window_listed(keys, n, record)
+    listed::window_listed(keys, n, rows)
 }
 
 // Whether all marked glyphs are plain and the record lists what they meet.
-fn lists_met(font: &[u8], f: Font, marks: &[u32], record: &[u8]) -> bool
+fn lists_met(font: &[u8], f: Font, marks: &[u32], rows: &[u8]) -> bool
     requires { ⌜ (Held (now font) f) × (f .charstrings .count ≤ length (now marks)) × (RowsFit (metIn (now font) f (now marks))) ⌝ }
-    ensures { λ r. ⌜ r ≡ listsMet (rowsOf (now (record .entry))) (metIn (now (font .entry)) f (now (marks .entry))) ⌝ }
+    ensures { λ r. ⌜ r ≡ listsMet (rowsOf (now (rows .entry))) (metIn (now (font .entry)) f (now (marks .entry))) ⌝ }
 {
     let mut keys = [0u64; 65536];
     let all = Range {
@@ -62,29 +62,29 @@ fn lists_met(font: &[u8], f: Font, marks: &[u32], record: &[u8]) -> bool
     };
     match tracer::fill(font, f, marks, all, &mut keys) {
         Met::NotPlain => false,
-        Met::Plain(first) => windows_listed(font, f, marks, &mut keys, first, record),
+        Met::Plain(first) => windows_listed(font, f, marks, &mut keys, first, rows),
     }
 }
 
 // Whether the record is accepted: the numbers first, which cost one pass over the record.
-fn accepts(font: &[u8], f: Font, keep: &[u16], record: &[u8]) -> bool
+fn accepts(font: &[u8], f: Font, keep: &[u16], rows: &[u8]) -> bool
     requires { ⌜ (Held (now font) f) × (allBelow (f .charstrings .count) (now keep) ≡ true)
         × (RowsFit (metAll (programOf (now font) f) (keptOf (f .charstrings .count) (now keep)))) ⌝ }
-    ensures { λ r. ⌜ r ≡ acceptedBy (programOf (now (font .entry)) f) (now (keep .entry)) (now (record .entry)) ⌝ }
+    ensures { λ r. ⌜ r ≡ acceptedBy (programOf (now (font .entry)) f) (now (keep .entry)) (now (rows .entry)) ⌝ }
 {
     let charstrings = f.charstrings;
     let mut marks = [0u32; 65536];
     kept::order::mark(keep, &mut marks, charstrings.count);
-    if numbers::numbers_are(font, f, &marks, record) {
-        return lists_met(font, f, &marks, record);
+    if numbers::numbers_are(font, f, &marks, rows) {
+        return lists_met(font, f, &marks, rows);
     }
     false
 }
 
 // The answer for a font that was read in a file, by the bytes of its table.
-fn check_font(font: &[u8], f: Font, keep: &[u16], record: &[u8]) -> u8
+fn check_font(font: &[u8], f: Font, keep: &[u16], rows: &[u8]) -> u8
     requires { ⌜ HasFont (now font) f ⌝ }
-    ensures { λ r. ⌜ r ≡ checkOf (now (font .entry)) (now (keep .entry)) (now (record .entry)) ⌝ }
+    ensures { λ r. ⌜ r ≡ checkOf (now (font .entry)) (now (keep .entry)) (now (rows .entry)) ⌝ }
 {
     let table = cff::set::table(font, f);
     let charstrings = f.charstrings;
@@ -95,21 +95,21 @@ fn check_font(font: &[u8], f: Font, keep: &[u16], record: &[u8]) -> u8
     if !found::all_found(table, f, keep) {
         return Refusal::NOT_FOUND;
     }
-    if !reach::check_record(cid, record, 1) {
+    if !reach::check_record(cid, rows, 1) {
         return Refusal::RECORD;
     }
-    if !accepts(table, f, keep, record) {
+    if !accepts(table, f, keep, rows) {
         return Refusal::NOT_ACCEPTED;
     }
     0
 }
 
 // Checks a reach record for glyph 0 and the glyphs of the keep list: 0 where it is accepted, else the refusal.
-pub fn check(font: &[u8], keep: &[u16], record: &[u8]) -> u8
-    ensures { λ r. ⌜ r ≡ checkOf (now (font .entry)) (now (keep .entry)) (now (record .entry)) ⌝ }
+pub fn check(font: &[u8], keep: &[u16], rows: &[u8]) -> u8
+    ensures { λ r. ⌜ r ≡ checkOf (now (font .entry)) (now (keep .entry)) (now (rows .entry)) ⌝ }
 {
     match cff::set::read_font(font) {
         FontRead::Refused(n) => n,
-        FontRead::Found(f) => check_font(font, f, keep, record),
+        FontRead::Found(f) => check_font(font, f, keep, rows),
     }
 }

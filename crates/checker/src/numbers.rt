@@ -65,14 +65,14 @@ fn number_fits(r: Row, globals: usize, limits: &[usize]) -> bool
 }
 
 // The same of all rows of a record.
-fn numbers_fit(record: &[u8], globals: usize, limits: &[usize]) -> bool
+fn numbers_fit(rows: &[u8], globals: usize, limits: &[usize]) -> bool
     requires { ⌜ length (now limits) ≡ 256 ⌝ }
-    ensures { λ r. ⌜ r ≡ eachRow (numberFits globals (now (limits .entry))) (rowsOf (now (record .entry))) ⌝ }
+    ensures { λ r. ⌜ r ≡ eachRow (numberFits globals (now (limits .entry))) (rowsOf (now (rows .entry))) ⌝ }
 {
-    let rows = record.len() / 10;
+    let count = rows.len() / 10;
     let mut i = 0;
-    while i < rows {
-        if number_fits(reach::row_at(record, i), globals, limits) {
+    while i < count {
+        if number_fits(reach::row_at(rows, i), globals, limits) {
             i += 1;
         } else {
             return false;
@@ -82,13 +82,13 @@ fn numbers_fit(record: &[u8], globals: usize, limits: &[usize]) -> bool
 }
 
 // Whether each subroutine that the record lists exists, those of FDs that no marked glyph has aside.
-pub fn numbers_are(font: &[u8], f: Font, marks: &[u32], record: &[u8]) -> bool
+pub fn numbers_are(font: &[u8], f: Font, marks: &[u32], rows: &[u8]) -> bool
     requires { ⌜ (Held (now font) f) × (f .charstrings .count ≤ length (now marks)) ⌝ }
     ensures { λ r. ⌜ r ≡ eachRow (numberIs (programOf (now (font .entry)) f)
-        (usedFds (programOf (now (font .entry)) f) (those (marked (now (marks .entry))) (f .charstrings .count) 0))) (rowsOf (now (record .entry))) ⌝ }
+        (usedFds (programOf (now (font .entry)) f) (those (marked (now (marks .entry))) (f .charstrings .count) 0))) (rowsOf (now (rows .entry))) ⌝ }
 {
     let mut limits = [65536usize; 256];
     put_limits(font, f, marks, &mut limits);
     let globals = f.globals;
-    numbers_fit(record, globals.count, &limits)
+    numbers_fit(rows, globals.count, &limits)
 }

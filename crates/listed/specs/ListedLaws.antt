@@ -86,6 +86,7 @@ module _ (l : List ℕ) (rises : Rising l) (key i : ℕ) (p : Parted key l i) wh
   unfolding isIn
   see-one old room e = record { size = length-set old i 1; marks = λ j h. by j h (eqb j i) refl }
     where
+      at : (ltb i (length l) ≡ true) × (eqb (getD l i 0) key ≡ true)
       at = both-hold (ltb i (length l)) (eqb (getD l i 0) key) e
 
       by : (j : ℕ) → j < length l → (t : Bool) → eqb j i ≡ t → marked (set old i 1) j ≡ pick (marked old j) true (pick (eqb key (getD l j 0)) true false)
@@ -98,6 +99,11 @@ module _ (l : List ℕ) (rises : Rising l) (key i : ℕ) (p : Parted key l i) wh
           let n = eqb-false j i t in
           mark-other old i 1 j n ∙ same-mark (marked old j)
           ∙ ap (λ (u : Bool). pick (marked old j) true (pick u true false)) (sym (ne-eqb key (getD l j 0) (other j h n)))
+
+-- a place where a key stands is one of the n
+pub stands-inside : (keys : List ℕ) (n i key : ℕ) → n ≤ length keys → standsAt (take n keys) i key ≡ true → i < n
+stands-inside keys n i key h e =
+    omega (arith, ltb-true i (length (take n keys)) (both-hold (ltb i (length (take n keys))) (eqb (getD (take n keys) i 0) key) e .0), length-take-le n keys h)
 
 -- ---- the rows of a record, one after the other
 
@@ -174,10 +180,10 @@ pub window-seen : (l ks old new : List ℕ) (n : ℕ) → length l ≡ n → old
 window-seen l ks old new n e z s =
     ap (λ (m : ℕ). eachOf (marked new) m 0) (sym e)
     ∙ each-all (marked new) (λ k. isIn k ks) l 0
-    (λ i h. s .marks i h ∙ ap (λ (t : Bool). pick t true (isIn (getD l i 0) ks)) (clear i))
+    (λ i h. let z : 0 + i ≡ i = omega arith in ap (marked new) z ∙ s .marks i h ∙ ap (λ (t : Bool). pick t true (isIn (getD l i 0) ks)) (clear i))
   where
     clear : (i : ℕ) → marked old i ≡ false
     clear i = mark-not old i (omega (arith, ap (λ (x : List ℕ). getD x i 0) z, zeros-at 65536 i))
 
 pub seen-long : (old new : List ℕ) (n : ℕ) → old ≡ replicate 65536 0 → n ≤ 65536 → length new ≡ length old → n ≤ length new
-seen-long old new n z h e = omega (arith, e, ap length z, length-replicate 65536 0)
+seen-long old new n z h e = omega (arith, e, ap length z, length-replicate {A = ℕ} 65536 0)

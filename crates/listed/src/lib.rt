@@ -40,14 +40,14 @@ fn see(keys: &[u64], n: usize, key: u64, seen: &mut [u8])
 }
 
 // Marks the key of each row of a record.
-fn see_rows(keys: &[u64], n: usize, record: &[u8], seen: &mut [u8])
+fn see_rows(keys: &[u64], n: usize, rows: &[u8], seen: &mut [u8])
     requires { ⌜ (Window (now keys) n) × (n ≤ length (now seen)) ⌝ }
-    ensures { λ r. ⌜ Seen (take n (now (keys .entry))) (rowKeys (now (record .entry))) (now (seen .entry)) (now (seen .exit)) ⌝ }
+    ensures { λ r. ⌜ Seen (take n (now (keys .entry))) (rowKeys (now (rows .entry))) (now (seen .entry)) (now (seen .exit)) ⌝ }
 {
-    let rows = record.len() / 10;
+    let count = rows.len() / 10;
     let mut i = 0;
-    while i < rows {
-        let key = row_key(reach::row_at(record, i));
+    while i < count {
+        let key = row_key(reach::row_at(rows, i));
         see(keys, n, key, &mut *seen);
         i += 1;
     }
@@ -69,11 +69,11 @@ fn all_seen(seen: &[u8], n: usize) -> bool
 }
 
 // Whether each of the n keys of a window is that of a row of the record.
-pub fn window_listed(keys: &[u64], n: usize, record: &[u8]) -> bool
+pub fn window_listed(keys: &[u64], n: usize, rows: &[u8]) -> bool
     requires { ⌜ (Window (now keys) n) × (n ≤ 65536) ⌝ }
-    ensures { λ r. ⌜ r ≡ allIn (rowKeys (now (record .entry))) (take n (now (keys .entry))) ⌝ }
+    ensures { λ r. ⌜ r ≡ allIn (rowKeys (now (rows .entry))) (take n (now (keys .entry))) ⌝ }
 {
     let mut seen = [0u8; 65536];
-    see_rows(keys, n, record, &mut seen);
+    see_rows(keys, n, rows, &mut seen);
     all_seen(&seen, n)
 }
