@@ -5,7 +5,7 @@ use Prim.Native.Nat.{ℕ, _≤_, _<_}
 use mathlib.Core.Path.{_≡_, refl, sym, ap, _∙_, subst}
 use mathlib.Core.Bool.{Bool, true, false}
 use mathlib.Core.List.{List, [], _∷_}
-use mathlib.Core.Logic.{inr, ⊎-elim}
+use mathlib.Core.Logic.{_⊎_, inr, ⊎-elim}
 use native.Mathlib.Omega.{arith}
 use borrow.Author.Tests.{ltb-true, lt-ltb, eqb-true}
 use lib.Dec.{ltb, eqb}
@@ -19,7 +19,8 @@ use Rattle.prune.specs.Bodies.{All}
 use Rattle.prune.specs.StepLaws.{zero-one}
 use Rattle.record.specs.Record.{rowsOf, rowFine, recordFine, lists}
 use Rattle.dict.specs.Lookup.{cidKeyed}
-use Rattle.cff.specs.Font.{Got, got, Program, readFont}
+use Rattle.cff.specs.Font.{Got, refused as refusedFont, got, Program, readFont}
+use Rattle.cff.specs.ReadingRefusals.{reading-refusal}
 use Rattle.subset.specs.Kept.{isIn, keptOf, writtenOrder, fdsOf, usedFds, localsOf}
 use Rattle.subset.specs.KeptListLaws.{in-none, in-head, in-more, in-cases, those-in}
 use Rattle.subset.specs.Pruned.{May, fail, yes, pruned}
@@ -250,6 +251,17 @@ trace-tests p keep room flag rec e = by (allBelow (length (p .charstrings)) keep
     by false b u f h = absurd (zero-one cc)
 
 -- ---- the theorems
+
+-- 0 and 14 are no refusals of reading: where they are answered the font was read
+pub answer-reads : (font keep rec : List ℕ) → (checkOf font keep rec ≡ 0) ⊎ (checkOf font keep rec ≡ 14) → (p : Program) × (readFont font ≡ got p)
+unfolding checkOf
+answer-reads font keep rec = go (readFont font) refl
+  where
+    go : (x : Got Program) → readFont font ≡ x → (checkRead x keep rec ≡ 0) ⊎ (checkRead x keep rec ≡ 14) → (p : Program) × (readFont font ≡ got p)
+    go (refusedFont n) h e =
+        let r = reading-refusal font n h in
+        absurd (⊎-elim (λ z. omega (arith, z, r .least)) (λ z. let s : n ≡ 15 = r .only (omega (arith, z)) in omega (arith, z, s)) e)
+    go (got p) h e = (p, h)
 
 module _ (font keep rec : List ℕ) (octets : Octets font) (p : Program) (is : readFont font ≡ got p) where
   answer-is : checkOf font keep rec ≡ checkProgram p keep rec

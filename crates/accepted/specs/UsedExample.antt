@@ -3,7 +3,7 @@ use Prim.Native.Nat.{ℕ}
 use mathlib.Core.Path.{_≡_, refl, sym, ap, _∙_}
 use mathlib.Core.Bool.{true, false}
 use mathlib.Core.List.{List, [], _∷_}
-use mathlib.Core.Logic.{inr}
+use mathlib.Core.Logic.{inl, inr}
 use native.Mathlib.Omega.{arith}
 use lib.IntN.{pos}
 use Rattle.octets.specs.Octets.{Octets, be, numAt}
@@ -11,6 +11,7 @@ use Rattle.octets.specs.Lists.{allBelow}
 use Rattle.type2_number.specs.Number as t2
 use Rattle.unfold.specs.Unfold.{Tok, num, op, mask, Row, plain, local, global, entered, masked, leave, but, targetOf, operatorAt, stepAt, walk, runBody, unfoldGlyph}
 use Rattle.record.specs.Record.{rowsFrom, rowsOf, lists}
+use Rattle.cff.specs.Font.{got, Program, readFont}
 use Rattle.subset.specs.Kept.{isIn}
 use Rattle.subset.specs.Cut.{subset, cutOf}
 use Rattle.subset.specs.CidFont.{cidFont, cidProgram, reads, reach}
@@ -20,7 +21,7 @@ use Rattle.faithful.specs.Faithful.{unfolded, IsKept, Holds}
 use Rattle.traced.specs.Has.{Has, here, there}
 use Rattle.traced.specs.HeldExample as traced
 use Rattle.accepted.specs.Accepted.{checkOf}
-use Rattle.accepted.specs.Theorem.{InForm, Accepted, accepted-only, accepted-whenever, refused-only, refused-whenever, accepted-held, trace-accepted, second-length-stubs}
+use Rattle.accepted.specs.Theorem.{InForm, Accepted, answer-reads, accepted-only, accepted-whenever, refused-only, refused-whenever, accepted-held, trace-accepted, second-length-stubs}
 use Rattle.accepted.specs.Examples.{keep, accepts, twice, twice-accepted, drops}
 
 -- ---- a CID-keyed font and the record of the Rust's trace
@@ -48,6 +49,10 @@ back = accepted-whenever cidFont keep reach bytes cidProgram reads (conditions .
 -- the subset cut with it holds every kept glyph: glyph 3 is plain, and found
 held : (ts : List Tok) × (met : List Row) × (unfolded cidProgram 3 ≡ plain ts met) × Holds cidProgram 3 ts renumberedBytes
 held = accepted-held cidFont keep reach bytes cidProgram reads accepts row-bytes true false (0x41 ∷ []) 8192 32768 0 renumberedBytes renumbers 3 kept
+
+-- where 0 is answered the font was read
+read : (p : Program) × (readFont cidFont ≡ got p)
+read = answer-reads cidFont keep reach (inl accepts)
 
 -- ---- a row dropped
 

@@ -92,11 +92,11 @@ module _ (b : List ℕ) (f : Font) (held : Held b f) (keep : List ℕ) (old mark
 
 -- ---- the entry
 
-was-false : (r : Bool) → not r ≡ true → r ≡ false
+pub was-false : (r : Bool) → not r ≡ true → r ≡ false
 was-false true e = absurd (zero-one cc)
 was-false false e = refl
 
-was-true : (r : Bool) → not r ≡ false → r ≡ true
+pub was-true : (r : Bool) → not r ≡ false → r ≡ true
 was-true true e = refl
 was-true false e = absurd (zero-one cc)
 

@@ -51,6 +51,9 @@ module _ (p : Program) (fd : ℕ) (limits : List ℕ) (k : Known p limits) (byte
           subst (λ (x : ℕ). getD (set limits fd n) x 0 ≡ length (localsOf p x)) (eqb-true fd f e) (getD-set-same limits fd n 0 (omega (arith, k .size)) ∙ is)
       by f false e = getD-set-other limits fd f n 0 (λ z. eqb-false fd f e (sym z))
 
+pub limited-as : (p : Program) (a c : ℕ) (old new : List ℕ) → a ≡ c → Limited p a old new → Limited p c old new
+limited-as p a c old new e l = subst (λ (k : ℕ). Limited p k old new) e l
+
 -- how many local subroutines there are, by a Private DICT
 pub locals-many : (b : List ℕ) (p : Program) (fd : ℕ) (q : PrivateAt) → GoodPrivate b q × (reads.privateOf b q ≡ privateOf p fd) → q .locals .count ≡ length (localsOf p fd)
 locals-many b p fd q e = sym (items-length b (q .locals)) ∙ ap (λ (x : Private). length (x .locals)) (e .1)
