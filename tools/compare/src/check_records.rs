@@ -12,7 +12,7 @@ pub struct Record {
     pub answer: Option<u8>,
 }
 
-/// Rows that are dropped one by one from one record.
+/// Rows that are dropped one by one from one record, and as many again of a long one.
 const DROPPED: usize = 12;
 
 /// The answer to a record that is not accepted.
@@ -70,13 +70,10 @@ pub fn traced(
     let with = |row: Row| [rows, &[row]].concat();
     push("as traced", Some(0), rows);
     push("in another order", Some(0), &shuffled(g, rows.to_vec()));
-    for _ in 0..rows.len().min(DROPPED) {
+    // Each row of a short record, and some of a long one.
+    for _ in DROPPED..rows.len().min(2 * DROPPED) {
         let mut left = rows.to_vec();
-        left.remove(if rows.len() <= DROPPED {
-            left.len() - 1
-        } else {
-            g.below(rows.len())
-        });
+        left.remove(g.below(rows.len()));
         push("a row dropped", Some(NOT_ACCEPTED), &left);
     }
     for k in 0..rows.len().min(DROPPED) {

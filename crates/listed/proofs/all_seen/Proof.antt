@@ -29,7 +29,7 @@ shared-slice-read-if1 c = search needs
 returns : tie.Need-returns Inv-loop μ-loop
 returns c =
     let l = c .before .before in
-    each-stops _ _ _ (l .loop-test .taken) (mark-not (now (l .before .before .args .seen)) _ (omega (arith, c .if1 .taken))) ∙ l .before .loop .inv .1
+    each-stops _ _ (l .before .loop .left) (omega arith) (mark-not (now (l .before .before .args .seen)) _ (omega (arith, c .if1 .taken))) ∙ l .before .loop .inv .1
 
 sub-left : tie.Need-sub-left Inv-loop μ-loop
 sub-left c = search needs
@@ -41,7 +41,7 @@ loop-again : tie.Need-loop-again Inv-loop μ-loop
 loop-again c =
     let l = c .before .before in (
       omega (arith, l .before .loop .inv .0),
-      each-goes-on _ _ _ (l .loop-test .taken) (l .before .loop .inv .0) (mark-is (now (l .before .before .args .seen)) _ (omega (arith, c .if1 .left))) ∙ l .before .loop .inv .1,
+      each-goes-on _ _ (l .before .loop .left) (omega arith) (l .before .loop .inv .0) (mark-is (now (l .before .before .args .seen)) _ (omega (arith, c .if1 .left))) ∙ l .before .loop .inv .1,
     )
 
 returns-2 : tie.Need-returns-2 Inv-loop μ-loop
