@@ -104,6 +104,46 @@ pub fn compare(case: &Case, seed: u64, tally: &mut CheckTally) {
     }
 }
 
+/// A record of more than three windows of the library's: whole, in any order, and without a row at the ends of each window.
+pub fn windows(seed: u64, tally: &mut CheckTally) {
+    let case = Case {
+        number: 0,
+        kind: "200,050 rows",
+        state: "as made",
+        font: trace_edges::rising(50, 4_000),
+        file: String::new(),
+    };
+    let reading = model::read(&case.font, WISHES);
+    let font = reading.font.as_ref().expect("a font that is read");
+    let tracer = Tracer::new(&case.font, font, LIMITS).expect("parts of a font that is read");
+    let keep: Vec<u16> = (0..font.charset.len() as u16).collect();
+    let trace::Outcome::Record(1, bytes) = tracer.trace(&keep) else {
+        unreachable!("its glyphs are plain")
+    };
+    let rows = record::rows(&bytes);
+    let mut g = Generator::new(seed);
+    let mut ask = |kind, answer, rows: Vec<Row>| {
+        let record = Record {
+            bytes: record::bytes(&rows),
+            kind,
+            answer: Some(answer),
+        };
+        let want = wanted(&tracer, &keep, &record.bytes);
+        tally.call(&case, seed, &keep, &record, want);
+    };
+    ask("windows, as traced", 0, rows.clone());
+    ask(
+        "windows, in another order",
+        0,
+        shuffled(&mut g, rows.clone()),
+    );
+    for k in [0, 65_535, 65_536, 131_071, 131_072, 196_608, rows.len() - 1] {
+        let mut left = rows.clone();
+        left.remove(k);
+        ask("windows, a row dropped", NOT_ACCEPTED, left);
+    }
+}
+
 /// What the plain ones of these glyphs meet, where they are glyphs.
 fn plain_rows(tracer: &Tracer<'_>, keep: &[u16]) -> Vec<Row> {
     let there = |k: &&u16| usize::from(**k) < tracer.found.len();

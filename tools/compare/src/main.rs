@@ -322,6 +322,7 @@ fn check(seed: u64, count: usize) -> ExitCode {
             }
             check_compare::compare(&case, seed, &mut tally);
         }
+        check_compare::windows(seed, &mut tally);
         (tally, check_compare::times(cpu_time))
     });
     println!("seed {seed}");
