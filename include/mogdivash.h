@@ -12,7 +12,7 @@
 
    A slice is a pointer and the number of its elements. What is lent for writing must not overlap what else is lent, and a
    uint16_t, uint32_t or uint64_t must be aligned. The calling thread must have 1.5 MiB of stack free for cff_subset,
-   cff_subset_cid and cff_trace. Beyond this there is nothing that a caller must keep.
+   cff_subset_cid, cff_trace and cff_check_record. Beyond this there is nothing that a caller must keep.
 
    Time. A call is linear in its input but for what is said at cff_trace and three things, of which two come with hostile fonts and
    records: parts that the font dictionaries or the fonts of a set share are read again wherever they are named (65,535 font
@@ -54,6 +54,7 @@ extern "C" {
 #define CFF_OUTPUT 11        /* fewer elements lent than the answer has */
 #define CFF_STRING_ID 12     /* a string id above 64,999 */
 #define CFF_PAIRS 13         /* an encoding of more than 255 codes of kept glyphs */
+#define CFF_NOT_ACCEPTED 14  /* a record right in form that cff_check_record does not accept */
 #define CFF_NO_TABLE 15      /* an OpenType file without a table `CFF ` */
 
 /* The words of cff_read's answer. */
@@ -138,6 +139,19 @@ uint8_t cff_subset_cid(const uint8_t *font, size_t font_len, const uint8_t *name
    seconds, rising 0.02). */
 uint8_t cff_trace(const uint8_t *font, size_t font_len, const uint16_t *keep, size_t keep_len, uint8_t *record,
                   size_t record_len, uint64_t *answer, size_t answer_len);
+
+/* Checks a record of another tracer for glyph 0 and the glyphs of the keep list, as it would be given with the flag 1 for traced. It is
+   accepted, with 0, exactly where each of these glyphs is plain, the record lists all that they meet, and each subroutine that it lists
+   as reached exists, those of font dictionaries that none of these glyphs has aside. Rows may stand in any order and more than once, and
+   there may be further ones. What cff_trace writes with the flag 1 is accepted. A subset cut with an accepted record and the flag 1 holds
+   every kept glyph; where the record has a second length for a mask that is met, it is stubbed.
+
+   The refusals are reading's, then CFF_NO_SUCH_NUMBER, CFF_NOT_FOUND, CFF_RECORD, CFF_NOT_ACCEPTED. Nothing is written.
+
+   It costs the passes of cff_trace over the kept glyphs, one for each 65,536 rows that they meet, and one pass over the record for each,
+   whatever its order. */
+uint8_t cff_check_record(const uint8_t *font, size_t font_len, const uint16_t *keep, size_t keep_len, const uint8_t *record,
+                         size_t record_len);
 
 /* The next short charstring. Short are the plain charstrings of 1 to 4 bytes that make no call and whose last byte is their only endchar:
    2,059,854 of them, the shorter ones first, those of one length rising byte by byte. Given one of them, or nothing, the next is written

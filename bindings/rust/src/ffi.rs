@@ -59,6 +59,16 @@ unsafe extern "C" {
         answer_len: usize,
     ) -> u8;
 
+    /// Whether a record, with the flag 1, is accepted: font, kept numbers, record.
+    pub fn cff_check_record(
+        font: *const u8,
+        font_len: usize,
+        keep: *const u16,
+        keep_len: usize,
+        record: *const u8,
+        record_len: usize,
+    ) -> u8;
+
     /// The next short charstring behind `code`, one of them or nothing, to `out`, and its length, 0 for none left, to `size`.
     pub fn cff_next_charstring(
         code: *const u8,

@@ -189,6 +189,24 @@ impl<'a> Font<'a> {
         }
     }
 
+    /// Whether a record of another tracer is accepted for glyph 0 and the glyphs of the keep list: each of them is plain, the record
+    /// lists all that they meet, and each subroutine that it lists exists, those of font dictionaries not in use aside. Its rows are
+    /// taken as traced. [`Refusal::NotAccepted`] where it is not; with one that is, [`Font::subset`] keeps every kept glyph.
+    pub fn check_record(&self, keep: &[u16], record: &Record) -> Result<(), Refusal> {
+        let rows = record.bytes();
+        // SAFETY: the slices are lent for the call, which writes to none.
+        Refusal::check(unsafe {
+            ffi::cff_check_record(
+                self.bytes.as_ptr(),
+                self.bytes.len(),
+                keep.as_ptr(),
+                keep.len(),
+                rows.as_ptr(),
+                rows.len(),
+            )
+        })
+    }
+
     /// The subset of glyph 0 and the glyphs of the keep list, traced: [`Font::trace`] and then [`Font::subset`].
     pub fn subset_traced(&self, name: &[u8], keep: &[u16]) -> Result<Subset, Refusal> {
         self.subset(name, keep, &self.trace(keep)?)

@@ -34,13 +34,15 @@ pub enum Refusal {
     Strings = 12,
     /// An encoding of more than 255 codes of kept glyphs, all 256: document 02, Wish 4.
     Pairs = 13,
+    /// A record right in form that is not accepted: document 02, Wish 6.
+    NotAccepted = 14,
     /// An OpenType file without a table `CFF `.
     NoTable = 15,
 }
 
 impl Refusal {
     /// All refusals, by number.
-    pub const ALL: [Refusal; 14] = [
+    pub const ALL: [Refusal; 15] = [
         Refusal::Truncated,
         Refusal::Malformed,
         Refusal::Unsupported,
@@ -54,6 +56,7 @@ impl Refusal {
         Refusal::Output,
         Refusal::Strings,
         Refusal::Pairs,
+        Refusal::NotAccepted,
         Refusal::NoTable,
     ];
 
@@ -94,6 +97,7 @@ impl fmt::Display for Refusal {
             Refusal::Output => "too little room for the answer",
             Refusal::Strings => "the subset has too many strings",
             Refusal::Pairs => "the subset has too many codes",
+            Refusal::NotAccepted => "the record does not fit the kept glyphs",
             Refusal::NoTable => "the OpenType file has no table of CFF outlines",
         })
     }

@@ -11,6 +11,7 @@ fn refusals_have_their_numbers() {
     assert_eq!(Refusal::from_number(0), None);
     assert_eq!(Refusal::from_number(12), Some(Refusal::Strings));
     assert_eq!(Refusal::from_number(13), Some(Refusal::Pairs));
+    assert_eq!(Refusal::from_number(14), Some(Refusal::NotAccepted));
     assert_eq!(Refusal::from_number(15), Some(Refusal::NoTable));
     assert_eq!(Refusal::from_number(16), None);
     assert!(Refusal::ALL.is_sorted_by_key(|refusal| refusal.number()));

@@ -53,6 +53,10 @@ stringId = 12
 abbrev pub pairs : ℕ
 pairs = 13
 
+-- a reach record right in form that is not accepted (document 02, Wish 6)
+abbrev pub notAccepted : ℕ
+notAccepted = 14
+
 -- an OpenType file without a table `CFF ` (document 02, Wish 9)
 abbrev pub noTable : ℕ
 noTable = 15

@@ -31,6 +31,8 @@ impl Refusal {
     pub const STRING_ID: u8 = 12;
     // An encoding of more than 255 pairs (document 02, Wish 4).
     pub const PAIRS: u8 = 13;
+    // A reach record right in form that is not accepted (document 02, Wish 6).
+    pub const NOT_ACCEPTED: u8 = 14;
     // An OpenType file without a table `CFF `.
     pub const NO_TABLE: u8 = 15;
 

@@ -40,16 +40,16 @@ use Rattle.traced.specs.MetLaws.{Meets}
 use Rattle.traced.specs.Theorem.{trace-flag, trace-lists, trace-met, trace-rises, trace-fine, trace-held, trace-keeps}
 
 -- glyphs 1 and 2
-abbrev keep : List ℕ
+abbrev pub keep : List ℕ
 keep = 1 ∷ 2 ∷ []
 
-octets-of : (b : List ℕ) → allBelow 256 b ≡ true → Octets b
+pub octets-of : (b : List ℕ) → allBelow 256 b ≡ true → Octets b
 unfolding allBelow
 octets-of [] e i = omega arith
 octets-of (x ∷ b) e zero = ltb-true x 256 (both-hold (ltb x 256) (allBelow 256 b) e .0)
 octets-of (x ∷ b) e (suc i) = octets-of b (both-hold (ltb x 256) (allBelow 256 b) e .1) i
 
-bytes : Octets nameFont
+pub bytes : Octets nameFont
 unfolding allBelow
 bytes = octets-of nameFont refl
 
@@ -60,12 +60,12 @@ unfolding
     allFound glyphWithText stringText standardString standardStrings codes sameText standardNames isIn those lastOf lastFrom normal stripped zeros zerosOf truncOf
 program-traces = refl
 
-traces : traceOf nameFont keep 20 ≡ traced 1 reach
+pub traces : traceOf nameFont keep 20 ≡ traced 1 reach
 unfolding traceOf
 traces = ap (λ g. traceRead g keep 20) reads ∙ program-traces
 
 -- glyph 2 is kept, and unfolds
-kept : IsKept nameProgram keep 2
+pub kept : IsKept nameProgram keep 2
 unfolding isIn
 kept = record { there = omega arith; asked = inr refl }
 

@@ -81,7 +81,7 @@ tested true true count n i e f = let s : n ≡ i = cc in subst (λ (k : ℕ). k 
 tested true false count n i e f = absurd (zero-one cc)
 tested false u count n i e f = absurd (zero-one cc)
 
-target-below : (count : ℕ) (l : Last) (i : ℕ) → targetOf count l ≡ target i → i < count
+pub target-below : (count : ℕ) (l : Last) (i : ℕ) → targetOf count l ≡ target i → i < count
 unfolding targetOf
 target-below count none i e = absurd (zero-one cc)
 target-below count (last (pos n)) i e =

@@ -3,6 +3,8 @@
 
 mod bodies;
 mod cases;
+mod check_compare;
+mod check_records;
 mod compare;
 #[cfg(test)]
 mod compare_tests;
@@ -79,6 +81,7 @@ const USAGE: &str = "usage: tools/compare/run cff SEED COUNT
        tools/compare/run store-subset SEED COUNT
        tools/compare/run encoding SEED COUNT
        tools/compare/run trace SEED COUNT
+       tools/compare/run check SEED COUNT
        tools/compare/run opentype SEED COUNT
        tools/compare/run trace-time FILE
        tools/compare/run cut FOLDER
@@ -111,6 +114,7 @@ fn main() -> ExitCode {
         ["store-subset", seed, count] => seeded(seed, count, stored_subsets),
         ["encoding", seed, count] => seeded(seed, count, encoding),
         ["trace", seed, count] => seeded(seed, count, trace),
+        ["check", seed, count] => seeded(seed, count, check),
         ["opentype", seed, count] => seeded(seed, count, opentype),
         ["trace-time", file] => trace_time(file),
         ["cut", folder] => cut_tables(Path::new(folder)),
@@ -306,6 +310,25 @@ fn trace(seed: u64, count: usize) -> ExitCode {
     println!("seed {seed}, {count} made fonts, {tables} tables of real fonts");
     print!("{}", tally.report(&target().join("compare")));
     status(tally.differences())
+}
+
+/// Checks of `count` records of made fonts, and the time of a long record in order and out of it.
+fn check(seed: u64, count: usize) -> ExitCode {
+    let (tally, times) = on_large_stack(move || {
+        let mut tally = check_compare::CheckTally::default();
+        for case in cut_cases::fonts(seed) {
+            if tally.calls() >= count as u64 {
+                break;
+            }
+            check_compare::compare(&case, seed, &mut tally);
+        }
+        check_compare::windows(seed, &mut tally);
+        (tally, check_compare::times(cpu_time))
+    });
+    println!("seed {seed}");
+    print!("{}", tally.report(&target().join("compare")));
+    println!("{times}");
+    status(tally.differences() + u64::from(!times.within))
 }
 
 /// `count` files with damaged directories, the .otf files in target/otf, and made fonts in files.

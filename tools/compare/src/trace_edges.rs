@@ -342,8 +342,17 @@ pub fn calls(glyphs: usize) -> Vec<u8> {
 /// A CID-keyed font of `count` subroutines of `masks` masks each, which have no stems and no bytes; glyphs call them from the last to
 /// the first, so that the rows fall.
 pub fn falling(count: usize, masks: usize) -> Vec<u8> {
+    masked((0..count).rev().collect(), masks)
+}
+
+/// The same from the first to the last, so that the rows rise.
+pub fn rising(count: usize, masks: usize) -> Vec<u8> {
+    masked((0..count).collect(), masks)
+}
+
+fn masked(numbers: Vec<usize>, masks: usize) -> Vec<u8> {
+    let count = numbers.len();
     let every = (65_000 / (masks + 1)).max(1);
-    let numbers: Vec<usize> = (0..count).rev().collect();
     let glyph = |numbers: &[usize]| {
         let calls: Vec<u8> = numbers.iter().flat_map(|&k| call(10, k, count)).collect();
         [calls, vec![14]].concat()

@@ -164,6 +164,22 @@ impl<'a> Tracer<'a> {
         })
     }
 
+    /// The FD of a glyph.
+    pub fn fd(&self, glyph: u16) -> u8 {
+        self.parts.select[usize::from(glyph)]
+    }
+
+    /// How many FDs there are.
+    pub fn fds(&self) -> usize {
+        self.parts.privates.len()
+    }
+
+    /// How many local subroutines an FD has.
+    pub fn locals(&self, fd: u8) -> usize {
+        let private = &self.parts.privates[usize::from(fd)];
+        private.locals.as_ref().map_or(0, |index| index.count)
+    }
+
     pub fn charstring(&self, glyph: u16) -> &'a [u8] {
         &self.bytes[self.font.charstrings.span(self.bytes, usize::from(glyph))]
     }
