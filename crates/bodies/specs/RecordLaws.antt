@@ -16,7 +16,8 @@ use Rattle.prune.specs.Renumber.{Calls}
 use Rattle.prune.specs.StepLaws.{zero-one}
 use Rattle.cff.specs.Font.{Program}
 use Rattle.subset.specs.Kept.{those}
-use Rattle.subset.specs.Pruned.{May, fail, yes as made, and, each, mapped, countBelow, rank, reached, renumberedBody, renumberedSubrs, stubbedFrom, callsIn}
+use Rattle.bits.specs.Bits.{countBelow}
+use Rattle.subset.specs.Pruned.{May, fail, yes as made, and, each, mapped, rank, reached, renumberedBody, renumberedSubrs, stubbedFrom, callsIn}
 use Rattle.reach.specs.Reach.{ranksOf}
 use Rattle.reach.specs.WordLaws.{HoldRanks, rank-word}
 use Rattle.renumber.specs.RanksLaws.{HoldsRanks, past-unreached}

@@ -7,7 +7,7 @@ ghost use lib.ListN.{length};
 ghost use Rattle.octets.specs.Octets.{Wrote};
 ghost use Rattle.index.specs.Write.{indexBytes};
 ghost use Rattle.record.specs.Record.{rowsOf};
-ghost use Rattle.subset.specs.Pruned.{countBelow};
+ghost use Rattle.bits.specs.Bits.{countBelow};
 ghost use Rattle.reach.specs.Reach.{SiteFits, siteOf};
 ghost use Rattle.renumber.specs.Turn.{sizedOf, bodyOf};
 ghost use Rattle.bodies.specs.Ways.{holds, measuredOf, reachedIn, siteIn, SubrsFit, isKept, isStub, keptCount, Room};

@@ -37,7 +37,8 @@ use Rattle.cff.specs.Font as font
 use Rattle.cff.specs.Font.{got, Program}
 use Rattle.cff.specs.Find as cfffind
 use Rattle.subset.specs.Kept.{isIn, those, keptOf, fdsOf}
-use Rattle.subset.specs.Pruned.{countBelow, each, renumberedBody, renumberedSubrs, renumbered, pruned}
+use Rattle.bits.specs.Bits.{countBelow}
+use Rattle.subset.specs.Pruned.{each, renumberedBody, renumberedSubrs, renumbered, pruned}
 use Rattle.subset.specs.Texts.{hasText, ownStrings, placeIn, newId, namedEntries, textsOf, namesOf}
 use Rattle.subset.specs.Codes.{lastNamed, glyphOf, pairsFrom, codedBy, pairBytes, nothing, named, meant, keptMeant}
 use Rattle.subset.specs.Subset.{namedBytes, copiedBytes, newIds, subsetByName, subsetBytes}

@@ -35,7 +35,8 @@ use Rattle.opentype.specs.Opentype.{placeOf}
 use Rattle.cff.specs.Font as font
 use Rattle.cff.specs.Find as cfffind
 use Rattle.subset.specs.Kept.{isIn, those, placed, sortedBy, fdsOf, newFd}
-use Rattle.subset.specs.Pruned.{countBelow, each, renumberedBody, renumberedSubrs, renumbered, pruned}
+use Rattle.bits.specs.Bits.{countBelow}
+use Rattle.subset.specs.Pruned.{each, renumberedBody, renumberedSubrs, renumbered, pruned}
 use Rattle.subset.specs.Texts.{hasText, ownStrings, placeIn, newId, namedEntries, textsOf, namesOf}
 use Rattle.subset.specs.Subset.{namedBytes, copiedBytes, newIds, privateParts, fontDicts, cidsOf, newFds, subsetByName, subsetByCid, subsetBytes}
 use Rattle.subset.specs.Cut.{Outcome, refused, subset, allFound, cutOf}

@@ -16,7 +16,8 @@ use Rattle.record.specs.Record.{rowsOf}
 use Rattle.cff.specs.Font.{Program}
 use Rattle.cff.specs.Find.{localsTotal}
 use Rattle.subset.specs.Kept.{localsOf}
-use Rattle.subset.specs.Pruned.{countBelow, reached, localSet, globalSet, callsIn}
+use Rattle.bits.specs.Bits.{countBelow}
+use Rattle.subset.specs.Pruned.{reached, localSet, globalSet, callsIn}
 use Rattle.reach.specs.Reach.{ranksOf}
 use Rattle.reach.specs.CountLaws.{length-ranks}
 use Rattle.renumber.specs.Ranks.{callsBy, Ranked}

@@ -12,7 +12,8 @@ use Rattle.octets.specs.Octets.{put}
 use Rattle.unfold.specs.Unfold.{Row}
 use Rattle.cff.specs.Font.{Program}
 use Rattle.subset.specs.Kept.{those, localsOf}
-use Rattle.subset.specs.Pruned.{countBelow, reached, localSet}
+use Rattle.bits.specs.Bits.{countBelow}
+use Rattle.subset.specs.Pruned.{reached, localSet}
 use Rattle.reach.specs.Reach.{ranksOf}
 use Rattle.fds.specs.declared.RankedLocals.{RankedLocals}
 

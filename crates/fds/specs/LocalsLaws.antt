@@ -19,7 +19,8 @@ use Rattle.cff.specs.declared.font.Font.{Font}
 use Rattle.cff.specs.declared.private.PrivateAt.{PrivateAt}
 use Rattle.cff.specs.Find.{localsTotal}
 use Rattle.subset.specs.Kept.{those, localsOf}
-use Rattle.subset.specs.Pruned.{countBelow, reached, localSet}
+use Rattle.bits.specs.Bits.{countBelow}
+use Rattle.subset.specs.Pruned.{reached, localSet}
 use Rattle.reach.specs.Reach.{ranksOf, rankedOf}
 use Rattle.reach.specs.declared.ranks.Ranked.{Ranked}
 use Rattle.reach.specs.Cases.{by-number}

@@ -9,7 +9,8 @@ use Rattle.index.specs.Write.{total}
 use Rattle.unfold.specs.Unfold.{Row, local}
 use Rattle.cff.specs.Font.{Program}
 use Rattle.subset.specs.Kept.{localsOf}
-use Rattle.subset.specs.Pruned.{May, mapped, countBelow}
+use Rattle.bits.specs.Bits.{countBelow}
+use Rattle.subset.specs.Pruned.{May, mapped}
 use Rattle.subset.specs.Subset.{privateParts}
 use Rattle.reach.specs.Reach.{rises}
 use Rattle.renumber.specs.Ranks.{callsBy, Ranked}

@@ -14,7 +14,8 @@ use Rattle.unfold.specs.Unfold.{Row}
 use Rattle.cff.specs.Font.{Program}
 use Rattle.cff.specs.Find.{localsTotal}
 use Rattle.subset.specs.Kept.{localsOf}
-use Rattle.subset.specs.Pruned.{countBelow, reached, localSet, globalSet}
+use Rattle.bits.specs.Bits.{countBelow}
+use Rattle.subset.specs.Pruned.{reached, localSet, globalSet}
 use Rattle.reach.specs.Reach.{ranksOf, rankedOf}
 use Rattle.reach.specs.CountLaws.{length-ranks}
 use Rattle.reach.specs.declared.ranks.Ranked as code

@@ -11,7 +11,8 @@ use lib.ListN.{length, take, drop}
 use lib.Seq.{drop-drop}
 use Rattle.octets.specs.Octets.{put}
 use Rattle.octets.specs.PutLaws.{put-length, drop-put}
-use Rattle.subset.specs.Pruned.{countBelow, reached}
+use Rattle.bits.specs.Bits.{countBelow}
+use Rattle.subset.specs.Pruned.{reached}
 use Rattle.reach.specs.WordLaws.{rank-word}
 use Rattle.renumber.specs.Ranks.{Ranked}
 use Rattle.renumber.specs.RanksLaws.{HoldsRanks, ranked-words, past-unreached}

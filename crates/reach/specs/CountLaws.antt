@@ -13,7 +13,8 @@ use lib.Seq.{getD-set-same, getD-set-other}
 use Rattle.octets.specs.Pick.{pick}
 use Rattle.unfold.specs.Unfold.{Row}
 use Rattle.record.specs.Record.{sameRow, lists}
-use Rattle.subset.specs.Pruned.{countBelow, reached}
+use Rattle.bits.specs.Bits.{countBelow}
+use Rattle.subset.specs.Pruned.{reached}
 use Rattle.subset.specs.RankLaws.{count-next}
 use Rattle.subset.specs.ReachedLaws.{third-false}
 use Rattle.reach.specs.Reach.{ranksOf}

@@ -5,7 +5,7 @@ use mathlib.Core.Bool.{true, false}
 use mathlib.Core.List.{List, [], _∷_}
 use Rattle.octets.specs.Octets.{be, numAt}
 use Rattle.record.specs.Record.{rowsFrom, rowsOf, lists}
-use Rattle.subset.specs.Pruned.{countBelow}
+use Rattle.bits.specs.Bits.{countBelow}
 use Rattle.reach.specs.Reach.{rises, setOf, ranksOf}
 
 -- local 2 of FD 1 reached, a mask of 2 bytes at offset 5 of it, and global 1 reached

@@ -10,7 +10,8 @@ use lib.Seq.{drop-drop, length-take-le}
 use Rattle.octets.specs.Octets.{Octets, put}
 use Rattle.unfold.specs.Unfold.{Row}
 use Rattle.record.specs.Record.{rowsOf}
-use Rattle.subset.specs.Pruned.{countBelow, reached}
+use Rattle.bits.specs.Bits.{countBelow}
+use Rattle.subset.specs.Pruned.{reached}
 use Rattle.reach.specs.declared.ranks.Ranked.{Ranked}
 use Rattle.reach.specs.Reach.{setOf, ranksOf, rankedOf}
 use Rattle.reach.specs.Ranks.{reachedIn, marked, pastOf, ranked, counted}

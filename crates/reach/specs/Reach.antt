@@ -8,7 +8,8 @@ use Rattle.octets.specs.Pick.{pick}
 use Rattle.unfold.specs.Unfold.{Row, glyph, local, global}
 use Rattle.unfold.specs.Unfold as body
 use Rattle.record.specs.Record.{rowOf, rowsFrom, takesFd}
-use Rattle.subset.specs.Pruned.{countBelow, reached, localSet, globalSet}
+use Rattle.bits.specs.Bits.{countBelow}
+use Rattle.subset.specs.Pruned.{reached, localSet, globalSet}
 use Rattle.reach.specs.declared.Row as code
 use Rattle.reach.specs.declared.Site.{Site}
 use Rattle.reach.specs.declared.Site.the-variants.{Glyph, Local, Global}

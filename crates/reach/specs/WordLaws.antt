@@ -16,7 +16,8 @@ use Rattle.octets.specs.PutLaws.{put-length, drop-put-at, put-before, put-behin
 use Rattle.unfold.specs.Unfold.{Row}
 use Rattle.prune.specs.Renumber.{none, new}
 use Rattle.record.specs.Record.{lists}
-use Rattle.subset.specs.Pruned.{countBelow, reached, rank}
+use Rattle.bits.specs.Bits.{countBelow}
+use Rattle.subset.specs.Pruned.{reached, rank}
 use Rattle.reach.specs.Reach.{ranksOf, setOf}
 use Rattle.reach.specs.Ranks.{reachedIn, numberOf}
 use Rattle.reach.specs.Cases.{by-order}

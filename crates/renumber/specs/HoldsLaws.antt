@@ -10,7 +10,8 @@ use borrow.Author.Tests.{eqb-true}
 use Rattle.octets.specs.Octets.{Octets, put}
 use Rattle.octets.specs.PutLaws.{put-length}
 use Rattle.record.specs.Record.{rowsOf}
-use Rattle.subset.specs.Pruned.{countBelow, reached, localSet, globalSet}
+use Rattle.bits.specs.Bits.{countBelow}
+use Rattle.subset.specs.Pruned.{reached, localSet, globalSet}
 use Rattle.reach.specs.Reach.{ranksOf, rankedOf}
 use Rattle.reach.specs.Ranks.{reachedIn, pastOf}
 use Rattle.reach.specs.RowLaws.{all-fit}

@@ -19,7 +19,8 @@ use Rattle.record.specs.Record.{givenIn, twoLengths}
 use Rattle.prune.specs.Renumber.{none, new, Old, nothing, old, oldOf, newOf, operandFor, operandOf, Operand, fails, Calls, isCall, Renumbered, before, called, calledAfter, Waiting, nobody, waits, kept, renumber, Bytes, writtenBack, renumberedTokens, renumberCharstring}
 use Rattle.cff.specs.Font.{Program}
 use Rattle.subset.specs.Kept.{localsOf}
-use Rattle.subset.specs.Pruned.{countBelow, rank, reached, fail, whole, localSet, globalSet, renumberedBody, callsIn, callsAcross}
+use Rattle.bits.specs.Bits.{countBelow}
+use Rattle.subset.specs.Pruned.{rank, reached, fail, whole, localSet, globalSet, renumberedBody, callsIn, callsAcross}
 use Rattle.subset.specs.RankLaws.{count-few}
 use Rattle.reach.specs.Reach.{ranksOf}
 use Rattle.reach.specs.CountLaws.{count-more}

@@ -36,7 +36,8 @@ use Rattle.opentype.specs.Opentype.{placeOf}
 use Rattle.cff.specs.Font.{got, standard, Program, charset, charStrings, readTable, readFont, setAt, fontsAt, fontAt, nameParts, idsAt, privateAt, privateData, localsAt, codingAt, encodingGot}
 use Rattle.cff.specs.Find.{localsTotal}
 use Rattle.subset.specs.Kept.{isIn, those, fdsOf}
-use Rattle.subset.specs.Pruned.{Bodies, Pruned, countBelow, reached, localSet, each, renumberedBody, renumberedSubrs, renumbered, pruned}
+use Rattle.bits.specs.Bits.{countBelow}
+use Rattle.subset.specs.Pruned.{Bodies, Pruned, reached, localSet, each, renumberedBody, renumberedSubrs, renumbered, pruned}
 use Rattle.subset.specs.Texts.{hasText, ownStrings, placeIn, newId, namedEntries, textsOf, namesOf}
 use Rattle.subset.specs.Codes.{none}
 use Rattle.subset.specs.Subset.{namedBytes, copiedBytes, newIds, subsetByName, subsetBytes}
