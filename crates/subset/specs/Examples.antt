@@ -35,7 +35,7 @@ use Rattle.bits.specs.Bits.{countBelow}
 use Rattle.subset.specs.Pruned.{each, renumberedBody, renumberedSubrs, renumbered, pruned}
 use Rattle.subset.specs.Texts.{hasText, ownStrings, placeIn, newId, namedEntries, textsOf, namesOf}
 use Rattle.subset.specs.Subset.{namedBytes, copiedBytes, newIds, subsetByName, subsetBytes}
-use Rattle.subset.specs.Cut.{subset, allFound, cutOf}
+use Rattle.subset.specs.Cut.{subset, allFound, cutWith, cutOf}
 
 abbrev pub sheet : List ℕ
 sheet =
@@ -52,7 +52,7 @@ sheetSubset =
 
 pub the-sheet : cutOf false false sheet (0x41 ∷ []) (1 ∷ []) [] 1 8192 32768 ≡ subset 0 sheetSubset
 unfolding
-    cutOf allBelow allFound subsetBytes subsetByName newIds namedBytes copiedBytes namesOf textsOf namedEntries newId placeIn ownStrings hasText pruned renumbered
+    cutWith allBelow allFound subsetBytes subsetByName newIds namedBytes copiedBytes namesOf textsOf namedEntries newId placeIn ownStrings hasText pruned renumbered
     renumberedSubrs renumberedBody each countBelow those isIn fdsOf recordFine rowsFine rowsOf rowsFrom lists givenIn twoLengths disagrees renumberCharstring renumber
     glyphWithText stringText standardString standardStrings sidOf sidIn codes sameText standardNames charsetBytes idBytes listOf opBytes operandsBytes entriesBytes offsetEntry copiedEntry privateEntry without lastOf lastFrom truncOf
     normal stripped zeros zerosOf indexBytes itemsBytes headBytes tableBytes ends sizeFor joined total readIndex told itemsOf pieces indexAt tableAt dataAt judged runOf
