@@ -113,3 +113,13 @@ mask-pos b h = rw (shifted-one b h) (pow-pos b)
 
 pub masked-is : (w b : ℕ) → b < 32 → bitAnd w (1 * 2 ^ b % 2 ^ 32 - 1) ≡ w % 2 ^ b
 masked-is w b h = ap (λ (m : ℕ). bitAnd w (m - 1)) (shifted-one b h) ∙ and-mask w b
+
+-- ---- counts
+
+-- sets that are the same below n have as many below it
+pub count-alike : (set set' : ℕ → Bool) (n : ℕ) → ((k : ℕ) → k < n → set k ≡ set' k) → countBelow set n ≡ countBelow set' n
+unfolding countBelow
+count-alike set set' zero same = refl
+count-alike set set' (suc n) same =
+    ap (λ (t : Bool). countBelow set n + pick t 1 0) (same n (omega arith))
+    ∙ ap (λ (m : ℕ). m + pick (set' n) 1 0) (count-alike set set' n (λ k h. same k (omega arith)))

@@ -65,3 +65,22 @@ sum-is set count j h k = go (ltb j 4) refl
         let s : j ≡ 4 + i = omega arith in
         let q : 4 * e + i * e ≡ j * e = omega (arith, ap (λ (n : ℕ). n * e) s) in
         rw u (four-at (sumBelow set count) small (4 * e) e i (omega arith) ∙ ap (sumBelow set count) q)
+
+-- ---- sets that are the same below the count
+
+pub below-alike : (s t : ℕ → Bool) (count : ℕ) → ((k : ℕ) → k < count → s k ≡ t k) → below s count ≡ below t count
+below-alike s t count h = λ i. λ k. one k i
+  where
+    one : (k : ℕ) → below s count k ≡ below t count k
+    one k = go (ltb k count) refl
+      where
+        go : (u : Bool) → ltb k count ≡ u → below s count k ≡ below t count k
+        go true e = ap (λ (x : Bool). pick (ltb k count) x false) (h k (ltb-true k count e))
+        go false e = rw e
+
+module _ (s t : ℕ → Bool) (count : ℕ) (e : below s count ≡ below t count) where
+  pub low-alike : lowSums s count ≡ lowSums t count
+  low-alike = ap (λ (b : ℕ → Bool). four (λ m. countBelow b (32 * m)) 0 (eighth (wordsFor count))) e
+
+  pub high-alike : highSums s count ≡ highSums t count
+  high-alike = ap (λ (b : ℕ → Bool). four (λ m. countBelow b (32 * m)) (4 * eighth (wordsFor count)) (eighth (wordsFor count))) e

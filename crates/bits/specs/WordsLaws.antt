@@ -9,7 +9,7 @@ use borrow.Author.Tests.{eq-eqb, ne-eqb, lt-ltb}
 use lib.Dec.{ltb, eqb}
 use lib.ListN.{length, take, drop, getD, replicate, getD-replicate}
 use lib.Pow.{shr-shr}
-use lib.Seq.{ext-getD, getD-drop, getD-take}
+use lib.Seq.{ext-getD, getD-drop, getD-take, take-all}
 use Rattle.octets.specs.Pick.{pick}
 use Rattle.bits.specs.Bits.{wordsFor, bitIn, below, wordOf, wordsOf, bitsOf}
 
@@ -97,6 +97,12 @@ held-bit ws at set n e i h =
     let w : getD ws (at + i / 32) 0 ≡ wordOf set (0 + 32 * (i / 32)) 32
     = sym (getD-drop at ws (i / 32) 0) ∙ sym (getD-take n (drop at ws) (i / 32) 0 k) ∙ ap (λ (l : List ℕ). getD l (i / 32) 0) e ∙ words-at set n 0 (i / 32) k in
     ap (λ (x : ℕ). eqb (x / 2 ^ (i % 32) % 2) 1) w ∙ word-digit set (0 + 32 * (i / 32)) 32 (i % 32) (omega arith) ∙ ap set z
+
+-- a bit of a set's words
+pub own-bit : (set : ℕ → Bool) (n i : ℕ) → i < 32 * n → bitIn (wordsOf set 0 n) 0 i ≡ set i
+own-bit set n i h =
+    let l : length (wordsOf set 0 n) ≤ n = omega (arith, words-length set 0 n) in
+    held-bit (wordsOf set 0 n) 0 set n (take-all n (wordsOf set 0 n) l) i h
 
 -- a bit says whether its number is in the set
 pub bit-told : (ws : List ℕ) (at count : ℕ) (set : ℕ → Bool) → take (wordsFor count) (drop at ws) ≡ bitsOf set count → (i : ℕ) → i < count → bitIn ws at i ≡ set i

@@ -117,7 +117,7 @@ module _ (b : List ℕ) (f : Font) (cid : Bool) (used old : List ℕ) (k : ℕ) 
           within = o .within;
         })
 
-    module _ (rising : Bool) (sorted : rising ≡ rises rows) (tableLong : 768 ≤ length table) where
+    module _ (rising : Bool) (sorted : rising ≡ rises rows) (tableLong : 1280 ≤ length table) where
       -- the kept glyphs by a way
       abbrev keptBy : ℕ → Kept
       keptBy way =

@@ -46,7 +46,7 @@ module _ (b : List ℕ) (f : Font) (font : GoodFont b f) (good : GoodProgram (pr
   across-ranked (x ∷ y ∷ fs) e = none-ranked ws
 
   pub measure-in : (way : ℕ) (cid : Bool) (k : ℕ) (order : List ℕ) (rising : Bool) → OrderIn (programOf b f) cid used ws k order → k < 65536
-      → length b ≤ 67108864 → 256 ≤ length used → 768 ≤ length table
+      → length b ≤ 67108864 → 256 ≤ length used → 1280 ≤ length table
       → UsedOf (length (programOf b f .privates)) used → (rising ≡ true → rises rows ≡ true)
       → MeasureIn b f used ws (record { count = k; all = f .charstrings .count; cid = cid; way = way; ix = f .charstrings; globals = globals; rising = rising }) table rows
   measure-in way cid k order rising kept few size u a fds sorted =

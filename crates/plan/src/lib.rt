@@ -34,7 +34,7 @@ pub fn rank_all(
 ) -> RankedAll
     requires { ⌜ (GoodFont (now font) f) × (256 ≤ length (now used)) × (UsedOf (length (programOf (now font) f .privates)) (now used))
         × (2 * (f .charstrings .count) + f .globals .count + localsTotal (programOf (now font) f .privates) ≤ length (now words))
-        × (768 ≤ length (now table)) ⌝ }
+        × (1280 ≤ length (now table)) ⌝ }
     ensures { λ r. ⌜ RanksAll (programOf (now (font .entry)) f) (rowsOf (now (rows .entry))) (now (used .entry)) (now (words .entry)) (now (words .exit))
         (now (table .exit)) r ⌝ }
 {

@@ -27,7 +27,7 @@ pub struct Measures {
 
 // The ranks by which a global subroutine calls local ones: those of the FD in use where it is the only one, else none.
 pub fn across(used: &[u32], table: &[usize]) -> Ranks
-    requires { ⌜ (256 ≤ length (now used)) × (768 ≤ length (now table)) ⌝ }
+    requires { ⌜ (256 ≤ length (now used)) × (1280 ≤ length (now table)) ⌝ }
     ensures { λ r. ⌜ r ≡ acrossBy (now (table .entry)) (fdsIn (now (used .entry))) ⌝ }
 {
     let mut count: usize = 0;
