@@ -1,14 +1,9 @@
 -- How many work words a call asked for before Wish 7 of document 02: a word for each subroutine, in place of a bit. The theorem `same-reply`
 -- of SizeLaws alone speaks of it.
 use Prim.Native.Nat.{ℕ, _+_, _*_}
-use mathlib.Core.List.{List, [], _∷_}
 use lib.ListN.{length}
-use Rattle.cff.specs.Font.{Private, Program}
-
--- the local subroutines of all FDs
-unfoldable pub localsTotal : List Private → ℕ
-localsTotal [] = 0
-localsTotal (q ∷ qs) = length (q .locals) + localsTotal qs
+use Rattle.cff.specs.Font.{Program}
+use Rattle.cff.specs.Find.{localsTotal}
 
 -- 2 × glyphs + globals + locals of all FDs
 abbrev pub workBefore : Program → ℕ

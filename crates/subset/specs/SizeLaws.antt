@@ -10,9 +10,9 @@ use lib.ListN.{length}
 use Rattle.octets.specs.Pick.{pick}
 use Rattle.bits.specs.Bits.{wordsFor}
 use Rattle.cff.specs.Font.{Got, got, Private, Program, readFont}
-use Rattle.cff.specs.Find.{localsWords, workSize}
+use Rattle.cff.specs.Find.{localsTotal, localsWords, workSize}
 use Rattle.subset.specs.Cut.{Outcome, cutProgram, cutRead, cutWith}
-use Rattle.subset.specs.Before.{localsTotal, workBefore}
+use Rattle.subset.specs.Before.{workBefore}
 
 -- two sizes, and words enough for each
 pub enough-same : (s t : Program → ℕ) (cid ask : Bool) (font name keep rec : List ℕ) (flag words words' room : ℕ) (p : Program) → readFont font ≡ got p

@@ -99,7 +99,7 @@ fn read(font: &[u8], answer: &mut Room<'_, u64>) -> u8 {
                 globals,
                 p.strings().len() as u64,
                 u64::from(p.is_cid_keyed()),
-                2 * glyphs + globals + original::locals(p),
+                original::work(p),
             ]
         }
     };
