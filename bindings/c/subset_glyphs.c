@@ -14,7 +14,7 @@
 #include "mogdivash.h"
 
 /* The most work words that are allocated, 4 MiB: a small font can ask for half a gigabyte. */
-#define MOST_WORDS (UINT64_C(1) << 25)
+#define MOST_WORDS (UINT64_C(1) << 20)
 
 static void fail(const char *what)
 {
