@@ -62,16 +62,6 @@ pub fn locals(program: &CffProgram) -> u64 {
     }
 }
 
-/// W of document 02, Wish 7: two words for each glyph, and a bit for each subroutine, rounded up to words for each INDEX.
-pub fn work(program: &CffProgram) -> u64 {
-    let words = |count: usize| count.div_ceil(32) as u64;
-    let locals = match program.privates() {
-        Privates::Single(private) => words(private.subrs.len()),
-        Privates::Cid { dicts, .. } => dicts.iter().map(|d| words(d.subrs.len())).sum(),
-    };
-    2 * u64::from(program.glyph_count()) + words(program.global_subrs().len()) + locals
-}
-
 /// The items of a kind: 0 charstrings, 1 global subroutines, 2 strings.
 pub fn item(program: &CffProgram, kind: u8, number: u64) -> Option<&[u8]> {
     match kind {

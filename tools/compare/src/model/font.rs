@@ -37,9 +37,7 @@ pub fn words_for(count: u64) -> u64 {
 
 impl Font {
     pub fn work(&self) -> u64 {
-        2 * self.charstrings.count as u64
-            + words_for(self.globals.count as u64)
-            + self.local_words
+        2 * self.charstrings.count as u64 + words_for(self.globals.count as u64) + self.local_words
     }
 
     pub fn text<'a>(&self, bytes: &'a [u8], id: u16) -> &'a [u8] {
