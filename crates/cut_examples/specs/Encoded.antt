@@ -120,7 +120,7 @@ unfolding
     renumberedBody each countBelow those isIn fdsOf recordFine rowsFine rowsOf rowsFrom lists givenIn twoLengths disagrees renumberCharstring renumber glyphWithText
     stringText standardString standardStrings sidOf sidIn codes sameText standardNames charsetBytes idBytes opBytes entriesBytes offsetEntry copiedEntry privateEntry
     without lastOf lastFrom truncOf normal stripped zeros zerosOf indexBytes itemsBytes headBytes tableBytes ends sizeFor joined total encode bytesOf numAt be t2.keep24 t2.rounded
-    t2.numberAt t2e.numberBytes t2e.integerBytes t2e.fixedBytes tok.tokensOf tok.tokensFrom tok.tokenAt decw.int5Bytes cfffind.localsTotal codedBy pairsFrom lastNamed pairBytes
+    t2.numberAt t2e.numberBytes t2e.integerBytes t2e.fixedBytes tok.tokensOf tok.tokensFrom tok.tokenAt decw.int5Bytes cfffind.localsWords codedBy pairsFrom lastNamed pairBytes
 custom-written = refl
 
 custom-cut : cutOf false true customFont (0x4e ∷ []) (1 ∷ []) [] 1 8192 32768 ≡ subset 0 customSubset
@@ -226,7 +226,7 @@ unfolding
     renumberedBody each countBelow those isIn fdsOf recordFine rowsFine rowsOf rowsFrom lists givenIn twoLengths disagrees renumberCharstring renumber glyphWithText
     stringText standardString standardStrings sidOf sidIn codes sameText standardNames charsetBytes idBytes opBytes entriesBytes offsetEntry copiedEntry privateEntry
     without lastOf lastFrom truncOf normal stripped zeros zerosOf indexBytes itemsBytes headBytes tableBytes ends sizeFor joined total encode bytesOf numAt be t2.keep24 t2.rounded
-    t2.numberAt t2e.numberBytes t2e.integerBytes t2e.fixedBytes tok.tokensOf tok.tokensFrom tok.tokenAt decw.int5Bytes cfffind.localsTotal codedBy
+    t2.numberAt t2e.numberBytes t2e.integerBytes t2e.fixedBytes tok.tokensOf tok.tokensFrom tok.tokenAt decw.int5Bytes cfffind.localsWords codedBy
 expert-written = refl
 
 expert-cut : cutOf false true expertFont (0x4e ∷ []) (1 ∷ []) [] 1 8192 32768 ≡ subset 0 expertSubset
@@ -336,7 +336,7 @@ unfolding
     renumberedBody each countBelow those isIn fdsOf recordFine rowsFine rowsOf rowsFrom lists givenIn twoLengths disagrees renumberCharstring renumber glyphWithText
     stringText standardString standardStrings sidOf sidIn codes sameText standardNames charsetBytes idBytes opBytes entriesBytes offsetEntry copiedEntry privateEntry
     without lastOf lastFrom truncOf normal stripped zeros zerosOf indexBytes itemsBytes headBytes tableBytes ends sizeFor joined total encode bytesOf numAt be t2.keep24 t2.rounded
-    t2.numberAt t2e.numberBytes t2e.integerBytes t2e.fixedBytes tok.tokensOf tok.tokensFrom tok.tokenAt decw.int5Bytes cfffind.localsTotal codedBy
+    t2.numberAt t2e.numberBytes t2e.integerBytes t2e.fixedBytes tok.tokensOf tok.tokensFrom tok.tokenAt decw.int5Bytes cfffind.localsWords codedBy
 standard-written = refl
 
 standard-cut : cutOf false true standardFont (0x4e ∷ []) (1 ∷ []) [] 1 8192 32768 ≡ subset 0 standardSubset

@@ -59,7 +59,7 @@ unfolding
     normal stripped zeros zerosOf indexBytes itemsBytes headBytes tableBytes ends sizeFor joined total readIndex told itemsOf pieces indexAt tableAt dataAt judged runOf
     offsets encode bytesOf numAt be keep24 rounded t2.numberAt t2e.numberBytes t2e.integerBytes t2e.fixedBytes tok.tokensOf tok.tokensFrom tok.tokenAt dec.numberAt dec.realAt
     decw.int5Bytes decw.numberBytes decw.intBytes dict.dictOf dict.gathered dict.readingsAt dict.readingsFrom dict.entryAt dict.entryFrom dict.operatorAt dict.tokenAt
-    font.readFont font.readTable placeOf font.setAt font.fontsAt font.fontAt font.nameParts font.privateAt font.idsAt font.codingAt font.encodingGot cfffind.localsTotal
+    font.readFont font.readTable placeOf font.setAt font.fontsAt font.fontAt font.nameParts font.privateAt font.idsAt font.codingAt font.encodingGot cfffind.localsWords
 name-filled = (refl, refl, refl, refl, refl, refl, refl)
 
 -- neither; PaintType 0; of two operands; StrokeWidth alone
@@ -77,5 +77,5 @@ unfolding
     dataAt judged runOf offsets encode bytesOf numAt be keep24 rounded t2.numberAt t2e.numberBytes t2e.integerBytes t2e.fixedBytes tok.tokensOf tok.tokensFrom
     tok.tokenAt dec.numberAt dec.realAt decw.int5Bytes decw.numberBytes decw.intBytes dict.dictOf dict.gathered dict.readingsAt dict.readingsFrom dict.entryAt
     dict.entryFrom dict.operatorAt dict.tokenAt font.readFont font.readTable placeOf font.setAt font.fontsAt font.fontAt font.cidParts font.fdsAt font.idsAt font.privatesAt font.privateAt
-    font.privateData font.localsAt font.dictsAt cfffind.localsTotal listed
+    font.privateData font.localsAt font.dictsAt cfffind.localsWords listed
 cid-filled = (refl, refl, refl, refl)

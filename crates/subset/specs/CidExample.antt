@@ -19,7 +19,7 @@ use Rattle.strings.specs.Text.{codes, sameText}
 use Rattle.strings.specs.Strings.{stringText, standardString, standardStrings, sidIn, sidOf}
 use Rattle.find.specs.Find.{glyphWithId}
 use Rattle.record.specs.Record.{rowsFrom, rowsOf, rowsFine, recordFine}
-use Rattle.cff.specs.Find.{workSize, localsTotal}
+use Rattle.cff.specs.Find.{workSize, localsWords}
 use Rattle.subset.specs.Kept.{isIn, those, placed, sortedBy, fdsOf, newFd}
 use Rattle.subset.specs.Pruned.{Pruned, pruned}
 use Rattle.subset.specs.Texts.{hasText, ownStrings, placeIn, newId, namedEntries, textsOf}
@@ -99,7 +99,7 @@ writtenOf q = written cidProgram none (0x41 ∷ []) (0 ∷ 1 ∷ 3 ∷ 4 ∷ [])
 
 -- a call whose record and flag are of the right form is not refused before it is written
 cut-written : (rec : List ℕ) (flag : ℕ) → recordFine true rec flag ≡ true → cut rec flag ≡ writtenOf (pruned cidProgram (rowsOf rec) used order flag)
-unfolding cutWith allBelow allFound glyphWithId isIn those placed sortedBy fdsOf lastOf lastFrom truncOf localsTotal normal stripped zeros zerosOf
+unfolding cutWith allBelow allFound glyphWithId isIn those placed sortedBy fdsOf lastOf lastFrom truncOf localsWords normal stripped zeros zerosOf
 cut-written rec flag fine = ap (λ g. cutRead workSize true false g (0x41 ∷ []) (1 ∷ 3 ∷ 4 ∷ []) rec flag 8192 32768) reads ∙ rw fine
 
 -- what is written of the renumbered bodies

@@ -10,6 +10,7 @@ use lib.Dec.{ltb, eqb}
 use lib.ListN.{length, take, drop, replicate}
 use lib.Seq.{length-take-le}
 use Rattle.octets.specs.Pick.{pick}
+use Rattle.bits.specs.Bits.{wordsFor}
 use Rattle.octets.specs.PickLaws.{pick-same}
 use Rattle.octets.specs.Octets.{Octets}
 use Rattle.octets.specs.Lists.{allBelow}
@@ -227,7 +228,7 @@ module _ (cid ask : Bool) (font : List ℕ) (f : Font) (b : List ℕ) (name keep
     pub passed-read : Passed cid ask (programOf b f) (length name) keep rec flag (length work)
     passed-read = not-refused cid ask (programOf b f) (length name) keep rec flag (length work) none
 
-    module _ (w : ℕ) (size : w ≡ 2 * f .charstrings .count + f .globals .count + f .locals) where
+    module _ (w : ℕ) (size : w ≡ 2 * f .charstrings .count + wordsFor (f .globals .count) + f .words) where
       wide : w ≡ workSize (programOf b f)
       wide = size ∙ work-is b f (held .good)
 
