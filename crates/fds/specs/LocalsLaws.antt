@@ -40,7 +40,8 @@ locals-count b q x h = (sym (items-length b (q .locals)) ∙ ap (λ (y : Private
 abbrev answer : Ranks → Bool → RankedLocals
 answer q t = record { own = q; all = t }
 
-abbrev ranksBy : ℕ → ℕ → Ranked → Ranks
+-- ranks by what ranking answers
+abbrev pub ranksBy : ℕ → ℕ → Ranked → Ranks
 ranksBy at count r = record { at = at; count = count; reached = r .reached; low = r .low; high = r .high }
 
 pub fd-ranked : (p : Program) (rows : List Row) (fd count : ℕ) (words new : List ℕ) (at : ℕ) (r : Ranked) → count ≡ length (localsOf p fd)
