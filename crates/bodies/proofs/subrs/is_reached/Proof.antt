@@ -10,7 +10,7 @@ use Rattle.bodies.proofs.subrs.is_reached.Tie as tie
 
 returns : tie.Need-returns
 returns c =
-    let s = c .before .before in
+    let s = c .before .before .before in
     sym (reached-none (now (s .args .words)) (s .args .own) (s .args .k) (c .if1 .taken))
 
 has-bit-requires : tie.Need-has-bit-requires
@@ -18,7 +18,7 @@ has-bit-requires c κs = omega arith
 
 returns-2 : tie.Need-returns-2
 returns-2 c =
-    let s = c .before .before .before in
+    let s = c .before .before .before .before in
     bit-reached (now (s .args .words)) (s .args .own) (s .args .k) (c .before .if1 .left) _ (c .has-bit .ensures)
 
 pub is-reached-spec : {M : Type 1} → statement M
