@@ -37,6 +37,10 @@ use Rattle.fds.specs.UsedLaws.{used-next, unused-next, locals-last, bits
 pub locals-count : (b : List ℕ) (q : PrivateAt) (x : Private) → GoodPrivate b q × (reads.privateOf b q ≡ x) → (q .locals .count ≡ length (x .locals)) × (q .locals .count < 65536)
 locals-count b q x h = (sym (items-length b (q .locals)) ∙ ap (λ (y : Private). length (y .locals)) (h .1), h .0 .locals .few)
 
+-- the locals of a font take few words
+pub few-words : (b : List ℕ) (f : Font) → GoodFont b f → localsWords (programOf b f .privates) ≤ 4294967296
+few-words b f g = subst (λ (n : ℕ). n ≤ 4294967296) (g .parts .words) (g .parts .few)
+
 abbrev answer : Ranks → Bool → RankedLocals
 answer q t = record { own = q; all = t }
 
@@ -149,6 +153,9 @@ module _ (p : Program) (rows : List Row) (used : List ℕ) (at : ℕ) (old : Lis
     -- there is room for those of an FD in use
     pub ranking-room : inUse used fd ≡ true → place + wordsFor (length (localsOf p fd)) ≤ length words
     ranking-room e = omega (arith, h .stands, ranking-length, locals-within p used fd e)
+
+    pub ranking-small : inUse used fd ≡ true → at < 4294967296 → localsWords (p .privates) ≤ 4294967296 → place + wordsFor (length (localsOf p fd)) < 8589934593
+    ranking-small e a t = omega (arith, h .stands, locals-within p used fd e)
 
     -- an FD that is not in use
     pub ranking-pass : inUse used fd ≡ false → Ranking words table place all (fd + 1)

@@ -86,7 +86,8 @@ pub fn rank_locals(
     table: &mut [usize],
 ) -> bool
     requires { ⌜ (GoodFont (now font) f) × (256 ≤ length (now used)) × (UsedOf (length (programOf (now font) f .privates)) (now used))
-        × (at + localsWords (programOf (now font) f .privates) ≤ length (now words)) × (1280 ≤ length (now table)) ⌝ }
+        × (at < 4294967296) × (at + localsWords (programOf (now font) f .privates) ≤ length (now words))
+        × (1280 ≤ length (now table)) ⌝ }
     ensures { λ r. ⌜ RanksLocals (programOf (now (font .entry)) f) (rowsOf (now (rows .entry))) (now (used .entry)) at
         (now (words .entry)) (now (words .exit)) (now (table .exit)) r ⌝ }
 {
@@ -98,10 +99,9 @@ pub fn rank_locals(
             fd += 1;
         } else {
             let r = rank_fd(font, f, fd, rows, &mut *words, place);
-            let own = r.own;
-            put_ranks(&mut *table, fd, own);
+            put_ranks(&mut *table, fd, r.own);
             all = both(all, r.all);
-            place += bits::words_for(own.count);
+            place += bits::words_for(r.own.count);
             fd += 1;
         }
     }

@@ -1,5 +1,6 @@
 -- `plan::rank_all` meets its contract: the bits of the globals stand behind the glyphs' words, those of the locals behind them.
 use mathlib.Core.Path.{sym}
+use native.Mathlib.Omega.{arith}
 use borrow.Author.Needs.{needs}
 use denote.Ref.{now}
 use Rattle.record.specs.Record.{rowsOf}
@@ -40,6 +41,7 @@ rank-locals-requires c κs =
       p .0,
       p .1,
       p .2,
+      omega (arith, p .0 .glyphs .held .few, p .0 .begun .globals-held .few, W c .words-for .ensures .1),
       locals-room (rowsOf (now (s .args .rows))) _ _ _ _ _ _ (W c .words-for .ensures .0) (p .3) (g .rank-reached .ensures .0),
       p .4,
     )
