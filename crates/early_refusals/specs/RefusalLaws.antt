@@ -17,7 +17,7 @@ use Rattle.dict.specs.Lookup.{rosIn, cidKeyed, strokedIn}
 use Rattle.cff.specs.Font.{Program, codingAt}
 use Rattle.cff.specs.Find.{workSize}
 use Rattle.cff.specs.Reads.{programOf, GoodFont}
-use Rattle.cff.specs.SetLaws.{counts-are}
+use Rattle.cff.specs.SetLaws.{counts-with}
 use Rattle.cff.specs.declared.Counts.{Counts}
 use Rattle.cff.specs.declared.font.Font.{Font}
 use Rattle.index.specs.IndexLaws.{items-length}
@@ -31,7 +31,7 @@ module _ (b : List ℕ) (f : Font) (good : GoodFont b f) where
   glyphs-are = items-length b (f .charstrings)
 
   pub work-is : 2 * f .charstrings .count + wordsFor (f .globals .count) + f .words ≡ workSize (programOf b f)
-  work-is = let e = counts-are b f good in ap (λ (c : Counts). c .work) e
+  work-is = let e = counts-with b f good _ refl in ap (λ (c : Counts). c .work) e
 
 -- ---- the refusal, test by test: what each test of the code answered
 
