@@ -62,7 +62,8 @@ extern "C" {
 #define CFF_GLOBALS 1 /* global subroutines */
 #define CFF_STRINGS 2 /* strings */
 #define CFF_CID 3     /* 1 for a CID-keyed font, 0 for a name-keyed one */
-#define CFF_WORK 4    /* W: 2 x glyphs + globals + local subroutines of all font dictionaries */
+#define CFF_WORK 4    /* W: 2 x glyphs, and a bit for each subroutine: of the globals, and of the locals of each
+                         font dictionary, rounded up to words of 32 */
 #define CFF_COUNTS 5  /* how many words there are */
 
 /* The answer of finding for a glyph that is absent. */

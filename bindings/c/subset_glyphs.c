@@ -13,8 +13,8 @@
 
 #include "mogdivash.h"
 
-/* The most work words that are allocated, 128 MiB: a small font can ask for gigabytes. */
-#define MOST_WORDS (UINT64_C(1) << 25)
+/* The most work words that are allocated, 4 MiB: a small font can ask for half a gigabyte. */
+#define MOST_WORDS (UINT64_C(1) << 20)
 
 static void fail(const char *what)
 {

@@ -7,10 +7,10 @@ use crate::refusal::Refusal;
 /// The longest subset: document 01, refusal 10.
 const LONGEST: usize = 67_108_864;
 
-/// The most work words that `subset` allocates: 128 MiB. A font with as many glyphs, global subroutines and local ones of 256 font
-/// dictionaries as can be numbered takes half of it; W is larger only where more font dictionaries share their subroutines, by which
-/// a font of some kilobytes can ask for gigabytes.
-const MOST_WORDS: u64 = 1 << 25;
+/// The most work words that `subset` allocates: 4 MiB. A font with as many glyphs, global subroutines and local ones of 256 font
+/// dictionaries as can be numbered takes 657,406 words; W is larger only where more font dictionaries share their subroutines, by
+/// which a font of some kilobytes can ask for half a gigabyte.
+const MOST_WORDS: u64 = 1 << 20;
 
 /// An item of an INDEX of the font.
 #[derive(Clone, Copy, Debug, PartialEq, Eq)]
@@ -213,7 +213,7 @@ impl<'a> Font<'a> {
     }
 
     /// The subset of glyph 0 and the glyphs of the keep list under a new name. The record says which subroutines they
-    /// reach. Work words and output are allocated for the call; W above 33,554,432 is refused by [`Refusal::Work`], and
+    /// reach. Work words and output are allocated for the call; W above 1,048,576 is refused by [`Refusal::Work`], and
     /// [`Font::subset_into`] takes as many as the caller lends.
     pub fn subset(&self, name: &[u8], keep: &[u16], record: &Record) -> Result<Subset, Refusal> {
         self.subset_as(name, keep, record, false)

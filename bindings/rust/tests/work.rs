@@ -48,7 +48,7 @@ fn shared(fds: u16, locals: u16) -> Vec<u8> {
 fn small_fonts_get_no_gigabytes() {
     let bytes = shared(600, 60_000);
     let font = Font::read(&bytes).expect("a font that is read");
-    assert_eq!(font.work_words(), 2 + 600 * 60_000);
+    assert_eq!(font.work_words(), 2 + 600 * 60_000 / 32);
     let cut = |name: &[u8], keep: &[u16]| font.subset(name, keep, &Record::untraced());
     assert_eq!(cut(b"A", &[]).unwrap_err(), Refusal::Work);
     // The refusals before it come first.

@@ -21,7 +21,8 @@ use Rattle.cff.specs.Font.{Program}
 use Rattle.cff.specs.Find.{workSize}
 use Rattle.subset.specs.Kept.{isIn, those, keptOf, writtenOrder, usedFds, localsOf}
 use Rattle.subset.specs.KeptListLaws.{in-none, in-cases, those-has}
-use Rattle.subset.specs.Pruned.{May, fail, yes, and, each, countBelow, reached, localSet, globalSet, renumberedBody, renumberedSubrs, callsIn, callsAcross, renumbered, Bodies, orStubbed, stubbed, Pruned, pruned}
+use Rattle.bits.specs.Bits.{countBelow}
+use Rattle.subset.specs.Pruned.{May, fail, yes, and, each, reached, localSet, globalSet, renumberedBody, renumberedSubrs, callsIn, callsAcross, renumbered, Bodies, orStubbed, stubbed, Pruned, pruned}
 use Rattle.subset.specs.Codes.{Coded, codedIf, pairCount}
 use Rattle.subset.specs.Subset.{subsetBytes}
 use Rattle.subset.specs.Cut.{Outcome, refused, subset, allFound, hasRos, sameBool, ownOf, written, unsupportedIn, cutProgram}
@@ -149,7 +150,7 @@ module _ (ask : Bool) (p : Program) (name keep rec : List ℕ) (flag lent : ℕ)
       (λ v. its-way (cut .way) bytes))))
 
   -- a call that is not refused answers the way of its bodies
-  pub cut-way : (cid : Bool) (words : ℕ) → HasWay (cut .way) (cutProgram cid ask p name keep rec flag words lent)
+  pub cut-way : (cid : Bool) (words : ℕ) → HasWay (cut .way) (cutProgram workSize cid ask p name keep rec flag words lent)
   cut-way cid words =
       pick-ind (HasWay (cut .way)) (sameBool cid (cidKeyed (p .top))) _ (refused 3)
       (λ k. pick-ind (HasWay (cut .way)) (unsupportedIn ask p) (refused 3) _ (λ t. no-way (cut .way) 3)

@@ -20,11 +20,12 @@ use Rattle.prune.specs.StepLaws.{zero-one}
 use Rattle.record.specs.Record.{rowsOf, rowFine, recordFine, lists}
 use Rattle.dict.specs.Lookup.{cidKeyed}
 use Rattle.cff.specs.Font.{Got, refused as refusedFont, got, Program, readFont}
+use Rattle.cff.specs.Find.{workSize}
 use Rattle.cff.specs.ReadingRefusals.{reading-refusal}
 use Rattle.subset.specs.Kept.{isIn, keptOf, writtenOrder, fdsOf, usedFds, localsOf}
 use Rattle.subset.specs.KeptListLaws.{in-none, in-head, in-more, in-cases, those-in}
 use Rattle.subset.specs.Pruned.{May, fail, yes, pruned}
-use Rattle.subset.specs.Cut.{subset, allFound, cutProgram, cutRead, cutOf}
+use Rattle.subset.specs.Cut.{subset, allFound, cutProgram, cutRead, cutWith, cutOf}
 use Rattle.faithful.specs.Faithful.{unfolded, IsKept, Holds, Faithful}
 use Rattle.faithful.specs.Laid.{GoodProgram}
 use Rattle.faithful.specs.GoodLaws.{font-good}
@@ -272,9 +273,9 @@ module _ (font keep rec : List ℕ) (octets : Octets font) (p : Program) (is : r
   unfolding traceOf
   trace-is room = ap (λ (g : Got Program). traceRead g keep room) (sym is)
 
-  cut-is : (cid ask : Bool) (name : List ℕ) (words lent : ℕ) → cutProgram cid ask p name keep rec 1 words lent ≡ cutOf cid ask font name keep rec 1 words lent
-  unfolding cutOf
-  cut-is cid ask name words lent = ap (λ (g : Got Program). cutRead cid ask g name keep rec 1 words lent) (sym is)
+  cut-is : (cid ask : Bool) (name : List ℕ) (words lent : ℕ) → cutProgram workSize cid ask p name keep rec 1 words lent ≡ cutOf cid ask font name keep rec 1 words lent
+  unfolding cutWith
+  cut-is cid ask name words lent = ap (λ (g : Got Program). cutRead workSize cid ask g name keep rec 1 words lent) (sym is)
 
   good : GoodProgram p
   good = font-good font p octets is
@@ -309,7 +310,7 @@ module _ (font keep rec : List ℕ) (octets : Octets font) (p : Program) (is : r
   accepted-held e bytes cid ask name words lent way bs c g k =
       let a = accepted-only e .1 in
       let u = a .plains g k in
-      let f : Faithful font keep rec 1 (subset way bs) = subst (Faithful font keep rec 1) c (faithful cid ask font name keep rec 1 words lent octets bytes) in
+      let f : Faithful font keep rec 1 (subset way bs) = subst (Faithful font keep rec 1) c (faithful workSize cid ask font name keep rec 1 words lent octets bytes) in
       (u .0, u .1, u .2, f p is g k (u .0) (u .1) (u .2) (inr (a .listed g k (u .0) (u .1) (u .2))))
 
   -- what each row is that a kept glyph meets

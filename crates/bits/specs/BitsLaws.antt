@@ -66,6 +66,35 @@ module _ (ws : List ℕ) (at : ℕ) (small : (i : ℕ) → getD ws i 0 < 4294967
   below-is zero = let e = none-masked (getD ws (at + 0) 0) in omega (arith, e)
   below-is (suc k) = below-next k ∙ ap (λ (n : ℕ). n + pick (bitIn ws at k) 1 0) (below-is k)
 
+  -- so are those of whole words
+  pub whole-is : (q : ℕ) → wholeOnes ws at q ≡ countBelow (bitIn ws at) (32 * q)
+  whole-is q =
+      let a : 32 * q / 32 ≡ q = omega arith in
+      let b : 32 * q % 32 ≡ 0 = omega arith in
+      let c : onesBelow ws at (32 * q) ≡ wholeOnes ws at q + 0
+      = ap (λ (i : ℕ). wholeOnes ws at i + ones (getD ws (at + i) 0 % 2 ^ (32 * q % 32))) a
+      ∙ ap (λ (i : ℕ). wholeOnes ws at q + ones (getD ws (at + q) 0 % 2 ^ i)) b ∙ ap (λ (n : ℕ). wholeOnes ws at q + n) (none-masked (getD ws (at + q) 0)) in
+      omega (arith, c, below-is (32 * q))
+
+-- whole words, and others behind them
+pub whole-more : (ws : List ℕ) (at f d : ℕ) → wholeOnes ws at (f + d) ≡ wholeOnes ws at f + wholeOnes ws (at + f) d
+unfolding wholeOnes
+whole-more ws at f zero = let e : f + 0 ≡ f = omega arith in let g : wholeOnes ws at (f + 0) ≡ wholeOnes ws at f = ap (wholeOnes ws at) e in omega arith
+whole-more ws at f (suc d) =
+    let e : f + suc d ≡ suc (f + d) = omega arith in
+    let g : wholeOnes ws at (f + suc d) ≡ wholeOnes ws at (f + d) + ones (getD ws (at + (f + d)) 0) = ap (wholeOnes ws at) e in
+    let k : at + (f + d) ≡ at + f + d = omega arith in
+    let i : ones (getD ws (at + (f + d)) 0) ≡ ones (getD ws (at + f + d) 0) = ap (λ (x : ℕ). ones (getD ws x 0)) k in
+    omega (arith, whole-more ws at f d)
+
+-- the ones below a number, of which those of the first words are known
+pub below-from : (ws : List ℕ) (at : ℕ) → ((i : ℕ) → getD ws i 0 < 4294967296) → (k from sum n m : ℕ) → from ≤ k / 32 → sum ≡ countBelow (bitIn ws at) (32 * from)
+    → n ≡ wholeOnes ws (at + from) (k / 32 - from) → m ≡ ones (getD ws (at + k / 32) 0 % 2 ^ (k % 32)) → sum + n + m ≡ countBelow (bitIn ws at) k
+below-from ws at small k from sum n m h s w o =
+    let e : from + (k / 32 - from) ≡ k / 32 = omega arith in
+    let a : wholeOnes ws at (from + (k / 32 - from)) ≡ wholeOnes ws at (k / 32) = ap (wholeOnes ws at) e in
+    omega (arith, whole-is ws at small from, whole-more ws at from (k / 32 - from), below-is ws at small k)
+
 pub whole-start : (ws : List ℕ) (at : ℕ) → wholeOnes ws at 0 ≡ 0
 unfolding wholeOnes
 whole-start ws at = refl
@@ -84,3 +113,13 @@ mask-pos b h = rw (shifted-one b h) (pow-pos b)
 
 pub masked-is : (w b : ℕ) → b < 32 → bitAnd w (1 * 2 ^ b % 2 ^ 32 - 1) ≡ w % 2 ^ b
 masked-is w b h = ap (λ (m : ℕ). bitAnd w (m - 1)) (shifted-one b h) ∙ and-mask w b
+
+-- ---- counts
+
+-- sets that are the same below n have as many below it
+pub count-alike : (set set' : ℕ → Bool) (n : ℕ) → ((k : ℕ) → k < n → set k ≡ set' k) → countBelow set n ≡ countBelow set' n
+unfolding countBelow
+count-alike set set' zero same = refl
+count-alike set set' (suc n) same =
+    ap (λ (t : Bool). countBelow set n + pick t 1 0) (same n (omega arith))
+    ∙ ap (λ (m : ℕ). m + pick (set' n) 1 0) (count-alike set set' n (λ k h. same k (omega arith)))

@@ -1,10 +1,11 @@
 // One bit for each number, 32 to a word (document 02, Wish 7): the bits of a set of numbers stand in the words from a place on.
+pub mod sums;
+
 ghost use mathlib.Core.Path.{_≡_};
-ghost use Prim.Native.Nat.{_+_, _*_, _/_, _%_, _^_, _≤_, _<_};
+ghost use Prim.Native.Nat.{_+_, _*_, _/_, _≤_, _<_};
 ghost use lib.Count.{ones};
-ghost use lib.Bits.{bitOr};
-ghost use lib.ListN.{length, getD, set};
-ghost use Rattle.bits.specs.Bits.{wordsFor, bitIn, wholeOnes, onesBelow, countBelow};
+ghost use lib.ListN.{length};
+ghost use Rattle.bits.specs.Bits.{wordsFor, bitIn, setBit, wholeOnes, countBelow};
 
 // How many words n bits take.
 pub fn words_for(n: usize) -> usize
@@ -26,7 +27,7 @@ pub fn has_bit(words: &[u32], at: usize, k: usize) -> bool
 // Sets the bit of number k in the words from `at` on.
 pub fn set_bit(words: &mut [u32], at: usize, k: usize)
     requires { ⌜ at + k / 32 < length (now words) ⌝ }
-    ensures { λ r. ⌜ now (words .exit) ≡ set (now (words .entry)) (at + k / 32) (bitOr (getD (now (words .entry)) (at + k / 32) 0) (2 ^ (k % 32))) ⌝ }
+    ensures { λ r. ⌜ now (words .exit) ≡ setBit (now (words .entry)) at k ⌝ }
 {
     let i = at + k / 32;
     words[i] = words[i] | (1u32 << (k % 32));
@@ -40,8 +41,8 @@ fn ones_of(w: u32) -> usize
 }
 
 // The ones of q whole words from `at` on.
-fn whole_ones(words: &[u32], at: usize, q: usize) -> usize
-    requires { ⌜ (at + q ≤ length (now words)) × (q < 2048) ⌝ }
+pub fn whole_ones(words: &[u32], at: usize, q: usize) -> usize
+    requires { ⌜ (at + q ≤ length (now words)) × (q ≤ 2048) ⌝ }
     ensures { λ r. ⌜ (r ≡ wholeOnes (now (words .entry)) at q) × (r ≤ 32 * q) ⌝ }
 {
     let mut n: usize = 0;
@@ -53,13 +54,14 @@ fn whole_ones(words: &[u32], at: usize, q: usize) -> usize
     n
 }
 
-// How many numbers below k have their bit: the ones of whole words, and of one masked word.
-pub fn rank(words: &[u32], at: usize, k: usize) -> usize
-    requires { ⌜ (at + k / 32 < length (now words)) × (k < 65536) ⌝ }
+// How many numbers below k have their bit, of which `sum` stand in the first `from` words: the ones of whole words, and of one masked word.
+pub fn rank(words: &[u32], at: usize, k: usize, from: usize, sum: usize) -> usize
+    requires { ⌜ (at + k / 32 < length (now words)) × (k < 65536) × (from ≤ k / 32) × (sum < 65536)
+        × (sum ≡ countBelow (bitIn (now words) at) (32 * from)) ⌝ }
     ensures { λ r. ⌜ r ≡ countBelow (bitIn (now (words .entry)) at) k ⌝ }
 {
     let q = k / 32;
-    let n = whole_ones(words, at, q);
+    let n = whole_ones(words, at + from, q - from);
     let mask = (1u32 << (k % 32)) - 1;
-    n + ones_of(words[at + q] & mask)
+    sum + n + ones_of(words[at + q] & mask)
 }

@@ -35,7 +35,7 @@ module _ {b ws : List ℕ} {ix : Index} {kept : Kept} {table : List ℕ} {global
     fd-few = subst (λ (x : ℕ). x < 256) (sym e) (w .fds i h)
 
     -- the FD is in the tables
-    pub fd-inside : 512 + fd < length table
+    pub fd-inside : 1024 + fd < length table
     fd-inside = omega (arith, fd-few, w .tableLong)
 
     -- the ranks of its local subroutines

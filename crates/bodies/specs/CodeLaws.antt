@@ -10,6 +10,7 @@ use lib.ListN.{length, getD}
 use Rattle.octets.specs.Pick.{pick}
 use Rattle.octets.specs.Octets.{Octets, bytesOf, Wrote}
 use Rattle.octets.specs.PutLaws.{wrote-as}
+use Rattle.bits.specs.Bits.{bitIn}
 use Rattle.index.specs.Good.{Good}
 use Rattle.index.specs.Index.{itemsOf}
 use Rattle.index.specs.IndexLaws.{item-short}
@@ -74,8 +75,8 @@ renumbered-len way rows ws locals globals site s b l g e r h = (
 
 -- ---- whether a subroutine is reached, written, or a return
 
-pub word-reached : (ws : List ℕ) (own : Ranks) (k r : ℕ) → k < own .count → r ≡ getD ws (own .at + k) 0 → not (eqb r 0) ≡ reachedIn ws own k
-word-reached ws own k r h e = rw (lt-ltb k (own .count) h) (ap (λ (x : ℕ). not (eqb x 0)) e)
+pub bit-reached : (ws : List ℕ) (own : Ranks) (k : ℕ) → k < own .count → (t : Bool) → t ≡ bitIn ws (own .at) k → t ≡ reachedIn ws own k
+bit-reached ws own k h t e = e ∙ sym (rw (lt-ltb k (own .count) h))
 
 module _ (way : ℕ) (set : ℕ → Bool) (k : ℕ) where
   pub kept-reached : way ≡ 0 → (t : Bool) → t ≡ set k → t ≡ isKept way set k

@@ -11,24 +11,25 @@ use Rattle.unfold.specs.Unfold.{glyph, local}
 use Rattle.prune.specs.Renumber.{renumber, renumberCharstring, oldOf}
 use Rattle.record.specs.Record.{givenIn, twoLengths, disagrees}
 use Rattle.subset.specs.Pruned.{each, renumberedBody, stubbedFrom}
+use Rattle.bits.specs.Bits.{countBelow}
 use Rattle.renumber.specs.Ranks.{callsBy}
 use Rattle.renumber.specs.declared.Ranks.{Ranks}
 use Rattle.bodies.specs.Ways.{newBody, newSubrs, reachedIn}
 
--- the rank of the third is 1, the others have none; no globals
+-- the third has its bit, the others have none; no globals
 abbrev words : List ℕ
-words = 0 ∷ 0 ∷ 1 ∷ []
+words = 4 ∷ []
 
 abbrev locals : Ranks
-locals = record { at = 0; count = 3; reached = 1 }
+locals = record { at = 0; count = 3; reached = 1; low = 0x0001000100010000; high = 0x0001000100010001 }
 
 abbrev globals : Ranks
-globals = record { at = 3; count = 0; reached = 0 }
+globals = record { at = 1; count = 0; reached = 0; low = 0; high = 0 }
 
 -- its call is renumbered
 the-charstring : newBody 0 [] (callsBy words locals globals) (glyph 1) (0x22 ∷ 0x0a ∷ 0x0e ∷ []) ≡ 0x20 ∷ 0x0a ∷ 0x0e ∷ []
 unfolding
-    renumberedBody renumberCharstring renumber oldOf givenIn twoLengths disagrees encode keep24 rounded t2.numberAt t2e.numberBytes t2e.integerBytes t2e.fixedBytes tok.tokensOf
+    countBelow renumberedBody renumberCharstring renumber oldOf givenIn twoLengths disagrees encode keep24 rounded t2.numberAt t2e.numberBytes t2e.integerBytes t2e.fixedBytes tok.tokensOf
     tok.tokensFrom tok.tokenAt
 the-charstring = refl
 

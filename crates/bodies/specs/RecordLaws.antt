@@ -13,12 +13,12 @@ use lib.ListN.{length, take, drop, getD}
 use Rattle.octets.specs.Pick.{pick}
 use Rattle.unfold.specs.Unfold.{Row, Site, glyph}
 use Rattle.prune.specs.Renumber.{Calls}
-use Rattle.prune.specs.StepLaws.{zero-one}
 use Rattle.cff.specs.Font.{Program}
 use Rattle.subset.specs.Kept.{those}
-use Rattle.subset.specs.Pruned.{May, fail, yes as made, and, each, mapped, countBelow, rank, reached, renumberedBody, renumberedSubrs, stubbedFrom, callsIn}
-use Rattle.reach.specs.Reach.{ranksOf}
-use Rattle.reach.specs.WordLaws.{HoldRanks, rank-word}
+use Rattle.bits.specs.Bits.{countBelow, wordsFor, bitsOf}
+use Rattle.bits.specs.BitsLaws.{count-alike}
+use Rattle.bits.specs.WordsLaws.{bit-told}
+use Rattle.subset.specs.Pruned.{May, fail, yes as made, and, each, mapped, rank, reached, renumberedBody, renumberedSubrs, stubbedFrom, callsIn}
 use Rattle.renumber.specs.RanksLaws.{HoldsRanks, past-unreached}
 use Rattle.renumber.specs.declared.Ranks.{Ranks}
 use Rattle.bodies.specs.Ways.{holds, newBody, bodyBy, subrsBy, reachedIn, glyphAt, every, callsAt, charstringBy, newCharstrings, charstringsBy}
@@ -28,23 +28,10 @@ use Rattle.bodies.specs.WaysLaws.{new-body-alike, body-by-alike, subrs-b
 
 -- ---- what is reached
 
--- a rank is 0 where its number is not in the set
-pub rank-tells : (t : Bool) (n : ℕ) → not (eqb (pick t (n + 1) 0) 0) ≡ t
-rank-tells true n = ap not (ne-eqb (n + 1) 0 (λ e. zero-one (omega arith)))
-rank-tells false n = ap not (eq-eqb 0 0 refl)
-
--- a subroutine is reached where its word is the rank of a number of the set
-reached-word : (ws : List ℕ) (own : Ranks) (set : ℕ → Bool) (k : ℕ) → k < own .count → getD ws (own .at + k) 0 ≡ pick (set k) (countBelow set k + 1) 0
-    → reachedIn ws own k ≡ set k
-reached-word ws own set k h w = rw (lt-ltb k (own .count) h) (ap (λ (x : ℕ). not (eqb x 0)) w ∙ rank-tells (set k) (countBelow set k))
-
--- below the count the words say what the set has: by the ranks as a list, and by the ranks as reach holds them
-pub reached-below : (ws : List ℕ) (own : Ranks) (set : ℕ → Bool) → take (own .count) (drop (own .at) ws) ≡ ranksOf set 0 (own .count)
+-- below the count the words say what the set has
+pub reached-below : (ws : List ℕ) (own : Ranks) (set : ℕ → Bool) → take (wordsFor (own .count)) (drop (own .at) ws) ≡ bitsOf set (own .count)
     → (k : ℕ) → k < own .count → reachedIn ws own k ≡ set k
-reached-below ws own set e k h = reached-word ws own set k h (rank-word ws (own .at) (own .count) set e k h)
-
-pub reached-held : (ws : List ℕ) (own : Ranks) (set : ℕ → Bool) → HoldRanks ws (own .at) set (own .count) → (k : ℕ) → k < own .count → reachedIn ws own k ≡ set k
-reached-held ws own set e k h = reached-word ws own set k h (e .word k h)
+reached-below ws own set e k h = rw (lt-ltb k (own .count) h) (bit-told ws (own .at) (own .count) set e k h)
 
 -- where the set has no other number, they say it for every number
 pub reached-same : (ws : List ℕ) (own : Ranks) (set : ℕ → Bool) → HoldsRanks ws own set → (k : ℕ) → reachedIn ws own k ≡ set k
@@ -53,14 +40,6 @@ reached-same ws own set h k = go (decLe (k + 1) (own .count))
     go : Dec (k + 1 ≤ own .count) → reachedIn ws own k ≡ set k
     go (yes l) = reached-below ws own set (h .words) k (omega arith)
     go (no l) = let m : own .count ≤ k = omega arith in reached-none ws own k m ∙ sym (past-unreached ws own set h k m)
-
--- sets that are the same below n have as many below it
-pub count-alike : (set set' : ℕ → Bool) (n : ℕ) → ((k : ℕ) → k < n → set k ≡ set' k) → countBelow set n ≡ countBelow set' n
-unfolding countBelow
-count-alike set set' zero same = refl
-count-alike set set' (suc n) same =
-    ap (λ (t : Bool). countBelow set n + pick t 1 0) (same n (omega arith))
-    ∙ ap (λ (m : ℕ). m + pick (set' n) 1 0) (count-alike set set' n (λ k h. same k (omega arith)))
 
 -- the number reached, as writing asks for it
 pub reached-told : (ws : List ℕ) (own : Ranks) (set : ℕ → Bool) → ((k : ℕ) → k < own .count → reachedIn ws own k ≡ set k)

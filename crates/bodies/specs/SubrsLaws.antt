@@ -15,7 +15,8 @@ use Rattle.unfold.specs.Unfold.{Row, Site}
 use Rattle.prune.specs.Renumber.{Calls}
 use Rattle.prune.specs.StepLaws.{zero-one}
 use Rattle.subset.specs.Kept.{those}
-use Rattle.subset.specs.Pruned.{May, fail, yes as made, and, each, mapped, countBelow, reached, renumberedBody, renumberedSubrs, stubbedFrom}
+use Rattle.bits.specs.Bits.{countBelow}
+use Rattle.subset.specs.Pruned.{May, fail, yes as made, and, each, mapped, reached, renumberedBody, renumberedSubrs, stubbedFrom}
 use Rattle.subset.specs.ReachedLaws.{count-past}
 use Rattle.renumber.specs.Turn.{bodyOf}
 use Rattle.renumber.specs.declared.Ranks.{Ranks}

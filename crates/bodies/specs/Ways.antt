@@ -4,9 +4,10 @@ use Prim.Native.Nat.{ℕ, _+_, _%_, _≤_, _<_}
 use mathlib.Core.Path.{_≡_}
 use mathlib.Core.Bool.{Bool, true, false, not}
 use mathlib.Core.List.{List, [], _∷_}
-use lib.Dec.{ltb, eqb}
+use lib.Dec.{eqb}
 use lib.ListN.{length, getD}
 use Rattle.octets.specs.Pick.{pick}
+use Rattle.bits.specs.Bits.{wordsFor, bitIn, below}
 use Rattle.index.specs.Good.{Good}
 use Rattle.index.specs.Write.{total, indexBytes}
 use Rattle.index.specs.declared.Index.{Index}
@@ -63,9 +64,9 @@ abbrev pub subrsBy : ℕ → List Row → (ℕ → Bool) → Calls → (ℕ → 
 subrsBy way rows set calls site subrs =
     pick (eqb way 0) (renumberedSubrs rows set calls site subrs) (yes (pick (eqb way 1) (stubbedFrom set 0 subrs) subrs))
 
--- what the ranks in the words say is reached
+-- what the bits in the words say is reached
 abbrev pub reachedIn : List ℕ → Ranks → ℕ → Bool
-reachedIn ws own k = pick (ltb k (own .count)) (not (eqb (getD ws (own .at + k) 0) 0)) false
+reachedIn ws own = below (bitIn ws (own .at)) (own .count)
 
 -- the k-th of the globals, or of the locals of an FD, as the record names it
 abbrev pub siteIn : Subrs → ℕ → Site
@@ -99,7 +100,7 @@ pub record SubrsIn (b ws : List ℕ) (ix : Index) (own locals globals : Ranks) (
   pub few : ix .count < 65536
   pub size : length b ≤ 67108864
   pub many : own .count ≡ ix .count
-  pub inside : own .at + own .count ≤ length ws
+  pub inside : own .at + wordsFor (own .count) ≤ length ws
   pub localRanks : Ranked ws locals
   pub globalRanks : Ranked ws globals
   pub order : rising ≡ true → rises rows ≡ true
@@ -114,9 +115,11 @@ glyphAt ws i = getD ws i 0 % 65536
 abbrev pub fdAt : Bool → List ℕ → ℕ → ℕ → ℕ
 fdAt cid ws n i = pick cid (getD ws (n + i) 0) 0
 
--- the ranks of the locals of an FD by the table of all FDs: where they stand, behind that of each how many, behind these how many are reached
+-- the bits of the locals of an FD by the table of all FDs: where they stand, behind that of each how many, behind these how many are reached,
+-- and below each eighth
 abbrev pub ranksIn : List ℕ → ℕ → Ranks
-ranksIn table fd = record { at = getD table fd 0; count = getD table (256 + fd) 0; reached = getD table (512 + fd) 0 }
+ranksIn table fd =
+    record { at = getD table fd 0; count = getD table (256 + fd) 0; reached = getD table (512 + fd) 0; low = getD table (768 + fd) 0; high = getD table (1024 + fd) 0 }
 
 -- the numbers below k
 abbrev pub every : ℕ → Bool
@@ -148,7 +151,7 @@ pub record CharstringsIn (b ws : List ℕ) (ix : Index) (kept : Kept) (table : L
   pub size : length b ≤ 67108864
   pub keptFew : kept .count < 65536
   pub inside : kept .all + kept .count ≤ length ws
-  pub tableLong : 768 ≤ length table
+  pub tableLong : 1280 ≤ length table
   pub glyphs : (i : ℕ) → i < kept .count → glyphAt ws i < ix .count
   pub fds : (i : ℕ) → i < kept .count → fdAt (kept .cid) ws (kept .all) i < 256
   pub localRanks : (i : ℕ) → i < kept .count → Ranked ws (ranksIn table (fdAt (kept .cid) ws (kept .all) i))

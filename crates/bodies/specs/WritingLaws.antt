@@ -14,7 +14,8 @@ use Rattle.index.specs.BegunLaws.{for-meant, wrote-item, begun-none, begun-leng
 use Rattle.index.specs.declared.Index.{Index}
 use Rattle.prune.specs.StepLaws.{zero-one}
 use Rattle.subset.specs.Kept.{those}
-use Rattle.subset.specs.Pruned.{May, fail, yes, countBelow, each}
+use Rattle.bits.specs.Bits.{countBelow}
+use Rattle.subset.specs.Pruned.{May, fail, yes, each}
 use Rattle.subset.specs.EachLaws.{length-each, each-at}
 use Rattle.subset.specs.RankLaws.{count-few, count-rises, count-below, count-next, length-those, those-at}
 use Rattle.renumber.specs.Turn.{bodyOf}

@@ -48,16 +48,24 @@ fn fd_at(words: &[u32], cid: bool, n: usize, i: usize) -> usize
     0
 }
 
-// Where the ranks of the local subroutines of an FD stand, by the table: 256 places, behind them 256 counts, and behind these how many are
-// reached.
+// Where the bits of the local subroutines of an FD stand, by the table: 256 places, behind them 256 counts, behind these how many are reached,
+// and behind these twice 256 times four sums.
 pub fn ranks_in(table: &[usize], fd: usize) -> Ranks
-    requires { ⌜ 512 + fd < length (now table) ⌝ }
+    requires { ⌜ 1024 + fd < length (now table) ⌝ }
     ensures { λ r. ⌜ r ≡ ranksIn (now (table .entry)) fd ⌝ }
 {
     let at = table[fd];
     let count = table[256 + fd];
     let reached = table[512 + fd];
-    Ranks { at, count, reached }
+    let low = table[768 + fd];
+    let high = table[1024 + fd];
+    Ranks {
+        at,
+        count,
+        reached,
+        low,
+        high,
+    }
 }
 
 // How long the charstring of the i-th kept glyph is by the way, or that its renumbering fails.

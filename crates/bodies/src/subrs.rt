@@ -7,7 +7,7 @@ ghost use lib.ListN.{length};
 ghost use Rattle.octets.specs.Octets.{Wrote};
 ghost use Rattle.index.specs.Write.{indexBytes};
 ghost use Rattle.record.specs.Record.{rowsOf};
-ghost use Rattle.subset.specs.Pruned.{countBelow};
+ghost use Rattle.bits.specs.Bits.{countBelow, wordsFor};
 ghost use Rattle.reach.specs.Reach.{SiteFits, siteOf};
 ghost use Rattle.renumber.specs.Turn.{sizedOf, bodyOf};
 ghost use Rattle.bodies.specs.Ways.{holds, measuredOf, reachedIn, siteIn, SubrsFit, isKept, isStub, keptCount, Room};
@@ -25,7 +25,7 @@ pub enum Subrs {
     Local(usize),
 }
 
-// Subroutines, and how they are written: the way, their INDEX, their ranks, the ranks of those that they call, and whether the rows rise.
+// Subroutines, and how they are written: the way, their INDEX, their bits, the bits of those that they call, and whether the rows rise.
 pub struct Source {
     pub way: u8,
     pub of: Subrs,
@@ -36,20 +36,20 @@ pub struct Source {
     pub rising: bool,
 }
 
-// Whether a subroutine is reached, by its rank.
+// Whether a subroutine is reached, by its bit.
 fn is_reached(words: &[u32], own: Ranks, k: usize) -> bool
-    requires { ⌜ own .at + own .count ≤ length (now words) ⌝ }
+    requires { ⌜ own .at + wordsFor (own .count) ≤ length (now words) ⌝ }
     ensures { λ r. ⌜ r ≡ reachedIn (now (words .entry)) own k ⌝ }
 {
     if own.count <= k {
         return false;
     }
-    octets::words::wide(words[own.at + k]) != 0
+    bits::has_bit(words, own.at, k)
 }
 
 // Whether a subroutine is written.
 fn is_kept(way: u8, words: &[u32], own: Ranks, k: usize) -> bool
-    requires { ⌜ own .at + own .count ≤ length (now words) ⌝ }
+    requires { ⌜ own .at + wordsFor (own .count) ≤ length (now words) ⌝ }
     ensures { λ r. ⌜ r ≡ isKept way (reachedIn (now (words .entry)) own) k ⌝ }
 {
     if way == 0 {
@@ -60,7 +60,7 @@ fn is_kept(way: u8, words: &[u32], own: Ranks, k: usize) -> bool
 
 // Whether a subroutine stands as a return.
 fn is_stub(way: u8, words: &[u32], own: Ranks, k: usize) -> bool
-    requires { ⌜ own .at + own .count ≤ length (now words) ⌝ }
+    requires { ⌜ own .at + wordsFor (own .count) ≤ length (now words) ⌝ }
     ensures { λ r. ⌜ r ≡ isStub way (reachedIn (now (words .entry)) own) k ⌝ }
 {
     if way == 1 {

@@ -21,7 +21,8 @@ use Rattle.cff.specs.declared.font.Font.{Font}
 use Rattle.subset.specs.Kept.{isIn, those, keptOf, writtenOrder, fdsOf, usedFds}
 use Rattle.subset.specs.KeptListLaws.{those-has}
 use Rattle.subset.specs.EachLaws.{length-mapped}
-use Rattle.subset.specs.Pruned.{countBelow, pruned}
+use Rattle.bits.specs.Bits.{countBelow}
+use Rattle.subset.specs.Pruned.{pruned}
 use Rattle.subset.specs.Subset.{ownByCid, newFds, subsetByCid}
 use Rattle.subset.specs.Codes.{none}
 use Rattle.subset.specs.Cut.{Outcome, written}

@@ -143,7 +143,7 @@ pub fn cut_cid(
     let own = front::prepare_cid(font, f, &mut slots);
     let mut used = [0u32; 256];
     let count = glyph_tables::fds::rank_fds(&*words, charstrings.count, k, &mut used);
-    let mut table = [0usize; 768];
+    let mut table = [0usize; 1280];
     let mut totals = [0usize; 256];
     let r = parts::plan_all(
         true,

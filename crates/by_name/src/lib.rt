@@ -109,7 +109,7 @@ fn cut_prepared(
 {
     let mut used = [0u32; 256];
     used[0] = 1;
-    let mut table = [0usize; 768];
+    let mut table = [0usize; 1280];
     let mut totals = [0usize; 256];
     let own = names.own;
     let encoding = names.encoding;

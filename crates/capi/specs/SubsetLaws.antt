@@ -22,7 +22,7 @@ use Rattle.subset.specs.Kept.{keptOf, writtenOrder, usedFds}
 use Rattle.subset.specs.Pruned.{Pruned, Bodies, pruned}
 use Rattle.subset.specs.Subset.{subsetByName, subsetByCid, subsetBytes}
 use Rattle.subset.specs.Codes.{Coded, codedIf, pairCount}
-use Rattle.subset.specs.Cut.{Outcome, refused as refusedCut, subset, allFound, hasRos, sameBool, ownOf, written, cutProgram, cutRead, cutOf, leavesOut, leavesWork, unsupportedIn}
+use Rattle.subset.specs.Cut.{Outcome, refused as refusedCut, subset, allFound, hasRos, sameBool, ownOf, written, cutProgram, cutRead, cutWith, cutOf, leavesOut, leavesWork, unsupportedIn}
 use Rattle.faithful.specs.Faithful.{Faithful}
 use Rattle.faithful.specs.Codes.{KeepsCodes}
 use Rattle.outcome.specs.Entry.{answerOf, workIn, Cuts}
@@ -69,7 +69,7 @@ written-sound p coded name kept order room q =
     (unless room (ltb 67108864 (length bs)) 10 _ (omega arith) (omega arith) (roomy room (q .way) bs (bytes-some p coded name kept order (q .bodies)))))
 
 module _ (cid ask : Bool) (name keep rec : List ℕ) (flag words room : ℕ) where
-  program-sound : (p : Program) → Sound room (cutProgram cid ask p name keep rec flag words room)
+  program-sound : (p : Program) → Sound room (cutProgram workSize cid ask p name keep rec flag words room)
   program-sound p =
       let kept = keptOf (length (p .charstrings)) keep in
       let order = writtenOrder p kept in
@@ -83,12 +83,12 @@ module _ (cid ask : Bool) (name keep rec : List ℕ) (flag words room : ℕ) whe
       (unless room (ltb words (workSize p)) 9 _ (omega arith) (omega arith)
       (written-sound p (codedIf ask p kept (ownOf p order)) name kept order room (pruned p (rowsOf rec) (usedFds p kept) order flag)))))))))
 
-  read-sound : (g : Got Program) → ((n : ℕ) → g ≡ refusedFont n → FileRefusal n) → Sound room (cutRead cid ask g name keep rec flag words room)
+  read-sound : (g : Got Program) → ((n : ℕ) → g ≡ refusedFont n → FileRefusal n) → Sound room (cutRead workSize cid ask g name keep rec flag words room)
   read-sound (refusedFont n) low = let r = low n refl in sound-refused (r .least) (r .most)
   read-sound (got p) low = program-sound p
 
   pub cut-sound : (font : List ℕ) → Sound room (cutOf cid ask font name keep rec flag words room)
-  unfolding cutOf
+  unfolding cutWith
   cut-sound font = read-sound (readFont font) (reading-refusal font)
 
 -- what has no room is refused

@@ -15,7 +15,7 @@ use Rattle.charset.specs.Listed.{listOf}
 use Rattle.strings.specs.Strings.{stringText, standardString, standardStrings}
 use Rattle.opentype.specs.Opentype.{rowFrom, placeOf}
 use Rattle.cff.specs.Font.{Got, refused, got, localsAt, privateData, privateAt, privatesAt, idsAt, fdsAt, codingAt, encodingGot, cidParts, nameParts, fontAt, fontsAt, setAt, readTable, readFont}
-use Rattle.cff.specs.Find.{localsTotal, readAs, itemOf}
+use Rattle.cff.specs.Find.{localsWords, readAs, itemOf}
 use Rattle.cff.specs.declared.ReadAs.the-variants.{Refused, Font}
 use Rattle.cff.specs.declared.ItemKind.the-variants.{Charstring, Global, Text}
 
@@ -28,28 +28,28 @@ sheet =
 sheet-read : readAs (readFont sheet) ≡ Font (record { glyphs = 2; globals = 0; strings = 0; cid = false; work = 4 })
 unfolding
     readFont readTable placeOf setAt fontsAt fontAt nameParts privateAt idsAt codingAt encodingGot readIndex told indexAt tableAt dataAt runOf judged offsets pieces itemsOf numAt be dictOf
-    gathered readingsAt readingsFrom entryAt entryFrom tokenAt operatorAt numberAt realAt normal zeros zerosOf stripped lastOf lastFrom truncOf listOf localsTotal
+    gathered readingsAt readingsFrom entryAt entryFrom tokenAt operatorAt numberAt realAt normal zeros zerosOf stripped lastOf lastFrom truncOf listOf localsWords
 sheet-read = refl
 
 -- item 1 of the charstrings, and 6 where there is none
 sheet-item : itemOf (readFont sheet) Charstring 1 ≡ 0x0e ∷ []
 unfolding
     readFont readTable placeOf setAt fontsAt fontAt nameParts privateAt idsAt codingAt encodingGot readIndex told indexAt tableAt dataAt runOf judged offsets pieces itemsOf numAt be dictOf
-    gathered readingsAt readingsFrom entryAt entryFrom tokenAt operatorAt numberAt realAt normal zeros zerosOf stripped lastOf lastFrom truncOf listOf localsTotal
+    gathered readingsAt readingsFrom entryAt entryFrom tokenAt operatorAt numberAt realAt normal zeros zerosOf stripped lastOf lastFrom truncOf listOf localsWords
 sheet-item = refl
 
 -- the charstrings' offsets begin at 2: malformed (document 02, Wish 5)
 charstrings-at-two : readAs (readFont (take 24 sheet ++ (2 ∷ 3 ∷ 4 ∷ 0x00 ∷ 0x0e ∷ 0x0e ∷ []))) ≡ Refused 2
 unfolding
     readFont readTable placeOf setAt fontsAt fontAt nameParts privateAt idsAt codingAt encodingGot readIndex told indexAt tableAt dataAt runOf judged offsets pieces itemsOf numAt be dictOf
-    gathered readingsAt readingsFrom entryAt entryFrom tokenAt operatorAt numberAt realAt normal zeros zerosOf stripped lastOf lastFrom truncOf listOf localsTotal
+    gathered readingsAt readingsFrom entryAt entryFrom tokenAt operatorAt numberAt realAt normal zeros zerosOf stripped lastOf lastFrom truncOf listOf localsWords
 charstrings-at-two = refl
 
 -- cut off in the last charstring, in the header; another version; nothing
 sheet-cut : readAs (readFont (take 28 sheet)) ≡ Refused 1
 unfolding
     readFont readTable placeOf setAt fontsAt fontAt nameParts privateAt idsAt codingAt encodingGot readIndex told indexAt tableAt dataAt runOf judged offsets pieces itemsOf numAt be dictOf
-    gathered readingsAt readingsFrom entryAt entryFrom tokenAt operatorAt numberAt realAt normal zeros zerosOf stripped lastOf lastFrom truncOf listOf localsTotal
+    gathered readingsAt readingsFrom entryAt entryFrom tokenAt operatorAt numberAt realAt normal zeros zerosOf stripped lastOf lastFrom truncOf listOf localsWords
 sheet-cut = refl
 
 version-2 : readAs (readFont (2 ∷ 0 ∷ 4 ∷ 1 ∷ [])) ≡ Refused 3

@@ -21,7 +21,7 @@ use Rattle.find.specs.Find.{glyphWithId, glyphWithText}
 use Rattle.opentype.specs.Opentype.{placeOf}
 use Rattle.cff.specs.Font.{localsAt, privateData, privateAt, privatesAt, idsAt, fdsAt, codingAt, encodingGot, cidParts, nameParts, fontAt, fontsAt, setAt, readTable, readFont}
 use Rattle.cff.specs.Examples.{sheet}
-use Rattle.cff.specs.Find.{localsTotal, readAs, nameAs, cidAs}
+use Rattle.cff.specs.Find.{localsWords, readAs, nameAs, cidAs}
 use Rattle.cff.specs.declared.ReadAs.the-variants.{Font}
 use Rattle.cff.specs.declared.FoundAs.the-variants.{Absent, Glyph}
 
@@ -50,7 +50,7 @@ cid-read : readAs (readFont cidFont) ≡ Font (record { glyphs = 2; globals = 0;
 unfolding
     readFont readTable placeOf setAt fontsAt fontAt cidParts privatesAt privateAt privateData localsAt fdsAt fdSelectAt allBelow idsAt charsetAt idsFrom readIndex told indexAt tableAt
     dataAt runOf judged offsets pieces itemsOf numAt be dictOf gathered readingsAt readingsFrom entryAt entryFrom tokenAt operatorAt numberAt realAt normal zeros
-    zerosOf stripped lastOf lastFrom truncOf listOf localsTotal
+    zerosOf stripped lastOf lastFrom truncOf listOf localsWords
 cid-read = refl
 
 -- CID 5 is glyph 1, and no glyph has CID 1; no glyph of a CID-keyed font has a name

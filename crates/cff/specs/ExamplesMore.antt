@@ -24,7 +24,7 @@ use Rattle.strings.specs.Strings.{standardStrings, standardString, stringText}
 use Rattle.find.specs.Find.{glyphWithId, glyphWithText}
 use Rattle.opentype.specs.Opentype.{placeOf}
 use Rattle.cff.specs.Font.{localsAt, privateData, privateAt, privatesAt, idsAt, fdsAt, codingAt, encodingGot, cidParts, nameParts, fontAt, fontsAt, setAt, readTable, readAt, readFont}
-use Rattle.cff.specs.Find.{localsTotal, readAs, nameAs, cidAs, itemRefusal, itemOf}
+use Rattle.cff.specs.Find.{localsWords, readAs, nameAs, cidAs, itemRefusal, itemOf}
 use Rattle.opentype.specs.OpentypeLaws.{file-long}
 use Rattle.opentype.specs.declared.Place.{Place}
 use Rattle.cff.specs.SetLaws.{font-other}
@@ -46,7 +46,7 @@ offset-0 : readAs (readFont offset0) ≡ Refused 2
 unfolding
     readFont readTable placeOf setAt fontsAt fontAt nameParts privateAt idsAt charsetAt idsFrom codingAt encodingGot readIndex told indexAt tableAt dataAt runOf judged offsets pieces itemsOf numAt
     be dictOf gathered readingsAt readingsFrom entryAt entryFrom tokenAt operatorAt numberAt realAt nibbles textOf expDigits exponent mantissa formOf valueOf normal
-    zeros zerosOf stripped lastOf lastFrom truncOf listOf localsTotal
+    zeros zerosOf stripped lastOf lastFrom truncOf listOf localsWords
 offset-0 = refl
 
 -- a top DICT without CharStrings
@@ -58,7 +58,7 @@ no-charstrings : readAs (readFont noCharstrings) ≡ Refused 2
 unfolding
     readFont readTable placeOf setAt fontsAt fontAt nameParts privateAt idsAt charsetAt idsFrom codingAt encodingGot readIndex told indexAt tableAt dataAt runOf judged offsets pieces itemsOf numAt
     be dictOf gathered readingsAt readingsFrom entryAt entryFrom tokenAt operatorAt numberAt realAt nibbles textOf expDigits exponent mantissa formOf valueOf normal
-    zeros zerosOf stripped lastOf lastFrom truncOf listOf localsTotal
+    zeros zerosOf stripped lastOf lastFrom truncOf listOf localsWords
 no-charstrings = refl
 
 -- ---- 4: above 67,108,864 bytes, and not at it
@@ -84,7 +84,7 @@ digits-16 : readAs (readFont digits16) ≡ Refused 5
 unfolding
     readFont readTable placeOf setAt fontsAt fontAt nameParts privateAt idsAt charsetAt idsFrom codingAt encodingGot readIndex told indexAt tableAt dataAt runOf judged offsets pieces itemsOf numAt
     be dictOf gathered readingsAt readingsFrom entryAt entryFrom tokenAt operatorAt numberAt realAt nibbles textOf expDigits exponent mantissa formOf valueOf normal
-    zeros zerosOf stripped lastOf lastFrom truncOf listOf localsTotal
+    zeros zerosOf stripped lastOf lastFrom truncOf listOf localsWords
 digits-16 = refl
 
 abbrev digits15 : List ℕ
@@ -96,7 +96,7 @@ digits-15 : readAs (readFont digits15) ≡ Font (record { glyphs = 1; globals = 
 unfolding
     readFont readTable placeOf setAt fontsAt fontAt nameParts privateAt idsAt charsetAt idsFrom codingAt encodingGot readIndex told indexAt tableAt dataAt runOf judged offsets pieces itemsOf numAt
     be dictOf gathered readingsAt readingsFrom entryAt entryFrom tokenAt operatorAt numberAt realAt nibbles textOf expDigits exponent mantissa formOf valueOf normal
-    zeros zerosOf stripped lastOf lastFrom truncOf listOf localsTotal
+    zeros zerosOf stripped lastOf lastFrom truncOf listOf localsWords
 digits-15 = refl
 
 -- ---- 6: an item that is not there; the part is empty
@@ -105,35 +105,35 @@ no-glyph-2 : itemRefusal (readFont sheet) Charstring 2 ≡ 6
 unfolding
     readFont readTable placeOf setAt fontsAt fontAt nameParts privateAt idsAt charsetAt idsFrom codingAt encodingGot readIndex told indexAt tableAt dataAt runOf judged offsets pieces itemsOf numAt
     be dictOf gathered readingsAt readingsFrom entryAt entryFrom tokenAt operatorAt numberAt realAt nibbles textOf expDigits exponent mantissa formOf valueOf normal
-    zeros zerosOf stripped lastOf lastFrom truncOf listOf localsTotal
+    zeros zerosOf stripped lastOf lastFrom truncOf listOf localsWords
 no-glyph-2 = refl
 
 no-global-0 : itemRefusal (readFont sheet) Global 0 ≡ 6
 unfolding
     readFont readTable placeOf setAt fontsAt fontAt nameParts privateAt idsAt charsetAt idsFrom codingAt encodingGot readIndex told indexAt tableAt dataAt runOf judged offsets pieces itemsOf numAt
     be dictOf gathered readingsAt readingsFrom entryAt entryFrom tokenAt operatorAt numberAt realAt nibbles textOf expDigits exponent mantissa formOf valueOf normal
-    zeros zerosOf stripped lastOf lastFrom truncOf listOf localsTotal
+    zeros zerosOf stripped lastOf lastFrom truncOf listOf localsWords
 no-global-0 = refl
 
 no-string-0 : itemRefusal (readFont sheet) Text 0 ≡ 6
 unfolding
     readFont readTable placeOf setAt fontsAt fontAt nameParts privateAt idsAt charsetAt idsFrom codingAt encodingGot readIndex told indexAt tableAt dataAt runOf judged offsets pieces itemsOf numAt
     be dictOf gathered readingsAt readingsFrom entryAt entryFrom tokenAt operatorAt numberAt realAt nibbles textOf expDigits exponent mantissa formOf valueOf normal
-    zeros zerosOf stripped lastOf lastFrom truncOf listOf localsTotal
+    zeros zerosOf stripped lastOf lastFrom truncOf listOf localsWords
 no-string-0 = refl
 
 glyph-1-there : itemRefusal (readFont sheet) Charstring 1 ≡ 0
 unfolding
     readFont readTable placeOf setAt fontsAt fontAt nameParts privateAt idsAt charsetAt idsFrom codingAt encodingGot readIndex told indexAt tableAt dataAt runOf judged offsets pieces itemsOf numAt
     be dictOf gathered readingsAt readingsFrom entryAt entryFrom tokenAt operatorAt numberAt realAt nibbles textOf expDigits exponent mantissa formOf valueOf normal
-    zeros zerosOf stripped lastOf lastFrom truncOf listOf localsTotal
+    zeros zerosOf stripped lastOf lastFrom truncOf listOf localsWords
 glyph-1-there = refl
 
 nothing-of-glyph-2 : itemOf (readFont sheet) Charstring 2 ≡ []
 unfolding
     readFont readTable placeOf setAt fontsAt fontAt nameParts privateAt idsAt charsetAt idsFrom codingAt encodingGot readIndex told indexAt tableAt dataAt runOf judged offsets pieces itemsOf numAt
     be dictOf gathered readingsAt readingsFrom entryAt entryFrom tokenAt operatorAt numberAt realAt nibbles textOf expDigits exponent mantissa formOf valueOf normal
-    zeros zerosOf stripped lastOf lastFrom truncOf listOf localsTotal
+    zeros zerosOf stripped lastOf lastFrom truncOf listOf localsWords
 nothing-of-glyph-2 = refl
 
 -- ---- a set
@@ -148,7 +148,7 @@ two-fonts : readAs (readFont twoFonts) ≡ Font (record { glyphs = 1; globals = 
 unfolding
     readFont readTable placeOf setAt fontsAt fontAt nameParts privateAt idsAt charsetAt idsFrom codingAt encodingGot readIndex told indexAt tableAt dataAt runOf judged offsets pieces itemsOf numAt
     be dictOf gathered readingsAt readingsFrom entryAt entryFrom tokenAt operatorAt numberAt realAt nibbles textOf expDigits exponent mantissa formOf valueOf normal
-    zeros zerosOf stripped lastOf lastFrom truncOf listOf localsTotal
+    zeros zerosOf stripped lastOf lastFrom truncOf listOf localsWords
 two-fonts = refl
 
 -- and every font is read: the second has no CharStrings
@@ -161,7 +161,7 @@ second-bad : readAs (readFont secondBad) ≡ Refused 2
 unfolding
     readFont readTable placeOf setAt fontsAt fontAt nameParts privateAt idsAt charsetAt idsFrom codingAt encodingGot readIndex told indexAt tableAt dataAt runOf judged offsets pieces itemsOf numAt
     be dictOf gathered readingsAt readingsFrom entryAt entryFrom tokenAt operatorAt numberAt realAt nibbles textOf expDigits exponent mantissa formOf valueOf normal
-    zeros zerosOf stripped lastOf lastFrom truncOf listOf localsTotal
+    zeros zerosOf stripped lastOf lastFrom truncOf listOf localsWords
 second-bad = refl
 
 -- one name and two top DICTs
@@ -174,7 +174,7 @@ unequal-counts : readAs (readFont unequalCounts) ≡ Refused 2
 unfolding
     readFont readTable placeOf setAt fontsAt fontAt nameParts privateAt idsAt charsetAt idsFrom codingAt encodingGot readIndex told indexAt tableAt dataAt runOf judged offsets pieces itemsOf numAt
     be dictOf gathered readingsAt readingsFrom entryAt entryFrom tokenAt operatorAt numberAt realAt nibbles textOf expDigits exponent mantissa formOf valueOf normal
-    zeros zerosOf stripped lastOf lastFrom truncOf listOf localsTotal
+    zeros zerosOf stripped lastOf lastFrom truncOf listOf localsWords
 unequal-counts = refl
 
 -- ---- finding gives the first
@@ -189,7 +189,7 @@ first-of-a-name : nameAs (readFont repeatedName) (0x73 ∷ 0x70 ∷ 0x61 ∷ 0x6
 unfolding
     readFont readTable placeOf setAt fontsAt fontAt nameParts privateAt idsAt charsetAt idsFrom codingAt encodingGot readIndex told indexAt tableAt dataAt runOf judged offsets pieces itemsOf numAt
     be dictOf gathered readingsAt readingsFrom entryAt entryFrom tokenAt operatorAt numberAt realAt nibbles textOf expDigits exponent mantissa formOf valueOf normal
-    zeros zerosOf stripped lastOf lastFrom truncOf listOf localsTotal glyphWithText stringText standardString standardStrings standardNames codes
+    zeros zerosOf stripped lastOf lastFrom truncOf listOf localsWords glyphWithText stringText standardString standardStrings standardNames codes
     sameText
 first-of-a-name = refl
 
@@ -203,7 +203,7 @@ empty-name : nameAs (readFont emptyName) [] ≡ Glyph 1
 unfolding
     readFont readTable placeOf setAt fontsAt fontAt nameParts privateAt idsAt charsetAt idsFrom codingAt encodingGot readIndex told indexAt tableAt dataAt runOf judged offsets pieces itemsOf numAt
     be dictOf gathered readingsAt readingsFrom entryAt entryFrom tokenAt operatorAt numberAt realAt nibbles textOf expDigits exponent mantissa formOf valueOf normal
-    zeros zerosOf stripped lastOf lastFrom truncOf listOf localsTotal glyphWithText stringText standardString standardStrings standardNames codes
+    zeros zerosOf stripped lastOf lastFrom truncOf listOf localsWords glyphWithText stringText standardString standardStrings standardNames codes
     sameText
 empty-name = refl
 
@@ -218,7 +218,7 @@ first-of-a-cid : cidAs (readFont repeatedCid) 5 ≡ Glyph 1
 unfolding
     readFont readTable placeOf setAt fontsAt fontAt cidParts privatesAt privateAt privateData localsAt fdsAt fdSelectAt allBelow idsAt charsetAt idsFrom readIndex told indexAt tableAt
     dataAt runOf judged offsets pieces itemsOf numAt be dictOf gathered readingsAt readingsFrom entryAt entryFrom tokenAt operatorAt numberAt realAt normal zeros
-    zerosOf stripped lastOf lastFrom truncOf listOf localsTotal glyphWithId
+    zerosOf stripped lastOf lastFrom truncOf listOf localsWords glyphWithId
 first-of-a-cid = refl
 
 -- ---- an FD past the FD array: 1, of one FD
@@ -233,5 +233,5 @@ fd-past : readAs (readFont fdPast) ≡ Refused 2
 unfolding
     readFont readTable placeOf setAt fontsAt fontAt cidParts privatesAt privateAt privateData localsAt fdsAt fdSelectAt allBelow idsAt charsetAt idsFrom readIndex told indexAt tableAt
     dataAt runOf judged offsets pieces itemsOf numAt be dictOf gathered readingsAt readingsFrom entryAt entryFrom tokenAt operatorAt numberAt realAt normal zeros
-    zerosOf stripped lastOf lastFrom truncOf listOf localsTotal glyphWithId
+    zerosOf stripped lastOf lastFrom truncOf listOf localsWords glyphWithId
 fd-past = refl

@@ -5,6 +5,7 @@ use mathlib.Core.List.{List, [], _∷_}
 use lib.Dec.{ltb}
 use lib.ListN.{length, getD}
 use Rattle.octets.specs.Pick.{pick}
+use Rattle.bits.specs.Bits.{wordsFor}
 use Rattle.find.specs.Find.{glyphWithId, glyphWithText}
 use Rattle.find.specs.declared.Found.{Found}
 use Rattle.find.specs.declared.Found.the-variants.{Absent as NoGlyph, Glyph as TheGlyph}
@@ -23,9 +24,14 @@ unfoldable pub localsTotal : List Private → ℕ
 localsTotal [] = 0
 localsTotal (p ∷ ps) = length (p .locals) + localsTotal ps
 
--- W: 2 × glyphs + globals + locals of all FDs
+-- the words that hold a bit for each local subroutine of all FDs
+unfoldable pub localsWords : List Private → ℕ
+localsWords [] = 0
+localsWords (q ∷ qs) = wordsFor (length (q .locals)) + localsWords qs
+
+-- W: 2 × glyphs, and a bit for each subroutine: of the globals, and of the locals of each FD, rounded up to words
 abbrev pub workSize : Program → ℕ
-workSize p = 2 * length (p .charstrings) + length (p .globals) + localsTotal (p .privates)
+workSize p = 2 * length (p .charstrings) + wordsFor (length (p .globals)) + localsWords (p .privates)
 
 abbrev pub countsOf : Program → Counts
 countsOf p =

@@ -8,6 +8,7 @@ use borrow.Author.Tests.{lt-ltb, le-ltb, eq-eqb, ne-eqb}
 use lib.Dec.{ltb, eqb}
 use lib.ListN.{length}
 use Rattle.octets.specs.Pick.{pick}
+use Rattle.bits.specs.Bits.{wordsFor}
 use Rattle.octets.specs.Octets.{Octets}
 use Rattle.octets.specs.Lists.{allBelow}
 use Rattle.index.specs.Index.{emptyAt, indexAt, itemsOf, readIndex}
@@ -36,7 +37,7 @@ use Rattle.charset.specs.declared.fd_select.FdSelect.{FdSelect}
 use Rattle.charset.specs.declared.fd_select.FdSelectAt.{FdSelectAt}
 use Rattle.charset.specs.declared.fd_select.FdSelectAt.the-variants.{Refused as RefusedSelect, Found as FoundSelect}
 use Rattle.cff.specs.Font.{charset, encoding, charStrings, fdArray, fdSelect, Got, refused, got, then, standard, Coding, Private, Added, Program, indexGot, dictGot, listGot, unless, needed, orZero, privateAt, privatesAt, dictsAt, idsAt, fdsAt, codingAt, encodingGot, cidParts, nameParts, fontAt}
-use Rattle.cff.specs.Find.{localsTotal}
+use Rattle.cff.specs.Find.{localsWords}
 use Rattle.cff.specs.Reads.{Holds, ReadsItems, privateOf, GoodPrivate, noPrivate, ReadsPrivate, fdPrivate, ReadsLocals, namedIndex, namedIds, namedEncoding, ReadsIds, ReadsCoding, ReadsFds, orNone, privatesOf, addedOf, GoodParts, ReadsParts, partsBy, HasDicts, HasLocals, topOf, programOf, fontOf, HasTop, HasGlyphs, GoodFont, ReadsFont}
 use Rattle.cff.specs.ReadsLaws.{no, reads-index, none-held, none-items, dict-refused, dict-good, dict-entries, empty-dict, then-refused, then-got, privates-split}
 use Rattle.cff.specs.declared.private.PrivateAt.{PrivateAt}
@@ -243,7 +244,7 @@ module _ (b : List ℕ) (es : List Entry) (n : ℕ) where
               ∙ ap (λ x. pick x (got (added (fdsOf b s n))) (refused 2)) (sym below ∙ f)
 
           pub cid-found : t ≡ true → 2 ≤ length b → (p : PrivateAt) → p ≡ noPrivate
-              → ReadsParts b true n (cidParts b es n) (FoundParts (record { dicts = dicts; private = p; select = s; encoding = 0; locals = total }))
+              → ReadsParts b true n (cidParts b es n) (FoundParts (record { dicts = dicts; private = p; select = s; encoding = 0; words = total }))
           unfolding codingAt
           cid-found f w p i =
               let u : privatesOf b true dicts p ≡ l .read .0 = ap orNone (l .read .2) in (
@@ -254,7 +255,7 @@ module _ (b : List ℕ) (es : List Entry) (n : ℕ) where
                   select = selected .0;
                   below = λ z. sym below ∙ f;
                   coded = refl;
-                  locals = sym (l .read .1) ∙ ap localsTotal (sym u);
+                  words = sym (l .read .1) ∙ ap localsWords (sym u);
                   few = l .read .3;
                 },
                 cid-steps ∙ then-got _ _ (fdsOf b s n) (selected .1)
@@ -284,10 +285,10 @@ module _ (b : List ℕ) (es : List Entry) (n : ℕ) (r : PrivateRead) (reads : R
     unfolding nameParts
     name-unencoded e i = then-got _ _ (privateOf b p) (found .1) ∙ then-refused _ _ e (subst (ReadsCoding b (namedEncoding b es)) i coded)
 
-    pub name-found : (v : ℕ) → x ≡ FoundEncoding v → 2 ≤ length b → (ix : Index) → ix ≡ emptyAt 0 → (s : FdSelect) → s ≡ noSelect
-        → ReadsParts b false n (nameParts b es n) (FoundParts (record { dicts = ix; private = p; select = s; encoding = v; locals = p .locals .count }))
-    unfolding nameParts localsTotal
-    name-found v k w ix i s j =
+    pub name-found : (v : ℕ) → x ≡ FoundEncoding v → 2 ≤ length b → (ix : Index) → ix ≡ emptyAt 0 → (s : FdSelect) → s ≡ noSelect → (t : ℕ) → t ≡ wordsFor (p .locals .count)
+        → ReadsParts b false n (nameParts b es n) (FoundParts (record { dicts = ix; private = p; select = s; encoding = v; words = t }))
+    unfolding nameParts localsWords
+    name-found v k w ix i s j t h =
         let g = subst (ReadsCoding b (namedEncoding b es)) k coded in (
           record {
             dicts = subst (Holds b) (sym i) (none-held b w);
@@ -296,8 +297,8 @@ module _ (b : List ℕ) (es : List Entry) (n : ℕ) (r : PrivateRead) (reads : R
             select = subst (GoodSelect b) (sym j) (no-select-good b);
             below = λ z. absurd (not-both z);
             coded = g .0;
-            locals = let k = items-length b (p .locals) in omega arith;
-            few = let k = found .0 .locals .few in omega arith;
+            words = let k = items-length b (p .locals) in omega (arith, h);
+            few = let k = found .0 .locals .few in omega (arith, h);
           },
           then-got _ _ (privateOf b p) (found .1) ∙ then-got _ _ (codingAt b v) (g .1)
               ∙ ap (λ (l : List ℕ). got (addedOne (privateOf b p) l (codingAt b v))) (sym (no-select-fds b n) ∙ ap (λ x. fdsOf b x n) (sym j)),
@@ -417,7 +418,7 @@ module _ (b : List ℕ) (top end : ℕ) (strings globals : Index) where
               private = p .private;
               select = p .select;
               encoding = p .encoding;
-              locals = p .locals;
+              words = p .words;
             }))
         font-found t p i =
             let g = subst (ReadsParts b cid (charstrings .count) (partsBy cid b (entriesOf (topOf b top end)) (charstrings .count))) i parts in (

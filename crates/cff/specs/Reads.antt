@@ -7,6 +7,7 @@ use mathlib.Core.List.{List, [], _∷_}
 use lib.Dec.{eqb}
 use lib.ListN.{length}
 use Rattle.octets.specs.Pick.{pick}
+use Rattle.bits.specs.Bits.{wordsFor}
 use Rattle.octets.specs.Lists.{allBelow, partOf}
 use Rattle.index.specs.Index.{itemsOf, readIndex, emptyAt}
 use Rattle.index.specs.Good.{Good}
@@ -23,7 +24,7 @@ use Rattle.charset.specs.declared.CharsetAt.the-variants.{Refused as RefusedCha
 use Rattle.charset.specs.declared.fd_select.FdSelectAt.{FdSelectAt}
 use Rattle.charset.specs.declared.fd_select.FdSelectAt.the-variants.{Refused as RefusedSelect, Found as FoundSelect}
 use Rattle.cff.specs.Font.{charset, encoding, charStrings, fdArray, Got, refused, got, then, Private, Coding, Added, Program, indexGot, dictGot, needed, orZero, privateData, privateAt, privatesAt, dictsAt, idsAt, codingAt, codingRefusal, encodingGot, cidParts, nameParts, fontAt, fontsAt, firstOf, indexThen}
-use Rattle.cff.specs.Find.{localsTotal}
+use Rattle.cff.specs.Find.{localsWords}
 use Rattle.cff.specs.declared.private.PrivateAt.{PrivateAt}
 use Rattle.cff.specs.declared.private.PrivateRead.{PrivateRead}
 use Rattle.cff.specs.declared.private.PrivateRead.the-variants.{Refused as RefusedPrivate, Found as FoundPrivate}
@@ -77,8 +78,8 @@ ReadsPrivate b g (FoundPrivate q) = GoodPrivate b q × (g ≡ got (privateOf b q
 -- the Private DICT of a size at an offset was read and has so many local subroutines
 pub record Known (b : List ℕ) (l : LastPrivate) : Type 0 where
   pub private : Private
-  pub few : l .locals < 65536
-  pub counted : length (private .locals) ≡ l .locals
+  pub few : l .words < 65536
+  pub counted : wordsFor (length (private .locals)) ≡ l .words
   pub is : privateData b (l .size) (l .offset) ≡ got private
 
 -- the Private DICT of the FD with these bytes
@@ -89,10 +90,10 @@ abbrev pub ReadsNext : List ℕ → Got Private → NextPrivate → Type 0
 ReadsNext b g (RefusedNext n) = g ≡ refused n
 ReadsNext b g (ReadNext l) = (k : Known b l) × (g ≡ got (k .private))
 
--- those of all FDs: their local subroutines together
+-- those of all FDs: the words of their local subroutines together
 abbrev pub ReadsLocals : Got (List Private) → LocalsRead → Type 0
 ReadsLocals g (RefusedLocals n) = g ≡ refused n
-ReadsLocals g (Total t) = (ps : List Private) × (localsTotal ps ≡ t) × (g ≡ got ps) × (t ≤ 4294967296)
+ReadsLocals g (Total t) = (ps : List Private) × (localsWords ps ≡ t) × (g ≡ got ps) × (t ≤ 4294967296)
 
 -- ---- what an operator of a DICT names
 
@@ -146,8 +147,8 @@ pub record GoodParts (b : List ℕ) (cid : Bool) (n : ℕ) (q : Parts) : Type 0 
   pub select : GoodSelect b (q .select)
   pub below : cid ≡ true → allBelow (q .dicts .count) (fdsOf b (q .select) n) ≡ true
   pub coded : codingRefusal b (q .encoding) ≡ 0
-  pub locals : q .locals ≡ localsTotal (privatesOf b cid (q .dicts) (q .private))
-  pub few : q .locals ≤ 4294967296
+  pub words : q .words ≡ localsWords (privatesOf b cid (q .dicts) (q .private))
+  pub few : q .words ≤ 4294967296
 
 abbrev pub ReadsParts : List ℕ → Bool → ℕ → Got Added → PartsRead → Type 0
 ReadsParts b cid n g (RefusedParts e) = g ≡ refused e
@@ -214,7 +215,7 @@ pub record GoodFont (b : List ℕ) (f : Font) : Type 0 where
   pub some : 0 < f .charstrings .count
   pub cid : f .cid ≡ cidKeyed (entriesOf (topOf b (f .top) (f .«top_end»)))
   pub ids : GoodCharset b (f .charset) (f .charstrings .count)
-  pub parts : GoodParts b (f .cid) (f .charstrings .count) (record { dicts = f .dicts; private = f .private; select = f .select; encoding = f .encoding; locals = f .locals })
+  pub parts : GoodParts b (f .cid) (f .charstrings .count) (record { dicts = f .dicts; private = f .private; select = f .select; encoding = f .encoding; words = f .words })
 
 abbrev pub ReadsFont : List ℕ → Got Program → FontRead → Type 0
 ReadsFont b g (RefusedFont n) = g ≡ refused n

@@ -11,6 +11,7 @@ use lib.Dec.{ltb, eqb, lit≤, lit<}
 use lib.ListN.{length, drop, getD, length-take, length-drop}
 use lib.Seq.{drop-cons, drop-nil}
 use Rattle.octets.specs.Pick.{pick, pick-ind}
+use Rattle.bits.specs.Bits.{wordsFor}
 use Rattle.octets.specs.Octets.{Octets}
 use Rattle.octets.specs.Lists.{partOf}
 use Rattle.index.specs.Index.{firstOf, offsets, runOf, emptyAt, indexAt, pieces, itemsOf, Read, refused as refusedRead, found, told, readIndex}
@@ -36,7 +37,7 @@ use Rattle.dict.specs.declared.OffsetIn.the-variants.{Refused as RefusedOffset,
 use Rattle.dict.specs.declared.PrivateIn.{PrivateIn}
 use Rattle.dict.specs.declared.PrivateIn.the-variants.{Refused as RefusedEntry, Private as PrivateEntry, Absent as NoPrivate}
 use Rattle.cff.specs.Font.{Got, refused, got, then, Private, Program, indexGot, dictGot, localsAt, privateData, privateAt, privatesAt, emptyPrivate}
-use Rattle.cff.specs.Find.{localsTotal}
+use Rattle.cff.specs.Find.{localsWords}
 use Rattle.cff.specs.Reads.{Holds, ReadsItems, privateOf, GoodPrivate, noPrivate, ReadsPrivate, Known, fdPrivate, ReadsNext, ReadsLocals}
 use Rattle.cff.specs.declared.private.PrivateAt.{PrivateAt}
 use Rattle.cff.specs.declared.private.PrivateRead.{PrivateRead}
@@ -236,10 +237,10 @@ none-data b =
     rw (le-ltb (length b) 0 (omega arith))
     (then-got _ _ [] (dict-entries [] empty-dict ∙ ap got empty-entries))
 
-unfoldable pub known-none : (b : List ℕ) → Known b (record { size = 0; offset = 0; locals = 0 })
+unfoldable pub known-none : (b : List ℕ) → Known b (record { size = 0; offset = 0; words = 0 })
 known-none b = record { private = emptyPrivate; few = lit< tt; counted = refl; is = none-data b }
 
-pub next-none : (b : List ℕ) (s r : PrivateIn) → r ≡ s → r ≡ NoPrivate → ReadsNext b (privateAt b s) (ReadNext (record { size = 0; offset = 0; locals = 0 }))
+pub next-none : (b : List ℕ) (s r : PrivateIn) → r ≡ s → r ≡ NoPrivate → ReadsNext b (privateAt b s) (ReadNext (record { size = 0; offset = 0; words = 0 }))
 unfolding privateAt known-none
 next-none b s r e f = (known-none b, ap (privateAt b) (sym e ∙ f))
 
@@ -248,14 +249,19 @@ pub next-same : (b : List ℕ) (size offset : ℕ) (l : LastPrivate) → Known b
 next-same b size offset l k i j =
     (k, ap (λ x. privateData b x offset) i ∙ ap (privateData b (l .size)) j ∙ k .is)
 
+-- a Private DICT that was found has few local subroutines
+pub few-locals : (b : List ℕ) (g : Got Private) (x : PrivateRead) → ReadsPrivate b g x → (q : PrivateAt) → x ≡ FoundPrivate q → q .locals .count < 4294967296
+few-locals b g x reads q e = let k = subst (ReadsPrivate b g) e reads .0 .locals .few in omega (arith, k)
+
 module _ (b : List ℕ) (size offset : ℕ) (x : PrivateRead) (reads : ReadsPrivate b (privateData b size offset) x) where
   pub counted-refused : (n : ℕ) → x ≡ RefusedPrivate n → ReadsNext b (privateData b size offset) (RefusedNext n)
   counted-refused n e = subst (ReadsPrivate b (privateData b size offset)) e reads
 
-  pub counted-found : (q : PrivateAt) → x ≡ FoundPrivate q → ReadsNext b (privateData b size offset) (ReadNext (record { size = size; offset = offset; locals = q .locals .count }))
-  counted-found q e =
+  pub counted-found : (q : PrivateAt) → x ≡ FoundPrivate q → (w : ℕ) → w ≡ wordsFor (q .locals .count)
+      → ReadsNext b (privateData b size offset) (ReadNext (record { size = size; offset = offset; words = w }))
+  counted-found q e w is =
       let h = subst (ReadsPrivate b (privateData b size offset)) e reads in
-      (record { private = privateOf b q; few = h .0 .locals .few; counted = items-length b (q .locals); is = h .1 }, h .1)
+      (record { private = privateOf b q; few = let k = h .0 .locals .few in omega (arith, is); counted = ap wordsFor (items-length b (q .locals)) ∙ sym is; is = h .1 }, h .1)
 
 -- ---- an FD's
 
@@ -277,14 +283,14 @@ pub privates-split : (b d : List ℕ) (ds : List (List ℕ)) → privatesAt b (d
 unfolding privatesAt
 privates-split b d ds = then-then (dictGot (dictOf d)) (λ es. privateAt b (privateIn es)) (λ p. then (privatesAt b ds) (λ ps. got (p ∷ ps)))
 
--- t more than the local subroutines of all
+-- t more than the words of the local subroutines of all
 abbrev pub added : ℕ → Got (List Private) → Got ℕ
-added t g = then g (λ ps. got (t + localsTotal ps))
+added t g = then g (λ ps. got (t + localsWords ps))
 
-added-one : (t : ℕ) (p : Private) (m : ℕ) (g : Got (List Private)) → length (p .locals) ≡ m → added t (then g (λ ps. got (p ∷ ps))) ≡ added (t + m) g
-unfolding localsTotal
+added-one : (t : ℕ) (p : Private) (m : ℕ) (g : Got (List Private)) → wordsFor (length (p .locals)) ≡ m → added t (then g (λ ps. got (p ∷ ps))) ≡ added (t + m) g
+unfolding localsWords
 added-one t p m (refused n) e = refl
-added-one t p m (got ps) e = let f : t + (length (p .locals) + localsTotal ps) ≡ t + m + localsTotal ps = omega arith in ap got f
+added-one t p m (got ps) e = let f : t + (wordsFor (length (p .locals)) + localsWords ps) ≡ t + m + localsWords ps = omega arith in ap got f
 
 -- before FD k, the FDs behind which have as many more as the whole
 pub record Adding (b : List ℕ) (items : List (List ℕ)) (last : LastPrivate) (total k : ℕ) : Type 0 where
@@ -293,7 +299,7 @@ pub record Adding (b : List ℕ) (items : List (List ℕ)) (last : LastPrivate) 
   pub known : Known b last
   pub rest : added 0 (privatesAt b items) ≡ added total (privatesAt b (drop k items))
 
-pub adding-start : (b : List ℕ) (items : List (List ℕ)) → Adding b items (record { size = 0; offset = 0; locals = 0 }) 0 0
+pub adding-start : (b : List ℕ) (items : List (List ℕ)) → Adding b items (record { size = 0; offset = 0; words = 0 }) 0 0
 adding-start b items = record { within = omega arith; few = omega arith; known = known-none b; rest = refl }
 
 refused-added : (g : Got (List Private)) (n : ℕ) → added 0 g ≡ refused n → g ≡ refused n
@@ -302,7 +308,7 @@ refused-added (got ps) n e = absurd (no cc)
 
 got-added : (g : Got (List Private)) (t : ℕ) → t ≤ 4294967296 → added 0 g ≡ got t → ReadsLocals g (Total t)
 got-added (refused m) t k e = absurd (no cc)
-got-added (got ps) t k e = let f : 0 + localsTotal ps ≡ t = cc in (ps, omega arith, refl, k)
+got-added (got ps) t k e = let f : 0 + localsWords ps ≡ t = cc in (ps, omega arith, refl, k)
 
 module _ (b : List ℕ) (items : List (List ℕ)) (last : LastPrivate) (total k : ℕ) (a : Adding b items last total k) where
   module _ (h : k < length items) (d : List ℕ) (i : d ≡ getD items k []) (x : NextPrivate) (reads : ReadsNext b (fdPrivate b d) x) where
@@ -315,7 +321,7 @@ module _ (b : List ℕ) (items : List (List ℕ)) (last : LastPrivate) (total k 
         refused-added (privatesAt b items) n
         (a .rest ∙ ap (λ l. added total (privatesAt b l)) split ∙ ap (added total) (privates-split b d (drop (k + 1) items) ∙ then-refused _ _ n r))
 
-    pub adding-more : (l : LastPrivate) → x ≡ ReadNext l → Adding b items l (total + l .locals) (k + 1)
+    pub adding-more : (l : LastPrivate) → x ≡ ReadNext l → Adding b items l (total + l .words) (k + 1)
     adding-more l e =
         let r = subst (ReadsNext b (fdPrivate b d)) e reads in
         let f = r .0 .few in
@@ -326,11 +332,11 @@ module _ (b : List ℕ) (items : List (List ℕ)) (last : LastPrivate) (total k 
           rest =
               a .rest ∙ ap (λ l. added total (privatesAt b l)) split
               ∙ ap (added total) (privates-split b d (drop (k + 1) items) ∙ then-got _ (λ p. then (privatesAt b (drop (k + 1) items)) (λ ps. got (p ∷ ps))) (r .0 .private) (r .1))
-              ∙ added-one total (r .0 .private) (l .locals) (privatesAt b (drop (k + 1) items)) (r .0 .counted);
+              ∙ added-one total (r .0 .private) (l .words) (privatesAt b (drop (k + 1) items)) (r .0 .counted);
         }
 
   pub adding-over : length items ≤ k → length items < 65536 → ReadsLocals (privatesAt b items) (Total total)
-  unfolding privatesAt localsTotal
+  unfolding privatesAt localsWords
   adding-over h m =
       let e : drop k items ≡ [] = drop-over k items h in
       let z : total + 0 ≡ total = omega arith in

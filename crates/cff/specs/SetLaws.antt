@@ -10,6 +10,7 @@ use lib.Dec.{ltb, eqb}
 use lib.ListN.{length, take, drop, getD, List·getD-eq-default}
 use lib.Seq.{drop-cons}
 use Rattle.octets.specs.Pick.{pick}
+use Rattle.bits.specs.Bits.{wordsFor}
 use Rattle.octets.specs.Octets.{Octets}
 use Rattle.index.specs.Index.{indexAt, itemsOf, Read, readIndex}
 use Rattle.index.specs.Good.{Good, offsetOf}
@@ -23,7 +24,7 @@ use Rattle.find.specs.Find.{glyphWithId, glyphWithText}
 use Rattle.find.specs.declared.Found.{Found}
 use Rattle.find.specs.declared.Found.the-variants.{Absent as NoGlyph, Glyph as TheGlyph}
 use Rattle.cff.specs.Font.{Got, refused, got, then, Program, fontAt, fontsAt, firstOf, indexThen, setAt, readTable, readFont}
-use Rattle.cff.specs.Find.{localsTotal, countsOf, readAs, foundAs, findName, findCid, nameAs, cidAs, itemsIn, itemRefusal, itemOf}
+use Rattle.cff.specs.Find.{localsWords, countsOf, readAs, foundAs, findName, findCid, nameAs, cidAs, itemsIn, itemRefusal, itemOf}
 use Rattle.cff.specs.Reads.{Holds, topOf, fontOf, programOf, HasTop, GoodFont, ReadsFont, indexIn, HasSet, fontWith, fontsOf, behindTops}
 use Rattle.cff.specs.File.{InFile, HasFont, ReadsFile}
 use Rattle.cff.specs.ReadsLaws.{no, drop-over, then-refused, then-got}
@@ -211,17 +212,11 @@ module _ (b : List ℕ) where
 
 -- ---- what is asked of a font
 
--- its counts
-pub counts-are : (b : List ℕ) (f : Font) → GoodFont b f
-    → _≡_ {A = Counts} (record {
-      glyphs = f .charstrings .count;
-      globals = f .globals .count;
-      strings = f .strings .count;
-      cid = f .cid;
-      work = 2 * f .charstrings .count + f .globals .count + f .locals;
-    }) (countsOf (programOf b f))
-counts-are b f g =
-    rw (items-length b (f .charstrings), items-length b (f .globals), items-length b (f .strings), ← g .cid, ← g .parts .locals)
+-- its counts, with W
+pub counts-with : (b : List ℕ) (f : Font) → GoodFont b f → (w : ℕ) → w ≡ 2 * f .charstrings .count + wordsFor (f .globals .count) + f .words
+    → _≡_ {A = Counts} (record { glyphs = f .charstrings .count; globals = f .globals .count; strings = f .strings .count; cid = f .cid; work = w }) (countsOf (programOf b f))
+counts-with b f g w e =
+    rw (e, items-length b (f .charstrings), items-length b (f .globals), items-length b (f .strings), ← g .cid, ← g .parts .words)
 
 -- its items
 pub items-held : (b : List ℕ) (f : Font) → GoodFont b f → (kind : ItemKind) → Holds b (indexIn kind f)

@@ -1,8 +1,9 @@
 // A font of a set, read in place from the bytes of its top DICT: the Rust's CffProgram::from_top, in its order.
 ghost use mathlib.Core.Path.{_≡_};
 ghost use mathlib.Core.Bool.{true, false};
-ghost use Prim.Native.Nat.{_+_, _≤_, _<_};
+ghost use Prim.Native.Nat.{_+_, _*_, _≤_, _<_};
 ghost use lib.ListN.{length};
+ghost use Rattle.bits.specs.Bits.{wordsFor};
 ghost use Rattle.dict.specs.Lookup.{offsetIn};
 ghost use Rattle.dict.specs.Places.{entriesOf};
 ghost use Rattle.cff.specs.Font.{fdSelect, idsAt, fdsAt, encodingGot, cidParts, nameParts};
@@ -27,13 +28,13 @@ pub enum EncodingAt {
 }
 
 // The font dictionaries of a font. Of a CID-keyed font: the DICTs of its FDs, and its FDSelect. Of a name-keyed one: its Private DICT, and
-// its encoding. And the local subroutines of all Private DICTs together.
+// its encoding. And how many words a bit for each local subroutine takes, of all Private DICTs together.
 pub struct Parts {
     pub dicts: Index,
     pub private: PrivateAt,
     pub select: FdSelect,
     pub encoding: usize,
-    pub locals: usize,
+    pub words: usize,
 }
 
 // What reading them finds: a refusal, or the parts.
@@ -42,7 +43,7 @@ pub enum PartsRead {
     Found(Parts),
 }
 
-// A font, by positions: where its table starts in the file and how long it is, from where all other positions count; whether it is CID-keyed, its top DICT, its INDEXes, the ids of its glyphs, its font dictionaries and its encoding.
+// A font, by positions: where its table starts in the file and how long it is, from where all other positions count; whether it is CID-keyed, its top DICT, its INDEXes, the ids of its glyphs, its font dictionaries and its encoding; and how many words the bits of its local subroutines take.
 pub struct Font {
     pub start: usize,
     pub len: usize,
@@ -57,7 +58,7 @@ pub struct Font {
     pub private: PrivateAt,
     pub select: FdSelect,
     pub encoding: usize,
-    pub locals: usize,
+    pub words: usize,
 }
 
 // What reading a font finds: a refusal, or the font.
@@ -160,7 +161,7 @@ fn fd_parts(font: &[u8], d: &[u8], n: usize, dicts: Index, total: usize) -> Part
                     private: crate::private::no_private(),
                     select,
                     encoding: 0,
-                    locals: total,
+                    words: total,
                 });
             }
             PartsRead::Refused(Refusal::MALFORMED)
@@ -215,7 +216,7 @@ fn name_parts(font: &[u8], d: &[u8], n: usize) -> PartsRead
                     private: q,
                     select: charset::fd_select::no_fd_select(),
                     encoding,
-                    locals: locals.count,
+                    words: bits::words_for(locals.count),
                 }),
             }
         }
@@ -276,7 +277,7 @@ fn glyphs_at(
                         private,
                         select,
                         encoding: parts.encoding,
-                        locals: parts.locals,
+                        words: parts.words,
                     })
                 }
             }
@@ -303,4 +304,14 @@ pub fn font_at(font: &[u8], top: usize, end: usize, strings: Index, globals: Ind
         IndexAt::Refused(e) => FontRead::Refused(e),
         IndexAt::Found(charstrings) => glyphs_at(font, top, end, strings, globals, charstrings),
     }
+}
+
+// W of a font: 2 × glyphs, and the words of a bit for each global and each local subroutine.
+pub fn work_size(f: Font) -> usize
+    requires { ⌜ (f .charstrings .count < 65536) × (f .globals .count < 65536) × (f .words ≤ 4294967296) ⌝ }
+    ensures { λ r. ⌜ r ≡ 2 * f .charstrings .count + wordsFor (f .globals .count) + f .words ⌝ }
+{
+    let charstrings = f.charstrings;
+    let globals = f.globals;
+    2 * charstrings.count + bits::words_for(globals.count) + f.words
 }

@@ -28,11 +28,11 @@ pub enum PrivateRead {
     Found(PrivateAt),
 }
 
-// The Private DICT that was read last, by its size and offset, and how many local subroutines it has.
+// The Private DICT that was read last, by its size and offset, and how many words a bit for each of its local subroutines takes.
 pub struct LastPrivate {
     pub size: usize,
     pub offset: usize,
-    pub locals: usize,
+    pub words: usize,
 }
 
 // What reading the Private DICT of the next FD finds: a refusal, or that Private DICT.
@@ -41,7 +41,7 @@ pub enum NextPrivate {
     Read(LastPrivate),
 }
 
-// What reading the Private DICTs of all FDs finds: a refusal, or how many local subroutines they have together.
+// What reading the Private DICTs of all FDs finds: a refusal, or how many words the bits of their local subroutines take together, each rounded up.
 pub enum LocalsRead {
     Refused(u8),
     Total(usize),
@@ -132,7 +132,7 @@ fn next_private(font: &[u8], d: &[u8], last: LastPrivate) -> NextPrivate
         PrivateIn::Absent => NextPrivate::Read(LastPrivate {
             size: 0,
             offset: 0,
-            locals: 0,
+            words: 0,
         }),
         PrivateIn::Refused(n) => NextPrivate::Refused(n),
         PrivateIn::Private { size, offset } => {
@@ -146,7 +146,7 @@ fn next_private(font: &[u8], d: &[u8], last: LastPrivate) -> NextPrivate
     }
 }
 
-// The Private DICT of a size at an offset, read for its refusal and its count of local subroutines.
+// The Private DICT of a size at an offset, read for its refusal and the words of its local subroutines.
 fn locals_of(font: &[u8], size: usize, offset: usize) -> NextPrivate
     requires { ⌜ (2 ≤ length (now font)) × (size ≤ 4294967296) × (offset ≤ 4294967296) ⌝ }
     ensures { λ r. ⌜ ReadsNext (now (font .entry)) (privateData (now (font .entry)) size offset) r ⌝ }
@@ -156,10 +156,11 @@ fn locals_of(font: &[u8], size: usize, offset: usize) -> NextPrivate
         PrivateRead::Refused(n) => NextPrivate::Refused(n),
         PrivateRead::Found(q) => {
             let locals = q.locals;
+            let words = bits::words_for(locals.count);
             NextPrivate::Read(LastPrivate {
                 size,
                 offset,
-                locals: locals.count,
+                words,
             })
         }
     }
@@ -186,7 +187,7 @@ pub fn read_privates(font: &[u8], dicts: Index) -> LocalsRead
     let mut last = LastPrivate {
         size: 0,
         offset: 0,
-        locals: 0,
+        words: 0,
     };
     let mut total: usize = 0;
     let mut k: usize = 0;
@@ -197,7 +198,7 @@ pub fn read_privates(font: &[u8], dicts: Index) -> LocalsRead
                 return LocalsRead::Refused(e);
             }
             NextPrivate::Read(l) => {
-                total += l.locals;
+                total += l.words;
                 last = l;
                 k += 1;
             }

@@ -29,12 +29,13 @@ pub fn read(font: &[u8]) -> ReadAs
             let charstrings = f.charstrings;
             let globals = f.globals;
             let strings = f.strings;
+            let work = cff::font::work_size(f);
             ReadAs::Font(Counts {
                 glyphs: charstrings.count,
                 globals: globals.count,
                 strings: strings.count,
                 cid: f.cid,
-                work: 2 * charstrings.count + globals.count + f.locals,
+                work,
             })
         }
     }

@@ -98,8 +98,8 @@ own-few p slots own s = omega (arith, s .few, ap (λ (o : Own). o .count) (s .me
 pub table-room : (table : List ℕ) → table ≡ replicate 256 0 → 256 ≤ length table
 table-room table e = omega (arith, ap length e, length-replicate {A = ℕ} 256 0)
 
-pub ranks-room : (table : List ℕ) → table ≡ replicate 768 0 → 768 ≤ length table
-ranks-room table e = omega (arith, ap length e, length-replicate {A = ℕ} 768 0)
+pub ranks-room : (table : List ℕ) → table ≡ replicate 1280 0 → 1280 ≤ length table
+ranks-room table e = omega (arith, ap length e, length-replicate {A = ℕ} 1280 0)
 
 module _ (b : List ℕ) (f : Font) (rows : List Row) (used ws : List ℕ) (r : Planned) (table : List ℕ)
     (c : CidReady b f rows used ws r table) where

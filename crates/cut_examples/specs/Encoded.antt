@@ -34,14 +34,16 @@ use Rattle.prune.specs.Renumber.{renumber, renumberCharstring}
 use Rattle.record.specs.Record.{rowsFrom, rowsOf, rowsFine, recordFine, lists, givenIn, disagrees, twoLengths}
 use Rattle.opentype.specs.Opentype.{placeOf}
 use Rattle.cff.specs.Font as font
+use Rattle.cff.specs.Find.{workSize}
 use Rattle.cff.specs.Font.{got, Program}
 use Rattle.cff.specs.Find as cfffind
 use Rattle.subset.specs.Kept.{isIn, those, keptOf, fdsOf}
-use Rattle.subset.specs.Pruned.{countBelow, each, renumberedBody, renumberedSubrs, renumbered, pruned}
+use Rattle.bits.specs.Bits.{countBelow}
+use Rattle.subset.specs.Pruned.{each, renumberedBody, renumberedSubrs, renumbered, pruned}
 use Rattle.subset.specs.Texts.{hasText, ownStrings, placeIn, newId, namedEntries, textsOf, namesOf}
 use Rattle.subset.specs.Codes.{lastNamed, glyphOf, pairsFrom, codedBy, pairBytes, nothing, named, meant, keptMeant}
 use Rattle.subset.specs.Subset.{namedBytes, copiedBytes, newIds, subsetByName, subsetBytes}
-use Rattle.subset.specs.Cut.{refused, subset, allFound, cutRead, cutOf}
+use Rattle.subset.specs.Cut.{refused, subset, allFound, cutRead, cutWith, cutOf}
 use Rattle.faithful.specs.Codes.{KeepsCodes}
 use Rattle.faithful.specs.Theorem.{codes-back}
 use Rattle.faithful.specs.Examples.{octets-of, none-octets}
@@ -112,18 +114,18 @@ customSubset =
     -- charstrings
     ∷ 0x00 ∷ 0x02 ∷ 0x01 ∷ 0x01 ∷ 0x02 ∷ 0x03 ∷ 0x0e ∷ 0x0e ∷ []
 
-custom-written : cutRead false true (got customProgram) (0x4e ∷ []) (1 ∷ []) [] 1 8192 32768 ≡ subset 0 customSubset
+custom-written : cutRead workSize false true (got customProgram) (0x4e ∷ []) (1 ∷ []) [] 1 8192 32768 ≡ subset 0 customSubset
 unfolding
     allBelow allFound subsetBytes subsetByName newIds namedBytes copiedBytes namesOf textsOf namedEntries newId placeIn ownStrings hasText pruned renumbered renumberedSubrs
     renumberedBody each countBelow those isIn fdsOf recordFine rowsFine rowsOf rowsFrom lists givenIn twoLengths disagrees renumberCharstring renumber glyphWithText
     stringText standardString standardStrings sidOf sidIn codes sameText standardNames charsetBytes idBytes opBytes entriesBytes offsetEntry copiedEntry privateEntry
     without lastOf lastFrom truncOf normal stripped zeros zerosOf indexBytes itemsBytes headBytes tableBytes ends sizeFor joined total encode bytesOf numAt be t2.keep24 t2.rounded
-    t2.numberAt t2e.numberBytes t2e.integerBytes t2e.fixedBytes tok.tokensOf tok.tokensFrom tok.tokenAt decw.int5Bytes cfffind.localsTotal codedBy pairsFrom lastNamed pairBytes
+    t2.numberAt t2e.numberBytes t2e.integerBytes t2e.fixedBytes tok.tokensOf tok.tokensFrom tok.tokenAt decw.int5Bytes cfffind.localsWords codedBy pairsFrom lastNamed pairBytes
 custom-written = refl
 
 custom-cut : cutOf false true customFont (0x4e ∷ []) (1 ∷ []) [] 1 8192 32768 ≡ subset 0 customSubset
-unfolding cutOf
-custom-cut = ap (λ (g : font.Got Program). cutRead false true g (0x4e ∷ []) (1 ∷ []) [] 1 8192 32768) custom-reads ∙ custom-written
+unfolding cutWith
+custom-cut = ap (λ (g : font.Got Program). cutRead workSize false true g (0x4e ∷ []) (1 ∷ []) [] 1 8192 32768) custom-reads ∙ custom-written
 
 -- the codes in the font, where their glyphs are kept
 custom-65 : keptMeant customProgram (keptOf 3 (1 ∷ [])) (glyphOf customProgram (customProgram .coding) 65) ≡ named (0x41 ∷ [])
@@ -154,7 +156,7 @@ custom-codes : (q : Program) × (font.readFont customSubset ≡ got q)
 custom-codes =
     let keeps : KeepsCodes true customFont (1 ∷ []) (subset 0 customSubset)
     = subst (KeepsCodes true customFont (1 ∷ [])) custom-cut
-    (codes-back false true customFont (0x4e ∷ []) (1 ∷ []) [] 1 8192 32768 (octets-of customFont custom-octets) none-octets) in
+    (codes-back workSize false true customFont (0x4e ∷ []) (1 ∷ []) [] 1 8192 32768 (octets-of customFont custom-octets) none-octets) in
     let k = keeps refl customProgram custom-reads custom-keyed in
     (k .0, k .1, k .2 .codes 65 (omega arith) ∙ custom-65, k .2 .codes 66 (omega arith) ∙ custom-66, k .2 .codes 67 (omega arith) ∙ custom-67)
 
@@ -218,18 +220,18 @@ expertSubset =
     -- charstrings
     ∷ 0x00 ∷ 0x02 ∷ 0x01 ∷ 0x01 ∷ 0x02 ∷ 0x03 ∷ 0x0e ∷ 0x0e ∷ []
 
-expert-written : cutRead false true (got expertProgram) (0x4e ∷ []) (1 ∷ []) [] 1 8192 32768 ≡ subset 0 expertSubset
+expert-written : cutRead workSize false true (got expertProgram) (0x4e ∷ []) (1 ∷ []) [] 1 8192 32768 ≡ subset 0 expertSubset
 unfolding
     allBelow allFound subsetBytes subsetByName newIds namedBytes copiedBytes namesOf textsOf namedEntries newId placeIn ownStrings hasText pruned renumbered renumberedSubrs
     renumberedBody each countBelow those isIn fdsOf recordFine rowsFine rowsOf rowsFrom lists givenIn twoLengths disagrees renumberCharstring renumber glyphWithText
     stringText standardString standardStrings sidOf sidIn codes sameText standardNames charsetBytes idBytes opBytes entriesBytes offsetEntry copiedEntry privateEntry
     without lastOf lastFrom truncOf normal stripped zeros zerosOf indexBytes itemsBytes headBytes tableBytes ends sizeFor joined total encode bytesOf numAt be t2.keep24 t2.rounded
-    t2.numberAt t2e.numberBytes t2e.integerBytes t2e.fixedBytes tok.tokensOf tok.tokensFrom tok.tokenAt decw.int5Bytes cfffind.localsTotal codedBy
+    t2.numberAt t2e.numberBytes t2e.integerBytes t2e.fixedBytes tok.tokensOf tok.tokensFrom tok.tokenAt decw.int5Bytes cfffind.localsWords codedBy
 expert-written = refl
 
 expert-cut : cutOf false true expertFont (0x4e ∷ []) (1 ∷ []) [] 1 8192 32768 ≡ subset 0 expertSubset
-unfolding cutOf
-expert-cut = ap (λ (g : font.Got Program). cutRead false true g (0x4e ∷ []) (1 ∷ []) [] 1 8192 32768) expert-reads ∙ expert-written
+unfolding cutWith
+expert-cut = ap (λ (g : font.Got Program). cutRead workSize false true g (0x4e ∷ []) (1 ∷ []) [] 1 8192 32768) expert-reads ∙ expert-written
 
 -- the codes in the font, where their glyphs are kept
 expert-32 : keptMeant expertProgram (keptOf 3 (1 ∷ [])) (glyphOf expertProgram (expertProgram .coding) 32) ≡ named (0x73 ∷ 0x70 ∷ 0x61 ∷ 0x63 ∷ 0x65 ∷ [])
@@ -260,14 +262,14 @@ expert-codes : (q : Program) × (font.readFont expertSubset ≡ got q)
 expert-codes =
     let keeps : KeepsCodes true expertFont (1 ∷ []) (subset 0 expertSubset)
     = subst (KeepsCodes true expertFont (1 ∷ [])) expert-cut
-    (codes-back false true expertFont (0x4e ∷ []) (1 ∷ []) [] 1 8192 32768 (octets-of expertFont expert-octets) none-octets) in
+    (codes-back workSize false true expertFont (0x4e ∷ []) (1 ∷ []) [] 1 8192 32768 (octets-of expertFont expert-octets) none-octets) in
     let k = keeps refl expertProgram expert-reads expert-keyed in
     (k .0, k .1, k .2 .codes 32 (omega arith) ∙ expert-32, k .2 .codes 44 (omega arith) ∙ expert-44, k .2 .codes 0 (omega arith) ∙ expert-0)
 
 -- where it is not asked for, such a font is refused
 expert-unasked : cutOf false false expertFont (0x4e ∷ []) (1 ∷ []) [] 1 8192 32768 ≡ refused 3
-unfolding cutOf lastOf lastFrom
-expert-unasked = ap (λ (g : font.Got Program). cutRead false false g (0x4e ∷ []) (1 ∷ []) [] 1 8192 32768) expert-reads
+unfolding cutWith lastOf lastFrom
+expert-unasked = ap (λ (g : font.Got Program). cutRead workSize false false g (0x4e ∷ []) (1 ∷ []) [] 1 8192 32768) expert-reads
 
 -- ---- the standard encoding, which the subset has without an entry
 
@@ -328,18 +330,18 @@ standardSubset =
     -- charstrings
     ∷ 0x00 ∷ 0x02 ∷ 0x01 ∷ 0x01 ∷ 0x02 ∷ 0x03 ∷ 0x0e ∷ 0x0e ∷ []
 
-standard-written : cutRead false true (got standardProgram) (0x4e ∷ []) (1 ∷ []) [] 1 8192 32768 ≡ subset 0 standardSubset
+standard-written : cutRead workSize false true (got standardProgram) (0x4e ∷ []) (1 ∷ []) [] 1 8192 32768 ≡ subset 0 standardSubset
 unfolding
     allBelow allFound subsetBytes subsetByName newIds namedBytes copiedBytes namesOf textsOf namedEntries newId placeIn ownStrings hasText pruned renumbered renumberedSubrs
     renumberedBody each countBelow those isIn fdsOf recordFine rowsFine rowsOf rowsFrom lists givenIn twoLengths disagrees renumberCharstring renumber glyphWithText
     stringText standardString standardStrings sidOf sidIn codes sameText standardNames charsetBytes idBytes opBytes entriesBytes offsetEntry copiedEntry privateEntry
     without lastOf lastFrom truncOf normal stripped zeros zerosOf indexBytes itemsBytes headBytes tableBytes ends sizeFor joined total encode bytesOf numAt be t2.keep24 t2.rounded
-    t2.numberAt t2e.numberBytes t2e.integerBytes t2e.fixedBytes tok.tokensOf tok.tokensFrom tok.tokenAt decw.int5Bytes cfffind.localsTotal codedBy
+    t2.numberAt t2e.numberBytes t2e.integerBytes t2e.fixedBytes tok.tokensOf tok.tokensFrom tok.tokenAt decw.int5Bytes cfffind.localsWords codedBy
 standard-written = refl
 
 standard-cut : cutOf false true standardFont (0x4e ∷ []) (1 ∷ []) [] 1 8192 32768 ≡ subset 0 standardSubset
-unfolding cutOf
-standard-cut = ap (λ (g : font.Got Program). cutRead false true g (0x4e ∷ []) (1 ∷ []) [] 1 8192 32768) standard-reads ∙ standard-written
+unfolding cutWith
+standard-cut = ap (λ (g : font.Got Program). cutRead workSize false true g (0x4e ∷ []) (1 ∷ []) [] 1 8192 32768) standard-reads ∙ standard-written
 
 -- the codes in the font, where their glyphs are kept
 standard-32 : keptMeant standardProgram (keptOf 3 (1 ∷ [])) (glyphOf standardProgram (standardProgram .coding) 32) ≡ named (0x73 ∷ 0x70 ∷ 0x61 ∷ 0x63 ∷ 0x65 ∷ [])
@@ -370,6 +372,6 @@ standard-codes : (q : Program) × (font.readFont standardSubset ≡ got q)
 standard-codes =
     let keeps : KeepsCodes true standardFont (1 ∷ []) (subset 0 standardSubset)
     = subst (KeepsCodes true standardFont (1 ∷ [])) standard-cut
-    (codes-back false true standardFont (0x4e ∷ []) (1 ∷ []) [] 1 8192 32768 (octets-of standardFont standard-octets) none-octets) in
+    (codes-back workSize false true standardFont (0x4e ∷ []) (1 ∷ []) [] 1 8192 32768 (octets-of standardFont standard-octets) none-octets) in
     let k = keeps refl standardProgram standard-reads standard-keyed in
     (k .0, k .1, k .2 .codes 32 (omega arith) ∙ standard-32, k .2 .codes 44 (omega arith) ∙ standard-44, k .2 .codes 0 (omega arith) ∙ standard-0)

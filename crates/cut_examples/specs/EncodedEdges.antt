@@ -26,7 +26,7 @@ use Rattle.find.specs.Find.{glyphWithText}
 use Rattle.find.specs.declared.Found.the-variants.{Absent, Glyph}
 use Rattle.opentype.specs.Opentype.{placeOf}
 use Rattle.cff.specs.Font.{Got, refused as refusedFont, got, then, orZero, Coding, standard, expert, custom, Program, emptyPrivate, encoding, codingAt, encodingGot, idsAt, privateAt, nameParts, fontAt, fontsAt, setAt, readTable, readFont}
-use Rattle.cff.specs.Find.{localsTotal, readAs}
+use Rattle.cff.specs.Find.{localsWords, readAs}
 use Rattle.cff.specs.declared.ReadAs.the-variants.{Font}
 use Rattle.subset.specs.Kept.{isIn}
 use Rattle.subset.specs.Texts.{hasText, ownStrings, placeIn, newId, namedEntries, textsOf, namesOf}
@@ -117,7 +117,7 @@ later-expert : readAs (readFont laterExpert) ≡ Font (record { glyphs = 1; glob
 unfolding
     readFont readTable placeOf setAt fontsAt fontAt nameParts privateAt idsAt codingAt encodingGot readIndex told indexAt tableAt dataAt runOf judged offsets pieces itemsOf numAt be
     dict.dictOf dict.gathered dict.readingsAt dict.readingsFrom dict.entryAt dict.entryFrom dict.tokenAt dict.operatorAt dec.numberAt dec.realAt normal zeros zerosOf stripped lastOf lastFrom
-    truncOf localsTotal
+    truncOf localsWords
 later-expert = refl
 
 -- ---- 13: more than 255 pairs, before 10 and 11

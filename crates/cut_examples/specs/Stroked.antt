@@ -35,10 +35,11 @@ use Rattle.opentype.specs.Opentype.{placeOf}
 use Rattle.cff.specs.Font as font
 use Rattle.cff.specs.Find as cfffind
 use Rattle.subset.specs.Kept.{isIn, those, placed, sortedBy, fdsOf, newFd}
-use Rattle.subset.specs.Pruned.{countBelow, each, renumberedBody, renumberedSubrs, renumbered, pruned}
+use Rattle.bits.specs.Bits.{countBelow}
+use Rattle.subset.specs.Pruned.{each, renumberedBody, renumberedSubrs, renumbered, pruned}
 use Rattle.subset.specs.Texts.{hasText, ownStrings, placeIn, newId, namedEntries, textsOf, namesOf}
 use Rattle.subset.specs.Subset.{namedBytes, copiedBytes, newIds, privateParts, fontDicts, cidsOf, newFds, subsetByName, subsetByCid, subsetBytes}
-use Rattle.subset.specs.Cut.{Outcome, refused, subset, allFound, cutOf}
+use Rattle.subset.specs.Cut.{Outcome, refused, subset, allFound, cutWith}
 use Rattle.subset.specs.StrokedExample.{byName, nameSubset, byCid, cidSubset}
 use Rattle.dict.specs.Places.{listed}
 
@@ -52,13 +53,13 @@ name-filled :
     × (byName (0x8c ∷ 0x0c ∷ 0x08 ∷ []) ≡ nameSubset)
     × (byName (0x8b ∷ 0x0c ∷ 0x05 ∷ 0x8c ∷ 0x0c ∷ 0x08 ∷ []) ≡ nameSubset)
 unfolding
-    cutOf allBelow allFound subsetBytes subsetByName newIds namedBytes copiedBytes namesOf textsOf namedEntries newId placeIn ownStrings hasText pruned renumbered
+    cutWith allBelow allFound subsetBytes subsetByName newIds namedBytes copiedBytes namesOf textsOf namedEntries newId placeIn ownStrings hasText pruned renumbered
     renumberedSubrs renumberedBody each countBelow those isIn fdsOf recordFine rowsFine rowsOf rowsFrom lists givenIn twoLengths disagrees renumberCharstring renumber
     glyphWithText stringText standardString standardStrings sidOf sidIn codes sameText standardNames charsetBytes idBytes listOf opBytes operandsBytes entriesBytes offsetEntry copiedEntry privateEntry without lastOf lastFrom truncOf
     normal stripped zeros zerosOf indexBytes itemsBytes headBytes tableBytes ends sizeFor joined total readIndex told itemsOf pieces indexAt tableAt dataAt judged runOf
     offsets encode bytesOf numAt be keep24 rounded t2.numberAt t2e.numberBytes t2e.integerBytes t2e.fixedBytes tok.tokensOf tok.tokensFrom tok.tokenAt dec.numberAt dec.realAt
     decw.int5Bytes decw.numberBytes decw.intBytes dict.dictOf dict.gathered dict.readingsAt dict.readingsFrom dict.entryAt dict.entryFrom dict.operatorAt dict.tokenAt
-    font.readFont font.readTable placeOf font.setAt font.fontsAt font.fontAt font.nameParts font.privateAt font.idsAt font.codingAt font.encodingGot cfffind.localsTotal
+    font.readFont font.readTable placeOf font.setAt font.fontsAt font.fontAt font.nameParts font.privateAt font.idsAt font.codingAt font.encodingGot cfffind.localsWords
 name-filled = (refl, refl, refl, refl, refl, refl, refl)
 
 -- neither; PaintType 0; of two operands; StrokeWidth alone
@@ -68,7 +69,7 @@ cid-filled :
     × (byCid (0x8c ∷ 0x8c ∷ 0x0c ∷ 0x05 ∷ []) ≡ cidSubset)
     × (byCid (0x8c ∷ 0x0c ∷ 0x08 ∷ []) ≡ cidSubset)
 unfolding
-    cutOf allBelow allFound glyphWithId subsetBytes subsetByCid newFds cidsOf fontDicts privateParts copiedBytes namedBytes textsOf namedEntries newId placeIn ownStrings
+    cutWith allBelow allFound glyphWithId subsetBytes subsetByCid newFds cidsOf fontDicts privateParts copiedBytes namedBytes textsOf namedEntries newId placeIn ownStrings
     hasText pruned renumbered renumberedSubrs renumberedBody each countBelow those isIn placed sortedBy fdsOf newFd recordFine rowsFine rowsOf rowsFrom lists givenIn
     twoLengths disagrees renumberCharstring renumber stringText standardString standardStrings sidOf sidIn codes sameText standardNames charsetBytes idBytes
     select.changes select.entryBytes select.fdSelectBytes listOf opBytes operandsBytes entryBytes entriesBytes offsetEntry copiedEntry privateEntry without lastOf
@@ -76,5 +77,5 @@ unfolding
     dataAt judged runOf offsets encode bytesOf numAt be keep24 rounded t2.numberAt t2e.numberBytes t2e.integerBytes t2e.fixedBytes tok.tokensOf tok.tokensFrom
     tok.tokenAt dec.numberAt dec.realAt decw.int5Bytes decw.numberBytes decw.intBytes dict.dictOf dict.gathered dict.readingsAt dict.readingsFrom dict.entryAt
     dict.entryFrom dict.operatorAt dict.tokenAt font.readFont font.readTable placeOf font.setAt font.fontsAt font.fontAt font.cidParts font.fdsAt font.idsAt font.privatesAt font.privateAt
-    font.privateData font.localsAt font.dictsAt cfffind.localsTotal listed
+    font.privateData font.localsAt font.dictsAt cfffind.localsWords listed
 cid-filled = (refl, refl, refl, refl)

@@ -9,6 +9,7 @@ use Rattle.prune.specs.StepLaws.{zero-one}
 use lib.Dec.{eqb}
 use lib.ListN.{length}
 use Rattle.octets.specs.Pick.{pick}
+use Rattle.bits.specs.Bits.{wordsFor}
 use Rattle.octets.specs.Lists.{allBelow}
 use Rattle.record.specs.Record.{recordFine}
 use Rattle.dict.specs.Dict.{Entry}
@@ -16,7 +17,7 @@ use Rattle.dict.specs.Lookup.{rosIn, cidKeyed, strokedIn}
 use Rattle.cff.specs.Font.{Program, codingAt}
 use Rattle.cff.specs.Find.{workSize}
 use Rattle.cff.specs.Reads.{programOf, GoodFont}
-use Rattle.cff.specs.SetLaws.{counts-are}
+use Rattle.cff.specs.SetLaws.{counts-with}
 use Rattle.cff.specs.declared.Counts.{Counts}
 use Rattle.cff.specs.declared.font.Font.{Font}
 use Rattle.index.specs.IndexLaws.{items-length}
@@ -29,8 +30,8 @@ module _ (b : List ℕ) (f : Font) (good : GoodFont b f) where
   pub glyphs-are : length (programOf b f .charstrings) ≡ f .charstrings .count
   glyphs-are = items-length b (f .charstrings)
 
-  pub work-is : 2 * f .charstrings .count + f .globals .count + f .locals ≡ workSize (programOf b f)
-  work-is = let e = counts-are b f good in ap (λ (c : Counts). c .work) e
+  pub work-is : 2 * f .charstrings .count + wordsFor (f .globals .count) + f .words ≡ workSize (programOf b f)
+  work-is = let e = counts-with b f good _ refl in ap (λ (c : Counts). c .work) e
 
 -- ---- the refusal, test by test: what each test of the code answered
 
@@ -155,7 +156,7 @@ module _ (b : List ℕ) (f : Font) (good : GoodFont b f) (cid ask : Bool) (name 
               unfolding refusalOf
               read-record t = rw (a, s, c, le-ltb 65535 name t₃, d, e, sym e₆ ∙ was-false r₆ t)
 
-              module _ (t₆ : not r₆ ≡ false) (w : ℕ) (e₇ : w ≡ 2 * f .charstrings .count + f .globals .count + f .locals) where
+              module _ (t₆ : not r₆ ≡ false) (w : ℕ) (e₇ : w ≡ 2 * f .charstrings .count + wordsFor (f .globals .count) + f .words) where
                 g : recordFine cid rec flag ≡ true
                 g = sym e₆ ∙ was-true r₆ t₆
 

@@ -70,16 +70,6 @@ fn ros_fine(cid: bool, d: &[u8]) -> bool
     true
 }
 
-// W of a font: 2 × glyphs + globals + locals of all FDs.
-pub fn work_size(f: Font) -> usize
-    requires { ⌜ (f .charstrings .count < 65536) × (f .globals .count < 65536) × (f .locals ≤ 4294967296) ⌝ }
-    ensures { λ r. ⌜ r ≡ 2 * f .charstrings .count + f .globals .count + f .locals ⌝ }
-{
-    let charstrings = f.charstrings;
-    let globals = f.globals;
-    2 * charstrings.count + globals.count + f.locals
-}
-
 // The refusal of a font that was read, before the work words are used, or 0.
 pub fn refusal(
     cid: bool,
@@ -116,7 +106,7 @@ pub fn refusal(
     if !reach::check_record(cid, rows, traced) {
         return Refusal::RECORD;
     }
-    if words < work_size(f) {
+    if words < cff::font::work_size(f) {
         return Refusal::WORK;
     }
     0

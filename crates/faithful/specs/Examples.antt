@@ -34,11 +34,12 @@ use Rattle.strings.specs.Strings.{stringText, standardString, standardStrings}
 use Rattle.find.specs.Find.{glyphWithText}
 use Rattle.opentype.specs.Opentype.{placeOf}
 use Rattle.cff.specs.Font.{Got, got, standard, Program, emptyPrivate, charStrings, readTable, readFont, setAt, fontsAt, fontAt, nameParts, privateAt, idsAt, codingAt, encodingGot}
+use Rattle.cff.specs.Find.{workSize}
 use Rattle.cff.specs.declared.FoundAs.the-variants.{Glyph as TheGlyph}
 use Rattle.subset.specs.Kept.{isIn, those, fdsOf, keptOf, usedFds}
 use Rattle.subset.specs.Codes.{glyphOf, codedBy, nothing, named, meant, keptMeant}
 use Rattle.subset.specs.Subset.{matrixOf}
-use Rattle.subset.specs.Cut.{Outcome, subset, cutRead, cutOf}
+use Rattle.subset.specs.Cut.{Outcome, subset, cutRead, cutWith, cutOf}
 use Rattle.subset.specs.Examples.{sheet, sheetSubset, the-sheet}
 use Rattle.subset.specs.CidFont.{cidFont, cidProgram, reads, reach, wrongReach}
 use Rattle.subset.specs.CidExample.{renumberedBytes, unrenumberedBytes, renumbers, stubs, copies}
@@ -100,7 +101,7 @@ none-octets i = omega arith
 sheet-faithful : Faithful sheet (1 ∷ []) [] 1 (subset 0 sheetSubset)
 sheet-faithful =
     subst (λ (o : Outcome). Faithful sheet (1 ∷ []) [] 1 o) the-sheet
-    (faithful false false sheet (0x41 ∷ []) (1 ∷ []) [] 1 8192 32768 (octets-of sheet sheet-octets) none-octets)
+    (faithful workSize false false sheet (0x41 ∷ []) (1 ∷ []) [] 1 8192 32768 (octets-of sheet sheet-octets) none-octets)
 
 -- the subset holds glyph 1
 sheet-held : Holds sheetProgram 1 (op 14 ∷ []) sheetSubset
@@ -109,10 +110,10 @@ sheet-held =
 
 -- its encoding asked for, which is the standard one: the same subset, in which code 32 is space and code 33, exclam, has no glyph
 sheet-asked : cutOf false true sheet (0x41 ∷ []) (1 ∷ []) [] 1 8192 32768 ≡ subset 0 sheetSubset
-unfolding cutOf codedBy
+unfolding cutWith codedBy
 sheet-asked =
-    ap (λ (g : Got Program). cutRead false true g (0x41 ∷ []) (1 ∷ []) [] 1 8192 32768) sheet-reads
-    ∙ sym (ap (λ (g : Got Program). cutRead false false g (0x41 ∷ []) (1 ∷ []) [] 1 8192 32768) sheet-reads) ∙ the-sheet
+    ap (λ (g : Got Program). cutRead workSize false true g (0x41 ∷ []) (1 ∷ []) [] 1 8192 32768) sheet-reads
+    ∙ sym (ap (λ (g : Got Program). cutRead workSize false false g (0x41 ∷ []) (1 ∷ []) [] 1 8192 32768) sheet-reads) ∙ the-sheet
 
 sheet-named : cidKeyed (sheetProgram .top) ≡ false
 unfolding lastOf lastFrom
@@ -132,7 +133,7 @@ sheet-codes : (q : Program) × (readFont sheetSubset ≡ got q)
 sheet-codes =
     let keeps : KeepsCodes true sheet (1 ∷ []) (subset 0 sheetSubset)
     = subst (KeepsCodes true sheet (1 ∷ [])) sheet-asked
-    (codes-back false true sheet (0x41 ∷ []) (1 ∷ []) [] 1 8192 32768 (octets-of sheet sheet-octets) none-octets) in
+    (codes-back workSize false true sheet (0x41 ∷ []) (1 ∷ []) [] 1 8192 32768 (octets-of sheet sheet-octets) none-octets) in
     let k = keeps refl sheetProgram sheet-reads sheet-named in
     (k .0, k .1, k .2 .codes 32 (omega arith) ∙ code-32, k .2 .codes 33 (omega arith) ∙ code-33)
 
@@ -191,7 +192,7 @@ listed-1 = inr (one refl (one refl none))
 renumbered-held : Holds cidProgram 1 tokens-1 renumberedBytes
 renumbered-held =
     subst (λ (o : Outcome). Faithful cidFont keep reach 1 o) renumbers
-    (faithful true false cidFont (0x41 ∷ []) keep reach 1 8192 32768 (octets-of cidFont font-octets) (octets-of reach reach-octets))
+    (faithful workSize true false cidFont (0x41 ∷ []) keep reach 1 8192 32768 (octets-of cidFont font-octets) (octets-of reach reach-octets))
     cidProgram reads 1 kept-1 tokens-1 met-1 unfolds-1 listed-1
 
 -- stubbed: a row more, of a subroutine that is not there
@@ -202,7 +203,7 @@ listed-3 = inr (one refl (one refl (one refl none)))
 stubbed-held : Holds cidProgram 3 tokens-3 (unrenumberedBytes 0x0b)
 stubbed-held =
     subst (λ (o : Outcome). Faithful cidFont keep wrongReach 1 o) stubs
-    (faithful true false cidFont (0x41 ∷ []) keep wrongReach 1 8192 32768 (octets-of cidFont font-octets) (octets-of wrongReach wrong-octets))
+    (faithful workSize true false cidFont (0x41 ∷ []) keep wrongReach 1 8192 32768 (octets-of cidFont font-octets) (octets-of wrongReach wrong-octets))
     cidProgram reads 3 kept-3 tokens-3 met-3 unfolds-3 listed-3
 
 -- copied: with flag 0 nothing need be listed
@@ -212,7 +213,7 @@ unlisted-3 = inl refl
 copied-held : Holds cidProgram 3 tokens-3 (unrenumberedBytes 0x0e)
 copied-held =
     subst (λ (o : Outcome). Faithful cidFont keep [] 0 o) copies
-    (faithful true false cidFont (0x41 ∷ []) keep [] 0 8192 32768 (octets-of cidFont font-octets) none-octets)
+    (faithful workSize true false cidFont (0x41 ∷ []) keep [] 0 8192 32768 (octets-of cidFont font-octets) none-octets)
     cidProgram reads 3 kept-3 tokens-3 met-3 unfolds-3 unlisted-3
 
 -- ---- nothing is promised where the record lists the mask with another length alone
@@ -237,7 +238,7 @@ keyed = refl
 font-scaled : KeepsMatrices cidProgram keep renumberedBytes
 font-scaled =
     subst (λ (o : Outcome). Scaled cidFont keep o) renumbers
-    (matrix-back true false cidFont (0x41 ∷ []) keep reach 1 8192 32768 (octets-of cidFont font-octets) (octets-of reach reach-octets))
+    (matrix-back workSize true false cidFont (0x41 ∷ []) keep reach 1 8192 32768 (octets-of cidFont font-octets) (octets-of reach reach-octets))
     cidProgram reads keyed
 
 -- FDs 0 and 2 are in use

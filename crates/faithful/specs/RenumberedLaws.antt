@@ -19,7 +19,8 @@ use Rattle.prune.specs.StepLaws.{zero-one}
 use Rattle.record.specs.Record.{givenIn, twoLengths}
 use Rattle.cff.specs.Font.{Program}
 use Rattle.subset.specs.Kept.{isIn, those, localsOf}
-use Rattle.subset.specs.Pruned.{Bodies, countBelow, rank, reached, May, fail, yes as done, whole, each, localSet, globalSet, renumberedBody, renumberedSubrs, localOperand, globalOperand, callsIn, callsAcross, renumbered}
+use Rattle.bits.specs.Bits.{countBelow}
+use Rattle.subset.specs.Pruned.{Bodies, rank, reached, May, fail, yes as done, whole, each, localSet, globalSet, renumberedBody, renumberedSubrs, localOperand, globalOperand, callsIn, callsAcross, renumbered}
 use Rattle.subset.specs.EachLaws.{and-yes, length-each, each-at}
 use Rattle.subset.specs.RankLaws.{count-few, count-below, count-bound, rank-new, length-those, those-at}
 

@@ -14,12 +14,11 @@ use Rattle.prune.specs.StepLaws.{zero-one}
 use Rattle.record.specs.Record.{rowsOf, recordFine}
 use Rattle.dict.specs.Lookup.{cidKeyed, rosIn}
 use Rattle.cff.specs.Font.{Got, refused as refusedFont, got, Program, readFont}
-use Rattle.cff.specs.Find.{workSize}
 use Rattle.subset.specs.Kept.{writtenOrder, usedFds}
 use Rattle.subset.specs.Pruned.{Pruned, pruned}
 use Rattle.subset.specs.Codes.{Coded, codedIf, pairCount}
 use Rattle.subset.specs.Subset.{subsetBytes}
-use Rattle.subset.specs.Cut.{Outcome, refused, subset, allFound, hasRos, sameBool, ownOf, written, unsupportedIn, cutProgram, cutRead, cutOf}
+use Rattle.subset.specs.Cut.{Outcome, refused, subset, allFound, hasRos, sameBool, ownOf, written, unsupportedIn, cutProgram, cutRead, cutWith}
 use Rattle.faithful.specs.Faithful.{unfolded, IsKept, Holds, Faithful}
 use Rattle.faithful.specs.Laid.{GoodProgram}
 use Rattle.faithful.specs.GoodPartsLaws.{got-same}
@@ -63,8 +62,8 @@ module _ (ask : Bool) (name keep rec : List ℕ) (flag room : ℕ) (p : Program)
         (λ size. pick-ind Meets (ltb room (length bytes)) (refused 11) (subset (cut .way) bytes) (λ t. refuses 11)
         (λ fits. meets (cut .way) ros found (ltb-false 64609 (length (ownOf p order)) own) (ltb-false 67108864 (length bytes) size)))))
 
-    program-meets : (cid : Bool) (words : ℕ) → Meets (cutProgram cid ask p name keep rec flag words room)
-    program-meets cid words =
+    program-meets : (need : Program → ℕ) (cid : Bool) (words : ℕ) → Meets (cutProgram need cid ask p name keep rec flag words room)
+    program-meets need cid words =
         pick-ind Meets (sameBool cid (cidKeyed (p .top))) _ (refused 3)
         (λ k. pick-ind Meets (unsupportedIn ask p) (refused 3) _ (λ t. refuses 3)
         (λ s. pick-ind Meets (pick cid (hasRos (rosIn (p .top))) true) _ (refused 2)
@@ -72,7 +71,7 @@ module _ (ask : Bool) (name keep rec : List ℕ) (flag room : ℕ) (p : Program)
         (λ n. pick-ind Meets (allBelow (length (p .charstrings)) keep) _ (refused 6)
         (λ b. pick-ind Meets (allFound p (keptIn p keep)) _ (refused 7)
         (λ found. pick-ind Meets (recordFine cid rec flag) _ (refused 8)
-        (λ r. pick-ind Meets (ltb words (workSize p)) (refused 9) _ (λ t. refuses 9)
+        (λ r. pick-ind Meets (ltb words (need p)) (refused 9) _ (λ t. refuses 9)
         (λ w. written-meets (subst (λ (c : Bool). pick c (hasRos (rosIn (p .top))) true ≡ true) (same-bool cid (cidKeyed (p .top)) k) ros) found))
         (λ t. refuses 8))
         (λ t. refuses 7))
@@ -82,14 +81,14 @@ module _ (ask : Bool) (name keep rec : List ℕ) (flag room : ℕ) (p : Program)
 
 module _ (ask : Bool) (font name keep rec : List ℕ) (flag room : ℕ) (octets : Octets rec) (p : Program) (good : GoodProgram p) (is : readFont font ≡ got p) where
   -- demand 3 and Wish 2, of a font that was read
-  program-faithful : (cid : Bool) (words : ℕ) → Faithful font keep rec flag (cutProgram cid ask p name keep rec flag words room)
+  program-faithful : (need : Program → ℕ) (cid : Bool) (words : ℕ) → Faithful font keep rec flag (cutProgram need cid ask p name keep rec flag words room)
   program-faithful =
       program-meets ask name keep rec flag room p (Faithful font keep rec flag) (λ n. tt)
       (λ way ros found strings size q e g k ts met u listed.
       subst (λ (x : Program). IsKept x keep g → unfolded x g ≡ plain ts met → Holds x g ts (bytes ask name keep rec flag room p (Faithful font keep rec flag) (λ n. tt)))
       (got-same p q (sym is ∙ e)) (λ h v. glyph-held p keep rec flag good octets _ name ros found strings size g h ts met v listed) k u)
 
-  program-scaled : (cid : Bool) (words : ℕ) → Scaled font keep (cutProgram cid ask p name keep rec flag words room)
+  program-scaled : (need : Program → ℕ) (cid : Bool) (words : ℕ) → Scaled font keep (cutProgram need cid ask p name keep rec flag words room)
   program-scaled =
       program-meets ask name keep rec flag room p (Scaled font keep) (λ n. tt)
       (λ way ros found strings size q e keyed.
@@ -97,7 +96,7 @@ module _ (ask : Bool) (font name keep rec : List ℕ) (flag room : ℕ) (octets 
       (got-same p q (sym is ∙ e)) (λ k. matrices-kept p keep rec flag good octets _ name k ros found strings size) keyed)
 
   -- Wish 4
-  program-coded : (cid : Bool) (words : ℕ) → KeepsCodes ask font keep (cutProgram cid ask p name keep rec flag words room)
+  program-coded : (need : Program → ℕ) (cid : Bool) (words : ℕ) → KeepsCodes ask font keep (cutProgram need cid ask p name keep rec flag words room)
   program-coded =
       program-meets ask name keep rec flag room p (KeepsCodes ask font keep) (λ n. tt)
       (λ way ros found strings size asked q e named.
@@ -105,31 +104,31 @@ module _ (ask : Bool) (font name keep rec : List ℕ) (flag room : ℕ) (octets 
       → (r : Program) × (readFont (bytes ask name keep rec flag room p (KeepsCodes ask font keep) (λ n. tt)) ≡ got r) × CodesKept x keep r)
       (got-same p q (sym is ∙ e)) (λ k. codes-kept p keep rec flag good octets ask name asked k found strings size) named)
 
--- THE THEOREM: demand 3, whatever the font, the new name, the keep list, the record and the flag are
-pub faithful : (cid ask : Bool) (font name keep rec : List ℕ) (flag words room : ℕ) → Octets font → Octets rec
-    → Faithful font keep rec flag (cutOf cid ask font name keep rec flag words room)
-unfolding cutOf
-faithful cid ask font name keep rec flag words room bytes octets = go (readFont font) refl
+-- THE THEOREM: demand 3, whatever the font, the new name, the keep list, the record and the flag are, and however many work words a call asks for
+pub faithful : (need : Program → ℕ) (cid ask : Bool) (font name keep rec : List ℕ) (flag words room : ℕ) → Octets font → Octets rec
+    → Faithful font keep rec flag (cutWith need cid ask font name keep rec flag words room)
+unfolding cutWith
+faithful need cid ask font name keep rec flag words room bytes octets = go (readFont font) refl
   where
-    go : (x : Got Program) → readFont font ≡ x → Faithful font keep rec flag (cutRead cid ask x name keep rec flag words room)
+    go : (x : Got Program) → readFont font ≡ x → Faithful font keep rec flag (cutRead need cid ask x name keep rec flag words room)
     go (refusedFont n) e = tt
-    go (got p) e = program-faithful ask font name keep rec flag room octets p (font-good font p bytes e) e cid words
+    go (got p) e = program-faithful ask font name keep rec flag room octets p (font-good font p bytes e) e need cid words
 
 -- Wish 2: each FD of a subset has the FontMatrix that it had
-pub matrix-back : (cid ask : Bool) (font name keep rec : List ℕ) (flag words room : ℕ) → Octets font → Octets rec → Scaled font keep (cutOf cid ask font name keep rec flag words room)
-unfolding cutOf
-matrix-back cid ask font name keep rec flag words room bytes octets = go (readFont font) refl
+pub matrix-back : (need : Program → ℕ) (cid ask : Bool) (font name keep rec : List ℕ) (flag words room : ℕ) → Octets font → Octets rec → Scaled font keep (cutWith need cid ask font name keep rec flag words room)
+unfolding cutWith
+matrix-back need cid ask font name keep rec flag words room bytes octets = go (readFont font) refl
   where
-    go : (x : Got Program) → readFont font ≡ x → Scaled font keep (cutRead cid ask x name keep rec flag words room)
+    go : (x : Got Program) → readFont font ≡ x → Scaled font keep (cutRead need cid ask x name keep rec flag words room)
     go (refusedFont n) e = tt
-    go (got p) e = program-scaled ask font name keep rec flag room octets p (font-good font p bytes e) e cid words
+    go (got p) e = program-scaled ask font name keep rec flag room octets p (font-good font p bytes e) e need cid words
 
 -- Wish 4: where the encoding was asked for, each code whose glyph is kept has in the subset the glyph of the same name, and no other code any
-pub codes-back : (cid ask : Bool) (font name keep rec : List ℕ) (flag words room : ℕ) → Octets font → Octets rec
-    → KeepsCodes ask font keep (cutOf cid ask font name keep rec flag words room)
-unfolding cutOf
-codes-back cid ask font name keep rec flag words room bytes octets = go (readFont font) refl
+pub codes-back : (need : Program → ℕ) (cid ask : Bool) (font name keep rec : List ℕ) (flag words room : ℕ) → Octets font → Octets rec
+    → KeepsCodes ask font keep (cutWith need cid ask font name keep rec flag words room)
+unfolding cutWith
+codes-back need cid ask font name keep rec flag words room bytes octets = go (readFont font) refl
   where
-    go : (x : Got Program) → readFont font ≡ x → KeepsCodes ask font keep (cutRead cid ask x name keep rec flag words room)
+    go : (x : Got Program) → readFont font ≡ x → KeepsCodes ask font keep (cutRead need cid ask x name keep rec flag words room)
     go (refusedFont n) e = tt
-    go (got p) e = program-coded ask font name keep rec flag room octets p (font-good font p bytes e) e cid words
+    go (got p) e = program-coded ask font name keep rec flag room octets p (font-good font p bytes e) e need cid words

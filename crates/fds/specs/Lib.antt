@@ -8,4 +8,3 @@ pub mod PartsLaws
 pub mod ListLaws
 pub mod NewLocalsLaws
 pub mod NewPartsLaws
-pub mod HeldLaws

@@ -1,19 +1,21 @@
--- The local subroutines of the FDs in use, as the code holds them (document 01, 'What must change shape': ranks in the work words): a table
--- tells by FD which are in use, and another where the ranks of their locals stand in the work words, behind that of each how many they are,
--- and behind these how many are reached.
+-- The local subroutines of the FDs in use, as the code holds them (document 02, Wish 7: a bit for each in the work words): a table tells by FD
+-- which are in use, and another where the bits of their locals stand in the work words (bodies `ranksIn`).
 use Prim.Native.Nat.{ℕ, _+_, _≤_, _<_}
 use mathlib.Core.Path.{_≡_}
 use mathlib.Core.Bool.{Bool, true, false, not}
 use mathlib.Core.List.{List, [], _∷_, _++_}
 use lib.Dec.{eqb}
-use lib.ListN.{length, getD}
+use lib.ListN.{length, getD, set}
 use Rattle.octets.specs.Pick.{pick}
 use Rattle.octets.specs.Octets.{put}
 use Rattle.unfold.specs.Unfold.{Row}
 use Rattle.cff.specs.Font.{Program}
 use Rattle.subset.specs.Kept.{those, localsOf}
-use Rattle.subset.specs.Pruned.{countBelow, reached, localSet}
-use Rattle.reach.specs.Reach.{ranksOf}
+use Rattle.bits.specs.Bits.{countBelow, wordsFor, bitsOf}
+use Rattle.subset.specs.Pruned.{reached, localSet}
+use Rattle.renumber.specs.Ranks.{ranksAt}
+use Rattle.renumber.specs.declared.Ranks.{Ranks}
+use Rattle.bodies.specs.Ways.{ranksIn}
 use Rattle.fds.specs.declared.RankedLocals.{RankedLocals}
 
 -- ---- the FDs in use
@@ -35,18 +37,18 @@ UsedOf n used = (f : ℕ) → f < 256 → inUse used f ≡ true → f < n
 
 -- ---- their local subroutines
 
--- how many some FDs have together
+-- how many words those of some FDs take together
 unfoldable pub localsFor : Program → List ℕ → ℕ
 localsFor p [] = 0
-localsFor p (f ∷ fs) = length (localsOf p f) + localsFor p fs
+localsFor p (f ∷ fs) = wordsFor (length (localsOf p f)) + localsFor p fs
 
--- the ranks of the locals of an FD; of some FDs, one behind the other
-abbrev pub fdRanks : Program → List Row → ℕ → List ℕ
-fdRanks p rows f = ranksOf (localSet rows f) 0 (length (localsOf p f))
+-- the bits of the locals of an FD; of some FDs, one behind the other
+abbrev pub fdBits : Program → List Row → ℕ → List ℕ
+fdBits p rows f = bitsOf (localSet rows f) (length (localsOf p f))
 
-unfoldable pub ranksFor : Program → List Row → List ℕ → List ℕ
-ranksFor p rows [] = []
-ranksFor p rows (f ∷ fs) = fdRanks p rows f ++ ranksFor p rows fs
+unfoldable pub bitsFor : Program → List Row → List ℕ → List ℕ
+bitsFor p rows [] = []
+bitsFor p rows (f ∷ fs) = fdBits p rows f ++ bitsFor p rows fs
 
 -- each number that the record has of the locals of an FD is that of a subroutine; of some FDs
 abbrev pub numbered : Program → List Row → ℕ → Bool
@@ -58,24 +60,28 @@ allNumbered p rows (f ∷ fs) = pick (numbered p rows f) (allNumbered p rows fs)
 
 -- ---- what ranking leaves
 
--- of one FD: how many it has, how many are reached, and whether the record has no other number
-abbrev pub rankedLocals : Program → List Row → ℕ → RankedLocals
-rankedLocals p rows f =
-    record { count = length (localsOf p f); reached = countBelow (localSet rows f) (length (localsOf p f)); all = numbered p rows f }
+-- of one FD: its bits from a place on, and whether the record has no other number
+abbrev pub fdRanks : Program → List Row → ℕ → ℕ → Ranks
+fdRanks p rows at f = ranksAt (localSet rows f) at (length (localsOf p f))
+
+abbrev pub rankedLocals : Program → List Row → ℕ → ℕ → RankedLocals
+rankedLocals p rows at f = record { own = fdRanks p rows at f; all = numbered p rows f }
+
+-- the table, once it tells the bits of an FD
+abbrev pub withRanks : List ℕ → ℕ → Ranks → List ℕ
+withRanks table f q = set (set (set (set (set table f (q .at)) (256 + f) (q .count)) (512 + f) (q .reached)) (768 + f) (q .low)) (1024 + f) (q .high)
 
 module _ (p : Program) (rows : List Row) (used : List ℕ) (at : ℕ) where
-  -- the tables tell an FD's own: the ranks of the FDs before it stand in front
-  pub record RankedFd (table : List ℕ) (f : ℕ) : Type 0 where
-    pub place : getD table f 0 ≡ at + localsFor p (usedBelow used f)
-    pub count : getD table (256 + f) 0 ≡ length (localsOf p f)
-    pub reached : getD table (512 + f) 0 ≡ countBelow (localSet rows f) (length (localsOf p f))
+  -- the table tells an FD's own: the bits of the FDs before it stand in front
+  abbrev pub RankedFd : List ℕ → ℕ → Type 0
+  RankedFd table f = ranksIn table f ≡ fdRanks p rows (at + localsFor p (usedBelow used f)) f
 
-  -- the tables tell those in use below n
+  -- the table tells those in use below n
   abbrev pub RankedFds : List ℕ → ℕ → Type 0
   RankedFds table n = (f : ℕ) → f < n → inUse used f ≡ true → RankedFd table f
 
-  -- the words hold the ranks from `at` on, and the tables tell where; and whether the record has no other number
+  -- the words hold the bits from `at` on, and the table tells where; and whether the record has no other number
   pub record RanksLocals (old new table : List ℕ) (all : Bool) : Type 0 where
-    pub words : new ≡ put old at (ranksFor p rows (fdsIn used))
+    pub words : new ≡ put old at (bitsFor p rows (fdsIn used))
     pub tables : RankedFds table 256
     pub told : all ≡ allNumbered p rows (fdsIn used)

@@ -9,7 +9,8 @@ use Rattle.index.specs.Write.{total}
 use Rattle.unfold.specs.Unfold.{Row, local}
 use Rattle.cff.specs.Font.{Program}
 use Rattle.subset.specs.Kept.{localsOf}
-use Rattle.subset.specs.Pruned.{May, mapped, countBelow}
+use Rattle.bits.specs.Bits.{countBelow}
+use Rattle.subset.specs.Pruned.{May, mapped}
 use Rattle.subset.specs.Subset.{privateParts}
 use Rattle.reach.specs.Reach.{rises}
 use Rattle.renumber.specs.Ranks.{callsBy, Ranked}
@@ -54,7 +55,7 @@ module _ (way : ℕ) (p : Program) (rows : List Row) (ws table : List ℕ) (glob
 pub record LocalsIn (b : List ℕ) (p : Program) (used ws table : List ℕ) (globals : Ranks) (rows : List Row) (rising : Bool) : Type 0 where
   pub size : length b ≤ 67108864
   pub usedLong : 256 ≤ length used
-  pub tableLong : 768 ≤ length table
+  pub tableLong : 1280 ≤ length table
   pub fds : UsedOf (length (p .privates)) used
   pub many : (f : ℕ) → f < 256 → inUse used f ≡ true → getD table (256 + f) 0 ≡ length (localsOf p f)
   pub ranks : (f : ℕ) → f < 256 → inUse used f ≡ true → Ranked ws (ranksIn table f)

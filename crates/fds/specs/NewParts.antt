@@ -9,7 +9,8 @@ use Rattle.index.specs.Write.{total}
 use Rattle.unfold.specs.Unfold.{Row}
 use Rattle.cff.specs.Font.{Program}
 use Rattle.subset.specs.Kept.{privateOf}
-use Rattle.subset.specs.Pruned.{mapped, countBelow}
+use Rattle.bits.specs.Bits.{countBelow}
+use Rattle.subset.specs.Pruned.{mapped}
 use Rattle.subset.specs.Subset.{privatePart, privateParts}
 use Rattle.renumber.specs.declared.Ranks.{Ranks}
 use Rattle.bodies.specs.Ways.{holds, reachedIn, ranksIn}

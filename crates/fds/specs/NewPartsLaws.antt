@@ -20,7 +20,8 @@ use Rattle.cff.specs.Reads.{GoodPrivate}
 use Rattle.cff.specs.Reads as reads
 use Rattle.cff.specs.declared.private.PrivateAt.{PrivateAt}
 use Rattle.subset.specs.Kept.{those, localsOf, privateOf}
-use Rattle.subset.specs.Pruned.{mapped, countBelow}
+use Rattle.bits.specs.Bits.{countBelow}
+use Rattle.subset.specs.Pruned.{mapped}
 use Rattle.subset.specs.Subset.{privateDict, privatePart, privateParts}
 use Rattle.renumber.specs.Ranks.{callsBy}
 use Rattle.renumber.specs.declared.Ranks.{Ranks}

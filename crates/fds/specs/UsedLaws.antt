@@ -1,4 +1,4 @@
--- Laws of the FDs in use: the next one stands last among them, and together they have no more locals than the font.
+-- Laws of the FDs in use: the next one stands last among them, and together their locals take no more words than those of the font.
 use Prim.Native.Nat.{ℕ, zero, suc, _+_, _≤_, _<_}
 use mathlib.Core.Path.{_≡_, refl, sym, ap, _∙_}
 use mathlib.Core.Bool.{Bool, true, false, not, false≢true}
@@ -10,11 +10,12 @@ use lib.ListN.{length, take, getD, length-append}
 use Rattle.octets.specs.Pick.{pick}
 use Rattle.unfold.specs.Unfold.{Row}
 use Rattle.cff.specs.Font.{Private, Program, emptyPrivate}
-use Rattle.cff.specs.Find.{localsTotal}
+use Rattle.cff.specs.Find.{localsWords}
 use Rattle.subset.specs.Kept.{those, localsOf}
 use Rattle.subset.specs.Pruned.{localSet}
-use Rattle.reach.specs.CountLaws.{length-ranks}
-use Rattle.fds.specs.Locals.{inUse, usedBelow, localsFor, fdRanks, ranksFor, numbered, allNumbered}
+use Rattle.bits.specs.Bits.{wordsFor, below}
+use Rattle.bits.specs.WordsLaws.{words-length}
+use Rattle.fds.specs.Locals.{inUse, usedBelow, localsFor, fdBits, bitsFor, numbered, allNumbered}
 
 -- ---- tests one after the other
 
@@ -75,16 +76,16 @@ unused-next used f e = next-is used f false e ∙ append-nil (usedBelow used f)
 -- ---- one FD more
 
 module _ (p : Program) (rows : List Row) where
-  pub locals-last : (fs : List ℕ) (f : ℕ) → localsFor p (fs ++ (f ∷ [])) ≡ localsFor p fs + length (localsOf p f)
+  pub locals-last : (fs : List ℕ) (f : ℕ) → localsFor p (fs ++ (f ∷ [])) ≡ localsFor p fs + wordsFor (length (localsOf p f))
   unfolding localsFor
   locals-last [] f = omega arith
   locals-last (x ∷ fs) f = omega (arith, locals-last fs f)
 
-  pub ranks-last : (fs : List ℕ) (f : ℕ) → ranksFor p rows (fs ++ (f ∷ [])) ≡ ranksFor p rows fs ++ fdRanks p rows f
-  unfolding ranksFor
-  ranks-last [] f = append-nil (fdRanks p rows f)
-  ranks-last (x ∷ fs) f =
-      ap (λ (l : List ℕ). fdRanks p rows x ++ l) (ranks-last fs f) ∙ sym (append-assoc (fdRanks p rows x) (ranksFor p rows fs) (fdRanks p rows f))
+  pub bits-last : (fs : List ℕ) (f : ℕ) → bitsFor p rows (fs ++ (f ∷ [])) ≡ bitsFor p rows fs ++ fdBits p rows f
+  unfolding bitsFor
+  bits-last [] f = append-nil (fdBits p rows f)
+  bits-last (x ∷ fs) f =
+      ap (λ (l : List ℕ). fdBits p rows x ++ l) (bits-last fs f) ∙ sym (append-assoc (fdBits p rows x) (bitsFor p rows fs) (fdBits p rows f))
 
   pub numbered-last : (fs : List ℕ) (f : ℕ) → allNumbered p rows (fs ++ (f ∷ [])) ≡ pick (allNumbered p rows fs) (numbered p rows f) false
   unfolding allNumbered
@@ -92,48 +93,48 @@ module _ (p : Program) (rows : List Row) where
   numbered-last (x ∷ fs) f =
       ap (λ (t : Bool). pick (numbered p rows x) t false) (numbered-last fs f) ∙ both-last (numbered p rows x) (allNumbered p rows fs) (numbered p rows f)
 
-  -- there are as many ranks as locals
-  pub ranks-length : (fs : List ℕ) → length (ranksFor p rows fs) ≡ localsFor p fs
-  unfolding ranksFor localsFor
-  ranks-length [] = refl
-  ranks-length (f ∷ fs) =
-      omega (arith, length-append (fdRanks p rows f) (ranksFor p rows fs), length-ranks (localSet rows f) 0 (length (localsOf p f)), ranks-length fs)
+  -- the words are as many as the locals take
+  pub bits-length : (fs : List ℕ) → length (bitsFor p rows fs) ≡ localsFor p fs
+  unfolding bitsFor localsFor
+  bits-length [] = refl
+  bits-length (f ∷ fs) =
+      omega (arith, length-append (fdBits p rows f) (bitsFor p rows fs), words-length (below (localSet rows f) (length (localsOf p f))) 0 (wordsFor (length (localsOf p f))), bits-length fs)
 
--- ---- no more locals than the font has
+-- ---- no more words than the locals of the font take
 
-total-next : (ps : List Private) (n : ℕ) → localsTotal (take (n + 1) ps) ≡ localsTotal (take n ps) + length (getD ps n emptyPrivate .locals)
-unfolding localsTotal
+total-next : (ps : List Private) (n : ℕ) → localsWords (take (n + 1) ps) ≡ localsWords (take n ps) + wordsFor (length (getD ps n emptyPrivate .locals))
+unfolding localsWords
 total-next [] zero = omega arith
-total-next [] (suc n) = ap (λ (k : ℕ). localsTotal (take k [])) (let e : suc n + 1 ≡ suc (n + 1) = omega arith in e)
+total-next [] (suc n) = ap (λ (k : ℕ). localsWords (take k [])) (let e : suc n + 1 ≡ suc (n + 1) = omega arith in e)
 total-next (q ∷ ps) zero = omega arith
 total-next (q ∷ ps) (suc n) =
     let e : suc n + 1 ≡ suc (n + 1) = omega arith in
-    let f : localsTotal (take (suc n + 1) (q ∷ ps)) ≡ length (q .locals) + localsTotal (take (n + 1) ps) = ap (λ (k : ℕ). localsTotal (take k (q ∷ ps))) e in
+    let f : localsWords (take (suc n + 1) (q ∷ ps)) ≡ wordsFor (length (q .locals)) + localsWords (take (n + 1) ps) = ap (λ (k : ℕ). localsWords (take k (q ∷ ps))) e in
     omega (arith, total-next ps n)
 
-total-part : (ps : List Private) (n : ℕ) → localsTotal (take n ps) ≤ localsTotal ps
-unfolding localsTotal
+total-part : (ps : List Private) (n : ℕ) → localsWords (take n ps) ≤ localsWords ps
+unfolding localsWords
 total-part ps zero = omega arith
 total-part [] (suc n) = omega arith
 total-part (q ∷ ps) (suc n) = omega (arith, total-part ps n)
 
 module _ (p : Program) (used : List ℕ) where
-  some-few : (n : ℕ) (t : Bool) → inUse used n ≡ t → localsFor p (usedBelow used (n + 1)) ≤ localsFor p (usedBelow used n) + length (localsOf p n)
+  some-few : (n : ℕ) (t : Bool) → inUse used n ≡ t → localsFor p (usedBelow used (n + 1)) ≤ localsFor p (usedBelow used n) + wordsFor (length (localsOf p n))
   some-few n true e = omega (arith, ap (localsFor p) (used-next used n e), locals-last p [] (usedBelow used n) n)
   some-few n false e = omega (arith, ap (localsFor p) (unused-next used n e))
 
-  part-few : (n : ℕ) → localsFor p (usedBelow used n) ≤ localsTotal (take n (p .privates))
+  part-few : (n : ℕ) → localsFor p (usedBelow used n) ≤ localsWords (take n (p .privates))
   unfolding those localsFor
   part-few zero = omega arith
   part-few (suc n) =
       let e : n + 1 ≡ suc n = omega arith in
       let a : localsFor p (usedBelow used (n + 1)) ≡ localsFor p (usedBelow used (suc n)) = ap (λ (k : ℕ). localsFor p (usedBelow used k)) e in
-      let b : localsTotal (take (n + 1) (p .privates)) ≡ localsTotal (take (suc n) (p .privates)) = ap (λ (k : ℕ). localsTotal (take k (p .privates))) e in
+      let b : localsWords (take (n + 1) (p .privates)) ≡ localsWords (take (suc n) (p .privates)) = ap (λ (k : ℕ). localsWords (take k (p .privates))) e in
       omega (arith, part-few n, some-few n (inUse used n) refl, total-next (p .privates) n)
 
-  pub locals-few : (n : ℕ) → localsFor p (usedBelow used n) ≤ localsTotal (p .privates)
+  pub locals-few : (n : ℕ) → localsFor p (usedBelow used n) ≤ localsWords (p .privates)
   locals-few n = omega (arith, part-few n, total-part (p .privates) n)
 
   -- the locals of an FD in use stand within
-  pub locals-within : (f : ℕ) → inUse used f ≡ true → localsFor p (usedBelow used f) + length (localsOf p f) ≤ localsTotal (p .privates)
+  pub locals-within : (f : ℕ) → inUse used f ≡ true → localsFor p (usedBelow used f) + wordsFor (length (localsOf p f)) ≤ localsWords (p .privates)
   locals-within f e = omega (arith, locals-few (f + 1), ap (localsFor p) (used-next used f e), locals-last p [] (usedBelow used f) f)

@@ -1,4 +1,4 @@
-// Everything that goes over the FDs in use: the ranks of their local subroutines in the work words, and their Private DICTs with the new
+// Everything that goes over the FDs in use: the bits of their local subroutines in the work words, and their Private DICTs with the new
 // local subroutines behind them.
 pub mod parts;
 pub mod privates;
@@ -11,20 +11,21 @@ ghost use lib.ListN.{length};
 ghost use Rattle.octets.specs.Octets.{put};
 ghost use Rattle.octets.specs.Pick.{pick};
 ghost use Rattle.record.specs.Record.{rowsOf};
-ghost use Rattle.cff.specs.Find.{localsTotal};
+ghost use Rattle.bits.specs.Bits.{wordsFor};
+ghost use Rattle.cff.specs.Find.{localsWords};
 ghost use Rattle.cff.specs.Reads.{GoodFont, programOf};
 ghost use Rattle.subset.specs.Kept.{localsOf};
-ghost use Rattle.fds.specs.Locals.{UsedOf, fdRanks, rankedLocals, RanksLocals};
+ghost use Rattle.fds.specs.Locals.{UsedOf, fdBits, rankedLocals, withRanks, RanksLocals};
 use cff::font::Font;
+use renumber::Ranks;
 
-// How many local subroutines an FD has, how many of them are reached, and whether the record has no other number.
+// The bits of the local subroutines of an FD, and whether the record has no other number.
 pub struct RankedLocals {
-    pub count: usize,
-    pub reached: usize,
+    pub own: Ranks,
     pub all: bool,
 }
 
-// Ranks the locals of an FD in the words from `at` on.
+// Sets the bits of the locals of an FD in the words from `at` on.
 fn rank_fd(
     font: &[u8],
     f: Font,
@@ -34,19 +35,34 @@ fn rank_fd(
     at: usize,
 ) -> RankedLocals
     requires { ⌜ (GoodFont (now font) f) × (fd < 256) × (fd < length (programOf (now font) f .privates))
-        × (at + length (localsOf (programOf (now font) f) fd) ≤ length (now words)) ⌝ }
-    ensures { λ r. ⌜ (now (words .exit) ≡ put (now (words .entry)) at (fdRanks (programOf (now (font .entry)) f) (rowsOf (now (rows .entry))) fd))
-        × (r ≡ rankedLocals (programOf (now (font .entry)) f) (rowsOf (now (rows .entry))) fd) ⌝ }
+        × (at + wordsFor (length (localsOf (programOf (now font) f) fd)) ≤ length (now words)) ⌝ }
+    ensures { λ r. ⌜ (now (words .exit) ≡ put (now (words .entry)) at (fdBits (programOf (now (font .entry)) f) (rowsOf (now (rows .entry))) fd))
+        × (r ≡ rankedLocals (programOf (now (font .entry)) f) (rowsOf (now (rows .entry))) at fd) × (r .own .count < 65536) ⌝ }
 {
     let q = private_dicts::fd_private(font, f, fd);
     let locals = q.locals;
     let count = locals.count;
     let r = reach::ranks::rank_reached(rows, false, fd, words, at, count);
-    RankedLocals {
+    let own = Ranks {
+        at,
         count,
         reached: r.reached,
-        all: r.all,
-    }
+        low: r.low,
+        high: r.high,
+    };
+    RankedLocals { own, all: r.all }
+}
+
+// Tells by the table where the bits of the locals of an FD stand.
+fn put_ranks(table: &mut [usize], fd: usize, q: Ranks)
+    requires { ⌜ (fd < 256) × (1280 ≤ length (now table)) ⌝ }
+    ensures { λ r. ⌜ now (table .exit) ≡ withRanks (now (table .entry)) fd q ⌝ }
+{
+    table[fd] = q.at;
+    table[256 + fd] = q.count;
+    table[512 + fd] = q.reached;
+    table[768 + fd] = q.low;
+    table[1024 + fd] = q.high;
 }
 
 // Whether both hold.
@@ -59,7 +75,7 @@ pub fn both(a: bool, b: bool) -> bool
     false
 }
 
-// Ranks the locals of each FD in use, one behind the other from `at` on; whether no number is without a subroutine.
+// Sets the bits of the locals of each FD in use, one FD behind the other from `at` on; whether no number is without a subroutine.
 pub fn rank_locals(
     font: &[u8],
     f: Font,
@@ -70,8 +86,8 @@ pub fn rank_locals(
     table: &mut [usize],
 ) -> bool
     requires { ⌜ (GoodFont (now font) f) × (256 ≤ length (now used)) × (UsedOf (length (programOf (now font) f .privates)) (now used))
-        × (at < 4294967296) × (at + localsTotal (programOf (now font) f .privates) ≤ length (now words))
-        × (768 ≤ length (now table)) ⌝ }
+        × (at < 4294967296) × (at + localsWords (programOf (now font) f .privates) ≤ length (now words))
+        × (1280 ≤ length (now table)) ⌝ }
     ensures { λ r. ⌜ RanksLocals (programOf (now (font .entry)) f) (rowsOf (now (rows .entry))) (now (used .entry)) at
         (now (words .entry)) (now (words .exit)) (now (table .exit)) r ⌝ }
 {
@@ -83,11 +99,9 @@ pub fn rank_locals(
             fd += 1;
         } else {
             let r = rank_fd(font, f, fd, rows, &mut *words, place);
-            table[fd] = place;
-            table[256 + fd] = r.count;
-            table[512 + fd] = r.reached;
+            put_ranks(&mut *table, fd, r.own);
             all = both(all, r.all);
-            place += r.count;
+            place += bits::words_for(r.own.count);
             fd += 1;
         }
     }

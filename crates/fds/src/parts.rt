@@ -88,7 +88,7 @@ pub fn part_sizes(
 ) -> usize
     requires { ⌜ (length (now font) ≤ 67108864) × (GoodFont (now font) f) × (256 ≤ length (now used))
         × (UsedOf (length (programOf (now font) f .privates)) (now used))
-        × (768 ≤ length (now table)) × (256 ≤ length (now totals))
+        × (1280 ≤ length (now table)) × (256 ≤ length (now totals))
         × (PartsFit (programOf (now font) f) way (now table) (now totals) (now used))
         × (256 ≤ length (now sizes)) × (256 ≤ length (now lens)) ⌝ }
     ensures { λ r. ⌜ SizesParts (programOf (now (font .entry)) f) way (now (table .entry)) (now (totals .entry)) (now (used .entry))

@@ -3,7 +3,8 @@ use mathlib.Core.Path.{_≡_, refl}
 use mathlib.Core.List.{[], _∷_}
 use Rattle.octets.specs.Lists.{partOf}
 use Rattle.subset.specs.Kept.{isIn}
-use Rattle.subset.specs.Pruned.{countBelow, mapped}
+use Rattle.bits.specs.Bits.{countBelow}
+use Rattle.subset.specs.Pruned.{mapped}
 use Rattle.reach.specs.Reach.{ranksOf}
 use Rattle.glyph_tables.specs.Tables.{highs, newFdsBy}
 

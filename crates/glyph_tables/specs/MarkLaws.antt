@@ -11,7 +11,7 @@ use lib.Seq.{getD-set-same, getD-set-other}
 use Rattle.octets.specs.Octets.{put}
 use Rattle.octets.specs.Pick.{pick}
 use Rattle.subset.specs.Kept.{isIn}
-use Rattle.subset.specs.Pruned.{countBelow}
+use Rattle.bits.specs.Bits.{countBelow}
 use Rattle.kept.specs.MarkLaws.{ahead}
 use Rattle.reach.specs.Reach.{ranksOf}
 use Rattle.reach.specs.Ranks.{ranked, counted}

@@ -11,7 +11,7 @@ use lib.Dec.{eqb}
 use Rattle.octets.specs.Pick.{pick, pick-ind}
 use Rattle.prune.specs.StepLaws.{zero-one}
 use Rattle.subset.specs.Kept.{those, newFd}
-use Rattle.subset.specs.Pruned.{countBelow}
+use Rattle.bits.specs.Bits.{countBelow}
 use Rattle.subset.specs.RankLaws.{count-next, count-few}
 
 -- none passes

@@ -15,7 +15,8 @@ use Rattle.octets.specs.Lists.{partOf}
 use Rattle.cff.specs.Font.{Program}
 use Rattle.subset.specs.Kept.{isIn, those, fdsOf, usedFds, newFd}
 use Rattle.subset.specs.Subset.{cidsOf, newFds}
-use Rattle.subset.specs.Pruned.{countBelow, mapped}
+use Rattle.bits.specs.Bits.{countBelow}
+use Rattle.subset.specs.Pruned.{mapped}
 use Rattle.faithful.specs.Laid.{GoodProgram}
 use Rattle.subset.specs.KeptListLaws.{in-none, in-head, in-more, in-cases, in-at, in-place, those-has, those-in, those-same}
 use Rattle.subset.specs.RankLaws.{count-few, length-those}

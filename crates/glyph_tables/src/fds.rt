@@ -6,7 +6,7 @@ ghost use lib.ListN.{length};
 ghost use Rattle.octets.specs.Octets.{put, Octets};
 ghost use Rattle.octets.specs.Lists.{partOf};
 ghost use Rattle.subset.specs.Kept.{isIn};
-ghost use Rattle.subset.specs.Pruned.{countBelow};
+ghost use Rattle.bits.specs.Bits.{countBelow};
 ghost use Rattle.reach.specs.Reach.{ranksOf};
 ghost use Rattle.glyph_tables.specs.Tables.{markedFds};
 

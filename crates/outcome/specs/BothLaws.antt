@@ -63,7 +63,7 @@ module _ (b : List ℕ) (f : Font) (rows : List Row) (used ws table : List ℕ) 
   -- and so can the Private parts
   pub parts-measured : (totals : List ℕ) → Summed b f rows used ws r table totals → (sizes lens : ℕ) → 256 ≤ sizes → 256 ≤ lens
       → (length b ≤ 67108864) × GoodFont b f × (256 ≤ length used) × UsedOf (length (programOf b f .privates)) used
-      × (768 ≤ length table) × (256 ≤ length totals) × PartsFit (programOf b f) (r .kept .way) table totals used
+      × (1280 ≤ length table) × (256 ≤ length totals) × PartsFit (programOf b f) (r .kept .way) table totals used
       × (256 ≤ sizes) × (256 ≤ lens)
   parts-measured totals summed sizes lens s l =
       let h = ready .asked .locals in (

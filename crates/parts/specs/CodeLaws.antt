@@ -17,7 +17,8 @@ use Rattle.unfold.specs.Unfold.{Row, glyph, global}
 use Rattle.cff.specs.Font.{Program}
 use Rattle.cff.specs.Reads.{programOf}
 use Rattle.cff.specs.declared.font.Font.{Font}
-use Rattle.subset.specs.Pruned.{May, mapped, countBelow, globalSet, callsIn}
+use Rattle.bits.specs.Bits.{countBelow}
+use Rattle.subset.specs.Pruned.{May, mapped, globalSet, callsIn}
 use Rattle.subset.specs.EachLaws.{length-mapped}
 use Rattle.kept.specs.Packed.{orderIn}
 use Rattle.renumber.specs.Ranks.{callsBy}

@@ -14,7 +14,8 @@ use Rattle.index.specs.IndexLaws.{items-length}
 use Rattle.unfold.specs.Unfold.{Row, glyph}
 use Rattle.prune.specs.StepLaws.{zero-one}
 use Rattle.cff.specs.Font.{Program}
-use Rattle.cff.specs.Find.{localsTotal}
+use Rattle.bits.specs.Bits.{wordsFor}
+use Rattle.cff.specs.Find.{localsWords}
 use Rattle.cff.specs.Reads.{programOf}
 use Rattle.cff.specs.declared.font.Font.{Font}
 use Rattle.subset.specs.Pruned.{Pruned, May, fail, yes, each, mapped, callsIn, pruned}
@@ -28,7 +29,7 @@ use Rattle.bodies.specs.WaysLaws.{each-parts, pruned-by}
 use Rattle.bodies.specs.declared.charstrings.Kept.{Kept}
 use Rattle.fds.specs.Locals.{fdsIn}
 use Rattle.fds.specs.NewLocals.{localsBy}
-use Rattle.plan.specs.Ranked.{everyNumbered, allRanks, RanksAll}
+use Rattle.plan.specs.Ranked.{everyNumbered, allBits, RanksAll}
 use Rattle.plan.specs.Sizes.{OrderIn, globalsBy, glyphsBy, allMade, Plans, MeasureIn, Narrow}
 use Rattle.plan.specs.WayLaws.{new-globals, new-glyphs, way-is}
 use Rattle.plan.specs.InLaws.{measure-in}
@@ -69,8 +70,10 @@ module _ (b : List ℕ) (f : Font) (cid : Bool) (used old : List ℕ) (k : ℕ) 
   p = programOf b f
 
   -- there is room for the ranks
-  pub rank-room : 2 * f .charstrings .count + f .globals .count + localsTotal (p .privates) ≤ length old
-  rank-room = omega (arith, h .room, items-length b (f .charstrings), items-length b (f .globals))
+  pub rank-room : 2 * f .charstrings .count + wordsFor (f .globals .count) + localsWords (p .privates) ≤ length old
+  rank-room =
+      let g : wordsFor (length (p .globals)) ≡ wordsFor (f .globals .count) = ap wordsFor (items-length b (f .globals)) in
+      omega (arith, h .room, items-length b (f .charstrings))
 
   module _ (rows : List Row) (narrow : Narrow rows) (ws table : List ℕ) (ranked : RankedAll) (s : RanksAll p rows used old ws table ranked) where
     -- ---- the words of the glyphs stay where the subroutines are ranked behind them
@@ -83,13 +86,13 @@ module _ (b : List ℕ) (f : Font) (cid : Bool) (used old : List ℕ) (k : ℕ) 
     front-stays j l =
         let at = 2 * length (p .charstrings) in
         let q : j ≤ length (take at old) = omega (arith, length-take-le at old glyphs-room) in
-        ap (take j) (s .words) ∙ take-append-le j (take at old) (allRanks p rows used ++ drop (at + length (allRanks p rows used)) old) q ∙ take-take j at old l
+        ap (take j) (s .words) ∙ take-append-le j (take at old) (allBits p rows used ++ drop (at + length (allBits p rows used)) old) q ∙ take-take j at old l
 
     glyphs-there : 2 * length (p .charstrings) ≤ length ws
     unfolding put
     glyphs-there =
         let at = 2 * length (p .charstrings) in
-        omega (arith, ap length (s .words), length-take-le at old glyphs-room, length-append (take at old) (allRanks p rows used ++ drop (at + length (allRanks p rows used)) old))
+        omega (arith, ap length (s .words), length-take-le at old glyphs-room, length-append (take at old) (allBits p rows used ++ drop (at + length (allBits p rows used)) old))
 
     glyphs-few : k ≤ length (p .charstrings)
     glyphs-few = omega (arith, h .few, items-length b (f .charstrings))
@@ -117,7 +120,7 @@ module _ (b : List ℕ) (f : Font) (cid : Bool) (used old : List ℕ) (k : ℕ) 
           within = o .within;
         })
 
-    module _ (rising : Bool) (sorted : rising ≡ rises rows) (tableLong : 768 ≤ length table) where
+    module _ (rising : Bool) (sorted : rising ≡ rises rows) (tableLong : 1280 ≤ length table) where
       -- the kept glyphs by a way
       abbrev keptBy : ℕ → Kept
       keptBy way =

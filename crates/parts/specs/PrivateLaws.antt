@@ -20,7 +20,8 @@ use Rattle.cff.specs.Font.{Program}
 use Rattle.cff.specs.Reads.{GoodFont, programOf}
 use Rattle.cff.specs.declared.font.Font.{Font}
 use Rattle.subset.specs.Kept.{localsOf, privateOf}
-use Rattle.subset.specs.Pruned.{mapped, countBelow, reached, localSet, callsIn}
+use Rattle.bits.specs.Bits.{countBelow}
+use Rattle.subset.specs.Pruned.{mapped, reached, localSet, callsIn}
 use Rattle.subset.specs.Subset.{privateDict, privatePart, privateParts, fontDicts}
 use Rattle.subset.specs.EachLaws.{length-mapped}
 use Rattle.kept.specs.Packed.{orderIn}

@@ -38,7 +38,7 @@ pub fn plan_all(
     table: &mut [usize],
     totals: &mut [usize],
 ) -> Planned
-    requires { ⌜ (PlanIn (now font) f cid (now used) (now words) k) × (768 ≤ length (now table))
+    requires { ⌜ (PlanIn (now font) f cid (now used) (now words) k) × (1280 ≤ length (now table))
         × (256 ≤ length (now totals)) ⌝ }
     ensures { λ r. ⌜ (Ready (now (font .entry)) f (rowsOf (now (rows .entry))) (now (used .entry)) (now (words .exit)) r
         (now (table .exit)))

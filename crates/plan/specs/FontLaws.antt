@@ -17,7 +17,8 @@ use Rattle.unfold.specs.Unfold.{Row, glyph, local, global}
 use Rattle.prune.specs.StepLaws.{zero-one}
 use Rattle.cff.specs.Font.{Program}
 use Rattle.subset.specs.Kept.{isIn, localsOf, fdsOf}
-use Rattle.subset.specs.Pruned.{each, countBelow, reached, localSet, globalSet, callsIn, callsAcross}
+use Rattle.bits.specs.Bits.{countBelow}
+use Rattle.subset.specs.Pruned.{each, reached, localSet, globalSet, callsIn, callsAcross}
 use Rattle.subset.specs.EachLaws.{mapped-at}
 use Rattle.subset.specs.KeptListLaws.{in-none, in-head, in-cases, those-has, those-in}
 use Rattle.faithful.specs.Laid.{GoodProgram}

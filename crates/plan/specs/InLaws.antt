@@ -5,6 +5,7 @@ use mathlib.Core.Bool.{Bool, true}
 use mathlib.Core.List.{List, [], _∷_}
 use native.Mathlib.Omega.{arith}
 use lib.ListN.{length, getD}
+use Rattle.bits.specs.Bits.{countBelow}
 use Rattle.unfold.specs.Unfold.{Row}
 use Rattle.index.specs.IndexLaws.{items-length}
 use Rattle.cff.specs.Reads.{GoodFont, programOf}
@@ -23,9 +24,10 @@ use Rattle.plan.specs.Sizes.{noRanks, acrossBy, OrderIn, MeasureIn, Narr
 use Rattle.plan.specs.StandsLaws.{stands-ranked}
 use Rattle.plan.specs.FontLaws.{glyph-at, fd-at}
 
--- no ranks are ranks
+-- no bits are counted
 none-ranked : (ws : List ℕ) → Ranked ws noRanks
-none-ranked ws = record { inside = omega arith; few = omega arith; fewReached = omega arith; below = λ i k. absurd (let y : ⊥ = omega arith in y) }
+unfolding countBelow
+none-ranked ws = record { inside = omega arith; few = omega arith; fewReached = omega arith; reaches = refl; low = refl; high = refl }
 
 module _ (b : List ℕ) (f : Font) (font : GoodFont b f) (good : GoodProgram (programOf b f)) (rows : List Row) (narrow : Narrow rows) (used ws : List ℕ)
     (globals : Ranks) (table : List ℕ) (h : AllRanked (programOf b f) rows used ws globals table) where
@@ -46,7 +48,7 @@ module _ (b : List ℕ) (f : Font) (font : GoodFont b f) (good : GoodProgram (pr
   across-ranked (x ∷ y ∷ fs) e = none-ranked ws
 
   pub measure-in : (way : ℕ) (cid : Bool) (k : ℕ) (order : List ℕ) (rising : Bool) → OrderIn (programOf b f) cid used ws k order → k < 65536
-      → length b ≤ 67108864 → 256 ≤ length used → 768 ≤ length table
+      → length b ≤ 67108864 → 256 ≤ length used → 1280 ≤ length table
       → UsedOf (length (programOf b f .privates)) used → (rising ≡ true → rises rows ≡ true)
       → MeasureIn b f used ws (record { count = k; all = f .charstrings .count; cid = cid; way = way; ix = f .charstrings; globals = globals; rising = rising }) table rows
   measure-in way cid k order rising kept few size u a fds sorted =

@@ -12,17 +12,19 @@ use Rattle.octets.specs.Pick.{pick}
 use Rattle.octets.specs.PutLaws.{put-length, put-put, drop-put-at}
 use Rattle.unfold.specs.Unfold.{Row}
 use Rattle.cff.specs.Font.{Program}
-use Rattle.cff.specs.Find.{localsTotal}
+use Rattle.cff.specs.Find.{localsWords}
 use Rattle.subset.specs.Kept.{localsOf}
-use Rattle.subset.specs.Pruned.{countBelow, reached, localSet, globalSet}
-use Rattle.reach.specs.Reach.{ranksOf, rankedOf}
-use Rattle.reach.specs.CountLaws.{length-ranks}
+use Rattle.bits.specs.Bits.{countBelow, wordsFor, below, bitsOf, lowSums, highSums}
+use Rattle.bits.specs.WordsLaws.{words-length}
+use Rattle.subset.specs.Pruned.{reached, localSet, globalSet}
+use Rattle.reach.specs.Reach.{rankedOf}
 use Rattle.reach.specs.declared.ranks.Ranked as code
 use Rattle.renumber.specs.declared.Ranks.{Ranks}
 use Rattle.bodies.specs.Ways.{ranksIn}
-use Rattle.fds.specs.Locals.{inUse, usedBelow, fdsIn, fdRanks, ranksFor, RanksLocals}
-use Rattle.fds.specs.UsedLaws.{used-next, unused-next, ranks-last, ranks-length, locals-few, locals-within}
-use Rattle.plan.specs.Ranked.{Stands, allRanks, globalsNumbered, RanksAll}
+use Rattle.fds.specs.Locals.{inUse, usedBelow, fdsIn, localsFor, fdBits, bitsFor, RanksLocals}
+use Rattle.fds.specs.LocalsLaws.{ranksBy}
+use Rattle.fds.specs.UsedLaws.{used-next, unused-next, bits-last, bits-length, locals-few, locals-within}
+use Rattle.plan.specs.Ranked.{Stands, allBits, globalsNumbered, RanksAll}
 use Rattle.plan.specs.declared.RankedAll.{RankedAll}
 
 -- ---- the FDs in use, of which one is taken
@@ -44,23 +46,23 @@ used-front used n (suc d) = go (inUse used (n + d)) refl (used-front used n d)
     go false u i = (i .0, ap (usedBelow used) e ∙ unused-next used (n + d) u ∙ i .1)
 
 module _ (p : Program) (rows : List Row) where
-  ranks-append : (fs gs : List ℕ) → ranksFor p rows (fs ++ gs) ≡ ranksFor p rows fs ++ ranksFor p rows gs
-  unfolding ranksFor
-  ranks-append [] gs = refl
-  ranks-append (f ∷ fs) gs =
-      ap (λ (l : List ℕ). fdRanks p rows f ++ l) (ranks-append fs gs) ∙ sym (append-assoc (fdRanks p rows f) (ranksFor p rows fs) (ranksFor p rows gs))
+  bits-append : (fs gs : List ℕ) → bitsFor p rows (fs ++ gs) ≡ bitsFor p rows fs ++ bitsFor p rows gs
+  unfolding bitsFor
+  bits-append [] gs = refl
+  bits-append (f ∷ fs) gs =
+      ap (λ (l : List ℕ). fdBits p rows f ++ l) (bits-append fs gs) ∙ sym (append-assoc (fdBits p rows f) (bitsFor p rows fs) (bitsFor p rows gs))
 
-  -- the ranks of an FD in use stand behind those of the FDs before it
-  ranks-split : (used : List ℕ) (f : ℕ) → f < 256 → inUse used f ≡ true
-      → (rest : List ℕ) × (ranksFor p rows (fdsIn used) ≡ ranksFor p rows (usedBelow used f) ++ (fdRanks p rows f ++ rest))
-  ranks-split used f h u =
+  -- the bits of an FD in use stand behind those of the FDs before it
+  bits-split : (used : List ℕ) (f : ℕ) → f < 256 → inUse used f ≡ true
+      → (rest : List ℕ) × (bitsFor p rows (fdsIn used) ≡ bitsFor p rows (usedBelow used f) ++ (fdBits p rows f ++ rest))
+  bits-split used f h u =
       let s = used-front used (f + 1) (256 - (f + 1)) in
       let e : f + 1 + (256 - (f + 1)) ≡ 256 = omega arith in
       let a : fdsIn used ≡ usedBelow used (f + 1) ++ s .0 = ap (usedBelow used) (sym e) ∙ s .1 in (
-        ranksFor p rows (s .0),
-        ap (ranksFor p rows) a ∙ ranks-append (usedBelow used (f + 1)) (s .0)
-            ∙ ap (λ (l : List ℕ). l ++ ranksFor p rows (s .0)) (ap (ranksFor p rows) (used-next used f u) ∙ ranks-last p rows (usedBelow used f) f)
-            ∙ append-assoc (ranksFor p rows (usedBelow used f)) (fdRanks p rows f) (ranksFor p rows (s .0)),
+        bitsFor p rows (s .0),
+        ap (bitsFor p rows) a ∙ bits-append (usedBelow used (f + 1)) (s .0)
+            ∙ ap (λ (l : List ℕ). l ++ bitsFor p rows (s .0)) (ap (bitsFor p rows) (used-next used f u) ∙ bits-last p rows (usedBelow used f) f)
+            ∙ append-assoc (bitsFor p rows (usedBelow used f)) (fdBits p rows f) (bitsFor p rows (s .0)),
       )
 
 -- ---- a part of what was put
@@ -78,74 +80,85 @@ part-behind old at xs ys zs place count h e n =
 
 -- ---- what ranking leaves
 
-abbrev ranksAt : ℕ → ℕ → ℕ → Ranks
-ranksAt at count r = record { at = at; count = count; reached = r }
-
 abbrev answer : Ranks → Bool → RankedAll
 answer q t = record { globals = q; all = t }
 
--- there is room for the locals behind the globals
-pub locals-room : (rows : List Row) (old mid : List ℕ) (at count more : ℕ) → at + count + more ≤ length old → mid ≡ put old at (ranksOf (globalSet rows) 0 count)
-    → at + count + more ≤ length mid
-locals-room rows old mid at count more h w =
-    let l = length-ranks (globalSet rows) 0 count in
-    let k : at + length (ranksOf (globalSet rows) 0 count) ≤ length old = omega arith in
-    omega (arith, ap length w, put-length old at (ranksOf (globalSet rows) 0 count) k)
+bits-long : (set : ℕ → Bool) (count : ℕ) → length (bitsOf set count) ≡ wordsFor count
+bits-long set count = words-length (below set count) 0 (wordsFor count)
 
-module _ (p : Program) (rows : List Row) (used old mid new table : List ℕ) (n count : ℕ) (glyphs : n ≡ length (p .charstrings))
-    (many : count ≡ length (p .globals)) (room : 2 * n + count + localsTotal (p .privates) ≤ length old)
-    (r : code.Ranked) (w : mid ≡ put old (2 * n) (ranksOf (globalSet rows) 0 count)) (is : r ≡ rankedOf (globalSet rows) count) where
-  module _ (all both : Bool) (h : RanksLocals p rows used (2 * n + count) mid new table all) (b : both ≡ pick (r .all) all false) where
-    whole : new ≡ put old (2 * n) (ranksOf (globalSet rows) 0 count ++ ranksFor p rows (fdsIn used))
+-- there is room for the locals behind the globals
+pub locals-room : (rows : List Row) (old mid : List ℕ) (at count n more : ℕ) → n ≡ wordsFor count → at + wordsFor count + more ≤ length old
+    → mid ≡ put old at (bitsOf (globalSet rows) count) → at + n + more ≤ length mid
+locals-room rows old mid at count n more e h w =
+    let l = bits-long (globalSet rows) count in
+    let k : at + length (bitsOf (globalSet rows) count) ≤ length old = omega arith in
+    omega (arith, ap length w, put-length old at (bitsOf (globalSet rows) count) k)
+
+module _ (p : Program) (rows : List Row) (used old mid new table : List ℕ) (n count words : ℕ) (glyphs : n ≡ length (p .charstrings))
+    (many : count ≡ length (p .globals)) (wide : words ≡ wordsFor count) (room : 2 * n + wordsFor count + localsWords (p .privates) ≤ length old)
+    (r : code.Ranked) (w : mid ≡ put old (2 * n) (bitsOf (globalSet rows) count)) (is : r ≡ rankedOf (globalSet rows) count) where
+  module _ (all both : Bool) (h : RanksLocals p rows used (2 * n + words) mid new table all) (b : both ≡ pick (r .all) all false) where
+    abbrev g : List ℕ
+    g = bitsOf (globalSet rows) count
+
+    long : length g ≡ wordsFor count
+    long = bits-long (globalSet rows) count
+
+    whole : new ≡ put old (2 * n) (g ++ bitsFor p rows (fdsIn used))
     whole =
-        let l = length-ranks (globalSet rows) 0 count in
-        let e : 2 * n + count ≡ 2 * n + length (ranksOf (globalSet rows) 0 count) = omega arith in
-        h .words ∙ ap (λ (ws : List ℕ). put ws (2 * n + count) (ranksFor p rows (fdsIn used))) w
-        ∙ ap (λ (i : ℕ). put (put old (2 * n) (ranksOf (globalSet rows) 0 count)) i (ranksFor p rows (fdsIn used))) e
-        ∙ put-put old (2 * n) (ranksOf (globalSet rows) 0 count) (ranksFor p rows (fdsIn used)) (omega arith)
+        let e : 2 * n + words ≡ 2 * n + length g = omega (arith, long) in
+        h .words ∙ ap (λ (ws : List ℕ). put ws (2 * n + words) (bitsFor p rows (fdsIn used))) w
+        ∙ ap (λ (i : ℕ). put (put old (2 * n) g) i (bitsFor p rows (fdsIn used))) e
+        ∙ put-put old (2 * n) g (bitsFor p rows (fdsIn used)) (omega arith)
 
     new-length : length new ≡ length old
     new-length =
-        let k : 2 * n + length (ranksOf (globalSet rows) 0 count ++ ranksFor p rows (fdsIn used)) ≤ length old
-        = omega (arith, length-append (ranksOf (globalSet rows) 0 count) (ranksFor p rows (fdsIn used)), length-ranks (globalSet rows) 0 count, ranks-length p rows (fdsIn used), locals-few p used 256) in
-        ap length whole ∙ put-length old (2 * n) _ k
+        let k : 2 * n + length (g ++ bitsFor p rows (fdsIn used)) ≤ length old
+        = omega (arith, length-append g (bitsFor p rows (fdsIn used)), long, bits-length p rows (fdsIn used), locals-few p used 256) in
+        ap length whole ∙ put-length old (2 * n) (g ++ bitsFor p rows (fdsIn used)) k
 
-    globals-stand : Stands new (ranksAt (2 * n) count (r .reached)) (globalSet rows) (length (p .globals))
+    globals-stand : Stands new (ranksBy (2 * n) count r) (globalSet rows) (length (p .globals))
     globals-stand =
         record {
           many = many;
           inside = omega (arith, new-length);
-          words = ap (λ (ws : List ℕ). take count (drop (2 * n) ws)) whole
-              ∙ part-behind old (2 * n) [] (ranksOf (globalSet rows) 0 count) (ranksFor p rows (fdsIn used)) (2 * n) count (omega arith) (omega arith) (length-ranks (globalSet rows) 0 count);
+          words = ap (λ (ws : List ℕ). take (wordsFor count) (drop (2 * n) ws)) whole
+              ∙ part-behind old (2 * n) [] g (bitsFor p rows (fdsIn used)) (2 * n) (wordsFor count) (omega arith) (omega arith) long;
           reaches = ap (λ (x : code.Ranked). x .reached) is;
+          low = ap (λ (x : code.Ranked). x .low) is;
+          high = ap (λ (x : code.Ranked). x .high) is;
         }
 
     locals-stand : (f : ℕ) → f < 256 → inUse used f ≡ true → Stands new (ranksIn table f) (localSet rows f) (length (localsOf p f))
     locals-stand f k u =
         let t = h .tables f k u in
-        let s = ranks-split p rows used f k u in
-        let g = ranksOf (globalSet rows) 0 count in
-        let front = ranksFor p rows (usedBelow used f) in
-        let e : new ≡ put old (2 * n) ((g ++ front) ++ (fdRanks p rows f ++ s .0))
-        = whole ∙ ap (λ (l : List ℕ). put old (2 * n) (g ++ l)) (s .1) ∙ ap (put old (2 * n)) (sym (append-assoc g front (fdRanks p rows f ++ s .0))) in
+        let place : getD table f 0 ≡ 2 * n + words + localsFor p (usedBelow used f) = ap (λ (q : Ranks). q .at) t in
+        let c : getD table (256 + f) 0 ≡ length (localsOf p f) = ap (λ (q : Ranks). q .count) t in
+        let v : wordsFor (getD table (256 + f) 0) ≡ wordsFor (length (localsOf p f)) = ap wordsFor c in
+        let s = bits-split p rows used f k u in
+        let front = bitsFor p rows (usedBelow used f) in
+        let e : new ≡ put old (2 * n) ((g ++ front) ++ (fdBits p rows f ++ s .0))
+        = whole ∙ ap (λ (l : List ℕ). put old (2 * n) (g ++ l)) (s .1) ∙ ap (put old (2 * n)) (sym (append-assoc g front (fdBits p rows f ++ s .0))) in
         let at : getD table f 0 ≡ 2 * n + length (g ++ front)
-        = omega (arith, t .place, length-append g front, length-ranks (globalSet rows) 0 count, ranks-length p rows (usedBelow used f)) in
-        let c : length (fdRanks p rows f) ≡ getD table (256 + f) 0 = length-ranks (localSet rows f) 0 (length (localsOf p f)) ∙ sym (t .count) in
+        = omega (arith, place, length-append g front, long, bits-length p rows (usedBelow used f)) in
+        let m : length (fdBits p rows f) ≡ wordsFor (getD table (256 + f) 0) = bits-long (localSet rows f) (length (localsOf p f)) ∙ sym v in
         record {
-          many = t .count;
-          inside = omega (arith, t .place, t .count, new-length, locals-within p used f u);
-          words = ap (λ (ws : List ℕ). take (getD table (256 + f) 0) (drop (getD table f 0) ws)) e
-              ∙ part-behind old (2 * n) (g ++ front) (fdRanks p rows f) (s .0) (getD table f 0) (getD table (256 + f) 0) (omega arith) at c
-              ∙ ap (ranksOf (localSet rows f) 0) (sym (t .count));
-          reaches = t .reached ∙ ap (countBelow (localSet rows f)) (sym (t .count));
+          many = c;
+          inside = omega (arith, place, v, new-length, locals-within p used f u);
+          words = ap (λ (ws : List ℕ). take (wordsFor (getD table (256 + f) 0)) (drop (getD table f 0) ws)) e
+              ∙ part-behind old (2 * n) (g ++ front) (fdBits p rows f) (s .0) (getD table f 0) (wordsFor (getD table (256 + f) 0)) (omega arith) at m
+              ∙ ap (bitsOf (localSet rows f)) (sym c);
+          reaches = ap (λ (q : Ranks). q .reached) t ∙ ap (countBelow (localSet rows f)) (sym c);
+          low = ap (λ (q : Ranks). q .low) t ∙ ap (lowSums (localSet rows f)) (sym c);
+          high = ap (λ (q : Ranks). q .high) t ∙ ap (highSums (localSet rows f)) (sym c);
         }
 
     -- all are ranked
-    pub ranks-all : RanksAll p rows used old new table (answer (ranksAt (2 * n) count (r .reached)) both)
+    pub ranks-all : RanksAll p rows used old new table (answer (ranksBy (2 * n) count r) both)
     ranks-all =
         record {
-          words = whole ∙ ap (λ (c : ℕ). put old (2 * n) (ranksOf (globalSet rows) 0 c ++ ranksFor p rows (fdsIn used))) many
-              ∙ ap (λ (i : ℕ). put old (2 * i) (allRanks p rows used)) glyphs;
+          words = whole ∙ ap (λ (c : ℕ). put old (2 * n) (bitsOf (globalSet rows) c ++ bitsFor p rows (fdsIn used))) many
+              ∙ ap (λ (i : ℕ). put old (2 * i) (allBits p rows used)) glyphs;
           ranked = record { globalRanks = globals-stand; localRanks = locals-stand };
           told = b ∙ ap (λ (t : Bool). pick t all false) (ap (λ (x : code.Ranked). x .all) is ∙ ap (λ (c : ℕ). eqb (reached (globalSet rows)) (countBelow (globalSet rows) c)) many)
               ∙ ap (λ (t : Bool). pick (globalsNumbered p rows) t false) (h .told);

@@ -26,11 +26,11 @@ use Rattle.fds.specs.NewLocals.{localsBy, newLocals, LocalsIn}
 use Rattle.plan.specs.declared.sizes.Measures.{Measures}
 use Rattle.plan.specs.declared.Plan.{Plan}
 
--- no ranks
+-- no bits
 abbrev pub noRanks : Ranks
-noRanks = record { at = 0; count = 0; reached = 0 }
+noRanks = record { at = 0; count = 0; reached = 0; low = 0; high = 0 }
 
--- the ranks by which a global subroutine calls local ones: those of the FD in use where it is the only one
+-- the bits by which a global subroutine calls local ones: those of the FD in use where it is the only one
 abbrev pub acrossBy : List ℕ → List ℕ → Ranks
 acrossBy table [] = noRanks
 acrossBy table (f ∷ []) = ranksIn table f

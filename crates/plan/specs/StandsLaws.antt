@@ -1,36 +1,33 @@
--- Laws of ranks that stand in the work words: what they say is reached is what the record has, and they are ranks as the code asks for them.
+-- Laws of bits that stand in the work words: what they say is reached is what the record has, and they are counted as the code asks.
 use Prim.Native.Nat.{ℕ, _+_, _-_, _≤_, _<_}
 use mathlib.Core.Path.{_≡_, sym, ap, _∙_}
-use mathlib.Core.Bool.{Bool, false, not}
+use mathlib.Core.Bool.{Bool, false}
 use mathlib.Core.List.{List}
 use native.Mathlib.Decide.{decLe}
 use native.Mathlib.Omega.{arith}
-use borrow.Author.Tests.{lt-ltb, le-ltb}
-use lib.Dec.{eqb}
+use borrow.Author.Tests.{le-ltb}
 use lib.ListN.{length, take, drop}
 use lib.Seq.{drop-drop}
 use Rattle.octets.specs.Octets.{put}
 use Rattle.octets.specs.PutLaws.{put-length, drop-put}
-use Rattle.subset.specs.Pruned.{countBelow, reached}
-use Rattle.reach.specs.WordLaws.{rank-word}
+use Rattle.bits.specs.Bits.{countBelow, wordsFor}
+use Rattle.subset.specs.Pruned.{reached}
 use Rattle.renumber.specs.Ranks.{Ranked}
 use Rattle.renumber.specs.RanksLaws.{HoldsRanks, ranked-words, past-unreached}
 use Rattle.renumber.specs.declared.Ranks.{Ranks}
 use Rattle.bodies.specs.Ways.{reachedIn}
-use Rattle.bodies.specs.RecordLaws.{rank-tells}
+use Rattle.bodies.specs.RecordLaws.{reached-below}
 use Rattle.plan.specs.Ranked.{Stands}
 
 module _ (ws : List ℕ) (q : Ranks) (set : ℕ → Bool) (n : ℕ) (h : Stands ws q set n) where
-  -- the ranks of subroutines say which of them are reached
+  -- the bits of subroutines say which of them are reached
   pub stands-reached : (i : ℕ) → i < n → reachedIn ws q i ≡ set i
-  stands-reached i k =
-      let c : i < q .count = omega (arith, h .many) in
-      rw (lt-ltb i (q .count) c) (ap (λ (w : ℕ). not (eqb w 0)) (rank-word ws (q .at) (q .count) set (h .words) i c) ∙ rank-tells (set i) (countBelow set i))
+  stands-reached i k = reached-below ws q set (h .words) i (omega (arith, h .many))
 
   module _ (few : n < 65536) where
-    -- they are ranks as the code asks for them
+    -- they are counted as the code asks
     pub stands-ranked : Ranked ws q
-    stands-ranked = ranked-words ws q set (h .inside) (omega (arith, h .many)) (h .words) (h .reaches)
+    stands-ranked = ranked-words ws q set (h .inside) (omega (arith, h .many)) (h .words) (h .reaches) (h .low) (h .high)
 
     -- where the record has no other number
     module _ (all : reached set ≡ countBelow set n) (narrow : (i : ℕ) → 65536 ≤ i → set i ≡ false) where
@@ -41,11 +38,13 @@ module _ (ws : List ℕ) (q : Ranks) (set : ℕ → Bool) (n : ℕ) (h : Stands 
             few = omega (arith, h .many);
             words = h .words;
             reaches = h .reaches;
+            low = h .low;
+            high = h .high;
             all = all ∙ ap (countBelow set) (sym (h .many));
             narrow = narrow;
           }
 
-      -- the ranks say what is reached of all numbers
+      -- the bits say what is reached of all numbers
       pub stands-all : (i : ℕ) → reachedIn ws q i ≡ set i
       stands-all i = go (decLe n i)
         where
@@ -64,6 +63,8 @@ module _ (ws : List ℕ) (q : Ranks) (set : ℕ → Bool) (n : ℕ) (h : Stands 
       record {
         many = h .many;
         inside = omega (arith, h .inside, put-length ws from bs (omega (arith, h .inside)));
-        words = ap (take (q .count)) d ∙ h .words;
+        words = ap (take (wordsFor (q .count))) d ∙ h .words;
         reaches = h .reaches;
+        low = h .low;
+        high = h .high;
       }

@@ -1,4 +1,4 @@
-// The plan of a subset (document 01, 'Corners in write.rs'): all subroutines are ranked in the work words, the way is found, and the bodies
+// The plan of a subset (document 01, 'Corners in write.rs'): all subroutines that are reached get their bits in the work words, the way is found, and the bodies
 // are measured.
 pub mod sizes;
 
@@ -6,7 +6,8 @@ ghost use mathlib.Core.Path.{_≡_};
 ghost use Prim.Native.Nat.{_+_, _*_, _≤_};
 ghost use lib.ListN.{length};
 ghost use Rattle.record.specs.Record.{rowsOf};
-ghost use Rattle.cff.specs.Find.{localsTotal};
+ghost use Rattle.bits.specs.Bits.{wordsFor};
+ghost use Rattle.cff.specs.Find.{localsWords};
 ghost use Rattle.cff.specs.Reads.{GoodFont, programOf};
 ghost use Rattle.fds.specs.Locals.{UsedOf};
 ghost use Rattle.plan.specs.Ranked.{RanksAll};
@@ -17,13 +18,13 @@ use bodies::charstrings::Kept;
 use cff::font::Font;
 use renumber::Ranks;
 
-// Where the ranks of the globals stand; whether the record has no number without a subroutine.
+// Where the bits of the globals stand; whether the record has no number without a subroutine.
 pub struct RankedAll {
     pub globals: Ranks,
     pub all: bool,
 }
 
-// Ranks the globals in the words behind those of the glyphs, and the locals of each FD in use behind them.
+// Sets the bits of the globals in the words behind those of the glyphs, and of the locals of each FD in use behind them.
 pub fn rank_all(
     font: &[u8],
     f: Font,
@@ -33,25 +34,28 @@ pub fn rank_all(
     table: &mut [usize],
 ) -> RankedAll
     requires { ⌜ (GoodFont (now font) f) × (256 ≤ length (now used)) × (UsedOf (length (programOf (now font) f .privates)) (now used))
-        × (2 * (f .charstrings .count) + f .globals .count + localsTotal (programOf (now font) f .privates) ≤ length (now words))
-        × (768 ≤ length (now table)) ⌝ }
+        × (2 * (f .charstrings .count) + wordsFor (f .globals .count) + localsWords (programOf (now font) f .privates) ≤ length (now words))
+        × (1280 ≤ length (now table)) ⌝ }
     ensures { λ r. ⌜ RanksAll (programOf (now (font .entry)) f) (rowsOf (now (rows .entry))) (now (used .entry)) (now (words .entry)) (now (words .exit))
         (now (table .exit)) r ⌝ }
 {
     let charstrings = f.charstrings;
-    let globals = f.globals;
+    let subrs = f.globals;
     let at = 2 * charstrings.count;
-    let count = globals.count;
+    let count = subrs.count;
     let r = reach::ranks::rank_reached(rows, true, 0, &mut *words, at, count);
-    let reached = r.reached;
     let first = r.all;
-    let behind = at + count;
+    let behind = at + bits::words_for(count);
     let rest = fds::rank_locals(font, f, rows, used, words, behind, table);
     let all = fds::both(first, rest);
-    RankedAll {
-        globals: Ranks { at, count, reached },
-        all,
-    }
+    let globals = Ranks {
+        at,
+        count,
+        reached: r.reached,
+        low: r.low,
+        high: r.high,
+    };
+    RankedAll { globals, all }
 }
 
 // The way (0 renumbered, 1 stubbed, 2 copied), and the bytes of the globals and of the charstrings.

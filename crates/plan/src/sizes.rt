@@ -25,9 +25,9 @@ pub struct Measures {
     pub glyphs: usize,
 }
 
-// The ranks by which a global subroutine calls local ones: those of the FD in use where it is the only one, else none.
+// The bits by which a global subroutine calls local ones: those of the FD in use where it is the only one, else none.
 pub fn across(used: &[u32], table: &[usize]) -> Ranks
-    requires { ⌜ (256 ≤ length (now used)) × (768 ≤ length (now table)) ⌝ }
+    requires { ⌜ (256 ≤ length (now used)) × (1280 ≤ length (now table)) ⌝ }
     ensures { λ r. ⌜ r ≡ acrossBy (now (table .entry)) (fdsIn (now (used .entry))) ⌝ }
 {
     let mut count: usize = 0;
@@ -49,6 +49,8 @@ pub fn across(used: &[u32], table: &[usize]) -> Ranks
         at: 0,
         count: 0,
         reached: 0,
+        low: 0,
+        high: 0,
     }
 }
 

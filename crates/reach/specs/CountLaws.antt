@@ -1,19 +1,23 @@
--- Laws of counting: the marks are the subroutines that the record has, their ranks the new numbers, and no row is past the count exactly
+-- Laws of counting: the bits are the subroutines that the record has, the ranks of marks their new numbers, and no row is past the count exactly
 -- where all reached numbers are below it.
-use Prim.Native.Nat.{ℕ, zero, suc, _+_, _-_, _≤_, _<_}
+use Prim.Native.Nat.{ℕ, zero, suc, _+_, _-_, _/_, _%_, _^_, _≤_, _<_}
 use mathlib.Core.Path.{_≡_, refl, sym, ap, _∙_, subst}
 use mathlib.Core.Bool.{Bool, true, false}
 use mathlib.Core.List.{List, [], _∷_}
 use native.Mathlib.Nat.{add-zero}
 use native.Mathlib.Omega.{arith}
-use borrow.Author.Tests.{le-ltb, eq-eqb, ne-eqb, ltb-false}
+use borrow.Author.Tests.{lt-ltb, le-ltb, eq-eqb, ne-eqb, ltb-true, ltb-false}
+use lib.Bits.{bitOr, or-lt}
 use lib.Dec.{ltb, eqb}
-use lib.ListN.{length, getD, set}
+use lib.ListN.{length, getD}
+use lib.Pow.{pow-lt}
 use lib.Seq.{getD-set-same, getD-set-other}
-use Rattle.octets.specs.Pick.{pick}
+use Rattle.octets.specs.Pick.{pick, pick-ind}
 use Rattle.unfold.specs.Unfold.{Row}
 use Rattle.record.specs.Record.{sameRow, lists}
-use Rattle.subset.specs.Pruned.{countBelow, reached}
+use Rattle.bits.specs.Bits.{countBelow, wordsFor, bitIn, setBit}
+use Rattle.bits.specs.SetLaws.{set-bits}
+use Rattle.subset.specs.Pruned.{reached}
 use Rattle.subset.specs.RankLaws.{count-next}
 use Rattle.subset.specs.ReachedLaws.{third-false}
 use Rattle.reach.specs.Reach.{ranksOf}
@@ -28,42 +32,102 @@ use Rattle.reach.specs.MarkLaws.{mark-length}
 pub other-row : (kind fd k : ℕ) (r : Row) → (r .number ≡ k → ⊥) → sameRow r (reachedRow kind fd k) ≡ false
 other-row kind fd k r h = third-false (eqb (r .kind) kind) (eqb (r .fd) fd) (eqb (r .number) k) (eqb (r .offset) 0) (eqb (r .len) 0) (ne-eqb _ _ h)
 
--- ---- marks
+-- ---- bits
 
-mark-own : (t : Bool) (ws : List ℕ) (m : ℕ) → m < length ws → getD (pick t (set ws m 1) ws) m 0 ≡ pick t 1 (getD ws m 0)
-mark-own true ws m h = getD-set-same ws m 1 0 h
-mark-own false ws m h = refl
+-- a bit after one was set or not
+bit-after : (t u : Bool) (ws : List ℕ) (m k : ℕ) → (u ≡ true → 0 + m / 32 < length ws)
+    → bitIn (pick t (pick u (setBit ws 0 m) ws) ws) 0 k ≡ pick t (pick u (pick (eqb k m) true (bitIn ws 0 k)) (bitIn ws 0 k)) (bitIn ws 0 k)
+bit-after true true ws m k h = set-bits ws 0 m k (h refl)
+bit-after true false ws m k h = refl
+bit-after false u ws m k h = refl
 
-mark-other : (t : Bool) (ws : List ℕ) (m k : ℕ) → (m ≡ k → ⊥) → getD (pick t (set ws m 1) ws) k 0 ≡ getD ws k 0
-mark-other true ws m k h = getD-set-other ws m k 1 0 (λ e. h (sym e))
-mark-other false ws m k h = refl
+module _ (kind fd count : ℕ) (ws : List ℕ) (r : Row) (k : ℕ) (long : wordsFor count ≤ length ws) where
+  after : bitIn (markRow kind fd count ws r) 0 k
+      ≡ pick (tells r kind fd) (pick (ltb (r .number) count) (pick (eqb k (r .number)) true (bitIn ws 0 k)) (bitIn ws 0 k)) (bitIn ws 0 k)
+  after = bit-after (tells r kind fd) (ltb (r .number) count) ws (r .number) k (λ e. let l = ltb-true (r .number) count e in omega arith)
 
-mark-at : (kind fd : ℕ) (ws : List ℕ) (r : Row) (k : ℕ) → k < length ws
-    → getD (markRow kind fd ws r) k 0 ≡ pick (sameRow r (reachedRow kind fd k)) 1 (getD ws k 0)
-mark-at kind fd ws r k h =
-    by-number (r .number) k
-    (λ e. subst (λ (i : ℕ). getD (markRow kind fd ws r) i 0 ≡ pick (sameRow r (reachedRow kind fd i)) 1 (getD ws i 0)) e
-    (mark-own (tells r kind fd) ws (r .number) (omega arith)))
-    (λ n. mark-other (tells r kind fd) ws (r .number) k n ∙ rw (other-row kind fd k r n))
+  -- a bit that stays
+  stays : (t u : Bool) (x : Bool) → pick t (pick u (pick false true x) x) x ≡ x
+  stays true true x = refl
+  stays true false x = refl
+  stays false u x = refl
 
-either : (s l : Bool) (w : ℕ) → pick l 1 (pick s 1 w) ≡ pick (pick s true l) 1 w
+  other-bit : (r .number ≡ k → ⊥) → bitIn (markRow kind fd count ws r) 0 k ≡ bitIn ws 0 k
+  other-bit n = after ∙ rw (ne-eqb k (r .number) (λ e. n (sym e))) (stays (tells r kind fd) (ltb (r .number) count) (bitIn ws 0 k))
+
+  -- a number below the count: by what the row says
+  mark-at : k < count → bitIn (markRow kind fd count ws r) 0 k ≡ pick (sameRow r (reachedRow kind fd k)) true (bitIn ws 0 k)
+  mark-at h =
+      by-number (r .number) k
+      (λ e. let l : r .number < count = omega arith in
+      after ∙ rw (lt-ltb (r .number) count l, eq-eqb k (r .number) (sym e))
+      (ap (λ (i : ℕ). pick (sameRow r (reachedRow kind fd i)) true (bitIn ws 0 k)) e))
+      (λ n. other-bit n ∙ rw (other-row kind fd k r n))
+
+  -- a number past it: as it was
+  past-at : count ≤ k → bitIn (markRow kind fd count ws r) 0 k ≡ bitIn ws 0 k
+  past-at h = go (ltb (r .number) count) refl
+    where
+      go : (u : Bool) → ltb (r .number) count ≡ u → bitIn (markRow kind fd count ws r) 0 k ≡ bitIn ws 0 k
+      go true e = let l = ltb-true (r .number) count e in other-bit (λ n. omega arith)
+      go false e = after ∙ rw e (same (tells r kind fd) (bitIn ws 0 k))
+        where
+          same : (t x : Bool) → pick t x x ≡ x
+          same true x = refl
+          same false x = refl
+
+either : (s l w : Bool) → pick l true (pick s true w) ≡ pick (pick s true l) true w
 either true true w = refl
 either true false w = refl
 either false l w = refl
 
--- the mark of a subroutine after some rows
-pub marked-at : (kind fd : ℕ) (rows : List Row) (ws : List ℕ) (k : ℕ) → k < length ws
-    → getD (marked kind fd rows ws) k 0 ≡ pick (reachedIn rows kind fd k) 1 (getD ws k 0)
+-- the bit of a subroutine after some rows
+pub marked-at : (kind fd count : ℕ) (rows : List Row) (ws : List ℕ) (k : ℕ) → wordsFor count ≤ length ws → k < count
+    → bitIn (marked kind fd count rows ws) 0 k ≡ pick (reachedIn rows kind fd k) true (bitIn ws 0 k)
 unfolding marked lists
-marked-at kind fd [] ws k h = refl
-marked-at kind fd (r ∷ rs) ws k h =
-    let n : k < length (markRow kind fd ws r) = rw mark-length h in
-    marked-at kind fd rs (markRow kind fd ws r) k n ∙ rw (mark-at kind fd ws r k h) (either (sameRow r (reachedRow kind fd k)) (lists rs (reachedRow kind fd k)) (getD ws k 0))
+marked-at kind fd count [] ws k l h = refl
+marked-at kind fd count (r ∷ rs) ws k l h =
+    let n : wordsFor count ≤ length (markRow kind fd count ws r) = rw mark-length l in
+    marked-at kind fd count rs (markRow kind fd count ws r) k n h
+    ∙ rw (mark-at kind fd count ws r k l h) (either (sameRow r (reachedRow kind fd k)) (lists rs (reachedRow kind fd k)) (bitIn ws 0 k))
 
-pub marked-length : (kind fd : ℕ) (rows : List Row) (ws : List ℕ) → length (marked kind fd rows ws) ≡ length ws
+pub marked-past : (kind fd count : ℕ) (rows : List Row) (ws : List ℕ) (k : ℕ) → wordsFor count ≤ length ws → count ≤ k
+    → bitIn (marked kind fd count rows ws) 0 k ≡ bitIn ws 0 k
 unfolding marked
-marked-length kind fd [] ws = refl
-marked-length kind fd (r ∷ rs) ws = marked-length kind fd rs (markRow kind fd ws r) ∙ mark-length kind fd ws r
+marked-past kind fd count [] ws k l h = refl
+marked-past kind fd count (r ∷ rs) ws k l h =
+    let n : wordsFor count ≤ length (markRow kind fd count ws r) = rw mark-length l in
+    marked-past kind fd count rs (markRow kind fd count ws r) k n h ∙ past-at kind fd count ws r k l h
+
+pub marked-length : (kind fd count : ℕ) (rows : List Row) (ws : List ℕ) → length (marked kind fd count rows ws) ≡ length ws
+unfolding marked
+marked-length kind fd count [] ws = refl
+marked-length kind fd count (r ∷ rs) ws = marked-length kind fd count rs (markRow kind fd count ws r) ∙ mark-length kind fd count ws r
+
+-- words stay words
+abbrev pub Words : List ℕ → Type 0
+Words ws = (i : ℕ) → getD ws i 0 < 4294967296
+
+bit-small : (ws : List ℕ) (k : ℕ) → 0 + k / 32 < length ws → Words ws → Words (setBit ws 0 k)
+bit-small ws k h small i =
+    let v = bitOr (getD ws (0 + k / 32) 0) (2 ^ (k % 32)) in
+    let m : k % 32 < 32 = omega arith in
+    let l : v < 4294967296 = or-lt 32 (getD ws (0 + k / 32) 0) (2 ^ (k % 32)) (small (0 + k / 32)) (pow-lt m) in
+    by-number i (0 + k / 32)
+    (λ e. subst (λ (n : ℕ). n < 4294967296) (sym (ap (λ (j : ℕ). getD (setBit ws 0 k) j 0) e ∙ getD-set-same ws (0 + k / 32) v 0 h)) l)
+    (λ n. subst (λ (m : ℕ). m < 4294967296) (sym (getD-set-other ws (0 + k / 32) i v 0 n)) (small i))
+
+mark-small : (kind fd count : ℕ) (ws : List ℕ) (r : Row) → wordsFor count ≤ length ws → Words ws → Words (markRow kind fd count ws r)
+mark-small kind fd count ws r long small =
+    pick-ind Words (tells r kind fd) (pick (ltb (r .number) count) (setBit ws 0 (r .number)) ws) ws
+    (λ e. pick-ind Words (ltb (r .number) count) (setBit ws 0 (r .number)) ws
+    (λ f. let l = ltb-true (r .number) count f in bit-small ws (r .number) (omega arith) small) (λ f. small)) (λ e. small)
+
+pub marked-small : (kind fd count : ℕ) (rows : List Row) (ws : List ℕ) → wordsFor count ≤ length ws → Words ws → Words (marked kind fd count rows ws)
+unfolding marked
+marked-small kind fd count [] ws long small = small
+marked-small kind fd count (r ∷ rs) ws long small =
+    marked-small kind fd count rs (markRow kind fd count ws r) (rw mark-length long) (mark-small kind fd count ws r long small)
 
 -- ---- ranks
 
@@ -152,7 +216,7 @@ count-grows s n (suc d) =
     let e : countBelow s (n + suc d) ≡ countBelow s (n + d + 1) = ap (countBelow s) (omega arith) in
     omega (arith, count-grows s n d, count-next s (n + d))
 
-count-stays : (s : ℕ → Bool) (n : ℕ) → ((k : ℕ) → n ≤ k → s k ≡ false) → (d : ℕ) → countBelow s (n + d) ≡ countBelow s n
+pub count-stays : (s : ℕ → Bool) (n : ℕ) → ((k : ℕ) → n ≤ k → s k ≡ false) → (d : ℕ) → countBelow s (n + d) ≡ countBelow s n
 count-stays s n h zero = ap (countBelow s) (add-zero n)
 count-stays s n h (suc d) =
     let e : n + suc d ≡ n + d + 1 = omega arith in

@@ -8,6 +8,7 @@ pub mod MarkLaws
 pub mod CountLaws
 pub mod RankLaws
 pub mod WordLaws
+pub mod Before
 pub mod KeyLaws
 pub mod MaskLaws
 pub mod SearchLaws

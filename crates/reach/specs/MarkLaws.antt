@@ -1,4 +1,4 @@
--- Laws of the loops that mark and rank: what is left to do gives what the whole gives.
+-- Laws of the loops that set bits, and that mark and rank: what is left to do gives what the whole gives.
 use Prim.Native.Nat.{ℕ, suc, _+_, _/_, _≤_, _<_}
 use mathlib.Core.Path.{_≡_, refl, sym, ap, _∙_}
 use mathlib.Core.List.{List, [], _∷_, _++_, append-assoc, append-nil}
@@ -8,6 +8,7 @@ use lib.Dec.{ltb, eqb}
 use lib.ListN.{length, take, drop, getD, set, replicate, length-set, replicate-append-replicate, drop-of-length-le}
 use lib.Seq.{drop-cons, take-suc-set, drop-set-lt, take-all}
 use Rattle.octets.specs.Pick.{pick, pick-ind}
+use Rattle.bits.specs.Bits.{setBit}
 use Rattle.unfold.specs.Unfold.{Row}
 use Rattle.record.specs.Record.{rowsOf}
 use Rattle.reach.specs.declared.Row as code
@@ -20,64 +21,65 @@ use Rattle.reach.specs.RowLaws.{rest-all, rest-none, rest-next}
 pub clear-more : (l : List ℕ) (i : ℕ) → i < length l → take i l ≡ replicate i 0 → take (i + 1) (set l i 0) ≡ replicate (i + 1) 0
 clear-more l i h e = rw (add-one, take-suc-set, e) (replicate-append-replicate i 1 0 ∙ rw add-one)
 
--- ---- marks
+-- ---- bits
 
-pub mark-length : (kind fd : ℕ) (ws : List ℕ) (r : Row) → length (markRow kind fd ws r) ≡ length ws
-mark-length kind fd ws r =
-    pick-ind (λ (l : List ℕ). length l ≡ length ws) (tells r kind fd) (set ws (r .number) 1) ws (λ e. length-set ws (r .number) 1) (λ e. refl)
+pub mark-length : (kind fd count : ℕ) (ws : List ℕ) (r : Row) → length (markRow kind fd count ws r) ≡ length ws
+mark-length kind fd count ws r =
+    pick-ind (λ (l : List ℕ). length l ≡ length ws) (tells r kind fd) (pick (ltb (r .number) count) (setBit ws 0 (r .number)) ws) ws
+    (λ e. pick-ind (λ (l : List ℕ). length l ≡ length ws) (ltb (r .number) count) (setBit ws 0 (r .number)) ws (λ f. simp length-set) (λ f. refl)) (λ e. refl)
 
 past-small : (kind fd n : ℕ) (r : Row) → pastRow kind fd n r ≤ 1
 past-small kind fd n r =
     pick-ind (λ (p : ℕ). p ≤ 1) (tells r kind fd) (pick (ltb (r .number) n) 0 1) 0
     (λ e. pick-ind (λ (p : ℕ). p ≤ 1) (ltb (r .number) n) 0 1 (λ f. omega arith) (λ f. omega arith)) (λ e. omega arith)
 
--- i rows have marked, past of which have no subroutine
-pub record Marking (b : List ℕ) (kind fd : ℕ) (old marks : List ℕ) (past i : ℕ) : Type 0 where
+-- i rows have set their bits, past of which have no subroutine
+pub record Marking (b : List ℕ) (kind fd count : ℕ) (old marks : List ℕ) (past i : ℕ) : Type 0 where
   pub within : i ≤ length b / 10
   pub long : length marks ≡ length old
   pub few : past ≤ i
-  pub same : marked kind fd (restOf b i) marks ≡ marked kind fd (rowsOf b) old
-  pub total : past + pastOf kind fd (length old) (restOf b i) ≡ pastOf kind fd (length old) (rowsOf b)
+  pub same : marked kind fd count (restOf b i) marks ≡ marked kind fd count (rowsOf b) old
+  pub total : past + pastOf kind fd count (restOf b i) ≡ pastOf kind fd count (rowsOf b)
 
-module _ (b : List ℕ) (kind fd : ℕ) (old : List ℕ) where
-  pub marking-start : Marking b kind fd old old 0 0
+module _ (b : List ℕ) (kind fd count : ℕ) (old : List ℕ) where
+  pub marking-start : Marking b kind fd count old old 0 0
   marking-start =
       record {
         within = omega arith;
         long = refl;
         few = omega arith;
-        same = ap (λ (rs : List Row). marked kind fd rs old) (rest-all b);
-        total = let e : pastOf kind fd (length old) (restOf b 0) ≡ pastOf kind fd (length old) (rowsOf b) = ap (pastOf kind fd (length old)) (rest-all b) in omega arith;
+        same = ap (λ (rs : List Row). marked kind fd count rs old) (rest-all b);
+        total = let e : pastOf kind fd count (restOf b 0) ≡ pastOf kind fd count (rowsOf b) = ap (pastOf kind fd count) (rest-all b) in omega arith;
       }
 
-  module _ (marks : List ℕ) (past i : ℕ) (m : Marking b kind fd old marks past i) where
-    pub marking-next : i < length b / 10 → (r : code.Row) → rowIn r ≡ rowNo b i → (new : List ℕ) (p : ℕ) → new ≡ markRow kind fd marks (rowIn r)
-        → p ≡ pastRow kind fd (length marks) (rowIn r) → Marking b kind fd old new (past + p) (i + 1)
+  module _ (marks : List ℕ) (past i : ℕ) (m : Marking b kind fd count old marks past i) where
+    pub marking-next : i < length b / 10 → (r : code.Row) → rowIn r ≡ rowNo b i → (new : List ℕ) (p : ℕ) → new ≡ markRow kind fd count marks (rowIn r)
+        → p ≡ pastRow kind fd count (rowIn r) → Marking b kind fd count old new (past + p) (i + 1)
     unfolding marked pastOf
     marking-next h r e new p n q =
-        let s : p ≤ 1 = omega (arith, q, past-small kind fd (length marks) (rowIn r)) in
-        let n′ : new ≡ markRow kind fd marks (rowNo b i) = n ∙ ap (markRow kind fd marks) e in
-        let q′ : p ≡ pastRow kind fd (length old) (rowNo b i)
-        = q ∙ ap (pastRow kind fd (length marks)) e ∙ ap (λ (k : ℕ). pastRow kind fd k (rowNo b i)) (m .long) in
-        let t : pastOf kind fd (length old) (restOf b i) ≡ pastRow kind fd (length old) (rowNo b i) + pastOf kind fd (length old) (restOf b (i + 1))
-        = ap (pastOf kind fd (length old)) (rest-next b i h) in
+        let s : p ≤ 1 = omega (arith, q, past-small kind fd count (rowIn r)) in
+        let n′ : new ≡ markRow kind fd count marks (rowNo b i) = n ∙ ap (markRow kind fd count marks) e in
+        let q′ : p ≡ pastRow kind fd count (rowNo b i)
+        = q ∙ ap (pastRow kind fd count) e in
+        let t : pastOf kind fd count (restOf b i) ≡ pastRow kind fd count (rowNo b i) + pastOf kind fd count (restOf b (i + 1))
+        = ap (pastOf kind fd count) (rest-next b i h) in
         record {
           within = omega arith;
-          long = ap length n′ ∙ mark-length kind fd marks (rowNo b i) ∙ m .long;
+          long = ap length n′ ∙ mark-length kind fd count marks (rowNo b i) ∙ m .long;
           few = omega (arith, m .few);
-          same = ap (marked kind fd (restOf b (i + 1))) n′ ∙ sym (ap (λ (rs : List Row). marked kind fd rs marks) (rest-next b i h)) ∙ m .same;
+          same = ap (marked kind fd count (restOf b (i + 1))) n′ ∙ sym (ap (λ (rs : List Row). marked kind fd count rs marks) (rest-next b i h)) ∙ m .same;
           total = omega (arith, t, q′, m .total);
         }
 
-    pub marking-fits : i < length b / 10 → (r : code.Row) (p : ℕ) → p ≡ pastRow kind fd (length marks) (rowIn r) → past + p ≤ length b
-    marking-fits h r p q = omega (arith, q, past-small kind fd (length marks) (rowIn r), m .few)
+    pub marking-fits : i < length b / 10 → (r : code.Row) (p : ℕ) → p ≡ pastRow kind fd count (rowIn r) → past + p ≤ length b
+    marking-fits h r p q = omega (arith, q, past-small kind fd count (rowIn r), m .few)
 
-    pub marking-done : length b / 10 ≤ i → (marks ≡ marked kind fd (rowsOf b) old) × (past ≡ pastOf kind fd (length old) (rowsOf b))
+    pub marking-done : length b / 10 ≤ i → (marks ≡ marked kind fd count (rowsOf b) old) × (past ≡ pastOf kind fd count (rowsOf b))
     unfolding marked pastOf
     marking-done h =
         let e = rest-none b i h in
-        let z : pastOf kind fd (length old) (restOf b i) ≡ 0 = ap (pastOf kind fd (length old)) e in
-        (sym (ap (λ (rs : List Row). marked kind fd rs marks) e) ∙ m .same, omega (arith, z, m .total))
+        let z : pastOf kind fd count (restOf b i) ≡ 0 = ap (pastOf kind fd count) e in
+        (sym (ap (λ (rs : List Row). marked kind fd count rs marks) e) ∙ m .same, omega (arith, z, m .total))
 
 -- ---- marks turned into ranks
 

@@ -1,4 +1,4 @@
--- The reach record as the code asks it (document 01, 'Reach record'), and the new numbers of subroutines in the work words.
+-- The reach record as the code asks it (document 01, 'Reach record'), and the new numbers of subroutines by their bits in the work words (document 02, Wish 7).
 use Prim.Native.Nat.{ℕ, zero, suc, _+_, _-_, _*_, _/_, _<_}
 use mathlib.Core.Bool.{Bool, true, false, _&&_}
 use mathlib.Core.List.{List, [], _∷_}
@@ -8,7 +8,9 @@ use Rattle.octets.specs.Pick.{pick}
 use Rattle.unfold.specs.Unfold.{Row, glyph, local, global}
 use Rattle.unfold.specs.Unfold as body
 use Rattle.record.specs.Record.{rowOf, rowsFrom, takesFd}
-use Rattle.subset.specs.Pruned.{countBelow, reached, localSet, globalSet}
+use Rattle.prune.specs.Renumber.{New, none}
+use Rattle.bits.specs.Bits.{countBelow, bitIn, lowSums, highSums}
+use Rattle.subset.specs.Pruned.{rank, reached, localSet, globalSet}
 use Rattle.reach.specs.declared.Row as code
 use Rattle.reach.specs.declared.Site.{Site}
 use Rattle.reach.specs.declared.Site.the-variants.{Glyph, Local, Global}
@@ -45,9 +47,14 @@ unfoldable pub ranksOf : (ℕ → Bool) → ℕ → ℕ → List ℕ
 ranksOf set k zero = []
 ranksOf set k (suc n) = pick (set k) (countBelow set k + 1) 0 ∷ ranksOf set (k + 1) n
 
--- of count subroutines: how many are in the set, and whether the set has no other number
+-- of count subroutines: how many are in the set, whether the set has no other number, and how many are below each eighth of their words
 abbrev pub rankedOf : (ℕ → Bool) → ℕ → Ranked
-rankedOf set count = record { reached = countBelow set count; all = eqb (reached set) (countBelow set count) }
+rankedOf set count =
+    record { reached = countBelow set count; all = eqb (reached set) (countBelow set count); low = lowSums set count; high = highSums set count }
+
+-- the new number of subroutine k of count whose bits stand in the words from at on: how many ones are below its own
+abbrev pub numberIn : List ℕ → ℕ → ℕ → ℕ → New
+numberIn ws at count k = pick (ltb k count) (rank (bitIn ws at) k) none
 
 -- ---- rows by their number
 

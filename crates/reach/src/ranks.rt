@@ -1,28 +1,24 @@
-// The new numbers of subroutines (document 01, 'What must change shape': ranks in the work words): the reached ones are marked, and each
-// mark becomes the rank of its subroutine, plus 1.
+// The new numbers of subroutines (document 02, Wish 7): a bit in the work words for each subroutine that is reached, which is numbered by the
+// ones below its bit. (Marks that become ranks, plus 1, number the FDs in use.)
 ghost use mathlib.Core.Path.{_≡_};
 ghost use Prim.Native.Nat.{_+_, _≤_, _<_};
 ghost use lib.ListN.{length, getD, set, replicate};
 ghost use Rattle.octets.specs.Octets.{put};
+ghost use Rattle.bits.specs.Bits.{wordsFor, bitsOf};
 ghost use Rattle.record.specs.Record.{rowsOf};
-ghost use Rattle.reach.specs.Reach.{rowIn, setOf, ranksOf, rankedOf};
-ghost use Rattle.reach.specs.Ranks.{tells, markRow, marked, pastRow, pastOf, rankFor, countFor, ranked, counted, reachedIn, newIn, numberOf};
+ghost use Rattle.reach.specs.Reach.{rowIn, setOf, rankedOf};
+ghost use Rattle.reach.specs.Ranks.{tells, markRow, marked, pastRow, pastOf, rankFor, countFor, ranked, counted, reachedIn, countsOf};
 use crate::Row;
 
-// How many of some subroutines are reached, and whether the record has no other number.
+// How many of some subroutines are reached, whether the record has no other number, and how many are reached below each eighth of their words.
 pub struct Ranked {
     pub reached: usize,
     pub all: bool,
+    pub low: usize,
+    pub high: usize,
 }
 
-// The new number of a subroutine, or that it has none.
-pub enum NewNumber {
-    Absent,
-    Number(usize),
-}
-
-// Sets the words of count subroutines, from `at` on, to their new numbers plus 1, or 0 where the record has them not: globals, or locals of
-// an FD.
+// Sets the words of count subroutines, from `at` on, to a bit for each that the record has: globals, or locals of an FD.
 pub fn rank_reached(
     rows: &[u8],
     global: bool,
@@ -31,29 +27,43 @@ pub fn rank_reached(
     at: usize,
     count: usize,
 ) -> Ranked
-    requires { ⌜ (fd < 256) × (count < 65536) × (at + count ≤ length (now words)) ⌝ }
-    ensures { λ r. ⌜ (now (words .exit) ≡ put (now (words .entry)) at (ranksOf (setOf (rowsOf (now (rows .entry))) global fd) 0 count))
+    requires { ⌜ (fd < 256) × (count < 65536) × (at + wordsFor count ≤ length (now words)) ⌝ }
+    ensures { λ r. ⌜ (now (words .exit) ≡ put (now (words .entry)) at (bitsOf (setOf (rowsOf (now (rows .entry))) global fd) count))
         × (r ≡ rankedOf (setOf (rowsOf (now (rows .entry))) global fd) count) ⌝ }
 {
-    let end = at + count;
+    let end = at + bits::words_for(count);
     if global {
-        return rank_rows(rows, 1, 0, &mut words[at..end]);
+        return rank_rows(rows, 1, 0, count, &mut words[at..end]);
     }
-    rank_rows(rows, 0, fd, &mut words[at..end])
+    rank_rows(rows, 0, fd, count, &mut words[at..end])
 }
 
 // The same for all of some words, and the rows of a kind and an FD.
-fn rank_rows(rows: &[u8], kind: usize, fd: usize, marks: &mut [u32]) -> Ranked
-    requires { ⌜ length (now marks) < 65536 ⌝ }
-    ensures { λ r. ⌜ (now (marks .exit) ≡ ranksOf (reachedIn (rowsOf (now (rows .entry))) kind fd) 0 (length (now (marks .entry))))
-        × (r ≡ rankedOf (reachedIn (rowsOf (now (rows .entry))) kind fd) (length (now (marks .entry)))) ⌝ }
+fn rank_rows(rows: &[u8], kind: usize, fd: usize, count: usize, held: &mut [u32]) -> Ranked
+    requires { ⌜ (count < 65536) × (length (now held) ≡ wordsFor count) ⌝ }
+    ensures { λ r. ⌜ (now (held .exit) ≡ bitsOf (reachedIn (rowsOf (now (rows .entry))) kind fd) count)
+        × (r ≡ rankedOf (reachedIn (rowsOf (now (rows .entry))) kind fd) count) ⌝ }
 {
-    clear(marks);
-    let past = mark_rows(rows, kind, fd, marks);
-    let reached = rank_marks(marks);
+    clear(held);
+    let past = mark_rows(rows, kind, fd, count, held);
+    sums_of(held, past)
+}
+
+// How many bits are set in some words, and how many below each eighth of them.
+fn sums_of(held: &[u32], past: usize) -> Ranked
+    requires { ⌜ length (now held) ≤ 2048 ⌝ }
+    ensures { λ r. ⌜ r ≡ countsOf (now (held .entry)) past ⌝ }
+{
+    let n = held.len();
+    let e = bits::sums::eighth(n);
+    let reached = bits::whole_ones(held, 0, n);
+    let low = bits::sums::four_sums(held, 0, e);
+    let high = bits::sums::four_sums(held, 4 * e, e);
     Ranked {
         reached,
         all: past == 0,
+        low,
+        high,
     }
 }
 
@@ -85,15 +95,15 @@ fn tells(r: Row, kind: usize, fd: usize) -> bool
     r.len == 0
 }
 
-// Marks the subroutine that a row says is reached; returns 1 where there is no such subroutine, else 0.
-fn mark_row(r: Row, kind: usize, fd: usize, marks: &mut [u32]) -> usize
-    ensures { λ p. ⌜ (now (marks .exit) ≡ markRow kind fd (now (marks .entry)) (rowIn r))
-        × (p ≡ pastRow kind fd (length (now (marks .entry))) (rowIn r)) ⌝ }
+// Sets the bit of the subroutine that a row says is reached; returns 1 where there is no such subroutine, else 0.
+fn mark_row(r: Row, kind: usize, fd: usize, count: usize, held: &mut [u32]) -> usize
+    requires { ⌜ wordsFor count ≤ length (now held) ⌝ }
+    ensures { λ p. ⌜ (now (held .exit) ≡ markRow kind fd count (now (held .entry)) (rowIn r)) × (p ≡ pastRow kind fd count (rowIn r)) ⌝ }
 {
     let number = r.number;
     if tells(r, kind, fd) {
-        if number < marks.len() {
-            marks[number] = 1;
+        if number < count {
+            bits::set_bit(held, 0, number);
             return 0;
         }
         return 1;
@@ -101,17 +111,18 @@ fn mark_row(r: Row, kind: usize, fd: usize, marks: &mut [u32]) -> usize
     0
 }
 
-// Marks the subroutines that the rows say are reached; returns how many rows have no subroutine.
-fn mark_rows(rows: &[u8], kind: usize, fd: usize, marks: &mut [u32]) -> usize
-    ensures { λ p. ⌜ (now (marks .exit) ≡ marked kind fd (rowsOf (now (rows .entry))) (now (marks .entry)))
-        × (p ≡ pastOf kind fd (length (now (marks .entry))) (rowsOf (now (rows .entry)))) ⌝ }
+// Sets the bits of the subroutines that the rows say are reached; returns how many rows have no subroutine.
+fn mark_rows(rows: &[u8], kind: usize, fd: usize, count: usize, held: &mut [u32]) -> usize
+    requires { ⌜ wordsFor count ≤ length (now held) ⌝ }
+    ensures { λ p. ⌜ (now (held .exit) ≡ marked kind fd count (rowsOf (now (rows .entry))) (now (held .entry)))
+        × (p ≡ pastOf kind fd count (rowsOf (now (rows .entry)))) ⌝ }
 {
     let n = rows.len() / 10;
     let mut past = 0;
     let mut i = 0;
     while i < n {
         let r = crate::row_at(rows, i);
-        past += mark_row(r, kind, fd, marks);
+        past += mark_row(r, kind, fd, count, &mut *held);
         i += 1;
     }
     past
@@ -144,16 +155,4 @@ pub fn rank_marks(marks: &mut [u32]) -> usize
         i += 1;
     }
     reached
-}
-
-// The new number of subroutine k of those whose words stand from `at` on.
-pub fn new_number(words: &[u32], at: usize, k: usize) -> NewNumber
-    requires { ⌜ at + k < length (now words) ⌝ }
-    ensures { λ r. ⌜ newIn r ≡ numberOf (getD (now (words .entry)) (at + k) 0) ⌝ }
-{
-    let word = octets::words::wide(words[at + k]);
-    if word == 0 {
-        return NewNumber::Absent;
-    }
-    NewNumber::Number(word - 1)
 }

@@ -1,6 +1,8 @@
--- Worked examples, computed: renumbering by ranks in the work words.
+-- Worked examples, computed: renumbering by bits in the work words.
 use mathlib.Core.Path.{_≡_, refl}
+use mathlib.Core.Bool.{false}
 use mathlib.Core.List.{List, [], _∷_}
+use lib.Dec.{eqb}
 use Prim.Native.Nat.{ℕ}
 use Rattle.octets.specs.Octets.{bytesOf}
 use Rattle.type2_number.specs.Number.{keep24, rounded, numberAt}
@@ -9,22 +11,28 @@ use Rattle.charstring.specs.Token.{tokenAt, tokensFrom, tokensOf}
 use Rattle.charstring.specs.Encode.{encode}
 use Rattle.charstring.specs.declared.MaskLen.the-variants.{Own}
 use Rattle.prune.specs.Renumber.{oldOf, renumber, Bytes, failed, bytes, renumberCharstring}
-use Rattle.renumber.specs.Ranks.{callsBy}
+use Rattle.bits.specs.Bits.{countBelow}
+use Rattle.renumber.specs.Ranks.{ranksAt, callsBy}
 use Rattle.renumber.specs.Run.{plainLen, runBytes}
 use Rattle.renumber.specs.declared.turns.Held.the-variants.{Nothing}
 
 -- three local subroutines, the third reached, and no global ones
 abbrev third : List ℕ → Bytes
-third code = renumberCharstring (callsBy (0 ∷ 0 ∷ 1 ∷ []) (record { at = 0; count = 3; reached = 1 }) (record { at = 3; count = 0; reached = 0 })) (λ o. Own) code
+third code = renumberCharstring (callsBy (4 ∷ []) (ranksAt (λ k. eqb k 2) 0 3) (ranksAt (λ k. false) 1 0)) (λ o. Own) code
+
+-- the sums below the eighths of its one word
+third-sums : ranksAt (λ k. eqb k 2) 0 3 ≡ record { at = 0; count = 3; reached = 1; low = 0x0001000100010000; high = 0x0001000100010001 }
+unfolding countBelow
+third-sums = refl
 
 -- document 01, 'Corners in write.rs'
 third-called : third (0x22 ∷ 0x0a ∷ 0x0e ∷ []) ≡ bytes (0x20 ∷ 0x0a ∷ 0x0e ∷ [])
-unfolding renumberCharstring renumber oldOf tokensOf tokensFrom tokenAt numberAt rounded keep24 encode numberBytes integerBytes fixedBytes bytesOf
+unfolding countBelow renumberCharstring renumber oldOf tokensOf tokensFrom tokenAt numberAt rounded keep24 encode numberBytes integerBytes fixedBytes bytesOf
 third-called = refl
 
 -- a call of the first one, which is not reached, fails
 first-called : third (0x20 ∷ 0x0a ∷ 0x0e ∷ []) ≡ failed
-unfolding renumberCharstring renumber oldOf tokensOf tokensFrom tokenAt numberAt rounded keep24 encode numberBytes integerBytes fixedBytes bytesOf
+unfolding countBelow renumberCharstring renumber oldOf tokensOf tokensFrom tokenAt numberAt rounded keep24 encode numberBytes integerBytes fixedBytes bytesOf
 first-called = refl
 
 -- 108 0 rmoveto -105 callsubr hintmask, and the first byte of a number that the end cuts off

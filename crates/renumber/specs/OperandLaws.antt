@@ -1,18 +1,22 @@
 -- Laws of a call's new operand: by the rank of the subroutine that the old operand names; it is a reading.
-use Prim.Native.Nat.{ℕ, zero, suc, _+_, _-_, _/_, _%_, _≤_, _<_}
+use Prim.Native.Nat.{ℕ, zero, suc, _+_, _-_, _*_, _/_, _%_, _≤_, _<_}
 use mathlib.Core.Path.{_≡_, refl, sym, ap, _∙_, subst}
 use mathlib.Core.Bool.{Bool, true, false, true≢false, false≢true}
 use mathlib.Core.List.{List}
+use native.Mathlib.Nat.{div-lt-iff-lt-mul, div-mul-le-self}
 use native.Mathlib.Omega.{arith}
 use lib.Dec.{ltb, eqb}
 use lib.IntN.{ℤ, pos, negsuc}
 use lib.Ieee.{Float}
-use lib.ListN.{getD}
-use borrow.Author.Tests.{ltb-true, eq-eqb, ne-eqb, le-leb, lt-leb}
+use borrow.Author.Tests.{ltb-true, lt-ltb, eq-eqb, ne-eqb, le-leb, lt-leb}
 use Rattle.octets.specs.Pick.{pick, pick-ind}
 use Rattle.type2_number.specs.Number.{isNeg, mag, whole, rounded, Reading}
 use Rattle.type2_number.specs.Floats.{floatOf}
+use Rattle.bits.specs.Bits.{countBelow, wordsFor, bitIn, below, eighth, sumBelow, lowSums, sumIn}
+use Rattle.bits.specs.BitsLaws.{count-alike}
+use Rattle.bits.specs.SumsLaws.{sum-is}
 use Rattle.charstring.specs.Bias.{biasOf}
+use Rattle.subset.specs.RankLaws.{count-below}
 use Rattle.prune.specs.StepLaws.{zero-one}
 use Rattle.prune.specs.Renumber.{New, none, new, Old, nothing, old, oldOf, newOf, operandFor, operandOf, becomes}
 use Rattle.prune.specs.OperandLaws.{operand-reading}
@@ -29,6 +33,29 @@ bias-small count =
 
 pub bias-few : (b count : ℕ) → b ≡ biasOf count → b ≤ 32768
 bias-few b count e = subst (λ (k : ℕ). k ≤ 32768) (sym e) (bias-small count)
+
+-- ---- the rank of a subroutine, from the sum below its eighth
+
+module _ (ws : List ℕ) (q : Ranks) (good : Ranked ws q) (i : ℕ) (h : i < q .count) (n : ℕ) (w : n ≡ wordsFor (q .count)) (e : ℕ) (is : e ≡ eighth n) where
+  -- the eighth in which it stands
+  pub eighth-pos : 0 < e
+  eighth-pos = omega arith
+
+  pub eighth-few : i / 32 / e < 8
+  eighth-few = div-lt-iff-lt-mul eighth-pos .1 (omega arith)
+
+  pub eighth-front : i / 32 / e * e ≤ i / 32
+  eighth-front = div-mul-le-self (i / 32) e
+
+  pub sum-front : (sum : ℕ) → sum ≡ sumIn (q .low) (q .high) (i / 32 / e) → sum ≡ countBelow (bitIn ws (q .at)) (32 * (i / 32 / e * e))
+  sum-front sum f =
+      let j = i / 32 / e in
+      let a : e ≡ eighth (wordsFor (q .count)) = is ∙ ap eighth w in
+      let k : 32 * (j * e) ≤ q .count = let l = eighth-front in omega arith in
+      f ∙ ap (λ (x : ℕ). sumIn x (q .high) j) (good .low) ∙ ap (λ (x : ℕ). sumIn (lowSums (bitIn ws (q .at)) (q .count)) x j) (good .high)
+      ∙ sum-is (bitIn ws (q .at)) (q .count) j (good .few) eighth-few
+      ∙ ap (λ (x : ℕ). sumBelow (bitIn ws (q .at)) (q .count) (j * x)) (sym a)
+      ∙ count-alike (below (bitIn ws (q .at)) (q .count)) (bitIn ws (q .at)) (32 * (j * e)) (λ x l. rw (lt-ltb x (q .count) (omega arith)))
 
 -- ---- the rank that an operand names, as the code finds it
 
@@ -76,11 +103,15 @@ module _ (ws : List ℕ) (q : Ranks) (bias : ℕ) where
 -- ---- the new number
 
 pub number-rank : (ws : List ℕ) (q : Ranks) (i : ℕ) → numbersIn ws q i ≡ newIn (rankIn ws q i)
-number-rank ws q i = go (ltb i (q .count))
+number-rank ws q i = go (ltb i (q .count)) (bitIn ws (q .at) i)
   where
-    go : (t : Bool) → pick t (newIn (getD ws (q .at + i) 0)) none ≡ newIn (pick t (getD ws (q .at + i) 0) 0)
-    go true = refl
-    go false = refl
+    n : ℕ
+    n = countBelow (bitIn ws (q .at)) i
+
+    go : (t u : Bool) → pick t (pick u (new n) none) none ≡ newIn (pick t (pick u (n + 1) 0) 0)
+    go true true = let e : n + 1 ≡ suc n = omega arith in sym (ap newIn e)
+    go true false = refl
+    go false u = refl
 
 new-rank : (ws : List ℕ) (q : Ranks) (o : Old) → newOf (numbersIn ws q) o ≡ newIn (rankAt ws q o)
 new-rank ws q nothing = refl
@@ -93,7 +124,11 @@ new-below (suc k) m n e h = let f : k ≡ n = cc in omega arith
 module _ (ws : List ℕ) (q : Ranks) (good : Ranked ws q) where
   pub rank-below : (o : Old) → rankAt ws q o ≤ q .reached
   rank-below nothing = omega arith
-  rank-below (old i) = pick-ind (λ (r : ℕ). r ≤ q .reached) (ltb i (q .count)) _ _ (λ t. good .below i (ltb-true i (q .count) t)) (λ t. omega arith)
+  rank-below (old i) =
+      pick-ind (λ (r : ℕ). r ≤ q .reached) (ltb i (q .count)) (pick (bitIn ws (q .at) i) (countBelow (bitIn ws (q .at)) i + 1) 0) 0
+      (λ t. pick-ind (λ (r : ℕ). r ≤ q .reached) (bitIn ws (q .at) i) (countBelow (bitIn ws (q .at)) i + 1) 0
+      (λ u. let b = count-below (bitIn ws (q .at)) i (q .count) u (ltb-true i (q .count) t) in omega (arith, good .reaches)) (λ u. omega arith))
+      (λ t. omega arith)
 
   pub number-below : (i n : ℕ) → numbersIn ws q i ≡ new n → n < q .reached
   number-below i n e = new-below (rankIn ws q i) (q .reached) n (sym (number-rank ws q i) ∙ e) (rank-below (old i))

@@ -1,31 +1,39 @@
--- The new numbers of subroutines by their ranks in the work words (document 01, 'What must change shape': ranks in the work words), and what
--- becomes of a call's operand by them ('Corners in write.rs').
+-- The new numbers of subroutines by their bits in the work words (document 02, Wish 7), and what becomes of a call's operand by them (document 01,
+-- 'Corners in write.rs').
 use Prim.Native.Nat.{ℕ, zero, suc, _+_, _≤_, _<_}
+use mathlib.Core.Path.{_≡_}
+use mathlib.Core.Bool.{Bool}
 use mathlib.Core.List.{List}
 use lib.Dec.{ltb, eqb}
-use lib.ListN.{length, getD}
+use lib.ListN.{length}
 use Rattle.octets.specs.Pick.{pick}
+use Rattle.bits.specs.Bits.{countBelow, wordsFor, bitIn, lowSums, highSums}
 use Rattle.charstring.specs.Bias.{biasOf}
 use Rattle.prune.specs.Renumber.{New, none, new, Old, nothing, old, operandOf, Calls}
+use Rattle.reach.specs.Reach.{numberIn}
 use Rattle.renumber.specs.declared.Ranks.{Ranks}
 
--- the rank of a subroutine: 0 where there is none
-abbrev pub rankIn : List ℕ → Ranks → ℕ → ℕ
-rankIn ws q i = pick (ltb i (q .count)) (getD ws (q .at + i) 0) 0
+-- of count subroutines whose bits stand from at on: how many are in a set
+abbrev pub ranksAt : (ℕ → Bool) → ℕ → ℕ → Ranks
+ranksAt set at count = record { at = at; count = count; reached = countBelow set count; low = lowSums set count; high = highSums set count }
 
--- the rank of the subroutine that an operand names
+-- the rank of a subroutine, plus 1: 0 where there is none
+abbrev pub rankIn : List ℕ → Ranks → ℕ → ℕ
+rankIn ws q i = pick (ltb i (q .count)) (pick (bitIn ws (q .at) i) (countBelow (bitIn ws (q .at)) i + 1) 0) 0
+
+-- the rank of the subroutine that an operand names, plus 1
 abbrev pub rankAt : List ℕ → Ranks → Old → ℕ
 rankAt ws q nothing = 0
 rankAt ws q (old i) = rankIn ws q i
 
--- the new number that a rank says: 0 for none
+-- the new number that a rank, plus 1, says: 0 for none
 abbrev pub newIn : ℕ → New
 newIn zero = none
 newIn (suc m) = new m
 
--- the new numbers of subroutines by their ranks in the words
+-- the new numbers of subroutines by their bits in the words
 abbrev pub numbersIn : List ℕ → Ranks → ℕ → New
-numbersIn ws q i = pick (ltb i (q .count)) (newIn (getD ws (q .at + i) 0)) none
+numbersIn ws q i = numberIn ws (q .at) (q .count) i
 
 -- what becomes of a call's operand
 abbrev pub callsBy : List ℕ → Ranks → Ranks → Calls
@@ -33,9 +41,11 @@ callsBy ws locals globals b z =
     pick (eqb b 10) (operandOf (numbersIn ws locals) (biasOf (locals .count)) (biasOf (locals .reached)) z)
     (operandOf (numbersIn ws globals) (biasOf (globals .count)) (biasOf (globals .reached)) z)
 
--- ranks that lie in the words and are not above the number reached
+-- bits that lie in the words, counted
 pub record Ranked (ws : List ℕ) (q : Ranks) : Type 0 where
-  pub inside : q .at + q .count ≤ length ws
+  pub inside : q .at + wordsFor (q .count) ≤ length ws
   pub few : q .count < 65536
   pub fewReached : q .reached < 65536
-  pub below : (i : ℕ) → i < q .count → getD ws (q .at + i) 0 ≤ q .reached
+  pub reaches : q .reached ≡ countBelow (bitIn ws (q .at)) (q .count)
+  pub low : q .low ≡ lowSums (bitIn ws (q .at)) (q .count)
+  pub high : q .high ≡ highSums (bitIn ws (q .at)) (q .count)

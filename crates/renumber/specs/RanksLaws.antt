@@ -1,30 +1,32 @@
--- The ranks in the work words are those of crates/subset: renumbering by the words is renumbering by the record.
-use Prim.Native.Nat.{ℕ, suc, _+_, _-_, _≤_, _<_}
-use mathlib.Core.Path.{_≡_, refl, sym, ap, _∙_, subst}
+-- The numbers by the bits in the work words are those of crates/subset: renumbering by the words is renumbering by the record.
+use Prim.Native.Nat.{ℕ, _+_, _≤_, _<_}
+use mathlib.Core.Path.{_≡_, refl, sym, ap, _∙_}
 use mathlib.Core.Bool.{Bool, true, false}
 use mathlib.Core.List.{List, [], _∷_}
-use native.Mathlib.Nat.{le-refl}
 use native.Mathlib.Decide.{decLe}
 use native.Mathlib.Omega.{arith}
 use lib.Dec.{ltb, eqb}
 use lib.IntN.{ℤ}
 use lib.ListN.{length, take, drop}
 use borrow.Author.Tests.{ltb-true, ltb-false, le-ltb}
-use Rattle.octets.specs.Pick.{pick, pick-ind}
+use Rattle.octets.specs.Pick.{pick}
 use Rattle.charstring.specs.declared.MaskLen.{MaskLen}
 use Rattle.charstring.specs.Token.{Tok, num, op, esc, mask, Body, bad, tokens, tokensOf}
 use Rattle.charstring.specs.Bias.{biasOf}
 use Rattle.unfold.specs.Unfold.{Row, Site}
 use Rattle.record.specs.Record.{givenIn, twoLengths}
-use Rattle.prune.specs.Renumber.{none, new, Old, nothing, old, oldOf, newOf, operandFor, operandOf, Operand, fails, Calls, isCall, Renumbered, before, called, calledAfter, Waiting, nobody, waits, kept, renumber, Bytes, writtenBack, renumberedTokens, renumberCharstring}
+use Rattle.prune.specs.Renumber.{none, Old, nothing, old, oldOf, newOf, operandFor, operandOf, Operand, fails, Calls, isCall, Renumbered, before, called, calledAfter, Waiting, nobody, waits, kept, renumber, Bytes, writtenBack, renumberedTokens, renumberCharstring}
 use Rattle.cff.specs.Font.{Program}
 use Rattle.subset.specs.Kept.{localsOf}
-use Rattle.subset.specs.Pruned.{countBelow, rank, reached, fail, whole, localSet, globalSet, renumberedBody, callsIn, callsAcross}
+use Rattle.bits.specs.Bits.{countBelow, wordsFor, bitIn, below, bitsOf, lowSums, highSums}
+use Rattle.bits.specs.BitsLaws.{count-alike}
+use Rattle.bits.specs.WordsLaws.{bit-told}
+use Rattle.bits.specs.SumsLaws.{below-alike, low-alike, high-alike}
+use Rattle.subset.specs.Pruned.{rank, reached, fail, whole, localSet, globalSet, renumberedBody, callsIn, callsAcross}
 use Rattle.subset.specs.RankLaws.{count-few}
-use Rattle.reach.specs.Reach.{ranksOf}
 use Rattle.reach.specs.CountLaws.{count-more}
-use Rattle.reach.specs.WordLaws.{rank-word}
-use Rattle.renumber.specs.Ranks.{newIn, numbersIn, callsBy, Ranked}
+use Rattle.reach.specs.WordLaws.{number-is}
+use Rattle.renumber.specs.Ranks.{numbersIn, callsBy, Ranked}
 use Rattle.renumber.specs.declared.Ranks.{Ranks}
 
 -- ---- how many of a set are below a number
@@ -37,33 +39,31 @@ none-between set n m i e h k = go (set i) refl
     go false f = f
     go true f = let a = count-more set n i m h k f in absurd (let y : ⊥ = omega arith in y)
 
--- ---- the words hold the ranks of a set, which has no other number
+-- ---- the words hold the bits of a set, which has no other number
 pub record HoldsRanks (ws : List ℕ) (q : Ranks) (set : ℕ → Bool) : Type 0 where
-  pub inside : q .at + q .count ≤ length ws
+  pub inside : q .at + wordsFor (q .count) ≤ length ws
   pub few : q .count < 65536
-  pub words : take (q .count) (drop (q .at) ws) ≡ ranksOf set 0 (q .count)
+  pub words : take (wordsFor (q .count)) (drop (q .at) ws) ≡ bitsOf set (q .count)
   pub reaches : q .reached ≡ countBelow set (q .count)
+  pub low : q .low ≡ lowSums set (q .count)
+  pub high : q .high ≡ highSums set (q .count)
   pub all : reached set ≡ countBelow set (q .count)
   pub narrow : (i : ℕ) → 65536 ≤ i → set i ≡ false
 
-new-one : (set : ℕ → Bool) (i : ℕ) → newIn (pick (set i) (countBelow set i + 1) 0) ≡ rank set i
-new-one set i = go (set i)
-  where
-    go : (t : Bool) → newIn (pick t (countBelow set i + 1) 0) ≡ pick t (new (countBelow set i)) none
-    go true = let e : countBelow set i + 1 ≡ suc (countBelow set i) = omega arith in ap newIn e
-    go false = refl
-
--- ranks are not above the number reached
-pub ranked-words : (ws : List ℕ) (q : Ranks) (set : ℕ → Bool) → q .at + q .count ≤ length ws → q .count < 65536
-    → take (q .count) (drop (q .at) ws) ≡ ranksOf set 0 (q .count) → q .reached ≡ countBelow set (q .count) → Ranked ws q
-ranked-words ws q set inside few words reaches =
+-- a set's counts are those of its bits
+pub ranked-words : (ws : List ℕ) (q : Ranks) (set : ℕ → Bool) → q .at + wordsFor (q .count) ≤ length ws → q .count < 65536
+    → take (wordsFor (q .count)) (drop (q .at) ws) ≡ bitsOf set (q .count)
+    → q .reached ≡ countBelow set (q .count) → q .low ≡ lowSums set (q .count) → q .high ≡ highSums set (q .count) → Ranked ws q
+ranked-words ws q set inside few words reaches low high =
+    let bits : (i : ℕ) → i < q .count → set i ≡ bitIn ws (q .at) i = λ i k. sym (bit-told ws (q .at) (q .count) set words i k) in
+    let same : below set (q .count) ≡ below (bitIn ws (q .at)) (q .count) = below-alike set (bitIn ws (q .at)) (q .count) bits in
     record {
       inside = inside;
       few = few;
       fewReached = omega (arith, count-few set (q .count));
-      below = λ i k. subst (λ (n : ℕ). n ≤ q .reached) (sym (rank-word ws (q .at) (q .count) set words i k))
-          (pick-ind (λ (n : ℕ). n ≤ q .reached) (set i) (countBelow set i + 1) 0
-          (λ t. let b = count-more set i i (q .count) (le-refl i) k t in omega arith) (λ t. omega arith));
+      reaches = reaches ∙ count-alike set (bitIn ws (q .at)) (q .count) bits;
+      low = low ∙ low-alike set (bitIn ws (q .at)) (q .count) same;
+      high = high ∙ high-alike set (bitIn ws (q .at)) (q .count) same;
     }
 
 module _ (ws : List ℕ) (q : Ranks) (set : ℕ → Bool) (h : HoldsRanks ws q set) where
@@ -80,12 +80,12 @@ module _ (ws : List ℕ) (q : Ranks) (set : ℕ → Bool) (h : HoldsRanks ws q s
   numbers-rank i = go (ltb i (q .count)) refl
     where
       go : (t : Bool) → ltb i (q .count) ≡ t → numbersIn ws q i ≡ rank set i
-      go true e = rw e (ap newIn (rank-word ws (q .at) (q .count) set (h .words) i (ltb-true i (q .count) e)) ∙ new-one set i)
+      go true e = number-is ws (q .at) (q .count) set (h .words) i (ltb-true i (q .count) e)
       go false e = rw (e, past-unreached i (ltb-false i (q .count) e))
 
   -- the words are ranks as the code asks for them
   pub ranked-of : Ranked ws q
-  ranked-of = ranked-words ws q set (h .inside) (h .few) (h .words) (h .reaches)
+  ranked-of = ranked-words ws q set (h .inside) (h .few) (h .words) (h .reaches) (h .low) (h .high)
 
   reached-is : q .reached ≡ reached set
   reached-is = h .reaches ∙ sym (h .all)

@@ -1,5 +1,5 @@
 // What a token brings to the number before it: a call takes it and its new operand stands there, any other token leaves it. The new operand
-// is found by the rank of the subroutine in the work words.
+// is found by the rank of the subroutine, the ones below its bit in the work words.
 ghost use mathlib.Core.Path.{_≡_};
 ghost use Rattle.type2_number.specs.Floats.{scaledOf, HoldsReading};
 ghost use Rattle.charstring.specs.Bias.{biasOf};
@@ -12,7 +12,7 @@ use charstring::bias;
 use type2_number::count_of;
 use type2_number::integer;
 
-// The rank of a subroutine by its old number: 0 where there is none, or it is not reached.
+// The rank of a subroutine by its old number, plus 1: 0 where there is none, or it is not reached.
 fn rank_in(words: &[u32], q: Ranks, i: usize) -> usize
     requires { ⌜ Ranked (now words) q ⌝ }
     ensures { λ r. ⌜ r ≡ rankIn (now (words .entry)) q i ⌝ }
@@ -20,10 +20,16 @@ fn rank_in(words: &[u32], q: Ranks, i: usize) -> usize
     if q.count <= i {
         return 0;
     }
-    octets::words::wide(words[q.at + i])
+    if bits::has_bit(words, q.at, i) {
+        let e = bits::sums::eighth(bits::words_for(q.count));
+        let j = i / 32 / e;
+        let sum = bits::sums::sum_in(q.low, q.high, j);
+        return bits::rank(words, q.at, i, j * e, sum) + 1;
+    }
+    0
 }
 
-// The rank of the subroutine that an operand calls: 0 where it calls none.
+// The rank of the subroutine that an operand calls, plus 1: 0 where it calls none.
 fn rank_at(words: &[u32], q: Ranks, v: f32) -> usize
     requires { ⌜ (Ranked (now words) q) × (HoldsReading v) ⌝ }
     ensures { λ r. ⌜ r ≡ rankAt (now (words .entry)) q (oldOf (biasOf (q .count)) (scaledOf v)) ⌝ }

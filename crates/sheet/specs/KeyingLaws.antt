@@ -10,7 +10,8 @@ use Rattle.octets.specs.Pick.{pick}
 use Rattle.octets.specs.PickLaws.{pick-same}
 use Rattle.dict.specs.Lookup.{cidKeyed}
 use Rattle.cff.specs.Font.{Got, refused as refusedFont, got, Program, readFont}
-use Rattle.subset.specs.Cut.{Outcome, refused, subset, sameBool, cutProgram, cutRead, cutOf}
+use Rattle.cff.specs.Find.{workSize}
+use Rattle.subset.specs.Cut.{Outcome, refused, subset, sameBool, cutProgram, cutRead, cutWith, cutOf}
 use Rattle.sheet.specs.Sheet.{keying}
 
 -- is this refusal 3?
@@ -39,20 +40,20 @@ first-stays o false e = refl
 
 module _ (name keep rec : List ℕ) (flag words room : ℕ) where
   program-by : (p : Program) (b : Bool) → cidKeyed (p .top) ≡ b
-      → pick (unsupported (cutProgram false false p name keep rec flag words room)) (cutProgram true false p name keep rec flag words room) (cutProgram false false p name keep rec flag words room)
-      ≡ cutProgram (cidKeyed (p .top)) false p name keep rec flag words room
+      → pick (unsupported (cutProgram workSize false false p name keep rec flag words room)) (cutProgram workSize true false p name keep rec flag words room) (cutProgram workSize false false p name keep rec flag words room)
+      ≡ cutProgram workSize (cidKeyed (p .top)) false p name keep rec flag words room
   program-by p false e =
-      let o = cutProgram false false p name keep rec flag words room in
-      let k : cutProgram true false p name keep rec flag words room ≡ refused 3 = cid-other (cidKeyed (p .top)) _ e in
+      let o = cutProgram workSize false false p name keep rec flag words room in
+      let k : cutProgram workSize true false p name keep rec flag words room ≡ refused 3 = cid-other (cidKeyed (p .top)) _ e in
       ap (λ (x : Outcome). pick (unsupported o) x o) k ∙ first-stays o (unsupported o) refl
-      ∙ ap (λ (c : Bool). cutProgram c false p name keep rec flag words room) (sym e)
+      ∙ ap (λ (c : Bool). cutProgram workSize c false p name keep rec flag words room) (sym e)
   program-by p true e =
-      let k : cutProgram false false p name keep rec flag words room ≡ refused 3 = name-other (cidKeyed (p .top)) _ e in
-      ap (λ (o : Outcome). pick (unsupported o) (cutProgram true false p name keep rec flag words room) o) k
-      ∙ ap (λ (c : Bool). cutProgram c false p name keep rec flag words room) (sym e)
+      let k : cutProgram workSize false false p name keep rec flag words room ≡ refused 3 = name-other (cidKeyed (p .top)) _ e in
+      ap (λ (o : Outcome). pick (unsupported o) (cutProgram workSize true false p name keep rec flag words room) o) k
+      ∙ ap (λ (c : Bool). cutProgram workSize c false p name keep rec flag words room) (sym e)
 
-  read-by : (g : Got Program) → pick (unsupported (cutRead false false g name keep rec flag words room)) (cutRead true false g name keep rec flag words room) (cutRead false false g name keep rec flag words room)
-      ≡ cutRead (keying g) false g name keep rec flag words room
+  read-by : (g : Got Program) → pick (unsupported (cutRead workSize false false g name keep rec flag words room)) (cutRead workSize true false g name keep rec flag words room) (cutRead workSize false false g name keep rec flag words room)
+      ≡ cutRead workSize (keying g) false g name keep rec flag words room
   read-by (refusedFont n) = pick-same (eqb n 3) (refused n)
   read-by (got p) = program-by p (cidKeyed (p .top)) refl
 
@@ -60,5 +61,5 @@ module _ (name keep rec : List ℕ) (flag words room : ℕ) where
   pub cut-by-keying : (font : List ℕ)
       → pick (unsupported (cutOf false false font name keep rec flag words room)) (cutOf true false font name keep rec flag words room) (cutOf false false font name keep rec flag words room)
       ≡ cutOf (keying (readFont font)) false font name keep rec flag words room
-  unfolding cutOf
+  unfolding cutWith
   cut-by-keying font = read-by (readFont font)

@@ -14,7 +14,8 @@ use Rattle.unfold.specs.Unfold.{Row, glyph, local, entered}
 use Rattle.record.specs.Record.{lists, givenIn, disagrees, twoLengths}
 use Rattle.prune.specs.Renumber.{oldOf, renumber, renumberCharstring}
 use Rattle.cff.specs.Font.{standard, Program}
-use Rattle.subset.specs.Pruned.{yes, countBelow, reached, localSet, callsIn, renumberedBody}
+use Rattle.bits.specs.Bits.{countBelow}
+use Rattle.subset.specs.Pruned.{yes, reached, localSet, callsIn, renumberedBody}
 use Rattle.subset.specs.ReachedLaws.{numbersBelow, lists-past, count-past}
 
 -- a program with so many

@@ -13,7 +13,8 @@ use Rattle.unfold.specs.Unfold.{global, entered}
 use Rattle.record.specs.Record.{lists, givenIn, disagrees, twoLengths}
 use Rattle.prune.specs.Renumber.{oldOf, renumber, renumberCharstring}
 use Rattle.subset.specs.Kept.{those}
-use Rattle.subset.specs.Pruned.{Bodies, countBelow, reached, globalSet, localSet, each, renumberedBody, renumberedSubrs, stubbedFrom, mapped, renumbered, stubbed, copied, pruned}
+use Rattle.bits.specs.Bits.{countBelow}
+use Rattle.subset.specs.Pruned.{Bodies, reached, globalSet, localSet, each, renumberedBody, renumberedSubrs, stubbedFrom, mapped, renumbered, stubbed, copied, pruned}
 use Rattle.subset.specs.ReachedLaws.{numbersBelow, lists-past, count-past}
 use Rattle.subset.specs.CidFont.{cidProgram, reachRows, wrongRows}
 

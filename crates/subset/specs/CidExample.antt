@@ -19,13 +19,13 @@ use Rattle.strings.specs.Text.{codes, sameText}
 use Rattle.strings.specs.Strings.{stringText, standardString, standardStrings, sidIn, sidOf}
 use Rattle.find.specs.Find.{glyphWithId}
 use Rattle.record.specs.Record.{rowsFrom, rowsOf, rowsFine, recordFine}
-use Rattle.cff.specs.Find.{localsTotal}
+use Rattle.cff.specs.Find.{workSize, localsWords}
 use Rattle.subset.specs.Kept.{isIn, those, placed, sortedBy, fdsOf, newFd}
 use Rattle.subset.specs.Pruned.{Pruned, pruned}
 use Rattle.subset.specs.Texts.{hasText, ownStrings, placeIn, newId, namedEntries, textsOf}
 use Rattle.subset.specs.Codes.{none}
 use Rattle.subset.specs.Subset.{namedBytes, copiedBytes, privateParts, fontDicts, cidsOf, newFds, subsetByCid, subsetBytes}
-use Rattle.subset.specs.Cut.{Outcome, subset, allFound, written, cutRead, cutOf}
+use Rattle.subset.specs.Cut.{Outcome, subset, allFound, written, cutRead, cutWith, cutOf}
 use Rattle.subset.specs.CidFont.{cidFont, cidProgram, reads, reach, reach-rows, wrongReach, wrong-rows}
 use Rattle.subset.specs.BodiesExample.{used, order, renumberedBodies, unrenumberedBodies, bodies-renumbered, bodies-stubbed, bodies-copied}
 
@@ -99,8 +99,8 @@ writtenOf q = written cidProgram none (0x41 ∷ []) (0 ∷ 1 ∷ 3 ∷ 4 ∷ [])
 
 -- a call whose record and flag are of the right form is not refused before it is written
 cut-written : (rec : List ℕ) (flag : ℕ) → recordFine true rec flag ≡ true → cut rec flag ≡ writtenOf (pruned cidProgram (rowsOf rec) used order flag)
-unfolding cutOf allBelow allFound glyphWithId isIn those placed sortedBy fdsOf lastOf lastFrom truncOf localsTotal normal stripped zeros zerosOf
-cut-written rec flag fine = ap (λ g. cutRead true false g (0x41 ∷ []) (1 ∷ 3 ∷ 4 ∷ []) rec flag 8192 32768) reads ∙ rw fine
+unfolding cutWith allBelow allFound glyphWithId isIn those placed sortedBy fdsOf lastOf lastFrom truncOf localsWords normal stripped zeros zerosOf
+cut-written rec flag fine = ap (λ g. cutRead workSize true false g (0x41 ∷ []) (1 ∷ 3 ∷ 4 ∷ []) rec flag 8192 32768) reads ∙ rw fine
 
 -- what is written of the renumbered bodies
 written-renumbered : writtenOf (record { way = 0; bodies = renumberedBodies }) ≡ subset 0 renumberedBytes

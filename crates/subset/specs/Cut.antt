@@ -76,9 +76,9 @@ abbrev pub unsupportedIn : Bool → Program → Bool
 unsupportedIn ask p = pick (strokedIn (p .top)) true (pick ask false (isExpert (p .coding)))
 
 -- a font that was read: 3 the other keying, 3 a stroked font or an Expert encoding that is not asked for, 2 a ROS that cannot be used, 4 a long
--- name, 6 a number past the font, 7 a glyph that finding would not give, 8 the record or the flag, 9 too few work words
-abbrev pub cutProgram : Bool → Bool → Program → List ℕ → List ℕ → List ℕ → ℕ → ℕ → ℕ → Outcome
-cutProgram cid ask p name keep rec flag words room =
+-- name, 6 a number past the font, 7 a glyph that finding would not give, 8 the record or the flag, 9 fewer work words than the call asks for
+abbrev pub cutProgram : (Program → ℕ) → Bool → Bool → Program → List ℕ → List ℕ → List ℕ → ℕ → ℕ → ℕ → Outcome
+cutProgram size cid ask p name keep rec flag words room =
     let kept = keptOf (length (p .charstrings)) keep in
     let order = writtenOrder p kept in
     pick (sameBool cid (cidKeyed (p .top)))
@@ -88,18 +88,22 @@ cutProgram cid ask p name keep rec flag words room =
     (pick (allBelow (length (p .charstrings)) keep)
     (pick (allFound p kept)
     (pick (recordFine cid rec flag)
-    (pick (ltb words (workSize p)) (refused 9)
+    (pick (ltb words (size p)) (refused 9)
     (written p (codedIf ask p kept (ownOf p order)) name kept order room (pruned p (rowsOf rec) (usedFds p kept) order flag)))
     (refused 8)) (refused 7)) (refused 6))) (refused 2))) (refused 3)
 
-abbrev pub cutRead : Bool → Bool → Got Program → List ℕ → List ℕ → List ℕ → ℕ → ℕ → ℕ → Outcome
-cutRead cid ask (refusedFont n) name keep rec flag words room = refused n
-cutRead cid ask (got p) name keep rec flag words room = cutProgram cid ask p name keep rec flag words room
+abbrev pub cutRead : (Program → ℕ) → Bool → Bool → Got Program → List ℕ → List ℕ → List ℕ → ℕ → ℕ → ℕ → Outcome
+cutRead size cid ask (refusedFont n) name keep rec flag words room = refused n
+cutRead size cid ask (got p) name keep rec flag words room = cutProgram size cid ask p name keep rec flag words room
 
--- a call: the keying asked for, whether the encoding is, the font, the new name, the kept numbers, the record, the flag, how many words and how
--- much room are lent
-unfoldable pub cutOf : Bool → Bool → List ℕ → List ℕ → List ℕ → List ℕ → ℕ → ℕ → ℕ → Outcome
-cutOf cid ask font name keep rec flag words room = cutRead cid ask (readFont font) name keep rec flag words room
+-- a call: how many work words it asks for, the keying asked for, whether the encoding is, the font, the new name, the kept numbers, the record,
+-- the flag, how many words and how much room are lent
+unfoldable pub cutWith : (Program → ℕ) → Bool → Bool → List ℕ → List ℕ → List ℕ → List ℕ → ℕ → ℕ → ℕ → Outcome
+cutWith size cid ask font name keep rec flag words room = cutRead size cid ask (readFont font) name keep rec flag words room
+
+-- a call that asks for W
+abbrev pub cutOf : Bool → Bool → List ℕ → List ℕ → List ℕ → List ℕ → ℕ → ℕ → ℕ → Outcome
+cutOf cid ask font name keep rec flag words room = cutWith workSize cid ask font name keep rec flag words room
 
 -- ---- what is left
 

@@ -31,10 +31,11 @@ use Rattle.opentype.specs.Opentype.{placeOf}
 use Rattle.cff.specs.Font as font
 use Rattle.cff.specs.Find as cfffind
 use Rattle.subset.specs.Kept.{isIn, those, fdsOf}
-use Rattle.subset.specs.Pruned.{countBelow, each, renumberedBody, renumberedSubrs, renumbered, pruned}
+use Rattle.bits.specs.Bits.{countBelow}
+use Rattle.subset.specs.Pruned.{each, renumberedBody, renumberedSubrs, renumbered, pruned}
 use Rattle.subset.specs.Texts.{hasText, ownStrings, placeIn, newId, namedEntries, textsOf, namesOf}
 use Rattle.subset.specs.Subset.{namedBytes, copiedBytes, newIds, subsetByName, subsetBytes}
-use Rattle.subset.specs.Cut.{subset, allFound, cutOf}
+use Rattle.subset.specs.Cut.{subset, allFound, cutWith, cutOf}
 
 abbrev pub sheet : List ℕ
 sheet =
@@ -51,11 +52,11 @@ sheetSubset =
 
 pub the-sheet : cutOf false false sheet (0x41 ∷ []) (1 ∷ []) [] 1 8192 32768 ≡ subset 0 sheetSubset
 unfolding
-    cutOf allBelow allFound subsetBytes subsetByName newIds namedBytes copiedBytes namesOf textsOf namedEntries newId placeIn ownStrings hasText pruned renumbered
+    cutWith allBelow allFound subsetBytes subsetByName newIds namedBytes copiedBytes namesOf textsOf namedEntries newId placeIn ownStrings hasText pruned renumbered
     renumberedSubrs renumberedBody each countBelow those isIn fdsOf recordFine rowsFine rowsOf rowsFrom lists givenIn twoLengths disagrees renumberCharstring renumber
     glyphWithText stringText standardString standardStrings sidOf sidIn codes sameText standardNames charsetBytes idBytes listOf opBytes operandsBytes entriesBytes offsetEntry copiedEntry privateEntry without lastOf lastFrom truncOf
     normal stripped zeros zerosOf indexBytes itemsBytes headBytes tableBytes ends sizeFor joined total readIndex told itemsOf pieces indexAt tableAt dataAt judged runOf
     offsets encode bytesOf numAt be keep24 rounded t2.numberAt t2e.numberBytes t2e.integerBytes t2e.fixedBytes tok.tokensOf tok.tokensFrom tok.tokenAt dec.numberAt dec.realAt
     decw.int5Bytes decw.numberBytes decw.intBytes dict.dictOf dict.gathered dict.readingsAt dict.readingsFrom dict.entryAt dict.entryFrom dict.operatorAt dict.tokenAt
-    font.readFont font.readTable placeOf font.setAt font.fontsAt font.fontAt font.nameParts font.privateAt font.idsAt font.codingAt font.encodingGot cfffind.localsTotal
+    font.readFont font.readTable placeOf font.setAt font.fontsAt font.fontAt font.nameParts font.privateAt font.idsAt font.codingAt font.encodingGot cfffind.localsWords
 the-sheet = refl

@@ -5,6 +5,8 @@ pub mod Codes
 pub mod CodesExample
 pub mod Subset
 pub mod Cut
+pub mod Before
+pub mod SizeLaws
 pub mod RankLaws
 pub mod EachLaws
 pub mod KeptListLaws

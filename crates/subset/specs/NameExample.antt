@@ -34,13 +34,14 @@ use Rattle.record.specs.Record.{rowsFrom, rowsOf, rowsFine, recordFine, lists, 
 use Rattle.prune.specs.Renumber.{oldOf, renumber, renumberCharstring}
 use Rattle.opentype.specs.Opentype.{placeOf}
 use Rattle.cff.specs.Font.{got, standard, Program, charset, charStrings, readTable, readFont, setAt, fontsAt, fontAt, nameParts, idsAt, privateAt, privateData, localsAt, codingAt, encodingGot}
-use Rattle.cff.specs.Find.{localsTotal}
+use Rattle.cff.specs.Find.{workSize, localsWords}
 use Rattle.subset.specs.Kept.{isIn, those, fdsOf}
-use Rattle.subset.specs.Pruned.{Bodies, Pruned, countBelow, reached, localSet, each, renumberedBody, renumberedSubrs, renumbered, pruned}
+use Rattle.bits.specs.Bits.{countBelow}
+use Rattle.subset.specs.Pruned.{Bodies, Pruned, reached, localSet, each, renumberedBody, renumberedSubrs, renumbered, pruned}
 use Rattle.subset.specs.Texts.{hasText, ownStrings, placeIn, newId, namedEntries, textsOf, namesOf}
 use Rattle.subset.specs.Codes.{none}
 use Rattle.subset.specs.Subset.{namedBytes, copiedBytes, newIds, subsetByName, subsetBytes}
-use Rattle.subset.specs.Cut.{Outcome, subset, allFound, written, cutRead, cutOf}
+use Rattle.subset.specs.Cut.{Outcome, subset, allFound, written, cutRead, cutWith, cutOf}
 use Rattle.subset.specs.ReachedLaws.{numbersBelow, lists-past, count-past}
 
 -- the font's bytes
@@ -173,9 +174,9 @@ writtenOf q = written nameProgram none (0x4e ∷ []) (0 ∷ 1 ∷ 2 ∷ []) (0 �
 cut-written : (rec : List ℕ) (flag : ℕ) → recordFine false rec flag ≡ true
     → cut rec flag ≡ writtenOf (pruned nameProgram (rowsOf rec) (0 ∷ []) (0 ∷ 1 ∷ 2 ∷ []) flag)
 unfolding
-    cutOf allBelow allFound glyphWithText stringText standardString standardStrings codes sameText standardNames isIn those fdsOf lastOf lastFrom truncOf localsTotal
+    cutWith allBelow allFound glyphWithText stringText standardString standardStrings codes sameText standardNames isIn those fdsOf lastOf lastFrom truncOf localsWords
     normal stripped zeros zerosOf
-cut-written rec flag fine = ap (λ g. cutRead false false g (0x4e ∷ []) (1 ∷ 2 ∷ []) rec flag 8192 32768) reads ∙ rw fine
+cut-written rec flag fine = ap (λ g. cutRead workSize false false g (0x4e ∷ []) (1 ∷ 2 ∷ []) rec flag 8192 32768) reads ∙ rw fine
 
 -- the subset
 abbrev pub renumberedBytes : List ℕ

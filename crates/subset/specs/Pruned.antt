@@ -7,6 +7,7 @@ use lib.Dec.{eqb}
 use lib.IntN.{ℤ}
 use lib.ListN.{length, getD}
 use Rattle.octets.specs.Pick.{pick}
+use Rattle.bits.specs.Bits.{countBelow}
 use Rattle.charstring.specs.Bias.{biasOf}
 use Rattle.unfold.specs.Unfold.{Row, Site, glyph, local, global, entered}
 use Rattle.prune.specs.Renumber.{New, none, new, Operand, fails, operandOf, Calls, Bytes, failed, bytes, renumberCharstring}
@@ -21,11 +22,6 @@ pub record Bodies : Type 0 where
   pub charstrings : List (List ℕ)
 
 -- ---- ranks
-
--- how many numbers below n are in a set
-unfoldable pub countBelow : (ℕ → Bool) → ℕ → ℕ
-countBelow set zero = 0
-countBelow set (suc n) = countBelow set n + pick (set n) 1 0
 
 -- the new number of a subroutine: how many reached ones are below it
 abbrev pub rank : (ℕ → Bool) → ℕ → New

@@ -12,7 +12,8 @@ use Rattle.octets.specs.Pick.{pick}
 use Rattle.prune.specs.Renumber.{new}
 use Rattle.prune.specs.StepLaws.{zero-one}
 use Rattle.subset.specs.Kept.{those}
-use Rattle.subset.specs.Pruned.{countBelow, rank}
+use Rattle.bits.specs.Bits.{countBelow}
+use Rattle.subset.specs.Pruned.{rank}
 
 -- ---- how many are below
 

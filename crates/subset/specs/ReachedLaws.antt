@@ -12,7 +12,7 @@ use Rattle.octets.specs.Pick.{pick}
 use Rattle.unfold.specs.Unfold.{Row}
 use Rattle.record.specs.Record.{sameRow, lists}
 use Rattle.prune.specs.StepLaws.{zero-one}
-use Rattle.subset.specs.Pruned.{countBelow}
+use Rattle.bits.specs.Bits.{countBelow}
 
 -- the numbers of a record are below n
 unfoldable pub numbersBelow : ℕ → List Row → Bool

@@ -36,10 +36,11 @@ use Rattle.opentype.specs.Opentype.{placeOf}
 use Rattle.cff.specs.Font as font
 use Rattle.cff.specs.Find as cfffind
 use Rattle.subset.specs.Kept.{isIn, those, placed, sortedBy, fdsOf, newFd}
-use Rattle.subset.specs.Pruned.{countBelow, each, renumberedBody, renumberedSubrs, renumbered, pruned}
+use Rattle.bits.specs.Bits.{countBelow}
+use Rattle.subset.specs.Pruned.{each, renumberedBody, renumberedSubrs, renumbered, pruned}
 use Rattle.subset.specs.Texts.{hasText, ownStrings, placeIn, newId, namedEntries, textsOf, namesOf}
 use Rattle.subset.specs.Subset.{namedBytes, copiedBytes, newIds, privateParts, fontDicts, cidsOf, newFds, subsetByName, subsetByCid, subsetBytes}
-use Rattle.subset.specs.Cut.{Outcome, refused, subset, allFound, cutOf}
+use Rattle.subset.specs.Cut.{Outcome, refused, subset, allFound, cutWith, cutOf}
 
 -- ---- name-keyed
 
@@ -74,7 +75,7 @@ name-stroked :
     × (byName (0x8a ∷ 0x0c ∷ 0x05 ∷ []) ≡ refused 3)
     × (byName (0x8b ∷ 0x0c ∷ 0x05 ∷ 0x8c ∷ 0x0c ∷ 0x05 ∷ []) ≡ refused 3)
 unfolding
-    cutOf lastOf lastFrom truncOf normal stripped zeros zerosOf nibbles textOf expDigits exponent mantissa formOf valueOf readIndex told itemsOf pieces indexAt tableAt
+    cutWith lastOf lastFrom truncOf normal stripped zeros zerosOf nibbles textOf expDigits exponent mantissa formOf valueOf readIndex told itemsOf pieces indexAt tableAt
     dataAt judged runOf offsets numAt be dec.numberAt dec.realAt dict.dictOf dict.gathered dict.readingsAt dict.readingsFrom dict.entryAt dict.entryFrom
     dict.operatorAt dict.tokenAt font.readFont font.readTable placeOf font.setAt font.fontsAt font.fontAt font.nameParts font.privateAt font.idsAt font.codingAt font.encodingGot listOf
 name-stroked = (refl, refl, refl, refl)
@@ -82,13 +83,13 @@ name-stroked = (refl, refl, refl, refl)
 -- StrokeWidth alone: dropped. cut_examples has the other fonts that are not refused
 name-width : byName (0x8c ∷ 0x0c ∷ 0x08 ∷ []) ≡ nameSubset
 unfolding
-    cutOf allBelow allFound subsetBytes subsetByName newIds namedBytes copiedBytes namesOf textsOf namedEntries newId placeIn ownStrings hasText pruned renumbered
+    cutWith allBelow allFound subsetBytes subsetByName newIds namedBytes copiedBytes namesOf textsOf namedEntries newId placeIn ownStrings hasText pruned renumbered
     renumberedSubrs renumberedBody each countBelow those isIn fdsOf recordFine rowsFine rowsOf rowsFrom lists givenIn twoLengths disagrees renumberCharstring renumber
     glyphWithText stringText standardString standardStrings sidOf sidIn codes sameText standardNames charsetBytes idBytes listOf opBytes operandsBytes entriesBytes offsetEntry copiedEntry privateEntry without lastOf lastFrom truncOf
     normal stripped zeros zerosOf indexBytes itemsBytes headBytes tableBytes ends sizeFor joined total readIndex told itemsOf pieces indexAt tableAt dataAt judged runOf
     offsets encode bytesOf numAt be keep24 rounded t2.numberAt t2e.numberBytes t2e.integerBytes t2e.fixedBytes tok.tokensOf tok.tokensFrom tok.tokenAt dec.numberAt dec.realAt
     decw.int5Bytes decw.numberBytes decw.intBytes dict.dictOf dict.gathered dict.readingsAt dict.readingsFrom dict.entryAt dict.entryFrom dict.operatorAt dict.tokenAt
-    font.readFont font.readTable placeOf font.setAt font.fontsAt font.fontAt font.nameParts font.privateAt font.idsAt font.codingAt font.encodingGot cfffind.localsTotal
+    font.readFont font.readTable placeOf font.setAt font.fontsAt font.fontAt font.nameParts font.privateAt font.idsAt font.codingAt font.encodingGot cfffind.localsWords
 name-width = refl
 
 -- ---- CID-keyed
@@ -130,7 +131,7 @@ cid-stroked :
     × (badRos (0x8b ∷ 0x0c ∷ 0x05 ∷ []) ≡ refused 2)
     × (badRos (0x8c ∷ 0x8c ∷ 0x0c ∷ 0x05 ∷ []) ≡ refused 2)
 unfolding
-    cutOf allBelow lastOf lastFrom truncOf normal stripped zeros zerosOf readIndex told itemsOf pieces indexAt tableAt dataAt judged runOf offsets numAt be dec.numberAt
+    cutWith allBelow lastOf lastFrom truncOf normal stripped zeros zerosOf readIndex told itemsOf pieces indexAt tableAt dataAt judged runOf offsets numAt be dec.numberAt
     dec.realAt dict.dictOf dict.gathered dict.readingsAt dict.readingsFrom dict.entryAt dict.entryFrom dict.operatorAt dict.tokenAt font.readFont font.readTable placeOf font.setAt
     font.fontsAt font.fontAt font.cidParts font.fdsAt font.idsAt font.privatesAt font.privateAt font.privateData font.localsAt listOf
 cid-stroked = (refl, refl, refl, refl)

@@ -57,7 +57,7 @@ module _ (ask : Bool) (p : Program) (name keep rec : List ℕ) (flag lent : ℕ)
       (λ v. cut-other (cut .way) bytes))))
 
   -- a call whose record and flag are of the right form for the font's keying
-  pub not-eight : recordFine (cidKeyed (p .top)) rec flag ≡ true → (cid : Bool) (words : ℕ) → Other (cutProgram cid ask p name keep rec flag words lent)
+  pub not-eight : recordFine (cidKeyed (p .top)) rec flag ≡ true → (cid : Bool) (words : ℕ) → Other (cutProgram workSize cid ask p name keep rec flag words lent)
   not-eight fine cid words =
       pick-ind Other (sameBool cid (cidKeyed (p .top))) _ (refused 3)
       (λ k. pick-ind Other (unsupportedIn ask p) (refused 3) _ (λ t. other 3 (λ d. omega (arith, d)))

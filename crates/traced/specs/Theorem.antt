@@ -20,9 +20,10 @@ use Rattle.prune.specs.StepLaws.{zero-one}
 use Rattle.record.specs.Record.{rowsFrom, rowsOf, rowFine, rowsFine, recordFine, lists}
 use Rattle.dict.specs.Lookup.{cidKeyed}
 use Rattle.cff.specs.Font.{Got, refused as refusedFont, got, Program, readFont}
+use Rattle.cff.specs.Find.{workSize}
 use Rattle.subset.specs.Kept.{keeps, keptOf, localsOf}
 use Rattle.subset.specs.Pruned.{May, fail, yes}
-use Rattle.subset.specs.Cut.{refused as refusedCut, subset, allFound, cutRead, cutOf}
+use Rattle.subset.specs.Cut.{refused as refusedCut, subset, allFound, cutRead, cutWith, cutOf}
 use Rattle.row_window.specs.Window.{Rising, none}
 use Rattle.faithful.specs.Faithful.{unfolded, IsKept, Recorded, Holds, Faithful}
 use Rattle.faithful.specs.GoodLaws.{font-good}
@@ -199,9 +200,9 @@ module _ (font keep : List ℕ) (room : ℕ) (octets : Octets font) (p : Program
   -- so no subset call with what was traced is refused by 8
   pub trace-not-eight : (flag : ℕ) (rec : List ℕ) → traceOf font keep room ≡ traced flag rec → (cid ask : Bool) (name asked : List ℕ) (words lent : ℕ)
       → cutOf cid ask font name asked rec flag words lent ≡ refusedCut 8 → ⊥
-  unfolding cutOf
+  unfolding cutWith
   trace-not-eight flag rec e cid ask name asked words lent c =
-      not-eight ask p name asked rec flag lent (trace-fine flag rec e) cid words (ap (λ (g : Got Program). cutRead cid ask g name asked rec flag words lent) (sym is) ∙ c)
+      not-eight ask p name asked rec flag lent (trace-fine flag rec e) cid words (ap (λ (g : Got Program). cutRead workSize cid ask g name asked rec flag words lent) (sym is) ∙ c)
 
   -- THE THEOREM: what was traced and then cut with what was traced, not refused, holds every plain kept glyph
   pub trace-held : (flag : ℕ) (rec : List ℕ) → traceOf font keep room ≡ traced flag rec
@@ -209,7 +210,7 @@ module _ (font keep : List ℕ) (room : ℕ) (octets : Octets font) (p : Program
       → (g : ℕ) → IsKept p keep g → (ts : List Tok) (met : List Row) → unfolded p g ≡ plain ts met → Holds p g ts bs
   trace-held flag rec e cid ask name words lent way bs c g k ts met u =
       let f : Faithful font keep rec flag (subset way bs)
-      = subst (Faithful font keep rec flag) c (faithful cid ask font name keep rec flag words lent octets (trace-octets flag rec e)) in
+      = subst (Faithful font keep rec flag) c (faithful workSize cid ask font name keep rec flag words lent octets (trace-octets flag rec e)) in
       let r : Recorded rec flag met
       = ⊎-elim (λ z. inl z) (λ o. inr (trace-lists rec (e ∙ ap (λ (n : ℕ). traced n rec) o) g k ts met u)) (trace-flags flag rec e) in
       f p is g k ts met u r

@@ -10,6 +10,7 @@ use lib.Dec.{ltb, eqb}
 use lib.ListN.{length, take, drop, replicate}
 use lib.Seq.{length-take-le}
 use Rattle.octets.specs.Pick.{pick}
+use Rattle.bits.specs.Bits.{wordsFor}
 use Rattle.octets.specs.PickLaws.{pick-same}
 use Rattle.octets.specs.Octets.{Octets}
 use Rattle.octets.specs.Lists.{allBelow}
@@ -25,7 +26,7 @@ use Rattle.subset.specs.Kept.{keptOf, writtenOrder, usedFds}
 use Rattle.subset.specs.Pruned.{Pruned, pruned}
 use Rattle.subset.specs.Subset.{subsetBytes}
 use Rattle.subset.specs.Codes.{Coded, codedIf, pairCount}
-use Rattle.subset.specs.Cut.{Outcome, refused, subset, allFound, hasRos, sameBool, ownOf, written, unsupportedIn, cutProgram, cutRead, cutOf, leavesOut, zeros, usesWork, leavesWork}
+use Rattle.subset.specs.Cut.{Outcome, refused, subset, allFound, hasRos, sameBool, ownOf, written, unsupportedIn, cutProgram, cutRead, cutWith, cutOf, leavesOut, zeros, usesWork, leavesWork}
 use Rattle.faithful.specs.Theorem.{faithful, codes-back, same-bool}
 use Rattle.faithful.specs.GoodLaws.{font-good}
 use Rattle.parts.specs.Ready.{FontHeld}
@@ -66,7 +67,7 @@ module _ (cid ask : Bool) (p : Program) (name keep rec : List ℕ) (flag words r
   number = refusalOf cid ask p (length name) keep rec flag words
 
   -- a font that was read: refused, or cut
-  pub program-cut : cutProgram cid ask p name keep rec flag words room ≡ pick (eqb number 0) (cutBehind ask p name keep rec flag room) (refused number)
+  pub program-cut : cutProgram workSize cid ask p name keep rec flag words room ≡ pick (eqb number 0) (cutBehind ask p name keep rec flag room) (refused number)
   unfolding refusalOf
   program-cut =
       chain (sameBool cid (cidKeyed (p .top))) (unsupportedIn ask p) (pick cid (hasRos (rosIn (p .top))) true) (ltb 65535 (length name)) (allBelow (length (p .charstrings)) keep)
@@ -104,15 +105,15 @@ module _ (cid ask : Bool) (font name keep rec : List ℕ) (flag : ℕ) (work out
         answers = ap answerOf (sym e);
         output = ap (λ (o : Outcome). leavesOut o out) (sym e);
         words = sym (ap (λ (o : Outcome). leavesWork o (workIn (readFont font)) work) e ∙ l);
-        faithful = faithful cid ask font name keep rec flag (length work) (length out) bytes octets;
-        codes = codes-back cid ask font name keep rec flag (length work) (length out) bytes octets;
+        faithful = faithful workSize cid ask font name keep rec flag (length work) (length out) bytes octets;
+        codes = codes-back workSize cid ask font name keep rec flag (length work) (length out) bytes octets;
       }
 
   -- a font that is not read has no W
   pub unread-cuts : (n : ℕ) → readFont font ≡ refusedFont n → Cuts cid ask font name keep rec flag work out work out (Refused n)
-  unfolding cutOf zeros
+  unfolding cutWith zeros
   unread-cuts n e =
-      refused-cuts n (ap (λ (x : Got Program). cutRead cid ask x name keep rec flag (length work) (length out)) e)
+      refused-cuts n (ap (λ (x : Got Program). cutRead workSize cid ask x name keep rec flag (length work) (length out)) e)
       (ap (λ (x : Got Program). leavesWork (refused n) (workIn x) work) e ∙ pick-same (usesWork (refused n)) work)
 
   module _ (p : Program) (is : readFont font ≡ got p) where
@@ -120,9 +121,9 @@ module _ (cid ask : Bool) (font name keep rec : List ℕ) (flag : ℕ) (work out
     refusal = refusalOf cid ask p (length name) keep rec flag (length work)
 
     outcome-is : outcome ≡ pick (eqb refusal 0) (cutBehind ask p name keep rec flag (length out)) (refused refusal)
-    unfolding cutOf
+    unfolding cutWith
     outcome-is =
-        ap (λ (x : Got Program). cutRead cid ask x name keep rec flag (length work) (length out)) is
+        ap (λ (x : Got Program). cutRead workSize cid ask x name keep rec flag (length work) (length out)) is
         ∙ program-cut cid ask p name keep rec flag (length work) (length out)
 
     -- refused before the words are used
@@ -149,8 +150,8 @@ module _ (cid ask : Bool) (font name keep rec : List ℕ) (flag : ℕ) (work out
           words =
               c ∙ ap (λ (w : ℕ). zeros w ++ drop w work) (sym (ap workIn is))
               ∙ sym (ap (λ (t : Bool). pick t (zeros (workIn (readFont font)) ++ drop (workIn (readFont font)) work) work) u);
-          faithful = faithful cid ask font name keep rec flag (length work) (length out) bytes octets;
-          codes = codes-back cid ask font name keep rec flag (length work) (length out) bytes octets;
+          faithful = faithful workSize cid ask font name keep rec flag (length work) (length out) bytes octets;
+          codes = codes-back workSize cid ask font name keep rec flag (length work) (length out) bytes octets;
         }
 
 -- ---- what refusal 0 says
@@ -227,7 +228,7 @@ module _ (cid ask : Bool) (font : List ℕ) (f : Font) (b : List ℕ) (name keep
     pub passed-read : Passed cid ask (programOf b f) (length name) keep rec flag (length work)
     passed-read = not-refused cid ask (programOf b f) (length name) keep rec flag (length work) none
 
-    module _ (w : ℕ) (size : w ≡ 2 * f .charstrings .count + f .globals .count + f .locals) where
+    module _ (w : ℕ) (size : w ≡ 2 * f .charstrings .count + wordsFor (f .globals .count) + f .words) where
       wide : w ≡ workSize (programOf b f)
       wide = size ∙ work-is b f (held .good)
 

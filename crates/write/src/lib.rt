@@ -66,7 +66,7 @@ fn cut_font(
     if 0 < n {
         return Answer::Refused(n);
     }
-    let w = early_refusals::work_size(f);
+    let w = cff::font::work_size(f);
     let words = &mut work[..w];
     let r = cut_glyphs(
         cid,

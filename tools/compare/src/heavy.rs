@@ -66,7 +66,7 @@ fn shared_locals(fds: usize, locals: usize, more: Vec<Entry>) -> Layout {
 }
 
 /// The same with `glyphs` empty charstrings and `globals` empty global subroutines: with 65,535
-/// of each the work size is 4,295,032,830, the largest there is.
+/// of each the work size is 134,348,798, the largest there is.
 pub fn work(glyphs: usize, globals: usize, fds: usize, locals: usize) -> Vec<u8> {
     let charstrings = entry(vec![place(FIRST + 3)], &[17]);
     let mut layout = shared_locals(fds, locals, vec![charstrings]);

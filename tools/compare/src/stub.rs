@@ -2,7 +2,7 @@
 //! refusal, outside the domain of the comparison, or where the original would take too much memory.
 //! It tests the harness, and nothing else.
 
-use crate::cff::CffProgram;
+use crate::cff::{CffProgram, Privates};
 use crate::compare::MEMORY;
 use crate::cut::{self, Cut, Lent, Outcome};
 use crate::domain::{self, Call, NONE, WISHES};
@@ -99,11 +99,21 @@ fn read(font: &[u8], answer: &mut Room<'_, u64>) -> u8 {
                 globals,
                 p.strings().len() as u64,
                 u64::from(p.is_cid_keyed()),
-                2 * glyphs + globals + original::locals(p),
+                work(p),
             ]
         }
     };
     answered(&counts, answer)
+}
+
+/// W of document 02, Wish 7: two words for each glyph, and a bit for each subroutine, rounded up to words for each INDEX.
+fn work(program: &CffProgram) -> u64 {
+    let words = |count: usize| count.div_ceil(32) as u64;
+    let locals = match program.privates() {
+        Privates::Single(private) => words(private.subrs.len()),
+        Privates::Cid { dicts, .. } => dicts.iter().map(|d| words(d.subrs.len())).sum(),
+    };
+    2 * u64::from(program.glyph_count()) + words(program.global_subrs().len()) + locals
 }
 
 fn find_name(font: &[u8], name: &[u8], answer: &mut Room<'_, u64>) -> u8 {

@@ -30,7 +30,7 @@ slice-aggregate-plan-all-3 c = search needs
 plan-all-requires : tie.Need-plan-all-requires
 plan-all-requires c κs =
     let h : 256 ≤ 256 = omega arith in
-    let t : 768 ≤ 768 = omega arith in
+    let t : 1280 ≤ 1280 = omega arith in
     (plan-in _ _ _ _ (S c .pre .0) firstFd first-only h, t, h)
 
 slice-aggregate-cut-planned : tie.Need-slice-aggregate-cut-planned

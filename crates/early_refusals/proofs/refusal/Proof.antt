@@ -10,7 +10,7 @@ use Rattle.kept.proofs.keep_below.Reads as keep-below-reads
 use Rattle.reach.proofs.check_record.Reads as check-record-reads
 use Rattle.early_refusals.proofs.ros_fine.Reads as ros-fine-reads
 use Rattle.early_refusals.proofs.is_fit.Reads as is-fit-reads
-use Rattle.early_refusals.proofs.work_size.Reads as work-size-reads
+use Rattle.cff.proofs.font.work_size.Reads as work-size-reads
 
 sub-is-fit : tie.Need-sub-is-fit
 sub-is-fit c = search needs

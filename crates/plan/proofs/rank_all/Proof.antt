@@ -1,4 +1,4 @@
--- `plan::rank_all` meets its contract: the globals are ranked behind the glyphs' words, the locals behind the globals.
+-- `plan::rank_all` meets its contract: the bits of the globals stand behind the glyphs' words, those of the locals behind them.
 use mathlib.Core.Path.{sym}
 use native.Mathlib.Omega.{arith}
 use borrow.Author.Needs.{needs}
@@ -14,15 +14,21 @@ use Rattle.plan.proofs.rank_all.Tie as tie
 abbrev S : tie.After-rank-reached → tie.Start
 S c = c .before .before .before .before .before .before .before .before .before .before
 
--- after the globals are ranked
+-- how many words the globals take; after their bits are set
+abbrev W : tie.After-rank-locals-arg2 → tie.After-words-for
+W c = c .before .before
+
 abbrev G : tie.After-rank-locals-arg2 → tie.After-rank-reached
-G c = c .before .before .before .before
+G c = W c .before .before .before
 
 mul-at : tie.Need-mul-at
 mul-at c = search needs
 
 rank-reached-requires : tie.Need-rank-reached-requires
 rank-reached-requires c κs = search needs
+
+words-for-requires : tie.Need-words-for-requires
+words-for-requires c κs = search needs
 
 add-behind : tie.Need-add-behind
 add-behind c = search needs
@@ -31,13 +37,12 @@ rank-locals-requires : tie.Need-rank-locals-requires
 rank-locals-requires c κs =
     let g = G c in
     let s = S g in
-    let p = s .pre in
-    let f = p .0 in (
+    let p = s .pre in (
       p .0,
       p .1,
       p .2,
-      omega (arith, f .glyphs .held .few, f .begun .globals-held .few),
-      locals-room (rowsOf (now (s .args .rows))) _ _ _ _ _ (p .3) (g .rank-reached .ensures .0),
+      omega (arith, p .0 .glyphs .held .few, p .0 .begun .globals-held .few, W c .words-for .ensures .1),
+      locals-room (rowsOf (now (s .args .rows))) _ _ _ _ _ _ (W c .words-for .ensures .0) (p .3) (g .rank-reached .ensures .0),
       p .4,
     )
 
@@ -57,8 +62,8 @@ returns c =
     let s = S g in
     let b = now (s .args .font) in
     let f = s .args .f in
-    ranks-all (programOf b f) (rowsOf (now (s .args .rows))) (now (s .args .used)) _ _ _ _ (f .charstrings .count) (f .globals .count)
-    (sym (items-length b (f .charstrings))) (sym (items-length b (f .globals))) (s .pre .3) _ (g .rank-reached .ensures .0) (g .rank-reached .ensures .1)
+    ranks-all (programOf b f) (rowsOf (now (s .args .rows))) (now (s .args .used)) _ _ _ _ (f .charstrings .count) (f .globals .count) _
+    (sym (items-length b (f .charstrings))) (sym (items-length b (f .globals))) (W (l .before) .words-for .ensures .0) (s .pre .3) _ (g .rank-reached .ensures .0) (g .rank-reached .ensures .1)
     _ _ (l .rank-locals .ensures) (c .both .ensures)
 
 pub rank-all-spec : {M : Type 1} → statement M
@@ -67,6 +72,7 @@ rank-all-spec =
     (tie.spec
     mul-at
     rank-reached-requires
+    words-for-requires
     add-behind
     rank-locals-requires
     both-requires

@@ -18,6 +18,8 @@ pub struct Font {
     pub charset: Vec<u16>,
     /// Locals of all FDs together; of the one Private in a name-keyed font.
     pub locals: u64,
+    /// The words of a bit for each local, rounded up for each FD: document 02, Wish 7.
+    pub local_words: u64,
     /// Whether the last PaintType entry of the top DICT is one number other than 0: document 02, Wish 11.
     pub stroked: bool,
     /// The Encoding entry of a name-keyed font: `STANDARD`, `EXPERT`, or where its own encoding stands.
@@ -28,9 +30,14 @@ pub struct Font {
 pub const STANDARD: u64 = 0;
 pub const EXPERT: u64 = 1;
 
+/// The words that hold a bit for each of some subroutines: document 02, Wish 7.
+pub fn words_for(count: u64) -> u64 {
+    count.div_ceil(32)
+}
+
 impl Font {
     pub fn work(&self) -> u64 {
-        2 * self.charstrings.count as u64 + self.globals.count as u64 + self.locals
+        2 * self.charstrings.count as u64 + words_for(self.globals.count as u64) + self.local_words
     }
 
     pub fn text<'a>(&self, bytes: &'a [u8], id: u16) -> &'a [u8] {
@@ -137,7 +144,7 @@ impl Reader<'_> {
         let cid_keyed = top.last(operator::ROS).is_some();
         self.note_ids(&charset, cid_keyed, strings);
         let mut encoding = STANDARD;
-        let locals = if cid_keyed {
+        let (locals, local_words) = if cid_keyed {
             let Some(at) = top.place(operator::FD_ARRAY, "FDArray entry")? else {
                 return refuse(MALFORMED, "FDArray entry", "absent", 0);
             };
@@ -163,7 +170,7 @@ impl Reader<'_> {
             } else {
                 "FD array of 1"
             });
-            fds.locals
+            (fds.locals, fds.local_words)
         } else {
             let (locals, memory) = self.private_entry(&top, "Private entry", "Private")?;
             self.memory += memory;
@@ -180,7 +187,7 @@ impl Reader<'_> {
                 }
                 at => self.encoding(at)?,
             }
-            locals
+            (locals, words_for(locals))
         };
         Ok(Font {
             charstrings,
@@ -189,6 +196,7 @@ impl Reader<'_> {
             cid_keyed,
             charset,
             locals,
+            local_words,
             stroked,
             encoding,
         })

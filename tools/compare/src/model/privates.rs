@@ -1,6 +1,7 @@
 //! Privates with their local subroutines, and the FDs of a CID-keyed font, which have one each.
 
 use super::dict::{Dict, operator};
+use super::font::words_for;
 use super::{MALFORMED, Reader, Step, refuse};
 use crate::domain::FD_MATRIX;
 
@@ -9,6 +10,7 @@ use crate::domain::FD_MATRIX;
 pub(super) struct Fds {
     pub(super) count: usize,
     pub(super) locals: u64,
+    pub(super) local_words: u64,
     pub(super) memory: u64,
 }
 
@@ -27,6 +29,7 @@ impl Reader<'_> {
         let mut fds = Fds {
             count: array.count,
             locals: 0,
+            local_words: 0,
             memory: 0,
         };
         for k in 0..array.count {
@@ -35,6 +38,7 @@ impl Reader<'_> {
             let (locals, memory) =
                 self.private_entry(&fd, "Private entry of an FD", "Private of an FD")?;
             fds.locals += locals;
+            fds.local_words += words_for(locals);
             fds.memory += 80 + memory;
         }
         Ok(fds)

@@ -13,7 +13,8 @@ use Rattle.index.specs.Write.{indexBytes}
 use Rattle.index.specs.Begun.{Meant}
 use Rattle.record.specs.Record.{rowsOf}
 use Rattle.subset.specs.Kept.{those}
-use Rattle.subset.specs.Pruned.{May, each, countBelow}
+use Rattle.bits.specs.Bits.{countBelow}
+use Rattle.subset.specs.Pruned.{May, each}
 use Rattle.subset.specs.RankLaws.{count-few}
 use Rattle.renumber.specs.Ranks.{callsBy}
 use Rattle.bodies.specs.Ways.{manyOf, reachedIn, siteIn, isKept, subrBy, subrsBy}

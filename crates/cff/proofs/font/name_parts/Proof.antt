@@ -1,5 +1,6 @@
 -- `cff::font::name_parts` meets its contract: its steps are those of `nameParts`.
 use Rattle.dict.specs.Places.{entriesOf}
+use Rattle.cff.specs.ReadsLaws.{few-locals}
 use Rattle.cff.specs.FontLaws.{name-unencoded, name-unread, name-found}
 use borrow.Author.Needs.{needs}
 use Rattle.cff.proofs.font.name_parts.Statement.{statement}
@@ -29,6 +30,9 @@ no-items-requires c κs = search needs
 no-fd-select-requires : tie.Need-no-fd-select-requires
 no-fd-select-requires c κs = search needs
 
+words-for-requires : tie.Need-words-for-requires
+words-for-requires c κs = few-locals _ _ _ (c .before .before .before .before .before .before .before .before .before .before .private-at .ensures) _ (c .before .before .before .before .before .before .before .before .read2 .given .1)
+
 returns : tie.Need-returns
 returns c = name-unread (c .before .before .before .before .before .before .args .font .now) (entriesOf (c .before .before .before .before .before .before .args .d .now)) (c .before .before .before .before .before .before .args .n) _ (c .before .before .before .private-at .ensures) _ (c .before .read .given .1)
 
@@ -36,7 +40,7 @@ returns-2 : tie.Need-returns-2
 returns-2 c = name-unencoded (c .before .before .before .before .before .before .before .before .before .before .before .args .font .now) (entriesOf (c .before .before .before .before .before .before .before .before .before .before .before .args .d .now)) (c .before .before .before .before .before .before .before .before .before .before .before .args .n) _ (c .before .before .before .before .before .before .before .before .private-at .ensures) _ (c .before .before .before .before .before .before .read2 .given .1) _ (c .before .before .before .read-encoding .ensures) _ (c .before .e .given .1)
 
 returns-3 : tie.Need-returns-3
-returns-3 c = name-found (c .before .before .before .before .before .before .before .before .before .before .before .before .before .args .font .now) (entriesOf (c .before .before .before .before .before .before .before .before .before .before .before .before .before .args .d .now)) (c .before .before .before .before .before .before .before .before .before .before .before .before .before .args .n) _ (c .before .before .before .before .before .before .before .before .before .before .private-at .ensures) _ (c .before .before .before .before .before .before .before .before .read2 .given .1) _ (c .before .before .before .before .before .read-encoding .ensures) _ (c .before .before .before .encoding .given .1) (c .before .before .before .before .before .before .before .before .before .before .before .before .before .pre) _ (c .before .no-items .ensures) _ (c .no-fd-select .ensures)
+returns-3 c = name-found (c .before .before .before .before .before .before .before .before .before .before .before .before .before .before .args .font .now) (entriesOf (c .before .before .before .before .before .before .before .before .before .before .before .before .before .before .args .d .now)) (c .before .before .before .before .before .before .before .before .before .before .before .before .before .before .args .n) _ (c .before .before .before .before .before .before .before .before .before .before .before .private-at .ensures) _ (c .before .before .before .before .before .before .before .before .before .read2 .given .1) _ (c .before .before .before .before .before .before .read-encoding .ensures) _ (c .before .before .before .before .encoding .given .1) (c .before .before .before .before .before .before .before .before .before .before .before .before .before .before .pre) _ (c .before .before .no-items .ensures) _ (c .before .no-fd-select .ensures) _ (c .words-for .ensures .0)
 
 pub name-parts-spec : {M : Type 1} → statement M
 name-parts-spec =
@@ -50,6 +54,7 @@ name-parts-spec =
     enum-known-encoding
     no-items-requires
     no-fd-select-requires
+    words-for-requires
     returns
     returns-2
     returns-3)

@@ -1,8 +1,11 @@
 -- `reach::ranks::rank_reached` meets its contract: the globals are the rows of kind 1 and FD 0, the locals those of kind 0 and their FD.
-use borrow.Author.Needs.{needs}
 use Rattle.reach.specs.RankLaws.{globals-set, locals-set, ranked-part}
+use borrow.Author.Needs.{needs}
 use Rattle.reach.proofs.ranks.rank_reached.Statement.{statement}
 use Rattle.reach.proofs.ranks.rank_reached.Tie as tie
+
+words-for-requires : tie.Need-words-for-requires
+words-for-requires c κs = search needs
 
 add-end : tie.Need-add-end
 add-end c = search needs
@@ -29,7 +32,8 @@ returns : tie.Need-returns
 returns c =
     let r = c .before .before in
     let t = r .before .before in
-    ranked-part _ _ _ _ _ _ _ (globals-set _ _ _ (t .if1 .taken)) (t .before .before .before .pre .2) (r .rank-rows .ensures)
+    let w = t .before in
+    ranked-part _ _ _ _ _ _ _ _ (globals-set _ _ _ (t .if1 .taken)) (w .words-for .ensures .0) (w .before .before .before .pre .2) (r .rank-rows .ensures)
 
 mul-rank-rows-2 : tie.Need-mul-rank-rows-2
 mul-rank-rows-2 c = search needs
@@ -53,12 +57,14 @@ returns-2 : tie.Need-returns-2
 returns-2 c =
     let r = c .before .before in
     let t = r .before .before in
-    ranked-part _ _ _ _ _ _ _ (locals-set _ _ _ (t .if1 .left)) (t .before .before .before .pre .2) (r .rank-rows2 .ensures)
+    let w = t .before in
+    ranked-part _ _ _ _ _ _ _ _ (locals-set _ _ _ (t .if1 .left)) (w .words-for .ensures .0) (w .before .before .before .pre .2) (r .rank-rows2 .ensures)
 
 pub rank-reached-spec : {M : Type 1} → statement M
 rank-reached-spec =
     tie.close
     (tie.spec
+    words-for-requires
     add-end
     mul-rank-rows
     sub-rank-rows
