@@ -1,0 +1,6 @@
+pub mod Alike
+pub mod CountsLaws
+pub mod TopLaws
+pub mod PartsLaws
+pub mod BodiesLaws
+pub mod Theorem
