@@ -4,3 +4,4 @@ pub mod TopLaws
 pub mod PartsLaws
 pub mod BodiesLaws
 pub mod Theorem
+pub mod Calls
