@@ -40,7 +40,8 @@ pub record SamePrivate (asked : ℕ → Bool) (x y : Private) : Type 0 where
   pub entries : without subrs (x .entries) ≡ without subrs (y .entries)
   pub locals : SameFor asked (x .locals) (y .locals)
 
--- two programs by a keep list, the global subroutines that are asked, and the local ones of each FD
+-- two programs, by a keep list, the global subroutines that are asked, and the local ones of each FD. Of a Font DICT Private is left out, which is a
+-- place; a name-keyed font has one FD, 0, and no Font DICT
 pub record Alike (keep : List ℕ) (global : ℕ → Bool) (local : ℕ → ℕ → Bool) (p q : Program) : Type 0 where
   pub top : withoutAll places (p .top) ≡ withoutAll places (q .top)
   pub strings : p .strings ≡ q .strings
@@ -57,7 +58,7 @@ pub record Alike (keep : List ℕ) (global : ℕ → Bool) (local : ℕ → ℕ 
 abbrev pub inUse : Program → List ℕ → ℕ → Bool
 inUse p keep f = isIn f (usedFds p (keptOf (length (p .charstrings)) keep))
 
--- flag 1: asked are the subroutines that the record lists as reached, in FDs in use
+-- flag 1: asked are the subroutines that the record lists as reached, in FDs in use; a row of a mask does not ask for the body that it is in
 abbrev pub ListedAlike : List ℕ → List ℕ → Program → Program → Type 0
 ListedAlike keep rec p q = Alike keep (globalSet (rowsOf rec)) (λ f k. pick (inUse p keep f) (localSet (rowsOf rec) f k) false) p q
 
@@ -79,7 +80,7 @@ CountsAlone size = (p q : Program) → SameCounts p q → size p ≡ size q
 
 -- ---- the statements
 
--- the same reply, or number, way, length and bytes, for fonts that are read as these programs
+-- the same reply, a refusal's number or way and bytes, for fonts that are read as these programs, whatever else is asked and lent
 abbrev pub SameReply : (Program → ℕ) → Program → Program → List ℕ → List ℕ → ℕ → Type 0
 SameReply size p q keep rec flag =
     (cid ask : Bool) (font font' name : List ℕ) (words room : ℕ) → readFont font ≡ got p → readFont font' ≡ got q

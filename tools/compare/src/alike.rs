@@ -268,7 +268,9 @@ impl Pairs {
         let globals = globals.filter(|(k, _)| listed(&asked.globals, *k));
         bodies.extend(globals.map(|(_, body)| body));
         for (private, set) in other.privates.iter_mut().zip(&asked.locals) {
-            let locals = private.iter_mut().flat_map(|p| p.locals.iter_mut().flatten());
+            let locals = private
+                .iter_mut()
+                .flat_map(|p| p.locals.iter_mut().flatten());
             let locals = locals.enumerate().filter(|(k, _)| listed(set, *k));
             bodies.extend(locals.map(|(_, body)| body));
         }
@@ -297,8 +299,18 @@ impl Pairs {
         );
         let ways = (0..3).map(|way| format!("w{way}"));
         let refusals = (1..=13).map(|number| number.to_string());
-        report::row(&mut out, "", 7, ways.chain(refusals).chain(["all".to_string()]));
-        report::counts(&mut out, "pairs of replies, by the answer", 7, &self.answers);
+        report::row(
+            &mut out,
+            "",
+            7,
+            ways.chain(refusals).chain(["all".to_string()]),
+        );
+        report::counts(
+            &mut out,
+            "pairs of replies, by the answer",
+            7,
+            &self.answers,
+        );
         let _ = writeln!(
             out,
             "pairs with the encoding asked for {}, with an OpenType file {}, with flag 0 {}",
@@ -362,7 +374,10 @@ fn still(font: &Font, table: &[u8]) -> Result<(), String> {
 
 fn same(one: &Subsetted, two: &Subsetted) -> Result<(), String> {
     if one.zeros != two.zeros {
-        return Err(format!("{} and {} work words are zeros", one.zeros, two.zeros));
+        return Err(format!(
+            "{} and {} work words are zeros",
+            one.zeros, two.zeros
+        ));
     }
     match (&one.answer, &two.answer) {
         (Ok((way, bytes)), Ok((other_way, others))) => {
@@ -375,7 +390,10 @@ fn same(one: &Subsetted, two: &Subsetted) -> Result<(), String> {
             }
             match (0..bytes.len()).find(|&k| bytes[k] != others[k]) {
                 None => Ok(()),
-                Some(k) => Err(format!("byte {k} is {:02x} and {:02x}", bytes[k], others[k])),
+                Some(k) => Err(format!(
+                    "byte {k} is {:02x} and {:02x}",
+                    bytes[k], others[k]
+                )),
             }
         }
         (Err(number), Err(other)) if number == other => Ok(()),
@@ -384,7 +402,11 @@ fn same(one: &Subsetted, two: &Subsetted) -> Result<(), String> {
                 Ok((way, bytes)) => format!("way {way} and {} bytes", bytes.len()),
                 Err(number) => format!("refusal {number}"),
             };
-            Err(format!("{} for one, {} for the other", told(one), told(two)))
+            Err(format!(
+                "{} for one, {} for the other",
+                told(one),
+                told(two)
+            ))
         }
     }
 }

@@ -2,6 +2,8 @@
 //! The sources under docs/src are compiled here as they are. See README.md.
 
 mod alike;
+#[cfg(test)]
+mod alike_tests;
 mod bodies;
 mod cases;
 mod compare;
@@ -346,8 +348,14 @@ fn alike(seed: u64, count: usize) -> ExitCode {
         (made, real, tables.len())
     });
     println!("seed {seed}, {count} pairs of made fonts, {tables} tables of real fonts");
-    print!("\n==== made fonts\n{}", made.report(&target().join("compare")));
-    print!("\n==== real fonts\n{}", real.report(&target().join("compare")));
+    print!(
+        "\n==== made fonts\n{}",
+        made.report(&target().join("compare"))
+    );
+    print!(
+        "\n==== real fonts\n{}",
+        real.report(&target().join("compare"))
+    );
     status(made.differences() + real.differences())
 }
 

@@ -106,7 +106,10 @@ impl Mover<'_> {
             let locals = self.items(locals);
             self.behind.push((part, locals));
             let distance = Num::Distance(part, locals, numbers::form(self.g));
-            placed.push((operator::SUBRS, entry(vec![distance], &bytes_of(operator::SUBRS))));
+            placed.push((
+                operator::SUBRS,
+                entry(vec![distance], &bytes_of(operator::SUBRS)),
+            ));
         }
         let entries = self.entries(&private.entries, placed);
         self.layout.parts[part] = Part::Dict(entries);

@@ -91,7 +91,11 @@ fn items(bytes: &[u8], index: &Index) -> Vec<Vec<u8>> {
 /// An encoding that is read, from its first byte: TN5176, section 12.
 fn encoding(table: &[u8]) -> &[u8] {
     let count = usize::from(table[1]);
-    let mut length = 2 + if table[0] & 127 == 0 { count } else { 2 * count };
+    let mut length = 2 + if table[0] & 127 == 0 {
+        count
+    } else {
+        2 * count
+    };
     if table[0] & 128 != 0 {
         length += 1 + 3 * usize::from(table[length]);
     }
