@@ -14,14 +14,13 @@ use Rattle.octets.specs.Pick.{pick, pick-ind}
 use Rattle.charstring.specs.Bias.{biasOf}
 use Rattle.unfold.specs.Unfold.{Row, glyph as glyphSite, local as localSite, global as globalSite}
 use Rattle.prune.specs.Renumber.{Operand, fails, operandOf, Calls}
-use Rattle.prune.specs.StepLaws.{zero-one}
 use Rattle.dict.specs.Lookup.{cidKeyed}
 use Rattle.cff.specs.Font.{Program}
 use Rattle.subset.specs.Kept.{isIn, keeps, keptOf, sortedBy, writtenOrder, usedFds, localsOf}
 use Rattle.subset.specs.KeptListLaws.{those-in, sorted-in}
-use Rattle.subset.specs.Pruned.{Bodies, May, fail, yes, and, each, rank, reached, localSet, globalSet, renumberedBody, renumberedSubrs, stubbedFrom, mapped, callsIn, callsAcross, renumbered, charstringsOf, stubbed, copied, Pruned, orStubbed, pruned}
+use Rattle.subset.specs.Pruned.{Bodies, May, yes, and, each, rank, reached, localSet, globalSet, renumberedBody, renumberedSubrs, stubbedFrom, mapped, callsIn, callsAcross, renumbered, charstringsOf, stubbed, copied, Pruned, orStubbed, pruned}
 use Rattle.subset.specs.AlikeLaws.{each-alike, mapped-alike, stubbed-alike, renumbered-alike}
-use Rattle.alike.specs.Alike.{SameFor, Alike, ListedAlike, AllAlike}
+use Rattle.alike.specs.Alike.{SameFor, Alike}
 
 -- the calls of a glyph or a local subroutine, by how many local and how many global subroutines the font has
 abbrev globalBy : List Row → ℕ → ℤ → Operand

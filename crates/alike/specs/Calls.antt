@@ -1,7 +1,6 @@
 -- Unused letters leave no trace, over the calls (document 02, Wish 8): by the contracts of the entries.
 use Prim.Native.Nat.{ℕ, _<_}
 use mathlib.Core.Path.{_≡_, sym, ap, _∙_}
-use mathlib.Core.Bool.{Bool}
 use mathlib.Core.List.{List}
 use lib.ListN.{length}
 use Rattle.cff.specs.Font.{Program, readFont}

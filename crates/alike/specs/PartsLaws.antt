@@ -1,26 +1,25 @@
 -- The bytes of a subset are the same for fonts that are alike, its bodies being the same.
 use Prim.Native.Nat.{ℕ, _+_}
 use mathlib.Core.Path.{_≡_, refl, ap, _∙_}
-use mathlib.Core.Bool.{Bool, true, false}
+use mathlib.Core.Bool.{Bool}
 use mathlib.Core.List.{List, [], _∷_, _++_}
 use lib.Dec.{eqb}
 use lib.ListN.{length, getD}
 use Rattle.octets.specs.Pick.{pick}
 use Rattle.decimal.specs.Decimal.{normal, whole}
-use Rattle.dict.specs.Op.{subrs, ros, fontMatrix, copiedTopEntries}
-use Rattle.dict.specs.Dict.{Entry}
-use Rattle.dict.specs.Lookup.{Operands, rosIn, cidCountIn, cidKeyed}
+use Rattle.dict.specs.Op.{subrs, ros, fontMatrix}
+use Rattle.dict.specs.Lookup.{Operands, rosIn, cidKeyed}
 use Rattle.dict.specs.declared.RosIn.{RosIn}
 use Rattle.dict.specs.declared.RosIn.the-variants.{Ros, None}
-use Rattle.dict_write.specs.Written.{entriesBytes, entryBytes, copiedEntry, offsetEntry, privateEntry, privateBytes, without}
+use Rattle.dict_write.specs.Written.{entriesBytes, entryBytes, copiedEntry, offsetEntry, privateEntry, privateBytes}
 use Rattle.index.specs.Write.{indexBytes}
 use Rattle.strings.specs.Strings.{stringText}
 use Rattle.cff.specs.Font.{Program}
-use Rattle.subset.specs.Kept.{isIn, newFd, privateOf, usedFds}
-use Rattle.subset.specs.Texts.{newId, namesOf}
+use Rattle.subset.specs.Kept.{newFd, privateOf, usedFds}
+use Rattle.subset.specs.Texts.{newId}
 use Rattle.subset.specs.Pruned.{Bodies}
 use Rattle.subset.specs.Codes.{Coded}
-use Rattle.subset.specs.Subset.{copiedBytes, rosEntry, rosTexts, privateDict, privatePart, matrixOf, fontDict, privateParts, fontDicts, named, cidsOf, newFds, ownByCid, subsetByName, subsetByCid, subsetBytes}
+use Rattle.subset.specs.Subset.{rosEntry, privateDict, privatePart, fontDict, privateParts, fontDicts, cidsOf, newFds, ownByCid, subsetByName, subsetByCid, subsetBytes}
 use Rattle.subset.specs.AlikeLaws.{cids-alike}
 use Rattle.alike.specs.Alike.{Alike}
 use Rattle.alike.specs.TopLaws.{keyed-same, ros-same, count-same, copied-same, named-same, names-same, id-same, texts-same, matrix-same, used-same}

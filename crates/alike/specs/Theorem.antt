@@ -1,6 +1,6 @@
 -- Unused letters leave no trace, proved (document 02, Wish 8): no test of a call and no part of a subset asks for an unkept charstring or for a body that the
 -- record does not list, and none asks where a part stood.
-use Prim.Native.Nat.{ℕ, _<_}
+use Prim.Native.Nat.{ℕ}
 use mathlib.Core.Path.{_≡_, refl, sym, ap, _∙_}
 use mathlib.Core.Bool.{Bool, true, false}
 use mathlib.Core.List.{List}
@@ -11,13 +11,13 @@ use Rattle.octets.specs.Lists.{allBelow}
 use Rattle.dict.specs.Lookup.{rosIn, cidKeyed}
 use Rattle.dict.specs.declared.RosIn.{RosIn}
 use Rattle.record.specs.Record.{rowsOf, recordFine}
-use Rattle.cff.specs.Font.{Got, got, Program, readFont}
-use Rattle.subset.specs.Kept.{isIn, keptOf, writtenOrder, usedFds}
-use Rattle.subset.specs.Pruned.{Pruned, localSet, globalSet, pruned}
+use Rattle.cff.specs.Font.{Got, Program}
+use Rattle.subset.specs.Kept.{keptOf, writtenOrder, usedFds}
+use Rattle.subset.specs.Pruned.{Pruned, localSet, pruned}
 use Rattle.subset.specs.Codes.{Coded, codedIf, pairCount}
 use Rattle.subset.specs.Subset.{subsetBytes}
 use Rattle.subset.specs.Cut.{Outcome, refused, subset, allFound, hasRos, sameBool, ownOf, unsupportedIn, written, cutProgram, cutRead, cutWith}
-use Rattle.alike.specs.Alike.{Alike, ListedAlike, AllAlike, SameReply, CountsAlone, NoTrace, NoTraceCopied}
+use Rattle.alike.specs.Alike.{Alike, SameReply, CountsAlone, NoTrace, NoTraceCopied}
 use Rattle.alike.specs.CountsLaws.{alike-counts}
 use Rattle.alike.specs.TopLaws.{keyed-same, ros-same, unsupported-same, own-same, order-alike, used-same, found-same, coded-same}
 use Rattle.alike.specs.PartsLaws.{bytes-same}

@@ -16,7 +16,7 @@ use Rattle.dict.specs.Dict.{Entry}
 use Rattle.dict.specs.Lookup.{Operands, absent, operands, lastFrom, lastOf, only, isThere, cidKeyed, rosAs, rosIn, countAs, cidCountIn, strokedAs, strokedIn, idAs, idIn}
 use Rattle.dict.specs.declared.RosIn.{RosIn}
 use Rattle.dict.specs.declared.RosIn.the-variants.{Ros, None}
-use Rattle.dict_write.specs.Written.{without, copiedEntry}
+use Rattle.dict_write.specs.Written.{without}
 use Rattle.strings.specs.Strings.{stringText}
 use Rattle.charset.specs.Codes.{Naming, byNumber, byString}
 use Rattle.find.specs.Find.{glyphWithId, glyphWithText}
@@ -27,7 +27,7 @@ use Rattle.cff.specs.Find.{foundAs}
 use Rattle.cff.specs.declared.FoundAs.the-variants.{Absent as NotFound}
 use Rattle.subset.specs.Kept.{isIn, those, sortedBy, writtenOrder, fdsOf, usedFds}
 use Rattle.subset.specs.Texts.{Named, namedBy, namedEntries, textsOf, nameOf, namesOf, ownStrings, newId}
-use Rattle.subset.specs.Codes.{codeOf, glyphBy, orElse, lastNamed, Pair, pairOf, pairsFrom, Coded, none, predefined, pairs, codedBy, codedIf}
+use Rattle.subset.specs.Codes.{codeOf, glyphBy, orElse, lastNamed, Pair, pairOf, pairsFrom, Coded, none, pairs, codedBy, codedIf}
 use Rattle.subset.specs.Subset.{copiedBytes, rosTexts, named, ownByName, ownByCid, matrixOf}
 use Rattle.subset.specs.Cut.{isGlyph, isFound, allFound, isExpert, unsupportedIn, ownOf}
 use Rattle.subset.specs.AlikeLaws.{names-alike}

@@ -24,14 +24,13 @@ use Rattle.strings.specs.Text.{codes, sameText}
 use Rattle.strings.specs.Strings.{stringText, standardString, standardStrings, sidIn, sidOf}
 use Rattle.find.specs.Find.{glyphWithText}
 use Rattle.unfold.specs.Unfold.{Row, local, global, entered}
-use Rattle.prune.specs.StepLaws.{zero-one}
 use Rattle.record.specs.Record.{rowsFrom, rowsOf, rowsFine, recordFine, lists, givenIn, disagrees, twoLengths}
 use Rattle.prune.specs.Renumber.{oldOf, renumber, renumberCharstring}
 use Rattle.cff.specs.Font.{Got, Program}
 use Rattle.cff.specs.Find.{workSize, localsTotal}
 use Rattle.bits.specs.Bits.{countBelow}
 use Rattle.subset.specs.Kept.{isIn, those, fdsOf}
-use Rattle.subset.specs.Pruned.{Bodies, Pruned, reached, localSet, globalSet, each, renumberedBody, renumberedSubrs, renumbered, pruned}
+use Rattle.subset.specs.Pruned.{Pruned, reached, localSet, globalSet, each, renumberedBody, renumberedSubrs, renumbered, pruned}
 use Rattle.subset.specs.Texts.{hasText, ownStrings, placeIn, newId, namedEntries, textsOf, namesOf}
 use Rattle.subset.specs.Codes.{none}
 use Rattle.subset.specs.Subset.{namedBytes, copiedBytes, newIds, subsetByName, subsetBytes}

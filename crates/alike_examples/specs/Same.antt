@@ -1,9 +1,9 @@
 -- The theorem used: the moved font gives the reply of the bare one, whatever stands in the bodies that the record does not list; without a record too, where
 -- these are the same.
 use Prim.Native.Nat.{ℕ, zero, suc}
-use mathlib.Core.Path.{_≡_, refl, sym}
+use mathlib.Core.Path.{_≡_, refl}
 use mathlib.Core.Bool.{Bool, true, false}
-use mathlib.Core.List.{List, [], _∷_}
+use mathlib.Core.List.{[], _∷_}
 use native.Mathlib.Omega.{arith}
 use lib.ListN.{getD}
 use Rattle.octets.specs.Pick.{pick}
@@ -11,11 +11,10 @@ use Rattle.octets.specs.Octets.{be, numAt}
 use Rattle.prune.specs.StepLaws.{zero-one}
 use Rattle.dict_write.specs.Written.{without}
 use Rattle.record.specs.Record.{rowsFrom, rowsOf, lists}
-use Rattle.cff.specs.Font.{Program}
 use Rattle.cff.specs.Find.{workSize}
 use Rattle.subset.specs.Kept.{isIn, those, keeps, fdsOf, privateOf}
 use Rattle.subset.specs.Pruned.{localSet, globalSet}
-use Rattle.alike.specs.Alike.{withoutAll, SameFor, SamePrivate, Alike, inUse, ListedAlike, AllAlike}
+use Rattle.alike.specs.Alike.{withoutAll, SameFor, SamePrivate, inUse, ListedAlike, AllAlike}
 use Rattle.alike.specs.CountsLaws.{work-counts}
 use Rattle.alike.specs.Theorem.{no-trace, no-trace-copied}
 use Rattle.alike_examples.specs.Fonts.{bare, bareProgram, bare-reads, moved, movedProgram, moved-reads, reach, keep, cut}
