@@ -1,7 +1,7 @@
 -- What the parts of a subset ask of a font (document 02, Wish 8): bodies that agree where a set has them are stubbed and renumbered to the same,
 -- whatever the others are; the charset asks for the ids of the glyphs that are written alone.
-use Prim.Native.Nat.{ℕ, zero, suc, _+_}
-use mathlib.Core.Path.{_≡_, refl, sym, ap, _∙_}
+use Prim.Native.Nat.{ℕ, suc, _+_}
+use mathlib.Core.Path.{_≡_, refl, ap, _∙_}
 use mathlib.Core.Bool.{Bool, true, false}
 use mathlib.Core.List.{List, [], _∷_}
 use native.Mathlib.Omega.{arith}
@@ -10,7 +10,6 @@ use Rattle.octets.specs.Pick.{pick}
 use Rattle.unfold.specs.Unfold.{Row, Site}
 use Rattle.prune.specs.Renumber.{Calls}
 use Rattle.prune.specs.StepLaws.{zero-one}
-use Rattle.strings.specs.Strings.{stringText}
 use Rattle.cff.specs.Font.{Program}
 use Rattle.subset.specs.Kept.{isIn, those}
 use Rattle.subset.specs.KeptListLaws.{in-head, in-more, those-in}
