@@ -12,6 +12,7 @@ pub mod EachLaws
 pub mod KeptListLaws
 pub mod TextsLaws
 pub mod ReachedLaws
+pub mod AlikeLaws
 pub mod Examples
 pub mod CidFont
 pub mod BodiesExample

@@ -66,7 +66,7 @@ fn file_of(rows: &[([u8; 4], u32, u32)], behind: &[u8]) -> Vec<u8> {
 }
 
 /// A font as a table of a file, between other tables.
-fn wrapped(font: &[u8]) -> Vec<u8> {
+pub fn wrapped(font: &[u8]) -> Vec<u8> {
     let before = font.len() % 5;
     let start = (HEAD + 4 * ROW + before) as u32;
     let length = font.len() as u32;

@@ -1,6 +1,9 @@
 //! Compares the library with the original Rust at scale: reading a font, finding, items.
 //! The sources under docs/src are compiled here as they are. See README.md.
 
+mod alike;
+#[cfg(test)]
+mod alike_tests;
 mod bodies;
 mod cases;
 mod check_compare;
@@ -33,6 +36,7 @@ mod hooked;
 mod layout;
 mod library;
 mod model;
+mod moved;
 mod names;
 mod numbers;
 mod opentype;
@@ -83,6 +87,7 @@ const USAGE: &str = "usage: tools/compare/run cff SEED COUNT
        tools/compare/run trace SEED COUNT
        tools/compare/run check SEED COUNT
        tools/compare/run opentype SEED COUNT
+       tools/compare/run alike SEED COUNT
        tools/compare/run trace-time FILE
        tools/compare/run cut FOLDER
        tools/compare/run case SEED NUMBER
@@ -116,6 +121,7 @@ fn main() -> ExitCode {
         ["trace", seed, count] => seeded(seed, count, trace),
         ["check", seed, count] => seeded(seed, count, check),
         ["opentype", seed, count] => seeded(seed, count, opentype),
+        ["alike", seed, count] => seeded(seed, count, alike),
         ["trace-time", file] => trace_time(file),
         ["cut", folder] => cut_tables(Path::new(folder)),
         ["case", seed, number] => seeded(seed, number, case),
@@ -341,6 +347,39 @@ fn opentype(seed: u64, count: usize) -> ExitCode {
     println!("seed {seed}, {count} damaged directories");
     print!("{text}");
     status(differences)
+}
+
+/// `count` pairs of made fonts, and pairs of each table in target/fonts.
+fn alike(seed: u64, count: usize) -> ExitCode {
+    let (made, real, tables) = on_large_stack(move || {
+        let library = library::library();
+        let (mut made, mut real) = (alike::Pairs::default(), alike::Pairs::default());
+        let others = cut_cases::fonts(seed).zip(cut_cases::coded(seed));
+        for case in others.flat_map(|(one, two)| [one, two]) {
+            let most = count - made.pairs as usize;
+            if most == 0 {
+                break;
+            }
+            made.font(&library, &case, seed, most, &cut_cases::made);
+        }
+        let tables = cases::tables(&target().join("fonts"), seed);
+        for table in &tables {
+            for case in table.cases().take(1) {
+                real.font(&library, &case, seed, usize::MAX, &cut_cases::real);
+            }
+        }
+        (made, real, tables.len())
+    });
+    println!("seed {seed}, {count} pairs of made fonts, {tables} tables of real fonts");
+    print!(
+        "\n==== made fonts\n{}",
+        made.report(&target().join("compare"))
+    );
+    print!(
+        "\n==== real fonts\n{}",
+        real.report(&target().join("compare"))
+    );
+    status(made.differences() + real.differences())
 }
 
 /// The time that this thread has had of a processor.

@@ -7,12 +7,14 @@
 mod dict;
 mod font;
 mod glyph_tables;
+mod held;
 mod index;
 mod parts;
 mod privates;
 
-pub use dict::Entries;
+pub use dict::{Entries, operator};
 pub use font::{EXPERT, Font, STANDARD};
+pub use held::{Held, Private as HeldPrivate, Raw, held};
 pub use index::Index;
 pub use parts::{Parts, parts, without_encoding};
 

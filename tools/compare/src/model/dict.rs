@@ -5,7 +5,7 @@ use crate::decimal::{self, Decimal, Real};
 use std::ops::Range;
 
 /// Operators of DICTs, TN5176, sections 9, 15 and 18; an escape is 12 times 256 and its byte.
-pub(super) mod operator {
+pub mod operator {
     pub const CHARSET: u16 = 15;
     pub const ENCODING: u16 = 16;
     pub const CHARSTRINGS: u16 = 17;

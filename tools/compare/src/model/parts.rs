@@ -73,7 +73,7 @@ pub fn without_encoding(bytes: &[u8]) -> Option<Vec<u8>> {
 }
 
 /// The FD of each glyph by an FDSelect that is read.
-fn selected(table: &[u8], glyphs: usize) -> Vec<u8> {
+pub(super) fn selected(table: &[u8], glyphs: usize) -> Vec<u8> {
     if table[0] == 0 {
         return table[1..=glyphs].to_vec();
     }

@@ -1,0 +1,7 @@
+pub mod Alike
+pub mod CountsLaws
+pub mod TopLaws
+pub mod PartsLaws
+pub mod BodiesLaws
+pub mod Theorem
+pub mod Calls

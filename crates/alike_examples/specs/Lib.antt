@@ -1,0 +1,3 @@
+pub mod Fonts
+pub mod Same
+pub mod Differs
