@@ -1,0 +1,3 @@
+pub mod Culprit
+pub mod CulpritLaws
+pub mod Theorem
