@@ -12,7 +12,7 @@ const LONGEST: usize = 67_108_864;
 /// a font of some kilobytes can ask for gigabytes.
 const MOST_WORDS: u64 = 1 << 25;
 
-/// The stack of the thread that traces: the library takes 2.1 MiB for a name-keyed font, and Rust's own threads have 2 MiB.
+/// The stack of the thread that traces, or tries glyphs: the library takes 2.1 MiB for a name-keyed font, and Rust's own threads have 2 MiB.
 const TRACE_STACK: usize = 4 << 20;
 
 /// An item of an INDEX of the font.
@@ -199,6 +199,52 @@ impl<'a> Font<'a> {
                     rows.shrink_to_fit();
                     return Ok(Record::answered(answer[0] != 0, rows));
                 }
+            }
+        }
+    }
+
+    /// Which glyph costs the small file (document 02, Wish 12): where the traced subset of the keep list is [`Way::Stubbed`], the smallest
+    /// kept glyph but 0 such that the list without it, traced anew, is [`Way::Renumbered`]; none where the way is another, or where no
+    /// single glyph does this. Each kept glyph that is tried costs a trace and the measure of a subset. Room for the record is allocated
+    /// for the call, and the work is done by a thread with a stack of its own; [`Refusal::Output`] also where none is to be had.
+    pub fn blocking_glyph(&self, name: &[u8], keep: &[u16]) -> Result<Option<u16>, Refusal> {
+        std::thread::scope(|scope| {
+            let thread = std::thread::Builder::new().stack_size(TRACE_STACK);
+            let spawned = thread.spawn_scoped(scope, || self.blocking_here(name, keep));
+            let joined = spawned.map_err(|_| Refusal::Output)?.join();
+            joined.unwrap_or(Err(Refusal::Output))
+        })
+    }
+
+    /// The same on this thread.
+    fn blocking_here(&self, name: &[u8], keep: &[u16]) -> Result<Option<u16>, Refusal> {
+        let mut work = zeros(self.work_words()).unwrap_or_default();
+        let mut wanted: usize = 1 << 16;
+        loop {
+            let mut rows = room(wanted).ok_or(Refusal::Output)?;
+            rows.resize(wanted, 0);
+            let mut answer = [0; 1];
+            // SAFETY: the slices are lent for the call, and those for writing do not overlap any other.
+            let returned = unsafe {
+                ffi::cff_blocking_glyph(
+                    self.bytes.as_ptr(),
+                    self.bytes.len(),
+                    name.as_ptr(),
+                    name.len(),
+                    keep.as_ptr(),
+                    keep.len(),
+                    work.as_mut_ptr(),
+                    work.len(),
+                    rows.as_mut_ptr(),
+                    rows.len(),
+                    answer.as_mut_ptr(),
+                    answer.len(),
+                )
+            };
+            match Refusal::check(returned) {
+                Err(Refusal::Output) => wanted = wanted.checked_mul(4).ok_or(Refusal::Output)?,
+                Err(refusal) => return Err(refusal),
+                Ok(()) => return Ok(u16::try_from(answer[0]).ok()),
             }
         }
     }

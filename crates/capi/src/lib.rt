@@ -1,6 +1,7 @@
 // The entries of reading, finding and INDEX items for C and Rust to link (document 01, 'Entries and their refusals'): numbers and
 // lent slices only. A call returns 0 and writes its answer to the start of what was lent, or returns a refusal and writes nothing.
 // 11 stands for lent words or bytes that are too few, after every other refusal. include/mogdivash.h has the C declarations.
+pub mod blocking;
 pub mod cut;
 pub mod short;
 pub mod trace;
@@ -35,7 +36,7 @@ fn put_counts(c: Counts, answer: &mut [u64]) -> u8
 }
 
 // Writes one number to the lent words.
-fn put_word(w: u64, answer: &mut [u64]) -> u8
+pub fn put_word(w: u64, answer: &mut [u64]) -> u8
     ensures { λ r. ⌜ Answers (given (w ∷ [])) (now (answer .entry)) (now (answer .exit)) r ⌝ }
 {
     if answer.len() < 1 {

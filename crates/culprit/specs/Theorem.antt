@@ -4,6 +4,7 @@ use Prim.Native.Nat.{ℕ, _-_, _+_, _<_}
 use mathlib.Core.Path.{_≡_, refl, sym, ap, _∙_}
 use mathlib.Core.Bool.{Bool, true, false}
 use mathlib.Core.List.{List}
+use mathlib.Core.Logic.{_⊎_, ⊎-elim}
 use native.Mathlib.Omega.{arith}
 use borrow.Author.Tests.{eqb-true}
 use lib.Dec.{ltb, eqb}
@@ -20,7 +21,7 @@ use Rattle.subset.specs.Kept.{isIn, those, keptOf}
 use Rattle.subset.specs.KeptListLaws.{in-place}
 use Rattle.subset.specs.Cut.{Outcome, refused, subset, allFound, hasRos, sameBool, unsupportedIn, cutProgram, cutRead, cutWith, cutOf}
 use Rattle.traced.specs.Traced.{Traced, refused as refusedTrace, traced, metAll, answered, traceProgram, traceRead, traceOf}
-use Rattle.culprit.specs.Culprit.{cutTraced, tracedCut, without, hasWay, isCulprit, firstOf, leastCulprit, answerBy, culpritIn}
+use Rattle.culprit.specs.Culprit.{cutTraced, tracedCut, without, hasWay, isCulprit, firstOf, leastCulprit, answerBy, culpritIn, passesNine, usesRead, usesLent}
 use Rattle.culprit.specs.CulpritLaws.{first-is, first-none, none-first}
 use Rattle.culprit.specs.declared.Culprit.{Culprit}
 use Rattle.culprit.specs.declared.Culprit.the-variants.{Refused, None, Glyph}
@@ -48,6 +49,18 @@ traced-call font name keep words lent p is flag rec e =
     same-again false false true true o = refl
     same-again false false true false o = refl
     same-again false false false c o = refl
+
+-- an outcome that has a way is a subset
+pub has-way : (w : ℕ) (o : Outcome) → hasWay w o ≡ true → (bs : List ℕ) × (o ≡ subset w bs)
+has-way w (refused n) e = absurd (zero-one cc)
+has-way w (subset way bs) e = (bs, ap (λ (k : ℕ). subset k bs) (eqb-true way w e))
+
+-- what is lent is used with refusal 12 and with 10, as it is with an answer
+pub twelve-uses : (font name keep : List ℕ) (words lent : ℕ) (p : Program) → readFont font ≡ got p → (n : ℕ) → (n ≡ 12) ⊎ (n ≡ 10) → tracedCut p name keep words lent ≡ refused n
+    → usesLent font name keep words lent ≡ true
+unfolding usesLent
+twelve-uses font name keep words lent p is n e o =
+    ap (λ (g : Got Program). usesRead g name keep words lent) is ∙ ap passesNine o ∙ ⊎-elim (λ z. ap (λ (k : ℕ). passesNine (refused k)) z) (λ z. ap (λ (k : ℕ). passesNine (refused k)) z) e
 
 -- ---- the answer
 
@@ -125,7 +138,7 @@ module _ (p : Program) (name keep : List ℕ) (words lent : ℕ) where
     answered-by (refused n) h c = absurd (zero-one cc)
     answered-by (subset way bs) h c = ap (λ (t : Bool). pick t c None) h
 
-    is-least : culpritIn p name keep words lent ≡ firstOf (those (isCulprit p name keep words lent) (length (p .charstrings) - 1) 1)
+    pub is-least : culpritIn p name keep words lent ≡ firstOf (those (isCulprit p name keep words lent) (length (p .charstrings) - 1) 1)
     unfolding culpritIn leastCulprit
     is-least = answered-by (cut keep) one (leastCulprit p name keep words lent)
 

@@ -1,6 +1,8 @@
 //! Compares the library with the original Rust at scale: reading a font, finding, items.
 //! The sources under docs/src are compiled here as they are. See README.md.
 
+mod blocking;
+mod blocking_cases;
 mod bodies;
 mod cases;
 mod compare;
@@ -80,6 +82,8 @@ const USAGE: &str = "usage: tools/compare/run cff SEED COUNT
        tools/compare/run encoding SEED COUNT
        tools/compare/run trace SEED COUNT
        tools/compare/run opentype SEED COUNT
+       tools/compare/run blocking SEED COUNT
+       tools/compare/run blocking-time GLYPHS KEPT
        tools/compare/run trace-time FILE
        tools/compare/run cut FOLDER
        tools/compare/run case SEED NUMBER
@@ -112,6 +116,8 @@ fn main() -> ExitCode {
         ["encoding", seed, count] => seeded(seed, count, encoding),
         ["trace", seed, count] => seeded(seed, count, trace),
         ["opentype", seed, count] => seeded(seed, count, opentype),
+        ["blocking", seed, count] => seeded(seed, count, blocking_glyphs),
+        ["blocking-time", glyphs, kept] => seeded(glyphs, kept, blocking_time),
         ["trace-time", file] => trace_time(file),
         ["cut", folder] => cut_tables(Path::new(folder)),
         ["case", seed, number] => seeded(seed, number, case),
@@ -306,6 +312,21 @@ fn trace(seed: u64, count: usize) -> ExitCode {
     println!("seed {seed}, {count} made fonts, {tables} tables of real fonts");
     print!("{}", tally.report(&target().join("compare")));
     status(tally.differences())
+}
+
+/// `count` fonts made for the question, and half as many of those made for subsets.
+fn blocking_glyphs(seed: u64, count: usize) -> ExitCode {
+    let tally = on_large_stack(move || blocking::run(seed, count));
+    println!("seed {seed}, {count} fonts made for it");
+    print!("{}", tally.report());
+    status(tally.differences)
+}
+
+/// The time of a call that tries each kept glyph.
+fn blocking_time(glyphs: u64, kept: usize) -> ExitCode {
+    let (answer, time) = on_large_stack(move || blocking::time(glyphs as usize, kept, cpu_time));
+    println!("{glyphs} glyphs, {kept} kept: {answer:?}, {} s", time.as_secs_f64());
+    ExitCode::SUCCESS
 }
 
 /// `count` files with damaged directories, the .otf files in target/otf, and made fonts in files.
