@@ -18,7 +18,7 @@ use Rattle.dict.specs.Lookup.{rosIn, cidKeyed}
 use Rattle.cff.specs.Font.{Got, got, Program, readFont}
 use Rattle.cff.specs.Find.{workSize}
 use Rattle.cff.specs.Reads.{programOf}
-use Rattle.cff.specs.File.{InFile}
+use Rattle.cff.specs.File.{InFile, tableIn}
 use Rattle.cff.specs.declared.font.Font.{Font}
 use Rattle.subset.specs.Kept.{keptOf}
 use Rattle.subset.specs.Pruned.{May, fail, yes}
@@ -168,6 +168,24 @@ module _ (file : List ℕ) (f : Font) (b : List ℕ) (octets : Octets file) (hel
         subst (λ (x : Traced). Handed x flag len new) (trace-is (length old))
         (handed (traceOf file keep (length old)) flag len old new (sym e ∙ t .answers) (t .output)
         (λ g rec q. trace-passes p keep (length old) g rec (sym (trace-is (length old)) ∙ q) .short))
+
+-- the same over the bytes of the table, as the functions say it
+module _ (file : List ℕ) (f : Font) (b : List ℕ) (octets : Octets file) (held : InFile file f b) (name keep : List ℕ) (words lent flag : ℕ) (rec : List ℕ)
+    (can : CanCut (programOf (tableIn file f) f) (length name) words) (e : traceProgram (programOf (tableIn file f) f) keep lent ≡ traced flag rec) where
+  bytes-can : CanCut (programOf b f) (length name) words
+  bytes-can = subst (λ (l : List ℕ). CanCut (programOf l f) (length name) words) (sym (held .bytes)) can
+
+  bytes-traced : traceProgram (programOf b f) keep lent ≡ traced flag rec
+  bytes-traced = subst (λ (l : List ℕ). traceProgram (programOf l f) keep lent ≡ traced flag rec) (sym (held .bytes)) e
+
+  pub table-asked : FontHeld b f × Passed (f .cid) false (programOf b f) (length name) keep rec flag words
+  table-asked = measure-asked file f b octets held name keep words lent flag rec bytes-can bytes-traced
+
+  pub table-measured : (r : Answer) → r ≡ answerOf (cutBehind false (programOf b f) name keep rec flag 67108864)
+      → r ≡ answerOf (tracedCut (programOf (tableIn file f) f) name keep words lent)
+  table-measured r h =
+      subst (λ (l : List ℕ). r ≡ answerOf (tracedCut (programOf l f) name keep words lent)) (held .bytes)
+      (measured file f b octets held name keep words lent flag rec bytes-can bytes-traced r h)
 
 -- the way of an answer is its outcome's
 pub way-of : (w : ℕ) (o : Outcome) → wayOf w (answerOf o) ≡ hasWay w o

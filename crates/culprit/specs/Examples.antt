@@ -106,11 +106,11 @@ way-2 : hasWay 2 (tracedCut small name (1 ∷ 2 ∷ 4 ∷ []) 8192 0) ≡ true
 unfolding
     tracedCut metAll recordOf tensBytes gathered placed unfoldGlyph runBody walk stepAt operatorAt leave but targetOf t2.numberAt t2.rounded t2.keep24 bytesOf numAt be allBelow
     allFound glyphWithText stringText standardString standardStrings codes sameText standardNames isIn those fdsOf lastOf lastFrom normal stripped zeros zerosOf truncOf localsTotal
-    recordFine rowsFine rowsOf rowsFrom pruned renumbered renumberedSubrs renumberedBody each mapped stubbed stubbedFrom lists givenIn twoLengths disagrees renumberCharstring renumber oldOf
+    recordFine rowsFine rowsOf rowsFrom pruned renumbered renumberedSubrs renumberedBody each mapped copied stubbed stubbedFrom lists givenIn twoLengths disagrees renumberCharstring renumber oldOf
     encode t2e.numberBytes t2e.integerBytes t2e.fixedBytes tok.tokensOf tok.tokensFrom tok.tokenAt subsetBytes subsetByName newIds copiedBytes namedBytes namesOf textsOf namedEntries
     newId placeIn ownStrings hasText sidOf sidIn charsetBytes idBytes opBytes operandsBytes entryBytes entriesBytes offsetEntry copiedEntry privateEntry entries.without
     int5Bytes numberBytes intBytes indexBytes itemsBytes headBytes tableBytes ends sizeFor joined total
-way-2 = simp (none-reached, none-below)
+way-2 = refl
 
 -- with glyphs 2 and 3, and without any one
 both-1 : hasWay 1 (tracedCut small name (1 ∷ 2 ∷ 3 ∷ []) 8192 0) ≡ true
