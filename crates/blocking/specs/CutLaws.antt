@@ -126,9 +126,10 @@ handed (traced f rec) flag len old new e o fits =
     let l : len ≡ length rec = cc in
     let short : length rec ≤ length old = fits f rec refl in
     let long : length (put old 0 rec) ≡ length old = put-length old 0 rec (omega arith) in
+    let z : 0 + length rec ≡ length rec = omega arith in
     record {
       short = omega (arith, ap length o, long);
-      is = ap (λ (k : ℕ). traced k rec) (sym a) ∙ ap (traced flag) (sym (ap (λ (k : ℕ). take k new) l ∙ ap (take (length rec)) o ∙ take-put old 0 rec (omega arith)));
+      is = ap (λ (k : ℕ). traced k rec) (sym a) ∙ ap (traced flag) (sym (ap (λ (k : ℕ). take k new) l ∙ ap (take (length rec)) o ∙ ap (λ (k : ℕ). take k (put old 0 rec)) (sym z) ∙ take-put old 0 rec (omega arith)));
     }
 
 module _ (file : List ℕ) (f : Font) (b : List ℕ) (octets : Octets file) (held : InFile file f b) (name keep : List ℕ) where

@@ -5,7 +5,7 @@ use mathlib.Core.Path.{_≡_, refl, sym, ap, _∙_, subst}
 use mathlib.Core.Bool.{Bool, true, false}
 use mathlib.Core.List.{List, _++_}
 use native.Mathlib.Omega.{arith}
-use borrow.Author.Tests.{lt-ltb, le-ltb, ltb-true, ltb-false, eq-eqb}
+use borrow.Author.Tests.{le-ltb, ltb-false, eq-eqb, ne-eqb}
 use lib.Dec.{ltb, eqb}
 use lib.ListN.{length, take, drop, replicate}
 use lib.Seq.{length-take-le}
@@ -27,12 +27,15 @@ use Rattle.subset.specs.Pruned.{May, fail, yes, Pruned, pruned}
 use Rattle.subset.specs.Codes.{codedIf, pairCount}
 use Rattle.subset.specs.Subset.{subsetBytes}
 use Rattle.subset.specs.Cut.{Outcome, refused, subset, allFound, hasRos, sameBool, unsupportedIn, ownOf, zeros}
-use Rattle.outcome.specs.Entry.{refusalOf, cutBehind}
+use Rattle.outcome.specs.Entry.{answerOf, refusalOf, cutBehind}
+use Rattle.outcome.specs.declared.Answer.{Answer}
+use Rattle.outcome.specs.declared.Answer.the-variants.{Refused as RefusedAnswer, Subset}
 use Rattle.early_refusals.specs.RefusalLaws.{work-is}
 use Rattle.write.specs.EntryLaws.{program-cut, zeros-are}
 use Rattle.traced.specs.Traced.{Traced, refused as refusedTrace, traced, recordOf, metAll, answered, traceProgram, traceRead, traceOf}
 use Rattle.traced.specs.Theorem.{trace-fine}
 use Rattle.culprit.specs.Culprit.{cutTraced, tracedCut, without, hasWay, isCulprit, firstOf, leastCulprit, answerBy, culpritIn, culpritRead, culpritOf, passesNine, usesRead, usesLent, wordsIn, Blocks}
+use Rattle.culprit.specs.Theorem.{not-six, is-least, other-way, has-way}
 use Rattle.culprit.specs.declared.Culprit.{Culprit}
 use Rattle.culprit.specs.declared.Culprit.the-variants.{Refused, None, Glyph}
 use Rattle.early_traced.specs.Early.{refusedOr, earlyOf}
@@ -179,6 +182,40 @@ module _ (p : Program) (name keep : List ℕ) (words lent : ℕ)
         past true b way bs = refl
         past false true way bs = refl
         past false false way bs = refl
+
+-- ---- the answer by the outcome of the whole list
+
+module _ (p : Program) (name keep : List ℕ) (words lent : ℕ) where
+  -- refused
+  pub answers-refused : (n : ℕ) (a : Answer) → a ≡ answerOf (tracedCut p name keep words lent) → a ≡ RefusedAnswer n → Refused n ≡ culpritIn p name keep words lent
+  unfolding culpritIn
+  answers-refused n a h e = by (tracedCut p name keep words lent) (sym e ∙ h)
+    where
+      by : (o : Outcome) → RefusedAnswer n ≡ answerOf o → Refused n ≡ answerBy o (leastCulprit p name keep words lent)
+      by (refused m) q = let z : n ≡ m = cc in ap Refused z
+      by (subset way bs) q = absurd (zero-one cc)
+
+  module _ (way len : ℕ) (a : Answer) (h : a ≡ answerOf (tracedCut p name keep words lent)) (e : a ≡ Subset way len) where
+    has : hasWay way (tracedCut p name keep words lent) ≡ true
+    has = by (tracedCut p name keep words lent) (sym e ∙ h)
+      where
+        by : (o : Outcome) → Subset way len ≡ answerOf o → hasWay way o ≡ true
+        by (refused m) q = absurd (zero-one cc)
+        by (subset w bs) q = let z : way ≡ w = cc in eq-eqb w way (sym z)
+
+    -- stubbed
+    pub stubbed-below : allBelow (length (p .charstrings)) keep ≡ true
+    stubbed-below = not-six p name keep words lent way has
+
+    pub answers-least : way ≡ 1 → (r : Culprit) → r ≡ leastCulprit p name keep words lent → r ≡ culpritIn p name keep words lent
+    unfolding leastCulprit
+    answers-least one r q = q ∙ sym (is-least p name keep words lent (subst (λ (w : ℕ). hasWay w (tracedCut p name keep words lent) ≡ true) one has))
+
+    -- another way
+    pub answers-none : (way ≡ 1 → ⊥) → None ≡ culpritIn p name keep words lent
+    answers-none n =
+        let w = has-way way (tracedCut p name keep words lent) has in
+        sym (other-way p name keep words lent way (w .0) (w .1) (ne-eqb way 1 n))
 
 -- ---- the entry
 

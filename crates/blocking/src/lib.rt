@@ -90,7 +90,7 @@ fn is_freed(
     is_renumbered(a)
 }
 
-// The first glyph but 0 of a list, each glyph at its own place, without which the list has way 0.
+// The first glyph but 0 of a list with each glyph at its own place, without which the list has way 0.
 fn first_freed(
     font: &[u8],
     f: Font,
@@ -133,6 +133,27 @@ fn spread(keep: &[u16], list: &mut [u16])
     }
 }
 
+// The same for a keep list, by so many places of `all`, which are 0, as the font has glyphs.
+fn search_places(
+    font: &[u8],
+    f: Font,
+    name: &[u8],
+    keep: &[u16],
+    all: &mut [u16],
+    words: &mut [u32],
+    slice: &mut [u8],
+) -> Culprit
+    requires { ⌜ (HasFont (now font) f) × (CanCut (programOf (tableIn (now font) f) f) (length (now name)) (length (now words)))
+        × (allBelow (length (programOf (tableIn (now font) f) f .charstrings)) (now keep) ≡ true) × (now all ≡ replicate 65536 0) ⌝ }
+    ensures { λ r. ⌜ r ≡ leastCulprit (programOf (tableIn (now (font .entry)) f) f) (now (name .entry)) (now (keep .entry)) (length (now (words .entry))) (length (now (slice .entry))) ⌝ }
+{
+    let charstrings = f.charstrings;
+    let n = charstrings.count;
+    let list = &mut all[..n];
+    spread(keep, &mut *list);
+    first_freed(font, f, name, list, words, slice)
+}
+
 // The smallest kept glyph but 0 without which a list has way 0.
 fn least_culprit(
     font: &[u8],
@@ -146,12 +167,8 @@ fn least_culprit(
         × (allBelow (length (programOf (tableIn (now font) f) f .charstrings)) (now keep) ≡ true) ⌝ }
     ensures { λ r. ⌜ r ≡ leastCulprit (programOf (tableIn (now (font .entry)) f) f) (now (name .entry)) (now (keep .entry)) (length (now (words .entry))) (length (now (slice .entry))) ⌝ }
 {
-    let charstrings = f.charstrings;
-    let n = charstrings.count;
     let mut all = [0u16; 65536];
-    let list = &mut all[..n];
-    spread(keep, &mut *list);
-    first_freed(font, f, name, list, words, slice)
+    search_places(font, f, name, keep, &mut all, words, slice)
 }
 
 // The answer by the first W work words, which are used, as the record slice is.

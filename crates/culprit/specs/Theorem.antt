@@ -111,7 +111,7 @@ module _ (p : Program) (name keep : List ℕ) (words lent : ℕ) where
       (pick d (pick (allFound p (keptOf (length (p .charstrings)) keep)) (answered lent (metAll p (keptOf (length (p .charstrings)) keep))) (refusedTrace 7)) (refusedTrace 6))
 
   -- a list that is not refused has numbers of glyphs alone
-  not-six : (way : ℕ) → hasWay way (cut keep) ≡ true → allBelow (length (p .charstrings)) keep ≡ true
+  pub not-six : (way : ℕ) → hasWay way (cut keep) ≡ true → allBelow (length (p .charstrings)) keep ≡ true
   unfolding tracedCut
   not-six way e = by (unsupportedIn false p) (pick (cidKeyed (p .top)) (hasRos (rosIn (p .top))) true) (ltb 65535 (length name)) (allBelow (length (p .charstrings)) keep) refl e
     where

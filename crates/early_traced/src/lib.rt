@@ -75,14 +75,7 @@ fn record_fits(font: &[u8], f: Font, keep: &[u16], lent: &[u8]) -> bool
 }
 
 // The refusal, or 0.
-pub fn refusal(
-    font: &[u8],
-    f: Font,
-    name: usize,
-    keep: &[u16],
-    words: usize,
-    lent: &[u8],
-) -> u8
+pub fn refusal(font: &[u8], f: Font, name: usize, keep: &[u16], words: usize, lent: &[u8]) -> u8
     requires { ⌜ HasFont (now font) f ⌝ }
     ensures { λ r. ⌜ r ≡ earlyOf (programOf (tableIn (now (font .entry)) f) f) name (now (keep .entry)) words (length (now (lent .entry))) ⌝ }
 {
