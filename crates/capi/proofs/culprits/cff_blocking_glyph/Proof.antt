@@ -1,10 +1,10 @@
--- `capi::blocking::cff_blocking_glyph` meets its contract: what was answered is written.
+-- `capi::culprits::cff_blocking_glyph` meets its contract: what was answered is written.
 use mathlib.Core.Path.{sym, ap}
 use Rattle.capi.specs.Blocking.{culpritAnswer}
 use Rattle.capi.specs.CapiLaws.{answers-as}
 use borrow.Author.Needs.{needs}
-use Rattle.capi.proofs.blocking.cff_blocking_glyph.Statement.{statement}
-use Rattle.capi.proofs.blocking.cff_blocking_glyph.Tie as tie
+use Rattle.capi.proofs.culprits.cff_blocking_glyph.Statement.{statement}
+use Rattle.capi.proofs.culprits.cff_blocking_glyph.Tie as tie
 
 blocking-glyph-requires : tie.Need-blocking-glyph-requires
 blocking-glyph-requires c κs = search needs

@@ -1,10 +1,10 @@
--- `capi::blocking::put_culprit` meets its contract: each answer has its word.
+-- `capi::culprits::put_culprit` meets its contract: each answer has its word.
 use mathlib.Core.Path.{ap}
 use Rattle.capi.specs.Blocking.{culpritAnswer}
 use Rattle.capi.specs.CapiLaws.{answers-as}
 use borrow.Author.Needs.{needs}
-use Rattle.capi.proofs.blocking.put_culprit.Statement.{statement}
-use Rattle.capi.proofs.blocking.put_culprit.Tie as tie
+use Rattle.capi.proofs.culprits.put_culprit.Statement.{statement}
+use Rattle.capi.proofs.culprits.put_culprit.Tie as tie
 
 enum-known-c : tie.Need-enum-known-found
 enum-known-c c = search needs
