@@ -6,7 +6,7 @@ use borrow.Author.Needs.{needs}
 use Rattle.capi.proofs.culprits.put_culprit.Statement.{statement}
 use Rattle.capi.proofs.culprits.put_culprit.Tie as tie
 
-enum-known-c : tie.Need-enum-known-found
+enum-known-c : tie.Need-enum-known-c
 enum-known-c c = search needs
 
 enum-told : tie.Need-enum-told
@@ -15,8 +15,11 @@ enum-told c = search needs
 put-word-requires : tie.Need-put-word-requires
 put-word-requires c κs = search needs
 
-enum-known-c-2 : tie.Need-enum-known-found-2
+enum-known-c-2 : tie.Need-enum-known-c-2
 enum-known-c-2 c = search needs
+
+cast-put-word : tie.Need-cast-put-word
+cast-put-word c = search needs
 
 put-word-requires-2 : tie.Need-put-word-requires-2
 put-word-requires-2 c κs = search needs
@@ -44,6 +47,7 @@ put-culprit-spec =
     enum-told
     put-word-requires
     enum-known-c-2
+    cast-put-word
     put-word-requires-2
     returns
     same-length
