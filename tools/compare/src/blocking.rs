@@ -5,6 +5,7 @@ use crate::blocking_cases::{self, Made};
 use crate::cases::{Case, mixed};
 use crate::cut::{self, Cut, NO_ROOM, WORK};
 use crate::cut_cases::listed;
+use crate::cut_large;
 use crate::domain::WISHES;
 use crate::generator::Generator;
 use crate::model::{self, Font};
@@ -48,7 +49,9 @@ impl Asked<'_> {
         };
         let (flag, record, refused) = match tracer.trace(keep) {
             Traced::Refused(number) => (1, Vec::new(), Some(number)),
-            Traced::Record(_, bytes) if bytes.len() > self.lent.record => (1, Vec::new(), Some(NO_ROOM)),
+            Traced::Record(_, bytes) if bytes.len() > self.lent.record => {
+                (1, Vec::new(), Some(NO_ROOM))
+            }
             Traced::Record(flag, bytes) => (flag, bytes, None),
         };
         let cut = Cut {
@@ -121,9 +124,15 @@ fn call(font: &[u8], name: &[u8], keep: &[u16], lent: Lent, w: usize) -> Result<
             lent.words,
         )
     };
-    let told = if number == 0 { Ok(answer[0]) } else { Err(number) };
+    let told = if number == 0 {
+        Ok(answer[0])
+    } else {
+        Err(number)
+    };
     if answer[1] != WORD || (number != 0 && answer[0] != WORD) {
-        return Err(format!("number {number}: the answer was written past its word, or with a refusal"));
+        return Err(format!(
+            "number {number}: the answer was written past its word, or with a refusal"
+        ));
     }
     let as_found = (0..work.len()).all(|k| work[k] == found_word(k))
         && (0..record.len()).all(|k| record[k] == found_byte(k));
@@ -131,7 +140,9 @@ fn call(font: &[u8], name: &[u8], keep: &[u16], lent: Lent, w: usize) -> Result<
         && (0..work.len()).all(|k| work[k] == if k < w { 0 } else { found_word(k) })
         && (0..record.len()).all(|k| record[k] == if k < lent.record { 0 } else { found_byte(k) });
     if !as_found && !zeros {
-        return Err(format!("number {number}: what is lent is neither as found nor zeros"));
+        return Err(format!(
+            "number {number}: what is lent is neither as found nor zeros"
+        ));
     }
     // With nothing lent the two are the same.
     Ok((told, zeros && (!as_found || number == 0)))
@@ -182,7 +193,13 @@ impl Tally {
 }
 
 /// One call compared; the outcome of the whole list.
-fn compare_call(asked: &Asked<'_>, keep: &[u16], made: &'static str, label: &str, tally: &mut Tally) {
+fn compare_call(
+    asked: &Asked<'_>,
+    keep: &[u16],
+    made: &'static str,
+    label: &str,
+    tally: &mut Tally,
+) {
     let whole = asked.outcome(keep);
     let w = asked.read.map_or(0, |font| font.work() as usize);
     let wanted: Answer = match whole {
@@ -294,7 +311,40 @@ fn lists(g: &mut Generator, tracer: Option<&Tracer<'_>>) -> Vec<Vec<u16>> {
     lists
 }
 
-/// `count` fonts made for this, and half as many of those made for subsets.
+/// Refusals 12 and 10: all glyphs of a font with 64,610 own strings, and of one whose subset has more than 67,108,864 bytes.
+fn large(seed: u64, tally: &mut Tally) {
+    let fonts = [
+        ("64,610 own strings", cut_large::own_names(64_610)),
+        (
+            "a subset too long",
+            cut_large::shared_by(256, 262_200, &[32, 10, 14]),
+        ),
+    ];
+    for (kind, font) in fonts {
+        let reading = model::read(&font, WISHES);
+        let read = reading.font.as_ref().map_err(|r| r.number);
+        let tracer = read
+            .ok()
+            .and_then(|read| Tracer::new(&font, read, LIMITS))
+            .expect("a font that is read");
+        let keep = found(&tracer);
+        let asked = Asked {
+            bytes: &font,
+            read,
+            tracer: Some(&tracer),
+            name: b"N",
+            lent: Lent {
+                work: read.map_or(0, |font| font.work() as usize),
+                record: tracer.trace(&keep).length() + 7,
+                words: 1,
+            },
+        };
+        tally.fonts += 1;
+        compare_call(&asked, &keep, kind, &format!("{kind}, seed {seed}"), tally);
+    }
+}
+
+/// `count` fonts made for this, half as many of those made for subsets, and two large ones.
 pub fn run(seed: u64, count: usize) -> Tally {
     let mut tally = Tally::default();
     for (number, Made { kind, bytes }) in blocking_cases::fonts(seed).take(count).enumerate() {
@@ -310,17 +360,27 @@ pub fn run(seed: u64, count: usize) -> Tally {
     for case in crate::cut_cases::fonts(seed).take(count / 2) {
         compare(&case, "fonts made for subsets", seed, &mut tally);
     }
+    large(seed, &mut tally);
     tally
 }
 
-/// The time of a call for `kept` glyphs of a font of `glyphs` glyphs of which two, the last ones, cost the small file: each kept
-/// glyph is tried.
-pub fn time(glyphs: usize, kept: usize, clock: fn() -> std::time::Duration) -> (Result<u64, u8>, std::time::Duration) {
-    let font = blocking_cases::two_last(glyphs);
+/// The time of a call for the last `kept` glyphs of so many, of which the `tried`-th costs the small file: so many are tried. Where it is
+/// past them, the last two do, and all are tried.
+pub fn time(
+    glyphs: usize,
+    kept: usize,
+    tried: usize,
+    clock: fn() -> std::time::Duration,
+) -> (Result<u64, u8>, std::time::Duration) {
+    let first = glyphs - kept;
+    let font = if tried > kept {
+        blocking_cases::culprits(glyphs, &[glyphs - 2, glyphs - 1])
+    } else {
+        blocking_cases::culprits(glyphs, &[first + tried - 1])
+    };
     let reading = model::read(&font, WISHES);
     let w = reading.font.as_ref().map_or(0, |font| font.work() as usize);
-    let mut keep: Vec<u16> = (1..=kept as u16 - 2).collect();
-    keep.extend([glyphs as u16 - 2, glyphs as u16 - 1]);
+    let keep: Vec<u16> = (first..glyphs).map(|k| k as u16).collect();
     let mut work = vec![0; w];
     let mut record = vec![0; 10 << 20];
     let mut answer = [0; 1];
@@ -342,6 +402,10 @@ pub fn time(glyphs: usize, kept: usize, clock: fn() -> std::time::Duration) -> (
             1,
         )
     };
-    let told = if number == 0 { Ok(answer[0]) } else { Err(number) };
+    let told = if number == 0 {
+        Ok(answer[0])
+    } else {
+        Err(number)
+    };
     (told, clock() - start)
 }

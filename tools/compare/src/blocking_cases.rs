@@ -159,10 +159,12 @@ pub fn fonts(seed: u64) -> impl Iterator<Item = Made> {
     })
 }
 
-/// A CID-keyed font whose glyphs each enter a subroutine; the last two cost the small file.
-pub fn two_last(glyphs: usize) -> Vec<u8> {
-    let mut all = vec![body(Does::Enters(LOCAL, 3)); glyphs - 2];
-    all.extend([body(Does::Dead(LOCAL, 4)), body(Does::Dead(LOCAL, 4))]);
+/// A CID-keyed font whose glyphs each enter a subroutine; these cost the small file.
+pub fn culprits(glyphs: usize, culprits: &[usize]) -> Vec<u8> {
+    let mut all = vec![body(Does::Enters(LOCAL, 3)); glyphs];
+    for &k in culprits {
+        all[k] = body(Does::Dead(LOCAL, 4));
+    }
     let bodies = Bodies {
         glyphs: all,
         globals: globals(),

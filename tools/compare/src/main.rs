@@ -83,7 +83,7 @@ const USAGE: &str = "usage: tools/compare/run cff SEED COUNT
        tools/compare/run trace SEED COUNT
        tools/compare/run opentype SEED COUNT
        tools/compare/run blocking SEED COUNT
-       tools/compare/run blocking-time GLYPHS KEPT
+       tools/compare/run blocking-time GLYPHS KEPT TRIED
        tools/compare/run trace-time FILE
        tools/compare/run cut FOLDER
        tools/compare/run case SEED NUMBER
@@ -117,7 +117,7 @@ fn main() -> ExitCode {
         ["trace", seed, count] => seeded(seed, count, trace),
         ["opentype", seed, count] => seeded(seed, count, opentype),
         ["blocking", seed, count] => seeded(seed, count, blocking_glyphs),
-        ["blocking-time", glyphs, kept] => seeded(glyphs, kept, blocking_time),
+        ["blocking-time", numbers @ ..] => blocking_time(numbers),
         ["trace-time", file] => trace_time(file),
         ["cut", folder] => cut_tables(Path::new(folder)),
         ["case", seed, number] => seeded(seed, number, case),
@@ -322,10 +322,17 @@ fn blocking_glyphs(seed: u64, count: usize) -> ExitCode {
     status(tally.differences)
 }
 
-/// The time of a call that tries each kept glyph.
-fn blocking_time(glyphs: u64, kept: usize) -> ExitCode {
-    let (answer, time) = on_large_stack(move || blocking::time(glyphs as usize, kept, cpu_time));
-    println!("{glyphs} glyphs, {kept} kept: {answer:?}, {} s", time.as_secs_f64());
+/// The time of a call that tries so many of the kept glyphs.
+fn blocking_time(numbers: &[&str]) -> ExitCode {
+    let numbers: Vec<usize> = numbers.iter().flat_map(|n| n.parse()).collect();
+    let &[glyphs, kept, tried] = numbers.as_slice() else {
+        return usage();
+    };
+    let (answer, time) = on_large_stack(move || blocking::time(glyphs, kept, tried, cpu_time));
+    println!(
+        "{glyphs} glyphs, {kept} kept, {tried} tried: {answer:?}, {} s",
+        time.as_secs_f64()
+    );
     ExitCode::SUCCESS
 }
 
