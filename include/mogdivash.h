@@ -1,5 +1,5 @@
-/* Mogdivash for C: reading a CFF font, finding a glyph, the items of its INDEXes, subsets, and short charstrings, as functions of the
-   static library capi.
+/* Mogdivash for C: reading a CFF font, finding a glyph, the items of its INDEXes, subsets, the glyph that costs a small subset, and short
+   charstrings, as functions of the static library capi.
 
        rt staticlib capi          writes target/staticlib/libcapi.a, for x86-64 Linux
        cc program.c target/staticlib/libcapi.a
@@ -12,7 +12,8 @@
 
    A slice is a pointer and the number of its elements. What is lent for writing must not overlap what else is lent, and a
    uint16_t, uint32_t or uint64_t must be aligned. The calling thread must have 1.5 MiB of stack free for cff_subset,
-   cff_subset_cid, cff_trace and cff_check_record. Beyond this there is nothing that a caller must keep.
+   cff_subset_cid, cff_trace and cff_check_record, and 3 MiB for cff_blocking_glyph. Beyond this there is nothing that a caller
+   must keep.
 
    Time. A call is linear in its input but for what is said at cff_trace and three things, of which two come with hostile fonts and
    records: parts that the font dictionaries or the fonts of a set share are read again wherever they are named (65,535 font
@@ -153,6 +154,22 @@ uint8_t cff_trace(const uint8_t *font, size_t font_len, const uint16_t *keep, si
    whatever its order. */
 uint8_t cff_check_record(const uint8_t *font, size_t font_len, const uint16_t *keep, size_t keep_len, const uint8_t *record,
                          size_t record_len);
+
+/* Which glyph costs the small file. Where the subset of the keep list, traced and cut by what was traced, is stubbed (way 1), answers in one
+   word the smallest kept glyph but 0 such that the list without it, traced anew, gives way 0. CFF_ABSENT where the way is another, or
+   where no single kept glyph but 0 does this. The cut is by the font's keying and has no encoding; its output counts as large enough.
+
+   The refusals are reading's, then CFF_UNSUPPORTED, CFF_MALFORMED, CFF_TOO_LONG, CFF_NO_SUCH_NUMBER, CFF_NOT_FOUND, CFF_OUTPUT for a traced
+   record that is longer than record, CFF_WORK_WORDS, CFF_STRING_ID, CFF_SUBSET, in this order, and last CFF_OUTPUT for no word of answer.
+
+   The first W work words and all bytes of record end as zeros with 0 and with each refusal after CFF_WORK_WORDS in this order. With the
+   others all stay as they were, and the words behind W always do.
+
+   Where the way is 1 each kept glyph may be tried, which takes a trace and the measure of a subset: for k kept glyphs k + 2 traces. The
+   calling thread must have 3 MiB of stack free. */
+uint8_t cff_blocking_glyph(const uint8_t *font, size_t font_len, const uint8_t *name, size_t name_len, const uint16_t *keep,
+                           size_t keep_len, uint32_t *work, size_t work_len, uint8_t *record, size_t record_len, uint64_t *answer,
+                           size_t answer_len);
 
 /* The next short charstring. Short are the plain charstrings of 1 to 4 bytes that make no call and whose last byte is their only endchar:
    2,059,854 of them, the shorter ones first, those of one length rising byte by byte. Given one of them, or nothing, the next is written

@@ -69,6 +69,23 @@ unsafe extern "C" {
         record_len: usize,
     ) -> u8;
 
+    /// The smallest kept glyph but 0 without which the traced subset is renumbered, or [`ABSENT`]: font, new name, kept numbers, work
+    /// words, room for the record, answer.
+    pub fn cff_blocking_glyph(
+        font: *const u8,
+        font_len: usize,
+        name: *const u8,
+        name_len: usize,
+        keep: *const u16,
+        keep_len: usize,
+        work: *mut u32,
+        work_len: usize,
+        record: *mut u8,
+        record_len: usize,
+        answer: *mut u64,
+        answer_len: usize,
+    ) -> u8;
+
     /// The next short charstring behind `code`, one of them or nothing, to `out`, and its length, 0 for none left, to `size`.
     pub fn cff_next_charstring(
         code: *const u8,

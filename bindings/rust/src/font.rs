@@ -12,6 +12,9 @@ const LONGEST: usize = 67_108_864;
 /// which a font of some kilobytes can ask for half a gigabyte.
 const MOST_WORDS: u64 = 1 << 20;
 
+/// The stack of the thread that tries glyphs: the library takes up to 3 MiB for it, and Rust's own threads have 2 MiB.
+const TRIAL_STACK: usize = 4 << 20;
+
 /// An item of an INDEX of the font.
 #[derive(Clone, Copy, Debug, PartialEq, Eq)]
 pub enum Item {
@@ -205,6 +208,52 @@ impl<'a> Font<'a> {
                 rows.len(),
             )
         })
+    }
+
+    /// Which glyph costs the small file (document 02, Wish 12): where the traced subset of the keep list is [`Way::Stubbed`], the smallest
+    /// kept glyph but 0 such that the list without it, traced anew, is [`Way::Renumbered`]; none where the way is another, or where no
+    /// single glyph does this. Each kept glyph that is tried costs a trace and the measure of a subset. Room for the record is allocated
+    /// for the call, and the work is done by a thread with a stack of its own; [`Refusal::Output`] also where none is to be had.
+    pub fn blocking_glyph(&self, name: &[u8], keep: &[u16]) -> Result<Option<u16>, Refusal> {
+        std::thread::scope(|scope| {
+            let thread = std::thread::Builder::new().stack_size(TRIAL_STACK);
+            let spawned = thread.spawn_scoped(scope, || self.blocking_here(name, keep));
+            let joined = spawned.map_err(|_| Refusal::Output)?.join();
+            joined.unwrap_or(Err(Refusal::Output))
+        })
+    }
+
+    /// The same on this thread.
+    fn blocking_here(&self, name: &[u8], keep: &[u16]) -> Result<Option<u16>, Refusal> {
+        let mut work = zeros(self.work_words()).unwrap_or_default();
+        let mut wanted: usize = 1 << 16;
+        loop {
+            let mut rows = room(wanted).ok_or(Refusal::Output)?;
+            rows.resize(wanted, 0);
+            let mut answer = [0; 1];
+            // SAFETY: the slices are lent for the call, and those for writing do not overlap any other.
+            let returned = unsafe {
+                ffi::cff_blocking_glyph(
+                    self.bytes.as_ptr(),
+                    self.bytes.len(),
+                    name.as_ptr(),
+                    name.len(),
+                    keep.as_ptr(),
+                    keep.len(),
+                    work.as_mut_ptr(),
+                    work.len(),
+                    rows.as_mut_ptr(),
+                    rows.len(),
+                    answer.as_mut_ptr(),
+                    answer.len(),
+                )
+            };
+            match Refusal::check(returned) {
+                Err(Refusal::Output) => wanted = wanted.checked_mul(4).ok_or(Refusal::Output)?,
+                Err(refusal) => return Err(refusal),
+                Ok(()) => return Ok(u16::try_from(answer[0]).ok()),
+            }
+        }
     }
 
     /// The subset of glyph 0 and the glyphs of the keep list, traced: [`Font::trace`] and then [`Font::subset`].

@@ -23,7 +23,7 @@ ghost use Rattle.octets.specs.Lists.{allBelow};
 
 // The kept glyphs in the order in which they are written, in the first words, and their FDs in the words from the number of glyphs on; how
 // many they are.
-fn gather(font: &[u8], f: Font, keep: &[u16], words: &mut [u32]) -> usize
+pub fn gather(font: &[u8], f: Font, keep: &[u16], words: &mut [u32]) -> usize
     requires { ⌜ (FontHeld (now font) f) × (allBelow (length (programOf (now font) f .charstrings)) (now keep) ≡ true)
         × (allFound (programOf (now font) f) (keptOf (length (programOf (now font) f .charstrings)) (now keep)) ≡ true)
         × (workSize (programOf (now font) f) ≤ length (now words)) ⌝ }

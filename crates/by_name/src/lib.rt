@@ -147,7 +147,7 @@ fn cut_prepared(
 }
 
 // What the subset has of an encoding; its codes stand behind the sixteen slots.
-fn encode_behind(
+pub fn encode_behind(
     font: &[u8],
     f: Font,
     ask: bool,

@@ -5,3 +5,4 @@ pub mod Subset
 pub mod SubsetLaws
 pub mod Trace
 pub mod TraceLaws
+pub mod Blocking

@@ -2,6 +2,7 @@
 // lent slices only. A call returns 0 and writes its answer to the start of what was lent, or returns a refusal and writes nothing.
 // 11 stands for lent words or bytes that are too few, after every other refusal. include/mogdivash.h has the C declarations.
 pub mod check;
+pub mod culprits;
 pub mod cut;
 pub mod short;
 pub mod trace;
@@ -36,7 +37,7 @@ fn put_counts(c: Counts, answer: &mut [u64]) -> u8
 }
 
 // Writes one number to the lent words.
-fn put_word(w: u64, answer: &mut [u64]) -> u8
+pub fn put_word(w: u64, answer: &mut [u64]) -> u8
     ensures { λ r. ⌜ Answers (given (w ∷ [])) (now (answer .entry)) (now (answer .exit)) r ⌝ }
 {
     if answer.len() < 1 {

@@ -207,7 +207,7 @@ module _ (cid ask : Bool) (no : cid ≡ true → ask ≡ false) (is : cid ≡ tr
 pub font-held : (file : List ℕ) (f : Font) (b : List ℕ) → Octets file → InFile file f b → FontHeld b f
 font-held file f b o h = record { font = h .good; size = table-short file f b h; program = font-good file (programOf b f) o (h .is) }
 
-zeros-are : (n : ℕ) → replicate n 0 ≡ zeros n
+pub zeros-are : (n : ℕ) → replicate n 0 ≡ zeros n
 unfolding zeros
 zeros-are zero = refl
 zeros-are (suc n) = ap (λ (l : List ℕ). 0 ∷ l) (zeros-are n)

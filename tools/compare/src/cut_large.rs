@@ -42,6 +42,11 @@ fn alike_names() -> Vec<u8> {
 /// A CID-keyed font of `fds` glyphs, each with an FD of its own; the FDs share a Private with one subroutine of `length`
 /// bytes, which a subset of all has once for each.
 pub fn shared(fds: usize, length: usize) -> Vec<u8> {
+    shared_by(fds, length, &[14])
+}
+
+/// The same with another charstring for each glyph.
+pub fn shared_by(fds: usize, length: usize, charstring: &[u8]) -> Vec<u8> {
     let zero = Num::Bytes(vec![139]);
     let top = vec![
         entry(vec![zero.clone(), zero.clone(), zero], &[12, 30]),
@@ -57,7 +62,7 @@ pub fn shared(fds: usize, length: usize) -> Vec<u8> {
         top,
         Vec::new(),
         vec![
-            Part::Index(SOUND, vec![Part::Bytes(vec![14]); fds]),
+            Part::Index(SOUND, vec![Part::Bytes(charstring.to_vec()); fds]),
             Part::Index(SOUND, vec![fd; fds]),
             Part::Bytes(select),
             Part::Dict(vec![subrs]),

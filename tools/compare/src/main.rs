@@ -4,6 +4,8 @@
 mod alike;
 #[cfg(test)]
 mod alike_tests;
+mod blocking;
+mod blocking_cases;
 mod bodies;
 mod cases;
 mod check_compare;
@@ -88,6 +90,8 @@ const USAGE: &str = "usage: tools/compare/run cff SEED COUNT
        tools/compare/run check SEED COUNT
        tools/compare/run opentype SEED COUNT
        tools/compare/run alike SEED COUNT
+       tools/compare/run blocking SEED COUNT
+       tools/compare/run blocking-time GLYPHS KEPT
        tools/compare/run trace-time FILE
        tools/compare/run cut FOLDER
        tools/compare/run case SEED NUMBER
@@ -122,6 +126,8 @@ fn main() -> ExitCode {
         ["check", seed, count] => seeded(seed, count, check),
         ["opentype", seed, count] => seeded(seed, count, opentype),
         ["alike", seed, count] => seeded(seed, count, alike),
+        ["blocking", seed, count] => seeded(seed, count, blocking_glyphs),
+        ["blocking-time", glyphs, kept] => seeded(glyphs, kept, blocking_time),
         ["trace-time", file] => trace_time(file),
         ["cut", folder] => cut_tables(Path::new(folder)),
         ["case", seed, number] => seeded(seed, number, case),
@@ -335,6 +341,19 @@ fn check(seed: u64, count: usize) -> ExitCode {
     print!("{}", tally.report(&target().join("compare")));
     println!("{times}");
     status(tally.differences() + u64::from(!times.within))
+/// `count` fonts made for the question, and half as many of those made for subsets.
+fn blocking_glyphs(seed: u64, count: usize) -> ExitCode {
+    let tally = on_large_stack(move || blocking::run(seed, count));
+    println!("seed {seed}, {count} fonts made for it");
+    print!("{}", tally.report());
+    status(tally.differences)
+}
+
+/// The time of a call that tries each kept glyph.
+fn blocking_time(glyphs: u64, kept: usize) -> ExitCode {
+    let (answer, time) = on_large_stack(move || blocking::time(glyphs as usize, kept, cpu_time));
+    println!("{glyphs} glyphs, {kept} kept: {answer:?}, {} s", time.as_secs_f64());
+    ExitCode::SUCCESS
 }
 
 /// `count` files with damaged directories, the .otf files in target/otf, and made fonts in files.

@@ -1,0 +1,4 @@
+pub mod Search
+pub mod CutLaws
+pub mod SearchLaws
+pub mod EntryLaws

@@ -1,0 +1,4 @@
+pub mod Culprit
+pub mod CulpritLaws
+pub mod Theorem
+pub mod Examples
