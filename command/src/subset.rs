@@ -1,0 +1,155 @@
+//! `mogdivash subset`: traces the selected glyphs, cuts, writes, and says what was done.
+
+use crate::args::Wanted;
+use crate::composed;
+use crate::failure::Failure;
+use crate::output;
+use crate::plain::{self, Odd};
+use crate::selection::{self, Selection, Source};
+use crate::{say, warn};
+use mogdivash::{Font, Item, Record, Subset, Way};
+use std::fs;
+use std::path::{Path, PathBuf};
+
+pub fn run(wanted: &Wanted) -> Result<(), Failure> {
+    let path = wanted.font.as_path();
+    let file = output::font_bytes(path)?;
+    let refused = |refusal| Failure::refused(path, refusal);
+    let font = Font::read(&file).map_err(refused)?;
+    let out = out_path(wanted)?;
+    let file = file.as_slice();
+    let source = Source { font, file, path };
+    let kept = selection::select(&source, &wanted.keep)?;
+    let keep: Vec<u16> = kept.keys().copied().collect();
+    let record = font.trace(&keep).map_err(refused)?;
+    if !record.is_traced() {
+        name_odd(&source, &kept, &keep)?;
+    }
+    let subset = cut(&source, wanted, &keep, &record)?;
+    output::put(&out, &subset.bytes)?;
+    report(&source, &kept, &record, &subset, &out);
+    Ok(())
+}
+
+fn cut(source: &Source, wanted: &Wanted, keep: &[u16], record: &Record) -> Result<Subset, Failure> {
+    let font = &source.font;
+    let made = || made_name(source.path, keep);
+    let name = wanted.name.clone().unwrap_or_else(made);
+    if wanted.encoding && font.is_cid_keyed() {
+        warn("a CID-keyed font has no codes: --encoding changes nothing");
+    }
+    let subset = match wanted.encoding {
+        true => font.subset_with_encoding(name.as_bytes(), keep, record),
+        false => font.subset(name.as_bytes(), keep, record),
+    };
+    subset.map_err(|refusal| Failure::refused(source.path, refusal))
+}
+
+/// Where the subset is written: never over the font itself.
+fn out_path(wanted: &Wanted) -> Result<PathBuf, Failure> {
+    let out = wanted.output.clone().unwrap_or_else(|| {
+        let stem = wanted.font.file_stem().unwrap_or_default();
+        let mut name = stem.to_os_string();
+        name.push(".subset.cff");
+        PathBuf::from(name)
+    });
+    let same = match (fs::canonicalize(&out), fs::canonicalize(&wanted.font)) {
+        (Ok(out), Ok(font)) => out == font,
+        _ => false,
+    };
+    if same {
+        return Err(Failure::work(format!(
+            "{}: the font itself would be replaced",
+            out.display()
+        )));
+    }
+    Ok(out)
+}
+
+/// A name as a PDF wants it for a subset: six letters by the kept glyphs, a plus, and the name of the file, of which the characters
+/// that need no escape in a PDF stay.
+fn made_name(path: &Path, keep: &[u16]) -> String {
+    let mut sum = keep.iter().fold(5381_u64, |sum, &glyph| {
+        sum.wrapping_mul(33).wrapping_add(u64::from(glyph))
+    });
+    let mut name = String::new();
+    for _ in 0..6 {
+        name.push(char::from(b'A' + (sum % 26) as u8));
+        sum /= 26;
+    }
+    name.push('+');
+    let stem = path.file_stem().unwrap_or_default().to_string_lossy();
+    let plain = |letter: &char| letter.is_ascii_alphanumeric() || "-_.".contains(*letter);
+    name.extend(stem.chars().filter(plain).take(64));
+    name
+}
+
+/// Names the kept glyphs that are not plain, and of those composed of others the parts, which must be kept too.
+fn name_odd(source: &Source, kept: &Selection, keep: &[u16]) -> Result<(), Failure> {
+    let font = &source.font;
+    let odd = plain::odd(font, keep).map_err(|refusal| Failure::refused(source.path, refusal))?;
+    let glyphs = match odd {
+        Odd::Zero => {
+            warn(
+                "glyph 0 is not plain: nothing is known of the others, and all subroutines are copied",
+            );
+            return Ok(());
+        }
+        Odd::Glyphs(glyphs) => glyphs,
+    };
+    let shown: Vec<&str> = glyphs.iter().map(|glyph| kept[glyph].as_str()).collect();
+    warn(&format!(
+        "not plain: {}: of these nothing is promised, and all subroutines are copied",
+        shown.join(", ")
+    ));
+    for glyph in glyphs {
+        name_parts(font, kept, glyph);
+    }
+    Ok(())
+}
+
+fn name_parts(font: &Font, kept: &Selection, glyph: u16) {
+    let charstring = font.item(Item::Charstring(glyph.into()));
+    let Some(parts) = charstring.ok().and_then(|code| composed::parts(&code)) else {
+        return;
+    };
+    let is_kept = |name: &str| {
+        let part = font.find_name(name.as_bytes());
+        part.is_some_and(|part| kept.contains_key(&part))
+    };
+    let missing: Vec<&str> = parts.into_iter().filter(|name| !is_kept(name)).collect();
+    let [base, accent] = parts;
+    let advice = match missing.as_slice() {
+        [] => "both are kept".to_owned(),
+        missing => format!("keep too: --names {}", missing.join(",")),
+    };
+    let name = &kept[&glyph];
+    warn(&format!(
+        "{name} is composed of {base} and {accent}; {advice}"
+    ));
+}
+
+/// What was done, on standard output, or beside it where the subset itself goes there.
+fn report(source: &Source, kept: &Selection, record: &Record, subset: &Subset, out: &Path) {
+    let plain = match record.is_traced() {
+        true => "all plain",
+        false => "not all plain",
+    };
+    let way = match subset.way {
+        Way::Renumbered => "only the subroutines in use, renumbered",
+        Way::Stubbed => "subroutines not in use emptied",
+        Way::Copied => "all subroutines copied",
+    };
+    let (name, out_name) = (source.path.display(), out.display());
+    // glyph 0 is always there
+    let count = kept.len() + usize::from(!kept.contains_key(&0));
+    let (of, before, after) = (source.font.glyphs(), source.file.len(), subset.bytes.len());
+    let lines = [
+        format!("{name}: kept {count} of {of} glyphs, {plain}; {way}"),
+        format!("{out_name}: {after} bytes of {before}"),
+    ];
+    let to_error = out.as_os_str() == "-";
+    for line in lines {
+        if to_error { warn(&line) } else { say(&line) }
+    }
+}
