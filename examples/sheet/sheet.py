@@ -25,11 +25,15 @@ COLUMNS = [(MARGIN + 18, True), (MARGIN + 52, True), (MARGIN + 68, False), (MARG
 SIZE, LINE = 11, 26
 
 
+# Letters with a stroke, which Unicode does not take apart.
+STROKED = str.maketrans("ŁłĐđØøı", "LlDdOoi")
+
+
 def drawn(font, text):
     """A text in the letters that a font has: without the accent where there is none with it."""
     letters = []
     for letter in text:
-        bare = unicodedata.normalize("NFD", letter)[0]
+        bare = unicodedata.normalize("NFD", letter)[0].translate(STROKED)
         letters += [choice for choice in (letter, bare) if font.has(choice)][:1]
     return "".join(letters)
 
