@@ -61,38 +61,54 @@ fn shown(word: &OsStr) -> String {
     word.to_string_lossy().into_owned()
 }
 
-fn subset(words: &[OsString]) -> Result<Wanted, Failure> {
-    let (mut font, mut keep) = (None, Vec::new());
-    let (mut name, mut encoding, mut output) = (None, false, None);
+/// The files and the options of a command that keeps glyphs.
+#[derive(Default)]
+struct Words {
+    files: Vec<PathBuf>,
+    keep: Vec<Keep>,
+    name: Option<String>,
+    encoding: bool,
+    output: Option<PathBuf>,
+}
+
+fn taken(words: &[OsString]) -> Result<Words, Failure> {
+    let mut taken = Words::default();
     let mut words = words.iter();
     while let Some(word) = words.next() {
         if word == "--encoding" {
-            encoding = true;
+            taken.encoding = true;
         } else if is_option(word) {
             let value = words
                 .next()
                 .ok_or_else(|| Failure::usage(format!("{} takes a word", shown(word))))?;
             match word.to_str() {
-                Some("-o") => once(&mut output, "-o", value.into())?,
-                Some("--name") => once(&mut name, "--name", text(word, value)?)?,
-                _ => keep.push(kept(word, value)?),
+                Some("-o") => once(&mut taken.output, "-o", value.into())?,
+                Some("--name") => once(&mut taken.name, "--name", text(word, value)?)?,
+                _ => taken.keep.push(kept(word, value)?),
             }
         } else {
-            once(&mut font, "the font", word.into())?;
+            taken.files.push(word.into());
         }
     }
-    let font = font.ok_or_else(|| Failure::usage("subset takes a font"))?;
-    if keep.is_empty() {
+    if taken.keep.is_empty() {
         return Err(Failure::usage(
             "what is to be kept? --text, --text-file, --glyphs, --names or --cids",
         ));
     }
+    Ok(taken)
+}
+
+fn subset(words: &[OsString]) -> Result<Wanted, Failure> {
+    let words = taken(words)?;
+    let [font] = words.files.as_slice() else {
+        return Err(Failure::usage("subset takes one font"));
+    };
     Ok(Wanted {
-        font,
-        keep,
-        name,
-        encoding,
-        output,
+        font: font.clone(),
+        keep: words.keep,
+        name: words.name,
+        encoding: words.encoding,
+        output: words.output,
     })
 }
 

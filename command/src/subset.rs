@@ -1,13 +1,12 @@
 //! `mogdivash subset`: traces the selected glyphs, cuts, writes, and says what was done.
 
 use crate::args::Wanted;
-use crate::composed;
 use crate::failure::Failure;
+use crate::odd;
 use crate::output;
-use crate::plain::{self, Odd};
 use crate::selection::{self, Selection, Source};
 use crate::{say, warn};
-use mogdivash::{Font, Item, Record, Subset, Way};
+use mogdivash::{Font, Record, Subset, Way};
 use std::fs;
 use std::path::{Path, PathBuf};
 
@@ -23,7 +22,7 @@ pub fn run(wanted: &Wanted) -> Result<(), Failure> {
     let keep: Vec<u16> = kept.keys().copied().collect();
     let record = font.trace(&keep).map_err(refused)?;
     if !record.is_traced() {
-        name_odd(&source, &kept, &keep)?;
+        odd::warn_of(&source, &kept, &keep)?;
     }
     let subset = cut(&source, wanted, &keep, &record)?;
     output::put(&out, &subset.bytes)?;
@@ -82,51 +81,6 @@ fn made_name(path: &Path, keep: &[u16]) -> String {
     let plain = |letter: &char| letter.is_ascii_alphanumeric() || "-_.".contains(*letter);
     name.extend(stem.chars().filter(plain).take(64));
     name
-}
-
-/// Names the kept glyphs that are not plain, and of those composed of others the parts, which must be kept too.
-fn name_odd(source: &Source, kept: &Selection, keep: &[u16]) -> Result<(), Failure> {
-    let font = &source.font;
-    let odd = plain::odd(font, keep).map_err(|refusal| Failure::refused(source.path, refusal))?;
-    let glyphs = match odd {
-        Odd::Zero => {
-            warn(
-                "glyph 0 is not plain: nothing is known of the others, and all subroutines are copied",
-            );
-            return Ok(());
-        }
-        Odd::Glyphs(glyphs) => glyphs,
-    };
-    let shown: Vec<&str> = glyphs.iter().map(|glyph| kept[glyph].as_str()).collect();
-    warn(&format!(
-        "not plain: {}: of these nothing is promised, and all subroutines are copied",
-        shown.join(", ")
-    ));
-    for glyph in glyphs {
-        name_parts(font, kept, glyph);
-    }
-    Ok(())
-}
-
-fn name_parts(font: &Font, kept: &Selection, glyph: u16) {
-    let charstring = font.item(Item::Charstring(glyph.into()));
-    let Some(parts) = charstring.ok().and_then(|code| composed::parts(&code)) else {
-        return;
-    };
-    let is_kept = |name: &str| {
-        let part = font.find_name(name.as_bytes());
-        part.is_some_and(|part| kept.contains_key(&part))
-    };
-    let missing: Vec<&str> = parts.into_iter().filter(|name| !is_kept(name)).collect();
-    let [base, accent] = parts;
-    let advice = match missing.as_slice() {
-        [] => "both are kept".to_owned(),
-        missing => format!("keep too: --names {}", missing.join(",")),
-    };
-    let name = &kept[&glyph];
-    warn(&format!(
-        "{name} is composed of {base} and {accent}; {advice}"
-    ));
 }
 
 /// What was done, on standard output, or beside it where the subset itself goes there.
