@@ -49,7 +49,7 @@ pub fn warn_of(source: &Source, kept: &Selection, keep: &[u16]) -> Result<(), Fa
     let glyphs = match odd {
         Odd::Zero => {
             warn(
-                "glyph 0 is not plain: nothing is known of the others, and all subroutines are copied",
+                "glyph 0 is not plain: nothing is known of the others, and a subset has all subroutines",
             );
             return Ok(());
         }
@@ -61,7 +61,7 @@ pub fn warn_of(source: &Source, kept: &Selection, keep: &[u16]) -> Result<(), Fa
         _ => "",
     };
     warn(&format!(
-        "not plain: {}{more}: of these nothing is promised, and all subroutines are copied",
+        "not plain: {}{more}: nothing is promised of these, and a subset with them has all subroutines",
         shown.join(", ")
     ));
     for glyph in glyphs {

@@ -212,7 +212,7 @@ fn composed_glyphs_are_named() {
     let says = "mogdivash: 'é' (U+00E9) is composed of e and acute; keep too: --names e,acute";
     assert!(
         told.err
-            .contains("not plain: 'é' (U+00E9): of these nothing is promised")
+            .contains("not plain: 'é' (U+00E9): nothing is promised of these")
     );
     assert!(told.err.contains(says), "{}", told.err);
     assert!(told.out.contains("not all plain; all subroutines copied"));
