@@ -1,5 +1,5 @@
-//! Warnings of kept glyphs that are not plain (document 01, 'Plain glyphs'): of these nothing is promised, and for their sake all
-//! subroutines are copied.
+//! Warnings of kept glyphs: of those that are not plain (document 01, 'Plain glyphs'), of which nothing is promised and for whose sake
+//! all subroutines are copied, and of those for which a call is refused by 7.
 
 use crate::composed;
 use crate::failure::Failure;
@@ -19,18 +19,25 @@ enum Odd {
     Glyphs(Vec<u16>),
 }
 
-/// The glyphs of a list that are not plain, where the list was traced with flag 0: halves are traced until one glyph is left.
+/// The glyphs of a list that are not plain, where the list was traced with flag 0.
 fn odd(font: &Font, keep: &[u16]) -> Result<Odd, Refusal> {
     if !font.trace(&[])?.is_traced() {
         return Ok(Odd::Zero);
     }
     let mut found = Vec::new();
-    search(font, keep, &mut found)?;
+    let plain = |part: &[u16]| Ok(font.trace(part)?.is_traced());
+    search(&plain, keep, &mut found)?;
     Ok(Odd::Glyphs(found))
 }
 
-fn search(font: &Font, part: &[u16], found: &mut Vec<u16>) -> Result<(), Refusal> {
-    if found.len() >= MOST || font.trace(part)?.is_traced() {
+/// The glyphs of a list for which `good` does not hold, where it holds of a list if it does of each glyph: the list is halved until
+/// one glyph is left.
+fn search(
+    good: &impl Fn(&[u16]) -> Result<bool, Refusal>,
+    part: &[u16],
+    found: &mut Vec<u16>,
+) -> Result<(), Refusal> {
+    if found.len() >= MOST || good(part)? {
         return Ok(());
     }
     if let [glyph] = part {
@@ -38,8 +45,28 @@ fn search(font: &Font, part: &[u16], found: &mut Vec<u16>) -> Result<(), Refusal
         return Ok(());
     }
     let (left, right) = part.split_at(part.len() / 2);
-    search(font, left, found)?;
-    search(font, right, found)
+    search(good, left, found)?;
+    search(good, right, found)
+}
+
+/// Glyphs by the words that selected them.
+fn shown(kept: &Selection, glyphs: &[u16]) -> String {
+    let words: Vec<&str> = glyphs.iter().map(|glyph| kept[glyph].as_str()).collect();
+    let more = match words.len() {
+        MOST => " and perhaps others",
+        _ => "",
+    };
+    format!("{}{more}", words.join(", "))
+}
+
+/// Names the kept glyphs for which a call is refused by 7: another glyph before them has their name or CID.
+pub fn warn_of_unfound(font: &Font, kept: &Selection, keep: &[u16]) {
+    let mut found = Vec::new();
+    let good = |part: &[u16]| Ok(!matches!(font.trace(part), Err(Refusal::NotFound)));
+    if search(&good, keep, &mut found).is_ok() && !found.is_empty() {
+        let shown = shown(kept, &found);
+        warn(&format!("an earlier glyph has the name or CID of: {shown}"));
+    }
 }
 
 /// Names the kept glyphs that are not plain, and of those composed of others the parts, which must be kept too.
@@ -55,14 +82,9 @@ pub fn warn_of(source: &Source, kept: &Selection, keep: &[u16]) -> Result<(), Fa
         }
         Odd::Glyphs(glyphs) => glyphs,
     };
-    let shown: Vec<&str> = glyphs.iter().map(|glyph| kept[glyph].as_str()).collect();
-    let more = match shown.len() {
-        MOST => " and perhaps others",
-        _ => "",
-    };
+    let shown = shown(kept, &glyphs);
     warn(&format!(
-        "not plain: {}{more}: nothing is promised of these, and a subset with them has all subroutines",
-        shown.join(", ")
+        "not plain: {shown}: nothing is promised of these, and a subset with them has all subroutines"
     ));
     for glyph in glyphs {
         warn_of_parts(font, kept, glyph);

@@ -6,7 +6,7 @@ use crate::odd;
 use crate::output;
 use crate::selection::{self, Selection, Source};
 use crate::{say, warn};
-use mogdivash::{Font, Record, Subset, Way};
+use mogdivash::{Font, Record, Refusal, Subset, Way};
 use std::fs;
 use std::path::{Path, PathBuf};
 
@@ -20,7 +20,7 @@ pub fn run(wanted: &Wanted) -> Result<(), Failure> {
     let source = Source { font, file, path };
     let kept = selection::select(&source, &wanted.keep)?;
     let keep: Vec<u16> = kept.keys().copied().collect();
-    let record = font.trace(&keep).map_err(refused)?;
+    let record = traced(&source, &kept, &keep)?;
     if !record.is_traced() {
         odd::warn_of(&source, &kept, &keep)?;
     }
@@ -28,6 +28,15 @@ pub fn run(wanted: &Wanted) -> Result<(), Failure> {
     output::put(&out, &subset.bytes)?;
     report(&source, &kept, &record, &subset, &out);
     Ok(())
+}
+
+fn traced(source: &Source, kept: &Selection, keep: &[u16]) -> Result<Record, Failure> {
+    source.font.trace(keep).map_err(|refusal| {
+        if refusal == Refusal::NotFound {
+            odd::warn_of_unfound(&source.font, kept, keep);
+        }
+        Failure::refused(source.path, refusal)
+    })
 }
 
 fn cut(source: &Source, wanted: &Wanted, keep: &[u16], record: &Record) -> Result<Subset, Failure> {

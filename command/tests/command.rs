@@ -110,6 +110,19 @@ fn refused_fonts() {
     fails(&place, &["info", "none.otf"], 1, "none.otf: ");
 }
 
+/// Two glyphs of one name: the later one cannot be kept, and is named.
+#[test]
+fn a_name_that_stands_twice() {
+    let place = Place::new("twice");
+    fs::write(place.0.join("made.cff"), made::named([70, 70, 1])).unwrap();
+    let words = ["subset", "made.cff", "--glyphs", "1-2", "-o", "out.cff"];
+    let says =
+        "an earlier glyph has the name or CID of: glyph 2\nmogdivash: made.cff: refused by 7: ";
+    fails(&place, &words, 1, says);
+    let told = place.call(&["subset", "made.cff", "--glyphs", "1", "-o", "out.cff"]);
+    assert_eq!((told.status, told.err.as_str()), (0, ""));
+}
+
 #[test]
 fn glyphs_that_are_not_there() {
     let place = Place::new("absent");

@@ -31,10 +31,15 @@ fn top_dict(charset: usize, charstrings: usize) -> Vec<u8> {
 
 /// A font of four glyphs: .notdef, e, acute, and eacute, which is composed of these two.
 pub fn font() -> Vec<u8> {
+    named([70, 125, 207])
+}
+
+/// The same with other string ids.
+pub fn named(ids: [u8; 3]) -> Vec<u8> {
     let head = [&[1, 0, 4, 1][..], &index(&[b"Made"])].concat();
     let charset = head.len() + top_dict(0, 0).len() + 4;
-    // format 0: the string ids of e, acute and eacute
-    let ids = [0, 0, 70, 0, 125, 0, 207];
+    // format 0: a string id for each glyph but the first
+    let ids = [0, 0, ids[0], 0, ids[1], 0, ids[2]];
     let composed = [139, 139, 240, 247, 86, 14];
     let glyphs = index(&[&[14], &[14], &[14], &composed]);
     let parts = [
