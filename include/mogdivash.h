@@ -1,8 +1,10 @@
 /* Mogdivash for C: reading a CFF font, finding a glyph, the items of its INDEXes, subsets, the glyph that costs a small subset, and short
    charstrings, as functions of the static library capi.
 
-       rt staticlib capi          writes target/staticlib/libcapi.a, for x86-64 Linux
-       cc program.c target/staticlib/libcapi.a
+       tools/library              proves it, and writes build/libmogdivash.a and build/libmogdivash.so, for x86-64 Linux
+       cc program.c build/libmogdivash.a
+
+   Installed (./install): cc program.c $(pkg-config --cflags --libs mogdivash)
 
    Each function is proved to end without a fault and to answer as crates/capi/specs/Capi.antt and Subset.antt say, whatever the
    bytes are. None keeps anything from one call to the next or allocates; of other libraries they call memcpy and memset alone.

@@ -1,5 +1,6 @@
 /* Cuts a CFF font, an OpenType file (.otf) as it is or a bare font, down to glyph 0 and the glyphs that are named by their numbers.
 
+       cc subset_glyphs.c $(pkg-config --cflags --libs mogdivash) -o subset_glyphs      where the library is installed
        subset_glyphs [-e] FONT NAME OUTPUT GLYPH...
 
    With -e the subset of a name-keyed font has the font's encoding: its codes have the glyphs that they had, where these are kept.

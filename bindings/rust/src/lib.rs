@@ -26,6 +26,9 @@ mod record;
 mod refusal;
 mod short;
 
+/// The version of the library and of this binding: that of the file VERSION.
+pub const VERSION: &str = env!("CARGO_PKG_VERSION");
+
 pub use font::{Font, Item, Subset, Way};
 pub use record::{Record, Row};
 pub use refusal::Refusal;

@@ -118,7 +118,7 @@ impl Record {
     /// A record as another program wrote it, ten bytes a row. It is checked when it is used; whole rows are put in rising
     /// order, in which they are searched, and which changes no answer.
     pub fn from_bytes(mut bytes: Vec<u8>) -> Record {
-        if bytes.len().is_multiple_of(ROW) && !bytes.chunks(ROW).is_sorted() {
+        if bytes.len() % ROW == 0 && !bytes.chunks(ROW).is_sorted() {
             let mut rows: Vec<&[u8]> = bytes.chunks(ROW).collect();
             rows.sort_unstable();
             bytes = rows.concat();

@@ -1,0 +1,89 @@
+"""Small fonts, refusals, threads with little stack, and short charstrings."""
+
+import threading
+import unittest
+from pathlib import Path
+
+import mogdivash
+from mogdivash import Font, Item, Refusal, RefusedError, Way
+
+from .small import FONT, file
+
+
+class Small(unittest.TestCase):
+    def refused(self, refusal, call, *arguments):
+        with self.assertRaises(RefusedError) as caught:
+            call(*arguments)
+        self.assertEqual(caught.exception.refusal, refusal)
+        self.assertIn(f"refused by {int(refusal)}: ", str(caught.exception))
+
+    def test_version(self):
+        root = Path(__file__).resolve().parents[3]
+        self.assertEqual(mogdivash.__version__, (root / "VERSION").read_text().strip())
+
+    def test_reading(self):
+        for data in (FONT, file(b"CFF "), bytearray(FONT), memoryview(FONT)):
+            font = Font(data)
+            self.assertEqual((font.glyphs, font.globals, font.strings, font.work_words), (2, 0, 0, 4))
+            self.assertFalse(font.is_cid_keyed)
+            self.assertEqual(font.find_name("space"), 1)
+            self.assertEqual(font.find_name(b".notdef"), 0)
+            self.assertIsNone(font.find_name("A"))
+            self.assertIsNone(font.find_cid(1))
+            self.assertEqual(font.item(Item.CHARSTRING, 1), b"\x0e")
+
+    def test_refusals(self):
+        self.refused(Refusal.TRUNCATED, Font, b"")
+        self.refused(Refusal.UNSUPPORTED, Font, b"\x02\0\x04\x01")
+        self.refused(Refusal.NO_TABLE, Font, file(b"CFF2"))
+        font = Font(FONT)
+        self.refused(Refusal.NO_SUCH_NUMBER, font.item, Item.CHARSTRING, 2)
+        self.refused(Refusal.NO_SUCH_NUMBER, font.item, Item.GLOBAL, -1)
+        self.refused(Refusal.NO_SUCH_NUMBER, font.trace, [2])
+        self.refused(Refusal.NO_SUCH_NUMBER, font.subset, "A", [65536])
+        self.refused(Refusal.RECORD, font.subset, "A", [1], (b"12345", True))
+        self.refused(Refusal.TOO_LONG, font.subset, "A" * 65536, [1])
+
+    def test_every_cut_font(self):
+        """Each beginning of a font but the whole is refused."""
+        for end in range(len(FONT)):
+            with self.assertRaises(RefusedError):
+                Font(FONT[:end])
+
+    def test_subset(self):
+        cut = Font(FONT).subset("A", [1])
+        self.assertEqual(cut.way, Way.RENUMBERED)
+        self.assertEqual(cut, mogdivash.subset(file(b"CFF "), b"A", [1]))
+        self.assertEqual(Font(cut.data).glyphs, 2)
+        self.assertEqual(mogdivash.trace(FONT, [1]), (b"", True))
+        self.assertEqual(Font(FONT).subset("A", [1], record=(b"", False)).way, Way.COPIED)
+
+    def test_little_stack(self):
+        """A thread with the least stack that Python gives traces and cuts, on a thread of the module's."""
+        answers = []
+        before = threading.stack_size(1 << 16)
+        thread = threading.Thread(target=lambda: answers.append(Font(FONT).subset("A", [1])))
+        thread.start()
+        threading.stack_size(before)
+        thread.join()
+        self.assertEqual(answers, [Font(FONT).subset("A", [1])])
+        self.assertEqual(threading.stack_size(), before)
+
+    def test_threads(self):
+        whole, answers = Font(FONT), []
+        threads = [threading.Thread(target=lambda: answers.append(whole.subset("A", [1]))) for _ in range(8)]
+        for thread in threads:
+            thread.start()
+        for thread in threads:
+            thread.join()
+        self.assertEqual(answers, [whole.subset("A", [1])] * 8)
+
+    def test_short_charstrings(self):
+        first = mogdivash.next_charstring()
+        self.assertEqual(first, b"\x0e")
+        self.assertEqual(len(mogdivash.next_charstring(first)), 2)
+        self.refused(Refusal.MALFORMED, mogdivash.next_charstring, b"\x00")
+
+
+if __name__ == "__main__":
+    unittest.main()

@@ -1,0 +1,79 @@
+//! Files, written whole or not at all: beside their place, and then renamed.
+
+use crate::failure::Failure;
+use std::fs::{self, File, OpenOptions};
+use std::io::{self, Read, Write};
+use std::path::{Path, PathBuf};
+use std::process;
+
+/// One byte more than the longest font: enough to be refused by 4.
+const MOST: u64 = 67_108_865;
+
+/// The bytes of a font's file.
+pub fn font_bytes(path: &Path) -> Result<Vec<u8>, Failure> {
+    let mut bytes = Vec::new();
+    let file = File::open(path).map_err(|error| Failure::file(path, &error))?;
+    let read = file.take(MOST).read_to_end(&mut bytes);
+    read.map_err(|error| Failure::file(path, &error))?;
+    Ok(bytes)
+}
+
+/// Writes to standard output where the path is a dash, else the whole file.
+pub fn put(path: &Path, bytes: &[u8]) -> Result<(), Failure> {
+    let done = match path.as_os_str().to_str() {
+        Some("-") => standard_output(bytes),
+        _ => whole_file(path, bytes),
+    };
+    done.map_err(|error| Failure::file(path, &error))
+}
+
+fn standard_output(bytes: &[u8]) -> io::Result<()> {
+    let mut out = io::stdout();
+    out.write_all(bytes)?;
+    out.flush()
+}
+
+/// What is there and is no plain file, as a device or a pipe, is written to and not replaced. A link is followed, so that it stays one.
+fn whole_file(path: &Path, bytes: &[u8]) -> io::Result<()> {
+    match fs::metadata(path) {
+        Ok(there) if there.is_file() => {
+            let place = fs::canonicalize(path)?;
+            replace(&place, bytes, Some(there.permissions()))
+        }
+        Ok(there) if there.is_dir() => Err(io::Error::other("is a folder")),
+        Ok(_) => OpenOptions::new().write(true).open(path)?.write_all(bytes),
+        Err(_) => replace(path, bytes, None),
+    }
+}
+
+fn replace(place: &Path, bytes: &[u8], permissions: Option<fs::Permissions>) -> io::Result<()> {
+    let beside = beside(place)?;
+    let mut file = OpenOptions::new()
+        .write(true)
+        .create_new(true)
+        .open(&beside)?;
+    let written = file
+        .write_all(bytes)
+        .and_then(|()| file.sync_all())
+        .and_then(|()| permissions.map_or(Ok(()), |bits| file.set_permissions(bits)))
+        .and_then(|()| fs::rename(&beside, place));
+    if written.is_err() {
+        let _ = fs::remove_file(&beside);
+    }
+    written
+}
+
+/// A name in the same folder that no other process takes.
+fn beside(place: &Path) -> io::Result<PathBuf> {
+    let name = place
+        .file_name()
+        .ok_or_else(|| io::Error::other("is no name of a file"))?;
+    let mut hidden = std::ffi::OsString::from(".");
+    hidden.push(name);
+    hidden.push(format!(".{}", process::id()));
+    Ok(place.with_file_name(hidden))
+}
+
+#[cfg(test)]
+#[path = "output_tests.rs"]
+mod tests;
