@@ -11,6 +11,7 @@ pub enum Action {
     Version,
     Info(PathBuf),
     Subset(Wanted),
+    Check(Checked),
 }
 
 /// What is to be kept: one option of the command line.
@@ -33,6 +34,14 @@ pub struct Wanted {
     pub output: Option<PathBuf>,
 }
 
+/// The words of `check`.
+#[derive(Debug, PartialEq)]
+pub struct Checked {
+    pub font: PathBuf,
+    pub record: PathBuf,
+    pub keep: Vec<Keep>,
+}
+
 pub fn parse(words: impl Iterator<Item = OsString>) -> Result<Action, Failure> {
     let words: Vec<OsString> = words.collect();
     if words.iter().any(|word| word == "--help" || word == "-h") {
@@ -48,6 +57,7 @@ pub fn parse(words: impl Iterator<Item = OsString>) -> Result<Action, Failure> {
             _ => Err(Failure::usage("info takes one font")),
         },
         Some("subset") => subset(rest).map(Action::Subset),
+        Some("check") => check(rest).map(Action::Check),
         _ => Err(Failure::usage(format!("no such command: {}", shown(first)))),
     }
 }
@@ -109,6 +119,23 @@ fn subset(words: &[OsString]) -> Result<Wanted, Failure> {
         name: words.name,
         encoding: words.encoding,
         output: words.output,
+    })
+}
+
+fn check(words: &[OsString]) -> Result<Checked, Failure> {
+    let words = taken(words)?;
+    if words.name.is_some() || words.encoding || words.output.is_some() {
+        return Err(Failure::usage(
+            "check writes nothing: no --name, --encoding or -o",
+        ));
+    }
+    let [font, record] = words.files.as_slice() else {
+        return Err(Failure::usage("check takes a font and a record"));
+    };
+    Ok(Checked {
+        font: font.clone(),
+        record: record.clone(),
+        keep: words.keep,
     })
 }
 

@@ -96,3 +96,15 @@ fn all_numbers_of_sixteen_bits() {
     };
     assert_eq!(wanted.keep, [Keep::Cids((0..=65535).collect())]);
 }
+
+#[test]
+fn check_takes_a_font_and_a_record() {
+    let Ok(Action::Check(checked)) = parsed(&["check", "a.otf", "r", "--glyphs", "1"]) else {
+        panic!("not parsed");
+    };
+    assert_eq!((checked.font, checked.record), ("a.otf".into(), "r".into()));
+    assert_eq!(checked.keep, [Keep::Glyphs(vec![1])]);
+    usage(&["check", "a.otf", "r"]);
+    usage(&["check", "a.otf", "--glyphs", "1"]);
+    usage(&["check", "a.otf", "r", "--glyphs", "1", "-o", "x"]);
+}

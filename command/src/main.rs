@@ -4,6 +4,7 @@
 //! of a file, and files.
 
 mod args;
+mod check;
 mod cmap;
 mod composed;
 mod failure;
@@ -37,6 +38,7 @@ fn run() -> Result<(), Failure> {
         Action::Version => say(&format!("mogdivash {}", mogdivash::VERSION)),
         Action::Info(font) => info::run(&font)?,
         Action::Subset(wanted) => subset::run(&wanted)?,
+        Action::Check(checked) => check::run(&checked)?,
     }
     Ok(())
 }

@@ -294,3 +294,34 @@ fn info() {
             .contains("bare CFF font")
     );
 }
+
+/// Records of another tracer: document 02, Wish 6.
+#[test]
+fn records() {
+    let place = Place::new("records");
+    let record = |bytes: &[u8]| fs::write(place.0.join("record"), bytes).unwrap();
+    let words = ["check", "made.otf", "record", "--text", "e"];
+    record(&[]);
+    let told = place.call(&words);
+    assert_eq!((told.status, told.err.as_str()), (0, ""));
+    assert_eq!(
+        told.out,
+        "record: accepted: its 0 rows list all that 2 glyphs of made.otf meet\n"
+    );
+    record(&[1]);
+    let told = place.call(&words);
+    assert_eq!(told.status, 1);
+    assert!(told.err.contains("record: refused by 8: "), "{}", told.err);
+    // a global subroutine that does not exist
+    record(&[1, 0, 0, 0, 0, 0, 0, 0, 0, 0]);
+    let told = place.call(&words);
+    assert_eq!(told.status, 1);
+    assert!(told.err.contains("record: refused by 14: "), "{}", told.err);
+    // a glyph that is not plain
+    record(&[]);
+    let told = place.call(&["check", "made.otf", "record", "--text", "é"]);
+    assert_eq!(told.status, 1);
+    assert!(told.err.contains("not plain: 'é'"), "{}", told.err);
+    assert!(told.err.contains("record: refused by 14: "), "{}", told.err);
+    assert_eq!(place.files(), ["record"]);
+}

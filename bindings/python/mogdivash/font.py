@@ -107,6 +107,15 @@ class Font:
                 return Record(ctypes.string_at(rows, answer[1]), bool(answer[0]))
             room *= 4
 
+    def check_record(self, keep, rows):
+        """Whether rows of another tracer are accepted for glyph 0 and the glyphs of `keep` (document 02, Wish 6): RefusedError where
+        they are not. A subset by accepted rows holds every kept glyph."""
+        rows = bytes(rows)
+        on_own_stack(lambda: self._check_record(*_glyphs(keep), rows))
+
+    def _check_record(self, keep, count, rows):
+        check(library.cff_check_record(self._data, len(self._data), keep, count, rows, len(rows)))
+
     def subset(self, name, keep, record=None, encoding=False):
         """The subset of glyph 0 and the glyphs of `keep` under a new name, by a record, or traced where there is none. With
         `encoding` a name-keyed font keeps the codes of the kept glyphs."""

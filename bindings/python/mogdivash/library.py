@@ -35,6 +35,7 @@ _ARGUMENTS = {
     "cff_subset": [*_CUT, _U8, *_LENT],
     "cff_subset_cid": [*_CUT, *_LENT],
     "cff_trace": [*_BYTES, *_slice(_U16), *_slice(_U8), *_slice(_U64)],
+    "cff_check_record": [*_BYTES, *_slice(_U16), *_BYTES],
     "cff_next_charstring": [*_BYTES, *_slice(_U8), *_slice(_U64)],
 }
 

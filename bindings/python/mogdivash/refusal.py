@@ -19,6 +19,7 @@ class Refusal(enum.IntEnum):
     OUTPUT = 11
     STRINGS = 12
     PAIRS = 13
+    NOT_ACCEPTED = 14
     NO_TABLE = 15
 
 
@@ -36,6 +37,7 @@ WORDS = {
     Refusal.OUTPUT: "too little room for the answer",
     Refusal.STRINGS: "the subset has too many strings",
     Refusal.PAIRS: "the subset has too many codes",
+    Refusal.NOT_ACCEPTED: "the record does not fit the kept glyphs",
     Refusal.NO_TABLE: "the OpenType file has no table of CFF outlines",
 }
 

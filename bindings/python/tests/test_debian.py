@@ -4,7 +4,7 @@ import os
 import unittest
 from pathlib import Path
 
-from mogdivash import Font, Way
+from mogdivash import Font, RefusedError, Way
 
 PLACE = Path(os.environ.get("FONT", "/usr/share/fonts/opentype/cantarell/Cantarell-Regular.otf"))
 NAMES = ["Z", "o", "edieresis", "Aring", "n", "g", "zero", "colon", "four"]
@@ -19,6 +19,9 @@ class Debian(unittest.TestCase):
         self.assertNotIn(None, keep)
         record = font.trace(keep)
         self.assertTrue(record.traced)
+        font.check_record(keep, record.rows)
+        with self.assertRaises(RefusedError):
+            font.check_record(keep, record.rows[:-10])
         subset = font.subset("ABCDEF+Cantarell", keep)
         self.assertEqual(subset.way, Way.RENUMBERED)
         self.assertEqual(subset, font.subset("ABCDEF+Cantarell", reversed(keep), record))

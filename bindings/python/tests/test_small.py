@@ -58,6 +58,13 @@ class Small(unittest.TestCase):
         self.assertEqual(mogdivash.trace(FONT, [1]), (b"", True))
         self.assertEqual(Font(FONT).subset("A", [1], record=(b"", False)).way, Way.COPIED)
 
+    def test_records(self):
+        font = Font(FONT)
+        self.assertIsNone(font.check_record([1], b""))
+        self.refused(Refusal.RECORD, font.check_record, [1], b"12345")
+        self.refused(Refusal.NOT_ACCEPTED, font.check_record, [1], b"\1" + bytes(9))
+        self.refused(Refusal.NO_SUCH_NUMBER, font.check_record, [2], b"")
+
     def test_little_stack(self):
         """A thread with the least stack that Python gives traces and cuts, on a thread of the module's."""
         answers = []
