@@ -12,6 +12,7 @@ pub enum Action {
     Info(PathBuf),
     Subset(Wanted),
     Check(Checked),
+    Blocking(Wanted),
 }
 
 /// What is to be kept: one option of the command line.
@@ -57,6 +58,7 @@ pub fn parse(words: impl Iterator<Item = OsString>) -> Result<Action, Failure> {
             _ => Err(Failure::usage("info takes one font")),
         },
         Some("subset") => subset(rest).map(Action::Subset),
+        Some("blocking") => blocking(rest).map(Action::Blocking),
         Some("check") => check(rest).map(Action::Check),
         _ => Err(Failure::usage(format!("no such command: {}", shown(first)))),
     }
@@ -111,7 +113,7 @@ fn taken(words: &[OsString]) -> Result<Words, Failure> {
 fn subset(words: &[OsString]) -> Result<Wanted, Failure> {
     let words = taken(words)?;
     let [font] = words.files.as_slice() else {
-        return Err(Failure::usage("subset takes one font"));
+        return Err(Failure::usage("one font is taken"));
     };
     Ok(Wanted {
         font: font.clone(),
@@ -137,6 +139,17 @@ fn check(words: &[OsString]) -> Result<Checked, Failure> {
         record: record.clone(),
         keep: words.keep,
     })
+}
+
+/// The words of `subset`, but for those of what it writes.
+fn blocking(words: &[OsString]) -> Result<Wanted, Failure> {
+    let wanted = subset(words)?;
+    if wanted.encoding || wanted.output.is_some() {
+        return Err(Failure::usage(
+            "blocking writes nothing: no --encoding or -o",
+        ));
+    }
+    Ok(wanted)
 }
 
 /// Sets what may stand once.

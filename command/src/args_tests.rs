@@ -108,3 +108,12 @@ fn check_takes_a_font_and_a_record() {
     usage(&["check", "a.otf", "--glyphs", "1"]);
     usage(&["check", "a.otf", "r", "--glyphs", "1", "-o", "x"]);
 }
+
+#[test]
+fn blocking_takes_one_font() {
+    let words = ["blocking", "a.otf", "--text", "A", "--name", "N"];
+    assert!(matches!(parsed(&words), Ok(Action::Blocking(_))));
+    usage(&["blocking", "a.otf"]);
+    usage(&["blocking", "a.otf", "--text", "A", "-o", "x"]);
+    usage(&["blocking", "a.otf", "--text", "A", "--encoding"]);
+}

@@ -6,6 +6,7 @@ Cuts a font down to the letters in use, as a document embeds it.
     mogdivash subset FONT [--text TEXT] [--text-file FILE] [--glyphs N,..] [--names A,..] [--cids N,..]
                      [--name NAME] [--encoding] [-o OUT]
     mogdivash check FONT RECORD [--text TEXT] .. as above
+    mogdivash blocking FONT [--text TEXT] .. [--name NAME]
     mogdivash info FONT
     mogdivash --help | --version
 
@@ -28,6 +29,9 @@ and alternates, which a shaper would choose, are not added: name them.
 
 check says whether RECORD, the reach record of another tracer, ten bytes a row, is accepted for what is kept: each
 glyph is plain, the record lists all that they meet, and each subroutine that it lists exists.
+
+blocking says which kept glyph costs the small file: the smallest one without which a subset whose unused subroutines
+are emptied has only those in use.
 
 A file is written whole or not at all. Exit status: 0 done; 1 refused (the number and the words of the refusal
 stand on standard error), or a file cannot be read or written; 2 wrong usage.

@@ -4,6 +4,7 @@
 //! of a file, and files.
 
 mod args;
+mod blocking;
 mod check;
 mod cmap;
 mod composed;
@@ -38,6 +39,7 @@ fn run() -> Result<(), Failure> {
         Action::Version => say(&format!("mogdivash {}", mogdivash::VERSION)),
         Action::Info(font) => info::run(&font)?,
         Action::Subset(wanted) => subset::run(&wanted)?,
+        Action::Blocking(wanted) => blocking::run(&wanted)?,
         Action::Check(checked) => check::run(&checked)?,
     }
     Ok(())

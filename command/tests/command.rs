@@ -325,3 +325,19 @@ fn records() {
     assert!(told.err.contains("record: refused by 14: "), "{}", told.err);
     assert_eq!(place.files(), ["record"]);
 }
+
+/// Which glyph costs the small file: document 02, Wish 12.
+#[test]
+fn blocking() {
+    let place = Place::new("blocking");
+    let told = place.call(&["blocking", "made.otf", "--text", "e"]);
+    assert_eq!((told.status, told.err.as_str()), (0, ""));
+    assert!(told.out.starts_with("made.otf: none: the subset is small"));
+    let told = place.call(&["blocking", "made.otf", "--text", "é"]);
+    assert_eq!(told.status, 0);
+    assert!(
+        told.out
+            .starts_with("made.otf: none: a kept glyph is not plain")
+    );
+    assert!(place.files().is_empty());
+}

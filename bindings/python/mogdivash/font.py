@@ -116,6 +116,22 @@ class Font:
     def _check_record(self, keep, count, rows):
         check(library.cff_check_record(self._data, len(self._data), keep, count, rows, len(rows)))
 
+    def blocking_glyph(self, name, keep):
+        """Which glyph costs the small file (document 02, Wish 12): where the traced subset is STUBBED, the smallest kept glyph but 0
+        without which it is RENUMBERED; else None."""
+        return on_own_stack(lambda: self._blocking_glyph(_text(name), *_glyphs(keep)))
+
+    def _blocking_glyph(self, name, keep, count):
+        words = self.work_words if self.work_words <= _MOST_WORDS else 0
+        work, answer, room = (ctypes.c_uint32 * words)(), (ctypes.c_uint64 * 1)(), 1 << 16
+        front = [self._data, len(self._data), name, len(name), keep, count, work, words]
+        while True:
+            returned = library.cff_blocking_glyph(*front, (ctypes.c_uint8 * room)(), room, answer, 1)
+            if returned != Refusal.OUTPUT:
+                check(returned)
+                return None if answer[0] == _ABSENT else answer[0]
+            room *= 4
+
     def subset(self, name, keep, record=None, encoding=False):
         """The subset of glyph 0 and the glyphs of `keep` under a new name, by a record, or traced where there is none. With
         `encoding` a name-keyed font keeps the codes of the kept glyphs."""

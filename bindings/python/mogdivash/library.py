@@ -36,6 +36,7 @@ _ARGUMENTS = {
     "cff_subset_cid": [*_CUT, *_LENT],
     "cff_trace": [*_BYTES, *_slice(_U16), *_slice(_U8), *_slice(_U64)],
     "cff_check_record": [*_BYTES, *_slice(_U16), *_BYTES],
+    "cff_blocking_glyph": [*_BYTES, *_BYTES, *_slice(_U16), *_slice(_U32), *_slice(_U8), *_slice(_U64)],
     "cff_next_charstring": [*_BYTES, *_slice(_U8), *_slice(_U64)],
 }
 

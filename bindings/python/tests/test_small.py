@@ -65,6 +65,10 @@ class Small(unittest.TestCase):
         self.refused(Refusal.NOT_ACCEPTED, font.check_record, [1], b"\1" + bytes(9))
         self.refused(Refusal.NO_SUCH_NUMBER, font.check_record, [2], b"")
 
+    def test_blocking_glyph(self):
+        self.assertIsNone(Font(FONT).blocking_glyph("A", [1]))
+        self.refused(Refusal.NO_SUCH_NUMBER, Font(FONT).blocking_glyph, "A", [2])
+
     def test_little_stack(self):
         """A thread with the least stack that Python gives traces and cuts, on a thread of the module's."""
         answers = []
