@@ -91,7 +91,7 @@ const USAGE: &str = "usage: tools/compare/run cff SEED COUNT
        tools/compare/run opentype SEED COUNT
        tools/compare/run alike SEED COUNT
        tools/compare/run blocking SEED COUNT
-       tools/compare/run blocking-time GLYPHS KEPT
+       tools/compare/run blocking-time GLYPHS KEPT TRIED
        tools/compare/run trace-time FILE
        tools/compare/run cut FOLDER
        tools/compare/run case SEED NUMBER
@@ -127,7 +127,7 @@ fn main() -> ExitCode {
         ["opentype", seed, count] => seeded(seed, count, opentype),
         ["alike", seed, count] => seeded(seed, count, alike),
         ["blocking", seed, count] => seeded(seed, count, blocking_glyphs),
-        ["blocking-time", glyphs, kept] => seeded(glyphs, kept, blocking_time),
+        ["blocking-time", numbers @ ..] => blocking_time(numbers),
         ["trace-time", file] => trace_time(file),
         ["cut", folder] => cut_tables(Path::new(folder)),
         ["case", seed, number] => seeded(seed, number, case),
@@ -341,6 +341,8 @@ fn check(seed: u64, count: usize) -> ExitCode {
     print!("{}", tally.report(&target().join("compare")));
     println!("{times}");
     status(tally.differences() + u64::from(!times.within))
+}
+
 /// `count` fonts made for the question, and half as many of those made for subsets.
 fn blocking_glyphs(seed: u64, count: usize) -> ExitCode {
     let tally = on_large_stack(move || blocking::run(seed, count));
@@ -349,10 +351,17 @@ fn blocking_glyphs(seed: u64, count: usize) -> ExitCode {
     status(tally.differences)
 }
 
-/// The time of a call that tries each kept glyph.
-fn blocking_time(glyphs: u64, kept: usize) -> ExitCode {
-    let (answer, time) = on_large_stack(move || blocking::time(glyphs as usize, kept, cpu_time));
-    println!("{glyphs} glyphs, {kept} kept: {answer:?}, {} s", time.as_secs_f64());
+/// The time of a call that tries so many of the kept glyphs.
+fn blocking_time(numbers: &[&str]) -> ExitCode {
+    let numbers: Vec<usize> = numbers.iter().flat_map(|n| n.parse()).collect();
+    let &[glyphs, kept, tried] = numbers.as_slice() else {
+        return usage();
+    };
+    let (answer, time) = on_large_stack(move || blocking::time(glyphs, kept, tried, cpu_time));
+    println!(
+        "{glyphs} glyphs, {kept} kept, {tried} tried: {answer:?}, {} s",
+        time.as_secs_f64()
+    );
     ExitCode::SUCCESS
 }
 
