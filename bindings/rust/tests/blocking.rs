@@ -1,36 +1,10 @@
 //! Which glyph costs the small file, on a font of six glyphs: 2 and 3 have dead code that calls a subroutine that is not there, 4 is
 //! not plain, and 5 enters a subroutine.
 
+mod small_font;
+
 use mogdivash::{Font, Refusal, Way};
-
-/// An INDEX with offsets of one byte.
-fn index(items: &[&[u8]]) -> Vec<u8> {
-    let mut out = (items.len() as u16).to_be_bytes().to_vec();
-    if items.is_empty() {
-        return out;
-    }
-    out.extend([1, 1]);
-    let mut offset = 1;
-    for item in items {
-        offset += item.len() as u8;
-        out.push(offset);
-    }
-    out.extend(items.concat());
-    out
-}
-
-/// The five-byte form of a DICT's integer.
-fn number(value: usize) -> Vec<u8> {
-    let mut out = vec![29];
-    out.extend((value as u32).to_be_bytes());
-    out
-}
-
-const CALL_LOCAL: u8 = 10;
-const RETURN: u8 = 11;
-const ENDCHAR: u8 = 14;
-/// The operand that calls the first of a few subroutines.
-const FIRST: u8 = 139 - 107;
+use small_font::{CALL_LOCAL, ENDCHAR, FIRST, RETURN, index, number};
 
 fn font() -> Vec<u8> {
     let charstrings = index(&[

@@ -27,13 +27,13 @@ pub fn number(value: usize) -> Vec<u8> {
 }
 
 /// The bytes of operators, and of the operands that call subroutines 0 and 1 of a few.
-const CALL_LOCAL: u8 = 10;
+pub const CALL_LOCAL: u8 = 10;
 const CALL_GLOBAL: u8 = 29;
-const RETURN: u8 = 11;
+pub const RETURN: u8 = 11;
 pub const ENDCHAR: u8 = 14;
 const VSTEMHM: u8 = 23;
 pub const HINTMASK: u8 = 19;
-const FIRST: u8 = 139 - 107;
+pub const FIRST: u8 = 139 - 107;
 const SECOND: u8 = FIRST + 1;
 
 /// A font. Glyph 1 has a stem and a mask and calls the second local subroutine, which has two stems more and a mask, and calls the global
