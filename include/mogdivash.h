@@ -138,7 +138,7 @@ uint8_t cff_subset_cid(const uint8_t *font, size_t font_len, const uint8_t *name
    for fewer than two words of answer. With a refusal record and answer stay as they were; bytes behind the record always do.
 
    A glyph costs up to 65,536 steps a pass, whatever its size; there is one pass over the kept glyphs for each 65,536 rows, and as many
-   again to write them where there are more than 65,535. 1,000 kept glyphs that each make 65,530 calls, a font of 137 KB, take 1.7
+   again to write them where there are more than 65,535. 1,000 kept glyphs that each make 65,530 calls, a font of 137 KB, take 1.7 to 1.9
    seconds; a row that is met after greater ones moves those that the pass holds (200,050 rows in falling order, a font of 200 KB: 8 to 9
    seconds, rising 0.02). */
 uint8_t cff_trace(const uint8_t *font, size_t font_len, const uint16_t *keep, size_t keep_len, uint8_t *record,
