@@ -13,7 +13,7 @@ use Rattle.charstring.specs.declared.MaskLen.the-variants.{Own}
 use Rattle.prune.specs.Renumber.{oldOf, renumber, Bytes, failed, bytes, renumberCharstring}
 use Rattle.bits.specs.Bits.{countBelow}
 use Rattle.renumber.specs.Ranks.{ranksAt, callsBy}
-use Rattle.renumber.specs.Run.{plainLen, runBytes}
+use Rattle.renumber.specs.Run.{isThree, isFive, threeLen, fiveLen, plainLen, runBytes}
 use Rattle.renumber.specs.declared.turns.Held.the-variants.{Nothing}
 
 -- three local subroutines, the third reached, and no global ones
@@ -44,6 +44,20 @@ plain-lengths : (plainLen sixTokens 0 ∷ plainLen sixTokens 2 ∷ plainLen sixT
     ∷ plainLen sixTokens 7 ∷ []) ≡ 2 ∷ 1 ∷ 1 ∷ 1 ∷ 0 ∷ 0 ∷ 0 ∷ []
 unfolding plainLen
 plain-lengths = refl
+
+-- 1131 and 1132 in three bytes, -32768 in three, 1.0 and 0.5 as 16.16, and 256.5, which is left to the reading of one number: of these 1132 and 0.5 are plain
+abbrev longer : List (List ℕ)
+longer =
+    (0x1c ∷ 0x04 ∷ 0x6b ∷ []) ∷ (0x1c ∷ 0x04 ∷ 0x6c ∷ []) ∷ (0x1c ∷ 0x80 ∷ 0x00 ∷ []) ∷ (0xff ∷ 0x00 ∷ 0x01 ∷ 0x00 ∷ 0x00 ∷ [])
+    ∷ (0xff ∷ 0x00 ∷ 0x00 ∷ 0x80 ∷ 0x00 ∷ []) ∷ (0xff ∷ 0x01 ∷ 0x00 ∷ 0x80 ∷ 0x00 ∷ []) ∷ []
+
+lengthsOf : List (List ℕ) → List ℕ
+lengthsOf [] = []
+lengthsOf (s ∷ ss) = plainLen s 0 ∷ lengthsOf ss
+
+longer-lengths : lengthsOf longer ≡ 0 ∷ 3 ∷ 0 ∷ 0 ∷ 5 ∷ 0 ∷ []
+unfolding lengthsOf plainLen threeLen fiveLen isThree isFive
+longer-lengths = refl
 
 -- the run up to the call is written but for its last number, which the call takes
 run-before-call : runBytes sixTokens Nothing 0 4 ≡ 0xf7 ∷ 0x00 ∷ 0x8b ∷ 0x15 ∷ []

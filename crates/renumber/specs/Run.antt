@@ -1,8 +1,8 @@
 -- Runs of plain tokens (document 01, 'Corners in charstring.rs'; TN5177, sections 3.1 and 3.2): a token that is written as it was read, is no
 -- call and has no mask behind it. A run is copied byte for byte, but for a number that stands last: it is held, since a call may follow.
-use Prim.Native.Nat.{ℕ, _-_, _≤_, _<_}
+use Prim.Native.Nat.{ℕ, _+_, _-_, _*_, _≤_, _<_}
 use mathlib.Core.Path.{_≡_}
-use mathlib.Core.Bool.{Bool, true, false}
+use mathlib.Core.Bool.{Bool, true, false, not}
 use mathlib.Core.List.{List, _++_}
 use lib.Dec.{ltb, eqb}
 use lib.IntN.{ℤ}
@@ -26,11 +26,33 @@ abbrev pub isPlain : ℕ → Bool
 isPlain b =
     pick (eqb b 10) false (pick (eqb b 12) false (pick (eqb b 19) false (pick (eqb b 20) false (pick (eqb b 28) false (pick (eqb b 29) false true)))))
 
--- how many bytes the plain token at a place has, 0 where there is none: numbers of one byte and of two are in their shortest form
+-- a byte that is an operator or begins one: below 32, and not 28
+abbrev pub isOperator : ℕ → Bool
+isOperator b = pick (ltb b 32) (not (eqb b 28)) false
+
+-- an integer of 16 bits that takes three bytes: above 1131, or below -1131; -32768 is written as a 16.16
+unfoldable pub isThree : ℕ → Bool
+isThree n = pick (ltb n 1132) false (pick (eqb n 32768) false (ltb n 64405))
+
+unfoldable pub threeLen : List ℕ → ℕ → ℕ
+threeLen s at = pick (ltb (length s - at) 3) 0 (pick (isThree (getD s (at + 1) 0 * 256 + getD s (at + 2) 0)) 3 0)
+
+-- a 16.16 with the halves h and l that is no integer and lies between -256 and 256: rounding to 24 digits leaves it
+unfoldable pub isFive : ℕ → ℕ → Bool
+isFive h l = pick (eqb l 0) false (pick (ltb h 256) true (ltb 65279 h))
+
+unfoldable pub fiveLen : List ℕ → ℕ → ℕ
+fiveLen s at =
+    pick (ltb (length s - at) 5) 0
+    (pick (isFive (getD s (at + 1) 0 * 256 + getD s (at + 2) 0) (getD s (at + 3) 0 * 256 + getD s (at + 4) 0)) 5 0)
+
+-- how many bytes the plain token at a place has, 0 where there is none: numbers of one byte and of two are in their shortest form, those of three
+-- and five are taken where they are
 unfoldable pub plainLen : List ℕ → ℕ → ℕ
 plainLen s at =
     let v = getD s at 0 in
-    pick (ltb v 32) (pick (isPlain v) 1 0) (pick (ltb v 247) 1 (pick (ltb v 255) (pick (ltb (length s - at) 2) 0 2) 0))
+    pick (ltb v 32) (pick (eqb v 28) (threeLen s at) (pick (isPlain v) 1 0))
+    (pick (ltb v 247) 1 (pick (ltb v 255) (pick (ltb (length s - at) 2) 0 2) (fiveLen s at)))
 
 -- the bytes from a place up to another
 abbrev pub part : List ℕ → ℕ → ℕ → List ℕ

@@ -14,7 +14,7 @@ use Rattle.type2_number.specs.Encoding.{encoded}
 use Rattle.type2_number.specs.Floats.{floatOf, numberOf}
 use Rattle.type2_number.specs.declared.Number.{Number as Answer}
 use Rattle.type2_number.specs.declared.Number.the-variants.{Num as NumAt, Cut, Operator}
-use Rattle.type2_number.specs.NumberLaws.{form-op}
+use Rattle.type2_number.specs.NumberLaws.{OperatorByte, form-op}
 use Rattle.type2_number.specs.Readings.{back-reading}
 use Rattle.charstring.specs.declared.MaskLen.{MaskLen}
 use Rattle.charstring.specs.declared.MaskLen.the-variants.{Own}
@@ -31,8 +31,8 @@ use Rattle.prune.specs.Renumber.{Calls, isCall}
 use Rattle.renumber.specs.Turn.{callTurn, turnOf, after, cursor, turnedBy, turnedAt, heldBytes, sentBytes}
 use Rattle.renumber.specs.TurnLaws.{sentToks, sent-bytes}
 use Rattle.renumber.specs.BodyLaws.{turning-turn}
-use Rattle.renumber.specs.Run.{isPlain, plainLen, part, heldOf, heldIn, Standing, Passes, RunFrom}
-use Rattle.renumber.specs.ShortLaws.{ShortAt, short-at, part-one}
+use Rattle.renumber.specs.Run.{isPlain, isOperator, plainLen, part, heldOf, heldIn, Standing, Passes, RunFrom}
+use Rattle.renumber.specs.ShortLaws.{ShortAt, short-at, operates-told, part-one}
 use Rattle.renumber.specs.declared.runs.Run.{Run}
 use Rattle.renumber.specs.declared.turns.Held.{Held}
 use Rattle.renumber.specs.declared.turns.Held.the-variants.{Nothing, Number}
@@ -206,17 +206,17 @@ module _ (s : List ℕ) (b : Octets s) (c : Cursor) (at last args stems : ℕ) (
   from-at = omega (arith, w .run .starts, w .run .ends)
 
   -- a plain operator
-  plain-operator : getD s at 0 < 32 → isPlain (getD s at 0) ≡ true
+  plain-operator : getD s at 0 < 32 → (getD s at 0 ≡ 28 → ⊥) → isPlain (getD s at 0) ≡ true
   unfolding plainLen
-  plain-operator low = go (isPlain (getD s at 0)) refl
+  plain-operator low d = go (isPlain (getD s at 0)) refl
     where
       go : (t : Bool) → isPlain (getD s at 0) ≡ t → t ≡ true
       go true f = refl
-      go false f = absurd (some (e ∙ rw (lt-ltb (getD s at 0) 32 low, f)))
+      go false f = absurd (some (e ∙ rw (lt-ltb (getD s at 0) 32 low, f, ne-eqb (getD s at 0) 28 d)))
 
-  pub running-operator : getD s at 0 < 32 → (k : ℕ) → k ≡ stemsAfter (getD s at 0) args stems → Running s c (runOf (at + 1) (at + 1) 0 k)
+  pub running-operator : isOperator (getD s at 0) ≡ true → (k : ℕ) → k ≡ stemsAfter (getD s at 0) args stems → Running s c (runOf (at + 1) (at + 1) 0 k)
   unfolding Carries
-  running-operator low k j =
+  running-operator operates k j =
       subst (λ (x : ℕ). Running s c (runOf (at + 1) (at + 1) 0 x)) (sym j) (record {
         run = record {
           starts = omega (arith, from-at);
@@ -228,8 +228,14 @@ module _ (s : List ℕ) (b : Octets s) (c : Cursor) (at last args stems : ℕ) (
         carries = carries-as s c next _ _ own (carries-on s c (cursor at args stems false) next Nothing (part s (c .at) at) (getD s at 0 ∷ []) (w .carries) one);
       })
     where
+      told : OperatorByte (getD s at 0)
+      told = operates-told (getD s at 0) operates
+
+      low : getD s at 0 < 32
+      low = told .low
+
       plain : isPlain (getD s at 0) ≡ true
-      plain = plain-operator low
+      plain = plain-operator low (told .other)
 
       next : Cursor
       next = cursor (at + 1) 0 (stemsAfter (getD s at 0) args stems) false
@@ -240,9 +246,9 @@ module _ (s : List ℕ) (b : Octets s) (c : Cursor) (at last args stems : ℕ) (
       own : part s (c .at) at ++ (getD s at 0 ∷ []) ≡ part s (c .at) (at + 1)
       own = ap (λ (l : List ℕ). part s (c .at) at ++ l) (sym (part-one s at h)) ∙ part-part s (c .at) at (at + 1) from-at (omega arith)
 
-  pub running-number : 32 ≤ getD s at 0 → Running s c (runOf (at + n) at (args + 1) stems)
+  pub running-number : isOperator (getD s at 0) ≡ false → Running s c (runOf (at + n) at (args + 1) stems)
   unfolding Carries
-  running-number high = record {
+  running-number begins = record {
     run = record {
       starts = from-at;
       ends = omega arith;
@@ -255,7 +261,7 @@ module _ (s : List ℕ) (b : Octets s) (c : Cursor) (at last args stems : ℕ) (
   }
     where
       short : ShortAt s at (at + n)
-      short = short-at s at b h high n e some
+      short = short-at s at b h begins n e some
 
       held : Held
       held = Number (floatOf (short .value))

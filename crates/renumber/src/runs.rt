@@ -2,11 +2,11 @@
 // and taken at once.
 ghost use mathlib.Core.Path.{_≡_};
 ghost use mathlib.Core.Bool.{false};
-ghost use Prim.Native.Nat.{_≤_, _<_};
+ghost use Prim.Native.Nat.{_+_, _*_, _≤_, _<_};
 ghost use lib.ListN.{length};
 ghost use Rattle.charstring.specs.Answers.{Within};
 ghost use Rattle.renumber.specs.Turn.{cursor};
-ghost use Rattle.renumber.specs.Run.{isPlain, plainLen, heldIn, RunFrom};
+ghost use Rattle.renumber.specs.Run.{isPlain, isOperator, isThree, isFive, threeLen, fiveLen, plainLen, heldIn, RunFrom};
 use crate::turns::Held;
 use charstring::stems_after;
 use type2_number::Number;
@@ -45,6 +45,73 @@ fn is_plain(b: u8) -> bool
     true
 }
 
+// Whether a byte is an operator or begins one.
+fn is_operator(b: u8) -> bool
+    ensures { λ r. ⌜ r ≡ isOperator b ⌝ }
+{
+    if b < 32 {
+        return b != 28;
+    }
+    false
+}
+
+// Whether an integer of 16 bits takes three bytes when it is written.
+fn is_three(n: usize) -> bool
+    ensures { λ r. ⌜ r ≡ isThree n ⌝ }
+{
+    if n < 1132 {
+        return false;
+    }
+    if n == 32768 {
+        return false;
+    }
+    n < 64405
+}
+
+// How many bytes the number of three bytes at a place has, 0 where it is cut off or not written as it was read.
+fn three_len(code: &[u8], at: usize) -> usize
+    requires { ⌜ at < length (now code) ⌝ }
+    ensures { λ r. ⌜ r ≡ threeLen (now (code .entry)) at ⌝ }
+{
+    if code.len() - at < 3 {
+        return 0;
+    }
+    let n = octets::wide(code[at + 1]) * 256 + octets::wide(code[at + 2]);
+    if is_three(n) {
+        return 3;
+    }
+    0
+}
+
+// Whether a 16.16 with these halves is written as it was read: no integer, between -256 and 256.
+fn is_five(high: usize, low: usize) -> bool
+    ensures { λ r. ⌜ r ≡ isFive high low ⌝ }
+{
+    if low == 0 {
+        return false;
+    }
+    if high < 256 {
+        return true;
+    }
+    65279 < high
+}
+
+// The same for the number of five bytes at a place.
+fn five_len(code: &[u8], at: usize) -> usize
+    requires { ⌜ at < length (now code) ⌝ }
+    ensures { λ r. ⌜ r ≡ fiveLen (now (code .entry)) at ⌝ }
+{
+    if code.len() - at < 5 {
+        return 0;
+    }
+    let high = octets::wide(code[at + 1]) * 256 + octets::wide(code[at + 2]);
+    let low = octets::wide(code[at + 3]) * 256 + octets::wide(code[at + 4]);
+    if is_five(high, low) {
+        return 5;
+    }
+    0
+}
+
 // How many bytes the plain token at a place has, 0 where there is none.
 fn plain_len(code: &[u8], at: usize) -> usize
     requires { ⌜ at < length (now code) ⌝ }
@@ -52,6 +119,9 @@ fn plain_len(code: &[u8], at: usize) -> usize
 {
     let v = code[at];
     if v < 32 {
+        if v == 28 {
+            return three_len(code, at);
+        }
         if is_plain(v) {
             return 1;
         }
@@ -66,7 +136,7 @@ fn plain_len(code: &[u8], at: usize) -> usize
         }
         return 2;
     }
-    0
+    five_len(code, at)
 }
 
 // The longest run of plain tokens from a place on, no mask being due.
@@ -89,7 +159,7 @@ fn plain_run(code: &[u8], from: usize, args: usize, stems: usize) -> Run
             };
         }
         let v = code[at];
-        if v < 32 {
+        if is_operator(v) {
             stems = stems_after(v, args, stems);
             args = 0;
             at += 1;

@@ -1,6 +1,7 @@
 -- `renumber::runs::plain_run` meets its contract: a turn takes one plain token.
 use Prim.Native.Nat.{_+_, _-_}
 use mathlib.Core.Bool.{false}
+use mathlib.Core.Path.{sym, _∙_}
 use native.Mathlib.Omega.{arith}
 use lib.ListN.{length}
 use Rattle.octets.specs.Octets.{Octets}
@@ -32,8 +33,11 @@ returns c = c .before .before .before .loop .inv .run
 shared-slice-read-v : tie.Need-shared-slice-read-v Inv-loop μ-loop
 shared-slice-read-v c = search needs
 
+is-operator-requires : tie.Need-is-operator-requires Inv-loop μ-loop
+is-operator-requires c κs = search needs
+
 stems-after-requires : tie.Need-stems-after-requires Inv-loop μ-loop
-stems-after-requires c κs = omega (arith, c .before .before .before .before .before .loop .inv .within .counted, c .before .before .before .before .before .loop .inv .within .inside)
+stems-after-requires c κs = omega (arith, c .before .before .before .before .before .before .loop .inv .within .counted, c .before .before .before .before .before .before .loop .inv .within .inside)
 
 add-at : tie.Need-add-at Inv-loop μ-loop
 add-at c = search needs
@@ -42,13 +46,13 @@ loop-less : tie.Need-loop-less Inv-loop μ-loop
 loop-less c = omega arith
 
 loop-again : tie.Need-loop-again Inv-loop μ-loop
-loop-again c = running-operator _ (bytes (c .before .before .before .before .before .before)) _ _ _ _ _ (c .before .before .before .before .before .before .loop .inv) (omega arith) _ (c .before .before .before .before .plain-len .ensures) (c .before .before .before .if1 .left) (omega arith) _ (c .stems-after .ensures)
+loop-again c = running-operator _ (bytes (c .before .before .before .before .before .before .before)) _ _ _ _ _ (c .before .before .before .before .before .before .before .loop .inv) (omega arith) _ (c .before .before .before .before .before .plain-len .ensures) (c .before .before .before .before .if1 .left) (sym (c .before .before .is-operator .ensures) ∙ c .before .if2 .taken) _ (c .stems-after .ensures)
 
 -- the run with a number more
 onward : (c : tie.Else2 Inv-loop μ-loop)
-    → Running (c .before .before .before .before .before .before .before .args .code .now) (cursor (c .before .before .before .before .before .before .before .args .from) (c .before .before .before .before .before .before .before .args .args) (c .before .before .before .before .before .before .before .args .stems) false)
-    (runOf (c .before .before .before .before .before .loop .at + c .before .before .before .plain-len .result) (c .before .before .before .before .before .loop .at) (c .before .before .before .before .before .loop .args + 1) (c .before .before .before .before .before .loop .stems))
-onward c = running-number _ (bytes (c .before .before .before .before .before)) _ _ _ _ _ (c .before .before .before .before .before .loop .inv) (omega arith) _ (c .before .before .before .plain-len .ensures) (c .before .before .if1 .left) (omega arith)
+    → Running (c .before .before .before .before .before .before .before .before .args .code .now) (cursor (c .before .before .before .before .before .before .before .before .args .from) (c .before .before .before .before .before .before .before .before .args .args) (c .before .before .before .before .before .before .before .before .args .stems) false)
+    (runOf (c .before .before .before .before .before .before .loop .at + c .before .before .before .before .plain-len .result) (c .before .before .before .before .before .before .loop .at) (c .before .before .before .before .before .before .loop .args + 1) (c .before .before .before .before .before .before .loop .stems))
+onward c = running-number _ (bytes (c .before .before .before .before .before .before)) _ _ _ _ _ (c .before .before .before .before .before .before .loop .inv) (omega arith) _ (c .before .before .before .before .plain-len .ensures) (c .before .before .before .if1 .left) (sym (c .before .is-operator .ensures) ∙ c .if2 .left)
 
 add-at-2 : tie.Need-add-at-2 Inv-loop μ-loop
 add-at-2 c = let m = onward c in omega (arith, m .run .inside)
@@ -57,7 +61,7 @@ add-args : tie.Need-add-args Inv-loop μ-loop
 add-args c = let m = onward c in omega (arith, m .run .inside, m .within .counted)
 
 loop-less-2 : tie.Need-loop-less-2 Inv-loop μ-loop
-loop-less-2 c = let m = c .before .before .if1 .left in omega arith
+loop-less-2 c = let m = c .before .before .before .if1 .left in omega arith
 
 loop-again-2 : tie.Need-loop-again-2 Inv-loop μ-loop
 loop-again-2 c = onward c
@@ -75,6 +79,7 @@ plain-run-spec =
     plain-len-requires
     returns
     shared-slice-read-v
+    is-operator-requires
     stems-after-requires
     add-at
     loop-less
