@@ -28,7 +28,6 @@ use Rattle.cff.specs.Find.{localsWords}
 use Rattle.cff.specs.declared.private.PrivateAt.{PrivateAt}
 use Rattle.cff.specs.declared.private.PrivateRead.{PrivateRead}
 use Rattle.cff.specs.declared.private.PrivateRead.the-variants.{Refused as RefusedPrivate, Found as FoundPrivate}
-use Rattle.cff.specs.declared.private.SeenPrivate.{SeenPrivate}
 use Rattle.cff.specs.declared.private.NextPrivate.{NextPrivate}
 use Rattle.cff.specs.declared.private.NextPrivate.the-variants.{Refused as RefusedNext, Read as ReadNext}
 use Rattle.cff.specs.declared.private.LocalsRead.{LocalsRead}

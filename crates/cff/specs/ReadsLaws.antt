@@ -38,7 +38,7 @@ use Rattle.dict.specs.declared.PrivateIn.{PrivateIn}
 use Rattle.dict.specs.declared.PrivateIn.the-variants.{Refused as RefusedEntry, Private as PrivateEntry, Absent as NoPrivate}
 use Rattle.cff.specs.Font.{Got, refused, got, then, Private, Program, indexGot, dictGot, localsAt, privateData, privateAt, privatesAt, emptyPrivate}
 use Rattle.cff.specs.Find.{localsWords}
-use Rattle.cff.specs.Reads.{Holds, ReadsItems, privateOf, GoodPrivate, noPrivate, ReadsPrivate, Known, Remembers, Recalls, freeAfter, fdPrivate, ReadsNext, ReadsLocals}
+use Rattle.cff.specs.Reads.{Holds, ReadsItems, privateOf, GoodPrivate, noPrivate, ReadsPrivate, Known, Remembers, Recalls, fdPrivate, ReadsNext, ReadsLocals}
 use Rattle.cff.specs.declared.private.PrivateAt.{PrivateAt}
 use Rattle.cff.specs.declared.private.PrivateRead.{PrivateRead}
 use Rattle.cff.specs.declared.private.PrivateRead.the-variants.{Refused as RefusedPrivate, Found as FoundPrivate}

@@ -6,9 +6,11 @@ ghost use Rattle.index.specs.Index.{emptyAt, itemsOf};
 ghost use Rattle.dict.specs.Op.{subrs};
 ghost use Rattle.dict.specs.Lookup.{offsetIn, privateIn};
 ghost use Rattle.dict.specs.Places.{entriesOf};
+ghost use Rattle.dict.specs.Noted.{Placed};
 ghost use Rattle.cff.specs.Font.{localsAt, privateData, privateAt, privatesAt};
 ghost use Rattle.cff.specs.Reads.{Holds, ReadsItems, noPrivate, ReadsPrivate, Recalls, Remembers, freeAfter, fdPrivate, ReadsNext, ReadsLocals};
 use dict::OffsetIn;
+use dict::Places;
 use dict::PrivateIn;
 use dict::op::Op;
 use index::Index;
@@ -73,11 +75,11 @@ pub fn no_private() -> PrivateAt
 }
 
 // The local subroutines of the Private DICT at an offset, whose bytes are d.
-fn locals_at(font: &[u8], offset: usize, d: &[u8]) -> IndexAt
-    requires { ⌜ (2 ≤ length (now font)) × (offset ≤ 4294967296) ⌝ }
+fn locals_at(font: &[u8], offset: usize, d: &[u8], p: Places) -> IndexAt
+    requires { ⌜ (2 ≤ length (now font)) × (offset ≤ 4294967296) × Placed (now d) p ⌝ }
     ensures { λ r. ⌜ ReadsItems (now (font .entry)) (localsAt (now (font .entry)) offset (offsetIn subrs (entriesOf (now (d .entry))))) r ⌝ }
 {
-    let subrs = dict::offset(d, Op::SUBRS);
+    let subrs = dict::offset(d, p, Op::SUBRS);
     match subrs {
         OffsetIn::Absent => IndexAt::Found(no_items()),
         OffsetIn::Refused(n) => IndexAt::Refused(n),
@@ -95,11 +97,12 @@ fn private_data(font: &[u8], size: usize, offset: usize) -> PrivateRead
         return PrivateRead::Refused(Refusal::TRUNCATED);
     }
     let d = &font[offset..end];
-    let n = dict::check_dict(d);
+    let p = dict::read_dict(d);
+    let n = p.refusal;
     if 0 < n {
         return PrivateRead::Refused(n);
     }
-    let subrs = locals_at(font, offset, d);
+    let subrs = locals_at(font, offset, d, p);
     match subrs {
         IndexAt::Refused(e) => PrivateRead::Refused(e),
         IndexAt::Found(locals) => PrivateRead::Found(PrivateAt {
@@ -115,7 +118,15 @@ pub fn private_at(font: &[u8], d: &[u8]) -> PrivateRead
     requires { ⌜ 2 ≤ length (now font) ⌝ }
     ensures { λ r. ⌜ ReadsPrivate (now (font .entry)) (privateAt (now (font .entry)) (privateIn (entriesOf (now (d .entry))))) r ⌝ }
 {
-    let named = dict::private_of(d);
+    named_private(font, d, dict::nowhere(0))
+}
+
+// The same, of a DICT whose entries stand at these places.
+pub fn named_private(font: &[u8], d: &[u8], p: Places) -> PrivateRead
+    requires { ⌜ (2 ≤ length (now font)) × Placed (now d) p ⌝ }
+    ensures { λ r. ⌜ ReadsPrivate (now (font .entry)) (privateAt (now (font .entry)) (privateIn (entriesOf (now (d .entry))))) r ⌝ }
+{
+    let named = dict::private_of(d, p);
     match named {
         PrivateIn::Absent => PrivateRead::Found(no_private()),
         PrivateIn::Refused(n) => PrivateRead::Refused(n),
@@ -206,15 +217,16 @@ fn seen_private(
 fn next_private(
     font: &[u8],
     d: &[u8],
+    p: Places,
     sizes: &[usize; 128],
     offsets: &[usize; 128],
     words: &[usize; 128],
     free: usize,
 ) -> NextPrivate
-    requires { ⌜ (2 ≤ length (now font)) × Remembers (now font) (now sizes) (now offsets) (now words) × (free < 128) ⌝ }
+    requires { ⌜ (2 ≤ length (now font)) × Remembers (now font) (now sizes) (now offsets) (now words) × (free < 128) × Placed (now d) p ⌝ }
     ensures { λ r. ⌜ ReadsNext (now (font .entry)) (privateAt (now (font .entry)) (privateIn (entriesOf (now (d .entry))))) r ⌝ }
 {
-    let named = dict::private_of(d);
+    let named = dict::private_of(d, p);
     match named {
         PrivateIn::Absent => seen_private(font, 0, 0, sizes, offsets, words, free),
         PrivateIn::Refused(n) => NextPrivate::Refused(n),
@@ -236,11 +248,12 @@ fn fd_private(
     requires { ⌜ (2 ≤ length (now font)) × Remembers (now font) (now sizes) (now offsets) (now words) × (free < 128) ⌝ }
     ensures { λ r. ⌜ ReadsNext (now (font .entry)) (fdPrivate (now (font .entry)) (now (d .entry))) r ⌝ }
 {
-    let n = dict::check_dict(d);
+    let p = dict::read_dict(d);
+    let n = p.refusal;
     if 0 < n {
         return NextPrivate::Refused(n);
     }
-    next_private(font, d, sizes, offsets, words, free)
+    next_private(font, d, p, sizes, offsets, words, free)
 }
 
 // The Private DICTs of the FDs, whose DICTs are the items of an INDEX: one after the other. The last 128 that were read are remembered, by size and
