@@ -5,7 +5,7 @@ use mathlib.Core.Path.{_≡_}
 use mathlib.Core.Bool.{Bool, true, false}
 use mathlib.Core.List.{List, [], _∷_}
 use lib.Dec.{eqb}
-use lib.ListN.{length}
+use lib.ListN.{length, getD}
 use Rattle.octets.specs.Pick.{pick}
 use Rattle.bits.specs.Bits.{wordsFor}
 use Rattle.octets.specs.Lists.{allBelow, partOf}
@@ -28,7 +28,6 @@ use Rattle.cff.specs.Find.{localsWords}
 use Rattle.cff.specs.declared.private.PrivateAt.{PrivateAt}
 use Rattle.cff.specs.declared.private.PrivateRead.{PrivateRead}
 use Rattle.cff.specs.declared.private.PrivateRead.the-variants.{Refused as RefusedPrivate, Found as FoundPrivate}
-use Rattle.cff.specs.declared.private.LastPrivate.{LastPrivate}
 use Rattle.cff.specs.declared.private.NextPrivate.{NextPrivate}
 use Rattle.cff.specs.declared.private.NextPrivate.the-variants.{Refused as RefusedNext, Read as ReadNext}
 use Rattle.cff.specs.declared.private.LocalsRead.{LocalsRead}
@@ -75,12 +74,29 @@ abbrev pub ReadsPrivate : List ℕ → Got Private → PrivateRead → Type 0
 ReadsPrivate b g (RefusedPrivate n) = g ≡ refused n
 ReadsPrivate b g (FoundPrivate q) = GoodPrivate b q × (g ≡ got (privateOf b q))
 
--- the Private DICT of a size at an offset was read and has so many local subroutines
-pub record Known (b : List ℕ) (l : LastPrivate) : Type 0 where
+-- the Private DICT of a size at an offset was read, and the bits of its local subroutines take so many words
+pub record Known (b : List ℕ) (size offset words : ℕ) : Type 0 where
   pub private : Private
-  pub few : l .words < 65536
-  pub counted : wordsFor (length (private .locals)) ≡ l .words
-  pub is : privateData b (l .size) (l .offset) ≡ got private
+  pub few : words < 65536
+  pub counted : wordsFor (length (private .locals)) ≡ words
+  pub is : privateData b size offset ≡ got private
+
+-- those that are remembered, in a table of 128 places: the sizes, the offsets and the words; where none was put, 0 of each, which is no Private DICT
+pub record Remembers (b : List ℕ) (sizes offsets words : List ℕ) : Type 0 where
+  pub sizes-long : length sizes ≡ 128
+  pub offsets-long : length offsets ≡ 128
+  pub words-long : length words ≡ 128
+  pub known : (i : ℕ) → Known b (getD sizes i 0) (getD offsets i 0) (getD words i 0)
+
+-- the first place that has a size and an offset, or 128
+pub record Recalls (sizes offsets : List ℕ) (size offset place : ℕ) : Type 0 where
+  pub within : place ≤ 128
+  pub here : place < 128 → (getD sizes place 0 ≡ size) × (getD offsets place 0 ≡ offset)
+  pub first : (i : ℕ) → i < place → getD sizes i 0 ≡ size → getD offsets i 0 ≡ offset → ⊥
+
+-- the place for the next that is read, after one that stands at a place: round and round
+abbrev pub freeAfter : ℕ → ℕ → ℕ
+freeAfter free place = pick (eqb place free) (pick (eqb free 127) 0 (free + 1)) free
 
 -- the Private DICT of the FD with these bytes
 abbrev pub fdPrivate : List ℕ → List ℕ → Got Private
@@ -88,7 +104,7 @@ fdPrivate b d = then (dictGot (dictOf d)) (λ es. privateAt b (privateIn es))
 
 abbrev pub ReadsNext : List ℕ → Got Private → NextPrivate → Type 0
 ReadsNext b g (RefusedNext n) = g ≡ refused n
-ReadsNext b g (ReadNext l) = (k : Known b l) × (g ≡ got (k .private))
+ReadsNext b g (ReadNext l) = (k : Known b (l .size) (l .offset) (l .words)) × (g ≡ got (k .private)) × (l .place < 128)
 
 -- those of all FDs: the words of their local subroutines together
 abbrev pub ReadsLocals : Got (List Private) → LocalsRead → Type 0

@@ -6,10 +6,10 @@ use mathlib.Core.List.{List, [], _∷_}
 use native.Mathlib.Nat.{min-le-right}
 use native.Mathlib.Numerals.{add-one}
 use native.Mathlib.Omega.{arith}
-use borrow.Author.Tests.{lt-ltb, le-ltb, eq-eqb, ne-eqb}
+use borrow.Author.Tests.{lt-ltb, le-ltb, eq-eqb, ne-eqb, ltb-true, ltb-false, eqb-true, eqb-false}
 use lib.Dec.{ltb, eqb, lit≤, lit<}
-use lib.ListN.{length, drop, getD, length-take, length-drop}
-use lib.Seq.{drop-cons, drop-nil}
+use lib.ListN.{length, drop, getD, set, replicate, length-take, length-drop, length-set, length-replicate, getD-replicate, List·getD-eq-default}
+use lib.Seq.{drop-cons, drop-nil, getD-set-same, getD-set-other}
 use Rattle.octets.specs.Pick.{pick, pick-ind}
 use Rattle.bits.specs.Bits.{wordsFor}
 use Rattle.octets.specs.Octets.{Octets}
@@ -38,11 +38,11 @@ use Rattle.dict.specs.declared.PrivateIn.{PrivateIn}
 use Rattle.dict.specs.declared.PrivateIn.the-variants.{Refused as RefusedEntry, Private as PrivateEntry, Absent as NoPrivate}
 use Rattle.cff.specs.Font.{Got, refused, got, then, Private, Program, indexGot, dictGot, localsAt, privateData, privateAt, privatesAt, emptyPrivate}
 use Rattle.cff.specs.Find.{localsWords}
-use Rattle.cff.specs.Reads.{Holds, ReadsItems, privateOf, GoodPrivate, noPrivate, ReadsPrivate, Known, fdPrivate, ReadsNext, ReadsLocals}
+use Rattle.cff.specs.Reads.{Holds, ReadsItems, privateOf, GoodPrivate, noPrivate, ReadsPrivate, Known, Remembers, Recalls, fdPrivate, ReadsNext, ReadsLocals}
 use Rattle.cff.specs.declared.private.PrivateAt.{PrivateAt}
 use Rattle.cff.specs.declared.private.PrivateRead.{PrivateRead}
 use Rattle.cff.specs.declared.private.PrivateRead.the-variants.{Refused as RefusedPrivate, Found as FoundPrivate}
-use Rattle.cff.specs.declared.private.LastPrivate.{LastPrivate}
+use Rattle.cff.specs.declared.private.SeenPrivate.{SeenPrivate}
 use Rattle.cff.specs.declared.private.NextPrivate.{NextPrivate}
 use Rattle.cff.specs.declared.private.NextPrivate.the-variants.{Refused as RefusedNext, Read as ReadNext}
 use Rattle.cff.specs.declared.private.LocalsRead.{LocalsRead}
@@ -237,17 +237,79 @@ none-data b =
     rw (le-ltb (length b) 0 (omega arith))
     (then-got _ _ [] (dict-entries [] empty-dict ∙ ap got empty-entries))
 
-unfoldable pub known-none : (b : List ℕ) → Known b (record { size = 0; offset = 0; words = 0 })
+known-none : (b : List ℕ) → Known b 0 0 0
 known-none b = record { private = emptyPrivate; few = lit< tt; counted = refl; is = none-data b }
 
-pub next-none : (b : List ℕ) (s r : PrivateIn) → r ≡ s → r ≡ NoPrivate → ReadsNext b (privateAt b s) (ReadNext (record { size = 0; offset = 0; words = 0 }))
-unfolding privateAt known-none
-next-none b s r e f = (known-none b, ap (privateAt b) (sym e ∙ f))
+pub next-none : (b : List ℕ) (s r : PrivateIn) → r ≡ s → r ≡ NoPrivate → (x : NextPrivate) → ReadsNext b (privateData b 0 0) x → ReadsNext b (privateAt b s) x
+unfolding privateAt
+next-none b s r e f x h = subst (λ g. ReadsNext b g x) (none-data b ∙ sym (ap (privateAt b) (sym e ∙ f))) h
 
--- the same as the one before
-pub next-same : (b : List ℕ) (size offset : ℕ) (l : LastPrivate) → Known b l → size ≡ l .size → offset ≡ l .offset → ReadsNext b (privateData b size offset) (ReadNext l)
-next-same b size offset l k i j =
-    (k, ap (λ x. privateData b x offset) i ∙ ap (privateData b (l .size)) j ∙ k .is)
+-- ---- the table of those that are remembered
+
+module _ (sizes offsets : List ℕ) (size offset : ℕ) where
+  -- none of the places before one has them
+  abbrev pub Unlike : ℕ → Type 0
+  Unlike i = (j : ℕ) → j < i → getD sizes j 0 ≡ size → getD offsets j 0 ≡ offset → ⊥
+
+  pub unlike-start : Unlike 0
+  unlike-start j h = absurd (no (omega arith))
+
+  pub unlike-more : (i : ℕ) → Unlike i → (getD sizes i 0 ≡ size → getD offsets i 0 ≡ offset → ⊥) → Unlike (i + 1)
+  unlike-more i u n j h e f = go (eqb j i) refl
+    where
+      go : (t : Bool) → eqb j i ≡ t → ⊥
+      go true t = let k : j ≡ i = eqb-true j i t in n (subst (λ (m : ℕ). getD sizes m 0 ≡ size) k e) (subst (λ (m : ℕ). getD offsets m 0 ≡ offset) k f)
+      go false t = u j (omega (arith, eqb-false j i t)) e f
+
+-- at first all are 0
+zeros-at : (i : ℕ) → _≡_ {A = ℕ} (getD (replicate 128 0) i 0) 0
+zeros-at i = go (ltb i 128) refl
+  where
+    go : (t : Bool) → ltb i 128 ≡ t → _≡_ {A = ℕ} (getD (replicate 128 0) i 0) 0
+    go true t = getD-replicate {A = ℕ} 128 i 0 0 (ltb-true i 128 t)
+    go false t = List·getD-eq-default (replicate 128 0) 0 {n = i} (omega (arith, ltb-false i 128 t, length-replicate {A = ℕ} 128 0))
+
+pub remembers-none : (b : List ℕ) → Remembers b (replicate 128 0) (replicate 128 0) (replicate 128 0)
+remembers-none b =
+    let n = length-replicate {A = ℕ} 128 0 in
+    record { sizes-long = n; offsets-long = n; words-long = n; known = λ i. rw (zeros-at i) (known-none b) }
+
+-- one more, at a place
+pub remembers-more : (b sizes offsets words : List ℕ) (size offset w place : ℕ) → Remembers b sizes offsets words → Known b size offset w
+    → place < 128 → Remembers b (set sizes place size) (set offsets place offset) (set words place w)
+remembers-more b sizes offsets words size offset w place m k h =
+    record {
+      sizes-long = length-set sizes place size ∙ m .sizes-long;
+      offsets-long = length-set offsets place offset ∙ m .offsets-long;
+      words-long = length-set words place w ∙ m .words-long;
+      known = λ i. go i (eqb place i) refl;
+    }
+  where
+    p : place < length sizes
+    p = omega (arith, m .sizes-long)
+
+    q : place < length offsets
+    q = omega (arith, m .offsets-long)
+
+    s : place < length words
+    s = omega (arith, m .words-long)
+
+    go : (i : ℕ) (t : Bool) → eqb place i ≡ t → Known b (getD (set sizes place size) i 0) (getD (set offsets place offset) i 0) (getD (set words place w) i 0)
+    go i true t =
+        let e : place ≡ i = eqb-true place i t in
+        subst (λ (j : ℕ). Known b (getD (set sizes place size) j 0) (getD (set offsets place offset) j 0) (getD (set words place w) j 0)) e
+        (rw (getD-set-same sizes place size 0 p, getD-set-same offsets place offset 0 q, getD-set-same words place w 0 s) k)
+    go i false t =
+        let n : i ≡ place → ⊥ = λ e. eqb-false place i t (sym e) in
+        rw (getD-set-other sizes place i size 0 n, getD-set-other offsets place i offset 0 n, getD-set-other words place i w 0 n) (m .known i)
+
+-- a Private DICT that is remembered
+pub next-seen : (b sizes offsets words : List ℕ) → Remembers b sizes offsets words → (size offset place : ℕ) → Recalls sizes offsets size offset place → place < 128
+    → ReadsNext b (privateData b size offset) (ReadNext (record { size = size; offset = offset; words = getD words place 0; place = place }))
+next-seen b sizes offsets words m size offset place r h =
+    let e = r .here h in
+    let k : Known b size offset (getD words place 0) = subst (λ x. Known b x offset (getD words place 0)) (e .0) (subst (λ x. Known b (getD sizes place 0) x (getD words place 0)) (e .1) (m .known place)) in
+    (k, k .is, h)
 
 -- a Private DICT that was found has few local subroutines
 pub few-locals : (b : List ℕ) (g : Got Private) (x : PrivateRead) → ReadsPrivate b g x → (q : PrivateAt) → x ≡ FoundPrivate q → q .locals .count < 4294967296
@@ -257,11 +319,11 @@ module _ (b : List ℕ) (size offset : ℕ) (x : PrivateRead) (reads : ReadsPriv
   pub counted-refused : (n : ℕ) → x ≡ RefusedPrivate n → ReadsNext b (privateData b size offset) (RefusedNext n)
   counted-refused n e = subst (ReadsPrivate b (privateData b size offset)) e reads
 
-  pub counted-found : (q : PrivateAt) → x ≡ FoundPrivate q → (w : ℕ) → w ≡ wordsFor (q .locals .count)
-      → ReadsNext b (privateData b size offset) (ReadNext (record { size = size; offset = offset; words = w }))
-  counted-found q e w is =
+  pub counted-found : (q : PrivateAt) → x ≡ FoundPrivate q → (w : ℕ) → w ≡ wordsFor (q .locals .count) → (place : ℕ) → place < 128
+      → ReadsNext b (privateData b size offset) (ReadNext (record { size = size; offset = offset; words = w; place = place }))
+  counted-found q e w is place low =
       let h = subst (ReadsPrivate b (privateData b size offset)) e reads in
-      (record { private = privateOf b q; few = let k = h .0 .locals .few in omega (arith, is); counted = ap wordsFor (items-length b (q .locals)) ∙ sym is; is = h .1 }, h .1)
+      (record { private = privateOf b q; few = let k = h .0 .locals .few in omega (arith, is); counted = ap wordsFor (items-length b (q .locals)) ∙ sym is; is = h .1 }, h .1, low)
 
 -- ---- an FD's
 
@@ -293,14 +355,13 @@ added-one t p m (refused n) e = refl
 added-one t p m (got ps) e = let f : t + (wordsFor (length (p .locals)) + localsWords ps) ≡ t + m + localsWords ps = omega arith in ap got f
 
 -- before FD k, the FDs behind which have as many more as the whole
-pub record Adding (b : List ℕ) (items : List (List ℕ)) (last : LastPrivate) (total k : ℕ) : Type 0 where
+pub record Adding (b : List ℕ) (items : List (List ℕ)) (total k : ℕ) : Type 0 where
   pub within : k ≤ length items
   pub few : total ≤ 65536 * k
-  pub known : Known b last
   pub rest : added 0 (privatesAt b items) ≡ added total (privatesAt b (drop k items))
 
-pub adding-start : (b : List ℕ) (items : List (List ℕ)) → Adding b items (record { size = 0; offset = 0; words = 0 }) 0 0
-adding-start b items = record { within = omega arith; few = omega arith; known = known-none b; rest = refl }
+pub adding-start : (b : List ℕ) (items : List (List ℕ)) → Adding b items 0 0
+adding-start b items = record { within = omega arith; few = omega arith; rest = refl }
 
 refused-added : (g : Got (List Private)) (n : ℕ) → added 0 g ≡ refused n → g ≡ refused n
 refused-added (refused m) n e = cc
@@ -310,7 +371,7 @@ got-added : (g : Got (List Private)) (t : ℕ) → t ≤ 4294967296 → added 0 
 got-added (refused m) t k e = absurd (no cc)
 got-added (got ps) t k e = let f : 0 + localsWords ps ≡ t = cc in (ps, omega arith, refl, k)
 
-module _ (b : List ℕ) (items : List (List ℕ)) (last : LastPrivate) (total k : ℕ) (a : Adding b items last total k) where
+module _ (b : List ℕ) (items : List (List ℕ)) (total k : ℕ) (a : Adding b items total k) where
   module _ (h : k < length items) (d : List ℕ) (i : d ≡ getD items k []) (x : NextPrivate) (reads : ReadsNext b (fdPrivate b d) x) where
     split : drop k items ≡ d ∷ drop (k + 1) items
     split = drop-cons items k [] h ∙ rw (add-one, i)
@@ -321,14 +382,17 @@ module _ (b : List ℕ) (items : List (List ℕ)) (last : LastPrivate) (total k 
         refused-added (privatesAt b items) n
         (a .rest ∙ ap (λ l. added total (privatesAt b l)) split ∙ ap (added total) (privates-split b d (drop (k + 1) items) ∙ then-refused _ _ n r))
 
-    pub adding-more : (l : LastPrivate) → x ≡ ReadNext l → Adding b items l (total + l .words) (k + 1)
+    -- what was read
+    pub seen-known : (l : SeenPrivate) → x ≡ ReadNext l → Known b (l .size) (l .offset) (l .words) × (l .place < 128)
+    seen-known l e = let r = subst (ReadsNext b (fdPrivate b d)) e reads in (r .0, r .2)
+
+    pub adding-more : (l : SeenPrivate) → x ≡ ReadNext l → Adding b items (total + l .words) (k + 1)
     adding-more l e =
         let r = subst (ReadsNext b (fdPrivate b d)) e reads in
         let f = r .0 .few in
         record {
           within = omega arith;
           few = omega (arith, a .few);
-          known = r .0;
           rest =
               a .rest ∙ ap (λ l. added total (privatesAt b l)) split
               ∙ ap (added total) (privates-split b d (drop (k + 1) items) ∙ then-got _ (λ p. then (privatesAt b (drop (k + 1) items)) (λ ps. got (p ∷ ps))) (r .0 .private) (r .1))

@@ -6,8 +6,9 @@ ghost use lib.ListN.{length};
 ghost use Rattle.bits.specs.Bits.{wordsFor};
 ghost use Rattle.dict.specs.Lookup.{offsetIn};
 ghost use Rattle.dict.specs.Places.{entriesOf};
+ghost use Rattle.dict.specs.Noted.{Placed};
 ghost use Rattle.cff.specs.Font.{fdSelect, idsAt, fdsAt, encodingGot, cidParts, nameParts};
-ghost use Rattle.cff.specs.Reads.{ReadsItems, namedIndex, namedIds, namedEncoding, ReadsIds, ReadsCoding, ReadsFds, ReadsParts, HasDicts, HasLocals, partsBy, HasTop, HasGlyphs, fontOf, ReadsFont};
+ghost use Rattle.cff.specs.Reads.{ReadsItems, namedIndex, namedIds, namedEncoding, ReadsIds, ReadsCoding, ReadsFds, ReadsParts, HasDicts, HasLocals, partsBy, HasTop, HasGlyphs, topOf, fontOf, ReadsFont};
 use crate::private::LocalsRead;
 use crate::private::PrivateAt;
 use crate::private::PrivateRead;
@@ -16,6 +17,7 @@ use charset::CharsetAt;
 use charset::fd_select::FdSelect;
 use charset::fd_select::FdSelectAt;
 use dict::OffsetIn;
+use dict::Places;
 use dict::op::Op;
 use index::Index;
 use index::IndexAt;
@@ -68,10 +70,11 @@ pub enum FontRead {
 }
 
 // The INDEX that an operator of the DICT with bytes d names, which must be there.
-fn named_index(font: &[u8], d: &[u8], op: usize) -> IndexAt
+fn named_index(font: &[u8], d: &[u8], p: Places, op: usize) -> IndexAt
+    requires { ⌜ Placed (now d) p ⌝ }
     ensures { λ r. ⌜ ReadsItems (now (font .entry)) (namedIndex (now (font .entry)) (entriesOf (now (d .entry))) op) r ⌝ }
 {
-    let at = dict::offset(d, op);
+    let at = dict::offset(d, p, op);
     match at {
         OffsetIn::Absent => IndexAt::Refused(Refusal::MALFORMED),
         OffsetIn::Refused(n) => IndexAt::Refused(n),
@@ -94,11 +97,11 @@ fn ids_at(font: &[u8], v: usize, n: usize) -> CharsetAt
 }
 
 // The ids of n glyphs of the font whose top DICT has the bytes d.
-fn read_ids(font: &[u8], d: &[u8], n: usize) -> CharsetAt
-    requires { ⌜ (0 < n) × (n < 65536) ⌝ }
+fn read_ids(font: &[u8], d: &[u8], p: Places, n: usize) -> CharsetAt
+    requires { ⌜ (0 < n) × (n < 65536) × Placed (now d) p ⌝ }
     ensures { λ r. ⌜ ReadsIds (now (font .entry)) n (namedIds (now (font .entry)) (entriesOf (now (d .entry))) n) r ⌝ }
 {
-    let at = dict::offset(d, Op::CHARSET);
+    let at = dict::offset(d, p, Op::CHARSET);
     match at {
         OffsetIn::Absent => ids_at(font, 0, n),
         OffsetIn::Refused(e) => CharsetAt::Refused(e),
@@ -107,11 +110,11 @@ fn read_ids(font: &[u8], d: &[u8], n: usize) -> CharsetAt
 }
 
 // The FDs of n glyphs of the font whose top DICT has the bytes d.
-fn read_fds(font: &[u8], d: &[u8], n: usize) -> FdSelectAt
-    requires { ⌜ n < 65536 ⌝ }
+fn read_fds(font: &[u8], d: &[u8], p: Places, n: usize) -> FdSelectAt
+    requires { ⌜ (n < 65536) × Placed (now d) p ⌝ }
     ensures { λ r. ⌜ ReadsFds (now (font .entry)) n (fdsAt (now (font .entry)) n (offsetIn fdSelect (entriesOf (now (d .entry))))) r ⌝ }
 {
-    let at = dict::offset(d, Op::FD_SELECT);
+    let at = dict::offset(d, p, Op::FD_SELECT);
     match at {
         OffsetIn::Absent => FdSelectAt::Found(charset::fd_select::no_fd_select()),
         OffsetIn::Refused(e) => FdSelectAt::Refused(e),
@@ -134,10 +137,11 @@ fn encoding_at(font: &[u8], v: usize) -> EncodingAt
 }
 
 // The encoding of the font whose top DICT has the bytes d.
-fn read_encoding(font: &[u8], d: &[u8]) -> EncodingAt
+fn read_encoding(font: &[u8], d: &[u8], p: Places) -> EncodingAt
+    requires { ⌜ Placed (now d) p ⌝ }
     ensures { λ r. ⌜ ReadsCoding (now (font .entry)) (namedEncoding (now (font .entry)) (entriesOf (now (d .entry)))) r ⌝ }
 {
-    let at = dict::offset(d, Op::ENCODING);
+    let at = dict::offset(d, p, Op::ENCODING);
     match at {
         OffsetIn::Absent => encoding_at(font, 0),
         OffsetIn::Refused(e) => EncodingAt::Refused(e),
@@ -146,12 +150,12 @@ fn read_encoding(font: &[u8], d: &[u8]) -> EncodingAt
 }
 
 // The parts of a CID-keyed font whose FD array and Private DICTs were read: its FDSelect, and that no FD is past the array.
-fn fd_parts(font: &[u8], d: &[u8], n: usize, dicts: Index, total: usize) -> PartsRead
-    requires { ⌜ (2 ≤ length (now font)) × (n < 65536) × HasLocals (now font) (entriesOf (now d)) dicts total ⌝ }
+fn fd_parts(font: &[u8], d: &[u8], p: Places, n: usize, dicts: Index, total: usize) -> PartsRead
+    requires { ⌜ (2 ≤ length (now font)) × (n < 65536) × HasLocals (now font) (entriesOf (now d)) dicts total × Placed (now d) p ⌝ }
     ensures { λ r. ⌜ ReadsParts (now (font .entry)) true n (cidParts (now (font .entry)) (entriesOf (now (d .entry))) n) r ⌝ }
 {
     let count = dicts.count;
-    let read = read_fds(font, d, n);
+    let read = read_fds(font, d, p, n);
     match read {
         FdSelectAt::Refused(e) => PartsRead::Refused(e),
         FdSelectAt::Found(select) => {
@@ -170,8 +174,8 @@ fn fd_parts(font: &[u8], d: &[u8], n: usize, dicts: Index, total: usize) -> Part
 }
 
 // The parts of a CID-keyed font whose FD array was read.
-fn dict_parts(font: &[u8], d: &[u8], n: usize, dicts: Index) -> PartsRead
-    requires { ⌜ (2 ≤ length (now font)) × (n < 65536) × HasDicts (now font) (entriesOf (now d)) dicts ⌝ }
+fn dict_parts(font: &[u8], d: &[u8], p: Places, n: usize, dicts: Index) -> PartsRead
+    requires { ⌜ (2 ≤ length (now font)) × (n < 65536) × HasDicts (now font) (entriesOf (now d)) dicts × Placed (now d) p ⌝ }
     ensures { λ r. ⌜ ReadsParts (now (font .entry)) true n (cidParts (now (font .entry)) (entriesOf (now (d .entry))) n) r ⌝ }
 {
     let count = dicts.count;
@@ -182,34 +186,34 @@ fn dict_parts(font: &[u8], d: &[u8], n: usize, dicts: Index) -> PartsRead
             if count == 0 {
                 return PartsRead::Refused(Refusal::MALFORMED);
             }
-            fd_parts(font, d, n, dicts, total)
+            fd_parts(font, d, p, n, dicts, total)
         }
     }
 }
 
 // The parts of the CID-keyed font whose top DICT has the bytes d.
-fn cid_parts(font: &[u8], d: &[u8], n: usize) -> PartsRead
-    requires { ⌜ (2 ≤ length (now font)) × (n < 65536) ⌝ }
+fn cid_parts(font: &[u8], d: &[u8], p: Places, n: usize) -> PartsRead
+    requires { ⌜ (2 ≤ length (now font)) × (n < 65536) × Placed (now d) p ⌝ }
     ensures { λ r. ⌜ ReadsParts (now (font .entry)) true n (cidParts (now (font .entry)) (entriesOf (now (d .entry))) n) r ⌝ }
 {
-    let read = named_index(font, d, Op::FD_ARRAY);
+    let read = named_index(font, d, p, Op::FD_ARRAY);
     match read {
         IndexAt::Refused(e) => PartsRead::Refused(e),
-        IndexAt::Found(dicts) => dict_parts(font, d, n, dicts),
+        IndexAt::Found(dicts) => dict_parts(font, d, p, n, dicts),
     }
 }
 
 // The parts of the name-keyed font whose top DICT has the bytes d.
-fn name_parts(font: &[u8], d: &[u8], n: usize) -> PartsRead
-    requires { ⌜ 2 ≤ length (now font) ⌝ }
+fn name_parts(font: &[u8], d: &[u8], p: Places, n: usize) -> PartsRead
+    requires { ⌜ (2 ≤ length (now font)) × Placed (now d) p ⌝ }
     ensures { λ r. ⌜ ReadsParts (now (font .entry)) false n (nameParts (now (font .entry)) (entriesOf (now (d .entry))) n) r ⌝ }
 {
-    let read = crate::private::private_at(font, d);
+    let read = crate::private::named_private(font, d, p);
     match read {
         PrivateRead::Refused(e) => PartsRead::Refused(e),
         PrivateRead::Found(q) => {
             let locals = q.locals;
-            match read_encoding(font, d) {
+            match read_encoding(font, d, p) {
                 EncodingAt::Refused(e) => PartsRead::Refused(e),
                 EncodingAt::Found(encoding) => PartsRead::Found(Parts {
                     dicts: crate::private::no_items(),
@@ -224,14 +228,14 @@ fn name_parts(font: &[u8], d: &[u8], n: usize) -> PartsRead
 }
 
 // The parts of a font, by its keying.
-fn read_parts(font: &[u8], d: &[u8], n: usize, cid: bool) -> PartsRead
-    requires { ⌜ (2 ≤ length (now font)) × (n < 65536) ⌝ }
+fn read_parts(font: &[u8], d: &[u8], p: Places, n: usize, cid: bool) -> PartsRead
+    requires { ⌜ (2 ≤ length (now font)) × (n < 65536) × Placed (now d) p ⌝ }
     ensures { λ r. ⌜ ReadsParts (now (font .entry)) cid n (partsBy cid (now (font .entry)) (entriesOf (now (d .entry))) n) r ⌝ }
 {
     if cid {
-        return cid_parts(font, d, n);
+        return cid_parts(font, d, p, n);
     }
-    name_parts(font, d, n)
+    name_parts(font, d, p, n)
 }
 
 // The font whose top DICT lies from top to end, and whose charstrings were read.
@@ -239,11 +243,12 @@ fn glyphs_at(
     font: &[u8],
     top: usize,
     end: usize,
+    p: Places,
     strings: Index,
     globals: Index,
     charstrings: Index,
 ) -> FontRead
-    requires { ⌜ HasTop (now font) top end strings globals × HasGlyphs (now font) top end charstrings ⌝ }
+    requires { ⌜ HasTop (now font) top end strings globals × HasGlyphs (now font) top end charstrings × Placed (topOf (now font) top end) p ⌝ }
     ensures { λ r. ⌜ ReadsFont (now (font .entry)) (fontOf (now (font .entry)) strings globals top end) r ⌝ }
 {
     let d = &font[top..end];
@@ -251,12 +256,12 @@ fn glyphs_at(
     if n == 0 {
         return FontRead::Refused(Refusal::MALFORMED);
     }
-    let ids = read_ids(font, d, n);
+    let ids = read_ids(font, d, p, n);
     match ids {
         CharsetAt::Refused(e) => FontRead::Refused(e),
         CharsetAt::Found(charset) => {
-            let cid = dict::is_cid_keyed(d);
-            let read = read_parts(font, d, n, cid);
+            let cid = dict::is_cid_keyed(d, p);
+            let read = read_parts(font, d, p, n, cid);
             match read {
                 PartsRead::Refused(e) => FontRead::Refused(e),
                 PartsRead::Found(parts) => {
@@ -291,18 +296,19 @@ pub fn font_at(font: &[u8], top: usize, end: usize, strings: Index, globals: Ind
     ensures { λ r. ⌜ ReadsFont (now (font .entry)) (fontOf (now (font .entry)) strings globals top end) r ⌝ }
 {
     let d = &font[top..end];
-    let n = dict::check_dict(d);
+    let p = dict::read_dict(d);
+    let n = p.refusal;
     if 0 < n {
         return FontRead::Refused(n);
     }
-    let t = dict::charstring_type(d);
+    let t = dict::charstring_type(d, p);
     if 0 < t {
         return FontRead::Refused(t);
     }
-    let read = named_index(font, d, Op::CHARSTRINGS);
+    let read = named_index(font, d, p, Op::CHARSTRINGS);
     match read {
         IndexAt::Refused(e) => FontRead::Refused(e),
-        IndexAt::Found(charstrings) => glyphs_at(font, top, end, strings, globals, charstrings),
+        IndexAt::Found(charstrings) => glyphs_at(font, top, end, p, strings, globals, charstrings),
     }
 }
 

@@ -9,3 +9,5 @@ pub mod EntryLaws
 pub mod WalkLaws
 pub mod LookupLaws
 pub mod ProperLaws
+pub mod Noted
+pub mod NotedLaws

@@ -3,14 +3,17 @@
 pub mod op;
 
 ghost use mathlib.Core.Path.{_≡_};
+ghost use mathlib.Core.Bool.{false};
 ghost use mathlib.Core.List.{[], _∷_};
 ghost use Prim.Native.Nat.{_+_, _≤_, _<_};
 ghost use lib.ListN.{length, getD};
 ghost use Rattle.decimal.specs.Decimal.{nought, Normal};
-ghost use Rattle.dict.specs.Dict.{operatorAt, tokenAt, entryAt, dictOf};
+ghost use Rattle.dict.specs.Dict.{operatorAt, tokenAt, entryAt};
 ghost use Rattle.dict.specs.Lookup.{operands, oneOf, offsetIn, privateAs, privateIn, idIn, cidKeyed, rosAs, rosIn, cidCountIn, strokedIn, charstringTypeIn};
-ghost use Rattle.dict.specs.Places.{tokenTold, entryTold, refusalOf, entriesOf, placeOf, operandsAt};
+ghost use Rattle.dict.specs.Places.{tokenTold, entryTold, entriesOf, placeOf, operandsAt};
+ghost use Rattle.dict.specs.Noted.{foundOf, Placed, ReadsDict};
 use crate::op::Op;
+use crate::op::slot;
 use decimal::Decimal;
 use decimal::IdOf;
 use decimal::NumberAt;
@@ -55,6 +58,16 @@ pub enum Found {
         end: usize,
         count: usize,
     },
+}
+
+// Where the last entries that reading asks for stand, each in the slot of its operator, with one more than its operands are: 0 where there is no such
+// entry. The tenth slot is for all other operators. Where nothing was noted, an entry is found by a pass of its own. And the DICT's refusal, or 0.
+pub struct Places {
+    pub refusal: u8,
+    pub noted: bool,
+    pub starts: [usize; 10],
+    pub ends: [usize; 10],
+    pub counts: [usize; 10],
 }
 
 // The one operand of an entry.
@@ -161,27 +174,40 @@ pub fn read_entry(d: &[u8], start: usize) -> EntryAt
     EntryAt::Refused(2)
 }
 
-// The refusal of a DICT, or 0: one pass.
-pub fn check_dict(d: &[u8]) -> u8
-    ensures { λ r. ⌜ r ≡ refusalOf (dictOf (now (d .entry))) ⌝ }
+// A DICT read in one pass: its refusal, and where there is none, where the last entries that reading asks for stand.
+pub fn read_dict(d: &[u8]) -> Places
+    ensures { λ r. ⌜ ReadsDict (now (d .entry)) r ⌝ }
 {
+    let mut starts = [0usize; 10];
+    let mut ends = [0usize; 10];
+    let mut counts = [0usize; 10];
     let mut at: usize = 0;
     while at < d.len() {
         match read_entry(d, at) {
             EntryAt::Entry {
-                op: _,
-                end: _,
-                count: _,
+                op,
+                end,
+                count,
                 next,
             } => {
+                let j = slot(op);
+                starts[j] = at;
+                ends[j] = end;
+                counts[j] = count + 1;
                 at = next;
             }
             EntryAt::Refused(n) => {
-                return n;
+                return nowhere(n);
             }
         }
     }
-    0
+    Places {
+        refusal: 0,
+        noted: true,
+        starts,
+        ends,
+        counts,
+    }
 }
 
 // Where the last entry of an operator stands: one pass.
@@ -215,6 +241,51 @@ pub fn find_entry(d: &[u8], op: usize) -> Found
     found
 }
 
+// Nothing noted of a DICT with this refusal.
+pub fn nowhere(refusal: u8) -> Places
+    ensures { λ r. ⌜ (r .refusal ≡ refusal) × (r .noted ≡ false) ⌝ }
+{
+    Places {
+        refusal,
+        noted: false,
+        starts: [0usize; 10],
+        ends: [0usize; 10],
+        counts: [0usize; 10],
+    }
+}
+
+// The place that is noted with a count.
+fn found_at(start: usize, end: usize, count: usize) -> Found
+    ensures { λ r. ⌜ r ≡ foundOf start end count ⌝ }
+{
+    if count == 0 {
+        return Found::Absent;
+    }
+    Found::Entry {
+        start,
+        end,
+        count: count - 1,
+    }
+}
+
+// Where the last entry of an operator stands: as it was noted, or by a pass.
+fn place(d: &[u8], p: Places, op: usize) -> Found
+    requires { ⌜ Placed (now d) p ⌝ }
+    ensures { λ r. ⌜ r ≡ placeOf op (now (d .entry)) ⌝ }
+{
+    let j = slot(op);
+    let noted = p.noted;
+    if noted {
+        if j < 9 {
+            let starts = p.starts;
+            let ends = p.ends;
+            let counts = p.counts;
+            return found_at(starts[j], ends[j], counts[j]);
+        }
+    }
+    find_entry(d, op)
+}
+
 // The k-th operand from a position on, the first being the 0th; zero where there are not so many.
 pub fn operand(d: &[u8], start: usize, k: usize) -> Decimal
     ensures { λ r. ⌜ r ≡ getD (operandsAt (k + 1) (now (d .entry)) start) k nought ⌝ }
@@ -242,10 +313,11 @@ pub fn operand(d: &[u8], start: usize, k: usize) -> Decimal
 }
 
 // The one operand of an operator's last entry.
-pub fn number(d: &[u8], op: usize) -> One
+fn number(d: &[u8], p: Places, op: usize) -> One
+    requires { ⌜ Placed (now d) p ⌝ }
     ensures { λ r. ⌜ r ≡ oneOf op (entriesOf (now (d .entry))) ⌝ }
 {
-    match find_entry(d, op) {
+    match place(d, p, op) {
         Found::Absent => One::Absent,
         Found::Entry {
             start,
@@ -261,10 +333,11 @@ pub fn number(d: &[u8], op: usize) -> One
 }
 
 // Whether a font of this top DICT is CID-keyed: ROS is there, with whatever operands.
-pub fn is_cid_keyed(d: &[u8]) -> bool
+pub fn is_cid_keyed(d: &[u8], p: Places) -> bool
+    requires { ⌜ Placed (now d) p ⌝ }
     ensures { λ r. ⌜ r ≡ cidKeyed (entriesOf (now (d .entry))) ⌝ }
 {
-    match find_entry(d, Op::ROS) {
+    match place(d, p, Op::ROS) {
         Found::Absent => false,
         Found::Entry {
             start: _,
@@ -275,10 +348,11 @@ pub fn is_cid_keyed(d: &[u8]) -> bool
 }
 
 // The offset that an entry holds.
-pub fn offset(d: &[u8], op: usize) -> OffsetIn
+pub fn offset(d: &[u8], p: Places, op: usize) -> OffsetIn
+    requires { ⌜ Placed (now d) p ⌝ }
     ensures { λ r. ⌜ r ≡ offsetIn op (entriesOf (now (d .entry))) ⌝ }
 {
-    match number(d, op) {
+    match number(d, p, op) {
         One::Absent => OffsetIn::Absent,
         One::Number(v) => match offset_of(v) {
             OffsetOf::Refused(n) => OffsetIn::Refused(n),
@@ -291,7 +365,7 @@ pub fn offset(d: &[u8], op: usize) -> OffsetIn
 pub fn string_id(d: &[u8], op: usize) -> IdOf
     ensures { λ r. ⌜ r ≡ idIn op (entriesOf (now (d .entry))) ⌝ }
 {
-    match number(d, op) {
+    match number(d, nowhere(0), op) {
         One::Absent => IdOf::Absent,
         One::Number(v) => id_of(v),
     }
@@ -301,7 +375,7 @@ pub fn string_id(d: &[u8], op: usize) -> IdOf
 pub fn cid_count(d: &[u8]) -> usize
     ensures { λ r. ⌜ r ≡ cidCountIn (entriesOf (now (d .entry))) ⌝ }
 {
-    match number(d, Op::CID_COUNT) {
+    match number(d, nowhere(0), Op::CID_COUNT) {
         One::Absent => 8720,
         One::Number(v) => to_u32(v),
     }
@@ -311,17 +385,18 @@ pub fn cid_count(d: &[u8]) -> usize
 pub fn is_stroked(d: &[u8]) -> bool
     ensures { λ r. ⌜ r ≡ strokedIn (entriesOf (now (d .entry))) ⌝ }
 {
-    match number(d, Op::PAINT_TYPE) {
+    match number(d, nowhere(0), Op::PAINT_TYPE) {
         One::Absent => false,
         One::Number(v) => v.digits != 0,
     }
 }
 
 // The refusal of a CharstringType other than 2, or 0.
-pub fn charstring_type(d: &[u8]) -> u8
+pub fn charstring_type(d: &[u8], p: Places) -> u8
+    requires { ⌜ Placed (now d) p ⌝ }
     ensures { λ r. ⌜ r ≡ charstringTypeIn (entriesOf (now (d .entry))) ⌝ }
 {
-    match number(d, Op::CHARSTRING_TYPE) {
+    match number(d, p, Op::CHARSTRING_TYPE) {
         One::Absent => 0,
         One::Number(v) => {
             if is_two(v) {
@@ -352,10 +427,11 @@ fn private_at(size: Decimal, offset: Decimal) -> PrivateIn
 }
 
 // Where the Private DICT is, as the Rust's private_of takes it.
-pub fn private_of(d: &[u8]) -> PrivateIn
+pub fn private_of(d: &[u8], p: Places) -> PrivateIn
+    requires { ⌜ Placed (now d) p ⌝ }
     ensures { λ r. ⌜ r ≡ privateIn (entriesOf (now (d .entry))) ⌝ }
 {
-    match find_entry(d, Op::PRIVATE) {
+    match place(d, p, Op::PRIVATE) {
         Found::Absent => PrivateIn::Absent,
         Found::Entry {
             start,

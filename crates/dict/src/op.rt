@@ -3,6 +3,7 @@ ghost use mathlib.Core.Path.{_≡_};
 ghost use Prim.Native.Nat.{_<_};
 ghost use lib.ListN.{getD};
 ghost use Rattle.dict.specs.Op.{copiedTopEntries, copiedTopStrings};
+ghost use Rattle.dict.specs.Noted.{asked, slotOf};
 
 // The operators that reader and writer name: the byte of a one-byte operator, or 3072 + e for the escape `12 e`.
 pub struct Op;
@@ -93,4 +94,22 @@ pub fn copied_top_string(k: usize) -> usize
     ensures { λ r. ⌜ r ≡ getD copiedTopStrings k 0 ⌝ }
 {
     COPIED_TOP_STRINGS[k]
+}
+
+// The slot of an operator that reading asks for; 9 for any other.
+pub fn slot(op: usize) -> usize
+    ensures { λ r. ⌜ r ≡ slotOf asked op ⌝ }
+{
+    match op {
+        Op::CHARSET => 0,
+        Op::ENCODING => 1,
+        Op::CHARSTRINGS => 2,
+        Op::PRIVATE => 3,
+        Op::SUBRS => 4,
+        Op::CHARSTRING_TYPE => 5,
+        Op::ROS => 6,
+        Op::FD_ARRAY => 7,
+        Op::FD_SELECT => 8,
+        _ => 9,
+    }
 }

@@ -5,6 +5,7 @@ mod harfbuzz;
 mod measure;
 mod original;
 mod ours;
+mod reading;
 mod sheet;
 mod table;
 
@@ -24,7 +25,7 @@ mod record;
 use std::process::ExitCode;
 use std::{env, fs};
 
-const USAGE: &str = "usage: tools/bench/run all|fonts|growth [FILE...]";
+const USAGE: &str = "usage: tools/bench/run all|fonts|growth|read [FILE...]";
 
 /// The files that are named, or all of target/fonts.
 fn fonts(named: &[String]) -> Vec<(String, Vec<u8>)> {
@@ -58,6 +59,7 @@ fn main() -> ExitCode {
         }
         Some((what, named)) if what == "fonts" => table::print(&fonts(named)),
         Some((what, named)) if what == "growth" => growth::print(&fonts(named)),
+        Some((what, named)) if what == "read" => reading::print(&fonts(named)),
         _ => {
             eprintln!("{USAGE}");
             return ExitCode::from(2);

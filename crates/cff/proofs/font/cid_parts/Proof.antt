@@ -15,7 +15,7 @@ enum-known-read-2 : tie.Need-enum-known-read-2
 enum-known-read-2 c = search needs
 
 dict-parts-requires : tie.Need-dict-parts-requires
-dict-parts-requires c κs = (c .before .before .before .before .before .before .pre .0, c .before .before .before .before .before .before .pre .1, has-dicts (c .before .before .before .before .before .before .args .font .now) (entriesOf (c .before .before .before .before .before .before .args .d .now)) (c .before .before .before .before .before .before .args .n) _ (c .before .before .before .named-index .ensures) _ (c .before .read2 .given .1))
+dict-parts-requires c κs = (c .before .before .before .before .before .before .pre .0, c .before .before .before .before .before .before .pre .1, has-dicts (c .before .before .before .before .before .before .args .font .now) (entriesOf (c .before .before .before .before .before .before .args .d .now)) (c .before .before .before .before .before .before .args .n) _ (c .before .before .before .named-index .ensures) _ (c .before .read2 .given .1), c .before .before .before .before .before .before .pre .2)
 
 returns : tie.Need-returns
 returns c = cid-unread (c .before .before .before .before .before .before .args .font .now) (entriesOf (c .before .before .before .before .before .before .args .d .now)) (c .before .before .before .before .before .before .args .n) _ (c .before .before .before .named-index .ensures) _ (c .before .read .given .1)

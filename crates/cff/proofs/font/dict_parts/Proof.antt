@@ -18,7 +18,7 @@ returns : tie.Need-returns
 returns c = cid-empty (c .before .before .before .before .before .before .before .args .font .now) (entriesOf (c .before .before .before .before .before .before .before .args .d .now)) (c .before .before .before .before .before .before .before .args .n) (c .before .before .before .before .before .before .before .args .dicts) (c .before .before .before .before .before .before .before .pre .2) _ (c .before .before .before .before .read-privates .ensures) _ (c .before .before .read2 .given .1) (c .if1 .taken)
 
 fd-parts-requires : tie.Need-fd-parts-requires
-fd-parts-requires c κs = (c .before .before .before .before .before .before .before .pre .0, c .before .before .before .before .before .before .before .pre .1, has-locals (c .before .before .before .before .before .before .before .args .font .now) (entriesOf (c .before .before .before .before .before .before .before .args .d .now)) (c .before .before .before .before .before .before .before .args .n) (c .before .before .before .before .before .before .before .args .dicts) (c .before .before .before .before .before .before .before .pre .2) _ (c .before .before .before .before .read-privates .ensures) _ (c .before .before .read2 .given .1) (c .if1 .left))
+fd-parts-requires c κs = (c .before .before .before .before .before .before .before .pre .0, c .before .before .before .before .before .before .before .pre .1, has-locals (c .before .before .before .before .before .before .before .args .font .now) (entriesOf (c .before .before .before .before .before .before .before .args .d .now)) (c .before .before .before .before .before .before .before .args .n) (c .before .before .before .before .before .before .before .args .dicts) (c .before .before .before .before .before .before .before .pre .2) _ (c .before .before .before .before .read-privates .ensures) _ (c .before .before .read2 .given .1) (c .if1 .left), c .before .before .before .before .before .before .before .pre .3)
 
 returns-2 : tie.Need-returns-2
 returns-2 c = cid-bad (c .before .before .before .before .before .before .args .font .now) (entriesOf (c .before .before .before .before .before .before .args .d .now)) (c .before .before .before .before .before .before .args .n) (c .before .before .before .before .before .before .args .dicts) (c .before .before .before .before .before .before .pre .2) _ (c .before .before .before .read-privates .ensures) _ (c .before .read .given .1)

@@ -4,17 +4,17 @@ use borrow.Author.Needs.{needs}
 use Rattle.cff.proofs.private.fd_private.Statement.{statement}
 use Rattle.cff.proofs.private.fd_private.Tie as tie
 
-check-dict-requires : tie.Need-check-dict-requires
-check-dict-requires c κs = search needs
+read-dict-requires : tie.Need-read-dict-requires
+read-dict-requires c κs = search needs
 
 returns : tie.Need-returns
-returns c = fd-refused _ _ _ (c .before .check-dict .ensures) (c .if1 .taken)
+returns c = fd-refused _ _ _ (c .before .read-dict .ensures .refused) (c .if1 .taken)
 
 next-private-requires : tie.Need-next-private-requires
 next-private-requires c κs = search needs
 
 returns-2 : tie.Need-returns-2
-returns-2 c = fd-read (c .before .before .before .before .before .args .font .now) _ _ (c .before .before .check-dict .ensures) (c .before .if1 .left) (c .next-private .result) (c .next-private .ensures)
+returns-2 c = fd-read (c .before .before .before .before .before .args .font .now) _ _ (c .before .before .read-dict .ensures .refused) (c .before .if1 .left) (c .next-private .result) (c .next-private .ensures)
 
 pub fd-private-spec : {M : Type 1} → statement M
-fd-private-spec = tie.close (tie.spec check-dict-requires returns next-private-requires returns-2)
+fd-private-spec = tie.close (tie.spec read-dict-requires returns next-private-requires returns-2)

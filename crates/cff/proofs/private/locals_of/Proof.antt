@@ -20,7 +20,7 @@ returns : tie.Need-returns
 returns c = counted-refused _ _ _ _ (c .before .before .before .private-data .ensures) _ (c .before .read .given .1)
 
 returns-2 : tie.Need-returns-2
-returns-2 c = counted-found _ _ _ _ (c .before .before .before .before .before .private-data .ensures) _ (c .before .before .before .read2 .given .1) _ (c .words-for .ensures .0)
+returns-2 c = counted-found _ _ _ _ (c .before .before .before .before .before .private-data .ensures) _ (c .before .before .before .read2 .given .1) _ (c .words-for .ensures .0) _ (c .before .before .before .before .before .before .before .pre .3)
 
 pub locals-of-spec : {M : Type 1} → statement M
 locals-of-spec =
