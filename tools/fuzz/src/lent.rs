@@ -160,7 +160,8 @@ impl<T: Element> Lent<T> {
 
     fn place(&mut self, len: usize, side: Side) {
         if self.sealed {
-            assert!(open(self.start(), self.room));
+            let (from, bytes) = self.pages();
+            assert!(open(from, bytes));
             self.sealed = false;
         }
         let bytes = len * size_of::<T>();
@@ -194,10 +195,20 @@ impl<T: Element> Lent<T> {
 
     /// It may be read alone, until another is placed.
     pub fn seal(&mut self) {
+        let (from, bytes) = self.pages();
         // SAFETY: the room's own pages.
-        let done = unsafe { mprotect(self.start().cast(), self.room, READ) };
+        let done = unsafe { mprotect(from.cast(), bytes, READ) };
         assert_eq!(done, 0);
         self.sealed = true;
+    }
+
+    /// The pages of the slice alone: a room may be much larger.
+    fn pages(&self) -> (*mut u8, usize) {
+        let bytes = self.bytes().next_multiple_of(PAGE);
+        match self.side {
+            Side::Before => (self.start(), bytes),
+            Side::Behind => (self.start().wrapping_add(self.room - bytes), bytes),
+        }
     }
 
     pub fn len(&self) -> usize {

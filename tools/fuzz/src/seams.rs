@@ -8,6 +8,9 @@ use crate::inputs::Family;
 use made_fonts::cases::mixed;
 use made_fonts::generator::Generator;
 use made_fonts::{fonts, heavy, trace_edges};
+use std::env;
+use std::fs::File;
+use std::os::unix::fs::FileExt;
 use std::time::Instant;
 
 /// Inputs that fail are shown up to so many.
@@ -115,7 +118,12 @@ impl Run {
     fn small(&mut self, count: u64) {
         let mut desk = Desk::new();
         let (seed, mut family) = (self.seed, None);
+        // Where the program ends by a signal, this file says at which input.
+        let at = env::var_os("FUZZ_AT").and_then(|path| File::create(path).ok());
         for number in 0..count {
+            if let Some(at) = &at {
+                let _ = at.write_all_at(format!("{seed} {number:012}\n").as_bytes(), 0);
+            }
             let of = Family::of_input(family, seed, number);
             let (done, asked) = input(&mut desk, &mut self.counts, &of, seed, number, true);
             family = Some(of);
