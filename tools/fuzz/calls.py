@@ -84,9 +84,11 @@ def out_of_range(line, font):
     expect(line, "a number out of range", told(lambda: font.item(Item.CHARSTRING, [-1, 1 << 64, 1 << 200][line % 3]), str), "!6")
     expect(line, "a kind out of range", told(lambda: font.item([3, 255, 256, -1][line % 4], 0), str), "!6")
     expect(line, "a CID out of range", told(lambda: font.find_cid(far), glyph), "-")
-    flags = told(lambda: font.subset(b"A", [], (b"", 256)), cut) == told(lambda: font.subset(b"A", [], (b"", True)), cut)
-    expect(line, "any true flag", str(flags), "True")
-    expect(line, "a record cut off", told(lambda: font.subset(b"A", [], (kinds(line, bytes(7)), True)), str), "!8")
+    sound = told(lambda: font.subset(b"A", [], (b"", True)), cut)
+    expect(line, "any true flag", told(lambda: font.subset(b"A", [], (b"", 256)), cut), sound)
+    # a font that is not cut at all is refused before its record
+    cut_off = sound if sound in ("!2", "!3") else "!8"
+    expect(line, "a record cut off", told(lambda: font.subset(b"A", [], (kinds(line, bytes(7)), True)), cut), cut_off)
     wrong = [
         lambda: font.trace(None),
         lambda: font.trace(["A"]),
