@@ -8,7 +8,6 @@ use crate::say;
 use crate::selection::{self, Source};
 use mogdivash::{Font, Record, Refusal};
 use std::collections::BTreeSet;
-use std::fs;
 
 /// The bytes of a row of a record.
 const ROW: usize = 10;
@@ -22,8 +21,7 @@ pub fn run(checked: &Checked) -> Result<(), Failure> {
     let source = Source { font, file, path };
     let kept = selection::select(&source, &checked.keep)?;
     let keep: Vec<u16> = kept.keys().copied().collect();
-    let record = fs::read(&checked.record).map_err(|e| Failure::file(&checked.record, &e))?;
-    let record = Record::from_bytes(record);
+    let record = Record::from_bytes(output::file_bytes(&checked.record)?);
     match font.check_record(&keep, &record) {
         Ok(()) => {}
         Err(refusal @ (Refusal::Record | Refusal::NotAccepted)) => {

@@ -6,15 +6,25 @@ use std::io::{self, Read, Write};
 use std::path::{Path, PathBuf};
 use std::process;
 
-/// One byte more than the longest font: enough to be refused by 4.
-const MOST: u64 = 67_108_865;
+/// The longest font, and the longest text and record that are taken: what has no end, as a device, is not read on and on.
+const LONGEST: usize = 67_108_864;
 
-/// The bytes of a font's file.
+/// The bytes of a font's file, of which one more than the longest font are enough to be refused by 4.
 pub fn font_bytes(path: &Path) -> Result<Vec<u8>, Failure> {
     let mut bytes = Vec::new();
     let file = File::open(path).map_err(|error| Failure::file(path, &error))?;
-    let read = file.take(MOST).read_to_end(&mut bytes);
+    let read = file.take(LONGEST as u64 + 1).read_to_end(&mut bytes);
     read.map_err(|error| Failure::file(path, &error))?;
+    Ok(bytes)
+}
+
+/// The bytes of another file.
+pub fn file_bytes(path: &Path) -> Result<Vec<u8>, Failure> {
+    let bytes = font_bytes(path)?;
+    if bytes.len() > LONGEST {
+        let name = path.display();
+        return Err(Failure::work(format!("{name}: more than {LONGEST} bytes")));
+    }
     Ok(bytes)
 }
 

@@ -3,10 +3,10 @@
 use crate::args::Keep;
 use crate::cmap::Cmap;
 use crate::failure::Failure;
+use crate::output;
 use crate::warn;
 use mogdivash::Font;
 use std::collections::{BTreeMap, BTreeSet};
-use std::fs;
 use std::path::Path;
 
 /// Glyphs, each with the words by which it was selected first.
@@ -35,8 +35,7 @@ pub fn select(source: &Source, keep: &[Keep]) -> Result<Selection, Failure> {
 }
 
 fn text_of(path: &Path) -> Result<String, Failure> {
-    let bytes = fs::read(path).map_err(|error| Failure::file(path, &error))?;
-    let text = String::from_utf8(bytes);
+    let text = String::from_utf8(output::file_bytes(path)?);
     text.map_err(|_| Failure::work(format!("{}: not UTF-8", path.display())))
 }
 

@@ -237,6 +237,27 @@ fn composed_glyphs_are_named() {
     assert_eq!(place.glyphs_of("out.cff"), 4);
 }
 
+/// A device without an end is not read on and on.
+#[test]
+fn files_without_an_end() {
+    let place = Place::new("endless");
+    let zero = "/dev/zero";
+    let says = "/dev/zero: more than 67108864 bytes";
+    fails(
+        &place,
+        &["check", "made.otf", zero, "--glyphs", "1"],
+        1,
+        says,
+    );
+    fails(
+        &place,
+        &["subset", "made.otf", "--text-file", zero],
+        1,
+        says,
+    );
+    fails(&place, &["info", zero], 1, "/dev/zero: refused by 4");
+}
+
 #[test]
 fn files_that_cannot_be_written() {
     let place = Place::new("written");

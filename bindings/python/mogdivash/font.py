@@ -2,16 +2,17 @@
 
 import ctypes
 import enum
+from operator import index
 from typing import NamedTuple
 
-from .library import library
+from .library import library, octets
 from .refusal import Refusal, RefusedError, check
 from .stack import on_own_stack
 
 # The longest subset: document 01, refusal 10.
 _LONGEST = 67_108_864
-# The most work words that are allocated, 128 MiB: a font of some kilobytes can ask for gigabytes.
-_MOST_WORDS = 1 << 25
+# The most work words that are allocated, 4 MiB as in the Rust binding: a font of some kilobytes can ask for half a gigabyte.
+_MOST_WORDS = 1 << 20
 _ABSENT = 65536
 _ROW = 10
 
@@ -57,14 +58,14 @@ def _glyphs(keep):
 
 
 def _text(name):
-    return name.encode() if isinstance(name, str) else bytes(name)
+    return name.encode() if isinstance(name, str) else octets(name)
 
 
 class Font:
     """The first font of a file: an OpenType file as it is, or a bare CFF font. Raises RefusedError where it is refused."""
 
     def __init__(self, data):
-        self._data = bytes(data)
+        self._data = octets(data)
         counts = (ctypes.c_uint64 * 5)()
         check(library.cff_read(self._data, len(self._data), counts, 5))
         self.glyphs, self.globals, self.strings, cid, self.work_words = counts
@@ -78,7 +79,7 @@ class Font:
 
     def find_cid(self, cid):
         """The first glyph of that CID, or None, as in a name-keyed font."""
-        if not 0 <= cid <= 65535:
+        if not 0 <= index(cid) <= 65535:
             return None
         answer = (ctypes.c_uint64 * 1)()
         check(library.cff_find_cid(self._data, len(self._data), cid, answer, 1))
@@ -86,7 +87,7 @@ class Font:
 
     def item(self, kind, number):
         """The bytes of a charstring, global subroutine or string."""
-        if not 0 <= number < 1 << 64:
+        if kind not in list(Item) or not 0 <= index(number) < 1 << 64:
             raise RefusedError(Refusal.NO_SUCH_NUMBER)
         room = len(self._data)
         out, size = (ctypes.c_uint8 * room)(), (ctypes.c_uint64 * 1)()
@@ -110,7 +111,7 @@ class Font:
     def check_record(self, keep, rows):
         """Whether rows of another tracer are accepted for glyph 0 and the glyphs of `keep` (document 02, Wish 6): RefusedError where
         they are not. A subset by accepted rows holds every kept glyph."""
-        rows = bytes(rows)
+        rows = octets(rows)
         on_own_stack(lambda: self._check_record(*_glyphs(keep), rows))
 
     def _check_record(self, keep, count, rows):
@@ -141,13 +142,14 @@ class Font:
     def _subset(self, name, keep, record, encoding):
         keep, count = _glyphs(keep)
         rows, traced = self._trace(keep, count) if record is None else record
+        rows = octets(rows)
         # In rising order rows are searched, in another each mask passes over all of them; no answer changes.
         if len(rows) % _ROW == 0:
             rows = b"".join(sorted(rows[k : k + _ROW] for k in range(0, len(rows), _ROW)))
         words = self.work_words if self.work_words <= _MOST_WORDS else 0
         work, answer = (ctypes.c_uint32 * words)(), (ctypes.c_uint64 * 2)()
         data, length = self._data, len(self._data)
-        front = [data, length, name, len(name), keep, count, rows, len(rows), int(traced)]
+        front = [data, length, name, len(name), keep, count, rows, len(rows), int(bool(traced))]
         room = min(length + length // 4 + len(name) + 65_536, _LONGEST)
         while True:
             out = (ctypes.c_uint8 * room)()

@@ -41,6 +41,11 @@ _ARGUMENTS = {
 }
 
 
+def octets(data):
+    """The bytes of what holds bytes. Else a TypeError: `bytes` makes so many zeros of a number."""
+    return bytes(memoryview(data))
+
+
 def _place():
     named = os.environ.get("MOGDIVASH_LIBRARY")
     if named:

@@ -6,7 +6,7 @@ be seen by whoever starts a thread meanwhile.
 
 import ctypes
 
-# Tracing takes up to 2.5 MiB and subsetting 1.5, which a thread of the caller need not have.
+# The search for a blocking glyph takes up to 3 MiB and the other calls 1.5, which a thread of the caller need not have.
 STACK = 4 << 20
 
 _START = ctypes.CFUNCTYPE(ctypes.c_void_p, ctypes.c_void_p)

@@ -44,6 +44,30 @@ class Small(unittest.TestCase):
         self.refused(Refusal.RECORD, font.subset, "A", [1], (b"12345", True))
         self.refused(Refusal.TOO_LONG, font.subset, "A" * 65536, [1])
 
+    def test_records_of_any_bytes(self):
+        """A record may be any object that holds bytes, in any order, and its flag anything that is true or false."""
+        font = Font(FONT)
+        rows = b"\2" + bytes(9) + b"\1" + bytes(9)
+        for kind in (bytes, bytearray, memoryview):
+            self.assertEqual(font.subset("A", [1], (kind(rows), True)).way, Way.STUBBED)
+            self.refused(Refusal.RECORD, font.subset, "A", [1], (kind(bytes(7)), True))
+        for flag in (True, 2, 256, "yes"):
+            self.assertEqual(font.subset("A", [1], (b"", flag)).way, Way.RENUMBERED)
+
+    def test_numbers_and_types(self):
+        font = Font(FONT)
+        for kind in (-1, 3, 256):
+            self.refused(Refusal.NO_SUCH_NUMBER, font.item, kind, 0)
+        self.refused(Refusal.NO_SUCH_NUMBER, font.item, Item.CHARSTRING, 1 << 64)
+        self.assertIsNone(font.find_cid(65536))
+        # a number is no bytes: not so many zeros
+        for call in (Font, font.find_name, mogdivash.next_charstring, lambda n: font.check_record([], n)):
+            self.assertRaises(TypeError, call, 5)
+        self.assertRaises(TypeError, font.subset, 5, [1])
+        self.assertRaises(TypeError, font.subset, "A", [1], (5, True))
+        self.assertRaises(TypeError, font.find_cid, 1.5)
+        self.assertRaises(TypeError, font.item, Item.CHARSTRING, 0.5)
+
     def test_every_cut_font(self):
         """Each beginning of a font but the whole is refused."""
         for end in range(len(FONT)):
