@@ -34,24 +34,24 @@ pub fn set_bit(words: &mut [u32], at: usize, k: usize)
 }
 
 // The ones of a word.
-fn ones_of(w: u32) -> usize
+fn ones_of(w: u32) -> u32
     ensures { λ r. ⌜ (r ≡ ones w) × (r ≤ 32) ⌝ }
 {
-    u32::count_ones(w) as usize
+    u32::count_ones(w)
 }
 
-// The ones of q whole words from `at` on.
+// The ones of q whole words from `at` on. They are added up in 32 bits, as wide as a word: four words are then counted at a time, not two.
 pub fn whole_ones(words: &[u32], at: usize, q: usize) -> usize
     requires { ⌜ (at + q ≤ length (now words)) × (q ≤ 2048) ⌝ }
     ensures { λ r. ⌜ (r ≡ wholeOnes (now (words .entry)) at q) × (r ≤ 32 * q) ⌝ }
 {
-    let mut n: usize = 0;
+    let mut n: u32 = 0;
     let mut i: usize = 0;
     while i < q {
         n += ones_of(words[at + i]);
         i += 1;
     }
-    n
+    n as usize
 }
 
 // How many numbers below k have their bit, of which `sum` stand in the first `from` words: the ones of whole words, and of one masked word.
@@ -63,5 +63,5 @@ pub fn rank(words: &[u32], at: usize, k: usize, from: usize, sum: usize) -> usiz
     let q = k / 32;
     let n = whole_ones(words, at + from, q - from);
     let mask = (1u32 << (k % 32)) - 1;
-    sum + n + ones_of(words[at + q] & mask)
+    sum + n + ones_of(words[at + q] & mask) as usize
 }

@@ -3,10 +3,12 @@ use Prim.Native.Nat.{ℕ, _+_, _≤_}
 use mathlib.Core.Path.{_≡_, refl, sym, ap, _∙_, subst}
 use mathlib.Core.List.{List, _++_}
 use native.Mathlib.Omega.{arith}
+use mathlib.Core.Bool.{Bool, true, false}
+use lib.Dec.{eqb}
 use lib.IntN.{ℤ}
 use lib.Ieee.{Float}
 use lib.ListN.{length, length-append}
-use borrow.Author.Tests.{ne-eqb}
+use Rattle.octets.specs.Pick.{pick, pick-ind}
 use Rattle.octets.specs.Octets.{Wrote}
 use Rattle.octets.specs.PutLaws.{wrote-none, wrote-then, wrote-length}
 use Rattle.type2_number.specs.Floats.{scaledOf}
@@ -19,8 +21,8 @@ use Rattle.charstring.specs.declared.Step.{Step}
 use Rattle.charstring.specs.declared.Step.the-variants.{Tok as TokAt, Lost}
 use Rattle.charstring.specs.Token.{tokenAt}
 use Rattle.charstring.specs.Answers.{stepOf}
-use Rattle.prune.specs.Renumber.{Operand, Calls, operandOf}
-use Rattle.renumber.specs.Ranks.{numbersIn, callsBy}
+use Rattle.prune.specs.Renumber.{Operand, Calls, isCall, operandOf}
+use Rattle.renumber.specs.Ranks.{numbersIn, callsBy, Ranked}
 use Rattle.renumber.specs.Turn.{HoldsHeld, turnFor, callTurn, turnOf, turnedBy, turnedAt, heldBytes, ownBytes}
 use Rattle.renumber.specs.declared.Ranks.{Ranks}
 use Rattle.renumber.specs.declared.turns.Held.{Held}
@@ -69,32 +71,36 @@ module _ (old xs ys : List ℕ) (at : ℕ) (room : at + length (xs ++ ys) ≤ le
 
 -- ---- what a token brings
 
+-- both kinds of subroutines are ranked, so the one that is called is
+pub called-ranked : (ws : List ℕ) (locals globals : Ranks) → Ranked ws locals → Ranked ws globals → (t : Token) (b : ℕ) → t ≡ Op b
+    → (q : Ranks) → q ≡ pick (eqb b 10) locals globals → Ranked ws q
+called-ranked ws locals globals l g t b e q f = subst (Ranked ws) (sym f) (pick-ind (Ranked ws) (eqb b 10) locals globals (λ u. l) (λ u. g))
+
 pub call-held : (operand : ℤ → Operand) (h : Held) (v : Float) (r : Turn) → h ≡ Number v → r ≡ turnFor (operand (scaledOf v)) → r ≡ callTurn operand h
 call-held operand h v r e f = f ∙ ap (callTurn operand) (sym e)
 
 module _ (ws : List ℕ) (locals globals : Ranks) (h : Held) (t : Token) where
-  local-turn : (g : Held) → callTurn (operandOf (numbersIn ws locals) (biasOf (locals .count)) (biasOf (locals .reached))) g ≡ turnOf (callsBy ws locals globals) g (Op 10)
-  local-turn Nothing = refl
-  local-turn (Number v) = refl
-
-  global-turn : (g : Held) → callTurn (operandOf (numbersIn ws globals) (biasOf (globals .count)) (biasOf (globals .reached))) g ≡ turnOf (callsBy ws locals globals) g (Op 29)
-  global-turn Nothing = refl
-  global-turn (Number v) = refl
+  -- the subroutines of which a call calls one, by its operator
+  called-turn : (b : ℕ) (u : Bool) (g : Held) → eqb b 10 ≡ u → isCall b ≡ true
+      → callTurn (operandOf (numbersIn ws (pick u locals globals)) (biasOf (pick u locals globals .count)) (biasOf (pick u locals globals .reached))) g
+      ≡ turnOf (callsBy ws locals globals) g (Op b)
+  called-turn b true Nothing e c = rw c
+  called-turn b true (Number v) e c = rw (c, e)
+  called-turn b false Nothing e c = rw c
+  called-turn b false (Number v) e c = rw (c, e)
 
   module _ (b : ℕ) (e : t ≡ Op b) where
-    pub turn-local : b ≡ 10 → (r : Turn) → r ≡ callTurn (operandOf (numbersIn ws locals) (biasOf (locals .count)) (biasOf (locals .reached))) h
-        → r ≡ turnOf (callsBy ws locals globals) h t
-    turn-local f r g = g ∙ local-turn h ∙ ap (turnOf (callsBy ws locals globals) h) (sym (e ∙ ap Op f))
+    pub turn-called : isCall b ≡ true → (q : Ranks) → q ≡ pick (eqb b 10) locals globals
+        → (r : Turn) → r ≡ callTurn (operandOf (numbersIn ws q) (biasOf (q .count)) (biasOf (q .reached))) h → r ≡ turnOf (callsBy ws locals globals) h t
+    turn-called c q f r g =
+        g ∙ ap (λ (x : Ranks). callTurn (operandOf (numbersIn ws x) (biasOf (x .count)) (biasOf (x .reached))) h) f ∙ called-turn b (eqb b 10) h refl c
+        ∙ ap (turnOf (callsBy ws locals globals) h) (sym e)
 
-    pub turn-global : b ≡ 29 → (r : Turn) → r ≡ callTurn (operandOf (numbersIn ws globals) (biasOf (globals .count)) (biasOf (globals .reached))) h
-        → r ≡ turnOf (callsBy ws locals globals) h t
-    turn-global f r g = g ∙ global-turn h ∙ ap (turnOf (callsBy ws locals globals) h) (sym (e ∙ ap Op f))
+    other : isCall b ≡ false → Sends h ≡ turnOf (callsBy ws locals globals) h (Op b)
+    other c = rw c
 
-    other : (b ≡ 10 → ⊥) → (b ≡ 29 → ⊥) → Sends h ≡ turnOf (callsBy ws locals globals) h (Op b)
-    other n m = rw (ne-eqb b 10 n, ne-eqb b 29 m)
-
-    pub turn-other : (b ≡ 10 → ⊥) → (b ≡ 29 → ⊥) → Sends h ≡ turnOf (callsBy ws locals globals) h t
-    turn-other n m = other n m ∙ ap (turnOf (callsBy ws locals globals) h) (sym e)
+    pub turn-other : isCall b ≡ false → Sends h ≡ turnOf (callsBy ws locals globals) h t
+    turn-other c = other c ∙ ap (turnOf (callsBy ws locals globals) h) (sym e)
 
   pub turn-num : (v : Float) → t ≡ Num v → Sends h ≡ turnOf (callsBy ws locals globals) h t
   turn-num v e = ap (turnOf (callsBy ws locals globals) h) (sym e)

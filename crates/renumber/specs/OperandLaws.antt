@@ -3,12 +3,12 @@ use Prim.Native.Nat.{ℕ, zero, suc, _+_, _-_, _*_, _/_, _%_, _≤_, _<_}
 use mathlib.Core.Path.{_≡_, refl, sym, ap, _∙_, subst}
 use mathlib.Core.Bool.{Bool, true, false, true≢false, false≢true}
 use mathlib.Core.List.{List}
-use native.Mathlib.Nat.{div-lt-iff-lt-mul, div-mul-le-self}
+use native.Mathlib.Nat.{div-lt-iff-lt-mul, div-mul-le-self, lt-div-mul-add}
 use native.Mathlib.Omega.{arith}
 use lib.Dec.{ltb, eqb}
 use lib.IntN.{ℤ, pos, negsuc}
 use lib.Ieee.{Float}
-use borrow.Author.Tests.{ltb-true, lt-ltb, eq-eqb, ne-eqb, le-leb, lt-leb}
+use borrow.Author.Tests.{ltb-true, lt-ltb, le-ltb, eq-eqb, ne-eqb, le-leb, lt-leb}
 use Rattle.octets.specs.Pick.{pick, pick-ind}
 use Rattle.type2_number.specs.Number.{isNeg, mag, whole, rounded, Reading}
 use Rattle.type2_number.specs.Floats.{floatOf}
@@ -20,7 +20,7 @@ use Rattle.subset.specs.RankLaws.{count-below}
 use Rattle.prune.specs.StepLaws.{zero-one}
 use Rattle.prune.specs.Renumber.{New, none, new, Old, nothing, old, oldOf, newOf, operandFor, operandOf, becomes}
 use Rattle.prune.specs.OperandLaws.{operand-reading}
-use Rattle.renumber.specs.Ranks.{rankIn, rankAt, newIn, numbersIn, callsBy, Ranked}
+use Rattle.renumber.specs.Ranks.{rankIn, numberOf, rankAt, newIn, numbersIn, callsBy, Ranked}
 use Rattle.renumber.specs.Turn.{turnFor}
 use Rattle.renumber.specs.declared.Ranks.{Ranks}
 use Rattle.renumber.specs.declared.turns.Held.the-variants.{Number}
@@ -33,6 +33,61 @@ bias-small count =
 
 pub bias-few : (b count : ℕ) → b ≡ biasOf count → b ≤ 32768
 bias-few b count e = subst (λ (k : ℕ). k ≤ 32768) (sym e) (bias-small count)
+
+-- ---- where all of some numbers are in a set, so are all of the first of them
+
+count-none : (set : ℕ → Bool) → countBelow set 0 ≡ 0
+unfolding countBelow
+count-none set = refl
+
+count-next : (set : ℕ → Bool) (n : ℕ) (t : Bool) → set n ≡ t → countBelow set (suc n) ≡ countBelow set n + pick t 1 0
+unfolding countBelow
+count-next set n t e = ap (λ (u : Bool). countBelow set n + pick u 1 0) e
+
+count-least : (set : ℕ → Bool) (a n : ℕ) → countBelow set (a + n) ≤ countBelow set a + n
+unfolding countBelow
+count-least set a zero = let e : a ≡ a + 0 = omega arith in subst (λ (k : ℕ). countBelow set k ≤ countBelow set a + 0) e (omega arith)
+count-least set a (suc n) =
+    let e : suc (a + n) ≡ a + suc n = omega arith in
+    subst (λ (k : ℕ). countBelow set k ≤ countBelow set a + suc n) e (go (set (a + n)) (count-least set a n))
+  where
+    go : (t : Bool) → countBelow set (a + n) ≤ countBelow set a + n → countBelow set (a + n) + pick t 1 0 ≤ countBelow set a + suc n
+    go true h = omega arith
+    go false h = omega arith
+
+count-whole : (set : ℕ → Bool) (a m n : ℕ) → countBelow set (a + n) ≡ countBelow set a + n → m ≤ n → countBelow set (a + m) ≡ countBelow set a + m
+count-whole set a m n h l =
+    let e : a + m + (n - m) ≡ a + n = omega arith in
+    omega (arith, count-least set a m, count-least set (a + m) (n - m), ap (countBelow set) e)
+
+-- ---- the rank of a subroutine where all are reached
+
+module _ (ws : List ℕ) (q : Ranks) (good : Ranked ws q) (all : q .reached ≡ q .count) where
+  abbrev set : ℕ → Bool
+  set = bitIn ws (q .at)
+
+  kept-number : (i : ℕ) → i ≤ q .count → countBelow set i ≡ i
+  kept-number i h =
+      let n : 0 + q .count ≡ q .count = omega arith in
+      let m : 0 + i ≡ i = omega arith in
+      let z : 0 + q .count ≡ countBelow set 0 + q .count = ap (λ (k : ℕ). k + q .count) (sym (count-none set)) in
+      let w : 0 + i ≡ countBelow set 0 + i = ap (λ (k : ℕ). k + i) (sym (count-none set)) in
+      sym (ap (countBelow set) m) ∙ count-whole set 0 i (q .count) (ap (countBelow set) n ∙ sym (good .reaches) ∙ all ∙ sym n ∙ z) h ∙ sym w ∙ m
+
+  kept-bit : (i : ℕ) → i < q .count → set i ≡ true
+  kept-bit i h = go (set i) refl
+    where
+      go : (t : Bool) → set i ≡ t → set i ≡ true
+      go true e = e
+      go false e =
+          let a = kept-number i (omega arith) in
+          let b = kept-number (suc i) (omega arith) in
+          absurd (let y : ⊥ = omega (arith, count-next set i false e) in y)
+
+  pub rank-kept : (i : ℕ) → i < q .count → i + 1 ≡ rankIn ws q i
+  rank-kept i h =
+      let a : countBelow set i + 1 ≡ i + 1 = ap (λ (n : ℕ). n + 1) (kept-number i (omega arith)) in
+      rw (lt-ltb i (q .count) h, kept-bit i h) (sym a)
 
 -- ---- the rank of a subroutine, from the sum below its eighth
 
@@ -47,58 +102,88 @@ module _ (ws : List ℕ) (q : Ranks) (good : Ranked ws q) (i : ℕ) (h : i < q .
   pub eighth-front : i / 32 / e * e ≤ i / 32
   eighth-front = div-mul-le-self (i / 32) e
 
-  pub sum-front : (sum : ℕ) → sum ≡ sumIn (q .low) (q .high) (i / 32 / e) → sum ≡ countBelow (bitIn ws (q .at)) (32 * (i / 32 / e * e))
-  sum-front sum f =
-      let j = i / 32 / e in
+  abbrev same : ℕ → Bool
+  same = below (bitIn ws (q .at)) (q .count)
+
+  -- a sum is how many are below its eighth
+  sum-told : (k sum : ℕ) → k < 8 → sum ≡ sumIn (q .low) (q .high) k → sum ≡ countBelow same (32 * (k * e))
+  sum-told k sum l f =
       let a : e ≡ eighth (wordsFor (q .count)) = is ∙ ap eighth w in
-      let k : 32 * (j * e) ≤ q .count = let l = eighth-front in omega arith in
-      f ∙ ap (λ (x : ℕ). sumIn x (q .high) j) (good .low) ∙ ap (λ (x : ℕ). sumIn (lowSums (bitIn ws (q .at)) (q .count)) x j) (good .high)
-      ∙ sum-is (bitIn ws (q .at)) (q .count) j (good .few) eighth-few
-      ∙ ap (λ (x : ℕ). sumBelow (bitIn ws (q .at)) (q .count) (j * x)) (sym a)
-      ∙ count-alike (below (bitIn ws (q .at)) (q .count)) (bitIn ws (q .at)) (32 * (j * e)) (λ x l. rw (lt-ltb x (q .count) (omega arith)))
+      f ∙ ap (λ (x : ℕ). sumIn x (q .high) k) (good .low) ∙ ap (λ (x : ℕ). sumIn (lowSums (bitIn ws (q .at)) (q .count)) x k) (good .high)
+      ∙ sum-is (bitIn ws (q .at)) (q .count) k (good .few) l
+      ∙ ap (λ (x : ℕ). sumBelow (bitIn ws (q .at)) (q .count) (k * x)) (sym a)
 
--- ---- the rank that an operand names, as the code finds it
+  -- the bits below the count, counted
+  counted : (m : ℕ) → m ≤ q .count → countBelow same m ≡ countBelow (bitIn ws (q .at)) m
+  counted m l = count-alike same (bitIn ws (q .at)) m (λ x k. rw (lt-ltb x (q .count) (omega arith)))
 
-module _ (ws : List ℕ) (q : Ranks) (bias : ℕ) where
-  fraction : (z : ℤ) → (mag z % 65536 ≡ 0 → ⊥) → 0 ≡ rankAt ws q (oldOf bias z)
+  module _ (sum : ℕ) (f : sum ≡ sumIn (q .low) (q .high) (i / 32 / e)) where
+    pub sum-front : sum ≡ countBelow (bitIn ws (q .at)) (32 * (i / 32 / e * e))
+    sum-front = sum-told (i / 32 / e) sum eighth-few f ∙ counted (32 * (i / 32 / e * e)) (let l = eighth-front in omega arith)
+
+    -- all of the eighth are reached
+    pub eighth-whole : i / 32 / e < 7 → (next : ℕ) → next ≡ sumIn (q .low) (q .high) (i / 32 / e + 1) → next ≡ sum + 32 * e
+        → sum + (i - 32 * (i / 32 / e * e)) ≡ countBelow (bitIn ws (q .at)) i
+    eighth-whole l next g all =
+        let a = 32 * (i / 32 / e * e) in
+        let m = i - a in
+        let k : i / 32 < i / 32 / e * e + e = lt-div-mul-add eighth-pos in
+        let s : sum ≡ countBelow same a = sum-told (i / 32 / e) sum eighth-few f in
+        let p : 32 * ((i / 32 / e + 1) * e) ≡ a + 32 * e = omega arith in
+        let t : next ≡ countBelow same (a + 32 * e) = sum-told (i / 32 / e + 1) next (omega arith) g ∙ ap (countBelow same) p in
+        let c : countBelow same (a + 32 * e) ≡ countBelow same a + 32 * e = sym t ∙ all ∙ ap (λ (x : ℕ). x + 32 * e) s in
+        let r : a + m ≡ i = let z = eighth-front in omega arith in
+        ap (λ (x : ℕ). x + m) s ∙ sym (count-whole same a m (32 * e) c (let z = eighth-front in omega arith)) ∙ ap (countBelow same) r ∙ counted i (omega arith)
+
+-- ---- the subroutine that an operand names, as the code finds it
+
+module _ (bias : ℕ) where
+  fraction : (z : ℤ) → (mag z % 65536 ≡ 0 → ⊥) → 65536 ≡ numberOf (oldOf bias z)
   unfolding oldOf
   fraction (pos m) k = rw (ne-eqb (m % 65536) 0 k)
   fraction (negsuc m) k = rw (ne-eqb (suc m % 65536) 0 k)
 
-  before-first : (z : ℤ) → isNeg z ≡ true → mag z % 65536 ≡ 0 → bias < mag z / 65536 → 0 ≡ rankAt ws q (oldOf bias z)
+  before-first : (z : ℤ) → isNeg z ≡ true → mag z % 65536 ≡ 0 → bias < mag z / 65536 → 65536 ≡ numberOf (oldOf bias z)
   unfolding oldOf
   before-first (pos m) u k l = absurd (false≢true u)
   before-first (negsuc m) u k l = rw (eq-eqb (suc m % 65536) 0 k, lt-leb (suc m / 65536) bias l)
 
-  down : (z : ℤ) → isNeg z ≡ true → mag z % 65536 ≡ 0 → mag z / 65536 ≤ bias → rankIn ws q (bias - mag z / 65536) ≡ rankAt ws q (oldOf bias z)
+  down : (z : ℤ) → isNeg z ≡ true → mag z % 65536 ≡ 0 → mag z / 65536 ≤ bias → bias - mag z / 65536 ≡ numberOf (oldOf bias z)
   unfolding oldOf
   down (pos m) u k l = absurd (false≢true u)
   down (negsuc m) u k l = rw (eq-eqb (suc m % 65536) 0 k, le-leb (suc m / 65536) bias l)
 
-  up : (z : ℤ) → isNeg z ≡ false → mag z % 65536 ≡ 0 → rankIn ws q (mag z / 65536 + bias) ≡ rankAt ws q (oldOf bias z)
+  up : (z : ℤ) → isNeg z ≡ false → mag z % 65536 ≡ 0 → mag z / 65536 + bias ≡ numberOf (oldOf bias z)
   unfolding oldOf
   up (pos m) u k = rw (eq-eqb (m % 65536) 0 k)
   up (negsuc m) u k = absurd (true≢false u)
 
   module _ (z : ℤ) (size : ℕ) (g : size ≡ mag z) where
-    pub rank-fraction : (size % 65536 ≡ 0 → ⊥) → 0 ≡ rankAt ws q (oldOf bias z)
-    rank-fraction n = fraction z (λ e. n (ap (λ (k : ℕ). k % 65536) g ∙ e))
+    pub number-fraction : (size % 65536 ≡ 0 → ⊥) → 65536 ≡ numberOf (oldOf bias z)
+    number-fraction n = fraction z (λ e. n (ap (λ (k : ℕ). k % 65536) g ∙ e))
 
     module _ (neg : Bool) (n : neg ≡ isNeg z) (h : size % 65536 ≡ 0) (added : ℕ) (a : added ≡ bias) where
       even : mag z % 65536 ≡ 0
       even = ap (λ (k : ℕ). k % 65536) (sym g) ∙ h
 
-      pub rank-before : neg ≡ true → added < size / 65536 → 0 ≡ rankAt ws q (oldOf bias z)
-      rank-before t l = before-first z (sym n ∙ t) even (subst (λ (k : ℕ). bias < k / 65536) g (subst (λ (k : ℕ). k < size / 65536) a l))
+      pub number-before : neg ≡ true → added < size / 65536 → 65536 ≡ numberOf (oldOf bias z)
+      number-before t l = before-first z (sym n ∙ t) even (subst (λ (k : ℕ). bias < k / 65536) g (subst (λ (k : ℕ). k < size / 65536) a l))
 
-      pub rank-down : neg ≡ true → size / 65536 ≤ added → (r : ℕ) → r ≡ rankIn ws q (added - size / 65536) → r ≡ rankAt ws q (oldOf bias z)
-      rank-down t l r e =
-          e ∙ ap (λ (k : ℕ). rankIn ws q (k - size / 65536)) a ∙ ap (λ (k : ℕ). rankIn ws q (bias - k / 65536)) g
+      pub number-down : neg ≡ true → size / 65536 ≤ added → added - size / 65536 ≡ numberOf (oldOf bias z)
+      number-down t l =
+          ap (λ (k : ℕ). k - size / 65536) a ∙ ap (λ (k : ℕ). bias - k / 65536) g
           ∙ down z (sym n ∙ t) even (subst (λ (k : ℕ). k / 65536 ≤ bias) g (subst (λ (k : ℕ). size / 65536 ≤ k) a l))
 
-      pub rank-up : neg ≡ false → (r : ℕ) → r ≡ rankIn ws q (size / 65536 + added) → r ≡ rankAt ws q (oldOf bias z)
-      rank-up t r e =
-          e ∙ ap (λ (k : ℕ). rankIn ws q (size / 65536 + k)) a ∙ ap (λ (k : ℕ). rankIn ws q (k / 65536 + bias)) g ∙ up z (sym n ∙ t) even
+      pub number-up : neg ≡ false → size / 65536 + added ≡ numberOf (oldOf bias z)
+      number-up t = ap (λ (k : ℕ). size / 65536 + k) a ∙ ap (λ (k : ℕ). k / 65536 + bias) g ∙ up z (sym n ∙ t) even
+
+-- its rank is that of its number
+pub rank-number : (ws : List ℕ) (q : Ranks) → q .count < 65536 → (o : Old) (i r : ℕ) → i ≡ numberOf o → r ≡ rankIn ws q i → r ≡ rankAt ws q o
+rank-number ws q few o i r e f = f ∙ ap (rankIn ws q) e ∙ by o
+  where
+    by : (o : Old) → rankIn ws q (numberOf o) ≡ rankAt ws q o
+    by nothing = rw (le-ltb 65536 (q .count) (omega arith))
+    by (old k) = refl
 
 -- ---- the new number
 

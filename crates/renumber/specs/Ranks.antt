@@ -21,6 +21,11 @@ ranksAt set at count = record { at = at; count = count; reached = countBelow set
 abbrev pub rankIn : List ℕ → Ranks → ℕ → ℕ
 rankIn ws q i = pick (ltb i (q .count)) (pick (bitIn ws (q .at) i) (countBelow (bitIn ws (q .at)) i + 1) 0) 0
 
+-- the number of the subroutine that an operand names: 65536, which none has, where it names none
+abbrev pub numberOf : Old → ℕ
+numberOf nothing = 65536
+numberOf (old i) = i
+
 -- the rank of the subroutine that an operand names, plus 1
 abbrev pub rankAt : List ℕ → Ranks → Old → ℕ
 rankAt ws q nothing = 0
