@@ -1,4 +1,6 @@
 pub mod Culprit
 pub mod CulpritLaws
+pub mod FewerLaws
+pub mod NarrowLaws
 pub mod Theorem
 pub mod Examples
