@@ -335,7 +335,7 @@ module _ (p : Program) (there : FdsThere p) (name keep : List ℕ) (words lent :
       record {
         enters = refl;
         masks = λ o l i. let m = met-from p (keptOf (length (p .charstrings)) keep) rows met (masked (glyph h) o l) (record-from rows fits (masked (glyph h) o l) i) in
-        subst (λ (y : ℕ). Meets p y (masked (glyph h) o l)) (sym (own-mask p (m .0) h o l (m .2))) (m .2);
+            subst (λ (y : ℕ). Meets p y (masked (glyph h) o l)) (sym (own-mask p (m .0) h o l (m .2))) (m .2);
       }
 
   -- so of a charstring that fails only its own glyph can be the culprit

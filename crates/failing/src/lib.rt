@@ -117,17 +117,7 @@ pub fn only_culprit(font: &[u8], f: Font, keep: &[u16], rows: &[u8], words: &mut
     let globals = ranked.globals;
     if ranked.all {
         let rising = reach::masks::rises(rows);
-        return first_failing(
-            font,
-            f,
-            keep,
-            &used,
-            globals,
-            words,
-            &table,
-            rows,
-            rising,
-        );
+        return first_failing(font, f, keep, &used, globals, words, &table, rows, rising);
     }
     65536
 }

@@ -58,9 +58,11 @@ loop-again c =
     let m = c .before .before in
     let i = m .before .before .before in
     let l = i .before .loop in
-    let s = L (i .before) in
-    (l .inv .0, subst (Marking (programOf (s .args .font .now) (s .args .f)) (s .args .keep .now) (l .i + 1)) (sym (m .mark-fd2 .ensures))
-    (marking-next (s .args .font .now) (s .args .f) (s .pre .0) (s .args .keep .now) (s .pre .1) (l .i) _ (l .inv .1) (omega (arith, i .loop-test .taken, l .inv .0))))
+    let s = L (i .before) in (
+      l .inv .0,
+      subst (Marking (programOf (s .args .font .now) (s .args .f)) (s .args .keep .now) (l .i + 1)) (sym (m .mark-fd2 .ensures))
+          (marking-next (s .args .font .now) (s .args .f) (s .pre .0) (s .args .keep .now) (s .pre .1) (l .i) _ (l .inv .1) (omega (arith, i .loop-test .taken, l .inv .0))),
+    )
 
 same-length : tie.Need-same-length Inv-loop μ-loop
 same-length c = let l = c .before .loop in let s = L (c .before) in omega (arith, l .inv .1 .long, ap length (s .pre .2), length-replicate {A = ℕ} 256 0)
