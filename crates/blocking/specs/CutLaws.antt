@@ -11,6 +11,7 @@ use Rattle.octets.specs.Pick.{pick, pick-ind}
 use Rattle.octets.specs.Octets.{Octets, put}
 use Rattle.octets.specs.PutLaws.{take-put, put-length}
 use Rattle.octets.specs.Lists.{allBelow}
+use Rattle.index.specs.IndexLaws.{items-length}
 use Rattle.unfold.specs.Unfold.{Row}
 use Rattle.prune.specs.StepLaws.{zero-one}
 use Rattle.record.specs.Record.{recordFine}
@@ -29,10 +30,11 @@ use Rattle.outcome.specs.declared.Answer.{Answer}
 use Rattle.outcome.specs.declared.Answer.the-variants.{Refused as RefusedAnswer, Subset}
 use Rattle.write.specs.EntryLaws.{program-cut, font-held}
 use Rattle.traced.specs.Traced.{Traced, refused, traced, recordOf, metAll, answered, traceProgram, traceRead, traceOf, tracedAs, leavesRecord, Traces}
-use Rattle.traced.specs.Theorem.{trace-fine}
+use Rattle.traced.specs.Theorem.{keptRows, trace-fine, kept-fits}
 use Rattle.traced.specs.declared.TracedAs.{TracedAs}
 use Rattle.traced.specs.declared.TracedAs.the-variants.{Refused, Record}
 use Rattle.culprit.specs.Culprit.{cutTraced, tracedCut, hasWay}
+use Rattle.failing.specs.Failing.{Recorded, Only}
 use Rattle.blocking.specs.Search.{CanCut, wayOf}
 
 -- ---- a trace
@@ -59,6 +61,14 @@ trace-passes p keep lent flag rec e = by (allBelow (length (p .charstrings)) kee
     by true true a b h = record { below = a; found = b; short = short (metAll p (keptOf (length (p .charstrings)) keep)) h }
     by true false a b h = absurd (zero-one cc)
     by false f a b h = absurd (zero-one cc)
+
+-- then the answer is by the rows
+passes-answered : (p : Program) (keep : List ℕ) (lent : ℕ) (t : Traced) → traceProgram p keep lent ≡ t → (flag : ℕ) (rec : List ℕ) → t ≡ traced flag rec
+    → answered lent (keptRows p keep) ≡ traced flag rec
+passes-answered p keep lent t e flag rec z =
+    let h = trace-passes p keep lent flag rec (e ∙ z) in
+    sym (ap (λ (d : Bool). pick d (pick (allFound p (keptOf (length (p .charstrings)) keep)) (answered lent (keptRows p keep)) (refused 7)) (refused 6)) (h .below)
+    ∙ ap (λ (d : Bool). pick d (answered lent (keptRows p keep)) (refused 7)) (h .found)) ∙ e ∙ z
 
 -- ---- the tests of a traced cut
 
@@ -154,6 +164,28 @@ module _ (file : List ℕ) (f : Font) (b : List ℕ) (octets : Octets file) (hel
     pub measured : (r : Answer) → r ≡ answerOf (cutBehind false p name keep rec flag 67108864) → r ≡ answerOf (tracedCut p name keep words lent)
     measured r h = h ∙ ap answerOf (sym (cut-behind p name keep words lent can flag rec e fine))
 
+  -- what a trace leaves
+  module _ (old new : List ℕ) (a : TracedAs) (t : Traces file keep old new a) where
+    pub traced-handed : (flag len : ℕ) → a ≡ Record flag len → Handed (traceProgram p keep (length old)) flag len new
+    traced-handed flag len e =
+        subst (λ (x : Traced). Handed x flag len new) (trace-is (length old))
+        (handed (traceOf file keep (length old)) flag len old new (sym e ∙ t .answers) (t .output)
+        (λ g rec q. trace-passes p keep (length old) g rec (sym (trace-is (length old)) ∙ q) .short))
+
+    -- flag 1: the record is that of the rows that the kept glyphs meet
+    pub handed-recorded : (flag len : ℕ) → a ≡ Record flag len → flag ≡ 1 → Recorded p keep (take len new)
+    handed-recorded flag len e one =
+        by (keptRows p keep) refl
+        (passes-answered p keep (length old) (traced flag (take len new)) (traced-handed flag len e .is) flag (take len new) refl ∙ ap (λ (k : ℕ). traced k (take len new)) one)
+      where
+        by : (m : May (List Row)) → keptRows p keep ≡ m → answered (length old) m ≡ traced 1 (take len new) → Recorded p keep (take len new)
+        by fail z h = absurd (zero-one cc)
+        by (yes rows) z h =
+            pick-ind (λ t. t ≡ traced 1 (take len new) → Recorded p keep (take len new)) (ltb (length old) (length (recordOf rows))) (refused 11) (traced 1 (recordOf rows))
+            (λ q k. absurd (zero-one cc))
+            (λ q k. let i : recordOf rows ≡ take len new = cc in record { rows = rows; met = z; is = sym i; fits = kept-fits file keep (length old) octets p (held .is) rows z })
+            h
+
   -- traced
   module _ (words : ℕ) (old new : List ℕ) (can : CanCut p (length name) words) (a : TracedAs) (t : Traces file keep old new a) where
     pub tried-refused : (n : ℕ) → a ≡ Refused n → RefusedAnswer n ≡ answerOf (tracedCut p name keep words (length old))
@@ -165,10 +197,26 @@ module _ (file : List ℕ) (f : Font) (b : List ℕ) (octets : Octets file) (hel
         by (traced g rec) h = absurd (zero-one cc)
 
     pub tried-handed : (flag len : ℕ) → a ≡ Record flag len → Handed (traceProgram p keep (length old)) flag len new
-    tried-handed flag len e =
-        subst (λ (x : Traced). Handed x flag len new) (trace-is (length old))
-        (handed (traceOf file keep (length old)) flag len old new (sym e ∙ t .answers) (t .output)
-        (λ g rec q. trace-passes p keep (length old) g rec (sym (trace-is (length old)) ∙ q) .short))
+    tried-handed = traced-handed old new a t
+
+-- what is asked to find the one that alone can be the culprit
+module _ (file : List ℕ) (f : Font) (b : List ℕ) (octets : Octets file) (held : InFile file f b) (keep rec : List ℕ) where
+  pub only-asked : (words : ℕ) → workSize (programOf (tableIn file f) f) ≤ words → allBelow (length (programOf (tableIn file f) f .charstrings)) keep ≡ true
+      → Recorded (programOf (tableIn file f) f) keep rec
+      → FontHeld b f × (allBelow (f .charstrings .count) keep ≡ true) × (workSize (programOf b f) ≤ words) × Recorded (programOf b f) keep rec
+  only-asked words room below recorded = (
+    font-held file f b octets held,
+    ap (λ (n : ℕ). allBelow n keep) (sym (items-length (tableIn file f) (f .charstrings))) ∙ below,
+    subst (λ (l : List ℕ). workSize (programOf l f) ≤ words) (sym (held .bytes)) room,
+    subst (λ (l : List ℕ). Recorded (programOf l f) keep rec) (sym (held .bytes)) recorded,
+  )
+
+  -- where none is found each may be
+  pub each-may : Only (programOf (tableIn file f) f) keep 65536
+  each-may = record { others = λ k. absurd (omega arith) }
+
+  pub only-of : (g : ℕ) → Only (programOf b f) keep g → Only (programOf (tableIn file f) f) keep g
+  only-of g h = subst (λ (l : List ℕ). Only (programOf l f) keep g) (held .bytes) h
 
 -- the same over the bytes of the table, as the functions say it
 module _ (file : List ℕ) (f : Font) (b : List ℕ) (octets : Octets file) (held : InFile file f b) (name keep : List ℕ) (words lent flag : ℕ) (rec : List ℕ)

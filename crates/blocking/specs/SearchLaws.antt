@@ -5,6 +5,7 @@ use mathlib.Core.Path.{_≡_, refl, sym, ap, _∙_}
 use mathlib.Core.Bool.{Bool, true, false}
 use mathlib.Core.List.{List, [], _∷_}
 use mathlib.Core.Logic.{_⊎_, inl, inr, ⊎-elim}
+use native.Mathlib.Decide.{decLe}
 use native.Mathlib.Omega.{arith}
 use native.Mathlib.Numerals.{add-one}
 use borrow.Author.Tests.{eqb-true, eqb-false, eq-eqb, ne-eqb, ltb-true}
@@ -20,9 +21,10 @@ use Rattle.cff.specs.Font.{Program}
 use Rattle.subset.specs.Kept.{isIn, those, keeps}
 use Rattle.subset.specs.KeptListLaws.{in-at, in-place}
 use Rattle.culprit.specs.Culprit.{tracedCut, without, hasWay, isCulprit, firstOf, leastCulprit}
-use Rattle.culprit.specs.CulpritLaws.{in-without, cut-keeps}
+use Rattle.culprit.specs.CulpritLaws.{in-without, cut-keeps, first-is, first-none, none-first}
 use Rattle.culprit.specs.declared.Culprit.{Culprit}
 use Rattle.culprit.specs.declared.Culprit.the-variants.{None, Glyph}
+use Rattle.failing.specs.Failing.{Only}
 use Rattle.blocking.specs.Search.{spread, frees}
 
 -- ---- each glyph at its own place
@@ -140,6 +142,43 @@ module _ (keep : List ℕ) (n : ℕ) (below : allBelow n keep ≡ true) where
       (λ k a b. freed-is k (omega arith) (omega arith) p name words lent (omega arith)))
       ∙ ap (λ (m : ℕ). firstOf (those (isCulprit p name keep words lent) (m - 1) 1)) many
 
+-- ---- one alone
+
+-- where no other than g passes, the first is g if it does
+module _ (test : ℕ → Bool) (m g : ℕ) (others : (h : ℕ) → (g ≡ h → ⊥) → test h ≡ false) where
+  first-absent : test g ≡ false → None ≡ firstOf (those test m 1)
+  first-absent e = sym (none-first test m 1 (λ h l k. by h (eqb g h) refl))
+    where
+      by : (h : ℕ) (t : Bool) → eqb g h ≡ t → test h ≡ false
+      by h true q = ap test (sym (eqb-true g h q)) ∙ e
+      by h false q = others h (eqb-false g h q)
+
+  first-present : test g ≡ true → 1 ≤ g → g < 1 + m → Glyph g ≡ firstOf (those test m 1)
+  first-present e l k = by (those test m 1) refl
+    where
+      by : (gs : List ℕ) → those test m 1 ≡ gs → Glyph g ≡ firstOf (those test m 1)
+      by [] z = absurd (zero-one (let n : true ≡ false = sym e ∙ first-none test m 1 (ap firstOf z) g l k in cc))
+      by (x ∷ gs) z =
+          let i = first-is test m 1 x (ap firstOf z) in
+          same x (eqb g x) refl (i .2) ∙ sym (ap firstOf z)
+        where
+          same : (y : ℕ) (t : Bool) → eqb g y ≡ t → test y ≡ true → Glyph g ≡ Glyph y
+          same y true q f = ap Glyph (eqb-true g y q)
+          same y false q f = absurd (zero-one (let n : true ≡ false = sym f ∙ others y (eqb-false g y q) in cc))
+
+  pub first-alone : (t : Bool) → (1 ≤ g → t ≡ test g) → (g ≡ 0 → t ≡ false) → g < 1 + m → pick t (Glyph g) None ≡ firstOf (those test m 1)
+  first-alone t some first k = by (decLe 1 g)
+    where
+      at : (u : Bool) → test g ≡ u → 1 ≤ g → pick u (Glyph g) None ≡ firstOf (those test m 1)
+      at true e l = first-present e l k
+      at false e l = first-absent e
+
+      by : Dec (1 ≤ g) → pick t (Glyph g) None ≡ firstOf (those test m 1)
+      by (yes l) = ap (λ (u : Bool). pick u (Glyph g) None) (some l) ∙ at (test g) refl l
+      by (no l) =
+          let z : g ≡ 0 = omega arith in
+          ap (λ (u : Bool). pick u (Glyph g) None) (first z) ∙ sym (none-first test m 1 (λ h a b. others h (λ e. omega arith)))
+
 -- ---- place by place
 
 -- whether glyph g is freed, by what was read and tried
@@ -156,6 +195,13 @@ module _ (p : Program) (name list : List ℕ) (words lent g : ℕ) where
   unfolding frees
   free-is n e =
       ap (λ (t : Bool). pick t false (hasWay 0 (tracedCut p name (set list g 0) words lent))) (ne-eqb (getD list g 0) 0 n) ∙ sym e
+
+  -- the answer where it is tried alone
+  pub alone-none : frees p name list words lent g ≡ false → None ≡ pick (frees p name list words lent g) (Glyph g) None
+  alone-none e = sym (ap (λ (t : Bool). pick t (Glyph g) None) e)
+
+  pub alone-freed : frees p name list words lent g ≡ true → Glyph g ≡ pick (frees p name list words lent g) (Glyph g) None
+  alone-freed e = sym (ap (λ (t : Bool). pick t (Glyph g) None) e)
 
 -- over the list and the room of the start
 pub tried-as : (p : Program) (name list old : List ℕ) (w w₀ t t₀ g : ℕ) (r : Bool) → list ≡ old → w ≡ w₀ → t ≡ t₀ → r ≡ hasWay 0 (tracedCut p name (set list g 0) w t)
@@ -258,8 +304,27 @@ module _ (p : Program) (keep : List ℕ) (n : ℕ) (many : n ≡ length (p .char
     spread-own : list ≡ own keep n same-below
     spread-own = e ∙ ap (spread keep) first-blank
 
+    pub spread-long : length list ≡ n
+    spread-long = ap length spread-own ∙ own-length keep n same-below
+
     pub spread-few : length list < 65536
-    spread-few = omega (arith, ap length spread-own, own-length keep n same-below)
+    spread-few = omega (arith, spread-long, few)
+
+    -- by the one that alone can be the culprit
+    pub alone-found : (name : List ℕ) (words lent g : ℕ) → Only p keep g → g < n → (r : Culprit) → r ≡ pick (frees p name list words lent g) (Glyph g) None
+        → r ≡ leastCulprit p name keep words lent
+    unfolding leastCulprit frees
+    alone-found name words lent g only h r q =
+        q ∙ ap (λ (l : List ℕ). pick (frees p name l words lent g) (Glyph g) None) spread-own
+        ∙ first-alone (isCulprit p name keep words lent) (length (p .charstrings) - 1) g (λ x. only .others (omega (arith, few)) name words lent x)
+        (frees p name (own keep n same-below) words lent g)
+        (λ l. freed-is keep n same-below g h l p name words lent (omega (arith, some, many)))
+        (λ z. ap (λ (k : ℕ). pick (eqb k 0) false (hasWay 0 (tracedCut p name (set (own keep n same-below) g 0) words lent))) (own-at keep n same-below g ∙ at-zero (isIn g keep) z))
+        (omega (arith, h, many))
+      where
+        at-zero : (t : Bool) → g ≡ 0 → pick t g 0 ≡ 0
+        at-zero true z = z
+        at-zero false z = refl
 
     pub least-found : (name : List ℕ) (words lent : ℕ) (r : Culprit) → r ≡ firstOf (those (frees p name list words lent) (length list - 1) 1)
         → r ≡ leastCulprit p name keep words lent

@@ -4,7 +4,9 @@ ghost use mathlib.Core.Path.{_≡_};
 ghost use mathlib.Core.Bool.{true};
 ghost use Prim.Native.Nat.{ℕ, _-_, _≤_, _<_};
 ghost use lib.ListN.{length, set, replicate};
+ghost use Rattle.octets.specs.Pick.{pick};
 ghost use Rattle.octets.specs.Lists.{allBelow};
+ghost use Rattle.cff.specs.Find.{workSize};
 ghost use Rattle.cff.specs.Reads.{programOf};
 ghost use Rattle.cff.specs.File.{HasFont, tableIn};
 ghost use Rattle.subset.specs.Kept.{those};
@@ -12,6 +14,8 @@ ghost use Rattle.subset.specs.Cut.{refused, subset};
 ghost use Rattle.traced.specs.Traced.{traceProgram, traced};
 ghost use Rattle.outcome.specs.Entry.{answerOf};
 ghost use Rattle.culprit.specs.Culprit.{tracedCut, hasWay, firstOf, leastCulprit, culpritIn, Blocks};
+ghost use Rattle.culprit.specs.declared.Culprit.the-variants.{None, Glyph};
+ghost use Rattle.failing.specs.Failing.{Recorded, Only};
 ghost use Rattle.blocking.specs.Search.{CanCut, spread, wayOf, frees, Tried};
 use cff::font::Font;
 use cff::font::FontRead;
@@ -119,6 +123,58 @@ fn first_freed(
     Culprit::None
 }
 
+// The same where no glyph but g can be the first.
+fn one_freed(
+    font: &[u8],
+    f: Font,
+    name: &[u8],
+    list: &mut [u16],
+    g: usize,
+    words: &mut [u32],
+    slice: &mut [u8],
+) -> Culprit
+    requires { ⌜ (HasFont (now font) f) × (CanCut (programOf (tableIn (now font) f) f) (length (now name)) (length (now words))) × (g < length (now list))
+        × (length (now list) < 65536) ⌝ }
+    ensures { λ r. ⌜ r ≡ pick (frees (programOf (tableIn (now (font .entry)) f) f) (now (name .entry)) (now (list .entry)) (length (now (words .entry))) (length (now (slice .entry))) g)
+        (Glyph g) None ⌝ }
+{
+    let kept = list[g];
+    if kept == 0 {
+        return Culprit::None;
+    }
+    if is_freed(font, f, name, list, g, words, slice) {
+        return Culprit::Glyph(g as u16);
+    }
+    Culprit::None
+}
+
+// The kept glyph that alone can be the culprit by what was traced, or 65536.
+fn only_traced(font: &[u8], f: Font, keep: &[u16], rows: &[u8], words: &mut [u32]) -> usize
+    requires { ⌜ (HasFont (now font) f) × (workSize (programOf (tableIn (now font) f) f) ≤ length (now words))
+        × (allBelow (length (programOf (tableIn (now font) f) f .charstrings)) (now keep) ≡ true) × (Recorded (programOf (tableIn (now font) f) f) (now keep) (now rows)) ⌝ }
+    ensures { λ r. ⌜ Only (programOf (tableIn (now (font .entry)) f) f) (now (keep .entry)) r ⌝ }
+{
+    let table = cff::set::table(font, f);
+    failing::only_culprit(table, f, keep, rows, words)
+}
+
+// The kept glyph that alone can be the culprit, or 65536 where each may be.
+fn candidate(font: &[u8], f: Font, keep: &[u16], words: &mut [u32], slice: &mut [u8]) -> usize
+    requires { ⌜ (HasFont (now font) f) × (workSize (programOf (tableIn (now font) f) f) ≤ length (now words))
+        × (allBelow (length (programOf (tableIn (now font) f) f .charstrings)) (now keep) ≡ true) ⌝ }
+    ensures { λ r. ⌜ Only (programOf (tableIn (now (font .entry)) f) f) (now (keep .entry)) r ⌝ }
+{
+    match tracer::trace_font(font, f, keep, &mut *slice) {
+        TracedAs::Refused(_) => 65536,
+        TracedAs::Record { flag, len } => {
+            if flag == 1 {
+                return only_traced(font, f, keep, &slice[..len], words);
+            }
+            65536
+        }
+    }
+}
+
 // Each glyph of a keep list at its own place.
 fn spread(keep: &[u16], list: &mut [u16])
     requires { ⌜ allBelow (length (now list)) (now keep) ≡ true ⌝ }
@@ -133,24 +189,29 @@ fn spread(keep: &[u16], list: &mut [u16])
     }
 }
 
-// The same for a keep list, by so many places of `all`, which are 0, as the font has glyphs.
+// The first for a keep list, by so many places of `all`, which are 0, as the font has glyphs; `only` is tried alone where it is one of them.
 fn search_places(
     font: &[u8],
     f: Font,
     name: &[u8],
     keep: &[u16],
+    only: usize,
     all: &mut [u16],
     words: &mut [u32],
     slice: &mut [u8],
 ) -> Culprit
     requires { ⌜ (HasFont (now font) f) × (CanCut (programOf (tableIn (now font) f) f) (length (now name)) (length (now words)))
-        × (allBelow (length (programOf (tableIn (now font) f) f .charstrings)) (now keep) ≡ true) × (now all ≡ replicate 65536 0) ⌝ }
+        × (allBelow (length (programOf (tableIn (now font) f) f .charstrings)) (now keep) ≡ true) × (now all ≡ replicate 65536 0)
+        × (Only (programOf (tableIn (now font) f) f) (now keep) only) ⌝ }
     ensures { λ r. ⌜ r ≡ leastCulprit (programOf (tableIn (now (font .entry)) f) f) (now (name .entry)) (now (keep .entry)) (length (now (words .entry))) (length (now (slice .entry))) ⌝ }
 {
     let charstrings = f.charstrings;
     let n = charstrings.count;
     let list = &mut all[..n];
     spread(keep, &mut *list);
+    if only < n {
+        return one_freed(font, f, name, list, only, words, slice);
+    }
     first_freed(font, f, name, list, words, slice)
 }
 
@@ -167,8 +228,9 @@ fn least_culprit(
         × (allBelow (length (programOf (tableIn (now font) f) f .charstrings)) (now keep) ≡ true) ⌝ }
     ensures { λ r. ⌜ r ≡ leastCulprit (programOf (tableIn (now (font .entry)) f) f) (now (name .entry)) (now (keep .entry)) (length (now (words .entry))) (length (now (slice .entry))) ⌝ }
 {
+    let only = candidate(font, f, keep, &mut *words, &mut *slice);
     let mut all = [0u16; 65536];
-    search_places(font, f, name, keep, &mut all, words, slice)
+    search_places(font, f, name, keep, only, &mut all, words, slice)
 }
 
 // The answer by the first W work words, which are used, as the record slice is.
