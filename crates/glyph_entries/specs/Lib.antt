@@ -1,0 +1,5 @@
+pub mod Glyph
+pub mod GlyphLaws
+pub mod Many
+pub mod ManyLaws
+pub mod Examples
