@@ -2,6 +2,7 @@
 // reading of the font. The font is a file, an OpenType one or a bare font (document 02, Wish 9).
 pub mod cids;
 pub mod names;
+pub mod places;
 
 ghost use mathlib.Core.Path.{_≡_};
 ghost use mathlib.Core.List.{[], _∷_};
