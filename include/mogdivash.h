@@ -1,13 +1,14 @@
-/* Mogdivash for C: reading a CFF font, finding a glyph, the items of its INDEXes, subsets, the glyph that costs a small subset, and short
-   charstrings, as functions of the static library capi.
+/* Mogdivash for C: reading a CFF font, finding glyphs, their names and CIDs, the items of its INDEXes, subsets, the glyph that costs a
+   small subset, and short charstrings, as functions of the static library capi.
 
        tools/library              proves it, and writes build/libmogdivash.a and build/libmogdivash.so, for x86-64 Linux
        cc program.c build/libmogdivash.a
 
    Installed (./install): cc program.c $(pkg-config --cflags --libs mogdivash)
 
-   Each function is proved to end without a fault and to answer as crates/capi/specs/Capi.antt and Subset.antt say, whatever the
-   bytes are. None keeps anything from one call to the next or allocates; of other libraries they call memcpy and memset alone.
+   Each function is proved to end without a fault and to answer as crates/capi/specs/Capi.antt, Subset.antt and the definitions of
+   crates/glyph_entries say, whatever the bytes are. None keeps anything from one call to the next or allocates; of other libraries
+   they call memcpy and memset alone.
 
    A font is a file as it comes: an OpenType file (.otf), which begins with `OTTO` and whose first table `CFF ` is the font, or a bare
    CFF font. A subset is a bare font.
@@ -43,13 +44,13 @@ extern "C" {
 #endif
 
 /* Refusals: document 01, 'Entries and their refusals', and document 02. The first five and CFF_NO_TABLE are reading's. */
-#define CFF_TRUNCATED 1      /* a structure ends before what was being read */
+#define CFF_TRUNCATED 1      /* a structure ends before what was being read; to cff_find_names also names that end before their lengths */
 #define CFF_MALFORMED 2      /* another fault in a structure */
 #define CFF_UNSUPPORTED 3    /* a form that is not handled; to subsetting also a font of the other keying, a stroked one, or the Expert
                                 encoding where the subset is to have none */
 #define CFF_TOO_LONG 4       /* a file of more than 67,108,864 bytes; a new name of more than 65,535 */
 #define CFF_REAL 5           /* a well-formed real past its limits */
-#define CFF_NO_SUCH_NUMBER 6 /* no item of that number, or no such kind; to subsetting a number past the font's glyphs */
+#define CFF_NO_SUCH_NUMBER 6 /* no item or glyph of that number, or no such kind; to subsetting a number past the font's glyphs */
 #define CFF_NOT_FOUND 7      /* a glyph to keep that finding its own name or CID does not give */
 #define CFF_RECORD 8         /* a record or a flag that is not of its form */
 #define CFF_WORK_WORDS 9     /* fewer than W work words */
@@ -92,9 +93,43 @@ uint8_t cff_find_name(const uint8_t *font, size_t font_len, const uint8_t *name,
 /* Finds the first glyph of that CID. Answers one word: the glyph, or CFF_ABSENT, as for any CID in a name-keyed font. */
 uint8_t cff_find_cid(const uint8_t *font, size_t font_len, uint16_t cid, uint64_t *answer, size_t answer_len);
 
+/* The words of cff_glyph's answer. */
+#define CFF_GLYPH_KEYING 0 /* 1 for a CID-keyed font, 0 for a name-keyed one */
+#define CFF_GLYPH_ID 1     /* the CID of the glyph, or its string id */
+#define CFF_GLYPH_FD 2     /* its font dictionary; 0 in a name-keyed font */
+#define CFF_GLYPH_NAME 3   /* how many bytes its name has; 0 in a CID-keyed font */
+#define CFF_GLYPH_WORDS 4  /* how many words there are */
+
+/* What is asked of one glyph: copies its name, the text of its string id, to the start of name, and answers the four words above. A
+   CID-keyed font has no names. CFF_NO_SUCH_NUMBER for a number past the font's glyphs, then CFF_OUTPUT for fewer bytes than the name has
+   or fewer than four words. */
+uint8_t cff_glyph(const uint8_t *font, size_t font_len, uint64_t glyph, uint8_t *name, size_t name_len, uint64_t *answer,
+                  size_t answer_len);
+
+/* Finds the first glyph of each name, with one reading of the font: writes to the start of glyphs, for each in turn, what cff_find_name
+   answers for it, CFF_ABSENT among them. The names stand one behind the other in names; lengths has the length of each. The refusals are
+   reading's, then CFF_TRUNCATED for lengths that are more together than names has bytes, then CFF_OUTPUT for fewer glyphs than lengths.
+   Each name costs a look at the names of the glyphs up to its own. */
+uint8_t cff_find_names(const uint8_t *font, size_t font_len, const uint8_t *names, size_t names_len, const uint32_t *lengths,
+                       size_t lengths_len, uint32_t *glyphs, size_t glyphs_len);
+
+/* Finds the first glyph of each CID, with one reading of the font and one pass over its glyphs: writes to the start of glyphs what
+   cff_find_cid answers for each. CFF_OUTPUT for fewer glyphs than CIDs. It takes 256 KiB of stack. */
+uint8_t cff_find_cids(const uint8_t *font, size_t font_len, const uint16_t *cids, size_t cids_len, uint32_t *glyphs,
+                      size_t glyphs_len);
+
 /* Copies an item to out, and answers its length in one word, size. */
 uint8_t cff_item(const uint8_t *font, size_t font_len, uint8_t kind, uint64_t number, uint8_t *out, size_t out_len,
                  uint64_t *size, size_t size_len);
+
+/* The words of cff_item_place's answer. */
+#define CFF_PLACE 0        /* where the item stands in the file's bytes, from their start on */
+#define CFF_PLACE_LENGTH 1 /* how many bytes it has */
+#define CFF_PLACE_WORDS 2  /* how many words there are */
+
+/* The same item without a copy, with one reading of the font: answers the two words above. The item is the part of font from the place
+   on, all of which lies in the font_len bytes. */
+uint8_t cff_item_place(const uint8_t *font, size_t font_len, uint8_t kind, uint64_t number, uint64_t *answer, size_t answer_len);
 
 /* The refusal of that lookup, or 0. Nothing is lent, so it is never CFF_OUTPUT. */
 uint8_t cff_item_refusal(const uint8_t *font, size_t font_len, uint8_t kind, uint64_t number);

@@ -185,7 +185,7 @@ def row(what, roots, lines=0):
     return f"| {what} | {len(ours)} | {sum(map(size, ours)) + lines} | {len(files)} | {len(seen) - len(ours)} |"
 
 
-C = ["cff_read", "cff_find_name", "cff_find_cid", "cff_item", "cff_item_refusal", "cff_subset", "cff_subset_cid", "cff_trace", "cff_check_record", "cff_blocking_glyph", "cff_next_charstring"]
+C = ["cff_read", "cff_find_name", "cff_find_cid", "cff_glyph", "cff_find_names", "cff_find_cids", "cff_item", "cff_item_place", "cff_item_refusal", "cff_subset", "cff_subset_cid", "cff_trace", "cff_check_record", "cff_blocking_glyph", "cff_next_charstring"]
 ROOTS = {"`Faithful` (demand 3)": ({("faithful", "Faithful", "Faithful")}, 0), "`Cuts` (a call of subsetting)": ({("outcome", "Entry", "Cuts")}, 0)}
 ROOTS |= {f"`{f}`": contract("capi", f) for f in C}
 table = ["| believed for | definitions | lines | files | names of the kit |", "|---|---|---|---|---|", *(row(w, *r) for w, r in ROOTS.items())]

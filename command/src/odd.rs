@@ -94,7 +94,7 @@ pub fn warn_of(source: &Source, kept: &Selection, keep: &[u16]) -> Result<(), Fa
 
 fn warn_of_parts(font: &Font, kept: &Selection, glyph: u16) {
     let charstring = font.item(Item::Charstring(glyph.into()));
-    let Some(parts) = charstring.ok().and_then(|code| composed::parts(&code)) else {
+    let Some(parts) = charstring.ok().and_then(composed::parts) else {
         return;
     };
     let is_kept = |name: &str| {

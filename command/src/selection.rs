@@ -95,8 +95,7 @@ fn named(source: &Source, names: &[String], all: &mut Selection) -> Result<(), F
             "{name}: a CID-keyed font has no names of glyphs: use --cids"
         )));
     }
-    for name in names {
-        let glyph = source.font.find_name(name.as_bytes());
+    for (name, glyph) in names.iter().zip(source.font.find_names(names)) {
         let glyph = glyph.ok_or_else(|| absent(source, name))?;
         all.entry(glyph).or_insert_with(|| name.clone());
     }
@@ -110,9 +109,8 @@ fn by_cid(source: &Source, cids: &[u16], all: &mut Selection) -> Result<(), Fail
             "{name}: a name-keyed font has no CIDs: use --names"
         )));
     }
-    for cid in cids {
+    for (cid, glyph) in cids.iter().zip(source.font.find_cids(cids)) {
         let shown = format!("CID {cid}");
-        let glyph = source.font.find_cid(*cid);
         let glyph = glyph.ok_or_else(|| absent(source, &shown))?;
         all.entry(glyph).or_insert(shown);
     }

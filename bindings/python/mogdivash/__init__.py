@@ -3,7 +3,7 @@
     import mogdivash
 
     font = mogdivash.Font(open("font.otf", "rb").read())
-    keep = [font.find_name(name) for name in ("R", "i", "d", "e", "r")]
+    keep = font.find_names(["R", "i", "d", "e", "r"])
     subset = font.subset("ABCDEF+Font", keep)
     open("subset.cff", "wb").write(subset.data)
 

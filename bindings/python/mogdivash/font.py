@@ -85,14 +85,61 @@ class Font:
         check(library.cff_find_cid(self._data, len(self._data), cid, answer, 1))
         return None if answer[0] == _ABSENT else answer[0]
 
+    def find_names(self, names):
+        """The first glyph of each name, or None, with one reading of the font: what find_name gives for each."""
+        names = [_text(name) for name in names]
+        data, count, glyphs = b"".join(names), len(names), (ctypes.c_uint32 * len(names))()
+        lengths = (ctypes.c_uint32 * count)(*map(len, names))
+        check(library.cff_find_names(self._data, len(self._data), data, len(data), lengths, count, glyphs, count))
+        return [None if glyph == _ABSENT else glyph for glyph in glyphs]
+
+    def find_cids(self, cids):
+        """The first glyph of each CID, or None, with one reading of the font: what find_cid gives for each."""
+        cids = list(cids)
+        return on_own_stack(lambda: self._find_cids(cids))
+
+    def _find_cids(self, cids):
+        asked = [cid for cid in cids if 0 <= cid <= 65535]
+        count, glyphs = len(asked), (ctypes.c_uint32 * len(asked))()
+        check(library.cff_find_cids(self._data, len(self._data), (ctypes.c_uint16 * count)(*asked), count, glyphs, count))
+        found = dict(zip(asked, glyphs))
+        return [None if found.get(cid, _ABSENT) == _ABSENT else found[cid] for cid in cids]
+
+    def glyph_name(self, glyph):
+        """The name of a glyph, the bytes of its string, standard or the font's own; None in a CID-keyed font."""
+        name, _words = self._glyph(glyph)
+        return None if self.is_cid_keyed else name
+
+    def glyph_cid(self, glyph):
+        """The CID of a glyph; None in a name-keyed font."""
+        _name, words = self._glyph(glyph)
+        return words[1] if self.is_cid_keyed else None
+
+    def glyph_fd(self, glyph):
+        """The font dictionary of a glyph; 0 in a name-keyed font."""
+        _name, words = self._glyph(glyph)
+        return words[2]
+
+    def _glyph(self, glyph):
+        if not 0 <= glyph < 1 << 64:
+            raise RefusedError(Refusal.NO_SUCH_NUMBER)
+        # Names of real fonts are shorter; a longer one is a part of the font.
+        for room in (256, len(self._data)):
+            name, words = (ctypes.c_uint8 * room)(), (ctypes.c_uint64 * 4)()
+            returned = library.cff_glyph(self._data, len(self._data), glyph, name, room, words, 4)
+            if returned != Refusal.OUTPUT:
+                break
+        check(returned)
+        return ctypes.string_at(name, words[3]), list(words)
+
     def item(self, kind, number):
         """The bytes of a charstring, global subroutine or string."""
         if kind not in list(Item) or not 0 <= index(number) < 1 << 64:
             raise RefusedError(Refusal.NO_SUCH_NUMBER)
-        room = len(self._data)
-        out, size = (ctypes.c_uint8 * room)(), (ctypes.c_uint64 * 1)()
-        check(library.cff_item(self._data, room, Item(kind), number, out, room, size, 1))
-        return ctypes.string_at(out, size[0])
+        place = (ctypes.c_uint64 * 2)()
+        check(library.cff_item_place(self._data, len(self._data), Item(kind), number, place, 2))
+        start, length = place
+        return self._data[start : start + length]
 
     def trace(self, keep):
         """The reach record of glyph 0 and the glyphs of `keep`: traced, or UNTRACED where one of them is not plain."""

@@ -7,7 +7,7 @@ from pathlib import Path
 import mogdivash
 from mogdivash import Font, Item, Refusal, RefusedError, Way
 
-from .small import FONT, file
+from .small import CID_FONT, FONT, file
 
 
 class Small(unittest.TestCase):
@@ -31,6 +31,25 @@ class Small(unittest.TestCase):
             self.assertIsNone(font.find_name("A"))
             self.assertIsNone(font.find_cid(1))
             self.assertEqual(font.item(Item.CHARSTRING, 1), b"\x0e")
+
+    def test_glyphs(self):
+        font = Font(FONT)
+        self.assertEqual([font.glyph_name(glyph) for glyph in (0, 1)], [b".notdef", b"space"])
+        self.assertEqual((font.glyph_cid(1), font.glyph_fd(1)), (None, 0))
+        self.assertEqual(font.find_names(["A", b"space", ".notdef", ""]), [None, 1, 0, None])
+        self.assertEqual(font.find_names([]), [])
+        self.assertEqual(font.find_cids([0, 1]), [None, None])
+        for glyph in (-1, 2, 65537, 1 << 32, 1 << 64):
+            self.refused(Refusal.NO_SUCH_NUMBER, font.glyph_name, glyph)
+
+    def test_glyphs_of_a_cid_keyed_font(self):
+        font = Font(CID_FONT)
+        self.assertEqual([font.glyph_cid(glyph) for glyph in range(3)], [0, 5, 5])
+        self.assertEqual([font.glyph_fd(glyph) for glyph in range(3)], [0, 1, 1])
+        self.assertIsNone(font.glyph_name(1))
+        self.assertEqual(font.find_cids([5, -1, 1, 0, 65536, 5]), [1, None, None, 0, None, 1])
+        self.assertEqual(font.find_names(["space"]), [None])
+        self.refused(Refusal.NO_SUCH_NUMBER, font.glyph_fd, 3)
 
     def test_refusals(self):
         self.refused(Refusal.TRUNCATED, Font, b"")
@@ -97,11 +116,11 @@ class Small(unittest.TestCase):
         """A thread with the least stack that Python gives traces and cuts, on a thread of the module's."""
         answers = []
         before = threading.stack_size(1 << 16)
-        thread = threading.Thread(target=lambda: answers.append(Font(FONT).subset("A", [1])))
+        thread = threading.Thread(target=lambda: answers.append((Font(FONT).subset("A", [1]), Font(CID_FONT).find_cids([5]))))
         thread.start()
         threading.stack_size(before)
         thread.join()
-        self.assertEqual(answers, [Font(FONT).subset("A", [1])])
+        self.assertEqual(answers, [(Font(FONT).subset("A", [1]), [1])])
         self.assertEqual(threading.stack_size(), before)
 
     def test_threads(self):

@@ -6,6 +6,12 @@ pub const ABSENT: u64 = 65536;
 /// The words of the answer of reading: glyphs, global subroutines, strings, 1 for a CID-keyed font, W.
 pub const COUNTS: usize = 5;
 
+/// The words of the answer of `cff_glyph`: 1 for a CID-keyed font, the CID or string id, the FD, the length of the name.
+pub const GLYPH_WORDS: usize = 4;
+
+/// The words of the answer of `cff_item_place`: the place and the length.
+pub const PLACE: usize = 2;
+
 /// The words of the answer of subsetting: the way and the length.
 pub const ANSWER: usize = 2;
 
@@ -32,6 +38,39 @@ unsafe extern "C" {
         answer_len: usize,
     ) -> u8;
 
+    /// What is told of a glyph: its name to `name`, and `GLYPH_WORDS` words to `answer`.
+    pub fn cff_glyph(
+        font: *const u8,
+        font_len: usize,
+        glyph: u64,
+        name: *mut u8,
+        name_len: usize,
+        answer: *mut u64,
+        answer_len: usize,
+    ) -> u8;
+
+    /// Finds the first glyph of each name: its number, or `ABSENT`. The names stand one behind the other, with their lengths beside them.
+    pub fn cff_find_names(
+        font: *const u8,
+        font_len: usize,
+        names: *const u8,
+        names_len: usize,
+        lengths: *const u32,
+        lengths_len: usize,
+        glyphs: *mut u32,
+        glyphs_len: usize,
+    ) -> u8;
+
+    /// Finds the first glyph of each CID: its number, or `ABSENT`.
+    pub fn cff_find_cids(
+        font: *const u8,
+        font_len: usize,
+        cids: *const u16,
+        cids_len: usize,
+        glyphs: *mut u32,
+        glyphs_len: usize,
+    ) -> u8;
+
     /// Copies an item to `out` and its length to `size`.
     pub fn cff_item(
         font: *const u8,
@@ -42,6 +81,16 @@ unsafe extern "C" {
         out_len: usize,
         size: *mut u64,
         size_len: usize,
+    ) -> u8;
+
+    /// Where that item stands in the font's bytes: its place and its length to `answer`.
+    pub fn cff_item_place(
+        font: *const u8,
+        font_len: usize,
+        kind: u8,
+        number: u64,
+        answer: *mut u64,
+        answer_len: usize,
     ) -> u8;
 
     /// The refusal of that lookup, or 0.

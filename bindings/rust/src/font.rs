@@ -49,7 +49,7 @@ pub struct Subset {
 /// The first font of a CFF font set, all of which was read.
 #[derive(Clone, Copy, Debug)]
 pub struct Font<'a> {
-    bytes: &'a [u8],
+    pub(crate) bytes: &'a [u8],
     counts: [u64; ffi::COUNTS],
 }
 
@@ -128,34 +128,28 @@ impl<'a> Font<'a> {
         found(returned, glyph[0])
     }
 
-    /// The bytes of an item.
-    pub fn item(&self, item: Item) -> Result<Vec<u8>, Refusal> {
+    /// The bytes of an item: the part of the font's own bytes, which it borrows.
+    pub fn item(&self, item: Item) -> Result<&'a [u8], Refusal> {
         let (kind, number) = match item {
             Item::Charstring(number) => (0, number),
             Item::Global(number) => (1, number),
             Item::String(number) => (2, number),
         };
-        // An item is a part of the font, so that there is room for it in as many bytes.
-        let mut out = room(self.bytes.len()).ok_or(Refusal::Output)?;
-        let mut size = [0];
-        // SAFETY: the slices are lent for the call, which only writes to `out`: its first bytes, as many as `size` says.
+        let mut place = [0; ffi::PLACE];
+        // SAFETY: the slices are lent for the call.
         let returned = unsafe {
-            let returned = ffi::cff_item(
+            ffi::cff_item_place(
                 self.bytes.as_ptr(),
                 self.bytes.len(),
                 kind,
                 number,
-                out.as_mut_ptr(),
-                out.capacity(),
-                size.as_mut_ptr(),
-                size.len(),
-            );
-            out.set_len(size[0] as usize);
-            returned
+                place.as_mut_ptr(),
+                place.len(),
+            )
         };
         Refusal::check(returned)?;
-        out.shrink_to_fit();
-        Ok(out)
+        let [start, len] = place.map(|word| word as usize);
+        Ok(&self.bytes[start..start + len])
     }
 
     /// The reach record of glyph 0 and the glyphs of the keep list. It is [`Record::untraced`] where one of them is not plain
@@ -376,7 +370,7 @@ impl<'a> Font<'a> {
 }
 
 /// An empty list with room for so many bytes, if that is to be had.
-fn room(len: usize) -> Option<Vec<u8>> {
+pub(crate) fn room(len: usize) -> Option<Vec<u8>> {
     let mut bytes = Vec::new();
     bytes.try_reserve_exact(len).ok()?;
     Some(bytes)

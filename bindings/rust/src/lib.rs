@@ -9,10 +9,8 @@
 //!
 //! let bytes = std::fs::read("font.otf")?;
 //! let font = Font::read(&bytes)?;
-//! let keep: Vec<u16> = ["R", "i", "d", "e", "r"]
-//!     .iter()
-//!     .filter_map(|name| font.find_name(name.as_bytes()))
-//!     .collect();
+//! let found = font.find_names(&["R", "i", "d", "e", "r"]);
+//! let keep: Vec<u16> = found.into_iter().flatten().collect();
 //! let subset = font.subset_traced(b"ABCDEF+Font", &keep)?;
 //! std::fs::write("subset.cff", &subset.bytes)?;
 //! # Ok::<(), Box<dyn std::error::Error>>(())
@@ -22,6 +20,7 @@
 
 pub mod ffi;
 mod font;
+mod glyphs;
 mod record;
 mod refusal;
 mod short;
@@ -32,4 +31,4 @@ pub const VERSION: &str = env!("CARGO_PKG_VERSION");
 pub use font::{Font, Item, Subset, Way};
 pub use record::{Record, Row};
 pub use refusal::Refusal;
-pub use short::{next_charstring, ShortCharstrings};
+pub use short::{ShortCharstrings, next_charstring};

@@ -82,7 +82,7 @@ fn reading_finding_and_items() {
                 let wanted = item(input.number(1), input.number(4) as u64);
                 match font.item(wanted) {
                     Err(given) => assert_eq!(Some(given), refusal),
-                    Ok(bytes) => assert_eq!((refusal, answer.rest()), (None, &bytes[..])),
+                    Ok(bytes) => assert_eq!((refusal, answer.rest()), (None, bytes)),
                 }
             }
         }

@@ -6,3 +6,4 @@ pub mod SubsetLaws
 pub mod Trace
 pub mod TraceLaws
 pub mod Blocking
+pub mod PlaceLaws

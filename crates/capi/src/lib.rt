@@ -4,6 +4,7 @@
 pub mod check;
 pub mod culprits;
 pub mod cut;
+pub mod glyphs;
 pub mod short;
 pub mod trace;
 

@@ -17,9 +17,8 @@ pub fn traced(bytes: &[u8], keep: &[u16]) -> Vec<u8> {
     font.subset_traced(NAME, keep).expect("a subset").bytes
 }
 
-/// `Font::read`, then `Font::find_name` for each name.
+/// `Font::read`, then `Font::find_names`.
 pub fn find(bytes: &[u8], names: &[String]) -> Vec<Option<u16>> {
     let font = Font::read(bytes).expect("a font that is read");
-    let find = |name: &String| font.find_name(name.as_bytes());
-    names.iter().map(find).collect()
+    font.find_names(names)
 }

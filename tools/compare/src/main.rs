@@ -33,6 +33,7 @@ mod encoding_compare;
 mod encoding_tests;
 mod files;
 mod fonts;
+mod glyphs;
 mod heavy;
 mod hooked;
 mod layout;
@@ -91,6 +92,7 @@ const USAGE: &str = "usage: tools/compare/run cff SEED COUNT
        tools/compare/run opentype SEED COUNT
        tools/compare/run alike SEED COUNT
        tools/compare/run blocking SEED COUNT
+       tools/compare/run glyphs SEED COUNT
        tools/compare/run blocking-time GLYPHS KEPT TRIED
        tools/compare/run trace-time FILE
        tools/compare/run cut FOLDER
@@ -127,6 +129,7 @@ fn main() -> ExitCode {
         ["opentype", seed, count] => seeded(seed, count, opentype),
         ["alike", seed, count] => seeded(seed, count, alike),
         ["blocking", seed, count] => seeded(seed, count, blocking_glyphs),
+        ["glyphs", seed, count] => seeded(seed, count, glyphs),
         ["blocking-time", numbers @ ..] => blocking_time(numbers),
         ["trace-time", file] => trace_time(file),
         ["cut", folder] => cut_tables(Path::new(folder)),
@@ -347,6 +350,27 @@ fn check(seed: u64, count: usize) -> ExitCode {
 fn blocking_glyphs(seed: u64, count: usize) -> ExitCode {
     let tally = on_large_stack(move || blocking::run(seed, count));
     println!("seed {seed}, {count} fonts made for it");
+    print!("{}", tally.report());
+    status(tally.differences)
+}
+
+/// Names, CIDs and FDs of glyphs, and many found at once, of `count` made fonts and of the tables in target/fonts with two damaged copies each.
+fn glyphs(seed: u64, count: usize) -> ExitCode {
+    let (tally, tables) = on_large_stack(move || {
+        let library = library::library();
+        let mut tally = glyphs::Tally::default();
+        for case in cases::made(seed).take(count) {
+            glyphs::compare(&library, &case, seed, &mut tally);
+        }
+        let tables = cases::tables(&target().join("fonts"), seed);
+        for table in &tables {
+            for case in table.cases().take(3) {
+                glyphs::compare(&library, &case, seed, &mut tally);
+            }
+        }
+        (tally, tables.len())
+    });
+    println!("seed {seed}, {count} made fonts, {tables} tables of real fonts");
     print!("{}", tally.report());
     status(tally.differences)
 }
