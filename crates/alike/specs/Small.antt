@@ -1,6 +1,4 @@
 -- Unused letters leave no trace in the small call either (document 02, Wishes 8 and 10): its W goes by counts alone too.
-use Prim.Native.Nat.{ℕ}
-use mathlib.Core.Path.{_≡_}
 use native.Mathlib.Omega.{arith}
 use Rattle.small.specs.Small.{smallSize}
 use Rattle.alike.specs.Alike.{CountsAlone, NoTrace, NoTraceCopied}
