@@ -1,8 +1,7 @@
 -- Laws of a loop over the order: the next place can be asked for, and its word is the order's.
-use Prim.Native.Nat.{ℕ, _+_, _-_, _/_, _≤_, _<_}
+use Prim.Native.Nat.{ℕ, _-_, _/_, _≤_, _<_}
 use mathlib.Core.Path.{_≡_, sym, ap, _∙_}
 use mathlib.Core.List.{List}
-use native.Mathlib.Omega.{arith}
 use lib.ListN.{length, getD}
 use Rattle.cff.specs.declared.font.Font.{Font}
 use Rattle.order.specs.Walks.{orderIn}

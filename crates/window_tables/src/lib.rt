@@ -1,5 +1,4 @@
 // Charset of a CID-keyed subset (document 01, 'Layout'), from a window of the order in which the kept glyphs are written (document 02, Wish 10).
-ghost use mathlib.Core.Path.{_≡_};
 ghost use Prim.Native.Nat.{_+_, _≤_, _<_};
 ghost use lib.ListN.{length};
 ghost use Rattle.octets.specs.Octets.{Wrote};

@@ -1,6 +1,6 @@
 -- `put_charset_cid` meets its contract. The invariant: the window comes to place i, and the ids of i glyphs are written, of which the format was the
 -- beginning.
-use Prim.Native.Nat.{ℕ, _+_, _-_, _/_, _≤_, _<_}
+use Prim.Native.Nat.{ℕ, _+_, _-_, _≤_, _<_}
 use mathlib.Core.Path.{_≡_, refl, _∙_}
 use mathlib.Core.List.{List, [], _∷_}
 use native.Mathlib.Omega.{arith}
