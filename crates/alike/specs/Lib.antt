@@ -5,3 +5,4 @@ pub mod PartsLaws
 pub mod BodiesLaws
 pub mod Theorem
 pub mod Calls
+pub mod Small

@@ -1,0 +1,3 @@
+pub mod Window
+pub mod WindowLaws
+pub mod OrderLaws
