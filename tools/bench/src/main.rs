@@ -8,6 +8,7 @@ mod ours;
 mod reading;
 mod sheet;
 mod table;
+mod wide;
 
 // `rustfmt::skip` keeps cargo fmt out of docs/src.
 #[rustfmt::skip]
@@ -25,19 +26,35 @@ mod record;
 use std::process::ExitCode;
 use std::{env, fs};
 
-const USAGE: &str = "usage: tools/bench/run all|fonts|growth|read [FILE...]";
+const USAGE: &str = "usage: tools/bench/run all|fonts|growth|read|wide [FILE...]";
+
+/// The files of a folder that `run` names by a variable.
+fn folder(variable: &str) -> Vec<String> {
+    let folder = env::var(variable).expect("run sets it");
+    fs::read_dir(folder)
+        .expect("target/fonts, target/wide: tools/compare/fonts makes them")
+        .map(|entry| entry.expect("an entry").path().display().to_string())
+        .collect()
+}
 
 /// The files that are named, or all of target/fonts.
 fn fonts(named: &[String]) -> Vec<(String, Vec<u8>)> {
-    let mut files: Vec<String> = if named.is_empty() {
-        let folder = env::var("BENCH_FONTS").expect("run sets it");
-        fs::read_dir(folder)
-            .expect("target/fonts: tools/compare/fonts makes it")
-            .map(|entry| entry.expect("an entry").path().display().to_string())
-            .collect()
-    } else {
-        named.to_vec()
-    };
+    if named.is_empty() {
+        return read(folder("BENCH_FONTS"));
+    }
+    read(named.to_vec())
+}
+
+/// The same with those of target/wide.
+fn wide_fonts(named: &[String]) -> Vec<(String, Vec<u8>)> {
+    if named.is_empty() {
+        return read([folder("BENCH_FONTS"), folder("BENCH_WIDE")].concat());
+    }
+    read(named.to_vec())
+}
+
+/// Their names and bytes.
+fn read(mut files: Vec<String>) -> Vec<(String, Vec<u8>)> {
     files.sort();
     files
         .into_iter()
@@ -60,6 +77,7 @@ fn main() -> ExitCode {
         Some((what, named)) if what == "fonts" => table::print(&fonts(named)),
         Some((what, named)) if what == "growth" => growth::print(&fonts(named)),
         Some((what, named)) if what == "read" => reading::print(&fonts(named)),
+        Some((what, named)) if what == "wide" => wide::print(&wide_fonts(named)),
         _ => {
             eprintln!("{USAGE}");
             return ExitCode::from(2);

@@ -3,11 +3,29 @@
 use std::time::{Duration, Instant};
 
 /// Runs for about so long, but once at least and at most so often.
-const BUDGET: Duration = Duration::from_millis(120);
-const RUNS: usize = 40;
+#[derive(Clone, Copy)]
+pub struct Budget {
+    time: Duration,
+    runs: usize,
+}
+
+/// What a font of the tables is given, and what one of thousands is.
+pub const USUAL: Budget = Budget {
+    time: Duration::from_millis(120),
+    runs: 40,
+};
+pub const SHORT: Budget = Budget {
+    time: Duration::from_millis(15),
+    runs: 8,
+};
 
 /// The least time, in microseconds, and what the last run gave.
-pub fn least<T>(mut run: impl FnMut() -> T) -> (f64, T) {
+pub fn least<T>(run: impl FnMut() -> T) -> (f64, T) {
+    least_in(USUAL, run)
+}
+
+/// The same within a budget.
+pub fn least_in<T>(budget: Budget, mut run: impl FnMut() -> T) -> (f64, T) {
     let start = Instant::now();
     let mut best = f64::INFINITY;
     let mut runs = 0;
@@ -16,7 +34,7 @@ pub fn least<T>(mut run: impl FnMut() -> T) -> (f64, T) {
         let result = run();
         best = best.min(before.elapsed().as_secs_f64() * 1e6);
         runs += 1;
-        if runs == RUNS || start.elapsed() > BUDGET {
+        if runs == budget.runs || start.elapsed() > budget.time {
             return (best, result);
         }
     }

@@ -17,6 +17,12 @@ pub fn traced(bytes: &[u8], keep: &[u16]) -> Vec<u8> {
     font.subset_traced(NAME, keep).expect("a subset").bytes
 }
 
+/// The same where it may be refused.
+pub fn tried(bytes: &[u8], keep: &[u16]) -> Option<Vec<u8>> {
+    let font = Font::read(bytes).ok()?;
+    Some(font.subset_traced(NAME, keep).ok()?.bytes)
+}
+
 /// `Font::read`, then `Font::find_names`.
 pub fn find(bytes: &[u8], names: &[String]) -> Vec<Option<u16>> {
     let font = Font::read(bytes).expect("a font that is read");
