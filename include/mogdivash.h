@@ -114,7 +114,7 @@ uint8_t cff_find_names(const uint8_t *font, size_t font_len, const uint8_t *name
                        size_t lengths_len, uint32_t *glyphs, size_t glyphs_len);
 
 /* Finds the first glyph of each CID, with one reading of the font and one pass over its glyphs: writes to the start of glyphs what
-   cff_find_cid answers for each. CFF_OUTPUT for fewer glyphs than CIDs. It takes 256 KiB of stack. */
+   cff_find_cid answers for each. CFF_OUTPUT for fewer glyphs than CIDs. It takes 260 KiB of stack. */
 uint8_t cff_find_cids(const uint8_t *font, size_t font_len, const uint16_t *cids, size_t cids_len, uint32_t *glyphs,
                       size_t glyphs_len);
 
