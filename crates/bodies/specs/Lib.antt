@@ -10,3 +10,5 @@ pub mod WaysLaws
 pub mod CodeLaws
 pub mod CharstringsLaws
 pub mod RecordLaws
+pub mod Windows
+pub mod WindowsLaws

@@ -1,4 +1,4 @@
--- `bodies::charstrings::charstrings_total` meets its contract. The invariant: the charstrings of the first i kept glyphs were measured.
+-- `bodies::charstrings::total_directly` meets its contract. The invariant: the charstrings of the first i kept glyphs were measured.
 use Prim.Native.Nat.{ℕ, _-_}
 use mathlib.Core.List.{List}
 use native.Mathlib.Omega.{arith}
@@ -11,8 +11,8 @@ use Rattle.bodies.specs.Ways.{every, charstringBy}
 use Rattle.bodies.specs.Sizes.{Adding}
 use Rattle.bodies.specs.Sources.{charstringFrom}
 use Rattle.bodies.specs.SizesLaws.{adding-start, adding-end, adding-failed, adding-on, adding-room, adding-small}
-use Rattle.bodies.proofs.charstrings.charstrings_total.Statement.{statement}
-use Rattle.bodies.proofs.charstrings.charstrings_total.Tie as tie
+use Rattle.bodies.proofs.charstrings.total_directly.Statement.{statement}
+use Rattle.bodies.proofs.charstrings.total_directly.Tie as tie
 
 abbrev Inv-loop : tie.InvT-loop
 Inv-loop kept font words table rows n total₀ i₀ total i =
@@ -81,8 +81,8 @@ returns-2 c =
       adding-small (F s) every (s .args .kept .count) (l .loop .i) (l .loop .total) (l .loop .inv) (s .pre .keptFew),
     )
 
-pub charstrings-total-spec : {M : Type 1} → statement M
-charstrings-total-spec =
+pub total-directly-spec : {M : Type 1} → statement M
+total-directly-spec =
     tie.close
     (tie.spec
     Inv-loop

@@ -1,0 +1,4 @@
+pub mod MaskRows
+pub mod SameLaws
+pub mod KeyLaws
+pub mod FillLaws
