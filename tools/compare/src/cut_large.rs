@@ -1,6 +1,7 @@
 //! Large fonts to cut, a list of its own: refusals 10 and 12 at their edges, and the steps of the bias.
 
 use crate::cases::Case;
+use crate::cff::CffProgram;
 use crate::cut::{self, Cut, Outcome};
 use crate::cut_compare::Opened;
 use crate::cut_records;
@@ -22,6 +23,20 @@ pub fn own_names(own: usize) -> Vec<u8> {
         })
         .collect();
     names::font(&texts)
+}
+
+/// Counts of subroutines at which a word of bits, or the bias, begins or ends (document 02, Wish 7).
+const EDGES: [usize; 10] = [0, 1, 31, 32, 33, 1239, 1240, 33_899, 33_900, 65_535];
+
+/// A font with so many subroutines, of a keying: those of a CID-keyed one have several FDs.
+fn keyed(g: &mut Generator, globals: usize, locals: usize, cid_keyed: bool) -> Vec<u8> {
+    loop {
+        let font = fonts::make_biased(g, globals, locals);
+        let read = CffProgram::parse(&font);
+        if read.is_ok_and(|program| program.is_cid_keyed() == cid_keyed) {
+            return font;
+        }
+    }
 }
 
 /// How many glyphs share a name or have the last one.
@@ -99,6 +114,14 @@ pub fn fonts(seed: u64) -> Vec<(Case, Ask)> {
             fonts::make_biased(&mut g, globals, locals),
             some,
         ));
+    }
+    for count in EDGES {
+        for (globals, locals) in [(count, 5), (5, count), (count, count)] {
+            for cid_keyed in [false, true] {
+                let font = keyed(&mut g, globals, locals, cid_keyed);
+                list.push(("words of bits", font, some));
+            }
+        }
     }
     list.into_iter()
         .enumerate()
