@@ -1,5 +1,5 @@
 -- Laws of windows one behind the other, each looked up in a record: what is left gives what the whole gives.
-use Prim.Native.Nat.{ℕ, _+_, _≤_, _<_}
+use Prim.Native.Nat.{ℕ, _+_, _-_, _≤_, _<_}
 use mathlib.Core.Path.{_≡_, refl, sym, ap, _∙_, subst}
 use mathlib.Core.Bool.{Bool, true, false}
 use mathlib.Core.List.{List, [], _∷_, _++_}
@@ -11,6 +11,7 @@ use Rattle.octets.specs.Pick.{pick}
 use Rattle.kept.specs.Packed.{allOf}
 use Rattle.row_window.specs.Window.{gathered, within, inRange, Below, none, one, Gathers}
 use Rattle.row_window.specs.NextLaws.{within-all, gathered-below, below-at, front-inside, window-whole, window-next}
+use Rattle.row_window.specs.MergeLaws.{gathers-few}
 use Rattle.tracer.specs.Tracing.{top}
 use Rattle.listed.specs.Listed.{allIn}
 use Rattle.checker.specs.Checking.{Asks}
@@ -38,9 +39,14 @@ below-within low high mid (k ∷ ks) (one h b) = by (inRange low high k) (below-
 -- ---- windows
 
 -- the window that filling leaves
-pub asks-filled : (ks keys keys' : List ℕ) (n low : ℕ) → length keys ≡ 65536 → Gathers (within low top ks) keys 0 keys' n → Asks ks keys' n low
+pub asks-filled : (ks keys keys' : List ℕ) (n low : ℕ) → length keys ≡ 65536 → Gathers (within low top ks) keys keys' n → Asks ks keys' n low
 asks-filled ks keys keys' n low e g =
-    record { size = g .room ∙ e; window = g .window; holds = g .holds ∙ ap (λ (m : ℕ). take m (gathered [] (within low top ks))) e }
+    record {
+      size = g .room ∙ e;
+      window = g .window;
+      fits = omega (arith, e, gathers-few g);
+      holds = g .holds ∙ ap (λ (m : ℕ). take (m - 1024) (gathered [] (within low top ks))) e;
+    }
 
 module _ (ks rows : List ℕ) where
   abbrev rest : ℕ → List ℕ
@@ -56,45 +62,45 @@ module _ (ks rows : List ℕ) where
 
   module _ (keys : List ℕ) (n low : ℕ) (s : Asking keys n low) where
     pub ask-fits : n ≤ 65536
-    ask-fits = omega (arith, s .asks .window .fits, s .asks .size)
+    ask-fits = omega (arith, s .asks .fits)
 
     -- one that is not full is the last
-    pub ask-last : (n ≡ 65536 → ⊥) → allIn rows (take n keys) ≡ allIn rows (gathered [] ks)
+    pub ask-last : (n ≡ 64512 → ⊥) → allIn rows (take n keys) ≡ allIn rows (gathered [] ks)
     ask-last h =
-        ap (allIn rows) (window-whole 65536 n keys (rest low) (s .asks .window .fits) (omega (arith, ask-fits, h)) (s .asks .holds)) ∙ s .whole
+        ap (allIn rows) (window-whole 64512 n keys (rest low) (s .asks .window .fits) (omega (arith, s .asks .fits, h)) (s .asks .holds)) ∙ s .whole
 
     -- behind a full one
-    module _ (full : n ≡ 65536) where
+    module _ (full : n ≡ 64512) where
       abbrev next : ℕ
-      next = getD keys 65535 0 + 1
+      next = getD keys 64511 0 + 1
 
-      holds-full : take 65536 keys ≡ take 65536 (rest low)
-      holds-full = subst (λ (m : ℕ). take m keys ≡ take 65536 (rest low)) full (s .asks .holds)
+      holds-full : take 64512 keys ≡ take 64512 (rest low)
+      holds-full = subst (λ (m : ℕ). take m keys ≡ take 64512 (rest low)) full (s .asks .holds)
 
-      long : length (take 65536 keys) ≡ 65536
-      long = length-take-le 65536 keys (omega (arith, s .asks .size))
+      long : length (take 64512 keys) ≡ 64512
+      long = length-take-le 64512 keys (omega (arith, s .asks .size))
 
-      split : rest low ≡ take 65536 keys ++ rest next
-      split = window-next low top 65536 keys ks (omega arith) (omega (arith, s .asks .size)) holds-full
+      split : rest low ≡ take 64512 keys ++ rest next
+      split = window-next low top 64512 keys ks (omega arith) (omega (arith, s .asks .size)) holds-full
 
       parts : (t : Bool) → allIn rows (take n keys) ≡ t → pick t (allIn rows (rest next)) false ≡ allIn rows (gathered [] ks)
       parts t e =
           ap (λ (u : Bool). pick u (allIn rows (rest next)) false) (sym e ∙ ap (λ (m : ℕ). allIn rows (take m keys)) full)
-          ∙ sym (all-both _ (take 65536 keys) (rest next)) ∙ ap (allIn rows) (sym split) ∙ s .whole
+          ∙ sym (all-both _ (take 64512 keys) (rest next)) ∙ ap (allIn rows) (sym split) ∙ s .whole
 
       pub ask-stops : allIn rows (take n keys) ≡ false → false ≡ allIn rows (gathered [] ks)
       ask-stops e = parts false e
 
-      pub ask-key : Below top ks → getD keys 65535 0 < top
+      pub ask-key : Below top ks → getD keys 64511 0 < top
       ask-key h =
-          let m : 65536 ≤ length (rest low) = front-inside 65536 (rest low) (sym (ap length holds-full) ∙ long) in
-          let e : getD keys 65535 0 ≡ getD (rest low) 65535 0 =
-          sym (getD-take 65536 keys 65535 0 (omega arith)) ∙ ap (λ (l : List ℕ). getD l 65535 0) holds-full ∙ getD-take 65536 (rest low) 65535 0 (omega arith) in
-          let b = below-at top (rest low) (gathered-below top [] (within low top ks) none (below-within low top top ks h)) 65535 (omega (arith, m)) in
+          let m : 64512 ≤ length (rest low) = front-inside 64512 (rest low) (sym (ap length holds-full) ∙ long) in
+          let e : getD keys 64511 0 ≡ getD (rest low) 64511 0 =
+          sym (getD-take 64512 keys 64511 0 (omega arith)) ∙ ap (λ (l : List ℕ). getD l 64511 0) holds-full ∙ getD-take 64512 (rest low) 64511 0 (omega arith) in
+          let b = below-at top (rest low) (gathered-below top [] (within low top ks) none (below-within low top top ks h)) 64511 (omega (arith, m)) in
           omega (arith, e, b)
 
       pub ask-less : length (rest next) < length (rest low)
-      ask-less = omega (arith, ap length split, length-append (take 65536 keys) (rest next), long)
+      ask-less = omega (arith, ap length split, length-append (take 64512 keys) (rest next), long)
 
-      pub ask-next : allIn rows (take n keys) ≡ true → (keys' : List ℕ) (m : ℕ) → Gathers (within next top ks) keys 0 keys' m → Asking keys' m next
+      pub ask-next : allIn rows (take n keys) ≡ true → (keys' : List ℕ) (m : ℕ) → Gathers (within next top ks) keys keys' m → Asking keys' m next
       ask-next e keys' m g = record { asks = asks-filled ks keys keys' m next (s .asks .size) g; whole = parts true e }

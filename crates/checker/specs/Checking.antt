@@ -1,6 +1,6 @@
 -- What the functions of the checker ask and leave (document 02, Wish 6): the windows of what the marked glyphs meet, and the table of how many local
 -- subroutines each FD in use has.
-use Prim.Native.Nat.{ℕ, _<_}
+use Prim.Native.Nat.{ℕ, _≤_, _<_}
 use mathlib.Core.Path.{_≡_}
 use mathlib.Core.Bool.{Bool, true}
 use mathlib.Core.List.{List, []}
@@ -19,7 +19,8 @@ use Rattle.tracer.specs.Tracing.{top}
 pub record Asks (ks keys : List ℕ) (n low : ℕ) : Type 0 where
   pub size : length keys ≡ 65536
   pub window : Window keys n
-  pub holds : take n keys ≡ take 65536 (gathered [] (within low top ks))
+  pub fits : n ≤ 64512
+  pub holds : take n keys ≡ take 64512 (gathered [] (within low top ks))
 
 -- ---- the table
 

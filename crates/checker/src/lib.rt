@@ -22,9 +22,6 @@ use interpret::Met;
 use interpret::Range;
 use refusal::Refusal;
 
-// How many keys a window has room for.
-const WINDOW: usize = 65536;
-
 // Whether the record has all rows that the marked glyphs meet, by windows from the first on.
 fn windows_listed(
     font: &[u8],
@@ -40,11 +37,11 @@ fn windows_listed(
 {
     let mut n = first;
     let mut low: u64 = 0;
-    while n == WINDOW {
+    while n == tracer::WINDOW {
         if !listed::window_listed(keys, n, rows) {
             return false;
         }
-        low = keys[WINDOW - 1] + 1;
+        low = keys[tracer::WINDOW - 1] + 1;
         n = tracer::refill(font, f, marks, low, &mut *keys);
     }
     listed::window_listed(keys, n, rows)

@@ -84,7 +84,7 @@ module _ (b : List ℕ) (f : Font) (marks : List ℕ) (p : Plainly b f marks) (o
     counted-whole h = fits-all (omega (arith, c .whole h))
 
   -- the first window, where it is not full
-  module _ (keys : List ℕ) (n : ℕ) (s : Shown (keysIn b f marks) keys n) (last : n ≡ 65536 → ⊥) where
+  module _ (keys : List ℕ) (n : ℕ) (s : Shown (keysIn b f marks) keys n) (last : n ≡ 64512 → ⊥) where
     one-long : n ≡ length (sortedIn b f marks)
     one-long = omega (arith, shows-count (keysIn b f marks) [] keys n s last)
 

@@ -32,7 +32,7 @@ fn fits_first(
     ensures { λ r. ⌜ r ≡ fitsIn (answered (length (now (lent .entry))) (metIn (now (font .entry)) f (now (marks .entry)))) ⌝ }
 {
     let room = lent.len() / 10;
-    if first == 65536 {
+    if first == tracer::WINDOW {
         let count = count_rows(font, f, marks, keys, room);
         if room < count {
             return false;

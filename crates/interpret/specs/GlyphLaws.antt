@@ -7,7 +7,7 @@ use lib.ListN.{length}
 use Rattle.unfold.specs.Unfold.{Row, glyph, Run, broken as broke, returned as back, ended as done, runBody, Tok, Glyph, plain, glyphOf, unfoldGlyph}
 use Rattle.unfold.specs.Unfold as bodies
 use Rattle.prune.specs.Bodies.{All}
-use Rattle.row_window.specs.Window.{Window}
+use Rattle.row_window.specs.Window.{Collecting}
 use Rattle.turns.specs.Turns.{Few}
 use Rattle.turns.specs.TargetLaws.{zero-one}
 use Rattle.interpret.specs.Trace.{Trace, traceBody, fresh}
@@ -54,7 +54,7 @@ module _ (font : List ℕ) (q : Subrs) (g : ℕ) (code : List ℕ) (range : Rang
   unfolded s = unfoldGlyph (globalsIn font q) (localsIn font q) (q .fd) g s
 
   -- an empty charstring
-  pub glyph-empty : length code ≡ 0 → Window keys n → Meets (unfoldGlyph (globalsIn font q) (localsIn font q) (q .fd) g code) range keys n keys (Plain n)
+  pub glyph-empty : length code ≡ 0 → Collecting keys n → Meets (unfoldGlyph (globalsIn font q) (localsIn font q) (q .fd) g code) range keys n keys (Plain n)
   unfolding unfoldGlyph
   glyph-empty e w = by code e
     where

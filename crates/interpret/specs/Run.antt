@@ -9,7 +9,7 @@ use Rattle.index.specs.Good.{Good}
 use Rattle.unfold.specs.Unfold.{Row, Glyph, notPlain, plain}
 use Rattle.unfold.specs.Unfold as bodies
 use Rattle.row_window.specs.Key.{keyOf}
-use Rattle.row_window.specs.Window.{within, Gathers}
+use Rattle.row_window.specs.Window.{within, Collects}
 use Rattle.interpret.specs.Trace.{Trace, broken, returned, ended, traceBody, traceCall}
 use Rattle.turns.specs.declared.Counts.{Counts}
 use Rattle.interpret.specs.declared.Subrs.{Subrs}
@@ -66,7 +66,7 @@ keyFor r = keyOf (r .kind) (r .fd) (r .number) (r .offset) (r .len)
 
 -- rows noted in a window of a range, from n keys on to m
 abbrev pub Notes : Range → List Row → List ℕ → ℕ → List ℕ → ℕ → Type 0
-Notes range rows keys n keys' m = Gathers (within (range .low) (range .high) (map keyFor rows)) keys n keys' m
+Notes range rows keys n keys' m = Collects (within (range .low) (range .high) (map keyFor rows)) keys n keys' m
 
 -- what a body's run answers, and what it leaves in the window
 abbrev pub Telling : Trace → Range → List ℕ → ℕ → List ℕ → Ran → Type 0

@@ -8,8 +8,8 @@ use borrow.Author.Tests.{lt-ltb, le-ltb}
 use lib.ListN.{length}
 use Rattle.index.specs.IndexLaws.{items-length}
 use Rattle.unfold.specs.Unfold.{Row, Site, entered, masked, isGlyph, broken as broke}
-use Rattle.row_window.specs.Window.{within, Window, Gathers}
-use Rattle.row_window.specs.WindowLaws.{gathers-none, gathers-as, notes-then}
+use Rattle.row_window.specs.Window.{within, Collecting, Collects}
+use Rattle.row_window.specs.WindowLaws.{collects-none, collects-as, notes-then}
 use Rattle.turns.specs.Turns.{Few, turnAt}
 use Rattle.turns.specs.TargetLaws.{zero-one}
 use Rattle.turns.specs.TurnLaws.{Sound, turn-sound}
@@ -30,20 +30,20 @@ use Rattle.interpret.specs.declared.Ran.the-variants.{Broken, Returned, 
 -- ---- rows noted one after the other
 
 module _ (range : Range) where
-  pub notes-none : {keys : List ℕ} {n : ℕ} → Window keys n → Notes range [] keys n keys n
+  pub notes-none : {keys : List ℕ} {n : ℕ} → Collecting keys n → Notes range [] keys n keys n
   unfolding within
-  notes-none w = gathers-none w
+  notes-none w = collects-none w
 
   pub notes-both : (a b : List Row) {keys keys' keys″ : List ℕ} {n m k : ℕ} → Notes range a keys n keys' m → Notes range b keys' m keys″ k → Notes range (a ++ b) keys n keys″ k
-  notes-both a b f g = gathers-as (notes-then (range .low) (range .high) (map keyFor a) (map keyFor b) f g) (ap (within (range .low) (range .high)) (sym (map-append keyFor a b)))
+  notes-both a b f g = collects-as (notes-then (range .low) (range .high) (map keyFor a) (map keyFor b) f g) (ap (within (range .low) (range .high)) (sym (map-append keyFor a b)))
 
   notes-as : {a b : List Row} {keys keys' : List ℕ} {n m : ℕ} → Notes range a keys n keys' m → a ≡ b → Notes range b keys n keys' m
   notes-as {a} {b} {keys} {keys'} {n} {m} f e = subst (λ (l : List Row). Notes range l keys n keys' m) e f
 
   -- one row, by its key
-  pub notes-one : (row : Row) (key : ℕ) → key ≡ keyFor row → {keys keys' : List ℕ} {n m : ℕ} → Gathers (within (range .low) (range .high) (key ∷ [])) keys n keys' m
+  pub notes-one : (row : Row) (key : ℕ) → key ≡ keyFor row → {keys keys' : List ℕ} {n m : ℕ} → Collects (within (range .low) (range .high) (key ∷ [])) keys n keys' m
       → Notes range (row ∷ []) keys n keys' m
-  notes-one row key e f = gathers-as f (ap (λ (k : ℕ). within (range .low) (range .high) (k ∷ [])) e)
+  notes-one row key e f = collects-as f (ap (λ (k : ℕ). within (range .low) (range .high) (k ∷ [])) e)
 
 -- ---- what the code asks of its parts
 
@@ -102,7 +102,7 @@ module _ (globals locals : List (List ℕ)) (fd d : ℕ) (site : Site) (s : List
     pub noting : Notes range rows keys₀ n₀ keys n
     pub left : whole ≡ meets rows (rest fuel at prev x)
 
-  pub going-start : (range : Range) (keys : List ℕ) (n : ℕ) (x : Counts) → Window keys n → Few x
+  pub going-start : (range : Range) (keys : List ℕ) (n : ℕ) (x : Counts) → Collecting keys n → Few x
       → Going (traceBody globals locals fd d site s x) range keys n keys n 0 0 x
   going-start range keys n x w f =
       record { fuel = length s; enough = omega arith; few = f; rows = []; noting = notes-none range w; left = run-walks x ∙ sym (meets-none _) }

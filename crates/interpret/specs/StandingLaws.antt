@@ -8,7 +8,7 @@ use lib.ListN.{length}
 use Rattle.octets.specs.Pick.{pick}
 use Rattle.index.specs.IndexLaws.{items-length, item-short}
 use Rattle.unfold.specs.Unfold.{Site, entered, masked, isGlyph}
-use Rattle.row_window.specs.Window.{Window}
+use Rattle.row_window.specs.Window.{Collecting}
 use Rattle.turns.specs.Turns.{Few, turnAt}
 use Rattle.turns.specs.declared.Counts.{Counts}
 use Rattle.turns.specs.declared.Turn.{Turn}
@@ -31,7 +31,7 @@ pub record Standing (font : List ℕ) (q : Subrs) (depth : ℕ) (site : Body) (c
   pub going : Going (globalsIn font q) (localsIn font q) (q .fd) depth (siteOf site) code (wholeOf font q depth site code start) range keys₀ held keys n at prev x
 
 pub stand-start : (font : List ℕ) (q : Subrs) (depth : ℕ) (site : Body) (code : List ℕ) (start : Counts) (range : Range) (keys : List ℕ) (held : ℕ) (own : Bool)
-    → Ready font q → SiteFits site → length code ≤ 67108864 → Few start → Window keys held → own ≡ isGlyph (siteOf site)
+    → Ready font q → SiteFits site → length code ≤ 67108864 → Few start → Collecting keys held → own ≡ isGlyph (siteOf site)
     → Standing font q depth site code start range keys held own keys held 0 0 start
 stand-start font q depth site code start range keys held own r f s w v e =
     record { ready = r; fits = f; size = s; kind = e; going = going-start (globalsIn font q) (localsIn font q) (q .fd) depth (siteOf site) code range keys held start v w }
@@ -74,7 +74,7 @@ module _ {font : List ℕ} {q : Subrs} {depth : ℕ} {site : Body} {code : List 
   pub stand-few : Few x
   stand-few = w .going .few
 
-  pub stand-window : Window keys n
+  pub stand-window : Collecting keys n
   stand-window = w .going .noting .window
 
   pub stand-room : length keys ≡ length keys₀
@@ -111,7 +111,7 @@ module _ {font : List ℕ} {q : Subrs} {depth : ℕ} {site : Body} {code : List 
 
     -- a mask
     module _ (len : ℕ) (y : Counts) (f : r ≡ Masks len y) where
-      pub mask-asks : (SiteFits site) × (at < 4294967296) × (len < 16) × (Window keys n)
+      pub mask-asks : (SiteFits site) × (at < 4294967296) × (len < 16) × (Collecting keys n)
       mask-asks =
           let k = sound G L (q .fd) depth (siteOf site) code whole range keys₀ held keys n at prev x (w .going) h r told (Masks len y) f in
           (w .fits, omega (arith, w .size), omega (arith, k .0), stand-window)
@@ -126,7 +126,7 @@ module _ {font : List ℕ} {q : Subrs} {depth : ℕ} {site : Body} {code : List 
 
     -- a call
     module _ (wide : Bool) (i : ℕ) (y : Counts) (f : r ≡ Calls wide i y) where
-      pub call-asks : (Ready font q) × (i < pick wide (q .globals .count) (q .locals .count)) × (Few y) × (Window keys n)
+      pub call-asks : (Ready font q) × (i < pick wide (q .globals .count) (q .locals .count)) × (Few y) × (Collecting keys n)
       call-asks =
           let k = sound G L (q .fd) depth (siteOf site) code whole range keys₀ held keys n at prev x (w .going) h r told (Calls wide i y) f in
           (w .ready, counted font q wide i (k .0), k .1, stand-window)

@@ -7,7 +7,7 @@ ghost use lib.ListN.{length};
 ghost use Rattle.octets.specs.Pick.{pick};
 ghost use Rattle.unfold.specs.Unfold.{entered, masked, isGlyph, unfoldGlyph};
 ghost use Rattle.row_window.specs.Key.{keyOf};
-ghost use Rattle.row_window.specs.Window.{Window};
+ghost use Rattle.row_window.specs.Window.{Collecting};
 ghost use Rattle.turns.specs.Turns.{Few};
 ghost use Rattle.interpret.specs.Trace.{bodyFor};
 ghost use Rattle.interpret.specs.Run.{siteOf, SiteFits, siteIn, globalsIn, localsIn, Ready, wholeOf, callOf, keyFor, Notes, Tells, Meets};
@@ -95,7 +95,7 @@ fn is_glyph(site: Site) -> bool
 
 // Notes a subroutine entered; how many keys the window has then.
 fn note_entered(site: Site, range: Range, keys: &mut [u64], n: usize) -> usize
-    requires { ⌜ (SiteFits site) × (Window (now keys) n) ⌝ }
+    requires { ⌜ (SiteFits site) × (Collecting (now keys) n) ⌝ }
     ensures { λ r. ⌜ Notes range (entered (siteOf site) ∷ []) (now (keys .entry)) n (now (keys .exit)) r ⌝ }
 {
     note(keys, n, range.low, range.high, entered_key(site))
@@ -110,7 +110,7 @@ fn note_mask(
     keys: &mut [u64],
     n: usize,
 ) -> usize
-    requires { ⌜ (SiteFits site) × (offset < 4294967296) × (len < 16) × (Window (now keys) n) ⌝ }
+    requires { ⌜ (SiteFits site) × (offset < 4294967296) × (len < 16) × (Collecting (now keys) n) ⌝ }
     ensures { λ r. ⌜ Notes range (masked (siteOf site) offset len ∷ []) (now (keys .entry)) n (now (keys .exit)) r ⌝ }
 {
     note(keys, n, range.low, range.high, mask_key(site, offset, len))
@@ -151,7 +151,7 @@ fn enter(
     keys: &mut [u64],
     n: usize,
 ) -> Ran
-    requires { ⌜ (Ready (now font) q) × (number < pick global (q .globals .count) (q .locals .count)) × (Few x) × (Window (now keys) n) ⌝ }
+    requires { ⌜ (Ready (now font) q) × (number < pick global (q .globals .count) (q .locals .count)) × (Few x) × (Collecting (now keys) n) ⌝ }
     ensures { λ r. ⌜ Tells (callOf (now (font .entry)) q depth global number x) range (now (keys .entry)) n (now (keys .exit)) r ⌝ }
 {
     if depth == 0 {
@@ -175,7 +175,7 @@ fn run_body(
     keys: &mut [u64],
     held: usize,
 ) -> Ran
-    requires { ⌜ (Ready (now font) q) × (SiteFits site) × (length (now code) ≤ 67108864) × (Few start) × (Window (now keys) held) ⌝ }
+    requires { ⌜ (Ready (now font) q) × (SiteFits site) × (length (now code) ≤ 67108864) × (Few start) × (Collecting (now keys) held) ⌝ }
     ensures { λ r. ⌜ Tells (wholeOf (now (font .entry)) q depth site (now (code .entry)) start) range (now (keys .entry)) held (now (keys .exit)) r ⌝ }
 {
     let own = is_glyph(site);
@@ -228,7 +228,7 @@ pub fn run_glyph(
     keys: &mut [u64],
     n: usize,
 ) -> Met
-    requires { ⌜ (Ready (now font) q) × (g < 65536) × (length (now code) ≤ 67108864) × (Window (now keys) n) ⌝ }
+    requires { ⌜ (Ready (now font) q) × (g < 65536) × (length (now code) ≤ 67108864) × (Collecting (now keys) n) ⌝ }
     ensures { λ r. ⌜ Meets (unfoldGlyph (globalsIn (now (font .entry)) q) (localsIn (now (font .entry)) q) (q .fd) g (now (code .entry)))
         range (now (keys .entry)) n (now (keys .exit)) r ⌝ }
 {

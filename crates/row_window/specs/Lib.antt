@@ -4,4 +4,5 @@ pub mod WindowLaws
 pub mod PlaceLaws
 pub mod KeyLaws
 pub mod NextLaws
+pub mod MergeLaws
 pub mod Examples

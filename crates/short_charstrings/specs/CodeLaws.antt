@@ -11,7 +11,6 @@ use Rattle.octets.specs.Pick.{pick, pick-ind}
 use Rattle.octets.specs.Lists.{allBelow}
 use Rattle.octets.specs.Octets.{Octets, put, Wrote}
 use Rattle.octets.specs.PutLaws.{put-one, put-two, put-snoc, take-put}
-use Rattle.row_window.specs.Window.{Rising, Window}
 use Rattle.index.specs.Index.{emptyAt, offsets, firstOf, runOf, pieces, itemsOf}
 use Rattle.index.specs.Good.{Good}
 use Rattle.unfold.specs.Unfold.{Glyph, notPlain, plain, unfoldGlyph}
@@ -44,9 +43,6 @@ none-ready font e =
       fds = lit< tt;
       size = omega (arith, e);
     }
-
-pub none-held : (keys : List ℕ) → Window keys 0
-none-held keys = record { fits = omega arith; rises = Rising.none }
 
 pub ends-none : (s : List ℕ) → length s < 1 → false ≡ ends s
 unfolding ends

@@ -92,7 +92,7 @@ module _ (b : List ℕ) (f : Font) (marks : List ℕ) (p : Plainly b f marks) wh
           answer-written (omega (arith, one-long)) out' len (wrote-as w (ap (λ (m : ℕ). keysBytes (partOf keys 0 m)) e ∙ ap keysBytes all))
 
 -- a first window that is not full has all
-pub windows-all : (ks keys : List ℕ) (n : ℕ) → Shown ks keys n → (n ≡ 65536 → ⊥) → (n ≤ length keys) × (take n keys ≡ gathered [] ks)
+pub windows-all : (ks keys : List ℕ) (n : ℕ) → Shown ks keys n → (n ≡ 64512 → ⊥) → (n ≤ length keys) × (take n keys ≡ gathered [] ks)
 windows-all ks keys n s h = (omega (arith, s .size, s .fits), sym (shows-last ks [] keys n s h))
 
 -- ---- the marked glyphs
@@ -121,12 +121,12 @@ module _ (b : List ℕ) (f : Font) (marks : List ℕ) (fit : RowsFit (metIn b f 
         shows-first (keysIn b f marks) keys keys' n (keys-below (orNone (metIn b f marks)) (fit .fits)) l (refill-plain b f marks marked-plainly 0 keys keys' a w n e)
 
     -- a window that is not full has all
-    pub marked-few : n < length keys → (n ≤ length keys') × (take n keys' ≡ sortedIn b f marks)
+    pub marked-few : n < length keys - 1024 → (n ≤ length keys') × (take n keys' ≡ sortedIn b f marks)
     marked-few h =
         let g = refill-plain b f marks marked-plainly 0 keys keys' a w n e in
         let ks = keysIn b f marks in (
           g .window .fits,
-          window-whole (length keys) n keys' (gathered [] (within 0 top ks)) (g .window .fits) h (g .holds)
+          window-whole (length keys - 1024) n keys' (gathered [] (within 0 top ks)) (g .window .fits) h (g .holds)
               ∙ ap (gathered []) (within-all top ks (keys-below (orNone (metIn b f marks)) (fit .fits))),
         )
 
@@ -135,7 +135,7 @@ shown-as ks keys n m e s = subst (λ (k : ℕ). Shown ks keys k) e s
 
 -- the window filled again from the start
 pub shown-again : (b : List ℕ) (f : Font) (marks : List ℕ) → Plainly b f marks → (keys keys' : List ℕ) (n : ℕ) → length keys ≡ 65536
-    → Gathers (within 0 top (keysIn b f marks)) keys 0 keys' n → Shown (keysIn b f marks) keys' n
+    → Gathers (within 0 top (keysIn b f marks)) keys keys' n → Shown (keysIn b f marks) keys' n
 shown-again b f marks p keys keys' n l g = shows-first (keysIn b f marks) keys keys' n (keys-below (orNone (metIn b f marks)) (p .fits .fits)) l g
 
 -- ---- the entry

@@ -14,8 +14,8 @@ use Rattle.subset.specs.Cut.{allFound}
 use Rattle.subset.specs.Pruned.{May, fail, yes}
 use Rattle.faithful.specs.Laid.{GoodProgram}
 use Rattle.kept.specs.Packed.{marked}
-use Rattle.row_window.specs.Window.{gathered, within}
-use Rattle.interpret.specs.Run.{globalsIn, localsIn, Ready, keyFor, Notes}
+use Rattle.row_window.specs.Window.{gathered, within, Gathers}
+use Rattle.interpret.specs.Run.{globalsIn, localsIn, Ready, keyFor}
 use Rattle.interpret.specs.declared.Subrs.{Subrs}
 use Rattle.interpret.specs.declared.Range.{Range}
 use Rattle.interpret.specs.declared.Met.{Met}
@@ -78,7 +78,7 @@ sortedIn b f marks = gathered [] (keysIn b f marks)
 -- what filling a window answers and leaves
 abbrev pub Filling : May (List Row) → Range → List ℕ → List ℕ → Met → Type 0
 Filling fail range keys keys' r = r ≡ NotPlain
-Filling (yes rows) range keys keys' r = (n : ℕ) × (r ≡ Plain n) × Notes range rows keys 0 keys' n
+Filling (yes rows) range keys keys' r = (n : ℕ) × (r ≡ Plain n) × Gathers (within (range .low) (range .high) (map keyFor rows)) keys keys' n
 
 pub record Fills (m : May (List Row)) (range : Range) (keys keys' : List ℕ) (r : Met) : Type 0 where
   pub says : Filling m range keys keys' r
@@ -86,10 +86,10 @@ pub record Fills (m : May (List Row)) (range : Range) (keys keys' : List ℕ) (r
 -- a window of n keys behind those that are done: the least of the keys from `low` on
 pub record Shows (ks done keys : List ℕ) (n : ℕ) : Type 0 where
   pub size : length keys ≡ 65536
-  pub fits : n ≤ 65536
+  pub fits : n ≤ 64512
   pub low : ℕ
   pub all : gathered [] ks ≡ done ++ gathered [] (within low top ks)
-  pub holds : take n keys ≡ take 65536 (gathered [] (within low top ks))
+  pub holds : take n keys ≡ take 64512 (gathered [] (within low top ks))
 
 -- the first window
 abbrev pub Shown : List ℕ → List ℕ → ℕ → Type 0

@@ -1,5 +1,8 @@
 -- `checker::lists_met` meets its contract: one glyph is not plain, or the first window of their rows.
+use Prim.Native.Nat.{ℕ}
 use mathlib.Core.Path.{refl}
+use native.Mathlib.Omega.{arith}
+use lib.ListN.{length-replicate}
 use Rattle.kept.specs.SlotLaws.{slots-empty}
 use Rattle.checker.specs.CheckLaws.{met-broken, met-plainly, met-asks, met-listed}
 use borrow.Author.Needs.{needs}
@@ -10,7 +13,7 @@ slice-aggregate-fill : tie.Need-slice-aggregate-fill
 slice-aggregate-fill c = search needs
 
 fill-requires : tie.Need-fill-requires
-fill-requires c κs = search needs
+fill-requires c κs = let s = c .before .before .before .before in (s .pre .0, s .pre .1, omega (arith, length-replicate {A = ℕ} 65536 0))
 
 enum-told : tie.Need-enum-told
 enum-told c = search needs

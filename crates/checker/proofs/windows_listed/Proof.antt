@@ -54,7 +54,10 @@ add-low c =
     omega (arith, ask-key _ _ _ _ _ (a .loop .inv) (i .loop-test .taken) (keys-below _ (S a .pre .2 .fits .fits)))
 
 refill-requires : tie.Need-refill-requires Inv-loop μ-loop
-refill-requires c κs = let s = S (c .before .before .before .before .before .before) in (s .pre .0, s .pre .1, s .pre .2)
+refill-requires c κs =
+    let a = c .before .before .before .before .before .before in
+    let s = S a in
+    (s .pre .0, s .pre .1, s .pre .2, omega (arith, a .loop .inv .asks .size))
 
 loop-less : tie.Need-loop-less Inv-loop μ-loop
 loop-less c =

@@ -1,5 +1,8 @@
 -- `early_traced::fits_marked` meets its contract: one that is not plain has an empty record; else the first window of their rows decides.
+use Prim.Native.Nat.{ℕ}
 use mathlib.Core.Path.{refl}
+use native.Mathlib.Omega.{arith}
+use lib.ListN.{length-replicate}
 use Rattle.kept.specs.SlotLaws.{slots-empty}
 use Rattle.tracer.specs.AnswerLaws.{marked-broken, marked-plainly, marked-shown}
 use Rattle.early_traced.specs.FitsLaws.{fits-broken}
@@ -11,7 +14,7 @@ slice-aggregate-fill : tie.Need-slice-aggregate-fill
 slice-aggregate-fill c = search needs
 
 fill-requires : tie.Need-fill-requires
-fill-requires c κs = search needs
+fill-requires c κs = let s = c .before .before .before .before in (s .pre .0, s .pre .1, omega (arith, length-replicate {A = ℕ} 65536 0))
 
 enum-told : tie.Need-enum-told
 enum-told c = search needs

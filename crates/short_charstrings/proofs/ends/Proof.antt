@@ -1,9 +1,10 @@
 -- `short_charstrings::ends` meets its contract: the run answers by the unfolding with no subroutines.
 use borrow.Author.Needs.{needs}
 use mathlib.Core.Path.{refl}
-use lib.Dec.{lit<}
+use lib.Dec.{lit<, lit≤}
 use native.Mathlib.Omega.{arith}
-use Rattle.short_charstrings.specs.CodeLaws.{none-ready, none-held, ends-none, ends-met}
+use Rattle.row_window.specs.MergeLaws.{collecting-none}
+use Rattle.short_charstrings.specs.CodeLaws.{none-ready, ends-none, ends-met}
 use Rattle.short_charstrings.proofs.ends.Statement.{statement}
 use Rattle.short_charstrings.proofs.ends.Tie as tie
 
@@ -17,7 +18,7 @@ slice-aggregate-run-glyph-2 : tie.Need-slice-aggregate-run-glyph-2
 slice-aggregate-run-glyph-2 c = search needs
 
 run-glyph-requires : tie.Need-run-glyph-requires
-run-glyph-requires c κs = (none-ready _ refl, lit< tt, omega (arith, c .before .before .before .before .pre), none-held _)
+run-glyph-requires c κs = (none-ready _ refl, lit< tt, omega (arith, c .before .before .before .before .pre), collecting-none _ (lit≤ tt))
 
 enum-told : tie.Need-enum-told
 enum-told c = search needs
