@@ -31,4 +31,5 @@ fdOf (Local fd) = fd
 -- room for a window: some keys, and as many rows
 pub record Lent (keys bytes : List ℕ) : Type 0 where
   pub some : 0 < roomIn keys
-  pub room : 10 * length keys ≤ length bytes
+  pub most : length keys ≤ 65536
+  pub room : 10 * roomIn keys ≤ length bytes

@@ -86,13 +86,13 @@ module _ (rec bytes : List ℕ) (w : Window) (covers : Covers rec bytes 2 0 w) (
 
 -- room stays
 pub lent-same : {keys bytes : List ℕ} → Lent keys bytes → (keys' bytes' : List ℕ) → length keys' ≡ length keys → length bytes' ≡ length bytes → Lent keys' bytes'
-lent-same l keys' bytes' e f = record { some = omega (arith, l .some); room = omega (arith, l .room) }
+lent-same l keys' bytes' e f = record { some = omega (arith, l .some); most = omega (arith, l .most); room = omega (arith, l .room) }
 
 -- a glyph's window can be filled
 pub fills-glyph : {kept : Kept} {rows : List Row} {ws table b keys bytes : List ℕ} → KeptIn kept rows ws table b → Lent keys bytes → (i : ℕ) → i < kept .count
     → (g : ℕ) → g ≡ glyphAt ws i → Fillable keys bytes 2 0 g
 fills-glyph k l i h g e =
-    record { kindFits = omega arith; fdFits = omega arith; few = omega (arith, e, k .glyphs i h, k .few); some = l .some; room = l .room }
+    record { kindFits = omega arith; fdFits = omega arith; few = omega (arith, e, k .glyphs i h, k .few); some = l .some; most = l .most; room = l .room }
 
 -- ---- subroutines
 
@@ -166,7 +166,7 @@ kind-small (Local fd) = omega arith
 pub fills-subr : (source : Source) {rows : List Row} {ws b keys bytes : List ℕ} → Sourced source rows ws b → Lent keys bytes → (k : ℕ) → k < source .ix .count
     → Fillable keys bytes (kindOf (source .of)) (fdOf (source .of)) k
 fills-subr source a l k h =
-    record { kindFits = kind-small (source .of); fdFits = fd-small (source .of) (a .fits); few = omega (arith, a .few); some = l .some; room = l .room }
+    record { kindFits = kind-small (source .of); fdFits = fd-small (source .of) (a .fits); few = omega (arith, a .few); some = l .some; most = l .most; room = l .room }
 
 -- what a window of some subroutines has, by whose they are
 pub fills-global : {keys bytes : List ℕ} {of : Subrs} {k : ℕ} → of ≡ Global → Fillable keys bytes (kindOf of) (fdOf of) k → Fillable keys bytes 4 0 k

@@ -220,7 +220,7 @@ fn total_by_windows(from: Source, font: &[u8], words: &[u32], rows: &[u8]) -> Me
     requires { ⌜ Sourced from (rowsOf (now rows)) (now words) (now font) ⌝ }
     ensures { λ r. ⌜ (r ≡ measuredOf (subrsFrom from (rowsOf (now (rows .entry))) (now (words .entry)) (now (font .entry)))) × (Bounded r) ⌝ }
 {
-    let mut keys = [0u64; 8192];
+    let mut keys = [0u64; 9216];
     let mut bytes = [0u8; 81920];
     windows_total(from, font, words, rows, &mut keys, &mut bytes)
 }
@@ -403,7 +403,7 @@ fn put_by_windows(
     ensures { λ r. ⌜ Wrote (now (out .entry)) at
         (indexBytes (newSubrsFrom from (rowsOf (now (rows .entry))) (now (words .entry)) (now (font .entry)))) (now (out .exit)) r ⌝ }
 {
-    let mut keys = [0u64; 8192];
+    let mut keys = [0u64; 9216];
     let mut bytes = [0u8; 81920];
     put_windows(
         from,
