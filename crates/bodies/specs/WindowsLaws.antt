@@ -2,10 +2,10 @@
 use Prim.Native.Nat.{ℕ, _+_, _*_, _≤_, _<_}
 use mathlib.Core.Path.{_≡_, refl, sym, ap, _∙_, subst}
 use mathlib.Core.Bool.{Bool, true}
-use mathlib.Core.List.{List, []}
+use mathlib.Core.List.{List, [], _∷_}
 use native.Mathlib.Omega.{arith}
 use lib.Dec.{eqb}
-use lib.ListN.{length, take, getD, replicate, length-replicate}
+use lib.ListN.{length, take, getD}
 use Rattle.octets.specs.Pick.{pick}
 use Rattle.octets.specs.Octets.{Wrote}
 use Rattle.octets.specs.PutLaws.{wrote-as}
@@ -15,15 +15,20 @@ use Rattle.record.specs.Record.{rowsOf}
 use Rattle.prune.specs.Renumber.{Calls}
 use Rattle.subset.specs.Pruned.{May, yes, renumberedBody}
 use Rattle.renumber.specs.Turn.{sizedOf, bodyOf}
+use Rattle.renumber.specs.Ranks.{callsBy}
 use Rattle.renumber.specs.declared.Sized.{Sized}
+use Rattle.renumber.specs.declared.Sized.the-variants.{Len}
 use Rattle.mask_rows.specs.MaskRows.{SameMasks, Fillable, Covers}
 use Rattle.mask_rows.specs.SameLaws.{same-body}
 use Rattle.mask_rows.specs.declared.Window.{Window}
-use Rattle.bodies.specs.Ways.{holds, bodyBy, glyphAt, callsAt, CharstringsIn}
-use Rattle.bodies.specs.Sources.{KeptIn, charstringFrom}
-use Rattle.bodies.specs.Sizes.{AtMost}
-use Rattle.bodies.specs.Windows.{inOrder, Lent}
+use Rattle.bodies.specs.Ways.{holds, bodyBy, reachedIn, siteIn, SubrsFit, isStub, glyphAt, callsAt, SubrsIn, CharstringsIn}
+use Rattle.bodies.specs.Sources.{Sourced, keptFrom, subrFrom, KeptIn, charstringFrom}
+use Rattle.bodies.specs.Sizes.{AtMost, lenAt}
+use Rattle.bodies.specs.Windows.{inOrder, sourceInOrder, kindOf, fdOf, Lent}
 use Rattle.bodies.specs.declared.charstrings.Kept.{Kept}
+use Rattle.bodies.specs.declared.subrs.Source.{Source}
+use Rattle.bodies.specs.declared.subrs.Subrs.{Subrs}
+use Rattle.bodies.specs.declared.subrs.Subrs.the-variants.{Global, Local}
 
 -- a body by records that list the same rows of its masks
 pub by-same : (way : ℕ) (rows rows' : List Row) (calls : Calls) (site : Site) (s : List ℕ) → SameMasks rows rows' site
@@ -81,18 +86,103 @@ module _ (rec bytes : List ℕ) (w : Window) (covers : Covers rec bytes 2 0 w) (
 
 -- room stays
 pub lent-same : {keys bytes : List ℕ} → Lent keys bytes → (keys' bytes' : List ℕ) → length keys' ≡ length keys → length bytes' ≡ length bytes → Lent keys' bytes'
-lent-same l keys' bytes' e f = record { some = omega (arith, l .some); room = omega (arith, l .room) }
+lent-same l keys' bytes' e f = record { some = omega (arith, l .some); most = omega (arith, l .most); room = omega (arith, l .room) }
 
 -- a glyph's window can be filled
 pub fills-glyph : {kept : Kept} {rows : List Row} {ws table b keys bytes : List ℕ} → KeptIn kept rows ws table b → Lent keys bytes → (i : ℕ) → i < kept .count
     → (g : ℕ) → g ≡ glyphAt ws i → Fillable keys bytes 2 0 g
 fills-glyph k l i h g e =
-    record { kindFits = omega arith; fdFits = omega arith; few = omega (arith, e, k .glyphs i h, k .few); some = l .some; room = l .room }
+    record { kindFits = omega arith; fdFits = omega arith; few = omega (arith, e, k .glyphs i h, k .few); some = l .some; most = l .most; room = l .room }
 
--- arrays have room
-pub lent-arrays : (keys bytes : List ℕ) → keys ≡ replicate 8192 0 → bytes ≡ replicate 81920 0 → Lent keys bytes
-lent-arrays keys bytes e f =
-    record {
-      some = omega (arith, ap length e, length-replicate {A = ℕ} 8192 0);
-      room = omega (arith, ap length e, ap length f, length-replicate {A = ℕ} 8192 0, length-replicate {A = ℕ} 81920 0);
-    }
+-- ---- subroutines
+
+-- the rows of masks of the k-th
+same-site : (of : Subrs) (rec bytes : List ℕ) (w : Window) → Covers rec bytes (kindOf of) (fdOf of) w → (k : ℕ) → w .from ≤ k → k < w .end
+    → SameMasks (rowsOf rec) (rowsOf (take (w .len) bytes)) (siteIn of k)
+same-site Global rec bytes w covers k from to = λ offset len. covers .same k from to offset len
+same-site (Local fd) rec bytes w covers k from to = λ offset len. covers .same k from to offset len
+
+module _ (rec bytes : List ℕ) (w : Window) (source : Source) (covers : Covers rec bytes (kindOf (source .of)) (fdOf (source .of)) w) (ws b : List ℕ)
+    (asks : Sourced source (rowsOf rec) ws b) where
+  abbrev part : List ℕ
+  part = take (w .len) bytes
+
+  -- the window's record is asked in the same way
+  window-sourced : Sourced (sourceInOrder source) (rowsOf part) ws b
+  window-sourced =
+      record {
+        good = asks .good;
+        few = asks .few;
+        size = asks .size;
+        many = asks .many;
+        inside = asks .inside;
+        localRanks = asks .localRanks;
+        globalRanks = asks .globalRanks;
+        order = λ e. covers .rising;
+        fits = asks .fits;
+      }
+
+  module _ (source' : Source) (e : source' ≡ sourceInOrder source) (k : ℕ) where
+    -- what is asked of the window's record
+    pub subr-asked : k < source .ix .count → Sourced source' (rowsOf part) ws b × (k < source' .ix .count)
+    subr-asked h = subst (λ (x : Source). Sourced x (rowsOf part) ws b × (k < x .ix .count)) (sym e) (window-sourced, h)
+
+    module _ (from : w .from ≤ k) (to : k < w .end) where
+      window-subr : subrFrom source' (rowsOf part) ws b k ≡ subrFrom source (rowsOf rec) ws b k
+      window-subr =
+          ap (λ (x : Source). subrFrom x (rowsOf part) ws b k) e
+          ∙ ap (λ (m : May (List ℕ)). pick (isStub (source .way) (reachedIn ws (source .own)) k) (yes (11 ∷ [])) m)
+          (sym (by-same (source .way) (rowsOf rec) (rowsOf part) (callsBy ws (source .locals) (source .globals)) (siteIn (source .of) k) (getD (itemsOf b (source .ix)) k [])
+          (same-site (source .of) rec bytes w covers k from to)))
+
+      kept-same : keptFrom source' ws k ≡ keptFrom source ws k
+      kept-same = ap (λ (x : Source). keptFrom x ws k) e
+
+      pub subr-window-len : (r : Sized) → (r ≡ lenAt (keptFrom source' ws) (subrFrom source' (rowsOf part) ws b) k) × AtMost 335544320 r
+          → (r ≡ lenAt (keptFrom source ws) (subrFrom source (rowsOf rec) ws b) k) × AtMost 335544320 r
+      subr-window-len r h = (
+        h .0 ∙ ap (λ (t : Bool). pick t (sizedOf (subrFrom source' (rowsOf part) ws b k)) (Len 0)) kept-same
+            ∙ ap (λ (m : May (List ℕ)). pick (keptFrom source ws k) (sizedOf m) (Len 0)) window-subr,
+        h .1,
+      )
+
+      pub subr-window-room : (at n : ℕ) → holds (subrFrom source (rowsOf rec) ws b k) ≡ true → at + length (bodyOf (subrFrom source (rowsOf rec) ws b k)) ≤ n
+          → (holds (subrFrom source' (rowsOf part) ws b k) ≡ true) × (at + length (bodyOf (subrFrom source' (rowsOf part) ws b k)) ≤ n)
+      subr-window-room at n h l = (ap holds window-subr ∙ h, subst (λ (m : May (List ℕ)). at + length (bodyOf m) ≤ n) (sym window-subr) l)
+
+      pub subr-window-wrote : {old new : List ℕ} {at q : ℕ} → Wrote old at (bodyOf (subrFrom source' (rowsOf part) ws b k)) new q
+          → Wrote old at (bodyOf (subrFrom source (rowsOf rec) ws b k)) new q
+      subr-window-wrote v = wrote-as v (ap bodyOf window-subr)
+
+fd-small : (of : Subrs) → SubrsFit of → fdOf of < 256
+fd-small Global f = omega arith
+fd-small (Local fd) f = f
+
+kind-small : (of : Subrs) → kindOf of < 256
+kind-small Global = omega arith
+kind-small (Local fd) = omega arith
+
+-- a subroutine's window can be filled
+pub fills-subr : (source : Source) {rows : List Row} {ws b keys bytes : List ℕ} → Sourced source rows ws b → Lent keys bytes → (k : ℕ) → k < source .ix .count
+    → Fillable keys bytes (kindOf (source .of)) (fdOf (source .of)) k
+fills-subr source a l k h =
+    record { kindFits = kind-small (source .of); fdFits = fd-small (source .of) (a .fits); few = omega (arith, a .few); some = l .some; most = l .most; room = l .room }
+
+-- what a window of some subroutines has, by whose they are
+pub fills-global : {keys bytes : List ℕ} {of : Subrs} {k : ℕ} → of ≡ Global → Fillable keys bytes (kindOf of) (fdOf of) k → Fillable keys bytes 4 0 k
+fills-global {keys} {bytes} {of} {k} e p = subst (λ (x : Subrs). Fillable keys bytes (kindOf x) (fdOf x) k) e p
+
+pub covers-global : {rec bytes : List ℕ} {of : Subrs} {w : Window} → of ≡ Global → Covers rec bytes (kindOf of) (fdOf of) w → Covers rec bytes 4 0 w
+covers-global {rec} {bytes} {of} {w} e p = subst (λ (x : Subrs). Covers rec bytes (kindOf x) (fdOf x) w) e p
+
+pub global-covers : {rec bytes : List ℕ} {of : Subrs} {w : Window} → of ≡ Global → Covers rec bytes 4 0 w → Covers rec bytes (kindOf of) (fdOf of) w
+global-covers {rec} {bytes} {of} {w} e p = subst (λ (x : Subrs). Covers rec bytes (kindOf x) (fdOf x) w) (sym e) p
+
+pub fills-local : {keys bytes : List ℕ} {of : Subrs} {fd k : ℕ} → of ≡ Local fd → Fillable keys bytes (kindOf of) (fdOf of) k → Fillable keys bytes 3 fd k
+fills-local {keys} {bytes} {of} {fd} {k} e p = subst (λ (x : Subrs). Fillable keys bytes (kindOf x) (fdOf x) k) e p
+
+pub covers-local : {rec bytes : List ℕ} {of : Subrs} {fd : ℕ} {w : Window} → of ≡ Local fd → Covers rec bytes (kindOf of) (fdOf of) w → Covers rec bytes 3 fd w
+covers-local {rec} {bytes} {of} {fd} {w} e p = subst (λ (x : Subrs). Covers rec bytes (kindOf x) (fdOf x) w) e p
+
+pub local-covers : {rec bytes : List ℕ} {of : Subrs} {fd : ℕ} {w : Window} → of ≡ Local fd → Covers rec bytes 3 fd w → Covers rec bytes (kindOf of) (fdOf of) w
+local-covers {rec} {bytes} {of} {fd} {w} e p = subst (λ (x : Subrs). Covers rec bytes (kindOf x) (fdOf x) w) (sym e) p

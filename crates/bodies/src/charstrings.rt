@@ -189,7 +189,7 @@ fn total_by_windows(
     requires { ⌜ KeptIn kept (rowsOf (now rows)) (now words) (now table) (now font) ⌝ }
     ensures { λ r. ⌜ (r ≡ measuredOf (charstringsFrom kept (rowsOf (now (rows .entry))) (now (words .entry)) (now (table .entry)) (now (font .entry)))) × (Bounded r) ⌝ }
 {
-    let mut keys = [0u64; 8192];
+    let mut keys = [0u64; 9216];
     let mut bytes = [0u8; 81920];
     windows_total(kept, font, words, table, rows, &mut keys, &mut bytes)
 }
@@ -371,7 +371,7 @@ fn put_by_windows(
         × (Room (charstringsFrom kept (rowsOf (now rows)) (now words) (now table) (now font)) total at (length (now out))) ⌝ }
     ensures { λ r. ⌜ Wrote (now (out .entry)) at (indexBytes (newCharstringsFrom kept (rowsOf (now (rows .entry))) (now (words .entry)) (now (table .entry)) (now (font .entry)))) (now (out .exit)) r ⌝ }
 {
-    let mut keys = [0u64; 8192];
+    let mut keys = [0u64; 9216];
     let mut bytes = [0u8; 81920];
     put_windows(
         kept,

@@ -7,14 +7,17 @@ ghost use lib.ListN.{length};
 ghost use Rattle.octets.specs.Octets.{Wrote};
 ghost use Rattle.index.specs.Write.{indexBytes};
 ghost use Rattle.record.specs.Record.{rowsOf};
+ghost use Rattle.mask_rows.specs.MaskRows.{Fillable, Covers};
 ghost use Rattle.bits.specs.Bits.{countBelow, wordsFor};
 ghost use Rattle.reach.specs.Reach.{SiteFits, siteOf};
 ghost use Rattle.renumber.specs.Turn.{sizedOf, bodyOf};
 ghost use Rattle.bodies.specs.Ways.{holds, measuredOf, reachedIn, siteIn, SubrsFit, isKept, isStub, keptCount, Room};
 ghost use Rattle.bodies.specs.Sources.{Sourced, keptFrom, subrFrom, subrsFrom, newSubrsFrom};
 ghost use Rattle.bodies.specs.Sizes.{AtMost, Bounded, lenAt};
+ghost use Rattle.bodies.specs.Windows.{sourceInOrder, kindOf, fdOf, Lent};
 use crate::Measured;
 use index::Index;
+use mask_rows::Window;
 use reach::Site;
 use renumber::Ranks;
 use renumber::Sized;
@@ -115,8 +118,115 @@ fn subr_len(from: Source, font: &[u8], words: &[u32], rows: &[u8], k: usize) -> 
     Sized::Len(0)
 }
 
-// The bytes of some subroutines together, by the way; or that their renumbering fails.
-pub fn subrs_total(from: Source, font: &[u8], words: &[u32], rows: &[u8]) -> Measured
+// The window for the k-th of some subroutines.
+fn advance(
+    window: Window,
+    rows: &[u8],
+    of: Subrs,
+    k: usize,
+    keys: &mut [u64],
+    bytes: &mut [u8],
+) -> Window
+    requires { ⌜ (Fillable (now keys) (now bytes) (kindOf of) (fdOf of) k) × (Covers (now rows) (now bytes) (kindOf of) (fdOf of) window) ⌝ }
+    ensures { λ r. ⌜ Covers (now (rows .entry)) (now (bytes .exit)) (kindOf of) (fdOf of) r ⌝ }
+{
+    match of {
+        Subrs::Global => mask_rows::advance(window, rows, 4, 0, k, keys, bytes),
+        Subrs::Local(fd) => mask_rows::advance(window, rows, 3, fd, k, keys, bytes),
+    }
+}
+
+// The same subroutines by a record that rises.
+fn in_order(from: Source) -> Source
+    ensures { λ r. ⌜ r ≡ sourceInOrder from ⌝ }
+{
+    let of = from.of;
+    let ix = from.ix;
+    let own = from.own;
+    let locals = from.locals;
+    let globals = from.globals;
+    Source {
+        way: from.way,
+        of,
+        ix,
+        own,
+        locals,
+        globals,
+        rising: true,
+    }
+}
+
+// How long a subroutine is, by a window of the record where it has the rows of the subroutine.
+fn windowed_len(
+    from: Source,
+    font: &[u8],
+    words: &[u32],
+    rows: &[u8],
+    bytes: &[u8],
+    window: Window,
+    k: usize,
+) -> Sized
+    requires { ⌜ (Sourced from (rowsOf (now rows)) (now words) (now font)) × (k < from .ix .count) × (Covers (now rows) (now bytes) (kindOf (from .of)) (fdOf (from .of)) window) ⌝ }
+    ensures { λ r. ⌜ (r ≡ lenAt (keptFrom from (now (words .entry))) (subrFrom from (rowsOf (now (rows .entry))) (now (words .entry)) (now (font .entry))) k)
+        × (AtMost 335544320 r) ⌝ }
+{
+    if k < window.from {
+        return subr_len(from, font, words, rows, k);
+    }
+    if k < window.end {
+        return subr_len(in_order(from), font, words, &bytes[..window.len], k);
+    }
+    subr_len(from, font, words, rows, k)
+}
+
+// Their bytes together, by windows of a record that does not rise.
+fn windows_total(
+    from: Source,
+    font: &[u8],
+    words: &[u32],
+    rows: &[u8],
+    keys: &mut [u64],
+    bytes: &mut [u8],
+) -> Measured
+    requires { ⌜ (Sourced from (rowsOf (now rows)) (now words) (now font)) × (Lent (now keys) (now bytes)) ⌝ }
+    ensures { λ r. ⌜ (r ≡ measuredOf (subrsFrom from (rowsOf (now (rows .entry))) (now (words .entry)) (now (font .entry)))) × (Bounded r) ⌝ }
+{
+    let n = from.ix.count;
+    let of = from.of;
+    let mut window = Window {
+        from: 0,
+        end: 0,
+        len: 0,
+    };
+    let mut total: usize = 0;
+    let mut k: usize = 0;
+    while k < n {
+        window = advance(window, rows, of, k, &mut *keys, &mut *bytes);
+        match windowed_len(from, font, words, rows, bytes, window, k) {
+            Sized::Len(len) => {
+                total += len;
+                k += 1;
+            }
+            Sized::Failed => {
+                return Measured::Failed;
+            }
+        }
+    }
+    Measured::Total(total)
+}
+
+// The same, with the window on the stack.
+fn total_by_windows(from: Source, font: &[u8], words: &[u32], rows: &[u8]) -> Measured
+    requires { ⌜ Sourced from (rowsOf (now rows)) (now words) (now font) ⌝ }
+    ensures { λ r. ⌜ (r ≡ measuredOf (subrsFrom from (rowsOf (now (rows .entry))) (now (words .entry)) (now (font .entry)))) × (Bounded r) ⌝ }
+{
+    let mut keys = [0u64; 9216];
+    let mut bytes = [0u8; 81920];
+    windows_total(from, font, words, rows, &mut keys, &mut bytes)
+}
+
+// The bytes of some subroutines together, by the way, each by the whole record; or that their renumbering fails.
+fn total_directly(from: Source, font: &[u8], words: &[u32], rows: &[u8]) -> Measured
     requires { ⌜ Sourced from (rowsOf (now rows)) (now words) (now font) ⌝ }
     ensures { λ r. ⌜ (r ≡ measuredOf (subrsFrom from (rowsOf (now (rows .entry))) (now (words .entry)) (now (font .entry)))) × (Bounded r) ⌝ }
 {
@@ -135,6 +245,20 @@ pub fn subrs_total(from: Source, font: &[u8], words: &[u32], rows: &[u8]) -> Mea
         }
     }
     Measured::Total(total)
+}
+
+// The bytes of some subroutines together, by the way; or that their renumbering fails. Masks are asked for only where they are renumbered.
+pub fn subrs_total(from: Source, font: &[u8], words: &[u32], rows: &[u8]) -> Measured
+    requires { ⌜ Sourced from (rowsOf (now rows)) (now words) (now font) ⌝ }
+    ensures { λ r. ⌜ (r ≡ measuredOf (subrsFrom from (rowsOf (now (rows .entry))) (now (words .entry)) (now (font .entry)))) × (Bounded r) ⌝ }
+{
+    if from.rising {
+        return total_directly(from, font, words, rows);
+    }
+    if from.way == 0 {
+        return total_by_windows(from, font, words, rows);
+    }
+    total_directly(from, font, words, rows)
 }
 
 // A subroutine as it is written, from `at` on; the place after it.
@@ -183,8 +307,119 @@ pub fn kept_count(way: u8, reached: usize, count: usize) -> usize
     count
 }
 
-// Their INDEX, from `at` on; the place after it.
-pub fn put_subrs(
+// The same by a window of the record, where it has the rows of the subroutine.
+fn put_windowed(
+    from: Source,
+    font: &[u8],
+    words: &[u32],
+    rows: &[u8],
+    bytes: &[u8],
+    window: Window,
+    k: usize,
+    out: &mut [u8],
+    at: usize,
+) -> usize
+    requires { ⌜ (Sourced from (rowsOf (now rows)) (now words) (now font)) × (k < from .ix .count) × (Covers (now rows) (now bytes) (kindOf (from .of)) (fdOf (from .of)) window)
+        × (holds (subrFrom from (rowsOf (now rows)) (now words) (now font) k) ≡ true)
+        × (at + length (bodyOf (subrFrom from (rowsOf (now rows)) (now words) (now font) k)) ≤ length (now out)) ⌝ }
+    ensures { λ r. ⌜ Wrote (now (out .entry)) at
+        (bodyOf (subrFrom from (rowsOf (now (rows .entry))) (now (words .entry)) (now (font .entry)) k)) (now (out .exit)) r ⌝ }
+{
+    if k < window.from {
+        return put_subr(from, font, words, rows, k, out, at);
+    }
+    if k < window.end {
+        return put_subr(
+            in_order(from),
+            font,
+            words,
+            &bytes[..window.len],
+            k,
+            out,
+            at,
+        );
+    }
+    put_subr(from, font, words, rows, k, out, at)
+}
+
+// Their INDEX, from `at` on, by windows of a record that does not rise; the place after it.
+fn put_windows(
+    from: Source,
+    font: &[u8],
+    words: &[u32],
+    rows: &[u8],
+    total: usize,
+    out: &mut [u8],
+    at: usize,
+    keys: &mut [u64],
+    bytes: &mut [u8],
+) -> usize
+    requires { ⌜ (Sourced from (rowsOf (now rows)) (now words) (now font))
+        × (from .own .reached ≡ countBelow (reachedIn (now words) (from .own)) (from .own .count))
+        × (Room (subrsFrom from (rowsOf (now rows)) (now words) (now font)) total at (length (now out))) × (Lent (now keys) (now bytes)) ⌝ }
+    ensures { λ r. ⌜ Wrote (now (out .entry)) at
+        (indexBytes (newSubrsFrom from (rowsOf (now (rows .entry))) (now (words .entry)) (now (font .entry)))) (now (out .exit)) r ⌝ }
+{
+    let n = from.ix.count;
+    let of = from.of;
+    let count = kept_count(from.way, from.own.reached, n);
+    let to = index::index_for(at, count, total);
+    index::put_head(out, at, count, total);
+    let mut window = Window {
+        from: 0,
+        end: 0,
+        len: 0,
+    };
+    let mut p = to.base + 1;
+    let mut put: usize = 0;
+    let mut k: usize = 0;
+    while k < n {
+        if is_kept(from.way, words, from.own, k) {
+            window = advance(window, rows, of, k, &mut *keys, &mut *bytes);
+            p = put_windowed(from, font, words, rows, bytes, window, k, &mut *out, p);
+            index::put_end(out, to, put, p);
+            put += 1;
+            k += 1;
+        } else {
+            k += 1;
+        }
+    }
+    p
+}
+
+// The same, with the window on the stack.
+fn put_by_windows(
+    from: Source,
+    font: &[u8],
+    words: &[u32],
+    rows: &[u8],
+    total: usize,
+    out: &mut [u8],
+    at: usize,
+) -> usize
+    requires { ⌜ (Sourced from (rowsOf (now rows)) (now words) (now font))
+        × (from .own .reached ≡ countBelow (reachedIn (now words) (from .own)) (from .own .count))
+        × (Room (subrsFrom from (rowsOf (now rows)) (now words) (now font)) total at (length (now out))) ⌝ }
+    ensures { λ r. ⌜ Wrote (now (out .entry)) at
+        (indexBytes (newSubrsFrom from (rowsOf (now (rows .entry))) (now (words .entry)) (now (font .entry)))) (now (out .exit)) r ⌝ }
+{
+    let mut keys = [0u64; 9216];
+    let mut bytes = [0u8; 81920];
+    put_windows(
+        from,
+        font,
+        words,
+        rows,
+        total,
+        out,
+        at,
+        &mut keys,
+        &mut bytes,
+    )
+}
+
+// Their INDEX, from `at` on, each by the whole record; the place after it.
+fn put_directly(
     from: Source,
     font: &[u8],
     words: &[u32],
@@ -217,4 +452,29 @@ pub fn put_subrs(
         }
     }
     p
+}
+
+// Their INDEX, from `at` on; the place after it.
+pub fn put_subrs(
+    from: Source,
+    font: &[u8],
+    words: &[u32],
+    rows: &[u8],
+    total: usize,
+    out: &mut [u8],
+    at: usize,
+) -> usize
+    requires { ⌜ (Sourced from (rowsOf (now rows)) (now words) (now font))
+        × (from .own .reached ≡ countBelow (reachedIn (now words) (from .own)) (from .own .count))
+        × (Room (subrsFrom from (rowsOf (now rows)) (now words) (now font)) total at (length (now out))) ⌝ }
+    ensures { λ r. ⌜ Wrote (now (out .entry)) at
+        (indexBytes (newSubrsFrom from (rowsOf (now (rows .entry))) (now (words .entry)) (now (font .entry)))) (now (out .exit)) r ⌝ }
+{
+    if from.rising {
+        return put_directly(from, font, words, rows, total, out, at);
+    }
+    if from.way == 0 {
+        return put_by_windows(from, font, words, rows, total, out, at);
+    }
+    put_directly(from, font, words, rows, total, out, at)
 }

@@ -1,4 +1,4 @@
--- `bodies::subrs::subrs_total` meets its contract. The invariant: the subroutines below k were measured.
+-- `bodies::subrs::total_directly` meets its contract. The invariant: the subroutines below k were measured.
 use Prim.Native.Nat.{ℕ, _-_}
 use mathlib.Core.Path.{_≡_, sym, ap, _∙_}
 use mathlib.Core.Bool.{Bool}
@@ -16,8 +16,8 @@ use Rattle.bodies.specs.Sizes.{Adding}
 use Rattle.bodies.specs.SizesLaws.{adding-start, adding-end, adding-failed, adding-on, adding-room, adding-small}
 use Rattle.bodies.specs.Sources.{keptFrom, subrFrom}
 use Rattle.bodies.specs.SubrsLaws.{index-each}
-use Rattle.bodies.proofs.subrs.subrs_total.Statement.{statement}
-use Rattle.bodies.proofs.subrs.subrs_total.Tie as tie
+use Rattle.bodies.proofs.subrs.total_directly.Statement.{statement}
+use Rattle.bodies.proofs.subrs.total_directly.Tie as tie
 
 abbrev Inv-loop : tie.InvT-loop
 Inv-loop from font words rows n total₀ k₀ total k =
@@ -98,8 +98,8 @@ returns-2 c =
       adding-small (F s) (T s) (s .args .from .ix .count) (l .loop .k) (l .loop .total) (l .loop .inv) (s .pre .few),
     )
 
-pub subrs-total-spec : {M : Type 1} → statement M
-subrs-total-spec =
+pub total-directly-spec : {M : Type 1} → statement M
+total-directly-spec =
     tie.close
     (tie.spec
     Inv-loop

@@ -1,6 +1,6 @@
--- `bodies::subrs::put_subrs` meets its contract. The invariant: the subroutines below k were written, with the offsets of their ends.
+-- `bodies::subrs::put_windows` meets its contract. The invariant: the subroutines below k were written, with the offsets of their ends, and the window has what it says.
 use Prim.Native.Nat.{ℕ, _-_}
-use mathlib.Core.Path.{_≡_, sym, ap, _∙_}
+use mathlib.Core.Path.{_≡_, refl, sym, ap, _∙_}
 use mathlib.Core.Bool.{Bool, true}
 use mathlib.Core.List.{List}
 use native.Mathlib.Omega.{arith}
@@ -21,16 +21,20 @@ use Rattle.bodies.specs.Ways.{manyOf, reachedIn, siteIn, isKept, subrBy,
 use Rattle.bodies.specs.WritingLaws.{Writing, writing-start, writing-length, writing-skip, writing-room, writing-end, writing-on, head-fits, places-meant, writing-whole}
 use Rattle.bodies.specs.Sources.{keptFrom, subrsFrom}
 use Rattle.bodies.specs.SubrsLaws.{index-each, index-many, new-subrs-is}
-use Rattle.bodies.proofs.subrs.put_subrs.Statement.{statement}
-use Rattle.bodies.proofs.subrs.put_subrs.Tie as tie
+use Rattle.bodies.specs.Windows.{kindOf, fdOf}
+use Rattle.bodies.specs.WindowsLaws.{lent-same, fills-subr}
+use Rattle.mask_rows.specs.MaskRows.{Covers}
+use Rattle.mask_rows.specs.FillLaws.{covers-none}
+use Rattle.bodies.proofs.subrs.put_windows.Statement.{statement}
+use Rattle.bodies.proofs.subrs.put_windows.Tie as tie
 
 abbrev Inv-loop : tie.InvT-loop
-Inv-loop from font words rows total out₀ at n count to p₀ j₀ k₀ out p j k =
-    Writing out₀ to (manyOf (subrsFrom from (rowsOf rows) words font)) (keptFrom from words)
-    (from .ix .count) k j out p
+Inv-loop from font words rows total out₀ at keys₀ bytes₀ n of count to window₀ p₀ put₀ k₀ out keys bytes window p put k =
+    Writing out₀ to (manyOf (subrsFrom from (rowsOf rows) words font)) (keptFrom from words) (from .ix .count) k put out p
+    × Covers rows bytes (kindOf (from .of)) (fdOf (from .of)) window × (length keys ≡ length keys₀) × (length bytes ≡ length bytes₀)
 
 abbrev μ-loop : tie.MeasureT-loop
-μ-loop from font words rows total out₀ at n count to p₀ j₀ k₀ out p j k = from .ix .count - k
+μ-loop from font words rows total out₀ at keys₀ bytes₀ n of count to window₀ p₀ put₀ k₀ out keys bytes window p put k = from .ix .count - k
 
 abbrev Start : Type 0
 Start = tie.Start Inv-loop μ-loop
@@ -55,7 +59,7 @@ same s =
     (rowsOf (now (s .args .rows))) (s .args .from .rising) (s .args .from .of) (s .pre .0) (callsBy (now (s .args .words)) (s .args .from .locals) (s .args .from .globals)) (siteIn (s .args .from .of))
 
 abbrev S₀ : tie.After-kept-count Inv-loop μ-loop → Start
-S₀ c = c .before .before .before .before .before
+S₀ c = c .before .before .before .before .before .before .before
 
 many : (c : tie.After-kept-count Inv-loop μ-loop) → c .kept-count .result ≡ countBelow (T (S₀ c)) (S₀ c .args .from .ix .count)
 many c =
@@ -102,7 +106,9 @@ add-p : tie.Need-add-p Inv-loop μ-loop
 add-p c = omega (arith, meant (c .before .before .before))
 
 loop-holds : tie.Need-loop-holds Inv-loop μ-loop
-loop-holds c = let s = S₁ (c .before .before .before) in writing-start _ _ (manyOf (B s)) (T s) (s .args .from .ix .count)
+loop-holds c =
+    let s = S₁ (c .before .before .before) in
+    (writing-start _ _ (manyOf (B s)) (T s) (s .args .from .ix .count), covers-none _ _ _ _, refl, refl)
 
 is-kept-requires : tie.Need-is-kept-requires Inv-loop μ-loop
 is-kept-requires c κs = S₁ (H₁ (c .before)) .pre .0 .inside
@@ -111,50 +117,73 @@ is-kept-requires c κs = S₁ (H₁ (c .before)) .pre .0 .inside
 taken : (c : tie.Then1 Inv-loop μ-loop) → T (S₁ (H₁ (c .before .before .before))) (c .before .before .before .loop .k) ≡ true
 taken c = sym (c .before .is-kept .ensures) ∙ c .if1 .taken
 
-put-subr-requires : tie.Need-put-subr-requires Inv-loop μ-loop
-put-subr-requires c κs =
-    let t = c .before .before .before in
+-- the window after it was advanced, and where the turn began
+abbrev A₁ : tie.After-put-windowed Inv-loop μ-loop → tie.After-advance Inv-loop μ-loop
+A₁ d = d .before .before .before .before .before .before .before
+
+abbrev Y₁ : tie.After-advance Inv-loop μ-loop → tie.Then1 Inv-loop μ-loop
+Y₁ a = a .before .before .before
+
+advance-requires : tie.Need-advance-requires Inv-loop μ-loop
+advance-requires c κs =
+    let t = c .before .before .before .before in
+    let l = t .before in
+    let s = S₁ (H₁ l) in
+    (fills-subr (s .args .from) (s .pre .0) (lent-same (s .pre .3) _ _ (l .loop .inv .2) (l .loop .inv .3)) _ (t .loop-test .taken), l .loop .inv .1)
+
+put-windowed-requires : tie.Need-put-windowed-requires Inv-loop μ-loop
+put-windowed-requires c κs =
+    let a = c .before .before .before .before .before .before in
+    let y = Y₁ a in
+    let t = y .before .before in
     let l = t .before in
     let h = H₁ l in
     let s = S₁ h in
-    let q = writing-room (B s) (F s) (T s) (s .args .from .ix .count) (same s) (s .pre .2 .done) _ _ (meant h) (l .loop .k) (l .loop .j) (l .loop .inv) (t .loop-test .taken) (taken (c .before)) in
-    (s .pre .0, t .loop-test .taken, q .0, q .1)
+    let q = writing-room (B s) (F s) (T s) (s .args .from .ix .count) (same s) (s .pre .2 .done) _ _ (meant h) (l .loop .k) (l .loop .put) (l .loop .inv .0) (t .loop-test .taken) (taken y) in
+    (s .pre .0, t .loop-test .taken, a .advance .ensures, q .0, q .1)
 
 put-end-requires : tie.Need-put-end-requires Inv-loop μ-loop
 put-end-requires c κs =
     let d = c .before .before .before in
-    let y = d .before .before in
+    let y = Y₁ (A₁ d) in
     let t = y .before .before in
     let l = t .before in
     let h = H₁ l in
     let s = S₁ h in
-    writing-end (B s) (F s) (T s) (s .args .from .ix .count) (same s) (s .pre .2 .done) _ _ (meant h) (l .loop .k) (l .loop .j) (l .loop .inv) (t .loop-test .taken) (taken y) (d .put-subr .ensures)
+    writing-end (B s) (F s) (T s) (s .args .from .ix .count) (same s) (s .pre .2 .done) _ _ (meant h) (l .loop .k) (l .loop .put) (l .loop .inv .0) (t .loop-test .taken) (taken y) (d .put-windowed .ensures)
 
-abbrev Y₁ : tie.After-slice-known4 Inv-loop μ-loop → tie.Then1 Inv-loop μ-loop
-Y₁ c = c .before .before .before .before .before .before .before .before
+-- the subroutine that was written last
+abbrev D₁ : tie.After-slice-known8 Inv-loop μ-loop → tie.After-put-windowed Inv-loop μ-loop
+D₁ c = c .before .before .before .before .before .before
 
-add-j : tie.Need-add-j Inv-loop μ-loop
-add-j c =
-    let t = Y₁ c .before .before in
+add-put : tie.Need-add-put Inv-loop μ-loop
+add-put c =
+    let t = Y₁ (A₁ (D₁ c)) .before .before in
     let l = t .before in
     let s = S₁ (H₁ l) in
-    omega (arith, l .loop .inv .counted, count-few (T s) (l .loop .k), t .loop-test .taken, s .pre .0 .few)
+    omega (arith, l .loop .inv .0 .counted, count-few (T s) (l .loop .k), t .loop-test .taken, s .pre .0 .few)
 
 add-k : tie.Need-add-k Inv-loop μ-loop
-add-k c = let t = Y₁ c .before .before in omega (arith, t .loop-test .taken, S₁ (H₁ (t .before)) .pre .0 .few)
+add-k c = let t = Y₁ (A₁ (D₁ c)) .before .before in omega (arith, t .loop-test .taken, S₁ (H₁ (t .before)) .pre .0 .few)
 
 loop-less : tie.Need-loop-less Inv-loop μ-loop
-loop-less c = let t = Y₁ c .before .before in omega (arith, t .loop-test .taken)
+loop-less c = let t = Y₁ (A₁ (D₁ c)) .before .before in omega (arith, t .loop-test .taken)
 
 loop-again : tie.Need-loop-again Inv-loop μ-loop
 loop-again c =
-    let y = Y₁ c in
+    let d = D₁ c in
+    let a = A₁ d in
+    let y = Y₁ a in
     let t = y .before .before in
     let l = t .before in
     let h = H₁ l in
-    let s = S₁ h in
-    writing-on (B s) (F s) (T s) (s .args .from .ix .count) (same s) (s .pre .2 .done) _ _ (meant h) (l .loop .k) (l .loop .j) (l .loop .inv) (t .loop-test .taken) (taken y)
-    (c .before .before .before .before .before .before .put-subr .ensures) (c .before .before .put-end .ensures)
+    let s = S₁ h in (
+      writing-on (B s) (F s) (T s) (s .args .from .ix .count) (same s) (s .pre .2 .done) _ _ (meant h) (l .loop .k) (l .loop .put) (l .loop .inv .0) (t .loop-test .taken) (taken y)
+          (d .put-windowed .ensures) (c .before .before .put-end .ensures),
+      a .advance .ensures,
+      a .advance .kept .1 .1 .1 .1 .0 ∙ l .loop .inv .2,
+      a .advance .kept .1 .1 .1 .1 .1 .0 ∙ l .loop .inv .3,
+    )
 
 add-k-2 : tie.Need-add-k-2 Inv-loop μ-loop
 add-k-2 c = let t = c .before .before in omega (arith, t .loop-test .taken, S₁ (H₁ (t .before)) .pre .0 .few)
@@ -167,16 +196,26 @@ loop-again-2 c =
     let t = c .before .before in
     let l = t .before in
     let h = H₁ l in
-    let s = S₁ h in
-    writing-skip (B s) (F s) (T s) (s .args .from .ix .count) (same s) (s .pre .2 .done) _ _ (meant h) (l .loop .k) (l .loop .j) (l .loop .inv) (t .loop-test .taken)
-    (sym (c .before .is-kept .ensures) ∙ c .if1 .left)
+    let s = S₁ h in (
+      writing-skip (B s) (F s) (T s) (s .args .from .ix .count) (same s) (s .pre .2 .done) _ _ (meant h) (l .loop .k) (l .loop .put) (l .loop .inv .0) (t .loop-test .taken)
+          (sym (c .before .is-kept .ensures) ∙ c .if1 .left),
+      l .loop .inv .1,
+      l .loop .inv .2,
+      l .loop .inv .3,
+    )
 
 same-length : tie.Need-same-length Inv-loop μ-loop
 same-length c =
     let l = c .before in
     let h = H₁ l in
     let s = S₁ h in
-    writing-length (B s) (F s) (T s) (s .args .from .ix .count) (same s) (s .pre .2 .done) _ _ (meant h) (l .loop .k) (l .loop .j) (l .loop .inv) ∙ h .put-head .kept .0
+    writing-length (B s) (F s) (T s) (s .args .from .ix .count) (same s) (s .pre .2 .done) _ _ (meant h) (l .loop .k) (l .loop .put) (l .loop .inv .0) ∙ h .put-head .kept .0
+
+same-length-2 : tie.Need-same-length-2 Inv-loop μ-loop
+same-length-2 c = c .before .loop .inv .2
+
+same-length-3 : tie.Need-same-length-3 Inv-loop μ-loop
+same-length-3 c = c .before .loop .inv .3
 
 returns : tie.Need-returns Inv-loop μ-loop
 returns c =
@@ -185,12 +224,12 @@ returns c =
     let s = S₁ h in
     let x = X₁ h in
     wrote-as (writing-whole (B s) (F s) (T s) (s .args .from .ix .count) (same s) (s .pre .2 .done) (now (s .args .out)) (s .args .at) (x .before .kept-count .result) (s .args .total) (x .index-for .result)
-    (s .pre .2) (x .index-for .ensures) (many (x .before)) (h .put-head .ensures) (c .loop-test .left) (l .loop .inv))
+    (s .pre .2) (x .index-for .ensures) (many (x .before)) (h .put-head .ensures) (c .loop-test .left) (l .loop .inv .0))
     (ap indexBytes (sym (new-subrs-is (s .args .from .way) (rowsOf (now (s .args .rows))) (reachedIn (now (s .args .words)) (s .args .from .own))
     (callsBy (now (s .args .words)) (s .args .from .locals) (s .args .from .globals)) (siteIn (s .args .from .of)) (itemsOf (now (s .args .font)) (s .args .from .ix)))))
 
-pub put-subrs-spec : {M : Type 1} → statement M
-put-subrs-spec =
+pub put-windows-spec : {M : Type 1} → statement M
+put-windows-spec =
     tie.close
     (tie.spec
     Inv-loop
@@ -201,9 +240,10 @@ put-subrs-spec =
     add-p
     loop-holds
     is-kept-requires
-    put-subr-requires
+    advance-requires
+    put-windowed-requires
     put-end-requires
-    add-j
+    add-put
     add-k
     loop-less
     loop-again
@@ -211,4 +251,6 @@ put-subrs-spec =
     loop-less-2
     loop-again-2
     same-length
+    same-length-2
+    same-length-3
     returns)
