@@ -172,10 +172,10 @@ uint8_t cff_subset_cid(const uint8_t *font, size_t font_len, const uint8_t *name
    The refusals are reading's, then CFF_NO_SUCH_NUMBER, CFF_NOT_FOUND, and CFF_OUTPUT for a record that is longer than what is lent, or
    for fewer than two words of answer. With a refusal record and answer stay as they were; bytes behind the record always do.
 
-   A glyph costs up to 65,536 steps a pass, whatever its size; there is one pass over the kept glyphs for each 65,536 rows, and as many
-   again to write them where there are more than 65,535. 1,000 kept glyphs that each make 65,530 calls, a font of 137 KB, take 1.7 to 1.9
-   seconds; a row that is met after greater ones moves those that the pass holds (200,050 rows in falling order, a font of 200 KB: 8 to 9
-   seconds, rising 0.02). */
+   A glyph costs up to 65,536 steps a pass, whatever its size; there is one pass over the kept glyphs for each 64,512 rows, and as many
+   again to write them where there are more than 64,511. 1,000 kept glyphs that each make 65,530 calls, a font of 137 KB, take 1.7 to 1.9
+   seconds. In which order rows are met matters little: each is put among the newest 512, and 512 at a time are merged with those that the
+   pass holds (200,050 rows in falling order, a font of 200 KB: 0.07 seconds, shuffled 0.04, rising 0.02). */
 uint8_t cff_trace(const uint8_t *font, size_t font_len, const uint16_t *keep, size_t keep_len, uint8_t *record,
                   size_t record_len, uint64_t *answer, size_t answer_len);
 
@@ -187,7 +187,7 @@ uint8_t cff_trace(const uint8_t *font, size_t font_len, const uint16_t *keep, si
 
    The refusals are reading's, then CFF_NO_SUCH_NUMBER, CFF_NOT_FOUND, CFF_RECORD, CFF_NOT_ACCEPTED. Nothing is written.
 
-   It costs the passes of cff_trace over the kept glyphs, one for each 65,536 rows that they meet, and one pass over the record for each,
+   It costs the passes of cff_trace over the kept glyphs, one for each 64,512 rows that they meet, and one pass over the record for each,
    whatever its order. */
 uint8_t cff_check_record(const uint8_t *font, size_t font_len, const uint16_t *keep, size_t keep_len, const uint8_t *record,
                          size_t record_len);
