@@ -135,7 +135,8 @@ uint8_t cff_item_place(const uint8_t *font, size_t font_len, uint8_t kind, uint6
 uint8_t cff_item_refusal(const uint8_t *font, size_t font_len, uint8_t kind, uint64_t number);
 
 /* Cuts a name-keyed font to glyph 0 and the glyphs of the keep list, under a new name. record is the reach record, ten bytes a row
-   in any order (rising order is the fastest: in another each hint mask passes over all rows), and traced its flag, 0 or 1. Writes
+   in any order (rising order is the fastest: in another the rows of hint masks are sorted by windows of 8,192, a pass over the record
+   for each; the masks of a glyph or subroutine that has more rows pass over all rows each), and traced its flag, 0 or 1. Writes
    the subset to the start of out, and answers two words: the way and the length. A kept glyph that is plain, and for which the
    record lists what it meets, or the flag is 0, is found in the subset by its name and unfolds there to the same list.
 

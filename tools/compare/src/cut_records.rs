@@ -94,8 +94,37 @@ pub fn none() -> Record {
     }
 }
 
-/// A record for these glyphs.
+/// A record for these glyphs, in most cases with its rows in another order.
 pub fn any(g: &mut Generator, program: &CffProgram, kept: &BTreeSet<u16>) -> Record {
+    let mut record = made(g, program, kept);
+    rearrange(g, &mut record.bytes);
+    record
+}
+
+/// Rows shuffled, reversed or doubled, three times in four: order and repeats are free.
+fn rearrange(g: &mut Generator, bytes: &mut Vec<u8>) {
+    let whole = bytes.len() / ROW * ROW;
+    let rest = bytes.split_off(whole);
+    let mut rows: Vec<Vec<u8>> = bytes.chunks(ROW).map(<[u8]>::to_vec).collect();
+    match g.below(4) {
+        0 => {}
+        1 => rows.reverse(),
+        shuffled => {
+            if shuffled == 2 {
+                rows.extend(rows.clone());
+            }
+            for k in (1..rows.len()).rev() {
+                let l = g.below(k + 1);
+                rows.swap(k, l);
+            }
+        }
+    }
+    *bytes = rows.concat();
+    bytes.extend(rest);
+}
+
+/// A record for these glyphs.
+fn made(g: &mut Generator, program: &CffProgram, kept: &BTreeSet<u16>) -> Record {
     match g.below(20) {
         0..=6 => own(program, kept),
         7 => none(),
