@@ -18,12 +18,14 @@
    cff_subset_cid, cff_trace and cff_check_record, and 3 MiB for cff_blocking_glyph. Beyond this there is nothing that a caller
    must keep.
 
-   Time. A call is linear in its input but for what is said at cff_trace and three things, of which two come with hostile fonts and
-   records: parts that the font dictionaries or the fonts of a set share are read again wherever they are named (65,535 font
-   dictionaries that alternate between two Privates of 100 KB, a font of 1.1 MB: 49 seconds of cff_read), rows that do not rise are
-   passed over for each hint mask (the 342,878 rows of all glyphs of Noto Sans CJK, shuffled: 119 seconds of cff_subset_cid, rising
-   0.2), and a top DICT is walked once for each operator (60 MB of reals: 23 seconds). A service that takes uploads should limit the
-   size of a file, put the rows of a record in order, and call from a process of its own with a limit on its CPU time.
+   Time. A call is linear in its input but for what is said at cff_trace and three things, which come with hostile fonts and records:
+   more than 128 different Privates that overlap, and the fonts of a set, are read again wherever they are named (65,535 font
+   dictionaries each with a Private of 100 KB of its own, all overlapping, a font of 1.2 MB: 11 seconds of cff_read; it grows with the
+   product of both); where rows do not rise, those of a glyph or subroutine with more than 8,192 rows are passed over for each of its
+   hint masks (200,000 falling rows of one glyph: 30 seconds; the 342,878 rows of all glyphs of Noto Sans CJK, shuffled: 0.7, rising
+   0.2), and so are all rows for glyphs whose CIDs do not rise; and subsetting walks the top DICT once for each operator (60 MB of
+   reals: 10 seconds; cff_read 0.4). A service that takes uploads should limit the size of a file, put the rows of a record in order,
+   and call from a process of its own with a limit on its CPU time.
 
    Composed glyphs. A glyph that is composed of two others (endchar with four operands, as accented letters of old fonts are) is not
    plain: nothing is promised of it, and the subset does not add its parts. A caller that keeps one keeps its parts too: the glyphs
