@@ -225,7 +225,8 @@ fn total_by_windows(from: Source, font: &[u8], words: &[u32], rows: &[u8]) -> Me
     windows_total(from, font, words, rows, &mut keys, &mut bytes)
 }
 
-// The bytes of some subroutines together, by the way, each by the whole record; or that their renumbering fails.
+// The bytes of some subroutines together, by the way, each by the whole record; or that their renumbering fails. Which
+// are written is asked here: most are not where few glyphs are kept, and a call for each would be felt.
 fn total_directly(from: Source, font: &[u8], words: &[u32], rows: &[u8]) -> Measured
     requires { ⌜ Sourced from (rowsOf (now rows)) (now words) (now font) ⌝ }
     ensures { λ r. ⌜ (r ≡ measuredOf (subrsFrom from (rowsOf (now (rows .entry))) (now (words .entry)) (now (font .entry)))) × (Bounded r) ⌝ }
@@ -234,14 +235,18 @@ fn total_directly(from: Source, font: &[u8], words: &[u32], rows: &[u8]) -> Meas
     let mut total: usize = 0;
     let mut k: usize = 0;
     while k < n {
-        match subr_len(from, font, words, rows, k) {
-            Sized::Len(len) => {
-                total += len;
-                k += 1;
+        if is_kept(from.way, words, from.own, k) {
+            match written_len(from, font, words, rows, k) {
+                Sized::Len(len) => {
+                    total += len;
+                    k += 1;
+                }
+                Sized::Failed => {
+                    return Measured::Failed;
+                }
             }
-            Sized::Failed => {
-                return Measured::Failed;
-            }
+        } else {
+            k += 1;
         }
     }
     Measured::Total(total)
