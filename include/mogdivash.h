@@ -14,9 +14,9 @@
    CFF font. A subset is a bare font.
 
    A slice is a pointer and the number of its elements. What is lent for writing must not overlap what else is lent, and a
-   uint16_t, uint32_t or uint64_t must be aligned. The calling thread must have 1.5 MiB of stack free for cff_subset,
-   cff_subset_cid, cff_trace and cff_check_record, and 3 MiB for cff_blocking_glyph. Beyond this there is nothing that a caller
-   must keep.
+   uint16_t, uint32_t or uint64_t must be aligned. The calling thread must have 512 KiB of stack free for cff_subset,
+   cff_subset_cid, cff_subset_small and cff_subset_cid_small, 1.5 MiB for cff_trace and cff_check_record, and 3 MiB for
+   cff_blocking_glyph. Beyond this there is nothing that a caller must keep.
 
    Time. A call is linear in its input but for what is said at cff_trace and three things, which come with hostile fonts and records:
    more than 128 different Privates that overlap, and the fonts of a set, are read again wherever they are named (65,535 font
@@ -162,6 +162,23 @@ uint8_t cff_subset(const uint8_t *font, size_t font_len, const uint8_t *name, si
 uint8_t cff_subset_cid(const uint8_t *font, size_t font_len, const uint8_t *name, size_t name_len, const uint16_t *keep,
                        size_t keep_len, const uint8_t *record, size_t record_len, uint8_t traced, uint32_t *work,
                        size_t work_len, uint8_t *out, size_t out_len, uint64_t *answer, size_t answer_len);
+
+/* How many work words the two calls below ask for, from the five words of cff_read's answer: a bit for each glyph, rounded up to words,
+   and the bits of the subroutines, as in W: (glyphs + 31) / 32 + W - 2 x glyphs. */
+#define CFF_SMALL_WORK(counts) (((counts)[CFF_GLYPHS] + 31) / 32 + (counts)[CFF_WORK] - 2 * (counts)[CFF_GLYPHS])
+
+/* cff_subset with few work words, for big fonts on a small machine (document 02, Wish 10): a font of 65,535 glyphs without subroutines
+   asks for 2,048 words, 8 KiB, where cff_subset asks for 131,070. On every input, with as many words lent to each as it asks for,
+   number, way, length and bytes are those of cff_subset. Fewer than CFF_SMALL_WORK words are refused by CFF_WORK_WORDS, in its place in
+   the order; with 0 and with each refusal after it the first CFF_SMALL_WORK words end as zeros, and those behind them always stay. */
+uint8_t cff_subset_small(const uint8_t *font, size_t font_len, const uint8_t *name, size_t name_len, const uint16_t *keep,
+                         size_t keep_len, const uint8_t *record, size_t record_len, uint8_t traced, uint8_t encoding,
+                         uint32_t *work, size_t work_len, uint8_t *out, size_t out_len, uint64_t *answer, size_t answer_len);
+
+/* cff_subset_cid with few work words, in the same way. */
+uint8_t cff_subset_cid_small(const uint8_t *font, size_t font_len, const uint8_t *name, size_t name_len, const uint16_t *keep,
+                             size_t keep_len, const uint8_t *record, size_t record_len, uint8_t traced, uint32_t *work,
+                             size_t work_len, uint8_t *out, size_t out_len, uint64_t *answer, size_t answer_len);
 
 /* The words of the answer of tracing. */
 #define CFF_FLAG 0          /* 1, or 0 with an empty record where a kept glyph is not plain */

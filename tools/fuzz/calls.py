@@ -72,6 +72,8 @@ def fonts(line, font, fields):
     given = [Record(kinds(line, rows), True), (kinds(line, rows), True)][line % 2]
     with_codes = [bool(int(encoding)), int(encoding)][line % 2]
     expect(line, "subset", told(lambda: font.subset(kinds(line, name), kept(keep), given, with_codes), cut), subset)
+    few = told(lambda: font.subset(kinds(line, name), kept(keep), given, with_codes, few_words=[True, 1, "yes"][line % 3]), cut)
+    expect(line, "subset, few words", few, subset)
     expect(line, "subset, traced", told(lambda: font.subset(name, kept(keep)), cut), whole)
     expect(line, "blocking_glyph", told(lambda: font.blocking_glyph(name, kept(keep)), glyph), blocking)
 

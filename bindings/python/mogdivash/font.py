@@ -70,6 +70,8 @@ class Font:
         check(library.cff_read(self._data, len(self._data), counts, 5))
         self.glyphs, self.globals, self.strings, cid, self.work_words = counts
         self.is_cid_keyed = bool(cid)
+        # of a subset with few_words: a bit for each glyph in the place of two words
+        self.small_work_words = (self.glyphs + 31) // 32 + self.work_words - 2 * self.glyphs
 
     def find_name(self, name):
         """The first glyph of that name, or None, as in a CID-keyed font."""
@@ -180,20 +182,22 @@ class Font:
                 return None if answer[0] == _ABSENT else answer[0]
             room *= 4
 
-    def subset(self, name, keep, record=None, encoding=False):
+    def subset(self, name, keep, record=None, encoding=False, few_words=False):
         """The subset of glyph 0 and the glyphs of `keep` under a new name, by a record, or traced where there is none. With
-        `encoding` a name-keyed font keeps the codes of the kept glyphs."""
+        `encoding` a name-keyed font keeps the codes of the kept glyphs. With `few_words` the answer is the same, by `small_work_words`
+        work words in the place of `work_words` (document 02, Wish 10)."""
         keep = list(keep)
-        return on_own_stack(lambda: self._subset(_text(name), keep, record, encoding))
+        return on_own_stack(lambda: self._subset(_text(name), keep, record, encoding, few_words))
 
-    def _subset(self, name, keep, record, encoding):
+    def _subset(self, name, keep, record, encoding, few_words):
         keep, count = _glyphs(keep)
         rows, traced = self._trace(keep, count) if record is None else record
         rows = octets(rows)
         # In rising order rows are searched, in another each mask passes over all of them; no answer changes.
         if len(rows) % _ROW == 0:
             rows = b"".join(sorted(rows[k : k + _ROW] for k in range(0, len(rows), _ROW)))
-        words = self.work_words if self.work_words <= _MOST_WORDS else 0
+        words = self.small_work_words if few_words else self.work_words
+        words = words if words <= _MOST_WORDS else 0
         work, answer = (ctypes.c_uint32 * words)(), (ctypes.c_uint64 * 2)()
         data, length = self._data, len(self._data)
         front = [data, length, name, len(name), keep, count, rows, len(rows), int(bool(traced))]
@@ -202,9 +206,11 @@ class Font:
             out = (ctypes.c_uint8 * room)()
             lent = [work, words, out, room, answer, 2]
             if self.is_cid_keyed:
-                returned = library.cff_subset_cid(*front, *lent)
+                cut = library.cff_subset_cid_small if few_words else library.cff_subset_cid
+                returned = cut(*front, *lent)
             else:
-                returned = library.cff_subset(*front, int(bool(encoding)), *lent)
+                cut = library.cff_subset_small if few_words else library.cff_subset
+                returned = cut(*front, int(bool(encoding)), *lent)
             if returned != Refusal.OUTPUT or room == _LONGEST:
                 check(returned)
                 return Subset(ctypes.string_at(out, answer[1]), Way(answer[0]))

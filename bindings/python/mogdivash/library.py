@@ -37,6 +37,8 @@ _ARGUMENTS = {
     "cff_item_place": [*_BYTES, _U8, _U64, *_slice(_U64)],
     "cff_subset": [*_CUT, _U8, *_LENT],
     "cff_subset_cid": [*_CUT, *_LENT],
+    "cff_subset_small": [*_CUT, _U8, *_LENT],
+    "cff_subset_cid_small": [*_CUT, *_LENT],
     "cff_trace": [*_BYTES, *_slice(_U16), *_slice(_U8), *_slice(_U64)],
     "cff_check_record": [*_BYTES, *_slice(_U16), *_BYTES],
     "cff_blocking_glyph": [*_BYTES, *_BYTES, *_slice(_U16), *_slice(_U32), *_slice(_U8), *_slice(_U64)],

@@ -101,6 +101,19 @@ class Small(unittest.TestCase):
         self.assertEqual(mogdivash.trace(FONT, [1]), (b"", True))
         self.assertEqual(Font(FONT).subset("A", [1], record=(b"", False)).way, Way.COPIED)
 
+    def test_few_words(self):
+        """The subset with few work words is that with many, and so are the refusals before 9."""
+        self.assertEqual([Font(data).small_work_words for data in (FONT, CID_FONT)], [1, 1])
+        for font, keep in ((Font(FONT), [1]), (Font(CID_FONT), [1])):
+            for encoding in (False, True):
+                for record in (None, (b"", False), (b"\1" + bytes(9), True)):
+                    self.assertEqual(font.subset("A", keep, record, encoding, few_words=True), font.subset("A", keep, record, encoding))
+            few = lambda *given: font.subset(*given, few_words=True)
+            self.refused(Refusal.NO_SUCH_NUMBER, few, "A", [3])
+            self.refused(Refusal.RECORD, few, "A", keep, (b"12345", True))
+            self.refused(Refusal.TOO_LONG, few, "A" * 65536, keep)
+        self.refused(Refusal.NOT_FOUND, Font(CID_FONT).subset, "A", [2], (b"", False), False, True)
+
     def test_records(self):
         font = Font(FONT)
         self.assertIsNone(font.check_record([1], b""))

@@ -79,6 +79,7 @@ class Stored(unittest.TestCase):
                 continue
             refusal, subset = outcome(lambda: font.subset(name, keep, (given.left, bool(flag))))
             self.assertEqual(refusal, returned)
+            self.assertEqual(outcome(lambda: font.subset(name, keep, (given.left, bool(flag)), few_words=True)), (refusal, subset))
             if subset is not None:
                 self.assertEqual((subset.way, subset.data), (answer.number(1), answer.left))
                 cut += 1

@@ -184,4 +184,43 @@ unsafe extern "C" {
         answer: *mut u64,
         answer_len: usize,
     ) -> u8;
+
+    /// The subset of a name-keyed font with few work words: as `cff_subset`, with (glyphs + 31) / 32 + W - 2 x glyphs for W.
+    pub fn cff_subset_small(
+        font: *const u8,
+        font_len: usize,
+        name: *const u8,
+        name_len: usize,
+        keep: *const u16,
+        keep_len: usize,
+        record: *const u8,
+        record_len: usize,
+        traced: u8,
+        encoding: u8,
+        work: *mut u32,
+        work_len: usize,
+        out: *mut u8,
+        out_len: usize,
+        answer: *mut u64,
+        answer_len: usize,
+    ) -> u8;
+
+    /// The subset of a CID-keyed font with few work words.
+    pub fn cff_subset_cid_small(
+        font: *const u8,
+        font_len: usize,
+        name: *const u8,
+        name_len: usize,
+        keep: *const u16,
+        keep_len: usize,
+        record: *const u8,
+        record_len: usize,
+        traced: u8,
+        work: *mut u32,
+        work_len: usize,
+        out: *mut u8,
+        out_len: usize,
+        answer: *mut u64,
+        answer_len: usize,
+    ) -> u8;
 }

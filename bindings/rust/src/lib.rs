@@ -24,11 +24,13 @@ mod glyphs;
 mod record;
 mod refusal;
 mod short;
+mod subset;
 
 /// The version of the library and of this binding: that of the file VERSION.
 pub const VERSION: &str = env!("CARGO_PKG_VERSION");
 
-pub use font::{Font, Item, Subset, Way};
+pub use font::{Font, Item};
 pub use record::{Record, Row};
 pub use refusal::Refusal;
 pub use short::{ShortCharstrings, next_charstring};
+pub use subset::{Subset, Way};

@@ -1,32 +1,9 @@
 //! Subsets with the font's own codes: document 02, Wish 4.
 
-use mogdivash::{Font, Record, Refusal};
+mod small_font;
 
-/// A font of glyph 0 and glyphs with these string ids, with this Encoding: a number, or the bytes of its own.
-fn font(ids: &[u16], encoding: Result<u8, &[u8]>) -> Vec<u8> {
-    let mut charset = vec![0];
-    charset.extend(ids.iter().flat_map(|id| id.to_be_bytes()));
-    let table = encoding.err().unwrap_or(&[]);
-    // The header, a name, a top DICT of three offsets of five bytes, no strings and no subroutines.
-    let mut out = vec![1, 0, 4, 1, 0, 1, 1, 1, 2, b'F', 0, 1, 1, 1, 19];
-    let at = out.len() as u32 + 18 + 4;
-    let behind = at + charset.len() as u32;
-    let named = encoding.map_or(behind, u32::from);
-    for (offset, operator) in [(at, 15), (named, 16), (behind + table.len() as u32, 17)] {
-        out.push(29);
-        out.extend(offset.to_be_bytes());
-        out.push(operator);
-    }
-    out.extend([0, 0, 0, 0]);
-    out.extend(charset);
-    out.extend(table);
-    // Each charstring is an endchar.
-    let glyphs = ids.len() as u8 + 1;
-    out.extend([0, glyphs, 1]);
-    out.extend(1..=glyphs + 1);
-    out.extend(vec![14; usize::from(glyphs)]);
-    out
-}
+use mogdivash::{Font, Record, Refusal};
+use small_font::coded as font;
 
 /// What stands in the subset behind its charset.
 fn coded(font: &Font<'_>, keep: &[u16]) -> Vec<u8> {

@@ -3,7 +3,7 @@
 use mogdivash::{Font, Record, Refusal, Row, Way};
 
 mod small_font;
-use small_font::{ENDCHAR, HINTMASK, font, index, number, rows};
+use small_font::{ENDCHAR, HINTMASK, font, index, long_index, number, rows};
 
 #[test]
 fn rows_that_are_met() {
@@ -84,20 +84,6 @@ fn many_rows() {
         length: 0,
     });
     assert_eq!(font.trace(&[]), Ok(Record::traced(rows)));
-}
-
-/// An INDEX with offsets of four bytes.
-fn long_index(items: &[Vec<u8>]) -> Vec<u8> {
-    let mut out = (items.len() as u16).to_be_bytes().to_vec();
-    out.push(4);
-    let mut offset: u32 = 1;
-    out.extend(offset.to_be_bytes());
-    for item in items {
-        offset += item.len() as u32;
-        out.extend(offset.to_be_bytes());
-    }
-    out.extend(items.concat());
-    out
 }
 
 /// 5,000 glyphs with names of 128 bytes, the last of which has the name of the first. Glyph 1 has 5,000 masks.

@@ -16,7 +16,7 @@ use Rattle.cff.specs.Font.{got, Private, Program, readFont, charset, encoding, 
 use Rattle.subset.specs.Kept.{isIn, keeps, keptOf, usedFds, privateOf, localsOf}
 use Rattle.subset.specs.Pruned.{localSet, globalSet}
 use Rattle.subset.specs.Cut.{cutWith}
-use Rattle.outcome.specs.Entry.{Cuts}
+use Rattle.outcome.specs.Entry.{CutsWith}
 use Rattle.outcome.specs.declared.Answer.{Answer}
 
 -- ---- equal in all they hold
@@ -94,9 +94,9 @@ NoTrace size = (p q : Program) (keep rec : List ℕ) (flag : ℕ) → 0 < flag �
 abbrev pub NoTraceCopied : (Program → ℕ) → Type 0
 NoTraceCopied size = (p q : Program) (keep rec : List ℕ) → AllAlike keep p q → SameReply size p q keep rec 0
 
--- two calls by their contracts: the same answer, output and work words, where the lent memory was the same before
-abbrev pub SameCalls : Program → Program → List ℕ → List ℕ → ℕ → Type 0
-SameCalls p q keep rec flag =
+-- two calls that ask for so many words, by their contracts: the same answer, output and work words, where the lent memory was the same before
+abbrev pub SameCalls : (Program → ℕ) → Program → Program → List ℕ → List ℕ → ℕ → Type 0
+SameCalls size p q keep rec flag =
     (cid ask : Bool) (font font' name work out work₁ out₁ work₂ out₂ : List ℕ) (r s : Answer) → readFont font ≡ got p → readFont font' ≡ got q
-    → Cuts cid ask font name keep rec flag work out work₁ out₁ r → Cuts cid ask font' name keep rec flag work out work₂ out₂ s
+    → CutsWith size cid ask font name keep rec flag work out work₁ out₁ r → CutsWith size cid ask font' name keep rec flag work out work₂ out₂ s
     → (r ≡ s) × (out₁ ≡ out₂) × (work₁ ≡ work₂)

@@ -18,12 +18,14 @@ use Rattle.record.specs.Record.{recordFine}
 use Rattle.dict.specs.Lookup.{rosIn, cidKeyed}
 use Rattle.cff.specs.Font.{Got, got, Program, readFont}
 use Rattle.cff.specs.Find.{workSize}
+use Rattle.small.specs.Small.{smallSize}
 use Rattle.cff.specs.Reads.{programOf}
 use Rattle.cff.specs.File.{InFile, tableIn}
 use Rattle.cff.specs.declared.font.Font.{Font}
 use Rattle.subset.specs.Kept.{keptOf}
 use Rattle.subset.specs.Pruned.{May, fail, yes}
 use Rattle.subset.specs.Cut.{Outcome, refused as refusedCut, subset, allFound, hasRos, sameBool, unsupportedIn}
+use Rattle.small.specs.Theorem.{small-less}
 use Rattle.parts.specs.Ready.{FontHeld}
 use Rattle.outcome.specs.Entry.{answerOf, refusalOf, cutBehind, Passed}
 use Rattle.outcome.specs.declared.Answer.{Answer}
@@ -100,10 +102,10 @@ module _ (p : Program) (name keep : List ℕ) (words lent : ℕ) (can : CanCut p
           below = h .below;
           found = h .found;
           recorded = fine;
-          room = can .room;
+          room = omega (arith, can .room, small-less p);
         }
 
-    no-number : refusalOf (cidKeyed (p .top)) false p (length name) keep rec flag words ≡ 0
+    no-number : refusalOf workSize (cidKeyed (p .top)) false p (length name) keep rec flag words ≡ 0
     unfolding refusalOf
     no-number =
         let h = trace-passes p keep lent flag rec e in
@@ -118,7 +120,7 @@ module _ (p : Program) (name keep : List ℕ) (words lent : ℕ) (can : CanCut p
     -- the cut behind all refusals
     pub cut-behind : tracedCut p name keep words lent ≡ cutBehind false p name keep rec flag 67108864
     cut-behind =
-        cut-passed ∙ ap (cutTraced p name keep words) e ∙ program-cut (cidKeyed (p .top)) false p name keep rec flag words 67108864
+        cut-passed ∙ ap (cutTraced p name keep words) e ∙ program-cut workSize (cidKeyed (p .top)) false p name keep rec flag words 67108864
         ∙ ap (λ (k : ℕ). pick (eqb k 0) (cutBehind false p name keep rec flag 67108864) (refusedCut k)) no-number
 
 -- ---- the code
@@ -203,11 +205,11 @@ module _ (file : List ℕ) (f : Font) (b : List ℕ) (octets : Octets file) (hel
 module _ (file : List ℕ) (f : Font) (b : List ℕ) (octets : Octets file) (held : InFile file f b) (keep rec : List ℕ) where
   pub only-asked : (words : ℕ) → workSize (programOf (tableIn file f) f) ≤ words → allBelow (length (programOf (tableIn file f) f .charstrings)) keep ≡ true
       → Recorded (programOf (tableIn file f) f) keep rec
-      → FontHeld b f × (allBelow (f .charstrings .count) keep ≡ true) × (workSize (programOf b f) ≤ words) × Recorded (programOf b f) keep rec
+      → FontHeld b f × (allBelow (f .charstrings .count) keep ≡ true) × (smallSize (programOf b f) ≤ words) × Recorded (programOf b f) keep rec
   only-asked words room below recorded = (
     font-held file f b octets held,
     ap (λ (n : ℕ). allBelow n keep) (sym (items-length (tableIn file f) (f .charstrings))) ∙ below,
-    subst (λ (l : List ℕ). workSize (programOf l f) ≤ words) (sym (held .bytes)) room,
+    omega (arith, small-less (programOf b f), subst (λ (l : List ℕ). workSize (programOf l f) ≤ words) (sym (held .bytes)) room),
     subst (λ (l : List ℕ). Recorded (programOf l f) keep rec) (sym (held .bytes)) recorded,
   )
 

@@ -123,7 +123,7 @@ module _ (p : Program) (name keep : List ℕ) (words lent : ℕ)
   by-trace (refusedTrace n) e x y z h = (refl, trace-low p keep lent n e .1)
   by-trace (traced flag rec) e x y z h =
       let q = trace-passes p keep lent flag rec e in
-      let a = program-cut (cidKeyed (p .top)) false p name keep rec flag words 67108864 in
+      let a = program-cut workSize (cidKeyed (p .top)) false p name keep rec flag words 67108864 in
       let k = nine (unsupportedIn false p) ros (ltb 65535 (length name)) _ _ _ (ltb words (workSize p)) (cutBehind false p name keep rec flag 67108864) x y z (q .below) (q .found) (fine flag rec e) h in
       (a ∙ k .0, k .1)
 

@@ -8,7 +8,6 @@ pub mod WritingLaws
 pub mod SubrsLaws
 pub mod WaysLaws
 pub mod CodeLaws
-pub mod CharstringsLaws
 pub mod RecordLaws
 pub mod Windows
 pub mod WindowsLaws

@@ -1,30 +1,28 @@
--- The words that ranking leaves say what the record has reached (document 01, 'Reach record'): the bodies by the words are the bodies by the
--- record, of the globals, of the locals of an FD, and of the glyphs in the order in which they are written.
-use Prim.Native.Nat.{ℕ, zero, suc, _+_, _≤_, _<_}
+-- The words that ranking leaves say what the record has reached (document 01, 'Reach record'): the subroutines by the words are the subroutines
+-- by the record, of the globals and of the locals of an FD.
+use Prim.Native.Nat.{ℕ, suc, _+_, _≤_, _<_}
 use mathlib.Core.Path.{_≡_, refl, sym, ap, _∙_}
-use mathlib.Core.Bool.{Bool, true, false, not}
+use mathlib.Core.Bool.{Bool, true, false}
 use mathlib.Core.List.{List, [], _∷_}
 use native.Mathlib.Decide.{decLe}
 use native.Mathlib.Omega.{arith}
-use borrow.Author.Tests.{lt-ltb, eqb-true, eq-eqb, ne-eqb}
+use borrow.Author.Tests.{lt-ltb, eqb-true}
 use lib.Dec.{eqb}
 use lib.IntN.{ℤ}
 use lib.ListN.{length, take, drop, getD}
 use Rattle.octets.specs.Pick.{pick}
-use Rattle.unfold.specs.Unfold.{Row, Site, glyph}
+use Rattle.unfold.specs.Unfold.{Row, Site}
 use Rattle.prune.specs.Renumber.{Calls}
-use Rattle.cff.specs.Font.{Program}
 use Rattle.subset.specs.Kept.{those}
 use Rattle.bits.specs.Bits.{countBelow, wordsFor, bitsOf}
 use Rattle.bits.specs.BitsLaws.{count-alike}
 use Rattle.bits.specs.WordsLaws.{bit-told}
-use Rattle.subset.specs.Pruned.{May, fail, yes as made, and, each, mapped, rank, reached, renumberedBody, renumberedSubrs, stubbedFrom, callsIn}
+use Rattle.subset.specs.Pruned.{fail, yes as made, each, reached, renumberedBody, renumberedSubrs, stubbedFrom}
 use Rattle.renumber.specs.RanksLaws.{HoldsRanks, past-unreached}
 use Rattle.renumber.specs.declared.Ranks.{Ranks}
-use Rattle.bodies.specs.Ways.{holds, newBody, bodyBy, subrsBy, reachedIn, glyphAt, every, callsAt, charstringBy, newCharstrings, charstringsBy}
-use Rattle.bodies.specs.Pruning.{allHold, renumberedGlyph, bodiesBy}
+use Rattle.bodies.specs.Ways.{subrsBy, reachedIn}
 use Rattle.bodies.specs.SubrsLaws.{reached-none}
-use Rattle.bodies.specs.WaysLaws.{new-body-alike, body-by-alike, subrs-by-alike, holds-each}
+use Rattle.bodies.specs.WaysLaws.{subrs-by-alike}
 
 -- ---- what is reached
 
@@ -78,67 +76,3 @@ subrs-record way rows set set' calls calls' site subrs below all = go (eqb way 0
         let f : stubbedFrom set 0 subrs ≡ stubbedFrom set' 0 subrs
         = stubbed-alike set set' 0 subrs (λ i h. let z : 0 + i ≡ i = omega arith in ap set z ∙ below i h ∙ ap set' (sym z)) in
         rw e (ap (λ (l : List (List ℕ)). made (pick (eqb way 1) l subrs)) f)
-
--- ---- charstrings
-
--- each by its place in a list
-each-placed : {A : Type 0} (f h : ℕ → May A) (k : ℕ) (l : List ℕ) → ((i : ℕ) → i < length l → f (k + i) ≡ h (getD l i 0)) → each f (those every (length l) k) ≡ each h l
-unfolding each those
-each-placed f h k [] same = refl
-each-placed {A} f h k (x ∷ l) same =
-    let z : k ≡ k + 0 = omega arith in
-    let e : f k ≡ h x = ap f z ∙ same 0 (omega arith) in
-    ap (λ (m : May A). and m (λ b. and (each f (those every (length l) (k + 1))) (λ bs. made (b ∷ bs)))) e
-    ∙ ap (λ (m : May (List A)). and (h x) (λ b. and m (λ bs. made (b ∷ bs))))
-    (each-placed f h (k + 1) l (λ i q. let y : k + 1 + i ≡ k + suc i = omega arith in ap f y ∙ same (suc i) (omega arith)))
-
-mapped-placed : {A : Type 0} (f h : ℕ → A) (k : ℕ) (l : List ℕ) → ((i : ℕ) → i < length l → f (k + i) ≡ h (getD l i 0)) → mapped f (those every (length l) k) ≡ mapped h l
-unfolding mapped those
-mapped-placed f h k [] same = refl
-mapped-placed {A} f h k (x ∷ l) same =
-    let z : k ≡ k + 0 = omega arith in
-    let e : f k ≡ h x = ap f z ∙ same 0 (omega arith) in
-    ap (λ (m : A). m ∷ mapped f (those every (length l) (k + 1))) e
-    ∙ ap (λ (m : List A). h x ∷ m) (mapped-placed f h (k + 1) l (λ i q. let y : k + 1 + i ≡ k + suc i = omega arith in ap f y ∙ same (suc i) (omega arith)))
-
-module _ (way : ℕ) (p : Program) (rows : List Row) (cid : Bool) (ws : List ℕ) (n : ℕ) (table : List ℕ) (globals : Ranks) (order : List ℕ)
-    (glyphs : (i : ℕ) → i < length order → glyphAt ws i ≡ getD order i 0)
-    (alike : (i : ℕ) → i < length order → way ≡ 0 → (b : ℕ) (z : ℤ)
-    → callsAt way rows cid ws n table globals (p .charstrings) i b z ≡ callsIn p rows (getD (p .fds) (getD order i 0) 0) b z) where
-  -- the charstring of a glyph by the record
-  abbrev recordBody : ℕ → May (List ℕ)
-  recordBody g = bodyBy way rows (callsIn p rows (getD (p .fds) g 0)) (glyph g) (getD (p .charstrings) g [])
-
-  placed-body : (i : ℕ) → i < length order → charstringBy way rows cid ws n table globals (p .charstrings) (0 + i) ≡ recordBody (getD order i 0)
-  placed-body i h =
-      let z : 0 + i ≡ i = omega arith in
-      ap (charstringBy way rows cid ws n table globals (p .charstrings)) z
-      ∙ ap (λ (g : ℕ). bodyBy way rows (callsAt way rows cid ws n table globals (p .charstrings) i) (glyph g) (getD (p .charstrings) g [])) (glyphs i h)
-      ∙ body-by-alike way rows (callsAt way rows cid ws n table globals (p .charstrings) i) (callsIn p rows (getD (p .fds) (getD order i 0) 0))
-      (glyph (getD order i 0)) (getD (p .charstrings) (getD order i 0) []) (alike i h)
-
-  -- the charstrings by the words are those of the glyphs in their order
-  pub charstrings-record : charstringsBy way rows cid ws n table globals (p .charstrings) (length order) ≡ each recordBody order
-  charstrings-record = each-placed (charstringBy way rows cid ws n table globals (p .charstrings)) recordBody 0 order placed-body
-
-  placed-new : (i : ℕ) → i < length order
-      → newBody way rows (callsAt way rows cid ws n table globals (p .charstrings) (0 + i)) (glyph (glyphAt ws (0 + i))) (getD (p .charstrings) (glyphAt ws (0 + i)) [])
-      ≡ newBody way rows (callsIn p rows (getD (p .fds) (getD order i 0) 0)) (glyph (getD order i 0)) (getD (p .charstrings) (getD order i 0) [])
-  placed-new i h =
-      let z : 0 + i ≡ i = omega arith in
-      ap (λ (j : ℕ). newBody way rows (callsAt way rows cid ws n table globals (p .charstrings) j) (glyph (glyphAt ws j)) (getD (p .charstrings) (glyphAt ws j) [])) z
-      ∙ ap (λ (g : ℕ). newBody way rows (callsAt way rows cid ws n table globals (p .charstrings) i) (glyph g) (getD (p .charstrings) g [])) (glyphs i h)
-      ∙ new-body-alike way rows (callsAt way rows cid ws n table globals (p .charstrings) i) (callsIn p rows (getD (p .fds) (getD order i 0) 0))
-      (glyph (getD order i 0)) (getD (p .charstrings) (getD order i 0) []) (alike i h)
-
-  -- they are the charstrings of the bodies by the way
-  pub new-charstrings-record : (used : List ℕ)
-      → newCharstrings way rows cid ws n table globals (p .charstrings) (length order) ≡ bodiesBy p rows way used order .charstrings
-  unfolding bodiesBy
-  new-charstrings-record used = mapped-placed _ (λ g. newBody way rows (callsIn p rows (getD (p .fds) g 0)) (glyph g) (getD (p .charstrings) g [])) 0 order placed-new
-
-  -- renumbered: none fails where that of no glyph does
-  pub charstrings-hold : way ≡ 0 → holds (charstringsBy way rows cid ws n table globals (p .charstrings) (length order)) ≡ allHold (renumberedGlyph p rows) order
-  charstrings-hold e =
-      ap holds (charstrings-record ∙ ap (λ (w : ℕ). each (λ g. bodyBy w rows (callsIn p rows (getD (p .fds) g 0)) (glyph g) (getD (p .charstrings) g [])) order) e)
-      ∙ holds-each (renumberedGlyph p rows) order

@@ -1,4 +1,4 @@
--- Subroutines and charstrings (document 01, 'Corners in write.rs') by the code's own values: where they stand, and how they are written.
+-- Subroutines (document 01, 'Corners in write.rs') by the code's own values: where they stand, and how they are written.
 use Prim.Native.Nat.{ℕ}
 use mathlib.Core.Bool.{Bool}
 use mathlib.Core.List.{List}
@@ -6,9 +6,8 @@ use Rattle.index.specs.Index.{itemsOf}
 use Rattle.unfold.specs.Unfold.{Row}
 use Rattle.subset.specs.Pruned.{May}
 use Rattle.renumber.specs.Ranks.{callsBy}
-use Rattle.bodies.specs.Ways.{newSubrs, subrsBy, subrBy, reachedIn, siteIn, isKept, SubrsIn, charstringBy, newCharstrings, charstringsBy, CharstringsIn}
+use Rattle.bodies.specs.Ways.{newSubrs, subrsBy, subrBy, reachedIn, siteIn, isKept, SubrsIn}
 use Rattle.bodies.specs.declared.subrs.Source.{Source}
-use Rattle.bodies.specs.declared.charstrings.Kept.{Kept}
 
 -- which subroutines are written
 abbrev pub keptFrom : Source → List ℕ → ℕ → Bool
@@ -28,18 +27,3 @@ module _ (from : Source) (rows : List Row) (ws b : List ℕ) where
 
   abbrev pub newSubrsFrom : List (List ℕ)
   newSubrsFrom = newSubrs (from .way) rows (reachedIn ws (from .own)) (callsBy ws (from .locals) (from .globals)) (siteIn (from .of)) (itemsOf b (from .ix))
-
-module _ (kept : Kept) (rows : List Row) (ws table b : List ℕ) where
-  -- what charstrings ask of the font, the words and the tables
-  abbrev pub KeptIn : Type 0
-  KeptIn = CharstringsIn b ws (kept .ix) kept table (kept .globals) rows (kept .rising)
-
-  -- the i-th by the way; all, or that their renumbering fails; all
-  abbrev pub charstringFrom : ℕ → May (List ℕ)
-  charstringFrom i = charstringBy (kept .way) rows (kept .cid) ws (kept .all) table (kept .globals) (itemsOf b (kept .ix)) i
-
-  abbrev pub charstringsFrom : May (List (List ℕ))
-  charstringsFrom = charstringsBy (kept .way) rows (kept .cid) ws (kept .all) table (kept .globals) (itemsOf b (kept .ix)) (kept .count)
-
-  abbrev pub newCharstringsFrom : List (List ℕ)
-  newCharstringsFrom = newCharstrings (kept .way) rows (kept .cid) ws (kept .all) table (kept .globals) (itemsOf b (kept .ix)) (kept .count)

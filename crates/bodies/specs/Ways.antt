@@ -1,6 +1,6 @@
 -- The charstrings and subroutines of a subset, by the way (document 01, 'Corners in write.rs'): 0 renumbered, 1 stubbed, 2 copied; the new
 -- numbers of subroutines stand in the work words.
-use Prim.Native.Nat.{ℕ, _+_, _%_, _≤_, _<_}
+use Prim.Native.Nat.{ℕ, _+_, _≤_, _<_}
 use mathlib.Core.Path.{_≡_}
 use mathlib.Core.Bool.{Bool, true, false, not}
 use mathlib.Core.List.{List, [], _∷_}
@@ -11,19 +11,18 @@ use Rattle.bits.specs.Bits.{wordsFor, bitIn, below}
 use Rattle.index.specs.Good.{Good}
 use Rattle.index.specs.Write.{total, indexBytes}
 use Rattle.index.specs.declared.Index.{Index}
-use Rattle.unfold.specs.Unfold.{Row, Site, glyph, local, global}
+use Rattle.unfold.specs.Unfold.{Row, Site, local, global}
 use Rattle.prune.specs.Renumber.{Calls}
 use Rattle.subset.specs.Kept.{those}
-use Rattle.subset.specs.Pruned.{May, fail, yes, each, mapped, renumberedBody, renumberedSubrs, stubbedFrom}
+use Rattle.subset.specs.Pruned.{May, fail, yes, renumberedBody, renumberedSubrs, stubbedFrom}
 use Rattle.reach.specs.Reach.{rises}
-use Rattle.renumber.specs.Ranks.{callsBy, Ranked}
+use Rattle.renumber.specs.Ranks.{Ranked}
 use Rattle.renumber.specs.Turn.{bodyOf}
 use Rattle.renumber.specs.declared.Ranks.{Ranks}
 use Rattle.bodies.specs.declared.Measured.{Measured}
 use Rattle.bodies.specs.declared.Measured.the-variants.{Failed, Total}
 use Rattle.bodies.specs.declared.subrs.Subrs.{Subrs}
 use Rattle.bodies.specs.declared.subrs.Subrs.the-variants.{Global, Local}
-use Rattle.bodies.specs.declared.charstrings.Kept.{Kept}
 
 -- the bodies of some, whether there are any, and how many bytes they have together
 abbrev pub manyOf : May (List (List ℕ)) → List (List ℕ)
@@ -106,14 +105,7 @@ pub record SubrsIn (b ws : List ℕ) (ix : Index) (own locals globals : Ranks) (
   pub order : rising ≡ true → rises rows ≡ true
   pub fits : SubrsFit of
 
--- ---- charstrings
-
--- the glyph of the i-th word, and its FD: in a CID-keyed font the word from n on
-abbrev pub glyphAt : List ℕ → ℕ → ℕ
-glyphAt ws i = getD ws i 0 % 65536
-
-abbrev pub fdAt : Bool → List ℕ → ℕ → ℕ → ℕ
-fdAt cid ws n i = pick cid (getD ws (n + i) 0) 0
+-- ---- tables and numbers
 
 -- the bits of the locals of an FD by the table of all FDs: where they stand, behind that of each how many, behind these how many are reached,
 -- and below each eighth
@@ -127,33 +119,3 @@ every i = true
 
 abbrev pub upTo : ℕ → List ℕ
 upTo k = those every k 0
-
-module _ (way : ℕ) (rows : List Row) (cid : Bool) (ws : List ℕ) (n : ℕ) (table : List ℕ) (globals : Ranks) (items : List (List ℕ)) where
-  -- the calls of the i-th kept glyph
-  abbrev pub callsAt : ℕ → Calls
-  callsAt i = callsBy ws (ranksIn table (fdAt cid ws n i)) globals
-
-  -- its charstring by the way, or that its renumbering fails
-  abbrev pub charstringBy : ℕ → May (List ℕ)
-  charstringBy i = bodyBy way rows (callsAt i) (glyph (glyphAt ws i)) (getD items (glyphAt ws i) [])
-
-  -- those of the k kept glyphs; the same, or that their renumbering fails
-  abbrev pub newCharstrings : ℕ → List (List ℕ)
-  newCharstrings k = mapped (λ i. newBody way rows (callsAt i) (glyph (glyphAt ws i)) (getD items (glyphAt ws i) [])) (upTo k)
-
-  abbrev pub charstringsBy : ℕ → May (List (List ℕ))
-  charstringsBy k = each charstringBy (upTo k)
-
--- what the charstrings ask
-pub record CharstringsIn (b ws : List ℕ) (ix : Index) (kept : Kept) (table : List ℕ) (globals : Ranks) (rows : List Row) (rising : Bool) : Type 0 where
-  pub good : Good b ix
-  pub few : ix .count < 65536
-  pub size : length b ≤ 67108864
-  pub keptFew : kept .count < 65536
-  pub inside : kept .all + kept .count ≤ length ws
-  pub tableLong : 1280 ≤ length table
-  pub glyphs : (i : ℕ) → i < kept .count → glyphAt ws i < ix .count
-  pub fds : (i : ℕ) → i < kept .count → fdAt (kept .cid) ws (kept .all) i < 256
-  pub localRanks : (i : ℕ) → i < kept .count → Ranked ws (ranksIn table (fdAt (kept .cid) ws (kept .all) i))
-  pub globalRanks : Ranked ws globals
-  pub order : rising ≡ true → rises rows ≡ true

@@ -3,12 +3,10 @@ use Prim.Native.Nat.{ℕ}
 use mathlib.Core.Path.{_≡_, refl, sym, ap, _∙_, fun-ext}
 use mathlib.Core.Bool.{Bool, true, false}
 use mathlib.Core.List.{List, [], _∷_}
-use borrow.Author.Tests.{eqb-true}
 use lib.Dec.{eqb}
 use lib.IntN.{ℤ}
-use lib.ListN.{getD}
 use Rattle.octets.specs.Pick.{pick}
-use Rattle.unfold.specs.Unfold.{Row, Site, glyph}
+use Rattle.unfold.specs.Unfold.{Row, Site}
 use Rattle.prune.specs.Renumber.{Calls}
 use Rattle.prune.specs.StepLaws.{zero-one}
 use Rattle.cff.specs.Font.{Program}
@@ -16,10 +14,8 @@ use Rattle.subset.specs.Pruned.{Bodies, May, fail, yes, and, each, mapped, renu
 use Rattle.subset.specs.EachLaws.{and-yes}
 use Rattle.faithful.specs.RenumberedLaws.{renews}
 use Rattle.renumber.specs.Turn.{bodyOf}
-use Rattle.bodies.specs.Ways.{manyOf, holds, newBody, bodyBy, newSubrs, subrsBy, callsAt, glyphAt, upTo, charstringBy, newCharstrings, charstringsBy}
-use Rattle.bodies.specs.SubrsLaws.{new-body-is}
+use Rattle.bodies.specs.Ways.{manyOf, holds, newSubrs, subrsBy}
 use Rattle.bodies.specs.Pruning.{allHold, renumberedGlobals, renumberedLocals, renumberedGlyph, bodiesBy, renumbers, wayOf}
-use Rattle.renumber.specs.declared.Ranks.{Ranks}
 
 -- ---- sets and calls that are the same for every number
 
@@ -39,22 +35,6 @@ subrs-by-alike way rows set set' calls calls' site subrs same alike =
     let e : set ≡ set' = fun-ext same in
     let f : calls ≡ calls' = fun-ext (λ b. fun-ext (alike b)) in
     ap (λ (s : ℕ → Bool). subrsBy way rows s calls site subrs) e ∙ ap (λ (c : Calls). subrsBy way rows set' c site subrs) f
-
--- a body, whose calls matter only where it is renumbered
-pub body-by-alike : (way : ℕ) (rows : List Row) (calls calls' : Calls) (site : Site) (s : List ℕ)
-    → (way ≡ 0 → (b : ℕ) (z : ℤ) → calls b z ≡ calls' b z) → bodyBy way rows calls site s ≡ bodyBy way rows calls' site s
-body-by-alike way rows calls calls' site s alike = go (eqb way 0) refl
-  where
-    go : (t : Bool) → eqb way 0 ≡ t → bodyBy way rows calls site s ≡ bodyBy way rows calls' site s
-    go true e =
-        let f : calls ≡ calls' = fun-ext (λ b. fun-ext (alike (eqb-true way 0 e) b)) in
-        ap (λ (c : Calls). bodyBy way rows c site s) f
-    go false e = rw e
-
-pub new-body-alike : (way : ℕ) (rows : List Row) (calls calls' : Calls) (site : Site) (s : List ℕ)
-    → (way ≡ 0 → (b : ℕ) (z : ℤ) → calls b z ≡ calls' b z) → newBody way rows calls site s ≡ newBody way rows calls' site s
-new-body-alike way rows calls calls' site s alike =
-    new-body-is way rows calls site s ∙ ap bodyOf (body-by-alike way rows calls calls' site s alike) ∙ sym (new-body-is way rows calls' site s)
 
 -- ---- each of a list
 
@@ -96,16 +76,6 @@ holds-each {A} f (k ∷ ks) = holds-and (f k) _ (allHold f ks) (λ b. rest b (ea
     rest : (b : A) (m : May (List A)) → holds m ≡ allHold f ks → holds (and m (λ bs. yes (b ∷ bs))) ≡ allHold f ks
     rest b fail h = h
     rest b (yes l) h = h
-
--- ---- charstrings
-
-module _ (way : ℕ) (rows : List Row) (cid : Bool) (ws : List ℕ) (n : ℕ) (table : List ℕ) (globals : Ranks) (items : List (List ℕ)) (k : ℕ) where
-  -- those of the kept glyphs, of which none fails
-  pub new-charstrings-is : holds (charstringsBy way rows cid ws n table globals items k) ≡ true
-      → newCharstrings way rows cid ws n table globals items k ≡ manyOf (charstringsBy way rows cid ws n table globals items k)
-  new-charstrings-is h =
-      mapped-bodies (charstringBy way rows cid ws n table globals items) _
-      (λ i. new-body-is way rows (callsAt way rows cid ws n table globals items i) (glyph (glyphAt ws i)) (getD items (glyphAt ws i) [])) (upTo k) h
 
 -- ---- a font's
 

@@ -11,13 +11,12 @@ use Rattle.unfold.specs.Unfold.{Row}
 use Rattle.dict.specs.Lookup.{cidKeyed}
 use Rattle.cff.specs.Font.{Program}
 use Rattle.cff.specs.Reads.{programOf}
-use Rattle.cff.specs.declared.font.Font.{Font}
 use Rattle.subset.specs.Kept.{usedFds}
 use Rattle.subset.specs.Pruned.{Bodies, Pruned}
 use Rattle.subset.specs.Codes.{Coded, pairCount}
 use Rattle.subset.specs.Subset.{ownByName, ownByCid, subsetByName, subsetByCid, subsetBytes}
 use Rattle.subset.specs.Cut.{ownOf, written}
-use Rattle.kept.specs.Packed.{orderIn}
+use Rattle.order_window.specs.Window.{glyphsOf}
 use Rattle.own_strings.specs.declared.Own.{Own}
 use Rattle.parts.specs.Ready.{bodiesFor}
 use Rattle.parts.specs.declared.Planned.{Planned}
@@ -41,24 +40,24 @@ module _ (p : Program) (keyed : cidKeyed (p .top) ≡ false) where
 
 -- ---- measured, tested and written
 
-module _ (b : List ℕ) (f : Font) (rows : List Row) (used ws : List ℕ) (r : Planned) (table totals : List ℕ)
-    (g : NamedPlan b f rows used ws r table totals) (name slots : List ℕ) (own : Own)
-    (t : NamedStrings (programOf b f) (orderIn (r .kept .count) ws) slots own (length name)) (e : Encoding) (coding : NamedCodes e slots) (at : NamedPlaces)
-    (placed : PlacedNamed (programOf b f) (codedFor e slots) name (orderIn (r .kept .count) ws) (bodiesFor b f rows used ws r) at) (out : List ℕ) where
+module _ (b : List ℕ) (rows : List Row) (used ws : List ℕ) (r : Planned) (table totals : List ℕ)
+    (g : NamedPlan b rows used ws r table totals) (name slots : List ℕ) (own : Own)
+    (t : NamedStrings (programOf b (r .order .f)) (glyphsOf b (r .order .f) ws) slots own (length name)) (e : Encoding) (coding : NamedCodes e slots) (at : NamedPlaces)
+    (placed : PlacedNamed (programOf b (r .order .f)) (codedFor e slots) name (glyphsOf b (r .order .f) ws) (bodiesFor b rows used ws r) at) (out : List ℕ) where
   abbrev p : Program
-  p = programOf b f
+  p = programOf b (r .order .f)
 
   abbrev coded : Coded
   coded = codedFor e slots
 
   abbrev order : List ℕ
-  order = orderIn (r .kept .count) ws
+  order = glyphsOf b (r .order .f) ws
 
   abbrev bodies : Bodies
-  bodies = bodiesFor b f rows used ws r
+  bodies = bodiesFor b rows used ws r
 
   abbrev q : Pruned
-  q = record { way = r .kept .way; bodies = bodies }
+  q = record { way = r .how .way; bodies = bodies }
 
   bytes : subsetBytes p coded name order order bodies ≡ subsetByName p coded name order bodies
   bytes = named-bytes p (g .keyed) coded name order order bodies
@@ -85,7 +84,7 @@ module _ (b : List ℕ) (f : Font) (rows : List Row) (used ws : List ℕ) (r : P
 
     -- written
     pub planned-written : at .end ≤ length out → (out' : List ℕ) (z : ℕ) → Wrote out 0 (subsetByName p coded name order bodies) out' z
-        → Cut (namedOutcome p coded name order (length out) q) out out' (Subset (r .kept .way) (at .end))
+        → Cut (namedOutcome p coded name order (length out) q) out out' (Subset (r .how .way) (at .end))
     planned-written h out' z w =
-        cut-written p coded name order order (length out) q out few pairs small (subst (λ (m : ℕ). m ≤ length out) long h) (r .kept .way) (at .end) out' refl long
+        cut-written p coded name order order (length out) q out few pairs small (subst (λ (m : ℕ). m ≤ length out) long h) (r .how .way) (at .end) out' refl long
         (w .is ∙ ap (put out 0) (sym bytes))

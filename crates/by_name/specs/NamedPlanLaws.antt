@@ -1,35 +1,36 @@
 -- Laws of the planning of a name-keyed cut: FD 0 alone is in use, what planning asks, and what it leaves.
-use Prim.Native.Nat.{ℕ, zero, suc, _*_, _%_, _≤_, _<_}
+use Prim.Native.Nat.{ℕ, zero, suc, _≤_, _<_}
 use mathlib.Core.Path.{_≡_, refl, sym, ap, _∙_, subst}
 use mathlib.Core.Bool.{true, false, not}
 use mathlib.Core.List.{List, [], _∷_}
 use mathlib.Core.Logic.{⊎-elim}
 use native.Mathlib.Omega.{arith}
 use lib.Dec.{eqb}
-use lib.ListN.{length, take, getD, replicate}
-use lib.Seq.{length-take-le}
+use lib.ListN.{length, getD, replicate}
 use Rattle.octets.specs.ListLaws.{zeros-at}
 use Rattle.unfold.specs.Unfold.{Row}
+use Rattle.dict.specs.Lookup.{cidKeyed}
 use Rattle.cff.specs.Font.{Program}
 use Rattle.cff.specs.Reads.{programOf}
-use Rattle.cff.specs.declared.font.Font.{Font}
 use Rattle.index.specs.IndexLaws.{items-length}
 use Rattle.prune.specs.StepLaws.{zero-one}
 use Rattle.subset.specs.Kept.{isIn, those}
-use Rattle.subset.specs.Pruned.{Pruned, mapped, pruned}
-use Rattle.subset.specs.EachLaws.{length-mapped}
+use Rattle.subset.specs.Pruned.{Pruned, pruned}
 use Rattle.subset.specs.KeptListLaws.{in-cases, in-none, in-head, those-has, those-in}
-use Rattle.kept.specs.Packed.{orderIn}
+use Rattle.kept.specs.Packed.{packed}
 use Rattle.faithful.specs.UsedLaws.{fd-there}
 use Rattle.glyph_tables.specs.ThoseLaws.{those-none}
-use Rattle.fds.specs.Locals.{inUse, fdsIn}
-use Rattle.front.specs.Front.{Renamed}
-use Rattle.front.specs.ByNameLaws.{renamed-stays}
+use Rattle.order_window.specs.declared.Order.{Order}
+use Rattle.order_window.specs.Window.{glyphsOf, Ordered}
+use Rattle.order_window.specs.OrderLaws.{order-below}
+use Rattle.order_window.specs.LoopLaws.{glyphs-many}
 use Rattle.own_strings.specs.declared.Own.{Own}
+use Rattle.own_strings.specs.Slots.{wordNames, Different}
+use Rattle.name_strings.specs.Names.{NamesApart}
+use Rattle.fds.specs.Locals.{inUse, fdsIn}
 use Rattle.parts.specs.Ready.{PlanIn, bodiesFor, Ready, Summed}
 use Rattle.parts.specs.declared.Planned.{Planned}
 use Rattle.subset.specs.Codes.{Coded}
-use Rattle.outcome.specs.BothLaws.{part-stays}
 use Rattle.outcome.specs.Entry.{Cut}
 use Rattle.named_parts.specs.Named.{namedOutcome, NamedPlan, NamedStrings, NamedCut, firstFd}
 use Rattle.outcome.specs.declared.Answer.{Answer}
@@ -49,18 +50,12 @@ first-only = one-used (1 ∷ replicate 255 0) 255 refl (first-low 255)
 
 -- ---- planned
 
-module _ (b : List ℕ) (f : Font) (ws : List ℕ) (k : ℕ) (h : NamedCut b f ws k) (used : List ℕ) (only : fdsIn used ≡ 0 ∷ []) where
+module _ (b : List ℕ) (o : Order) (ws window : List ℕ) (h : NamedCut b o ws window) (used : List ℕ) (only : fdsIn used ≡ 0 ∷ []) where
   abbrev p : Program
-  p = programOf b f
-
-  abbrev n : ℕ
-  n = f .charstrings .count
+  p = programOf b (o .f)
 
   abbrev order : List ℕ
-  order = orderIn k ws
-
-  glyphs-are : length (p .charstrings) ≡ n
-  glyphs-are = items-length b (f .charstrings)
+  order = glyphsOf b (o .f) ws
 
   -- FD 0 alone is in use, and is every glyph's
   only-used : (d : ℕ) → d < 256 → inUse used d ≡ true → d ≡ 0
@@ -74,61 +69,60 @@ module _ (b : List ℕ) (f : Font) (ws : List ℕ) (k : ℕ) (h : NamedCut b f w
   one : length (p .privates) ≡ 1
   one = h .read .program .onePrivate (h .keyed)
 
+  there : (i : ℕ) → i < length order → getD order i 0 < length (p .charstrings)
+  there i l = omega (arith, order-below b (o .f) ws (h .read .font .glyphs .held .few) i (omega (arith, glyphs-many b (o .f) ws)), items-length b (o .f .charstrings))
+
   zero-fd : (g : ℕ) → g < length (p .charstrings) → getD (p .fds) g 0 ≡ 0
   zero-fd g l = omega (arith, one, fd-there p g (h .read .program) l)
 
-  pub plan-in : 256 ≤ length used → PlanIn b f false used ws k
+  pub plan-in : 256 ≤ length used → PlanIn b o used ws window
   plan-in long =
       record {
         read = h .read;
         usedLong = long;
         fds = λ d l u. omega (arith, one, only-used d l u);
-        few = h .names .front;
-        order =
-            record {
-              many = sym (length-mapped (λ w. w % 65536) (take k ws) ∙ length-take-le k ws (omega (arith, h .names .room)));
-              room = omega (arith, glyphs-are, h .names .room);
-              glyphs = h .names .is;
-              fds = λ e. absurd (zero-one cc);
-              keyed = sym (h .keyed);
-              there = h .there;
-              within = λ i l. ap (inUse used) (zero-fd (getD order i 0) (h .there i l)) ∙ zero-used;
-            };
+        ordered = h .ordered;
+        within = λ i l. ap (inUse used) (zero-fd (getD order i 0) (there i l)) ∙ zero-used;
         room = h .room;
       }
 
   -- what planning leaves
-  module _ (rows : List Row) (ws' : List ℕ) (r : Planned) (table totals : List ℕ)
-      (ready : Ready b f rows used ws' r table) (summed : Summed b f rows used ws' r table totals)
-      (same : take (2 * n) ws' ≡ take (2 * n) ws) (count : r .kept .count ≡ k) where
-    front-same : take k ws' ≡ take k ws
-    front-same = part-stays 0 k (2 * n) ws ws' (omega (arith, h .names .front)) same
+  module _ (ws' window' : List ℕ) (r : Planned) (ordered : Ordered b ws' window' o) (kind : r .order ≡ o) (stays : glyphsOf b (o .f) ws' ≡ order) where
+    pub prepared-ordered : Ordered b ws' window' (r .order)
+    prepared-ordered = subst (Ordered b ws' window') (sym kind) ordered
 
-    order-same : orderIn (r .kept .count) ws' ≡ order
-    order-same = ap (λ (m : ℕ). orderIn m ws') count ∙ ap (mapped (λ w. w % 65536)) front-same
+    -- the names are those of the same glyphs
+    apart-stays : NamesApart b (r .order .f) ws'
+    apart-stays =
+        subst (λ (x : Order). NamesApart b (x .f) ws') (sym kind)
+        (record { apart = subst (λ (l : List ℕ). Different (wordNames (p .strings) (packed p l))) (sym stays) (h .apart .apart) })
 
-    pub prepared-plan : NamedPlan b f rows used ws' r table totals
-    prepared-plan =
+    pub prepared-plan : (rows : List Row) (table totals : List ℕ) → Ready b rows used ws' r table → Summed b rows used ws' r table totals
+        → NamedPlan b rows used ws' r table totals
+    prepared-plan rows table totals ready summed =
         record {
-          keyed = h .keyed;
-          some = subst (λ (m : ℕ). 0 < m) (sym count) (h .some);
+          keyed = ap (λ (x : Order). cidKeyed (programOf b (x .f) .top)) kind ∙ h .keyed;
+          some = omega (arith, ap (λ (x : Order). x .count) kind, ordered .one);
           ready = ready;
           summed = summed;
           only = only;
-          names =
-              subst (λ (m : ℕ). Renamed p n m ws') (sym count)
-              (renamed-stays p n k ws ws' (h .names) (omega (arith, ready .order .room, glyphs-are, count)) front-same
-              (part-stays n k (2 * n) ws ws' (omega (arith, h .names .front)) same));
+          apart = apart-stays;
         }
 
-    pub prepared-strings : (slots : List ℕ) (own : Own) (m : ℕ) → NamedStrings p order slots own m → NamedStrings p (orderIn (r .kept .count) ws') slots own m
-    prepared-strings slots own m s = subst (λ (l : List ℕ). NamedStrings p l slots own m) (sym order-same) s
+    pub prepared-strings : (slots : List ℕ) (own : Own) (m : ℕ) → NamedStrings p order slots own m
+        → NamedStrings (programOf b (r .order .f)) (glyphsOf b (r .order .f) ws') slots own m
+    prepared-strings slots own m s =
+        subst (λ (x : Order). NamedStrings (programOf b (x .f)) (glyphsOf b (x .f) ws') slots own m) (sym kind)
+        (subst (λ (l : List ℕ). NamedStrings p l slots own m) (sym stays) s)
 
-    pub prepared-cut : (traced : ℕ) → record { way = r .kept .way; bodies = bodiesFor b f rows used ws' r } ≡ pruned p rows (fdsIn used) order traced
+    pub prepared-cut : (rows : List Row) (traced : ℕ) → record { way = r .how .way; bodies = bodiesFor b rows used ws' r } ≡ pruned p rows (fdsIn used) order traced
         → (coded : Coded) (name out out' : List ℕ) (a : Answer)
-        → Cut (namedOutcome p coded name (orderIn (r .kept .count) ws') (length out) (record { way = r .kept .way; bodies = bodiesFor b f rows used ws' r })) out out' a
+        → Cut (namedOutcome (programOf b (r .order .f)) coded name (glyphsOf b (r .order .f) ws') (length out) (record { way = r .how .way; bodies = bodiesFor b rows used ws' r }))
+        out out' a
         → Cut (namedOutcome p coded name order (length out) (pruned p rows (0 ∷ []) order traced)) out out' a
-    prepared-cut traced e coded name out out' a c =
+    prepared-cut rows traced e coded name out out' a c =
+        let q : Pruned = record { way = r .how .way; bodies = bodiesFor b rows used ws' r } in
         subst (λ (fs : List ℕ). Cut (namedOutcome p coded name order (length out) (pruned p rows fs order traced)) out out' a) only
-        (subst (λ (q : Pruned). Cut (namedOutcome p coded name order (length out) q) out out' a) e
-        (subst (λ (l : List ℕ). Cut (namedOutcome p coded name l (length out) (record { way = r .kept .way; bodies = bodiesFor b f rows used ws' r })) out out' a) order-same c))
+        (subst (λ (x : Pruned). Cut (namedOutcome p coded name order (length out) x) out out' a) e
+        (subst (λ (l : List ℕ). Cut (namedOutcome p coded name l (length out) q) out out' a) stays
+        (subst (λ (x : Order). Cut (namedOutcome (programOf b (x .f)) coded name (glyphsOf b (x .f) ws') (length out) q) out out' a) kind c)))

@@ -1,18 +1,20 @@
 // The cut of a name-keyed font (the Rust's subset).
 ghost use mathlib.Core.Bool.{false};
 ghost use mathlib.Core.List.{[], _∷_};
-ghost use Prim.Native.Nat.{_+_, _≤_};
+ghost use Prim.Native.Nat.{_≤_};
 ghost use mathlib.Core.Path.{_≡_};
-ghost use lib.ListN.{length, take, drop};
+ghost use lib.ListN.{length, take};
+ghost use Rattle.octets.specs.Octets.{put};
 ghost use Rattle.record.specs.Record.{rowsOf};
-ghost use Rattle.cff.specs.Reads.{programOf, GoodFont};
-ghost use Rattle.subset.specs.Texts.{namesOf};
+ghost use Rattle.cff.specs.Reads.{programOf};
 ghost use Rattle.subset.specs.Codes.{codedIf};
-ghost use Rattle.subset.specs.Subset.{ownByName, newIds};
+ghost use Rattle.subset.specs.Subset.{ownByName};
 ghost use Rattle.subset.specs.Pruned.{pruned};
+ghost use Rattle.order_window.specs.Window.{glyphsOf, Ordered};
+ghost use Rattle.encoding.specs.Encoded.{CanRename};
 ghost use Rattle.parts.specs.Ready.{FontHeld, bodiesFor};
 ghost use Rattle.outcome.specs.Entry.{cutBehind, Cut, Passed};
-ghost use Rattle.by_name.specs.NamedKeptLaws.{CodesBehind};
+ghost use Rattle.by_name.specs.NamedKeptLaws.{CodesBehind, cutOrdered};
 ghost use Rattle.named_parts.specs.Named.{codedFor, namedOutcome, NamedPlan, NamedStrings, NamedCodes, NamedCut};
 use cff::font::Font;
 use encoding::Encoding;
@@ -21,18 +23,17 @@ use named_parts::CodedCut;
 use named_parts::PlacedCut;
 use named_parts::places_named;
 use named_parts::put_named;
+use order_window::Order;
 use outcome::Answer;
 use outcome::Prepared;
 use own_strings::Own;
 use parts::plan_all;
 use refusal::Refusal;
-ghost use Rattle.kept.specs.Packed.{orderIn};
 
-// The own strings of a subset, what it has of an encoding, and how many glyphs it keeps.
+// The own strings of a subset, and what it has of an encoding.
 pub struct Names {
     pub own: Own,
     pub encoding: Encoding,
-    pub count: usize,
 }
 
 // The subset by the plan, or refusal 10 or 11.
@@ -43,23 +44,23 @@ fn cut_planned(
     slots: &[usize],
     used: &[u32],
     words: &[u32],
+    window: &mut [u32],
     table: &[usize],
     totals: &[usize],
     rows: &[u8],
     out: &mut [u8],
 ) -> Answer
-    requires { ⌜ (NamedPlan (now font) (c .cut .f) (rowsOf (now rows)) (now used) (now words) (c .cut .plan) (now table) (now totals))
-        × (NamedStrings (programOf (now font) (c .cut .f)) (orderIn (c .cut .plan .kept .count) (now words)) (now slots) (c .cut .own) (length (now name)))
-        × (NamedCodes (c .encoding) (now slots)) ⌝ }
-    ensures { λ a. ⌜ Cut (namedOutcome (programOf (now (font .entry)) (c .cut .f)) (codedFor (c .encoding) (now (slots .entry))) (now (name .entry))
-        (orderIn (c .cut .plan .kept .count) (now (words .entry))) (length (now (out .entry)))
-        (record { way = c .cut .plan .kept .way; bodies = bodiesFor (now (font .entry)) (c .cut .f) (rowsOf (now (rows .entry))) (now (used .entry)) (now (words .entry)) (c .cut .plan) }))
+    requires { ⌜ (NamedPlan (now font) (rowsOf (now rows)) (now used) (now words) (c .cut .plan) (now table) (now totals))
+        × (NamedStrings (programOf (now font) (c .cut .plan .order .f)) (glyphsOf (now font) (c .cut .plan .order .f) (now words)) (now slots) (c .cut .own) (length (now name)))
+        × (NamedCodes (c .encoding) (now slots)) × (Ordered (now font) (now words) (now window) (c .cut .plan .order)) ⌝ }
+    ensures { λ a. ⌜ Cut (namedOutcome (programOf (now (font .entry)) (c .cut .plan .order .f)) (codedFor (c .encoding) (now (slots .entry))) (now (name .entry))
+        (glyphsOf (now (font .entry)) (c .cut .plan .order .f) (now (words .entry))) (length (now (out .entry)))
+        (record { way = c .cut .plan .how .way; bodies = bodiesFor (now (font .entry)) (rowsOf (now (rows .entry))) (now (used .entry)) (now (words .entry)) (c .cut .plan) }))
         (now (out .entry)) (now (out .exit)) a ⌝ }
 {
     let cut = c.cut;
     let encoding = c.encoding;
-    let r = cut.plan;
-    let kept = r.kept;
+    let how = cut.plan.how;
     let at = places_named(c, font, name, slots, used, words, table, totals, rows);
     let end = at.end;
     if 67108864 < end {
@@ -76,35 +77,37 @@ fn cut_planned(
         slots,
         used,
         words,
+        window,
         table,
         totals,
         rows,
         out,
     );
     Answer::Subset {
-        way: kept.way,
+        way: how.way,
         len: end,
     }
 }
 
-// The subset of the glyphs whose names have new ids, or refusal 10 or 11. FD 0 is in use.
+// The subset of the kept glyphs, whose strings and encoding are prepared, or refusal 10 or 11. FD 0 is in use.
 fn cut_prepared(
     font: &[u8],
-    f: Font,
+    o: Order,
     name: &[u8],
     slots: &[usize],
     names: Names,
     rows: &[u8],
     traced: u8,
     words: &mut [u32],
+    window: &mut [u32],
     out: &mut [u8],
 ) -> Answer
-    requires { ⌜ (NamedCut (now font) f (now words) (names .count))
-        × (NamedStrings (programOf (now font) f) (orderIn (names .count) (now words)) (now slots) (names .own) (length (now name)))
+    requires { ⌜ (NamedCut (now font) o (now words) (now window))
+        × (NamedStrings (programOf (now font) (o .f)) (glyphsOf (now font) (o .f) (now words)) (now slots) (names .own) (length (now name)))
         × (NamedCodes (names .encoding) (now slots)) ⌝ }
-    ensures { λ a. ⌜ Cut (namedOutcome (programOf (now (font .entry)) f) (codedFor (names .encoding) (now (slots .entry))) (now (name .entry))
-        (orderIn (names .count) (now (words .entry))) (length (now (out .entry)))
-        (pruned (programOf (now (font .entry)) f) (rowsOf (now (rows .entry))) (0 ∷ []) (orderIn (names .count) (now (words .entry))) traced))
+    ensures { λ a. ⌜ Cut (namedOutcome (programOf (now (font .entry)) (o .f)) (codedFor (names .encoding) (now (slots .entry))) (now (name .entry))
+        (glyphsOf (now (font .entry)) (o .f) (now (words .entry))) (length (now (out .entry)))
+        (pruned (programOf (now (font .entry)) (o .f)) (rowsOf (now (rows .entry))) (0 ∷ []) (glyphsOf (now (font .entry)) (o .f) (now (words .entry))) traced))
         (now (out .entry)) (now (out .exit)) a ⌝ }
 {
     let mut used = [0u32; 256];
@@ -114,19 +117,17 @@ fn cut_prepared(
     let own = names.own;
     let encoding = names.encoding;
     let plan = plan_all(
-        false,
-        names.count,
+        o,
         font,
-        f,
         rows,
         traced,
         &used,
-        words,
+        &mut *words,
+        &mut *window,
         &mut table,
         &mut totals,
     );
     let cut = Prepared {
-        f,
         plan,
         own,
         count: 1,
@@ -138,7 +139,8 @@ fn cut_prepared(
         name,
         slots,
         &used,
-        words,
+        &*words,
+        window,
         &table,
         &totals,
         rows,
@@ -146,23 +148,78 @@ fn cut_prepared(
     )
 }
 
-// What the subset has of an encoding; its codes stand behind the sixteen slots.
+// Puts the codes of a table behind the sixteen slots.
+fn put_codes(table: &[usize], slots: &mut [usize])
+    requires { ⌜ (256 ≤ length (now table)) × (272 ≤ length (now slots)) ⌝ }
+    ensures { λ r. ⌜ now (slots .exit) ≡ put (now (slots .entry)) 16 (take 256 (now (table .entry))) ⌝ }
+{
+    let mut code = 0;
+    while code < 256 {
+        slots[16 + code] = table[code];
+        code += 1;
+    }
+}
+
+// What the subset has of an encoding; its codes stand behind the sixteen slots, which are read while they are made.
 pub fn encode_behind(
     font: &[u8],
-    f: Font,
+    o: Order,
     ask: bool,
     words: &[u32],
-    k: usize,
+    window: &mut [u32],
     slots: &mut [usize],
 ) -> Encoding
-    requires { ⌜ GoodFont (now font) f × (length (now font) ≤ 67108864) × (k ≤ f .charstrings .count) × (f .charstrings .count + k ≤ length (now words))
-        × (take k (drop (f .charstrings .count) (now words))
-        ≡ newIds (ownByName (programOf (now font) f) (orderIn k (now words))) (namesOf (programOf (now font) f) (orderIn k (now words))))
-        × (272 ≤ length (now slots)) ⌝ }
-    ensures { λ r. ⌜ CodesBehind (codedIf ask (programOf (now (font .entry)) f) (orderIn k (now (words .entry))) (ownByName (programOf (now (font .entry)) f) (orderIn k (now (words .entry)))))
-        (now (slots .entry)) (now (slots .exit)) r ⌝ }
+    requires { ⌜ (Ordered (now font) (now words) (now window) o) × (CanRename (now font) (o .f) (now words) (now slots)) × (272 ≤ length (now slots)) ⌝ }
+    ensures { λ r. ⌜ (CodesBehind
+        (codedIf ask (programOf (now (font .entry)) (o .f)) (glyphsOf (now (font .entry)) (o .f) (now (words .entry)))
+        (ownByName (programOf (now (font .entry)) (o .f)) (glyphsOf (now (font .entry)) (o .f) (now (words .entry)))))
+        (now (slots .entry)) (now (slots .exit)) r)
+        × (Ordered (now (font .entry)) (now (words .entry)) (now (window .exit)) o) ⌝ }
 {
-    encode(font, f, ask, words, k, &mut slots[16..])
+    let mut table = [0usize; 256];
+    let encoding = encode(font, o, ask, words, window, &*slots, &mut table);
+    put_codes(&table, slots);
+    encoding
+}
+
+// The subset of the kept glyphs in the front of the output, with its encoding where it is asked for, or refusal 12, 13, 10 or 11.
+fn cut_ordered(
+    o: Order,
+    font: &[u8],
+    ask: bool,
+    name: &[u8],
+    rows: &[u8],
+    traced: u8,
+    words: &mut [u32],
+    window: &mut [u32],
+    out: &mut [u8],
+) -> Answer
+    requires { ⌜ (NamedCut (now font) o (now words) (now window)) × (length (now name) ≤ 65535) ⌝ }
+    ensures { λ r. ⌜ Cut (cutOrdered ask (now (font .entry)) (now (rows .entry)) (now (name .entry)) traced o (now (words .entry)) (length (now (out .entry))))
+        (now (out .entry)) (now (out .exit)) r ⌝ }
+{
+    let mut slots = [0usize; 272];
+    let own = front::prepare_named(font, o, &mut slots, &*words, &mut *window);
+    if 64609 < own.count {
+        return Answer::Refused(Refusal::STRING_ID);
+    }
+    let encoding = encode_behind(font, o, ask, &*words, &mut *window, &mut slots);
+    if 255 < encoding.pairs {
+        return Answer::Refused(Refusal::PAIRS);
+    }
+    let names = Names { own, encoding };
+    cut_prepared(
+        font,
+        o,
+        name,
+        &slots,
+        names,
+        rows,
+        traced,
+        words,
+        window,
+        out,
+    )
 }
 
 // The subset in the front of the output, with its encoding where it is asked for, or refusal 12, 13, 10 or 11. The work words are used.
@@ -182,20 +239,7 @@ pub fn cut_named(
     ensures { λ r. ⌜ Cut (cutBehind ask (programOf (now (font .entry)) f) (now (name .entry)) (now (keep .entry)) (now (rows .entry)) traced (length (now (out .entry))))
         (now (out .entry)) (now (out .exit)) r ⌝ }
 {
-    let count = kept::put_order(font, f, keep, words);
-    let mut slots = [0usize; 272];
-    let own = front::prepare_named(font, f, &mut slots, words, count);
-    if 64609 < own.count {
-        return Answer::Refused(Refusal::STRING_ID);
-    }
-    let encoding = encode_behind(font, f, ask, words, count, &mut slots);
-    if 255 < encoding.pairs {
-        return Answer::Refused(Refusal::PAIRS);
-    }
-    let names = Names {
-        own,
-        encoding,
-        count,
-    };
-    cut_prepared(font, f, name, &slots, names, rows, traced, words, out)
+    let mut window = [0u32; 4096];
+    let o = order_window::gather(font, f, keep, &mut *words, &mut window);
+    cut_ordered(o, font, ask, name, rows, traced, words, &mut window, out)
 }

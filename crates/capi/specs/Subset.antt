@@ -7,8 +7,8 @@ use mathlib.Core.List.{List, [], _∷_}
 use lib.Dec.{ltb}
 use lib.ListN.{length}
 use Rattle.octets.specs.Pick.{pick}
-use Rattle.cff.specs.Font.{readFont}
-use Rattle.subset.specs.Cut.{Outcome, cutOf, leavesOut, leavesWork}
+use Rattle.cff.specs.Font.{Program, readFont}
+use Rattle.subset.specs.Cut.{Outcome, cutWith, leavesOut, leavesWork}
 use Rattle.faithful.specs.Faithful.{Faithful}
 use Rattle.faithful.specs.Codes.{KeepsCodes}
 use Rattle.outcome.specs.Entry.{answerOf, workIn}
@@ -25,15 +25,15 @@ abbrev pub cutAnswer : CutAnswer → Answer
 cutAnswer (Refused n) = refused n
 cutAnswer (Subset way len) = given (way ∷ len ∷ [])
 
-module _ (cid ask : Bool) (font name keep rec : List ℕ) (flag : ℕ) (work out answer : List ℕ) where
-  -- the outcome of a call to which this is lent
+module _ (size : Program → ℕ) (cid ask : Bool) (font name keep rec : List ℕ) (flag : ℕ) (work out answer : List ℕ) where
+  -- the outcome of a call that asks for so many words, to which this is lent
   abbrev pub outcomeFor : Outcome
-  outcomeFor = cutOf cid ask font name keep rec flag (length work) (roomFor (length answer) (length out))
+  outcomeFor = cutWith size cid ask font name keep rec flag (length work) (roomFor (length answer) (length out))
 
   -- a call's number, and what was lent to it afterwards; demand 3, and the codes of a font whose encoding is asked for
   pub record AnswersCut (work' out' answer' : List ℕ) (r : ℕ) : Type 0 where
     pub answers : Answers (cutAnswer (answerOf outcomeFor)) answer answer' r
     pub output : out' ≡ leavesOut outcomeFor out
-    pub words : work' ≡ leavesWork outcomeFor (workIn (readFont font)) work
+    pub words : work' ≡ leavesWork outcomeFor (workIn size (readFont font)) work
     pub faithful : Faithful font keep rec flag outcomeFor
     pub codes : KeepsCodes ask font keep outcomeFor

@@ -16,16 +16,15 @@ use Rattle.octets.specs.Lists.{allBelow}
 use Rattle.dict.specs.Lookup.{rosIn, cidKeyed}
 use Rattle.record.specs.Record.{rowsOf, recordFine}
 use Rattle.cff.specs.Font.{Got, refused as refusedFont, got, Program, readFont}
-use Rattle.cff.specs.Find.{workSize}
 use Rattle.cff.specs.ReadingRefusals.{FileRefusal, reading-refusal}
 use Rattle.subset.specs.Kept.{keptOf, writtenOrder, usedFds}
 use Rattle.subset.specs.Pruned.{Pruned, Bodies, pruned}
 use Rattle.subset.specs.Subset.{subsetByName, subsetByCid, subsetBytes}
 use Rattle.subset.specs.Codes.{Coded, codedIf, pairCount}
-use Rattle.subset.specs.Cut.{Outcome, refused as refusedCut, subset, allFound, hasRos, sameBool, ownOf, written, cutProgram, cutRead, cutWith, cutOf, leavesOut, leavesWork, unsupportedIn}
+use Rattle.subset.specs.Cut.{Outcome, refused as refusedCut, subset, allFound, hasRos, sameBool, ownOf, written, cutProgram, cutRead, cutWith, leavesOut, leavesWork, unsupportedIn}
 use Rattle.faithful.specs.Faithful.{Faithful}
 use Rattle.faithful.specs.Codes.{KeepsCodes}
-use Rattle.outcome.specs.Entry.{answerOf, workIn, Cuts}
+use Rattle.outcome.specs.Entry.{answerOf, workIn, CutsWith}
 use Rattle.outcome.specs.declared.Answer.{Answer as CutAnswer}
 use Rattle.capi.specs.Capi.{Answer, refused, given, Answers}
 use Rattle.capi.specs.CapiLaws.{answers-given}
@@ -68,8 +67,8 @@ written-sound p coded name kept order room q =
     (unless room (ltb 255 (pairCount coded)) 13 _ (omega arith) (omega arith)
     (unless room (ltb 67108864 (length bs)) 10 _ (omega arith) (omega arith) (roomy room (q .way) bs (bytes-some p coded name kept order (q .bodies)))))
 
-module _ (cid ask : Bool) (name keep rec : List ℕ) (flag words room : ℕ) where
-  program-sound : (p : Program) → Sound room (cutProgram workSize cid ask p name keep rec flag words room)
+module _ (size : Program → ℕ) (cid ask : Bool) (name keep rec : List ℕ) (flag words room : ℕ) where
+  program-sound : (p : Program) → Sound room (cutProgram size cid ask p name keep rec flag words room)
   program-sound p =
       let kept = keptOf (length (p .charstrings)) keep in
       let order = writtenOrder p kept in
@@ -80,14 +79,14 @@ module _ (cid ask : Bool) (name keep rec : List ℕ) (flag words room : ℕ) whe
       (provided room (allBelow (length (p .charstrings)) keep) 6 _ (omega arith) (omega arith)
       (provided room (allFound p kept) 7 _ (omega arith) (omega arith)
       (provided room (recordFine cid rec flag) 8 _ (omega arith) (omega arith)
-      (unless room (ltb words (workSize p)) 9 _ (omega arith) (omega arith)
+      (unless room (ltb words (size p)) 9 _ (omega arith) (omega arith)
       (written-sound p (codedIf ask p kept (ownOf p order)) name kept order room (pruned p (rowsOf rec) (usedFds p kept) order flag)))))))))
 
-  read-sound : (g : Got Program) → ((n : ℕ) → g ≡ refusedFont n → FileRefusal n) → Sound room (cutRead workSize cid ask g name keep rec flag words room)
+  read-sound : (g : Got Program) → ((n : ℕ) → g ≡ refusedFont n → FileRefusal n) → Sound room (cutRead size cid ask g name keep rec flag words room)
   read-sound (refusedFont n) low = let r = low n refl in sound-refused (r .least) (r .most)
   read-sound (got p) low = program-sound p
 
-  pub cut-sound : (font : List ℕ) → Sound room (cutOf cid ask font name keep rec flag words room)
+  pub cut-sound : (font : List ℕ) → Sound room (cutWith size cid ask font name keep rec flag words room)
   unfolding cutWith
   cut-sound font = read-sound (readFont font) (reading-refusal font)
 
@@ -126,24 +125,24 @@ room-whole : (t : Bool) (n way : ℕ) (bs : List ℕ) → Sound (pick t 0 n) (su
 room-whole true n way bs s = absurd (no-subset 0 way bs s refl)
 room-whole false n way bs s = refl
 
-module _ (cid ask : Bool) (font name keep rec : List ℕ) (flag : ℕ) (work out answer : List ℕ) where
+module _ (size : Program → ℕ) (cid ask : Bool) (font name keep rec : List ℕ) (flag : ℕ) (work out answer : List ℕ) where
   abbrev outcome : ℕ → Outcome
-  outcome room = cutOf cid ask font name keep rec flag (length work) room
+  outcome room = cutWith size cid ask font name keep rec flag (length work) room
 
   pub cut-answers : (r : ℕ) → r ≡ roomFor (length answer) (length out) → (work' part answer' : List ℕ) (a : CutAnswer) (n : ℕ)
-      → Cuts cid ask font name keep rec flag work (take r out) work' part a → Answers (cutAnswer a) answer answer' n
-      → AnswersCut cid ask font name keep rec flag work out answer work' (part ++ drop r out) answer' n
+      → CutsWith size cid ask font name keep rec flag work (take r out) work' part a → Answers (cutAnswer a) answer answer' n
+      → AnswersCut size cid ask font name keep rec flag work out answer work' (part ++ drop r out) answer' n
   cut-answers r is work' part answer' a n h k =
       let room = roomFor (length answer) (length out) in
       let e : outcome (length (take r out)) ≡ outcome room = ap outcome (sym (room-taken (length answer) out r is) ∙ is) in
       let all : (way : ℕ) (bs : List ℕ) → outcome room ≡ subset way bs → r ≡ length out =
-      λ way bs q. is ∙ room-whole (ltb (length answer) 2) (length out) way bs (subst (Sound room) q (cut-sound cid ask name keep rec flag (length work) room font)) in
+      λ way bs q. is ∙ room-whole (ltb (length answer) 2) (length out) way bs (subst (Sound room) q (cut-sound size cid ask name keep rec flag (length work) room font)) in
       record {
         answers = subst (λ (x : CutAnswer). Answers (cutAnswer x) answer answer' n) (h .answers ∙ ap answerOf e) k;
         output =
             ap (λ (l : List ℕ). l ++ drop r out) (h .output ∙ ap (λ (o : Outcome). leavesOut o (take r out)) e)
             ∙ front-back (outcome room) r out all;
-        words = h .words ∙ ap (λ (o : Outcome). leavesWork o (workIn (readFont font)) work) e;
+        words = h .words ∙ ap (λ (o : Outcome). leavesWork o (workIn size (readFont font)) work) e;
         faithful = subst (Faithful font keep rec flag) e (h .faithful);
         codes = subst (KeepsCodes ask font keep) e (h .codes);
       }
@@ -170,9 +169,9 @@ module _ (out out' answer answer' : List ℕ) where
   says-cut (refusedCut n) r (sound-refused l m) f h = says-refused n r l m (h .number) f (h .written)
   says-cut (subset way bs) r s f h = says-subset (ltb (length answer) 2) way bs r s f (h .number) (h .written)
 
-pub cut-says : (cid ask : Bool) (font name keep rec : List ℕ) (flag : ℕ) (work out answer work' out' answer' : List ℕ) (r : ℕ)
-    → AnswersCut cid ask font name keep rec flag work out answer work' out' answer' r
-    → SaysCut (outcomeFor cid ask font name keep rec flag work out answer) out out' answer answer' r
-cut-says cid ask font name keep rec flag work out answer work' out' answer' r h =
-    says-cut out out' answer answer' (outcomeFor cid ask font name keep rec flag work out answer) r
-    (cut-sound cid ask name keep rec flag (length work) (roomFor (length answer) (length out)) font) (h .output) (h .answers)
+pub cut-says : (size : Program → ℕ) (cid ask : Bool) (font name keep rec : List ℕ) (flag : ℕ) (work out answer work' out' answer' : List ℕ) (r : ℕ)
+    → AnswersCut size cid ask font name keep rec flag work out answer work' out' answer' r
+    → SaysCut (outcomeFor size cid ask font name keep rec flag work out answer) out out' answer answer' r
+cut-says size cid ask font name keep rec flag work out answer work' out' answer' r h =
+    says-cut out out' answer answer' (outcomeFor size cid ask font name keep rec flag work out answer) r
+    (cut-sound size cid ask name keep rec flag (length work) (roomFor (length answer) (length out)) font) (h .output) (h .answers)

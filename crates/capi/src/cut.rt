@@ -4,6 +4,8 @@ ghost use mathlib.Core.Path.{_≡_};
 ghost use mathlib.Core.Bool.{true, false, not};
 ghost use lib.Dec.{eqb};
 ghost use mathlib.Core.List.{[], _∷_};
+ghost use Rattle.cff.specs.Find.{workSize};
+ghost use Rattle.small.specs.Small.{smallSize};
 ghost use Rattle.capi.specs.Capi.{given, Answers};
 ghost use Rattle.capi.specs.Subset.{roomFor, cutAnswer, AnswersCut};
 use outcome::Answer;
@@ -54,7 +56,7 @@ pub extern "C" fn cff_subset(
     out: &mut [u8],
     answer: &mut [u64],
 ) -> u8
-    ensures { λ r. ⌜ AnswersCut false (not (eqb encoding 0)) (now (font .entry)) (now (name .entry)) (now (keep .entry)) (now (rows .entry)) traced
+    ensures { λ r. ⌜ AnswersCut workSize false (not (eqb encoding 0)) (now (font .entry)) (now (name .entry)) (now (keep .entry)) (now (rows .entry)) traced
         (now (work .entry)) (now (out .entry)) (now (answer .entry)) (now (work .exit)) (now (out .exit)) (now (answer .exit)) r ⌝ }
 {
     let asked = encoding != 0;
@@ -84,10 +86,61 @@ pub extern "C" fn cff_subset_cid(
     out: &mut [u8],
     answer: &mut [u64],
 ) -> u8
-    ensures { λ r. ⌜ AnswersCut true false (now (font .entry)) (now (name .entry)) (now (keep .entry)) (now (rows .entry)) traced
+    ensures { λ r. ⌜ AnswersCut workSize true false (now (font .entry)) (now (name .entry)) (now (keep .entry)) (now (rows .entry)) traced
         (now (work .entry)) (now (out .entry)) (now (answer .entry)) (now (work .exit)) (now (out .exit)) (now (answer .exit)) r ⌝ }
 {
     let room = room_for(answer.len(), out.len());
     let cut = write::subset_cid(font, name, keep, rows, traced, work, &mut out[..room]);
+    put_cut(cut, answer)
+}
+
+// The subset of a name-keyed font with few work words: a bit for each glyph and each subroutine (document 02, Wish 10).
+#[no_mangle]
+pub extern "C" fn cff_subset_small(
+    font: &[u8],
+    name: &[u8],
+    keep: &[u16],
+    rows: &[u8],
+    traced: u8,
+    encoding: u8,
+    work: &mut [u32],
+    out: &mut [u8],
+    answer: &mut [u64],
+) -> u8
+    ensures { λ r. ⌜ AnswersCut smallSize false (not (eqb encoding 0)) (now (font .entry)) (now (name .entry)) (now (keep .entry)) (now (rows .entry)) traced
+        (now (work .entry)) (now (out .entry)) (now (answer .entry)) (now (work .exit)) (now (out .exit)) (now (answer .exit)) r ⌝ }
+{
+    let asked = encoding != 0;
+    let room = room_for(answer.len(), out.len());
+    let cut = write::subset_small(
+        font,
+        name,
+        keep,
+        rows,
+        traced,
+        asked,
+        work,
+        &mut out[..room],
+    );
+    put_cut(cut, answer)
+}
+
+// The subset of a CID-keyed font with few work words.
+#[no_mangle]
+pub extern "C" fn cff_subset_cid_small(
+    font: &[u8],
+    name: &[u8],
+    keep: &[u16],
+    rows: &[u8],
+    traced: u8,
+    work: &mut [u32],
+    out: &mut [u8],
+    answer: &mut [u64],
+) -> u8
+    ensures { λ r. ⌜ AnswersCut smallSize true false (now (font .entry)) (now (name .entry)) (now (keep .entry)) (now (rows .entry)) traced
+        (now (work .entry)) (now (out .entry)) (now (answer .entry)) (now (work .exit)) (now (out .exit)) (now (answer .exit)) r ⌝ }
+{
+    let room = room_for(answer.len(), out.len());
+    let cut = write::subset_cid_small(font, name, keep, rows, traced, work, &mut out[..room]);
     put_cut(cut, answer)
 }

@@ -1,25 +1,23 @@
--- A CID-keyed subset over what the code holds (document 01, 'Layout'): the glyphs and their FDs in the work words, the places of its parts, and
--- the parts in three groups, as they are written.
+-- A CID-keyed subset over what the code holds (document 01, 'Layout'): the places of its parts, and the parts in three groups, as they are
+-- written.
 use Prim.Native.Nat.{ℕ, _+_, _*_, _≤_, _<_}
 use mathlib.Core.Path.{_≡_}
 use mathlib.Core.Bool.{true}
 use mathlib.Core.List.{List, _++_}
 use lib.Dec.{ltb}
-use lib.ListN.{length, take}
+use lib.ListN.{length}
 use Rattle.octets.specs.Pick.{pick}
-use Rattle.octets.specs.Lists.{partOf}
 use Rattle.index.specs.Write.{indexBytes, indexLen}
 use Rattle.unfold.specs.Unfold.{Row}
 use Rattle.charset.specs.CharsetBytes.{charsetBytes, charsetLen}
 use Rattle.charset.specs.FdSelectBytes.{fdSelectBytes}
 use Rattle.cff.specs.Font.{Program}
 use Rattle.cff.specs.Reads.{programOf}
-use Rattle.cff.specs.declared.font.Font.{Font}
-use Rattle.subset.specs.Kept.{writtenOrder, fdsOf}
+use Rattle.subset.specs.Kept.{fdsOf}
 use Rattle.subset.specs.Pruned.{Bodies}
 use Rattle.subset.specs.Subset.{privateParts, fontDicts, ownByCid, cidsOf, newFds, subsetByCid}
 use Rattle.subset.specs.Cut.{Outcome, refused, subset}
-use Rattle.kept.specs.Packed.{packed, orderIn}
+use Rattle.order_window.specs.Window.{glyphsOf}
 use Rattle.glyph_tables.specs.Tables.{newFdsBy, Numbered}
 use Rattle.private_dicts.specs.Privates.{fontDictsBy, Placed}
 use Rattle.fds.specs.Locals.{fdsIn}
@@ -35,18 +33,6 @@ use Rattle.front.specs.declared.CidPlaces.{CidPlaces}
 -- a subset by its length: refusals 10 and 11, or the way and the bytes
 abbrev pub sized : ℕ → List ℕ → ℕ → Outcome
 sized way bs room = pick (ltb 67108864 (length bs)) (refused 10) (pick (ltb room (length bs)) (refused 11) (subset way bs))
-
--- ---- glyphs
-
--- the first k words hold the kept ones of n glyphs in the order in which they are written, and the words from n on their FDs
-pub record Gathered (p : Program) (kept : List ℕ) (n : ℕ) (old : List ℕ) (k : ℕ) (ws : List ℕ) : Type 0 where
-  pub size : length ws ≡ length old
-  pub many : k ≡ length (writtenOrder p kept)
-  pub some : 0 < k
-  pub few : k ≤ n
-  pub room : n + n ≤ length ws
-  pub glyphs : take k ws ≡ packed p (writtenOrder p kept)
-  pub fds : partOf ws n k ≡ fdsOf p (writtenOrder p kept)
 
 -- ---- strings
 
@@ -90,27 +76,27 @@ pub record PartsSmall (front globals k select glyphs count matrices all : ℕ) :
 
 -- ---- parts
 
-module _ (b : List ℕ) (f : Font) (rows : List Row) (used ws : List ℕ) (r : Planned) where
+module _ (b : List ℕ) (rows : List Row) (used ws : List ℕ) (r : Planned) where
   abbrev pub programIn : Program
-  programIn = programOf b f
+  programIn = programOf b (r .order .f)
 
   abbrev pub writtenIn : List ℕ
-  writtenIn = orderIn (r .kept .count) ws
+  writtenIn = glyphsOf b (r .order .f) ws
 
   abbrev pub bodiesIn : Bodies
-  bodiesIn = bodiesFor b f rows used ws r
+  bodiesIn = bodiesFor b rows used ws r
 
   -- what is ready: the bodies, and new numbers of the FDs
   pub record CidReady (table : List ℕ) : Type 0 where
-    pub ready : Ready b f rows used ws r table
-    pub keyed : r .kept .cid ≡ true
-    pub some : 0 < r .kept .count
-    pub numbered : Numbered used (partOf ws (f .charstrings .count) (r .kept .count))
-    pub news : newFdsBy used (partOf ws (f .charstrings .count) (r .kept .count)) ≡ newFds programIn (fdsIn used) writtenIn
+    pub ready : Ready b rows used ws r table
+    pub keyed : r .order .f .cid ≡ true
+    pub some : 0 < r .order .count
+    pub numbered : Numbered used (fdsOf programIn writtenIn)
+    pub news : newFdsBy used (fdsOf programIn writtenIn) ≡ newFds programIn (fdsIn used) writtenIn
 
   -- the tables of the Font DICTs, the first Private part standing at a place
   pub record DictsReady (fds sizes lens : List ℕ) (count from : ℕ) : Type 0 where
-    pub cid : f .cid ≡ true
+    pub cid : r .order .f .cid ≡ true
     pub placed : Placed programIn fds sizes lens count from
     pub are : fontDictsBy programIn fds sizes lens count from ≡ fontDicts programIn from (fdsIn used) (bodiesIn .locals)
 

@@ -1,16 +1,15 @@
 -- The parts of a CID-keyed subset measured (document 01, 'Layout'): what their measures ask, that the places are the subset's, and the outcome
 -- by its length.
-use Prim.Native.Nat.{ℕ, _+_, _*_, _≤_, _<_}
+use Prim.Native.Nat.{ℕ, suc, _+_, _*_, _≤_, _<_}
 use mathlib.Core.Path.{_≡_, refl, sym, ap, _∙_, subst}
 use mathlib.Core.Bool.{Bool, true, false}
-use mathlib.Core.List.{List}
+use mathlib.Core.List.{List, [], _∷_}
 use native.Mathlib.Omega.{arith}
 use borrow.Author.Tests.{lt-ltb, le-ltb}
 use lib.Dec.{ltb}
 use lib.ListN.{length, take, replicate, length-replicate, length-append}
 use Rattle.octets.specs.Pick.{pick}
 use Rattle.octets.specs.Octets.{Wrote}
-use Rattle.octets.specs.Lists.{partOf}
 use Rattle.index.specs.Write.{total, indexBytes, indexLen}
 use Rattle.unfold.specs.Unfold.{Row}
 use Rattle.charset.specs.CharsetBytes.{charsetBytes, charsetLen}
@@ -21,16 +20,14 @@ use Rattle.dict.specs.Lookup.{cidKeyed}
 use Rattle.cff.specs.Font.{Program}
 use Rattle.cff.specs.Reads.{programOf}
 use Rattle.cff.specs.declared.font.Font.{Font}
-use Rattle.subset.specs.Kept.{usedFds}
+use Rattle.subset.specs.Kept.{fdsOf, usedFds}
 use Rattle.subset.specs.KeptListLaws.{those-count}
+use Rattle.subset.specs.EachLaws.{length-mapped}
 use Rattle.subset.specs.Pruned.{Pruned}
 use Rattle.subset.specs.Subset.{privateParts, fontDicts, ownByName, ownByCid, cidsOf, subsetByCid, subsetByName, subsetBytes}
 use Rattle.subset.specs.Codes.{none}
 use Rattle.subset.specs.Cut.{Outcome, refused, subset, ownOf, written}
-use Rattle.glyph_tables.specs.Tables.{highs, newFdsBy, Numbered}
-use Rattle.glyph_tables.specs.PartLaws.{highs-length}
-use Rattle.glyph_tables.specs.SelectLaws.{select-count}
-use Rattle.glyph_tables.specs.UsedTableLaws.{highs-cids}
+use Rattle.glyph_tables.specs.Tables.{newFdBy, newFdsBy}
 use Rattle.fds.specs.Locals.{inUse, fdsIn}
 use Rattle.fds.specs.Parts.{SizesParts}
 use Rattle.fds.specs.ListLaws.{Listed}
@@ -43,7 +40,6 @@ use Rattle.front.specs.PrepareLaws.{has-strings, cid-own, slots-bound}
 use Rattle.parts.specs.Ready.{FontHeld, Summed}
 use Rattle.parts.specs.declared.Planned.{Planned}
 use Rattle.outcome.specs.Entry.{Cut}
-use Rattle.early_refusals.specs.RefusalLaws.{glyphs-are}
 use Rattle.outcome.specs.Layout.{cidPrivates, cid-length}
 use Rattle.parts.specs.CodeLaws.{globals-long, glyphs-long}
 use Rattle.parts.specs.PrivateLaws.{all-parts, dicts-placed, dicts-are, dicts-length}
@@ -51,6 +47,18 @@ use Rattle.cid_parts.specs.Cid.{sized, StringsReady, placesOf, placesBy,
 use Rattle.outcome.specs.declared.Answer.{Answer}
 use Rattle.outcome.specs.declared.Answer.the-variants.{Refused, Subset}
 use Rattle.front.specs.declared.CidPlaces.{CidPlaces}
+
+-- ---- glyphs
+
+cids-many : (p : Program) (gs : List ℕ) → length (cidsOf p gs) ≡ length gs
+unfolding cidsOf
+cids-many p [] = refl
+cids-many p (g ∷ gs) = ap suc (cids-many p gs)
+
+fds-many : (p : Program) (gs : List ℕ) → length (fdsOf p gs) ≡ length gs
+unfolding fdsOf
+fds-many p [] = refl
+fds-many p (g ∷ gs) = ap suc (fds-many p gs)
 
 -- ---- places
 
@@ -63,16 +71,16 @@ places-same f g c s h d a f' g' c' s' h' d' a' e₁ e₂ e₃ e₄ e₅ e₆ e�
     ∙ ap (λ (x : ℕ). placesOf f' g' c' s' h' d' x) e₇
 
 -- the Private parts end the subset
-ends-at : (b : List ℕ) (f : Font) (rows : List Row) (used ws : List ℕ) (r : Planned) (name : List ℕ) (at : CidPlaces) → at ≡ cidPlaces b f rows used ws r name
-    → at .end ≡ at .privates + length (privateParts (programOf b f) (fdsIn used) (bodiesIn b f rows used ws r .locals))
+ends-at : (b : List ℕ) (rows : List Row) (used ws : List ℕ) (r : Planned) (name : List ℕ) (at : CidPlaces) → at ≡ cidPlaces b rows used ws r name
+    → at .end ≡ at .privates + length (privateParts (programOf b (r .order .f)) (fdsIn used) (bodiesIn b rows used ws r .locals))
 unfolding cidPlaces
-ends-at b f rows used ws r name at e =
+ends-at b rows used ws r name at e =
     ap (λ (x : CidPlaces). x .end) e
-    ∙ ap (λ (x : CidPlaces). x .privates + length (privateParts (programOf b f) (fdsIn used) (bodiesIn b f rows used ws r .locals))) (sym e)
+    ∙ ap (λ (x : CidPlaces). x .privates + length (privateParts (programOf b (r .order .f)) (fdsIn used) (bodiesIn b rows used ws r .locals))) (sym e)
 
-pub privates-end : (b : List ℕ) (f : Font) (rows : List Row) (used ws : List ℕ) (r : Planned) (name : List ℕ) (at : CidPlaces) → at ≡ cidPlaces b f rows used ws r name
-    → at .end ≤ 67108864 → PrivatesEnd b f rows used ws r (at .privates)
-privates-end b f rows used ws r name at e small = subst (λ (m : ℕ). m ≤ 67108864) (ends-at b f rows used ws r name at e) small
+pub privates-end : (b : List ℕ) (rows : List Row) (used ws : List ℕ) (r : Planned) (name : List ℕ) (at : CidPlaces) → at ≡ cidPlaces b rows used ws r name
+    → at .end ≤ 67108864 → PrivatesEnd b rows used ws r (at .privates)
+privates-end b rows used ws r name at e small = subst (λ (m : ℕ). m ≤ 67108864) (ends-at b rows used ws r name at e) small
 
 -- ---- strings
 
@@ -101,68 +109,46 @@ table-room table e = omega (arith, ap length e, length-replicate {A = ℕ} 256 0
 pub ranks-room : (table : List ℕ) → table ≡ replicate 1280 0 → 1280 ≤ length table
 ranks-room table e = omega (arith, ap length e, length-replicate {A = ℕ} 1280 0)
 
-module _ (b : List ℕ) (f : Font) (rows : List Row) (used ws : List ℕ) (r : Planned) (table : List ℕ)
-    (c : CidReady b f rows used ws r table) where
+module _ (b : List ℕ) (rows : List Row) (used ws : List ℕ) (r : Planned) (table : List ℕ)
+    (c : CidReady b rows used ws r table) where
   abbrev p : Program
-  p = programOf b f
-
-  abbrev n : ℕ
-  n = f .charstrings .count
+  p = programOf b (r .order .f)
 
   abbrev k : ℕ
-  k = r .kept .count
+  k = r .order .count
 
   abbrev order : List ℕ
-  order = writtenIn b f rows used ws r
-
-  many-glyphs : length (p .charstrings) ≡ n
-  many-glyphs = glyphs-are b f (c .ready .read .font)
-
-  few-glyphs : n < 65536
-  few-glyphs = c .ready .read .font .glyphs .held .few
+  order = writtenIn b rows used ws r
 
   -- the font is CID-keyed
-  pub keyed : f .cid ≡ true
-  keyed = c .ready .read .font .cid ∙ sym (c .ready .order .keyed) ∙ c .keyed
-
-  pub words-room : n + k ≤ length ws
-  words-room = omega (arith, c .ready .order .room, many-glyphs)
-
-  -- the CIDs of the words are the subset's
-  pub cids-are : highs ws k ≡ cidsOf p order
-  cids-are =
-      highs-cids p order ws k (c .ready .order .glyphs)
-      (λ i h. omega (arith, c .ready .order .there i (omega (arith, c .ready .order .many)), many-glyphs, few-glyphs))
+  pub keyed : r .order .f .cid ≡ true
+  keyed = c .keyed
 
   cids-long : length (charsetBytes (cidsOf p order)) ≡ charsetLen k
-  cids-long =
-      charset-length (cidsOf p order) ∙ ap (λ (l : List ℕ). charsetLen (length l)) (sym cids-are) ∙ ap charsetLen (highs-length ws k (omega (arith, words-room)))
+  cids-long = charset-length (cidsOf p order) ∙ ap charsetLen (cids-many p order ∙ sym (c .ready .many))
 
   -- ---- measures
 
-  pub select-asked : (n + k ≤ length ws) × (k < 65536) × Numbered used (partOf ws n k)
-  select-asked = (words-room, c .ready .asked .glyphs .keptFew, c .numbered)
-
-  select-short : length (fdSelectBytes (newFdsBy used (partOf ws n k))) ≤ 200000
+  select-short : length (fdSelectBytes (newFdsBy used (fdsOf p order))) ≤ 200000
   select-short =
-      let fds = newFdsBy used (partOf ws n k) in
-      omega (arith, select-length fds, changes-few 256 0 fds, select-count ws n k used words-room, c .ready .asked .glyphs .keptFew)
+      let fds = newFdsBy used (fdsOf p order) in
+      omega (arith, select-length fds, changes-few 256 0 fds, length-mapped (newFdBy used) (fdsOf p order), fds-many p order, c .ready .many, c .ready .few)
 
-  module _ (totals : List ℕ) (summed : Summed b f rows used ws r table totals) where
+  module _ (totals : List ℕ) (summed : Summed b rows used ws r table totals) where
     -- the length of the subset
-    pub bytes-long : (name : List ℕ) → length (cidBytes b f rows used ws r name) ≡ cidPlaces b f rows used ws r name .end
+    pub bytes-long : (name : List ℕ) → length (cidBytes b rows used ws r name) ≡ cidPlaces b rows used ws r name .end
     unfolding cidBytes cidPlaces
     bytes-long name =
-        let dicts = dicts-length b f rows used ws table r (c .ready) totals summed in
-        cid-length p name (fdsIn used) order (bodiesIn b f rows used ws r) (dicts (cidPrivates p name (fdsIn used) order (bodiesIn b f rows used ws r)) ∙ sym (dicts 0))
+        let dicts = dicts-length b rows used ws table r (c .ready) totals summed in
+        cid-length p name (fdsIn used) order (bodiesIn b rows used ws r) (dicts (cidPrivates p name (fdsIn used) order (bodiesIn b rows used ws r)) ∙ sym (dicts 0))
 
-    module _ {oldSizes oldLens sizes lens : List ℕ} {all : ℕ} (s : SizesParts p (r .kept .way) table totals used oldSizes oldLens sizes lens all)
+    module _ {oldSizes oldLens sizes lens : List ℕ} {all : ℕ} (s : SizesParts p (r .how .way) table totals used oldSizes oldLens sizes lens all)
         (sized-long : 256 ≤ length oldSizes) (lens-long : 256 ≤ length oldLens) {fds : List ℕ} (listed : Listed used fds)
         (count : ℕ) (counted : count ≡ length (fdsIn used)) where
       module _ (name slots : List ℕ) (own : Own) (strings : StringsReady p slots own) (front globals select glyphs matrices : ℕ)
           (front-is : front ≡ frontLen true 0 (p .top) slots (length name) own)
-          (globals-is : globals ≡ indexLen (keptCount (r .kept .way) (r .kept .globals .reached) (r .kept .globals .count)) (r .«globals_total»))
-          (select-is : select ≡ length (fdSelectBytes (newFdsBy used (partOf ws n k)))) (glyphs-is : glyphs ≡ indexLen k (r .«glyphs_total»))
+          (globals-is : globals ≡ indexLen (keptCount (r .how .way) (r .how .globals .reached) (r .how .globals .count)) (r .«globals_total»))
+          (select-is : select ≡ length (fdSelectBytes (newFdsBy used (fdsOf p order)))) (glyphs-is : glyphs ≡ indexLen k (r .«glyphs_total»))
           (matrices-are : (matrices ≡ total (matricesBy p (take count fds))) × (matrices ≤ 1792000000000)) where
         -- what the places ask
         pub places-asked : front ≤ 844424931000004 → globals ≤ 281474977000000 → glyphs ≤ 281474977000000 → PartsSmall front globals k select glyphs count matrices all
@@ -171,7 +157,7 @@ module _ (b : List ℕ) (f : Font) (rows : List Row) (used ws : List ℕ) (r : P
               front-small = f-small;
               globals-small = g-small;
               some = c .some;
-              few = c .ready .asked .glyphs .keptFew;
+              few = c .ready .few;
               select-small = omega (arith, select-is, select-short);
               glyphs-small = h-small;
               fds = omega (arith, counted, those-count (inUse used) 256 0);
@@ -187,31 +173,31 @@ module _ (b : List ℕ) (f : Font) (rows : List Row) (used ws : List ℕ) (r : P
             ∙ ap (λ (m : ℕ). indexLen (length (fdsIn used)) (m + 11 * length (fdsIn used))) e
 
         -- they are the subset's
-        pub places-are : placesBy front globals k select glyphs count matrices all ≡ cidPlaces b f rows used ws r name
+        pub places-are : placesBy front globals k select glyphs count matrices all ≡ cidPlaces b rows used ws r name
         unfolding placesBy cidPlaces
         places-are =
             places-same front globals (charsetLen k) select glyphs (indexLen count (matrices + 11 * count)) all _ _ _ _ _ _ _
-            (front-is ∙ cid-front-sum p slots ws (strings .slotted) own (strings .measured .is) name 0 0 0 0)
-            (globals-is ∙ globals-long b f rows used ws table r (c .ready))
+            (front-is ∙ cid-front-sum p slots (strings .slotted) own (strings .measured .is) name 0 0 0 0)
+            (globals-is ∙ globals-long b rows used ws table r (c .ready))
             (sym cids-long)
             (select-is ∙ ap (λ (l : List ℕ). length (fdSelectBytes l)) (c .news))
-            (glyphs-is ∙ glyphs-long b f rows used ws table r (c .ready))
-            (matrices-long ∙ sym (dicts-length b f rows used ws table r (c .ready) totals summed 0))
-            (all-parts b f rows used ws table r (c .ready) totals summed s sized-long lens-long)
+            (glyphs-is ∙ glyphs-long b rows used ws table r (c .ready))
+            (matrices-long ∙ sym (dicts-length b rows used ws table r (c .ready) totals summed 0))
+            (all-parts b rows used ws table r (c .ready) totals summed s sized-long lens-long)
 
       -- what the Font DICTs ask, where they are within what a subset may have
-      pub dicts-ready : (from : ℕ) → PrivatesEnd b f rows used ws r from → (at : ℕ) → at + length (tailBytes b f rows used ws r from) ≤ 67108864
-          → DictsReady b f rows used ws r fds sizes lens count from
+      pub dicts-ready : (from : ℕ) → PrivatesEnd b rows used ws r from → (at : ℕ) → at + length (tailBytes b rows used ws r from) ≤ 67108864
+          → DictsReady b rows used ws r fds sizes lens count from
       unfolding tailBytes
       dicts-ready from l at small =
-          let locals = bodiesIn b f rows used ws r .locals in
+          let locals = bodiesIn b rows used ws r .locals in
           let dicts = indexBytes (fontDicts p from (fdsIn used) locals) in
-          subst (λ (m : ℕ). DictsReady b f rows used ws r fds sizes lens m from) (sym counted)
+          subst (λ (m : ℕ). DictsReady b rows used ws r fds sizes lens m from) (sym counted)
           (record {
             cid = keyed;
-            placed = dicts-placed b f rows used ws table r (c .ready) totals summed s sized-long lens-long listed from l
+            placed = dicts-placed b rows used ws table r (c .ready) totals summed s sized-long lens-long listed from l
                 (omega (arith, small, length-append dicts (privateParts p (fdsIn used) locals)));
-            are = dicts-are b f rows used ws table r (c .ready) totals summed s sized-long lens-long listed from;
+            are = dicts-are b rows used ws table r (c .ready) totals summed s sized-long lens-long listed from;
           })
 
 -- ---- the outcome

@@ -8,7 +8,6 @@ use native.Mathlib.Omega.{arith}
 use lib.ListN.{length, length-append}
 use Rattle.octets.specs.Octets.{Wrote}
 use Rattle.octets.specs.PutLaws.{wrote-as}
-use Rattle.octets.specs.Lists.{partOf}
 use Rattle.index.specs.Write.{indexBytes}
 use Rattle.unfold.specs.Unfold.{Row}
 use Rattle.charset.specs.CharsetBytes.{charsetBytes}
@@ -16,13 +15,13 @@ use Rattle.charset.specs.FdSelectBytes.{fdSelectBytes}
 use Rattle.dict_write.specs.WriteLaws.{room-first, room-then, wrote-both}
 use Rattle.cff.specs.Font.{Program}
 use Rattle.cff.specs.Reads.{programOf, GoodFont}
-use Rattle.cff.specs.declared.font.Font.{Font}
+use Rattle.subset.specs.Kept.{fdsOf}
 use Rattle.subset.specs.Pruned.{Bodies}
 use Rattle.subset.specs.Subset.{privateParts, fontDicts, ownByCid, topByCid, cidsOf, newFds}
-use Rattle.glyph_tables.specs.Tables.{highs, newFdsBy, Numbered}
+use Rattle.glyph_tables.specs.Tables.{newFdsBy, Numbered}
 use Rattle.private_dicts.specs.Privates.{fontDictsBy, Placed}
-use Rattle.bodies.specs.Ways.{Room}
-use Rattle.bodies.specs.Sources.{KeptIn, charstringsFrom, newCharstringsFrom}
+use Rattle.bodies.specs.Ways.{manyOf, Room}
+use Rattle.glyph_bodies.specs.Charstrings.{CharstringsIn, charstringsFrom}
 use Rattle.fds.specs.Locals.{fdsIn}
 use Rattle.fds.specs.NewLocals.{LocalsIn}
 use Rattle.fds.specs.NewParts.{partsFor, PartsRoom}
@@ -36,7 +35,7 @@ use Rattle.outcome.specs.Layout.{frontLen, cidCharset, cidSelect, cidGlyphs, ci
 use Rattle.parts.specs.CodeLaws.{glyphs-asked, glyphs-are}
 use Rattle.parts.specs.PrivateLaws.{privates-asked, privates-are}
 use Rattle.cid_parts.specs.Cid.{StringsReady, placesOf, writtenIn, bodiesIn, CidReady, DictsReady, cidBytes, cidPlaces, headBytes, glyphBytes, tailBytes}
-use Rattle.cid_parts.specs.CidPlacesLaws.{held-small, words-room, cids-are, select-asked, bytes-long}
+use Rattle.cid_parts.specs.CidPlacesLaws.{held-small, bytes-long}
 use Rattle.front.specs.declared.CidPlaces.{CidPlaces}
 
 -- where two parts end below a bound, so does the second behind the first
@@ -58,68 +57,60 @@ three f g i s h l =
     append-assoc f (g ++ i) ((s ++ h) ++ l) ∙ ap (λ (x : List ℕ). f ++ x) (append-assoc g i ((s ++ h) ++ l))
     ∙ ap (λ (x : List ℕ). f ++ (g ++ (i ++ x))) (append-assoc s h l)
 
-module _ (b : List ℕ) (f : Font) (rows : List Row) (used ws : List ℕ) (r : Planned) (table : List ℕ) where
+module _ (b : List ℕ) (rows : List Row) (used ws : List ℕ) (r : Planned) (table : List ℕ) where
   abbrev p : Program
-  p = programOf b f
-
-  abbrev n : ℕ
-  n = f .charstrings .count
-
-  abbrev k : ℕ
-  k = r .kept .count
+  p = programOf b (r .order .f)
 
   abbrev order : List ℕ
-  order = writtenIn b f rows used ws r
+  order = writtenIn b rows used ws r
 
   abbrev bodies : Bodies
-  bodies = bodiesIn b f rows used ws r
+  bodies = bodiesIn b rows used ws r
 
   -- ---- FDSelect and charstrings
 
-  module _ (c : CidReady b f rows used ws r table) (at : ℕ) (out : List ℕ) (small : at + length (glyphBytes b f rows used ws r) ≤ 67108864)
-      (room : at + length (glyphBytes b f rows used ws r) ≤ length out) where
+  module _ (c : CidReady b rows used ws r table) (at : ℕ) (out : List ℕ) (small : at + length (glyphBytes b rows used ws r) ≤ 67108864)
+      (room : at + length (glyphBytes b rows used ws r) ≤ length out) where
     abbrev select : List ℕ
     select = fdSelectBytes (newFds p (fdsIn used) order)
 
     abbrev glyphs : List ℕ
     glyphs = indexBytes (bodies .charstrings)
 
-    pub select-put : (n + k ≤ length ws) × (k < 65536) × Numbered used (partOf ws n k) × (at ≤ 67108864)
-        × (at + length (fdSelectBytes (newFdsBy used (partOf ws n k))) ≤ length out)
+    pub select-put : Numbered used (fdsOf p order) × (at ≤ 67108864) × (at + length (fdSelectBytes (newFdsBy used (fdsOf p order))) ≤ length out)
     unfolding glyphBytes
     select-put =
-        let a = select-asked b f rows used ws r table c in
-        (a .0, a .1, a .2, omega (arith, small), subst (λ (l : List ℕ). at + length (fdSelectBytes l) ≤ length out) (sym (c .news)) (room-first (length out) at select glyphs room))
+        (c .numbered, omega (arith, small), subst (λ (l : List ℕ). at + length (fdSelectBytes l) ≤ length out) (sym (c .news)) (room-first (length out) at select glyphs room))
 
-    module _ {mid : List ℕ} {q : ℕ} (w : Wrote out at (fdSelectBytes (newFdsBy used (partOf ws n k))) mid q) where
+    module _ {mid : List ℕ} {q : ℕ} (w : Wrote out at (fdSelectBytes (newFdsBy used (fdsOf p order))) mid q) where
       selected : Wrote out at select mid q
       selected = wrote-as w (ap fdSelectBytes (c .news))
 
-      pub glyphs-put : KeptIn (r .kept) rows ws table b
-          × Room (charstringsFrom (r .kept) rows ws table b) (r .«glyphs_total») q (length mid)
+      pub glyphs-put : CharstringsIn b ws table (r .order) (r .how) rows
+          × Room (charstringsFrom (r .how) (r .order) rows ws table b) (r .«glyphs_total») q (length mid)
       unfolding glyphBytes
       glyphs-put =
-          glyphs-asked b f rows used ws table r (c .ready) q (length mid) (second-below at select glyphs 67108864 q small (selected .behind))
+          glyphs-asked b rows used ws table r (c .ready) q (length mid) (second-below at select glyphs 67108864 q small (selected .behind))
           (room-then glyphs selected room)
 
-      pub glyphs-wrote : {new : List ℕ} {q' : ℕ} → Wrote mid q (indexBytes (newCharstringsFrom (r .kept) rows ws table b)) new q'
-          → Wrote out at (glyphBytes b f rows used ws r) new q'
+      pub glyphs-wrote : {new : List ℕ} {q' : ℕ} → Wrote mid q (indexBytes (manyOf (charstringsFrom (r .how) (r .order) rows ws table b))) new q'
+          → Wrote out at (glyphBytes b rows used ws r) new q'
       unfolding glyphBytes
       glyphs-wrote v =
-          wrote-both room selected (wrote-as v (ap indexBytes (glyphs-are b f rows used ws table r (c .ready))))
+          wrote-both room selected (wrote-as v (ap indexBytes (glyphs-are b rows used ws table r (c .ready))))
 
   -- ---- the FD INDEX and the Private parts
 
-  module _ (ready : Ready b f rows used ws r table) (totals : List ℕ) (summed : Summed b f rows used ws r table totals)
-      (fds sizes lens : List ℕ) (count from : ℕ) (d : DictsReady b f rows used ws r fds sizes lens count from) (at : ℕ) (out : List ℕ)
-      (small : at + length (tailBytes b f rows used ws r from) ≤ 67108864) (room : at + length (tailBytes b f rows used ws r from) ≤ length out) where
+  module _ (ready : Ready b rows used ws r table) (totals : List ℕ) (summed : Summed b rows used ws r table totals)
+      (fds sizes lens : List ℕ) (count from : ℕ) (d : DictsReady b rows used ws r fds sizes lens count from) (at : ℕ) (out : List ℕ)
+      (small : at + length (tailBytes b rows used ws r from) ≤ 67108864) (room : at + length (tailBytes b rows used ws r from) ≤ length out) where
     abbrev dicts : List ℕ
     dicts = indexBytes (fontDicts p from (fdsIn used) (bodies .locals))
 
     abbrev privates : List ℕ
     privates = privateParts p (fdsIn used) (bodies .locals)
 
-    pub dicts-put : (length b ≤ 67108864) × GoodFont b f × (f .cid ≡ true) × Placed p fds sizes lens count from × (at < 4294967296)
+    pub dicts-put : (length b ≤ 67108864) × GoodFont b (r .order .f) × (r .order .f .cid ≡ true) × Placed p fds sizes lens count from × (at < 4294967296)
         × (at + length (indexBytes (fontDictsBy p fds sizes lens count from)) ≤ length out)
     unfolding tailBytes
     dicts-put = (
@@ -135,25 +126,25 @@ module _ (b : List ℕ) (f : Font) (rows : List Row) (used ws : List ℕ) (r : P
       listed : Wrote out at dicts mid q
       listed = wrote-as w (ap indexBytes (d .are))
 
-      pub privates-put : GoodFont b f × LocalsIn b p used ws table (r .kept .globals) rows (r .kept .rising)
-          × PartsRoom (r .kept .way) p rows ws table (r .kept .globals) used totals q (length mid)
+      pub privates-put : GoodFont b (r .order .f) × LocalsIn b p used ws table (r .how .globals) rows (r .how .rising)
+          × PartsRoom (r .how .way) p rows ws table (r .how .globals) used totals q (length mid)
       unfolding tailBytes
       privates-put =
-          let a = privates-asked b f rows used ws table r ready totals summed q (length mid)
+          let a = privates-asked b rows used ws table r ready totals summed q (length mid)
           (second-below at dicts privates 67108864 q small (listed .behind)) (room-then privates listed room) in
           (ready .read .font, a .0, a .1)
 
       pub privates-wrote : {new : List ℕ} {q' : ℕ}
-          → Wrote mid q (partsFor (r .kept .way) p rows ws table (r .kept .globals) (fdsIn used)) new q'
-          → Wrote out at (tailBytes b f rows used ws r from) new q'
+          → Wrote mid q (partsFor (r .how .way) p rows ws table (r .how .globals) (fdsIn used)) new q'
+          → Wrote out at (tailBytes b rows used ws r from) new q'
       unfolding tailBytes
       privates-wrote v =
-          wrote-both room listed (wrote-as v (privates-are b f rows used ws table r ready totals summed))
+          wrote-both room listed (wrote-as v (privates-are b rows used ws table r ready totals summed))
 
   -- ---- front, globals and charset
 
-  module _ (c : CidReady b f rows used ws r table) (name slots : List ℕ) (own : Own) (strings : StringsReady p slots own) (short : length name ≤ 65535)
-      (at : CidPlaces) (is : at ≡ cidPlaces b f rows used ws r name) (small : at .end ≤ 67108864) (out : List ℕ) (room : at .end ≤ length out) where
+  module _ (c : CidReady b rows used ws r table) (name slots : List ℕ) (own : Own) (strings : StringsReady p slots own) (short : length name ≤ 65535)
+      (at : CidPlaces) (is : at ≡ cidPlaces b rows used ws r name) (small : at .end ≤ 67108864) (out : List ℕ) (room : at .end ≤ length out) where
     -- the front by the places, which are the subset's
     abbrev frontAt : CidPlaces → List ℕ
     frontAt x = frontBytes (x .end) name (topByCid p (ownByCid p) (x .charset) (x .select) (x .glyphs) (x .dicts)) (ownByCid p)
@@ -174,14 +165,14 @@ module _ (b : List ℕ) (f : Font) (rows : List Row) (used ws : List ℕ) (r : P
     -- how long it is, and that front, globals and charset are within the subset
     front-long : length front ≡ measured true 0 (p .top) slots (length name) own
     front-long =
-        cid-front-len p slots ws (strings .slotted) own (strings .measured .is) (cidEnd p name (fdsIn used) order bodies) name
+        cid-front-len p slots (strings .slotted) own (strings .measured .is) (cidEnd p name (fdsIn used) order bodies) name
         (cidCharset p name (fdsIn used) order bodies) (cidSelect p name (fdsIn used) order bodies) (cidGlyphs p name (fdsIn used) order bodies)
         (cidDicts p name (fdsIn used) order bodies)
 
     head-within : length (front ++ (globals ++ ids)) ≤ at .end
     unfolding cidPlaces
     head-within =
-        let sum = cid-front-sum p slots ws (strings .slotted) own (strings .measured .is) name 0 0 0 0 in
+        let sum = cid-front-sum p slots (strings .slotted) own (strings .measured .is) name 0 0 0 0 in
         let select = length (fdSelectBytes (newFds p (fdsIn used) order)) in
         let glyphs = length (indexBytes (bodies .charstrings)) in
         let dicts = length (indexBytes (fontDicts p 0 (fdsIn used) (bodies .locals))) in
@@ -196,12 +187,12 @@ module _ (b : List ℕ) (f : Font) (rows : List Row) (used ws : List ℕ) (r : P
     head-room = omega (arith, head-within, room)
 
     -- what the front asks
-    pub front-put : CidFront b f slots own (length name) (length out) × Offsets (at .charset) (at .select) (at .glyphs) (at .dicts)
+    pub front-put : CidFront b (r .order .f) slots own (length name) (length out) × Offsets (at .charset) (at .select) (at .glyphs) (at .dicts)
     unfolding cidPlaces
     front-put =
         let l = length-append front (globals ++ ids) in (
           record {
-            font = held-small b f (c .ready .read);
+            font = held-small b (r .order .f) (c .ready .read);
             ready = strings .slotted;
             is = strings .measured .is;
             fits = record {
@@ -226,7 +217,7 @@ module _ (b : List ℕ) (f : Font) (rows : List Row) (used ws : List ℕ) (r : P
       rest-room = room-then (globals ++ ids) fronted head-room
 
       -- what the globals ask
-      pub globals-put : Ready b f rows used ws r table × (q + length globals ≤ 67108864) × (q + length globals ≤ length mid)
+      pub globals-put : Ready b rows used ws r table × (q + length globals ≤ 67108864) × (q + length globals ≤ length mid)
       globals-put = (
         c .ready,
         omega (arith, fronted .behind, length-append front (globals ++ ids), length-append globals ids, head-within, small),
@@ -235,45 +226,40 @@ module _ (b : List ℕ) (f : Font) (rows : List Row) (used ws : List ℕ) (r : P
 
       module _ {mid2 : List ℕ} {q2 : ℕ} (v : Wrote mid q globals mid2 q2) where
         -- what the charset asks
-        pub charset-put : (k ≤ length ws) × (q2 + length (charsetBytes (highs ws k)) ≤ length mid2)
-        charset-put = (
-          omega (arith, words-room b f rows used ws r table c),
-          subst (λ (l : List ℕ). q2 + length (charsetBytes l) ≤ length mid2) (sym (cids-are b f rows used ws r table c))
-              (room-then ids v rest-room),
-        )
+        pub charset-put : q2 + length (charsetBytes (cidsOf p order)) ≤ length mid2
+        charset-put = room-then ids v rest-room
 
-        pub head-wrote : {new : List ℕ} {q3 : ℕ} → Wrote mid2 q2 (charsetBytes (highs ws k)) new q3 → Wrote out 0 (headBytes b f rows used ws r name) new q3
+        pub head-wrote : {new : List ℕ} {q3 : ℕ} → Wrote mid2 q2 (charsetBytes (cidsOf p order)) new q3 → Wrote out 0 (headBytes b rows used ws r name) new q3
         unfolding headBytes
         head-wrote u =
-            wrote-both head-room fronted
-            (wrote-both rest-room v (wrote-as u (ap charsetBytes (cids-are b f rows used ws r table c))))
+            wrote-both head-room fronted (wrote-both rest-room v u)
 
   -- ---- all
 
-  module _ (c : CidReady b f rows used ws r table) (totals : List ℕ) (summed : Summed b f rows used ws r table totals) (name : List ℕ)
-      (at : CidPlaces) (is : at ≡ cidPlaces b f rows used ws r name) (small : at .end ≤ 67108864) (out : List ℕ) (room : at .end ≤ length out) where
+  module _ (c : CidReady b rows used ws r table) (totals : List ℕ) (summed : Summed b rows used ws r table totals) (name : List ℕ)
+      (at : CidPlaces) (is : at ≡ cidPlaces b rows used ws r name) (small : at .end ≤ 67108864) (out : List ℕ) (room : at .end ≤ length out) where
     abbrev head : List ℕ
-    head = headBytes b f rows used ws r name
+    head = headBytes b rows used ws r name
 
     abbrev middle : List ℕ
-    middle = glyphBytes b f rows used ws r
+    middle = glyphBytes b rows used ws r
 
     abbrev tail : List ℕ
-    tail = tailBytes b f rows used ws r (at .privates)
+    tail = tailBytes b rows used ws r (at .privates)
 
     -- the three groups are the subset
-    groups : head ++ (middle ++ tail) ≡ cidBytes b f rows used ws r name
+    groups : head ++ (middle ++ tail) ≡ cidBytes b rows used ws r name
     unfolding cidBytes cidPlaces headBytes glyphBytes tailBytes
     groups =
         let from = cidPrivates p name (fdsIn used) order bodies in
         let front = frontBytes (cidEnd p name (fdsIn used) order bodies) name (cidTop p name (fdsIn used) order bodies) (ownByCid p) in
         let last = indexBytes (fontDicts p from (fdsIn used) (bodies .locals)) ++ privateParts p (fdsIn used) (bodies .locals) in
-        ap (λ (x : CidPlaces). head ++ (middle ++ tailBytes b f rows used ws r (x .privates))) is
+        ap (λ (x : CidPlaces). head ++ (middle ++ tailBytes b rows used ws r (x .privates))) is
         ∙ three front (indexBytes (bodies .globals)) (charsetBytes (cidsOf p order)) (fdSelectBytes (newFds p (fdsIn used) order)) (indexBytes (bodies .charstrings)) last
         ∙ sym (cid-parts p name (fdsIn used) order bodies)
 
     whole : length (head ++ (middle ++ tail)) ≡ at .end
-    whole = ap length groups ∙ bytes-long b f rows used ws r table c totals summed name ∙ ap (λ (x : CidPlaces). x .end) (sym is)
+    whole = ap length groups ∙ bytes-long b rows used ws r table c totals summed name ∙ ap (λ (x : CidPlaces). x .end) (sym is)
 
     all-room : 0 + length (head ++ (middle ++ tail)) ≤ length out
     all-room = omega (arith, whole, room)
@@ -285,7 +271,7 @@ module _ (b : List ℕ) (f : Font) (rows : List Row) (used ws : List ℕ) (r : P
       left-small : q + length (middle ++ tail) ≤ 67108864
       left-small = second-below 0 head (middle ++ tail) 67108864 q (omega (arith, whole, small)) (w .behind)
 
-      pub middle-put : CidReady b f rows used ws r table × (q + length middle ≤ 67108864) × (q + length middle ≤ length mid)
+      pub middle-put : CidReady b rows used ws r table × (q + length middle ≤ 67108864) × (q + length middle ≤ length mid)
       middle-put = (c, omega (arith, left-small, length-append middle tail), room-first (length mid) q middle tail left-room)
 
       module _ {mid2 : List ℕ} {q2 : ℕ} (v : Wrote mid q middle mid2 q2) where
@@ -295,5 +281,5 @@ module _ (b : List ℕ) (f : Font) (rows : List Row) (used ws : List ℕ) (r : P
         pub tail-room : q2 + length tail ≤ length mid2
         tail-room = room-then tail v left-room
 
-        pub all-wrote : {new : List ℕ} {q3 : ℕ} → Wrote mid2 q2 tail new q3 → Wrote out 0 (cidBytes b f rows used ws r name) new q3
+        pub all-wrote : {new : List ℕ} {q3 : ℕ} → Wrote mid2 q2 tail new q3 → Wrote out 0 (cidBytes b rows used ws r name) new q3
         all-wrote u = wrote-as (wrote-both all-room w (wrote-both left-room v u)) groups

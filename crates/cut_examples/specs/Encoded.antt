@@ -50,7 +50,7 @@ use Rattle.faithful.specs.Examples.{octets-of, none-octets}
 
 -- ---- its own encoding: code 65 names A; 66 Qx, and then A by a supplement, whose string id 34 is the standard one; 67 Qx, which is not kept
 
-abbrev customFont : List ℕ
+abbrev pub customFont : List ℕ
 customFont =
     -- header
     0x01 ∷ 0x00 ∷ 0x04 ∷ 0x01
@@ -70,7 +70,7 @@ customFont =
     ∷ 0x00 ∷ 0x03 ∷ 0x01 ∷ 0x01 ∷ 0x02 ∷ 0x03 ∷ 0x04 ∷ 0x0e ∷ 0x0e ∷ 0x0e ∷ []
 
 -- what it holds
-abbrev customProgram : Program
+abbrev pub customProgram : Program
 customProgram =
     record {
       top =
@@ -88,7 +88,7 @@ customProgram =
       coding = font.custom (byNumber 65 1 ∷ byNumber 66 2 ∷ byString 66 34 ∷ byString 67 392 ∷ []);
     }
 
-custom-reads : font.readFont customFont ≡ got customProgram
+pub custom-reads : font.readFont customFont ≡ got customProgram
 unfolding
     font.readFont font.readTable placeOf font.setAt font.fontsAt font.fontAt font.nameParts font.privateAt font.idsAt font.codingAt font.encodingGot readIndex told itemsOf pieces indexAt tableAt
     dataAt judged runOf offsets numAt be dec.numberAt dec.realAt dict.dictOf dict.gathered dict.readingsAt dict.readingsFrom dict.entryAt dict.entryFrom dict.operatorAt
@@ -96,7 +96,7 @@ unfolding
 custom-reads = refl
 
 -- its subset of the glyphs 0 and 1
-abbrev customSubset : List ℕ
+abbrev pub customSubset : List ℕ
 customSubset =
     -- header
     0x01 ∷ 0x00 ∷ 0x04 ∷ 0x01
@@ -123,7 +123,7 @@ unfolding
     t2.numberAt t2e.numberBytes t2e.integerBytes t2e.fixedBytes tok.tokensOf tok.tokensFrom tok.tokenAt decw.int5Bytes cfffind.localsWords codedBy pairsFrom lastNamed pairBytes
 custom-written = refl
 
-custom-cut : cutOf false true customFont (0x4e ∷ []) (1 ∷ []) [] 1 8192 32768 ≡ subset 0 customSubset
+pub custom-cut : cutOf false true customFont (0x4e ∷ []) (1 ∷ []) [] 1 8192 32768 ≡ subset 0 customSubset
 unfolding cutWith
 custom-cut = ap (λ (g : font.Got Program). cutRead workSize false true g (0x4e ∷ []) (1 ∷ []) [] 1 8192 32768) custom-reads ∙ custom-written
 

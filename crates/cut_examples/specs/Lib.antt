@@ -1,3 +1,4 @@
 pub mod Stroked
 pub mod Encoded
 pub mod EncodedEdges
+pub mod SmallCalls

@@ -23,7 +23,8 @@ use Rattle.cff.specs.declared.font.Font.{Font}
 use Rattle.index.specs.IndexLaws.{items-length}
 use Rattle.subset.specs.Kept.{keptOf}
 use Rattle.subset.specs.Cut.{allFound, hasRos, sameBool, isExpert, unsupportedIn}
-use Rattle.outcome.specs.Entry.{refusalOf}
+use Rattle.small.specs.Small.{smallSize}
+use Rattle.outcome.specs.Entry.{sizeOf, refusalOf}
 
 -- a font's counts
 module _ (b : List ℕ) (f : Font) (good : GoodFont b f) where
@@ -32,6 +33,19 @@ module _ (b : List ℕ) (f : Font) (good : GoodFont b f) where
 
   pub work-is : 2 * f .charstrings .count + wordsFor (f .globals .count) + f .words ≡ workSize (programOf b f)
   work-is = let e = counts-with b f good _ refl in ap (λ (c : Counts). c .work) e
+
+  -- and the words that the small call asks for
+  pub small-is : wordsFor (f .charstrings .count) + wordsFor (f .globals .count) + f .words ≡ smallSize (programOf b f)
+  small-is =
+      let n : wordsFor (length (programOf b f .charstrings)) ≡ wordsFor (f .charstrings .count) = ap wordsFor glyphs-are in
+      omega (arith, n, work-is, glyphs-are)
+
+  -- by the call
+  pub size-small : (small : Bool) → small ≡ true → (w : ℕ) → w ≡ wordsFor (f .charstrings .count) + wordsFor (f .globals .count) + f .words → w ≡ sizeOf small (programOf b f)
+  size-small small e w is = is ∙ small-is ∙ ap (λ (t : Bool). sizeOf t (programOf b f)) (sym e)
+
+  pub size-large : (small : Bool) → small ≡ false → (w : ℕ) → w ≡ 2 * f .charstrings .count + wordsFor (f .globals .count) + f .words → w ≡ sizeOf small (programOf b f)
+  size-large small e w is = is ∙ work-is ∙ ap (λ (t : Bool). sizeOf t (programOf b f)) (sym e)
 
 -- ---- the refusal, test by test: what each test of the code answered
 
@@ -86,12 +100,12 @@ asked-next s ask t r e h a = ap (λ (x : Bool). pick x true (pick true false t))
 pub expert-last : (s ask t r : Bool) → r ≡ s → r ≡ false → ask ≡ false → t ≡ pick s true (pick ask false t)
 expert-last s ask t r e h a = ap (λ (x : Bool). pick x true (pick false false t)) (sym h ∙ e) ∙ ap (λ (x : Bool). pick s true (pick x false t)) (sym a)
 
-module _ (b : List ℕ) (f : Font) (good : GoodFont b f) (cid ask : Bool) (name : ℕ) (keep rec : List ℕ) (flag words : ℕ) where
+module _ (b : List ℕ) (f : Font) (good : GoodFont b f) (small cid ask : Bool) (name : ℕ) (keep rec : List ℕ) (flag words : ℕ) where
   abbrev p : Program
   p = programOf b f
 
   abbrev numbered : ℕ
-  numbered = refusalOf cid ask p name keep rec flag words
+  numbered = refusalOf (sizeOf small) cid ask p name keep rec flag words
 
   module _ (r₁ : Bool) (e₁ : r₁ ≡ pick (sameBool cid (f .cid)) (not (unsupportedAt ask (f .encoding) (p .top))) false) where
     same : (t : Bool) → r₁ ≡ t → pick (sameBool cid (cidKeyed (p .top))) (not (unsupportedIn ask p)) false ≡ t
@@ -156,17 +170,14 @@ module _ (b : List ℕ) (f : Font) (good : GoodFont b f) (cid ask : Bool) (name 
               unfolding refusalOf
               read-record t = rw (a, s, c, le-ltb 65535 name t₃, d, e, sym e₆ ∙ was-false r₆ t)
 
-              module _ (t₆ : not r₆ ≡ false) (w : ℕ) (e₇ : w ≡ 2 * f .charstrings .count + wordsFor (f .globals .count) + f .words) where
+              module _ (t₆ : not r₆ ≡ false) (w : ℕ) (size : w ≡ sizeOf small p) where
                 g : recordFine cid rec flag ≡ true
                 g = sym e₆ ∙ was-true r₆ t₆
 
-                size : w ≡ workSize p
-                size = e₇ ∙ work-is b f good
-
                 pub read-work : words < w → 9 ≡ numbered
                 unfolding refusalOf
-                read-work h = rw (a, s, c, le-ltb 65535 name t₃, d, e, g, lt-ltb words (workSize p) (subst (λ (n : ℕ). words < n) size h))
+                read-work h = rw (a, s, c, le-ltb 65535 name t₃, d, e, g, lt-ltb words (sizeOf small p) (subst (λ (n : ℕ). words < n) size h))
 
                 pub read-passed : w ≤ words → 0 ≡ numbered
                 unfolding refusalOf
-                read-passed h = rw (a, s, c, le-ltb 65535 name t₃, d, e, g, le-ltb words (workSize p) (subst (λ (n : ℕ). n ≤ words) size h))
+                read-passed h = rw (a, s, c, le-ltb 65535 name t₃, d, e, g, le-ltb words (sizeOf small p) (subst (λ (n : ℕ). n ≤ words) size h))

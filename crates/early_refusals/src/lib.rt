@@ -7,7 +7,7 @@ ghost use Rattle.dict.specs.Lookup.{rosIn};
 ghost use Rattle.dict.specs.Places.{entriesOf};
 ghost use Rattle.cff.specs.Reads.{programOf, GoodFont};
 ghost use Rattle.subset.specs.Cut.{hasRos, sameBool};
-ghost use Rattle.outcome.specs.Entry.{refusalOf};
+ghost use Rattle.outcome.specs.Entry.{sizeOf, refusalOf};
 ghost use Rattle.early_refusals.specs.RefusalLaws.{unsupportedAt};
 use cff::font::Font;
 use dict::RosIn;
@@ -70,8 +70,22 @@ fn ros_fine(cid: bool, d: &[u8]) -> bool
     true
 }
 
+// How many work words the small call asks for (document 02, Wish 10), or the other.
+pub fn size_of(small: bool, font: &[u8], f: Font) -> usize
+    requires { ⌜ GoodFont (now font) f ⌝ }
+    ensures { λ r. ⌜ r ≡ sizeOf small (programOf (now (font .entry)) f) ⌝ }
+{
+    let charstrings = f.charstrings;
+    let globals = f.globals;
+    if small {
+        return bits::words_for(charstrings.count) + bits::words_for(globals.count) + f.words;
+    }
+    cff::font::work_size(f)
+}
+
 // The refusal of a font that was read, before the work words are used, or 0.
 pub fn refusal(
+    small: bool,
     cid: bool,
     ask: bool,
     font: &[u8],
@@ -83,7 +97,7 @@ pub fn refusal(
     words: usize,
 ) -> u8
     requires { ⌜ GoodFont (now font) f ⌝ }
-    ensures { λ r. ⌜ r ≡ refusalOf cid ask (programOf (now (font .entry)) f) name (now (keep .entry)) (now (rows .entry)) traced words ⌝ }
+    ensures { λ r. ⌜ r ≡ refusalOf (sizeOf small) cid ask (programOf (now (font .entry)) f) name (now (keep .entry)) (now (rows .entry)) traced words ⌝ }
 {
     let charstrings = f.charstrings;
     let top = f.top;
@@ -106,7 +120,7 @@ pub fn refusal(
     if !reach::check_record(cid, rows, traced) {
         return Refusal::RECORD;
     }
-    if words < cff::font::work_size(f) {
+    if words < size_of(small, font, f) {
         return Refusal::WORK;
     }
     0

@@ -86,19 +86,19 @@ module _ (p : Program) (name : ℕ) (keep : List ℕ) (words lent : ℕ) where
   firstOfThem = pick (unsupportedIn false p) 3 (pick ros (pick (ltb 65535 name) 4 (pick (allBelow n keep) (pick (allFound p kept) 0 7) 6)) 2)
 
   -- the subset call's, with an empty record and words enough
-  asked-first : refusalOf (cidKeyed (p .top)) false p name keep [] 1 (workSize p) ≡ firstOfThem
+  asked-first : refusalOf workSize (cidKeyed (p .top)) false p name keep [] 1 (workSize p) ≡ firstOfThem
   unfolding refusalOf
   asked-first = rw (same-self (cidKeyed (p .top)), none-fine (cidKeyed (p .top)), le-ltb (workSize p) (workSize p) (omega arith))
 
-  pub early-first : 0 < refusalOf (cidKeyed (p .top)) false p name keep [] 1 (workSize p)
-      → refusalOf (cidKeyed (p .top)) false p name keep [] 1 (workSize p) ≡ earlyOf p name keep words lent
+  pub early-first : 0 < refusalOf workSize (cidKeyed (p .top)) false p name keep [] 1 (workSize p)
+      → refusalOf workSize (cidKeyed (p .top)) false p name keep [] 1 (workSize p) ≡ earlyOf p name keep words lent
   unfolding earlyOf
   early-first h =
       asked-first
       ∙ first (unsupportedIn false p) ros (ltb 65535 name) (allBelow n keep) (allFound p kept) (answered lent (metAll p kept)) (pick (ltb words (workSize p)) 9 0)
       (subst (λ (k : ℕ). 0 < k) asked-first h)
 
-  module _ (none : refusalOf (cidKeyed (p .top)) false p name keep [] 1 (workSize p) ≡ 0) where
+  module _ (none : refusalOf workSize (cidKeyed (p .top)) false p name keep [] 1 (workSize p) ≡ 0) where
     tests : (unsupportedIn false p ≡ false) × (ros ≡ true) × (ltb 65535 name ≡ false) × (allBelow n keep ≡ true) × (allFound p kept ≡ true)
     tests = passes (unsupportedIn false p) ros (ltb 65535 name) (allBelow n keep) (allFound p kept) (sym asked-first ∙ none)
 
@@ -146,19 +146,19 @@ module _ (file : List ℕ) (f : Font) (b : List ℕ) (held : InFile file f b) wh
   trace-of keep lent = ap (λ (g : Got Program). traceRead g keep lent) (held .is)
 
   module _ (name : ℕ) (keep : List ℕ) (words lent w n : ℕ) (size : w ≡ 2 * f .charstrings .count + wordsFor (f .globals .count) + f .words)
-      (is : n ≡ refusalOf (f .cid) false q name keep (take 0 b) 1 w) where
+      (is : n ≡ refusalOf workSize (f .cid) false q name keep (take 0 b) 1 w) where
     wide : w ≡ workSize q
     wide = size ∙ work-is b f (held .good)
 
-    number : n ≡ refusalOf (cidKeyed (q .top)) false q name keep [] 1 (workSize q)
-    number = is ∙ ap (λ (c : Bool). refusalOf c false q name keep [] 1 w) keyed ∙ ap (refusalOf (cidKeyed (q .top)) false q name keep [] 1) wide
+    number : n ≡ refusalOf workSize (cidKeyed (q .top)) false q name keep [] 1 (workSize q)
+    number = is ∙ ap (λ (c : Bool). refusalOf workSize c false q name keep [] 1 w) keyed ∙ ap (refusalOf workSize (cidKeyed (q .top)) false q name keep [] 1) wide
 
     -- refused by the subset call's own
     pub own-refusal : 0 < n → n ≡ earlyOf q name keep words lent
     own-refusal h = number ∙ early-first q name keep words lent (subst (λ (k : ℕ). 0 < k) number h)
 
     module _ (l : n ≤ 0) where
-      none : refusalOf (cidKeyed (q .top)) false q name keep [] 1 (workSize q) ≡ 0
+      none : refusalOf workSize (cidKeyed (q .top)) false q name keep [] 1 (workSize q) ≡ 0
       none = let z : n ≡ 0 = omega arith in sym number ∙ z
 
       -- what the trace asks

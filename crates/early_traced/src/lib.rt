@@ -81,7 +81,7 @@ pub fn refusal(font: &[u8], f: Font, name: usize, keep: &[u16], words: usize, le
 {
     let table = cff::set::table(font, f);
     let w = cff::font::work_size(f);
-    let n = early_refusals::refusal(f.cid, false, table, f, name, keep, &table[..0], 1, w);
+    let n = early_refusals::refusal(false, f.cid, false, table, f, name, keep, &table[..0], 1, w);
     if 0 < n {
         return n;
     }

@@ -2,21 +2,17 @@
 use Prim.Native.Nat.{ℕ, zero, suc, _+_, _*_, _-_, _≤_, _<_}
 use mathlib.Core.Path.{_≡_, refl, sym, ap, _∙_}
 use mathlib.Core.Bool.{Bool, true, false}
-use mathlib.Core.List.{List, [], _∷_, _++_}
+use mathlib.Core.List.{List}
 use native.Mathlib.Omega.{arith}
 use borrow.Author.Tests.{ne-eqb}
 use lib.Dec.{eqb}
-use lib.ListN.{length, take, drop, getD, replicate}
+use lib.ListN.{length, getD, replicate}
 use Rattle.octets.specs.Pick.{pick}
-use Rattle.charset.specs.Codes.{Naming, namingsAt}
-use Rattle.find.specs.declared.Found.the-variants.{Absent, Glyph}
-use Rattle.cff.specs.Font.{Program, Coding, standard, expert, custom, codingAt}
+use Rattle.charset.specs.Codes.{namingsAt}
+use Rattle.cff.specs.Font.{Program, custom, codingAt}
 use Rattle.cff.specs.Reads.{programOf}
 use Rattle.cff.specs.declared.font.Font.{Font}
-use Rattle.subset.specs.Texts.{namesOf}
-use Rattle.subset.specs.Subset.{newIds}
-use Rattle.subset.specs.Codes.{Coded, none, predefined, pairs, pairsFrom, codedBy, pairCount, pairBytes, codedBytes, codedAt, lastNamed}
-use Rattle.kept.specs.Packed.{orderIn}
+use Rattle.subset.specs.Codes.{Coded, none, pairs, pairsFrom, codedBy, pairCount, codedBytes, codedAt}
 use Rattle.codes.specs.Filled.{filled}
 use Rattle.codes.specs.FilledLaws.{filled-empty}
 use Rattle.encoding.specs.Encoded.{pairsIn, codedIn, Encodes, encodingLen, offsetFor, Renames}
@@ -40,22 +36,18 @@ encodes-predefined b zero h p kept own table = record { is = refl; kind-small = 
 encodes-predefined b (suc zero) h p kept own table = record { is = refl; kind-small = omega arith; many = refl; small = omega arith }
 encodes-predefined b (suc (suc v)) h p kept own table = absurd (omega arith)
 
-module _ (b : List ℕ) (f : Font) (own : List (List ℕ)) (words : List ℕ) (n k : ℕ) (front : k ≤ n) (room : n + k ≤ length words)
-    (ids : take k (drop n words) ≡ newIds own (namesOf (programOf b f) (orderIn k words))) (custom-one : 2 ≤ f .encoding) where
-  pub encodes-pairs : (empty named table : List ℕ) → empty ≡ replicate 256 0 → named ≡ filled (programOf b f) empty (namingsAt b (f .encoding))
-      → Renames words n k named 256 table → (r : ℕ) → (r ≡ length (pairsIn table 256 0)) × (r ≤ 256)
-      → Encodes (codedBy (programOf b f) (orderIn k words) own (programOf b f .coding)) table (record { kind = 2; pairs = r })
-  unfolding codedBy
-  encodes-pairs empty named table z e renames r many =
-      let p = programOf b f in
-      let ns = namingsAt b (f .encoding) in
-      let c : codingAt b (f .encoding) ≡ custom ns = coding-pairs b (f .encoding) custom-one in
-      let is-pairs : pairsIn table 256 0 ≡ pairsFrom p ns (orderIn k words) own 256 0 =
-      pairs-same p own words n k front room ids ns named table
-      (λ x h. ap (λ (l : List ℕ). getD l x 0) e ∙ filled-empty p empty ns z x h) renames 256 0 (omega arith) in
-      let is-coded : pairs (pairsIn table 256 0) ≡ codedBy p (orderIn k words) own (codingAt b (f .encoding)) =
-      ap pairs is-pairs ∙ ap (codedBy p (orderIn k words) own) (sym c) in
-      record { is = is-coded; kind-small = omega arith; many = many .0 ∙ ap pairCount is-coded; small = many .1 }
+pub encodes-pairs : (b : List ℕ) (f : Font) (own : List (List ℕ)) (gs : List ℕ) → 2 ≤ f .encoding → (empty named table : List ℕ) → empty ≡ replicate 256 0
+    → named ≡ filled (programOf b f) empty (namingsAt b (f .encoding)) → Renames (programOf b f) own gs named table
+    → (r : ℕ) → (r ≡ length (pairsIn table 256 0)) × (r ≤ 256) → Encodes (codedBy (programOf b f) gs own (programOf b f .coding)) table (record { kind = 2; pairs = r })
+unfolding codedBy
+encodes-pairs b f own gs custom-one empty named table z e renames r many =
+    let p = programOf b f in
+    let ns = namingsAt b (f .encoding) in
+    let c : codingAt b (f .encoding) ≡ custom ns = coding-pairs b (f .encoding) custom-one in
+    let is-pairs : pairsIn table 256 0 ≡ pairsFrom p ns gs own 256 0 =
+    pairs-same p own gs ns named table (λ x h. ap (λ (l : List ℕ). getD l x 0) e ∙ filled-empty p empty ns z x h) renames 256 0 (omega arith) in
+    let is-coded : pairs (pairsIn table 256 0) ≡ codedBy p gs own (codingAt b (f .encoding)) = ap pairs is-pairs ∙ ap (codedBy p gs own) (sym c) in
+    record { is = is-coded; kind-small = omega arith; many = many .0 ∙ ap pairCount is-coded; small = many .1 }
 
 pub encodes-none : (table : List ℕ) → Encodes none table (record { kind = 0; pairs = 0 })
 encodes-none table = record { is = refl; kind-small = omega arith; many = refl; small = omega arith }

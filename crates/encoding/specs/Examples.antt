@@ -1,10 +1,12 @@
 -- Worked examples, computed.
+use Prim.Native.Nat.{ℕ, _+_}
 use mathlib.Core.Path.{_≡_, refl}
 use mathlib.Core.List.{List, [], _∷_, _++_}
-use lib.ListN.{getD}
 use Rattle.octets.specs.Octets.{bytesOf}
-use Rattle.subset.specs.Codes.{Pair, none, predefined, pairs, pairBytes, encodingBytes, codedBytes}
-use Rattle.encoding.specs.Encoded.{pairsIn, codedIn, idFrom, heldFor}
+use Rattle.cff.specs.Font.{Program}
+use Rattle.subset.specs.Texts.{nameOf, newId}
+use Rattle.subset.specs.Codes.{pairs, pairBytes, encodingBytes, codedBytes}
+use Rattle.encoding.specs.Encoded.{pairsIn, codedIn, heldAfter}
 
 -- codes 0 and 3 have pairs: glyph 0 is .notdef, whose id is 0; code 1 has none
 some-pairs : pairsIn (1 ∷ 0 ∷ 0 ∷ 392 ∷ []) 4 0 ≡ record { code = 0; id = 0 } ∷ record { code = 3; id = 391 } ∷ []
@@ -24,11 +26,15 @@ no-pairs = refl
 no-bytes : codedBytes (codedIn 0 []) ++ codedBytes (codedIn 1 []) ≡ []
 no-bytes = refl
 
--- glyphs 0, 2 and 5 of 6 are kept, with new ids 0, 34 and 391: glyph 2 has 34 + 1, glyph 3 is not kept
-kept-id : idFrom (0 ∷ 2 ∷ 5 ∷ 9 ∷ 9 ∷ 9 ∷ 0 ∷ 34 ∷ 391 ∷ []) 6 3 0 2 ≡ 35
-unfolding idFrom
-kept-id = refl
+-- glyphs 0, 2 and 5 are kept: a code of glyph 2 gets the new id of its name, plus 1, and one of glyph 3, or of none, stays without
+kept-code : (p : Program) (own : List (List ℕ)) → heldAfter p own (0 ∷ 2 ∷ 5 ∷ []) 3 0 ≡ newId own (nameOf p 2) + 1
+unfolding heldAfter
+kept-code p own = refl
 
-not-kept : heldFor (0 ∷ 2 ∷ 5 ∷ 9 ∷ 9 ∷ 9 ∷ 0 ∷ 34 ∷ 391 ∷ []) 6 3 4 ≡ 0
-unfolding idFrom
-not-kept = refl
+not-kept : (p : Program) (own : List (List ℕ)) → heldAfter p own (0 ∷ 2 ∷ 5 ∷ []) 4 0 ≡ 0
+unfolding heldAfter
+not-kept p own = refl
+
+no-glyph : (p : Program) (own : List (List ℕ)) → heldAfter p own (0 ∷ 2 ∷ 5 ∷ []) 0 0 ≡ 0
+unfolding heldAfter
+no-glyph p own = refl

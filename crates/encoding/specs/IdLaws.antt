@@ -1,125 +1,136 @@
--- Laws of new ids: the search through the words, and that it gives the new id of a kept glyph's name.
-use Prim.Native.Nat.{ℕ, zero, suc, _+_, _-_, _%_, _≤_, _<_}
+-- Laws of new ids: the places of all codes emptied, those of a glyph's codes filled, and what they hold once all kept glyphs came by.
+use Prim.Native.Nat.{ℕ, _+_, _≤_, _<_}
 use mathlib.Core.Path.{_≡_, refl, sym, ap, _∙_}
 use mathlib.Core.Bool.{Bool, true, false}
 use mathlib.Core.List.{List, [], _∷_}
-use native.Mathlib.Numerals.{add-one}
-use native.Mathlib.Nat.{not-suc-le-zero, le-of-suc-le-suc}
 use native.Mathlib.Omega.{arith}
 use borrow.Author.Tests.{eq-eqb, ne-eqb, eqb-true, eqb-false}
 use lib.Dec.{eqb}
-use lib.ListN.{length, take, drop, getD, set, drop-of-length-le}
-use lib.Seq.{length-take-le, getD-take, getD-drop, getD-set-same, getD-set-other}
+use lib.ListN.{length, drop, getD, set, length-set, drop-of-length-le}
+use lib.Seq.{getD-set-same, getD-set-other}
 use Rattle.octets.specs.Pick.{pick}
 use Rattle.cff.specs.Font.{Program}
-use Rattle.subset.specs.EachLaws.{length-mapped, mapped-at}
 use Rattle.subset.specs.Kept.{isIn}
-use Rattle.subset.specs.Texts.{nameOf, namesOf, newId}
-use Rattle.subset.specs.Subset.{newIds}
-use Rattle.kept.specs.Packed.{orderIn}
+use Rattle.subset.specs.Texts.{nameOf, newId}
 use Rattle.kept.specs.MarkLaws.{ahead}
-use Rattle.encoding.specs.Encoded.{idFrom, heldFor, Renames}
+use Rattle.encoding.specs.Encoded.{Emptied, Puts, heldAfter, Renames}
 
--- ---- the search
+-- ---- all places emptied
 
--- no word before i holds the glyph
-pub record IdSearch (words : List ℕ) (n k g i : ℕ) : Type 0 where
-  pub within : i ≤ k
-  pub is : idFrom words n (k - i) i g ≡ idFrom words n k 0 g
+pub emptied-none : (named table : List ℕ) → Emptied named 0 table 0
+emptied-none named table = record { none = λ c h. absurd (omega arith); high = λ c h. absurd (omega arith) }
 
-pub search-start : (words : List ℕ) (n k g : ℕ) → IdSearch words n k g 0
-search-start words n k g = let e : k - 0 ≡ k = omega arith in record { within = omega arith; is = ap (λ (m : ℕ). idFrom words n m 0 g) e }
+module _ (named table : List ℕ) (code top r : ℕ) (e : Emptied named code table top) (h : code < length table) (low : top ≤ r) (next : getD named code 0 ≤ r) where
+  none-each : (c : ℕ) → c < code + 1 → (t : Bool) → eqb c code ≡ t → getD (set table code 0) c 0 ≡ 0
+  none-each c l true t = ap (λ (x : ℕ). getD (set table code 0) x 0) (eqb-true c code t) ∙ getD-set-same table code 0 0 h
+  none-each c l false t = let d = eqb-false c code t in getD-set-other table code c 0 0 d ∙ e .none c (omega arith)
 
-module _ (words : List ℕ) (n k g i : ℕ) (l : IdSearch words n k g i) where
-  module _ (h : i < k) where
-    more : idFrom words n (k - i) i g ≡ pick (eqb (getD words i 0 % 65536) g) (getD words (n + i) 0 + 1) (idFrom words n (k - (i + 1)) (i + 1) g)
-    unfolding idFrom
-    more = let e : k - i ≡ suc (k - (i + 1)) = omega arith in ap (λ (m : ℕ). idFrom words n m i g) e
+  high-each : (c : ℕ) → c < code + 1 → (t : Bool) → eqb c code ≡ t → getD named c 0 ≤ r
+  high-each c l true t = let s : getD named c 0 ≡ getD named code 0 = ap (λ (x : ℕ). getD named x 0) (eqb-true c code t) in omega arith
+  high-each c l false t = let d = eqb-false c code t in omega (arith, e .high c (omega arith))
 
-    module _ (w : ℕ) (e : w ≡ getD words i 0) where
-      pub search-here : (id : ℕ) → id ≡ getD words (n + i) 0 → w % 65536 ≡ g → id + 1 ≡ idFrom words n k 0 g
-      search-here id d is =
-          let t : eqb (getD words i 0 % 65536) g ≡ true = eq-eqb (getD words i 0 % 65536) g (ap (λ (x : ℕ). x % 65536) (sym e) ∙ is) in
-          ap (λ (x : ℕ). x + 1) d
-          ∙ ap (λ (b : Bool). pick b (getD words (n + i) 0 + 1) (idFrom words n (k - (i + 1)) (i + 1) g)) (sym t)
-          ∙ sym more ∙ l .is
+  pub emptied-next : Emptied named (code + 1) (set table code 0) r
+  emptied-next = record { none = λ c l. none-each c l (eqb c code) refl; high = λ c l. high-each c l (eqb c code) refl }
 
-      pub search-later : (w % 65536 ≡ g → ⊥) → IdSearch words n k g (i + 1)
-      search-later not =
-          let t : eqb (getD words i 0 % 65536) g ≡ false = ne-eqb (getD words i 0 % 65536) g (λ s. not (ap (λ (x : ℕ). x % 65536) e ∙ s)) in
-          record {
-            within = omega arith;
-            is = ap (λ (b : Bool). pick b (getD words (n + i) 0 + 1) (idFrom words n (k - (i + 1)) (i + 1) g)) (sym t) ∙ sym more ∙ l .is;
-          }
+pub emptied-all : (named table : List ℕ) (code top : ℕ) → Emptied named code table top → 256 ≤ code → Emptied named 256 table top
+emptied-all named table code top e h = record { none = λ c l. e .none c (omega arith); high = λ c l. e .high c (omega arith) }
 
-  pub search-none : k ≤ i → 0 ≡ idFrom words n k 0 g
-  unfolding idFrom
-  search-none h = let e : k - i ≡ 0 = omega arith in sym (ap (λ (m : ℕ). idFrom words n m i g) e) ∙ l .is
+-- ---- those of a glyph's codes filled
 
--- ---- all codes
+-- those below a code are done, and the others are as they were
+pub record Putting (named old : List ℕ) (glyph id code : ℕ) (new : List ℕ) : Type 0 where
+  pub size : length new ≡ length old
+  pub done : (c : ℕ) → c < code → getD new c 0 ≡ pick (eqb (getD named c 0) glyph) id (getD old c 0)
+  pub left : (c : ℕ) → code ≤ c → getD new c 0 ≡ getD old c 0
 
-pub renames-none : (words : List ℕ) (n k : ℕ) (named table : List ℕ) → Renames words n k named 0 table
-renames-none words n k named table = record { each = λ c h. absurd (not-suc-le-zero h) }
+pub putting-start : (named old : List ℕ) (glyph id : ℕ) → Putting named old glyph id 0 old
+putting-start named old glyph id = record { size = refl; done = λ c h. absurd (omega arith); left = λ c h. refl }
 
-module _ (words : List ℕ) (n k : ℕ) (named table : List ℕ) (code held : ℕ) (r : Renames words n k named code table) (h : code < length table)
-    (e : held ≡ heldFor words n k (getD named code 0)) where
-  renamed-each : (c : ℕ) → c < code + 1 → (t : Bool) → eqb c code ≡ t → getD (set table code held) c 0 ≡ heldFor words n k (getD named c 0)
-  renamed-each c l true t =
-      let s = eqb-true c code t in
-      ap (λ (x : ℕ). getD (set table code held) x 0) s ∙ getD-set-same table code held 0 h ∙ e ∙ ap (λ (x : ℕ). heldFor words n k (getD named x 0)) (sym s)
-  renamed-each c l false t = let d = eqb-false c code t in getD-set-other table code c held 0 d ∙ r .each c (omega arith)
+module _ (named old : List ℕ) (glyph id code : ℕ) (new : List ℕ) (m : Putting named old glyph id code new) where
+  module _ (h : code < length old) (held : ℕ) (is : held ≡ pick (eqb (getD named code 0) glyph) id (getD new code 0)) where
+    held-is : held ≡ pick (eqb (getD named code 0) glyph) id (getD old code 0)
+    held-is = is ∙ ap (pick (eqb (getD named code 0) glyph) id) (m .left code (omega arith))
 
-  pub renames-next : Renames words n k named (code + 1) (set table code held)
-  renames-next = record { each = λ c l. renamed-each c l (eqb c code) refl }
+    done-each : (c : ℕ) → c < code + 1 → (t : Bool) → eqb c code ≡ t → getD (set new code held) c 0 ≡ pick (eqb (getD named c 0) glyph) id (getD old c 0)
+    done-each c l true t =
+        let s = eqb-true c code t in
+        ap (λ (x : ℕ). getD (set new code held) x 0) s ∙ getD-set-same new code held 0 (omega (arith, m .size)) ∙ held-is
+        ∙ ap (λ (x : ℕ). pick (eqb (getD named x 0) glyph) id (getD old x 0)) (sym s)
+    done-each c l false t = let d = eqb-false c code t in getD-set-other new code c held 0 d ∙ m .done c (omega arith)
 
-pub renames-done : (words : List ℕ) (n k : ℕ) (named table : List ℕ) (code : ℕ) → Renames words n k named code table → 256 ≤ code → Renames words n k named 256 table
-renames-done words n k named table code r h = record { each = λ c l. r .each c (omega arith) }
+    pub putting-next : Putting named old glyph id (code + 1) (set new code held)
+    putting-next =
+        record {
+          size = length-set new code held ∙ m .size;
+          done = λ c l. done-each c l (eqb c code) refl;
+          left = λ c l. getD-set-other new code c held 0 (λ e. let z : ⊥ = omega (arith, e) in z) ∙ m .left c (omega arith);
+        }
 
--- a code with a glyph
-pub held-some : (words : List ℕ) (n k held : ℕ) → (held ≡ 0 → ⊥) → idFrom words n k 0 (held - 1) ≡ heldFor words n k held
-held-some words n k held h = sym (ap (λ (t : Bool). pick t 0 (idFrom words n k 0 (held - 1))) (ne-eqb held 0 h))
+  pub putting-done : 256 ≤ code → Puts named old glyph id new
+  putting-done h = record { each = λ c l. m .done c (omega arith) }
 
--- ---- of a kept glyph
+-- a glyph above the highest is no code's
+pub puts-none : (named table : List ℕ) (top glyph id : ℕ) → ((c : ℕ) → c < 256 → getD named c 0 ≤ top) → top < glyph → Puts named table glyph id table
+puts-none named table top glyph id high h =
+    record {
+      each = λ c l. sym (ap (λ (t : Bool). pick t id (getD table c 0)) (ne-eqb (getD named c 0) glyph (λ e. let z : ⊥ = omega (arith, high c l, e) in z)));
+    }
 
-new-ids-at : (own : List (List ℕ)) (p : Program) (gs : List ℕ) (i : ℕ) → i < length gs → getD (newIds own (namesOf p gs)) i 0 ≡ newId own (nameOf p (getD gs i 0))
-unfolding newIds namesOf
-new-ids-at own p [] i h = absurd (not-suc-le-zero h)
-new-ids-at own p (g ∷ gs) zero h = refl
-new-ids-at own p (g ∷ gs) (suc i) h = new-ids-at own p gs i (le-of-suc-le-suc h)
+-- ---- all glyphs, one after the other
 
-module _ (p : Program) (own : List (List ℕ)) (words : List ℕ) (n k : ℕ) (front : k ≤ n) (room : n + k ≤ length words)
-    (ids : take k (drop n words) ≡ newIds own (namesOf p (orderIn k words))) where
-  order-length : length (orderIn k words) ≡ k
-  order-length = length-mapped (λ w. w % 65536) (take k words) ∙ length-take-le k words (omega arith)
+module _ (p : Program) (own : List (List ℕ)) (gs named : List ℕ) where
+  -- those from place i on still come by
+  pub record Renaming (table : List ℕ) (i : ℕ) : Type 0 where
+    pub each : (c : ℕ) → c < 256 → heldAfter p own (drop i gs) (getD named c 0) (getD table c 0) ≡ heldAfter p own gs (getD named c 0) 0
 
-  order-at : (i : ℕ) → i < k → getD (orderIn k words) i 0 ≡ getD words i 0 % 65536
-  order-at i h =
-      let l : length (take k words) ≡ k = length-take-le k words (omega arith) in
-      mapped-at (λ w. w % 65536) (take k words) i 0 (omega arith) ∙ ap (λ (w : ℕ). w % 65536) (getD-take k words i 0 h)
+  pub renaming-start : (table : List ℕ) (top : ℕ) → Emptied named 256 table top → Renaming table 0
+  renaming-start table top e = record { each = λ c h. ap (heldAfter p own gs (getD named c 0)) (e .none c h) }
 
-  id-at : (i : ℕ) → i < k → getD words (n + i) 0 ≡ newId own (nameOf p (getD (orderIn k words) i 0))
-  id-at i h =
-      sym (getD-take k (drop n words) i 0 h ∙ getD-drop n words i 0) ∙ ap (λ (l : List ℕ). getD l i 0) ids
-      ∙ new-ids-at own p (orderIn k words) i (omega (arith, order-length))
+  module _ (table : List ℕ) (i : ℕ) (r : Renaming table i) where
+    pub renaming-next : i < length gs → (glyph id : ℕ) → glyph ≡ getD gs i 0 → id ≡ newId own (nameOf p (getD gs i 0)) → (new : List ℕ)
+        → Puts named table (glyph + 1) (id + 1) new → Renaming new (i + 1)
+    unfolding heldAfter
+    renaming-next h glyph id g e new w =
+        record {
+          each = λ c l.
+              ap (heldAfter p own (drop (i + 1) gs) (getD named c 0))
+              (w .each c l ∙ ap (λ (x : ℕ). pick (eqb (getD named c 0) (x + 1)) (id + 1) (getD table c 0)) g
+              ∙ ap (λ (x : ℕ). pick (eqb (getD named c 0) (getD gs i 0 + 1)) (x + 1) (getD table c 0)) e)
+              ∙ sym (ap (λ (l : List ℕ). heldAfter p own l (getD named c 0) (getD table c 0)) (ahead gs i h)) ∙ r .each c l;
+        }
 
-  abbrev slot : ℕ → Bool → ℕ
-  slot g t = pick t (newId own (nameOf p g) + 1) 0
+    pub renaming-done : length gs ≤ i → Renames p own gs named table
+    unfolding heldAfter
+    renaming-done h =
+        record { each = λ c l. sym (ap (λ (l : List ℕ). heldAfter p own l (getD named c 0) (getD table c 0)) (drop-of-length-le gs h)) ∙ r .each c l }
 
-  -- one glyph and those behind it
-  here : (g m i : ℕ) → i + suc m ≡ k → idFrom words n m (i + 1) g ≡ slot g (isIn g (drop (i + 1) (orderIn k words))) → (t : Bool) → eqb (getD words i 0 % 65536) g ≡ t
-      → pick t (getD words (n + i) 0 + 1) (idFrom words n m (i + 1) g) ≡ slot g (pick t true (isIn g (drop (i + 1) (orderIn k words))))
-  here g m i e later true t =
-      let s : getD (orderIn k words) i 0 ≡ g = order-at i (omega arith) ∙ eqb-true (getD words i 0 % 65536) g t in
-      ap (λ (x : ℕ). x + 1) (id-at i (omega arith)) ∙ ap (λ (x : ℕ). newId own (nameOf p x) + 1) s
-  here g m i e later false t = later
+-- ---- by what is kept
 
-  ids-by : (g m i : ℕ) → i + m ≡ k → idFrom words n m i g ≡ slot g (isIn g (drop i (orderIn k words)))
-  unfolding idFrom isIn
-  ids-by g zero i e = sym (ap (λ (l : List ℕ). slot g (isIn g l)) (drop-of-length-le (orderIn k words) {i = i} (omega (arith, order-length))))
-  ids-by g (suc m) i e =
-      here g m i e (ids-by g m (i + 1) (omega arith)) (eqb (getD words i 0 % 65536) g) refl
-      ∙ ap (λ (x : ℕ). slot g (pick (eqb x g) true (isIn g (drop (i + 1) (orderIn k words))))) (sym (order-at i (omega arith)))
-      ∙ ap (λ (l : List ℕ). slot g (isIn g l)) (sym (ahead (orderIn k words) i (omega (arith, order-length))))
+-- a code without a glyph
+pub after-none : (p : Program) (own : List (List ℕ)) (gs : List ℕ) (held : ℕ) → heldAfter p own gs 0 held ≡ held
+unfolding heldAfter
+after-none p own [] held = refl
+after-none p own (g ∷ gs) held =
+    ap (λ (t : Bool). heldAfter p own gs 0 (pick t (newId own (nameOf p g) + 1) held)) (ne-eqb 0 (g + 1) (λ e. omega arith)) ∙ after-none p own gs held
 
-  pub id-kept : (g : ℕ) → idFrom words n k 0 g ≡ pick (isIn g (orderIn k words)) (newId own (nameOf p g) + 1) 0
-  id-kept g = ids-by g k 0 (omega arith)
+-- one with a glyph
+pub after-kept : (p : Program) (own : List (List ℕ)) (gs : List ℕ) (g held : ℕ) → heldAfter p own gs (g + 1) held ≡ pick (isIn g gs) (newId own (nameOf p g) + 1) held
+unfolding heldAfter isIn
+after-kept p own [] g held = refl
+after-kept p own (x ∷ gs) g held = after-kept p own gs g _ ∙ go (eqb x g) refl
+  where
+    both : (t : Bool) (v : ℕ) → pick t v v ≡ v
+    both true v = refl
+    both false v = refl
+
+    go : (t : Bool) → eqb x g ≡ t
+        → pick (isIn g gs) (newId own (nameOf p g) + 1) (pick (eqb (g + 1) (x + 1)) (newId own (nameOf p x) + 1) held) ≡ pick (pick t true (isIn g gs)) (newId own (nameOf p g) + 1) held
+    go true t =
+        let s : x ≡ g = eqb-true x g t in
+        let e : eqb (g + 1) (x + 1) ≡ true = eq-eqb (g + 1) (x + 1) (omega arith) in
+        ap (λ (t : Bool). pick (isIn g gs) (newId own (nameOf p g) + 1) (pick t (newId own (nameOf p x) + 1) held)) e
+        ∙ ap (λ (y : ℕ). pick (isIn g gs) (newId own (nameOf p g) + 1) (newId own (nameOf p y) + 1)) s ∙ both (isIn g gs) (newId own (nameOf p g) + 1)
+    go false t =
+        let d = eqb-false x g t in
+        let e : eqb (g + 1) (x + 1) ≡ false = ne-eqb (g + 1) (x + 1) (λ z. d (omega (arith, z))) in
+        ap (λ (t : Bool). pick (isIn g gs) (newId own (nameOf p g) + 1) (pick t (newId own (nameOf p x) + 1) held)) e

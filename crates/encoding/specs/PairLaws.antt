@@ -6,8 +6,8 @@ use mathlib.Core.List.{List, [], _∷_, _++_, append-assoc}
 use native.Mathlib.Omega.{arith}
 use borrow.Author.Tests.{ne-eqb}
 use lib.Dec.{eqb}
-use lib.ListN.{length, take, drop, getD, length-append}
-use Rattle.octets.specs.Pick.{pick, pick-ind}
+use lib.ListN.{length, getD, length-append}
+use Rattle.octets.specs.Pick.{pick}
 use Rattle.octets.specs.Octets.{bytesOf}
 use Rattle.octets.specs.OctetsLaws.{length-bytes}
 use Rattle.charset.specs.Codes.{Naming}
@@ -15,13 +15,11 @@ use Rattle.find.specs.declared.Found.{Found}
 use Rattle.find.specs.declared.Found.the-variants.{Absent, Glyph}
 use Rattle.cff.specs.Font.{Program}
 use Rattle.subset.specs.Kept.{isIn}
-use Rattle.subset.specs.Texts.{nameOf, namesOf, newId}
-use Rattle.subset.specs.Subset.{newIds}
+use Rattle.subset.specs.Texts.{nameOf, newId}
 use Rattle.subset.specs.Codes.{Pair, lastNamed, pairOf, pairsFrom, pairBytes}
-use Rattle.kept.specs.Packed.{orderIn}
 use Rattle.codes.specs.Filled.{heldOf}
-use Rattle.encoding.specs.Encoded.{pairIn, pairsIn, idFrom, heldFor, Renames}
-use Rattle.encoding.specs.IdLaws.{id-kept}
+use Rattle.encoding.specs.Encoded.{pairIn, pairsIn, heldAfter, Renames}
+use Rattle.encoding.specs.IdLaws.{after-none, after-kept}
 
 -- ---- bytes
 
@@ -79,8 +77,7 @@ module _ (table : List ℕ) (pairs c : ℕ) (l : Counting table pairs c) where
 
 -- ---- the pairs of the definition
 
-module _ (p : Program) (own : List (List ℕ)) (words : List ℕ) (n k : ℕ) (front : k ≤ n) (room : n + k ≤ length words)
-    (ids : take k (drop n words) ≡ newIds own (namesOf p (orderIn k words))) where
+module _ (p : Program) (own : List (List ℕ)) (gs : List ℕ) where
   kept-pair : (c g : ℕ) (t : Bool) → pairIn c (pick t (newId own (nameOf p g) + 1) 0) ≡ pick t (record { code = c; id = newId own (nameOf p g) } ∷ []) []
   kept-pair c g true =
       let t : eqb (newId own (nameOf p g) + 1) 0 ≡ false = ne-eqb (newId own (nameOf p g) + 1) 0 (λ e. omega arith) in
@@ -88,20 +85,17 @@ module _ (p : Program) (own : List (List ℕ)) (words : List ℕ) (n k : ℕ) (f
       rw (t, e) refl
   kept-pair c g false = refl
 
-  found-pair : (c : ℕ) (f : Found) → pairIn c (heldFor words n k (heldOf f)) ≡ pairOf p (orderIn k words) own c f
-  found-pair c Absent = refl
-  found-pair c (Glyph g) =
-      let t : eqb (g + 1) 0 ≡ false = ne-eqb (g + 1) 0 (λ e. omega arith) in
-      let e : g + 1 - 1 ≡ g = omega arith in
-      let s : heldFor words n k (g + 1) ≡ idFrom words n k 0 g = ap (λ (b : Bool). pick b 0 (idFrom words n k 0 (g + 1 - 1))) t ∙ ap (idFrom words n k 0) e in
-      ap (pairIn c) (s ∙ id-kept p own words n k front room ids g) ∙ kept-pair c g (isIn g (orderIn k words))
+  found-pair : (c : ℕ) (f : Found) → pairIn c (heldAfter p own gs (heldOf f) 0) ≡ pairOf p gs own c f
+  found-pair c Absent = ap (pairIn c) (after-none p own gs 0)
+  found-pair c (Glyph g) = ap (pairIn c) (after-kept p own gs g 0) ∙ kept-pair c g (isIn g gs)
 
   pub pairs-same : (ns : List Naming) (named table : List ℕ) → ((c : ℕ) → c < 256 → getD named c 0 ≡ heldOf (lastNamed p c Absent ns))
-      → Renames words n k named 256 table → (m c : ℕ) → c + m ≤ 256 → pairsIn table m c ≡ pairsFrom p ns (orderIn k words) own m c
+      → Renames p own gs named table → (m c : ℕ) → c + m ≤ 256 → pairsIn table m c ≡ pairsFrom p ns gs own m c
   unfolding pairsIn pairsFrom
   pairs-same ns named table at r zero c h = refl
   pairs-same ns named table at r (suc m) c h =
-      let e : getD table c 0 ≡ heldFor words n k (heldOf (lastNamed p c Absent ns)) = r .each c (omega arith) ∙ ap (heldFor words n k) (at c (omega arith)) in
+      let e : getD table c 0 ≡ heldAfter p own gs (heldOf (lastNamed p c Absent ns)) 0 =
+      r .each c (omega arith) ∙ ap (λ (x : ℕ). heldAfter p own gs x 0) (at c (omega arith)) in
       ap (λ (x : ℕ). pairIn c x ++ pairsIn table m (c + 1)) e
       ∙ ap (λ (x : List Pair). x ++ pairsIn table m (c + 1)) (found-pair c (lastNamed p c Absent ns))
-      ∙ ap (λ (x : List Pair). pairOf p (orderIn k words) own c (lastNamed p c Absent ns) ++ x) (pairs-same ns named table at r m (c + 1) (omega arith))
+      ∙ ap (λ (x : List Pair). pairOf p gs own c (lastNamed p c Absent ns) ++ x) (pairs-same ns named table at r m (c + 1) (omega arith))

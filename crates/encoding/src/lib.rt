@@ -1,20 +1,17 @@
 // The encoding of a subset (document 02, Wish 4), from the codes of the font and the new ids of the kept glyphs: made in a table of 256 places, which
-// hold 0 for a code without a pair, else the new id + 1; measured and written.
+// hold 0 for a code without a pair, else the new id + 1; measured and written. The kept glyphs come from windows of their order (document 02, Wish 10),
+// once for all codes.
 ghost use mathlib.Core.Path.{_≡_};
-ghost use mathlib.Core.Bool.{true, false};
-ghost use mathlib.Core.List.{_∷_};
-ghost use Prim.Native.Nat.{_+_, _≤_, _<_};
-ghost use lib.ListN.{length, take, drop};
+ghost use Prim.Native.Nat.{ℕ, _+_, _≤_, _<_};
+ghost use lib.ListN.{length, getD};
 ghost use lib.Dec.{eqb};
 ghost use Rattle.octets.specs.Pick.{pick};
 ghost use Rattle.octets.specs.Octets.{Wrote};
-ghost use Rattle.cff.specs.Reads.{GoodFont, programOf};
-ghost use Rattle.subset.specs.Texts.{namesOf};
-ghost use Rattle.subset.specs.Subset.{ownByName, newIds};
+ghost use Rattle.cff.specs.Reads.{programOf};
 ghost use Rattle.subset.specs.Codes.{codedBy, codedIf, codedBytes, pairBytes};
-ghost use Rattle.kept.specs.Packed.{orderIn};
-ghost use Rattle.encoding.specs.Encoded.{pairIn, pairsIn, codedIn, Encodes, encodingLen, offsetFor, idFrom, heldFor, Renames};
-use cff::font::Font;
+ghost use Rattle.order_window.specs.Window.{glyphsOf, Ordered};
+ghost use Rattle.encoding.specs.Encoded.{pairIn, pairsIn, codedIn, Encodes, encodingLen, offsetFor, keptOwn, CanRename, Emptied, Puts, Renames};
+use order_window::Order;
 
 // What a subset has: kind 0 no encoding, 1 the Expert one, 2 the pairs of a table; and how many pairs.
 pub struct Encoding {
@@ -22,44 +19,87 @@ pub struct Encoding {
     pub pairs: usize,
 }
 
-// The new id of a kept glyph, plus 1, or 0: the first k words hold the kept glyphs, and those from n on the new ids of their names.
-fn new_id_of(words: &[u32], n: usize, k: usize, glyph: usize) -> usize
-    requires { ⌜ (k ≤ n) × (n + k ≤ length (now words)) ⌝ }
-    ensures { λ r. ⌜ r ≡ idFrom (now (words .entry)) n k 0 glyph ⌝ }
+// The larger of two numbers.
+fn larger(x: usize, y: usize) -> usize
+    ensures { λ r. ⌜ (x ≤ r) × (y ≤ r) ⌝ }
 {
-    let mut i = 0;
-    while i < k {
-        let w = octets::words::wide(words[i]);
-        let id = octets::words::wide(words[n + i]);
-        if w % 65536 == glyph {
-            return id + 1;
-        }
-        i += 1;
+    if x < y {
+        return y;
     }
-    0
+    x
 }
 
-// What the table holds of a code, by its glyph + 1.
-fn held_for(words: &[u32], n: usize, k: usize, held: usize) -> usize
-    requires { ⌜ (k ≤ n) × (n + k ≤ length (now words)) ⌝ }
-    ensures { λ r. ⌜ r ≡ heldFor (now (words .entry)) n k held ⌝ }
+// Empties the places of all codes; the highest glyph + 1 that a code has, or 0.
+fn empty(named: &[usize], table: &mut [usize]) -> usize
+    requires { ⌜ (256 ≤ length (now named)) × (256 ≤ length (now table)) ⌝ }
+    ensures { λ r. ⌜ Emptied (now (named .entry)) 256 (now (table .exit)) r ⌝ }
 {
-    if held == 0 {
-        return 0;
-    }
-    new_id_of(words, n, k, held - 1)
-}
-
-// The table of all codes, from the one of their glyphs.
-fn rename(words: &[u32], n: usize, k: usize, named: &[usize], table: &mut [usize])
-    requires { ⌜ (k ≤ n) × (n + k ≤ length (now words)) × (256 ≤ length (now named)) × (256 ≤ length (now table)) ⌝ }
-    ensures { λ r. ⌜ Renames (now (words .entry)) n k (now (named .entry)) 256 (now (table .exit)) ⌝ }
-{
+    let mut top = 0;
     let mut code = 0;
     while code < 256 {
-        let held = held_for(words, n, k, named[code]);
+        top = larger(top, named[code]);
+        table[code] = 0;
+        code += 1;
+    }
+    top
+}
+
+// What the place of a code with this glyph + 1 holds once a glyph with its new id came by, both plus 1.
+fn held_for(named: usize, glyph: usize, id: usize, held: usize) -> usize
+    ensures { λ r. ⌜ r ≡ pick (eqb named glyph) id held ⌝ }
+{
+    if named == glyph {
+        return id;
+    }
+    held
+}
+
+// Puts the new id of a glyph into the places of its codes, both plus 1. No code has a glyph above the highest.
+fn put_id(named: &[usize], top: usize, glyph: usize, id: usize, table: &mut [usize])
+    requires { ⌜ (256 ≤ length (now named)) × (256 ≤ length (now table)) × ((c : ℕ) → c < 256 → getD (now named) c 0 ≤ top) ⌝ }
+    ensures { λ r. ⌜ Puts (now (named .entry)) (now (table .entry)) glyph id (now (table .exit)) ⌝ }
+{
+    if top < glyph {
+        return;
+    }
+    let mut code = 0;
+    while code < 256 {
+        let held = held_for(named[code], glyph, id, table[code]);
         table[code] = held;
         code += 1;
+    }
+}
+
+// The table of all codes, from the one of their glyphs: each kept glyph in its turn, with the new id of its name.
+fn rename(
+    font: &[u8],
+    o: Order,
+    words: &[u32],
+    window: &mut [u32],
+    slots: &[usize],
+    named: &[usize],
+    table: &mut [usize],
+)
+    requires { ⌜ (Ordered (now font) (now words) (now window) o) × (CanRename (now font) (o .f) (now words) (now slots))
+        × (256 ≤ length (now named)) × (256 ≤ length (now table)) ⌝ }
+    ensures { λ r. ⌜ (Renames (programOf (now (font .entry)) (o .f)) (keptOwn (now (font .entry)) (o .f) (now (words .entry)))
+        (glyphsOf (now (font .entry)) (o .f) (now (words .entry))) (now (named .entry)) (now (table .exit)))
+        × (Ordered (now (font .entry)) (now (words .entry)) (now (window .exit)) o) ⌝ }
+{
+    let f = o.f;
+    let strings = f.strings;
+    let count = o.count;
+    let top = empty(named, &mut *table);
+    let mut own = name_strings::slots_own(font, strings, slots);
+    let mut u = o.held;
+    let mut i = 0;
+    while i < count {
+        u = order_window::hold(font, f, words, &mut *window, u, i);
+        let w = order_window::word_at(&*window, u, i);
+        let id = own_strings::given_id(font, strings, slots, 8, own.count, w / 65536);
+        own = own_strings::count_one(font, strings, own, w / 65536, id);
+        put_id(named, top, w % 65536 + 1, id + 1, &mut *table);
+        i += 1;
     }
 }
 
@@ -88,51 +128,53 @@ fn pair_count(table: &[usize]) -> usize
 }
 
 // The encoding of the subset of a name-keyed font, which was asked for.
-fn encode_asked(font: &[u8], f: Font, words: &[u32], k: usize, table: &mut [usize]) -> Encoding
-    requires { ⌜ GoodFont (now font) f × (length (now font) ≤ 67108864) × (k ≤ f .charstrings .count)
-        × (f .charstrings .count + k ≤ length (now words))
-        × (take k (drop (f .charstrings .count) (now words))
-        ≡ newIds (ownByName (programOf (now font) f) (orderIn k (now words))) (namesOf (programOf (now font) f) (orderIn k (now words))))
-        × (256 ≤ length (now table)) ⌝ }
-    ensures { λ r. ⌜ Encodes
-        (codedBy (programOf (now (font .entry)) f) (orderIn k (now (words .entry))) (ownByName (programOf (now (font .entry)) f) (orderIn k (now (words .entry))))
-        (programOf (now (font .entry)) f .coding))
-        (now (table .exit)) r ⌝ }
+fn encode_asked(
+    font: &[u8],
+    o: Order,
+    words: &[u32],
+    window: &mut [u32],
+    slots: &[usize],
+    table: &mut [usize],
+) -> Encoding
+    requires { ⌜ (Ordered (now font) (now words) (now window) o) × (CanRename (now font) (o .f) (now words) (now slots)) × (256 ≤ length (now table)) ⌝ }
+    ensures { λ r. ⌜ (Encodes
+        (codedBy (programOf (now (font .entry)) (o .f)) (glyphsOf (now (font .entry)) (o .f) (now (words .entry)))
+        (keptOwn (now (font .entry)) (o .f) (now (words .entry))) (programOf (now (font .entry)) (o .f) .coding))
+        (now (table .exit)) r)
+        × (Ordered (now (font .entry)) (now (words .entry)) (now (window .exit)) o) ⌝ }
 {
+    let f = o.f;
     let at = f.encoding;
-    let charstrings = f.charstrings;
-    let n = charstrings.count;
     if at < 2 {
         return Encoding { kind: at, pairs: 0 };
     }
     let mut named = [0usize; 256];
     codes::fill(font, f, &mut named);
-    rename(words, n, k, &named, table);
+    rename(font, o, words, window, slots, &named, &mut *table);
     let pairs = pair_count(&*table);
     Encoding { kind: 2, pairs }
 }
 
-// The encoding of the subset of a name-keyed font, where it is asked for. The first k words hold the kept glyphs, and the new ids of their names stand
-// from the number of glyphs on.
+// The encoding of the subset of a name-keyed font, where it is asked for: of the kept glyphs by the new ids of their names, the slots holding the strings
+// that the subset uses before them.
 pub fn encode(
     font: &[u8],
-    f: Font,
+    o: Order,
     ask: bool,
     words: &[u32],
-    k: usize,
+    window: &mut [u32],
+    slots: &[usize],
     table: &mut [usize],
 ) -> Encoding
-    requires { ⌜ GoodFont (now font) f × (length (now font) ≤ 67108864) × (k ≤ f .charstrings .count)
-        × (f .charstrings .count + k ≤ length (now words))
-        × (take k (drop (f .charstrings .count) (now words))
-        ≡ newIds (ownByName (programOf (now font) f) (orderIn k (now words))) (namesOf (programOf (now font) f) (orderIn k (now words))))
-        × (256 ≤ length (now table)) ⌝ }
-    ensures { λ r. ⌜ Encodes
-        (codedIf ask (programOf (now (font .entry)) f) (orderIn k (now (words .entry))) (ownByName (programOf (now (font .entry)) f) (orderIn k (now (words .entry)))))
-        (now (table .exit)) r ⌝ }
+    requires { ⌜ (Ordered (now font) (now words) (now window) o) × (CanRename (now font) (o .f) (now words) (now slots)) × (256 ≤ length (now table)) ⌝ }
+    ensures { λ r. ⌜ (Encodes
+        (codedIf ask (programOf (now (font .entry)) (o .f)) (glyphsOf (now (font .entry)) (o .f) (now (words .entry)))
+        (keptOwn (now (font .entry)) (o .f) (now (words .entry))))
+        (now (table .exit)) r)
+        × (Ordered (now (font .entry)) (now (words .entry)) (now (window .exit)) o) ⌝ }
 {
     if ask {
-        return encode_asked(font, f, words, k, table);
+        return encode_asked(font, o, words, window, slots, table);
     }
     Encoding { kind: 0, pairs: 0 }
 }

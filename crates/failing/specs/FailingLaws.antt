@@ -23,7 +23,8 @@ use Rattle.record.specs.Record.{rowsOf}
 use Rattle.charset.specs.FdPlaces.{fdOf}
 use Rattle.charset.specs.FdFound.{fd-at}
 use Rattle.cff.specs.Font.{Program}
-use Rattle.cff.specs.Find.{localsWords, workSize}
+use Rattle.small.specs.Small.{smallSize}
+use Rattle.cff.specs.Find.{localsWords}
 use Rattle.cff.specs.Reads.{programOf}
 use Rattle.cff.specs.declared.font.Font.{Font}
 use Rattle.subset.specs.Kept.{isIn, keptOf, localsOf}
@@ -301,10 +302,11 @@ module _ (b : List ℕ) (f : Font) (read : FontHeld b f) (keep rec : List ℕ) (
   only-none g h = record { others = λ k. absurd (omega arith) }
 
   -- there is room for the bits
-  pub bits-room : (words : ℕ) → workSize o ≤ words → 2 * f .charstrings .count + wordsFor (f .globals .count) + localsWords (o .privates) ≤ words
+  pub bits-room : (words : ℕ) → smallSize o ≤ words → wordsFor (f .charstrings .count) + wordsFor (f .globals .count) + localsWords (o .privates) ≤ words
   bits-room words room =
       let g : wordsFor (length (o .globals)) ≡ wordsFor (f .globals .count) = ap wordsFor (items-length b (f .globals)) in
-      omega (arith, room, items-length b (f .charstrings))
+      let n : wordsFor (length (o .charstrings)) ≡ wordsFor (f .charstrings .count) = ap wordsFor (items-length b (f .charstrings)) in
+      omega (arith, room, n)
 
   -- what is asked once all subroutines are ranked
   pub asks-made : (octets : Octets rec) (used old ws table : List ℕ) (ranked : RankedAll) → RanksAll o (rowsOf rec) used old ws table ranked → ranked .all ≡ true → 1280 ≤ length table

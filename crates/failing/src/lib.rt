@@ -8,7 +8,7 @@ ghost use lib.ListN.{length, getD, set, replicate};
 ghost use Rattle.octets.specs.Lists.{allBelow};
 ghost use Rattle.unfold.specs.Unfold.{glyph};
 ghost use Rattle.record.specs.Record.{rowsOf};
-ghost use Rattle.cff.specs.Find.{workSize};
+ghost use Rattle.small.specs.Small.{smallSize};
 ghost use Rattle.cff.specs.Reads.{programOf};
 ghost use Rattle.bodies.specs.Ways.{holds};
 ghost use Rattle.fds.specs.Locals.{inUse};
@@ -63,7 +63,7 @@ fn is_made(
     let select = f.select;
     let charstrings = f.charstrings;
     let fd = charset::fd_select::fd_of(font, select, g) as usize;
-    let locals = bodies::charstrings::ranks_in(table, fd);
+    let locals = bodies::ranks_in(table, fd);
     let code = index::item(font, charstrings, g);
     let site = Site::Glyph(g);
     match renumbered::renumbered_len(code, words, locals, globals, rows, rising, site) {
@@ -106,7 +106,7 @@ fn first_failing(
 
 // The glyph that alone can be the culprit, where one is found, or 65536. The work words are used.
 pub fn only_culprit(font: &[u8], f: Font, keep: &[u16], rows: &[u8], words: &mut [u32]) -> usize
-    requires { ⌜ (FontHeld (now font) f) × (allBelow (f .charstrings .count) (now keep) ≡ true) × (workSize (programOf (now font) f) ≤ length (now words))
+    requires { ⌜ (FontHeld (now font) f) × (allBelow (f .charstrings .count) (now keep) ≡ true) × (smallSize (programOf (now font) f) ≤ length (now words))
         × (Recorded (programOf (now font) f) (now keep) (now rows)) ⌝ }
     ensures { λ r. ⌜ Only (programOf (now (font .entry)) f) (now (keep .entry)) r ⌝ }
 {

@@ -7,7 +7,7 @@ ghost use Rattle.cff.specs.Reads.{GoodFont, programOf};
 ghost use Rattle.fds.specs.Locals.{fdsIn};
 ghost use Rattle.fds.specs.NewLocals.{FdIn, LocalsIn};
 ghost use Rattle.fds.specs.NewParts.{partWith, PartRoom, partsFor, PartsRoom};
-use bodies::charstrings::Kept;
+use bodies::Manner;
 use bodies::subrs::Source;
 use bodies::subrs::Subrs;
 use cff::font::Font;
@@ -15,7 +15,7 @@ use renumber::Ranks;
 
 // The Private part of an FD, from `at` on; the place after it.
 fn put_part(
-    kept: Kept,
+    how: Manner,
     font: &[u8],
     f: Font,
     fd: usize,
@@ -26,14 +26,14 @@ fn put_part(
     out: &mut [u8],
     at: usize,
 ) -> usize
-    requires { ⌜ (GoodFont (now font) f) × (FdIn (now font) (programOf (now font) f) (now words) own (kept .globals) (rowsOf (now rows)) (kept .rising) fd)
-        × (PartRoom (kept .way) (programOf (now font) f) (rowsOf (now rows)) (now words) own (kept .globals) total at (length (now out)) fd) ⌝ }
+    requires { ⌜ (GoodFont (now font) f) × (FdIn (now font) (programOf (now font) f) (now words) own (how .globals) (rowsOf (now rows)) (how .rising) fd)
+        × (PartRoom (how .way) (programOf (now font) f) (rowsOf (now rows)) (now words) own (how .globals) total at (length (now out)) fd) ⌝ }
     ensures { λ r. ⌜ Wrote (now (out .entry)) at
-        (partWith (kept .way) (programOf (now (font .entry)) f) (rowsOf (now (rows .entry))) (now (words .entry)) own (kept .globals) fd) (now (out .exit)) r ⌝ }
+        (partWith (how .way) (programOf (now (font .entry)) f) (rowsOf (now (rows .entry))) (now (words .entry)) own (how .globals) fd) (now (out .exit)) r ⌝ }
 {
-    let way = kept.way;
-    let globals = kept.globals;
-    let rising = kept.rising;
+    let way = how.way;
+    let globals = how.globals;
+    let rising = how.rising;
     let q = private_dicts::fd_private(font, f, fd);
     let left = bodies::subrs::kept_count(way, own.reached, own.count);
     let p = private_dicts::put_dict(font, q, left, &mut *out, at);
@@ -56,7 +56,7 @@ fn put_part(
 
 // The Private parts of the FDs in use, from `at` on; the place after them.
 pub fn put_privates(
-    kept: Kept,
+    how: Manner,
     font: &[u8],
     f: Font,
     used: &[u32],
@@ -68,11 +68,11 @@ pub fn put_privates(
     at: usize,
 ) -> usize
     requires { ⌜ (GoodFont (now font) f)
-        × (LocalsIn (now font) (programOf (now font) f) (now used) (now words) (now table) (kept .globals) (rowsOf (now rows)) (kept .rising))
-        × (PartsRoom (kept .way) (programOf (now font) f) (rowsOf (now rows)) (now words) (now table) (kept .globals) (now used) (now totals) at
+        × (LocalsIn (now font) (programOf (now font) f) (now used) (now words) (now table) (how .globals) (rowsOf (now rows)) (how .rising))
+        × (PartsRoom (how .way) (programOf (now font) f) (rowsOf (now rows)) (now words) (now table) (how .globals) (now used) (now totals) at
         (length (now out))) ⌝ }
     ensures { λ r. ⌜ Wrote (now (out .entry)) at
-        (partsFor (kept .way) (programOf (now (font .entry)) f) (rowsOf (now (rows .entry))) (now (words .entry)) (now (table .entry)) (kept .globals) (fdsIn (now (used .entry)))) (now (out .exit)) r ⌝ }
+        (partsFor (how .way) (programOf (now (font .entry)) f) (rowsOf (now (rows .entry))) (now (words .entry)) (now (table .entry)) (how .globals) (fdsIn (now (used .entry)))) (now (out .exit)) r ⌝ }
 {
     let mut p = at;
     let mut fd: usize = 0;
@@ -80,19 +80,8 @@ pub fn put_privates(
         if used[fd] == 0 {
             fd += 1;
         } else {
-            let own = bodies::charstrings::ranks_in(table, fd);
-            p = put_part(
-                kept,
-                font,
-                f,
-                fd,
-                words,
-                own,
-                rows,
-                totals[fd],
-                &mut *out,
-                p,
-            );
+            let own = bodies::ranks_in(table, fd);
+            p = put_part(how, font, f, fd, words, own, rows, totals[fd], &mut *out, p);
             fd += 1;
         }
     }

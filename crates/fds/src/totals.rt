@@ -8,7 +8,7 @@ ghost use Rattle.bodies.specs.Ways.{measuredOf};
 ghost use Rattle.bodies.specs.Sizes.{Bounded};
 ghost use Rattle.fds.specs.NewLocals.{localsWith, FdIn, MeasuresLocals, LocalsIn};
 use bodies::Measured;
-use bodies::charstrings::ranks_in;
+use bodies::ranks_in;
 use bodies::subrs::Source;
 use bodies::subrs::Subrs;
 use cff::font::Font;

@@ -1,23 +1,21 @@
--- Laws of the first glyph of an id (document 01, refusal 7): a glyph that is found by its name is the first of its id.
+-- Laws of the first glyph of an id and of a name (document 01, refusal 7): it alone is found by its name.
 use Prim.Native.Nat.{ℕ, zero, suc, _+_, _≤_, _<_}
-use mathlib.Core.Path.{_≡_, refl, ap, _∙_, subst}
+use mathlib.Core.Path.{_≡_, refl, ap, _∙_}
 use mathlib.Core.Bool.{Bool, true, false}
 use mathlib.Core.List.{List, [], _∷_}
 use native.Mathlib.Nat.{not-suc-le-zero}
 use native.Mathlib.Omega.{arith}
-use borrow.Author.Tests.{eq-eqb, ne-eqb, eqb-true, eqb-false}
-use lib.Dec.{eqb}
+use borrow.Author.Tests.{ne-eqb}
 use lib.ListN.{length, getD}
 use Rattle.octets.specs.Pick.{pick-ind}
-use Rattle.prune.specs.StepLaws.{zero-one}
 use Rattle.strings.specs.Text.{sameText}
 use Rattle.strings.specs.TextLaws.{same-refl, same-not}
 use Rattle.strings.specs.Strings.{stringText}
-use Rattle.find.specs.Find.{glyphWithId, glyphWithText}
+use Rattle.find.specs.Find.{glyphWithText}
 use Rattle.find.specs.declared.Found.{Found}
 use Rattle.find.specs.declared.Found.the-variants.{Glyph as TheGlyph}
-use Rattle.kept.specs.Packed.{cidFound, nameFound}
-use Rattle.first_glyphs.specs.FoundLaws.{glyph-as, first-before, Seen}
+use Rattle.kept.specs.Packed.{nameFound}
+use Rattle.first_glyphs.specs.FoundLaws.{glyph-as, Seen}
 
 -- one at place h or before it is found where the one at place h has the name
 named-before : (strings : List (List ℕ)) (name : List ℕ) (s : ℕ) (l : List ℕ) (h : ℕ) → h < length l → stringText strings (getD l h 0) ≡ name
@@ -42,27 +40,6 @@ again-not strings ids g h l m e =
 pub seen-not-named : (strings : List (List ℕ)) (ids : List ℕ) (g : ℕ) (seen : ℕ → Bool) → Seen ids g seen → (id : ℕ) → id ≡ getD ids g 0 → g < length ids
     → seen id ≡ true → nameFound strings ids g ≡ false
 seen-not-named strings ids g seen s id is h m = let o = s .only id m in again-not strings ids g (o .0) (o .1) h (o .2 ∙ is)
-
--- each id has a first glyph
-pub first-of : (ids : List ℕ) (g : ℕ) → g < length ids → (h : ℕ) × (h ≤ g) × (getD ids h 0 ≡ getD ids g 0) × (cidFound ids h ≡ true)
-first-of ids g m =
-    let r = first-before (getD ids g 0) 0 ids g m refl in
-    let f = ap (λ (x : ℕ). glyphWithId x 0 ids) (r .2) ∙ r .3 in
-    (r .0, r .1, r .2, glyph-as (r .0) _ _ f ∙ eq-eqb (0 + r .0) (r .0) (omega arith))
-
--- a glyph that is found by its name is the first of its id
-pub named-first : (strings : List (List ℕ)) (ids : List ℕ) (g : ℕ) → g < length ids → nameFound strings ids g ≡ true → cidFound ids g ≡ true
-named-first strings ids g m e = by-first (eqb (r .0) g) refl
-  where
-    r : (h : ℕ) × (h ≤ g) × (getD ids h 0 ≡ getD ids g 0) × (cidFound ids h ≡ true)
-    r = first-of ids g m
-
-    by-first : (t : Bool) → eqb (r .0) g ≡ t → cidFound ids g ≡ true
-    by-first true t = subst (λ (h : ℕ). cidFound ids h ≡ true) (eqb-true (r .0) g t) (r .3)
-    by-first false t =
-        let d = eqb-false (r .0) g t in
-        let n : nameFound strings ids g ≡ false = again-not strings ids g (r .0) (omega (arith, r .1)) m (r .2) in
-        absurd (zero-one cc)
 
 -- the first glyph with a name is found
 pub first-named : (strings : List (List ℕ)) (name : List ℕ) (s : ℕ) (l : List ℕ) (g : ℕ) → g < length l → stringText strings (getD l g 0) ≡ name

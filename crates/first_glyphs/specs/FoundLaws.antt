@@ -47,6 +47,11 @@ module _ (test t : ℕ → Bool) (n : ℕ) where
   unfolding allOf
   all-done g h = ap (allOf test) (sym (those-done t n g h))
 
+  -- there are no glyphs
+  pub none-found : n ≡ 0 → true ≡ allOf test (those t n 0)
+  unfolding those allOf
+  none-found e = sym (ap (λ (m : ℕ). allOf test (those t m 0)) e)
+
 -- ---- a glyph that was looked for
 
 pub glyph-as : (g : ℕ) (x y : Found) → x ≡ y → isGlyph g (foundAs x) ≡ isGlyph g (foundAs y)
@@ -130,9 +135,13 @@ module _ (ids : List ℕ) (g : ℕ) (seen : ℕ → Bool) (s : Seen ids g seen) 
     pub seen-next : Seen ids (g + 1) then
     seen-next = record { all = λ k l. seen-all k l (eqb (getD ids k 0) id) refl; only = λ c q. seen-only c q (eqb c id) refl }
 
--- a test of a number that is 0, and of one that is not
-pub zero-passes : (x : ℕ) (r : Bool) → x ≡ 0 → true ≡ pick (eqb x 0) true r
-zero-passes x r e = sym (ap (λ (b : Bool). pick b true r) (eq-eqb x 0 e))
+-- a test that is asked where a flag is set
+pub flag-unset : (flag : Bool) (r : Bool) → flag ≡ false → true ≡ pick flag r true
+flag-unset flag r e = sym (ap (λ (b : Bool). pick b r true) e)
 
-pub other-as : (x : ℕ) (r s : Bool) → (x ≡ 0 → ⊥) → s ≡ r → s ≡ pick (eqb x 0) true r
-other-as x r s d e = e ∙ sym (ap (λ (b : Bool). pick b true r) (ne-eqb x 0 d))
+pub flag-set : (flag : Bool) (r s : Bool) → flag ≡ true → s ≡ r → s ≡ pick flag r true
+flag-set flag r s e h = h ∙ sym (ap (λ (b : Bool). pick b r true) e)
+
+pub flag-either : (flag : Bool) (r : Bool) → r ≡ true → true ≡ pick flag r true
+flag-either true r e = sym e
+flag-either false r e = refl

@@ -4,5 +4,5 @@ pub mod FoundLaws
 pub mod FirstLaws
 pub mod Lead
 pub mod LeadLaws
-pub mod SortedFoundLaws
+pub mod IdsLaws
 pub mod Examples

@@ -1,8 +1,8 @@
 -- Laws of marks of names (document 01, refusal 7): a glyph whose name is not among the marked ones is found.
-use Prim.Native.Nat.{ℕ, _+_, _*_, _-_, _%_, _≤_, _<_}
+use Prim.Native.Nat.{ℕ, _+_, _*_, _%_, _≤_, _<_}
 use mathlib.Core.Path.{_≡_, refl, sym, ap, _∙_, subst}
 use mathlib.Core.Bool.{Bool, true, false, not}
-use mathlib.Core.List.{List, []}
+use mathlib.Core.List.{List}
 use native.Mathlib.Nat.{not-suc-le-zero}
 use native.Mathlib.Omega.{arith}
 use borrow.Author.Tests.{eq-eqb, ne-eqb, eqb-true, eqb-false}
@@ -11,11 +11,9 @@ use lib.ListN.{length, drop, getD, drop-of-length-le, replicate, length-replicat
 use Rattle.octets.specs.Pick.{pick}
 use Rattle.prune.specs.StepLaws.{zero-one}
 use Rattle.strings.specs.Strings.{stringText}
-use Rattle.subset.specs.Kept.{those}
-use Rattle.kept.specs.Packed.{marked, allOf, nameFound}
+use Rattle.kept.specs.Packed.{nameFound}
 use Rattle.kept.specs.MarkLaws.{ahead}
-use Rattle.kept.specs.GatherLaws.{those-passed}
-use Rattle.first_glyphs.specs.FoundLaws.{glyph-as, all-stops, all-passed, all-taken, Seen}
+use Rattle.first_glyphs.specs.FoundLaws.{glyph-as, Seen}
 use Rattle.bits.specs.Bits.{bitIn}
 use Rattle.first_glyphs.specs.Bits.{Sees}
 use Rattle.found.specs.Hash.{hashFrom, hashOf, lowPlace, highPlace, isNew, withHash, Marked, Met, MetNames, told}
@@ -127,36 +125,6 @@ module _ (strings : List (List ℕ)) (ids : List ℕ) (g : ℕ) (marks : ℕ →
           let e : getD ids (o .0) 0 ≡ getD ids k 0 = o .2 ∙ is ∙ ap (λ (j : ℕ). getD ids j 0) (sym (eqb-true k g t)) in
           subst (λ (x : ℕ). Met marks (stringText strings x)) e (s .all (o .0) (o .1))
       met k l false t = let n = eqb-false k g t in s .all k (omega arith)
-
--- ---- the marked glyphs up to the last
-
--- one that is not marked
-pub end-before : (t : ℕ → Bool) (n e : ℕ) → 0 < e → e ≤ n → t (e - 1) ≡ false → those t (n - e) e ≡ [] → those t (n - (e - 1)) (e - 1) ≡ []
-end-before t n e p h f r =
-    let z : e - 1 + 1 ≡ e = omega arith in
-    those-passed t n (e - 1) (omega arith) f ∙ ap (λ (j : ℕ). those t (n - j) j) z ∙ r
-
-module _ (test : ℕ → Bool) (flags : List ℕ) (n g : ℕ) (h : g < n) where
-  -- a glyph that is not marked or passes, and one that is marked and fails
-  pub all-next : pick (eqb (getD flags g 0) 0) true (test g) ≡ true
-      → allOf test (those (marked flags) (n - (g + 1)) (g + 1)) ≡ allOf test (those (marked flags) (n - g) g)
-  all-next e = by-mark (eqb (getD flags g 0) 0) refl
-    where
-      by-mark : (t : Bool) → eqb (getD flags g 0) 0 ≡ t → allOf test (those (marked flags) (n - (g + 1)) (g + 1)) ≡ allOf test (those (marked flags) (n - g) g)
-      by-mark true t = all-passed test (marked flags) n g h (ap (λ (b : Bool). pick b false true) t)
-      by-mark false t = all-taken test (marked flags) n g h (ap (λ (b : Bool). pick b false true) t) (sym (ap (λ (b : Bool). pick b true (test g)) t) ∙ e)
-
-  pub all-fails : pick (eqb (getD flags g 0) 0) true (test g) ≡ false → false ≡ allOf test (those (marked flags) (n - g) g)
-  all-fails e = by-mark (eqb (getD flags g 0) 0) refl
-    where
-      by-mark : (t : Bool) → eqb (getD flags g 0) 0 ≡ t → false ≡ allOf test (those (marked flags) (n - g) g)
-      by-mark true t = let z : true ≡ false = sym (ap (λ (b : Bool). pick b true (test g)) t) ∙ e in absurd (zero-one cc)
-      by-mark false t = all-stops test (marked flags) n g h (ap (λ (b : Bool). pick b false true) t) (sym (ap (λ (b : Bool). pick b true (test g)) t) ∙ e)
-
--- none is marked from the end on
-pub all-ended : (test t : ℕ → Bool) (n e g : ℕ) → e ≤ g → g ≤ e → those t (n - e) e ≡ [] → true ≡ allOf test (those t (n - g) g)
-unfolding allOf
-all-ended test t n e g a b r = let z : g ≡ e = omega arith in sym (ap (λ (j : ℕ). allOf test (those t (n - j) j)) z ∙ ap (allOf test) r)
 
 -- what an answer tells
 pub told-as : (t u : Told) (so : Bool) → t ≡ u → told t so ≡ so → told u so ≡ so

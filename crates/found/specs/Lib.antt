@@ -1,2 +1,4 @@
+pub mod Flags
+pub mod FlagsLaws
 pub mod Hash
 pub mod HashLaws

@@ -1,14 +1,14 @@
-// Whether finding gives the marked glyphs (document 01, refusal 7): the first glyph that has a name or a CID is the one found.
+// Whether finding gives the kept glyphs (document 01, refusal 7): the first glyph that has a name or a CID is the one found. The kept ones are flagged
+// by a bit for each glyph.
 pub mod marks;
 
 ghost use mathlib.Core.Path.{_≡_};
 ghost use mathlib.Core.Bool.{true};
-ghost use mathlib.Core.List.{[]};
-ghost use Prim.Native.Nat.{_≤_, _<_, _-_};
-ghost use lib.Dec.{eqb};
+ghost use Prim.Native.Nat.{_≤_, _<_};
 ghost use lib.ListN.{length};
 ghost use Rattle.octets.specs.Lists.{allBelow};
 ghost use Rattle.octets.specs.Pick.{pick};
+ghost use Rattle.bits.specs.Bits.{wordsFor, bitIn};
 ghost use Rattle.strings.specs.Table.{standardOffsets};
 ghost use Rattle.strings.specs.Strings.{standardText};
 ghost use Rattle.index.specs.Index.{itemsOf};
@@ -16,10 +16,11 @@ ghost use Rattle.index.specs.Good.{Good};
 ghost use Rattle.charset.specs.CharsetPlaces.{idsOf, GoodCharset};
 ghost use Rattle.cff.specs.Reads.{programOf, GoodFont};
 ghost use Rattle.cff.specs.Find.{foundAs};
-ghost use Rattle.subset.specs.Kept.{keptOf, keeps, those};
+ghost use Rattle.subset.specs.Kept.{keptOf, those};
 ghost use Rattle.subset.specs.Cut.{allFound, isGlyph};
-ghost use Rattle.kept.specs.Packed.{marked, Marks, allOf, textFound, nameFound};
+ghost use Rattle.kept.specs.Packed.{allOf, textFound, nameFound};
 ghost use Rattle.first_glyphs.specs.Bits.{Unseen};
+ghost use Rattle.found.specs.Flags.{Unset};
 ghost use Rattle.found.specs.Hash.{told};
 use cff::font::Font;
 use charset::Charset;
@@ -75,30 +76,48 @@ fn flagged_found(
     n: usize,
     strings: Index,
     g: usize,
-    flag: u32,
+    flag: bool,
     new: bool,
 ) -> bool
     requires { ⌜ (GoodCharset (now font) c n) × (Good (now font) strings) × (g < n)
         × (new ≡ true → nameFound (itemsOf (now font) strings) (idsOf (now font) c n) g ≡ true) ⌝ }
-    ensures { λ r. ⌜ r ≡ pick (eqb flag 0) true (nameFound (itemsOf (now (font .entry)) strings) (idsOf (now (font .entry)) c n) g) ⌝ }
+    ensures { λ r. ⌜ r ≡ pick flag (nameFound (itemsOf (now (font .entry)) strings) (idsOf (now (font .entry)) c n) g) true ⌝ }
 {
-    if flag == 0 {
-        return true;
-    }
     if new {
         return true;
     }
-    name_found(font, c, n, strings, g)
+    if flag {
+        return name_found(font, c, n, strings, g);
+    }
+    true
+}
+
+// A place among n flags behind the last word of them that is not 0.
+fn words_end(flags: &[u32], n: usize) -> usize
+    requires { ⌜ (wordsFor n ≤ length (now flags)) × (n < 65536) ⌝ }
+    ensures { λ r. ⌜ (r ≤ n) × Unset (now (flags .entry)) r n ⌝ }
+{
+    let mut q = bits::words_for(n);
+    while 0 < q {
+        if 0 < flags[q - 1] {
+            if 32 * q < n {
+                return 32 * q;
+            }
+            return n;
+        }
+        q -= 1;
+    }
+    0
 }
 
 // A place among n flags behind the last that is set.
 fn flags_end(flags: &[u32], n: usize) -> usize
-    requires { ⌜ n ≤ length (now flags) ⌝ }
-    ensures { λ r. ⌜ (r ≤ n) × (those (marked (now (flags .entry))) (n - r) r ≡ []) ⌝ }
+    requires { ⌜ (wordsFor n ≤ length (now flags)) × (n < 65536) ⌝ }
+    ensures { λ r. ⌜ (r ≤ n) × Unset (now (flags .entry)) r n ⌝ }
 {
-    let mut end = n;
+    let mut end = words_end(flags, n);
     while 0 < end {
-        if 0 < flags[end - 1] {
+        if bits::has_bit(flags, 0, end - 1) {
             return end;
         }
         end -= 1;
@@ -108,23 +127,23 @@ fn flags_end(flags: &[u32], n: usize) -> usize
 
 // How many looks through all glyphs are left with the one for a glyph: one less where its flag is set and its name is not new, and none where
 // that name is long.
-fn looks_left(looks: usize, flag: u32, new: bool, size: usize) -> usize
+fn looks_left(looks: usize, flag: bool, new: bool, size: usize) -> usize
     requires { ⌜ 0 < looks ⌝ }
     ensures { λ r. ⌜ r ≤ looks ⌝ }
 {
-    if flag == 0 {
-        return looks;
-    }
     if new {
         return looks;
     }
-    if 127 < size {
-        return 0;
+    if flag {
+        if 127 < size {
+            return 0;
+        }
+        return looks - 1;
     }
-    looks - 1
+    looks
 }
 
-// Whether finding the name of each marked glyph gives that glyph, by one pass up to the last of them. The caller lends the tables of the
+// Whether finding the name of each flagged glyph gives that glyph, by one pass up to the last of them. The caller lends the tables of the
 // standard strings, marks of which none is set and words `seen` with a bit for each id: only the first glyph of an id is found, so each string is
 // read once. Only a name whose marks are both there is looked for among all glyphs. Where that were to happen too often, the answer is open.
 fn names_met<'a>(
@@ -138,10 +157,10 @@ fn names_met<'a>(
     marks: &mut [u32],
     seen: &mut [u32],
 ) -> Told
-    requires { ⌜ (GoodCharset (now font) c n) × (Good (now font) strings) × (n ≤ length (now flags))
+    requires { ⌜ (GoodCharset (now font) c n) × (Good (now font) strings) × (wordsFor n ≤ length (now flags))
         × (now names ≡ standardText) × (now offsets ≡ standardOffsets) × (length (now marks) ≡ 4096) × Unseen (now seen) ⌝ }
-    ensures { λ r. ⌜ told r (allOf (nameFound (itemsOf (now (font .entry)) strings) (idsOf (now (font .entry)) c n)) (those (marked (now (flags .entry))) n 0))
-        ≡ allOf (nameFound (itemsOf (now (font .entry)) strings) (idsOf (now (font .entry)) c n)) (those (marked (now (flags .entry))) n 0) ⌝ }
+    ensures { λ r. ⌜ told r (allOf (nameFound (itemsOf (now (font .entry)) strings) (idsOf (now (font .entry)) c n)) (those (bitIn (now (flags .entry)) 0) n 0))
+        ≡ allOf (nameFound (itemsOf (now (font .entry)) strings) (idsOf (now (font .entry)) c n)) (those (bitIn (now (flags .entry)) 0) n 0) ⌝ }
 {
     let end = flags_end(flags, n);
     let mut u = charset::charset_start(c);
@@ -151,9 +170,9 @@ fn names_met<'a>(
         let s = charset::next_id(font, u);
         let sid = s.id;
         u = s.next;
-        let flag = flags[g];
+        let flag = bits::has_bit(flags, 0, g);
         if first_glyphs::see(&mut *seen, sid) {
-            if 0 < flag {
+            if flag {
                 return Told::No;
             }
             g += 1;
@@ -174,10 +193,10 @@ fn names_met<'a>(
     Told::Yes
 }
 
-// Whether finding the name of each marked glyph gives that glyph.
+// Whether finding the name of each flagged glyph gives that glyph.
 pub fn names_found(font: &[u8], c: Charset, n: usize, strings: Index, flags: &[u32]) -> bool
-    requires { ⌜ (GoodCharset (now font) c n) × (Good (now font) strings) × (n ≤ length (now flags)) ⌝ }
-    ensures { λ r. ⌜ r ≡ allOf (nameFound (itemsOf (now (font .entry)) strings) (idsOf (now (font .entry)) c n)) (those (marked (now (flags .entry))) n 0) ⌝ }
+    requires { ⌜ (GoodCharset (now font) c n) × (Good (now font) strings) × (wordsFor n ≤ length (now flags)) ⌝ }
+    ensures { λ r. ⌜ r ≡ allOf (nameFound (itemsOf (now (font .entry)) strings) (idsOf (now (font .entry)) c n)) (those (bitIn (now (flags .entry)) 0) n 0) ⌝ }
 {
     let names = strings::table::STANDARD_TEXT;
     let offsets = strings::table::STANDARD_OFFSETS;
@@ -203,37 +222,23 @@ pub fn names_found(font: &[u8], c: Charset, n: usize, strings: Index, flags: &[u
     }
 }
 
-// Marks glyph 0 and each glyph to keep by the flags that the caller lends; whether finding the name or the CID of each gives that glyph.
-pub fn kept_found(font: &[u8], f: Font, keep: &[u16], flags: &mut [u32]) -> bool
-    requires { ⌜ (GoodFont (now font) f) × (allBelow (f .charstrings .count) (now keep) ≡ true) × (f .charstrings .count ≤ length (now flags)) ⌝ }
-    ensures { λ r. ⌜ (r ≡ allFound (programOf (now (font .entry)) f) (keptOf (f .charstrings .count) (now (keep .entry))))
-        × Marks (f .charstrings .count) (keeps (now (keep .entry))) (now (flags .entry)) (now (flags .exit)) ⌝ }
+// Whether finding the name or the CID of glyph 0 and of each glyph to keep gives that glyph: refusal 7 where not.
+pub fn all_found(font: &[u8], f: Font, keep: &[u16]) -> bool
+    requires { ⌜ (GoodFont (now font) f) × (allBelow (f .charstrings .count) (now keep) ≡ true) ⌝ }
+    ensures { λ r. ⌜ r ≡ allFound (programOf (now (font .entry)) f) (keptOf (f .charstrings .count) (now (keep .entry))) ⌝ }
 {
     let charset = f.charset;
     let charstrings = f.charstrings;
     let texts = f.strings;
     let cid = f.cid;
     let n = charstrings.count;
-    kept::order::mark(keep, &mut *flags, n);
+    // A bit for each glyph: 8 KiB.
+    let mut flags = [0u32; 2048];
+    order::mark(keep, &mut flags, n);
     if cid {
         // A bit for each CID: 8 KiB.
         let mut seen = [0u32; 2048];
-        return first_glyphs::cids_found(font, charset, n, flags, &mut seen);
+        return first_glyphs::cids_found(font, charset, n, &flags, &mut seen);
     }
-    names_found(font, charset, n, texts, flags)
-}
-
-// Whether finding the name or the CID of glyph 0 and of each glyph to keep gives that glyph: refusal 7 where not. A flag for each glyph stands
-// on the stack: 16 KiB for most fonts, 256 KiB for the largest.
-pub fn all_found(font: &[u8], f: Font, keep: &[u16]) -> bool
-    requires { ⌜ (GoodFont (now font) f) × (allBelow (f .charstrings .count) (now keep) ≡ true) ⌝ }
-    ensures { λ r. ⌜ r ≡ allFound (programOf (now (font .entry)) f) (keptOf (f .charstrings .count) (now (keep .entry))) ⌝ }
-{
-    let charstrings = f.charstrings;
-    if charstrings.count <= 4096 {
-        let mut flags = [0u32; 4096];
-        return kept_found(font, f, keep, &mut flags);
-    }
-    let mut flags = [0u32; 65536];
-    kept_found(font, f, keep, &mut flags)
+    names_found(font, charset, n, texts, &flags)
 }

@@ -1,10 +1,10 @@
 -- Laws of the front of a CID-keyed subset: what its writers ask is there, and what they write is the subset's.
 use Prim.Native.Nat.{ℕ, _+_, _≤_, _<_}
-use mathlib.Core.Path.{_≡_, refl, sym, ap, _∙_}
+use mathlib.Core.Path.{_≡_, sym, ap, _∙_}
 use mathlib.Core.Bool.{true}
 use mathlib.Core.List.{List, [], _∷_, _++_}
 use native.Mathlib.Omega.{arith}
-use lib.ListN.{length, take}
+use lib.ListN.{length}
 use Rattle.octets.specs.Octets.{Wrote}
 use Rattle.octets.specs.PutLaws.{wrote-as}
 use Rattle.index.specs.Write.{indexBytes}
@@ -12,10 +12,10 @@ use Rattle.cff.specs.Font.{Program}
 use Rattle.cff.specs.Reads.{programOf, topOf}
 use Rattle.cff.specs.declared.font.Font.{Font}
 use Rattle.subset.specs.Texts.{ownStrings}
-use Rattle.subset.specs.Subset.{ownByCid, topByCid, newIds}
+use Rattle.subset.specs.Subset.{ownByCid, topByCid}
 use Rattle.own_strings.specs.declared.Own.{Own}
-use Rattle.own_strings.specs.Slots.{wordNames, ownOf, allOwn}
-use Rattle.own_strings.specs.Ready.{HasStrings, SlotsGiven, NamesGiven, IndexRoom}
+use Rattle.own_strings.specs.Slots.{ownOf, slotsOwn}
+use Rattle.own_strings.specs.Ready.{HasStrings, SlotsGiven, IndexRoom}
 use Rattle.top_dict.specs.Top.{Filled, Offsets, topLen, topCid}
 use Rattle.top_dict.specs.TopLaws.{cid-measured}
 use Rattle.top_dict.specs.Slotted.{top-cid-is}
@@ -24,19 +24,18 @@ use Rattle.front.specs.SlotLaws.{slots-slotted}
 use Rattle.front.specs.PrepareLaws.{has-strings, cid-own}
 use Rattle.front.specs.FrontLaws.{front-sum, names-room, top-room, front-wrote, top-small, ready-filled, measured-front, front-room, top-short, strings-asked}
 
-module _ (p : Program) (slots words : List ℕ) (ready : SlotsReady p true slots) where
+module _ (p : Program) (slots : List ℕ) (ready : SlotsReady p true slots) where
   abbrev own : List (List ℕ)
-  own = allOwn (p .strings) slots (take 0 words)
+  own = slotsOwn (p .strings) slots
 
-  -- no name is used
   own-is : own ≡ ownByCid p
-  unfolding wordNames ownStrings
   own-is = cid-own p slots ready
 
   -- the top DICT that is written is the subset's
   cid-top : (at₁ at₂ at₃ at₄ : ℕ) → topCid (p .top) slots at₁ at₂ at₃ at₄ ≡ topByCid p (ownByCid p) at₁ at₂ at₃ at₄
+  unfolding ownStrings
   cid-top at₁ at₂ at₃ at₄ =
-      top-cid-is p own slots (slots-slotted p true slots ready (wordNames (p .strings) (take 0 words))) at₁ at₂ at₃ at₄
+      top-cid-is p own slots (slots-slotted p true slots ready []) at₁ at₂ at₃ at₄
       ∙ ap (λ (o : List (List ℕ)). topByCid p o at₁ at₂ at₃ at₄) own-is
 
   -- and so is the front
@@ -61,14 +60,9 @@ module _ (p : Program) (slots words : List ℕ) (ready : SlotsReady p true slots
   cid-front-sum o e name at₁ at₂ at₃ at₄ =
       sym (cid-front-len o e 0 name at₁ at₂ at₃ at₄) ∙ front-sum 0 name (topByCid p (ownByCid p) at₁ at₂ at₃ at₄) (ownByCid p)
 
--- no new id of a name is looked for
-pub none-given : (strings : List (List ℕ)) (slots words : List ℕ) → NamesGiven strings slots words 0 0
-unfolding wordNames newIds
-none-given strings slots words = record { few = omega arith; front = omega arith; room = omega arith; ids = refl }
-
 -- ---- what the writers ask, and what they write
 
-module _ (b : List ℕ) (f : Font) (slots : List ℕ) (own : Own) (words : List ℕ) (name out : List ℕ)
+module _ (b : List ℕ) (f : Font) (slots : List ℕ) (own : Own) (name out : List ℕ)
     (g : CidFront b f slots own (length name) (length out)) (all at₁ at₂ at₃ at₄ : ℕ) where
   abbrev p : Program
   p = programOf b f
@@ -77,13 +71,13 @@ module _ (b : List ℕ) (f : Font) (slots : List ℕ) (own : Own) (words : List 
   top = topCid (p .top) slots at₁ at₂ at₃ at₄
 
   abbrev strings : List (List ℕ)
-  strings = allOwn (p .strings) slots (take 0 words)
+  strings = slotsOwn (p .strings) slots
 
   measured : topLen true 0 (p .top) slots ≡ length top
   measured = cid-measured (p .top) slots 0 at₁ at₂ at₃ at₄
 
   counted : own ≡ ownOf strings
-  counted = cid-own-of p slots words (g .ready) own (g .is)
+  counted = cid-own-of p slots (g .ready) own (g .is)
 
   room : 0 + length (frontBytes all name top strings) ≤ length out
   room = front-room p true 0 slots own name out (g .fits) all top strings measured counted
@@ -103,14 +97,13 @@ module _ (b : List ℕ) (f : Font) (slots : List ℕ) (own : Own) (words : List 
     )
 
     module _ {mid2 : List ℕ} {q2 : ℕ} (v : Wrote mid q (indexBytes (top ∷ [])) mid2 q2) where
-      pub own-asked : HasStrings b (f .strings) × SlotsGiven (p .strings) slots × NamesGiven (p .strings) slots words 0 0 × IndexRoom mid2 q2 strings own
+      pub own-asked : HasStrings b (f .strings) × SlotsGiven (p .strings) slots × IndexRoom mid2 q2 strings own
       own-asked = (
         has-strings b f (g .font),
         g .ready .given,
-        none-given (p .strings) slots words,
         strings-asked p true 0 slots own name out (g .fits) all top strings measured counted w v,
       )
 
       pub all-wrote : {new : List ℕ} {r : ℕ} → Wrote mid2 q2 (indexBytes strings) new r
           → Wrote out 0 (frontBytes all name (topByCid p (ownByCid p) at₁ at₂ at₃ at₄) (ownByCid p)) new r
-      all-wrote u = wrote-as (front-wrote all name top strings out room w v u) (cid-front p slots words (g .ready) all name at₁ at₂ at₃ at₄)
+      all-wrote u = wrote-as (front-wrote all name top strings out room w v u) (cid-front p slots (g .ready) all name at₁ at₂ at₃ at₄)

@@ -1,48 +1,29 @@
 -- The front of a subset over what the code holds (document 01, 'Layout'; crates/subset, subsetByName and subsetByCid): header, names, top DICT
--- and strings. The font is held by positions; eight slots hold the string ids of its top DICT and eight more the new ones; the first k work
--- words hold the kept glyphs with their string ids, and k words from the number of glyphs on the new ids of their names.
+-- and strings. The font is held by positions; eight slots hold the string ids of its top DICT and eight more the new ones; the kept glyphs are
+-- read through a window of the order in which they are written (crates/order_window).
 use Prim.Native.Nat.{ℕ, _+_, _≤_, _<_}
 use mathlib.Core.Path.{_≡_}
 use mathlib.Core.Bool.{Bool, true, false}
 use mathlib.Core.List.{List, [], _∷_, _++_}
-use lib.ListN.{length, take, drop}
+use lib.ListN.{length, take}
 use Rattle.dict.specs.Dict.{Entry}
 use Rattle.index.specs.Write.{sizeFor, indexBytes, indexLen}
 use Rattle.cff.specs.Font.{Program}
 use Rattle.cff.specs.Reads.{GoodFont, programOf}
 use Rattle.cff.specs.declared.font.Font.{Font}
-use Rattle.subset.specs.Kept.{keptOf}
-use Rattle.subset.specs.Texts.{namesOf}
-use Rattle.subset.specs.Subset.{ownByName, ownByCid, newIds}
-use Rattle.subset.specs.Cut.{allFound}
-use Rattle.kept.specs.Packed.{packed, orderIn}
+use Rattle.subset.specs.Subset.{ownByName, ownByCid}
+use Rattle.order_window.specs.declared.Order.{Order}
+use Rattle.order_window.specs.Window.{glyphsOf, Ordered}
 use Rattle.own_strings.specs.declared.Own.{Own}
 use Rattle.own_strings.specs.Slots.{slotsOf, ownOf}
 use Rattle.own_strings.specs.Ready.{SlotsGiven}
+use Rattle.name_strings.specs.Names.{NamesApart}
 use Rattle.top_dict.specs.Top.{topLen}
 
 -- a font that was read and is not too long
 pub record SmallFont (b : List ℕ) (f : Font) : Type 0 where
   pub good : GoodFont b f
   pub small : length b ≤ 67108864
-
--- ---- the kept glyphs and their names
-
--- the first k words hold the kept ones of n glyphs, by number, each of which finding gives for its name; behind n is room for as many
-pub record Ordered (p : Program) (n k : ℕ) (words : List ℕ) : Type 0 where
-  pub keep : List ℕ
-  pub many : k ≡ length (keptOf n keep)
-  pub is : take k words ≡ packed p (keptOf n keep)
-  pub found : allFound p (keptOf n keep) ≡ true
-  pub room : n + k ≤ length words
-
--- the first k words hold glyphs, and the new ids of their names stand from n on
-pub record Renamed (p : Program) (n k : ℕ) (words : List ℕ) : Type 0 where
-  pub few : k < 65536
-  pub front : k ≤ n
-  pub room : n + k ≤ length words
-  pub is : take k words ≡ packed p (orderIn k words)
-  pub ids : take k (drop n words) ≡ newIds (ownByName p (orderIn k words)) (namesOf p (orderIn k words))
 
 -- ---- slots and own strings
 
@@ -79,12 +60,13 @@ pub record Fits (cid : Bool) (v : ℕ) (es : List Entry) (slots : List ℕ) (own
   pub room : frontLen cid v es slots name own ≤ out
 
 -- what is ready when the front of a name-keyed subset is written
-pub record NamedFront (b : List ℕ) (f : Font) (v : ℕ) (slots : List ℕ) (own : Own) (words : List ℕ) (k name out : ℕ) : Type 0 where
-  pub font : SmallFont b f
-  pub ready : SlotsReady (programOf b f) false slots
-  pub names : Renamed (programOf b f) (f .charstrings .count) k words
-  pub is : own ≡ ownOf (ownByName (programOf b f) (orderIn k words))
-  pub fits : Fits false v (programOf b f .top) slots own name out
+pub record NamedFront (b : List ℕ) (o : Order) (v : ℕ) (slots : List ℕ) (own : Own) (ws window : List ℕ) (name out : ℕ) : Type 0 where
+  pub font : SmallFont b (o .f)
+  pub ready : SlotsReady (programOf b (o .f)) false slots
+  pub ordered : Ordered b ws window o
+  pub apart : NamesApart b (o .f) ws
+  pub is : own ≡ ownOf (ownByName (programOf b (o .f)) (glyphsOf b (o .f) ws))
+  pub fits : Fits false v (programOf b (o .f) .top) slots own name out
 
 -- and that of a CID-keyed one
 pub record CidFront (b : List ℕ) (f : Font) (slots : List ℕ) (own : Own) (name out : ℕ) : Type 0 where

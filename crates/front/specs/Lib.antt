@@ -1,5 +1,5 @@
 pub mod Front
-pub mod OrderLaws
+pub mod ApartLaws
 pub mod SlotLaws
 pub mod PrepareLaws
 pub mod FrontLaws

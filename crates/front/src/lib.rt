@@ -3,26 +3,28 @@
 ghost use mathlib.Core.Path.{_≡_};
 ghost use mathlib.Core.Bool.{true, false};
 ghost use mathlib.Core.List.{[], _∷_, _++_};
-ghost use Prim.Native.Nat.{_+_, _≤_, _<_};
+ghost use Prim.Native.Nat.{_≤_, _<_};
 ghost use lib.ListN.{length};
-ghost use Rattle.octets.specs.Octets.{put, Wrote};
+ghost use Rattle.octets.specs.Octets.{Wrote};
 ghost use Rattle.index.specs.Write.{indexBytes};
 ghost use Rattle.cff.specs.Reads.{programOf};
-ghost use Rattle.subset.specs.Texts.{namesOf};
-ghost use Rattle.subset.specs.Subset.{ownByName, topByName, ownByCid, topByCid, newIds};
+ghost use Rattle.subset.specs.Subset.{ownByName, topByName, ownByCid, topByCid};
+ghost use Rattle.order_window.specs.Window.{glyphsOf, Ordered};
 ghost use Rattle.own_strings.specs.Slots.{ownOf, slotsOwn};
+ghost use Rattle.name_strings.specs.Names.{NamesApart};
 ghost use Rattle.top_dict.specs.Top.{Offsets};
-ghost use Rattle.front.specs.Front.{SmallFont, Ordered, Renamed, SlotsReady, Measured, frontLen, headerBytes, frontBytes, NamedFront, CidFront};
+ghost use Rattle.front.specs.Front.{SmallFont, SlotsReady, Measured, frontLen, headerBytes, frontBytes, NamedFront, CidFront};
 use cff::font::Font;
+use name_strings::count_names;
+use name_strings::put_slot_strings;
+use name_strings::put_strings;
+use order_window::Order;
 use own_strings::Own;
-use own_strings::put_ids;
 use own_strings::put_slot_ids;
 use own_strings::put_slots;
-use own_strings::put_strings;
 use top_dict::put_cid_index;
 use top_dict::put_named_index;
 use top_dict::top_len;
-ghost use Rattle.kept.specs.Packed.{orderIn};
 
 // The string ids of the top DICT given new ones, by the keying of the subset: slots; the own strings so far.
 fn prepare_slots(font: &[u8], f: Font, cid: bool, slots: &mut [usize]) -> Own
@@ -37,22 +39,23 @@ fn prepare_slots(font: &[u8], f: Font, cid: bool, slots: &mut [usize]) -> Own
     put_slot_ids(font, strings, slots)
 }
 
-// The string ids of the top DICT and of the k kept glyphs given new ones: slots, and the words from the number of glyphs on; the own strings
-// of a name-keyed subset.
-pub fn prepare_named(font: &[u8], f: Font, slots: &mut [usize], words: &mut [u32], k: usize) -> Own
-    requires { ⌜ (SmallFont (now font) f) × (f .cid ≡ false) × (16 ≤ length (now slots))
-        × (Ordered (programOf (now font) f) (f .charstrings .count) k (now words)) ⌝ }
-    ensures { λ r. ⌜ (Measured (ownByName (programOf (now (font .entry)) f) (orderIn k (now (words .entry)))) r)
-        × (now (words .exit) ≡ put (now (words .entry)) (f .charstrings .count)
-        (newIds (ownByName (programOf (now (font .entry)) f) (orderIn k (now (words .entry)))) (namesOf (programOf (now (font .entry)) f) (orderIn k (now (words .entry))))))
-        × (Renamed (programOf (now (font .entry)) f) (f .charstrings .count) k (now (words .exit)))
-        × (SlotsReady (programOf (now (font .entry)) f) false (now (slots .exit))) ⌝ }
+// The string ids of the top DICT given new ones: slots; the own strings of a name-keyed subset, those of the names of the kept glyphs among them.
+pub fn prepare_named(
+    font: &[u8],
+    o: Order,
+    slots: &mut [usize],
+    words: &[u32],
+    window: &mut [u32],
+) -> Own
+    requires { ⌜ (SmallFont (now font) (o .f)) × (o .f .cid ≡ false) × (16 ≤ length (now slots)) × (Ordered (now font) (now words) (now window) o)
+        × (NamesApart (now font) (o .f) (now words)) ⌝ }
+    ensures { λ r. ⌜ (Measured (ownByName (programOf (now (font .entry)) (o .f)) (glyphsOf (now (font .entry)) (o .f) (now (words .entry)))) r)
+        × (SlotsReady (programOf (now (font .entry)) (o .f)) false (now (slots .exit)))
+        × (Ordered (now (font .entry)) (now (words .entry)) (now (window .exit)) o) ⌝ }
 {
-    let strings = f.strings;
-    let charstrings = f.charstrings;
-    let n = charstrings.count;
+    let f = o.f;
     let own = prepare_slots(font, f, false, &mut *slots);
-    put_ids(font, strings, &*slots, own, words, n, k)
+    count_names(font, o, words, window, &*slots, own)
 }
 
 // The string ids of the top DICT given new ones: slots; the own strings of a CID-keyed subset.
@@ -110,29 +113,27 @@ pub struct NamedPlaces {
 // The front of a name-keyed subset with these places, from the start of out on; the place after it.
 pub fn put_front_named(
     font: &[u8],
-    f: Font,
+    o: Order,
     name: &[u8],
     slots: &[usize],
     own: Own,
     words: &[u32],
-    k: usize,
+    window: &mut [u32],
     at: NamedPlaces,
     out: &mut [u8],
 ) -> usize
-    requires { ⌜ (NamedFront (now font) f (at .encoding) (now slots) own (now words) k (length (now name)) (length (now out)))
+    requires { ⌜ (NamedFront (now font) o (at .encoding) (now slots) own (now words) (now window) (length (now name)) (length (now out)))
         × (Offsets (at .charset) (at .charstrings) (at .size) (at .private)) × (at .encoding < 2147483648) ⌝ }
-    ensures { λ r. ⌜ Wrote (now (out .entry)) 0
+    ensures { λ r. ⌜ (Wrote (now (out .entry)) 0
         (frontBytes (at .end) (now (name .entry))
-        (topByName (programOf (now (font .entry)) f) (ownByName (programOf (now (font .entry)) f) (orderIn k (now (words .entry))))
+        (topByName (programOf (now (font .entry)) (o .f)) (ownByName (programOf (now (font .entry)) (o .f)) (glyphsOf (now (font .entry)) (o .f) (now (words .entry))))
         (at .charset) (at .encoding) (at .charstrings) (at .size) (at .private))
-        (ownByName (programOf (now (font .entry)) f) (orderIn k (now (words .entry)))))
-        (now (out .exit)) r ⌝ }
+        (ownByName (programOf (now (font .entry)) (o .f)) (glyphsOf (now (font .entry)) (o .f) (now (words .entry)))))
+        (now (out .exit)) r) × (Ordered (now (font .entry)) (now (words .entry)) (now (window .exit)) o) ⌝ }
 {
+    let f = o.f;
     let top = f.top;
     let end = f.top_end;
-    let strings = f.strings;
-    let charstrings = f.charstrings;
-    let n = charstrings.count;
     let d = &font[top..end];
     let p = put_names(name, at.end, out);
     let q = put_named_index(
@@ -146,7 +147,7 @@ pub fn put_front_named(
         out,
         p,
     );
-    put_strings(font, strings, slots, own, words, n, k, out, q)
+    put_strings(font, o, words, window, slots, own, out, q)
 }
 
 // Where charset, FDSelect, charstrings, the FD INDEX and the Private parts of a CID-keyed subset stand; and where all ends.
@@ -166,7 +167,6 @@ pub fn put_front_cid(
     name: &[u8],
     slots: &[usize],
     own: Own,
-    words: &[u32],
     at: CidPlaces,
     out: &mut [u8],
 ) -> usize
@@ -183,5 +183,5 @@ pub fn put_front_cid(
     let d = &font[top..end];
     let p = put_names(name, at.end, out);
     let q = put_cid_index(d, slots, at.charset, at.select, at.glyphs, at.dicts, out, p);
-    put_strings(font, strings, slots, own, words, 0, 0, out, q)
+    put_slot_strings(font, strings, slots, own, out, q)
 }

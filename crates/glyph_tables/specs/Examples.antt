@@ -1,24 +1,18 @@
--- Worked examples: two glyphs by CID, and three glyphs whose FDs 0, 2, 0 are written as 0, 1, 0.
+-- A worked example: three glyphs whose FDs 0, 2, 0 are written as 0, 1, 0.
 use mathlib.Core.Path.{_≡_, refl}
 use mathlib.Core.List.{[], _∷_}
-use Rattle.octets.specs.Lists.{partOf}
 use Rattle.subset.specs.Kept.{isIn}
 use Rattle.bits.specs.Bits.{countBelow}
 use Rattle.subset.specs.Pruned.{mapped}
 use Rattle.reach.specs.Reach.{ranksOf}
-use Rattle.glyph_tables.specs.Tables.{highs, newFdsBy}
-
--- glyph 1 of CID 3 and glyph 2 of CID 7
-cids : highs (196609 ∷ 458754 ∷ 0 ∷ []) 2 ≡ 3 ∷ 7 ∷ []
-unfolding mapped
-cids = refl
+use Rattle.glyph_tables.specs.Tables.{newFdsBy}
 
 -- the words of three FDs, of which 0 and 2 are in use
-ranks : ranksOf (λ f. isIn f (partOf (5 ∷ 0 ∷ 2 ∷ 0 ∷ []) 1 3)) 0 3 ≡ 1 ∷ 0 ∷ 2 ∷ []
+ranks : ranksOf (λ f. isIn f (0 ∷ 2 ∷ 0 ∷ [])) 0 3 ≡ 1 ∷ 0 ∷ 2 ∷ []
 unfolding ranksOf isIn countBelow
 ranks = refl
 
 -- the FDs by their new numbers
-fds : newFdsBy (1 ∷ 0 ∷ 2 ∷ []) (partOf (5 ∷ 0 ∷ 2 ∷ 0 ∷ []) 1 3) ≡ 0 ∷ 1 ∷ 0 ∷ []
+fds : newFdsBy (1 ∷ 0 ∷ 2 ∷ []) (0 ∷ 2 ∷ 0 ∷ []) ≡ 0 ∷ 1 ∷ 0 ∷ []
 unfolding mapped
 fds = refl

@@ -1,5 +1,6 @@
 pub mod Tables
 pub mod Examples
+pub mod ReadLaws
 pub mod PartLaws
 pub mod MarkLaws
 pub mod SelectLaws

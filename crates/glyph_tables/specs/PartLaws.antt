@@ -1,40 +1,14 @@
--- Laws of parts of the work words, and of a charset that is written from one id by one (TN5176, section 13).
-use Prim.Native.Nat.{ℕ, _+_, _/_, _≤_, _<_}
-use mathlib.Core.Path.{_≡_, ap, _∙_}
+-- Laws of a charset that is written id by id (TN5176, section 13).
+use Prim.Native.Nat.{ℕ, _+_, _≤_, _<_}
+use mathlib.Core.Path.{_≡_, _∙_}
 use mathlib.Core.List.{List, [], _∷_}
 use native.Mathlib.Omega.{arith}
-use lib.ListN.{length, take, drop, getD, length-drop}
-use lib.Seq.{getD-take, getD-drop, length-take-le}
+use lib.ListN.{length, take, getD}
 use Rattle.octets.specs.Octets.{bytesOf, Wrote}
 use Rattle.octets.specs.OctetsLaws.{length-bytes}
 use Rattle.octets.specs.PutLaws.{wrote-length}
-use Rattle.octets.specs.Lists.{partOf}
 use Rattle.charset.specs.CharsetBytes.{charsetBytes}
 use Rattle.charset.specs.CharsetBytesLaws.{charset-length, charset-begun, charset-more, charset-finished, charset-room}
-use Rattle.subset.specs.EachLaws.{length-mapped, mapped-at}
-use Rattle.glyph_tables.specs.Tables.{highs}
-
--- ---- k words
-
--- how many they are
-pub part-length : (ws : List ℕ) (n k : ℕ) → n + k ≤ length ws → length (partOf ws n k) ≡ k
-part-length ws n k h = let d : k ≤ length (drop n ws) = rw length-drop (omega arith) in length-take-le k (drop n ws) d
-
--- the i-th of them
-pub part-at : (ws : List ℕ) (n k i : ℕ) → i < k → getD (partOf ws n k) i 0 ≡ getD ws (n + i) 0
-part-at ws n k i h = getD-take k (drop n ws) i 0 h ∙ getD-drop n ws i 0
-
--- how many CIDs there are
-pub highs-length : (ws : List ℕ) (k : ℕ) → k ≤ length ws → length (highs ws k) ≡ k
-highs-length ws k h = length-mapped (λ w. w / 65536) (take k ws) ∙ length-take-le k ws h
-
--- the i-th of them
-pub highs-at : (ws : List ℕ) (k i : ℕ) → k ≤ length ws → i < k → getD (highs ws k) i 0 ≡ getD ws i 0 / 65536
-highs-at ws k i h l =
-    let m : i < length (take k ws) = omega (arith, length-take-le k ws h) in
-    mapped-at (λ w. w / 65536) (take k ws) i 0 m ∙ ap (λ (w : ℕ). w / 65536) (getD-take k ws i 0 l)
-
--- ---- a charset
 
 -- the ids of g glyphs are written
 pub record CharsetPut (old : List ℕ) (at : ℕ) (ids new : List ℕ) (p g : ℕ) : Type 0 where

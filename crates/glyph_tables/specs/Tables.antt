@@ -1,13 +1,22 @@
--- Charset and FDSelect of a subset as the work words hold them (document 01, 'Layout'; TN5176, sections 13 and 19): ids and FDs of the
--- glyphs that are written, and the new numbers of the FDs in use.
-use Prim.Native.Nat.{ℕ, _-_, _/_, _≤_, _<_}
+-- Charset and FDSelect of a CID-keyed subset (document 01, 'Layout'; TN5176, sections 13 and 19): CIDs and FDs of the glyphs that are written, and
+-- the new numbers of the FDs in use.
+use Prim.Native.Nat.{ℕ, _-_, _≤_, _<_}
 use mathlib.Core.List.{List, [], _∷_}
-use lib.ListN.{length, take, getD, set}
+use lib.ListN.{length, getD, set}
+use Rattle.cff.specs.Reads.{programOf}
+use Rattle.cff.specs.declared.font.Font.{Font}
+use Rattle.subset.specs.Kept.{fdsOf}
+use Rattle.subset.specs.Subset.{cidsOf}
 use Rattle.subset.specs.Pruned.{mapped}
+use Rattle.order_window.specs.Window.{glyphsOf}
 
--- what stands in front of 65536 in the first k words: the CIDs
-abbrev pub highs : List ℕ → ℕ → List ℕ
-highs ws k = mapped (λ w. w / 65536) (take k ws)
+-- the CIDs of the kept glyphs of a font as they are written, by their bits
+abbrev pub keptCids : List ℕ → Font → List ℕ → List ℕ
+keptCids b f ws = cidsOf (programOf b f) (glyphsOf b f ws)
+
+-- and their FDs
+abbrev pub keptFds : List ℕ → Font → List ℕ → List ℕ
+keptFds b f ws = fdsOf (programOf b f) (glyphsOf b f ws)
 
 -- the words of FDs set to 1
 unfoldable pub markedFds : List ℕ → List ℕ → List ℕ

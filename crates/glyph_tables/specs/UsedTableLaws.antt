@@ -1,6 +1,5 @@
--- The charset and the FDSelect that are written are those of the subset (document 01, 'Layout'): what the work words hold gives the CIDs and
--- the new FDs of the definitions, and the table has the FDs in use.
-use Prim.Native.Nat.{ℕ, zero, suc, _+_, _*_, _-_, _/_, _≤_, _<_}
+-- The FDSelect that is written is that of the subset (document 01, 'Layout'): the table has the FDs in use, and gives their new numbers.
+use Prim.Native.Nat.{ℕ, suc, _+_, _≤_, _<_}
 use mathlib.Core.Path.{_≡_, refl, sym, ap, _∙_, fun-ext}
 use mathlib.Core.Bool.{Bool, true, false}
 use mathlib.Core.List.{List, [], _∷_}
@@ -8,43 +7,24 @@ use mathlib.Core.Logic.{⊎-elim}
 use native.Mathlib.Omega.{arith}
 use borrow.Author.Tests.{ne-eqb}
 use lib.Dec.{eqb}
-use lib.ListN.{length, take, getD}
-use Rattle.octets.specs.Octets.{put, Octets}
+use lib.ListN.{length, getD}
+use Rattle.octets.specs.Octets.{put}
 use Rattle.octets.specs.Pick.{pick}
-use Rattle.octets.specs.Lists.{partOf}
 use Rattle.cff.specs.Font.{Program}
 use Rattle.subset.specs.Kept.{isIn, those, fdsOf, usedFds, newFd}
-use Rattle.subset.specs.Subset.{cidsOf, newFds}
+use Rattle.subset.specs.Subset.{newFds}
 use Rattle.bits.specs.Bits.{countBelow}
 use Rattle.subset.specs.Pruned.{mapped}
 use Rattle.faithful.specs.Laid.{GoodProgram}
 use Rattle.subset.specs.KeptListLaws.{in-none, in-head, in-more, in-cases, in-at, in-place, those-has, those-in, those-same}
 use Rattle.subset.specs.RankLaws.{count-few, length-those}
 use Rattle.faithful.specs.UsedLaws.{fds-has, fds-fit, fd-there}
-use Rattle.kept.specs.Packed.{packed, marked}
+use Rattle.kept.specs.Packed.{marked}
 use Rattle.kept.specs.MarkLaws.{same-truth}
 use Rattle.reach.specs.Reach.{ranksOf}
 use Rattle.reach.specs.WordLaws.{HoldRanks, set-hold}
-use Rattle.glyph_tables.specs.Tables.{highs, newFdBy, newFdsBy, Numbered}
+use Rattle.glyph_tables.specs.Tables.{newFdBy, newFdsBy, Numbered}
 use Rattle.glyph_tables.specs.ThoseLaws.{those-bounds, new-count}
-
--- ---- CIDs
-
--- the CIDs of packed glyphs
-highs-packed : (p : Program) (order : List ℕ) → ((i : ℕ) → i < length order → getD order i 0 < 65536)
-    → mapped (λ w. w / 65536) (packed p order) ≡ cidsOf p order
-unfolding mapped cidsOf
-highs-packed p [] small = refl
-highs-packed p (g ∷ gs) small =
-    let b : g < 65536 = small 0 (omega arith) in
-    let e : (getD (p .ids) g 0 * 65536 + g) / 65536 ≡ getD (p .ids) g 0 = omega arith in
-    ap (λ (c : ℕ). c ∷ mapped (λ w. w / 65536) (packed p gs)) e
-    ∙ ap (λ (l : List ℕ). getD (p .ids) g 0 ∷ l) (highs-packed p gs (λ i h. small (suc i) (omega arith)))
-
--- words that begin with the glyphs in the order in which they are written
-pub highs-cids : (p : Program) (order ws : List ℕ) (k : ℕ) → take k ws ≡ packed p order → ((i : ℕ) → i < length order → getD order i 0 < 65536)
-    → highs ws k ≡ cidsOf p order
-highs-cids p order ws k e small = ap (mapped (λ w. w / 65536)) e ∙ highs-packed p order small
 
 -- ---- FDs of lists with the same glyphs
 
@@ -67,13 +47,6 @@ pub fds-same : (p : Program) (gs hs : List ℕ) → ((g : ℕ) → isIn g gs ≡
 fds-same p gs hs same f = same-truth _ _ (fds-over p gs hs same f) (fds-over p hs gs (λ g. sym (same g)) f)
 
 -- ---- the FDs in use
-
--- FDs of glyphs are bytes
-pub fds-bytes : (p : Program) (gs : List ℕ) → Octets (p .fds) → Octets (fdsOf p gs)
-unfolding fdsOf
-fds-bytes p [] small i = omega arith
-fds-bytes p (g ∷ gs) small zero = small g
-fds-bytes p (g ∷ gs) small (suc i) = fds-bytes p gs small i
 
 -- the glyphs that are written: those that are kept, each one of the font's
 module _ (p : Program) (kept order : List ℕ) (good : GoodProgram p) (same : (g : ℕ) → isIn g order ≡ isIn g kept)
@@ -110,14 +83,12 @@ module _ (p : Program) (kept order : List ℕ) (good : GoodProgram p) (same : (g
   used-new : (f : ℕ) → uses f ≡ true → newFd (usedFds p kept) f ≡ countBelow uses f
   used-new f h = ap (λ (l : List ℕ). newFd l f) used-those ∙ new-count uses 256 f (uses-small f h) h
 
-  -- the words from n on are the FDs of the glyphs, and the table was made from them
-  module _ (ws : List ℕ) (n k : ℕ) (fds : partOf ws n k ≡ fdsOf p order) (old table : List ℕ) (room : 256 ≤ length old)
-      (ranks : table ≡ put old 0 (ranksOf (λ f. isIn f (partOf ws n k)) 0 256)) where
+  -- the table was made from the FDs of the glyphs
+  module _ (old table : List ℕ) (room : 256 ≤ length old) (ranks : table ≡ put old 0 (ranksOf (λ f. isIn f (fdsOf p order)) 0 256)) where
     -- a word by the count of those below it
     word : (f : ℕ) → f < 256 → getD table f 0 ≡ pick (uses f) (countBelow uses f + 1) 0
     word f h =
-        let hold : HoldRanks table 0 uses 256
-        = set-hold old table 0 uses 256 (omega arith) (ranks ∙ ap (λ (l : List ℕ). put old 0 (ranksOf (λ f. isIn f l) 0 256)) fds) in
+        let hold : HoldRanks table 0 uses 256 = set-hold old table 0 uses 256 (omega arith) ranks in
         let e : f ≡ 0 + f = omega arith in
         ap (λ (i : ℕ). getD table i 0) e ∙ hold .word f h
 
@@ -139,21 +110,21 @@ module _ (p : Program) (kept order : List ℕ) (good : GoodProgram p) (same : (g
         go false m = refl
 
     -- how many there are
-    pub table-count : countBelow (λ f. isIn f (partOf ws n k)) 256 ≡ length (usedFds p kept)
+    pub table-count : countBelow (λ f. isIn f (fdsOf p order)) 256 ≡ length (usedFds p kept)
     table-count =
         let e : 0 + 256 ≡ 256 = omega arith in
         let c : countBelow uses (0 + 256) ≡ countBelow uses 256 = ap (countBelow uses) e in
-        ap (λ (l : List ℕ). countBelow (λ f. isIn f l) 256) fds ∙ omega (arith, length-those uses 256 0, count-few uses 0, ap length used-those)
+        omega (arith, length-those uses 256 0, count-few uses 0, ap length used-those)
 
     -- the word of an FD in use
     word-used : (f : ℕ) → uses f ≡ true → getD table f 0 ≡ countBelow uses f + 1
     word-used f h = word f (uses-small f h) ∙ ap (λ (t : Bool). pick t (countBelow uses f + 1) 0) h
 
     -- the table has a new number for the FD of each glyph
-    pub table-numbered : Numbered table (partOf ws n k)
+    pub table-numbered : Numbered table (fdsOf p order)
     table-numbered i h =
-        let f = getD (partOf ws n k) i 0 in
-        let u : uses f ≡ true = ap (isIn f) (sym fds) ∙ in-at (partOf ws n k) i h in
+        let f = getD (fdsOf p order) i 0 in
+        let u : uses f ≡ true = in-at (fdsOf p order) i h in
         record { inUse = omega (arith, word-used f u); small = omega (arith, word-used f u, count-few uses f, uses-small f u) }
 
     -- by which FDs of some of the glyphs have the new numbers that the subset writes
@@ -168,5 +139,5 @@ module _ (p : Program) (kept order : List ℕ) (good : GoodProgram p) (same : (g
         ∙ ap (λ (l : List ℕ). newFd (usedFds p kept) f ∷ l) (news gs (λ i h. there (suc i) (omega arith)))
 
     -- and those of all
-    pub table-new-fds : newFdsBy table (partOf ws n k) ≡ newFds p (usedFds p kept) order
-    table-new-fds = ap (newFdsBy table) fds ∙ news order (λ i h. in-at order i h)
+    pub table-new-fds : newFdsBy table (fdsOf p order) ≡ newFds p (usedFds p kept) order
+    table-new-fds = news order (λ i h. in-at order i h)

@@ -12,10 +12,10 @@ use Rattle.octets.specs.PutLaws.{take-put}
 use Rattle.unfold.specs.Unfold.{Tok, Row, plain}
 use Rattle.dict.specs.Lookup.{cidKeyed}
 use Rattle.cff.specs.Font.{got, Program, readFont}
-use Rattle.subset.specs.Cut.{Outcome, refused, subset, leavesOut, cutOf}
+use Rattle.subset.specs.Cut.{Outcome, refused, subset, leavesOut, cutWith}
 use Rattle.faithful.specs.Faithful.{unfolded, IsKept, Recorded, Holds, Faithful}
 use Rattle.faithful.specs.Codes.{CodesKept, KeepsCodes}
-use Rattle.outcome.specs.Entry.{answerOf, Cuts}
+use Rattle.outcome.specs.Entry.{answerOf, CutsWith}
 use Rattle.outcome.specs.declared.Answer.the-variants.{Subset}
 
 -- what is written in front stands in front
@@ -41,8 +41,8 @@ module _ (font keep rec : List ℕ) (flag way len : ℕ) (out out' : List ℕ) w
       λ p reads g kept ts met plainly recorded. subst (λ (l : List ℕ). Holds p g ts l) (front-is bs size output) (f p reads g kept ts met plainly recorded)
 
   -- THE CALL: what it leaves, where it answered a way and a length
-  pub call-holds : (cid ask : Bool) (name work work' : List ℕ) → Cuts cid ask font name keep rec flag work out work' out' (Subset way len) → HoldsAll
-  call-holds cid ask name work work' c = outcome-holds (cutOf cid ask font name keep rec flag (length work) (length out)) (c .answers) (c .output) (c .faithful)
+  pub call-holds : (size : Program → ℕ) (cid ask : Bool) (name work work' : List ℕ) → CutsWith size cid ask font name keep rec flag work out work' out' (Subset way len) → HoldsAll
+  call-holds size cid ask name work work' c = outcome-holds (cutWith size cid ask font name keep rec flag (length work) (length out)) (c .answers) (c .output) (c .faithful)
 
   -- the first len bytes of the output are a font in which each code means what it meant, where its glyph is kept, and no other code any
   abbrev pub HoldsCodes : Bool → Type 0
@@ -55,5 +55,5 @@ module _ (font keep rec : List ℕ) (flag way len : ℕ) (out out' : List ℕ) w
       let size : len ≡ length bs = cc in
       λ asked p reads named. subst (λ (l : List ℕ). (q : Program) × (readFont l ≡ got q) × CodesKept p keep q) (front-is bs size output) (f asked p reads named)
 
-  pub call-codes : (cid ask : Bool) (name work work' : List ℕ) → Cuts cid ask font name keep rec flag work out work' out' (Subset way len) → HoldsCodes ask
-  call-codes cid ask name work work' c = outcome-codes ask (cutOf cid ask font name keep rec flag (length work) (length out)) (c .answers) (c .output) (c .codes)
+  pub call-codes : (size : Program → ℕ) (cid ask : Bool) (name work work' : List ℕ) → CutsWith size cid ask font name keep rec flag work out work' out' (Subset way len) → HoldsCodes ask
+  call-codes size cid ask name work work' c = outcome-codes ask (cutWith size cid ask font name keep rec flag (length work) (length out)) (c .answers) (c .output) (c .codes)

@@ -8,9 +8,11 @@ use Rattle.cff.specs.Font.{Program}
 use Rattle.subset.specs.Codes.{Coded}
 use Rattle.subset.specs.Pruned.{Pruned}
 use Rattle.subset.specs.Cut.{Outcome, leavesOut}
-use Rattle.outcome.specs.Entry.{answerOf, cutBehind, Cut, Passed}
+use Rattle.outcome.specs.Entry.{answerOf, Cut, Passed}
 use Rattle.outcome.specs.declared.Answer.{Answer}
 use Rattle.named_parts.specs.Named.{namedOutcome}
+use Rattle.order_window.specs.declared.Order.{Order}
+use Rattle.by_name.specs.NamedKeptLaws.{cutOrdered}
 use Rattle.measure.specs.Room.{of-length}
 
 -- such an output
@@ -31,12 +33,12 @@ as-measured o out' a c = c .answers ∙ ap (λ (n : ℕ). answerOf (o n)) lent-l
 pub as-cut : (o : ℕ → Outcome) (a : Answer) → a ≡ answerOf (o 67108864) → Cut (o (length lent)) lent (leavesOut (o (length lent)) lent) a
 as-cut o a e = record { answers = e ∙ sym (ap (λ (n : ℕ). answerOf (o n)) lent-long); output = refl }
 
--- the cut of a font
-pub behind-measured : (p : Program) (name keep rec : List ℕ) (flag : ℕ) (out' : List ℕ) (a : Answer) → Cut (cutBehind false p name keep rec flag (length lent)) lent out' a
-    → a ≡ answerOf (cutBehind false p name keep rec flag 67108864)
-behind-measured p name keep rec flag out' a c = as-measured (λ (m : ℕ). cutBehind false p name keep rec flag m) out' a c
+-- the cut of the kept glyphs of a name-keyed font
+pub ordered-measured : (b rec name : List ℕ) (flag : ℕ) (o : Order) (ws out' : List ℕ) (a : Answer) → Cut (cutOrdered false b rec name flag o ws (length lent)) lent out' a
+    → a ≡ answerOf (cutOrdered false b rec name flag o ws 67108864)
+ordered-measured b rec name flag o ws out' a c = as-measured (λ (m : ℕ). cutOrdered false b rec name flag o ws m) out' a c
 
--- the cut of a name-keyed one by the glyphs in their order
+-- and by what they are written from
 pub named-cut-of : (p : Program) (coded : Coded) (name order : List ℕ) (q : Pruned) (a : Answer) → a ≡ answerOf (namedOutcome p coded name order 67108864 q)
     → Cut (namedOutcome p coded name order (length lent) q) lent (leavesOut (namedOutcome p coded name order (length lent) q) lent) a
 named-cut-of p coded name order q a e = as-cut (λ (m : ℕ). namedOutcome p coded name order m q) a e

@@ -3,25 +3,26 @@ use Prim.Native.Nat.{ℕ, _≤_, _<_}
 use mathlib.Core.Path.{_≡_}
 use mathlib.Core.Bool.{false}
 use mathlib.Core.List.{List, [], _∷_, _++_}
-use lib.ListN.{length, drop, getD, set, replicate}
-use Rattle.octets.specs.Lists.{partOf}
+use lib.ListN.{length, drop, set, replicate}
 use Rattle.index.specs.Write.{indexBytes}
 use Rattle.charset.specs.CharsetBytes.{charsetBytes}
 use Rattle.unfold.specs.Unfold.{Row}
 use Rattle.dict.specs.Lookup.{cidKeyed}
 use Rattle.cff.specs.Font.{Program}
-use Rattle.cff.specs.Find.{workSize}
 use Rattle.cff.specs.Reads.{programOf}
-use Rattle.cff.specs.declared.font.Font.{Font}
 use Rattle.subset.specs.Kept.{privateOf}
+use Rattle.subset.specs.Texts.{namesOf}
 use Rattle.subset.specs.Pruned.{Bodies, Pruned}
 use Rattle.subset.specs.Codes.{Coded, codedBytes, codedAt}
-use Rattle.subset.specs.Subset.{privateDict, privatePart, ownByName, oneLocal}
+use Rattle.subset.specs.Subset.{privateDict, privatePart, ownByName, newIds, oneLocal}
 use Rattle.subset.specs.Cut.{Outcome, written}
-use Rattle.kept.specs.Packed.{orderIn}
+use Rattle.small.specs.Small.{smallSize}
+use Rattle.order_window.specs.declared.Order.{Order}
+use Rattle.order_window.specs.Window.{Ordered}
 use Rattle.own_strings.specs.declared.Own.{Own}
+use Rattle.name_strings.specs.Names.{NamesApart}
 use Rattle.fds.specs.Locals.{fdsIn}
-use Rattle.front.specs.Front.{Renamed, SlotsReady, Measured}
+use Rattle.front.specs.Front.{SlotsReady, Measured}
 use Rattle.parts.specs.Ready.{FontHeld, Ready, Summed}
 use Rattle.parts.specs.declared.Planned.{Planned}
 use Rattle.outcome.specs.Layout.{namedCharset, namedCodes, namedCharstrings, namedPrivate, namedEnd}
@@ -33,9 +34,9 @@ use Rattle.encoding.specs.declared.Encoding.{Encoding}
 abbrev pub codedFor : Encoding → List ℕ → Coded
 codedFor e slots = codedIn (e .kind) (drop 16 slots)
 
--- charset, whose ids are k words from n on, and encoding
-abbrev pub namedTables : List ℕ → ℕ → ℕ → Coded → List ℕ
-namedTables ws n k coded = charsetBytes (partOf ws n k) ++ codedBytes coded
+-- charset and encoding of the kept glyphs
+abbrev pub namedTables : Program → List ℕ → Coded → List ℕ
+namedTables p order coded = charsetBytes (newIds (ownByName p order) (namesOf p order)) ++ codedBytes coded
 
 -- charstrings and Private
 abbrev pub namedGlyphs : Program → Bodies → List ℕ
@@ -45,14 +46,14 @@ namedGlyphs p b = indexBytes (b .charstrings) ++ privatePart (privateOf p 0) (on
 abbrev pub namedOutcome : Program → Coded → List ℕ → List ℕ → ℕ → Pruned → Outcome
 namedOutcome p coded name order room q = written p coded name order order room q
 
--- the bodies are planned, those of FD 0 alone, and the new ids of the names stand behind the glyphs
-pub record NamedPlan (b : List ℕ) (f : Font) (rows : List Row) (used ws : List ℕ) (r : Planned) (table totals : List ℕ) : Type 0 where
-  pub keyed : cidKeyed (programOf b f .top) ≡ false
-  pub some : 0 < r .kept .count
-  pub ready : Ready b f rows used ws r table
-  pub summed : Summed b f rows used ws r table totals
+-- the bodies are planned, those of FD 0 alone, and the names of the kept glyphs differ
+pub record NamedPlan (b : List ℕ) (rows : List Row) (used ws : List ℕ) (r : Planned) (table totals : List ℕ) : Type 0 where
+  pub keyed : cidKeyed (programOf b (r .order .f) .top) ≡ false
+  pub some : 0 < r .order .count
+  pub ready : Ready b rows used ws r table
+  pub summed : Summed b rows used ws r table totals
   pub only : fdsIn used ≡ 0 ∷ []
-  pub names : Renamed (programOf b f) (f .charstrings .count) (r .kept .count) ws
+  pub apart : NamesApart b (r .order .f) ws
 
 -- the table of the FDs in use: FD 0 is
 abbrev pub firstFd : List ℕ
@@ -80,11 +81,10 @@ pub record PlacedNamed (p : Program) (coded : Coded) (name order : List ℕ) (b 
   pub private : at .private ≡ namedPrivate p coded name order b
   pub end : at .end ≡ namedEnd p coded name order b
 
--- the words hold the k glyphs of a name-keyed font that are kept, and the new ids of their names behind them
-pub record NamedCut (b : List ℕ) (f : Font) (ws : List ℕ) (k : ℕ) : Type 0 where
-  pub read : FontHeld b f
-  pub keyed : cidKeyed (programOf b f .top) ≡ false
-  pub some : 0 < k
-  pub there : (i : ℕ) → i < k → getD (orderIn k ws) i 0 < length (programOf b f .charstrings)
-  pub names : Renamed (programOf b f) (f .charstrings .count) k ws
-  pub room : workSize (programOf b f) ≤ length ws
+-- the kept glyphs of a name-keyed font, whose names differ, and words for the bits of all subroutines
+pub record NamedCut (b : List ℕ) (o : Order) (ws window : List ℕ) : Type 0 where
+  pub read : FontHeld b (o .f)
+  pub keyed : cidKeyed (programOf b (o .f) .top) ≡ false
+  pub ordered : Ordered b ws window o
+  pub apart : NamesApart b (o .f) ws
+  pub room : smallSize (programOf b (o .f)) ≤ length ws

@@ -1,3 +1,4 @@
 pub mod Window
 pub mod WindowLaws
 pub mod OrderLaws
+pub mod LoopLaws

@@ -7,10 +7,12 @@ ghost use Prim.Native.Nat.{ℕ, _-_, _*_, _≤_, _<_};
 ghost use lib.ListN.{length, getD};
 ghost use Rattle.bits.specs.Bits.{wordsFor, bitIn};
 ghost use Rattle.cff.specs.Reads.{programOf, GoodFont};
+ghost use Rattle.octets.specs.Lists.{allBelow};
+ghost use Rattle.subset.specs.Kept.{keptOf};
 ghost use Rattle.subset.specs.Cut.{allFound};
 ghost use Rattle.order.specs.Order.{keptIn};
 ghost use Rattle.order.specs.Walks.{manyIn, startOf, orderIn, Stands};
-ghost use Rattle.order_window.specs.Window.{Holds};
+ghost use Rattle.order_window.specs.Window.{Holds, Marked, Ordered};
 use cff::font::Font;
 use order::Walk;
 
@@ -18,6 +20,14 @@ use order::Walk;
 pub struct Held {
     pub walk: Walk,
     pub from: usize,
+}
+
+// The kept glyphs of a font in their order: the font as it was read, how many they are, and what the window holds where no loop is under way: all
+// of them, or nothing.
+pub struct Order {
+    pub f: Font,
+    pub count: usize,
+    pub held: Held,
 }
 
 // How many of n glyphs have their bit.
@@ -29,14 +39,37 @@ pub fn count(words: &[u32], n: usize) -> usize
     bits::whole_ones(words, 0, q)
 }
 
-// A window that holds nothing yet.
-pub fn begin(font: &[u8], f: Font, words: &[u32], window: &[u32]) -> Held
-    requires { ⌜ (GoodFont (now font) f) × (wordsFor (manyIn f) ≤ length (now words)) × (allFound (programOf (now font) f) (keptIn (manyIn f) (now words)) ≡ true) ⌝ }
-    ensures { λ r. ⌜ Holds (now (font .entry)) f (now (words .entry)) (now (window .entry)) r ⌝ }
+// The kept glyphs of a font, by their bits: in a window that has room for them all, or else not in it yet.
+pub fn begin(font: &[u8], f: Font, words: &[u32], window: &mut [u32]) -> Order
+    requires { ⌜ (Marked (now font) f (now words)) × (0 < length (now window)) ⌝ }
+    ensures { λ r. ⌜ (Ordered (now (font .entry)) (now (words .entry)) (now (window .exit)) r) × (r .f ≡ f) ⌝ }
 {
+    let charstrings = f.charstrings;
+    let count = count(words, charstrings.count);
     let search = order::searches(font, f, words);
-    let walk = order::start(f, search);
-    Held { walk, from: 0 }
+    let first = order::start(f, search);
+    let walk = order::next(font, f, words, window, first);
+    if walk.done == count {
+        let held = Held { walk, from: 0 };
+        return Order { f, count, held };
+    }
+    let held = Held {
+        walk: first,
+        from: 0,
+    };
+    Order { f, count, held }
+}
+
+// The kept glyphs of a font, by a keep list: their bits come to stand in the first words.
+pub fn gather(font: &[u8], f: Font, keep: &[u16], words: &mut [u32], window: &mut [u32]) -> Order
+    requires { ⌜ (GoodFont (now font) f) × (allBelow (manyIn f) (now keep) ≡ true) × (allFound (programOf (now font) f) (keptOf (manyIn f) (now keep)) ≡ true)
+        × (wordsFor (manyIn f) ≤ length (now words)) × (0 < length (now window)) ⌝ }
+    ensures { λ r. ⌜ (Ordered (now (font .entry)) (now (words .exit)) (now (window .exit)) r) × (r .f ≡ f)
+        × (keptIn (manyIn f) (now (words .exit)) ≡ keptOf (manyIn f) (now (keep .entry))) ⌝ }
+{
+    let charstrings = f.charstrings;
+    order::mark(keep, &mut *words, charstrings.count);
+    begin(font, f, words, window)
 }
 
 // The window with the next words of the order.
@@ -54,7 +87,8 @@ fn moved(font: &[u8], f: Font, words: &[u32], window: &mut [u32], w: Walk) -> He
 pub fn hold(font: &[u8], f: Font, words: &[u32], window: &mut [u32], h: Held, i: usize) -> Held
     requires { ⌜ (GoodFont (now font) f) × (wordsFor (manyIn f) ≤ length (now words)) × (0 < length (now window))
         × (Holds (now font) f (now words) (now window) h) × (i < length (orderIn (now font) f (now words))) × (0 < i → (h .from ≤ i) × (i ≤ h .walk .done)) ⌝ }
-    ensures { λ r. ⌜ (Holds (now (font .entry)) f (now (words .entry)) (now (window .exit)) r) × (r .from ≤ i) × (i < r .walk .done) ⌝ }
+    ensures { λ r. ⌜ (Holds (now (font .entry)) f (now (words .entry)) (now (window .exit)) r) × (r .from ≤ i) × (i < r .walk .done)
+        × (h .from ≤ i → i < h .walk .done → (r ≡ h) × (now (window .exit) ≡ now (window .entry))) ⌝ }
 {
     let walk = h.walk;
     let from = h.from;

@@ -1,6 +1,5 @@
--- Laws of the cut by either keying: what ranking leaves of the work words, what the order of the kept glyphs asks, and what measures ask of a
--- plan.
-use Prim.Native.Nat.{ℕ, zero, suc, _+_, _≤_}
+-- Laws of the cut by either keying: parts of words that stay, what gathering the kept glyphs asks and gives, and what measures ask of a plan.
+use Prim.Native.Nat.{ℕ, zero, suc, _+_, _≤_, _<_}
 use mathlib.Core.Path.{_≡_, refl, sym, ap, _∙_}
 use mathlib.Core.Bool.{true}
 use mathlib.Core.List.{List, [], _∷_}
@@ -10,10 +9,14 @@ use lib.Seq.{take-take}
 use Rattle.octets.specs.Lists.{allBelow}
 use Rattle.index.specs.IndexLaws.{items-length}
 use Rattle.unfold.specs.Unfold.{Row}
-use Rattle.cff.specs.Find.{workSize}
 use Rattle.cff.specs.Reads.{GoodFont, programOf}
 use Rattle.cff.specs.declared.font.Font.{Font}
-use Rattle.subset.specs.Kept.{keptOf}
+use Rattle.subset.specs.Kept.{keptOf, writtenOrder}
+use Rattle.small.specs.Small.{smallSize}
+use Rattle.bits.specs.Bits.{wordsFor}
+use Rattle.order.specs.Order.{keptIn}
+use Rattle.order.specs.Walks.{manyIn}
+use Rattle.order_window.specs.Window.{glyphsOf}
 use Rattle.subset.specs.Cut.{allFound}
 use Rattle.bodies.specs.Ways.{keptCount}
 use Rattle.fds.specs.Locals.{UsedOf}
@@ -37,33 +40,39 @@ part-stays n k m old new h e = sym (part-take n k m new h) ∙ ap (λ (l : List 
 
 -- ---- the order
 
--- what the order of the kept glyphs asks
-pub order-asked : (b : List ℕ) (f : Font) → FontHeld b f → (keep ws : List ℕ) → allBelow (length (programOf b f .charstrings)) keep ≡ true
-    → allFound (programOf b f) (keptOf (length (programOf b f .charstrings)) keep) ≡ true → workSize (programOf b f) ≤ length ws
-    → GoodFont b f × (allBelow (f .charstrings .count) keep ≡ true) × (allFound (programOf b f) (keptOf (f .charstrings .count) keep) ≡ true)
-    × (f .charstrings .count ≤ length ws)
-order-asked b f held keep ws below found words =
-    let many : length (programOf b f .charstrings) ≡ f .charstrings .count = items-length b (f .charstrings) in (
+-- what gathering the kept glyphs asks
+pub gather-asked : (b : List ℕ) (f : Font) → FontHeld b f → (keep ws window : List ℕ) → allBelow (length (programOf b f .charstrings)) keep ≡ true
+    → allFound (programOf b f) (keptOf (length (programOf b f .charstrings)) keep) ≡ true → smallSize (programOf b f) ≤ length ws → 0 < length window
+    → GoodFont b f × (allBelow (manyIn f) keep ≡ true) × (allFound (programOf b f) (keptOf (manyIn f) keep) ≡ true) × (wordsFor (manyIn f) ≤ length ws) × (0 < length window)
+gather-asked b f held keep ws window below found words some =
+    let many : length (programOf b f .charstrings) ≡ manyIn f = items-length b (f .charstrings) in
+    let wide : wordsFor (length (programOf b f .charstrings)) ≡ wordsFor (manyIn f) = ap wordsFor many in (
       held .font,
       ap (λ (m : ℕ). allBelow m keep) (sym many) ∙ below,
       ap (λ (m : ℕ). allFound (programOf b f) (keptOf m keep)) (sym many) ∙ found,
-      omega (arith, words, many),
+      omega (arith, words, wide),
+      some,
     )
+
+-- the glyphs that are gathered are the kept ones as they are written
+pub gathered-order : (b : List ℕ) (f : Font) (keep ws : List ℕ) → keptIn (manyIn f) ws ≡ keptOf (manyIn f) keep
+    → glyphsOf b f ws ≡ writtenOrder (programOf b f) (keptOf (length (programOf b f .charstrings)) keep)
+gathered-order b f keep ws e = ap (writtenOrder (programOf b f)) (e ∙ ap (λ (m : ℕ). keptOf m keep) (sym (items-length b (f .charstrings))))
 
 -- ---- measures
 
-module _ (b : List ℕ) (f : Font) (rows : List Row) (used ws table : List ℕ) (r : Planned) (ready : Ready b f rows used ws r table) where
+module _ (b : List ℕ) (rows : List Row) (used ws table : List ℕ) (r : Planned) (ready : Ready b rows used ws r table) where
   -- the INDEXes of the globals and of the charstrings can be measured
-  pub globals-measured : (keptCount (r .kept .way) (r .kept .globals .reached) (r .kept .globals .count) ≤ 65535) × (r .«globals_total» ≤ 281474976710656)
-  globals-measured = (globals-few b f rows used ws table r ready, omega (arith, ready .globalsFew))
+  pub globals-measured : (keptCount (r .how .way) (r .how .globals .reached) (r .how .globals .count) ≤ 65535) × (r .«globals_total» ≤ 281474976710656)
+  globals-measured = (globals-few b rows used ws table r ready, omega (arith, ready .globalsFew))
 
-  pub glyphs-measured : (r .kept .count ≤ 65535) × (r .«glyphs_total» ≤ 281474976710656)
-  glyphs-measured = (omega (arith, ready .asked .glyphs .keptFew), omega (arith, ready .glyphsFew))
+  pub glyphs-measured : (r .order .count ≤ 65535) × (r .«glyphs_total» ≤ 281474976710656)
+  glyphs-measured = (omega (arith, ready .few), omega (arith, ready .glyphsFew))
 
   -- and so can the Private parts
-  pub parts-measured : (totals : List ℕ) → Summed b f rows used ws r table totals → (sizes lens : ℕ) → 256 ≤ sizes → 256 ≤ lens
-      → (length b ≤ 67108864) × GoodFont b f × (256 ≤ length used) × UsedOf (length (programOf b f .privates)) used
-      × (1280 ≤ length table) × (256 ≤ length totals) × PartsFit (programOf b f) (r .kept .way) table totals used
+  pub parts-measured : (totals : List ℕ) → Summed b rows used ws r table totals → (sizes lens : ℕ) → 256 ≤ sizes → 256 ≤ lens
+      → (length b ≤ 67108864) × GoodFont b (r .order .f) × (256 ≤ length used) × UsedOf (length (programOf b (r .order .f) .privates)) used
+      × (1280 ≤ length table) × (256 ≤ length totals) × PartsFit (programOf b (r .order .f)) (r .how .way) table totals used
       × (256 ≤ sizes) × (256 ≤ lens)
   parts-measured totals summed sizes lens s l =
       let h = ready .asked .locals in (
@@ -73,7 +82,7 @@ module _ (b : List ℕ) (f : Font) (rows : List Row) (used ws table : List ℕ) 
         h .fds,
         h .tableLong,
         summed .long,
-        parts-fit b f rows used ws table r ready totals summed,
+        parts-fit b rows used ws table r ready totals summed,
         s,
         l,
       )

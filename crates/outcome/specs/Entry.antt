@@ -15,7 +15,8 @@ use Rattle.cff.specs.Find.{workSize}
 use Rattle.subset.specs.Kept.{keptOf, writtenOrder, usedFds}
 use Rattle.subset.specs.Pruned.{pruned}
 use Rattle.subset.specs.Codes.{codedIf}
-use Rattle.subset.specs.Cut.{Outcome, refused, subset, allFound, hasRos, sameBool, ownOf, written, unsupportedIn, cutOf, leavesOut, leavesWork}
+use Rattle.subset.specs.Cut.{Outcome, refused, subset, allFound, hasRos, sameBool, ownOf, written, unsupportedIn, cutWith, leavesOut, leavesWork}
+use Rattle.small.specs.Small.{smallSize}
 use Rattle.faithful.specs.Faithful.{Faithful}
 use Rattle.faithful.specs.Codes.{KeepsCodes}
 use Rattle.outcome.specs.declared.Answer.{Answer}
@@ -26,24 +27,37 @@ abbrev pub answerOf : Outcome → Answer
 answerOf (refused n) = Refused n
 answerOf (subset way bs) = Subset way (length bs)
 
--- W of a font
-abbrev pub workIn : Got Program → ℕ
-workIn (refusedFont n) = 0
-workIn (got p) = workSize p
+-- how many work words a call asks for: the small one (document 02, Wish 10), or the other
+abbrev pub sizeOf : Bool → Program → ℕ
+sizeOf true = smallSize
+sizeOf false = workSize
 
--- a call on these inputs, with these work words and this output before and after, answered r
-pub record Cuts (cid ask : Bool) (font name keep rec : List ℕ) (flag : ℕ) (work out work' out' : List ℕ) (r : Answer) : Type 0 where
-  pub answers : r ≡ answerOf (cutOf cid ask font name keep rec flag (length work) (length out))
-  pub output : out' ≡ leavesOut (cutOf cid ask font name keep rec flag (length work) (length out)) out
-  pub words : work' ≡ leavesWork (cutOf cid ask font name keep rec flag (length work) (length out)) (workIn (readFont font)) work
-  pub faithful : Faithful font keep rec flag (cutOf cid ask font name keep rec flag (length work) (length out))
-  pub codes : KeepsCodes ask font keep (cutOf cid ask font name keep rec flag (length work) (length out))
+-- W of a font, for a call that asks for so many
+abbrev pub workIn : (Program → ℕ) → Got Program → ℕ
+workIn size (refusedFont n) = 0
+workIn size (got p) = size p
+
+-- a call that asks for so many words, on these inputs, with these work words and this output before and after, answered r
+pub record CutsWith (size : Program → ℕ) (cid ask : Bool) (font name keep rec : List ℕ) (flag : ℕ) (work out work' out' : List ℕ) (r : Answer) : Type 0 where
+  pub answers : r ≡ answerOf (cutWith size cid ask font name keep rec flag (length work) (length out))
+  pub output : out' ≡ leavesOut (cutWith size cid ask font name keep rec flag (length work) (length out)) out
+  pub words : work' ≡ leavesWork (cutWith size cid ask font name keep rec flag (length work) (length out)) (workIn size (readFont font)) work
+  pub faithful : Faithful font keep rec flag (cutWith size cid ask font name keep rec flag (length work) (length out))
+  pub codes : KeepsCodes ask font keep (cutWith size cid ask font name keep rec flag (length work) (length out))
+
+-- the call of document 01
+abbrev pub Cuts : Bool → Bool → List ℕ → List ℕ → List ℕ → List ℕ → ℕ → List ℕ → List ℕ → List ℕ → List ℕ → Answer → Type 0
+Cuts = CutsWith workSize
+
+-- the small call
+abbrev pub CutsSmall : Bool → Bool → List ℕ → List ℕ → List ℕ → List ℕ → ℕ → List ℕ → List ℕ → List ℕ → List ℕ → Answer → Type 0
+CutsSmall = CutsWith smallSize
 
 -- ---- the refusals before the work words are used
 
 -- those of a font that was read: 3 (the keying), 3 (stroked, or an Expert encoding that is not asked for), 2, 4, 6, 7, 8, 9 in this order, or 0
-unfoldable pub refusalOf : Bool → Bool → Program → ℕ → List ℕ → List ℕ → ℕ → ℕ → ℕ
-refusalOf cid ask p name keep rec flag words =
+unfoldable pub refusalOf : (Program → ℕ) → Bool → Bool → Program → ℕ → List ℕ → List ℕ → ℕ → ℕ → ℕ
+refusalOf size cid ask p name keep rec flag words =
     pick (sameBool cid (cidKeyed (p .top)))
     (pick (unsupportedIn ask p) 3
     (pick (pick cid (hasRos (rosIn (p .top))) true)
@@ -51,7 +65,7 @@ refusalOf cid ask p name keep rec flag words =
     (pick (allBelow (length (p .charstrings)) keep)
     (pick (allFound p (keptOf (length (p .charstrings)) keep))
     (pick (recordFine cid rec flag)
-    (pick (ltb words (workSize p)) 9 0) 8) 7) 6)) 2)) 3
+    (pick (ltb words (size p)) 9 0) 8) 7) 6)) 2)) 3
 
 -- ---- what the cut of a font that passes them does
 
@@ -66,7 +80,7 @@ pub record Cut (o : Outcome) (out out' : List ℕ) (r : Answer) : Type 0 where
   pub answers : r ≡ answerOf o
   pub output : out' ≡ leavesOut o out
 
--- a font, a new name, a keep list, a record and a flag that are not refused before the cut
+-- a font, a new name, a keep list, a record and a flag that are not refused before the cut, and words enough for the small call
 pub record Passed (cid ask : Bool) (p : Program) (name : ℕ) (keep rec : List ℕ) (flag words : ℕ) : Type 0 where
   pub keying : cid ≡ cidKeyed (p .top)
   pub supported : unsupportedIn ask p ≡ false
@@ -75,4 +89,4 @@ pub record Passed (cid ask : Bool) (p : Program) (name : ℕ) (keep rec : List �
   pub below : allBelow (length (p .charstrings)) keep ≡ true
   pub found : allFound p (keptOf (length (p .charstrings)) keep) ≡ true
   pub recorded : recordFine cid rec flag ≡ true
-  pub room : workSize p ≤ words
+  pub room : smallSize p ≤ words

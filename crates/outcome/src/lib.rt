@@ -1,6 +1,5 @@
 // What a call answers and leaves (specs/Entry.antt), where the parts of a subset stand (Layout.antt), and the outcome by the tests of the code:
 // what both cuts and the entries share.
-use cff::font::Font;
 use own_strings::Own;
 use parts::Planned;
 
@@ -10,9 +9,8 @@ pub enum Answer {
     Subset { way: u8, len: usize },
 }
 
-// What is prepared of a cut: the font as it was read, the plan of its bodies, its own strings, and how many FDs are in use.
+// What is prepared of a cut: the plan of its bodies, its own strings, and how many FDs are in use.
 pub struct Prepared {
-    pub f: Font,
     pub plan: Planned,
     pub own: Own,
     pub count: usize,

@@ -1,8 +1,7 @@
--- Laws of the two loops that give new ids: to the eight slots, and to the names of glyphs; and what they leave for later functions.
-use Prim.Native.Nat.{ℕ, _+_, _-_, _*_, _/_, _<_, _≤_}
+-- Laws of the loop that gives new ids to the eight slots, and what it leaves for later functions.
+use Prim.Native.Nat.{ℕ, _+_, _*_, _<_, _≤_}
 use mathlib.Core.Path.{_≡_, refl, sym, ap, _∙_}
-use mathlib.Core.Bool.{Bool, true, false}
-use mathlib.Core.List.{List, [], _++_}
+use mathlib.Core.List.{List, []}
 use native.Mathlib.Omega.{arith}
 use lib.ListN.{length, take, drop, getD, set}
 use lib.Seq.{take-take, take-all, getD-take, length-take-le, take-at}
@@ -11,17 +10,14 @@ use Rattle.octets.specs.PutLaws.{put-length, put-next, put-all, put-nil, drop-p
 use Rattle.index.specs.Index.{itemsOf}
 use Rattle.index.specs.Write.{total}
 use Rattle.index.specs.declared.Index.{Index}
-use Rattle.strings.specs.Strings.{stringText, sidOf}
-use Rattle.strings.specs.declared.Sid.the-variants.{Other}
-use Rattle.subset.specs.Texts.{hasText, ownStrings}
-use Rattle.subset.specs.Subset.{newIds}
+use Rattle.strings.specs.Strings.{stringText}
+use Rattle.subset.specs.Texts.{ownStrings}
 use Rattle.own_strings.specs.declared.Own.{Own}
-use Rattle.own_strings.specs.Slots.{slotTexts, slotId, slotIds, wordNames, wordIds, ownOf, slotsOwn, allOwn, givenId, counted}
-use Rattle.own_strings.specs.Ready.{HasStrings, SlotsGiven, NamesReady, NamesGiven}
-use Rattle.subset.specs.TextsLaws.{has-left, ids-length as new-ids-length}
-use Rattle.own_strings.specs.OwnLaws.{has-second, own-append, own-same}
+use Rattle.own_strings.specs.Slots.{slotTexts, slotId, slotIds, ownOf, slotsOwn, givenId, counted}
+use Rattle.own_strings.specs.Ready.{HasStrings, SlotsGiven}
+use Rattle.own_strings.specs.OwnLaws.{own-same}
 use Rattle.own_strings.specs.TurnLaws.{text-short}
-use Rattle.own_strings.specs.StageLaws.{own-bound, ids-length, ids-at, slot-keeps, words-take, names-slots, new-ids-slots, word-ids-length, word-ids-at, names-at, names-length, names-take, take-front, read-behind, turn-id, turn-own, turn-below}
+use Rattle.own_strings.specs.StageLaws.{own-bound, ids-length, ids-at, slot-keeps, take-front, read-behind, turn-id, turn-own}
 
 -- ---- the slots
 
@@ -124,8 +120,6 @@ slots-given strings old now room e =
     let s : slotsOwn strings now ≡ slotsOwn strings old = ap (λ (x : List ℕ). ownStrings [] (slotTexts strings x)) f in
     (record { room = omega (arith, m); ids = d ∙ rw (s, f) }, s)
 
--- ---- the names
-
 -- the ids that slots were given, all own strings being there
 pub slots-known : (strings : List (List ℕ)) (slots : List ℕ) → SlotsGiven strings slots → (ts : List (List ℕ)) (i : ℕ) → i < 8
     → getD (drop 8 slots) i 0 ≡ slotId (ownStrings (slotsOwn strings slots) ts) strings (getD (take 8 slots) i 0)
@@ -134,143 +128,3 @@ slots-known strings slots g ts i h =
     let k : i < length (take 8 slots) = omega (arith, n) in
     sym (getD-take 8 (drop 8 slots) i 0 h) ∙ ap (λ (x : List ℕ). getD x i 0) (g .ids) ∙ ids-at (slotsOwn strings slots) strings (take 8 slots) i k
     ∙ sym (slot-keeps strings (take 8 slots) ts i k)
-
--- before the name of glyph i, all names being slots
-pub record NameTurn (strings : List (List ℕ)) (slots old now : List ℕ) (n k : ℕ) (own : Own) (i : ℕ) : Type 0 where
-  pub within : i ≤ k
-  pub is : now ≡ put old n (take i (slotIds (ownStrings (slotsOwn strings slots) (slotTexts strings (wordIds (take k old)))) strings (wordIds (take k old))))
-  pub counts : own ≡ ownOf (ownStrings (slotsOwn strings slots) (slotTexts strings (take i (wordIds (take k old)))))
-
-module _ (b : List ℕ) (ix : Index) (has : HasStrings b ix) (slots : List ℕ) (g : SlotsGiven (itemsOf b ix) slots) (old : List ℕ) (n k : ℕ)
-    (ready : NamesReady (itemsOf b ix) old n k) where
-  abbrev T : List (List ℕ)
-  T = itemsOf b ix
-
-  abbrev first : List (List ℕ)
-  first = slotsOwn T slots
-
-  abbrev xs : List ℕ
-  xs = wordIds (take k old)
-
-  abbrev all : List (List ℕ)
-  all = ownStrings first (slotTexts T xs)
-
-  abbrev new : List ℕ
-  new = slotIds all T xs
-
-  words-many : length (take k old) ≡ k
-  words-many = length-take-le k old (omega (arith, ready .room))
-
-  many : length xs ≡ k
-  many = word-ids-length (take k old) ∙ words-many
-
-  new-many : length new ≡ k
-  new-many = ids-length all T xs ∙ many
-
-  pub name-start : (own : Own) → own ≡ ownOf first → NameTurn T slots old old n k own 0
-  unfolding slotTexts ownStrings
-  name-start own e = record { within = omega arith; is = sym (put-nil old n); counts = e }
-
-  pub name-end : ((i : ℕ) → getD old i 0 < 4294967296) → (now : List ℕ) (own : Own) (i : ℕ) → NameTurn T slots old now n k own i → k ≤ i
-      → (now ≡ put old n (newIds (allOwn T slots (take k old)) (wordNames T (take k old)))) × (own ≡ ownOf (allOwn T slots (take k old)))
-  name-end fits now own i t h =
-      let w = words-take old k (omega (arith, ready .room)) fits in
-      let e : all ≡ allOwn T slots (take k old) = ap (ownStrings first) (sym (names-slots T (take k old) w)) in (
-        t .is ∙ put-all old n new i (omega (arith, new-many)) ∙ ap (put old n) (ap (λ (a : List (List ℕ)). slotIds a T xs) e ∙ sym (new-ids-slots (allOwn T slots (take k old)) T (take k old) w)),
-        t .counts ∙ ap (λ (x : List ℕ). ownOf (ownStrings first (slotTexts T x))) (take-all i xs (omega (arith, many))) ∙ ap ownOf e,
-      )
-
-  module _ (now : List ℕ) (own : Own) (i : ℕ) (t : NameTurn T slots old now n k own i) where
-    name-part : length (take i new) ≡ i
-    name-part = length-take-le i new (omega (arith, new-many, t .within))
-
-    pub name-length : length now ≡ length old
-    name-length = ap length (t .is) ∙ put-length old n (take i new) (omega (arith, name-part, t .within, ready .room))
-
-    stage-bound : (length (ownStrings first (slotTexts T (take i xs))) ≤ 8 + i) × (total (ownStrings first (slotTexts T (take i xs))) ≤ (8 + i) * 67108864)
-    unfolding total
-    stage-bound =
-        let f = own-bound T (text-short b ix has) [] (take 8 slots) in
-        let h = own-bound T (text-short b ix has) first (take i xs) in
-        let p : length (take 8 slots) ≡ 8 = length-take-le 8 slots (omega (arith, g .room)) in
-        let q : length (take i xs) ≡ i = length-take-le i xs (omega (arith, many, t .within)) in
-        within p q f h
-      where
-        within : length (take 8 slots) ≡ 8 → length (take i xs) ≡ i
-            → (length first ≤ 0 + length (take 8 slots)) × (total first ≤ 0 + length (take 8 slots) * 67108864)
-            → (length (ownStrings first (slotTexts T (take i xs))) ≤ length first + length (take i xs)) × (total (ownStrings first (slotTexts T (take i xs))) ≤ total first + length (take i xs) * 67108864)
-            → (length (ownStrings first (slotTexts T (take i xs))) ≤ 8 + i) × (total (ownStrings first (slotTexts T (take i xs))) ≤ (8 + i) * 67108864)
-        within p q f h = (omega (arith, p, q, f .0, h .0), omega (arith, p, q, f .1, h .1))
-
-    -- few own strings, and short
-    pub name-bound : (own .count ≤ 65544) × (own .total ≤ 4398583382016)
-    name-bound =
-        let c = ap (λ (o : Own). o .count) (t .counts) in
-        let s = ap (λ (o : Own). o .total) (t .counts) in
-        (omega (arith, c, stage-bound .0, t .within, ready .few), omega (arith, s, stage-bound .1, t .within, ready .few))
-
-    module _ (h : i < k) (fits : (i : ℕ) → getD old i 0 < 4294967296) (id : ℕ)
-        (gives : id ≡ givenId T (take 8 slots) (drop 8 slots) (own .count) (getD now i 0 / 65536)) where
-      name-inside : i < length xs
-      name-inside = omega (arith, many)
-
-      name-reads : getD now i 0 / 65536 ≡ getD xs i 0
-      name-reads =
-          let m : getD now i 0 ≡ getD (take k old) i 0 =
-          ap (λ (x : List ℕ). getD x i 0) (t .is) ∙ put-before old n (take i new) (omega (arith, ready .room)) i (omega (arith, ready .front)) ∙ sym (getD-take k old i 0 h) in
-          ap (λ (w : ℕ). w / 65536) m ∙ sym (word-ids-at (take k old) i (omega (arith, words-many)))
-
-      name-known : (j : ℕ) → j < length (take 8 slots) → getD (drop 8 slots) j 0 ≡ slotId all T (getD (take 8 slots) j 0)
-      name-known j l = slots-known T slots g (slotTexts T xs) j (omega (arith, length-take-le 8 slots (omega (arith, g .room))))
-
-      -- the name is not among those before it
-      apart : hasText (stringText T (getD xs i 0)) (slotTexts T (take i xs)) ≡ false
-      apart =
-          let w = words-take old k (omega (arith, ready .room)) fits in
-          let d = ready .different .apart i (omega (arith, names-length T (take k old), words-many)) in
-          ap (λ (x : List ℕ). hasText x (slotTexts T (take i xs))) (sym (names-at T (take k old) i (omega (arith, words-many))))
-          ∙ ap (hasText (getD (wordNames T (take k old)) i [])) (sym (names-take T i (take k old) w)) ∙ d
-
-      name-among : sidOf (stringText T (getD xs i 0)) ≡ Other
-          → hasText (stringText T (getD xs i 0)) (ownStrings first (slotTexts T (take i xs))) ≡ hasText (stringText T (getD xs i 0)) (slotTexts T (take 8 slots))
-      name-among o =
-          let t = stringText T (getD xs i 0) in
-          ap (hasText t) (sym (own-append [] (slotTexts T (take 8 slots)) (slotTexts T (take i xs))))
-          ∙ own-same t (slotTexts T (take 8 slots) ++ slotTexts T (take i xs)) o
-          ∙ only-first t (slotTexts T (take 8 slots)) (slotTexts T (take i xs)) apart (hasText t (slotTexts T (take 8 slots))) refl
-        where
-          only-first : (t : List ℕ) (ts us : List (List ℕ)) → hasText t us ≡ false → (b : Bool) → hasText t ts ≡ b → hasText t (ts ++ us) ≡ hasText t ts
-          only-first t ts us f true e = has-left t ts us e ∙ sym e
-          only-first t ts us f false e = has-second t ts us e ∙ f ∙ sym e
-
-      name-id : id ≡ slotId all T (getD xs i 0)
-      name-id = turn-id T first xs i name-inside (take 8 slots) (drop 8 slots) name-among name-known own (t .counts) (getD now i 0 / 65536) name-reads id gives
-
-      pub name-below : id ≤ 65935
-      name-below =
-          let e = turn-below T first xs i name-inside (take 8 slots) (drop 8 slots) name-among name-known own (t .counts) (getD now i 0 / 65536) name-reads id gives in
-          omega (arith, e, stage-bound .0, ready .few)
-
-      pub name-turn : (after : Own) → after ≡ counted T own (getD now i 0 / 65536) id → NameTurn T slots old (set now (n + i) id) n k after (i + 1)
-      name-turn after e =
-          record {
-            within = omega arith;
-            is =
-                ap (λ (x : List ℕ). set x (n + i) id) (t .is) ∙ ap (set (put old n (take i new)) (n + i)) (name-id ∙ sym (ids-at all T xs i name-inside))
-                ∙ put-next old n new i (omega (arith, ready .room)) (omega (arith, new-many));
-            counts = turn-own T first xs i name-inside (take 8 slots) (drop 8 slots) name-among name-known own (t .counts) (getD now i 0 / 65536) name-reads id gives after e;
-          }
-
--- what stands then
-pub names-given : (strings : List (List ℕ)) (slots old now : List ℕ) (n k : ℕ) → NamesReady strings old n k
-    → now ≡ put old n (newIds (allOwn strings slots (take k old)) (wordNames strings (take k old)))
-    → NamesGiven strings slots now n k × (take k now ≡ take k old)
-names-given strings slots old now n k ready e =
-    let ids = newIds (allOwn strings slots (take k old)) (wordNames strings (take k old)) in
-    let m : length ids ≡ k = new-ids-length (allOwn strings slots (take k old)) (wordNames strings (take k old)) ∙ names-length strings (take k old)
-    ∙ length-take-le k old (omega (arith, ready .room)) in
-    let within : n ≤ length old = omega (arith, ready .room) in
-    let f : take k now ≡ take k old = ap (take k) e ∙ take-front old n ids within k (ready .front) in
-    let l : length now ≡ length old = ap length e ∙ put-length old n ids (omega (arith, m, ready .room)) in
-    let d : take k (drop n now) ≡ ids = ap (λ (x : List ℕ). take k (drop n x)) e ∙ ap (take k) (drop-put-at old n ids within) ∙ take-at ids (drop (n + length ids) old) k m in
-    (record { few = ready .few; front = ready .front; room = omega (arith, l, ready .room); ids = d ∙ rw f }, f)

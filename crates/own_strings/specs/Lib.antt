@@ -6,4 +6,3 @@ pub mod SlotLaws
 pub mod TurnLaws
 pub mod StageLaws
 pub mod IdsLaws
-pub mod WriteLaws

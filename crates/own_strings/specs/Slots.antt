@@ -1,6 +1,6 @@
 -- The string ids that the top DICT of a subset uses (document 01, 'Layout'): eight slots, registry and ordering of ROS and then the six
 -- string entries; 65536, which is no string id, stands where there is none. And what the code gives and counts as it passes over string ids.
-use Prim.Native.Nat.{ℕ, _+_, _-_, _/_, _<_}
+use Prim.Native.Nat.{ℕ, _+_, _/_, _<_}
 use mathlib.Core.Path.{_≡_}
 use mathlib.Core.Bool.{Bool, false}
 use mathlib.Core.List.{List, [], _∷_, _++_}
@@ -19,7 +19,6 @@ use Rattle.strings.specs.declared.Sid.{Sid}
 use Rattle.strings.specs.declared.Sid.the-variants.{Standard, Other}
 use Rattle.subset.specs.Texts.{hasText, ownStrings, newId, slotOf}
 use Rattle.own_strings.specs.declared.Own.{Own}
-use Rattle.own_strings.specs.declared.Use.{Use}
 
 -- ---- slots
 
@@ -117,9 +116,3 @@ unfoldable pub counted : List (List ℕ) → Own → ℕ → ℕ → Own
 counted strings own x id =
     pick (ltb x 391) own
     (pick (eqb id (391 + own .count)) (record { count = own .count + 1; total = own .total + length (stringText strings x) }) own)
-
--- a string id that is used and its new id: a slot, or the word of a glyph
-abbrev pub useAt : List ℕ → List ℕ → ℕ → ℕ → Use
-useAt slots words n j =
-    pick (ltb j 8) (record { sid = getD slots j 0; id = getD slots (8 + j) 0 })
-    (record { sid = getD words (j - 8) 0 / 65536; id = getD words (n + (j - 8)) 0 })

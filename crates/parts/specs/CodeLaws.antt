@@ -9,26 +9,24 @@ use lib.Dec.{eqb}
 use lib.ListN.{length, getD}
 use Rattle.octets.specs.Pick.{pick-ind}
 use Rattle.octets.specs.PickLaws.{both-hold}
-use Rattle.index.specs.Index.{itemsOf}
 use Rattle.index.specs.Write.{total, indexBytes, indexLen}
 use Rattle.index.specs.WriteLaws.{length-index, total-within}
-use Rattle.index.specs.declared.Index.{Index}
 use Rattle.unfold.specs.Unfold.{Row, glyph, global}
 use Rattle.cff.specs.Font.{Program}
 use Rattle.cff.specs.Reads.{programOf}
-use Rattle.cff.specs.declared.font.Font.{Font}
 use Rattle.bits.specs.Bits.{countBelow}
 use Rattle.subset.specs.Pruned.{May, mapped, globalSet, callsIn}
 use Rattle.subset.specs.EachLaws.{length-mapped}
-use Rattle.kept.specs.Packed.{orderIn}
+use Rattle.order_window.specs.Window.{glyphsOf}
+use Rattle.glyph_bodies.specs.Charstrings.{CharstringsIn, charstringsFrom}
 use Rattle.renumber.specs.Ranks.{callsBy}
 use Rattle.renumber.specs.declared.Ranks.{Ranks}
-use Rattle.bodies.specs.Ways.{Room, manyOf, holds, newBody, bodyBy, newSubrs, charstringsBy, keptCount, reachedIn}
+use Rattle.bodies.specs.Ways.{Room, manyOf, holds, newBody, bodyBy, newSubrs, keptCount, reachedIn}
 use Rattle.bodies.specs.Pruning.{allHold, bodiesBy}
 use Rattle.bodies.specs.RecordLaws.{reached-told}
-use Rattle.bodies.specs.Sources.{Sourced, subrsFrom, newSubrsFrom, KeptIn, charstringsFrom, newCharstringsFrom}
+use Rattle.bodies.specs.Sources.{Sourced, subrsFrom, newSubrsFrom}
 use Rattle.bodies.specs.SubrsLaws.{new-subrs-is, new-body-is, new-subrs-many}
-use Rattle.bodies.specs.WaysLaws.{mapped-bodies, new-charstrings-is}
+use Rattle.bodies.specs.WaysLaws.{mapped-bodies}
 use Rattle.bodies.specs.declared.subrs.Source.{Source}
 use Rattle.bodies.specs.declared.subrs.Subrs.the-variants.{Global}
 use Rattle.fds.specs.Locals.{fdsIn}
@@ -57,24 +55,24 @@ length-by : (items : List (List ℕ)) (count sum : ℕ) → count ≡ length ite
 length-by items count sum many is =
     ap (λ (n : ℕ). indexLen n sum) many ∙ ap (indexLen (length items)) is ∙ sym (length-index items)
 
-module _ (b : List ℕ) (f : Font) (rows : List Row) (used ws table : List ℕ) (r : Planned) (ready : Ready b f rows used ws r table) where
+module _ (b : List ℕ) (rows : List Row) (used ws table : List ℕ) (r : Planned) (ready : Ready b rows used ws r table) where
   abbrev p : Program
-  p = programOf b f
+  p = programOf b (r .order .f)
 
   abbrev way : ℕ
-  way = r .kept .way
+  way = r .how .way
 
   abbrev own : Ranks
-  own = r .kept .globals
+  own = r .how .globals
 
   abbrev across : Ranks
   across = acrossBy table (fdsIn used)
 
   abbrev theGlobals : May (List (List ℕ))
-  theGlobals = globalsBy way p rows (r .kept .cid) ws used table own (r .kept .count)
+  theGlobals = globalsBy way p rows ws used table own (glyphsOf b (r .order .f) ws)
 
   abbrev theGlyphs : May (List (List ℕ))
-  theGlyphs = glyphsBy way p rows (r .kept .cid) ws used table own (r .kept .count)
+  theGlyphs = glyphsBy way p rows ws used table own (glyphsOf b (r .order .f) ws)
 
   -- neither fails
   globals-hold : holds theGlobals ≡ true
@@ -87,17 +85,17 @@ module _ (b : List ℕ) (f : Font) (rows : List Row) (used ws table : List ℕ) 
 
   -- ---- globals
 
-  pub globals-few : keptCount (r .kept .way) (r .kept .globals .reached) (r .kept .globals .count) ≤ 65535
+  pub globals-few : keptCount (r .how .way) (r .how .globals .reached) (r .how .globals .count) ≤ 65535
   globals-few =
       let s = ready .asked .subrs .globalRanks in
       pick-ind (λ (n : ℕ). n ≤ 65535) (eqb way 0) (own .reached) (own .count) (λ e. omega (arith, s .fewReached)) (λ e. omega (arith, s .few))
 
-  many-are : manyOf theGlobals ≡ bodiesFor b f rows used ws r .globals
+  many-are : manyOf theGlobals ≡ bodiesFor b rows used ws r .globals
   many-are =
-      new-globals p (ready .read .program) rows (ready .narrow) used ws own table (ready .ranked) (r .kept .cid) (r .kept .count)
-      (orderIn (r .kept .count) ws) (ready .order) way (ready .numbered)
+      new-globals p (ready .read .program) rows (ready .narrow) used ws own table (ready .ranked)
+      (glyphsOf b (r .order .f) ws) (ready .within) way (ready .numbered)
 
-  new-are : newSubrs way rows (reachedIn ws own) (callsBy ws across own) global (p .globals) ≡ bodiesFor b f rows used ws r .globals
+  new-are : newSubrs way rows (reachedIn ws own) (callsBy ws across own) global (p .globals) ≡ bodiesFor b rows used ws r .globals
   new-are = new-subrs-is way rows (reachedIn ws own) (callsBy ws across own) global (p .globals) ∙ many-are
 
   -- the number reached, as the words tell it
@@ -106,31 +104,31 @@ module _ (b : List ℕ) (f : Font) (rows : List Row) (used ws table : List ℕ) 
       let s = ready .ranked .globalRanks in
       reached-told ws own (globalSet rows) (λ k h. stands-reached ws own (globalSet rows) (length (p .globals)) s k (omega (arith, s .many))) (s .reaches)
 
-  globals-many : keptCount way (own .reached) (own .count) ≡ length (bodiesFor b f rows used ws r .globals)
+  globals-many : keptCount way (own .reached) (own .count) ≡ length (bodiesFor b rows used ws r .globals)
   globals-many =
       let s = ready .asked .subrs in
       ap (λ (n : ℕ). keptCount way n (own .count)) reached-are
       ∙ ap (λ (n : ℕ). keptCount way (countBelow (reachedIn ws own) n) n) (s .many)
-      ∙ sym (new-subrs-many way b ws (f .globals) own across own rows (r .kept .rising) Global s (callsBy ws across own) global globals-hold)
+      ∙ sym (new-subrs-many way b ws (r .order .f .globals) own across own rows (r .how .rising) Global s (callsBy ws across own) global globals-hold)
       ∙ ap length new-are
 
-  pub globals-long : indexLen (keptCount (r .kept .way) (r .kept .globals .reached) (r .kept .globals .count)) (r .«globals_total»)
-      ≡ length (indexBytes (bodiesFor b f rows used ws r .globals))
-  globals-long = length-by (bodiesFor b f rows used ws r .globals) _ _ globals-many (ready .globalsTotal)
+  pub globals-long : indexLen (keptCount (r .how .way) (r .how .globals .reached) (r .how .globals .count)) (r .«globals_total»)
+      ≡ length (indexBytes (bodiesFor b rows used ws r .globals))
+  globals-long = length-by (bodiesFor b rows used ws r .globals) _ _ globals-many (ready .globalsTotal)
 
   module _ (from : Source)
       (is : from
       ≡ record {
-        way = r .kept .way;
+        way = r .how .way;
         of = Global;
-        ix = f .globals;
-        own = r .kept .globals;
+        ix = r .order .f .globals;
+        own = r .how .globals;
         locals = acrossBy table (fdsIn used);
-        globals = r .kept .globals;
-        rising = r .kept .rising;
+        globals = r .how .globals;
+        rising = r .how .rising;
       }) where
-    pub globals-asked : (at room : ℕ) → at + length (indexBytes (bodiesFor b f rows used ws r .globals)) ≤ 67108864
-        → at + length (indexBytes (bodiesFor b f rows used ws r .globals)) ≤ room
+    pub globals-asked : (at room : ℕ) → at + length (indexBytes (bodiesFor b rows used ws r .globals)) ≤ 67108864
+        → at + length (indexBytes (bodiesFor b rows used ws r .globals)) ≤ room
         → Sourced from rows ws b × (from .own .reached ≡ countBelow (reachedIn ws (from .own)) (from .own .count))
         × Room (subrsFrom from rows ws b) (r .«globals_total») at room
     globals-asked at room small fits =
@@ -138,50 +136,41 @@ module _ (b : List ℕ) (f : Font) (rows : List Row) (used ws table : List ℕ) 
         × Room (subrsFrom s rows ws b) (r .«globals_total») at room) (sym is) (
           ready .asked .subrs,
           reached-are,
-          room-for theGlobals (bodiesFor b f rows used ws r .globals) (r .«globals_total») at room globals-hold many-are (ready .globalsTotal) small fits,
+          room-for theGlobals (bodiesFor b rows used ws r .globals) (r .«globals_total») at room globals-hold many-are (ready .globalsTotal) small fits,
         )
 
-    pub globals-are : newSubrsFrom from rows ws b ≡ bodiesFor b f rows used ws r .globals
+    pub globals-are : newSubrsFrom from rows ws b ≡ bodiesFor b rows used ws r .globals
     globals-are = ap (λ (s : Source). newSubrsFrom s rows ws b) is ∙ new-are
 
   -- ---- charstrings
 
-  -- by the font's own charstrings
-  glyphs-from : charstringsFrom (r .kept) rows ws table b ≡ theGlyphs
-  glyphs-from =
-      ap (λ (n : ℕ). charstringsBy way rows (r .kept .cid) ws n table own (itemsOf b (r .kept .ix)) (r .kept .count)) (ready .asked .all)
-      ∙ ap (λ (ix : Index). charstringsBy way rows (r .kept .cid) ws (length (p .charstrings)) table own (itemsOf b ix) (r .kept .count)) (ready .asked .charstrings)
-
-  glyphs-many : manyOf theGlyphs ≡ bodiesFor b f rows used ws r .charstrings
+  glyphs-many : manyOf theGlyphs ≡ bodiesFor b rows used ws r .charstrings
   unfolding bodiesBy
   glyphs-many =
-      let e = new-glyphs p (ready .read .program) rows (ready .narrow) used ws own table (ready .ranked) (r .kept .cid) (r .kept .count)
-      (orderIn (r .kept .count) ws) (ready .order) way (ready .numbered) in
+      let e = new-glyphs p (ready .read .program) rows (ready .narrow) used ws own table (ready .ranked)
+      (glyphsOf b (r .order .f) ws) (ready .within) way (ready .numbered) in
       ap manyOf e
       ∙ sym (mapped-bodies (λ g. bodyBy way rows (callsIn p rows (getD (p .fds) g 0)) (glyph g) (getD (p .charstrings) g []))
       (λ g. newBody way rows (callsIn p rows (getD (p .fds) g 0)) (glyph g) (getD (p .charstrings) g []))
       (λ g. new-body-is way rows (callsIn p rows (getD (p .fds) g 0)) (glyph g) (getD (p .charstrings) g []))
-      (orderIn (r .kept .count) ws) (ap holds (sym e) ∙ glyphs-hold))
+      (glyphsOf b (r .order .f) ws) (ap holds (sym e) ∙ glyphs-hold))
 
-  glyphs-count : r .kept .count ≡ length (bodiesFor b f rows used ws r .charstrings)
+  glyphs-count : r .order .count ≡ length (bodiesFor b rows used ws r .charstrings)
   unfolding bodiesBy
   glyphs-count =
-      ready .order .many
-      ∙ sym (length-mapped (λ g. newBody way rows (callsIn p rows (getD (p .fds) g 0)) (glyph g) (getD (p .charstrings) g [])) (orderIn (r .kept .count) ws))
+      ready .many
+      ∙ sym (length-mapped (λ g. newBody way rows (callsIn p rows (getD (p .fds) g 0)) (glyph g) (getD (p .charstrings) g [])) (glyphsOf b (r .order .f) ws))
 
-  pub glyphs-long : indexLen (r .kept .count) (r .«glyphs_total») ≡ length (indexBytes (bodiesFor b f rows used ws r .charstrings))
-  glyphs-long = length-by (bodiesFor b f rows used ws r .charstrings) _ _ glyphs-count (ready .glyphsTotal)
+  pub glyphs-long : indexLen (r .order .count) (r .«glyphs_total») ≡ length (indexBytes (bodiesFor b rows used ws r .charstrings))
+  glyphs-long = length-by (bodiesFor b rows used ws r .charstrings) _ _ glyphs-count (ready .glyphsTotal)
 
-  pub glyphs-asked : (at room : ℕ) → at + length (indexBytes (bodiesFor b f rows used ws r .charstrings)) ≤ 67108864
-      → at + length (indexBytes (bodiesFor b f rows used ws r .charstrings)) ≤ room
-      → KeptIn (r .kept) rows ws table b × Room (charstringsFrom (r .kept) rows ws table b) (r .«glyphs_total») at room
+  pub glyphs-asked : (at room : ℕ) → at + length (indexBytes (bodiesFor b rows used ws r .charstrings)) ≤ 67108864
+      → at + length (indexBytes (bodiesFor b rows used ws r .charstrings)) ≤ room
+      → CharstringsIn b ws table (r .order) (r .how) rows × Room (charstringsFrom (r .how) (r .order) rows ws table b) (r .«glyphs_total») at room
   glyphs-asked at room small fits = (
     ready .asked .glyphs,
-    room-for (charstringsFrom (r .kept) rows ws table b) (bodiesFor b f rows used ws r .charstrings) (r .«glyphs_total») at room
-        (ap holds glyphs-from ∙ glyphs-hold) (ap manyOf glyphs-from ∙ glyphs-many) (ready .glyphsTotal) small fits,
+    room-for theGlyphs (bodiesFor b rows used ws r .charstrings) (r .«glyphs_total») at room glyphs-hold glyphs-many (ready .glyphsTotal) small fits,
   )
 
-  pub glyphs-are : newCharstringsFrom (r .kept) rows ws table b ≡ bodiesFor b f rows used ws r .charstrings
-  glyphs-are =
-      new-charstrings-is way rows (r .kept .cid) ws (r .kept .all) table own (itemsOf b (r .kept .ix)) (r .kept .count) (ap holds glyphs-from ∙ glyphs-hold)
-      ∙ ap manyOf glyphs-from ∙ glyphs-many
+  pub glyphs-are : manyOf (charstringsFrom (r .how) (r .order) rows ws table b) ≡ bodiesFor b rows used ws r .charstrings
+  glyphs-are = glyphs-many

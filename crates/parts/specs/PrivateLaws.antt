@@ -18,13 +18,12 @@ use Rattle.index.specs.WriteLaws.{length-index, total-within}
 use Rattle.unfold.specs.Unfold.{Row, local}
 use Rattle.cff.specs.Font.{Program}
 use Rattle.cff.specs.Reads.{GoodFont, programOf}
-use Rattle.cff.specs.declared.font.Font.{Font}
 use Rattle.subset.specs.Kept.{localsOf, privateOf}
 use Rattle.bits.specs.Bits.{countBelow}
 use Rattle.subset.specs.Pruned.{mapped, reached, localSet, callsIn}
 use Rattle.subset.specs.Subset.{privateDict, privatePart, privateParts, fontDicts}
 use Rattle.subset.specs.EachLaws.{length-mapped}
-use Rattle.kept.specs.Packed.{orderIn}
+use Rattle.order_window.specs.Window.{glyphsOf}
 use Rattle.renumber.specs.Ranks.{callsBy}
 use Rattle.renumber.specs.declared.Ranks.{Ranks}
 use Rattle.bodies.specs.Ways.{holds, newSubrs, subrsBy, subrBy, reachedIn, ranksIn, isKept, keptCount}
@@ -70,34 +69,34 @@ size-within p (f ∷ fs) (ls ∷ lss) zero =
 size-within p (f ∷ fs) (ls ∷ lss) (suc k) =
     omega (arith, length-append (privatePart (privateOf p f) ls) (privateParts p fs lss), size-within p fs lss k)
 
-module _ (b : List ℕ) (f : Font) (rows : List Row) (used ws table : List ℕ) (r : Planned) (ready : Ready b f rows used ws r table)
-    (totals : List ℕ) (summed : Summed b f rows used ws r table totals) where
+module _ (b : List ℕ) (rows : List Row) (used ws table : List ℕ) (r : Planned) (ready : Ready b rows used ws r table)
+    (totals : List ℕ) (summed : Summed b rows used ws r table totals) where
   abbrev p : Program
-  p = programOf b f
+  p = programOf b (r .order .f)
 
   abbrev locals : List (List (List ℕ))
-  locals = bodiesFor b f rows used ws r .locals
+  locals = bodiesFor b rows used ws r .locals
 
   -- the new local subroutines of an FD by the words
   abbrev new : ℕ → List (List ℕ)
-  new = newLocals (r .kept .way) p rows ws table (r .kept .globals)
+  new = newLocals (r .how .way) p rows ws table (r .how .globals)
 
   -- those of the FDs in use are the subset's
   new-are : mapped new (fdsIn used) ≡ locals
   unfolding bodiesBy
   new-are =
-      mapped-used new (λ d. newSubrs (r .kept .way) rows (localSet rows d) (callsIn p rows d) (local d) (localsOf p d)) used 256
-      (new-locals p (ready .read .program) rows (ready .narrow) used ws (r .kept .globals) table (ready .ranked) (r .kept .cid) (r .kept .count)
-      (orderIn (r .kept .count) ws) (ready .order) (r .kept .way) (ready .numbered))
+      mapped-used new (λ d. newSubrs (r .how .way) rows (localSet rows d) (callsIn p rows d) (local d) (localsOf p d)) used 256
+      (new-locals p (ready .read .program) rows (ready .narrow) used ws (r .how .globals) table (ready .ranked)
+      (glyphsOf b (r .order .f) ws) (ready .within) (r .how .way) (ready .numbered))
 
   -- none of the FDs in use fails
-  hold : allHold (localsBy (r .kept .way) p rows ws table (r .kept .globals)) (fdsIn used) ≡ true
+  hold : allHold (localsBy (r .how .way) p rows ws table (r .how .globals)) (fdsIn used) ≡ true
   hold =
-      let way = r .kept .way in
-      let globals = r .kept .globals in
+      let way = r .how .way in
+      let globals = r .how .globals in
       let ls = allHold (localsBy way p rows ws table globals) (fdsIn used) in
-      let cs = holds (glyphsBy way p rows (r .kept .cid) ws used table globals (r .kept .count)) in
-      let gs = holds (globalsBy way p rows (r .kept .cid) ws used table globals (r .kept .count)) in
+      let cs = holds (glyphsBy way p rows ws used table globals (glyphsOf b (r .order .f) ws)) in
+      let gs = holds (globalsBy way p rows ws used table globals (glyphsOf b (r .order .f) ws)) in
       both-hold ls cs (both-hold gs (pick ls cs false) (ready .made) .1) .0
 
   module _ (d : ℕ) (h : d < 256) (u : inUse used d ≡ true) where
@@ -118,50 +117,50 @@ module _ (b : List ℕ) (f : Font) (rows : List Row) (used ws table : List ℕ) 
         (λ k l. stands-reached ws own (localSet rows d) (length (localsOf p d)) stands k (omega (arith, stands .many))) (stands .reaches)
 
     -- the tables tell how many new local subroutines it has
-    many : leftIn (r .kept .way) table d ≡ length (new d)
+    many : leftIn (r .how .way) table d ≡ length (new d)
     many =
         let n = length (localsOf p d) in
-        let way = r .kept .way in
-        let calls = callsBy ws own (r .kept .globals) in
+        let way = r .how .way in
+        let calls = callsBy ws own (r .how .globals) in
         let c : reached marks ≡ countBelow marks n
         = reached-all ws own (ready .asked .locals .ranks d h u .few) ∙ ap (countBelow marks) (stands .many) in
         let e = subrs-each way rows marks calls (local d) (localsOf p d) c in
         ap (λ (k : ℕ). keptCount way k (own .count)) counted ∙ ap (λ (k : ℕ). keptCount way (countBelow marks k) k) (stands .many)
         ∙ kept-many way marks n
         ∙ sym (items-many (subrsBy way rows marks calls (local d) (localsOf p d)) (subrBy way rows marks calls (local d) (localsOf p d)) (isKept way marks) n e
-        (holds-one way p rows ws table (r .kept .globals) used d h u hold))
+        (holds-one way p rows ws table (r .how .globals) used d h u hold))
         ∙ sym (ap length (new-subrs-is way rows marks calls (local d) (localsOf p d)))
 
   -- the size of its Private DICT and the length of its part by the tables
   abbrev sizeAt : ℕ → ℕ
-  sizeAt d = partAt p (r .kept .way) table totals d .size
+  sizeAt d = partAt p (r .how .way) table totals d .size
 
   abbrev lenAt : ℕ → ℕ
-  lenAt d = partAt p (r .kept .way) table totals d .len
+  lenAt d = partAt p (r .how .way) table totals d .len
 
   -- those of the FDs in use are the subset's
   sizes-same : mapped sizeAt (fdsIn used) ≡ sizesOf p (fdsIn used) locals
-  sizes-same = sizes-are p new (r .kept .way) table totals used many (summed .sums) ∙ ap (sizesOf p (fdsIn used)) new-are
+  sizes-same = sizes-are p new (r .how .way) table totals used many (summed .sums) ∙ ap (sizesOf p (fdsIn used)) new-are
 
   lens-same : mapped lenAt (fdsIn used) ≡ lensOf p (fdsIn used) locals
-  lens-same = lens-are p new (r .kept .way) table totals used many (summed .sums) ∙ ap (lensOf p (fdsIn used)) new-are
+  lens-same = lens-are p new (r .how .way) table totals used many (summed .sums) ∙ ap (lensOf p (fdsIn used)) new-are
 
   parts-same : sumOf (mapped lenAt (fdsIn used)) ≡ length (privateParts p (fdsIn used) locals)
   parts-same =
-      parts-are p new (r .kept .way) table totals used many (summed .sums)
+      parts-are p new (r .how .way) table totals used many (summed .sums)
       ∙ ap (λ (l : List (List (List ℕ))). length (privateParts p (fdsIn used) l)) new-are
 
   -- ---- measured
 
-  pub parts-fit : PartsFit p (r .kept .way) table totals used
+  pub parts-fit : PartsFit p (r .how .way) table totals used
   parts-fit d h u =
       let k = ready .asked .locals .ranks d h u in
       record {
-        few = pick-ind (λ (n : ℕ). n < 65536) (eqb (r .kept .way) 0) (getD table (512 + d) 0) (getD table (256 + d) 0) (λ t. k .fewReached) (λ t. k .few);
+        few = pick-ind (λ (n : ℕ). n < 65536) (eqb (r .how .way) 0) (getD table (512 + d) 0) (getD table (256 + d) 0) (λ t. k .fewReached) (λ t. k .few);
         short = omega (arith, summed .few d h u);
       }
 
-  module _ {oldSizes oldLens sizes lens : List ℕ} {all : ℕ} (s : SizesParts p (r .kept .way) table totals used oldSizes oldLens sizes lens all)
+  module _ {oldSizes oldLens sizes lens : List ℕ} {all : ℕ} (s : SizesParts p (r .how .way) table totals used oldSizes oldLens sizes lens all)
       (sized : 256 ≤ length oldSizes) (long : 256 ≤ length oldLens) where
     pub all-parts : all ≡ length (privateParts p (fdsIn used) locals)
     all-parts = s .together ∙ parts-same
@@ -213,8 +212,8 @@ module _ (b : List ℕ) (f : Font) (rows : List Row) (used ws table : List ℕ) 
           }
 
   -- their FontMatrix entries can be measured
-  pub matrices-asked : f .cid ≡ true → {fds : List ℕ} → Listed used fds → (count : ℕ) → count ≡ length (fdsIn used)
-      → (length b ≤ 67108864) × GoodFont b f × (f .cid ≡ true) × (count ≤ 256) × (count ≤ length fds)
+  pub matrices-asked : r .order .f .cid ≡ true → {fds : List ℕ} → Listed used fds → (count : ℕ) → count ≡ length (fdsIn used)
+      → (length b ≤ 67108864) × GoodFont b (r .order .f) × (r .order .f .cid ≡ true) × (count ≤ 256) × (count ≤ length fds)
       × ((k : ℕ) → k < count → getD fds k 0 < length (p .privates))
   matrices-asked keyed listed count counted = (
     ready .read .size,
@@ -244,12 +243,12 @@ module _ (b : List ℕ) (f : Font) (rows : List Row) (used ws table : List ℕ) 
 
   -- ---- written
 
-  pub privates-are : partsFor (r .kept .way) p rows ws table (r .kept .globals) (fdsIn used) ≡ privateParts p (fdsIn used) locals
+  pub privates-are : partsFor (r .how .way) p rows ws table (r .how .globals) (fdsIn used) ≡ privateParts p (fdsIn used) locals
   privates-are = ap (privateParts p (fdsIn used)) new-are
 
   pub privates-asked : (at room : ℕ) → at + length (privateParts p (fdsIn used) locals) ≤ 67108864 → at + length (privateParts p (fdsIn used) locals) ≤ room
-      → LocalsIn b p used ws table (r .kept .globals) rows (r .kept .rising)
-      × PartsRoom (r .kept .way) p rows ws table (r .kept .globals) used totals at room
+      → LocalsIn b p used ws table (r .how .globals) rows (r .how .rising)
+      × PartsRoom (r .how .way) p rows ws table (r .how .globals) used totals at room
   privates-asked at room small fits =
       let e = ap length privates-are in (
         ready .asked .locals,

@@ -2,22 +2,23 @@
 -- them, and the sizes that it found, in the terms of the subset (crates/subset, Pruned; crates/bodies, bodiesBy).
 use Prim.Native.Nat.{ℕ, _≤_, _<_}
 use mathlib.Core.Path.{_≡_}
-use mathlib.Core.Bool.{Bool, true}
+use mathlib.Core.Bool.{true}
 use mathlib.Core.List.{List}
 use lib.ListN.{length, getD}
 use Rattle.index.specs.Write.{total}
 use Rattle.unfold.specs.Unfold.{Row}
-use Rattle.cff.specs.Find.{workSize}
 use Rattle.cff.specs.Reads.{GoodFont, programOf}
 use Rattle.cff.specs.declared.font.Font.{Font}
 use Rattle.subset.specs.Pruned.{Bodies}
 use Rattle.faithful.specs.Laid.{GoodProgram}
-use Rattle.kept.specs.Packed.{orderIn}
+use Rattle.small.specs.Small.{smallSize}
+use Rattle.order_window.specs.declared.Order.{Order}
+use Rattle.order_window.specs.Window.{glyphsOf, Ordered}
 use Rattle.bodies.specs.Pruning.{bodiesBy}
 use Rattle.fds.specs.Locals.{inUse, fdsIn, UsedOf}
 use Rattle.fds.specs.NewLocals.{newLocals}
 use Rattle.plan.specs.Ranked.{AllRanked, everyNumbered}
-use Rattle.plan.specs.Sizes.{OrderIn, allMade, MeasureIn, Narrow}
+use Rattle.plan.specs.Sizes.{FdsUsed, allMade, MeasureIn, Narrow}
 use Rattle.parts.specs.declared.Planned.{Planned}
 
 -- a font that was read
@@ -26,29 +27,31 @@ pub record FontHeld (b : List ℕ) (f : Font) : Type 0 where
   pub size : length b ≤ 67108864
   pub program : GoodProgram (programOf b f)
 
--- what planning asks: the words hold the k kept glyphs and, in a CID-keyed font, their FDs, which are those in use
-pub record PlanIn (b : List ℕ) (f : Font) (cid : Bool) (used ws : List ℕ) (k : ℕ) : Type 0 where
-  pub read : FontHeld b f
+-- what planning asks: the kept glyphs, whose FDs are in use, and words for the bits of all subroutines
+pub record PlanIn (b : List ℕ) (o : Order) (used ws window : List ℕ) : Type 0 where
+  pub read : FontHeld b (o .f)
   pub usedLong : 256 ≤ length used
-  pub fds : UsedOf (length (programOf b f .privates)) used
-  pub few : k ≤ f .charstrings .count
-  pub order : OrderIn (programOf b f) cid used ws k (orderIn k ws)
-  pub room : workSize (programOf b f) ≤ length ws
+  pub fds : UsedOf (length (programOf b (o .f) .privates)) used
+  pub ordered : Ordered b ws window o
+  pub within : FdsUsed (programOf b (o .f)) used (glyphsOf b (o .f) ws)
+  pub room : smallSize (programOf b (o .f)) ≤ length ws
 
-module _ (b : List ℕ) (f : Font) (rows : List Row) (used ws : List ℕ) (r : Planned) where
+module _ (b : List ℕ) (rows : List Row) (used ws : List ℕ) (r : Planned) where
   -- the bodies of the subset, by the way
   abbrev pub bodiesFor : Bodies
-  bodiesFor = bodiesBy (programOf b f) rows (r .kept .way) (fdsIn used) (orderIn (r .kept .count) ws)
+  bodiesFor = bodiesBy (programOf b (r .order .f)) rows (r .how .way) (fdsIn used) (glyphsOf b (r .order .f) ws)
 
   -- what the plan leaves
   pub record Ready (table : List ℕ) : Type 0 where
-    pub read : FontHeld b f
+    pub read : FontHeld b (r .order .f)
     pub narrow : Narrow rows
-    pub asked : MeasureIn b f used ws (r .kept) table rows
-    pub order : OrderIn (programOf b f) (r .kept .cid) used ws (r .kept .count) (orderIn (r .kept .count) ws)
-    pub ranked : AllRanked (programOf b f) rows used ws (r .kept .globals) table
-    pub numbered : r .kept .way ≡ 0 → everyNumbered (programOf b f) rows (fdsIn used) ≡ true
-    pub made : allMade (r .kept .way) (programOf b f) rows (r .kept .cid) ws used table (r .kept .globals) (r .kept .count) ≡ true
+    pub asked : MeasureIn b (r .order) used ws (r .how) table rows
+    pub many : r .order .count ≡ length (glyphsOf b (r .order .f) ws)
+    pub few : r .order .count < 65536
+    pub within : FdsUsed (programOf b (r .order .f)) used (glyphsOf b (r .order .f) ws)
+    pub ranked : AllRanked (programOf b (r .order .f)) rows used ws (r .how .globals) table
+    pub numbered : r .how .way ≡ 0 → everyNumbered (programOf b (r .order .f)) rows (fdsIn used) ≡ true
+    pub made : allMade (r .how .way) (programOf b (r .order .f)) rows ws used table (r .how .globals) (glyphsOf b (r .order .f) ws) ≡ true
     pub globalsTotal : r .«globals_total» ≡ total (bodiesFor .globals)
     pub glyphsTotal : r .«glyphs_total» ≡ total (bodiesFor .charstrings)
     pub globalsFew : r .«globals_total» ≤ 21989897011200
@@ -58,5 +61,5 @@ module _ (b : List ℕ) (f : Font) (rows : List Row) (used ws : List ℕ) (r : P
   pub record Summed (table totals : List ℕ) : Type 0 where
     pub long : 256 ≤ length totals
     pub sums : (d : ℕ) → d < 256 → inUse used d ≡ true
-        → getD totals d 0 ≡ total (newLocals (r .kept .way) (programOf b f) rows ws table (r .kept .globals) d)
+        → getD totals d 0 ≡ total (newLocals (r .how .way) (programOf b (r .order .f)) rows ws table (r .how .globals) d)
     pub few : (d : ℕ) → d < 256 → inUse used d ≡ true → getD totals d 0 ≤ 21989897011200

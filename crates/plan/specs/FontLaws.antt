@@ -27,13 +27,13 @@ use Rattle.renumber.specs.Ranks.{callsBy}
 use Rattle.renumber.specs.RanksLaws.{HoldsRanks, calls-in, calls-across, calls-across-none}
 use Rattle.renumber.specs.HoldsLaws.{narrow-set}
 use Rattle.renumber.specs.declared.Ranks.{Ranks}
-use Rattle.bodies.specs.Ways.{bodyBy, subrsBy, reachedIn, ranksIn, glyphAt, fdAt}
+use Rattle.bodies.specs.Ways.{bodyBy, subrsBy, reachedIn, ranksIn}
 use Rattle.fds.specs.Locals.{inUse, fdsIn, numbered, allNumbered}
 use Rattle.fds.specs.NewLocals.{localsBy}
 use Rattle.plan.specs.Ranked.{AllRanked, globalsNumbered, everyNumbered}
-use Rattle.plan.specs.Sizes.{noRanks, acrossBy, OrderIn, globalsBy, glyphsBy, Narrow}
+use Rattle.plan.specs.Sizes.{noRanks, acrossBy, FdsUsed, globalsBy, glyphsBy, Narrow}
 use Rattle.plan.specs.StandsLaws.{stands-reached, stands-holds, stands-all}
-use Rattle.plan.specs.SameLaws.{body-same, subrs-same, each-order}
+use Rattle.plan.specs.SameLaws.{body-same, subrs-same, each-alike}
 
 -- rows of bytes have numbers of two bytes
 pub narrow-rows : (b : List ℕ) → Octets b → Narrow (rowsOf b)
@@ -100,9 +100,9 @@ module _ (p : Program) (good : GoodProgram p) (rows : List Row) (narrow : Narrow
   across-same z (f ∷ g ∷ fs) e =
       fun-ext (λ b. fun-ext (λ y. calls-across p rows ws noRanks globals (globals-hold z) (h .globalRanks .many) refl f g fs b y))
 
-  module _ (cid : Bool) (k : ℕ) where
+  module _ (order : List ℕ) where
     -- the new globals
-    pub globals-same : globalsBy way p rows cid ws used table globals k
+    pub globals-same : globalsBy way p rows ws used table globals order
         ≡ subrsBy way rows (globalSet rows) (callsAcross p rows (fdsIn used)) global (p .globals)
     globals-same =
         subrs-same way rows (reachedIn ws globals) (globalSet rows) (callsBy ws (acrossBy table (fdsIn used)) globals) (callsAcross p rows (fdsIn used))
@@ -113,32 +113,10 @@ module _ (p : Program) (good : GoodProgram p) (rows : List Row) (narrow : Narrow
           across-same z (fdsIn used) refl,
         ))
 
-    module _ (order : List ℕ) (kept : OrderIn p cid used ws k order) where
-      -- the i-th word's glyph, and its FD
-      pub glyph-at : (i : ℕ) → i < k → glyphAt ws i ≡ getD order i 0
-      glyph-at i l =
-          let b : getD order i 0 < 65536 = omega (arith, kept .there i l, good .charstrings .count) in
-          let w : getD ws i 0 ≡ getD (p .ids) (getD order i 0) 0 * 65536 + getD order i 0
-          = sym (getD-take k ws i 0 l) ∙ ap (λ (x : List ℕ). getD x i 0) (kept .glyphs)
-          ∙ mapped-at (λ g. getD (p .ids) g 0 * 65536 + g) order i 0 (omega (arith, kept .many)) in
-          let e : (getD (p .ids) (getD order i 0) 0 * 65536 + getD order i 0) % 65536 ≡ getD order i 0 = omega arith in
-          ap (λ (x : ℕ). x % 65536) w ∙ e
-
-      pub fd-at : (i : ℕ) → i < k → fdAt cid ws (length (p .charstrings)) i ≡ getD (p .fds) (getD order i 0) 0
-      fd-at i l = go cid refl
-        where
-          go : (t : Bool) → cid ≡ t → pick t (getD ws (length (p .charstrings) + i) 0) 0 ≡ getD (p .fds) (getD order i 0) 0
-          go true e =
-              sym (getD-drop (length (p .charstrings)) ws i 0) ∙ sym (getD-take k (drop (length (p .charstrings)) ws) i 0 l)
-              ∙ ap (λ (x : List ℕ). getD x i 0) (kept .fds e) ∙ fds-at p order i (omega (arith, kept .many))
-          go false e =
-              omega (arith, good .onePrivate (sym (kept .keyed) ∙ e), fd-there p (getD order i 0) good (kept .there i l))
-
-      -- the new charstrings
-      pub glyphs-same : glyphsBy way p rows cid ws used table globals k
-          ≡ each (λ g. bodyBy way rows (callsIn p rows (getD (p .fds) g 0)) (glyph g) (getD (p .charstrings) g [])) order
-      glyphs-same = each-order _ _ k order (kept .many) (λ i l.
-          ap (λ (d : ℕ). bodyBy way rows (callsBy ws (ranksIn table d) globals) (glyph (glyphAt ws i)) (getD (p .charstrings) (glyphAt ws i) [])) (fd-at i l)
-          ∙ ap (λ (g : ℕ). bodyBy way rows (callsBy ws (ranksIn table (getD (p .fds) (getD order i 0) 0)) globals) (glyph g) (getD (p .charstrings) g [])) (glyph-at i l)
-          ∙ body-same way rows _ (callsIn p rows (getD (p .fds) (getD order i 0) 0)) (glyph (getD order i 0)) (getD (p .charstrings) (getD order i 0) [])
-          (calls-same (getD (p .fds) (getD order i 0) 0) (good .fds (getD order i 0)) (kept .within i l)))
+    -- the new charstrings of glyphs whose FDs are in use
+    pub glyphs-same : FdsUsed p used order
+        → glyphsBy way p rows ws used table globals order
+        ≡ each (λ g. bodyBy way rows (callsIn p rows (getD (p .fds) g 0)) (glyph g) (getD (p .charstrings) g [])) order
+    glyphs-same within = each-alike _ _ order (λ i l.
+        let g = getD order i 0 in
+        body-same way rows _ (callsIn p rows (getD (p .fds) g 0)) (glyph g) (getD (p .charstrings) g []) (calls-same (getD (p .fds) g 0) (good .fds g) (within i l)))

@@ -8,14 +8,12 @@ use lib.ListN.{length}
 use Rattle.octets.specs.Pick.{pick}
 use Rattle.octets.specs.PickLaws.{first-fails}
 use Rattle.unfold.specs.Unfold.{Row}
-use Rattle.index.specs.Index.{itemsOf}
-use Rattle.index.specs.declared.Index.{Index}
 use Rattle.prune.specs.StepLaws.{zero-one}
 use Rattle.cff.specs.Font.{Program}
 use Rattle.subset.specs.Pruned.{May}
 use Rattle.renumber.specs.declared.Ranks.{Ranks}
 use Rattle.renumber.specs.Ranks.{callsBy}
-use Rattle.bodies.specs.Ways.{holds, measuredOf, charstringsBy, subrsBy, reachedIn, siteIn}
+use Rattle.bodies.specs.Ways.{holds, measuredOf, subrsBy, reachedIn, siteIn}
 use Rattle.bodies.specs.Sizes.{Bounded}
 use Rattle.bodies.specs.WritingLaws.{measured-failed, measured-total}
 use Rattle.bodies.specs.declared.subrs.Subrs.the-variants.{Global}
@@ -24,8 +22,8 @@ use Rattle.bodies.specs.declared.Measured.{Measured}
 use Rattle.bodies.specs.declared.Measured.the-variants.{Failed, Total}
 use Rattle.fds.specs.Locals.{fdsIn}
 use Rattle.fds.specs.NewLocals.{localsBy, MeasuresLocals}
-use Rattle.bodies.specs.declared.charstrings.Kept.{Kept}
-use Rattle.cff.specs.declared.font.Font.{Font}
+use Rattle.bodies.specs.declared.Manner.{Manner}
+use Rattle.order_window.specs.declared.Order.{Order}
 use Rattle.plan.specs.Sizes.{acrossBy, globalsBy, glyphsBy, allMade, MeasuresAll, MeasureIn, byWay}
 use Rattle.plan.specs.declared.sizes.Measures.{Measures}
 
@@ -47,29 +45,29 @@ every true true v a b e = e
 every true false v a b e = absurd (zero-one cc)
 every false u v a b e = absurd (zero-one cc)
 
-module _ (way : ℕ) (p : Program) (rows : List Row) (cid : Bool) (ws used table : List ℕ) (globals : Ranks) (k : ℕ) where
+module _ (way : ℕ) (p : Program) (rows : List Row) (ws used table : List ℕ) (globals : Ranks) (order : List ℕ) where
   -- the globals as they were measured, their calls by the ranks across
   pub globals-measured : (calls : Ranks) → calls ≡ acrossBy table (fdsIn used) → (m : Measured)
       → m ≡ measuredOf (subrsBy way rows (reachedIn ws globals) (callsBy ws calls globals) (siteIn Global) (p .globals))
-      → m ≡ measuredOf (globalsBy way p rows cid ws used table globals k)
+      → m ≡ measuredOf (globalsBy way p rows ws used table globals order)
   globals-measured calls across m is =
       is ∙ ap (λ (q : Ranks). measuredOf (subrsBy way rows (reachedIn ws globals) (callsBy ws q globals) (siteIn Global) (p .globals))) across
 
-module _ (way : ℕ) (p : Program) (rows : List Row) (cid : Bool) (ws used table : List ℕ) (globals : Ranks) (k : ℕ) (totals : List ℕ) where
+module _ (way : ℕ) (p : Program) (rows : List Row) (ws used table : List ℕ) (globals : Ranks) (order totals : List ℕ) where
   -- the globals and the charstrings by the way; whether the locals of no FD fail
   abbrev theGlobals : May (List (List ℕ))
-  theGlobals = globalsBy way p rows cid ws used table globals k
+  theGlobals = globalsBy way p rows ws used table globals order
 
   abbrev theGlyphs : May (List (List ℕ))
-  theGlyphs = glyphsBy way p rows cid ws used table globals k
+  theGlyphs = glyphsBy way p rows ws used table globals order
 
   abbrev localsHold : Bool
   localsHold = allHold (localsBy way p rows ws table globals) (fdsIn used)
 
   abbrev Whole : Measures → Type 0
-  Whole r = MeasuresAll way p rows cid ws used table globals k totals r
+  Whole r = MeasuresAll way p rows ws used table globals order totals r
 
-  none : allMade way p rows cid ws used table globals k ≡ false → Whole (measures false 0 0)
+  none : allMade way p rows ws used table globals order ≡ false → Whole (measures false 0 0)
   none e =
       record {
         told = sym e;
@@ -124,41 +122,21 @@ module _ (way : ℕ) (p : Program) (rows : List Row) (cid : Bool) (ws used table
       pub returns-locals : t ≡ false → (r : Measures) → r ≡ measures false 0 0 → Whole r
       returns-locals e r a = subst Whole (sym a) (locals-fail t ls e)
 
-      module _ (n : ℕ) (many : n ≡ length (p .charstrings)) (b : List ℕ) (ix whole : Index) (same : ix ≡ whole) (items : itemsOf b whole ≡ p .charstrings) (d : Measured)
-          (ds : d ≡ measuredOf (charstringsBy way rows cid ws n table globals (itemsOf b ix) k)) where
-        glyphs-told : (x : Measured) → d ≡ x → measuredOf theGlyphs ≡ x
-        glyphs-told x e =
-            sym (ap (λ (l : List (List ℕ)). measuredOf (charstringsBy way rows cid ws n table globals l k)) (ap (itemsOf b) same ∙ items)
-            ∙ ap (λ (i : ℕ). measuredOf (charstringsBy way rows cid ws i table globals (p .charstrings) k)) many) ∙ sym ds ∙ e
-
+      module _ (d : Measured) (ds : d ≡ measuredOf theGlyphs) where
         pub returns-glyphs : d ≡ Failed → (r : Measures) → r ≡ measures false 0 0 → Whole r
-        returns-glyphs e r a = subst Whole (sym a) (glyphs-fail t ls (glyphs-told Failed e))
+        returns-glyphs e r a = subst Whole (sym a) (glyphs-fail t ls (sym ds ∙ e))
 
         pub returns-all : Bounded m → Bounded d → (g c : ℕ) → m ≡ Total g → t ≡ true → d ≡ Total c → Whole (measures true g c)
-        returns-all few short g c e u v = all-measured t ls g c (sym is ∙ e) u (glyphs-told (Total c) v) (subst Bounded e few) (subst Bounded v short)
+        returns-all few short g c e u v = all-measured t ls g c (sym is ∙ e) u (sym ds ∙ v) (subst Bounded e few) (subst Bounded v short)
 
 -- what measuring asks does not name the way
-pub by-way : (way : ℕ) (b : List ℕ) (f : Font) (used ws : List ℕ) (kept : Kept) (table : List ℕ) (rows : List Row)
-    → MeasureIn b f used ws kept table rows → MeasureIn b f used ws (byWay way kept) table rows
-by-way way b f used ws kept table rows h =
+pub by-way : (way : ℕ) (b : List ℕ) (o : Order) (used ws : List ℕ) (how : Manner) (table : List ℕ) (rows : List Row)
+    → MeasureIn b o used ws how table rows → MeasureIn b o used ws (byWay way how) table rows
+by-way way b o used ws how table rows h =
     let g = h .glyphs in
     record {
       font = h .font;
       locals = h .locals;
       subrs = h .subrs;
-      glyphs = record {
-        good = g .good;
-        few = g .few;
-        size = g .size;
-        keptFew = g .keptFew;
-        inside = g .inside;
-        tableLong = g .tableLong;
-        glyphs = g .glyphs;
-        fds = g .fds;
-        localRanks = g .localRanks;
-        globalRanks = g .globalRanks;
-        order = g .order;
-      };
-      all = h .all;
-      charstrings = h .charstrings;
+      glyphs = record { size = g .size; tableLong = g .tableLong; fds = g .fds; localRanks = g .localRanks; globalRanks = g .globalRanks; order = g .order };
     }

@@ -11,7 +11,8 @@ use Rattle.unfold.specs.Unfold.{Row}
 use Rattle.cff.specs.Font.{Program}
 use Rattle.subset.specs.Pruned.{May}
 use Rattle.renumber.specs.declared.Ranks.{Ranks}
-use Rattle.bodies.specs.Ways.{holds, charstringBy, upTo}
+use Rattle.bodies.specs.Ways.{holds}
+use Rattle.glyph_bodies.specs.Charstrings.{charstringOf}
 use Rattle.bodies.specs.Pruning.{allHold}
 use Rattle.bodies.specs.WaysLaws.{holds-each}
 use Rattle.fds.specs.Locals.{fdsIn}
@@ -41,24 +42,24 @@ module _ (traced : ℕ) (all : Bool) where
   pub first-stubbed : (traced ≡ 0 → ⊥) → all ≡ false → 1 ≡ firstWay traced all
   first-stubbed n a = sym (ap (λ (t : Bool). pick t 2 (pick all 0 1)) (ne-eqb traced 0 n) ∙ ap (λ (t : Bool). pick t 0 1) a)
 
-module _ (p : Program) (rows : List Row) (cid : Bool) (ws used table : List ℕ) (globals : Ranks) (k : ℕ) where
+module _ (p : Program) (rows : List Row) (ws used table : List ℕ) (globals : Ranks) (order : List ℕ) where
   abbrev Sized : ℕ → List ℕ → Measures → Type 0
-  Sized way totals m = MeasuresAll way p rows cid ws used table globals k totals m
+  Sized way totals m = MeasuresAll way p rows ws used table globals order totals m
 
   -- the other ways hold
-  stubs-made : allMade 1 p rows cid ws used table globals k ≡ true
+  stubs-made : allMade 1 p rows ws used table globals order ≡ true
   stubs-made =
-      ap (λ (t : Bool). pick t (holds (glyphsBy 1 p rows cid ws used table globals k)) false)
+      ap (λ (t : Bool). pick t (holds (glyphsBy 1 p rows ws used table globals order)) false)
       (hold-all (localsBy 1 p rows ws table globals) (λ f. refl) (fdsIn used))
-      ∙ holds-each (charstringBy 1 rows cid ws (length (p .charstrings)) table globals (p .charstrings)) (upTo k)
-      ∙ hold-all (charstringBy 1 rows cid ws (length (p .charstrings)) table globals (p .charstrings)) (λ i. refl) (upTo k)
+      ∙ holds-each (charstringOf 1 rows (p .fds) ws table globals (p .charstrings)) order
+      ∙ hold-all (charstringOf 1 rows (p .fds) ws table globals (p .charstrings)) (λ g. refl) order
 
-  copies-made : allMade 2 p rows cid ws used table globals k ≡ true
+  copies-made : allMade 2 p rows ws used table globals order ≡ true
   copies-made =
-      ap (λ (t : Bool). pick t (holds (glyphsBy 2 p rows cid ws used table globals k)) false)
+      ap (λ (t : Bool). pick t (holds (glyphsBy 2 p rows ws used table globals order)) false)
       (hold-all (localsBy 2 p rows ws table globals) (λ f. refl) (fdsIn used))
-      ∙ holds-each (charstringBy 2 rows cid ws (length (p .charstrings)) table globals (p .charstrings)) (upTo k)
-      ∙ hold-all (charstringBy 2 rows cid ws (length (p .charstrings)) table globals (p .charstrings)) (λ i. refl) (upTo k)
+      ∙ holds-each (charstringOf 2 rows (p .fds) ws table globals (p .charstrings)) order
+      ∙ hold-all (charstringOf 2 rows (p .fds) ws table globals (p .charstrings)) (λ g. refl) order
 
   -- a measure that holds
   held : (way : ℕ) (totals : List ℕ) (m : Measures) → m .all ≡ true → Sized way totals m → Sized way totals (measures true (m .globals) (m .glyphs))
@@ -74,7 +75,7 @@ module _ (p : Program) (rows : List Row) (cid : Bool) (ws used table : List ℕ)
       }
 
   abbrev made : ℕ → Bool
-  made way = allMade way p rows cid ws used table globals k
+  made way = allMade way p rows ws used table globals order
 
   -- the way that is tried first, or stubbed where a part fails by it
   first-or-stubbed : (t u : Bool) → _≡_ {A = ℕ} (pick (made (pick t 2 (pick u 0 1))) (pick t 2 (pick u 0 1)) 1) (pick t 2 (pick u (pick (made 0) 0 1) 1))
@@ -82,13 +83,14 @@ module _ (p : Program) (rows : List Row) (cid : Bool) (ws used table : List ℕ)
   first-or-stubbed false true = refl
   first-or-stubbed false false = ap (λ (b : Bool). pick b 1 1) stubs-made
 
-  -- what the code returns
-  module _ (traced : ℕ) (all : Bool) (way : ℕ) (first : way ≡ firstWay traced all) where
-    way-found : pick (made way) way 1 ≡ wayBy traced all (made 0)
-    way-found = ap (λ (w : ℕ). pick (made w) w 1) first ∙ first-or-stubbed (eqb traced 0) all
+  -- the way that is found by the one that is tried first
+  pub way-found : (traced : ℕ) (all : Bool) (way : ℕ) → way ≡ firstWay traced all → pick (made way) way 1 ≡ wayBy traced all (made 0)
+  way-found traced all way first = ap (λ (w : ℕ). pick (made w) w 1) first ∙ first-or-stubbed (eqb traced 0) all
 
+  -- what the code returns
+  module _ (way : ℕ) where
     abbrev Whole : List ℕ → Plan → Type 0
-    Whole totals r = Plans p rows cid ws used table globals k traced all totals r
+    Whole totals r = Plans p rows ws used table globals order way totals r
 
     -- no part fails by the way that was tried first
     pub returns-first : (totals : List ℕ) (m : Measures) → Sized way totals m → m .all ≡ true
@@ -96,7 +98,7 @@ module _ (p : Program) (rows : List Row) (cid : Bool) (ws used table : List ℕ)
     returns-first totals m s e r is =
         subst (Whole totals) (sym is)
         (record {
-          is = sym (ap (λ (b : Bool). pick b way 1) (sym (s .told) ∙ e)) ∙ way-found;
+          is = sym (ap (λ (b : Bool). pick b way 1) (sym (s .told) ∙ e));
           sizes = held way totals m e s;
         })
 
@@ -106,6 +108,6 @@ module _ (p : Program) (rows : List Row) (cid : Bool) (ws used table : List ℕ)
     returns-stubbed mid f z e totals m s r is =
         subst (Whole totals) (sym is)
         (record {
-          is = sym (ap (λ (b : Bool). pick b way 1) (sym (z .told) ∙ e)) ∙ way-found;
+          is = sym (ap (λ (b : Bool). pick b way 1) (sym (z .told) ∙ e));
           sizes = held 1 totals m (s .told ∙ stubs-made) s;
         })

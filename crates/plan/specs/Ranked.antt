@@ -45,6 +45,6 @@ module _ (p : Program) (rows : List Row) where
 
 -- what ranking leaves: the bits in the words from behind those of the glyphs on, all else as it was; and whether the record has no other number
 pub record RanksAll (p : Program) (rows : List Row) (used : List ℕ) (old new table : List ℕ) (r : RankedAll) : Type 0 where
-  pub words : new ≡ put old (2 * length (p .charstrings)) (allBits p rows used)
+  pub words : new ≡ put old (wordsFor (length (p .charstrings))) (allBits p rows used)
   pub ranked : AllRanked p rows used new (r .globals) table
   pub told : r .all ≡ everyNumbered p rows (fdsIn used)

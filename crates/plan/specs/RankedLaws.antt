@@ -94,36 +94,36 @@ locals-room rows old mid at count n more e h w =
     let k : at + length (bitsOf (globalSet rows) count) ≤ length old = omega arith in
     omega (arith, ap length w, put-length old at (bitsOf (globalSet rows) count) k)
 
-module _ (p : Program) (rows : List Row) (used old mid new table : List ℕ) (n count words : ℕ) (glyphs : n ≡ length (p .charstrings))
-    (many : count ≡ length (p .globals)) (wide : words ≡ wordsFor count) (room : 2 * n + wordsFor count + localsWords (p .privates) ≤ length old)
-    (r : code.Ranked) (w : mid ≡ put old (2 * n) (bitsOf (globalSet rows) count)) (is : r ≡ rankedOf (globalSet rows) count) where
-  module _ (all both : Bool) (h : RanksLocals p rows used (2 * n + words) mid new table all) (b : both ≡ pick (r .all) all false) where
+module _ (p : Program) (rows : List Row) (used old mid new table : List ℕ) (n count words : ℕ) (glyphs : n ≡ wordsFor (length (p .charstrings)))
+    (many : count ≡ length (p .globals)) (wide : words ≡ wordsFor count) (room : n + wordsFor count + localsWords (p .privates) ≤ length old)
+    (r : code.Ranked) (w : mid ≡ put old n (bitsOf (globalSet rows) count)) (is : r ≡ rankedOf (globalSet rows) count) where
+  module _ (all both : Bool) (h : RanksLocals p rows used (n + words) mid new table all) (b : both ≡ pick (r .all) all false) where
     abbrev g : List ℕ
     g = bitsOf (globalSet rows) count
 
     long : length g ≡ wordsFor count
     long = bits-long (globalSet rows) count
 
-    whole : new ≡ put old (2 * n) (g ++ bitsFor p rows (fdsIn used))
+    whole : new ≡ put old n (g ++ bitsFor p rows (fdsIn used))
     whole =
-        let e : 2 * n + words ≡ 2 * n + length g = omega (arith, long) in
-        h .words ∙ ap (λ (ws : List ℕ). put ws (2 * n + words) (bitsFor p rows (fdsIn used))) w
-        ∙ ap (λ (i : ℕ). put (put old (2 * n) g) i (bitsFor p rows (fdsIn used))) e
-        ∙ put-put old (2 * n) g (bitsFor p rows (fdsIn used)) (omega arith)
+        let e : n + words ≡ n + length g = omega (arith, long) in
+        h .words ∙ ap (λ (ws : List ℕ). put ws (n + words) (bitsFor p rows (fdsIn used))) w
+        ∙ ap (λ (i : ℕ). put (put old n g) i (bitsFor p rows (fdsIn used))) e
+        ∙ put-put old n g (bitsFor p rows (fdsIn used)) (omega arith)
 
     new-length : length new ≡ length old
     new-length =
-        let k : 2 * n + length (g ++ bitsFor p rows (fdsIn used)) ≤ length old
+        let k : n + length (g ++ bitsFor p rows (fdsIn used)) ≤ length old
         = omega (arith, length-append g (bitsFor p rows (fdsIn used)), long, bits-length p rows (fdsIn used), locals-few p used 256) in
-        ap length whole ∙ put-length old (2 * n) (g ++ bitsFor p rows (fdsIn used)) k
+        ap length whole ∙ put-length old n (g ++ bitsFor p rows (fdsIn used)) k
 
-    globals-stand : Stands new (ranksBy (2 * n) count r) (globalSet rows) (length (p .globals))
+    globals-stand : Stands new (ranksBy n count r) (globalSet rows) (length (p .globals))
     globals-stand =
         record {
           many = many;
           inside = omega (arith, new-length);
-          words = ap (λ (ws : List ℕ). take (wordsFor count) (drop (2 * n) ws)) whole
-              ∙ part-behind old (2 * n) [] g (bitsFor p rows (fdsIn used)) (2 * n) (wordsFor count) (omega arith) (omega arith) long;
+          words = ap (λ (ws : List ℕ). take (wordsFor count) (drop n ws)) whole
+              ∙ part-behind old n [] g (bitsFor p rows (fdsIn used)) n (wordsFor count) (omega arith) (omega arith) long;
           reaches = ap (λ (x : code.Ranked). x .reached) is;
           low = ap (λ (x : code.Ranked). x .low) is;
           high = ap (λ (x : code.Ranked). x .high) is;
@@ -132,21 +132,21 @@ module _ (p : Program) (rows : List Row) (used old mid new table : List ℕ) (n 
     locals-stand : (f : ℕ) → f < 256 → inUse used f ≡ true → Stands new (ranksIn table f) (localSet rows f) (length (localsOf p f))
     locals-stand f k u =
         let t = h .tables f k u in
-        let place : getD table f 0 ≡ 2 * n + words + localsFor p (usedBelow used f) = ap (λ (q : Ranks). q .at) t in
+        let place : getD table f 0 ≡ n + words + localsFor p (usedBelow used f) = ap (λ (q : Ranks). q .at) t in
         let c : getD table (256 + f) 0 ≡ length (localsOf p f) = ap (λ (q : Ranks). q .count) t in
         let v : wordsFor (getD table (256 + f) 0) ≡ wordsFor (length (localsOf p f)) = ap wordsFor c in
         let s = bits-split p rows used f k u in
         let front = bitsFor p rows (usedBelow used f) in
-        let e : new ≡ put old (2 * n) ((g ++ front) ++ (fdBits p rows f ++ s .0))
-        = whole ∙ ap (λ (l : List ℕ). put old (2 * n) (g ++ l)) (s .1) ∙ ap (put old (2 * n)) (sym (append-assoc g front (fdBits p rows f ++ s .0))) in
-        let at : getD table f 0 ≡ 2 * n + length (g ++ front)
+        let e : new ≡ put old n ((g ++ front) ++ (fdBits p rows f ++ s .0))
+        = whole ∙ ap (λ (l : List ℕ). put old n (g ++ l)) (s .1) ∙ ap (put old n) (sym (append-assoc g front (fdBits p rows f ++ s .0))) in
+        let at : getD table f 0 ≡ n + length (g ++ front)
         = omega (arith, place, length-append g front, long, bits-length p rows (usedBelow used f)) in
         let m : length (fdBits p rows f) ≡ wordsFor (getD table (256 + f) 0) = bits-long (localSet rows f) (length (localsOf p f)) ∙ sym v in
         record {
           many = c;
           inside = omega (arith, place, v, new-length, locals-within p used f u);
           words = ap (λ (ws : List ℕ). take (wordsFor (getD table (256 + f) 0)) (drop (getD table f 0) ws)) e
-              ∙ part-behind old (2 * n) (g ++ front) (fdBits p rows f) (s .0) (getD table f 0) (wordsFor (getD table (256 + f) 0)) (omega arith) at m
+              ∙ part-behind old n (g ++ front) (fdBits p rows f) (s .0) (getD table f 0) (wordsFor (getD table (256 + f) 0)) (omega arith) at m
               ∙ ap (bitsOf (localSet rows f)) (sym c);
           reaches = ap (λ (q : Ranks). q .reached) t ∙ ap (countBelow (localSet rows f)) (sym c);
           low = ap (λ (q : Ranks). q .low) t ∙ ap (lowSums (localSet rows f)) (sym c);
@@ -154,11 +154,11 @@ module _ (p : Program) (rows : List Row) (used old mid new table : List ℕ) (n 
         }
 
     -- all are ranked
-    pub ranks-all : RanksAll p rows used old new table (answer (ranksBy (2 * n) count r) both)
+    pub ranks-all : RanksAll p rows used old new table (answer (ranksBy n count r) both)
     ranks-all =
         record {
-          words = whole ∙ ap (λ (c : ℕ). put old (2 * n) (bitsOf (globalSet rows) c ++ bitsFor p rows (fdsIn used))) many
-              ∙ ap (λ (i : ℕ). put old (2 * i) (allBits p rows used)) glyphs;
+          words = whole ∙ ap (λ (c : ℕ). put old n (bitsOf (globalSet rows) c ++ bitsFor p rows (fdsIn used))) many
+              ∙ ap (λ (i : ℕ). put old i (allBits p rows used)) glyphs;
           ranked = record { globalRanks = globals-stand; localRanks = locals-stand };
           told = b ∙ ap (λ (t : Bool). pick t all false) (ap (λ (x : code.Ranked). x .all) is ∙ ap (λ (c : ℕ). eqb (reached (globalSet rows)) (countBelow (globalSet rows) c)) many)
               ∙ ap (λ (t : Bool). pick (globalsNumbered p rows) t false) (h .told);

@@ -1,5 +1,5 @@
 -- What the work words and the tables give by the way is what crates/subset defines: subroutines, charstrings, and where renumbering fails.
-use Prim.Native.Nat.{ℕ, _+_, _<_}
+use Prim.Native.Nat.{ℕ, suc, _+_, _<_}
 use mathlib.Core.Path.{_≡_, refl, sym, ap, _∙_}
 use mathlib.Core.Bool.{Bool, true, false}
 use mathlib.Core.List.{List, [], _∷_}
@@ -7,19 +7,15 @@ use native.Mathlib.Omega.{arith}
 use borrow.Author.Tests.{eqb-true}
 use lib.Dec.{eqb}
 use lib.ListN.{length, getD}
-use lib.Seq.{ext-getD}
 use Rattle.octets.specs.Pick.{pick}
 use Rattle.unfold.specs.Unfold.{Row, Site}
 use Rattle.prune.specs.Renumber.{Calls}
 use Rattle.subset.specs.Kept.{isIn}
-use Rattle.subset.specs.Pruned.{May, fail, yes as made, and, each, mapped, stubbedFrom, renumberedBody, renumberedSubrs}
-use Rattle.subset.specs.EachLaws.{length-mapped, mapped-at}
+use Rattle.subset.specs.Pruned.{May, yes as made, and, each, stubbedFrom, renumberedBody, renumberedSubrs}
 use Rattle.subset.specs.KeptListLaws.{in-head, in-more}
-use Rattle.subset.specs.RankLaws.{those-at}
-use Rattle.bodies.specs.Ways.{holds, bodyBy, subrsBy, every, upTo}
+use Rattle.bodies.specs.Ways.{holds, bodyBy, subrsBy}
 use Rattle.bodies.specs.Pruning.{allHold}
 use Rattle.bodies.specs.RecordLaws.{stubbed-alike}
-use Rattle.bodies.specs.WritingLaws.{count-every, those-many}
 
 -- ---- by the way
 
@@ -51,29 +47,13 @@ subrs-same way rows set set' calls calls' site subrs near same = go (eqb way 0) 
 
 -- ---- each of some
 
--- what is done with each number below k is what is done with each of a list
-pub mapped-order : {A : Type 0} (f g : ℕ → A) (d : A) (k : ℕ) (order : List ℕ) → k ≡ length order → ((i : ℕ) → i < k → f i ≡ g (getD order i 0))
-    → mapped f (upTo k) ≡ mapped g order
-mapped-order f g d k order many same =
-    let l : length (upTo k) ≡ k = those-many every k ∙ count-every k in
-    ext-getD d (mapped f (upTo k)) (mapped g order) (length-mapped f (upTo k) ∙ l ∙ many ∙ sym (length-mapped g order)) (λ i h.
-    let b : i < k = omega (arith, length-mapped f (upTo k)) in
-    let e : getD (upTo k) i 0 ≡ i = ap (λ (j : ℕ). getD (upTo k) j 0) (sym (count-every i)) ∙ those-at every k i b refl in
-    mapped-at f (upTo k) i d (omega arith) ∙ ap f e ∙ same i b ∙ sym (mapped-at g order i d (omega arith)))
-
--- all of some, or that one fails
-unfoldable eachOf : {A : Type 0} → List (May A) → May (List A)
-eachOf [] = made []
-eachOf (m ∷ ms) = and m (λ b. and (eachOf ms) (λ bs. made (b ∷ bs)))
-
-each-mapped : {A : Type 0} (f : ℕ → May A) (ks : List ℕ) → each f ks ≡ eachOf (mapped f ks)
-unfolding each mapped eachOf
-each-mapped f [] = refl
-each-mapped {A} f (k ∷ ks) = ap (λ (m : May (List A)). and (f k) (λ b. and m (λ bs. made (b ∷ bs)))) (each-mapped f ks)
-
-pub each-order : {A : Type 0} (f g : ℕ → May A) (k : ℕ) (order : List ℕ) → k ≡ length order → ((i : ℕ) → i < k → f i ≡ g (getD order i 0))
-    → each f (upTo k) ≡ each g order
-each-order f g k order many same = each-mapped f (upTo k) ∙ ap eachOf (mapped-order f g fail k order many same) ∙ sym (each-mapped g order)
+-- the same of each makes the same of all
+pub each-alike : {A : Type 0} (f g : ℕ → May A) (order : List ℕ) → ((i : ℕ) → i < length order → f (getD order i 0) ≡ g (getD order i 0)) → each f order ≡ each g order
+unfolding each
+each-alike f g [] same = refl
+each-alike {A} f g (x ∷ order) same =
+    ap (λ (m : May A). and m (λ b. and (each f order) (λ bs. made (b ∷ bs)))) (same 0 (omega arith))
+    ∙ ap (λ (m : May (List A)). and (g x) (λ b. and m (λ bs. made (b ∷ bs)))) (each-alike f g order (λ i h. same (suc i) (omega arith)))
 
 -- all of a list hold where each is the same
 pub hold-same : {A : Type 0} (f g : ℕ → May A) (fs : List ℕ) → ((x : ℕ) → isIn x fs ≡ true → f x ≡ g x) → allHold f fs ≡ allHold g fs

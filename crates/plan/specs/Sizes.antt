@@ -4,23 +4,21 @@ use mathlib.Core.Path.{_≡_}
 use mathlib.Core.Bool.{Bool, true, false}
 use mathlib.Core.List.{List, [], _∷_}
 use lib.Dec.{eqb}
-use lib.ListN.{length, take, drop, getD}
+use lib.ListN.{length, getD}
 use Rattle.octets.specs.Pick.{pick}
 use Rattle.index.specs.Write.{total}
 use Rattle.unfold.specs.Unfold.{Row, global}
-use Rattle.dict.specs.Lookup.{cidKeyed}
 use Rattle.cff.specs.Font.{Program}
-use Rattle.subset.specs.Kept.{fdsOf}
 use Rattle.subset.specs.Pruned.{May, localSet, globalSet}
-use Rattle.kept.specs.Packed.{packed}
 use Rattle.renumber.specs.Ranks.{callsBy}
 use Rattle.renumber.specs.declared.Ranks.{Ranks}
 use Rattle.cff.specs.Reads.{GoodFont, programOf}
-use Rattle.cff.specs.declared.font.Font.{Font}
-use Rattle.bodies.specs.Ways.{manyOf, holds, subrsBy, reachedIn, ranksIn, charstringsBy, SubrsIn, CharstringsIn}
-use Rattle.bodies.specs.declared.charstrings.Kept.{Kept}
+use Rattle.bodies.specs.Ways.{manyOf, holds, subrsBy, reachedIn, ranksIn, SubrsIn}
+use Rattle.bodies.specs.declared.Manner.{Manner}
 use Rattle.bodies.specs.declared.subrs.Subrs.the-variants.{Global}
 use Rattle.bodies.specs.Pruning.{allHold}
+use Rattle.order_window.specs.declared.Order.{Order}
+use Rattle.glyph_bodies.specs.Charstrings.{charstringsOf, CharstringsIn}
 use Rattle.fds.specs.Locals.{inUse, fdsIn}
 use Rattle.fds.specs.NewLocals.{localsBy, newLocals, LocalsIn}
 use Rattle.plan.specs.declared.sizes.Measures.{Measures}
@@ -42,23 +40,17 @@ lastOf [] = 0
 lastOf (f ∷ []) = f
 lastOf (f ∷ g ∷ fs) = lastOf (g ∷ fs)
 
--- the words hold the kept glyphs in the order in which they are written, and in a CID-keyed font their FDs, which are in use
-pub record OrderIn (p : Program) (cid : Bool) (used ws : List ℕ) (k : ℕ) (order : List ℕ) : Type 0 where
-  pub many : k ≡ length order
-  pub room : length (p .charstrings) + k ≤ length ws
-  pub glyphs : take k ws ≡ packed p order
-  pub fds : cid ≡ true → take k (drop (length (p .charstrings)) ws) ≡ fdsOf p order
-  pub keyed : cid ≡ cidKeyed (p .top)
-  pub there : (i : ℕ) → i < k → getD order i 0 < length (p .charstrings)
-  pub within : (i : ℕ) → i < k → inUse used (getD (p .fds) (getD order i 0) 0) ≡ true
+-- the FDs of some glyphs are in use
+abbrev pub FdsUsed : Program → List ℕ → List ℕ → Type 0
+FdsUsed p used order = (i : ℕ) → i < length order → inUse used (getD (p .fds) (getD order i 0) 0) ≡ true
 
-module _ (way : ℕ) (p : Program) (rows : List Row) (cid : Bool) (ws used table : List ℕ) (globals : Ranks) (k : ℕ) where
+module _ (way : ℕ) (p : Program) (rows : List Row) (ws used table : List ℕ) (globals : Ranks) (order : List ℕ) where
   -- the globals by the way, and the charstrings, or that their renumbering fails
   abbrev pub globalsBy : May (List (List ℕ))
   globalsBy = subrsBy way rows (reachedIn ws globals) (callsBy ws (acrossBy table (fdsIn used)) globals) global (p .globals)
 
   abbrev pub glyphsBy : May (List (List ℕ))
-  glyphsBy = charstringsBy way rows cid ws (length (p .charstrings)) table globals (p .charstrings) k
+  glyphsBy = charstringsOf way rows (p .fds) ws table globals (p .charstrings) order
 
   -- whether no part fails
   abbrev pub allMade : Bool
@@ -82,26 +74,23 @@ wayBy traced all made = pick (eqb traced 0) 2 (pick all (pick made 0 1) 1)
 abbrev pub firstWay : ℕ → Bool → ℕ
 firstWay traced all = pick (eqb traced 0) 2 (pick all 0 1)
 
--- a plan: the way, and the bytes of all bodies by it
-module _ (p : Program) (rows : List Row) (cid : Bool) (ws used table : List ℕ) (globals : Ranks) (k : ℕ) where
-  pub record Plans (traced : ℕ) (all : Bool) (totals : List ℕ) (r : Plan) : Type 0 where
-    pub is : r .way ≡ wayBy traced all (allMade 0 p rows cid ws used table globals k)
-    pub sizes : MeasuresAll (r .way) p rows cid ws used table globals k totals
+-- a plan: the way, which is the one that is tried first or, where a part fails by it, 1; and the bytes of all bodies by it
+module _ (p : Program) (rows : List Row) (ws used table : List ℕ) (globals : Ranks) (order : List ℕ) where
+  pub record Plans (first : ℕ) (totals : List ℕ) (r : Plan) : Type 0 where
+    pub is : r .way ≡ pick (allMade first p rows ws used table globals order) first 1
+    pub sizes : MeasuresAll (r .way) p rows ws used table globals order totals
         (record { all = true; globals = r .«globals_total»; glyphs = r .«glyphs_total» })
 
 -- what measuring asks: the parts that the words and the tables hold, as their own measures ask for them
-pub record MeasureIn (b : List ℕ) (f : Font) (used ws : List ℕ) (kept : Kept) (table : List ℕ) (rows : List Row) : Type 0 where
-  pub font : GoodFont b f
-  pub locals : LocalsIn b (programOf b f) used ws table (kept .globals) rows (kept .rising)
-  pub subrs : SubrsIn b ws (f .globals) (kept .globals) (acrossBy table (fdsIn used)) (kept .globals) rows (kept .rising) Global
-  pub glyphs : CharstringsIn b ws (kept .ix) kept table (kept .globals) rows (kept .rising)
-  pub all : kept .all ≡ length (programOf b f .charstrings)
-  pub charstrings : kept .ix ≡ f .charstrings
+pub record MeasureIn (b : List ℕ) (o : Order) (used ws : List ℕ) (how : Manner) (table : List ℕ) (rows : List Row) : Type 0 where
+  pub font : GoodFont b (o .f)
+  pub locals : LocalsIn b (programOf b (o .f)) used ws table (how .globals) rows (how .rising)
+  pub subrs : SubrsIn b ws (o .f .globals) (how .globals) (acrossBy table (fdsIn used)) (how .globals) rows (how .rising) Global
+  pub glyphs : CharstringsIn b ws table o how rows
 
--- the kept glyphs by another way
-abbrev pub byWay : ℕ → Kept → Kept
-byWay way kept =
-    record { count = kept .count; all = kept .all; cid = kept .cid; way = way; ix = kept .ix; globals = kept .globals; rising = kept .rising }
+-- how bodies are written by another way
+abbrev pub byWay : ℕ → Manner → Manner
+byWay way how = record { way = way; globals = how .globals; rising = how .rising }
 
 -- a row's number has two bytes
 pub record Narrow (rows : List Row) : Type 0 where

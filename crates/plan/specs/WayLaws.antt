@@ -24,7 +24,7 @@ use Rattle.bodies.specs.WaysLaws.{holds-each, renumbers-parts, pruned-by}
 use Rattle.fds.specs.Locals.{inUse, fdsIn, numbered, allNumbered}
 use Rattle.fds.specs.NewLocals.{localsBy, newLocals}
 use Rattle.plan.specs.Ranked.{AllRanked, globalsNumbered, everyNumbered}
-use Rattle.plan.specs.Sizes.{OrderIn, globalsBy, glyphsBy, allMade, wayBy, Narrow}
+use Rattle.plan.specs.Sizes.{FdsUsed, globalsBy, glyphsBy, allMade, wayBy, Narrow}
 use Rattle.plan.specs.SameLaws.{hold-same}
 use Rattle.plan.specs.FontLaws.{locals-same, globals-same, glyphs-same}
 
@@ -61,30 +61,30 @@ unnumbered-fails p rows used order e = renumbers-parts p rows used order ∙ go 
         (pick (allHold (renumberedLocals p rows) used) (allHold (renumberedGlyph p rows) order) false) false) n
 
 module _ (p : Program) (good : GoodProgram p) (rows : List Row) (narrow : Narrow rows) (used ws : List ℕ) (globals : Ranks) (table : List ℕ)
-    (h : AllRanked p rows used ws globals table) (cid : Bool) (k : ℕ) (order : List ℕ) (kept : OrderIn p cid used ws k order) where
+    (h : AllRanked p rows used ws globals table) (order : List ℕ) (within : FdsUsed p used order) where
   -- an FD among those in use
   in-use : (f : ℕ) → isIn f (fdsIn used) ≡ true → (f < 256) × (inUse used f ≡ true)
   in-use f m = let t = those-in (inUse used) 256 0 f m in let b : f < 256 = omega (arith, t .1) in (b, t .2)
 
   -- no part fails where the font can be renumbered
-  pub made-renumbers : everyNumbered p rows (fdsIn used) ≡ true → allMade 0 p rows cid ws used table globals k ≡ renumbers p rows (fdsIn used) order
+  pub made-renumbers : everyNumbered p rows (fdsIn used) ≡ true → allMade 0 p rows ws used table globals order ≡ renumbers p rows (fdsIn used) order
   made-renumbers all =
-      let gs = globals-same p good rows narrow used ws globals table h 0 (λ z. all) cid k in
-      let cs = glyphs-same p good rows narrow used ws globals table h 0 (λ z. all) cid k order kept in
+      let gs = globals-same p good rows narrow used ws globals table h 0 (λ z. all) order in
+      let cs = glyphs-same p good rows narrow used ws globals table h 0 (λ z. all) order within in
       let ls = hold-same (localsBy 0 p rows ws table globals) (renumberedLocals p rows) (fdsIn used)
       (λ f m. locals-same p good rows narrow used ws globals table h 0 (λ z. all) f (in-use f m .0) (in-use f m .1)) in
-      ap (λ (m : May (List (List ℕ))). pick (holds m) (pick (allHold (localsBy 0 p rows ws table globals) (fdsIn used)) (holds (glyphsBy 0 p rows cid ws used table globals k)) false) false) gs
-      ∙ ap (λ (b : Bool). pick (holds (renumberedGlobals p rows (fdsIn used))) (pick b (holds (glyphsBy 0 p rows cid ws used table globals k)) false) false) ls
+      ap (λ (m : May (List (List ℕ))). pick (holds m) (pick (allHold (localsBy 0 p rows ws table globals) (fdsIn used)) (holds (glyphsBy 0 p rows ws used table globals order)) false) false) gs
+      ∙ ap (λ (b : Bool). pick (holds (renumberedGlobals p rows (fdsIn used))) (pick b (holds (glyphsBy 0 p rows ws used table globals order)) false) false) ls
       ∙ ap (λ (b : Bool). pick (holds (renumberedGlobals p rows (fdsIn used))) (pick (allHold (renumberedLocals p rows) (fdsIn used)) b false) false)
       (ap holds cs ∙ holds-each (renumberedGlyph p rows) order)
       ∙ sym (renumbers-parts p rows (fdsIn used) order)
 
   module _ (way : ℕ) (all : way ≡ 0 → everyNumbered p rows (fdsIn used) ≡ true) where
     -- the globals of the subset, by the way
-    pub new-globals : manyOf (globalsBy way p rows cid ws used table globals k) ≡ bodiesBy p rows way (fdsIn used) order .globals
+    pub new-globals : manyOf (globalsBy way p rows ws used table globals order) ≡ bodiesBy p rows way (fdsIn used) order .globals
     unfolding bodiesBy
     new-globals =
-        ap manyOf (globals-same p good rows narrow used ws globals table h way all cid k)
+        ap manyOf (globals-same p good rows narrow used ws globals table h way all order)
         ∙ sym (new-subrs-is way rows (globalSet rows) (callsAcross p rows (fdsIn used)) global (p .globals))
 
     -- the locals of an FD in use
@@ -96,19 +96,19 @@ module _ (p : Program) (good : GoodProgram p) (rows : List Row) (narrow : Narrow
         ∙ sym (new-subrs-is way rows (localSet rows f) (callsIn p rows f) (local f) (localsOf p f))
 
     -- the charstrings of the subset, or that their renumbering fails
-    pub new-glyphs : glyphsBy way p rows cid ws used table globals k
+    pub new-glyphs : glyphsBy way p rows ws used table globals order
         ≡ each (λ g. bodyBy way rows (callsIn p rows (getD (p .fds) g 0)) (glyph g) (getD (p .charstrings) g [])) order
-    new-glyphs = glyphs-same p good rows narrow used ws globals table h way all cid k order kept
+    new-glyphs = glyphs-same p good rows narrow used ws globals table h way all order within
 
   -- the way that is found is that of the subset
   pub way-is : (traced : ℕ) (all : Bool) → all ≡ everyNumbered p rows (fdsIn used)
-      → wayBy traced all (allMade 0 p rows cid ws used table globals k) ≡ pruned p rows (fdsIn used) order traced .way
+      → wayBy traced all (allMade 0 p rows ws used table globals order) ≡ pruned p rows (fdsIn used) order traced .way
   way-is traced all e =
       ap (λ (n : ℕ). pick (eqb traced 0) 2 n)
-      (ap (λ (t : Bool). pick t (pick (allMade 0 p rows cid ws used table globals k) 0 1) 1) e ∙ go (everyNumbered p rows (fdsIn used)) refl)
+      (ap (λ (t : Bool). pick t (pick (allMade 0 p rows ws used table globals order) 0 1) 1) e ∙ go (everyNumbered p rows (fdsIn used)) refl)
       ∙ sym (ap (λ (q : Pruned). q .way) (pruned-by p rows (fdsIn used) order traced))
     where
       go : (t : Bool) → everyNumbered p rows (fdsIn used) ≡ t
-          → _≡_ {A = ℕ} (pick t (pick (allMade 0 p rows cid ws used table globals k) 0 1) 1) (pick (renumbers p rows (fdsIn used) order) 0 1)
+          → _≡_ {A = ℕ} (pick t (pick (allMade 0 p rows ws used table globals order) 0 1) 1) (pick (renumbers p rows (fdsIn used) order) 0 1)
       go true n = ap (λ (b : Bool). pick b 0 1) (made-renumbers n)
       go false n = sym (ap (λ (b : Bool). pick b 0 1) (unnumbered-fails p rows (fdsIn used) order n))

@@ -3,7 +3,7 @@
 pub mod sizes;
 
 ghost use mathlib.Core.Path.{_≡_};
-ghost use Prim.Native.Nat.{_+_, _*_, _≤_};
+ghost use Prim.Native.Nat.{_+_, _≤_};
 ghost use lib.ListN.{length};
 ghost use Rattle.record.specs.Record.{rowsOf};
 ghost use Rattle.bits.specs.Bits.{wordsFor};
@@ -11,11 +11,13 @@ ghost use Rattle.cff.specs.Find.{localsWords};
 ghost use Rattle.cff.specs.Reads.{GoodFont, programOf};
 ghost use Rattle.fds.specs.Locals.{UsedOf};
 ghost use Rattle.plan.specs.Ranked.{RanksAll};
+ghost use Rattle.order_window.specs.Window.{glyphsOf, Ordered};
 ghost use Rattle.plan.specs.Sizes.{MeasureIn, firstWay, Plans};
 use crate::sizes::Measures;
 use crate::sizes::measure;
-use bodies::charstrings::Kept;
+use bodies::Manner;
 use cff::font::Font;
+use order_window::Order;
 use renumber::Ranks;
 
 // Where the bits of the globals stand; whether the record has no number without a subroutine.
@@ -24,7 +26,7 @@ pub struct RankedAll {
     pub all: bool,
 }
 
-// Sets the bits of the globals in the words behind those of the glyphs, and of the locals of each FD in use behind them.
+// Sets the bits of the globals in the words behind the bits of the glyphs, and of the locals of each FD in use behind them.
 pub fn rank_all(
     font: &[u8],
     f: Font,
@@ -34,14 +36,14 @@ pub fn rank_all(
     table: &mut [usize],
 ) -> RankedAll
     requires { ⌜ (GoodFont (now font) f) × (256 ≤ length (now used)) × (UsedOf (length (programOf (now font) f .privates)) (now used))
-        × (2 * (f .charstrings .count) + wordsFor (f .globals .count) + localsWords (programOf (now font) f .privates) ≤ length (now words))
+        × (wordsFor (f .charstrings .count) + wordsFor (f .globals .count) + localsWords (programOf (now font) f .privates) ≤ length (now words))
         × (1280 ≤ length (now table)) ⌝ }
     ensures { λ r. ⌜ RanksAll (programOf (now (font .entry)) f) (rowsOf (now (rows .entry))) (now (used .entry)) (now (words .entry)) (now (words .exit))
         (now (table .exit)) r ⌝ }
 {
     let charstrings = f.charstrings;
     let subrs = f.globals;
-    let at = 2 * charstrings.count;
+    let at = bits::words_for(charstrings.count);
     let count = subrs.count;
     let r = reach::ranks::rank_reached(rows, true, 0, &mut *words, at, count);
     let first = r.all;
@@ -77,7 +79,7 @@ fn planned(way: u8, m: Measures) -> Plan
 }
 
 // The way that is tried first: copied by the flag; else renumbered where each number has a subroutine; else stubbed.
-fn first_way(traced: u8, all: bool) -> u8
+pub fn first_way(traced: u8, all: bool) -> u8
     ensures { λ r. ⌜ r ≡ firstWay traced all ⌝ }
 {
     if traced == 0 {
@@ -89,27 +91,45 @@ fn first_way(traced: u8, all: bool) -> u8
     1
 }
 
-// Finds the way and measures all bodies by it: those of the locals of each FD in use in a table.
+// Finds the way, the first of which is given, and measures all bodies by it: those of the locals of each FD in use in a table.
 pub fn plan_bodies(
-    kept: Kept,
+    how: Manner,
+    o: Order,
     font: &[u8],
-    f: Font,
     used: &[u32],
     words: &[u32],
+    window: &mut [u32],
     table: &[usize],
     rows: &[u8],
-    all: bool,
-    traced: u8,
     totals: &mut [usize],
 ) -> Plan
-    requires { ⌜ (MeasureIn (now font) f (now used) (now words) kept (now table) (rowsOf (now rows))) × (256 ≤ length (now totals)) ⌝ }
-    ensures { λ r. ⌜ Plans (programOf (now (font .entry)) f) (rowsOf (now (rows .entry))) (kept .cid) (now (words .entry)) (now (used .entry)) (now (table .entry)) (kept .globals) (kept .count) traced all (now (totals .exit)) r ⌝ }
+    requires { ⌜ (MeasureIn (now font) o (now used) (now words) how (now table) (rowsOf (now rows))) × (Ordered (now font) (now words) (now window) o)
+        × (256 ≤ length (now totals)) ⌝ }
+    ensures { λ r. ⌜ (Plans (programOf (now (font .entry)) (o .f)) (rowsOf (now (rows .entry))) (now (words .entry)) (now (used .entry)) (now (table .entry)) (how .globals)
+        (glyphsOf (now (font .entry)) (o .f) (now (words .entry))) (how .way) (now (totals .exit)) r)
+        × (Ordered (now (font .entry)) (now (words .entry)) (now (window .exit)) o) ⌝ }
 {
-    let way = first_way(traced, all);
-    let m = measure(way, kept, font, f, used, words, table, rows, &mut *totals);
+    let way = how.way;
+    let m = measure(
+        how,
+        o,
+        font,
+        used,
+        words,
+        &mut *window,
+        table,
+        rows,
+        &mut *totals,
+    );
     if m.all {
         return planned(way, m);
     }
-    let s = measure(1, kept, font, f, used, words, table, rows, totals);
+    let globals = how.globals;
+    let stubbed = Manner {
+        way: 1,
+        globals,
+        rising: how.rising,
+    };
+    let s = measure(stubbed, o, font, used, words, window, table, rows, totals);
     planned(1, s)
 }

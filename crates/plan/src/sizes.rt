@@ -9,13 +9,13 @@ ghost use Rattle.bodies.specs.Ways.{measuredOf};
 ghost use Rattle.bodies.specs.Sizes.{Bounded};
 ghost use Rattle.fds.specs.Locals.{fdsIn};
 ghost use Rattle.fds.specs.NewLocals.{MeasuresLocals};
+ghost use Rattle.order_window.specs.Window.{glyphsOf, Ordered};
 ghost use Rattle.plan.specs.Sizes.{acrossBy, globalsBy, MeasureIn, MeasuresAll};
+use bodies::Manner;
 use bodies::Measured;
-use bodies::charstrings::Kept;
-use bodies::charstrings::charstrings_total;
 use bodies::subrs::Source;
 use bodies::subrs::Subrs;
-use cff::font::Font;
+use order_window::Order;
 use renumber::Ranks;
 
 // Whether no part fails, and then the bytes of the globals and of the charstrings.
@@ -43,7 +43,7 @@ pub fn across(used: &[u32], table: &[usize]) -> Ranks
         }
     }
     if count == 1 {
-        return bodies::charstrings::ranks_in(table, last);
+        return bodies::ranks_in(table, last);
     }
     Ranks {
         at: 0,
@@ -67,51 +67,53 @@ fn failed() -> Measures
 
 // The bytes of the globals by the way, or that their renumbering fails.
 fn globals_total(
-    kept: Kept,
+    how: Manner,
+    o: Order,
     font: &[u8],
-    f: Font,
     used: &[u32],
     words: &[u32],
     table: &[usize],
     rows: &[u8],
 ) -> Measured
-    requires { ⌜ MeasureIn (now font) f (now used) (now words) kept (now table) (rowsOf (now rows)) ⌝ }
-    ensures { λ r. ⌜ (r ≡ measuredOf (globalsBy (kept .way) (programOf (now (font .entry)) f) (rowsOf (now (rows .entry))) (kept .cid) (now (words .entry))
-        (now (used .entry)) (now (table .entry)) (kept .globals) (kept .count))) × (Bounded r) ⌝ }
+    requires { ⌜ MeasureIn (now font) o (now used) (now words) how (now table) (rowsOf (now rows)) ⌝ }
+    ensures { λ r. ⌜ (r ≡ measuredOf (globalsBy (how .way) (programOf (now (font .entry)) (o .f)) (rowsOf (now (rows .entry))) (now (words .entry))
+        (now (used .entry)) (now (table .entry)) (how .globals) (glyphsOf (now (font .entry)) (o .f) (now (words .entry))))) × (Bounded r) ⌝ }
 {
+    let f = o.f;
     let ix = f.globals;
-    let own = kept.globals;
+    let own = how.globals;
     let locals = across(used, table);
     let of = Subrs::Global;
     let from = Source {
-        way: kept.way,
+        way: how.way,
         of,
         ix,
         own,
         locals,
         globals: own,
-        rising: kept.rising,
+        rising: how.rising,
     };
     bodies::subrs::subrs_total(from, font, words, rows)
 }
 
 // The bytes of the locals of each FD in use by the way, in a table; false where their renumbering fails.
 fn locals_totals(
-    kept: Kept,
+    how: Manner,
+    o: Order,
     font: &[u8],
-    f: Font,
     used: &[u32],
     words: &[u32],
     table: &[usize],
     rows: &[u8],
     sums: &mut [usize],
 ) -> bool
-    requires { ⌜ (MeasureIn (now font) f (now used) (now words) kept (now table) (rowsOf (now rows))) × (256 ≤ length (now sums)) ⌝ }
-    ensures { λ r. ⌜ MeasuresLocals (kept .way) (programOf (now (font .entry)) f) (rowsOf (now (rows .entry))) (now (words .entry)) (now (table .entry)) (kept .globals) (now (used .entry)) (now (sums .exit)) r ⌝ }
+    requires { ⌜ (MeasureIn (now font) o (now used) (now words) how (now table) (rowsOf (now rows))) × (256 ≤ length (now sums)) ⌝ }
+    ensures { λ r. ⌜ MeasuresLocals (how .way) (programOf (now (font .entry)) (o .f)) (rowsOf (now (rows .entry))) (now (words .entry)) (now (table .entry)) (how .globals) (now (used .entry)) (now (sums .exit)) r ⌝ }
 {
-    let way = kept.way;
-    let globals = kept.globals;
-    let rising = kept.rising;
+    let way = how.way;
+    let globals = how.globals;
+    let rising = how.rising;
+    let f = o.f;
     fds::totals::measure_locals(
         way,
         font,
@@ -126,26 +128,29 @@ fn locals_totals(
     )
 }
 
-// The bytes of all bodies by the way that the kept glyphs are written: those of the locals of each FD in use in a table.
-fn measure_kept(
-    by: Kept,
+// The bytes of all bodies by the way: those of the locals of each FD in use in a table.
+pub fn measure(
+    how: Manner,
+    o: Order,
     font: &[u8],
-    f: Font,
     used: &[u32],
     words: &[u32],
+    window: &mut [u32],
     table: &[usize],
     rows: &[u8],
     sums: &mut [usize],
 ) -> Measures
-    requires { ⌜ (MeasureIn (now font) f (now used) (now words) by (now table) (rowsOf (now rows))) × (256 ≤ length (now sums)) ⌝ }
-    ensures { λ r. ⌜ MeasuresAll (by .way) (programOf (now (font .entry)) f) (rowsOf (now (rows .entry))) (by .cid) (now (words .entry)) (now (used .entry))
-        (now (table .entry)) (by .globals) (by .count) (now (sums .exit)) r ⌝ }
+    requires { ⌜ (MeasureIn (now font) o (now used) (now words) how (now table) (rowsOf (now rows))) × (Ordered (now font) (now words) (now window) o)
+        × (256 ≤ length (now sums)) ⌝ }
+    ensures { λ r. ⌜ (MeasuresAll (how .way) (programOf (now (font .entry)) (o .f)) (rowsOf (now (rows .entry))) (now (words .entry)) (now (used .entry))
+        (now (table .entry)) (how .globals) (glyphsOf (now (font .entry)) (o .f) (now (words .entry))) (now (sums .exit)) r)
+        × (Ordered (now (font .entry)) (now (words .entry)) (now (window .exit)) o) ⌝ }
 {
-    match globals_total(by, font, f, used, words, table, rows) {
+    match globals_total(how, o, font, used, words, table, rows) {
         Measured::Failed => failed(),
         Measured::Total(g) => {
-            if locals_totals(by, font, f, used, words, table, rows, sums) {
-                match charstrings_total(by, font, words, table, rows) {
+            if locals_totals(how, o, font, used, words, table, rows, sums) {
+                match glyph_bodies::charstrings_total(how, o, font, words, window, table, rows) {
                     Measured::Failed => failed(),
                     Measured::Total(c) => Measures {
                         all: true,
@@ -158,34 +163,4 @@ fn measure_kept(
             }
         }
     }
-}
-
-// The same, by a given way.
-pub fn measure(
-    way: u8,
-    kept: Kept,
-    font: &[u8],
-    f: Font,
-    used: &[u32],
-    words: &[u32],
-    table: &[usize],
-    rows: &[u8],
-    sums: &mut [usize],
-) -> Measures
-    requires { ⌜ (MeasureIn (now font) f (now used) (now words) kept (now table) (rowsOf (now rows))) × (256 ≤ length (now sums)) ⌝ }
-    ensures { λ r. ⌜ MeasuresAll way (programOf (now (font .entry)) f) (rowsOf (now (rows .entry))) (kept .cid) (now (words .entry)) (now (used .entry))
-        (now (table .entry)) (kept .globals) (kept .count) (now (sums .exit)) r ⌝ }
-{
-    let ix = kept.ix;
-    let globals = kept.globals;
-    let by = Kept {
-        count: kept.count,
-        all: kept.all,
-        cid: kept.cid,
-        way,
-        ix,
-        globals,
-        rising: kept.rising,
-    };
-    measure_kept(by, font, f, used, words, table, rows, sums)
 }

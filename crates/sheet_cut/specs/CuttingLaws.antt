@@ -11,6 +11,7 @@ use borrow.Author.Tests.{ne-eqb}
 use Rattle.octets.specs.Pick.{pick}
 use Rattle.octets.specs.Octets.{put}
 use Rattle.cff.specs.Font.{readFont}
+use Rattle.cff.specs.Find.{workSize}
 use Rattle.subset.specs.Cut.{Outcome, refused, subset, cutOf, leavesOut, leavesWork}
 use Rattle.faithful.specs.Faithful.{Faithful}
 use Rattle.faithful.specs.Codes.{KeepsCodes}
@@ -50,7 +51,7 @@ module _ (font name keep rec : List ℕ) (flag : ℕ) where
   cuts-as cid cid' work out work' out' r e c = record {
     answers = subst (λ (o : Outcome). r ≡ answerOf o) e (c .answers);
     output = subst (λ (o : Outcome). out' ≡ leavesOut o out) e (c .output);
-    words = subst (λ (o : Outcome). work' ≡ leavesWork o (workIn (readFont font)) work) e (c .words);
+    words = subst (λ (o : Outcome). work' ≡ leavesWork o (workIn workSize (readFont font)) work) e (c .words);
     faithful = subst (λ (o : Outcome). Faithful font keep rec flag o) e (c .faithful);
     codes = subst (λ (o : Outcome). KeepsCodes false font keep o) e (c .codes);
   }
@@ -88,7 +89,7 @@ module _ (font name keep rec : List ℕ) (flag : ℕ) where
       let k = length work in
       let m = length out in
       let o : cutOf false false font name keep rec flag k m ≡ refused 3 = three (cutOf false false font name keep rec flag k m) n (sym e ∙ c .answers) h in
-      let w : work₁ ≡ work = c .words ∙ ap (λ (x : Outcome). leavesWork x (workIn (readFont font)) work) o in
+      let w : work₁ ≡ work = c .words ∙ ap (λ (x : Outcome). leavesWork x (workIn workSize (readFont font)) work) o in
       let u : out₁ ≡ out = c .output ∙ ap (λ (x : Outcome). leavesOut x out) o in
       let t : Cuts true false font name keep rec flag work out₁ work' out' r = subst (λ (l : List ℕ). Cuts true false font name keep rec flag l out₁ work' out' r) w s in
       let t' : Cuts true false font name keep rec flag work out work' out' r = subst (λ (l : List ℕ). Cuts true false font name keep rec flag work l work' out' r) u t in

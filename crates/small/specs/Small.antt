@@ -6,7 +6,7 @@ use mathlib.Core.Bool.{Bool}
 use mathlib.Core.List.{List}
 use lib.ListN.{length}
 use Rattle.bits.specs.Bits.{wordsFor}
-use Rattle.cff.specs.Font.{Got, refused as refusedFont, got, Program, readFont}
+use Rattle.cff.specs.Font.{got, Program, readFont}
 use Rattle.cff.specs.Find.{localsWords, workSize}
 use Rattle.subset.specs.Cut.{Outcome, cutOf, cutWith}
 
@@ -17,11 +17,6 @@ smallSize p = wordsFor (length (p .charstrings)) + wordsFor (length (p .globals)
 -- its outcome: refusal 9 goes by its own W
 abbrev pub cutSmall : Bool → Bool → List ℕ → List ℕ → List ℕ → List ℕ → ℕ → ℕ → ℕ → Outcome
 cutSmall cid ask font name keep rec flag words room = cutWith smallSize cid ask font name keep rec flag words room
-
--- how many of its words end as zeros (subset `leavesWork`)
-abbrev pub smallIn : Got Program → ℕ
-smallIn (refusedFont n) = 0
-smallIn (got p) = smallSize p
 
 -- words that are enough for what a call asks for; a font that reading refuses asks for none
 abbrev pub Enough : (Program → ℕ) → List ℕ → ℕ → Type 0

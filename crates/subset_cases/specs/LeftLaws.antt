@@ -15,7 +15,7 @@ use Rattle.octets.specs.Octets.{put}
 use Rattle.octets.specs.PutLaws.{put-is}
 use Rattle.kept.specs.MarkLaws.{ahead}
 use Rattle.cff.specs.Font.{Got, refused as refusedFont, got, Program, readFont}
-use Rattle.cff.specs.Find.{readAs}
+use Rattle.cff.specs.Find.{readAs, workSize}
 use Rattle.cff.specs.declared.ReadAs.{ReadAs}
 use Rattle.cff.specs.declared.ReadAs.the-variants.{Refused as RefusedRead, Font}
 use Rattle.subset.specs.Cut.{Outcome, refused, subset, cutOf, zeros, leavesOut, leavesWork}
@@ -112,7 +112,7 @@ abbrev pub workRead : ReadAs → ℕ
 workRead (RefusedRead n) = 0
 workRead (Font c) = c .work
 
-pub work-read : (g : Got Program) (r : ReadAs) → r ≡ readAs g → workRead r ≡ workIn g
+pub work-read : (g : Got Program) (r : ReadAs) → r ≡ readAs g → workRead r ≡ workIn workSize g
 work-read (refusedFont n) r e = ap workRead e
 work-read (got p) r e = ap workRead e
 
@@ -185,11 +185,11 @@ judged-outcome (subset way bs) w n m =
 pub judged-cuts : {cid : Bool} {font name keep rec : List ℕ} {flag : ℕ} {work out work' out' : List ℕ} {r : Answer}
     → Cuts cid false font name keep rec flag work out work' out' r
     → work ≡ replicate (length work) lentWord → out ≡ replicate (length out) lentByte
-    → (w : ℕ) → w ≡ workIn (readFont font)
+    → (w : ℕ) → w ≡ workIn workSize (readFont font)
     → judged r w work' out' ≡ some (outcomeBytes (cutOf cid false font name keep rec flag (length work) (length out)))
 judged-cuts {cid} {font} {name} {keep} {rec} {flag} {work} {out} {work'} {out'} {r} c e f w g =
     let o = cutOf cid false font name keep rec flag (length work) (length out) in
-    let v = workIn (readFont font) in
+    let v = workIn workSize (readFont font) in
     ap (λ (a : Answer). judged a w work' out') (c .answers)
     ∙ ap (λ (k : ℕ). judged (answerOf o) k work' out') g
     ∙ ap (λ (l : List ℕ). judged (answerOf o) v l out') (c .words ∙ ap (leavesWork o v) e)

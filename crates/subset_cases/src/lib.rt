@@ -9,6 +9,7 @@ ghost use mathlib.Core.Option.{some};
 ghost use lib.ListN.{length, replicate};
 ghost use Rattle.cases.specs.Answers.{Gives};
 ghost use Rattle.cff.specs.Font.{readFont};
+ghost use Rattle.cff.specs.Find.{workSize};
 ghost use Rattle.subset.specs.Cut.{cutOf};
 ghost use Rattle.outcome.specs.Entry.{workIn, Cuts};
 ghost use Rattle.subset_cases.specs.Left.{lentWord, lentByte};
@@ -21,7 +22,7 @@ use write::subset_cid;
 
 // W of a font, 0 where reading refuses it.
 fn work_of(font: &[u8]) -> usize
-    ensures { λ r. ⌜ r ≡ workIn (readFont (now (font .entry))) ⌝ }
+    ensures { λ r. ⌜ r ≡ workIn workSize (readFont (now (font .entry))) ⌝ }
 {
     match cff_entries::read(font) {
         ReadAs::Refused(_) => 0,

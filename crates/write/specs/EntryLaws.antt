@@ -1,5 +1,5 @@
 -- The outcome of a call from its steps: a refusal before the work words are used leaves all as it was, and the cut behind it uses them.
-use Prim.Native.Nat.{ℕ, zero, suc, _+_, _*_, _≤_, _<_}
+use Prim.Native.Nat.{ℕ, zero, suc, _≤_, _<_}
 use mathlib.Core.Path.{_≡_, refl, sym, ap, _∙_, subst}
 use mathlib.Core.Bool.{Bool, true, false, not}
 use mathlib.Core.List.{List, _∷_, _++_}
@@ -10,14 +10,12 @@ use lib.Dec.{ltb, eqb}
 use lib.ListN.{length, take, drop, replicate}
 use lib.Seq.{length-take-le}
 use Rattle.octets.specs.Pick.{pick}
-use Rattle.bits.specs.Bits.{wordsFor}
 use Rattle.octets.specs.PickLaws.{pick-same}
 use Rattle.octets.specs.Octets.{Octets}
 use Rattle.octets.specs.Lists.{allBelow}
 use Rattle.record.specs.Record.{rowsOf, recordFine}
 use Rattle.dict.specs.Lookup.{rosIn, cidKeyed}
 use Rattle.cff.specs.Font.{Got, refused as refusedFont, got, Program, readFont}
-use Rattle.cff.specs.Find.{workSize}
 use Rattle.cff.specs.Reads.{programOf}
 use Rattle.cff.specs.File.{InFile}
 use Rattle.cff.specs.FileLaws.{table-short}
@@ -26,12 +24,13 @@ use Rattle.subset.specs.Kept.{keptOf, writtenOrder, usedFds}
 use Rattle.subset.specs.Pruned.{Pruned, pruned}
 use Rattle.subset.specs.Subset.{subsetBytes}
 use Rattle.subset.specs.Codes.{Coded, codedIf, pairCount}
-use Rattle.subset.specs.Cut.{Outcome, refused, subset, allFound, hasRos, sameBool, ownOf, written, unsupportedIn, cutProgram, cutRead, cutWith, cutOf, leavesOut, zeros, usesWork, leavesWork}
+use Rattle.subset.specs.Cut.{Outcome, refused, subset, allFound, hasRos, sameBool, ownOf, written, unsupportedIn, cutProgram, cutRead, cutWith, leavesOut, zeros, usesWork, leavesWork}
 use Rattle.faithful.specs.Theorem.{faithful, codes-back, same-bool}
 use Rattle.faithful.specs.GoodLaws.{font-good}
 use Rattle.parts.specs.Ready.{FontHeld}
-use Rattle.early_refusals.specs.RefusalLaws.{work-is}
-use Rattle.outcome.specs.Entry.{answerOf, workIn, Cuts, refusalOf, cutBehind, Cut, Passed}
+use Rattle.small.specs.Small.{smallSize}
+use Rattle.small.specs.Theorem.{small-less}
+use Rattle.outcome.specs.Entry.{answerOf, sizeOf, workIn, CutsWith, refusalOf, cutBehind, Cut, Passed}
 use Rattle.outcome.specs.declared.Answer.{Answer}
 use Rattle.outcome.specs.declared.Answer.the-variants.{Refused}
 
@@ -62,22 +61,22 @@ low true false true false true true false g = omega arith
 low true false true false true true true true = omega arith
 low true false true false true true true false = omega arith
 
-module _ (cid ask : Bool) (p : Program) (name keep rec : List ℕ) (flag words room : ℕ) where
+module _ (size : Program → ℕ) (cid ask : Bool) (p : Program) (name keep rec : List ℕ) (flag words room : ℕ) where
   abbrev number : ℕ
-  number = refusalOf cid ask p (length name) keep rec flag words
+  number = refusalOf size cid ask p (length name) keep rec flag words
 
   -- a font that was read: refused, or cut
-  pub program-cut : cutProgram workSize cid ask p name keep rec flag words room ≡ pick (eqb number 0) (cutBehind ask p name keep rec flag room) (refused number)
+  pub program-cut : cutProgram size cid ask p name keep rec flag words room ≡ pick (eqb number 0) (cutBehind ask p name keep rec flag room) (refused number)
   unfolding refusalOf
   program-cut =
       chain (sameBool cid (cidKeyed (p .top))) (unsupportedIn ask p) (pick cid (hasRos (rosIn (p .top))) true) (ltb 65535 (length name)) (allBelow (length (p .charstrings)) keep)
-      (allFound p (keptOf (length (p .charstrings)) keep)) (recordFine cid rec flag) (ltb words (workSize p)) (cutBehind ask p name keep rec flag room)
+      (allFound p (keptOf (length (p .charstrings)) keep)) (recordFine cid rec flag) (ltb words (size p)) (cutBehind ask p name keep rec flag room)
 
   number-low : number ≤ 9
   unfolding refusalOf
   number-low =
       low (sameBool cid (cidKeyed (p .top))) (unsupportedIn ask p) (pick cid (hasRos (rosIn (p .top))) true) (ltb 65535 (length name)) (allBelow (length (p .charstrings)) keep)
-      (allFound p (keptOf (length (p .charstrings)) keep)) (recordFine cid rec flag) (ltb words (workSize p))
+      (allFound p (keptOf (length (p .charstrings)) keep)) (recordFine cid rec flag) (ltb words (size p))
 
 -- what a cut leaves: the words are used, whatever its outcome is
 pub written-uses : (p : Program) (coded : Coded) (name kept order : List ℕ) (room : ℕ) (q : Pruned) → usesWork (written p coded name kept order room q) ≡ true
@@ -94,49 +93,49 @@ written-uses p coded name kept order room q =
 
 -- ---- calls
 
-module _ (cid ask : Bool) (font name keep rec : List ℕ) (flag : ℕ) (work out : List ℕ) (bytes : Octets font) (octets : Octets rec) where
+module _ (size : Program → ℕ) (cid ask : Bool) (font name keep rec : List ℕ) (flag : ℕ) (work out : List ℕ) (bytes : Octets font) (octets : Octets rec) where
   abbrev outcome : Outcome
-  outcome = cutOf cid ask font name keep rec flag (length work) (length out)
+  outcome = cutWith size cid ask font name keep rec flag (length work) (length out)
 
   -- a refusal that leaves the words leaves all as it was
-  refused-cuts : (n : ℕ) → outcome ≡ refused n → leavesWork (refused n) (workIn (readFont font)) work ≡ work → Cuts cid ask font name keep rec flag work out work out (Refused n)
+  refused-cuts : (n : ℕ) → outcome ≡ refused n → leavesWork (refused n) (workIn size (readFont font)) work ≡ work → CutsWith size cid ask font name keep rec flag work out work out (Refused n)
   refused-cuts n e l =
       record {
         answers = ap answerOf (sym e);
         output = ap (λ (o : Outcome). leavesOut o out) (sym e);
-        words = sym (ap (λ (o : Outcome). leavesWork o (workIn (readFont font)) work) e ∙ l);
-        faithful = faithful workSize cid ask font name keep rec flag (length work) (length out) bytes octets;
-        codes = codes-back workSize cid ask font name keep rec flag (length work) (length out) bytes octets;
+        words = sym (ap (λ (o : Outcome). leavesWork o (workIn size (readFont font)) work) e ∙ l);
+        faithful = faithful size cid ask font name keep rec flag (length work) (length out) bytes octets;
+        codes = codes-back size cid ask font name keep rec flag (length work) (length out) bytes octets;
       }
 
   -- a font that is not read has no W
-  pub unread-cuts : (n : ℕ) → readFont font ≡ refusedFont n → Cuts cid ask font name keep rec flag work out work out (Refused n)
+  pub unread-cuts : (n : ℕ) → readFont font ≡ refusedFont n → CutsWith size cid ask font name keep rec flag work out work out (Refused n)
   unfolding cutWith zeros
   unread-cuts n e =
-      refused-cuts n (ap (λ (x : Got Program). cutRead workSize cid ask x name keep rec flag (length work) (length out)) e)
-      (ap (λ (x : Got Program). leavesWork (refused n) (workIn x) work) e ∙ pick-same (usesWork (refused n)) work)
+      refused-cuts n (ap (λ (x : Got Program). cutRead size cid ask x name keep rec flag (length work) (length out)) e)
+      (ap (λ (x : Got Program). leavesWork (refused n) (workIn size x) work) e ∙ pick-same (usesWork (refused n)) work)
 
   module _ (p : Program) (is : readFont font ≡ got p) where
     abbrev refusal : ℕ
-    refusal = refusalOf cid ask p (length name) keep rec flag (length work)
+    refusal = refusalOf size cid ask p (length name) keep rec flag (length work)
 
     outcome-is : outcome ≡ pick (eqb refusal 0) (cutBehind ask p name keep rec flag (length out)) (refused refusal)
     unfolding cutWith
     outcome-is =
-        ap (λ (x : Got Program). cutRead workSize cid ask x name keep rec flag (length work) (length out)) is
-        ∙ program-cut cid ask p name keep rec flag (length work) (length out)
+        ap (λ (x : Got Program). cutRead size cid ask x name keep rec flag (length work) (length out)) is
+        ∙ program-cut size cid ask p name keep rec flag (length work) (length out)
 
     -- refused before the words are used
-    pub early-cuts : (0 < refusal) → Cuts cid ask font name keep rec flag work out work out (Refused refusal)
+    pub early-cuts : (0 < refusal) → CutsWith size cid ask font name keep rec flag work out work out (Refused refusal)
     early-cuts h =
         let t : eqb refusal 0 ≡ false = ne-eqb refusal 0 (λ e. omega arith) in
         refused-cuts refusal (outcome-is ∙ ap (λ (b : Bool). pick b (cutBehind ask p name keep rec flag (length out)) (refused refusal)) t)
-        (ap (λ (t : Bool). pick (pick t (ltb refusal 14) false) (zeros (workIn (readFont font)) ++ drop (workIn (readFont font)) work) work)
-        (le-ltb 9 refusal (number-low cid ask p name keep rec flag (length work) (length out))))
+        (ap (λ (t : Bool). pick (pick t (ltb refusal 14) false) (zeros (workIn size (readFont font)) ++ drop (workIn size (readFont font)) work) work)
+        (le-ltb 9 refusal (number-low size cid ask p name keep rec flag (length work) (length out))))
 
     -- cut, the first W words then cleared
     pub late-cuts : (work' out' : List ℕ) (r : Answer) → refusal ≡ 0 → Cut (cutBehind ask p name keep rec flag (length out)) out out' r
-        → work' ≡ zeros (workSize p) ++ drop (workSize p) work → Cuts cid ask font name keep rec flag work out work' out' r
+        → work' ≡ zeros (size p) ++ drop (size p) work → CutsWith size cid ask font name keep rec flag work out work' out' r
     late-cuts work' out' r z k c =
         let o = cutBehind ask p name keep rec flag (length out) in
         let e : outcome ≡ o = outcome-is ∙ ap (λ (b : Bool). pick b o (refused refusal)) (eq-eqb refusal 0 z) in
@@ -148,10 +147,10 @@ module _ (cid ask : Bool) (font name keep rec : List ℕ) (flag : ℕ) (work out
           answers = k .answers ∙ ap answerOf (sym e);
           output = k .output ∙ ap (λ (x : Outcome). leavesOut x out) (sym e);
           words =
-              c ∙ ap (λ (w : ℕ). zeros w ++ drop w work) (sym (ap workIn is))
-              ∙ sym (ap (λ (t : Bool). pick t (zeros (workIn (readFont font)) ++ drop (workIn (readFont font)) work) work) u);
-          faithful = faithful workSize cid ask font name keep rec flag (length work) (length out) bytes octets;
-          codes = codes-back workSize cid ask font name keep rec flag (length work) (length out) bytes octets;
+              c ∙ ap (λ (w : ℕ). zeros w ++ drop w work) (sym (ap (workIn size) is))
+              ∙ sym (ap (λ (t : Bool). pick t (zeros (workIn size (readFont font)) ++ drop (workIn size (readFont font)) work) work) u);
+          faithful = faithful size cid ask font name keep rec flag (length work) (length out) bytes octets;
+          codes = codes-back size cid ask font name keep rec flag (length work) (length out) bytes octets;
         }
 
 -- ---- what refusal 0 says
@@ -168,13 +167,13 @@ passes true false true false true true false g h = absurd (zero-one (omega arith
 passes true false true false true true true true h = absurd (zero-one (omega arith))
 passes true false true false true true true false h = (refl, refl, refl, refl, refl, refl, refl, refl)
 
-pub not-refused : (cid ask : Bool) (p : Program) (name : ℕ) (keep rec : List ℕ) (flag words : ℕ) → refusalOf cid ask p name keep rec flag words ≡ 0
+pub not-refused : (size : Program → ℕ) → ((q : Program) → smallSize q ≤ size q) → (cid ask : Bool) (p : Program) (name : ℕ) (keep rec : List ℕ) (flag words : ℕ) → refusalOf size cid ask p name keep rec flag words ≡ 0
     → Passed cid ask p name keep rec flag words
 unfolding refusalOf
-not-refused cid ask p name keep rec flag words z =
+not-refused size least cid ask p name keep rec flag words z =
     let h =
     passes (sameBool cid (cidKeyed (p .top))) (unsupportedIn ask p) (pick cid (hasRos (rosIn (p .top))) true) (ltb 65535 name) (allBelow (length (p .charstrings)) keep)
-    (allFound p (keptOf (length (p .charstrings)) keep)) (recordFine cid rec flag) (ltb words (workSize p)) z in
+    (allFound p (keptOf (length (p .charstrings)) keep)) (recordFine cid rec flag) (ltb words (size p)) z in
     record {
       keying = same-bool cid (cidKeyed (p .top)) (h .0);
       supported = h .1;
@@ -183,8 +182,15 @@ not-refused cid ask p name keep rec flag words z =
       below = h .4;
       found = h .5;
       recorded = h .6;
-      room = ltb-false words (workSize p) (h .7);
+      room = omega (arith, least p, ltb-false words (size p) (h .7));
     }
+
+-- and that the words are enough
+pub words-enough : (size : Program → ℕ) (cid ask : Bool) (p : Program) (name : ℕ) (keep rec : List ℕ) (flag words : ℕ) → refusalOf size cid ask p name keep rec flag words ≡ 0 → size p ≤ words
+unfolding refusalOf
+words-enough size cid ask p name keep rec flag words z =
+    ltb-false words (size p) (passes (sameBool cid (cidKeyed (p .top))) (unsupportedIn ask p) (pick cid (hasRos (rosIn (p .top))) true) (ltb 65535 name) (allBelow (length (p .charstrings)) keep)
+    (allFound p (keptOf (length (p .charstrings)) keep)) (recordFine cid rec flag) (ltb words (size p)) z .7)
 
 -- ---- the entries' code
 
@@ -212,29 +218,31 @@ unfolding zeros
 zeros-are zero = refl
 zeros-are (suc n) = ap (λ (l : List ℕ). 0 ∷ l) (zeros-are n)
 
-module _ (cid ask : Bool) (font : List ℕ) (f : Font) (b : List ℕ) (name keep rec : List ℕ) (flag : ℕ) (work out : List ℕ) (bytes : Octets font) (octets : Octets rec)
-    (held : InFile font f b) (n : ℕ) (number : n ≡ refusalOf cid ask (programOf b f) (length name) keep rec flag (length work)) where
+-- each call asks for no less than the small one
+least : (small : Bool) (p : Program) → smallSize p ≤ sizeOf small p
+least true p = omega arith
+least false p = small-less p
+
+module _ (small cid ask : Bool) (font : List ℕ) (f : Font) (b : List ℕ) (name keep rec : List ℕ) (flag : ℕ) (work out : List ℕ) (bytes : Octets font) (octets : Octets rec)
+    (held : InFile font f b) (n : ℕ) (number : n ≡ refusalOf (sizeOf small) cid ask (programOf b f) (length name) keep rec flag (length work)) where
   -- refused before the cut
-  pub early-read : 0 < n → Cuts cid ask font name keep rec flag work out work out (Refused n)
+  pub early-read : 0 < n → CutsWith (sizeOf small) cid ask font name keep rec flag work out work out (Refused n)
   early-read h =
-      subst (λ (m : ℕ). Cuts cid ask font name keep rec flag work out work out (Refused m)) (sym number)
-      (early-cuts cid ask font name keep rec flag work out bytes octets (programOf b f) (held .is) (subst (λ (m : ℕ). 0 < m) number h))
+      subst (λ (m : ℕ). CutsWith (sizeOf small) cid ask font name keep rec flag work out work out (Refused m)) (sym number)
+      (early-cuts (sizeOf small) cid ask font name keep rec flag work out bytes octets (programOf b f) (held .is) (subst (λ (m : ℕ). 0 < m) number h))
 
   module _ (l : n ≤ 0) where
-    none : refusalOf cid ask (programOf b f) (length name) keep rec flag (length work) ≡ 0
+    none : refusalOf (sizeOf small) cid ask (programOf b f) (length name) keep rec flag (length work) ≡ 0
     none = let z : n ≡ 0 = omega arith in sym number ∙ z
 
     -- what the cut asks
     pub passed-read : Passed cid ask (programOf b f) (length name) keep rec flag (length work)
-    passed-read = not-refused cid ask (programOf b f) (length name) keep rec flag (length work) none
+    passed-read = not-refused (sizeOf small) (least small) cid ask (programOf b f) (length name) keep rec flag (length work) none
 
-    module _ (w : ℕ) (size : w ≡ 2 * f .charstrings .count + wordsFor (f .globals .count) + f .words) where
-      wide : w ≡ workSize (programOf b f)
-      wide = size ∙ work-is b f (held .good)
-
+    module _ (w : ℕ) (wide : w ≡ sizeOf small (programOf b f)) where
       -- the first W words are there
       pub words-room : w ≤ length work
-      words-room = omega (arith, wide, passed-read .room)
+      words-room = omega (arith, wide, words-enough (sizeOf small) cid ask (programOf b f) (length name) keep rec flag (length work) none)
 
       pub words-taken : w ≡ length (take w work)
       words-taken = sym (length-take-le w work words-room)
@@ -251,13 +259,13 @@ module _ (cid ask : Bool) (font : List ℕ) (f : Font) (b : List ℕ) (name keep
             below = h .below;
             found = h .found;
             recorded = h .recorded;
-            room = omega (arith, wide, words-taken);
+            room = omega (arith, wide, words-taken, least small (programOf b f));
           }
 
       -- cut with them, which are then cleared
       pub late-read : (used cleared out' : List ℕ) (r : Answer) → Cut (cutBehind ask (programOf b f) name keep rec flag (length out)) out out' r
-          → length used ≡ length (take w work) → cleared ≡ replicate (length used) 0 → Cuts cid ask font name keep rec flag work out (cleared ++ drop w work) out' r
+          → length used ≡ length (take w work) → cleared ≡ replicate (length used) 0 → CutsWith (sizeOf small) cid ask font name keep rec flag work out (cleared ++ drop w work) out' r
       late-read used cleared out' r k l e =
-          late-cuts cid ask font name keep rec flag work out bytes octets (programOf b f) (held .is) (cleared ++ drop w work) out' r none k
+          late-cuts (sizeOf small) cid ask font name keep rec flag work out bytes octets (programOf b f) (held .is) (cleared ++ drop w work) out' r none k
           (ap (λ (x : List ℕ). x ++ drop w work) (e ∙ ap (λ (m : ℕ). replicate m 0) (l ∙ sym words-taken) ∙ zeros-are w)
           ∙ ap (λ (m : ℕ). zeros m ++ drop m work) wide)

@@ -5,15 +5,21 @@ ghost use lib.ListN.{length};
 ghost use Rattle.cff.specs.Reads.{programOf};
 ghost use Rattle.cff.specs.File.{HasFont};
 ghost use Rattle.parts.specs.Ready.{FontHeld};
-ghost use Rattle.outcome.specs.Entry.{cutBehind, Cuts, Cut, Passed};
+ghost use Rattle.outcome.specs.Entry.{sizeOf, cutBehind, CutsWith, Cuts, CutsSmall, Cut, Passed};
 use cff::font::Font;
 use cff::font::FontRead;
 use outcome::Answer;
 
+// Which call it is: of a CID-keyed font or not, with its encoding or not, and whether it is the small one (document 02, Wish 10).
+pub struct Call {
+    pub cid: bool,
+    pub ask: bool,
+    pub small: bool,
+}
+
 // The cut by the keying that is asked for.
 fn cut_glyphs(
-    cid: bool,
-    ask: bool,
+    c: Call,
     font: &[u8],
     f: Font,
     name: &[u8],
@@ -23,11 +29,13 @@ fn cut_glyphs(
     words: &mut [u32],
     out: &mut [u8],
 ) -> Answer
-    requires { ⌜ (cid ≡ true → ask ≡ false) × (FontHeld (now font) f)
-        × (Passed cid ask (programOf (now font) f) (length (now name)) (now keep) (now rows) traced (length (now words))) ⌝ }
-    ensures { λ r. ⌜ Cut (cutBehind ask (programOf (now (font .entry)) f) (now (name .entry)) (now (keep .entry)) (now (rows .entry)) traced (length (now (out .entry))))
+    requires { ⌜ (c .cid ≡ true → c .ask ≡ false) × (FontHeld (now font) f)
+        × (Passed (c .cid) (c .ask) (programOf (now font) f) (length (now name)) (now keep) (now rows) traced (length (now words))) ⌝ }
+    ensures { λ r. ⌜ Cut (cutBehind (c .ask) (programOf (now (font .entry)) f) (now (name .entry)) (now (keep .entry)) (now (rows .entry)) traced (length (now (out .entry))))
         (now (out .entry)) (now (out .exit)) r ⌝ }
 {
+    let cid = c.cid;
+    let ask = c.ask;
     if cid {
         return by_cid::cut_cid(font, f, name, keep, rows, traced, words, out);
     }
@@ -36,8 +44,7 @@ fn cut_glyphs(
 
 // The cut of a font that was read in a file, by the bytes of its table: refused before the work words are used, or with the first W of them, which end as zeros.
 fn cut_font(
-    cid: bool,
-    ask: bool,
+    c: Call,
     font: &[u8],
     f: Font,
     name: &[u8],
@@ -47,14 +54,16 @@ fn cut_font(
     work: &mut [u32],
     out: &mut [u8],
 ) -> Answer
-    requires { ⌜ (cid ≡ true → ask ≡ false) × HasFont (now font) f ⌝ }
-    ensures { λ r. ⌜ Cuts cid ask (now (font .entry)) (now (name .entry)) (now (keep .entry)) (now (rows .entry)) traced (now (work .entry)) (now (out .entry))
+    requires { ⌜ (c .cid ≡ true → c .ask ≡ false) × HasFont (now font) f ⌝ }
+    ensures { λ r. ⌜ CutsWith (sizeOf (c .small)) (c .cid) (c .ask) (now (font .entry)) (now (name .entry)) (now (keep .entry)) (now (rows .entry)) traced (now (work .entry)) (now (out .entry))
         (now (work .exit)) (now (out .exit)) r ⌝ }
 {
     let table = cff::set::table(font, f);
+    let small = c.small;
     let n = early_refusals::refusal(
-        cid,
-        ask,
+        small,
+        c.cid,
+        c.ask,
         table,
         f,
         name.len(),
@@ -66,28 +75,16 @@ fn cut_font(
     if 0 < n {
         return Answer::Refused(n);
     }
-    let w = cff::font::work_size(f);
+    let w = early_refusals::size_of(small, table, f);
     let words = &mut work[..w];
-    let r = cut_glyphs(
-        cid,
-        ask,
-        table,
-        f,
-        name,
-        keep,
-        rows,
-        traced,
-        &mut *words,
-        out,
-    );
+    let r = cut_glyphs(c, table, f, name, keep, rows, traced, &mut *words, out);
     reach::ranks::clear(words);
     r
 }
 
 // The cut of a font, CID-keyed or, with its encoding where it is asked for, not.
 fn cut(
-    cid: bool,
-    ask: bool,
+    c: Call,
     font: &[u8],
     name: &[u8],
     keep: &[u16],
@@ -96,13 +93,13 @@ fn cut(
     work: &mut [u32],
     out: &mut [u8],
 ) -> Answer
-    requires { ⌜ (cid ≡ true → ask ≡ false) ⌝ }
-    ensures { λ r. ⌜ Cuts cid ask (now (font .entry)) (now (name .entry)) (now (keep .entry)) (now (rows .entry)) traced (now (work .entry)) (now (out .entry))
+    requires { ⌜ (c .cid ≡ true → c .ask ≡ false) ⌝ }
+    ensures { λ r. ⌜ CutsWith (sizeOf (c .small)) (c .cid) (c .ask) (now (font .entry)) (now (name .entry)) (now (keep .entry)) (now (rows .entry)) traced (now (work .entry)) (now (out .entry))
         (now (work .exit)) (now (out .exit)) r ⌝ }
 {
     match cff::set::read_font(font) {
         FontRead::Refused(n) => Answer::Refused(n),
-        FontRead::Found(f) => cut_font(cid, ask, font, f, name, keep, rows, traced, work, out),
+        FontRead::Found(f) => cut_font(c, font, f, name, keep, rows, traced, work, out),
     }
 }
 
@@ -120,7 +117,12 @@ pub fn subset(
     ensures { λ r. ⌜ Cuts false encoding (now (font .entry)) (now (name .entry)) (now (keep .entry)) (now (rows .entry)) traced (now (work .entry)) (now (out .entry))
         (now (work .exit)) (now (out .exit)) r ⌝ }
 {
-    cut(false, encoding, font, name, keep, rows, traced, work, out)
+    let c = Call {
+        cid: false,
+        ask: encoding,
+        small: false,
+    };
+    cut(c, font, name, keep, rows, traced, work, out)
 }
 
 // The subset of a CID-keyed font.
@@ -136,5 +138,53 @@ pub fn subset_cid(
     ensures { λ r. ⌜ Cuts true false (now (font .entry)) (now (name .entry)) (now (keep .entry)) (now (rows .entry)) traced (now (work .entry)) (now (out .entry))
         (now (work .exit)) (now (out .exit)) r ⌝ }
 {
-    cut(true, false, font, name, keep, rows, traced, work, out)
+    let c = Call {
+        cid: true,
+        ask: false,
+        small: false,
+    };
+    cut(c, font, name, keep, rows, traced, work, out)
+}
+
+// The subset of a name-keyed font with few work words: a bit for each glyph and each subroutine (document 02, Wish 10).
+pub fn subset_small(
+    font: &[u8],
+    name: &[u8],
+    keep: &[u16],
+    rows: &[u8],
+    traced: u8,
+    encoding: bool,
+    work: &mut [u32],
+    out: &mut [u8],
+) -> Answer
+    ensures { λ r. ⌜ CutsSmall false encoding (now (font .entry)) (now (name .entry)) (now (keep .entry)) (now (rows .entry)) traced (now (work .entry)) (now (out .entry))
+        (now (work .exit)) (now (out .exit)) r ⌝ }
+{
+    let c = Call {
+        cid: false,
+        ask: encoding,
+        small: true,
+    };
+    cut(c, font, name, keep, rows, traced, work, out)
+}
+
+// The subset of a CID-keyed font with few work words.
+pub fn subset_cid_small(
+    font: &[u8],
+    name: &[u8],
+    keep: &[u16],
+    rows: &[u8],
+    traced: u8,
+    work: &mut [u32],
+    out: &mut [u8],
+) -> Answer
+    ensures { λ r. ⌜ CutsSmall true false (now (font .entry)) (now (name .entry)) (now (keep .entry)) (now (rows .entry)) traced (now (work .entry)) (now (out .entry))
+        (now (work .exit)) (now (out .exit)) r ⌝ }
+{
+    let c = Call {
+        cid: true,
+        ask: false,
+        small: true,
+    };
+    cut(c, font, name, keep, rows, traced, work, out)
 }

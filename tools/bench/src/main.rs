@@ -2,11 +2,14 @@
 
 mod growth;
 mod harfbuzz;
+mod made;
 mod measure;
 mod original;
 mod ours;
 mod reading;
 mod sheet;
+mod small;
+mod stack;
 mod table;
 mod wide;
 
@@ -26,7 +29,8 @@ mod record;
 use std::process::ExitCode;
 use std::{env, fs};
 
-const USAGE: &str = "usage: tools/bench/run all|fonts|growth|read|wide [FILE...]";
+const USAGE: &str = "usage: tools/bench/run all|fonts|growth|read|wide|small [FILE...]
+       tools/bench/run stack";
 
 /// The files of a folder that `run` names by a variable.
 fn folder(variable: &str) -> Vec<String> {
@@ -78,6 +82,12 @@ fn main() -> ExitCode {
         Some((what, named)) if what == "growth" => growth::print(&fonts(named)),
         Some((what, named)) if what == "read" => reading::print(&fonts(named)),
         Some((what, named)) if what == "wide" => wide::print(&wide_fonts(named)),
+        Some((what, named)) if what == "small" => small::print(&fonts(named)),
+        Some((what, [])) if what == "stack" => stack::print(),
+        // A process of `stack`'s own.
+        Some((what, [call, font, rows, kib])) if what == "stack-try" => {
+            return stack::attempt(call, font, rows, kib.parse().expect("a number"));
+        }
         _ => {
             eprintln!("{USAGE}");
             return ExitCode::from(2);

@@ -40,6 +40,25 @@ pub fn least_in<T>(budget: Budget, mut run: impl FnMut() -> T) -> (f64, T) {
     }
 }
 
+/// The least times of two that run in turn, so that what else the machine does falls on both, and what their last runs gave.
+pub fn least_of_both<T>(mut one: impl FnMut() -> T, mut two: impl FnMut() -> T) -> [(f64, T); 2] {
+    let once = Budget {
+        time: Duration::ZERO,
+        runs: 1,
+    };
+    let mut all = [least_in(once, &mut one), least_in(once, &mut two)];
+    let start = Instant::now();
+    for _ in 1..USUAL.runs {
+        if start.elapsed() > 2 * USUAL.time {
+            break;
+        }
+        let [first, second] = [least_in(once, &mut one), least_in(once, &mut two)];
+        all[0].0 = all[0].0.min(first.0);
+        all[1].0 = all[1].0.min(second.0);
+    }
+    all
+}
+
 /// The geometric mean.
 pub fn mean(ratios: &[f64]) -> f64 {
     let sum: f64 = ratios.iter().map(|ratio| ratio.ln()).sum();

@@ -11,6 +11,13 @@ pub fn cut(bytes: &[u8], keep: &[u16], record: &Record) -> Vec<u8> {
     font.subset(NAME, keep, record).expect("a subset").bytes
 }
 
+/// `Font::read`, then `Font::subset_small`.
+pub fn small(bytes: &[u8], keep: &[u16], record: &Record) -> Vec<u8> {
+    let font = Font::read(bytes).expect("a font that is read");
+    let subset = font.subset_small(NAME, keep, record);
+    subset.expect("a subset").bytes
+}
+
 /// `Font::read`, then `Font::subset_traced`, which traces the glyphs itself.
 pub fn traced(bytes: &[u8], keep: &[u16]) -> Vec<u8> {
     let font = Font::read(bytes).expect("a font that is read");

@@ -90,6 +90,20 @@ impl Iterator for Families {
     }
 }
 
+/// A font, and up to two damaged copies of it.
+pub fn copied(g: &mut Generator, made: fonts::Made) -> Vec<Member> {
+    let copies = [0, 0, 1, 2][g.below(4)];
+    let mut members = vec![(made.kind, INTACT, made.bytes.clone())];
+    if copies > 0 {
+        let marks = model::read(&made.bytes, NONE).marks;
+        for _ in 0..copies {
+            let (_, copy) = damage::damaged(g, &made.bytes, &marks);
+            members.push((made.kind, "damaged", copy));
+        }
+    }
+    members
+}
+
 /// The made fonts to read.
 pub fn made(seed: u64) -> Families {
     Families::new(seed, family)

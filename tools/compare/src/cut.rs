@@ -80,6 +80,14 @@ pub struct Answer<'a> {
 }
 
 impl Outcome {
+    /// The same of a call that asks for so many work words.
+    pub fn asking(self, work: u64) -> Outcome {
+        match self {
+            Outcome::Ready(_, subset) => Outcome::Ready(work, subset),
+            other => other,
+        }
+    }
+
     /// What a call answers with so much lent.
     pub fn answer(&self, lent: Lent) -> Answer<'_> {
         match self {

@@ -1,14 +1,11 @@
 //! Fonts to cut, and what is asked of them.
 
-use crate::cases::{Families, Member};
+use crate::cases::{Families, Member, copied};
 use crate::cut::{self, Cut, LONGEST_NAME};
 use crate::cut_compare::Opened;
 use crate::cut_records::{self, Record};
-use crate::damage::{self, INTACT};
-use crate::domain::NONE;
 use crate::fonts;
 use crate::generator::Generator;
-use crate::model;
 
 /// The made fonts to cut.
 pub fn fonts(seed: u64) -> Families {
@@ -26,20 +23,6 @@ pub fn coded(seed: u64) -> Families {
 fn family(g: &mut Generator) -> Vec<Member> {
     let made = fonts::make_to_cut(g);
     copied(g, made)
-}
-
-/// A font, and up to two damaged copies of it.
-fn copied(g: &mut Generator, made: fonts::Made) -> Vec<Member> {
-    let copies = [0, 0, 1, 2][g.below(4)];
-    let mut members = vec![(made.kind, INTACT, made.bytes.clone())];
-    if copies > 0 {
-        let marks = model::read(&made.bytes, NONE).marks;
-        for _ in 0..copies {
-            let (_, copy) = damage::damaged(g, &made.bytes, &marks);
-            members.push((made.kind, "damaged", copy));
-        }
-    }
-    members
 }
 
 /// Some cuts of a font; one of a font that is refused.

@@ -99,6 +99,7 @@ pub fn compare(library: &Library, case: &Case, seed: u64, tally: &mut CutTally, 
         if panicked(case, seed, &cut, &outcome, tally) {
             continue;
         }
+        let outcome = outcome.asking(read.map_or(0, library.work));
         for lent in lents(&mut g, &outcome) {
             let want = outcome.answer(lent);
             given |= want.subset.is_ok();

@@ -140,7 +140,7 @@ impl CutTally {
 
 impl Difference {
     /// All but the font.
-    fn tell(&self, out: &mut String) {
+    pub fn tell(&self, out: &mut String) {
         let Difference {
             case,
             message,

@@ -79,6 +79,7 @@ pub fn compare(
             differ(case, seed, &cut, "nothing", message.clone(), tally);
             continue;
         }
+        let outcome = outcome.asking(read.map_or(0, library.work));
         for lent in lents(&mut g, &outcome) {
             let want = outcome.answer(lent);
             tally.call((case.kind, case.state), &cut, &want);

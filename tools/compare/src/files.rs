@@ -106,6 +106,7 @@ pub fn by_files() -> Library {
         item: |font, item, out, size| in_file(font, |file| (library().item)(file, item, out, size)),
         item_refusal: |font, item| in_file(font, |file| (library().item_refusal)(file, item)),
         subset: |font, cut, rooms| in_file(font, |file| (library().subset)(file, cut, rooms)),
+        work: library().work,
         trace: |font, keep, record, answer| {
             in_file(font, |file| (library().trace)(file, keep, record, answer))
         },

@@ -21,6 +21,7 @@ pub mod model;
 mod numbers;
 mod original;
 mod record;
+pub mod small_fonts;
 pub mod trace_edges;
 
 #[path = "../../oracle/src/generator.rs"]

@@ -1,6 +1,7 @@
 //! The library under test by its C interface (bindings/rust, `ffi`).
 
 use crate::cut::{Cut, Lent, WORDS};
+use crate::model::Font;
 use crate::trace;
 use mogdivash::ffi;
 
@@ -38,6 +39,8 @@ pub struct Library {
     /// Font, kind and number.
     pub item_refusal: fn(&[u8], (u8, u64)) -> u8,
     pub subset: SubsetFn,
+    /// How many work words that asks for.
+    pub work: fn(&Font) -> u64,
     pub trace: TraceFn,
 }
 
@@ -298,6 +301,7 @@ pub fn library() -> Library {
             ffi::cff_item_refusal(font.as_ptr(), font.len(), kind, number)
         },
         subset,
+        work: Font::work,
         trace: |font, keep, record, answer| unsafe {
             ffi::cff_trace(
                 font.as_ptr(),
@@ -313,7 +317,21 @@ pub fn library() -> Library {
     }
 }
 
+/// The same with its small calls in the place of the others: document 02, Wish 10.
+pub fn small() -> Library {
+    Library {
+        subset: |font, cut, rooms| subset_by(true, font, cut, rooms),
+        work: Font::small_work,
+        ..library()
+    }
+}
+
 fn subset(font: &[u8], cut: &Cut, rooms: &mut Rooms<'_>) -> u8 {
+    subset_by(false, font, cut, rooms)
+}
+
+/// The entry of the keying, that with few work words or the other.
+fn subset_by(small: bool, font: &[u8], cut: &Cut, rooms: &mut Rooms<'_>) -> u8 {
     let Rooms { work, out, answer } = rooms;
     let (at, length) = (font.as_ptr(), font.len());
     let (name, name_length) = (cut.name.as_ptr(), cut.name.len());
@@ -325,7 +343,11 @@ fn subset(font: &[u8], cut: &Cut, rooms: &mut Rooms<'_>) -> u8 {
     // SAFETY: as above.
     unsafe {
         if cut.cid_keyed {
-            ffi::cff_subset_cid(
+            let call = match small {
+                true => ffi::cff_subset_cid_small,
+                false => ffi::cff_subset_cid,
+            };
+            call(
                 at,
                 length,
                 name,
@@ -343,7 +365,11 @@ fn subset(font: &[u8], cut: &Cut, rooms: &mut Rooms<'_>) -> u8 {
                 told_length,
             )
         } else {
-            ffi::cff_subset(
+            let call = match small {
+                true => ffi::cff_subset_small,
+                false => ffi::cff_subset,
+            };
+            call(
                 at,
                 length,
                 name,

@@ -46,6 +46,12 @@ mod opentype;
 mod original;
 mod record;
 mod report;
+mod small;
+mod small_cases;
+mod small_fonts;
+mod small_run;
+#[cfg(test)]
+mod small_tests;
 mod store;
 mod store_subset;
 #[cfg(test)]
@@ -91,6 +97,7 @@ const USAGE: &str = "usage: tools/compare/run cff SEED COUNT
        tools/compare/run check SEED COUNT
        tools/compare/run opentype SEED COUNT
        tools/compare/run alike SEED COUNT
+       tools/compare/run small SEED COUNT
        tools/compare/run blocking SEED COUNT
        tools/compare/run glyphs SEED COUNT
        tools/compare/run blocking-time GLYPHS KEPT TRIED
@@ -128,6 +135,7 @@ fn main() -> ExitCode {
         ["check", seed, count] => seeded(seed, count, check),
         ["opentype", seed, count] => seeded(seed, count, opentype),
         ["alike", seed, count] => seeded(seed, count, alike),
+        ["small", seed, count] => seeded(seed, count, small_calls),
         ["blocking", seed, count] => seeded(seed, count, blocking_glyphs),
         ["glyphs", seed, count] => seeded(seed, count, glyphs),
         ["blocking-time", numbers @ ..] => blocking_time(numbers),
@@ -432,6 +440,13 @@ fn alike(seed: u64, count: usize) -> ExitCode {
         real.report(&target().join("compare"))
     );
     status(made.differences() + real.differences())
+}
+
+/// `count` cuts of made fonts with few work words and with many, those of fonts with many glyphs, and of the tables in target/fonts.
+fn small_calls(seed: u64, count: usize) -> ExitCode {
+    let (text, differences) = on_large_stack(move || small_run::run(seed, count, &target()));
+    print!("{text}");
+    status(differences)
 }
 
 /// The time that this thread has had of a processor.

@@ -21,6 +21,7 @@ pub fn library() -> Library {
         item,
         item_refusal,
         subset,
+        work: model::Font::work,
         trace,
     }
 }

@@ -16,7 +16,7 @@ pub const STACK: usize = 3 << 19;
 pub const BLOCKING_STACK: usize = 3 << 20;
 
 /// Entries, for the summary.
-pub const ENTRIES: [&str; 8] = [
+pub const ENTRIES: [&str; 9] = [
     "read",
     "find",
     "item",
@@ -25,6 +25,7 @@ pub const ENTRIES: [&str; 8] = [
     "subset",
     "blocking_glyph",
     "next_charstring",
+    "subset_small",
 ];
 
 /// Answers by entry and number, 0 for those that were not refused.
@@ -294,7 +295,7 @@ impl Checks<'_> {
             return Ok(());
         };
         let binding = told(guarded(self.guarded, || font.item(asked)));
-        equal("Font::item", &binding, &item)
+        equal("Font::item", &binding.map(<[u8]>::to_vec), &item)
     }
 
     fn tracing(&mut self, read: &Told<Vec<u64>>) -> Checked<Told<(u64, Vec<u8>)>> {
@@ -355,11 +356,14 @@ impl Checks<'_> {
         if w > MOST_WORDS {
             return self.starved(cid_keyed);
         }
+        let glyphs = read.as_ref().map_or(1, |counts| counts[0]);
+        let few = (glyphs.div_ceil(32) + w - 2 * glyphs) as usize;
         let w = w as usize;
         let cut = Cut {
             cid_keyed: cid_keyed ^ self.desk.g.once_in(30),
             traced: self.input.traced,
             encoding: self.input.encoding,
+            small: false,
         };
         let mut room = self.desk.font.len() + self.desk.name.len() + 1024;
         let whole = loop {
@@ -370,8 +374,14 @@ impl Checks<'_> {
         };
         self.note(5, &whole);
         self.less(cut, w, &whole)?;
+        let small = Cut { small: true, ..cut };
+        let same = self.desk.subset(small, few, (few, room, 2))?;
+        self.note(8, &same);
+        equal("subset with few work words", &same, &whole)?;
+        self.less(small, few, &whole)?;
         if read.is_ok() && cut.cid_keyed == cid_keyed && cut.traced < 2 {
             self.bound(cut, w, &whole)?;
+            self.bound(small, few, &whole)?;
         }
         Ok(())
     }
@@ -393,9 +403,14 @@ impl Checks<'_> {
             cid_keyed,
             traced: 1,
             encoding: 0,
+            small: false,
         };
         let answer = self.desk.subset(cut, 0, (17, 4096, 2))?;
         self.note(5, &answer);
+        let small = Cut { small: true, ..cut };
+        let same = self.desk.subset(small, 0, (17, 4096, 2))?;
+        self.note(8, &same);
+        equal("subset with few work words", &same, &answer)?;
         let font = Font::read(self.desk.font.slice()).map_err(|refusal| refusal.to_string())?;
         let record = Record::from_bytes(self.input.record.clone());
         let (name, keep) = (self.desk.name.slice(), self.desk.keep.slice());
@@ -419,9 +434,11 @@ impl Checks<'_> {
         let both = self.desk.g.once_in(2);
         let font = Font::read(self.desk.font.slice()).map_err(|refusal| refusal.to_string())?;
         let (name, keep) = (self.desk.name.slice(), self.desk.keep.slice());
-        let binding = guarded(self.guarded, || match cut.encoding {
-            0 => font.subset(name, keep, &record),
-            _ => font.subset_with_encoding(name, keep, &record),
+        let binding = guarded(self.guarded, || match (cut.encoding, cut.small) {
+            (0, false) => font.subset(name, keep, &record),
+            (0, true) => font.subset_small(name, keep, &record),
+            (_, false) => font.subset_with_encoding(name, keep, &record),
+            (_, true) => font.subset_small_with_encoding(name, keep, &record),
         });
         equal("Font::subset", &subset(binding), whole)?;
         if !both || cut.encoding != 0 {
@@ -429,7 +446,10 @@ impl Checks<'_> {
         }
         let (into, out) = guarded(self.guarded, || {
             let (mut words, mut out) = (vec![7; work], vec![9; room]);
-            let into = font.subset_into(name, keep, &record, &mut words, &mut out);
+            let into = match cut.small {
+                false => font.subset_into(name, keep, &record, &mut words, &mut out),
+                true => font.subset_small_into(name, keep, &record, &mut words, &mut out),
+            };
             (into, out)
         });
         let into = told(into).map(|(by, length)| (way(by), length));

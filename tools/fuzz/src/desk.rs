@@ -13,6 +13,8 @@ pub struct Cut {
     pub cid_keyed: bool,
     pub traced: u8,
     pub encoding: u8,
+    /// By the call with few work words.
+    pub small: bool,
 }
 
 /// A call's number, and what it answered where that is 0.
@@ -209,7 +211,7 @@ impl Desk {
         Ok(())
     }
 
-    /// The way and the subset; W of the font.
+    /// The way and the subset; W of the font and of the call.
     pub fn subset(
         &mut self,
         cut: Cut,
@@ -233,7 +235,11 @@ impl Desk {
         let (work, out, words) = (&self.work, &self.out, &self.words);
         unsafe {
             if cut.cid_keyed {
-                ffi::cff_subset_cid(
+                let call = match cut.small {
+                    true => ffi::cff_subset_cid_small,
+                    false => ffi::cff_subset_cid,
+                };
+                call(
                     font.ptr(),
                     font.len(),
                     name.ptr(),
@@ -251,7 +257,11 @@ impl Desk {
                     words.len(),
                 )
             } else {
-                ffi::cff_subset(
+                let call = match cut.small {
+                    true => ffi::cff_subset_small,
+                    false => ffi::cff_subset,
+                };
+                call(
                     font.ptr(),
                     font.len(),
                     name.ptr(),

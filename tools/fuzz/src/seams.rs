@@ -7,7 +7,7 @@ use crate::hex;
 use crate::inputs::Family;
 use made_fonts::cases::mixed;
 use made_fonts::generator::Generator;
-use made_fonts::{fonts, heavy, trace_edges};
+use made_fonts::{fonts, heavy, small_fonts, trace_edges};
 use std::env;
 use std::fs::File;
 use std::os::unix::fs::FileExt;
@@ -68,11 +68,17 @@ fn summary(counts: &Counts) {
     }
 }
 
-/// Few, since each is large: up to 65,536 tokens, calls and subroutines; one that asks for more work words than the binding allocates; the
-/// longest file, and one byte more.
+/// Few, since each is large: up to 65,536 tokens, calls and subroutines; 65,535 glyphs whose CIDs fall or stand in any order, and many names;
+/// one that asks for more work words than the binding allocates; the longest file, and one byte more.
 fn large_fonts(seed: u64) -> Vec<(&'static str, Vec<u8>)> {
     let edges = trace_edges::fonts(seed).into_iter();
     let mut all: Vec<_> = edges.map(|case| (case.state, case.font)).collect();
+    for case in small_fonts::large(seed) {
+        let many = ["65,535 glyphs", "20,000 names"].contains(&case.state);
+        if many && ["ids fall", "ids shuffled"].contains(&case.kind) {
+            all.push((case.state, case.font));
+        }
+    }
     all.push(("work words", heavy::work(3, 0, 600, 60_000)));
     for more in [0, 1] {
         let mut font = fonts::plain(3);

@@ -3,17 +3,17 @@ use Prim.Native.Nat.{_≤_}
 use native.Mathlib.Omega.{arith}
 use denote.Ref.{now}
 use Rattle.named_parts.specs.Named.{codedFor, firstFd}
-use Rattle.by_name.specs.NamedPlanLaws.{first-only, plan-in, prepared-plan, prepared-strings, prepared-cut}
+use Rattle.by_name.specs.NamedPlanLaws.{first-only, plan-in, prepared-ordered, prepared-plan, prepared-strings, prepared-cut}
 use borrow.Author.Needs.{needs}
 use Rattle.by_name.proofs.cut_prepared.Statement.{statement}
 use Rattle.by_name.proofs.cut_prepared.Tie as tie
 
 -- the arguments, and after planning
 abbrev S : tie.After-totals → tie.Start
-S c = c .before .before .before .before .before .before .before .before .before .before .before .before
+S c = c .before .before .before .before .before .before .before .before .before .before .before .before .before .before
 
-abbrev P : tie.After-cut-planned-arg2 → tie.After-plan-all
-P c = c .before .before .before .before .before .before .before .before .before
+abbrev P : tie.After-cut-planned-arg3 → tie.After-plan-all
+P c = c .before .before .before .before .before .before .before .before .before .before .before .before
 
 array-write-used : tie.Need-array-write-used
 array-write-used c = search needs
@@ -47,9 +47,10 @@ cut-planned-requires c κs =
     let w = P c in
     let s = S (w .before) in
     let e = w .plan-all .ensures in (
-      prepared-plan _ _ _ _ (s .pre .0) firstFd first-only _ _ _ _ _ (e .0) (e .1) (e .2) (e .4),
-      prepared-strings _ _ _ _ (s .pre .0) firstFd first-only _ _ _ _ _ (e .0) (e .1) (e .2) (e .4) _ _ _ (s .pre .1),
+      prepared-plan _ _ _ _ (s .pre .0) firstFd first-only _ _ (w .plan-all .result) (e .2) (e .3) (e .4) _ _ _ (e .0) (e .1),
+      prepared-strings _ _ _ _ (s .pre .0) firstFd first-only _ _ (w .plan-all .result) (e .2) (e .3) (e .4) _ _ _ (s .pre .1),
       s .pre .2,
+      prepared-ordered _ _ _ _ (s .pre .0) firstFd first-only _ _ (w .plan-all .result) (e .2) (e .3) (e .4),
     )
 
 same-length : tie.Need-same-length
@@ -58,13 +59,16 @@ same-length c = search needs
 same-length-2 : tie.Need-same-length-2
 same-length-2 c = search needs
 
+same-length-3 : tie.Need-same-length-3
+same-length-3 c = search needs
+
 returns : tie.Need-returns
 returns c =
-    let u = c .before .before in
+    let u = c .before .before .before .before in
     let w = P (u .before) in
     let s = S (w .before) in
     let e = w .plan-all .ensures in
-    prepared-cut _ _ _ _ (s .pre .0) firstFd first-only _ _ _ _ _ (e .0) (e .1) (e .2) (e .4) (s .args .traced) (e .5) (codedFor (s .args .names .encoding) (now (s .args .slots))) (now (s .args .name)) (now (s .args .out)) _ _
+    prepared-cut _ _ _ _ (s .pre .0) firstFd first-only _ _ (w .plan-all .result) (e .2) (e .3) (e .4) _ (s .args .traced) (e .5) (codedFor (s .args .names .encoding) (now (s .args .slots))) (now (s .args .name)) (now (s .args .out)) _ _
     (u .cut-planned .ensures)
 
 pub cut-prepared-spec : {M : Type 1} → statement M
@@ -82,4 +86,5 @@ cut-prepared-spec =
     cut-planned-requires
     same-length
     same-length-2
+    same-length-3
     returns)

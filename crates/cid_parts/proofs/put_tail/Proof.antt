@@ -32,7 +32,7 @@ part-sizes-requires : tie.Need-part-sizes-requires
 part-sizes-requires c κs =
     let s = c .before .before .before .before .before .before .before .before .before .before .before .before .before in
     let a = s .args in
-    parts-measured (now (a .font)) (a .c .cut .f) (rowsOf (now (a .rows))) (now (a .used)) (now (a .words)) (now (a .table)) (a .c .cut .plan) (s .pre .0 .ready) (now (a .totals)) (s .pre .1) 256 256 (table-room (replicate 256 0) refl) (table-room (replicate 256 0) refl)
+    parts-measured (now (a .font)) (rowsOf (now (a .rows))) (now (a .used)) (now (a .words)) (now (a .table)) (a .c .cut .plan) (s .pre .0 .ready) (now (a .totals)) (s .pre .1) 256 256 (table-room (replicate 256 0) refl) (table-room (replicate 256 0) refl)
 
 slice-aggregate-list-used : tie.Need-slice-aggregate-list-used
 slice-aggregate-list-used c = search needs
@@ -55,7 +55,7 @@ put-font-dicts-requires c κs =
     let m = M l in
     let s = S m in
     let a = s .args in
-    dicts-put (now (a .font)) (a .c .cut .f) (rowsOf (now (a .rows))) (now (a .used)) (now (a .words)) (a .c .cut .plan) (now (a .table)) (s .pre .0 .ready) (now (a .totals)) (s .pre .1) _ _ _ (a .c .cut .count) (a .c .at .privates) (dicts-ready (now (a .font)) (a .c .cut .f) (rowsOf (now (a .rows))) (now (a .used)) (now (a .words)) (a .c .cut .plan) (now (a .table)) (s .pre .0) (now (a .totals)) (s .pre .1) (m .part-sizes .ensures) (table-room _ refl) (table-room _ refl) (listed-put (now (a .used)) (replicate 256 0) _ (l .list-used .ensures .0) (table-room (replicate 256 0) refl)) (a .c .cut .count) (s .pre .2) (a .c .at .privates) (s .pre .3) (a .at) (s .pre .4)) (a .at) (now (a .out)) (s .pre .4) (s .pre .5)
+    dicts-put (now (a .font)) (rowsOf (now (a .rows))) (now (a .used)) (now (a .words)) (a .c .cut .plan) (now (a .table)) (s .pre .0 .ready) (now (a .totals)) (s .pre .1) _ _ _ (a .c .cut .count) (a .c .at .privates) (dicts-ready (now (a .font)) (rowsOf (now (a .rows))) (now (a .used)) (now (a .words)) (a .c .cut .plan) (now (a .table)) (s .pre .0) (now (a .totals)) (s .pre .1) (m .part-sizes .ensures) (table-room _ refl) (table-room _ refl) (listed-put (now (a .used)) (replicate 256 0) _ (l .list-used .ensures .0) (table-room (replicate 256 0) refl)) (a .c .cut .count) (s .pre .2) (a .c .at .privates) (s .pre .3) (a .at) (s .pre .4)) (a .at) (now (a .out)) (s .pre .4) (s .pre .5)
 
 put-privates-requires : tie.Need-put-privates-requires
 put-privates-requires c κs =
@@ -64,7 +64,7 @@ put-privates-requires c κs =
     let m = M l in
     let s = S m in
     let a = s .args in
-    privates-put (now (a .font)) (a .c .cut .f) (rowsOf (now (a .rows))) (now (a .used)) (now (a .words)) (a .c .cut .plan) (now (a .table)) (s .pre .0 .ready) (now (a .totals)) (s .pre .1) _ _ _ (a .c .cut .count) (a .c .at .privates) (dicts-ready (now (a .font)) (a .c .cut .f) (rowsOf (now (a .rows))) (now (a .used)) (now (a .words)) (a .c .cut .plan) (now (a .table)) (s .pre .0) (now (a .totals)) (s .pre .1) (m .part-sizes .ensures) (table-room _ refl) (table-room _ refl) (listed-put (now (a .used)) (replicate 256 0) _ (l .list-used .ensures .0) (table-room (replicate 256 0) refl)) (a .c .cut .count) (s .pre .2) (a .c .at .privates) (s .pre .3) (a .at) (s .pre .4)) (a .at) (now (a .out)) (s .pre .4) (s .pre .5) (w .put-font-dicts .ensures)
+    privates-put (now (a .font)) (rowsOf (now (a .rows))) (now (a .used)) (now (a .words)) (a .c .cut .plan) (now (a .table)) (s .pre .0 .ready) (now (a .totals)) (s .pre .1) _ _ _ (a .c .cut .count) (a .c .at .privates) (dicts-ready (now (a .font)) (rowsOf (now (a .rows))) (now (a .used)) (now (a .words)) (a .c .cut .plan) (now (a .table)) (s .pre .0) (now (a .totals)) (s .pre .1) (m .part-sizes .ensures) (table-room _ refl) (table-room _ refl) (listed-put (now (a .used)) (replicate 256 0) _ (l .list-used .ensures .0) (table-room (replicate 256 0) refl)) (a .c .cut .count) (s .pre .2) (a .c .at .privates) (s .pre .3) (a .at) (s .pre .4)) (a .at) (now (a .out)) (s .pre .4) (s .pre .5) (w .put-font-dicts .ensures)
 
 same-length : tie.Need-same-length
 same-length c = search needs
@@ -77,7 +77,7 @@ returns c =
     let m = M l in
     let s = S m in
     let a = s .args in
-    privates-wrote (now (a .font)) (a .c .cut .f) (rowsOf (now (a .rows))) (now (a .used)) (now (a .words)) (a .c .cut .plan) (now (a .table)) (s .pre .0 .ready) (now (a .totals)) (s .pre .1) _ _ _ (a .c .cut .count) (a .c .at .privates) (dicts-ready (now (a .font)) (a .c .cut .f) (rowsOf (now (a .rows))) (now (a .used)) (now (a .words)) (a .c .cut .plan) (now (a .table)) (s .pre .0) (now (a .totals)) (s .pre .1) (m .part-sizes .ensures) (table-room _ refl) (table-room _ refl) (listed-put (now (a .used)) (replicate 256 0) _ (l .list-used .ensures .0) (table-room (replicate 256 0) refl)) (a .c .cut .count) (s .pre .2) (a .c .at .privates) (s .pre .3) (a .at) (s .pre .4)) (a .at) (now (a .out)) (s .pre .4) (s .pre .5) (w .put-font-dicts .ensures) (v .put-privates .ensures)
+    privates-wrote (now (a .font)) (rowsOf (now (a .rows))) (now (a .used)) (now (a .words)) (a .c .cut .plan) (now (a .table)) (s .pre .0 .ready) (now (a .totals)) (s .pre .1) _ _ _ (a .c .cut .count) (a .c .at .privates) (dicts-ready (now (a .font)) (rowsOf (now (a .rows))) (now (a .used)) (now (a .words)) (a .c .cut .plan) (now (a .table)) (s .pre .0) (now (a .totals)) (s .pre .1) (m .part-sizes .ensures) (table-room _ refl) (table-room _ refl) (listed-put (now (a .used)) (replicate 256 0) _ (l .list-used .ensures .0) (table-room (replicate 256 0) refl)) (a .c .cut .count) (s .pre .2) (a .c .at .privates) (s .pre .3) (a .at) (s .pre .4)) (a .at) (now (a .out)) (s .pre .4) (s .pre .5) (w .put-font-dicts .ensures) (v .put-privates .ensures)
 
 pub put-tail-spec : {M : Type 1} → statement M
 put-tail-spec =

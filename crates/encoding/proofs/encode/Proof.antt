@@ -10,11 +10,16 @@ encode-asked-requires c κs = search needs
 same-length : tie.Need-same-length
 same-length c = search needs
 
+same-length-2 : tie.Need-same-length-2
+same-length-2 c = search needs
+
 returns : tie.Need-returns
-returns c = asked-for _ _ _ _ (c .before .before .before .before .if1 .taken) (c .before .before .encode-asked .ensures)
+returns c =
+    let e = c .before .before .before .before in
+    (asked-for _ _ _ _ (e .before .before .before .if1 .taken) (e .encode-asked .ensures .0), e .encode-asked .ensures .1)
 
 returns-2 : tie.Need-returns-2
-returns-2 c = not-asked-for _ _ _ (c .if1 .left)
+returns-2 c = (not-asked-for _ _ _ (c .if1 .left), c .before .before .before .before .before .before .pre .0)
 
 pub encode-spec : {M : Type 1} → statement M
-encode-spec = tie.close (tie.spec encode-asked-requires same-length returns returns-2)
+encode-spec = tie.close (tie.spec encode-asked-requires same-length same-length-2 returns returns-2)

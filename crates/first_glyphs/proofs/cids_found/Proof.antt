@@ -10,21 +10,15 @@ use denote.Ref.{now}
 use Rattle.bits.specs.Bits.{bitIn}
 use Rattle.find.specs.FindLaws.{idsAhead, ids-ahead, Passing, passing-start, passing-inside, passing-ready, passing-id, passing-next}
 use Rattle.subset.specs.Kept.{those}
-use Rattle.kept.specs.Packed.{marked, allOf, cidFound}
-use Rattle.kept.specs.GatherLaws.{mark-is, mark-not}
+use Rattle.kept.specs.Packed.{allOf, cidFound}
 use Rattle.first_glyphs.specs.FoundLaws.{all-start, all-stops, all-passed, all-either, all-done, Seen, seen-none, seen-not, seen-found, seen-next}
 use Rattle.first_glyphs.proofs.cids_found.Statement.{statement}
 use Rattle.first_glyphs.proofs.cids_found.Tie as tie
-use Rattle.first_glyphs.proofs.cids_found.Reads as reads
-use Rattle.first_glyphs.proofs.cids_found.Lts as lts
-use Rattle.charset.proofs.charset_start.Reads as charset-start-reads
-use Rattle.charset.proofs.next_id.Reads as next-id-reads
-use Rattle.first_glyphs.proofs.see.Reads as see-reads
 
 abbrev Inv-loop : tie.InvT-loop
 Inv-loop font n flags seen₀ u₀ g₀ seen u g =
     Passing font u₀ n u g × Seen (idsAhead font u₀ n) g (bitIn seen 0) × (length seen ≡ 2048) × (length seen ≡ length seen₀)
-    × (allOf (cidFound (idsAhead font u₀ n)) (those (marked flags) (n - g) g) ≡ allOf (cidFound (idsAhead font u₀ n)) (those (marked flags) n 0))
+    × (allOf (cidFound (idsAhead font u₀ n)) (those (bitIn flags 0) (n - g) g) ≡ allOf (cidFound (idsAhead font u₀ n)) (those (bitIn flags 0) n 0))
 
 abbrev μ-loop : tie.MeasureT-loop
 μ-loop font n flags seen₀ u₀ g₀ seen u g = n - g
@@ -74,11 +68,8 @@ next-id-requires c κs = passing-ready _ _ _ _ _ (c .before .loop .inv .0) (c .l
 see-requires : tie.Need-see-requires Inv-loop μ-loop
 see-requires c κs = let x = c .before .before in omega (arith, x .next-id .ensures .1, x .before .before .loop .inv .2)
 
-mul-if2 : tie.Need-mul-if2 Inv-loop μ-loop
-mul-if2 c = search needs
-
-shared-slice-read-if2 : tie.Need-shared-slice-read-if2 Inv-loop μ-loop
-shared-slice-read-if2 c = search needs
+has-bit-requires : tie.Need-has-bit-requires Inv-loop μ-loop
+has-bit-requires c κs = let t = c .before in omega (arith, start t .pre .1, step t .before .loop-test .taken)
 
 same-length : tie.Need-same-length Inv-loop μ-loop
 same-length c = search needs
@@ -88,9 +79,9 @@ returns c =
     let t = c .before .before .before in
     let s = start t in
     let l = top t .loop in
-    all-stops _ (marked (now (s .args .flags))) (s .args .n) (l .g) (step t .before .loop-test .taken) (mark-is (now (s .args .flags)) (l .g) (c .if2 .taken))
+    all-stops _ (bitIn (now (s .args .flags)) 0) (s .args .n) (l .g) (step t .before .loop-test .taken) (sym (c .before .has-bit .ensures) ∙ c .if2 .taken)
     (seen-not _ _ _ (l .inv .1) _ (id-is t) (inside t) (sym (asked t .see .ensures .was) ∙ c .before .before .if1 .taken)) ∙ l .inv .4
-    ∙ ap (λ (x : List ℕ). allOf (cidFound x) (those (marked (now (s .args .flags))) (s .args .n) 0))
+    ∙ ap (λ (x : List ℕ). allOf (cidFound x) (those (bitIn (now (s .args .flags)) 0) (s .args .n) 0))
     (ids-ahead (now (s .args .font)) (s .args .c) (s .args .n) (top t .before .charset-start .result) (top t .before .charset-start .ensures))
 
 add-g : tie.Need-add-g Inv-loop μ-loop
@@ -108,7 +99,7 @@ loop-again c =
       seen-then t,
       asked t .see .ensures .size ∙ l .inv .2,
       asked t .see .ensures .size ∙ l .inv .3,
-      all-passed _ (marked (now (s .args .flags))) (s .args .n) (l .g) (step t .before .loop-test .taken) (mark-not (now (s .args .flags)) (l .g) (c .if2 .left)) ∙ l .inv .4,
+      all-passed _ (bitIn (now (s .args .flags)) 0) (s .args .n) (l .g) (step t .before .loop-test .taken) (sym (c .before .has-bit .ensures) ∙ c .if2 .left) ∙ l .inv .4,
     )
 
 add-g-2 : tie.Need-add-g-2 Inv-loop μ-loop
@@ -126,8 +117,8 @@ loop-again-2 c =
       seen-then t,
       asked t .see .ensures .size ∙ l .inv .2,
       asked t .see .ensures .size ∙ l .inv .3,
-      all-either _ (marked (now (s .args .flags))) (s .args .n) (l .g) (step t .before .loop-test .taken)
-          (seen-found _ _ _ (l .inv .1) _ (id-is t) (inside t) (sym (asked t .see .ensures .was) ∙ c .if1 .left)) (marked (now (s .args .flags)) (l .g)) refl ∙ l .inv .4,
+      all-either _ (bitIn (now (s .args .flags)) 0) (s .args .n) (l .g) (step t .before .loop-test .taken)
+          (seen-found _ _ _ (l .inv .1) _ (id-is t) (inside t) (sym (asked t .see .ensures .was) ∙ c .if1 .left)) (bitIn (now (s .args .flags)) 0 (l .g)) refl ∙ l .inv .4,
     )
 
 same-length-2 : tie.Need-same-length-2 Inv-loop μ-loop
@@ -139,7 +130,7 @@ returns-2 c =
     let s = l .before .before .before .before .before in
     let u = l .before .charset-start .result in
     all-done _ _ _ _ (c .loop-test .left) ∙ l .loop .inv .4
-    ∙ ap (λ (ids : List ℕ). allOf (cidFound ids) (those (marked (now (s .args .flags))) (s .args .n) 0)) (ids-ahead (now (s .args .font)) (s .args .c) (s .args .n) u (l .before .charset-start .ensures))
+    ∙ ap (λ (ids : List ℕ). allOf (cidFound ids) (those (bitIn (now (s .args .flags)) 0) (s .args .n) 0)) (ids-ahead (now (s .args .font)) (s .args .c) (s .args .n) u (l .before .charset-start .ensures))
 
 pub cids-found-spec : {M : Type 1} → statement M
 cids-found-spec =
@@ -151,8 +142,7 @@ cids-found-spec =
     loop-holds
     next-id-requires
     see-requires
-    mul-if2
-    shared-slice-read-if2
+    has-bit-requires
     same-length
     returns
     add-g

@@ -14,12 +14,12 @@ use Rattle.charset.specs.CharsetPlaces.{idsOf}
 use Rattle.charset.specs.CharsetFound.{good-length}
 use Rattle.find.specs.FindLaws.{ids-ahead, Passing, passing-start, passing-ready, passing-id, passing-next}
 use Rattle.subset.specs.Kept.{those}
-use Rattle.kept.specs.Packed.{marked, allOf, nameFound}
-use Rattle.kept.specs.GatherLaws.{mark-is, mark-not}
+use Rattle.kept.specs.Packed.{allOf, nameFound}
 use Rattle.first_glyphs.specs.FoundLaws.{all-start, all-stops, all-passed, Seen, seen-none, seen-next}
 use Rattle.first_glyphs.specs.FirstLaws.{seen-not-named}
 use Rattle.found.specs.Hash.{hashOf, MetNames}
-use Rattle.found.specs.HashLaws.{hash-by, met-none, new-found, met-next, met-again, all-next, all-fails, all-ended}
+use Rattle.found.specs.HashLaws.{hash-by, met-none, new-found, met-next, met-again}
+use Rattle.found.specs.FlagsLaws.{all-next, all-fails, all-ended}
 use Rattle.found.proofs.names_met.Statement.{statement}
 use Rattle.found.proofs.names_met.Tie as tie
 
@@ -27,8 +27,8 @@ abbrev Inv-loop : tie.InvT-loop
 Inv-loop font c n strings names offsets flags marks₀ seen₀ end u₀ g₀ looks₀ marks seen u g looks =
     Passing font u₀ n u g × MetNames (itemsOf font strings) (idsOf font c n) g (bitIn marks 0) × Seen (idsOf font c n) g (bitIn seen 0) × (length marks ≡ 4096) × (length marks ≡ length marks₀)
     × (length seen ≡ 2048) × (length seen ≡ length seen₀) × (0 < looks) × (g ≤ end)
-    × (allOf (nameFound (itemsOf font strings) (idsOf font c n)) (those (marked flags) (n - g) g)
-    ≡ allOf (nameFound (itemsOf font strings) (idsOf font c n)) (those (marked flags) n 0))
+    × (allOf (nameFound (itemsOf font strings) (idsOf font c n)) (those (bitIn flags 0) (n - g) g)
+    ≡ allOf (nameFound (itemsOf font strings) (idsOf font c n)) (those (bitIn flags 0) n 0))
 
 abbrev μ-loop : tie.MeasureT-loop
 μ-loop font c n strings names offsets flags marks₀ seen₀ end u₀ g₀ looks₀ marks seen u g looks = end - g
@@ -40,8 +40,11 @@ Test = tie.After-slice-known3 Inv-loop μ-loop
 abbrev asked : Test → tie.After-see Inv-loop μ-loop
 asked t = t .before .before
 
+abbrev flag : Test → tie.After-has-bit Inv-loop μ-loop
+flag t = asked t .before .before
+
 abbrev step : Test → tie.After-next-id Inv-loop μ-loop
-step t = asked t .before .before .before .before
+step t = flag t .before .before
 
 abbrev top : Test → tie.At-loop Inv-loop μ-loop
 top t = step t .before .before
@@ -113,11 +116,11 @@ next-id-requires c κs =
     let e = c .before .before .before .flags-end .ensures .0 in
     passing-ready _ _ _ _ _ (c .before .loop .inv .0) (omega (arith, e, c .loop-test .taken))
 
-mul-flag : tie.Need-mul-flag Inv-loop μ-loop
-mul-flag c = search needs
-
-shared-slice-read-flag : tie.Need-shared-slice-read-flag Inv-loop μ-loop
-shared-slice-read-flag c = search needs
+has-bit-requires : tie.Need-has-bit-requires Inv-loop μ-loop
+has-bit-requires c κs =
+    let i = c .before .before in
+    let f = i .before .before .before in
+    omega (arith, f .flags-end .ensures .0, i .loop-test .taken, f .before .before .before .before .before .before .before .pre .2)
 
 see-requires : tie.Need-see-requires Inv-loop μ-loop
 see-requires c κs = let x = c .before .before .before in omega (arith, x .next-id .ensures .1, x .before .before .loop .inv .5)
@@ -134,7 +137,7 @@ returns c =
     let s = start t in
     let l = top t .loop in
     all-stops (nameFound (itemsOf (now (s .args .font)) (s .args .strings)) (idsOf (now (s .args .font)) (s .args .c) (s .args .n)))
-    (marked (now (s .args .flags))) (s .args .n) (l .g) (below t) (mark-is (now (s .args .flags)) (l .g) (c .if2 .taken))
+    (bitIn (now (s .args .flags)) 0) (s .args .n) (l .g) (below t) (sym (flag t .has-bit .ensures) ∙ c .if2 .taken)
     (seen-not-named _ _ (l .g) _ (l .inv .2) _ (id-is t) (inside t) (sym (asked t .see .ensures .was) ∙ c .before .if1 .taken)) ∙ l .inv .9
 
 add-g : tie.Need-add-g Inv-loop μ-loop
@@ -158,7 +161,7 @@ loop-again c =
       l .inv .7,
       omega (arith, step t .before .loop-test .taken),
       all-passed (nameFound (itemsOf (now (s .args .font)) (s .args .strings)) (idsOf (now (s .args .font)) (s .args .c) (s .args .n)))
-          (marked (now (s .args .flags))) (s .args .n) (l .g) (below t) (mark-not (now (s .args .flags)) (l .g) (c .if2 .left)) ∙ l .inv .9,
+          (bitIn (now (s .args .flags)) 0) (s .args .n) (l .g) (below t) (sym (flag t .has-bit .ensures) ∙ c .if2 .left) ∙ l .inv .9,
     )
 
 text-at-requires : tie.Need-text-at-requires Inv-loop μ-loop
@@ -215,7 +218,7 @@ loop-again-2 c =
       asked t .see .ensures .size ∙ l .inv .6,
       omega (arith, c .before .before .if3 .left),
       omega (arith, step t .before .loop-test .taken),
-      all-next (nameFound (itemsOf b (s .args .strings)) (idsOf b (s .args .c) (s .args .n))) (now (s .args .flags)) (s .args .n) (l .g) (below t)
+      all-next (nameFound (itemsOf b (s .args .strings)) (idsOf b (s .args .c) (s .args .n))) (bitIn (now (s .args .flags)) 0) (s .args .n) (l .g) (below t) _ (flag t .has-bit .ensures)
           (sym (c .before .flagged-found .ensures) ∙ c .if4 .taken) ∙ l .inv .9,
     )
 
@@ -231,7 +234,7 @@ returns-3 c =
     let t = test q in
     let s = start t in
     let b = now (s .args .font) in
-    all-fails (nameFound (itemsOf b (s .args .strings)) (idsOf b (s .args .c) (s .args .n))) (now (s .args .flags)) (s .args .n) (top t .loop .g) (below t)
+    all-fails (nameFound (itemsOf b (s .args .strings)) (idsOf b (s .args .c) (s .args .n))) (bitIn (now (s .args .flags)) 0) (s .args .n) (top t .loop .g) (below t) _ (flag t .has-bit .ensures)
     (sym (c .before .flagged-found .ensures) ∙ c .if4 .left) ∙ top t .loop .inv .9
 
 same-length-7 : tie.Need-same-length-7 Inv-loop μ-loop
@@ -244,7 +247,7 @@ returns-4 : tie.Need-returns-4 Inv-loop μ-loop
 returns-4 c =
     let l = c .before in
     let e = l .before .before .flags-end .ensures .1 in
-    all-ended _ _ _ _ _ (c .loop-test .left) (l .loop .inv .8) e ∙ l .loop .inv .9
+    all-ended _ (now (l .before .before .before .before .before .before .before .before .before .args .flags)) _ _ _ (c .loop-test .left) e ∙ l .loop .inv .9
 
 pub names-met-spec : {M : Type 1} → statement M
 names-met-spec =
@@ -256,8 +259,7 @@ names-met-spec =
     charset-start-requires
     loop-holds
     next-id-requires
-    mul-flag
-    shared-slice-read-flag
+    has-bit-requires
     see-requires
     same-length
     same-length-2

@@ -11,7 +11,7 @@ use Rattle.named_parts.proofs.places_named.Tie as tie
 
 -- the arguments; after the Private parts, after the front, and after the globals were measured
 abbrev S : tie.After-lens → tie.Start
-S c = c .before .before .before .before .before .before .before .before .before .before .before .before .before .before .before .before
+S c = c .before .before .before .before .before .before .before .before .before .before .before .before .before .before .before .before .before
 
 abbrev P : tie.After-front-len → tie.After-part-sizes
 P c = c .before .before .before .before
@@ -29,7 +29,7 @@ part-sizes-requires : tie.Need-part-sizes-requires
 part-sizes-requires c κs =
     let g = S c .pre .0 in
     let h : 256 ≤ 256 = omega arith in
-    parts-measured _ _ _ _ _ _ _ (g .ready) _ (g .summed) 256 256 h h
+    parts-measured _ _ _ _ _ _ (g .ready) _ (g .summed) 256 256 h h
 
 encoding-at-requires : tie.Need-encoding-at-requires
 encoding-at-requires c κs = search needs
@@ -38,7 +38,7 @@ front-len-requires : tie.Need-front-len-requires
 front-len-requires c κs = search needs
 
 globals-len-requires : tie.Need-globals-len-requires
-globals-len-requires c κs = globals-measured _ _ _ _ _ _ _ (S (P c .before) .pre .0 .ready)
+globals-len-requires c κs = globals-measured _ _ _ _ _ _ (S (P c .before) .pre .0 .ready)
 
 add-charset : tie.Need-add-charset
 add-charset c = search needs
@@ -47,14 +47,14 @@ sub-codes : tie.Need-sub-codes
 sub-codes c = omega (arith, S (P (F c) .before) .pre .0 .some)
 
 mul-codes : tie.Need-mul-codes
-mul-codes c = omega (arith, S (P (F c) .before) .pre .0 .names .few)
+mul-codes c = omega (arith, S (P (F c) .before) .pre .0 .ready .few)
 
 add-codes : tie.Need-add-codes
-add-codes c = omega (arith, S (P (F c) .before) .pre .0 .names .few)
+add-codes c = omega (arith, S (P (F c) .before) .pre .0 .ready .few)
 
 add-codes-2 : tie.Need-add-codes-2
 add-codes-2 c =
-    omega (arith, S (P (F c) .before) .pre .0 .names .few, F c .front-len .ensures .1, c .before .globals-len .ensures .1)
+    omega (arith, S (P (F c) .before) .pre .0 .ready .few, F c .front-len .ensures .1, c .before .globals-len .ensures .1)
 
 encoding-len-requires : tie.Need-encoding-len-requires
 encoding-len-requires c κs = omega (arith, S (P (F c) .before) .pre .2 .few)
@@ -62,19 +62,19 @@ encoding-len-requires c κs = omega (arith, S (P (F c) .before) .pre .2 .few)
 add-charstrings : tie.Need-add-charstrings
 add-charstrings c =
     let d = c .before in
-    omega (arith, S (P (F d) .before) .pre .0 .names .few, F d .front-len .ensures .1, d .before .globals-len .ensures .1, c .encoding-len .ensures .1)
+    omega (arith, S (P (F d) .before) .pre .0 .ready .few, F d .front-len .ensures .1, d .before .globals-len .ensures .1, c .encoding-len .ensures .1)
 
 glyphs-len-requires : tie.Need-glyphs-len-requires
 glyphs-len-requires c κs =
     let g = S (P (F (c .before)) .before) .pre .0 in
-    glyphs-measured _ _ _ _ _ _ _ (g .ready)
+    glyphs-measured _ _ _ _ _ _ (g .ready)
 
 add-private : tie.Need-add-private
 add-private c =
     let d = c .before .before in
     omega (
       arith,
-      S (P (F d) .before) .pre .0 .names .few,
+      S (P (F d) .before) .pre .0 .ready .few,
       F d .front-len .ensures .1,
       d .before .globals-len .ensures .1,
       c .before .encoding-len .ensures .1,
@@ -91,7 +91,7 @@ add-end c =
     let g = S (q .before) .pre .0 in
     omega (
       arith,
-      g .names .few,
+      g .ready .few,
       F d .front-len .ensures .1,
       d .before .globals-len .ensures .1,
       c .before .encoding-len .ensures .1,
@@ -110,7 +110,7 @@ returns c =
     let q = P (F d) in
     let s = S (q .before) in
     let h : 256 ≤ 256 = omega arith in
-    places-are _ _ _ _ _ _ _ _ (s .pre .0) (now (s .args .name)) _ _ (s .pre .1) _ (s .pre .2) _ _ _ _ _ _ (F d .before .encoding-at .ensures) (F d .front-len .ensures .0)
+    places-are _ _ _ _ _ _ _ (s .pre .0) (now (s .args .name)) _ _ (s .pre .1) _ (s .pre .2) _ _ _ _ _ _ (F d .before .encoding-at .ensures) (F d .front-len .ensures .0)
     (d .before .globals-len .ensures .0) (l .encoding-len .ensures .0) (c .encoding-at2 .ensures) (g .glyphs-len .ensures .0) (q .part-sizes .ensures) h h _ refl
 
 pub places-named-spec : {M : Type 1} → statement M

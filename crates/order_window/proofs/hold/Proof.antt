@@ -1,5 +1,5 @@
 -- `hold` meets its contract: a place before the window is the first, one behind it the next.
-use mathlib.Core.Path.{sym, subst}
+use mathlib.Core.Path.{refl, sym, subst}
 use native.Mathlib.Omega.{arith}
 use borrow.Author.Needs.{needs}
 use denote.Ref.{now}
@@ -37,13 +37,17 @@ returns c =
     let i = t .before in
     let s = i .before .before .before .before .before in
     let z = started-none _ (s .args .f) _ (t .start .ensures) in
-    let n = first-asked _ _ _ (s .pre .5) (i .if1 .taken) in
-    (m .moved .ensures .0, omega (arith, z, m .moved .ensures .1), omega (arith, n, m .moved .ensures .2))
+    let n = first-asked _ _ _ (s .pre .5) (i .if1 .taken) in (
+      m .moved .ensures .0,
+      omega (arith, z, m .moved .ensures .1),
+      omega (arith, n, m .moved .ensures .2),
+      λ l k. absurd (let y : ⊥ = omega (arith, i .if1 .taken) in y),
+    )
 
 returns-2 : tie.Need-returns-2
 returns-2 c =
     let s = c .before .before .before .before .before .before in
-    (s .pre .3, c .before .if1 .left, c .if2 .taken)
+    (s .pre .3, c .before .if1 .left, c .if2 .taken, λ l k. (refl, refl))
 
 moved-requires-2 : tie.Need-moved-requires-2
 moved-requires-2 c κs =
@@ -59,8 +63,12 @@ returns-3 c =
     let m = c .before .before in
     let e = m .before .before in
     let s = e .before .before .before .before .before .before in
-    let n = next-asked _ _ _ (s .pre .5) (e .if2 .left) in
-    (m .moved2 .ensures .0, omega (arith, n, m .moved2 .ensures .1), omega (arith, n, m .moved2 .ensures .2))
+    let n = next-asked _ _ _ (s .pre .5) (e .if2 .left) in (
+      m .moved2 .ensures .0,
+      omega (arith, n, m .moved2 .ensures .1),
+      omega (arith, n, m .moved2 .ensures .2),
+      λ l k. absurd (let y : ⊥ = omega (arith, e .if2 .left) in y),
+    )
 
 pub hold-spec : {M : Type 1} → statement M
 hold-spec =

@@ -6,7 +6,6 @@ use lib.ListN.{length}
 use Rattle.octets.specs.PutLaws.{wrote-as}
 use Rattle.index.specs.Write.{indexBytes}
 use Rattle.record.specs.Record.{rowsOf}
-use Rattle.cff.specs.declared.font.Font.{Font}
 use Rattle.renumber.specs.declared.Ranks.{Ranks}
 use Rattle.bodies.specs.declared.subrs.Source.{Source}
 use Rattle.bodies.specs.declared.subrs.Subrs.the-variants.{Global}
@@ -16,16 +15,16 @@ use Rattle.parts.proofs.put_globals.Statement.{statement}
 use Rattle.parts.proofs.put_globals.Tie as tie
 
 -- the globals, which call local subroutines by some ranks
-abbrev calling : Planned → Font → Ranks → Source
-calling r f q =
+abbrev calling : Planned → Ranks → Source
+calling r q =
     record {
-      way = r .kept .way;
+      way = r .how .way;
       of = Global;
-      ix = f .globals;
-      own = r .kept .globals;
+      ix = r .order .f .globals;
+      own = r .how .globals;
       locals = q;
-      globals = r .kept .globals;
-      rising = r .kept .rising;
+      globals = r .how .globals;
+      rising = r .how .rising;
     }
 
 across-requires : tie.Need-across-requires
@@ -33,10 +32,10 @@ across-requires c κs = search needs
 
 put-subrs-requires : tie.Need-put-subrs-requires
 put-subrs-requires c κs =
-    let s = c .before .before .before .before .before .before .before .before .before .before .before in
+    let s = c .before .before .before .before .before .before .before .before .before .before .before .before in
     let a = s .args in
-    globals-asked (now (a .font)) (a .f) (rowsOf (now (a .rows))) (now (a .used)) (now (a .words)) (now (a .table)) (a .r)
-    (s .pre .0) (calling (a .r) (a .f) (c .before .across .result)) (ap (calling (a .r) (a .f)) (c .before .across .ensures))
+    globals-asked (now (a .font)) (rowsOf (now (a .rows))) (now (a .used)) (now (a .words)) (now (a .table)) (a .r)
+    (s .pre .0) (calling (a .r) (c .before .across .result)) (ap (calling (a .r)) (c .before .across .ensures))
     (a .at) (length (now (a .out))) (s .pre .1) (s .pre .2)
 
 same-length : tie.Need-same-length
@@ -44,12 +43,12 @@ same-length c = search needs
 
 returns : tie.Need-returns
 returns c =
-    let s = c .before .before .before .before .before .before .before .before .before .before .before .before .before .before in
+    let s = c .before .before .before .before .before .before .before .before .before .before .before .before .before .before .before in
     let a = s .args in
     let w = c .before .before .before .before .across in
     wrote-as (c .before .before .put-subrs .ensures)
-    (ap indexBytes (globals-are (now (a .font)) (a .f) (rowsOf (now (a .rows))) (now (a .used)) (now (a .words)) (now (a .table))
-    (a .r) (s .pre .0) (calling (a .r) (a .f) (w .result)) (ap (calling (a .r) (a .f)) (w .ensures))))
+    (ap indexBytes (globals-are (now (a .font)) (rowsOf (now (a .rows))) (now (a .used)) (now (a .words)) (now (a .table))
+    (a .r) (s .pre .0) (calling (a .r) (w .result)) (ap (calling (a .r)) (w .ensures))))
 
 pub put-globals-spec : {M : Type 1} → statement M
 put-globals-spec = tie.close (tie.spec across-requires put-subrs-requires same-length returns)

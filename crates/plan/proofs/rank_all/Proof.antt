@@ -1,9 +1,10 @@
--- `plan::rank_all` meets its contract: the bits of the globals stand behind the glyphs' words, those of the locals behind them.
-use mathlib.Core.Path.{sym}
+-- `plan::rank_all` meets its contract: the bits of the globals stand behind those of the glyphs, those of the locals behind them.
+use mathlib.Core.Path.{sym, ap, _∙_}
 use native.Mathlib.Omega.{arith}
 use borrow.Author.Needs.{needs}
 use denote.Ref.{now}
 use Rattle.record.specs.Record.{rowsOf}
+use Rattle.bits.specs.Bits.{wordsFor}
 use Rattle.index.specs.IndexLaws.{items-length}
 use Rattle.cff.specs.Reads.{programOf}
 use Rattle.plan.specs.RankedLaws.{locals-room, ranks-all}
@@ -15,20 +16,24 @@ abbrev S : tie.After-rank-reached → tie.Start
 S c = c .before .before .before .before .before .before .before .before .before .before
 
 -- how many words the globals take; after their bits are set
-abbrev W : tie.After-rank-locals-arg2 → tie.After-words-for
+abbrev W : tie.After-rank-locals-arg2 → tie.After-words-for2
 W c = c .before .before
 
 abbrev G : tie.After-rank-locals-arg2 → tie.After-rank-reached
 G c = W c .before .before .before
 
-mul-at : tie.Need-mul-at
-mul-at c = search needs
+-- how many words the glyphs take
+abbrev A : tie.After-rank-reached → tie.After-words-for
+A g = g .before .before
+
+words-for-requires : tie.Need-words-for-requires
+words-for-requires c κs = search needs
 
 rank-reached-requires : tie.Need-rank-reached-requires
 rank-reached-requires c κs = search needs
 
-words-for-requires : tie.Need-words-for-requires
-words-for-requires c κs = search needs
+words-for-requires-2 : tie.Need-words-for-requires-2
+words-for-requires-2 c κs = search needs
 
 add-behind : tie.Need-add-behind
 add-behind c = search needs
@@ -41,8 +46,8 @@ rank-locals-requires c κs =
       p .0,
       p .1,
       p .2,
-      omega (arith, p .0 .glyphs .held .few, p .0 .begun .globals-held .few, W c .words-for .ensures .1),
-      locals-room (rowsOf (now (s .args .rows))) _ _ _ _ _ _ (W c .words-for .ensures .0) (p .3) (g .rank-reached .ensures .0),
+      omega (arith, p .0 .glyphs .held .few, p .0 .begun .globals-held .few, W c .words-for2 .ensures .1),
+      locals-room (rowsOf (now (s .args .rows))) _ _ _ _ _ _ (W c .words-for2 .ensures .0) (omega (arith, p .3, A g .words-for .ensures .0)) (g .rank-reached .ensures .0),
       p .4,
     )
 
@@ -62,17 +67,17 @@ returns c =
     let s = S g in
     let b = now (s .args .font) in
     let f = s .args .f in
-    ranks-all (programOf b f) (rowsOf (now (s .args .rows))) (now (s .args .used)) _ _ _ _ (f .charstrings .count) (f .globals .count) _
-    (sym (items-length b (f .charstrings))) (sym (items-length b (f .globals))) (W (l .before) .words-for .ensures .0) (s .pre .3) _ (g .rank-reached .ensures .0) (g .rank-reached .ensures .1)
+    ranks-all (programOf b f) (rowsOf (now (s .args .rows))) (now (s .args .used)) _ _ _ _ (A g .words-for .result) (f .globals .count) _
+    (A g .words-for .ensures .0 ∙ ap wordsFor (sym (items-length b (f .charstrings)))) (sym (items-length b (f .globals))) (W (l .before) .words-for2 .ensures .0) (omega (arith, s .pre .3, A g .words-for .ensures .0)) _ (g .rank-reached .ensures .0) (g .rank-reached .ensures .1)
     _ _ (l .rank-locals .ensures) (c .both .ensures)
 
 pub rank-all-spec : {M : Type 1} → statement M
 rank-all-spec =
     tie.close
     (tie.spec
-    mul-at
-    rank-reached-requires
     words-for-requires
+    rank-reached-requires
+    words-for-requires-2
     add-behind
     rank-locals-requires
     both-requires

@@ -1,6 +1,7 @@
 -- `write::cut` meets its contract: a font that is refused leaves all as it was, and one that is read is cut.
 use borrow.Author.Needs.{needs}
 use Rattle.cff.specs.SetLaws.{refused-as, found-font}
+use Rattle.outcome.specs.Entry.{sizeOf}
 use Rattle.write.specs.EntryLaws.{unread-cuts}
 use Rattle.write.proofs.cut.Statement.{statement}
 use Rattle.write.proofs.cut.Tie as tie
@@ -18,7 +19,7 @@ cut-font-requires : tie.Need-cut-font-requires
 cut-font-requires c κs = let a = c .before .before .before .before .before in let s = a .before .before .before .before .before .before .before in (s .pre, found-font (s .args .font .now) _ (a .read-font .ensures) _ (c .before .before .before .f .given .1))
 
 returns : tie.Need-returns
-returns c = let a = c .before .before .before in let s = a .before .before .before .before .before .before .before in unread-cuts (s .args .cid) (s .args .ask) (s .args .font .now) (s .args .name .now) (s .args .keep .now) (s .args .rows .now) (s .args .traced) (s .args .work .now) (s .args .out .now) (λ i. (a .before .before .before .before .before .before .shared-slice-known .given i) .fits) (λ i. (a .before .before .before .shared-slice-known4 .given i) .fits) _ (refused-as (s .args .font .now) _ (a .read-font .ensures) _ (c .before .n .given .1))
+returns c = let a = c .before .before .before in let s = a .before .before .before .before .before .before .before in unread-cuts (sizeOf (s .args .c .small)) (s .args .c .cid) (s .args .c .ask) (s .args .font .now) (s .args .name .now) (s .args .keep .now) (s .args .rows .now) (s .args .traced) (s .args .work .now) (s .args .out .now) (λ i. (a .before .before .before .before .before .before .shared-slice-known .given i) .fits) (λ i. (a .before .before .before .shared-slice-known4 .given i) .fits) _ (refused-as (s .args .font .now) _ (a .read-font .ensures) _ (c .before .n .given .1))
 
 same-length : tie.Need-same-length
 same-length c = search needs

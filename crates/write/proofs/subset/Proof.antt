@@ -7,19 +7,15 @@ use Rattle.write.proofs.subset.Reads as reads
 use Rattle.write.proofs.subset.Lts as lts
 use Rattle.write.proofs.cut.Reads as cut-reads
 
--- src/lib.rt:102:5
 cut-requires : tie.Need-cut-requires
 cut-requires c κs = λ e. absurd (zero-one cc)
 
--- src/lib.rt:89:1
 same-length : tie.Need-same-length
 same-length c = search needs
 
--- src/lib.rt:89:1
 same-length-2 : tie.Need-same-length-2
 same-length-2 c = search needs
 
--- src/lib.rt:89:1
 returns : tie.Need-returns
 returns c = search needs
 

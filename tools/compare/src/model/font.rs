@@ -30,7 +30,7 @@ pub struct Font {
 pub const STANDARD: u64 = 0;
 pub const EXPERT: u64 = 1;
 
-/// The words that hold a bit for each of some subroutines: document 02, Wish 7.
+/// The words that hold a bit for each of some subroutines or glyphs: document 02, Wishes 7 and 10.
 pub fn words_for(count: u64) -> u64 {
     count.div_ceil(32)
 }
@@ -38,6 +38,12 @@ pub fn words_for(count: u64) -> u64 {
 impl Font {
     pub fn work(&self) -> u64 {
         2 * self.charstrings.count as u64 + words_for(self.globals.count as u64) + self.local_words
+    }
+
+    /// That of the calls with few work words: document 02, Wish 10.
+    pub fn small_work(&self) -> u64 {
+        let glyphs = self.charstrings.count as u64;
+        words_for(glyphs) + words_for(self.globals.count as u64) + self.local_words
     }
 
     pub fn text<'a>(&self, bytes: &'a [u8], id: u16) -> &'a [u8] {

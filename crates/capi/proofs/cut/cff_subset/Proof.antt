@@ -2,6 +2,7 @@
 use mathlib.Core.Bool.{false, not}
 use lib.Dec.{eqb}
 use lib.ListN.{length}
+use Rattle.cff.specs.Find.{workSize}
 use Rattle.capi.specs.SubsetLaws.{room-there, room-taken, cut-answers}
 use borrow.Author.Needs.{needs}
 use Rattle.capi.proofs.cut.cff_subset.Statement.{statement}
@@ -36,7 +37,7 @@ same-length-3 : tie.Need-same-length-3
 same-length-3 c = search needs
 
 returns : tie.Need-returns
-returns c = let u = c .before .before .before .before .before .before .before .before in let m = u .before .before .before in let s = S m in cut-answers false (not (eqb (s .args .encoding) 0)) (s .args .font .now) (s .args .name .now) (s .args .keep .now) (s .args .rows .now) (s .args .traced) (s .args .work .now) (s .args .out .now) (s .args .answer .now) _ (m .room-for .ensures) _ _ _ _ _ (u .subset .ensures) (c .before .before .put-cut .ensures)
+returns c = let u = c .before .before .before .before .before .before .before .before in let m = u .before .before .before in let s = S m in cut-answers workSize false (not (eqb (s .args .encoding) 0)) (s .args .font .now) (s .args .name .now) (s .args .keep .now) (s .args .rows .now) (s .args .traced) (s .args .work .now) (s .args .out .now) (s .args .answer .now) _ (m .room-for .ensures) _ _ _ _ _ (u .subset .ensures) (c .before .before .put-cut .ensures)
 
 pub cff-subset-spec : {M : Type 1} → statement M
 cff-subset-spec =

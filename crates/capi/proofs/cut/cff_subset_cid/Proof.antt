@@ -1,6 +1,7 @@
 -- `capi::cut::cff_subset_cid` meets its contract: the subset is cut in the room that the answer's words leave, and its two words are written.
 use mathlib.Core.Bool.{true, false}
 use lib.ListN.{length}
+use Rattle.cff.specs.Find.{workSize}
 use Rattle.capi.specs.SubsetLaws.{room-there, room-taken, cut-answers}
 use borrow.Author.Needs.{needs}
 use Rattle.capi.proofs.cut.cff_subset_cid.Statement.{statement}
@@ -35,7 +36,7 @@ same-length-3 : tie.Need-same-length-3
 same-length-3 c = search needs
 
 returns : tie.Need-returns
-returns c = let u = c .before .before .before .before .before .before .before .before in let m = u .before .before .before in let s = S m in cut-answers true false (s .args .font .now) (s .args .name .now) (s .args .keep .now) (s .args .rows .now) (s .args .traced) (s .args .work .now) (s .args .out .now) (s .args .answer .now) _ (m .room-for .ensures) _ _ _ _ _ (u .subset-cid .ensures) (c .before .before .put-cut .ensures)
+returns c = let u = c .before .before .before .before .before .before .before .before in let m = u .before .before .before in let s = S m in cut-answers workSize true false (s .args .font .now) (s .args .name .now) (s .args .keep .now) (s .args .rows .now) (s .args .traced) (s .args .work .now) (s .args .out .now) (s .args .answer .now) _ (m .room-for .ensures) _ _ _ _ _ (u .subset-cid .ensures) (c .before .before .put-cut .ensures)
 
 pub cff-subset-cid-spec : {M : Type 1} → statement M
 cff-subset-cid-spec =

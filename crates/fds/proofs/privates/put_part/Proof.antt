@@ -30,7 +30,7 @@ put-dict-requires c κs =
     let q = k .before in
     let s = S q in
     let a = s .args in
-    let d = dict-asked (a .kept .way) (now (a .font)) (P s) (rowsOf (now (a .rows))) (now (a .words)) (a .own) (a .kept .globals) (a .kept .rising) (a .fd) (s .pre .1) _ (q .fd-private .ensures) (a .total) (a .at) (length (now (a .out))) (s .pre .2) _ (k .kept-count .ensures) in
+    let d = dict-asked (a .how .way) (now (a .font)) (P s) (rowsOf (now (a .rows))) (now (a .words)) (a .own) (a .how .globals) (a .how .rising) (a .fd) (s .pre .1) _ (q .fd-private .ensures) (a .total) (a .at) (length (now (a .out))) (s .pre .2) _ (k .kept-count .ensures) in
     (s .pre .1 .size, q .fd-private .ensures .0, d .0, d .1)
 
 same-length : tie.Need-same-length
@@ -43,7 +43,7 @@ returns c =
     let q = k .before in
     let s = S q in
     let a = s .args in
-    part-none (a .kept .way) (now (a .font)) (P s) (rowsOf (now (a .rows))) (now (a .words)) (a .own) (a .kept .globals) (a .kept .rising) (a .fd) (s .pre .1) _ (q .fd-private .ensures)
+    part-none (a .how .way) (now (a .font)) (P s) (rowsOf (now (a .rows))) (now (a .words)) (a .own) (a .how .globals) (a .how .rising) (a .fd) (s .pre .1) _ (q .fd-private .ensures)
     (a .total) (a .at) (length (now (a .out))) (s .pre .2) _ (k .kept-count .ensures) _ _ _ refl (d .put-dict .ensures) (c .if1 .taken)
 
 put-subrs-requires : tie.Need-put-subrs-requires
@@ -54,9 +54,9 @@ put-subrs-requires c κs =
     let q = k .before in
     let s = S q in
     let a = s .args in (
-      subrs-in (a .kept .way) (now (a .font)) (P s) (rowsOf (now (a .rows))) (now (a .words)) (a .own) (a .kept .globals) (a .kept .rising) (a .fd) (s .pre .1) _ (q .fd-private .ensures),
+      subrs-in (a .how .way) (now (a .font)) (P s) (rowsOf (now (a .rows))) (now (a .words)) (a .own) (a .how .globals) (a .how .rising) (a .fd) (s .pre .1) _ (q .fd-private .ensures),
       s .pre .2 .counted,
-      subrs-room (a .kept .way) (now (a .font)) (P s) (rowsOf (now (a .rows))) (now (a .words)) (a .own) (a .kept .globals) (a .kept .rising) (a .fd) (s .pre .1) _ (q .fd-private .ensures)
+      subrs-room (a .how .way) (now (a .font)) (P s) (rowsOf (now (a .rows))) (now (a .words)) (a .own) (a .how .globals) (a .how .rising) (a .fd) (s .pre .1) _ (q .fd-private .ensures)
           (a .total) (a .at) (length (now (a .out))) (s .pre .2) _ (k .kept-count .ensures) _ _ _ refl (d .put-dict .ensures) (e .if1 .left),
     )
 
@@ -72,7 +72,7 @@ returns-2 c =
     let q = k .before in
     let s = S q in
     let a = s .args in
-    part-some (a .kept .way) (now (a .font)) (P s) (rowsOf (now (a .rows))) (now (a .words)) (a .own) (a .kept .globals) (a .kept .rising) (a .fd) (s .pre .1) _ (q .fd-private .ensures)
+    part-some (a .how .way) (now (a .font)) (P s) (rowsOf (now (a .rows))) (now (a .words)) (a .own) (a .how .globals) (a .how .rising) (a .fd) (s .pre .1) _ (q .fd-private .ensures)
     (a .total) (a .at) (length (now (a .out))) (s .pre .2) _ (k .kept-count .ensures) _ _ _ refl (d .put-dict .ensures) (e .if1 .left) _ _ (w .put-subrs .ensures)
 
 pub put-part-spec : {M : Type 1} → statement M

@@ -20,12 +20,12 @@ use Rattle.fds.proofs.privates.put_privates.Statement.{statement}
 use Rattle.fds.proofs.privates.put_privates.Tie as tie
 
 abbrev Inv-loop : tie.InvT-loop
-Inv-loop kept font f used words table totals rows out₀ at p₀ fd₀ out p fd =
+Inv-loop how font f used words table totals rows out₀ at p₀ fd₀ out p fd =
     (fd ≤ 256) × (length out ≡ length out₀)
-    × Wrote out₀ at (partsFor (kept .way) (programOf font f) (rowsOf rows) words table (kept .globals) (usedBelow used fd)) out p
+    × Wrote out₀ at (partsFor (how .way) (programOf font f) (rowsOf rows) words table (how .globals) (usedBelow used fd)) out p
 
 abbrev μ-loop : tie.MeasureT-loop
-μ-loop kept font f used words table totals rows out₀ at p₀ fd₀ out p fd = 256 - fd
+μ-loop how font f used words table totals rows out₀ at p₀ fd₀ out p fd = 256 - fd
 
 -- the arguments, at a turn, and the font
 abbrev S : tie.At-loop Inv-loop μ-loop → tie.Start Inv-loop μ-loop
@@ -44,7 +44,7 @@ loop-holds : tie.Need-loop-holds Inv-loop μ-loop
 loop-holds c =
     let s = c .before .before .before .before .before .before .before in
     let a = s .args in
-    (omega arith, refl, wrote-as (wrote-none _ _) (sym (parts-start (a .kept .way) (P s) (rowsOf (now (a .rows))) (now (a .words)) (now (a .table)) (a .kept .globals) (now (a .used)))))
+    (omega arith, refl, wrote-as (wrote-none _ _) (sym (parts-start (a .how .way) (P s) (rowsOf (now (a .rows))) (now (a .words)) (now (a .table)) (a .how .globals) (now (a .used)))))
 
 mul-if1 : tie.Need-mul-if1 Inv-loop μ-loop
 mul-if1 c = search needs
@@ -67,7 +67,7 @@ loop-again c =
     let a = s .args in (
       omega (arith, t .loop-test .taken),
       i .1,
-      wrote-as (i .2) (sym (parts-pass (a .kept .way) (P s) (rowsOf (now (a .rows))) (now (a .words)) (now (a .table)) (a .kept .globals) (now (a .used)) (l .loop .fd)
+      wrote-as (i .2) (sym (parts-pass (a .how .way) (P s) (rowsOf (now (a .rows))) (now (a .words)) (now (a .table)) (a .how .globals) (now (a .used)) (l .loop .fd)
           (not-used (now (a .used)) (l .loop .fd) (c .if1 .taken)))),
     )
 
@@ -94,7 +94,7 @@ put-part-requires c κs =
     let a = s .args in (
       s .pre .0,
       fd-in _ _ _ _ _ _ _ _ (s .pre .1) _ (e .before .before .loop-test .taken) (in-use e) _ (o .ranks-in .ensures),
-      putting-room (a .kept .way) (P s) (rowsOf (now (a .rows))) (now (a .words)) (now (a .table)) (a .kept .globals) (now (a .used))
+      putting-room (a .how .way) (P s) (rowsOf (now (a .rows))) (now (a .words)) (now (a .table)) (a .how .globals) (now (a .used))
           (now (a .out)) (now (a .totals)) (a .at) (s .pre .2) (l .loop .out) (l .loop .p) (l .loop .fd) (l .loop .inv .2) (e .before .before .loop-test .taken) (in-use e) _ (o .ranks-in .ensures),
     )
 
@@ -114,7 +114,7 @@ loop-again-2 c =
     let a = s .args in (
       omega (arith, e .before .before .loop-test .taken),
       search needs,
-      putting-take (a .kept .way) (P s) (rowsOf (now (a .rows))) (now (a .words)) (now (a .table)) (a .kept .globals) (now (a .used))
+      putting-take (a .how .way) (P s) (rowsOf (now (a .rows))) (now (a .words)) (now (a .table)) (a .how .globals) (now (a .used))
           (now (a .out)) (now (a .totals)) (a .at) (s .pre .2) (l .loop .out) (l .loop .p) (l .loop .fd) (l .loop .inv .2) (e .before .before .loop-test .taken) (in-use e) _ (o .ranks-in .ensures) _ _ (w .put-part .ensures),
     )
 
@@ -126,7 +126,7 @@ returns c =
     let l = c .before in
     let s = S l in
     let a = s .args in
-    putting-done (a .kept .way) (P s) (rowsOf (now (a .rows))) (now (a .words)) (now (a .table)) (a .kept .globals) (now (a .used)) _ _ _ (s .pre .2) _ _ (l .loop .fd) (l .loop .inv .2) (omega (arith, l .loop .inv .0, c .loop-test .left))
+    putting-done (a .how .way) (P s) (rowsOf (now (a .rows))) (now (a .words)) (now (a .table)) (a .how .globals) (now (a .used)) _ _ _ (s .pre .2) _ _ (l .loop .fd) (l .loop .inv .2) (omega (arith, l .loop .inv .0, c .loop-test .left))
 
 pub put-privates-spec : {M : Type 1} → statement M
 put-privates-spec =

@@ -19,10 +19,13 @@ rank-all-requires c κs = search needs
 same-length : tie.Need-same-length
 same-length c = search needs
 
+same-length-2 : tie.Need-same-length-2
+same-length-2 c = search needs
+
 returns : tie.Need-returns
 returns c =
-    let e = c .before .before .rank-all .ensures in
-    (ranked-table _ _ _ (e .0), e .1)
+    let e = c .before .before .before .before .rank-all .ensures in
+    (ranked-table _ _ _ (e .0), e .1, e .2)
 
 pub rank-fds-spec : {M : Type 1} → statement M
 rank-fds-spec =
@@ -33,4 +36,5 @@ rank-fds-spec =
     part-rank-all-end
     rank-all-requires
     same-length
+    same-length-2
     returns)

@@ -11,10 +11,10 @@ use Rattle.measure.proofs.name_keyed.measure_prepared.Tie as tie
 
 -- the arguments, and after planning
 abbrev S : tie.After-totals → tie.Start
-S c = c .before .before .before .before .before .before .before .before .before .before .before
+S c = c .before .before .before .before .before .before .before .before .before .before .before .before .before
 
 abbrev P : tie.After-totals3 → tie.After-plan-all
-P c = c .before .before .before .before .before .before .before .before
+P c = c .before .before .before .before .before .before .before .before .before .before
 
 array-write-used : tie.Need-array-write-used
 array-write-used c = search needs
@@ -48,20 +48,23 @@ measure-planned-requires c κs =
     let w = P c in
     let s = S (w .before) in
     let e = w .plan-all .ensures in (
-      prepared-plan _ _ _ _ (s .pre .0) firstFd first-only _ _ _ _ _ (e .0) (e .1) (e .2) (e .4),
-      prepared-strings _ _ _ _ (s .pre .0) firstFd first-only _ _ _ _ _ (e .0) (e .1) (e .2) (e .4) _ _ _ (s .pre .1),
+      prepared-plan _ _ _ _ (s .pre .0) firstFd first-only _ _ (w .plan-all .result) (e .2) (e .3) (e .4) _ _ _ (e .0) (e .1),
+      prepared-strings _ _ _ _ (s .pre .0) firstFd first-only _ _ (w .plan-all .result) (e .2) (e .3) (e .4) _ _ _ (s .pre .1),
       s .pre .2,
     )
 
 same-length : tie.Need-same-length
 same-length c = search needs
 
+same-length-2 : tie.Need-same-length-2
+same-length-2 c = search needs
+
 returns : tie.Need-returns
 returns c =
     let w = P (c .before) in
     let s = S (w .before) in
     let e = w .plan-all .ensures in
-    prepared-measured _ _ _ _ (s .pre .0) firstFd first-only _ _ _ _ _ (e .0) (e .1) (e .2) (e .4) (s .args .traced) (e .5) (codedFor (s .args .names .encoding) (now (s .args .slots))) (now (s .args .name)) _
+    prepared-measured _ _ _ _ (s .pre .0) firstFd first-only _ _ (w .plan-all .result) (e .2) (e .3) (e .4) _ (s .args .traced) (e .5) (codedFor (s .args .names .encoding) (now (s .args .slots))) (now (s .args .name)) _
     (c .measure-planned .ensures)
 
 pub measure-prepared-spec : {M : Type 1} → statement M
@@ -78,4 +81,5 @@ measure-prepared-spec =
     slice-aggregate-measure-planned-3
     measure-planned-requires
     same-length
+    same-length-2
     returns)

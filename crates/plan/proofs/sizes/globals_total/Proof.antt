@@ -7,6 +7,7 @@ use Rattle.cff.specs.Reads.{programOf}
 use Rattle.renumber.specs.declared.Ranks.{Ranks}
 use Rattle.bodies.specs.Ways.{SubrsIn}
 use Rattle.bodies.specs.declared.subrs.Subrs.the-variants.{Global}
+use Rattle.order_window.specs.Window.{glyphsOf}
 use Rattle.plan.specs.MeasureLaws.{globals-measured}
 use Rattle.plan.proofs.sizes.globals_total.Statement.{statement}
 use Rattle.plan.proofs.sizes.globals_total.Tie as tie
@@ -16,17 +17,18 @@ across-requires c κs = search needs
 
 subrs-total-requires : tie.Need-subrs-total-requires
 subrs-total-requires c κs =
-    let s = c .before .before .before .before .before .before .before .before in
-    let k = s .args .kept in
-    subst (λ (q : Ranks). SubrsIn (now (s .args .font)) (now (s .args .words)) (s .args .f .globals) (k .globals) q (k .globals) (rowsOf (now (s .args .rows))) (k .rising) Global)
+    let s = c .before .before .before .before .before .before .before .before .before in
+    let k = s .args .how in
+    subst (λ (q : Ranks). SubrsIn (now (s .args .font)) (now (s .args .words)) (s .args .o .f .globals) (k .globals) q (k .globals) (rowsOf (now (s .args .rows))) (k .rising) Global)
     (sym (c .across .ensures)) (s .pre .subrs)
 
 returns : tie.Need-returns
 returns c =
-    let s = c .before .before .before .before .before .before .before .before .before in
+    let s = c .before .before .before .before .before .before .before .before .before .before in
     let a = s .args in
-    let k = a .kept in (
-      globals-measured (k .way) (programOf (now (a .font)) (a .f)) (rowsOf (now (a .rows))) (k .cid) (now (a .words)) (now (a .used)) (now (a .table)) (k .globals) (k .count) _ (c .before .across .ensures) _ (c .subrs-total .ensures .0),
+    let k = a .how in (
+      globals-measured (k .way) (programOf (now (a .font)) (a .o .f)) (rowsOf (now (a .rows))) (now (a .words)) (now (a .used)) (now (a .table)) (k .globals)
+          (glyphsOf (now (a .font)) (a .o .f) (now (a .words))) _ (c .before .across .ensures) _ (c .subrs-total .ensures .0),
       c .subrs-total .ensures .1,
     )
 

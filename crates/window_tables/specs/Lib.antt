@@ -1,2 +1,0 @@
-pub mod Ready
-pub mod ReadyLaws
