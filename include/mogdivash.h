@@ -18,14 +18,13 @@
    cff_subset_cid, cff_subset_small and cff_subset_cid_small, 1.5 MiB for cff_trace and cff_check_record, and 3 MiB for
    cff_blocking_glyph. Beyond this there is nothing that a caller must keep.
 
-   Time. A call is linear in its input but for what is said at cff_trace and three things, which come with hostile fonts and records:
+   Time. A call is linear in its input but for what is said at cff_trace and two things, which come with hostile fonts and records:
    more than 128 different Privates that overlap, and the fonts of a set, are read again wherever they are named (65,535 font
    dictionaries each with a Private of 100 KB of its own, all overlapping, a font of 1.2 MB: 11 seconds of cff_read; it grows with the
-   product of both); where rows do not rise, those of a glyph or subroutine with more than 8,192 rows are passed over for each of its
-   hint masks (200,000 falling rows of one glyph: 30 seconds; the 342,878 rows of all glyphs of Noto Sans CJK, shuffled: 0.7, rising
-   0.2), and so are all rows for glyphs whose CIDs do not rise; and subsetting walks the top DICT once for each operator (60 MB of
-   reals: 10 seconds; cff_read 0.4). A service that takes uploads should limit the size of a file, put the rows of a record in order,
-   and call from a process of its own with a limit on its CPU time.
+   product of both); and where rows do not rise, all are passed over for each 8,192 of them (200,000 falling rows of one glyph: about a
+   second; the 342,878 rows of all glyphs of Noto Sans CJK, shuffled: 0.7, rising 0.2), and for each hint mask of glyphs whose CIDs do
+   not rise. Subsetting passes over the top DICT five times, cff_read once. A service that takes uploads should limit the size of a
+   file, put the rows of a record in order, and call from a process of its own with a limit on its CPU time.
 
    Composed glyphs. A glyph that is composed of two others (endchar with four operands, as accented letters of old fonts are) is not
    plain: nothing is promised of it, and the subset does not add its parts. A caller that keeps one keeps its parts too: the glyphs
@@ -138,8 +137,7 @@ uint8_t cff_item_refusal(const uint8_t *font, size_t font_len, uint8_t kind, uin
 
 /* Cuts a name-keyed font to glyph 0 and the glyphs of the keep list, under a new name. record is the reach record, ten bytes a row
    in any order (rising order is the fastest: in another the rows of hint masks are sorted by windows of 8,192, a pass over the record
-   for each; the masks of a glyph or subroutine that has more rows pass over all rows each), and traced its flag, 0 or 1. Writes
-   the subset to the start of out, and answers two words: the way and the length. A kept glyph that is plain, and for which the
+   for each), and traced its flag, 0 or 1. Writes the subset to the start of out, and answers two words: the way and the length. A kept glyph that is plain, and for which the
    record lists what it meets, or the flag is 0, is found in the subset by its name and unfolds there to the same list.
 
    encoding says whether the subset is to have the font's encoding, for a printer that is driven by codes: 0 no, any other yes. With

@@ -11,10 +11,19 @@ const LONGEST: usize = 67_108_864;
 
 /// The bytes of a font's file, of which one more than the longest font are enough to be refused by 4.
 pub fn font_bytes(path: &Path) -> Result<Vec<u8>, Failure> {
+    read_some(path).map_err(|error| Failure::file(path, &error))
+}
+
+/// A file that says its length is read at once, what may have no end, as a device, until there are enough.
+fn read_some(path: &Path) -> io::Result<Vec<u8>> {
+    let mut file = File::open(path)?;
     let mut bytes = Vec::new();
-    let file = File::open(path).map_err(|error| Failure::file(path, &error))?;
-    let read = file.take(LONGEST as u64 + 1).read_to_end(&mut bytes);
-    read.map_err(|error| Failure::file(path, &error))?;
+    let there = file.metadata()?;
+    if there.is_file() && (1..=LONGEST as u64).contains(&there.len()) {
+        file.read_to_end(&mut bytes)?;
+    } else {
+        file.take(LONGEST as u64 + 1).read_to_end(&mut bytes)?;
+    }
     Ok(bytes)
 }
 

@@ -1,9 +1,13 @@
 //! Links HarfBuzz's subsetter where its development package is there (cfg harfbuzz). `run` sets HARFBUZZ to its version, so that an
-//! installation is noticed.
+//! installation is noticed. Makes the copy of the original's writers that tools/compare makes.
+
+#[path = "../compare/build.rs"]
+mod hooked;
 
 use std::process::Command;
 
 fn main() {
+    hooked::main();
     println!("cargo:rustc-check-cfg=cfg(harfbuzz)");
     println!("cargo:rerun-if-changed=build.rs");
     println!("cargo:rerun-if-env-changed=HARFBUZZ");

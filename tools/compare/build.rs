@@ -34,8 +34,8 @@ pub fn way(program: &CffProgram, gids: &BTreeSet<u16>) -> u8 {
 }
 ";
 
-/// Writes the copy, and a file that names it as a module.
-fn main() {
+/// Writes the copy, and a file that names it as a module. tools/bench does it too.
+pub fn main() {
     let here = env::var("CARGO_MANIFEST_DIR").expect("cargo sets it");
     let out = env::var("OUT_DIR").expect("cargo sets it");
     let source = Path::new(&here).join("../../docs/src/crates/efterscript-fonts/src/cff/write.rs");

@@ -3,6 +3,7 @@
 use Prim.Native.Nat.{ℕ}
 use mathlib.Core.Bool.{Bool, true, false}
 use mathlib.Core.List.{List, [], _∷_}
+use mathlib.Core.Option.{Option, none, some}
 use lib.Dec.{ltb, eqb}
 use lib.ListN.{length}
 use Rattle.octets.specs.Pick.{pick}
@@ -12,7 +13,6 @@ use Rattle.record.specs.Record.{rowsOf, recordFine, lists}
 use Rattle.dict.specs.Lookup.{cidKeyed}
 use Rattle.cff.specs.Font.{Got, refused, got, Program, readFont}
 use Rattle.subset.specs.Kept.{isIn, keptOf, usedFds, localsOf}
-use Rattle.subset.specs.Pruned.{May, fail, yes}
 use Rattle.subset.specs.Cut.{allFound}
 use Rattle.traced.specs.Traced.{metAll}
 
@@ -24,9 +24,9 @@ eachRow test (r ∷ rows) = pick (test r) (eachRow test rows) false
 -- ---- the three conditions
 
 -- every glyph is plain, and each row that they meet is listed
-abbrev pub listsMet : List Row → May (List Row) → Bool
-listsMet rows fail = false
-listsMet rows (yes met) = eachRow (lists rows) met
+abbrev pub listsMet : List Row → Option (List Row) → Bool
+listsMet rows none = false
+listsMet rows (some met) = eachRow (lists rows) met
 
 -- the subroutine of a row exists, where the row lists one as reached: kind 0 a local one, of an FD in use; kind 1 a global one
 abbrev pub numberIs : Program → List ℕ → Row → Bool

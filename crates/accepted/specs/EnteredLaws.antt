@@ -1,11 +1,13 @@
 -- The rows that a glyph meets (document 01, 'Plain glyphs'): each subroutine that it enters exists, and the body of each mask is its own charstring or a
 -- subroutine that it enters.
+use lib.IntN.{ℤ}
+use mathlib.Core.Option.{Option, none, some}
 use Prim.Native.Nat.{ℕ, zero, suc, _+_, _<_}
 use mathlib.Core.Path.{_≡_, refl, sym, subst}
 use mathlib.Core.List.{List, [], _∷_, _++_}
 use mathlib.Core.Logic.{⊎-elim}
 use lib.ListN.{length, getD}
-use Rattle.unfold.specs.Unfold.{Tok, Row, Site, glyph, local, global, entered, masked, State, Run, broken, returned, ended, Last, none, last, calling, after, walk, runBody, plain, glyphOf, fresh, unfoldGlyph}
+use Rattle.unfold.specs.Unfold.{Tok, Row, Site, glyph, local, global, entered, masked, State, Run, broken, returned, ended, calling, after, walk, runBody, plain, glyphOf, fresh, unfoldGlyph}
 use Rattle.prune.specs.StepLaws.{zero-one, maskNow, Step, reads, callsLocal, callsGlobal, returns, ends, escapes, masks, clears, walk-was}
 use Rattle.traced.specs.Has.{Has, here, there}
 use Rattle.traced.specs.HasLaws.{has-none, has-left, has-right, has-either}
@@ -86,9 +88,9 @@ module _ (globals locals : List (List ℕ)) (fd g : ℕ) where
 
   module _ (enter : Site → List ℕ → State → Run) (enters : Enters enter) (site : Site) (s : List ℕ) (base : List Row) (here-runs : Runs base site) where
     abbrev Walks : ℕ → Type 0
-    Walks k = (at : ℕ) (l : Last) (st : State) (r : Run) → Going base (st .met) → walk globals locals fd enter k site s at l st ≡ r → Good base r
+    Walks k = (at : ℕ) (l : Option ℤ) (st : State) (r : Run) → Going base (st .met) → walk globals locals fd enter k site s at l st ≡ r → Good base r
 
-    module _ (k : ℕ) (next : Walks k) (at : ℕ) (l : Last) (st : State) (r : Run) (own : Going base (st .met)) where
+    module _ (k : ℕ) (next : Walks k) (at : ℕ) (l : Option ℤ) (st : State) (r : Run) (own : Going base (st .met)) where
       more : (q : Row) → Known (with (st .met) q) q → Going base (with (st .met) q)
       more q h = record { sound = sound-more (st .met) q (own .sound) h; grows = λ x y. one-grows (st .met) q x (own .grows x y) }
 
@@ -101,7 +103,7 @@ module _ (globals locals : List (List ℕ)) (fd g : ℕ) where
           (λ x a q. next (at + 1) none x r a q)
 
       good-step : Step globals locals fd enter k site s at l st r → Good base r
-      good-step (reads z n f a b e) = next n (last z) _ r own e
+      good-step (reads z n f a b e) = next n (some z) _ r own e
       good-step (callsLocal i o f e) =
           let h = target-below (length locals) l i f in
           good-call (local fd i) (getD locals i []) (refl, h, new-one (st .met) (entered (local fd i))) (entersLocal i h refl) e

@@ -1,7 +1,6 @@
 -- Worked examples, computed (document 02, Wish 6): which records of a CID-keyed font are accepted, and the refusals in their order.
 use Prim.Native.Nat.{ℕ}
 use mathlib.Core.Path.{_≡_, refl, ap, _∙_}
-use mathlib.Core.Bool.{false}
 use mathlib.Core.List.{List, [], _∷_, _++_}
 use Rattle.octets.specs.Octets.{be, numAt}
 use Rattle.octets.specs.Lists.{allBelow}
@@ -14,11 +13,11 @@ use Rattle.unfold.specs.Unfold.{leave, but, targetOf, operatorAt, stepAt, walk,
 use Rattle.record.specs.Record.{rowsFrom, rowsOf, rowsFine, recordFine, lists}
 use Rattle.opentype.specs.Opentype.{placeOf}
 use Rattle.cff.specs.Font.{Program, readTable, readFont}
-use Rattle.subset.specs.Kept.{isIn, those, fdsOf, usedFds}
+use Rattle.subset.specs.Kept.{isIn, those, fdsOf}
 use Rattle.subset.specs.Cut.{allFound}
 use Rattle.subset.specs.CidFont.{cidFont, cidProgram, reads, reach, wrongReach}
 use Rattle.traced.specs.Traced.{metAll}
-use Rattle.accepted.specs.Accepted.{eachRow, numberIs, acceptedBy, checkProgram, checkRead, checkOf}
+use Rattle.accepted.specs.Accepted.{eachRow, acceptedBy, checkProgram, checkRead, checkOf}
 
 -- glyphs 0, 1, 3 and 4 of `cidFont`, of FDs 0 and 2; FD 1 has no glyph
 abbrev pub keep : List ℕ

@@ -3,7 +3,6 @@ use Prim.Native.Nat.{ℕ, _%_}
 use mathlib.Core.Path.{_≡_, refl, sym, ap, _∙_}
 use mathlib.Core.Bool.{Bool, true, false, _&&_}
 use mathlib.Core.List.{List, [], _∷_}
-use native.Mathlib.Omega.{arith}
 use borrow.Author.Tests.{eqb-true}
 use lib.Dec.{eqb}
 use lib.ListN.{length}
@@ -11,7 +10,6 @@ use Rattle.octets.specs.Pick.{pick}
 use Rattle.octets.specs.PickLaws.{both-hold}
 use Rattle.strings.specs.TableLaws.{and-left, and-right}
 use Rattle.unfold.specs.Unfold.{Row, local, global, entered}
-use Rattle.prune.specs.StepLaws.{zero-one}
 use Rattle.record.specs.Record.{rowsOf, takesFd, rowFine, rowsFine, recordFine}
 use Rattle.faithful.specs.RecordLaws.{row-is}
 use Rattle.traced.specs.Has.{Has, here, there}

@@ -1,6 +1,7 @@
 -- Two lengths for one mask (document 01, 'Corners in write.rs'): where a record has them for a body that is rewritten, a subset call that is not refused
 -- answers way 1.
-use Prim.Native.Nat.{ℕ, _+_, _<_}
+use mathlib.Core.Option.{Option, none, some}
+use Prim.Native.Nat.{ℕ, _<_}
 use mathlib.Core.Path.{_≡_, refl, sym, ap, _∙_}
 use mathlib.Core.Bool.{Bool, true, false}
 use mathlib.Core.List.{List, [], _∷_}
@@ -11,6 +12,7 @@ use lib.ListN.{length, getD}
 use Rattle.octets.specs.Pick.{pick, pick-ind}
 use Rattle.octets.specs.PickLaws.{pick-same}
 use Rattle.octets.specs.Lists.{allBelow}
+use Rattle.octets.specs.Steps.{and}
 use Rattle.charstring.specs.declared.MaskLen.the-variants.{Given}
 use Rattle.unfold.specs.Unfold.{Row, Site, glyph, local, global, masked}
 use Rattle.prune.specs.Renumber.{Calls}
@@ -22,7 +24,7 @@ use Rattle.cff.specs.Find.{workSize}
 use Rattle.subset.specs.Kept.{isIn, those, keptOf, writtenOrder, usedFds, localsOf}
 use Rattle.subset.specs.KeptListLaws.{in-none, in-cases, those-has}
 use Rattle.bits.specs.Bits.{countBelow}
-use Rattle.subset.specs.Pruned.{May, fail, yes, and, each, reached, localSet, globalSet, renumberedBody, renumberedSubrs, callsIn, callsAcross, renumbered, Bodies, orStubbed, stubbed, Pruned, pruned}
+use Rattle.subset.specs.Pruned.{each, reached, localSet, globalSet, renumberedBody, renumberedSubrs, callsIn, callsAcross, renumbered, Bodies, orStubbed, stubbed, Pruned, pruned}
 use Rattle.subset.specs.Codes.{Coded, codedIf, pairCount}
 use Rattle.subset.specs.Subset.{subsetBytes}
 use Rattle.subset.specs.Cut.{Outcome, refused, subset, allFound, hasRos, sameBool, ownOf, written, unsupportedIn, cutProgram}
@@ -42,32 +44,32 @@ two-listed rows site offset a b h k differ = by (twoLengths rows site) refl
 
 -- ---- what fails
 
-and-fails : {A B : Type 0} (m : May A) → and {A = A} {B = B} m (λ a. fail) ≡ fail
-and-fails fail = refl
-and-fails (yes a) = refl
+and-fails : {A B : Type 0} (m : Option A) → and {A = A} {B = B} m (λ a. none) ≡ none
+and-fails none = refl
+and-fails (some a) = refl
 
-each-fails : {A : Type 0} (f : ℕ → May A) (ks : List ℕ) (k : ℕ) → isIn k ks ≡ true → f k ≡ fail → each f ks ≡ fail
+each-fails : {A : Type 0} (f : ℕ → Option A) (ks : List ℕ) (k : ℕ) → isIn k ks ≡ true → f k ≡ none → each f ks ≡ none
 unfolding each
 each-fails {A} f [] k h e = absurd (in-none k h)
 each-fails {A} f (x ∷ ks) k h e =
     ⊎-elim
-    (λ i. ap (λ (m : May A). and m (λ b. and (each f ks) (λ bs. yes (b ∷ bs)))) (ap f i ∙ e))
-    (λ i. ap (λ (m : May (List A)). and (f x) (λ b. and m (λ bs. yes (b ∷ bs)))) (each-fails f ks k i e) ∙ and-fails (f x))
+    (λ i. ap (λ (m : Option A). and m (λ b. and (each f ks) (λ bs. some (b ∷ bs)))) (ap f i ∙ e))
+    (λ i. ap (λ (m : Option (List A)). and (f x) (λ b. and m (λ bs. some (b ∷ bs)))) (each-fails f ks k i e) ∙ and-fails (f x))
     (in-cases x k ks h)
 
 module _ (rows : List Row) where
-  body-fails : (calls : Calls) (site : Site) (s : List ℕ) → twoLengths rows site ≡ true → renumberedBody rows calls site s ≡ fail
+  body-fails : (calls : Calls) (site : Site) (s : List ℕ) → twoLengths rows site ≡ true → renumberedBody rows calls site s ≡ none
   unfolding renumberedBody
   body-fails calls site s e = rw e
 
   subrs-fail : (set : ℕ → Bool) (calls : Calls) (site : ℕ → Site) (subrs : List (List ℕ)) (k : ℕ) → set k ≡ true → k < length subrs → twoLengths rows (site k) ≡ true
-      → renumberedSubrs rows set calls site subrs ≡ fail
+      → renumberedSubrs rows set calls site subrs ≡ none
   unfolding renumberedSubrs
   subrs-fail set calls site subrs k is h e =
       let f = each-fails (λ j. renumberedBody rows calls (site j) (getD subrs j [])) (those set (length subrs) 0) k
       (those-has set (length subrs) 0 k (omega arith) (omega (arith, h)) is) (body-fails calls (site k) (getD subrs k []) e) in
       let there = eqb (reached set) (countBelow set (length subrs)) in
-      ap (λ (m : May (List (List ℕ))). pick there m fail) f ∙ pick-same there fail
+      ap (λ (m : Option (List (List ℕ))). pick there m none) f ∙ pick-same there none
 
   module _ (p : Program) (used order : List ℕ) where
     -- a body that is rewritten: a glyph that is written, or a subroutine that is listed and exists
@@ -76,40 +78,40 @@ module _ (rows : List Row) where
     Rewritten (local f k) = (isIn f used ≡ true) × (localSet rows f k ≡ true) × (k < length (localsOf p f))
     Rewritten (global k) = (globalSet rows k ≡ true) × (k < length (p .globals))
 
-    abbrev globalsPart : May (List (List ℕ))
+    abbrev globalsPart : Option (List (List ℕ))
     globalsPart = renumberedSubrs rows (globalSet rows) (callsAcross p rows used) global (p .globals)
 
-    abbrev localsPart : May (List (List (List ℕ)))
+    abbrev localsPart : Option (List (List (List ℕ)))
     localsPart = each (λ f. renumberedSubrs rows (localSet rows f) (callsIn p rows f) (local f) (localsOf p f)) used
 
-    abbrev glyphsPart : May (List (List ℕ))
+    abbrev glyphsPart : Option (List (List ℕ))
     glyphsPart = each (λ g. renumberedBody rows (callsIn p rows (getD (p .fds) g 0)) (glyph g) (getD (p .charstrings) g [])) order
 
-    abbrev three : May (List (List ℕ)) → May (List (List (List ℕ))) → May (List (List ℕ)) → May Bodies
-    three a b c = and a (λ gs. and b (λ ls. and c (λ cs. yes (record { globals = gs; locals = ls; charstrings = cs }))))
+    abbrev three : Option (List (List ℕ)) → Option (List (List (List ℕ))) → Option (List (List ℕ)) → Option Bodies
+    three a b c = and a (λ gs. and b (λ ls. and c (λ cs. some (record { globals = gs; locals = ls; charstrings = cs }))))
 
-    third-fails : (a : May (List (List ℕ))) (b : May (List (List (List ℕ)))) → three a b fail ≡ fail
-    third-fails fail b = refl
-    third-fails (yes gs) b = and-fails b
+    third-fails : (a : Option (List (List ℕ))) (b : Option (List (List (List ℕ)))) → three a b none ≡ none
+    third-fails none b = refl
+    third-fails (some gs) b = and-fails b
 
-    second-fails : (a : May (List (List ℕ))) (c : May (List (List ℕ))) → three a fail c ≡ fail
+    second-fails : (a : Option (List (List ℕ))) (c : Option (List (List ℕ))) → three a none c ≡ none
     second-fails a c = and-fails a
 
-    renumbered-fails : (site : Site) → Rewritten site → twoLengths rows site ≡ true → renumbered p rows used order ≡ fail
+    renumbered-fails : (site : Site) → Rewritten site → twoLengths rows site ≡ true → renumbered p rows used order ≡ none
     unfolding renumbered
     renumbered-fails (glyph g) h e =
         ap (three globalsPart localsPart) (each-fails _ order g h (body-fails (callsIn p rows (getD (p .fds) g 0)) (glyph g) (getD (p .charstrings) g []) e))
         ∙ third-fails globalsPart localsPart
     renumbered-fails (local f k) h e =
-        ap (λ (m : May (List (List (List ℕ)))). three globalsPart m glyphsPart)
+        ap (λ (m : Option (List (List (List ℕ)))). three globalsPart m glyphsPart)
         (each-fails _ used f (h .0) (subrs-fail (localSet rows f) (callsIn p rows f) (local f) (localsOf p f) k (h .1) (h .2) e))
         ∙ second-fails globalsPart glyphsPart
     renumbered-fails (global k) h e =
-        ap (λ (m : May (List (List ℕ))). three m localsPart glyphsPart) (subrs-fail (globalSet rows) (callsAcross p rows used) global (p .globals) k (h .0) (h .1) e)
+        ap (λ (m : Option (List (List ℕ))). three m localsPart glyphsPart) (subrs-fail (globalSet rows) (callsAcross p rows used) global (p .globals) k (h .0) (h .1) e)
 
     pub two-stubbed : (site : Site) → Rewritten site → twoLengths rows site ≡ true → pruned p rows used order 1 .way ≡ 1
     unfolding pruned
-    two-stubbed site h e = ap (λ (m : May Bodies). orStubbed m (stubbed p rows used order) .way) (renumbered-fails site h e)
+    two-stubbed site h e = ap (λ (m : Option Bodies). orStubbed m (stubbed p rows used order) .way) (renumbered-fails site h e)
 
 -- ---- the way of an outcome
 

@@ -1,6 +1,7 @@
 -- What the checker promises (document 02, Wish 6), whatever the font, the keep list and the record are: it accepts a record exactly where the three
 -- conditions hold; a subset from an accepted record, cut with flag 1, holds every kept glyph; what was traced with flag 1 is accepted; and with a second
 -- length for a mask that is met a subset call that is not refused answers with stubs.
+use mathlib.Core.Option.{Option, none, some}
 use Prim.Native.Nat.{ℕ, _≤_, _<_}
 use mathlib.Core.Path.{_≡_, refl, sym, ap, _∙_, subst}
 use mathlib.Core.Bool.{Bool, true, false}
@@ -24,7 +25,6 @@ use Rattle.cff.specs.Find.{workSize}
 use Rattle.cff.specs.ReadingRefusals.{reading-refusal}
 use Rattle.subset.specs.Kept.{isIn, keptOf, writtenOrder, fdsOf, usedFds, localsOf}
 use Rattle.subset.specs.KeptListLaws.{in-none, in-head, in-more, in-cases, those-in}
-use Rattle.subset.specs.Pruned.{May, fail, yes, pruned}
 use Rattle.subset.specs.Cut.{subset, allFound, cutProgram, cutRead, cutWith, cutOf}
 use Rattle.faithful.specs.Faithful.{unfolded, IsKept, Holds, Faithful}
 use Rattle.faithful.specs.Laid.{GoodProgram}
@@ -32,7 +32,7 @@ use Rattle.faithful.specs.GoodLaws.{font-good}
 use Rattle.faithful.specs.KeptLaws.{kept-is, order-same}
 use Rattle.faithful.specs.UsedLaws.{uses, used-has}
 use Rattle.faithful.specs.Theorem.{faithful}
-use Rattle.traced.specs.Traced.{metAll, Traced, refused, traced, answered, traceProgram, traceRead, traceOf}
+use Rattle.traced.specs.Traced.{refused, traced, answered, traceProgram, traceRead, traceOf}
 use Rattle.traced.specs.Has.{Has}
 use Rattle.traced.specs.HasLaws.{has-listed, listed-has, all-at, all-from}
 use Rattle.traced.specs.MetLaws.{Meets, met-within, met-from, met-fails, in-kept}
@@ -82,12 +82,12 @@ module _ (p : Program) (keep rec : List ℕ) (good : GoodProgram p) where
     unfolding acceptedBy
     both = both-hold (eachRow (numberIs p used) (rowsOf rec)) (listsMet (rowsOf rec) (keptRows p keep)) e
 
-    rows-met : (met : List Row) × (keptRows p keep ≡ yes met) × (eachRow (lists (rowsOf rec)) met ≡ true)
+    rows-met : (met : List Row) × (keptRows p keep ≡ some met) × (eachRow (lists (rowsOf rec)) met ≡ true)
     rows-met = by (keptRows p keep) refl (both .1)
       where
-        by : (m : May (List Row)) → keptRows p keep ≡ m → listsMet (rowsOf rec) m ≡ true → (met : List Row) × (keptRows p keep ≡ yes met) × (eachRow (lists (rowsOf rec)) met ≡ true)
-        by fail a h = absurd (zero-one cc)
-        by (yes met) a h = (met, a, h)
+        by : (m : Option (List Row)) → keptRows p keep ≡ m → listsMet (rowsOf rec) m ≡ true → (met : List Row) × (keptRows p keep ≡ some met) × (eachRow (lists (rowsOf rec)) met ≡ true)
+        by none a h = absurd (zero-one cc)
+        by (some met) a h = (met, a, h)
 
     pub accepted-holds : Accepted p keep rec
     accepted-holds =
@@ -118,16 +118,16 @@ module _ (p : Program) (keep rec : List ℕ) (good : GoodProgram p) where
   -- ---- and back
 
   module _ (fine : recordFine (cidKeyed (p .top)) rec 1 ≡ true) (a : Accepted p keep rec) where
-    plain-all : (met : List Row) × (keptRows p keep ≡ yes met)
+    plain-all : (met : List Row) × (keptRows p keep ≡ some met)
     plain-all = by (keptRows p keep) refl
       where
-        by : (m : May (List Row)) → keptRows p keep ≡ m → (met : List Row) × (keptRows p keep ≡ yes met)
-        by fail e =
+        by : (m : Option (List Row)) → keptRows p keep ≡ m → (met : List Row) × (keptRows p keep ≡ some met)
+        by none e =
             let f = met-fails p kept e in
             let u = a .plains (f .0) (in-kept p keep (f .0) (f .1)) in
             let s : notPlain ≡ plain (u .0) (u .1) = sym (f .2) ∙ u .2 in
             absurd (zero-one cc)
-        by (yes met) e = (met, e)
+        by (some met) e = (met, e)
 
     met-listed : eachRow (lists (rowsOf rec)) (plain-all .0) ≡ true
     met-listed =

@@ -1,6 +1,6 @@
 -- The theorems used (document 02, Wish 6): each premise is one that holds of a font, a keep list and a record.
 use Prim.Native.Nat.{ℕ}
-use mathlib.Core.Path.{_≡_, refl, sym, ap, _∙_}
+use mathlib.Core.Path.{_≡_, refl}
 use mathlib.Core.Bool.{true, false}
 use mathlib.Core.List.{List, [], _∷_}
 use mathlib.Core.Logic.{inl, inr}
@@ -18,7 +18,7 @@ use Rattle.subset.specs.CidFont.{cidFont, cidProgram, reads, reach}
 use Rattle.subset.specs.CidExample.{renumberedBytes, renumbers}
 use Rattle.subset.specs.NameExample as named
 use Rattle.faithful.specs.Faithful.{unfolded, IsKept, Holds}
-use Rattle.traced.specs.Has.{Has, here, there}
+use Rattle.traced.specs.Has.{here, there}
 use Rattle.traced.specs.HeldExample as traced
 use Rattle.accepted.specs.Accepted.{checkOf}
 use Rattle.accepted.specs.Theorem.{InForm, Accepted, answer-reads, accepted-only, accepted-whenever, refused-only, refused-whenever, accepted-held, trace-accepted, second-length-stubs}

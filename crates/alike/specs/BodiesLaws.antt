@@ -4,6 +4,7 @@ use Prim.Native.Nat.{ℕ, _<_}
 use mathlib.Core.Path.{_≡_, refl, sym, ap, _∙_}
 use mathlib.Core.Bool.{Bool, true, false}
 use mathlib.Core.List.{List, [], _∷_}
+use mathlib.Core.Option.{Option, none, some}
 use native.Mathlib.Omega.{arith}
 use borrow.Author.Tests.{eqb-true}
 use lib.Dec.{eqb}
@@ -11,19 +12,20 @@ use lib.IntN.{ℤ}
 use lib.ListN.{length, getD}
 use lib.Seq.{ext-getD}
 use Rattle.octets.specs.Pick.{pick, pick-ind}
+use Rattle.octets.specs.Steps.{and}
 use Rattle.charstring.specs.Bias.{biasOf}
 use Rattle.unfold.specs.Unfold.{Row, glyph as glyphSite, local as localSite, global as globalSite}
-use Rattle.prune.specs.Renumber.{Operand, fails, operandOf, Calls}
+use Rattle.prune.specs.Renumber.{operandOf, Calls}
 use Rattle.dict.specs.Lookup.{cidKeyed}
 use Rattle.cff.specs.Font.{Program}
 use Rattle.subset.specs.Kept.{isIn, keeps, keptOf, sortedBy, writtenOrder, usedFds, localsOf}
 use Rattle.subset.specs.KeptListLaws.{those-in, sorted-in}
-use Rattle.subset.specs.Pruned.{Bodies, May, yes, and, each, rank, reached, localSet, globalSet, renumberedBody, renumberedSubrs, stubbedFrom, mapped, callsIn, callsAcross, renumbered, charstringsOf, stubbed, copied, Pruned, orStubbed, pruned}
+use Rattle.subset.specs.Pruned.{Bodies, each, rank, reached, localSet, globalSet, renumberedBody, renumberedSubrs, stubbedFrom, mapped, callsIn, callsAcross, renumbered, charstringsOf, stubbed, copied, Pruned, orStubbed, pruned}
 use Rattle.subset.specs.AlikeLaws.{each-alike, mapped-alike, stubbed-alike, renumbered-alike}
 use Rattle.alike.specs.Alike.{SameFor, Alike}
 
 -- the calls of a glyph or a local subroutine, by how many local and how many global subroutines the font has
-abbrev globalBy : List Row → ℕ → ℤ → Operand
+abbrev globalBy : List Row → ℕ → ℤ → Option ℤ
 globalBy rows globals z = operandOf (rank (globalSet rows)) (biasOf globals) (biasOf (reached (globalSet rows))) z
 
 abbrev callsBy : List Row → ℕ → ℕ → ℕ → Calls
@@ -31,7 +33,7 @@ callsBy rows f locals globals b z =
     pick (eqb b 10) (operandOf (rank (localSet rows f)) (biasOf locals) (biasOf (reached (localSet rows f))) z) (globalBy rows globals z)
 
 abbrev acrossBy : List Row → ℕ → Calls
-acrossBy rows globals b z = pick (eqb b 10) fails (globalBy rows globals z)
+acrossBy rows globals b z = pick (eqb b 10) none (globalBy rows globals z)
 
 -- bodies that were copied
 abbrev copiedAs : List (List ℕ) → List (List (List ℕ)) → List (List ℕ) → Pruned
@@ -106,16 +108,16 @@ module _ {keep : List ℕ} {global : ℕ → Bool} {local : ℕ → ℕ → Bool
           charstrings-same)
 
       -- the parts of a font that is renumbered, and the whole
-      abbrev joined : May (List (List ℕ)) → May (List (List (List ℕ))) → May (List (List ℕ)) → May Bodies
-      joined gs ls cs = and gs (λ g. and ls (λ l. and cs (λ c. yes (record { globals = g; locals = l; charstrings = c }))))
+      abbrev joined : Option (List (List ℕ)) → Option (List (List (List ℕ))) → Option (List (List ℕ)) → Option Bodies
+      joined gs ls cs = and gs (λ g. and ls (λ l. and cs (λ c. some (record { globals = g; locals = l; charstrings = c }))))
 
-      abbrev globalsFor : Program → May (List (List ℕ))
+      abbrev globalsFor : Program → Option (List (List ℕ))
       globalsFor x = renumberedSubrs rows (globalSet rows) (callsAcross x rows used) globalSite (x .globals)
 
-      abbrev localsFor : Program → ℕ → May (List (List ℕ))
+      abbrev localsFor : Program → ℕ → Option (List (List ℕ))
       localsFor x f = renumberedSubrs rows (localSet rows f) (callsIn x rows f) (localSite f) (localsOf x f)
 
-      abbrev glyphFor : Program → ℕ → May (List ℕ)
+      abbrev glyphFor : Program → ℕ → Option (List ℕ)
       glyphFor x g = renumberedBody rows (callsIn x rows (getD (x .fds) g 0)) (glyphSite g) (getD (x .charstrings) g [])
 
       globals-renumbered : globalsFor p ≡ globalsFor q
@@ -139,15 +141,15 @@ module _ {keep : List ℕ} {global : ℕ → Bool} {local : ℕ → ℕ → Bool
       renumbered-same =
           let ls = each-alike (localsFor p) (localsFor q) used locals-renumbered in
           let cs = each-alike (glyphFor p) (glyphFor q) (writtenOrder p kept) glyph-renumbered in
-          ap (λ (m : May (List (List ℕ))). joined m (each (localsFor p) used) (each (glyphFor p) (writtenOrder p kept))) globals-renumbered
-          ∙ (ap (λ (m : May (List (List (List ℕ)))). joined (globalsFor q) m (each (glyphFor p) (writtenOrder p kept))) ls
-          ∙ ap (λ (m : May (List (List ℕ))). joined (globalsFor q) (each (localsFor q) used) m) cs)
+          ap (λ (m : Option (List (List ℕ))). joined m (each (localsFor p) used) (each (glyphFor p) (writtenOrder p kept))) globals-renumbered
+          ∙ (ap (λ (m : Option (List (List (List ℕ)))). joined (globalsFor q) m (each (glyphFor p) (writtenOrder p kept))) ls
+          ∙ ap (λ (m : Option (List (List ℕ))). joined (globalsFor q) (each (localsFor q) used) m) cs)
 
       pub pruned-same : (flag : ℕ) → 0 < flag → pruned p rows used (writtenOrder p kept) flag ≡ pruned q rows used (writtenOrder p kept) flag
       unfolding pruned
       pruned-same flag h =
           let e =
-          ap (λ (m : May Bodies). orStubbed m (stubbed p rows used (writtenOrder p kept))) renumbered-same
+          ap (λ (m : Option Bodies). orStubbed m (stubbed p rows used (writtenOrder p kept))) renumbered-same
           ∙ ap (orStubbed (renumbered q rows used (writtenOrder p kept))) stubbed-same
           in
           rw (not-zero flag h) e

@@ -25,7 +25,7 @@ use Rattle.strings.specs.Strings.{stringText, standardString, standardStrings, 
 use Rattle.find.specs.Find.{glyphWithText}
 use Rattle.unfold.specs.Unfold.{Row, local, global, entered}
 use Rattle.record.specs.Record.{rowsFrom, rowsOf, rowsFine, recordFine, lists, givenIn, disagrees, twoLengths}
-use Rattle.prune.specs.Renumber.{oldOf, renumber, renumberCharstring}
+use Rattle.prune.specs.Renumber.{renumber, renumberCharstring}
 use Rattle.cff.specs.Font.{Got, Program}
 use Rattle.cff.specs.Find.{workSize, localsWords}
 use Rattle.bits.specs.Bits.{countBelow}
@@ -96,13 +96,13 @@ prunedOf x rs = pruned (bareProgram x) rs (0 ∷ []) (0 ∷ 1 ∷ []) 1
 
 bodies-8d : prunedOf 0x8d rows ≡ bodies 0x8d
 unfolding
-    pruned renumbered renumberedSubrs renumberedBody each those lists givenIn twoLengths disagrees renumberCharstring renumber oldOf encode t2.numberAt t2.keep24
+    pruned renumbered renumberedSubrs renumberedBody each those lists givenIn twoLengths disagrees renumberCharstring renumber encode t2.numberAt t2.keep24
     t2.rounded t2e.numberBytes t2e.integerBytes t2e.fixedBytes tok.tokensOf tok.tokensFrom tok.tokenAt bytesOf numAt be
 bodies-8d = simp (few-locals, few-globals, locals-two, locals-one, globals-two, globals-one)
 
 bodies-8e : prunedOf 0x8e rows ≡ bodies 0x8e
 unfolding
-    pruned renumbered renumberedSubrs renumberedBody each those lists givenIn twoLengths disagrees renumberCharstring renumber oldOf encode t2.numberAt t2.keep24
+    pruned renumbered renumberedSubrs renumberedBody each those lists givenIn twoLengths disagrees renumberCharstring renumber encode t2.numberAt t2.keep24
     t2.rounded t2e.numberBytes t2e.integerBytes t2e.fixedBytes tok.tokensOf tok.tokensFrom tok.tokenAt bytesOf numAt be
 bodies-8e = simp (few-locals, few-globals, locals-two, locals-one, globals-two, globals-one)
 

@@ -1,16 +1,15 @@
 -- The ones below a number are how many numbers below it have their bit.
 use Prim.Native.Nat.{ℕ, zero, suc, _+_, _*_, _/_, _%_, _^_, _-_, _≤_, _<_}
-use mathlib.Core.Path.{_≡_, refl, sym, ap, _∙_, subst}
-use mathlib.Core.Bool.{Bool, true, false}
+use mathlib.Core.Path.{_≡_, refl, sym, ap, _∙_}
+use mathlib.Core.Bool.{Bool}
 use mathlib.Core.List.{List}
 use native.Mathlib.Nat.{mod-lt, add-comm, one-mul}
 use native.Mathlib.Omega.{arith}
-use borrow.Author.Tests.{eq-eqb, ne-eqb}
 use lib.Dec.{eqb, lit<}
-use lib.ListN.{length, getD}
+use lib.ListN.{getD}
 use lib.Pow.{mod-pow-add, pow-pos, shl-exact}
 use lib.Bits.{bitAnd, and-mask}
-use lib.Count.{ones, ones-cat, ones-step, ones-le}
+use lib.Count.{ones, ones-cat}
 use Rattle.octets.specs.Pick.{pick}
 use Rattle.bits.specs.Bits.{countBelow, bitIn, wholeOnes, onesBelow}
 

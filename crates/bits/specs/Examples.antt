@@ -2,10 +2,10 @@
 use Prim.Native.Nat.{ℕ}
 use mathlib.Core.Path.{_≡_, refl}
 use mathlib.Core.Bool.{Bool, true, false}
-use mathlib.Core.List.{List, [], _∷_}
+use mathlib.Core.List.{[], _∷_}
 use lib.Dec.{eqb}
 use Rattle.octets.specs.Pick.{pick}
-use Rattle.bits.specs.Bits.{wordsFor, bitIn, wordOf, wordsOf, bitsOf, wholeOnes, onesBelow}
+use Rattle.bits.specs.Bits.{wordsFor, bitIn, wordOf, wordsOf, bitsOf}
 
 -- 31 and 32, the last bit of a word and the first of the next; every number
 abbrev twoNumbers : ℕ → Bool

@@ -1,16 +1,16 @@
 -- A bit that is set in a word: the others stay.
 use Prim.Native.Nat.{ℕ, zero, suc, _+_, _*_, _/_, _%_, _^_, _-_, _≤_, _<_}
-use mathlib.Core.Path.{_≡_, refl, sym, ap, _∙_, subst}
+use mathlib.Core.Path.{_≡_, refl, sym, ap, _∙_}
 use mathlib.Core.Bool.{Bool, true, false}
 use mathlib.Core.List.{List}
-use native.Mathlib.Nat.{mod-lt, one-mul, pow-suc, mul-comm, div-eq-of-lt}
+use native.Mathlib.Nat.{mod-lt, one-mul, pow-suc, div-eq-of-lt}
 use native.Mathlib.Omega.{arith}
 use borrow.Author.Tests.{eq-eqb, ne-eqb, ltb-true, ltb-false}
 use lib.Dec.{eqb, ltb, lit<}
 use lib.ListN.{length, getD, set}
 use lib.Seq.{getD-set-same, getD-set-other}
-use lib.Pow.{pow-pos, pow-add, pow-lt, shl-shr, shl-exact}
-use lib.Bits.{bitOr, or-shr, or-mod, or-zero-r, or-lt}
+use lib.Pow.{pow-add, pow-lt, shl-shr}
+use lib.Bits.{bitOr, or-shr, or-mod, or-zero-r}
 use Rattle.octets.specs.Pick.{pick}
 use Rattle.bits.specs.Bits.{bitIn}
 

@@ -1,7 +1,6 @@
 // Running sums: how many bits stand below each eighth of some words, so that no more words are counted for a number than an eighth of all.
 ghost use mathlib.Core.Path.{_≡_};
 ghost use Prim.Native.Nat.{_+_, _*_, _≤_, _<_};
-ghost use lib.ListN.{length};
 ghost use Rattle.bits.specs.Bits.{eighth, four, onesTo, sumIn};
 
 // An eighth of n words, rounded up.

@@ -1,10 +1,11 @@
 -- Laws of one list that is tried: what its trace hands on, what measuring asks, and that the outcome is the traced cut's.
-use Prim.Native.Nat.{ℕ, _+_, _≤_, _<_}
+use Prim.Native.Nat.{ℕ, _+_, _≤_}
 use mathlib.Core.Path.{_≡_, refl, sym, ap, _∙_, subst}
 use mathlib.Core.Bool.{Bool, true, false}
-use mathlib.Core.List.{List, [], _++_}
+use mathlib.Core.List.{List, []}
+use mathlib.Core.Option.{Option, none, some}
 use native.Mathlib.Omega.{arith}
-use borrow.Author.Tests.{le-ltb, ltb-false, eq-eqb}
+use borrow.Author.Tests.{le-ltb, ltb-false}
 use lib.Dec.{ltb, eqb}
 use lib.ListN.{length, take}
 use Rattle.octets.specs.Pick.{pick, pick-ind}
@@ -16,20 +17,19 @@ use Rattle.unfold.specs.Unfold.{Row}
 use Rattle.prune.specs.StepLaws.{zero-one}
 use Rattle.record.specs.Record.{recordFine}
 use Rattle.dict.specs.Lookup.{rosIn, cidKeyed}
-use Rattle.cff.specs.Font.{Got, got, Program, readFont}
+use Rattle.cff.specs.Font.{Got, Program}
 use Rattle.cff.specs.Find.{workSize}
 use Rattle.small.specs.Small.{smallSize}
 use Rattle.cff.specs.Reads.{programOf}
 use Rattle.cff.specs.File.{InFile, tableIn}
 use Rattle.cff.specs.declared.font.Font.{Font}
 use Rattle.subset.specs.Kept.{keptOf}
-use Rattle.subset.specs.Pruned.{May, fail, yes}
 use Rattle.subset.specs.Cut.{Outcome, refused as refusedCut, subset, allFound, hasRos, sameBool, unsupportedIn}
 use Rattle.small.specs.Theorem.{small-less}
 use Rattle.parts.specs.Ready.{FontHeld}
 use Rattle.outcome.specs.Entry.{answerOf, refusalOf, cutBehind, Passed}
 use Rattle.outcome.specs.declared.Answer.{Answer}
-use Rattle.outcome.specs.declared.Answer.the-variants.{Refused as RefusedAnswer, Subset}
+use Rattle.outcome.specs.declared.Answer.the-variants.{Refused as RefusedAnswer}
 use Rattle.write.specs.EntryLaws.{program-cut, font-held}
 use Rattle.traced.specs.Traced.{Traced, refused, traced, recordOf, metAll, answered, traceProgram, traceRead, traceOf, tracedAs, leavesRecord, Traces}
 use Rattle.traced.specs.Theorem.{keptRows, trace-fine, kept-fits}
@@ -50,9 +50,9 @@ pub record Passes (p : Program) (keep rec : List ℕ) (lent : ℕ) : Type 0 wher
 pub trace-passes : (p : Program) (keep : List ℕ) (lent flag : ℕ) (rec : List ℕ) → traceProgram p keep lent ≡ traced flag rec → Passes p keep rec lent
 trace-passes p keep lent flag rec e = by (allBelow (length (p .charstrings)) keep) (allFound p (keptOf (length (p .charstrings)) keep)) refl refl e
   where
-    short : (m : May (List Row)) → answered lent m ≡ traced flag rec → length rec ≤ lent
-    short fail h = let z : [] ≡ rec = cc in omega (arith, ap length (sym z))
-    short (yes rows) h =
+    short : (m : Option (List Row)) → answered lent m ≡ traced flag rec → length rec ≤ lent
+    short none h = let z : [] ≡ rec = cc in omega (arith, ap length (sym z))
+    short (some rows) h =
         pick-ind (λ t. t ≡ traced flag rec → length rec ≤ lent) (ltb lent (length (recordOf rows))) (refused 11) (traced 1 (recordOf rows))
         (λ q k. absurd (zero-one cc))
         (λ q k. let z : recordOf rows ≡ rec = cc in omega (arith, ap length (sym z), ltb-false lent (length (recordOf rows)) q))
@@ -180,9 +180,9 @@ module _ (file : List ℕ) (f : Font) (b : List ℕ) (octets : Octets file) (hel
         by (keptRows p keep) refl
         (passes-answered p keep (length old) (traced flag (take len new)) (traced-handed flag len e .is) flag (take len new) refl ∙ ap (λ (k : ℕ). traced k (take len new)) one)
       where
-        by : (m : May (List Row)) → keptRows p keep ≡ m → answered (length old) m ≡ traced 1 (take len new) → Recorded p keep (take len new)
-        by fail z h = absurd (zero-one cc)
-        by (yes rows) z h =
+        by : (m : Option (List Row)) → keptRows p keep ≡ m → answered (length old) m ≡ traced 1 (take len new) → Recorded p keep (take len new)
+        by none z h = absurd (zero-one cc)
+        by (some rows) z h =
             pick-ind (λ t. t ≡ traced 1 (take len new) → Recorded p keep (take len new)) (ltb (length old) (length (recordOf rows))) (refused 11) (traced 1 (recordOf rows))
             (λ q k. absurd (zero-one cc))
             (λ q k. let i : recordOf rows ≡ take len new = cc in record { rows = rows; met = z; is = sym i; fits = kept-fits file keep (length old) octets p (held .is) rows z })

@@ -4,6 +4,7 @@ use Prim.Native.Nat.{ℕ, _+_, _-_, _*_, _≤_, _<_}
 use mathlib.Core.Path.{_≡_, refl, sym, ap, _∙_, subst}
 use mathlib.Core.Bool.{Bool, true, false}
 use mathlib.Core.List.{List, _++_}
+use mathlib.Core.Option.{Option, none, some}
 use native.Mathlib.Omega.{arith}
 use borrow.Author.Tests.{le-ltb, ltb-false, eq-eqb, ne-eqb}
 use lib.Dec.{ltb, eqb}
@@ -17,15 +18,15 @@ use Rattle.unfold.specs.Unfold.{Row}
 use Rattle.prune.specs.StepLaws.{zero-one}
 use Rattle.record.specs.Record.{rowsOf, recordFine}
 use Rattle.dict.specs.Lookup.{rosIn, cidKeyed}
-use Rattle.cff.specs.Font.{Got, refused as refusedFont, got, Program, readFont}
+use Rattle.cff.specs.Font.{Got, refused as refusedFont, Program, readFont}
 use Rattle.cff.specs.Find.{workSize}
 use Rattle.cff.specs.Reads.{programOf}
 use Rattle.cff.specs.File.{InFile}
 use Rattle.cff.specs.declared.font.Font.{Font}
 use Rattle.subset.specs.Kept.{isIn, those, keptOf, writtenOrder, usedFds}
 use Rattle.subset.specs.KeptListLaws.{those-same}
-use Rattle.subset.specs.Pruned.{May, fail, yes, Pruned, pruned}
-use Rattle.subset.specs.Codes.{codedIf, pairCount}
+use Rattle.subset.specs.Pruned.{pruned}
+use Rattle.subset.specs.Codes.{codedIf}
 use Rattle.subset.specs.Subset.{subsetBytes}
 use Rattle.subset.specs.Cut.{Outcome, refused, subset, allFound, hasRos, sameBool, unsupportedIn, ownOf, zeros}
 use Rattle.outcome.specs.Entry.{answerOf, refusalOf, cutBehind}
@@ -38,10 +39,10 @@ use Rattle.traced.specs.Theorem.{trace-fine}
 use Rattle.culprit.specs.Culprit.{cutTraced, tracedCut, without, hasWay, isCulprit, firstOf, leastCulprit, answerBy, culpritIn, culpritRead, culpritOf, passesNine, usesRead, usesLent, wordsIn, Blocks}
 use Rattle.culprit.specs.Theorem.{not-six, is-least, other-way, has-way}
 use Rattle.culprit.specs.declared.Culprit.{Culprit}
-use Rattle.culprit.specs.declared.Culprit.the-variants.{Refused, None, Glyph}
+use Rattle.culprit.specs.declared.Culprit.the-variants.{Refused, None}
 use Rattle.early_traced.specs.Early.{refusedOr, earlyOf}
 use Rattle.blocking.specs.Search.{CanCut}
-use Rattle.blocking.specs.CutLaws.{trace-passes, cut-passed, cut-behind}
+use Rattle.blocking.specs.CutLaws.{trace-passes, cut-behind}
 
 -- ---- words beyond W
 
@@ -77,11 +78,11 @@ trace-low p keep lent n e =
     low : (m : ℕ) → m ≡ n → (0 < m) × (passesNine (refused m) ≡ false) → (0 < n) × (passesNine (refused n) ≡ false)
     low m q h = subst (λ (k : ℕ). (0 < k) × (passesNine (refused k) ≡ false)) q h
 
-    by : (d f : Bool) (m : May (List Row)) → pick d (pick f (answered lent m) (refusedTrace 7)) (refusedTrace 6) ≡ refusedTrace n → (0 < n) × (passesNine (refused n) ≡ false)
+    by : (d f : Bool) (m : Option (List Row)) → pick d (pick f (answered lent m) (refusedTrace 7)) (refusedTrace 6) ≡ refusedTrace n → (0 < n) × (passesNine (refused n) ≡ false)
     by false f m h = let z : 6 ≡ n = cc in low 6 z (omega arith, refl)
     by true false m h = let z : 7 ≡ n = cc in low 7 z (omega arith, refl)
-    by true true fail h = absurd (zero-one cc)
-    by true true (yes rows) h =
+    by true true none h = absurd (zero-one cc)
+    by true true (some rows) h =
         pick-ind (λ t. t ≡ refusedTrace n → (0 < n) × (passesNine (refused n) ≡ false)) (ltb lent (length (recordOf rows))) (refusedTrace 11) (traced 1 (recordOf rows))
         (λ q k. let z : 11 ≡ n = cc in low 11 z (omega arith, refl))
         (λ q k. absurd (zero-one cc))
@@ -266,11 +267,11 @@ module _ (font name keep work slice : List ℕ) where
           }
 
       module _ (l : n ≤ 0) where
-        none : earlyOf p (length name) keep (length work) lent ≡ 0
-        none = let z : n ≡ 0 = omega arith in sym number ∙ z
+        not-early : earlyOf p (length name) keep (length work) lent ≡ 0
+        not-early = let z : n ≡ 0 = omega arith in sym number ∙ z
 
         all-can : CanCut p (length name) (length work)
-        all-can = early-can p name keep (length work) lent fine none
+        all-can = early-can p name keep (length work) lent fine not-early
 
         module _ (w : ℕ) (size : w ≡ 2 * f .charstrings .count + wordsFor (f .globals .count) + f .words) where
           wide : w ≡ workSize p
@@ -292,7 +293,7 @@ module _ (font name keep work slice : List ℕ) where
               → cleared ≡ replicate (length used) 0 → length left ≡ lent → bytes ≡ replicate (length left) 0
               → Blocks font name keep work slice (cleared ++ drop w work) bytes r
           late-blocks r used cleared left bytes a m c k d =
-              let u : usesLent font name keep (length work) lent ≡ true = use-is ∙ early-passes p name keep (length work) lent fine none in
+              let u : usesLent font name keep (length work) lent ≡ true = use-is ∙ early-passes p name keep (length work) lent fine not-early in
               record {
                 answers = a ∙ culprit-words p name (length (take w work)) (length work) lent (omega (arith, wide, words-taken)) (all-can .room) keep ∙ sym answer-is;
                 words =

@@ -2,7 +2,7 @@
 // kept glyph. The list without a glyph has a 0 in its place, since glyph 0 is always kept.
 ghost use mathlib.Core.Path.{_≡_};
 ghost use mathlib.Core.Bool.{true};
-ghost use Prim.Native.Nat.{ℕ, _-_, _≤_, _<_};
+ghost use Prim.Native.Nat.{_-_, _≤_, _<_};
 ghost use lib.ListN.{length, set, replicate};
 ghost use Rattle.octets.specs.Pick.{pick};
 ghost use Rattle.octets.specs.Lists.{allBelow};
@@ -10,7 +10,7 @@ ghost use Rattle.cff.specs.Find.{workSize};
 ghost use Rattle.cff.specs.Reads.{programOf};
 ghost use Rattle.cff.specs.File.{HasFont, tableIn};
 ghost use Rattle.subset.specs.Kept.{those};
-ghost use Rattle.subset.specs.Cut.{refused, subset};
+ghost use Rattle.subset.specs.Cut.{subset};
 ghost use Rattle.traced.specs.Traced.{traceProgram, traced};
 ghost use Rattle.outcome.specs.Entry.{answerOf};
 ghost use Rattle.culprit.specs.Culprit.{tracedCut, hasWay, firstOf, leastCulprit, culpritIn, Blocks};

@@ -3,9 +3,9 @@ use Prim.Native.Nat.{ℕ, _+_, _*_, _≤_, _<_}
 use mathlib.Core.Path.{_≡_, sym, ap, _∙_, subst}
 use mathlib.Core.Bool.{Bool, true, false, not}
 use mathlib.Core.List.{List, [], _∷_}
+use mathlib.Core.Option.{Option, none, some}
 use native.Mathlib.Omega.{arith}
 use borrow.Author.Tests.{lt-ltb, eq-eqb, ne-eqb}
-use lib.Dec.{eqb}
 use lib.ListN.{length, getD}
 use Rattle.octets.specs.Pick.{pick}
 use Rattle.octets.specs.Octets.{Octets, bytesOf, Wrote}
@@ -17,7 +17,7 @@ use Rattle.index.specs.IndexLaws.{item-short}
 use Rattle.index.specs.declared.Index.{Index}
 use Rattle.unfold.specs.Unfold.{Row, Site, local, global}
 use Rattle.prune.specs.Renumber.{Calls}
-use Rattle.subset.specs.Pruned.{May, fail, yes, renumberedBody}
+use Rattle.subset.specs.Pruned.{renumberedBody}
 use Rattle.reach.specs.Reach.{SiteFits}
 use Rattle.reach.specs.declared.Site as code
 use Rattle.renumber.specs.Ranks.{callsBy, Ranked}
@@ -35,16 +35,16 @@ use Rattle.bodies.specs.declared.subrs.Subrs.the-variants.{Global, Local
 
 -- ---- a body by the way
 
-holds-yes : (m : May (List ℕ)) → holds m ≡ true → isYes m ≡ true
-holds-yes fail e = e
-holds-yes (yes bs) e = e
+holds-yes : (m : Option (List ℕ)) → holds m ≡ true → isYes m ≡ true
+holds-yes none e = e
+holds-yes (some bs) e = e
 
 module _ (way : ℕ) (rows : List Row) (calls : Calls) (site : Site) (s : List ℕ) where
   by-renumbered : way ≡ 0 → renumberedBody rows calls site s ≡ bodyBy way rows calls site s
-  by-renumbered e = ap (λ (b : Bool). pick b (renumberedBody rows calls site s) (yes s)) (sym (eq-eqb way 0 e))
+  by-renumbered e = ap (λ (b : Bool). pick b (renumberedBody rows calls site s) (some s)) (sym (eq-eqb way 0 e))
 
-  by-copied : (way ≡ 0 → ⊥) → yes s ≡ bodyBy way rows calls site s
-  by-copied e = ap (λ (b : Bool). pick b (renumberedBody rows calls site s) (yes s)) (sym (ne-eqb way 0 e))
+  by-copied : (way ≡ 0 → ⊥) → some s ≡ bodyBy way rows calls site s
+  by-copied e = ap (λ (b : Bool). pick b (renumberedBody rows calls site s) (some s)) (sym (ne-eqb way 0 e))
 
   pub new-renumbered : way ≡ 0 → bodyOf (renumberedBody rows calls site s) ≡ newBody way rows calls site s
   new-renumbered e = ap bodyOf (by-renumbered e) ∙ sym (new-body-is way rows calls site s)
@@ -91,6 +91,9 @@ module _ (way : ℕ) (set : ℕ → Bool) (k : ℕ) where
   pub stub-none : (way ≡ 1 → ⊥) → false ≡ isStub way set k
   stub-none e = ap (λ (b : Bool). pick b (not (set k)) false) (sym (ne-eqb way 1 e))
 
+  pub stub-zero : way ≡ 0 → isStub way set k ≡ false
+  stub-zero e = sym (stub-none (λ h. omega (arith, h, e)))
+
 pub count-reached : (way reached count : ℕ) → way ≡ 0 → reached ≡ keptCount way reached count
 count-reached way reached count e = ap (λ (b : Bool). pick b reached count) (sym (eq-eqb way 0 e))
 
@@ -120,14 +123,14 @@ item-bound b ix g l k h s e r m = let n = ap length e in at-most-more (5 * lengt
 -- ---- a subroutine
 
 module _ (way : ℕ) (rows : List Row) (set : ℕ → Bool) (calls : Calls) (of : Subrs) (subrs : List (List ℕ)) (k : ℕ) where
-  stub-is : isStub way set k ≡ true → yes (11 ∷ []) ≡ subrBy way rows set calls (siteIn of) subrs k
-  stub-is e = ap (λ (b : Bool). pick b (yes (11 ∷ [])) (bodyBy way rows calls (siteIn of k) (getD subrs k []))) (sym e)
+  stub-is : isStub way set k ≡ true → some (11 ∷ []) ≡ subrBy way rows set calls (siteIn of) subrs k
+  stub-is e = ap (λ (b : Bool). pick b (some (11 ∷ [])) (bodyBy way rows calls (siteIn of k) (getD subrs k []))) (sym e)
 
   pub stub-len : isStub way set k ≡ true → (Len 1 ≡ sizedOf (subrBy way rows set calls (siteIn of) subrs k)) × (1 ≤ 335544320)
   stub-len e = (ap sizedOf (stub-is e), omega arith)
 
   pub stub-room : isStub way set k ≡ true → (at n : ℕ) → at + length (bodyOf (subrBy way rows set calls (siteIn of) subrs k)) ≤ n → at + 1 ≤ n
-  stub-room e at n h = subst (λ (m : May (List ℕ)). at + length (bodyOf m) ≤ n) (sym (stub-is e)) h
+  stub-room e at n h = subst (λ (m : Option (List ℕ)). at + length (bodyOf m) ≤ n) (sym (stub-is e)) h
 
   pub stub-wrote : isStub way set k ≡ true → {old new : List ℕ} {at q : ℕ} → Wrote old at (bytesOf 1 11) new q
       → Wrote old at (bodyOf (subrBy way rows set calls (siteIn of) subrs k)) new q
@@ -138,7 +141,7 @@ module _ (way : ℕ) (rows : List Row) (set : ℕ → Bool) (calls : Calls) (of 
     body-is : bodyBy way rows calls site s ≡ subrBy way rows set calls (siteIn of) subrs k
     body-is =
         ap (λ (x : Site). bodyBy way rows calls x s) f ∙ ap (λ (x : List ℕ). bodyBy way rows calls (siteIn of k) x) g
-        ∙ ap (λ (b : Bool). pick b (yes (11 ∷ [])) (bodyBy way rows calls (siteIn of k) (getD subrs k []))) (sym e)
+        ∙ ap (λ (b : Bool). pick b (some (11 ∷ [])) (bodyBy way rows calls (siteIn of k) (getD subrs k []))) (sym e)
 
     new-is : newBody way rows calls site s ≡ bodyOf (subrBy way rows set calls (siteIn of) subrs k)
     new-is = new-body-is way rows calls site s ∙ ap bodyOf body-is
@@ -155,10 +158,10 @@ module _ (way : ℕ) (rows : List Row) (set : ℕ → Bool) (calls : Calls) (of 
     subr-wrote w = wrote-as w new-is
 
 -- how long number k is, by whether it passes
-pub len-kept : (test : ℕ → Bool) (f : ℕ → May (List ℕ)) (k n : ℕ) → test k ≡ true → (r : Sized) → (r ≡ sizedOf (f k)) × AtMost n r → (r ≡ lenAt test f k) × AtMost n r
+pub len-kept : (test : ℕ → Bool) (f : ℕ → Option (List ℕ)) (k n : ℕ) → test k ≡ true → (r : Sized) → (r ≡ sizedOf (f k)) × AtMost n r → (r ≡ lenAt test f k) × AtMost n r
 len-kept test f k n e r h = (h .0 ∙ ap (λ (b : Bool). pick b (sizedOf (f k)) (Len 0)) (sym e), h .1)
 
-pub len-left : (test : ℕ → Bool) (f : ℕ → May (List ℕ)) (k n : ℕ) → test k ≡ false → (Len 0 ≡ lenAt test f k) × (0 ≤ n)
+pub len-left : (test : ℕ → Bool) (f : ℕ → Option (List ℕ)) (k n : ℕ) → test k ≡ false → (Len 0 ≡ lenAt test f k) × (0 ≤ n)
 len-left test f k n e = (ap (λ (b : Bool). pick b (sizedOf (f k)) (Len 0)) (sym e), omega arith)
 
 -- ---- the site of a subroutine

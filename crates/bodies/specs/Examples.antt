@@ -8,7 +8,7 @@ use Rattle.type2_number.specs.Number.{keep24, rounded}
 use Rattle.type2_number.specs.Number as t2
 use Rattle.type2_number.specs.Encoding as t2e
 use Rattle.unfold.specs.Unfold.{glyph, local}
-use Rattle.prune.specs.Renumber.{renumber, renumberCharstring, oldOf}
+use Rattle.prune.specs.Renumber.{renumber, renumberCharstring}
 use Rattle.record.specs.Record.{givenIn, twoLengths, disagrees}
 use Rattle.subset.specs.Pruned.{each, renumberedBody, stubbedFrom}
 use Rattle.bits.specs.Bits.{countBelow}
@@ -29,7 +29,7 @@ globals = record { at = 1; count = 0; reached = 0; low = 0; high = 0 }
 -- its call is renumbered
 the-charstring : newBody 0 [] (callsBy words locals globals) (glyph 1) (0x22 ∷ 0x0a ∷ 0x0e ∷ []) ≡ 0x20 ∷ 0x0a ∷ 0x0e ∷ []
 unfolding
-    countBelow renumberedBody renumberCharstring renumber oldOf givenIn twoLengths disagrees encode keep24 rounded t2.numberAt t2e.numberBytes t2e.integerBytes t2e.fixedBytes tok.tokensOf
+    countBelow renumberedBody renumberCharstring renumber givenIn twoLengths disagrees encode keep24 rounded t2.numberAt t2e.numberBytes t2e.integerBytes t2e.fixedBytes tok.tokensOf
     tok.tokensFrom tok.tokenAt
 the-charstring = refl
 

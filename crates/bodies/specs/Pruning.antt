@@ -2,29 +2,30 @@
 use Prim.Native.Nat.{ℕ}
 use mathlib.Core.Bool.{Bool, true, false}
 use mathlib.Core.List.{List, [], _∷_}
+use mathlib.Core.Option.{Option}
 use lib.Dec.{eqb}
 use lib.ListN.{getD}
 use Rattle.octets.specs.Pick.{pick}
 use Rattle.unfold.specs.Unfold.{Row, glyph, local, global}
 use Rattle.cff.specs.Font.{Program}
 use Rattle.subset.specs.Kept.{localsOf}
-use Rattle.subset.specs.Pruned.{Bodies, May, mapped, localSet, globalSet, renumberedBody, renumberedSubrs, callsIn, callsAcross, renumbered}
+use Rattle.subset.specs.Pruned.{Bodies, mapped, localSet, globalSet, renumberedBody, renumberedSubrs, callsIn, callsAcross, renumbered}
 use Rattle.bodies.specs.Ways.{holds, newBody, newSubrs}
 
 -- each of a list holds
-unfoldable pub allHold : {A : Type 0} → (ℕ → May A) → List ℕ → Bool
+unfoldable pub allHold : {A : Type 0} → (ℕ → Option A) → List ℕ → Bool
 allHold f [] = true
 allHold f (k ∷ ks) = pick (holds (f k)) (allHold f ks) false
 
 module _ (p : Program) (rows : List Row) where
   -- the globals renumbered where some FDs are in use, the locals of an FD, the charstring of a glyph
-  abbrev pub renumberedGlobals : List ℕ → May (List (List ℕ))
+  abbrev pub renumberedGlobals : List ℕ → Option (List (List ℕ))
   renumberedGlobals used = renumberedSubrs rows (globalSet rows) (callsAcross p rows used) global (p .globals)
 
-  abbrev pub renumberedLocals : ℕ → May (List (List ℕ))
+  abbrev pub renumberedLocals : ℕ → Option (List (List ℕ))
   renumberedLocals f = renumberedSubrs rows (localSet rows f) (callsIn p rows f) (local f) (localsOf p f)
 
-  abbrev pub renumberedGlyph : ℕ → May (List ℕ)
+  abbrev pub renumberedGlyph : ℕ → Option (List ℕ)
   renumberedGlyph g = renumberedBody rows (callsIn p rows (getD (p .fds) g 0)) (glyph g) (getD (p .charstrings) g [])
 
   -- the bodies by the way

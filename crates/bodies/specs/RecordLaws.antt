@@ -4,6 +4,7 @@ use Prim.Native.Nat.{ℕ, suc, _+_, _≤_, _<_}
 use mathlib.Core.Path.{_≡_, refl, sym, ap, _∙_}
 use mathlib.Core.Bool.{Bool, true, false}
 use mathlib.Core.List.{List, [], _∷_}
+use mathlib.Core.Option.{none, some}
 use native.Mathlib.Decide.{decLe}
 use native.Mathlib.Omega.{arith}
 use borrow.Author.Tests.{lt-ltb, eqb-true}
@@ -17,7 +18,7 @@ use Rattle.subset.specs.Kept.{those}
 use Rattle.bits.specs.Bits.{countBelow, wordsFor, bitsOf}
 use Rattle.bits.specs.BitsLaws.{count-alike}
 use Rattle.bits.specs.WordsLaws.{bit-told}
-use Rattle.subset.specs.Pruned.{fail, yes as made, each, reached, renumberedBody, renumberedSubrs, stubbedFrom}
+use Rattle.subset.specs.Pruned.{each, reached, renumberedBody, renumberedSubrs, stubbedFrom}
 use Rattle.renumber.specs.RanksLaws.{HoldsRanks, past-unreached}
 use Rattle.renumber.specs.declared.Ranks.{Ranks}
 use Rattle.bodies.specs.Ways.{subrsBy, reachedIn}
@@ -48,10 +49,10 @@ reached-told ws own set same r = r ∙ sym (count-alike (reachedIn ws own) set (
 
 -- a number without a subroutine fails
 pub past-fails : (rows : List Row) (set : ℕ → Bool) (calls : Calls) (site : ℕ → Site) (subrs : List (List ℕ))
-    → eqb (reached set) (countBelow set (length subrs)) ≡ false → renumberedSubrs rows set calls site subrs ≡ fail
+    → eqb (reached set) (countBelow set (length subrs)) ≡ false → renumberedSubrs rows set calls site subrs ≡ none
 unfolding renumberedSubrs
 past-fails rows set calls site subrs e =
-    ap (λ (t : Bool). pick t (each (λ k. renumberedBody rows calls (site k) (getD subrs k [])) (those set (length subrs) 0)) fail) e
+    ap (λ (t : Bool). pick t (each (λ k. renumberedBody rows calls (site k) (getD subrs k [])) (those set (length subrs) 0)) none) e
 
 -- stubbed alike, where the sets are the same at each of the subroutines
 pub stubbed-alike : (set set' : ℕ → Bool) (k : ℕ) (l : List (List ℕ)) → ((i : ℕ) → i < length l → set (k + i) ≡ set' (k + i)) → stubbedFrom set k l ≡ stubbedFrom set' k l
@@ -75,4 +76,4 @@ subrs-record way rows set set' calls calls' site subrs below all = go (eqb way 0
     go false e =
         let f : stubbedFrom set 0 subrs ≡ stubbedFrom set' 0 subrs
         = stubbed-alike set set' 0 subrs (λ i h. let z : 0 + i ≡ i = omega arith in ap set z ∙ below i h ∙ ap set' (sym z)) in
-        rw e (ap (λ (l : List (List ℕ)). made (pick (eqb way 1) l subrs)) f)
+        rw e (ap (λ (l : List (List ℕ)). some (pick (eqb way 1) l subrs)) f)

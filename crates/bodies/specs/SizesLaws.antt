@@ -3,12 +3,14 @@ use Prim.Native.Nat.{ℕ, zero, suc, _+_, _-_, _*_, _≤_, _<_}
 use mathlib.Core.Path.{_≡_, refl, sym, ap, _∙_, subst}
 use mathlib.Core.Bool.{Bool, true, false}
 use mathlib.Core.List.{List, _∷_}
+use mathlib.Core.Option.{Option, none, some}
 use native.Mathlib.Nat.{le-refl}
 use native.Mathlib.Omega.{arith}
 use lib.IntN.{ℤ}
 use lib.ListN.{length}
 use Rattle.octets.specs.Pick.{pick, pick-ind}
 use Rattle.octets.specs.Octets.{Octets}
+use Rattle.octets.specs.Steps.{and}
 use Rattle.type2_number.specs.Number.{Reading}
 use Rattle.index.specs.Write.{total}
 use Rattle.charstring.specs.declared.MaskLen.{MaskLen}
@@ -18,10 +20,10 @@ use Rattle.charstring.specs.Answers.{stepOf, givenAt}
 use Rattle.charstring.specs.TokensLaws.{fuelOf}
 use Rattle.unfold.specs.Unfold.{Row, Site}
 use Rattle.record.specs.Record.{givenIn, twoLengths}
-use Rattle.prune.specs.Renumber.{becomes, Calls, renumberCharstring}
+use Rattle.prune.specs.Renumber.{Calls, renumberCharstring}
 use Rattle.prune.specs.StepLaws.{zero-one}
 use Rattle.subset.specs.Kept.{those}
-use Rattle.subset.specs.Pruned.{May, fail, yes, and, whole, each, renumberedBody}
+use Rattle.subset.specs.Pruned.{each, renumberedBody}
 use Rattle.renumber.specs.Turn.{after, turnedAt, heldLen, ownLen, sizedOf}
 use Rattle.renumber.specs.BodyLaws.{Sizing, sizing-start, sized-room, sized-end, sizing-turn, sized-failed, turning-next}
 use Rattle.renumber.specs.declared.turns.Held.{Held}
@@ -36,11 +38,11 @@ use Rattle.bodies.specs.declared.Measured.the-variants.{Failed as Failed
 
 -- ---- one body
 
-module _ (calls : Calls) (reads : (b : ℕ) (z y : ℤ) → calls b z ≡ becomes y → Reading y) (s : List ℕ) (b : Octets s) where
+module _ (calls : Calls) (reads : (b : ℕ) (z y : ℤ) → calls b z ≡ some y → Reading y) (s : List ℕ) (b : Octets s) where
   module _ (given : ℕ → MaskLen) where
     -- what is to be shown
     abbrev Short : Type 0
-    Short = AtMost (5 * length s) (sizedOf (whole (renumberCharstring calls given s)))
+    Short = AtMost (5 * length s) (sizedOf (renumberCharstring calls given s))
 
     -- one token on, if what follows is short
     short-turn : (c : Cursor) (h : Held) (len : ℕ) → Sizing calls given s c h len
@@ -70,7 +72,7 @@ module _ (calls : Calls) (reads : (b : ℕ) (z y : ℤ) → calls b z ≡ become
   pub renumbered-short : (rows : List Row) (site : Site) → AtMost (5 * length s) (sizedOf (renumberedBody rows calls site s))
   unfolding renumberedBody
   renumbered-short rows site =
-      pick-ind (λ (m : May (List ℕ)). AtMost (5 * length s) (sizedOf m)) (twoLengths rows site) fail (whole (renumberCharstring calls (givenIn rows site) s))
+      pick-ind (λ (m : Option (List ℕ)). AtMost (5 * length s) (sizedOf m)) (twoLengths rows site) none (renumberCharstring calls (givenIn rows site) s)
       (λ e. tt) (λ e. short-all (givenIn rows site))
 
 -- a length that is short enough stays so
@@ -81,37 +83,37 @@ at-most-more m n h (Len l) k = omega arith
 -- ---- one after the other
 
 -- the first of some bodies, and the others
-abbrev firstly : May (List ℕ) → May (List (List ℕ)) → May (List (List ℕ))
-firstly m r = and m (λ b. and r (λ bs. yes (b ∷ bs)))
+abbrev firstly : Option (List ℕ) → Option (List (List ℕ)) → Option (List (List ℕ))
+firstly m r = and m (λ b. and r (λ bs. some (b ∷ bs)))
 
-added-none : (m : May (List (List ℕ))) → addedTo 0 m ≡ measuredOf m
-added-none fail = refl
-added-none (yes l) = let e : 0 + total l ≡ total l = omega arith in ap Total e
+added-none : (m : Option (List (List ℕ))) → addedTo 0 m ≡ measuredOf m
+added-none none = refl
+added-none (some l) = let e : 0 + total l ≡ total l = omega arith in ap Total e
 
-added-first : (t : ℕ) (bs : List ℕ) (m : May (List (List ℕ))) → addedTo t (firstly (yes bs) m) ≡ addedTo (t + length bs) m
+added-first : (t : ℕ) (bs : List ℕ) (m : Option (List (List ℕ))) → addedTo t (firstly (some bs) m) ≡ addedTo (t + length bs) m
 unfolding total
-added-first t bs fail = refl
-added-first t bs (yes l) = let e : t + (length bs + total l) ≡ t + length bs + total l = omega arith in ap Total e
+added-first t bs none = refl
+added-first t bs (some l) = let e : t + (length bs + total l) ≡ t + length bs + total l = omega arith in ap Total e
 
-module _ (f : ℕ → May (List ℕ)) (t k : ℕ) (ks : List ℕ) where
-  each-first : (m : May (List ℕ)) → f k ≡ m → each f (k ∷ ks) ≡ firstly m (each f ks)
+module _ (f : ℕ → Option (List ℕ)) (t k : ℕ) (ks : List ℕ) where
+  each-first : (m : Option (List ℕ)) → f k ≡ m → each f (k ∷ ks) ≡ firstly m (each f ks)
   unfolding each
-  each-first m e = ap (λ (x : May (List ℕ)). firstly x (each f ks)) e
+  each-first m e = ap (λ (x : Option (List ℕ)). firstly x (each f ks)) e
 
-  added-failed : (b : Bool) (m : May (List ℕ)) → f k ≡ m → pick b (sizedOf m) (Len 0) ≡ Failed → addedTo t (each f (pick b (k ∷ ks) ks)) ≡ FailedAll
+  added-failed : (b : Bool) (m : Option (List ℕ)) → f k ≡ m → pick b (sizedOf m) (Len 0) ≡ Failed → addedTo t (each f (pick b (k ∷ ks) ks)) ≡ FailedAll
   added-failed false m e h = absurd (zero-one cc)
-  added-failed true fail e h = ap (addedTo t) (each-first fail e)
-  added-failed true (yes bs) e h = absurd (zero-one cc)
+  added-failed true none e h = ap (addedTo t) (each-first none e)
+  added-failed true (some bs) e h = absurd (zero-one cc)
 
-  added-on : (b : Bool) (m : May (List ℕ)) → f k ≡ m → (l : ℕ) → pick b (sizedOf m) (Len 0) ≡ Len l
+  added-on : (b : Bool) (m : Option (List ℕ)) → f k ≡ m → (l : ℕ) → pick b (sizedOf m) (Len 0) ≡ Len l
       → addedTo t (each f (pick b (k ∷ ks) ks)) ≡ addedTo (t + l) (each f ks)
   added-on false m e l h = let z : 0 ≡ l = cc in let q : t ≡ t + l = omega arith in ap (λ (x : ℕ). addedTo x (each f ks)) q
-  added-on true fail e l h = absurd (zero-one cc)
-  added-on true (yes bs) e l h =
+  added-on true none e l h = absurd (zero-one cc)
+  added-on true (some bs) e l h =
       let z : length bs ≡ l = cc in
-      ap (addedTo t) (each-first (yes bs) e) ∙ added-first t bs (each f ks) ∙ ap (λ (x : ℕ). addedTo (t + x) (each f ks)) z
+      ap (addedTo t) (each-first (some bs) e) ∙ added-first t bs (each f ks) ∙ ap (λ (x : ℕ). addedTo (t + x) (each f ks)) z
 
-module _ (f : ℕ → May (List ℕ)) (test : ℕ → Bool) (n : ℕ) where
+module _ (f : ℕ → Option (List ℕ)) (test : ℕ → Bool) (n : ℕ) where
   pub adding-start : Adding f test n 0 0
   adding-start =
       let z : n - 0 ≡ n = omega arith in

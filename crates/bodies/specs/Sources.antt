@@ -2,9 +2,9 @@
 use Prim.Native.Nat.{ℕ}
 use mathlib.Core.Bool.{Bool}
 use mathlib.Core.List.{List}
+use mathlib.Core.Option.{Option}
 use Rattle.index.specs.Index.{itemsOf}
 use Rattle.unfold.specs.Unfold.{Row}
-use Rattle.subset.specs.Pruned.{May}
 use Rattle.renumber.specs.Ranks.{callsBy}
 use Rattle.bodies.specs.Ways.{newSubrs, subrsBy, subrBy, reachedIn, siteIn, isKept, SubrsIn}
 use Rattle.bodies.specs.declared.subrs.Source.{Source}
@@ -19,10 +19,10 @@ module _ (from : Source) (rows : List Row) (ws b : List ℕ) where
   Sourced = SubrsIn b ws (from .ix) (from .own) (from .locals) (from .globals) rows (from .rising) (from .of)
 
   -- the k-th as it is written; all, or that their renumbering fails; all
-  abbrev pub subrFrom : ℕ → May (List ℕ)
+  abbrev pub subrFrom : ℕ → Option (List ℕ)
   subrFrom k = subrBy (from .way) rows (reachedIn ws (from .own)) (callsBy ws (from .locals) (from .globals)) (siteIn (from .of)) (itemsOf b (from .ix)) k
 
-  abbrev pub subrsFrom : May (List (List ℕ))
+  abbrev pub subrsFrom : Option (List (List ℕ))
   subrsFrom = subrsBy (from .way) rows (reachedIn ws (from .own)) (callsBy ws (from .locals) (from .globals)) (siteIn (from .of)) (itemsOf b (from .ix))
 
   abbrev pub newSubrsFrom : List (List ℕ)

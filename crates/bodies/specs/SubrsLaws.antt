@@ -3,11 +3,13 @@ use Prim.Native.Nat.{ℕ, suc, _+_, _≤_, _<_}
 use mathlib.Core.Path.{_≡_, refl, sym, ap, _∙_}
 use mathlib.Core.Bool.{Bool, true, false, not}
 use mathlib.Core.List.{List, [], _∷_}
+use mathlib.Core.Option.{Option, none, some}
 use native.Mathlib.Omega.{arith}
 use borrow.Author.Tests.{le-ltb, eqb-true, eq-eqb, ne-eqb}
 use lib.Dec.{eqb}
 use lib.ListN.{length, getD}
 use Rattle.octets.specs.Pick.{pick}
+use Rattle.octets.specs.Steps.{and}
 use Rattle.index.specs.Index.{itemsOf}
 use Rattle.index.specs.IndexLaws.{items-length}
 use Rattle.index.specs.declared.Index.{Index}
@@ -16,7 +18,7 @@ use Rattle.prune.specs.Renumber.{Calls}
 use Rattle.prune.specs.StepLaws.{zero-one}
 use Rattle.subset.specs.Kept.{those}
 use Rattle.bits.specs.Bits.{countBelow}
-use Rattle.subset.specs.Pruned.{May, fail, yes as made, and, each, mapped, reached, renumberedBody, renumberedSubrs, stubbedFrom}
+use Rattle.subset.specs.Pruned.{each, mapped, reached, renumberedBody, renumberedSubrs, stubbedFrom}
 use Rattle.subset.specs.ReachedLaws.{count-past}
 use Rattle.renumber.specs.Turn.{bodyOf}
 use Rattle.renumber.specs.declared.Ranks.{Ranks}
@@ -37,20 +39,20 @@ reached-all ws own h = count-past (reachedIn ws own) (own .count) 65536 (reached
 -- ---- each by its number
 
 -- where none fails
-each-made : {A : Type 0} (f : ℕ → May A) (g : ℕ → A) → ((k : ℕ) → f k ≡ made (g k)) → (ks : List ℕ) → each f ks ≡ made (mapped g ks)
+each-made : {A : Type 0} (f : ℕ → Option A) (g : ℕ → A) → ((k : ℕ) → f k ≡ some (g k)) → (ks : List ℕ) → each f ks ≡ some (mapped g ks)
 unfolding each mapped
 each-made f g h [] = refl
 each-made {A} f g h (k ∷ ks) =
-    ap (λ (x : May A). and x (λ b. and (each f ks) (λ bs. made (b ∷ bs)))) (h k)
-    ∙ ap (λ (x : May (List A)). and x (λ bs. made (g k ∷ bs))) (each-made f g h ks)
+    ap (λ (x : Option A). and x (λ b. and (each f ks) (λ bs. some (b ∷ bs)))) (h k)
+    ∙ ap (λ (x : Option (List A)). and x (λ bs. some (g k ∷ bs))) (each-made f g h ks)
 
 -- what is made of each item of a list, by its number
-module _ (make : ℕ → List ℕ → List ℕ) (all : ℕ → List (List ℕ) → List (List ℕ)) (none : (k : ℕ) → [] ≡ all k [])
+module _ (make : ℕ → List ℕ → List ℕ) (all : ℕ → List (List ℕ) → List (List ℕ)) (empty : (k : ℕ) → [] ≡ all k [])
     (first : (k : ℕ) (s : List ℕ) (l : List (List ℕ)) → make k s ∷ all (k + 1) l ≡ all k (s ∷ l)) (subrs : List (List ℕ)) where
   numbered : (k : ℕ) (l : List (List ℕ)) → ((i : ℕ) → getD subrs (k + i) [] ≡ getD l i [])
       → mapped (λ j. make j (getD subrs j [])) (those every (length l) k) ≡ all k l
   unfolding mapped those
-  numbered k [] h = none k
+  numbered k [] h = empty k
   numbered k (s ∷ l) h =
       let z : k ≡ k + 0 = omega arith in
       let e : getD subrs k [] ≡ s = ap (λ (i : ℕ). getD subrs i []) z ∙ h 0 in
@@ -62,7 +64,7 @@ module _ (make : ℕ → List ℕ → List ℕ) (all : ℕ → List (List ℕ) �
   numbered-all = numbered 0 subrs (λ i. ap (λ (j : ℕ). getD subrs j []) (let q : 0 + i ≡ i = omega arith in q))
 
 -- a subroutine that is reached, or a return
-stub-one : (t : Bool) (s : List ℕ) → pick (not t) (made (11 ∷ [])) (made s) ≡ made (pick t s (11 ∷ []))
+stub-one : (t : Bool) (s : List ℕ) → pick (not t) (some (11 ∷ [])) (some s) ≡ some (pick t s (11 ∷ []))
 stub-one true s = refl
 stub-one false s = refl
 
@@ -79,26 +81,26 @@ module _ (way : ℕ) (rows : List Row) (set : ℕ → Bool) (calls : Calls) (sit
       apart h = ne-eqb way 1 (λ q. let z = eqb-true way 0 h in zero-one (sym z ∙ q))
 
       go : (t u : Bool) → (t ≡ true → u ≡ false)
-          → pick t (renumberedSubrs rows set calls site subrs) (made (pick u (stubbedFrom set 0 subrs) subrs))
-          ≡ each (λ k. pick (pick u (not (set k)) false) (made (11 ∷ [])) (pick t (renumberedBody rows calls (site k) (getD subrs k [])) (made (getD subrs k []))))
+          → pick t (renumberedSubrs rows set calls site subrs) (some (pick u (stubbedFrom set 0 subrs) subrs))
+          ≡ each (λ k. pick (pick u (not (set k)) false) (some (11 ∷ [])) (pick t (renumberedBody rows calls (site k) (getD subrs k [])) (some (getD subrs k []))))
           (those (λ k. pick t (set k) true) (length subrs) 0)
       go true true h = let z : true ≡ false = h refl in absurd (zero-one cc)
       go true false h =
-          ap (λ (b : Bool). pick b (each (λ k. renumberedBody rows calls (site k) (getD subrs k [])) (those set (length subrs) 0)) fail)
+          ap (λ (b : Bool). pick b (each (λ k. renumberedBody rows calls (site k) (getD subrs k [])) (those set (length subrs) 0)) none)
           (eq-eqb (reached set) (countBelow set (length subrs)) e)
       go false true h =
           sym (each-made _ (λ k. pick (set k) (getD subrs k []) (11 ∷ [])) (λ k. stub-one (set k) (getD subrs k [])) (those every (length subrs) 0)
-          ∙ ap made (numbered-all (λ k s. pick (set k) s (11 ∷ [])) (stubbedFrom set) (λ k. refl) (λ k s l. refl) subrs))
+          ∙ ap some (numbered-all (λ k s. pick (set k) s (11 ∷ [])) (stubbedFrom set) (λ k. refl) (λ k s l. refl) subrs))
       go false false h =
           sym (each-made _ (λ k. getD subrs k []) (λ k. refl) (those every (length subrs) 0)
-          ∙ ap made (numbered-all (λ k s. s) (λ k l. l) (λ k. refl) (λ k s l. refl) subrs))
+          ∙ ap some (numbered-all (λ k s. s) (λ k l. l) (λ k. refl) (λ k s l. refl) subrs))
 
   -- the subroutines, of which none fails
   pub new-subrs-is : newSubrs way rows set calls site subrs ≡ manyOf (subrsBy way rows set calls site subrs)
   new-subrs-is = go (eqb way 0)
     where
       go : (t : Bool) → pick t (manyOf (renumberedSubrs rows set calls site subrs)) (pick (eqb way 1) (stubbedFrom set 0 subrs) subrs)
-          ≡ manyOf (pick t (renumberedSubrs rows set calls site subrs) (made (pick (eqb way 1) (stubbedFrom set 0 subrs) subrs)))
+          ≡ manyOf (pick t (renumberedSubrs rows set calls site subrs) (some (pick (eqb way 1) (stubbedFrom set 0 subrs) subrs)))
       go true = refl
       go false = refl
 
@@ -106,7 +108,7 @@ module _ (way : ℕ) (rows : List Row) (set : ℕ → Bool) (calls : Calls) (sit
 pub new-body-is : (way : ℕ) (rows : List Row) (calls : Calls) (site : Site) (s : List ℕ) → newBody way rows calls site s ≡ bodyOf (bodyBy way rows calls site s)
 new-body-is way rows calls site s = go (eqb way 0)
   where
-    go : (t : Bool) → pick t (bodyOf (renumberedBody rows calls site s)) s ≡ bodyOf (pick t (renumberedBody rows calls site s) (made s))
+    go : (t : Bool) → pick t (bodyOf (renumberedBody rows calls site s)) s ≡ bodyOf (pick t (renumberedBody rows calls site s) (some s))
     go true = refl
     go false = refl
 

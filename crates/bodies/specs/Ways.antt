@@ -4,6 +4,7 @@ use Prim.Native.Nat.{ℕ, _+_, _≤_, _<_}
 use mathlib.Core.Path.{_≡_}
 use mathlib.Core.Bool.{Bool, true, false, not}
 use mathlib.Core.List.{List, [], _∷_}
+use mathlib.Core.Option.{Option, none, some}
 use lib.Dec.{eqb}
 use lib.ListN.{length, getD}
 use Rattle.octets.specs.Pick.{pick}
@@ -14,7 +15,7 @@ use Rattle.index.specs.declared.Index.{Index}
 use Rattle.unfold.specs.Unfold.{Row, Site, local, global}
 use Rattle.prune.specs.Renumber.{Calls}
 use Rattle.subset.specs.Kept.{those}
-use Rattle.subset.specs.Pruned.{May, fail, yes, renumberedBody, renumberedSubrs, stubbedFrom}
+use Rattle.subset.specs.Pruned.{renumberedBody, renumberedSubrs, stubbedFrom}
 use Rattle.reach.specs.Reach.{rises}
 use Rattle.renumber.specs.Ranks.{Ranked}
 use Rattle.renumber.specs.Turn.{bodyOf}
@@ -25,20 +26,20 @@ use Rattle.bodies.specs.declared.subrs.Subrs.{Subrs}
 use Rattle.bodies.specs.declared.subrs.Subrs.the-variants.{Global, Local}
 
 -- the bodies of some, whether there are any, and how many bytes they have together
-abbrev pub manyOf : May (List (List ℕ)) → List (List ℕ)
-manyOf fail = []
-manyOf (yes l) = l
+abbrev pub manyOf : Option (List (List ℕ)) → List (List ℕ)
+manyOf none = []
+manyOf (some l) = l
 
-abbrev pub holds : {A : Type 0} → May A → Bool
-holds fail = false
-holds (yes a) = true
+abbrev pub holds : {A : Type 0} → Option A → Bool
+holds none = false
+holds (some a) = true
 
-abbrev pub measuredOf : May (List (List ℕ)) → Measured
-measuredOf fail = Failed
-measuredOf (yes l) = Total (total l)
+abbrev pub measuredOf : Option (List (List ℕ)) → Measured
+measuredOf none = Failed
+measuredOf (some l) = Total (total l)
 
 -- some bodies that do not fail, and room for their INDEX from a place on
-pub record Room (bodies : May (List (List ℕ))) (sum at room : ℕ) : Type 0 where
+pub record Room (bodies : Option (List (List ℕ))) (sum at room : ℕ) : Type 0 where
   pub done : holds bodies ≡ true
   pub is : sum ≡ total (manyOf bodies)
   pub few : sum < 4294967295
@@ -51,17 +52,17 @@ pub record Room (bodies : May (List (List ℕ))) (sum at room : ℕ) : Type 0 wh
 abbrev pub newBody : ℕ → List Row → Calls → Site → List ℕ → List ℕ
 newBody way rows calls site s = pick (eqb way 0) (bodyOf (renumberedBody rows calls site s)) s
 
-abbrev pub bodyBy : ℕ → List Row → Calls → Site → List ℕ → May (List ℕ)
-bodyBy way rows calls site s = pick (eqb way 0) (renumberedBody rows calls site s) (yes s)
+abbrev pub bodyBy : ℕ → List Row → Calls → Site → List ℕ → Option (List ℕ)
+bodyBy way rows calls site s = pick (eqb way 0) (renumberedBody rows calls site s) (some s)
 
 -- the subroutines of an INDEX by the way, of which the set is reached; the same, or that their renumbering fails
 abbrev pub newSubrs : ℕ → List Row → (ℕ → Bool) → Calls → (ℕ → Site) → List (List ℕ) → List (List ℕ)
 newSubrs way rows set calls site subrs =
     pick (eqb way 0) (manyOf (renumberedSubrs rows set calls site subrs)) (pick (eqb way 1) (stubbedFrom set 0 subrs) subrs)
 
-abbrev pub subrsBy : ℕ → List Row → (ℕ → Bool) → Calls → (ℕ → Site) → List (List ℕ) → May (List (List ℕ))
+abbrev pub subrsBy : ℕ → List Row → (ℕ → Bool) → Calls → (ℕ → Site) → List (List ℕ) → Option (List (List ℕ))
 subrsBy way rows set calls site subrs =
-    pick (eqb way 0) (renumberedSubrs rows set calls site subrs) (yes (pick (eqb way 1) (stubbedFrom set 0 subrs) subrs))
+    pick (eqb way 0) (renumberedSubrs rows set calls site subrs) (some (pick (eqb way 1) (stubbedFrom set 0 subrs) subrs))
 
 -- what the bits in the words say is reached
 abbrev pub reachedIn : List ℕ → Ranks → ℕ → Bool
@@ -86,8 +87,8 @@ abbrev pub isStub : ℕ → (ℕ → Bool) → ℕ → Bool
 isStub way set k = pick (eqb way 1) (not (set k)) false
 
 -- a subroutine as it is written
-abbrev pub subrBy : ℕ → List Row → (ℕ → Bool) → Calls → (ℕ → Site) → List (List ℕ) → ℕ → May (List ℕ)
-subrBy way rows set calls site subrs k = pick (isStub way set k) (yes (11 ∷ [])) (bodyBy way rows calls (site k) (getD subrs k []))
+abbrev pub subrBy : ℕ → List Row → (ℕ → Bool) → Calls → (ℕ → Site) → List (List ℕ) → ℕ → Option (List ℕ)
+subrBy way rows set calls site subrs k = pick (isStub way set k) (some (11 ∷ [])) (bodyBy way rows calls (site k) (getD subrs k []))
 
 -- how many are written
 abbrev pub keptCount : ℕ → ℕ → ℕ → ℕ

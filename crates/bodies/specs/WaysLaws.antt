@@ -3,14 +3,16 @@ use Prim.Native.Nat.{ℕ}
 use mathlib.Core.Path.{_≡_, refl, sym, ap, _∙_, fun-ext}
 use mathlib.Core.Bool.{Bool, true, false}
 use mathlib.Core.List.{List, [], _∷_}
+use mathlib.Core.Option.{Option, none, some}
 use lib.Dec.{eqb}
 use lib.IntN.{ℤ}
 use Rattle.octets.specs.Pick.{pick}
+use Rattle.octets.specs.Steps.{and}
 use Rattle.unfold.specs.Unfold.{Row, Site}
 use Rattle.prune.specs.Renumber.{Calls}
 use Rattle.prune.specs.StepLaws.{zero-one}
 use Rattle.cff.specs.Font.{Program}
-use Rattle.subset.specs.Pruned.{Bodies, May, fail, yes, and, each, mapped, renumbered, stubbed, copied, orStubbed, pruned}
+use Rattle.subset.specs.Pruned.{Bodies, each, mapped, renumbered, stubbed, copied, orStubbed, pruned}
 use Rattle.subset.specs.EachLaws.{and-yes}
 use Rattle.faithful.specs.RenumberedLaws.{renews}
 use Rattle.renumber.specs.Turn.{bodyOf}
@@ -39,7 +41,7 @@ subrs-by-alike way rows set set' calls calls' site subrs same alike =
 -- ---- each of a list
 
 -- what each is, where none fails
-pub each-parts : {A : Type 0} (f : ℕ → May A) (part : May A → A) → ((a : A) → part (yes a) ≡ a) → (ks : List ℕ) (l : List A) → each f ks ≡ yes l
+pub each-parts : {A : Type 0} (f : ℕ → Option A) (part : Option A → A) → ((a : A) → part (some a) ≡ a) → (ks : List ℕ) (l : List A) → each f ks ≡ some l
     → mapped (λ k. part (f k)) ks ≡ l
 unfolding each mapped
 each-parts f part h [] l e = let m : [] ≡ l = cc in m
@@ -55,27 +57,27 @@ mapped-alike : {A : Type 0} (f g : ℕ → A) → ((k : ℕ) → f k ≡ g k) �
 mapped-alike {A} f g same ks = ap (λ (h : ℕ → A). mapped h ks) (fun-ext same)
 
 -- bodies that do not fail, each by its number
-pub mapped-bodies : (f : ℕ → May (List ℕ)) (g : ℕ → List ℕ) → ((k : ℕ) → g k ≡ bodyOf (f k)) → (ks : List ℕ) → holds (each f ks) ≡ true
+pub mapped-bodies : (f : ℕ → Option (List ℕ)) (g : ℕ → List ℕ) → ((k : ℕ) → g k ≡ bodyOf (f k)) → (ks : List ℕ) → holds (each f ks) ≡ true
     → mapped g ks ≡ manyOf (each f ks)
 mapped-bodies f g same ks h = mapped-alike g (λ k. bodyOf (f k)) same ks ∙ go (each f ks) refl h
   where
-    go : (m : May (List (List ℕ))) → each f ks ≡ m → holds m ≡ true → mapped (λ k. bodyOf (f k)) ks ≡ manyOf m
-    go fail e q = absurd (zero-one cc)
-    go (yes l) e q = each-parts f bodyOf (λ a. refl) ks l e
+    go : (m : Option (List (List ℕ))) → each f ks ≡ m → holds m ≡ true → mapped (λ k. bodyOf (f k)) ks ≡ manyOf m
+    go none e q = absurd (zero-one cc)
+    go (some l) e q = each-parts f bodyOf (λ a. refl) ks l e
 
 -- one holds, and then the next
-holds-and : {A B : Type 0} (m : May A) (f : A → May B) (b : Bool) → ((a : A) → holds (f a) ≡ b) → holds (and m f) ≡ pick (holds m) b false
-holds-and fail f b h = refl
-holds-and (yes a) f b h = h a
+holds-and : {A B : Type 0} (m : Option A) (f : A → Option B) (b : Bool) → ((a : A) → holds (f a) ≡ b) → holds (and m f) ≡ pick (holds m) b false
+holds-and none f b h = refl
+holds-and (some a) f b h = h a
 
-pub holds-each : {A : Type 0} (f : ℕ → May A) (ks : List ℕ) → holds (each f ks) ≡ allHold f ks
+pub holds-each : {A : Type 0} (f : ℕ → Option A) (ks : List ℕ) → holds (each f ks) ≡ allHold f ks
 unfolding each allHold
 holds-each f [] = refl
 holds-each {A} f (k ∷ ks) = holds-and (f k) _ (allHold f ks) (λ b. rest b (each f ks) (holds-each f ks))
   where
-    rest : (b : A) (m : May (List A)) → holds m ≡ allHold f ks → holds (and m (λ bs. yes (b ∷ bs))) ≡ allHold f ks
-    rest b fail h = h
-    rest b (yes l) h = h
+    rest : (b : A) (m : Option (List A)) → holds m ≡ allHold f ks → holds (and m (λ bs. some (b ∷ bs))) ≡ allHold f ks
+    rest b none h = h
+    rest b (some l) h = h
 
 -- ---- a font's
 
@@ -96,7 +98,7 @@ module _ (p : Program) (rows : List Row) (used order : List ℕ) where
   unfolding stubbed bodiesBy
   stubbed-by = refl
 
-  renumbered-by : (b : Bodies) → renumbered p rows used order ≡ yes b → b ≡ bodiesBy p rows 0 used order
+  renumbered-by : (b : Bodies) → renumbered p rows used order ≡ some b → b ≡ bodiesBy p rows 0 used order
   unfolding bodiesBy
   renumbered-by b e =
       let r = renews p rows used order b e in
@@ -110,12 +112,12 @@ module _ (p : Program) (rows : List Row) (used order : List ℕ) where
   unfolding pruned
   pruned-by flag = go (eqb flag 0) (renumbered p rows used order) refl
     where
-      go : (t : Bool) (m : May Bodies) → renumbered p rows used order ≡ m
+      go : (t : Bool) (m : Option Bodies) → renumbered p rows used order ≡ m
           → pick t (record { way = 2; bodies = copied p used order }) (orStubbed m (stubbed p rows used order))
           ≡ record { way = pick t 2 (pick (holds m) 0 1); bodies = bodiesBy p rows (pick t 2 (pick (holds m) 0 1)) used order }
       go true m e = ap (λ (b : Bodies). record { way = 2; bodies = b }) copied-by
-      go false fail e = ap (λ (b : Bodies). record { way = 1; bodies = b }) stubbed-by
-      go false (yes b) e = ap (λ (x : Bodies). record { way = 0; bodies = x }) (renumbered-by b e)
+      go false none e = ap (λ (b : Bodies). record { way = 1; bodies = b }) stubbed-by
+      go false (some b) e = ap (λ (x : Bodies). record { way = 0; bodies = x }) (renumbered-by b e)
 
   -- the renumbering of a font holds where that of the globals, of the locals of each FD in use, and of each glyph does
   pub renumbers-parts : renumbers p rows used order

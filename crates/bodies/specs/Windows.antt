@@ -24,6 +24,6 @@ fdOf (Local fd) = fd
 
 -- room for a window: some keys, and as many rows
 pub record Lent (keys bytes : List ℕ) : Type 0 where
-  pub some : 0 < roomIn keys
+  pub some : 1 < roomIn keys
   pub most : length keys ≤ 65536
   pub room : 10 * roomIn keys ≤ length bytes

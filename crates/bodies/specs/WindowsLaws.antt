@@ -1,8 +1,9 @@
 -- A body by a window of the record that has its rows is the body by the whole record.
 use Prim.Native.Nat.{ℕ, _+_, _≤_, _<_}
-use mathlib.Core.Path.{_≡_, sym, ap, _∙_, subst}
-use mathlib.Core.Bool.{Bool, true}
+use mathlib.Core.Path.{_≡_, refl, sym, ap, _∙_, subst}
+use mathlib.Core.Bool.{Bool, true, false, false≢true}
 use mathlib.Core.List.{List, [], _∷_}
+use mathlib.Core.Option.{Option, some}
 use native.Mathlib.Omega.{arith}
 use lib.Dec.{eqb}
 use lib.ListN.{length, take, getD}
@@ -10,17 +11,22 @@ use Rattle.octets.specs.Pick.{pick}
 use Rattle.octets.specs.Octets.{Wrote}
 use Rattle.octets.specs.PutLaws.{wrote-as}
 use Rattle.index.specs.Index.{itemsOf}
-use Rattle.unfold.specs.Unfold.{Row, Site}
+use Rattle.unfold.specs.Unfold.{Row, Site, masked}
 use Rattle.record.specs.Record.{rowsOf}
 use Rattle.prune.specs.Renumber.{Calls}
-use Rattle.subset.specs.Pruned.{May, yes}
-use Rattle.renumber.specs.Turn.{sizedOf, bodyOf}
+use Rattle.reach.specs.Reach.{SiteFits, siteOf}
+use Rattle.reach.specs.declared.Site as code
+use Rattle.renumber.specs.Turn.{Inputs, sizedOf, bodyOf}
 use Rattle.renumber.specs.Ranks.{callsBy}
+use Rattle.renumber.specs.declared.Ranks.{Ranks}
 use Rattle.renumber.specs.declared.Sized.{Sized}
 use Rattle.renumber.specs.declared.Sized.the-variants.{Len}
-use Rattle.mask_rows.specs.MaskRows.{SameMasks, Fillable, Covers}
+use Rattle.mask_rows.specs.MaskRows.{SameMasks, Fillable, Covers, HasOrNone}
+use Rattle.mask_rows.specs.FillLaws.{covers-none}
 use Rattle.mask_rows.specs.SameLaws.{same-body}
 use Rattle.mask_rows.specs.declared.Window.{Window}
+use Rattle.long_bodies.specs.Offsets.{bodyIn, Lent as LentFor}
+use Rattle.long_bodies.specs.TwoLaws.{site-mask}
 use Rattle.bodies.specs.Ways.{holds, bodyBy, reachedIn, siteIn, SubrsFit, isStub}
 use Rattle.bodies.specs.Sources.{Sourced, keptFrom, subrFrom}
 use Rattle.bodies.specs.Sizes.{AtMost, lenAt}
@@ -32,7 +38,7 @@ use Rattle.bodies.specs.declared.subrs.Subrs.the-variants.{Global, Local
 -- a body by records that list the same rows of its masks
 pub by-same : (way : ℕ) (rows rows' : List Row) (calls : Calls) (site : Site) (s : List ℕ) → SameMasks rows rows' site
     → bodyBy way rows calls site s ≡ bodyBy way rows' calls site s
-by-same way rows rows' calls site s same = ap (λ (m : May (List ℕ)). pick (eqb way 0) m (yes s)) (same-body rows rows' site same calls s)
+by-same way rows rows' calls site s same = ap (λ (m : Option (List ℕ)). pick (eqb way 0) m (some s)) (same-body rows rows' site same calls s)
 
 -- room stays
 pub lent-same : {keys bytes : List ℕ} → Lent keys bytes → (keys' bytes' : List ℕ) → length keys' ≡ length keys → length bytes' ≡ length bytes → Lent keys' bytes'
@@ -75,7 +81,7 @@ module _ (rec bytes : List ℕ) (w : Window) (source : Source) (covers : Covers 
       window-subr : subrFrom source' (rowsOf part) ws b k ≡ subrFrom source (rowsOf rec) ws b k
       window-subr =
           ap (λ (x : Source). subrFrom x (rowsOf part) ws b k) e
-          ∙ ap (λ (m : May (List ℕ)). pick (isStub (source .way) (reachedIn ws (source .own)) k) (yes (11 ∷ [])) m)
+          ∙ ap (λ (m : Option (List ℕ)). pick (isStub (source .way) (reachedIn ws (source .own)) k) (some (11 ∷ [])) m)
           (sym (by-same (source .way) (rowsOf rec) (rowsOf part) (callsBy ws (source .locals) (source .globals)) (siteIn (source .of) k) (getD (itemsOf b (source .ix)) k [])
           (same-site (source .of) rec bytes w covers k from to)))
 
@@ -86,13 +92,13 @@ module _ (rec bytes : List ℕ) (w : Window) (source : Source) (covers : Covers 
           → (r ≡ lenAt (keptFrom source ws) (subrFrom source (rowsOf rec) ws b) k) × AtMost 335544320 r
       subr-window-len r h = (
         h .0 ∙ ap (λ (t : Bool). pick t (sizedOf (subrFrom source' (rowsOf part) ws b k)) (Len 0)) kept-same
-            ∙ ap (λ (m : May (List ℕ)). pick (keptFrom source ws k) (sizedOf m) (Len 0)) window-subr,
+            ∙ ap (λ (m : Option (List ℕ)). pick (keptFrom source ws k) (sizedOf m) (Len 0)) window-subr,
         h .1,
       )
 
       pub subr-window-room : (at n : ℕ) → holds (subrFrom source (rowsOf rec) ws b k) ≡ true → at + length (bodyOf (subrFrom source (rowsOf rec) ws b k)) ≤ n
           → (holds (subrFrom source' (rowsOf part) ws b k) ≡ true) × (at + length (bodyOf (subrFrom source' (rowsOf part) ws b k)) ≤ n)
-      subr-window-room at n h l = (ap holds window-subr ∙ h, subst (λ (m : May (List ℕ)). at + length (bodyOf m) ≤ n) (sym window-subr) l)
+      subr-window-room at n h l = (ap holds window-subr ∙ h, subst (λ (m : Option (List ℕ)). at + length (bodyOf m) ≤ n) (sym window-subr) l)
 
       pub subr-window-wrote : {old new : List ℕ} {at q : ℕ} → Wrote old at (bodyOf (subrFrom source' (rowsOf part) ws b k)) new q
           → Wrote old at (bodyOf (subrFrom source (rowsOf rec) ws b k)) new q
@@ -130,3 +136,26 @@ covers-local {rec} {bytes} {of} {fd} {w} e p = subst (λ (x : Subrs). Covers rec
 
 pub local-covers : {rec bytes : List ℕ} {of : Subrs} {fd : ℕ} {w : Window} → of ≡ Local fd → Covers rec bytes 3 fd w → Covers rec bytes (kindOf of) (fdOf of) w
 local-covers {rec} {bytes} {of} {fd} {w} e p = subst (λ (x : Subrs). Covers rec bytes (kindOf x) (fdOf x) w) (sym e) p
+
+-- a window that has no body has what it says of any bytes
+pub covers-past : {rec : List ℕ} {kind fd : ℕ} {k : ℕ} {w : Window} → HasOrNone k w → w .end ≤ k → (bytes' : List ℕ) → Covers rec bytes' kind fd w
+covers-past {rec} {kind} {fd} {k} {w} none past bytes' = subst (λ (x : Window). Covers rec bytes' kind fd x) (sym (none past)) (covers-none rec bytes' kind fd)
+
+-- ---- a body with more rows than a window holds
+
+-- rows in any order
+pub any-order : {s ws : List ℕ} {locals globals : Ranks} {rows : List Row} {rising : Bool} {site : code.Site} → Inputs s ws locals globals rows rising site
+    → Inputs s ws locals globals rows false site
+any-order i = record { localRanks = i .localRanks; globalRanks = i .globalRanks; order = λ e. absurd (false≢true e); body = i .body; size = i .size }
+
+site-number : (site : code.Site) (of : Subrs) (k : ℕ) → siteOf site ≡ siteIn of k → bodyIn site .number ≡ k
+site-number site of k e = sym (ap (λ (r : Row). r .number) (site-mask site 0 0)) ∙ ap (λ (x : Site). masked x 0 0 .number) e ∙ own of
+  where
+    own : (x : Subrs) → masked (siteIn x k) 0 0 .number ≡ k
+    own Global = refl
+    own (Local fd) = refl
+
+-- room for its rows
+pub lends-subr : {keys bytes : List ℕ} → Lent keys bytes → (site : code.Site) → SiteFits site → (of : Subrs) (k : ℕ) → siteOf site ≡ siteIn of k → k < 65535
+    → LentFor keys bytes site
+lends-subr l site f of k e h = record { body = f; few = omega (arith, site-number site of k e); some = l .some; most = l .most; room = l .room }

@@ -3,6 +3,7 @@ use Prim.Native.Nat.{ℕ, zero, suc, _+_, _-_, _≤_, _<_}
 use mathlib.Core.Path.{_≡_, refl, sym, ap, _∙_}
 use mathlib.Core.Bool.{Bool, true, false}
 use mathlib.Core.List.{List, []}
+use mathlib.Core.Option.{Option, none, some}
 use native.Mathlib.Omega.{arith}
 use lib.ListN.{length, getD}
 use Rattle.octets.specs.Octets.{bytesOf, Wrote}
@@ -15,7 +16,7 @@ use Rattle.index.specs.declared.Index.{Index}
 use Rattle.prune.specs.StepLaws.{zero-one}
 use Rattle.subset.specs.Kept.{those}
 use Rattle.bits.specs.Bits.{countBelow}
-use Rattle.subset.specs.Pruned.{May, fail, yes, each}
+use Rattle.subset.specs.Pruned.{each}
 use Rattle.subset.specs.EachLaws.{length-each, each-at}
 use Rattle.subset.specs.RankLaws.{count-few, count-rises, count-below, count-next, length-those, those-at}
 use Rattle.renumber.specs.Turn.{bodyOf}
@@ -23,18 +24,18 @@ use Rattle.bodies.specs.Ways.{manyOf, holds, measuredOf, every, Room}
 use Rattle.bodies.specs.declared.Measured.the-variants.{Failed, Total}
 
 -- some that do not fail
-pub holds-many : (m : May (List (List ℕ))) → holds m ≡ true → m ≡ yes (manyOf m)
-holds-many fail e = absurd (zero-one cc)
-holds-many (yes l) e = refl
+pub holds-many : (m : Option (List (List ℕ))) → holds m ≡ true → m ≡ some (manyOf m)
+holds-many none e = absurd (zero-one cc)
+holds-many (some l) e = refl
 
 -- what measuring says: that they fail, or how long they are together
-pub measured-failed : (m : May (List (List ℕ))) → measuredOf m ≡ Failed → holds m ≡ false
-measured-failed fail e = refl
-measured-failed (yes l) e = absurd (zero-one cc)
+pub measured-failed : (m : Option (List (List ℕ))) → measuredOf m ≡ Failed → holds m ≡ false
+measured-failed none e = refl
+measured-failed (some l) e = absurd (zero-one cc)
 
-pub measured-total : (m : May (List (List ℕ))) (t : ℕ) → measuredOf m ≡ Total t → (holds m ≡ true) × (t ≡ total (manyOf m))
-measured-total fail t e = absurd (zero-one cc)
-measured-total (yes l) t e = let q : total l ≡ t = cc in (refl, sym q)
+pub measured-total : (m : Option (List (List ℕ))) (t : ℕ) → measuredOf m ≡ Total t → (holds m ≡ true) × (t ≡ total (manyOf m))
+measured-total none t e = absurd (zero-one cc)
+measured-total (some l) t e = let q : total l ≡ t = cc in (refl, sym q)
 
 -- all numbers below n are counted
 pub count-every : (n : ℕ) → countBelow every n ≡ n
@@ -59,9 +60,9 @@ pub writing-start : (old : List ℕ) (to : Index) (items : List (List ℕ)) (tes
 writing-start old to items test n = record { among = omega arith; counted = omega (arith, count-few test 0); begun = begun-none old to items }
 
 -- the bodies as they are asked for: of the numbers below n that pass
-module _ (bodies : May (List (List ℕ))) (f : ℕ → May (List ℕ)) (test : ℕ → Bool) (n : ℕ)
+module _ (bodies : Option (List (List ℕ))) (f : ℕ → Option (List ℕ)) (test : ℕ → Bool) (n : ℕ)
     (same : bodies ≡ each f (those test n 0)) (done : holds bodies ≡ true) where
-  each-items : each f (those test n 0) ≡ yes (manyOf bodies)
+  each-items : each f (those test n 0) ≡ some (manyOf bodies)
   each-items = sym same ∙ holds-many bodies done
 
   pub items-many : length (manyOf bodies) ≡ countBelow test n
@@ -71,7 +72,7 @@ module _ (bodies : May (List (List ℕ))) (f : ℕ → May (List ℕ)) (test : �
     pub item-more : countBelow test k < length (manyOf bodies)
     item-more = omega (arith, items-many, count-below test k n e h)
 
-    pub item-is : f k ≡ yes (getD (manyOf bodies) (countBelow test k) [])
+    pub item-is : f k ≡ some (getD (manyOf bodies) (countBelow test k) [])
     item-is =
         let b = each-at f (those test n 0) (manyOf bodies) each-items (countBelow test k) [] (omega (arith, item-more, items-many, those-many test n)) in
         ap f (sym (those-at test n k h e)) ∙ b

@@ -7,7 +7,7 @@ ghost use lib.ListN.{length};
 ghost use Rattle.octets.specs.Octets.{Wrote};
 ghost use Rattle.index.specs.Write.{indexBytes};
 ghost use Rattle.record.specs.Record.{rowsOf};
-ghost use Rattle.mask_rows.specs.MaskRows.{Fillable, Covers};
+ghost use Rattle.mask_rows.specs.MaskRows.{Fillable, Covers, HasOrNone};
 ghost use Rattle.bits.specs.Bits.{countBelow, wordsFor};
 ghost use Rattle.reach.specs.Reach.{SiteFits, siteOf};
 ghost use Rattle.renumber.specs.Turn.{sizedOf, bodyOf};
@@ -128,7 +128,7 @@ fn advance(
     bytes: &mut [u8],
 ) -> Window
     requires { ⌜ (Fillable (now keys) (now bytes) (kindOf of) (fdOf of) k) × (Covers (now rows) (now bytes) (kindOf of) (fdOf of) window) ⌝ }
-    ensures { λ r. ⌜ Covers (now (rows .entry)) (now (bytes .exit)) (kindOf of) (fdOf of) r ⌝ }
+    ensures { λ r. ⌜ (Covers (now (rows .entry)) (now (bytes .exit)) (kindOf of) (fdOf of) r) × (HasOrNone k r) ⌝ }
 {
     match of {
         Subrs::Global => mask_rows::advance(window, rows, 4, 0, k, keys, bytes),
@@ -156,19 +156,72 @@ fn in_order(from: Source) -> Source
     }
 }
 
-// How long a subroutine is, by a window of the record where it has the rows of the subroutine.
+// How long a subroutine is as it is written, or that its renumbering fails, where it has more rows than a window holds.
+fn long_written(
+    from: Source,
+    font: &[u8],
+    words: &[u32],
+    rows: &[u8],
+    k: usize,
+    keys: &mut [u64],
+    bytes: &mut [u8],
+) -> Sized
+    requires { ⌜ (Sourced from (rowsOf (now rows)) (now words) (now font)) × (k < from .ix .count) × (Lent (now keys) (now bytes)) ⌝ }
+    ensures { λ r. ⌜ (r ≡ sizedOf (subrFrom from (rowsOf (now (rows .entry))) (now (words .entry)) (now (font .entry)) k)) × (AtMost 335544320 r) ⌝ }
+{
+    if from.way == 0 {
+        let of = from.of;
+        let site = site_in(of, k);
+        let code = index::item(font, from.ix, k);
+        return long_bodies::renumbered_len(
+            code,
+            words,
+            from.locals,
+            from.globals,
+            rows,
+            site,
+            keys,
+            bytes,
+        );
+    }
+    written_len(from, font, words, rows, k)
+}
+
+// The same, 0 for a subroutine that is not written.
+fn long_len(
+    from: Source,
+    font: &[u8],
+    words: &[u32],
+    rows: &[u8],
+    k: usize,
+    keys: &mut [u64],
+    bytes: &mut [u8],
+) -> Sized
+    requires { ⌜ (Sourced from (rowsOf (now rows)) (now words) (now font)) × (k < from .ix .count) × (Lent (now keys) (now bytes)) ⌝ }
+    ensures { λ r. ⌜ (r ≡ lenAt (keptFrom from (now (words .entry))) (subrFrom from (rowsOf (now (rows .entry))) (now (words .entry)) (now (font .entry))) k)
+        × (AtMost 335544320 r) ⌝ }
+{
+    if is_kept(from.way, words, from.own, k) {
+        return long_written(from, font, words, rows, k, keys, bytes);
+    }
+    Sized::Len(0)
+}
+
+// How long a subroutine is, by a window of the record where it has the rows of the subroutine; a longer one takes the window's place.
 fn windowed_len(
     from: Source,
     font: &[u8],
     words: &[u32],
     rows: &[u8],
-    bytes: &[u8],
     window: Window,
     k: usize,
+    keys: &mut [u64],
+    bytes: &mut [u8],
 ) -> Sized
-    requires { ⌜ (Sourced from (rowsOf (now rows)) (now words) (now font)) × (k < from .ix .count) × (Covers (now rows) (now bytes) (kindOf (from .of)) (fdOf (from .of)) window) ⌝ }
+    requires { ⌜ (Sourced from (rowsOf (now rows)) (now words) (now font)) × (k < from .ix .count) × (Covers (now rows) (now bytes) (kindOf (from .of)) (fdOf (from .of)) window)
+        × (HasOrNone k window) × (Lent (now keys) (now bytes)) ⌝ }
     ensures { λ r. ⌜ (r ≡ lenAt (keptFrom from (now (words .entry))) (subrFrom from (rowsOf (now (rows .entry))) (now (words .entry)) (now (font .entry))) k)
-        × (AtMost 335544320 r) ⌝ }
+        × (AtMost 335544320 r) × (Covers (now (rows .entry)) (now (bytes .exit)) (kindOf (from .of)) (fdOf (from .of)) window) ⌝ }
 {
     if k < window.from {
         return subr_len(from, font, words, rows, k);
@@ -176,7 +229,7 @@ fn windowed_len(
     if k < window.end {
         return subr_len(in_order(from), font, words, &bytes[..window.len], k);
     }
-    subr_len(from, font, words, rows, k)
+    long_len(from, font, words, rows, k, keys, bytes)
 }
 
 // Their bytes together, by windows of a record that does not rise.
@@ -202,7 +255,7 @@ fn windows_total(
     let mut k: usize = 0;
     while k < n {
         window = advance(window, rows, of, k, &mut *keys, &mut *bytes);
-        match windowed_len(from, font, words, rows, bytes, window, k) {
+        match windowed_len(from, font, words, rows, window, k, &mut *keys, &mut *bytes) {
             Sized::Len(len) => {
                 total += len;
                 k += 1;
@@ -312,23 +365,63 @@ pub fn kept_count(way: u8, reached: usize, count: usize) -> usize
     count
 }
 
-// The same by a window of the record, where it has the rows of the subroutine.
+// The same where it has more rows than a window holds.
+fn put_long(
+    from: Source,
+    font: &[u8],
+    words: &[u32],
+    rows: &[u8],
+    k: usize,
+    out: &mut [u8],
+    at: usize,
+    keys: &mut [u64],
+    bytes: &mut [u8],
+) -> usize
+    requires { ⌜ (Sourced from (rowsOf (now rows)) (now words) (now font)) × (k < from .ix .count) × (Lent (now keys) (now bytes))
+        × (holds (subrFrom from (rowsOf (now rows)) (now words) (now font) k) ≡ true)
+        × (at + length (bodyOf (subrFrom from (rowsOf (now rows)) (now words) (now font) k)) ≤ length (now out)) ⌝ }
+    ensures { λ r. ⌜ Wrote (now (out .entry)) at
+        (bodyOf (subrFrom from (rowsOf (now (rows .entry))) (now (words .entry)) (now (font .entry)) k)) (now (out .exit)) r ⌝ }
+{
+    if from.way == 0 {
+        let of = from.of;
+        let site = site_in(of, k);
+        let code = index::item(font, from.ix, k);
+        return long_bodies::put_renumbered(
+            code,
+            words,
+            from.locals,
+            from.globals,
+            rows,
+            site,
+            out,
+            at,
+            keys,
+            bytes,
+        );
+    }
+    put_subr(from, font, words, rows, k, out, at)
+}
+
+// The same by a window of the record, where it has the rows of the subroutine; a longer one takes the window's place.
 fn put_windowed(
     from: Source,
     font: &[u8],
     words: &[u32],
     rows: &[u8],
-    bytes: &[u8],
     window: Window,
     k: usize,
     out: &mut [u8],
     at: usize,
+    keys: &mut [u64],
+    bytes: &mut [u8],
 ) -> usize
     requires { ⌜ (Sourced from (rowsOf (now rows)) (now words) (now font)) × (k < from .ix .count) × (Covers (now rows) (now bytes) (kindOf (from .of)) (fdOf (from .of)) window)
-        × (holds (subrFrom from (rowsOf (now rows)) (now words) (now font) k) ≡ true)
+        × (HasOrNone k window) × (Lent (now keys) (now bytes)) × (holds (subrFrom from (rowsOf (now rows)) (now words) (now font) k) ≡ true)
         × (at + length (bodyOf (subrFrom from (rowsOf (now rows)) (now words) (now font) k)) ≤ length (now out)) ⌝ }
-    ensures { λ r. ⌜ Wrote (now (out .entry)) at
-        (bodyOf (subrFrom from (rowsOf (now (rows .entry))) (now (words .entry)) (now (font .entry)) k)) (now (out .exit)) r ⌝ }
+    ensures { λ r. ⌜ (Wrote (now (out .entry)) at
+        (bodyOf (subrFrom from (rowsOf (now (rows .entry))) (now (words .entry)) (now (font .entry)) k)) (now (out .exit)) r)
+        × (Covers (now (rows .entry)) (now (bytes .exit)) (kindOf (from .of)) (fdOf (from .of)) window) ⌝ }
 {
     if k < window.from {
         return put_subr(from, font, words, rows, k, out, at);
@@ -344,7 +437,7 @@ fn put_windowed(
             at,
         );
     }
-    put_subr(from, font, words, rows, k, out, at)
+    put_long(from, font, words, rows, k, out, at, keys, bytes)
 }
 
 // Their INDEX, from `at` on, by windows of a record that does not rise; the place after it.
@@ -381,7 +474,18 @@ fn put_windows(
     while k < n {
         if is_kept(from.way, words, from.own, k) {
             window = advance(window, rows, of, k, &mut *keys, &mut *bytes);
-            p = put_windowed(from, font, words, rows, bytes, window, k, &mut *out, p);
+            p = put_windowed(
+                from,
+                font,
+                words,
+                rows,
+                window,
+                k,
+                &mut *out,
+                p,
+                &mut *keys,
+                &mut *bytes,
+            );
             index::put_end(out, to, put, p);
             put += 1;
             k += 1;

@@ -55,7 +55,7 @@ fn cut_planned(
         rows,
     );
     let end = at.end;
-    if 67108864 < end {
+    if octets::LONGEST < end {
         return Answer::Refused(Refusal::SUBSET);
     }
     if out.len() < end {

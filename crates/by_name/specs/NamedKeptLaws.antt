@@ -1,8 +1,8 @@
 -- Laws of the kept glyphs of a name-keyed cut: what each step asks of them, the codes behind the slots, and that the cut of the glyphs that were gathered
 -- is the cut.
-use Prim.Native.Nat.{ℕ, zero, suc, _+_, _-_, _≤_, _<_}
+use Prim.Native.Nat.{ℕ, zero, suc, _+_, _≤_, _<_}
 use mathlib.Core.Path.{_≡_, refl, sym, ap, _∙_, subst}
-use mathlib.Core.Bool.{Bool, true, false}
+use mathlib.Core.Bool.{Bool, false}
 use mathlib.Core.List.{List, [], _∷_, _++_}
 use native.Mathlib.Omega.{arith}
 use lib.Dec.{eqb}
@@ -42,7 +42,7 @@ use Rattle.outcome.specs.OutcomeLaws.{cut-strings, cut-pairs}
 use Rattle.outcome.specs.Entry.{cutBehind, Cut, Passed}
 use Rattle.named_parts.specs.Named.{codedFor, namedOutcome, NamedStrings, NamedCodes, NamedCut}
 use Rattle.named_parts.specs.NamedPutLaws.{can-rename}
-use Rattle.encoding.specs.Encoded.{pairIn, pairsIn, codedIn, Encodes, CanRename}
+use Rattle.encoding.specs.Encoded.{pairIn, pairsIn, Encodes, CanRename}
 use Rattle.encoding.specs.EncodedLaws.{encodes-self}
 use Rattle.encoding.specs.declared.Encoding.{Encoding}
 use Rattle.outcome.specs.declared.Answer.{Answer}

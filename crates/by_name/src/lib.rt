@@ -63,7 +63,7 @@ fn cut_planned(
     let how = cut.plan.how;
     let at = places_named(c, font, name, slots, used, words, table, totals, rows);
     let end = at.end;
-    if 67108864 < end {
+    if octets::LONGEST < end {
         return Answer::Refused(Refusal::SUBSET);
     }
     if out.len() < end {

@@ -6,7 +6,7 @@ use lib.ListN.{length, drop}
 use Rattle.octets.specs.Pick.{pick}
 use Rattle.cff.specs.Font.{readFont}
 use Rattle.subset.specs.Cut.{zeros}
-use Rattle.culprit.specs.Culprit.{culpritOf, usesLent, wordsIn, Blocks}
+use Rattle.culprit.specs.Culprit.{culpritOf, usesLent, wordsIn}
 use Rattle.culprit.specs.declared.Culprit.{Culprit}
 use Rattle.culprit.specs.declared.Culprit.the-variants.{Refused, None, Glyph}
 use Rattle.capi.specs.Capi.{Answer, refused, given, Answers}

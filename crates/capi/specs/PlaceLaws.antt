@@ -1,6 +1,6 @@
 -- Laws of where an item stands, by the number of its kind.
 use Prim.Native.Nat.{ℕ, _≤_, _<_}
-use mathlib.Core.Path.{_≡_, refl, sym, ap, subst}
+use mathlib.Core.Path.{_≡_, refl, ap, subst}
 use mathlib.Core.List.{List}
 use native.Mathlib.Omega.{arith}
 use Rattle.cff.specs.Font.{Got, refused as refusedFont, got, Program, readFont}

@@ -3,6 +3,7 @@ use Prim.Native.Nat.{ℕ, _≤_}
 use mathlib.Core.Path.{_≡_, refl, sym, ap, _∙_, subst}
 use mathlib.Core.Bool.{Bool, true, false}
 use mathlib.Core.List.{List, [], _∷_, _++_, append-nil}
+use mathlib.Core.Option.{Option, none, some}
 use native.Mathlib.Omega.{arith}
 use borrow.Author.Tests.{ltb-false}
 use lib.Dec.{ltb}
@@ -15,9 +16,8 @@ use Rattle.octets.specs.Lists.{allBelow}
 use Rattle.unfold.specs.Unfold.{Row}
 use Rattle.cff.specs.Font.{Got, refused as refusedFont, got, Program, readFont}
 use Rattle.subset.specs.Kept.{keptOf}
-use Rattle.subset.specs.Pruned.{May, fail, yes}
 use Rattle.subset.specs.Cut.{allFound}
-use Rattle.traced.specs.Traced.{Traced, refused, traced, recordOf, metAll, answered, traceProgram, traceRead, traceOf, tracedAs, leavesRecord, Traces}
+use Rattle.traced.specs.Traced.{Traced, refused, traced, recordOf, metAll, answered, traceRead, traceOf, tracedAs, leavesRecord, Traces}
 use Rattle.traced.specs.declared.TracedAs.{TracedAs}
 use Rattle.capi.specs.Capi.{Answers}
 use Rattle.capi.specs.Subset.{roomFor}
@@ -30,9 +30,9 @@ abbrev Fits : ℕ → Traced → Type 0
 Fits room (refused n) = Unit
 Fits room (traced flag rec) = length rec ≤ room
 
-answered-fits : (room : ℕ) (m : May (List Row)) → Fits room (answered room m)
-answered-fits room fail = omega arith
-answered-fits room (yes rows) =
+answered-fits : (room : ℕ) (m : Option (List Row)) → Fits room (answered room m)
+answered-fits room none = omega arith
+answered-fits room (some rows) =
     pick-ind (Fits room) (ltb room (length (recordOf rows))) (refused 11) (traced 1 (recordOf rows)) (λ e. tt) (λ e. ltb-false room (length (recordOf rows)) e)
 
 read-fits : (room : ℕ) (keep : List ℕ) (g : Got Program) → Fits room (traceRead g keep room)

@@ -1,6 +1,5 @@
 // Which glyph costs the small file, for C and Rust to link (document 02, Wish 12). The answer is one word: the glyph, or 65536 where there is none. 11 stands
 // for no word too, after every other refusal.
-ghost use mathlib.Core.Path.{_≡_};
 ghost use Rattle.capi.specs.Capi.{Answers};
 ghost use Rattle.capi.specs.Blocking.{culpritAnswer, AnswersBlocking};
 use crate::put_word;

@@ -1,11 +1,10 @@
 // What is asked of single glyphs, of many names or CIDs with one reading of the font, and where an item stands, for C and Rust to link. 11 stands for lent bytes or words
 // that are too few, after every other refusal.
-ghost use mathlib.Core.Path.{_≡_};
 ghost use Rattle.cff.specs.Font.{readFont};
 ghost use Rattle.cff.specs.Find.{itemOf};
 ghost use Rattle.cff_entries.specs.Kinds.{kindOf};
 ghost use Rattle.glyph_entries.specs.Glyph.{glyphOf, Tells};
-ghost use Rattle.glyph_entries.specs.Many.{namesFound, cidsFound, Finds};
+ghost use Rattle.find_many.specs.Many.{namesFound, cidsFound, Finds};
 ghost use Rattle.glyph_entries.specs.Place.{Shows};
 ghost use Rattle.capi.specs.Capi.{lookupRefusal};
 use cff::ReadAs;
@@ -30,7 +29,7 @@ pub extern "C" fn cff_find_names(
 ) -> u8
     ensures { λ r. ⌜ Finds (namesFound (readFont (now (font .entry))) (now (names .entry)) (now (lengths .entry))) (now (glyphs .entry)) (now (glyphs .exit)) r ⌝ }
 {
-    glyph_entries::names::find_names(font, names, lengths, glyphs)
+    find_many::names::find_names(font, names, lengths, glyphs)
 }
 
 // Finds the glyph of each CID, 65536 where it is absent.
@@ -38,7 +37,7 @@ pub extern "C" fn cff_find_names(
 pub extern "C" fn cff_find_cids(font: &[u8], cids: &[u16], glyphs: &mut [u32]) -> u8
     ensures { λ r. ⌜ Finds (cidsFound (readFont (now (font .entry))) (now (cids .entry))) (now (glyphs .entry)) (now (glyphs .exit)) r ⌝ }
 {
-    glyph_entries::cids::find_cids(font, cids, glyphs)
+    find_many::cids::find_cids(font, cids, glyphs)
 }
 
 // Where an item stands in the caller's bytes: two words, its place and its length. The refusals are those of `cff_item_refusal`, then 11.

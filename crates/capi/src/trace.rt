@@ -1,6 +1,5 @@
 // The tracer for C and Rust to link (document 02, Wish 1). The answer is two words, the flag and the length of the record, which stands at the
 // start of the lent bytes. Fewer than two words are no room, so 11 stands for these too.
-ghost use mathlib.Core.Path.{_≡_};
 ghost use Rattle.capi.specs.Capi.{Answers};
 ghost use Rattle.capi.specs.Trace.{tracedAnswer, AnswersTrace};
 use crate::cut::put_two;

@@ -1,7 +1,7 @@
 -- Worked examples, computed: the font of document 01, 'One sheet, whole', and what its damaged copies answer.
 use Prim.Native.Nat.{ℕ}
 use mathlib.Core.Path.{_≡_, refl}
-use mathlib.Core.Bool.{true, false}
+use mathlib.Core.Bool.{false}
 use mathlib.Core.List.{List, [], _∷_, _++_}
 use lib.ListN.{take, drop}
 use Rattle.octets.specs.Octets.{be, numAt}
@@ -12,12 +12,11 @@ use Rattle.decimal.specs.Values.{truncOf}
 use Rattle.dict.specs.Dict.{tokenAt, operatorAt, entryFrom, entryAt, readingsFrom, readingsAt, gathered, dictOf}
 use Rattle.dict.specs.Lookup.{lastFrom, lastOf}
 use Rattle.charset.specs.Listed.{listOf}
-use Rattle.strings.specs.Strings.{stringText, standardString, standardStrings}
 use Rattle.opentype.specs.Opentype.{rowFrom, placeOf}
-use Rattle.cff.specs.Font.{Got, refused, got, localsAt, privateData, privateAt, privatesAt, idsAt, fdsAt, codingAt, encodingGot, cidParts, nameParts, fontAt, fontsAt, setAt, readTable, readFont}
+use Rattle.cff.specs.Font.{privateAt, idsAt, codingAt, encodingGot, nameParts, fontAt, fontsAt, setAt, readTable, readFont}
 use Rattle.cff.specs.Find.{localsWords, readAs, itemOf}
 use Rattle.cff.specs.declared.ReadAs.the-variants.{Refused, Font}
-use Rattle.cff.specs.declared.ItemKind.the-variants.{Charstring, Global, Text}
+use Rattle.cff.specs.declared.ItemKind.the-variants.{Charstring}
 
 -- header, the name X, a top DICT with CharStrings at 21, no strings, no globals, and two charstrings
 abbrev pub sheet : List ℕ

@@ -1,7 +1,7 @@
 -- Worked examples, computed: a small CID-keyed font, and finding by CID and by name.
 use Prim.Native.Nat.{ℕ}
 use mathlib.Core.Path.{_≡_, refl}
-use mathlib.Core.Bool.{true, false}
+use mathlib.Core.Bool.{true}
 use mathlib.Core.List.{List, [], _∷_, _++_}
 use Rattle.octets.specs.Octets.{be, numAt}
 use Rattle.octets.specs.Lists.{allBelow}

@@ -1,11 +1,11 @@
 -- Worked examples, computed: the refusals of reading that Examples does not have (2, 4, 5), 6 of an item, a set of two fonts, a name and a CID that
 -- two glyphs have, the empty name, and an FD past the FD array. Each font is built as document 01's.
-use Prim.Native.Nat.{ℕ, _<_, _≤_}
+use Prim.Native.Nat.{ℕ, _<_}
 use mathlib.Core.Path.{_≡_, refl, sym, ap, _∙_}
 use mathlib.Core.Bool.{false}
 use mathlib.Core.List.{List, [], _∷_}
 use native.Mathlib.Omega.{arith}
-use lib.ListN.{length, getD}
+use lib.ListN.{length}
 use Rattle.octets.specs.Octets.{be, numAt}
 use Rattle.octets.specs.Lists.{allBelow}
 use Rattle.index.specs.Index.{offsets, runOf, judged, dataAt, tableAt, indexAt, pieces, itemsOf, told, readIndex}

@@ -1,7 +1,7 @@
 -- Worked example: in document 01's font both charstrings are the byte `0e`, at 27 and 28. A lookup of charstring 1 that answers the byte at 27
 -- holds what it should, and is another part: no INDEX of these items puts its second item there, since its first would stand at 26.
-use Prim.Native.Nat.{ℕ, _+_, _-_, _<_}
-use mathlib.Core.Path.{_≡_, refl, sym, ap, _∙_}
+use Prim.Native.Nat.{ℕ, _+_, _-_}
+use mathlib.Core.Path.{_≡_, sym, ap, _∙_}
 use mathlib.Core.List.{List, [], _∷_}
 use native.Mathlib.Omega.{arith}
 use lib.ListN.{length, take, drop, getD}

@@ -3,7 +3,7 @@ use Prim.Native.Nat.{ℕ, _+_, _≤_}
 use mathlib.Core.Path.{_≡_, refl, sym, ap, _∙_, subst}
 use mathlib.Core.List.{List}
 use native.Mathlib.Omega.{arith}
-use lib.ListN.{length, take, drop, length-drop}
+use lib.ListN.{length, drop, length-drop}
 use lib.Seq.{length-take-le, take-length}
 use Rattle.octets.specs.Lists.{partOf}
 use Rattle.octets.specs.Octets.{Octets, numAt}
@@ -12,7 +12,7 @@ use Rattle.opentype.specs.Opentype.{otto, placeOf}
 use Rattle.opentype.specs.OpentypeLaws as place
 use Rattle.opentype.specs.declared.Place.{Place}
 use Rattle.opentype.specs.declared.Place.the-variants.{Refused as RefusedPlace, Table}
-use Rattle.cff.specs.Font.{Got, refused, got, Program, readTable, readAt, readFont}
+use Rattle.cff.specs.Font.{got, Program, readTable, readAt, readFont}
 use Rattle.cff.specs.Reads.{programOf, GoodFont, ReadsFont}
 use Rattle.cff.specs.ReadsLaws.{no}
 use Rattle.cff.specs.File.{tableIn, InFile, HasFont, ReadsFile}

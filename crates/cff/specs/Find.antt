@@ -1,6 +1,5 @@
 -- What is asked of a program (document 01, 'Entries and their refusals'): counts, the glyph of a name or a CID, an INDEX item.
 use Prim.Native.Nat.{ℕ, _+_, _*_}
-use mathlib.Core.Bool.{Bool, true, false}
 use mathlib.Core.List.{List, [], _∷_}
 use lib.Dec.{ltb}
 use lib.ListN.{length, getD}

@@ -2,7 +2,6 @@
 -- program, in exactly the Rust's order of steps. 4 above 67,108,864 bytes comes first, then where the font stands in the file (document 02, Wish 9);
 -- 5 stands where a real is met.
 use Prim.Native.Nat.{ℕ, _+_}
-use mathlib.Core.Bool.{Bool, true, false}
 use mathlib.Core.List.{List, [], _∷_}
 use lib.Dec.{ltb, eqb}
 use lib.ListN.{length, take, drop, getD}

@@ -1,11 +1,11 @@
 -- Laws of reading a font of a set: one for each way out of the functions that read it.
-use Prim.Native.Nat.{ℕ, zero, suc, _+_, _-_, _≤_, _<_}
+use Prim.Native.Nat.{ℕ, suc, _≤_, _<_}
 use mathlib.Core.Path.{_≡_, refl, sym, ap, _∙_, subst}
 use mathlib.Core.Bool.{Bool, true, false}
 use mathlib.Core.List.{List, [], _∷_}
 use native.Mathlib.Omega.{arith}
 use borrow.Author.Tests.{lt-ltb, le-ltb, eq-eqb, ne-eqb}
-use lib.Dec.{ltb, eqb}
+use lib.Dec.{eqb}
 use lib.ListN.{length}
 use Rattle.octets.specs.Pick.{pick}
 use Rattle.bits.specs.Bits.{wordsFor}
@@ -16,17 +16,16 @@ use Rattle.index.specs.IndexLaws.{items-length}
 use Rattle.index.specs.declared.Index.{Index}
 use Rattle.index.specs.declared.IndexAt.{IndexAt}
 use Rattle.index.specs.declared.IndexAt.the-variants.{Refused as RefusedIndex, Found as FoundIndex}
-use Rattle.decimal.specs.Values.{truncOf}
 use Rattle.dict.specs.Dict.{Entry, dictOf}
 use Rattle.dict.specs.Lookup.{offsetIn, privateIn, cidKeyed, charstringTypeIn}
 use Rattle.dict.specs.Places.{refusalOf, entriesOf, Good as GoodDict}
 use Rattle.dict.specs.declared.OffsetIn.{OffsetIn}
 use Rattle.dict.specs.declared.OffsetIn.the-variants.{Refused as RefusedOffset, At, Absent as NoOffset}
 use Rattle.charset.specs.Listed.{Listed, refused as refusedList, listed}
-use Rattle.charset.specs.Charset.{charsetAt, isoAdobe}
-use Rattle.charset.specs.CharsetPlaces.{tableAt, predefined, idsOf, GoodCharset, charsetAnswer}
+use Rattle.charset.specs.Charset.{charsetAt}
+use Rattle.charset.specs.CharsetPlaces.{tableAt, predefined, charsetAnswer}
 use Rattle.charset.specs.CharsetFound.{found-good as charset-good, found-ids, predefined-ids, predefined-good}
-use Rattle.charset.specs.FdSelect.{fdSelectAt, noFds}
+use Rattle.charset.specs.FdSelect.{fdSelectAt}
 use Rattle.charset.specs.FdPlaces.{noSelect, selectAt, selectAnswer, fdsOf, GoodSelect}
 use Rattle.charset.specs.FdFound.{found-good as select-good, found-fds, no-select-good, no-select-fds}
 use Rattle.charset.specs.Encoding.{encodingAt}
@@ -36,10 +35,10 @@ use Rattle.charset.specs.declared.CharsetAt.the-variants.{Refused as RefusedCha
 use Rattle.charset.specs.declared.fd_select.FdSelect.{FdSelect}
 use Rattle.charset.specs.declared.fd_select.FdSelectAt.{FdSelectAt}
 use Rattle.charset.specs.declared.fd_select.FdSelectAt.the-variants.{Refused as RefusedSelect, Found as FoundSelect}
-use Rattle.cff.specs.Font.{charset, encoding, charStrings, fdArray, fdSelect, Got, refused, got, then, standard, Coding, Private, Added, Program, indexGot, dictGot, listGot, unless, needed, orZero, privateAt, privatesAt, dictsAt, idsAt, fdsAt, codingAt, encodingGot, cidParts, nameParts, fontAt}
+use Rattle.cff.specs.Font.{charset, encoding, charStrings, fdArray, fdSelect, Got, refused, got, then, standard, Coding, Private, Added, Program, indexGot, listGot, unless, needed, orZero, privateAt, privatesAt, dictsAt, idsAt, fdsAt, codingAt, encodingGot, cidParts, nameParts, fontAt}
 use Rattle.cff.specs.Find.{localsWords}
-use Rattle.cff.specs.Reads.{Holds, ReadsItems, privateOf, GoodPrivate, noPrivate, ReadsPrivate, fdPrivate, ReadsLocals, namedIndex, namedIds, namedEncoding, ReadsIds, ReadsCoding, ReadsFds, orNone, privatesOf, addedOf, GoodParts, ReadsParts, partsBy, HasDicts, HasLocals, topOf, programOf, fontOf, HasTop, HasGlyphs, GoodFont, ReadsFont}
-use Rattle.cff.specs.ReadsLaws.{no, reads-index, none-held, none-items, dict-refused, dict-good, dict-entries, empty-dict, then-refused, then-got, privates-split}
+use Rattle.cff.specs.Reads.{Holds, ReadsItems, privateOf, GoodPrivate, noPrivate, ReadsPrivate, fdPrivate, ReadsLocals, namedIndex, namedIds, namedEncoding, ReadsIds, ReadsCoding, ReadsFds, orNone, privatesOf, ReadsParts, partsBy, HasDicts, HasLocals, topOf, fontOf, HasTop, HasGlyphs, ReadsFont}
+use Rattle.cff.specs.ReadsLaws.{no, reads-index, none-held, dict-refused, dict-good, dict-entries, empty-dict, then-refused, then-got, privates-split}
 use Rattle.cff.specs.declared.private.PrivateAt.{PrivateAt}
 use Rattle.cff.specs.declared.private.PrivateRead.{PrivateRead}
 use Rattle.cff.specs.declared.private.PrivateRead.the-variants.{Refused as RefusedPrivate, Found as FoundPrivate}

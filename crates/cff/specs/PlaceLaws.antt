@@ -1,21 +1,18 @@
 -- Laws of where an item lies: one for each way out of a lookup.
-use Prim.Native.Nat.{ℕ, _+_, _≤_}
-use mathlib.Core.Path.{_≡_, refl, sym, ap, _∙_, subst}
+use Prim.Native.Nat.{ℕ, _≤_}
+use mathlib.Core.Path.{_≡_, sym, ap, _∙_, subst}
 use mathlib.Core.List.{List}
 use native.Mathlib.Omega.{arith}
-use denote.Ref.{RefT, ptr}
+use denote.Ref.{RefT}
 use Rattle.octets.specs.Lists.{partOf}
-use Rattle.index.specs.Index.{itemsOf}
 use Rattle.index.specs.Place.{StartsAt, itemPlace}
 use Rattle.index.specs.declared.Index.{Index}
 use Rattle.opentype.specs.Opentype.{placeOf}
 use Rattle.opentype.specs.declared.Place.{Place}
 use Rattle.opentype.specs.declared.Place.the-variants.{Refused as RefusedPlace, Table}
 use Rattle.cff.specs.Font.{Got, refused, got, Program, readTable, readAt, readFont}
-use Rattle.cff.specs.Find.{itemsIn}
 use Rattle.cff.specs.Reads.{programOf, indexIn}
-use Rattle.cff.specs.ReadsLaws.{no}
-use Rattle.cff.specs.File.{tableIn, InFile}
+use Rattle.cff.specs.File.{InFile}
 use Rattle.cff.specs.SetLaws.{items-good, items-is, many}
 use Rattle.cff.specs.Place.{LiesAt, LiesIn}
 use Rattle.cff.specs.declared.ItemKind.{ItemKind}

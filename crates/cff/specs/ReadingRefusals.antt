@@ -2,7 +2,6 @@
 -- not refused, and 6 and 11 that it was refused by another step.
 use Prim.Native.Nat.{ℕ, zero, suc, _+_, _≤_, _<_}
 use mathlib.Core.Path.{_≡_, refl, sym, subst}
-use mathlib.Core.Bool.{Bool, true, false}
 use mathlib.Core.List.{List, [], _∷_}
 use native.Mathlib.Omega.{arith}
 use lib.Dec.{ltb, eqb}
@@ -13,8 +12,8 @@ use Rattle.decimal.specs.declared.Decimal.{Decimal}
 use Rattle.decimal.specs.declared.OffsetOf.{OffsetOf}
 use Rattle.decimal.specs.declared.OffsetOf.the-variants.{Refused as RefusedOffsetOf, Offset}
 use Rattle.decimal.specs.Values.{offsetOf, isTwo}
-use Rattle.index.specs.Index.{Read, readIndex}
-use Rattle.dict.specs.Dict.{Entry, Dict, dictOf}
+use Rattle.index.specs.Index.{Read}
+use Rattle.dict.specs.Dict.{Entry, Dict}
 use Rattle.dict.specs.Op.{subrs, private, charstringType}
 use Rattle.dict.specs.Lookup.{Operands, absent, operands, lastOf, oneOf, offsetTold, offsetAs, offsetIn, privateAs, privateIn, typeAs, charstringTypeIn, cidKeyed}
 use Rattle.dict.specs.declared.One.{One}
@@ -24,9 +23,6 @@ use Rattle.dict.specs.declared.OffsetIn.the-variants.{Refused as RefusedOffset,
 use Rattle.dict.specs.declared.PrivateIn.{PrivateIn}
 use Rattle.dict.specs.declared.PrivateIn.the-variants.{Refused as RefusedPrivate, Private as PrivateEntry, Absent as NoPrivate}
 use Rattle.charset.specs.Listed.{Listed}
-use Rattle.charset.specs.Charset.{charsetAt, isoAdobe}
-use Rattle.charset.specs.FdSelect.{fdSelectAt, noFds}
-use Rattle.charset.specs.Encoding.{encodingAt}
 use Rattle.opentype.specs.Opentype.{placeOf}
 use Rattle.opentype.specs.OpentypeLaws.{Numbered, place-numbered}
 use Rattle.opentype.specs.declared.Place.{Place}

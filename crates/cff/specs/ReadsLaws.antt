@@ -1,33 +1,32 @@
 -- Laws of reading: one step's answer for the next, in place.
-use Prim.Native.Nat.{ℕ, zero, suc, _+_, _-_, _*_, _≤_, _<_, min}
+use Prim.Native.Nat.{ℕ, zero, suc, _+_, _*_, _≤_, _<_, min}
 use mathlib.Core.Path.{_≡_, refl, sym, ap, _∙_, subst}
 use mathlib.Core.Bool.{Bool, true, false}
 use mathlib.Core.List.{List, [], _∷_}
 use native.Mathlib.Nat.{min-le-right}
 use native.Mathlib.Numerals.{add-one}
 use native.Mathlib.Omega.{arith}
-use borrow.Author.Tests.{lt-ltb, le-ltb, eq-eqb, ne-eqb, ltb-true, ltb-false, eqb-true, eqb-false}
+use borrow.Author.Tests.{lt-ltb, le-ltb, ltb-true, ltb-false, eqb-true, eqb-false}
 use lib.Dec.{ltb, eqb, lit≤, lit<}
-use lib.ListN.{length, drop, getD, set, replicate, length-take, length-drop, length-set, length-replicate, getD-replicate, List·getD-eq-default}
+use lib.ListN.{length, drop, getD, set, replicate, length-set, length-replicate, getD-replicate, List·getD-eq-default}
 use lib.Seq.{drop-cons, drop-nil, getD-set-same, getD-set-other}
-use Rattle.octets.specs.Pick.{pick, pick-ind}
+use Rattle.octets.specs.Pick.{pick}
 use Rattle.bits.specs.Bits.{wordsFor}
 use Rattle.octets.specs.Octets.{Octets}
 use Rattle.octets.specs.Lists.{partOf}
-use Rattle.index.specs.Index.{firstOf, offsets, runOf, emptyAt, indexAt, pieces, itemsOf, Read, refused as refusedRead, found, told, readIndex}
+use Rattle.index.specs.Index.{firstOf, offsets, runOf, emptyAt, indexAt, pieces, itemsOf, Read, found, readIndex}
 use Rattle.index.specs.Good.{Good}
 use Rattle.index.specs.IndexLaws.{items-length}
 use Rattle.index.specs.FoundLaws.{found-good, found-count, read-found, read-refused}
 use Rattle.index.specs.declared.Index.{Index}
 use Rattle.index.specs.declared.IndexAt.{IndexAt}
 use Rattle.index.specs.declared.IndexAt.the-variants.{Refused as RefusedIndex, Found as FoundIndex}
-use Rattle.decimal.specs.declared.Decimal.{Decimal}
-use Rattle.decimal.specs.Values.{truncOf, offsetOf}
+use Rattle.decimal.specs.Values.{truncOf}
 use Rattle.decimal.specs.declared.OffsetOf.{OffsetOf}
 use Rattle.decimal.specs.declared.OffsetOf.the-variants.{Refused as NotOffset, Offset}
 use Rattle.dict.specs.Dict.{Entry, Dict, refused as refusedDict, entries, readingsFrom, readingsAt, gathered, dictOf}
 use Rattle.dict.specs.Op.{subrs, private}
-use Rattle.dict.specs.Lookup.{Operands, absent, operands, only, oneOf, lastFrom, lastOf, offsetTold, offsetAs, offsetIn, privateAs, privateIn, cidKeyed, charstringTypeIn}
+use Rattle.dict.specs.Lookup.{Operands, absent, operands, oneOf, lastFrom, lastOf, offsetTold, offsetAs, offsetIn, privateAs, privateIn}
 use Rattle.dict.specs.Places.{refusalOf, listed, entriesOf, Good as GoodDict}
 use Rattle.dict.specs.LookupLaws.{good-entries}
 use Rattle.dict.specs.declared.One.{One}
@@ -36,9 +35,9 @@ use Rattle.dict.specs.declared.OffsetIn.{OffsetIn}
 use Rattle.dict.specs.declared.OffsetIn.the-variants.{Refused as RefusedOffset, At, Absent as NoOffset}
 use Rattle.dict.specs.declared.PrivateIn.{PrivateIn}
 use Rattle.dict.specs.declared.PrivateIn.the-variants.{Refused as RefusedEntry, Private as PrivateEntry, Absent as NoPrivate}
-use Rattle.cff.specs.Font.{Got, refused, got, then, Private, Program, indexGot, dictGot, localsAt, privateData, privateAt, privatesAt, emptyPrivate}
+use Rattle.cff.specs.Font.{Got, refused, got, then, Private, indexGot, dictGot, localsAt, privateData, privateAt, privatesAt, emptyPrivate}
 use Rattle.cff.specs.Find.{localsWords}
-use Rattle.cff.specs.Reads.{Holds, ReadsItems, privateOf, GoodPrivate, noPrivate, ReadsPrivate, Known, Remembers, Recalls, fdPrivate, ReadsNext, ReadsLocals}
+use Rattle.cff.specs.Reads.{Holds, ReadsItems, privateOf, noPrivate, ReadsPrivate, Known, Remembers, Recalls, fdPrivate, ReadsNext, ReadsLocals}
 use Rattle.cff.specs.declared.private.PrivateAt.{PrivateAt}
 use Rattle.cff.specs.declared.private.PrivateRead.{PrivateRead}
 use Rattle.cff.specs.declared.private.PrivateRead.the-variants.{Refused as RefusedPrivate, Found as FoundPrivate}

@@ -1,18 +1,18 @@
 -- Laws of reading a set of fonts, and of what is asked of the one that is used.
-use Prim.Native.Nat.{ℕ, zero, suc, _+_, _-_, _*_, _≤_, _<_}
+use Prim.Native.Nat.{ℕ, _+_, _*_, _≤_, _<_}
 use mathlib.Core.Path.{_≡_, refl, sym, ap, _∙_, subst}
-use mathlib.Core.Bool.{Bool, true, false}
+use mathlib.Core.Bool.{true, false}
 use mathlib.Core.List.{List, [], _∷_}
 use native.Mathlib.Numerals.{add-one}
 use native.Mathlib.Omega.{arith}
 use borrow.Author.Tests.{lt-ltb, le-ltb, eq-eqb, ne-eqb}
-use lib.Dec.{ltb, eqb}
-use lib.ListN.{length, take, drop, getD, List·getD-eq-default}
+use lib.Dec.{eqb}
+use lib.ListN.{length, drop, getD, List·getD-eq-default}
 use lib.Seq.{drop-cons}
 use Rattle.octets.specs.Pick.{pick}
 use Rattle.bits.specs.Bits.{wordsFor}
 use Rattle.octets.specs.Octets.{Octets}
-use Rattle.index.specs.Index.{indexAt, itemsOf, Read, readIndex}
+use Rattle.index.specs.Index.{indexAt, itemsOf, readIndex}
 use Rattle.index.specs.Good.{Good, offsetOf}
 use Rattle.index.specs.IndexLaws.{items-length, item-within, item-part}
 use Rattle.index.specs.FoundLaws.{found-good, found-count, read-found, read-refused}
@@ -22,17 +22,15 @@ use Rattle.index.specs.declared.IndexAt.the-variants.{Refused as RefusedIndex, 
 use Rattle.charset.specs.CharsetPlaces.{idsOf}
 use Rattle.find.specs.Find.{glyphWithId, glyphWithText}
 use Rattle.find.specs.declared.Found.{Found}
-use Rattle.find.specs.declared.Found.the-variants.{Absent as NoGlyph, Glyph as TheGlyph}
-use Rattle.cff.specs.Font.{Got, refused, got, then, Program, fontAt, fontsAt, firstOf, indexThen, setAt, readTable, readFont}
-use Rattle.cff.specs.Find.{localsWords, countsOf, readAs, foundAs, findName, findCid, nameAs, cidAs, itemsIn, itemRefusal, itemOf}
-use Rattle.cff.specs.Reads.{Holds, topOf, fontOf, programOf, HasTop, GoodFont, ReadsFont, indexIn, HasSet, fontWith, fontsOf, behindTops}
+use Rattle.cff.specs.Font.{Got, refused, got, then, Program, fontsAt, firstOf, indexThen, setAt, readTable, readFont}
+use Rattle.cff.specs.Find.{countsOf, foundAs, findName, findCid, itemsIn, itemRefusal, itemOf}
+use Rattle.cff.specs.Reads.{Holds, fontOf, programOf, HasTop, GoodFont, ReadsFont, indexIn, HasSet, fontWith, fontsOf, behindTops}
 use Rattle.cff.specs.File.{InFile, HasFont, ReadsFile}
-use Rattle.cff.specs.ReadsLaws.{no, drop-over, then-refused, then-got}
+use Rattle.cff.specs.ReadsLaws.{drop-over, then-refused, then-got}
 use Rattle.cff.specs.declared.Counts.{Counts}
 use Rattle.cff.specs.declared.ReadAs.{ReadAs}
-use Rattle.cff.specs.declared.ReadAs.the-variants.{Refused as RefusedRead, Font as FontCounts}
 use Rattle.cff.specs.declared.FoundAs.{FoundAs}
-use Rattle.cff.specs.declared.FoundAs.the-variants.{Refused as RefusedFind, Absent, Glyph}
+use Rattle.cff.specs.declared.FoundAs.the-variants.{Absent, Glyph}
 use Rattle.cff.specs.declared.ItemKind.{ItemKind}
 use Rattle.cff.specs.declared.ItemKind.the-variants.{Charstring, Global, Text}
 use Rattle.cff.specs.declared.font.Font.{Font}

@@ -1,11 +1,10 @@
 // A set of fonts, read in place: the Rust's parse_fonts. Every font of the set is read, and the first is used.
-ghost use mathlib.Core.Path.{_≡_};
 ghost use mathlib.Core.List.{[]};
 ghost use Prim.Native.Nat.{_≤_, _<_};
 ghost use lib.ListN.{length, getD};
 ghost use Rattle.index.specs.Index.{itemsOf};
 ghost use Rattle.index.specs.Place.{StartsAt};
-ghost use Rattle.cff.specs.Font.{setAt, readTable, readFont};
+ghost use Rattle.cff.specs.Font.{setAt, readTable};
 ghost use Rattle.cff.specs.Reads.{Holds, ReadsFont, HasSet, fontWith, fontsOf, behindTops};
 ghost use Rattle.cff.specs.File.{InFile, HasFont, ReadsFile};
 ghost use Rattle.cff.specs.declared.font.FontRead.the-variants.{Found as FoundFont};

@@ -1,13 +1,13 @@
 -- Laws of the answers to stored cases, by the code's ways out.
 use Prim.Native.Nat.{ℕ, _+_, _-_, _≤_, _<_}
-use mathlib.Core.Path.{_≡_, refl, sym, ap, _∙_}
-use mathlib.Core.List.{List, [], _∷_, _++_}
-use mathlib.Core.Option.{Option, none, some}
+use mathlib.Core.Path.{_≡_, sym, ap, _∙_}
+use mathlib.Core.List.{List, [], _∷_}
+use mathlib.Core.Option.{none, some}
 use native.Mathlib.Omega.{arith}
 use lib.ListN.{length, take, drop, getD, length-append, length-drop}
 use lib.Seq.{take-all}
 use borrow.Author.Tests.{eq-eqb, ne-eqb, lt-ltb, le-ltb}
-use Rattle.octets.specs.Octets.{numAt, bytesOf}
+use Rattle.octets.specs.Octets.{numAt}
 use Rattle.octets.specs.OctetsLaws.{length-bytes}
 use Rattle.cff.specs.Font.{readFont}
 use Rattle.cff.specs.Find.{readAs, cidAs, itemRefusal, itemOf}

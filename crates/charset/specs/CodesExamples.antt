@@ -1,8 +1,8 @@
 -- Worked examples, computed.
 use mathlib.Core.Path.{_≡_, refl}
-use mathlib.Core.List.{List, [], _∷_, _++_}
+use mathlib.Core.List.{[], _∷_}
 use Rattle.octets.specs.Octets.{be}
-use Rattle.charset.specs.Codes.{Naming, byNumber, byString, codesFrom, rangeFrom, rangesFrom, suppliedFrom, namingsBy, namingsAt}
+use Rattle.charset.specs.Codes.{byNumber, byString, codesFrom, rangeFrom, rangesFrom, suppliedFrom, namingsBy, namingsAt}
 
 -- format 0: two codes
 format-0 : namingsAt (0x00 ∷ 0x02 ∷ 0x41 ∷ 0x42 ∷ []) 0 ≡ byNumber 0x41 1 ∷ byNumber 0x42 2 ∷ []

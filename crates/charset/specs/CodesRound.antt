@@ -1,6 +1,6 @@
 -- An encoding of supplements alone that was written reads back: format 0 without codes of its own, a count, and a code and the two bytes of a
 -- string id for each. Stated over any list whose elements have a code and an id.
-use Prim.Native.Nat.{ℕ, suc, _+_, _*_, _/_, _%_, _≤_, _<_}
+use Prim.Native.Nat.{ℕ, _+_, _*_, _≤_, _<_}
 use mathlib.Core.Path.{_≡_, refl, sym, ap, _∙_}
 use mathlib.Core.Bool.{false}
 use mathlib.Core.List.{List, [], _∷_, _++_, append-assoc}

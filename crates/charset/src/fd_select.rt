@@ -5,6 +5,7 @@ ghost use lib.ListN.{length, drop};
 ghost use Rattle.octets.specs.Lists.{allBelow};
 ghost use Rattle.charset.specs.FdSelect.{rangeEnd, fdIn, rangesRefusal, rangeFds, fdSelectAt};
 ghost use Rattle.charset.specs.FdPlaces.{noSelect, rangesAt, selectAt, selectAnswer, rangesAnswer, fdOf, fdsOf, GoodSelect, selectStart, intoRange, nextFd, ReadyFd};
+use refusal::Refusal;
 
 // An FDSelect of a font: `count` ranges, the first of which starts at glyph `first`. Their entries stand from `at` on, an FD and a number of
 // `wide` bytes that says where the range ends: 2 in format 3; 0 in format 0, where each range is one glyph.
@@ -71,11 +72,11 @@ fn check_ends(font: &[u8], s: FdSelect) -> FdSelectAt
     let mut left = s.count;
     while 0 < left {
         if len - at < 3 {
-            return FdSelectAt::Refused(1);
+            return FdSelectAt::Refused(Refusal::TRUNCATED);
         }
         let end = octets::u16_at(font, at + 1);
         if end < first {
-            return FdSelectAt::Refused(2);
+            return FdSelectAt::Refused(Refusal::MALFORMED);
         }
         first = end;
         at += 3;
@@ -90,7 +91,7 @@ fn read_ranges(font: &[u8], at: usize, n: usize) -> FdSelectAt
     ensures { λ r. ⌜ r ≡ selectAnswer (rangesAt (now (font .entry)) at) (rangeFds n (drop at (now (font .entry)))) ⌝ }
 {
     if font.len() - at < 4 {
-        return FdSelectAt::Refused(1);
+        return FdSelectAt::Refused(Refusal::TRUNCATED);
     }
     let count = octets::u16_at(font, at);
     let first = octets::u16_at(font, at + 2);
@@ -112,13 +113,13 @@ pub fn read_fd_select(font: &[u8], at: usize, n: usize) -> FdSelectAt
 {
     let len = font.len();
     if len <= at {
-        return FdSelectAt::Refused(1);
+        return FdSelectAt::Refused(Refusal::TRUNCATED);
     }
     let format = octets::u8_at(font, at);
     let behind = at + 1;
     if format == 0 {
         if len - behind < n {
-            return FdSelectAt::Refused(1);
+            return FdSelectAt::Refused(Refusal::TRUNCATED);
         }
         return FdSelectAt::Found(FdSelect {
             count: n,
@@ -130,7 +131,7 @@ pub fn read_fd_select(font: &[u8], at: usize, n: usize) -> FdSelectAt
     if format == 3 {
         return read_ranges(font, behind, n);
     }
-    FdSelectAt::Refused(2)
+    FdSelectAt::Refused(Refusal::MALFORMED)
 }
 
 // Where an FDSelect begins: before glyph 0.

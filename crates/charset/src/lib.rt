@@ -10,6 +10,7 @@ ghost use lib.ListN.{length, drop, getD};
 ghost use Rattle.charset.specs.Listed.{listed, numbersOf};
 ghost use Rattle.charset.specs.Charset.{idsFrom, charsetAt};
 ghost use Rattle.charset.specs.CharsetPlaces.{tableAt, predefined, idsOf, GoodCharset, charsetAnswer, charsetStart, nextId, ReadyId};
+use refusal::Refusal;
 
 // A charset of a font: the first `own` glyphs have their own numbers as ids, glyph 0 alone where there is a table, all of them where the
 // charset is the predefined one; the others stand in ranges from `at` on, whose nLeft has `width` bytes.
@@ -61,18 +62,18 @@ fn check_ranges(font: &[u8], c: Charset, count: usize) -> CharsetAt
     let mut k = count;
     while 0 < k {
         if len - q < 2 + width {
-            return CharsetAt::Refused(1);
+            return CharsetAt::Refused(Refusal::TRUNCATED);
         }
         let first = octets::u16_at(font, q);
         let left = octets::num_at(font, q + 2, width);
         if k <= left {
             if 65536 < first + k {
-                return CharsetAt::Refused(2);
+                return CharsetAt::Refused(Refusal::MALFORMED);
             }
             return CharsetAt::Found(c);
         }
         if 65535 < first + left {
-            return CharsetAt::Refused(2);
+            return CharsetAt::Refused(Refusal::MALFORMED);
         }
         q = q + 2 + width;
         k = k - 1 - left;
@@ -87,11 +88,11 @@ pub fn read_charset(font: &[u8], at: usize, n: usize) -> CharsetAt
 {
     let len = font.len();
     if len <= at {
-        return CharsetAt::Refused(1);
+        return CharsetAt::Refused(Refusal::TRUNCATED);
     }
     let format = octets::u8_at(font, at);
     if 2 < format {
-        return CharsetAt::Refused(2);
+        return CharsetAt::Refused(Refusal::MALFORMED);
     }
     let ranges = at + 1;
     let c = Charset {
@@ -101,7 +102,7 @@ pub fn read_charset(font: &[u8], at: usize, n: usize) -> CharsetAt
     };
     if format == 0 {
         if (len - ranges) / 2 < n - 1 {
-            return CharsetAt::Refused(1);
+            return CharsetAt::Refused(Refusal::TRUNCATED);
         }
         return CharsetAt::Found(c);
     }

@@ -1,15 +1,16 @@
 -- The code's answers for what the definitions of tokens (TN5177, sections 3 and 4.3) say: its tokens hold an f32 and the place of a mask, theirs a reading and its bytes.
 use Prim.Native.Nat.{ℕ, _+_, _-_, _≤_, _<_}
 use mathlib.Core.Path.{_≡_}
-use mathlib.Core.Bool.{Bool, true, false}
+use mathlib.Core.Bool.{true}
 use mathlib.Core.List.{List}
+use mathlib.Core.Option.{Option, none, some}
 use lib.ListN.{length, take, drop}
 use lib.Dec.{leb}
 use Rattle.octets.specs.Pick.{pick}
 use Rattle.octets.specs.Octets.{put}
 use Rattle.type2_number.specs.Encoding.{encoded}
 use Rattle.type2_number.specs.Floats.{floatOf, scaledOf, HoldsReading}
-use Rattle.charstring.specs.Token.{Tok, num, op, esc, mask, Lexeme, lost, gotNum, gotOp, gotEsc, gotMask, Body, bad, tokens, lookup}
+use Rattle.charstring.specs.Token.{Tok, num, op, esc, mask, Lexeme, lost, gotNum, gotOp, gotEsc, gotMask}
 use Rattle.charstring.specs.Encode.{tokBytes, encode}
 use Rattle.charstring.specs.declared.Token.{Token}
 use Rattle.charstring.specs.declared.Token.the-variants.{Num, Op, Esc, Mask}
@@ -74,19 +75,19 @@ abbrev pub givenAt : (ℕ → MaskLen) → Cursor → MaskLen
 givenAt given c = pick (c .due) (given (c .at - 1)) Own
 
 -- how long a body is once it is written back
-abbrev pub measuredOf : Body → Measured
-measuredOf bad = Unread
-measuredOf (tokens ts) = Length (length (encode ts))
+abbrev pub measuredOf : Option (List Tok) → Measured
+measuredOf none = Unread
+measuredOf (some ts) = Length (length (encode ts))
 
 -- what writing a body back from a place of old on answers, and what it leaves
-abbrev pub recodedOf : List ℕ → ℕ → Body → Recoded
-recodedOf old to bad = Cut
-recodedOf old to (tokens ts) = pick (leb (to + length (encode ts)) (length old)) (Done (to + length (encode ts))) Full
+abbrev pub recodedOf : List ℕ → ℕ → Option (List Tok) → Recoded
+recodedOf old to none = Cut
+recodedOf old to (some ts) = pick (leb (to + length (encode ts)) (length old)) (Done (to + length (encode ts))) Full
 
-abbrev pub recodedIn : List ℕ → ℕ → Body → List ℕ
-recodedIn old to bad = old
-recodedIn old to (tokens ts) = pick (leb (to + length (encode ts)) (length old)) (put old to (encode ts)) old
+abbrev pub recodedIn : List ℕ → ℕ → Option (List Tok) → List ℕ
+recodedIn old to none = old
+recodedIn old to (some ts) = pick (leb (to + length (encode ts)) (length old)) (put old to (encode ts)) old
 
-pub record Recodes (old : List ℕ) (to : ℕ) (body : Body) (new : List ℕ) (r : Recoded) : Type 0 where
+pub record Recodes (old : List ℕ) (to : ℕ) (body : Option (List Tok)) (new : List ℕ) (r : Recoded) : Type 0 where
   pub answer : r ≡ recodedOf old to body
   pub leaves : new ≡ recodedIn old to body

@@ -2,8 +2,9 @@
 use Prim.Native.Nat.{ℕ}
 use mathlib.Core.Bool.{Bool, true, false}
 use mathlib.Core.List.{List, [], _∷_, _++_}
+use mathlib.Core.Option.{Option, none, some}
 use Rattle.type2_number.specs.Encoding.{encoded}
-use Rattle.charstring.specs.Token.{Tok, num, op, esc, mask, Body, bad, tokens}
+use Rattle.charstring.specs.Token.{Tok, num, op, esc, mask}
 
 -- the bytes of a token
 abbrev pub tokBytes : Tok → List ℕ
@@ -17,11 +18,11 @@ encode [] = []
 encode (t ∷ ts) = tokBytes t ++ encode ts
 
 -- whether a body was read to its end
-abbrev pub isWhole : Body → Bool
-isWhole bad = false
-isWhole (tokens ts) = true
+abbrev pub isWhole : Option (List Tok) → Bool
+isWhole none = false
+isWhole (some ts) = true
 
 -- a body written back
-abbrev pub bodyBytes : Body → List ℕ
-bodyBytes bad = []
-bodyBytes (tokens ts) = encode ts
+abbrev pub bodyBytes : Option (List Tok) → List ℕ
+bodyBytes none = []
+bodyBytes (some ts) = encode ts

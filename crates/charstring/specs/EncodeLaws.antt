@@ -1,24 +1,22 @@
 -- Laws of looking a mask's length up, and of a walk over a body that measures or writes each token.
-use Prim.Native.Nat.{ℕ, zero, suc, _+_, _-_, _*_, _≤_, _<_}
+use Prim.Native.Nat.{ℕ, suc, _+_, _-_, _*_, _≤_, _<_}
 use mathlib.Core.Path.{_≡_, refl, sym, ap, _∙_, subst}
-use mathlib.Core.Bool.{Bool, true, false, true≢false, false≢true}
+use mathlib.Core.Bool.{Bool, true, false, false≢true}
 use mathlib.Core.List.{List, [], _∷_, _++_, append-assoc, append-nil}
-use native.Mathlib.Nat.{not-suc-le-zero}
-use native.Mathlib.Numerals.{add-one}
+use mathlib.Core.Option.{Option, none, some}
 use native.Mathlib.Omega.{arith}
-use lib.Dec.{eqb, leb}
-use lib.ListN.{length, take, drop, getD, length-append, length-drop}
+use lib.ListN.{length, drop, getD, length-append, length-drop}
 use lib.Seq.{drop-cons}
 use borrow.Author.Tests.{eq-eqb, ne-eqb, le-leb, lt-leb}
 use Rattle.octets.specs.Pick.{pick}
-use Rattle.octets.specs.Octets.{Octets, put, Wrote}
+use Rattle.octets.specs.Octets.{Octets, Wrote}
 use Rattle.octets.specs.PutLaws.{wrote-none, wrote-then, wrote-as, wrote-length}
-use Rattle.charstring.specs.Token.{Tok, Lexeme, lost, maskAt, maskLen, plainAt, tokenAt, Body, bad, tokens, join, more, tokensFrom, tokensOf, start, lookup}
+use Rattle.charstring.specs.Token.{Tok, maskAt, maskLen, plainAt, tokenAt, join, more, tokensFrom, tokensOf, start, lookup}
 use Rattle.type2_number.specs.Number.{numberAt}
 use Rattle.charstring.specs.Encode.{tokBytes, encode, isWhole, bodyBytes}
-use Rattle.charstring.specs.Answers.{stepOf, told, tokenBytes, tokenLen, Writable, Within, givenAt, measuredOf, recodedOf, recodedIn, Recodes}
+use Rattle.charstring.specs.Answers.{stepOf, told, tokenBytes, tokenLen, Within, givenAt, measuredOf, Recodes}
 use Rattle.charstring.specs.TokenLaws.{token-length}
-use Rattle.charstring.specs.TokensLaws.{fuelOf, Moves, Next, next-of, lost-of, join-join, join-none, left-none, left-next, left-lost, left-start, start-within}
+use Rattle.charstring.specs.TokensLaws.{fuelOf, Next, next-of, lost-of, join-join, join-none, left-none, left-next, left-lost, left-start, start-within}
 use Rattle.charstring.specs.declared.MaskLen.{MaskLen}
 use Rattle.charstring.specs.declared.MaskLen.the-variants.{Own, Given}
 use Rattle.charstring.specs.declared.Token.{Token}
@@ -106,11 +104,11 @@ module _ (given : ℕ → MaskLen) (s : List ℕ) (b : Octets s) where
             rest = w .rest ∙ ap (join done) (left-next given s b c (w .within) m t d n) ∙ sym (join-join done (told s t ∷ []) (tokensFrom (fuelOf s d) given s d));
           }
 
-      pub walk-cut : r ≡ Lost → tokensOf given s ≡ bad
+      pub walk-cut : r ≡ Lost → tokensOf given s ≡ none
       walk-cut f = w .rest ∙ ap (join done) (left-lost given s b c (w .within) m (lost-of s c (given (c .at - 1)) r here f))
 
-    pub walk-end : more s c ≡ false → tokensOf given s ≡ tokens done
-    walk-end m = w .rest ∙ ap (join done) (left-none given s b c m) ∙ ap tokens (append-nil done)
+    pub walk-end : more s c ≡ false → tokensOf given s ≡ some done
+    walk-end m = w .rest ∙ ap (join done) (left-none given s b c m) ∙ ap some (append-nil done)
 
 -- ---- measuring: the length so far is that of the tokens done
 pub record Measuring (given : ℕ → MaskLen) (s : List ℕ) (c : Cursor) (len : ℕ) : Type 0 where
@@ -125,9 +123,9 @@ pub record Writing (given : ℕ → MaskLen) (s old : List ℕ) (to : ℕ) (c : 
   pub walk : Walk given s c done
   pub wrote : Wrote old to (encode done) new p
 
-whole-length : (done : List Tok) (x : Body) → isWhole (join done x) ≡ true → length (encode done) ≤ length (bodyBytes (join done x))
-whole-length done bad e = absurd (false≢true e)
-whole-length done (tokens us) e = rw (encode-append, length-append) (omega arith)
+whole-length : (done : List Tok) (x : Option (List Tok)) → isWhole (join done x) ≡ true → length (encode done) ≤ length (bodyBytes (join done x))
+whole-length done none e = absurd (false≢true e)
+whole-length done (some us) e = rw (encode-append, length-append) (omega arith)
 
 module _ (given : ℕ → MaskLen) (s : List ℕ) (b : Octets s) where
   pub measuring-start : (c : Cursor) → c ≡ start → Measuring given s c 0
@@ -145,7 +143,7 @@ module _ (given : ℕ → MaskLen) (s : List ℕ) (b : Octets s) where
   pub done-length : (c : Cursor) (done : List Tok) → Walk given s c done → isWhole (tokensOf given s) ≡ true
       → length (encode done) ≤ length (bodyBytes (tokensOf given s))
   done-length c done w e =
-      subst (λ (x : Body). length (encode done) ≤ length (bodyBytes x)) (sym (w .rest))
+      subst (λ (x : Option (List Tok)). length (encode done) ≤ length (bodyBytes x)) (sym (w .rest))
       (whole-length done (tokensFrom (fuelOf s c) given s c) (ap isWhole (sym (w .rest)) ∙ e))
 
   pub written-end : (old : List ℕ) (to : ℕ) (c : Cursor) (new : List ℕ) (p : ℕ) → Writing given s old to c new p → more s c ≡ false
@@ -191,25 +189,25 @@ module _ (given : ℕ → MaskLen) (s : List ℕ) (b : Octets s) where
 
 -- ---- a body measured, and then written or not
 module _ (old : List ℕ) (to : ℕ) where
-  pub recoded-cut : (x : Body) (r : Measured) → r ≡ measuredOf x → r ≡ Unread → Recodes old to x old Cut
-  recoded-cut bad r e f = record { answer = refl; leaves = refl }
-  recoded-cut (tokens ts) r e f = absurd (let z : _≡_ {A = ℕ} 0 1 = cc in (let y : ⊥ = omega arith in y))
+  pub recoded-cut : (x : Option (List Tok)) (r : Measured) → r ≡ measuredOf x → r ≡ Unread → Recodes old to x old Cut
+  recoded-cut none r e f = record { answer = refl; leaves = refl }
+  recoded-cut (some ts) r e f = absurd (let z : _≡_ {A = ℕ} 0 1 = cc in (let y : ⊥ = omega arith in y))
 
-  pub measured-whole : (x : Body) (r : Measured) (n : ℕ) → r ≡ measuredOf x → r ≡ Length n → (isWhole x ≡ true) × (n ≡ length (bodyBytes x))
-  measured-whole bad r n e f = absurd (let z : _≡_ {A = ℕ} 0 1 = cc in (let y : ⊥ = omega arith in y))
-  measured-whole (tokens ts) r n e f = (refl, let k : length (encode ts) ≡ n = cc in sym k)
+  pub measured-whole : (x : Option (List Tok)) (r : Measured) (n : ℕ) → r ≡ measuredOf x → r ≡ Length n → (isWhole x ≡ true) × (n ≡ length (bodyBytes x))
+  measured-whole none r n e f = absurd (let z : _≡_ {A = ℕ} 0 1 = cc in (let y : ⊥ = omega arith in y))
+  measured-whole (some ts) r n e f = (refl, let k : length (encode ts) ≡ n = cc in sym k)
 
-  pub recoded-full : (x : Body) (r : Measured) (n : ℕ) → r ≡ measuredOf x → r ≡ Length n → length old < to + n → Recodes old to x old Full
-  recoded-full bad r n e f h = absurd (let z : _≡_ {A = ℕ} 0 1 = cc in (let y : ⊥ = omega arith in y))
-  recoded-full (tokens ts) r n e f h =
+  pub recoded-full : (x : Option (List Tok)) (r : Measured) (n : ℕ) → r ≡ measuredOf x → r ≡ Length n → length old < to + n → Recodes old to x old Full
+  recoded-full none r n e f h = absurd (let z : _≡_ {A = ℕ} 0 1 = cc in (let y : ⊥ = omega arith in y))
+  recoded-full (some ts) r n e f h =
       let k : length (encode ts) ≡ n = cc in
       let l : length old < to + length (encode ts) = omega arith in
       record { answer = rw (lt-leb (to + length (encode ts)) (length old) l); leaves = rw (lt-leb (to + length (encode ts)) (length old) l) }
 
-  pub recoded-done : (x : Body) (new : List ℕ) (q : ℕ) → isWhole x ≡ true → to + length (bodyBytes x) ≤ length old → Wrote old to (bodyBytes x) new q
+  pub recoded-done : (x : Option (List Tok)) (new : List ℕ) (q : ℕ) → isWhole x ≡ true → to + length (bodyBytes x) ≤ length old → Wrote old to (bodyBytes x) new q
       → Recodes old to x new (Done q)
-  recoded-done bad new q h l w = absurd (false≢true h)
-  recoded-done (tokens ts) new q h l w =
+  recoded-done none new q h l w = absurd (false≢true h)
+  recoded-done (some ts) new q h l w =
       record {
         answer = rw (le-leb (to + length (encode ts)) (length old) l) (ap Done (w .behind));
         leaves = rw (le-leb (to + length (encode ts)) (length old) l) (w .is);

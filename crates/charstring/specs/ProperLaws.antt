@@ -1,8 +1,9 @@
 -- What is read from a body is a proper list of tokens, so that it reads back once it is written.
-use Prim.Native.Nat.{ℕ, zero, suc, _+_, _-_, _*_, _≤_, _<_}
+use Prim.Native.Nat.{ℕ, zero, suc, _-_, _*_, _≤_, _<_}
 use mathlib.Core.Path.{_≡_, refl, sym, ap, _∙_, subst}
-use mathlib.Core.Bool.{Bool, true, false, true≢false, false≢true}
-use mathlib.Core.List.{List, [], _∷_, _++_}
+use mathlib.Core.Bool.{Bool, true, false, true≢false}
+use mathlib.Core.List.{List, [], _∷_}
+use mathlib.Core.Option.{Option, none, some}
 use native.Mathlib.Omega.{arith}
 use lib.Dec.{ltb, eqb}
 use lib.ListN.{length, take, drop, getD}
@@ -12,11 +13,10 @@ use Rattle.octets.specs.Octets.{Octets}
 use Rattle.type2_number.specs.Number.{Read, cut, operator, number, numberAt, Reading}
 use Rattle.type2_number.specs.NumberLaws.{OperatorByte, operator-byte}
 use Rattle.type2_number.specs.Readings.{ReadingRead, reading-at}
-use Rattle.charstring.specs.Token.{Tok, num, op, esc, mask, isMask, maskLen, Lexeme, lost, gotNum, gotOp, gotEsc, gotMask, maskAt, operatorAt, plainAt, tokenAt, Body, bad, tokens, join, onward, more, tokensFrom, tokensOf, start}
+use Rattle.charstring.specs.Token.{Tok, num, op, esc, mask, isMask, maskLen, Lexeme, lost, gotNum, gotOp, gotEsc, gotMask, maskAt, operatorAt, plainAt, tokenAt, join, onward, more, tokensFrom, tokensOf, start}
 use Rattle.charstring.specs.Encode.{encode}
 use Rattle.charstring.specs.Answers.{Within}
 use Rattle.charstring.specs.Proper.{OneByte, Proper, lengthsOf}
-use Rattle.charstring.specs.TokenLaws.{byte-left}
 use Rattle.charstring.specs.TokensLaws.{bit, fuelOf, Fine, fine, start-within}
 use Rattle.charstring.specs.TokensRound.{lengths-back}
 use Rattle.charstring.specs.declared.MaskLen.{MaskLen}
@@ -63,13 +63,13 @@ module _ (s : List ℕ) (octets : Octets s) (c : Cursor) where
       (kind-plain (numberAt s (c .at)) refl (reading-at s (c .at) octets))
 
 -- a token before the others
-join-tokens : (t : Tok) (x : Body) (ts : List Tok) → join (t ∷ []) x ≡ tokens ts → (us : List Tok) × (x ≡ tokens us) × (t ∷ us ≡ ts)
-join-tokens t bad ts e = absurd (no cc)
-join-tokens t (tokens us) ts e = (us, refl, cc)
+join-tokens : (t : Tok) (x : Option (List Tok)) (ts : List Tok) → join (t ∷ []) x ≡ some ts → (us : List Tok) × (x ≡ some us) × (t ∷ us ≡ ts)
+join-tokens t none ts e = absurd (no cc)
+join-tokens t (some us) ts e = (us, refl, cc)
 
-module _ (s : List ℕ) (c : Cursor) (rest : Cursor → Body)
-    (ih : (x : Cursor) → Within s x → fuelOf s x < fuelOf s c → (us : List Tok) → rest x ≡ tokens us → Proper (x .due) us) where
-  proper-onward : (d : Bool) (q : Lexeme) → Kind d q → Fine s c q → (ts : List Tok) → onward s q rest ≡ tokens ts → Proper d ts
+module _ (s : List ℕ) (c : Cursor) (rest : Cursor → Option (List Tok))
+    (ih : (x : Cursor) → Within s x → fuelOf s x < fuelOf s c → (us : List Tok) → rest x ≡ some us → Proper (x .due) us) where
+  proper-onward : (d : Bool) (q : Lexeme) → Kind d q → Fine s c q → (ts : List Tok) → onward s q rest ≡ some ts → Proper d ts
   unfolding Kind
   proper-onward d lost k f ts e = absurd (no cc)
   proper-onward true (gotNum z x) k f ts e = absurd k
@@ -90,31 +90,31 @@ module _ (s : List ℕ) (c : Cursor) (rest : Cursor → Body)
       subst (Proper true) (j .2) (subst (λ (y : Bool). Proper y (j .0)) k (ih x (f .1 .within) (f .1 .shorter) (j .0) (j .1)))
 
 module _ (given : ℕ → MaskLen) (s : List ℕ) (octets : Octets s) where
-  none : (c : Cursor) (d : Bool) → c .due ≡ d → bit d ≤ 0 → (ts : List Tok) → tokens [] ≡ tokens ts → Proper d ts
-  none c true e h ts f = absurd (no (omega arith))
-  none c false e h ts f = let g : [] ≡ ts = cc in subst (Proper false) g tt
+  proper-none : (c : Cursor) (d : Bool) → c .due ≡ d → bit d ≤ 0 → (ts : List Tok) → some [] ≡ some ts → Proper d ts
+  proper-none c true e h ts f = absurd (no (omega arith))
+  proper-none c false e h ts f = let g : [] ≡ ts = cc in subst (Proper false) g tt
 
   turn : (k : ℕ) (c : Cursor) → Within s c
-      → ((x : Cursor) → Within s x → fuelOf s x < fuelOf s c → (us : List Tok) → tokensFrom k given s x ≡ tokens us → Proper (x .due) us)
-      → (m : Bool) → more s c ≡ m → (d : Bool) → c .due ≡ d → (ts : List Tok) → tokensFrom (suc k) given s c ≡ tokens ts → Proper d ts
+      → ((x : Cursor) → Within s x → fuelOf s x < fuelOf s c → (us : List Tok) → tokensFrom k given s x ≡ some us → Proper (x .due) us)
+      → (m : Bool) → more s c ≡ m → (d : Bool) → c .due ≡ d → (ts : List Tok) → tokensFrom (suc k) given s c ≡ some ts → Proper d ts
   unfolding tokensFrom
   turn k c w ih true m d e ts f =
       proper-onward s c (tokensFrom k given s) ih d (tokenAt s (given (c .at - 1)) c) (kind s octets c (given (c .at - 1)) d e)
       (fine s c w octets (given (c .at - 1)) m) ts (rw m at f)
   turn k c w ih false m true e ts f = absurd (true≢false (sym (ap (λ (x : Bool). pick x true (ltb (c .at) (length s))) e) ∙ m))
-  turn k c w ih false m false e ts f = none c false e (omega arith) ts (rw m at f)
+  turn k c w ih false m false e ts f = proper-none c false e (omega arith) ts (rw m at f)
 
-  proper-from : (k : ℕ) (c : Cursor) → Within s c → fuelOf s c ≤ k → (d : Bool) → c .due ≡ d → (ts : List Tok) → tokensFrom k given s c ≡ tokens ts → Proper d ts
+  proper-from : (k : ℕ) (c : Cursor) → Within s c → fuelOf s c ≤ k → (d : Bool) → c .due ≡ d → (ts : List Tok) → tokensFrom k given s c ≡ some ts → Proper d ts
   unfolding tokensFrom
-  proper-from zero c w h d e ts f = none c d e (let g : bit (c .due) ≡ bit d = ap bit e in omega arith) ts f
+  proper-from zero c w h d e ts f = proper-none c d e (let g : bit (c .due) ≡ bit d = ap bit e in omega arith) ts f
   proper-from (suc k) c w h d e ts f =
       turn k c w (λ x v l us g. proper-from k x v (omega arith) (x .due) refl us g) (more s c) refl d e ts f
 
   -- the tokens of a body are proper
-  pub tokens-proper : (ts : List Tok) → tokensOf given s ≡ tokens ts → Proper false ts
+  pub tokens-proper : (ts : List Tok) → tokensOf given s ≡ some ts → Proper false ts
   unfolding tokensOf
   tokens-proper ts e = proper-from (2 * length s) start (start-within given s octets) (omega arith) false refl ts e
 
   -- and so, once written back, a body has the tokens it had
-  pub recoded-tokens : (ts : List Tok) → tokensOf given s ≡ tokens ts → tokensOf (lengthsOf 0 ts) (encode ts) ≡ tokens ts
+  pub recoded-tokens : (ts : List Tok) → tokensOf given s ≡ some ts → tokensOf (lengthsOf 0 ts) (encode ts) ≡ some ts
   recoded-tokens ts e = lengths-back ts (tokens-proper ts e)

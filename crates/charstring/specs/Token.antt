@@ -3,6 +3,7 @@
 use Prim.Native.Nat.{ℕ, zero, suc, _+_, _-_, _*_, _/_}
 use mathlib.Core.Bool.{Bool, true, false}
 use mathlib.Core.List.{List, [], _∷_, _++_}
+use mathlib.Core.Option.{Option, none, some}
 use lib.ListN.{length, take, drop, getD}
 use lib.Dec.{ltb, eqb}
 use lib.IntN.{ℤ}
@@ -65,18 +66,14 @@ plainAt s c operator = operatorAt s c (getD s (c .at) 0)
 unfoldable pub tokenAt : List ℕ → MaskLen → Cursor → Lexeme
 tokenAt s len c = pick (c .due) (maskAt s c (maskLen len (c .stems))) (plainAt s c (numberAt s (c .at)))
 
--- a body's tokens, or that it is cut off in one
-pub data Body : Type 0 where
-  bad : Body
-  tokens : List Tok → Body
-
-abbrev pub join : List Tok → Body → Body
-join ts bad = bad
-join ts (tokens us) = tokens (ts ++ us)
+-- tokens before those of what follows, or none where it is cut off in one
+abbrev pub join : List Tok → Option (List Tok) → Option (List Tok)
+join ts none = none
+join ts (some us) = some (ts ++ us)
 
 -- a token and what follows it
-abbrev pub onward : List ℕ → Lexeme → (Cursor → Body) → Body
-onward s lost rest = bad
+abbrev pub onward : List ℕ → Lexeme → (Cursor → Option (List Tok)) → Option (List Tok)
+onward s lost rest = none
 onward s (gotNum z c) rest = join (num z ∷ []) (rest c)
 onward s (gotOp b c) rest = join (op b ∷ []) (rest c)
 onward s (gotEsc b c) rest = join (esc b ∷ []) (rest c)
@@ -87,15 +84,15 @@ abbrev pub more : List ℕ → Cursor → Bool
 more s c = pick (c .due) true (ltb (c .at) (length s))
 
 -- the tokens from a cursor on, at most k of them; `given` answers a mask operator's offset
-unfoldable pub tokensFrom : ℕ → (ℕ → MaskLen) → List ℕ → Cursor → Body
-tokensFrom zero given s c = tokens []
-tokensFrom (suc k) given s c = pick (more s c) (onward s (tokenAt s (given (c .at - 1)) c) (tokensFrom k given s)) (tokens [])
+unfoldable pub tokensFrom : ℕ → (ℕ → MaskLen) → List ℕ → Cursor → Option (List Tok)
+tokensFrom zero given s c = some []
+tokensFrom (suc k) given s c = pick (more s c) (onward s (tokenAt s (given (c .at - 1)) c) (tokensFrom k given s)) (some [])
 
 abbrev pub start : Cursor
 start = record { at = 0; args = 0; stems = 0; due = false }
 
 -- the tokens of a body: each but a mask has a byte of its own, and a mask its operator's, so that twice the length is enough
-unfoldable pub tokensOf : (ℕ → MaskLen) → List ℕ → Body
+unfoldable pub tokensOf : (ℕ → MaskLen) → List ℕ → Option (List Tok)
 tokensOf given s = tokensFrom (2 * length s) given s start
 
 -- the first of a list of pairs, offset and length, that has the offset

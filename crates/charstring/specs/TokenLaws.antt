@@ -1,10 +1,10 @@
 -- Laws of one token: what a step answers, by the cases in which the code takes it, and a token by its constructor.
-use Prim.Native.Nat.{ℕ, _+_, _-_, _/_, _%_, _≤_, _<_}
+use Prim.Native.Nat.{ℕ, _+_, _/_, _%_, _≤_, _<_}
 use mathlib.Core.Path.{_≡_, refl, sym, ap, _∙_, subst}
-use mathlib.Core.Bool.{Bool, true, false, true≢false}
+use mathlib.Core.Bool.{Bool, true, false}
 use mathlib.Core.List.{List}
 use native.Mathlib.Omega.{arith}
-use lib.Dec.{ltb, eqb}
+use lib.Dec.{ltb}
 use lib.IntN.{ℤ}
 use lib.Ieee.{Float}
 use lib.ListN.{length, drop, getD, length-drop}
@@ -13,11 +13,11 @@ use borrow.Author.Tests.{ltb-true}
 use Rattle.octets.specs.Pick.{pick}
 use Rattle.octets.specs.Octets.{Wrote}
 use Rattle.type2_number.specs.Number.{Read, cut, operator, number, numberAt}
-use Rattle.type2_number.specs.Floats.{floatOf, scaledOf, HoldsReading, numberOf}
+use Rattle.type2_number.specs.Floats.{floatOf, numberOf}
 use Rattle.type2_number.specs.declared.Number.{Number}
 use Rattle.type2_number.specs.declared.Number.the-variants.{Num as NumAt, Cut, Operator}
 use Rattle.charstring.specs.Token.{maskLen, maskAt, operatorAt, plainAt, tokenAt, more}
-use Rattle.charstring.specs.Answers.{stepOf, told, tokenBytes, tokenLen, Measurable, Writable}
+use Rattle.charstring.specs.Answers.{stepOf, tokenBytes, tokenLen, Measurable, Writable}
 use Rattle.charstring.specs.declared.MaskLen.{MaskLen}
 use Rattle.charstring.specs.declared.MaskLen.the-variants.{Own}
 use Rattle.charstring.specs.declared.Token.{Token}

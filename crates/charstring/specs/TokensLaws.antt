@@ -1,13 +1,14 @@
 -- A body token by token: a step goes further on, what is left of a walk, and where a walk ends.
 use Prim.Native.Nat.{ℕ, zero, suc, _+_, _-_, _*_, _/_, _≤_, _<_}
 use mathlib.Core.Path.{_≡_, refl, sym, ap, _∙_, subst}
-use mathlib.Core.Bool.{Bool, true, false, true≢false, false≢true}
-use mathlib.Core.List.{List, [], _∷_, _++_, append-assoc, append-nil}
+use mathlib.Core.Bool.{Bool, true, false, false≢true}
+use mathlib.Core.List.{List, [], _∷_, _++_, append-assoc}
+use mathlib.Core.Option.{Option, none, some}
 use native.Mathlib.Omega.{arith}
 use lib.Dec.{ltb, eqb}
 use lib.IntN.{ℤ}
 use lib.ListN.{length, take, drop, getD}
-use borrow.Author.Tests.{ltb-true, ltb-false}
+use borrow.Author.Tests.{ltb-false}
 use Rattle.octets.specs.Pick.{pick, pick-ind}
 use Rattle.octets.specs.Octets.{Octets}
 use Rattle.type2_number.specs.Number.{mag, isNeg, Read, cut, operator, number, numberAt, Reading}
@@ -15,7 +16,7 @@ use Rattle.type2_number.specs.NumberLaws.{Further, further}
 use Rattle.type2_number.specs.Readings.{ReadingRead, reading-at, back-reading, holds}
 use Rattle.type2_number.specs.EncodingLaws.{number-short}
 use Rattle.type2_number.specs.Floats.{floatOf, scaledOf}
-use Rattle.charstring.specs.Token.{Tok, num, op, esc, mask, isMask, isStem, stemsAfter, maskLen, Lexeme, lost, gotNum, gotOp, gotEsc, gotMask, maskAt, operatorAt, plainAt, tokenAt, Body, bad, tokens, join, onward, more, tokensFrom, tokensOf, start}
+use Rattle.charstring.specs.Token.{Tok, num, op, esc, mask, isMask, isStem, stemsAfter, maskLen, Lexeme, lost, gotNum, gotOp, gotEsc, gotMask, maskAt, operatorAt, plainAt, tokenAt, join, onward, more, tokensFrom, tokensOf, start}
 use Rattle.charstring.specs.Answers.{stepOf, told, tokenLen, Writable, Within}
 use Rattle.charstring.specs.TokenLaws.{byte-left}
 use Rattle.charstring.specs.declared.MaskLen.{MaskLen}
@@ -46,7 +47,7 @@ pub record Moves (s : List ℕ) (c d : Cursor) (bytes : ℕ) : Type 0 where
 pub record Next (s : List ℕ) (c : Cursor) (q : Lexeme) (t : Token) (d : Cursor) : Type 0 where
   pub moves : Moves s c d (tokenLen t)
   pub writable : Writable s t
-  pub goes : (rest : Cursor → Body) → onward s q rest ≡ join (told s t ∷ []) (rest d)
+  pub goes : (rest : Cursor → Option (List Tok)) → onward s q rest ≡ join (told s t ∷ []) (rest d)
 
 -- what holds of a lexeme: its number is a reading, its mask lies in the body, and the cursor after it is further on
 abbrev pub Fine : List ℕ → Cursor → Lexeme → Type 0
@@ -160,15 +161,15 @@ lost-of s c len r e f = lost-is (tokenAt s len c) (sym e ∙ f)
 
 -- ---- enough is enough
 
-pub join-join : (ts us : List Tok) (b : Body) → join (ts ++ us) b ≡ join ts (join us b)
-join-join ts us bad = refl
-join-join ts us (tokens vs) = ap tokens (append-assoc ts us vs)
+pub join-join : (ts us : List Tok) (b : Option (List Tok)) → join (ts ++ us) b ≡ join ts (join us b)
+join-join ts us none = refl
+join-join ts us (some vs) = ap some (append-assoc ts us vs)
 
-pub join-none : (b : Body) → join [] b ≡ b
-join-none bad = refl
-join-none (tokens ts) = refl
+pub join-none : (b : Option (List Tok)) → join [] b ≡ b
+join-none none = refl
+join-none (some ts) = refl
 
-same-onward : (s : List ℕ) (c : Cursor) (q : Lexeme) → Fine s c q → (f g : Cursor → Body)
+same-onward : (s : List ℕ) (c : Cursor) (q : Lexeme) → Fine s c q → (f g : Cursor → Option (List Tok))
     → ((d : Cursor) → Within s d → fuelOf s d < fuelOf s c → f d ≡ g d) → onward s q f ≡ onward s q g
 same-onward s c lost h f g e = refl
 same-onward s c (gotNum z d) h f g e = ap (join (num z ∷ [])) (e d (h .1 .within) (h .1 .shorter))
@@ -182,7 +183,7 @@ some-fuel s c true e m = let k : bit (c .due) ≡ 1 = ap bit e in omega arith
 some-fuel s c false e m = let h = byte-left s c e m in omega arith
 
 module _ (given : ℕ → MaskLen) (s : List ℕ) (b : Octets s) where
-  none-left : (k : ℕ) (c : Cursor) → more s c ≡ false → tokensFrom k given s c ≡ tokens []
+  none-left : (k : ℕ) (c : Cursor) → more s c ≡ false → tokensFrom k given s c ≡ some []
   unfolding tokensFrom
   none-left zero c e = refl
   none-left (suc k) c e = rw e
@@ -205,10 +206,10 @@ module _ (given : ℕ → MaskLen) (s : List ℕ) (b : Octets s) where
   enough (suc k) (suc j) c w p q = more-turn k j c w (λ d v l. enough k j d v (omega arith) (omega arith)) (more s c) refl
 
   -- the tokens from a cursor on, with as much fuel as it can need
-  abbrev pub leftFrom : Cursor → Body
+  abbrev pub leftFrom : Cursor → Option (List Tok)
   leftFrom c = tokensFrom (fuelOf s c) given s c
 
-  pub left-none : (c : Cursor) → more s c ≡ false → leftFrom c ≡ tokens []
+  pub left-none : (c : Cursor) → more s c ≡ false → leftFrom c ≡ some []
   left-none c e = none-left (fuelOf s c) c e
 
   turned : (k : ℕ) (c : Cursor) → more s c ≡ true → tokensFrom (suc k) given s c ≡ onward s (tokenAt s (given (c .at - 1)) c) (tokensFrom k given s)
@@ -225,7 +226,7 @@ module _ (given : ℕ → MaskLen) (s : List ℕ) (b : Octets s) where
       left-turn c w e ∙ n .goes (tokensFrom (fuelOf s c) given s)
       ∙ ap (join (told s t ∷ [])) (enough (fuelOf s c) (fuelOf s d) d (n .moves .within) (omega (arith, n .moves .shorter)) (omega arith))
 
-  pub left-lost : (c : Cursor) → Within s c → more s c ≡ true → tokenAt s (given (c .at - 1)) c ≡ lost → leftFrom c ≡ bad
+  pub left-lost : (c : Cursor) → Within s c → more s c ≡ true → tokenAt s (given (c .at - 1)) c ≡ lost → leftFrom c ≡ none
   left-lost c w e f = left-turn c w e ∙ ap (λ (q : Lexeme). onward s q (tokensFrom (fuelOf s c) given s)) f
 
   pub start-within : Within s start

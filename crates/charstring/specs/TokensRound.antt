@@ -1,30 +1,29 @@
 -- Writing and reading fit together: tokens that were written read as the same tokens, masks by their bytes; and what was read from
 -- a body is such a list.
 use Prim.Native.Nat.{ℕ, zero, suc, _+_, _-_, _*_, _≤_, _<_}
-use mathlib.Core.Path.{_≡_, refl, sym, ap, _∙_, subst}
-use mathlib.Core.Bool.{Bool, true, false, true≢false, false≢true}
+use mathlib.Core.Path.{_≡_, refl, sym, ap, _∙_}
+use mathlib.Core.Bool.{Bool, true, false, false≢true}
 use mathlib.Core.List.{List, [], _∷_, _++_}
+use mathlib.Core.Option.{some}
 use native.Mathlib.Nat.{not-suc-le-zero}
 use native.Mathlib.Omega.{arith}
 use lib.Dec.{ltb, eqb}
-use lib.IntN.{ℤ}
 use lib.ListN.{length, take, drop, getD, length-append, length-drop}
 use lib.Seq.{drop-drop, take-at, drop-at}
 use borrow.Author.Tests.{lt-ltb, le-ltb, eq-eqb, ne-eqb}
 use Rattle.octets.specs.Pick.{pick}
-use Rattle.octets.specs.Octets.{Octets}
 use Rattle.octets.specs.ListLaws.{lies-at, lies-first}
-use Rattle.type2_number.specs.Number.{mag, isNeg, Read, cut, operator, number, numberAt, Reading}
+use Rattle.type2_number.specs.Number.{mag, isNeg, Read, operator, number, numberAt}
 use Rattle.type2_number.specs.Encoding.{encoded}
 use Rattle.type2_number.specs.EncodingLaws.{number-short}
-use Rattle.type2_number.specs.NumberLaws.{form-op, operator-byte}
+use Rattle.type2_number.specs.NumberLaws.{form-op}
 use Rattle.type2_number.specs.NumberRound.{number-back}
-use Rattle.charstring.specs.Token.{Tok, num, op, esc, mask, isMask, stemsAfter, maskLen, Lexeme, lost, gotNum, gotOp, gotEsc, gotMask, maskAt, operatorAt, plainAt, tokenAt, Body, bad, tokens, join, onward, more, tokensFrom, tokensOf, start}
+use Rattle.charstring.specs.Token.{Tok, num, op, esc, mask, isMask, stemsAfter, maskLen, Lexeme, gotOp, gotEsc, gotMask, maskAt, operatorAt, plainAt, tokenAt, join, onward, more, tokensFrom, tokensOf, start}
 use Rattle.charstring.specs.Encode.{tokBytes, encode}
-use Rattle.charstring.specs.Proper.{OneByte, Proper, lengthsOf, Gives}
+use Rattle.charstring.specs.Proper.{Proper, lengthsOf, Gives}
 use Rattle.charstring.specs.TokensLaws.{bit}
 use Rattle.charstring.specs.declared.MaskLen.{MaskLen}
-use Rattle.charstring.specs.declared.MaskLen.the-variants.{Own, Given}
+use Rattle.charstring.specs.declared.MaskLen.the-variants.{Given}
 use Rattle.charstring.specs.declared.Cursor.{Cursor}
 
 module _ (given : ℕ → MaskLen) (b : List ℕ) where
@@ -32,7 +31,7 @@ module _ (given : ℕ → MaskLen) (b : List ℕ) where
   unfolding tokensFrom
   turned k c q m e = rw m (ap (λ (x : Lexeme). onward b x (tokensFrom k given b)) e)
 
-  ended : (k : ℕ) (c : Cursor) → more b c ≡ false → tokensFrom k given b c ≡ tokens []
+  ended : (k : ℕ) (c : Cursor) → more b c ≡ false → tokensFrom k given b c ≡ some []
   unfolding tokensFrom
   ended zero c m = refl
   ended (suc k) c m = rw m
@@ -60,7 +59,7 @@ module _ (given : ℕ → MaskLen) (b : List ℕ) where
 
   -- the tokens of bytes that tokens were written to, from a cursor on
   back : (k : ℕ) (c : Cursor) (ts : List Tok) (d : Bool) → c .due ≡ d → Proper d ts → Gives given (c .at) ts → drop (c .at) b ≡ encode ts → length ts ≤ k
-      → tokensFrom k given b c ≡ tokens ts
+      → tokensFrom k given b c ≡ some ts
   unfolding encode
   back k c [] true e p g lies h = absurd p
   back k c [] false e p g lies h =
@@ -129,7 +128,7 @@ few false (mask bs ∷ ts) p = absurd p
 few true (mask bs ∷ ts) p = let h = few false ts p in rw length-append (omega arith)
 
 -- THE THEOREM: tokens that were written read as the same tokens, where each mask's length is given for its operator's new place
-pub tokens-back : (given : ℕ → MaskLen) (ts : List Tok) → Proper false ts → Gives given 0 ts → tokensOf given (encode ts) ≡ tokens ts
+pub tokens-back : (given : ℕ → MaskLen) (ts : List Tok) → Proper false ts → Gives given 0 ts → tokensOf given (encode ts) ≡ some ts
 unfolding tokensOf
 tokens-back given ts p g = let h = few false ts p in back given (encode ts) (2 * length (encode ts)) start ts false refl p g refl (omega arith)
 
@@ -174,5 +173,5 @@ lengths-give at true (mask bs ∷ ts) p z =
           (lengths-give (at + length bs) false ts p (λ q. absurd (false≢true q))),
     )
 
-pub lengths-back : (ts : List Tok) → Proper false ts → tokensOf (lengthsOf 0 ts) (encode ts) ≡ tokens ts
+pub lengths-back : (ts : List Tok) → Proper false ts → tokensOf (lengthsOf 0 ts) (encode ts) ≡ some ts
 lengths-back ts p = tokens-back (lengthsOf 0 ts) ts p (lengths-give 0 false ts p (λ q. absurd (false≢true q)))

@@ -1,6 +1,6 @@
 -- Stored cases of one number (tools/oracle/README.md, 'Lines'): the answer to the input of a kind n, i, f or b, from the definitions that
 -- the proved functions meet. An input that is not of its kind's form has none, and its line then counts as failed.
-use Prim.Native.Nat.{ℕ, _+_}
+use Prim.Native.Nat.{ℕ}
 use mathlib.Core.List.{List, [], _∷_, _++_}
 use mathlib.Core.Option.{Option, none, some}
 use lib.Dec.{ltb, leb, eqb}

@@ -13,7 +13,7 @@ use Rattle.octets.specs.Pick.{pick}
 use Rattle.octets.specs.Octets.{Octets, put, Wrote}
 use Rattle.octets.specs.PutLaws.{wrote-then, wrote-length}
 use Rattle.type2_number.specs.Floats.{floatOf, scaledOf}
-use Rattle.charstring.specs.Token.{Tok, num, Lexeme, lost, gotNum, gotOp, gotEsc, gotMask, tokenAt, Body, bad, tokens, join, onward, more, tokensFrom, tokensOf, start}
+use Rattle.charstring.specs.Token.{Tok, num, Lexeme, lost, gotNum, gotOp, gotEsc, gotMask, tokenAt, join, onward, more, tokensFrom, tokensOf, start}
 use Rattle.charstring.specs.Encode.{tokBytes, encode, bodyBytes}
 use Rattle.charstring.specs.Answers.{stepOf, told, Within, givenAt, Recodes}
 use Rattle.charstring.specs.TokenLaws.{byte-left, token-length as length-told}
@@ -48,7 +48,7 @@ ahead-ahead a b (some bs) = ap some (sym (append-assoc a b bs))
 
 -- ---- one token
 
-only : (u v : Tok) → _≡_ {A = Body} (tokens (u ∷ [])) (tokens (v ∷ [])) → u ≡ v
+only : (u v : Tok) → _≡_ {A = Option (List Tok)} (some (u ∷ [])) (some (v ∷ [])) → u ≡ v
 only u v e = cc
 
 -- the token that the code has, for the lexeme that stands there
@@ -58,7 +58,7 @@ listed-token s c lost t d n e rest = absurd (no cc)
 listed-token s c (gotNum z x) t d n e rest =
     let f : t ≡ Num (floatOf z) = cc in
     let g : x ≡ d = cc in
-    let h : num z ≡ told s t = only (num z) (told s t) (n .goes (λ y. tokens [])) in
+    let h : num z ≡ told s t = only (num z) (told s t) (n .goes (λ y. some [])) in
     let i : num z ≡ num (scaledOf (floatOf z)) = h ∙ ap (told s) f in
     let k : z ≡ scaledOf (floatOf z) = cc in
     ap (λ (y : _). ahead (1 ∷ countBytes y) (rest x)) k ∙ ap (λ (y : Token). ahead (tokenBytes y) (rest x)) (sym f) ∙ ap (λ (y : Cursor). ahead (tokenBytes t) (rest y)) g
@@ -182,10 +182,10 @@ step-or-lost (gotOp b d) = inr (Op b, d, refl)
 step-or-lost (gotEsc b d) = inr (Esc b, d, refl)
 step-or-lost (gotMask a n d) = inr (Mask a n, d, refl)
 
-join-length : (u : Tok) (x : Body) → length (bodyBytes (join (u ∷ []) x)) ≤ length (tokBytes u) + length (bodyBytes x)
+join-length : (u : Tok) (x : Option (List Tok)) → length (bodyBytes (join (u ∷ []) x)) ≤ length (tokBytes u) + length (bodyBytes x)
 unfolding encode
-join-length u bad = omega arith
-join-length u (tokens us) = rw length-append (omega arith)
+join-length u none = omega arith
+join-length u (some us) = rw length-append (omega arith)
 
 module _ (given : ℕ → MaskLen) (s : List ℕ) (b : Octets s) where
   -- a token takes no more than five bytes for each of its own
@@ -238,18 +238,18 @@ full-is true n e = absurd (no cc)
 full-is false n e = refl
 
 module _ (one : List ℕ) (p : ℕ) where
-  pub recoded-done : (old : List ℕ) → Wrote old 0 (1 ∷ []) one p → (x : Body) (new : List ℕ) (r : Recoded) → Recodes one p x new r
+  pub recoded-done : (old : List ℕ) → Wrote old 0 (1 ∷ []) one p → (x : Option (List Tok)) (new : List ℕ) (r : Recoded) → Recodes one p x new r
       → (q : ℕ) → r ≡ Done q → Starts (recodedBytes x) new q
-  recoded-done old w bad new r z q e = absurd (no (cc (z .answer)))
-  recoded-done old w (tokens ts) new r z q e =
+  recoded-done old w none new r z q e = absurd (no (cc (z .answer)))
+  recoded-done old w (some ts) new r z q e =
       let d = done-is (leb (p + length (encode ts)) (length one)) (p + length (encode ts)) q (put one p (encode ts)) one (sym (z .answer) ∙ e) in
       starts-wrote (wrote-then (omega arith) w (record { is = z .leaves ∙ d .1; behind = sym (d .0) }))
 
-  pub recoded-cut : (x : Body) (new : List ℕ) (r : Recoded) → Recodes one p x new r → r ≡ Cut → 0 ∷ [] ≡ recodedBytes x
-  recoded-cut bad new r z e = refl
-  recoded-cut (tokens ts) new r z e = absurd (never-cut (leb (p + length (encode ts)) (length one)) (p + length (encode ts)) (sym (z .answer) ∙ e))
+  pub recoded-cut : (x : Option (List Tok)) (new : List ℕ) (r : Recoded) → Recodes one p x new r → r ≡ Cut → 0 ∷ [] ≡ recodedBytes x
+  recoded-cut none new r z e = refl
+  recoded-cut (some ts) new r z e = absurd (never-cut (leb (p + length (encode ts)) (length one)) (p + length (encode ts)) (sym (z .answer) ∙ e))
 
-  pub recoded-full : (x : Body) (new : List ℕ) (r : Recoded) → Recodes one p x new r → r ≡ Full → length one < p + length (bodyBytes x)
-  recoded-full bad new r z e = absurd (no (cc (z .answer)))
-  recoded-full (tokens ts) new r z e =
+  pub recoded-full : (x : Option (List Tok)) (new : List ℕ) (r : Recoded) → Recodes one p x new r → r ≡ Full → length one < p + length (bodyBytes x)
+  recoded-full none new r z e = absurd (no (cc (z .answer)))
+  recoded-full (some ts) new r z e =
       leb-false (p + length (encode ts)) (length one) (full-is (leb (p + length (encode ts)) (length one)) (p + length (encode ts)) (sym (z .answer) ∙ e))

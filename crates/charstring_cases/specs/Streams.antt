@@ -10,7 +10,7 @@ use Rattle.octets.specs.Pick.{pick}
 use Rattle.octets.specs.Octets.{numAt, bytesOf}
 use Rattle.type2_number.specs.Number.{cut, operator, number}
 use Rattle.type2_number.specs.Floats.{scaledOf}
-use Rattle.charstring.specs.Token.{Lexeme, lost, gotNum, gotOp, gotEsc, gotMask, tokenAt, more, start, Body, bad, tokens, tokensOf, lookup}
+use Rattle.charstring.specs.Token.{Tok, Lexeme, lost, gotNum, gotOp, gotEsc, gotMask, tokenAt, more, start, tokensOf, lookup}
 use Rattle.charstring.specs.Encode.{encode}
 use Rattle.charstring.specs.declared.MaskLen.{MaskLen}
 use Rattle.charstring.specs.declared.Cursor.{Cursor}
@@ -46,9 +46,9 @@ unfoldable pub tokensBytes : (ℕ → MaskLen) → List ℕ → List ℕ
 tokensBytes given s = flagged (listFrom (2 * length s) given s start)
 
 -- kind e: the tokens of a body, written back
-abbrev pub recodedBytes : Body → List ℕ
-recodedBytes bad = 0 ∷ []
-recodedBytes (tokens ts) = 1 ∷ encode ts
+abbrev pub recodedBytes : Option (List Tok) → List ℕ
+recodedBytes none = 0 ∷ []
+recodedBytes (some ts) = 1 ∷ encode ts
 
 -- n numbers of two bytes from p on
 unfoldable pub pairsAt : List ℕ → ℕ → ℕ → List ℕ

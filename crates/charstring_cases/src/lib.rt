@@ -1,8 +1,6 @@
 // What the proved functions answer to the input of a stored case of charstring.rs. An input that is not of its kind's form is Outside, never skipped.
 ghost use Prim.Native.Nat.{_+_, _*_, _≤_};
-ghost use mathlib.Core.Path.{_≡_};
 ghost use lib.ListN.{length};
-ghost use Rattle.octets.specs.Pick.{pick};
 ghost use Rattle.octets.specs.Octets.{Wrote};
 ghost use Rattle.type2_number.specs.Floats.{scaledOf, HoldsReading};
 ghost use Rattle.charstring.specs.Token.{lookup, tokensOf};

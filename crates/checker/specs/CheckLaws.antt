@@ -3,23 +3,23 @@ use Prim.Native.Nat.{ℕ}
 use mathlib.Core.Path.{_≡_, refl, sym, ap, _∙_, subst}
 use mathlib.Core.Bool.{Bool, true, false, not}
 use mathlib.Core.List.{List}
+use mathlib.Core.Option.{Option, none, some}
 use lib.ListN.{length}
 use Rattle.octets.specs.Pick.{pick}
 use Rattle.octets.specs.Octets.{Octets}
 use Rattle.octets.specs.Lists.{allBelow}
 use Rattle.index.specs.IndexLaws.{items-length}
 use Rattle.unfold.specs.Unfold.{Row}
-use Rattle.prune.specs.Bodies.{All, none as noRow}
+use Rattle.prune.specs.Bodies.{All, empty as noRow}
 use Rattle.prune.specs.StepLaws.{zero-one}
 use Rattle.record.specs.Record.{rowsOf, recordFine}
 use Rattle.dict.specs.Lookup.{cidKeyed}
-use Rattle.cff.specs.Font.{Got, refused, got, Program, readFont}
+use Rattle.cff.specs.Font.{Got, refused, Program, readFont}
 use Rattle.cff.specs.Reads.{programOf}
 use Rattle.cff.specs.File.{InFile}
 use Rattle.cff.specs.FileLaws.{table-short}
 use Rattle.cff.specs.declared.font.Font.{Font}
 use Rattle.subset.specs.Kept.{those, keeps, keptOf, usedFds}
-use Rattle.subset.specs.Pruned.{May, fail, yes}
 use Rattle.subset.specs.Cut.{allFound}
 use Rattle.kept.specs.Packed.{Marks, marked}
 use Rattle.kept.specs.OrderLaws.{kept-marked}
@@ -32,7 +32,7 @@ use Rattle.traced.specs.Theorem.{kept-fits}
 use Rattle.tracer.specs.Tracing.{top, Held, metIn, orNone, RowsFit, Plainly, keysIn, sortedIn, Filling, Fills}
 use Rattle.tracer.specs.WindowsLaws.{refill-plain}
 use Rattle.listed.specs.Listed.{rowKeys, allIn}
-use Rattle.accepted.specs.Accepted.{eachRow, listsMet, numberIs, acceptedBy, checkProgram, checkRead, checkOf}
+use Rattle.accepted.specs.Accepted.{eachRow, listsMet, numberIs, acceptedBy, checkRead, checkOf}
 use Rattle.checker.specs.Checking.{Asks}
 use Rattle.checker.specs.AskLaws.{asks-filled}
 use Rattle.checker.specs.KeyLaws.{keys-listed}
@@ -45,18 +45,18 @@ module _ (b : List ℕ) (f : Font) (marks : List ℕ) (fit : RowsFit (metIn b f 
   pub met-broken : a ≡ NotPlain → (rec : List ℕ) → false ≡ listsMet (rowsOf rec) (metIn b f marks)
   met-broken e rec = by (metIn b f marks) (w .says)
     where
-      by : (m : May (List Row)) → Filling m (record { low = 0; high = top }) keys keys' a → false ≡ listsMet (rowsOf rec) m
-      by fail x = refl
-      by (yes rows) x = let k : NotPlain ≡ Plain (x .0) = sym e ∙ x .1 in absurd (zero-one cc)
+      by : (m : Option (List Row)) → Filling m (record { low = 0; high = top }) keys keys' a → false ≡ listsMet (rowsOf rec) m
+      by none x = refl
+      by (some rows) x = let k : NotPlain ≡ Plain (x .0) = sym e ∙ x .1 in absurd (zero-one cc)
 
   -- all are
   module _ (n : ℕ) (e : a ≡ Plain n) where
     pub met-plainly : Plainly b f marks
     met-plainly = record { plain = by (metIn b f marks) (w .says); fits = fit }
       where
-        by : (m : May (List Row)) → Filling m (record { low = 0; high = top }) keys keys' a → m ≡ yes (orNone m)
-        by fail x = let k : Plain n ≡ NotPlain = sym e ∙ x in absurd (zero-one cc)
-        by (yes rows) x = refl
+        by : (m : Option (List Row)) → Filling m (record { low = 0; high = top }) keys keys' a → m ≡ some (orNone m)
+        by none x = let k : Plain n ≡ NotPlain = sym e ∙ x in absurd (zero-one cc)
+        by (some rows) x = refl
 
     pub met-asks : length keys ≡ 65536 → Asks (keysIn b f marks) keys' n 0
     met-asks l = asks-filled (keysIn b f marks) keys keys' n 0 l (refill-plain b f marks met-plainly 0 keys keys' a w n e)
@@ -121,9 +121,9 @@ module _ (file : List ℕ) (f : Font) (b : List ℕ) (octets : Octets file) (hel
   pub table-fits : RowsFit (metAll p (keptOf count keep))
   table-fits = record { fits = by (metAll p (keptOf count keep)) refl }
     where
-      by : (x : May (List Row)) → metAll p (keptOf count keep) ≡ x → All RowFits (orNone x)
-      by fail e = noRow
-      by (yes rows) e = kept-fits file keep 0 octets p (held .is) rows (ap (λ (n : ℕ). metAll p (keptOf n keep)) many ∙ e)
+      by : (x : Option (List Row)) → metAll p (keptOf count keep) ≡ x → All RowFits (orNone x)
+      by none e = noRow
+      by (some rows) e = kept-fits file keep 0 octets p (held .is) rows (ap (λ (n : ℕ). metAll p (keptOf n keep)) many ∙ e)
 
   tested : checkOf file keep rec
       ≡ pick (allBelow count keep) (pick (allFound p (keptOf count keep)) (pick (recordFine (f .cid) rec 1) (pick (acceptedBy p keep rec) 0 14) 8) 7) 6

@@ -1,12 +1,12 @@
 -- Rows by their keys: a record has the keys of rows that are met exactly where it lists these rows.
-use Prim.Native.Nat.{ℕ, _+_, _*_, _≤_, _<_}
+use Prim.Native.Nat.{ℕ, _+_, _*_, _<_}
 use mathlib.Core.Path.{_≡_, refl, sym, ap, _∙_, subst}
 use mathlib.Core.Bool.{Bool, true, false}
 use mathlib.Core.List.{List, [], _∷_, map}
 use mathlib.Core.Logic.{⊎-elim}
 use native.Mathlib.Omega.{arith}
-use borrow.Author.Tests.{le-ltb, eqb-true, eq-eqb, ltb-false}
-use lib.Dec.{ltb, eqb}
+use borrow.Author.Tests.{le-ltb, ltb-false}
+use lib.Dec.{ltb}
 use Rattle.octets.specs.Pick.{pick}
 use Rattle.octets.specs.PickLaws.{both-hold}
 use Rattle.octets.specs.Octets.{Octets}

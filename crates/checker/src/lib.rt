@@ -71,7 +71,7 @@ fn accepts(font: &[u8], f: Font, keep: &[u16], rows: &[u8]) -> bool
 {
     let charstrings = f.charstrings;
     let mut marks = [0u32; 65536];
-    kept::order::mark(keep, &mut marks, charstrings.count);
+    kept::marks::mark(keep, &mut marks, charstrings.count);
     if numbers::numbers_are(font, f, &marks, rows) {
         return lists_met(font, f, &marks, rows);
     }

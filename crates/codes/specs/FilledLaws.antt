@@ -1,5 +1,5 @@
 -- Laws of a filled table: one naming after the other, and what it holds of each code in the end.
-use Prim.Native.Nat.{ℕ, zero, suc, _+_, _-_, _*_, _≤_, _<_}
+use Prim.Native.Nat.{ℕ, zero, suc, _+_, _-_, _≤_, _<_}
 use mathlib.Core.Path.{_≡_, refl, sym, ap, _∙_}
 use mathlib.Core.Bool.{Bool, true, false}
 use mathlib.Core.List.{List, [], _∷_, _++_}
@@ -12,7 +12,7 @@ use lib.Seq.{drop-cons, drop-drop, getD-drop, getD-set-same, getD-set-other}
 use Rattle.octets.specs.Pick.{pick, pick-ind}
 use Rattle.octets.specs.PickLaws.{pick-same}
 use Rattle.octets.specs.ListLaws.{zeros-at}
-use Rattle.octets.specs.Octets.{be, numAt}
+use Rattle.octets.specs.Octets.{numAt}
 use Rattle.charset.specs.Codes.{Naming, byNumber, byString, codesFrom, rangeFrom, rangesFrom, suppliedFrom}
 use Rattle.find.specs.declared.Found.{Found}
 use Rattle.find.specs.declared.Found.the-variants.{Absent, Glyph}

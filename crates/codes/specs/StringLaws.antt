@@ -1,18 +1,17 @@
 -- Laws of the glyph of a string id: its text by the kind of id, and that a glyph that is found is in the font.
 use Prim.Native.Nat.{ℕ, zero, suc, _+_, _-_, _≤_, _<_}
 use mathlib.Core.Path.{_≡_, refl, sym, ap, _∙_}
-use mathlib.Core.Bool.{Bool, true, false}
+use mathlib.Core.Bool.{Bool, true}
 use mathlib.Core.List.{List, [], _∷_, map}
 use native.Mathlib.Omega.{arith}
 use borrow.Author.Tests.{lt-ltb, ltb-true}
-use lib.Dec.{ltb, eqb}
+use lib.Dec.{ltb}
 use lib.ListN.{length, take, drop, getD}
 use Rattle.octets.specs.Pick.{pick, pick-ind}
 use Rattle.octets.specs.PickLaws.{both-hold}
 use Rattle.octets.specs.Lists.{allBelow}
 use Rattle.octets.specs.Octets.{Wrote}
 use Rattle.octets.specs.PutLaws.{take-put}
-use Rattle.index.specs.IndexLaws.{items-length}
 use Rattle.strings.specs.Table.{standardNames}
 use Rattle.strings.specs.Text.{codes, sameText}
 use Rattle.strings.specs.Strings.{standardStrings, standardString, stringText}

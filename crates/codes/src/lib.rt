@@ -1,7 +1,6 @@
 // The glyphs of the codes of a custom encoding (TN5176, section 12; document 02, Wish 4), in a table of 256 places: 0 for a code without a glyph,
 // else the glyph's number + 1. Each naming is stored in its turn, so that the last glyph that a code names stands there in the end.
 ghost use mathlib.Core.Path.{_≡_};
-ghost use mathlib.Core.Bool.{true, false};
 ghost use Prim.Native.Nat.{_+_, _*_, _≤_, _<_};
 ghost use lib.Dec.{ltb, eqb};
 ghost use lib.ListN.{length, take, drop};

@@ -4,18 +4,16 @@ use mathlib.Core.Path.{_≡_, refl, sym, ap, _∙_}
 use mathlib.Core.Bool.{Bool, true, false}
 use mathlib.Core.List.{List, [], _∷_}
 use native.Mathlib.Omega.{arith}
-use borrow.Author.Tests.{eqb-true, eqb-false, eq-eqb, ne-eqb}
+use borrow.Author.Tests.{eqb-true, eqb-false, ne-eqb}
 use lib.Dec.{ltb, eqb}
 use lib.ListN.{length}
 use Rattle.octets.specs.Pick.{pick, pick-ind}
 use Rattle.octets.specs.Lists.{allBelow}
 use Rattle.prune.specs.StepLaws.{zero-one}
-use Rattle.record.specs.Record.{rowsOf, recordFine}
 use Rattle.dict.specs.Lookup.{rosIn, cidKeyed}
 use Rattle.cff.specs.Font.{Program}
-use Rattle.cff.specs.Find.{workSize}
 use Rattle.subset.specs.Kept.{isIn, those, keeps, keptOf}
-use Rattle.subset.specs.Cut.{Outcome, refused, allFound, hasRos, unsupportedIn, cutProgram}
+use Rattle.subset.specs.Cut.{Outcome, refused, allFound, hasRos, unsupportedIn}
 use Rattle.traced.specs.Traced.{Traced, refused as refusedTrace, traced, metAll, answered, traceProgram}
 use Rattle.traced.specs.MetLaws.{kept-same, below-as}
 use Rattle.culprit.specs.Culprit.{cutTraced, tracedCut, without, firstOf}

@@ -1,7 +1,7 @@
 -- Worked examples, computed: a font of five glyphs, of which 2 and 3 have dead code that calls a subroutine that is not there, so that they cannot be
 -- renumbered, and 4 is not plain.
 use Prim.Native.Nat.{ℕ}
-use mathlib.Core.Path.{_≡_, refl, ap, _∙_}
+use mathlib.Core.Path.{_≡_, refl, _∙_}
 use mathlib.Core.Bool.{true, false}
 use mathlib.Core.List.{List, [], _∷_}
 use native.Mathlib.Omega.{arith}
@@ -26,7 +26,7 @@ use Rattle.strings.specs.Strings.{stringText, standardString, standardStrings, 
 use Rattle.find.specs.Find.{glyphWithText}
 use Rattle.unfold.specs.Unfold.{leave, but, targetOf, operatorAt, stepAt, walk, runBody, unfoldGlyph}
 use Rattle.record.specs.Record.{rowsFrom, rowsOf, rowsFine, recordFine, lists, givenIn, disagrees, twoLengths}
-use Rattle.prune.specs.Renumber.{oldOf, renumber, renumberCharstring}
+use Rattle.prune.specs.Renumber.{renumber, renumberCharstring}
 use Rattle.cff.specs.Font.{standard, Program, emptyPrivate}
 use Rattle.cff.specs.Find.{localsWords}
 use Rattle.subset.specs.Kept.{isIn, those, fdsOf}
@@ -74,7 +74,7 @@ way-0 : hasWay 0 (tracedCut small name (1 ∷ []) 8192 0) ≡ true
 unfolding
     tracedCut metAll recordOf tensBytes gathered placed unfoldGlyph runBody walk stepAt operatorAt leave but targetOf t2.numberAt t2.rounded t2.keep24 bytesOf numAt be allBelow
     allFound glyphWithText stringText standardString standardStrings codes sameText standardNames isIn those fdsOf lastOf lastFrom normal stripped zeros zerosOf truncOf localsWords
-    recordFine rowsFine rowsOf rowsFrom pruned renumbered renumberedSubrs renumberedBody each mapped stubbed stubbedFrom lists givenIn twoLengths disagrees renumberCharstring renumber oldOf
+    recordFine rowsFine rowsOf rowsFrom pruned renumbered renumberedSubrs renumberedBody each mapped stubbed stubbedFrom lists givenIn twoLengths disagrees renumberCharstring renumber
     encode t2e.numberBytes t2e.integerBytes t2e.fixedBytes tok.tokensOf tok.tokensFrom tok.tokenAt subsetBytes subsetByName newIds copiedBytes namedBytes namesOf textsOf namedEntries
     newId placeIn ownStrings hasText sidOf sidIn charsetBytes idBytes opBytes operandsBytes entryBytes entriesBytes offsetEntry copiedEntry privateEntry entries.without
     int5Bytes numberBytes intBytes indexBytes itemsBytes headBytes tableBytes ends sizeFor joined total
@@ -85,7 +85,7 @@ way-1 : hasWay 1 (tracedCut small name (1 ∷ 2 ∷ []) 8192 0) ≡ true
 unfolding
     tracedCut metAll recordOf tensBytes gathered placed unfoldGlyph runBody walk stepAt operatorAt leave but targetOf t2.numberAt t2.rounded t2.keep24 bytesOf numAt be allBelow
     allFound glyphWithText stringText standardString standardStrings codes sameText standardNames isIn those fdsOf lastOf lastFrom normal stripped zeros zerosOf truncOf localsWords
-    recordFine rowsFine rowsOf rowsFrom pruned renumbered renumberedSubrs renumberedBody each mapped stubbed stubbedFrom lists givenIn twoLengths disagrees renumberCharstring renumber oldOf
+    recordFine rowsFine rowsOf rowsFrom pruned renumbered renumberedSubrs renumberedBody each mapped stubbed stubbedFrom lists givenIn twoLengths disagrees renumberCharstring renumber
     encode t2e.numberBytes t2e.integerBytes t2e.fixedBytes tok.tokensOf tok.tokensFrom tok.tokenAt subsetBytes subsetByName newIds copiedBytes namedBytes namesOf textsOf namedEntries
     newId placeIn ownStrings hasText sidOf sidIn charsetBytes idBytes opBytes operandsBytes entryBytes entriesBytes offsetEntry copiedEntry privateEntry entries.without
     int5Bytes numberBytes intBytes indexBytes itemsBytes headBytes tableBytes ends sizeFor joined total
@@ -95,7 +95,7 @@ alone-1 : hasWay 0 (tracedCut small name (2 ∷ []) 8192 0) ≡ false
 unfolding
     tracedCut metAll recordOf tensBytes gathered placed unfoldGlyph runBody walk stepAt operatorAt leave but targetOf t2.numberAt t2.rounded t2.keep24 bytesOf numAt be allBelow
     allFound glyphWithText stringText standardString standardStrings codes sameText standardNames isIn those fdsOf lastOf lastFrom normal stripped zeros zerosOf truncOf localsWords
-    recordFine rowsFine rowsOf rowsFrom pruned renumbered renumberedSubrs renumberedBody each mapped stubbed stubbedFrom lists givenIn twoLengths disagrees renumberCharstring renumber oldOf
+    recordFine rowsFine rowsOf rowsFrom pruned renumbered renumberedSubrs renumberedBody each mapped stubbed stubbedFrom lists givenIn twoLengths disagrees renumberCharstring renumber
     encode t2e.numberBytes t2e.integerBytes t2e.fixedBytes tok.tokensOf tok.tokensFrom tok.tokenAt subsetBytes subsetByName newIds copiedBytes namedBytes namesOf textsOf namedEntries
     newId placeIn ownStrings hasText sidOf sidIn charsetBytes idBytes opBytes operandsBytes entryBytes entriesBytes offsetEntry copiedEntry privateEntry entries.without
     int5Bytes numberBytes intBytes indexBytes itemsBytes headBytes tableBytes ends sizeFor joined total
@@ -106,7 +106,7 @@ way-2 : hasWay 2 (tracedCut small name (1 ∷ 2 ∷ 4 ∷ []) 8192 0) ≡ true
 unfolding
     tracedCut metAll recordOf tensBytes gathered placed unfoldGlyph runBody walk stepAt operatorAt leave but targetOf t2.numberAt t2.rounded t2.keep24 bytesOf numAt be allBelow
     allFound glyphWithText stringText standardString standardStrings codes sameText standardNames isIn those fdsOf lastOf lastFrom normal stripped zeros zerosOf truncOf localsWords
-    recordFine rowsFine rowsOf rowsFrom pruned renumbered renumberedSubrs renumberedBody each mapped copied stubbed stubbedFrom lists givenIn twoLengths disagrees renumberCharstring renumber oldOf
+    recordFine rowsFine rowsOf rowsFrom pruned renumbered renumberedSubrs renumberedBody each mapped copied stubbed stubbedFrom lists givenIn twoLengths disagrees renumberCharstring renumber
     encode t2e.numberBytes t2e.integerBytes t2e.fixedBytes tok.tokensOf tok.tokensFrom tok.tokenAt subsetBytes subsetByName newIds copiedBytes namedBytes namesOf textsOf namedEntries
     newId placeIn ownStrings hasText sidOf sidIn charsetBytes idBytes opBytes operandsBytes entryBytes entriesBytes offsetEntry copiedEntry privateEntry entries.without
     int5Bytes numberBytes intBytes indexBytes itemsBytes headBytes tableBytes ends sizeFor joined total
@@ -117,7 +117,7 @@ both-1 : hasWay 1 (tracedCut small name (1 ∷ 2 ∷ 3 ∷ []) 8192 0) ≡ true
 unfolding
     tracedCut metAll recordOf tensBytes gathered placed unfoldGlyph runBody walk stepAt operatorAt leave but targetOf t2.numberAt t2.rounded t2.keep24 bytesOf numAt be allBelow
     allFound glyphWithText stringText standardString standardStrings codes sameText standardNames isIn those fdsOf lastOf lastFrom normal stripped zeros zerosOf truncOf localsWords
-    recordFine rowsFine rowsOf rowsFrom pruned renumbered renumberedSubrs renumberedBody each mapped stubbed stubbedFrom lists givenIn twoLengths disagrees renumberCharstring renumber oldOf
+    recordFine rowsFine rowsOf rowsFrom pruned renumbered renumberedSubrs renumberedBody each mapped stubbed stubbedFrom lists givenIn twoLengths disagrees renumberCharstring renumber
     encode t2e.numberBytes t2e.integerBytes t2e.fixedBytes tok.tokensOf tok.tokensFrom tok.tokenAt subsetBytes subsetByName newIds copiedBytes namedBytes namesOf textsOf namedEntries
     newId placeIn ownStrings hasText sidOf sidIn charsetBytes idBytes opBytes operandsBytes entryBytes entriesBytes offsetEntry copiedEntry privateEntry entries.without
     int5Bytes numberBytes intBytes indexBytes itemsBytes headBytes tableBytes ends sizeFor joined total
@@ -127,7 +127,7 @@ without-1 : hasWay 0 (tracedCut small name (2 ∷ 3 ∷ []) 8192 0) ≡ false
 unfolding
     tracedCut metAll recordOf tensBytes gathered placed unfoldGlyph runBody walk stepAt operatorAt leave but targetOf t2.numberAt t2.rounded t2.keep24 bytesOf numAt be allBelow
     allFound glyphWithText stringText standardString standardStrings codes sameText standardNames isIn those fdsOf lastOf lastFrom normal stripped zeros zerosOf truncOf localsWords
-    recordFine rowsFine rowsOf rowsFrom pruned renumbered renumberedSubrs renumberedBody each mapped stubbed stubbedFrom lists givenIn twoLengths disagrees renumberCharstring renumber oldOf
+    recordFine rowsFine rowsOf rowsFrom pruned renumbered renumberedSubrs renumberedBody each mapped stubbed stubbedFrom lists givenIn twoLengths disagrees renumberCharstring renumber
     encode t2e.numberBytes t2e.integerBytes t2e.fixedBytes tok.tokensOf tok.tokensFrom tok.tokenAt subsetBytes subsetByName newIds copiedBytes namedBytes namesOf textsOf namedEntries
     newId placeIn ownStrings hasText sidOf sidIn charsetBytes idBytes opBytes operandsBytes entryBytes entriesBytes offsetEntry copiedEntry privateEntry entries.without
     int5Bytes numberBytes intBytes indexBytes itemsBytes headBytes tableBytes ends sizeFor joined total
@@ -137,7 +137,7 @@ without-2 : hasWay 0 (tracedCut small name (1 ∷ 3 ∷ []) 8192 0) ≡ false
 unfolding
     tracedCut metAll recordOf tensBytes gathered placed unfoldGlyph runBody walk stepAt operatorAt leave but targetOf t2.numberAt t2.rounded t2.keep24 bytesOf numAt be allBelow
     allFound glyphWithText stringText standardString standardStrings codes sameText standardNames isIn those fdsOf lastOf lastFrom normal stripped zeros zerosOf truncOf localsWords
-    recordFine rowsFine rowsOf rowsFrom pruned renumbered renumberedSubrs renumberedBody each mapped stubbed stubbedFrom lists givenIn twoLengths disagrees renumberCharstring renumber oldOf
+    recordFine rowsFine rowsOf rowsFrom pruned renumbered renumberedSubrs renumberedBody each mapped stubbed stubbedFrom lists givenIn twoLengths disagrees renumberCharstring renumber
     encode t2e.numberBytes t2e.integerBytes t2e.fixedBytes tok.tokensOf tok.tokensFrom tok.tokenAt subsetBytes subsetByName newIds copiedBytes namedBytes namesOf textsOf namedEntries
     newId placeIn ownStrings hasText sidOf sidIn charsetBytes idBytes opBytes operandsBytes entryBytes entriesBytes offsetEntry copiedEntry privateEntry entries.without
     int5Bytes numberBytes intBytes indexBytes itemsBytes headBytes tableBytes ends sizeFor joined total
@@ -147,7 +147,7 @@ without-3 : hasWay 0 (tracedCut small name (1 ∷ 2 ∷ []) 8192 0) ≡ false
 unfolding
     tracedCut metAll recordOf tensBytes gathered placed unfoldGlyph runBody walk stepAt operatorAt leave but targetOf t2.numberAt t2.rounded t2.keep24 bytesOf numAt be allBelow
     allFound glyphWithText stringText standardString standardStrings codes sameText standardNames isIn those fdsOf lastOf lastFrom normal stripped zeros zerosOf truncOf localsWords
-    recordFine rowsFine rowsOf rowsFrom pruned renumbered renumberedSubrs renumberedBody each mapped stubbed stubbedFrom lists givenIn twoLengths disagrees renumberCharstring renumber oldOf
+    recordFine rowsFine rowsOf rowsFrom pruned renumbered renumberedSubrs renumberedBody each mapped stubbed stubbedFrom lists givenIn twoLengths disagrees renumberCharstring renumber
     encode t2e.numberBytes t2e.integerBytes t2e.fixedBytes tok.tokensOf tok.tokensFrom tok.tokenAt subsetBytes subsetByName newIds copiedBytes namedBytes namesOf textsOf namedEntries
     newId placeIn ownStrings hasText sidOf sidIn charsetBytes idBytes opBytes operandsBytes entryBytes entriesBytes offsetEntry copiedEntry privateEntry entries.without
     int5Bytes numberBytes intBytes indexBytes itemsBytes headBytes tableBytes ends sizeFor joined total

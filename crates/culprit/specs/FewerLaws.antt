@@ -4,27 +4,28 @@ use Prim.Native.Nat.{ℕ, zero, suc, _-_, _*_}
 use mathlib.Core.Path.{_≡_, refl, sym, ap, _∙_, subst}
 use mathlib.Core.Bool.{Bool, true, false, _&&_, not}
 use mathlib.Core.List.{List, [], _∷_}
-use mathlib.Core.Logic.{_⊎_, inl, inr, ⊎-elim}
+use mathlib.Core.Option.{Option, none, some}
 use lib.Dec.{eqb}
 use lib.IntN.{ℤ}
-use lib.ListN.{length, getD}
+use lib.ListN.{length}
 use borrow.Author.Tests.{eqb-true, eqb-false, eq-eqb}
-use Rattle.octets.specs.Pick.{pick, pick-ind}
+use Rattle.octets.specs.Pick.{pick}
 use Rattle.octets.specs.PickLaws.{not-true}
 use Rattle.strings.specs.TableLaws.{and-left, and-right}
-use Rattle.charstring.specs.Token.{Tok, num, op, esc, mask, Lexeme, lost, gotNum, gotOp, gotEsc, gotMask, Body, bad, tokens, join, onward, more, tokenAt, tokensFrom, start, tokensOf}
+use Rattle.charstring.specs.Token.{Tok, num, op, esc, mask, Lexeme, lost, gotNum, gotOp, gotEsc, gotMask, join, onward, more, tokenAt, tokensFrom, start, tokensOf}
 use Rattle.charstring.specs.declared.Cursor.{Cursor}
 use Rattle.charstring.specs.declared.MaskLen.{MaskLen}
 use Rattle.charstring.specs.declared.MaskLen.the-variants.{Own, Given}
 use Rattle.unfold.specs.Unfold.{Row, Site, glyph, local, global, entered, masked}
 use Rattle.prune.specs.StepLaws.{zero-one}
-use Rattle.prune.specs.Renumber.{New, none, new, Operand, fails, becomes, Old, nothing, old, oldOf, newOf, operandFor, operandOf, Calls, isCall, Renumbered, failed, done, before, called, Waiting, nobody, waits, kept, calledAfter, renumber, Bytes, bytes, writtenBack, renumberedTokens, renumberCharstring}
+use Rattle.prune.specs.Renumber.{Calls, isCall, before, called, kept, calledAfter, renumber, renumberCharstring}
+use Rattle.prune.specs.RenumberSteps.{newOf, operandFor, writtenBack, renumberedTokens}
 use Rattle.record.specs.Record.{lists, atPlace, givenIn, ofBody, disagrees, twoLengths}
 use Rattle.cff.specs.Font.{Program}
 use Rattle.bits.specs.Bits.{countBelow}
-use Rattle.charstring.specs.Bias.{biasOf}
+use Rattle.charstring.specs.Bias.{biasOf, numbered}
 use Rattle.subset.specs.Kept.{localsOf}
-use Rattle.subset.specs.Pruned.{May, fail, yes, whole, rank, reached, localSet, globalSet, renumberedBody, localOperand, globalOperand, callsIn}
+use Rattle.subset.specs.Pruned.{rank, reached, localSet, globalSet, renumberedBody, localOperand, globalOperand, callsIn}
 use Rattle.faithful.specs.RecordLaws.{row-is, given-listed}
 use Rattle.traced.specs.Has.{Has, here, there}
 use Rattle.traced.specs.HasLaws.{has-listed, listed-has}
@@ -32,7 +33,7 @@ use Rattle.traced.specs.HasLaws.{has-listed, listed-has}
 -- ---- the same lengths, the same tokens
 
 module _ (given given' : ℕ → MaskLen) (same : (o : ℕ) → given o ≡ given' o) (s : List ℕ) where
-  onward-same : (q : Lexeme) (f g : Cursor → Body) → ((c : Cursor) → f c ≡ g c) → onward s q f ≡ onward s q g
+  onward-same : (q : Lexeme) (f g : Cursor → Option (List Tok)) → ((c : Cursor) → f c ≡ g c) → onward s q f ≡ onward s q g
   onward-same lost f g e = refl
   onward-same (gotNum z c) f g e = ap (join (num z ∷ [])) (e c)
   onward-same (gotOp b c) f g e = ap (join (op b ∷ [])) (e c)
@@ -43,8 +44,8 @@ module _ (given given' : ℕ → MaskLen) (same : (o : ℕ) → given o ≡ give
   unfolding tokensFrom
   from-same zero c = refl
   from-same (suc k) c =
-      ap (λ (l : MaskLen). pick (more s c) (onward s (tokenAt s l c) (tokensFrom k given s)) (tokens [])) (same (c .at - 1))
-      ∙ ap (λ (b : Body). pick (more s c) b (tokens [])) (onward-same (tokenAt s (given' (c .at - 1)) c) (tokensFrom k given s) (tokensFrom k given' s) (from-same k))
+      ap (λ (l : MaskLen). pick (more s c) (onward s (tokenAt s l c) (tokensFrom k given s)) (some [])) (same (c .at - 1))
+      ∙ ap (λ (b : Option (List Tok)). pick (more s c) b (some [])) (onward-same (tokenAt s (given' (c .at - 1)) c) (tokensFrom k given s) (tokensFrom k given' s) (from-same k))
 
   pub tokens-same : tokensOf given s ≡ tokensOf given' s
   unfolding tokensOf
@@ -54,67 +55,67 @@ module _ (given given' : ℕ → MaskLen) (same : (o : ℕ) → given o ≡ give
 
 -- each call that fails by the first fails by the second
 abbrev pub Fails : Calls → Calls → Type 0
-Fails calls calls' = (b : ℕ) (z : ℤ) → calls b z ≡ fails → calls' b z ≡ fails
+Fails calls calls' = (b : ℕ) (z : ℤ) → calls b z ≡ none → calls' b z ≡ none
 
-before-failed : (t : Tok) (r : Renumbered) → before t r ≡ failed → r ≡ failed
-before-failed t failed e = refl
-before-failed t (done ts) e = absurd (zero-one cc)
+before-failed : (t : Tok) (r : Option (List Tok)) → before t r ≡ none → r ≡ none
+before-failed t none e = refl
+before-failed t (some ts) e = absurd (zero-one cc)
 
-before-fails : (t : Tok) (r : Renumbered) → r ≡ failed → before t r ≡ failed
+before-fails : (t : Tok) (r : Option (List Tok)) → r ≡ none → before t r ≡ none
 before-fails t r e = ap (before t) e
 
-kept-failed : (w : Waiting) (r : Renumbered) → kept w r ≡ failed → r ≡ failed
-kept-failed nobody r e = e
-kept-failed (waits z) r e = before-failed (num z) r e
+kept-failed : (w : Option ℤ) (r : Option (List Tok)) → kept w r ≡ none → r ≡ none
+kept-failed none r e = e
+kept-failed (some z) r e = before-failed (num z) r e
 
-kept-fails : (w : Waiting) (r : Renumbered) → r ≡ failed → kept w r ≡ failed
-kept-fails nobody r e = e
-kept-fails (waits z) r e = before-fails (num z) r e
+kept-fails : (w : Option ℤ) (r : Option (List Tok)) → r ≡ none → kept w r ≡ none
+kept-fails none r e = e
+kept-fails (some z) r e = before-fails (num z) r e
 
 module _ (calls calls' : Calls) (stay : Fails calls calls') where
-  called-more : (b : ℕ) (z : ℤ) (r r' : Renumbered) → (r ≡ failed → r' ≡ failed) → (x y : Operand) → calls b z ≡ x → calls' b z ≡ y → called b x r ≡ failed → called b y r' ≡ failed
-  called-more b z r r' f x fails i j e = refl
-  called-more b z r r' f fails (becomes v) i j e = absurd (zero-one (let k : becomes v ≡ fails = sym j ∙ stay b z i in cc))
-  called-more b z r r' f (becomes u) (becomes v) i j e =
+  called-more : (b : ℕ) (z : ℤ) (r r' : Option (List Tok)) → (r ≡ none → r' ≡ none) → (x y : Option ℤ) → calls b z ≡ x → calls' b z ≡ y → called b x r ≡ none → called b y r' ≡ none
+  called-more b z r r' f x none i j e = refl
+  called-more b z r r' f none (some v) i j e = absurd (zero-one (let k : some v ≡ none = sym j ∙ stay b z i in cc))
+  called-more b z r r' f (some u) (some v) i j e =
       before-fails (num v) _ (before-fails (op b) r' (f (before-failed (op b) r (before-failed (num u) _ e))))
 
-  after-more : (b : ℕ) (w : Waiting) (r r' : Renumbered) → (r ≡ failed → r' ≡ failed) → calledAfter calls b w r ≡ failed → calledAfter calls' b w r' ≡ failed
-  after-more b nobody r r' f e = refl
-  after-more b (waits z) r r' f e = called-more b z r r' f (calls b z) (calls' b z) refl refl e
+  after-more : (b : ℕ) (w : Option ℤ) (r r' : Option (List Tok)) → (r ≡ none → r' ≡ none) → calledAfter calls b w r ≡ none → calledAfter calls' b w r' ≡ none
+  after-more b none r r' f e = refl
+  after-more b (some z) r r' f e = called-more b z r r' f (calls b z) (calls' b z) refl refl e
 
-  op-more : (t : Bool) (b : ℕ) (w : Waiting) (r r' : Renumbered) → (r ≡ failed → r' ≡ failed)
-      → pick t (calledAfter calls b w r) (kept w (before (op b) r)) ≡ failed → pick t (calledAfter calls' b w r') (kept w (before (op b) r')) ≡ failed
+  op-more : (t : Bool) (b : ℕ) (w : Option ℤ) (r r' : Option (List Tok)) → (r ≡ none → r' ≡ none)
+      → pick t (calledAfter calls b w r) (kept w (before (op b) r)) ≡ none → pick t (calledAfter calls' b w r') (kept w (before (op b) r')) ≡ none
   op-more true b w r r' f e = after-more b w r r' f e
   op-more false b w r r' f e = kept-fails w _ (before-fails (op b) r' (f (before-failed (op b) r (kept-failed w _ e))))
 
-  renumber-fails : (w : Waiting) (ts : List Tok) → renumber calls w ts ≡ failed → renumber calls' w ts ≡ failed
+  renumber-fails : (w : Option ℤ) (ts : List Tok) → renumber calls w ts ≡ none → renumber calls' w ts ≡ none
   unfolding renumber
-  renumber-fails nobody [] e = absurd (zero-one cc)
-  renumber-fails (waits z) [] e = absurd (zero-one cc)
-  renumber-fails w (num z ∷ ts) e = kept-fails w _ (renumber-fails (waits z) ts (kept-failed w _ e))
-  renumber-fails w (op b ∷ ts) e = op-more (isCall b) b w _ _ (renumber-fails nobody ts) e
-  renumber-fails w (esc b ∷ ts) e = kept-fails w _ (before-fails (esc b) _ (renumber-fails nobody ts (before-failed (esc b) _ (kept-failed w _ e))))
-  renumber-fails w (mask bs ∷ ts) e = kept-fails w _ (before-fails (mask bs) _ (renumber-fails nobody ts (before-failed (mask bs) _ (kept-failed w _ e))))
+  renumber-fails none [] e = absurd (zero-one cc)
+  renumber-fails (some z) [] e = absurd (zero-one cc)
+  renumber-fails w (num z ∷ ts) e = kept-fails w _ (renumber-fails (some z) ts (kept-failed w _ e))
+  renumber-fails w (op b ∷ ts) e = op-more (isCall b) b w _ _ (renumber-fails none ts) e
+  renumber-fails w (esc b ∷ ts) e = kept-fails w _ (before-fails (esc b) _ (renumber-fails none ts (before-failed (esc b) _ (kept-failed w _ e))))
+  renumber-fails w (mask bs ∷ ts) e = kept-fails w _ (before-fails (mask bs) _ (renumber-fails none ts (before-failed (mask bs) _ (kept-failed w _ e))))
 
-  written-failed : (r : Renumbered) → writtenBack r ≡ failed → r ≡ failed
-  written-failed failed e = refl
-  written-failed (done ts) e = absurd (zero-one cc)
+  written-failed : (r : Option (List Tok)) → writtenBack r ≡ none → r ≡ none
+  written-failed none e = refl
+  written-failed (some ts) e = absurd (zero-one cc)
 
-  body-fails : (x : Body) → renumberedTokens calls x ≡ failed → renumberedTokens calls' x ≡ failed
-  body-fails bad e = refl
-  body-fails (tokens ts) e = ap writtenBack (renumber-fails nobody ts (written-failed _ e))
+  body-fails : (x : Option (List Tok)) → renumberedTokens calls x ≡ none → renumberedTokens calls' x ≡ none
+  body-fails none e = refl
+  body-fails (some ts) e = ap writtenBack (renumber-fails none ts (written-failed _ e))
 
 -- ---- fewer rows
 
 -- the operand of a call of a subroutine that is not reached, or of none
-operand-fails : (set set' : ℕ → Bool) → ((k : ℕ) → set k ≡ false → set' k ≡ false) → (bias n n' : ℕ) (x : Old)
-    → operandFor n (newOf (rank set) x) ≡ fails → operandFor n' (newOf (rank set') x) ≡ fails
-operand-fails set set' less bias n n' nothing e = refl
-operand-fails set set' less bias n n' (old i) e = by (set i) refl e
+operand-fails : (set set' : ℕ → Bool) → ((k : ℕ) → set k ≡ false → set' k ≡ false) → (bias n n' : ℕ) (x : Option ℕ)
+    → operandFor n (newOf (rank set) x) ≡ none → operandFor n' (newOf (rank set') x) ≡ none
+operand-fails set set' less bias n n' none e = refl
+operand-fails set set' less bias n n' (some i) e = by (set i) refl e
   where
-    by : (t : Bool) → set i ≡ t → operandFor n (pick t (new (countBelow set i)) none) ≡ fails → operandFor n' (rank set' i) ≡ fails
+    by : (t : Bool) → set i ≡ t → operandFor n (pick t (some (countBelow set i)) none) ≡ none → operandFor n' (rank set' i) ≡ none
     by true q f = absurd (zero-one cc)
-    by false q f = ap (λ (t : Bool). operandFor n' (pick t (new (countBelow set' i)) none)) (less i q)
+    by false q f = ap (λ (t : Bool). operandFor n' (pick t (some (countBelow set' i)) none)) (less i q)
 
 module _ (rows rows' : List Row) (fewer : (q : Row) → Has Row q rows' → Has Row q rows) where
   lists-fewer : (q : Row) → lists rows q ≡ false → lists rows' q ≡ false
@@ -124,13 +125,13 @@ module _ (rows rows' : List Row) (fewer : (q : Row) → Has Row q rows' → Has 
   pub calls-fewer : (p : Program) (f : ℕ) → Fails (callsIn p rows f) (callsIn p rows' f)
   calls-fewer p f b z = by (eqb b 10)
     where
-      by : (t : Bool) → pick t (localOperand p rows f z) (globalOperand p rows z) ≡ fails → pick t (localOperand p rows' f z) (globalOperand p rows' z) ≡ fails
+      by : (t : Bool) → pick t (localOperand p rows f z) (globalOperand p rows z) ≡ none → pick t (localOperand p rows' f z) (globalOperand p rows' z) ≡ none
       by true e =
           operand-fails (localSet rows f) (localSet rows' f) (λ k. lists-fewer (entered (local f k))) 0 _ (biasOf (reached (localSet rows' f)))
-          (oldOf (biasOf (length (localsOf p f))) z) e
+          (numbered (biasOf (length (localsOf p f))) z) e
       by false e =
           operand-fails (globalSet rows) (globalSet rows') (λ k. lists-fewer (entered (global k))) 0 _ (biasOf (reached (globalSet rows')))
-          (oldOf (biasOf (length (p .globals))) z) e
+          (numbered (biasOf (length (p .globals))) z) e
 
 -- ---- the masks of a body
 
@@ -251,18 +252,14 @@ module _ (rows rows' : List Row) (site : Site) (few : Fewer rows rows' site) whe
       by Own a (Given l) b = sym a ∙ given-listed rows site o l n (has-listed _ rows (few .fewer _ (given-from rows' site o l b)))
 
   -- a body whose renumbering fails
-  pub body-fewer : (calls calls' : Calls) → Fails calls calls' → (s : List ℕ) → renumberedBody rows calls site s ≡ fail → renumberedBody rows' calls' site s ≡ fail
+  pub body-fewer : (calls calls' : Calls) → Fails calls calls' → (s : List ℕ) → renumberedBody rows calls site s ≡ none → renumberedBody rows' calls' site s ≡ none
   unfolding renumberedBody renumberCharstring
   body-fewer calls calls' stay s e = by (twoLengths rows site) refl (twoLengths rows' site) refl e
     where
-      whole-failed : (b : Bytes) → whole b ≡ fail → b ≡ failed
-      whole-failed failed h = refl
-      whole-failed (bytes bs) h = absurd (zero-one cc)
-
-      by : (t : Bool) → twoLengths rows site ≡ t → (u : Bool) → twoLengths rows' site ≡ u → pick t fail (whole (renumberedTokens calls (tokensOf (givenIn rows site) s))) ≡ fail
-          → pick u fail (whole (renumberedTokens calls' (tokensOf (givenIn rows' site) s))) ≡ fail
+      by : (t : Bool) → twoLengths rows site ≡ t → (u : Bool) → twoLengths rows' site ≡ u → pick t none (renumberedTokens calls (tokensOf (givenIn rows site) s)) ≡ none
+          → pick u none (renumberedTokens calls' (tokensOf (givenIn rows' site) s)) ≡ none
       by t a true b h = refl
       by true a false b h = absurd (two-stay a b)
       by false a false b h =
-          ap whole (body-fails calls calls' stay (tokensOf (givenIn rows' site) s)
-          (ap (renumberedTokens calls) (sym (tokens-same (givenIn rows site) (givenIn rows' site) (given-same a b) s)) ∙ whole-failed _ h))
+          (body-fails calls calls' stay (tokensOf (givenIn rows' site) s)
+          (ap (renumberedTokens calls) (sym (tokens-same (givenIn rows site) (givenIn rows' site) (given-same a b) s)) ∙ h))

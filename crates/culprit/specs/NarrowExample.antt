@@ -4,18 +4,19 @@ use Prim.Native.Nat.{ℕ}
 use mathlib.Core.Path.{_≡_, refl, subst}
 use mathlib.Core.Bool.{false}
 use mathlib.Core.List.{List, [], _∷_}
+use mathlib.Core.Option.{none, some}
 use native.Mathlib.Omega.{arith}
 use Rattle.octets.specs.Octets.{be, numAt, bytesOf}
 use Rattle.octets.specs.ListLaws.{zeros-at}
 use Rattle.type2_number.specs.Number as t2
 use Rattle.charstring.specs.Token as tok
 use Rattle.unfold.specs.Unfold.{Row, glyph, local, entered, masked, leave, but, targetOf, operatorAt, stepAt, walk, runBody, unfoldGlyph}
-use Rattle.prune.specs.Bodies.{All, none, one}
-use Rattle.prune.specs.Renumber.{oldOf, renumber, renumberCharstring}
+use Rattle.prune.specs.Bodies.{All, empty, one}
+use Rattle.prune.specs.Renumber.{renumber, renumberCharstring}
 use Rattle.record.specs.Record.{rowsFrom, rowsOf, lists, givenIn, disagrees, twoLengths}
 use Rattle.cff.specs.Font.{standard, Program, emptyPrivate}
 use Rattle.subset.specs.Kept.{isIn, those}
-use Rattle.subset.specs.Pruned.{fail, yes, renumberedBody}
+use Rattle.subset.specs.Pruned.{renumberedBody}
 use Rattle.row_window.specs.Window.{placed, gathered}
 use Rattle.traced.specs.Traced.{metAll, tensBytes, recordOf}
 use Rattle.traced.specs.Has.{Has, here}
@@ -45,21 +46,21 @@ dead =
     }
 
 dead-fds : FdsThere dead
-dead-fds = record { some = omega arith; fds = λ x h. omega (arith, zeros-at 3 x) }
+dead-fds = record { any = omega arith; fds = λ x h. omega (arith, zeros-at 3 x) }
 
-dead-rows : keptRows dead (1 ∷ 2 ∷ []) ≡ yes []
+dead-rows : keptRows dead (1 ∷ 2 ∷ []) ≡ some []
 unfolding metAll unfoldGlyph runBody walk stepAt operatorAt leave but targetOf t2.numberAt isIn those
 dead-rows = refl
 
-dead-fails : bodyAt dead (rowsOf (recordOf [])) (glyph 2) ≡ fail
+dead-fails : bodyAt dead (rowsOf (recordOf [])) (glyph 2) ≡ none
 unfolding
-    recordOf tensBytes gathered rowsOf rowsFrom renumberedBody twoLengths givenIn renumberCharstring renumber oldOf lists t2.numberAt t2.rounded t2.keep24 tok.tokensOf tok.tokensFrom tok.tokenAt
+    recordOf tensBytes gathered rowsOf rowsFrom renumberedBody twoLengths givenIn renumberCharstring renumber lists t2.numberAt t2.rounded t2.keep24 tok.tokensOf tok.tokensFrom tok.tokenAt
 dead-fails = refl
 
 -- so glyph 1 is no culprit
 only-2 : isCulprit dead name (1 ∷ 2 ∷ []) 8192 0 1 ≡ false
 unfolding isIn those
-only-2 = charstring-fails dead dead-fds name (1 ∷ 2 ∷ []) 8192 0 [] dead-rows none 2 refl dead-fails 1 (λ e. omega (arith, e))
+only-2 = charstring-fails dead dead-fds name (1 ∷ 2 ∷ []) 8192 0 [] dead-rows empty 2 refl dead-fails 1 (λ e. omega (arith, e))
 
 -- ---- a subroutine: local 0 calls, behind its return, one that is not there; glyphs 1 and 2 enter it
 
@@ -78,23 +79,23 @@ shared =
     }
 
 shared-fds : FdsThere shared
-shared-fds = record { some = omega arith; fds = λ x h. omega (arith, zeros-at 3 x) }
+shared-fds = record { any = omega arith; fds = λ x h. omega (arith, zeros-at 3 x) }
 
 abbrev met : List Row
 met = entered (local 0 0) ∷ entered (local 0 0) ∷ []
 
-shared-rows : keptRows shared (1 ∷ 2 ∷ []) ≡ yes met
+shared-rows : keptRows shared (1 ∷ 2 ∷ []) ≡ some met
 unfolding metAll unfoldGlyph runBody walk stepAt operatorAt leave but targetOf t2.numberAt t2.rounded t2.keep24 isIn those
 shared-rows = refl
 
 met-fits : All RowFits met
 met-fits =
     let fits : RowFits (entered (local 0 0)) = record { kind = omega arith; fd = omega arith; number = omega arith; offset = omega arith; len = omega arith } in
-    one fits (one fits none)
+    one fits (one fits empty)
 
-shared-fails : bodyAt shared (rowsOf (recordOf met)) (local 0 0) ≡ fail
+shared-fails : bodyAt shared (rowsOf (recordOf met)) (local 0 0) ≡ none
 unfolding
-    recordOf tensBytes gathered placed bytesOf be numAt rowsOf rowsFrom renumberedBody twoLengths disagrees givenIn renumberCharstring renumber oldOf lists t2.numberAt t2.rounded t2.keep24 tok.tokensOf
+    recordOf tensBytes gathered placed bytesOf be numAt rowsOf rowsFrom renumberedBody twoLengths disagrees givenIn renumberCharstring renumber lists t2.numberAt t2.rounded t2.keep24 tok.tokensOf
     tok.tokensFrom tok.tokenAt
 shared-fails = refl
 
@@ -102,7 +103,7 @@ no-masks : (o l : ℕ) → Has Row (masked (local 0 0) o l) (rowsOf (recordOf me
 no-masks o l h = by met (record-from met met-fits _ h) refl
   where
     by : (rows : List Row) → Has Row (masked (local 0 0) o l) rows → rows ≡ met → ⊥
-    by rows i e = apart (all-at (λ r. r .kind ≡ 0) _ met (one refl (one refl none)) (subst (Has Row (masked (local 0 0) o l)) e i))
+    by rows i e = apart (all-at (λ r. r .kind ≡ 0) _ met (one refl (one refl empty)) (subst (Has Row (masked (local 0 0) o l)) e i))
       where
         apart : _≡_ {A = ℕ} 3 0 → ⊥
         apart z = omega arith

@@ -1,20 +1,22 @@
 -- Which glyphs can be the culprit (document 02, Wish 12): the rows of a list without a glyph are among those of the list, and those of a body that the
 -- glyph does not run are the same. So a body that fails, and that the glyph does not run, fails without it.
+use mathlib.Core.Option.{Option, none, some}
 use Prim.Native.Nat.{ℕ, _<_}
 use mathlib.Core.Path.{_≡_, refl, sym, ap, _∙_, subst}
 use mathlib.Core.Bool.{Bool, true, false}
 use mathlib.Core.List.{List, [], _∷_}
 use mathlib.Core.Logic.{⊎-elim}
 use native.Mathlib.Omega.{arith}
-use borrow.Author.Tests.{eqb-true, eqb-false, ne-eqb}
+use borrow.Author.Tests.{eqb-true, ne-eqb}
 use lib.Dec.{ltb, eqb}
 use lib.ListN.{length, getD}
 use Rattle.octets.specs.Pick.{pick, pick-ind}
 use Rattle.octets.specs.PickLaws.{both-hold, not-true}
 use Rattle.octets.specs.Lists.{allBelow}
-use Rattle.unfold.specs.Unfold.{Tok, Row, Site, glyph, local, global, entered, masked, plain}
+use Rattle.octets.specs.Steps.{and}
+use Rattle.unfold.specs.Unfold.{Row, Site, glyph, local, global, entered, masked, plain}
 use Rattle.prune.specs.Bodies.{All}
-use Rattle.prune.specs.Renumber.{fails, Calls}
+use Rattle.prune.specs.Renumber.{Calls}
 use Rattle.prune.specs.StepLaws.{zero-one}
 use Rattle.prune.specs.BelongsLaws.{Belongs, rows-belong}
 use Rattle.record.specs.Record.{rowsOf, recordFine, lists}
@@ -24,16 +26,16 @@ use Rattle.cff.specs.Find.{workSize}
 use Rattle.bits.specs.Bits.{countBelow}
 use Rattle.subset.specs.Kept.{isIn, those, keeps, keptOf, writtenOrder, fdsOf, usedFds, localsOf}
 use Rattle.subset.specs.KeptListLaws.{in-head, in-more, in-cases, in-none, in-place, those-has, those-in}
-use Rattle.subset.specs.Pruned.{Bodies, May, fail, yes, and, each, reached, localSet, globalSet, renumberedBody, renumberedSubrs, localOperand, globalOperand, callsIn, callsAcross, renumbered, Pruned, orStubbed, stubbed, pruned}
+use Rattle.subset.specs.Pruned.{Bodies, each, reached, localSet, globalSet, renumberedBody, renumberedSubrs, localOperand, globalOperand, callsIn, callsAcross, renumbered, Pruned, orStubbed, stubbed, pruned}
 use Rattle.subset.specs.EachLaws.{and-yes, each-at}
-use Rattle.subset.specs.Cut.{Outcome, refused, subset, allFound, hasRos, sameBool, unsupportedIn, ownOf, written, cutProgram}
+use Rattle.subset.specs.Cut.{Outcome, refused, subset, allFound, hasRos, sameBool, unsupportedIn, ownOf, written}
 use Rattle.subset.specs.Codes.{Coded, codedIf, pairCount}
 use Rattle.subset.specs.Subset.{subsetBytes}
 use Rattle.faithful.specs.KeptLaws.{kept-below, order-same}
-use Rattle.traced.specs.Traced.{Traced, refused as refusedTrace, traced, metAll, recordOf, answered, traceProgram}
+use Rattle.traced.specs.Traced.{refused as refusedTrace, traced, metAll, recordOf, answered}
 use Rattle.traced.specs.Has.{Has}
 use Rattle.traced.specs.HasLaws.{has-listed, all-at, all-from}
-use Rattle.traced.specs.MetLaws.{Meets, Within, met-within, met-from}
+use Rattle.traced.specs.MetLaws.{Meets, met-within, met-from}
 use Rattle.traced.specs.RowLaws.{RowFits, record-has, record-from}
 use Rattle.traced.specs.Theorem.{keptRows}
 use Rattle.culprit.specs.Culprit.{cutTraced, tracedCut, without, hasWay, isCulprit}
@@ -85,25 +87,25 @@ module _ (p : Program) (name keep rec : List ℕ) (flag words : ℕ) where
 -- a list that has way 0 has plain glyphs alone, and their renumbering does not fail
 pub record Renumbers (p : Program) (keep : List ℕ) : Type 0 where
   pub rows : List Row
-  pub met : keptRows p keep ≡ yes rows
+  pub met : keptRows p keep ≡ some rows
   pub bodies : Bodies
-  pub is : renumbered p (rowsOf (recordOf rows)) (usedFds p (keptOf (length (p .charstrings)) keep)) (writtenOrder p (keptOf (length (p .charstrings)) keep)) ≡ yes bodies
+  pub is : renumbered p (rowsOf (recordOf rows)) (usedFds p (keptOf (length (p .charstrings)) keep)) (writtenOrder p (keptOf (length (p .charstrings)) keep)) ≡ some bodies
 
 module _ (p : Program) (name keep : List ℕ) (words lent : ℕ) where
-  by-bodies : (rows : List Row) → keptRows p keep ≡ yes rows → cut p name keep (recordOf rows) 1 words .way ≡ 0 → Renumbers p keep
+  by-bodies : (rows : List Row) → keptRows p keep ≡ some rows → cut p name keep (recordOf rows) 1 words .way ≡ 0 → Renumbers p keep
   unfolding pruned
   by-bodies rows m e =
       by (renumbered p (rowsOf (recordOf rows)) (usedFds p (keptOf (length (p .charstrings)) keep)) (writtenOrder p (keptOf (length (p .charstrings)) keep))) refl e
     where
-      by : (b : May Bodies) → renumbered p (rowsOf (recordOf rows)) (usedFds p (keptOf (length (p .charstrings)) keep)) (writtenOrder p (keptOf (length (p .charstrings)) keep)) ≡ b
+      by : (b : Option Bodies) → renumbered p (rowsOf (recordOf rows)) (usedFds p (keptOf (length (p .charstrings)) keep)) (writtenOrder p (keptOf (length (p .charstrings)) keep)) ≡ b
           → orStubbed b (stubbed p (rowsOf (recordOf rows)) (usedFds p (keptOf (length (p .charstrings)) keep)) (writtenOrder p (keptOf (length (p .charstrings)) keep))) .way ≡ 0 → Renumbers p keep
-      by fail q h = absurd (zero-one (sym h))
-      by (yes b) q h = record { rows = rows; met = m; bodies = b; is = q }
+      by none q h = absurd (zero-one (sym h))
+      by (some b) q h = record { rows = rows; met = m; bodies = b; is = q }
 
-  by-rows : (m : May (List Row)) → keptRows p keep ≡ m → hasWay 0 (cutTraced p name keep words (answered lent m)) ≡ true → Renumbers p keep
+  by-rows : (m : Option (List Row)) → keptRows p keep ≡ m → hasWay 0 (cutTraced p name keep words (answered lent m)) ≡ true → Renumbers p keep
   unfolding pruned
-  by-rows fail q e = absurd (zero-one (let two : 2 ≡ 0 = cut-way p name keep [] 0 words e in omega arith))
-  by-rows (yes rows) q e = by (ltb lent (length (recordOf rows))) e
+  by-rows none q e = absurd (zero-one (let two : 2 ≡ 0 = cut-way p name keep [] 0 words e in omega arith))
+  by-rows (some rows) q e = by (ltb lent (length (recordOf rows))) e
     where
       by : (t : Bool) → hasWay 0 (cutTraced p name keep words (pick t (refusedTrace 11) (traced 1 (recordOf rows)))) ≡ true → Renumbers p keep
       by true h = absurd (zero-one cc)
@@ -160,13 +162,13 @@ module _ (p : Program) (keep : List ℕ) (g : ℕ) where
 
   -- glyph 0 stays
   pub zero-left : 0 < length (p .charstrings) → isIn 0 left ≡ true
-  zero-left some = those-has (keeps (without g keep)) (length (p .charstrings)) 0 0 (omega arith) (omega arith) refl
+  zero-left any = those-has (keeps (without g keep)) (length (p .charstrings)) 0 0 (omega arith) (omega arith) refl
 
   -- ---- their rows
 
-  module _ (rows : List Row) (met : keptRows p keep ≡ yes rows) (fits : All RowFits rows) (rows' : List Row) (met' : keptRows p (without g keep) ≡ yes rows') where
+  module _ (rows : List Row) (met : keptRows p keep ≡ some rows) (fits : All RowFits rows) (rows' : List Row) (met' : keptRows p (without g keep) ≡ some rows') where
     -- a row that a kept glyph meets is there
-    has-met : (gs : List ℕ) (l : List Row) → metAll p gs ≡ yes l → (x : ℕ) → isIn x gs ≡ true → (r : Row) → Meets p x r → Has Row r l
+    has-met : (gs : List ℕ) (l : List Row) → metAll p gs ≡ some l → (x : ℕ) → isIn x gs ≡ true → (r : Row) → Meets p x r → Has Row r l
     has-met gs l e x h r m =
         let w = met-within p gs l e x h in
         let s : plain (m .tokens) (m .met) ≡ plain (w .tokens) (w .met) = sym (m .plainly) ∙ w .plainly in
@@ -216,7 +218,7 @@ codeAt p (local f k) = getD (localsOf p f) k []
 codeAt p (global k) = getD (p .globals) k []
 
 -- a body renumbered by some rows
-abbrev pub bodyAt : Program → List Row → Site → May (List ℕ)
+abbrev pub bodyAt : Program → List Row → Site → Option (List ℕ)
 bodyAt p rows site = renumberedBody rows (callsIn p rows (fdAt p site)) site (codeAt p site)
 
 -- the body is that of a glyph x, or a subroutine of the font that x enters
@@ -232,25 +234,25 @@ pub record Runs (p : Program) (rows : List Row) (x : ℕ) (site : Site) : Type 0
 
 -- the FDs of a font are there
 pub record FdsThere (p : Program) : Type 0 where
-  pub some : 0 < length (p .charstrings)
+  pub any : 0 < length (p .charstrings)
   pub fds : (x : ℕ) → x < length (p .charstrings) → getD (p .fds) x 0 < length (p .privates)
 
 -- ---- bodies that are made
 
 -- one of those that are renumbered
-each-made : {A : Type 0} (f : ℕ → May A) (d : A) (ks : List ℕ) (l : List A) → each f ks ≡ yes l → (k : ℕ) → isIn k ks ≡ true → f k ≡ fail → ⊥
+each-made : {A : Type 0} (f : ℕ → Option A) (d : A) (ks : List ℕ) (l : List A) → each f ks ≡ some l → (k : ℕ) → isIn k ks ≡ true → f k ≡ none → ⊥
 each-made f d ks l e k h z =
     let i = in-place ks k h in
     let m = each-at f ks l e (i .0) d (i .1) in
-    zero-one (let n : fail ≡ yes (getD l (i .0) d) = sym z ∙ ap f (sym (i .2)) ∙ m in cc)
+    zero-one (let n : none ≡ some (getD l (i .0) d) = sym z ∙ ap f (sym (i .2)) ∙ m in cc)
 
 -- a subroutine that is reached
-subrs-made : (rows : List Row) (set : ℕ → Bool) (calls : Calls) (site : ℕ → Site) (subrs l : List (List ℕ)) → renumberedSubrs rows set calls site subrs ≡ yes l
-    → (k : ℕ) → k < length subrs → set k ≡ true → renumberedBody rows calls (site k) (getD subrs k []) ≡ fail → ⊥
+subrs-made : (rows : List Row) (set : ℕ → Bool) (calls : Calls) (site : ℕ → Site) (subrs l : List (List ℕ)) → renumberedSubrs rows set calls site subrs ≡ some l
+    → (k : ℕ) → k < length subrs → set k ≡ true → renumberedBody rows calls (site k) (getD subrs k []) ≡ none → ⊥
 unfolding renumberedSubrs
 subrs-made rows set calls site subrs l e k h t z = by (eqb (reached set) (countBelow set (length subrs))) e
   where
-    by : (b : Bool) → pick b (each (λ k. renumberedBody rows calls (site k) (getD subrs k [])) (those set (length subrs) 0)) fail ≡ yes l → ⊥
+    by : (b : Bool) → pick b (each (λ k. renumberedBody rows calls (site k) (getD subrs k [])) (those set (length subrs) 0)) none ≡ some l → ⊥
     by true q = each-made (λ k. renumberedBody rows calls (site k) (getD subrs k [])) [] (those set (length subrs) 0) l q k (those-has set (length subrs) 0 k (omega arith) (omega arith) t) z
     by false q = zero-one cc
 
@@ -272,7 +274,7 @@ across-fails p rows fd (f ∷ []) h b z e =
     ⊎-elim (λ i. ap (λ (k : ℕ). callsIn p rows k b z) i ∙ e) (λ i. absurd (in-none fd i)) (in-cases f fd [] h)
 across-fails p rows fd (f ∷ f' ∷ fs) h b z e = by (eqb b 10) e
   where
-    by : (t : Bool) → pick t (localOperand p rows fd z) (globalOperand p rows z) ≡ fails → pick t fails (globalOperand p rows z) ≡ fails
+    by : (t : Bool) → pick t (localOperand p rows fd z) (globalOperand p rows z) ≡ none → pick t none (globalOperand p rows z) ≡ none
     by true i = refl
     by false i = i
 
@@ -282,8 +284,8 @@ fewer-self rows site = record { fewer = λ q h. h; same = λ o l h. h }
 
 -- where all are renumbered, a body that a kept glyph runs does not fail
 body-made : (p : Program) → FdsThere p → (gs : List ℕ) → isIn 0 gs ≡ true → (x : ℕ) → isIn x gs ≡ true → x < length (p .charstrings)
-    → (rows : List Row) (order : List ℕ) → isIn x order ≡ true → (b : Bodies) → renumbered p rows (usedFds p gs) order ≡ yes b
-    → (site : Site) → Entered p x site → ((r : Row) → Meets p x r → lists rows r ≡ true) → bodyAt p rows site ≡ fail → ⊥
+    → (rows : List Row) (order : List ℕ) → isIn x order ≡ true → (b : Bodies) → renumbered p rows (usedFds p gs) order ≡ some b
+    → (site : Site) → Entered p x site → ((r : Row) → Meets p x r → lists rows r ≡ true) → bodyAt p rows site ≡ none → ⊥
 unfolding renumbered
 body-made p there gs zero-in x kept below rows order placed b e site enters listed bad =
     let one = and-yes (renumberedSubrs rows (globalSet rows) (callsAcross p rows used) global (p .globals)) _ b e in
@@ -294,10 +296,10 @@ body-made p there gs zero-in x kept below rows order placed b e site enters list
     used : List ℕ
     used = usedFds p gs
 
-    by : (site : Site) → Entered p x site → bodyAt p rows site ≡ fail
-        → (gl : List (List ℕ)) → renumberedSubrs rows (globalSet rows) (callsAcross p rows used) global (p .globals) ≡ yes gl
-        → (ls : List (List (List ℕ))) → each (λ f. renumberedSubrs rows (localSet rows f) (callsIn p rows f) (local f) (localsOf p f)) used ≡ yes ls
-        → (cs : List (List ℕ)) → each (λ g. renumberedBody rows (callsIn p rows (getD (p .fds) g 0)) (glyph g) (getD (p .charstrings) g [])) order ≡ yes cs → ⊥
+    by : (site : Site) → Entered p x site → bodyAt p rows site ≡ none
+        → (gl : List (List ℕ)) → renumberedSubrs rows (globalSet rows) (callsAcross p rows used) global (p .globals) ≡ some gl
+        → (ls : List (List (List ℕ))) → each (λ f. renumberedSubrs rows (localSet rows f) (callsIn p rows f) (local f) (localsOf p f)) used ≡ some ls
+        → (cs : List (List ℕ)) → each (λ g. renumberedBody rows (callsIn p rows (getD (p .fds) g 0)) (glyph g) (getD (p .charstrings) g [])) order ≡ some cs → ⊥
     by (glyph h) i z gl u ls v cs w =
         each-made (λ g. renumberedBody rows (callsIn p rows (getD (p .fds) g 0)) (glyph g) (getD (p .charstrings) g [])) [] order cs w h (ap (λ (k : ℕ). isIn k order) (sym i) ∙ placed) z
     by (local f k) i z gl u ls v cs w =
@@ -308,13 +310,13 @@ body-made p there gs zero-in x kept below rows order placed b e site enters list
     by (global k) i z gl u ls v cs w =
         subrs-made rows (globalSet rows) (callsAcross p rows used) global (p .globals) gl u k (i .0) (listed (entered (global k)) (i .1))
         (body-fewer rows rows (global k) (fewer-self rows (global k)) (callsIn p rows (getD (p .fds) 0 0)) (callsAcross p rows used)
-        (across-fails p rows (getD (p .fds) 0 0) used (fd-used p gs 0 zero-in (there .fds 0 (there .some)))) (getD (p .globals) k []) z)
+        (across-fails p rows (getD (p .fds) 0 0) used (fd-used p gs 0 zero-in (there .fds 0 (there .any)))) (getD (p .globals) k []) z)
 
 -- ---- the law
 
-module _ (p : Program) (there : FdsThere p) (name keep : List ℕ) (words lent : ℕ) (rows : List Row) (met : keptRows p keep ≡ yes rows) (fits : All RowFits rows) where
+module _ (p : Program) (there : FdsThere p) (name keep : List ℕ) (words lent : ℕ) (rows : List Row) (met : keptRows p keep ≡ some rows) (fits : All RowFits rows) where
   -- THE LAW: where a body fails that a kept glyph runs, meeting each of its masks, no other glyph is a culprit
-  pub one-culprit : (site : Site) → bodyAt p (rowsOf (recordOf rows)) site ≡ fail → (x : ℕ) → isIn x (keptOf (length (p .charstrings)) keep) ≡ true
+  pub one-culprit : (site : Site) → bodyAt p (rowsOf (recordOf rows)) site ≡ none → (x : ℕ) → isIn x (keptOf (length (p .charstrings)) keep) ≡ true
       → Runs p (rowsOf (recordOf rows)) x site → (g : ℕ) → (x ≡ g → ⊥) → isCulprit p name keep words lent g ≡ false
   unfolding isCulprit
   one-culprit site bad x kept runs g other =
@@ -324,10 +326,10 @@ module _ (p : Program) (there : FdsThere p) (name keep : List ℕ) (words lent :
       let now = rowsOf (recordOf (w .rows)) in
       let gs = left p keep g in
       let few = rows-fewer p keep g rows met fits (w .rows) (w .met) x kept other site (runs .masks) in
-      let fails = body-fewer was now site few (callsIn p was (fdAt p site)) (callsIn p now (fdAt p site)) (calls-fewer was now (few .fewer) p (fdAt p site)) (codeAt p site) bad in
+      let fewer = body-fewer was now site few (callsIn p was (fdAt p site)) (callsIn p now (fdAt p site)) (calls-fewer was now (few .fewer) p (fdAt p site)) (codeAt p site) bad in
       let in-left = kept-other p keep g x other kept in
-      body-made p there gs (zero-left p keep g (there .some)) x in-left (kept-below (length (p .charstrings)) keep x kept) now (writtenOrder p gs) (order-same p gs x ∙ in-left) (w .bodies) (w .is)
-      site (runs .enters) (λ r m. has-listed r now (stays-listed p keep g rows met fits (w .rows) (w .met) x kept other r m)) fails)
+      body-made p there gs (zero-left p keep g (there .any)) x in-left (kept-below (length (p .charstrings)) keep x kept) now (writtenOrder p gs) (order-same p gs x ∙ in-left) (w .bodies) (w .is)
+      site (runs .enters) (λ r m. has-listed r now (stays-listed p keep g rows met fits (w .rows) (w .met) x kept other r m)) fewer)
 
   -- a glyph runs its own charstring
   own-runs : (h : ℕ) → Runs p (rowsOf (recordOf rows)) h (glyph h)
@@ -339,6 +341,6 @@ module _ (p : Program) (there : FdsThere p) (name keep : List ℕ) (words lent :
       }
 
   -- so of a charstring that fails only its own glyph can be the culprit
-  pub charstring-fails : (h : ℕ) → isIn h (keptOf (length (p .charstrings)) keep) ≡ true → bodyAt p (rowsOf (recordOf rows)) (glyph h) ≡ fail
+  pub charstring-fails : (h : ℕ) → isIn h (keptOf (length (p .charstrings)) keep) ≡ true → bodyAt p (rowsOf (recordOf rows)) (glyph h) ≡ none
       → (g : ℕ) → (h ≡ g → ⊥) → isCulprit p name keep words lent g ≡ false
   charstring-fails h kept bad g other = one-culprit (glyph h) bad h kept (own-runs h) g other

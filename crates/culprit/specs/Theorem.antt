@@ -1,6 +1,6 @@
 -- What the answer is (document 02, Wish 12), in its words: a glyph is the smallest kept one but 0 without which the traced subset has way 0; none stands
 -- where the way was not 1, and where it was 1 exactly where no single kept glyph but 0 does this. A traced cut is the subset call with what was traced.
-use Prim.Native.Nat.{ℕ, _-_, _+_, _<_}
+use Prim.Native.Nat.{ℕ, _-_, _<_}
 use mathlib.Core.Path.{_≡_, refl, sym, ap, _∙_}
 use mathlib.Core.Bool.{Bool, true, false}
 use mathlib.Core.List.{List}
@@ -19,7 +19,7 @@ use Rattle.cff.specs.Font.{Got, got, Program, readFont}
 use Rattle.cff.specs.Find.{workSize}
 use Rattle.subset.specs.Kept.{isIn, those, keptOf}
 use Rattle.subset.specs.KeptListLaws.{in-place}
-use Rattle.subset.specs.Cut.{Outcome, refused, subset, allFound, hasRos, sameBool, unsupportedIn, cutProgram, cutRead, cutWith, cutOf}
+use Rattle.subset.specs.Cut.{Outcome, refused, subset, allFound, hasRos, sameBool, unsupportedIn, cutRead, cutWith, cutOf}
 use Rattle.traced.specs.Traced.{Traced, refused as refusedTrace, traced, metAll, answered, traceProgram, traceRead, traceOf}
 use Rattle.culprit.specs.Culprit.{cutTraced, tracedCut, without, hasWay, isCulprit, firstOf, leastCulprit, answerBy, culpritIn, passesNine, usesRead, usesLent}
 use Rattle.culprit.specs.CulpritLaws.{first-is, first-none, none-first}

@@ -18,7 +18,7 @@ use Rattle.dict.specs.Places.{listed, entriesOf}
 use Rattle.dict_write.specs.Written.{copiedEntry, opBytes, entriesBytes, offsetEntry, privateEntry, without}
 use Rattle.charset.specs.CharsetBytes.{idBytes, charsetBytes}
 use Rattle.charset.specs.Encoding.{encodingAt}
-use Rattle.charset.specs.Codes.{byNumber, byString, codesFrom, rangeFrom, rangesFrom, suppliedFrom, namingsBy, namingsAt}
+use Rattle.charset.specs.Codes.{byString, codesFrom, rangeFrom, rangesFrom, suppliedFrom, namingsBy, namingsAt}
 use Rattle.strings.specs.Table.{standardNames}
 use Rattle.strings.specs.Text.{codes, sameText}
 use Rattle.strings.specs.Strings.{stringText, standardString, standardStrings, sidIn, sidOf}

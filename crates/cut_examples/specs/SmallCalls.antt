@@ -1,9 +1,9 @@
 -- The small call (document 02, Wish 10) on the font of Encoded, which has three glyphs and no subroutine: with one work word it gives the subset
 -- that the larger one gives, which asks for six; with none it is refused by 9.
 use Prim.Native.Nat.{ℕ, _≤_}
-use mathlib.Core.Path.{_≡_, refl, sym, ap, _∙_, subst}
+use mathlib.Core.Path.{_≡_, refl, ap, _∙_, subst}
 use mathlib.Core.Bool.{true, false}
-use mathlib.Core.List.{List, [], _∷_}
+use mathlib.Core.List.{[], _∷_}
 use native.Mathlib.Omega.{arith}
 use Rattle.octets.specs.Lists.{allBelow}
 use Rattle.strings.specs.Table.{standardNames}
@@ -12,7 +12,7 @@ use Rattle.strings.specs.Strings.{stringText, standardString, standardStrings}
 use Rattle.dict.specs.Lookup.{lastFrom, lastOf}
 use Rattle.find.specs.Find.{glyphWithText}
 use Rattle.record.specs.Record.{rowsFrom, rowsOf, rowsFine, recordFine}
-use Rattle.cff.specs.Font.{Got, got, Program}
+use Rattle.cff.specs.Font.{Got, Program}
 use Rattle.cff.specs.Find.{localsWords, workSize}
 use Rattle.subset.specs.Kept.{isIn, those}
 use Rattle.subset.specs.Cut.{refused, subset, allFound, cutRead, cutWith}

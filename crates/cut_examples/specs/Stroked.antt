@@ -1,10 +1,7 @@
 -- Fonts that are not refused as stroked (document 02, Wish 11), each a whole call on a font of subset's StrokedExample: the subset is that of the font without
 -- either entry.
-use Prim.Native.Nat.{ℕ, _+_}
 use mathlib.Core.Path.{_≡_, refl}
-use mathlib.Core.Bool.{true, false}
-use mathlib.Core.List.{List, [], _∷_, _++_}
-use lib.ListN.{length}
+use mathlib.Core.List.{[], _∷_}
 use Rattle.octets.specs.Octets.{be, numAt, bytesOf}
 use Rattle.octets.specs.Lists.{allBelow, joined}
 use Rattle.type2_number.specs.Number.{keep24, rounded}
@@ -15,7 +12,6 @@ use Rattle.charstring.specs.Encode.{encode}
 use Rattle.index.specs.Index.{offsets, runOf, judged, dataAt, tableAt, indexAt, pieces, itemsOf, told, readIndex}
 use Rattle.index.specs.Write.{total, sizeFor, ends, tableBytes, headBytes, itemsBytes, indexBytes}
 use Rattle.decimal.specs.Decimal.{zerosOf, zeros, stripped, normal}
-use Rattle.decimal.specs.Real.{nibbles, textOf, expDigits, exponent, mantissa, formOf, valueOf}
 use Rattle.decimal.specs.Number as dec
 use Rattle.decimal.specs.Values.{truncOf}
 use Rattle.decimal.specs.Written as decw
@@ -39,7 +35,7 @@ use Rattle.bits.specs.Bits.{countBelow}
 use Rattle.subset.specs.Pruned.{each, renumberedBody, renumberedSubrs, renumbered, pruned}
 use Rattle.subset.specs.Texts.{hasText, ownStrings, placeIn, newId, namedEntries, textsOf, namesOf}
 use Rattle.subset.specs.Subset.{namedBytes, copiedBytes, newIds, privateParts, fontDicts, cidsOf, newFds, subsetByName, subsetByCid, subsetBytes}
-use Rattle.subset.specs.Cut.{Outcome, refused, subset, allFound, cutWith}
+use Rattle.subset.specs.Cut.{refused, subset, allFound, cutWith}
 use Rattle.subset.specs.StrokedExample.{byName, nameSubset, byCid, cidSubset}
 use Rattle.dict.specs.Places.{listed}
 

@@ -13,6 +13,7 @@ ghost use Rattle.decimal.specs.Number.{pairAt, realAt, numberAt, answerO
 ghost use Rattle.decimal.specs.Values.{truncOf, clamped, i32Of, idOf, offsetOf, isTwo};
 ghost use Rattle.decimal.specs.declared.NumberAt.the-variants.{Num};
 use octets::wide;
+use refusal::Refusal;
 
 // ± digits × 10 ^ up / 10 ^ down; normalised, so that two equal numbers are one value.
 pub struct Decimal {
@@ -160,7 +161,7 @@ fn pair(d: &[u8], at: usize, v: usize) -> NumberAt
     ensures { λ r. ⌜ r ≡ answerOf (pairAt (now (d .entry)) at v) ⌝ }
 {
     if d.len() - at < 2 {
-        return NumberAt::Refused(1);
+        return NumberAt::Refused(Refusal::TRUNCATED);
     }
     let w = wide(d[at + 1]);
     if v < 251 {
@@ -178,13 +179,13 @@ pub fn number_at(d: &[u8], at: usize) -> NumberAt
     let v = wide(d[at]);
     if v == 28 {
         if left < 3 {
-            return NumberAt::Refused(1);
+            return NumberAt::Refused(Refusal::TRUNCATED);
         }
         return twos(octets::u16_at(d, at + 1), 32768, at + 3);
     }
     if v == 29 {
         if left < 5 {
-            return NumberAt::Refused(1);
+            return NumberAt::Refused(Refusal::TRUNCATED);
         }
         return twos(octets::u32_at(d, at + 1), 2147483648, at + 5);
     }
@@ -212,7 +213,7 @@ fn past_bytes(d: &[u8], at: usize, width: usize) -> PastAt
     ensures { λ r. ⌜ r ≡ pastWidth (now (d .entry)) at width ⌝ }
 {
     if d.len() - at < width {
-        return PastAt::Refused(1);
+        return PastAt::Refused(Refusal::TRUNCATED);
     }
     PastAt::Past(at + width)
 }
@@ -391,13 +392,13 @@ pub fn offset_of(d: Decimal) -> OffsetOf
     let neg = d.neg;
     let down = d.down;
     if neg {
-        return OffsetOf::Refused(2);
+        return OffsetOf::Refused(Refusal::MALFORMED);
     }
     if down == 0 {
         let n = trunc(d);
         return OffsetOf::Offset(n);
     }
-    OffsetOf::Refused(2)
+    OffsetOf::Refused(Refusal::MALFORMED)
 }
 
 // Exactly 2: the charstring type that is supported.

@@ -8,7 +8,6 @@ ghost use Rattle.decimal.specs.Decimal.{scaled};
 ghost use Rattle.decimal.specs.Real.{limited};
 ghost use Rattle.decimal.specs.Number.{placed, realAt, answerOf};
 ghost use Rattle.decimal.specs.Stage.{Exact, stepOf, mantissaStep, exponentStep, heldOf, stageOf, Finished, Ended, Stopped};
-ghost use Rattle.decimal.specs.declared.NumberAt.the-variants.{Num};
 use crate::Decimal;
 use crate::Held;
 use crate::NumberAt;
@@ -17,6 +16,7 @@ use crate::Stage;
 use crate::TOO_MANY;
 use crate::scaled_up;
 use octets::wide;
+use refusal::Refusal;
 
 // One more, but 1000 at most.
 fn raised(n: usize) -> usize
@@ -211,7 +211,7 @@ fn limited(neg: bool, digits: usize, up: usize, down: usize, next: usize) -> Num
     if down <= up {
         let over = up - down;
         if 30 < over {
-            return NumberAt::Refused(5);
+            return NumberAt::Refused(Refusal::REAL);
         }
         return NumberAt::Num {
             value: Decimal {
@@ -225,7 +225,7 @@ fn limited(neg: bool, digits: usize, up: usize, down: usize, next: usize) -> Num
     }
     let under = down - up;
     if 30 < under {
-        return NumberAt::Refused(5);
+        return NumberAt::Refused(Refusal::REAL);
     }
     NumberAt::Num {
         value: Decimal {
@@ -248,7 +248,7 @@ fn finished(held: Held, eneg: bool, exp: usize, bytes: usize, next: usize) -> Nu
     let zeros = held.zeros;
     let behind = held.behind;
     if 32 < bytes {
-        return NumberAt::Refused(5);
+        return NumberAt::Refused(Refusal::REAL);
     }
     if digits == 0 {
         return NumberAt::Num {
@@ -262,7 +262,7 @@ fn finished(held: Held, eneg: bool, exp: usize, bytes: usize, next: usize) -> Nu
         };
     }
     if TOO_MANY <= digits {
-        return NumberAt::Refused(5);
+        return NumberAt::Refused(Refusal::REAL);
     }
     if eneg {
         return limited(neg, digits, zeros, behind + exp, next);
@@ -285,9 +285,9 @@ fn ended(stage: Stage, bytes: usize, next: usize) -> NumberAt
             if any {
                 return finished(held, false, 0, bytes, next);
             }
-            NumberAt::Refused(2)
+            NumberAt::Refused(Refusal::MALFORMED)
         }
-        Stage::Exponent { held: _ } => NumberAt::Refused(2),
+        Stage::Exponent { held: _ } => NumberAt::Refused(Refusal::MALFORMED),
         Stage::Power {
             held,
             eneg,
@@ -297,9 +297,9 @@ fn ended(stage: Stage, bytes: usize, next: usize) -> NumberAt
             if any {
                 return finished(held, eneg, exp, bytes, next);
             }
-            NumberAt::Refused(2)
+            NumberAt::Refused(Refusal::MALFORMED)
         }
-        Stage::Malformed => NumberAt::Refused(2),
+        Stage::Malformed => NumberAt::Refused(Refusal::MALFORMED),
     }
 }
 
@@ -317,7 +317,7 @@ pub fn parse_real(d: &[u8], at: usize) -> NumberAt
             return ended(stage, p - at, p + 1);
         }
         if high == 13 {
-            return NumberAt::Refused(2);
+            return NumberAt::Refused(Refusal::MALFORMED);
         }
         stage = step(stage, high);
         let low = b % 16;
@@ -325,10 +325,10 @@ pub fn parse_real(d: &[u8], at: usize) -> NumberAt
             return ended(stage, p - at, p + 1);
         }
         if low == 13 {
-            return NumberAt::Refused(2);
+            return NumberAt::Refused(Refusal::MALFORMED);
         }
         stage = step(stage, low);
         p += 1;
     }
-    NumberAt::Refused(1)
+    NumberAt::Refused(Refusal::TRUNCATED)
 }

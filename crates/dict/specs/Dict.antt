@@ -1,7 +1,7 @@
 -- A DICT of TN5176, section 4: entries one after the other, each the operands, which are numbers, and then their operator. It is refused
 -- where the Rust's Dict::parse first fails: 1 truncated, 2 malformed, 5 a real past the limits of document 01.
 use Prim.Native.Nat.{ℕ, zero, suc, _+_}
-use mathlib.Core.List.{List, [], _∷_, _++_}
+use mathlib.Core.List.{List, [], _∷_}
 use lib.ListN.{length, getD}
 use lib.Dec.{ltb, eqb}
 use Rattle.octets.specs.Pick.{pick}

@@ -1,20 +1,18 @@
 -- Laws of an entry read token by token, and of the entries one after the other: what is left after a token, after an entry.
-use Prim.Native.Nat.{ℕ, zero, suc, _+_, _-_, _≤_, _<_}
-use mathlib.Core.Path.{_≡_, refl, sym, ap, _∙_, subst}
+use Prim.Native.Nat.{ℕ, zero, suc, _-_, _≤_, _<_}
+use mathlib.Core.Path.{_≡_, refl, sym, ap, _∙_}
 use mathlib.Core.Bool.{Bool, true, false}
-use mathlib.Core.List.{List, [], _∷_, _++_}
+use mathlib.Core.List.{List, [], _∷_}
 use native.Mathlib.Omega.{arith}
 use lib.Dec.{ltb}
 use lib.ListN.{length}
 use borrow.Author.Tests.{ltb-true, ltb-false, lt-ltb, le-ltb}
-use Rattle.octets.specs.Pick.{pick, pick-ind}
-use Rattle.octets.specs.Octets.{Octets}
+use Rattle.octets.specs.Pick.{pick-ind}
 use Rattle.decimal.specs.declared.Decimal.{Decimal}
-use Rattle.decimal.specs.Number.{Number, number, numberAt}
-use Rattle.dict.specs.Op.{isOperator}
+use Rattle.decimal.specs.Number.{number, numberAt}
 use Rattle.dict.specs.Dict.{Token, bad, operand, operator, tokenAt, Reading, stopped, got, after, onward, entryFrom, entryAt, followed, readingsFrom, readingsAt}
-use Rattle.dict.specs.Places.{orNone, operandsAt}
-use Rattle.dict.specs.TokenLaws.{Passes, token-passes, operator-is}
+use Rattle.dict.specs.Places.{operandsAt}
+use Rattle.dict.specs.TokenLaws.{Passes, token-passes}
 
 -- ---- an entry: enough tokens are enough
 

@@ -1,7 +1,7 @@
 -- Worked examples, computed: each point of document 01 ('Corners in mod.rs') on DICT entries, and each refusal.
 use Prim.Native.Nat.{ℕ}
 use mathlib.Core.Path.{_≡_, refl}
-use mathlib.Core.Bool.{Bool, true, false}
+use mathlib.Core.Bool.{true, false}
 use mathlib.Core.List.{List, [], _∷_}
 use Rattle.octets.specs.Octets.{be, numAt}
 use Rattle.decimal.specs.declared.Decimal.{Decimal}
@@ -11,8 +11,8 @@ use Rattle.decimal.specs.Real.{nibbles, textOf, expDigits, exponent, mantissa, 
 use Rattle.decimal.specs.Number.{realAt, numberAt}
 use Rattle.decimal.specs.Values.{truncOf}
 use Rattle.dict.specs.Op.{esc, paintType}
-use Rattle.dict.specs.Dict.{Entry, Dict, refused, entries, operatorAt, tokenAt, entryFrom, entryAt, readingsFrom, readingsAt, gathered, dictOf}
-use Rattle.dict.specs.Lookup.{Operands, absent, operands, lastFrom, lastOf, oneOf, offsetIn, privateIn, idIn, cidKeyed, rosIn, cidCountIn, strokedIn, charstringTypeIn}
+use Rattle.dict.specs.Dict.{Entry, refused, entries, operatorAt, tokenAt, entryFrom, entryAt, readingsFrom, readingsAt, gathered, dictOf}
+use Rattle.dict.specs.Lookup.{absent, operands, lastFrom, lastOf, oneOf, offsetIn, privateIn, idIn, cidKeyed, rosIn, cidCountIn, strokedIn, charstringTypeIn}
 use Rattle.dict.specs.Places.{listed, entriesOf, lastPlace, placeOf, operandsAt}
 use Rattle.dict.specs.declared.One.the-variants.{Number, Absent as NoNumber}
 use Rattle.dict.specs.declared.OffsetIn.the-variants.{Refused, At, Absent as NoOffset}
@@ -123,7 +123,7 @@ stroked = (refl, refl, refl, refl, refl, refl, refl, refl, refl, refl, refl, ref
 
 -- where the last CharStrings stands in two, and the operand there
 places :
-    (placeOf 17 (0x8c ∷ 0x11 ∷ 0x1c ∷ 0x01 ∷ 0x00 ∷ 0x11 ∷ []) ≡ FoundAt 2 5 1)
+    (placeOf 17 (0x8c ∷ 0x11 ∷ 0x1c ∷ 0x01 ∷ 0x00 ∷ 0x11 ∷ []) ≡ FoundAt 2 1)
     × (placeOf 18 (0x8c ∷ 0x11 ∷ []) ≡ NotFound)
     × (operandsAt 1 (0x8c ∷ 0x11 ∷ 0x8d ∷ 0x11 ∷ []) 2 ≡ whole 2 ∷ [])
 unfolding be numAt zerosOf zeros stripped normal nibbles textOf expDigits exponent mantissa formOf valueOf realAt numberAt

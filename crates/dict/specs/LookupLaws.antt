@@ -2,9 +2,9 @@
 use Prim.Native.Nat.{ℕ, zero, suc, _+_, _-_, _≤_, _<_}
 use mathlib.Core.Path.{_≡_, refl, sym, ap, _∙_, subst}
 use mathlib.Core.Bool.{Bool, true, false, not}
-use mathlib.Core.List.{List, [], _∷_, _++_}
+use mathlib.Core.List.{List, [], _∷_}
 use native.Mathlib.Nat.{not-suc-le-zero}
-use native.Mathlib.Numerals.{add-one, sub-one}
+use native.Mathlib.Numerals.{add-one}
 use native.Mathlib.Omega.{arith}
 use lib.Dec.{ltb, eqb}
 use lib.ListN.{length, getD, List·getD-eq-default}
@@ -18,30 +18,29 @@ use Rattle.decimal.specs.declared.IdOf.{IdOf}
 use Rattle.decimal.specs.declared.IdOf.the-variants.{Id, Absent as NoId}
 use Rattle.decimal.specs.declared.OffsetOf.{OffsetOf}
 use Rattle.decimal.specs.declared.OffsetOf.the-variants.{Refused as RefusedOffset, Offset}
-use Rattle.decimal.specs.declared.Signed.{Signed}
 use Rattle.decimal.specs.Decimal.{nought, Normal}
 use Rattle.decimal.specs.DecimalLaws.{normal-nought}
 use Rattle.decimal.specs.TakenLaws.{whole-normal, number-taken}
-use Rattle.decimal.specs.Values.{truncOf, clamped, i32Of, idOf, offsetOf, isTwo}
+use Rattle.decimal.specs.Values.{truncOf, clamped, idOf, offsetOf, isTwo}
 use Rattle.decimal.specs.Number.{Number, refused as refusedNumber, notNumber, number, numberAt, answerOf}
 use Rattle.decimal.specs.NumberLaws.{form-none}
-use Rattle.dict.specs.Dict.{Entry, Reading, stopped, got, entryAt, followed, readingsFrom, readingsAt, Dict, refused, entries, before, gathered, dictOf}
+use Rattle.dict.specs.Dict.{Entry, Reading, stopped, got, entryAt, followed, readingsFrom, readingsAt, refused, entries, before, gathered, dictOf}
 use Rattle.dict.specs.Lookup.{Operands, absent, operands, lastFrom, lastOf, only, oneOf, offsetTold, offsetAs, offsetIn, privateAs, privateIn, idAs, idIn, isThere, rosAs, rosIn, countAs, cidCountIn, strokedAs, strokedIn, typeAs, charstringTypeIn}
 use Rattle.dict.specs.Op.{private, paintType, charstringType, ros, cidCount}
 use Rattle.dict.specs.Proper.{AllNormal}
 use Rattle.dict.specs.Places.{refusalOf, listed, entriesOf, Good, lastPlace, placeOf, orNone, operandsAt}
 use Rattle.dict.specs.TokenLaws.{Further, further}
 use Rattle.dict.specs.WalkLaws.{before-refusal}
-use Rattle.dict.specs.EntryLaws.{Stands, Entered, entered}
+use Rattle.dict.specs.EntryLaws.{Entered, entered}
 use Rattle.dict.specs.declared.Found.{Found}
 use Rattle.dict.specs.declared.Found.the-variants.{Absent, Entry as FoundAt}
 use Rattle.dict.specs.declared.One.{One}
 use Rattle.dict.specs.declared.One.the-variants.{Number as The, Absent as NoNumber}
 use Rattle.dict.specs.declared.OffsetIn.the-variants.{Refused as RefusedIn, At, Absent as NoOffset}
 use Rattle.dict.specs.declared.PrivateIn.{PrivateIn}
-use Rattle.dict.specs.declared.PrivateIn.the-variants.{Refused as RefusedPrivate, Private, Absent as NoPrivate}
+use Rattle.dict.specs.declared.PrivateIn.the-variants.{Refused as RefusedPrivate, Absent as NoPrivate}
 use Rattle.dict.specs.declared.RosIn.{RosIn}
-use Rattle.dict.specs.declared.RosIn.the-variants.{Ros, None}
+use Rattle.dict.specs.declared.RosIn.the-variants.{None}
 
 no : _≡_ {A = ℕ} 0 1 → ⊥
 no h = omega arith
@@ -150,8 +149,8 @@ pub record Held (b : List ℕ) (start count : ℕ) (ds : List Decimal) : Type 0 
 abbrev Matches : List ℕ → Found → Operands → Type 0
 Matches b Absent absent = Unit
 Matches b Absent (operands ds) = ⊥
-Matches b (FoundAt start end count) absent = ⊥
-Matches b (FoundAt start end count) (operands ds) = Held b start count ds
+Matches b (FoundAt start count) absent = ⊥
+Matches b (FoundAt start count) (operands ds) = Held b start count ds
 
 module _ (b : List ℕ) (op : ℕ) where
   pick-matches : (t : Bool) (f g : Found) (o p : Operands) → Matches b f o → Matches b g p → Matches b (pick t f g) (pick t o p)
@@ -163,8 +162,8 @@ module _ (b : List ℕ) (op : ℕ) where
   last-matches [] at found o c m = m
   last-matches (stopped n ∷ rs) at found o c m = m
   last-matches (got p ds end next ∷ rs) at found o c m =
-      last-matches rs next (pick (eqb p op) (FoundAt at end (length ds)) found) (pick (eqb p op) (operands ds) o) (c .1)
-      (pick-matches (eqb p op) (FoundAt at end (length ds)) found (operands ds) o (record { counted = refl; here = c .0 }) m)
+      last-matches rs next (pick (eqb p op) (FoundAt at (length ds)) found) (pick (eqb p op) (operands ds) o) (c .1)
+      (pick-matches (eqb p op) (FoundAt at (length ds)) found (operands ds) o (record { counted = refl; here = c .0 }) m)
 
   place-matches : Matches b (placeOf op b) (lastOf op (entriesOf b))
   unfolding lastOf
@@ -180,9 +179,9 @@ absent-of : (b : List ℕ) (o : Operands) → Matches b Absent o → o ≡ absen
 absent-of b absent m = refl
 absent-of b (operands ds) m = absurd m
 
-last-of : (b : List ℕ) (op start end count : ℕ) (o : Operands) → lastOf op (entriesOf b) ≡ o → Matches b (FoundAt start end count) o → Last b op start count
-last-of b op start end count absent e m = absurd m
-last-of b op start end count (operands ds) e m = record { numbers = ds; last = e; held = m }
+last-of : (b : List ℕ) (op start count : ℕ) (o : Operands) → lastOf op (entriesOf b) ≡ o → Matches b (FoundAt start count) o → Last b op start count
+last-of b op start count absent e m = absurd m
+last-of b op start count (operands ds) e m = record { numbers = ds; last = e; held = m }
 
 module _ (b : List ℕ) (op : ℕ) (r : Found) (e : r ≡ placeOf op b) where
   found-matches : (f : Found) → r ≡ f → Matches b f (lastOf op (entriesOf b))
@@ -191,8 +190,8 @@ module _ (b : List ℕ) (op : ℕ) (r : Found) (e : r ≡ placeOf op b) where
   pub none-last : r ≡ Absent → lastOf op (entriesOf b) ≡ absent
   none-last q = absent-of b (lastOf op (entriesOf b)) (found-matches Absent q)
 
-  pub found-last : (start end count : ℕ) → r ≡ FoundAt start end count → Last b op start count
-  found-last start end count q = last-of b op start end count (lastOf op (entriesOf b)) refl (found-matches (FoundAt start end count) q)
+  pub found-last : (start count : ℕ) → r ≡ FoundAt start count → Last b op start count
+  found-last start count q = last-of b op start count (lastOf op (entriesOf b)) refl (found-matches (FoundAt start count) q)
 
 -- ---- the k-th of them
 
@@ -229,22 +228,22 @@ module _ (b : List ℕ) (op : ℕ) (r : Found) (e : r ≡ placeOf op b) where
   pub one-absent : r ≡ Absent → NoNumber ≡ oneOf op (entriesOf b)
   one-absent q = sym (ap only (none-last b op r e q))
 
-  module _ (start end count : ℕ) (q : r ≡ FoundAt start end count) where
+  module _ (start count : ℕ) (q : r ≡ FoundAt start count) where
     pub one-other : (count ≡ 1 → ⊥) → NoNumber ≡ oneOf op (entriesOf b)
     one-other n =
-        let l = found-last b op r e start end count q in
+        let l = found-last b op r e start count q in
         only-other (l .numbers) (λ z. n (l .held .counted ∙ z)) ∙ sym (ap only (l .last))
 
     pub one-is : count ≡ 1 → (v : Decimal) → v ≡ getD (operandsAt 1 b start) 0 nought → The v ≡ oneOf op (entriesOf b)
     one-is n v f =
-        let l = found-last b op r e start end count q in
+        let l = found-last b op r e start count q in
         ap The (last-operand b op start count l 0 v (omega arith) f) ∙ only-one (l .numbers) (sym (l .held .counted) ∙ n) ∙ sym (ap only (l .last))
 
   pub there-not : r ≡ Absent → false ≡ isThere (lastOf op (entriesOf b))
   there-not q = sym (ap isThere (none-last b op r e q))
 
-  pub there-is : (start end count : ℕ) → r ≡ FoundAt start end count → true ≡ isThere (lastOf op (entriesOf b))
-  there-is start end count q = sym (ap isThere (found-last b op r e start end count q .last))
+  pub there-is : (start count : ℕ) → r ≡ FoundAt start count → true ≡ isThere (lastOf op (entriesOf b))
+  there-is start count q = sym (ap isThere (found-last b op r e start count q .last))
 
 -- ---- its numbers are normal
 
@@ -281,7 +280,7 @@ module _ (b : List ℕ) (o : Octets b) where
   only-normal f absent m v e = absurd (no cc)
   only-normal f (operands []) m v e = absurd (no cc)
   only-normal Absent (operands (d ∷ [])) m v e = absurd m
-  only-normal (FoundAt start end count) (operands (d ∷ [])) m v e =
+  only-normal (FoundAt start count) (operands (d ∷ [])) m v e =
       let k : d ≡ v = cc in
       let l = subst AllNormal (m .here) (operands-normal 1 start) in
       subst Normal k (one-of (d ∷ []) 0 l)
@@ -379,16 +378,16 @@ module _ (b : List ℕ) (r : Found) where
     pub private-absent : r ≡ Absent → NoPrivate ≡ privateIn (entriesOf b)
     private-absent q = sym (ap privateAs (none-last b private r e q))
 
-    module _ (start end count : ℕ) (q : r ≡ FoundAt start end count) where
+    module _ (start count : ℕ) (q : r ≡ FoundAt start count) where
       pub private-wrong : (count ≡ 2 → ⊥) → RefusedPrivate 2 ≡ privateIn (entriesOf b)
       private-wrong n =
-          let l = found-last b private r e start end count q in
+          let l = found-last b private r e start count q in
           private-other (l .numbers) (λ z. n (l .held .counted ∙ z)) ∙ sym (ap privateAs (l .last))
 
       pub private-is : count ≡ 2 → (s o : Decimal) → s ≡ getD (operandsAt 1 b start) 0 nought → o ≡ getD (operandsAt 2 b start) 1 nought
           → (x : PrivateIn) → x ≡ privateAs (operands (s ∷ o ∷ [])) → x ≡ privateIn (entriesOf b)
       private-is n s o f g x h =
-          let l = found-last b private r e start end count q in
+          let l = found-last b private r e start count q in
           let u = last-operand b private start count l 0 s (omega arith) f in
           let v = last-operand b private start count l 1 o (omega arith) g in
           h ∙ ap (λ (y : Decimal). privateAs (operands (y ∷ o ∷ []))) u ∙ ap (λ (y : Decimal). privateAs (operands (getD (l .numbers) 0 nought ∷ y ∷ []))) v
@@ -398,16 +397,16 @@ module _ (b : List ℕ) (r : Found) where
     pub ros-absent : r ≡ Absent → None ≡ rosIn (entriesOf b)
     ros-absent q = sym (ap rosAs (none-last b ros r e q))
 
-    module _ (start end count : ℕ) (q : r ≡ FoundAt start end count) where
+    module _ (start count : ℕ) (q : r ≡ FoundAt start count) where
       pub ros-wrong : (count ≡ 3 → ⊥) → None ≡ rosIn (entriesOf b)
       ros-wrong n =
-          let l = found-last b ros r e start end count q in
+          let l = found-last b ros r e start count q in
           ros-other (l .numbers) (λ z. n (l .held .counted ∙ z)) ∙ sym (ap rosAs (l .last))
 
       pub ros-is : count ≡ 3 → (g o s : Decimal) → g ≡ getD (operandsAt 1 b start) 0 nought → o ≡ getD (operandsAt 2 b start) 1 nought
           → s ≡ getD (operandsAt 3 b start) 2 nought → (x : RosIn) → x ≡ rosAs (operands (g ∷ o ∷ s ∷ [])) → x ≡ rosIn (entriesOf b)
       ros-is n g o s h i j x k =
-          let l = found-last b ros r e start end count q in
+          let l = found-last b ros r e start count q in
           let u = last-operand b ros start count l 0 g (omega arith) h in
           let v = last-operand b ros start count l 1 o (omega arith) i in
           let w = last-operand b ros start count l 2 s (omega arith) j in

@@ -33,22 +33,33 @@ slot-low [] op = omega arith
 slot-low (x ∷ xs) op =
     pick-ind (λ (n : ℕ). n ≤ suc (length xs)) (eqb x op) 0 (suc (slotOf xs op)) (λ e. omega arith) (λ e. let h = slot-low xs op in omega (arith, h))
 
--- an operator that reading does not ask for
-pub slot-none : (op : ℕ) → (op ≡ 15 → ⊥) → (op ≡ 16 → ⊥) → (op ≡ 17 → ⊥) → (op ≡ 18 → ⊥) → (op ≡ 19 → ⊥) → (op ≡ 3078 → ⊥) → (op ≡ 3102 → ⊥) → (op ≡ 3108 → ⊥)
-    → (op ≡ 3109 → ⊥) → 9 ≡ slotOf asked op
+-- an operator that is none of a list
+abbrev pub NoneOf : List ℕ → ℕ → Type 0
+NoneOf [] op = Unit
+NoneOf (x ∷ xs) op = (op ≡ x → ⊥) × NoneOf xs op
+
+pub slot-none : (xs : List ℕ) (op : ℕ) → NoneOf xs op → length xs ≡ slotOf xs op
 unfolding slotOf
-slot-none op a b c d e f g h i =
-    rw (
-      ne-eqb 15 op (λ z. a (sym z)),
-      ne-eqb 16 op (λ z. b (sym z)),
-      ne-eqb 17 op (λ z. c (sym z)),
-      ne-eqb 18 op (λ z. d (sym z)),
-      ne-eqb 19 op (λ z. e (sym z)),
-      ne-eqb 3078 op (λ z. f (sym z)),
-      ne-eqb 3102 op (λ z. g (sym z)),
-      ne-eqb 3108 op (λ z. h (sym z)),
-      ne-eqb 3109 op (λ z. i (sym z)),
-    )
+slot-none [] op h = refl
+slot-none (x ∷ xs) op h = rw (ne-eqb x op (λ z. h .0 (sym z))) (ap suc (slot-none xs op (h .1)))
+
+-- how long the tables are
+pub many-subsetting : (t : Bool) → t ≡ true → 15 ≡ length (asked t)
+unfolding asked
+many-subsetting t e = sym (ap (λ (u : Bool). length (asked u)) e)
+
+pub many-reading : (t : Bool) → t ≡ false → 9 ≡ length (asked t)
+unfolding asked
+many-reading t e = sym (ap (λ (u : Bool). length (asked u)) e)
+
+pub asked-few : (t : Bool) → length (asked t) ≤ 15
+unfolding asked
+asked-few false = omega arith
+asked-few true = omega arith
+
+-- a slot is one of 16
+pub slot-few : (t : Bool) (op s : ℕ) → s ≡ slotOf (asked t) op → s < 16
+slot-few t op s e = omega (arith, slot-low (asked t) op, asked-few t)
 
 -- two operators in one slot are one
 same-at : (x a b : ℕ) (xs : List ℕ) → (s t : Bool) → eqb x a ≡ s → eqb x b ≡ t
@@ -94,31 +105,28 @@ module _ (b : List ℕ) where
 
 -- ---- noting: what is left, and what was noted so far, gives what the whole does
 
-pub record Noting (b : List ℕ) (at : ℕ) (starts ends counts : List ℕ) : Type 0 where
+pub record Noting (t : Bool) (b : List ℕ) (at : ℕ) (starts counts : List ℕ) : Type 0 where
   pub checking : Checking b at
-  pub starts-long : length starts ≡ 10
-  pub ends-long : length ends ≡ 10
-  pub counts-long : length counts ≡ 10
-  pub each : (op : ℕ) → slotOf asked op < 9
-      → Finding b op at (foundOf (getD starts (slotOf asked op) 0) (getD ends (slotOf asked op) 0) (getD counts (slotOf asked op) 0))
+  pub starts-long : length starts ≡ 16
+  pub counts-long : length counts ≡ 16
+  pub each : (op : ℕ) → slotOf (asked t) op < length (asked t) → Finding b op at (foundOf (getD starts (slotOf (asked t) op) 0) (getD counts (slotOf (asked t) op) 0))
 
-pub noting-start : (b : List ℕ) → Noting b 0 (replicate 10 0) (replicate 10 0) (replicate 10 0)
-noting-start b =
-    let n = length-replicate {A = ℕ} 10 0 in
+pub noting-start : (t : Bool) (b : List ℕ) → Noting t b 0 (replicate 16 0) (replicate 16 0)
+noting-start t b =
+    let n = length-replicate {A = ℕ} 16 0 in
     record {
       checking = checking-start b;
       starts-long = n;
-      ends-long = n;
       counts-long = n;
-      each = λ op h. rw (getD-replicate {A = ℕ} 10 (slotOf asked op) 0 0 (omega arith)) (finding-start b op);
+      each = λ op h. rw (getD-replicate {A = ℕ} 16 (slotOf (asked t) op) 0 0 (omega (arith, h, asked-few t))) (finding-start b op);
     }
 
 -- nothing noted
 pub nowhere-placed : (b : List ℕ) (p : Places) → p .noted ≡ false → Placed b p
 nowhere-placed b p e = record { notes = λ t. absurd (no (let f : true ≡ false = sym t ∙ e in cc)) }
 
-module _ (b : List ℕ) (at : ℕ) (starts ends counts : List ℕ) (w : Noting b at starts ends counts) where
-  pub noting-end : length b ≤ at → ReadsDict b (record { refusal = 0; noted = true; starts = starts; ends = ends; counts = counts })
+module _ (t : Bool) (b : List ℕ) (at : ℕ) (starts counts : List ℕ) (w : Noting t b at starts counts) where
+  pub noting-end : length b ≤ at → ReadsDict b (record { refusal = 0; noted = true; subsetting = t; starts = starts; counts = counts })
   noting-end h =
       record {
         refused = checking-end b at (w .checking) h;
@@ -137,41 +145,40 @@ module _ (b : List ℕ) (at : ℕ) (starts ends counts : List ℕ) (w : Noting b
           let k = subst (Brief at) (a .entry) (entry-brief b at) in
           omega (arith, k, a .counted, a .stands .inside)
 
-      pub noting-turn : (s : ℕ) → s ≡ slotOf asked o → Noting b next (set starts s at) (set ends s end) (set counts s (count + 1))
+      pub noting-turn : (s : ℕ) → s ≡ slotOf (asked t) o → Noting t b next (set starts s at) (set counts s (count + 1))
       noting-turn s q =
           record {
             checking = checking-turn b at (w .checking) h r e o end count next f;
             starts-long = length-set starts s at ∙ w .starts-long;
-            ends-long = length-set ends s end ∙ w .ends-long;
             counts-long = length-set counts s (count + 1) ∙ w .counts-long;
-            each = λ op l. go op l (eqb s (slotOf asked op)) refl;
+            each = λ op l. go op l (eqb s (slotOf (asked t) op)) refl;
           }
         where
-          low : s ≤ 9
-          low = omega (arith, q, slot-low asked o)
+          low : s < 16
+          low = slot-few t o s q
 
-          go : (op : ℕ) → slotOf asked op < 9 → (t : Bool) → eqb s (slotOf asked op) ≡ t
-              → Finding b op next (foundOf (getD (set starts s at) (slotOf asked op) 0) (getD (set ends s end) (slotOf asked op) 0) (getD (set counts s (count + 1)) (slotOf asked op) 0))
-          go op l true t =
-              let i : s ≡ slotOf asked op = eqb-true s (slotOf asked op) t in
-              subst (λ (j : ℕ). Finding b op next (foundOf (getD (set starts s at) j 0) (getD (set ends s end) j 0) (getD (set counts s (count + 1)) j 0))) i
-              (rw (getD-set-same starts s at 0 (omega (arith, low, w .starts-long)), getD-set-same ends s end 0 (omega (arith, low, w .ends-long)), getD-set-same counts s (count + 1) 0 (omega (arith, low, w .counts-long)), add-one count)
-              (finding-here b op at _ (w .each op l) h r e o end count next f (slot-same asked o op (sym q ∙ i) l)))
-          go op l false t =
-              let i : slotOf asked op ≡ s → ⊥ = λ z. eqb-false s (slotOf asked op) t (sym z) in
-              rw (getD-set-other starts s (slotOf asked op) at 0 i, getD-set-other ends s (slotOf asked op) end 0 i, getD-set-other counts s (slotOf asked op) (count + 1) 0 i)
-              (finding-on b op at _ (w .each op l) h r e o end count next f (λ z. i (sym (ap (slotOf asked) z) ∙ sym q)))
+          go : (op : ℕ) → slotOf (asked t) op < length (asked t) → (u : Bool) → eqb s (slotOf (asked t) op) ≡ u
+              → Finding b op next (foundOf (getD (set starts s at) (slotOf (asked t) op) 0) (getD (set counts s (count + 1)) (slotOf (asked t) op) 0))
+          go op l true e′ =
+              let i : s ≡ slotOf (asked t) op = eqb-true s (slotOf (asked t) op) e′ in
+              subst (λ (j : ℕ). Finding b op next (foundOf (getD (set starts s at) j 0) (getD (set counts s (count + 1)) j 0))) i
+              (rw (getD-set-same starts s at 0 (omega (arith, low, w .starts-long)), getD-set-same counts s (count + 1) 0 (omega (arith, low, w .counts-long)), add-one count)
+              (finding-here b op at _ (w .each op l) h r e o end count next f (slot-same (asked t) o op (sym q ∙ i) l)))
+          go op l false e′ =
+              let i : slotOf (asked t) op ≡ s → ⊥ = λ z. eqb-false s (slotOf (asked t) op) e′ (sym z) in
+              rw (getD-set-other starts s (slotOf (asked t) op) at 0 i, getD-set-other counts s (slotOf (asked t) op) (count + 1) 0 i)
+              (finding-on b op at _ (w .each op l) h r e o end count next f (λ z. i (sym (ap (slotOf (asked t)) z) ∙ sym q)))
 
 -- ---- what a slot says
 
-pub found-none : (start end count : ℕ) → count ≡ 0 → Absent ≡ foundOf start end count
-found-none start end count e = sym (ap (foundOf start end) e)
+pub found-none : (start count : ℕ) → count ≡ 0 → Absent ≡ foundOf start count
+found-none start count e = sym (ap (foundOf start) e)
 
-pub found-some : (start end count : ℕ) → (count ≡ 0 → ⊥) → FoundAt start end (count - 1) ≡ foundOf start end count
-found-some start end zero n = absurd (n refl)
-found-some start end (suc k) n = let e : suc k - 1 ≡ k = omega arith in ap (λ (m : ℕ). FoundAt start end m) e
+pub found-some : (start count : ℕ) → (count ≡ 0 → ⊥) → FoundAt start (count - 1) ≡ foundOf start count
+found-some start zero n = absurd (n refl)
+found-some start (suc k) n = let e : suc k - 1 ≡ k = omega arith in ap (λ (m : ℕ). FoundAt start m) e
 
-pub place-noted : (b : List ℕ) (p : Places) → Placed b p → p .noted ≡ true → (op s : ℕ) → s ≡ slotOf asked op → s < 9 → (r : Found)
-    → r ≡ foundOf (getD (p .starts) s 0) (getD (p .ends) s 0) (getD (p .counts) s 0) → r ≡ placeOf op b
-place-noted b p w t op s q l r e =
-    e ∙ ap (λ (j : ℕ). foundOf (getD (p .starts) j 0) (getD (p .ends) j 0) (getD (p .counts) j 0)) q ∙ w .notes t .each op (omega (arith, q))
+pub place-noted : (b : List ℕ) (p : Places) → Placed b p → p .noted ≡ true → (op s : ℕ) → s ≡ slotOf (asked (p .subsetting)) op → (m : ℕ) → m ≡ length (asked (p .subsetting)) → s < m → (r : Found)
+    → r ≡ foundOf (getD (p .starts) s 0) (getD (p .counts) s 0) → r ≡ placeOf op b
+place-noted b p w t op s q m g l r e =
+    e ∙ ap (λ (j : ℕ). foundOf (getD (p .starts) j 0) (getD (p .counts) j 0)) q ∙ w .notes t .each op (omega (arith, q, g, l))

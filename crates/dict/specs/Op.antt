@@ -1,6 +1,6 @@
 -- The operators of a DICT (TN5176, section 4, and tables 9, 10 and 23), numbered as the Rust does: a one-byte operator by its byte, the escape
 -- `12 e` by 3072 + e.
-use Prim.Native.Nat.{ℕ, _+_, _-_}
+use Prim.Native.Nat.{ℕ, _+_}
 use mathlib.Core.Bool.{Bool, true, false}
 use mathlib.Core.List.{List, [], _∷_}
 use lib.Dec.{ltb, eqb}

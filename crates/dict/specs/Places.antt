@@ -6,7 +6,6 @@ use lib.ListN.{length}
 use lib.Dec.{eqb}
 use Rattle.octets.specs.Pick.{pick}
 use Rattle.decimal.specs.declared.Decimal.{Decimal}
-use Rattle.decimal.specs.Decimal.{nought}
 use Rattle.decimal.specs.Number.{Number, refused as refusedNumber, notNumber, number, numberAt}
 use Rattle.dict.specs.Dict.{Entry, Dict, refused, entries, Token, bad, operand, operator, Reading, stopped, got, readingsAt, dictOf}
 use Rattle.dict.specs.declared.TokenAt.{TokenAt}
@@ -50,7 +49,7 @@ unfoldable pub lastPlace : ℕ → ℕ → Found → List Reading → Found
 lastPlace op at found [] = found
 lastPlace op at found (stopped n ∷ rs) = found
 lastPlace op at found (got o ds end next ∷ rs) =
-    lastPlace op next (pick (eqb o op) (FoundAt at end (length ds)) found) rs
+    lastPlace op next (pick (eqb o op) (FoundAt at (length ds)) found) rs
 
 abbrev pub placeOf : ℕ → List ℕ → Found
 placeOf op b = lastPlace op 0 Absent (readingsAt b 0)

@@ -1,6 +1,6 @@
 -- What was read is proper: operators that there are, and numbers within the limits.
 use Prim.Native.Nat.{ℕ, zero, suc}
-use mathlib.Core.Path.{_≡_, refl, sym, subst}
+use mathlib.Core.Path.{_≡_, refl, subst}
 use mathlib.Core.Bool.{true}
 use mathlib.Core.List.{List, [], _∷_}
 use lib.Dec.{ltb}
@@ -10,8 +10,8 @@ use Rattle.octets.specs.Octets.{Octets}
 use Rattle.decimal.specs.declared.Decimal.{Decimal}
 use Rattle.dict.specs.Op.{isOperator}
 use Rattle.dict.specs.Dict.{Entry, entries, Token, bad, operand, operator, tokenAt, Reading, stopped, got, after, onward, entryFrom, entryAt, followed, readingsFrom, readingsAt, dictOf}
-use Rattle.dict.specs.Places.{listed, entriesOf, operandsAt}
-use Rattle.dict.specs.Proper.{AllNormal, Proper, AllProper}
+use Rattle.dict.specs.Places.{listed, entriesOf}
+use Rattle.dict.specs.Proper.{AllNormal, AllProper}
 use Rattle.dict.specs.TokenLaws.{operator-is}
 use Rattle.dict.specs.LookupLaws.{Chain, chain, operands-normal, entries-are}
 

@@ -1,8 +1,8 @@
 -- Laws of what stands at a position of a DICT: a number or an operator ends further on, within the bytes, and a refusal is not 0.
-use Prim.Native.Nat.{ℕ, zero, suc, _+_, _-_, _*_, _/_, _%_, _^_, _≤_, _<_}
+use Prim.Native.Nat.{ℕ, _+_, _-_, _*_, _/_, _^_, _≤_, _<_}
 use mathlib.Core.Path.{_≡_, refl, sym, ap, _∙_, subst}
 use mathlib.Core.Bool.{Bool, true, false}
-use mathlib.Core.List.{List, [], _∷_, _++_}
+use mathlib.Core.List.{List, [], _∷_}
 use native.Mathlib.Omega.{arith}
 use lib.Dec.{ltb, leb, eqb}
 use lib.ListN.{length, drop, getD, length-drop}
@@ -11,7 +11,7 @@ use Rattle.octets.specs.Pick.{pick, pick-ind}
 use Rattle.octets.specs.Octets.{Octets, numAt}
 use Rattle.decimal.specs.declared.Decimal.{Decimal}
 use Rattle.decimal.specs.Decimal.{normal}
-use Rattle.decimal.specs.Real.{nibbles, Text, cut, wrong, text, before, textOf, Form, bad as badForm, form, formOf, Value, refused as refusedText, value, limited, valueOf}
+use Rattle.decimal.specs.Real.{nibbles, Text, cut, wrong, text, before, textOf, Form, bad as badForm, form, formOf, Value, refused as refusedText, value, valueOf}
 use Rattle.decimal.specs.Number.{Number, refused as refusedNumber, notNumber, number, integerAt, twosAt, pairAt, placed, realOf, realAt, numberAt, pastOf}
 use Rattle.dict.specs.Op.{esc, isOperator}
 use Rattle.dict.specs.Dict.{Token, bad, operand, operator, operatorAt, tokenOf, tokenAt}

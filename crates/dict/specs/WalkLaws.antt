@@ -1,16 +1,16 @@
 -- Laws for the loops that read a DICT: over the tokens of an entry, and over its entries.
-use Prim.Native.Nat.{ℕ, zero, suc, _+_, _-_, _≤_, _<_}
+use Prim.Native.Nat.{ℕ, suc, _+_, _≤_, _<_}
 use mathlib.Core.Path.{_≡_, refl, sym, ap, _∙_, subst}
-use mathlib.Core.Bool.{Bool, true, false}
-use mathlib.Core.List.{List, [], _∷_, _++_}
+use mathlib.Core.Bool.{Bool}
+use mathlib.Core.List.{List, [], _∷_}
 use native.Mathlib.Omega.{arith}
-use lib.Dec.{ltb, eqb}
+use lib.Dec.{eqb}
 use lib.ListN.{length}
 use borrow.Author.Tests.{eq-eqb, ne-eqb}
 use Rattle.octets.specs.Pick.{pick}
 use Rattle.decimal.specs.declared.Decimal.{Decimal}
 use Rattle.dict.specs.Dict.{Entry, Dict, refused, entries, Token, bad, operand, operator, tokenAt, Reading, stopped, got, after, onward, entryAt, followed, readingsAt, before, gathered, dictOf}
-use Rattle.dict.specs.Places.{tokenTold, entryTold, refusalOf, listed, entriesOf, Good, lastPlace, placeOf}
+use Rattle.dict.specs.Places.{tokenTold, entryTold, refusalOf, lastPlace, placeOf}
 use Rattle.dict.specs.TokenLaws.{Passes, token-passes}
 use Rattle.dict.specs.EntryLaws.{entry-is, entry-ends, Stands, Entered, entered, readings-are, readings-end}
 use Rattle.dict.specs.declared.TokenAt.{TokenAt}
@@ -177,20 +177,20 @@ module _ (b : List ℕ) (op at : ℕ) (found : Found) (w : Finding b op at found
     unfolding lastPlace
     finding-stopped n f = sym (ap (lastPlace op at found) (left-stopped b at h r e n f)) ∙ w .rest
 
-    found-turn : (o end count next : ℕ) → r ≡ EntryFound o end count next → Finding b op next (pick (eqb o op) (FoundAt at end count) found)
+    found-turn : (o end count next : ℕ) → r ≡ EntryFound o end count next → Finding b op next (pick (eqb o op) (FoundAt at count) found)
     unfolding lastPlace
     found-turn o end count next f =
         let a = answered b at h r e o end count next f in
         record {
           inside = a .stands .inside;
-          rest = ap (λ (n : ℕ). lastPlace op next (pick (eqb o op) (FoundAt at end n) found) (readingsAt b next)) (a .counted)
+          rest = ap (λ (n : ℕ). lastPlace op next (pick (eqb o op) (FoundAt at n) found) (readingsAt b next)) (a .counted)
               ∙ sym (ap (lastPlace op at found) (left-entry b at h r e o end count next a)) ∙ w .rest;
         }
 
-    pub finding-here : (o end count next : ℕ) → r ≡ EntryFound o end count next → o ≡ op → Finding b op next (FoundAt at end count)
+    pub finding-here : (o end count next : ℕ) → r ≡ EntryFound o end count next → o ≡ op → Finding b op next (FoundAt at count)
     finding-here o end count next f q =
-        subst (λ (t : Bool). Finding b op next (pick t (FoundAt at end count) found)) (eq-eqb o op q) (found-turn o end count next f)
+        subst (λ (t : Bool). Finding b op next (pick t (FoundAt at count) found)) (eq-eqb o op q) (found-turn o end count next f)
 
     pub finding-on : (o end count next : ℕ) → r ≡ EntryFound o end count next → (o ≡ op → ⊥) → Finding b op next found
     finding-on o end count next f q =
-        subst (λ (t : Bool). Finding b op next (pick t (FoundAt at end count) found)) (ne-eqb o op q) (found-turn o end count next f)
+        subst (λ (t : Bool). Finding b op next (pick t (FoundAt at count) found)) (ne-eqb o op q) (found-turn o end count next f)

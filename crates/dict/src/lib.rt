@@ -5,7 +5,7 @@ pub mod op;
 ghost use mathlib.Core.Path.{_≡_};
 ghost use mathlib.Core.Bool.{false};
 ghost use mathlib.Core.List.{[], _∷_};
-ghost use Prim.Native.Nat.{_+_, _≤_, _<_};
+ghost use Prim.Native.Nat.{_+_, _<_};
 ghost use lib.ListN.{length, getD};
 ghost use Rattle.decimal.specs.Decimal.{nought, Normal};
 ghost use Rattle.dict.specs.Dict.{operatorAt, tokenAt, entryAt};
@@ -14,6 +14,7 @@ ghost use Rattle.dict.specs.Places.{tokenTold, entryTold, entriesOf, pla
 ghost use Rattle.dict.specs.Noted.{foundOf, Placed, ReadsDict};
 use crate::op::Op;
 use crate::op::slot;
+use crate::op::slots;
 use decimal::Decimal;
 use decimal::IdOf;
 use decimal::NumberAt;
@@ -30,6 +31,7 @@ use decimal::to_u16;
 use decimal::to_u32;
 use decimal::trunc;
 use octets::wide;
+use refusal::Refusal;
 
 // What stands at a position of a DICT: a refusal's number, an operand, or an operator, with the position after it.
 pub enum TokenAt {
@@ -53,21 +55,18 @@ pub enum EntryAt {
 // Where the operands of the last entry of an operator stand, and how many they are.
 pub enum Found {
     Absent,
-    Entry {
-        start: usize,
-        end: usize,
-        count: usize,
-    },
+    Entry { start: usize, count: usize },
 }
 
-// Where the last entries that reading asks for stand, each in the slot of its operator, with one more than its operands are: 0 where there is no such
-// entry. The tenth slot is for all other operators. Where nothing was noted, an entry is found by a pass of its own. And the DICT's refusal, or 0.
+// Where the last entries that reading asks for stand, or those that subsetting asks for, each in the slot of its operator, with one more than its operands
+// are: 0 where there is no such entry. The slot behind is for all other operators. Where nothing was noted, an entry is found by a pass of its own. And the
+// DICT's refusal, or 0.
 pub struct Places {
     pub refusal: u8,
     pub noted: bool,
-    pub starts: [usize; 10],
-    pub ends: [usize; 10],
-    pub counts: [usize; 10],
+    pub subsetting: bool,
+    pub starts: [usize; 16],
+    pub counts: [usize; 16],
 }
 
 // The one operand of an entry.
@@ -116,7 +115,7 @@ fn operator_at(d: &[u8], at: usize) -> TokenAt
     let v = wide(d[at]);
     if v == 12 {
         if d.len() - at < 2 {
-            return TokenAt::Refused(1);
+            return TokenAt::Refused(Refusal::TRUNCATED);
         }
         let e = wide(d[at + 1]);
         return TokenAt::Operator {
@@ -130,7 +129,7 @@ fn operator_at(d: &[u8], at: usize) -> TokenAt
             next: at + 1,
         };
     }
-    TokenAt::Refused(2)
+    TokenAt::Refused(Refusal::MALFORMED)
 }
 
 // What stands at a position; an operand's value is not read.
@@ -171,28 +170,40 @@ pub fn read_entry(d: &[u8], start: usize) -> EntryAt
             }
         }
     }
-    EntryAt::Refused(2)
+    EntryAt::Refused(Refusal::MALFORMED)
 }
 
-// A DICT read in one pass: its refusal, and where there is none, where the last entries that reading asks for stand.
+// A DICT read in one pass: its refusal, and where there is none, where the last entries stand that reading asks for.
 pub fn read_dict(d: &[u8]) -> Places
     ensures { λ r. ⌜ ReadsDict (now (d .entry)) r ⌝ }
 {
-    let mut starts = [0usize; 10];
-    let mut ends = [0usize; 10];
-    let mut counts = [0usize; 10];
+    note_entries(d, false)
+}
+
+// The same, with the entries of a top DICT that subsetting asks for.
+pub fn read_top(d: &[u8]) -> Places
+    ensures { λ r. ⌜ ReadsDict (now (d .entry)) r ⌝ }
+{
+    note_entries(d, true)
+}
+
+// The one pass of both.
+fn note_entries(d: &[u8], subsetting: bool) -> Places
+    ensures { λ r. ⌜ ReadsDict (now (d .entry)) r ⌝ }
+{
+    let mut starts = [0usize; 16];
+    let mut counts = [0usize; 16];
     let mut at: usize = 0;
     while at < d.len() {
         match read_entry(d, at) {
             EntryAt::Entry {
                 op,
-                end,
+                end: _,
                 count,
                 next,
             } => {
-                let j = slot(op);
+                let j = slot(subsetting, op);
                 starts[j] = at;
-                ends[j] = end;
                 counts[j] = count + 1;
                 at = next;
             }
@@ -204,14 +215,14 @@ pub fn read_dict(d: &[u8]) -> Places
     Places {
         refusal: 0,
         noted: true,
+        subsetting,
         starts,
-        ends,
         counts,
     }
 }
 
 // Where the last entry of an operator stands: one pass.
-pub fn find_entry(d: &[u8], op: usize) -> Found
+fn find_entry(d: &[u8], op: usize) -> Found
     ensures { λ r. ⌜ r ≡ placeOf op (now (d .entry)) ⌝ }
 {
     let mut found = Found::Absent;
@@ -220,16 +231,12 @@ pub fn find_entry(d: &[u8], op: usize) -> Found
         match read_entry(d, at) {
             EntryAt::Entry {
                 op: o,
-                end,
+                end: _,
                 count,
                 next,
             } => {
                 if o == op {
-                    found = Found::Entry {
-                        start: at,
-                        end,
-                        count,
-                    };
+                    found = Found::Entry { start: at, count };
                 }
                 at = next;
             }
@@ -248,39 +255,38 @@ pub fn nowhere(refusal: u8) -> Places
     Places {
         refusal,
         noted: false,
-        starts: [0usize; 10],
-        ends: [0usize; 10],
-        counts: [0usize; 10],
+        subsetting: false,
+        starts: [0usize; 16],
+        counts: [0usize; 16],
     }
 }
 
 // The place that is noted with a count.
-fn found_at(start: usize, end: usize, count: usize) -> Found
-    ensures { λ r. ⌜ r ≡ foundOf start end count ⌝ }
+fn found_at(start: usize, count: usize) -> Found
+    ensures { λ r. ⌜ r ≡ foundOf start count ⌝ }
 {
     if count == 0 {
         return Found::Absent;
     }
     Found::Entry {
         start,
-        end,
         count: count - 1,
     }
 }
 
 // Where the last entry of an operator stands: as it was noted, or by a pass.
-fn place(d: &[u8], p: Places, op: usize) -> Found
+pub fn place(d: &[u8], p: Places, op: usize) -> Found
     requires { ⌜ Placed (now d) p ⌝ }
     ensures { λ r. ⌜ r ≡ placeOf op (now (d .entry)) ⌝ }
 {
-    let j = slot(op);
     let noted = p.noted;
+    let subsetting = p.subsetting;
+    let j = slot(subsetting, op);
     if noted {
-        if j < 9 {
+        if j < slots(subsetting) {
             let starts = p.starts;
-            let ends = p.ends;
             let counts = p.counts;
-            return found_at(starts[j], ends[j], counts[j]);
+            return found_at(starts[j], counts[j]);
         }
     }
     find_entry(d, op)
@@ -319,11 +325,7 @@ fn number(d: &[u8], p: Places, op: usize) -> One
 {
     match place(d, p, op) {
         Found::Absent => One::Absent,
-        Found::Entry {
-            start,
-            end: _,
-            count,
-        } => {
+        Found::Entry { start, count } => {
             if count == 1 {
                 return One::Number(operand(d, start, 0));
             }
@@ -339,11 +341,7 @@ pub fn is_cid_keyed(d: &[u8], p: Places) -> bool
 {
     match place(d, p, Op::ROS) {
         Found::Absent => false,
-        Found::Entry {
-            start: _,
-            end: _,
-            count: _,
-        } => true,
+        Found::Entry { start: _, count: _ } => true,
     }
 }
 
@@ -362,30 +360,33 @@ pub fn offset(d: &[u8], p: Places, op: usize) -> OffsetIn
 }
 
 // The string id that an entry holds.
-pub fn string_id(d: &[u8], op: usize) -> IdOf
+pub fn string_id(d: &[u8], p: Places, op: usize) -> IdOf
+    requires { ⌜ Placed (now d) p ⌝ }
     ensures { λ r. ⌜ r ≡ idIn op (entriesOf (now (d .entry))) ⌝ }
 {
-    match number(d, nowhere(0), op) {
+    match number(d, p, op) {
         One::Absent => IdOf::Absent,
         One::Number(v) => id_of(v),
     }
 }
 
 // CIDCount.
-pub fn cid_count(d: &[u8]) -> usize
+pub fn cid_count(d: &[u8], p: Places) -> usize
+    requires { ⌜ Placed (now d) p ⌝ }
     ensures { λ r. ⌜ r ≡ cidCountIn (entriesOf (now (d .entry))) ⌝ }
 {
-    match number(d, nowhere(0), Op::CID_COUNT) {
+    match number(d, p, Op::CID_COUNT) {
         One::Absent => 8720,
         One::Number(v) => to_u32(v),
     }
 }
 
 // Whether PaintType is one number other than 0.
-pub fn is_stroked(d: &[u8]) -> bool
+pub fn is_stroked(d: &[u8], p: Places) -> bool
+    requires { ⌜ Placed (now d) p ⌝ }
     ensures { λ r. ⌜ r ≡ strokedIn (entriesOf (now (d .entry))) ⌝ }
 {
-    match number(d, nowhere(0), Op::PAINT_TYPE) {
+    match number(d, p, Op::PAINT_TYPE) {
         One::Absent => false,
         One::Number(v) => v.digits != 0,
     }
@@ -402,7 +403,7 @@ pub fn charstring_type(d: &[u8], p: Places) -> u8
             if is_two(v) {
                 return 0;
             }
-            3
+            Refusal::UNSUPPORTED
         }
     }
 }
@@ -415,10 +416,10 @@ fn private_at(size: Decimal, offset: Decimal) -> PrivateIn
     let s = size.neg;
     let o = offset.neg;
     if s {
-        return PrivateIn::Refused(2);
+        return PrivateIn::Refused(Refusal::MALFORMED);
     }
     if o {
-        return PrivateIn::Refused(2);
+        return PrivateIn::Refused(Refusal::MALFORMED);
     }
     PrivateIn::Private {
         size: trunc(size),
@@ -433,15 +434,11 @@ pub fn private_of(d: &[u8], p: Places) -> PrivateIn
 {
     match place(d, p, Op::PRIVATE) {
         Found::Absent => PrivateIn::Absent,
-        Found::Entry {
-            start,
-            end: _,
-            count,
-        } => {
+        Found::Entry { start, count } => {
             if count == 2 {
                 return private_at(operand(d, start, 0), operand(d, start, 1));
             }
-            PrivateIn::Refused(2)
+            PrivateIn::Refused(Refusal::MALFORMED)
         }
     }
 }
@@ -459,16 +456,13 @@ fn ros_at(registry: Decimal, ordering: Decimal, supplement: Decimal) -> RosIn
 }
 
 // The registry, ordering and supplement of a CID-keyed font.
-pub fn ros(d: &[u8]) -> RosIn
+pub fn ros(d: &[u8], p: Places) -> RosIn
+    requires { ⌜ Placed (now d) p ⌝ }
     ensures { λ r. ⌜ r ≡ rosIn (entriesOf (now (d .entry))) ⌝ }
 {
-    match find_entry(d, Op::ROS) {
+    match place(d, p, Op::ROS) {
         Found::Absent => RosIn::None,
-        Found::Entry {
-            start,
-            end: _,
-            count,
-        } => {
+        Found::Entry { start, count } => {
             if count == 3 {
                 return ros_at(
                     operand(d, start, 0),

@@ -1,9 +1,9 @@
 // The operators of a DICT (TN5176, section 4; the Rust's module op), and those that a subset carries over.
 ghost use mathlib.Core.Path.{_≡_};
-ghost use Prim.Native.Nat.{_<_};
-ghost use lib.ListN.{getD};
+ghost use Prim.Native.Nat.{_≤_, _<_};
+ghost use lib.ListN.{length, getD};
 ghost use Rattle.dict.specs.Op.{copiedTopEntries, copiedTopStrings};
-ghost use Rattle.dict.specs.Noted.{asked, slotOf};
+ghost use Rattle.dict.specs.Noted.{askedByReading, askedBySubsetting, asked, slotOf};
 
 // The operators that reader and writer name: the byte of a one-byte operator, or 3072 + e for the escape `12 e`.
 pub struct Op;
@@ -97,8 +97,8 @@ pub fn copied_top_string(k: usize) -> usize
 }
 
 // The slot of an operator that reading asks for; 9 for any other.
-pub fn slot(op: usize) -> usize
-    ensures { λ r. ⌜ r ≡ slotOf asked op ⌝ }
+fn read_slot(op: usize) -> usize
+    ensures { λ r. ⌜ r ≡ slotOf askedByReading op ⌝ }
 {
     match op {
         Op::CHARSET => 0,
@@ -112,4 +112,48 @@ pub fn slot(op: usize) -> usize
         Op::FD_SELECT => 8,
         _ => 9,
     }
+}
+
+// The slot of an operator that subsetting asks for; 15 for any other.
+fn subset_slot(op: usize) -> usize
+    ensures { λ r. ⌜ r ≡ slotOf askedBySubsetting op ⌝ }
+{
+    match op {
+        Op::FONT_BBOX => 0,
+        Op::IS_FIXED_PITCH => 1,
+        Op::ITALIC_ANGLE => 2,
+        Op::UNDERLINE_POSITION => 3,
+        Op::UNDERLINE_THICKNESS => 4,
+        Op::FONT_MATRIX => 5,
+        Op::VERSION => 6,
+        Op::NOTICE => 7,
+        Op::COPYRIGHT => 8,
+        Op::FULL_NAME => 9,
+        Op::FAMILY_NAME => 10,
+        Op::WEIGHT => 11,
+        Op::ROS => 12,
+        Op::CID_COUNT => 13,
+        Op::PAINT_TYPE => 14,
+        _ => 15,
+    }
+}
+
+// The slot of an operator in the table of subsetting, or in that of reading.
+pub fn slot(subsetting: bool, op: usize) -> usize
+    ensures { λ r. ⌜ r ≡ slotOf (asked subsetting) op ⌝ }
+{
+    if subsetting {
+        return subset_slot(op);
+    }
+    read_slot(op)
+}
+
+// How many operators the table has.
+pub fn slots(subsetting: bool) -> usize
+    ensures { λ r. ⌜ (r ≡ length (asked subsetting)) × (r ≤ 15) ⌝ }
+{
+    if subsetting {
+        return 15;
+    }
+    9
 }

@@ -1,17 +1,16 @@
 -- A DICT that was written reads back: token by token, entry by entry, whatever form its numbers were written in.
-use Prim.Native.Nat.{ℕ, zero, suc, _+_, _-_, _*_, _^_, _≤_, _<_}
+use Prim.Native.Nat.{ℕ, suc, _+_, _-_, _<_}
 use mathlib.Core.Path.{_≡_, refl, sym, ap, _∙_, subst}
 use mathlib.Core.Logic.{_⊎_, inl, inr}
 use mathlib.Core.Bool.{Bool, true, false}
-use mathlib.Core.List.{List, [], _∷_, _++_, append-assoc, append-nil}
+use mathlib.Core.List.{List, [], _∷_, _++_, append-assoc}
 use native.Mathlib.Nat.{add-zero}
 use native.Mathlib.Omega.{arith}
 use lib.Dec.{ltb}
 use lib.ListN.{length, drop, getD, length-append, length-drop}
 use lib.Seq.{getD-drop, drop-drop, drop-at}
-use borrow.Author.Tests.{lt-ltb, le-ltb, eq-eqb, ne-eqb}
+use borrow.Author.Tests.{lt-ltb, le-ltb, ne-eqb}
 use Rattle.octets.specs.Pick.{pick}
-use Rattle.octets.specs.Octets.{Octets}
 use Rattle.decimal.specs.declared.Decimal.{Decimal}
 use Rattle.decimal.specs.Number.{number, numberAt}
 use Rattle.decimal.specs.NumberLaws.{form-none}
@@ -19,13 +18,11 @@ use Rattle.decimal.specs.Written.{numberBytes, int5Bytes}
 use Rattle.decimal.specs.Decimal.{whole}
 use Rattle.decimal_write.specs.IntRound.{Reads, reads-int5}
 use Rattle.decimal_write.specs.WrittenRound.{reads-number}
-use Rattle.dict.specs.Op.{isOperator, private, subrs}
-use Rattle.dict.specs.Dict.{Entry, Dict, refused, entries, Token, operand, operator, operatorAt, tokenOf, tokenAt, Reading, got, after, onward, entryAt, followed, readingsAt, before, gathered, dictOf}
-use Rattle.dict.specs.Places.{entriesOf}
-use Rattle.dict.specs.Proper.{AllNormal, Proper, AllProper}
-use Rattle.dict.specs.ProperLaws.{entries-proper}
+use Rattle.dict.specs.Op.{isOperator, private}
+use Rattle.dict.specs.Dict.{Entry, entries, Token, operand, operator, operatorAt, tokenOf, tokenAt, Reading, got, after, onward, entryAt, followed, readingsAt, before, gathered, dictOf}
+use Rattle.dict.specs.Proper.{AllNormal}
 use Rattle.dict.specs.EntryLaws.{entry-is, readings-are, readings-end}
-use Rattle.dict_write.specs.Written.{opBytes, operandsBytes, entryBytes, entriesBytes, offsetEntry, privateEntry, without, privateBytes}
+use Rattle.dict_write.specs.Written.{opBytes, operandsBytes, entryBytes, offsetEntry, privateEntry}
 use Rattle.dict_write.specs.Parts.{Part, plain, offset, privatePart, partBytes, partsBytes, partEntry, partsEntries, Fits, AllFit}
 use Rattle.dict_write.specs.OpLaws.{OneByte, Escape, op-kind}
 use Rattle.dict_write.specs.ShortLaws.{number-there}

@@ -10,10 +10,10 @@ use Rattle.decimal.specs.Decimal.{whole}
 use Rattle.dict.specs.Op.{isOperator, subrs}
 use Rattle.dict.specs.Dict.{Entry, entries, dictOf}
 use Rattle.dict.specs.Places.{entriesOf}
-use Rattle.dict.specs.Proper.{Proper, AllProper}
+use Rattle.dict.specs.Proper.{AllProper}
 use Rattle.dict.specs.ProperLaws.{entries-proper}
 use Rattle.dict_write.specs.Written.{entryBytes, entriesBytes, offsetEntry, without, privateBytes}
-use Rattle.dict_write.specs.Parts.{Part, plain, offset, partBytes, partsBytes, partEntry, partsEntries, Fits, AllFit}
+use Rattle.dict_write.specs.Parts.{Part, plain, offset, partBytes, partsBytes, partEntry, partsEntries, AllFit}
 use Rattle.dict_write.specs.DictRound.{parts-read}
 
 -- ---- parts in a row

@@ -1,6 +1,6 @@
 -- Laws of copying an entry: its operands walked where they stand, each measured or written.
-use Prim.Native.Nat.{ℕ, zero, suc, _+_, _-_, _≤_, _<_}
-use mathlib.Core.Path.{_≡_, refl, sym, ap, _∙_, subst}
+use Prim.Native.Nat.{ℕ, suc, _+_, _-_, _≤_, _<_}
+use mathlib.Core.Path.{_≡_, refl, sym, ap, _∙_}
 use mathlib.Core.List.{List, [], _∷_, _++_, append-assoc, append-nil}
 use native.Mathlib.Omega.{arith}
 use lib.ListN.{length, length-append}
@@ -9,12 +9,11 @@ use Rattle.octets.specs.PutLaws.{wrote-none, wrote-then, wrote-as, wrote-length
 use Rattle.decimal.specs.declared.Decimal.{Decimal}
 use Rattle.decimal.specs.declared.NumberAt.{NumberAt}
 use Rattle.decimal.specs.declared.NumberAt.the-variants.{Refused, NotNumber, Num}
-use Rattle.decimal.specs.Decimal.{Normal}
 use Rattle.decimal.specs.Number.{number, numberAt, answerOf, Taken}
 use Rattle.decimal.specs.TakenLaws.{number-taken, answer-number}
 use Rattle.decimal.specs.Written.{numberBytes}
 use Rattle.dict.specs.Places.{operandsAt}
-use Rattle.dict.specs.LookupLaws.{operands-next, operands-none, operands-out}
+use Rattle.dict.specs.LookupLaws.{operands-next, operands-none}
 use Rattle.dict_write.specs.Written.{operandsBytes}
 
 no : _≡_ {A = ℕ} 0 1 → ⊥

@@ -1,18 +1,16 @@
 -- Laws of copying a Private DICT: its entries walked one after the other, each but Subrs measured or written.
-use Prim.Native.Nat.{ℕ, zero, suc, _+_, _-_, _*_, _≤_, _<_}
+use Prim.Native.Nat.{ℕ, _+_, _≤_, _<_}
 use mathlib.Core.Path.{_≡_, refl, sym, ap, _∙_, subst}
-use mathlib.Core.Bool.{Bool, true, false}
+use mathlib.Core.Bool.{true}
 use mathlib.Core.List.{List, [], _∷_, _++_, append-assoc, append-nil}
 use native.Mathlib.Omega.{arith}
-use lib.Dec.{eqb}
 use lib.ListN.{length, length-append}
 use borrow.Author.Tests.{eq-eqb, ne-eqb}
-use Rattle.octets.specs.Pick.{pick}
 use Rattle.octets.specs.Octets.{Octets, Wrote}
 use Rattle.octets.specs.PutLaws.{wrote-none, wrote-then, wrote-as, wrote-length}
 use Rattle.decimal.specs.declared.Decimal.{Decimal}
 use Rattle.dict.specs.Op.{isOperator, subrs}
-use Rattle.dict.specs.Dict.{Entry, Reading, stopped, got, entryAt, readingsAt}
+use Rattle.dict.specs.Dict.{Entry, Reading, entryAt, readingsAt}
 use Rattle.dict.specs.Places.{entryTold, listed, entriesOf, operandsAt}
 use Rattle.dict.specs.EntryLaws.{readings-end}
 use Rattle.dict.specs.WalkLaws.{Answered, answered, left-stopped, left-entry}

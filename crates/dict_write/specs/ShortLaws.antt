@@ -1,21 +1,21 @@
 -- What is written is not much longer than what was read, so that lengths can be added up.
 use Prim.Native.Nat.{ℕ, zero, suc, _+_, _-_, _*_, _≤_, _<_}
-use mathlib.Core.Path.{_≡_, refl, sym, ap, _∙_, subst}
+use mathlib.Core.Path.{_≡_, refl, ap}
 use mathlib.Core.Bool.{Bool, true, false}
-use mathlib.Core.List.{List, [], _∷_, _++_}
+use mathlib.Core.List.{List, _∷_, _++_}
 use native.Mathlib.Omega.{arith}
 use lib.Dec.{ltb, leb, eqb}
 use lib.ListN.{length, length-append}
 use borrow.Author.Tests.{ltb-true, ltb-false}
 use Rattle.octets.specs.Pick.{pick, pick-ind}
-use Rattle.octets.specs.Octets.{Octets, bytesOf}
+use Rattle.octets.specs.Octets.{Octets}
 use Rattle.octets.specs.OctetsLaws.{length-bytes}
 use Rattle.decimal.specs.declared.Decimal.{Decimal}
 use Rattle.decimal.specs.Decimal.{Normal}
 use Rattle.decimal.specs.Number.{Number, refused, notNumber, number, numberAt}
 use Rattle.decimal.specs.TakenLaws.{number-taken}
 use Rattle.decimal.specs.Values.{truncOf}
-use Rattle.decimal.specs.Written.{int5Bytes, intBytes, packed, realText, realBytes, asInteger, numberBytes}
+use Rattle.decimal.specs.Written.{intBytes, realBytes, asInteger, numberBytes}
 use Rattle.decimal_write.specs.IntLaws.{length-int5}
 use Rattle.decimal_write.specs.TextLaws.{packed-small}
 use Rattle.dict.specs.Dict.{Entry, Token, bad, operand, operator, tokenAt, Reading, stopped, got, after, onward, entryFrom, entryAt, followed, readingsFrom, readingsAt}
@@ -137,7 +137,7 @@ module _ (b : List ℕ) (o : Octets b) where
 module _ (b : List ℕ) (o : Octets b) (few : length b ≤ 67108864) where
   found-short : (op : ℕ) (r : Found) → r ≡ placeOf op b → length (copiedEntry op (lastOf op (entriesOf b))) ≤ 7000000000
   found-short op Absent e = omega (arith, ap length (copied-absent b op Absent e refl))
-  found-short op (FoundAt start end count) e = omega (arith, ap length (copied-found b op (FoundAt start end count) e start end count refl), entry-short b o op count start)
+  found-short op (FoundAt start count) e = omega (arith, ap length (copied-found b op (FoundAt start count) e start count refl), entry-short b o op count start)
 
   pub copied-short : (op : ℕ) → length (copiedEntry op (lastOf op (entriesOf b))) ≤ 7000000000
   copied-short op = found-short op (placeOf op b) refl

@@ -1,19 +1,19 @@
 -- Laws of writing an entry: its operands and then its operator, one write after the other.
-use Prim.Native.Nat.{ℕ, _+_, _≤_, _<_}
-use mathlib.Core.Path.{_≡_, refl, sym, ap, _∙_}
+use Prim.Native.Nat.{ℕ, _+_, _≤_}
+use mathlib.Core.Path.{_≡_, sym, ap, _∙_}
 use mathlib.Core.Bool.{false}
 use mathlib.Core.List.{List, [], _++_}
 use native.Mathlib.Omega.{arith}
 use lib.ListN.{length, length-append}
-use Rattle.octets.specs.Octets.{Octets, Wrote}
-use Rattle.octets.specs.PutLaws.{wrote-none, wrote-then, wrote-as, wrote-length}
+use Rattle.octets.specs.Octets.{Wrote}
+use Rattle.octets.specs.PutLaws.{wrote-then, wrote-length}
 use Rattle.decimal.specs.declared.Decimal.{Decimal}
 use Rattle.decimal.specs.Written.{int5Bytes}
 use Rattle.decimal_write.specs.IntLaws.{length-int5}
 use Rattle.dict.specs.Op.{private, subrs}
-use Rattle.dict.specs.Lookup.{lastOf, absent, operands}
+use Rattle.dict.specs.Lookup.{lastOf, operands}
 use Rattle.dict.specs.Places.{entriesOf, placeOf, operandsAt}
-use Rattle.dict.specs.LookupLaws.{Last, none-last, found-last}
+use Rattle.dict.specs.LookupLaws.{none-last, found-last}
 use Rattle.dict.specs.declared.Found.{Found}
 use Rattle.dict.specs.declared.Found.the-variants.{Absent, Entry as FoundAt}
 use Rattle.dict_write.specs.Written.{opBytes, operandsBytes, entryBytes, offsetEntry, privateEntry, copiedEntry}
@@ -102,12 +102,12 @@ module _ (b : List ℕ) (op : ℕ) (r : Found) (e : r ≡ placeOf op b) where
   unfolding copiedEntry
   copied-absent f = sym (ap (copiedEntry op) (none-last b op r e f))
 
-  pub copied-found : (start end count : ℕ) → r ≡ FoundAt start end count → entryBytes op (operandsAt count b start) ≡ copiedEntry op (lastOf op (entriesOf b))
+  pub copied-found : (start count : ℕ) → r ≡ FoundAt start count → entryBytes op (operandsAt count b start) ≡ copiedEntry op (lastOf op (entriesOf b))
   unfolding copiedEntry
-  copied-found start end count f =
-      let l = found-last b op r e start end count f in
+  copied-found start count f =
+      let l = found-last b op r e start count f in
       ap (entryBytes op) (ap (λ (n : ℕ). operandsAt n b start) (l .held .counted) ∙ l .held .here) ∙ sym (ap (copiedEntry op) (l .last))
 
-  pub copied-room : (start end count : ℕ) → r ≡ FoundAt start end count → (size to : ℕ) → to + length (copiedEntry op (lastOf op (entriesOf b))) ≤ size
+  pub copied-room : (start count : ℕ) → r ≡ FoundAt start count → (size to : ℕ) → to + length (copiedEntry op (lastOf op (entriesOf b))) ≤ size
       → to + length (entryBytes op (operandsAt count b start)) ≤ size
-  copied-room start end count f size to h = let k = ap length (copied-found start end count f) in omega arith
+  copied-room start count f size to h = let k = ap length (copied-found start count f) in omega arith

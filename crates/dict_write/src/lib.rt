@@ -8,6 +8,7 @@ ghost use Rattle.octets.specs.Octets.{Wrote};
 ghost use Rattle.dict.specs.Op.{isOperator};
 ghost use Rattle.dict.specs.Lookup.{lastOf};
 ghost use Rattle.dict.specs.Places.{entriesOf, operandsAt};
+ghost use Rattle.dict.specs.Noted.{Placed};
 ghost use Rattle.dict_write.specs.Written.{opBytes, operandsBytes, entryBytes, offsetEntry, privateEntry, copiedEntry, privateBytes};
 use decimal::NumberAt;
 use decimal::number_at;
@@ -16,8 +17,9 @@ use decimal_write::put_int5;
 use decimal_write::put_number;
 use dict::EntryAt;
 use dict::Found;
-use dict::find_entry;
+use dict::Places;
 use dict::op::Op;
+use dict::place;
 use dict::read_entry;
 
 // How many bytes an operator takes: one, or two for an escape.
@@ -120,33 +122,25 @@ pub fn put_entry(
     put_op(op, out, p)
 }
 
-// How many bytes the last entry of an operator takes, 0 where there is none.
-pub fn copied_len(d: &[u8], op: usize) -> usize
-    requires { ⌜ length (now d) ≤ 67108864 ⌝ }
+// How many bytes the last entry of an operator takes, 0 where there is none; p has where entries stand.
+pub fn copied_len(d: &[u8], p: Places, op: usize) -> usize
+    requires { ⌜ (length (now d) ≤ 67108864) × (Placed (now d) p) ⌝ }
     ensures { λ r. ⌜ r ≡ length (copiedEntry op (lastOf op (entriesOf (now (d .entry))))) ⌝ }
 {
-    match find_entry(d, op) {
+    match place(d, p, op) {
         Found::Absent => 0,
-        Found::Entry {
-            start,
-            end: _,
-            count,
-        } => entry_len(d, start, count, op),
+        Found::Entry { start, count } => entry_len(d, start, count, op),
     }
 }
 
 // The last entry of an operator, where there is one, from `to` on; the place after it.
-pub fn put_copied(d: &[u8], op: usize, out: &mut [u8], to: usize) -> usize
-    requires { ⌜ (isOperator op ≡ true) × (to + length (copiedEntry op (lastOf op (entriesOf (now d)))) ≤ length (now out)) ⌝ }
+pub fn put_copied(d: &[u8], p: Places, op: usize, out: &mut [u8], to: usize) -> usize
+    requires { ⌜ (isOperator op ≡ true) × (to + length (copiedEntry op (lastOf op (entriesOf (now d)))) ≤ length (now out)) × (Placed (now d) p) ⌝ }
     ensures { λ r. ⌜ Wrote (now (out .entry)) to (copiedEntry op (lastOf op (entriesOf (now (d .entry))))) (now (out .exit)) r ⌝ }
 {
-    match find_entry(d, op) {
+    match place(d, p, op) {
         Found::Absent => to,
-        Found::Entry {
-            start,
-            end: _,
-            count,
-        } => put_entry(d, start, count, op, out, to),
+        Found::Entry { start, count } => put_entry(d, start, count, op, out, to),
     }
 }
 

@@ -1,23 +1,26 @@
 // The refusals of subsetting before the work words are used, in document 01's order.
 ghost use mathlib.Core.Path.{_≡_};
 ghost use mathlib.Core.Bool.{true, false, not};
-ghost use Prim.Native.Nat.{_+_, _*_, _≤_, _<_};
+ghost use Prim.Native.Nat.{_+_, _<_};
 ghost use Rattle.octets.specs.Pick.{pick};
 ghost use Rattle.dict.specs.Lookup.{rosIn};
 ghost use Rattle.dict.specs.Places.{entriesOf};
+ghost use Rattle.dict.specs.Noted.{Placed};
 ghost use Rattle.cff.specs.Reads.{programOf, GoodFont};
 ghost use Rattle.subset.specs.Cut.{hasRos, sameBool};
 ghost use Rattle.outcome.specs.Entry.{sizeOf, refusalOf};
 ghost use Rattle.early_refusals.specs.RefusalLaws.{unsupportedAt};
 use cff::font::Font;
+use dict::Places;
 use dict::RosIn;
 use refusal::Refusal;
 
 // Whether the ROS of a top DICT can be used.
-fn has_ros(d: &[u8]) -> bool
+fn has_ros(d: &[u8], p: Places) -> bool
+    requires { ⌜ Placed (now d) p ⌝ }
     ensures { λ r. ⌜ r ≡ hasRos (rosIn (entriesOf (now (d .entry)))) ⌝ }
 {
-    match dict::ros(d) {
+    match dict::ros(d, p) {
         RosIn::None => false,
         RosIn::Ros {
             registry: _,
@@ -38,10 +41,11 @@ fn same_keying(a: bool, b: bool) -> bool
 }
 
 // Whether a font is stroked, or has an Expert encoding, offset 1, that is not asked for.
-fn is_unsupported(ask: bool, encoding: usize, d: &[u8]) -> bool
+fn is_unsupported(ask: bool, encoding: usize, d: &[u8], p: Places) -> bool
+    requires { ⌜ Placed (now d) p ⌝ }
     ensures { λ r. ⌜ r ≡ unsupportedAt ask encoding (entriesOf (now (d .entry))) ⌝ }
 {
-    if dict::is_stroked(d) {
+    if dict::is_stroked(d, p) {
         return true;
     }
     if ask {
@@ -51,21 +55,23 @@ fn is_unsupported(ask: bool, encoding: usize, d: &[u8]) -> bool
 }
 
 // Whether a font has the keying that is asked for and is supported.
-fn is_fit(cid: bool, ask: bool, keyed: bool, encoding: usize, d: &[u8]) -> bool
+fn is_fit(cid: bool, ask: bool, keyed: bool, encoding: usize, d: &[u8], p: Places) -> bool
+    requires { ⌜ Placed (now d) p ⌝ }
     ensures { λ r. ⌜ r ≡ pick (sameBool cid keyed) (not (unsupportedAt ask encoding (entriesOf (now (d .entry))))) false ⌝ }
 {
     if same_keying(cid, keyed) {
-        return !is_unsupported(ask, encoding, d);
+        return !is_unsupported(ask, encoding, d, p);
     }
     false
 }
 
 // Whether the ROS of a top DICT can be used where a CID-keyed font is asked for.
-fn ros_fine(cid: bool, d: &[u8]) -> bool
+fn ros_fine(cid: bool, d: &[u8], p: Places) -> bool
+    requires { ⌜ Placed (now d) p ⌝ }
     ensures { λ r. ⌜ r ≡ pick cid (hasRos (rosIn (entriesOf (now (d .entry))))) true ⌝ }
 {
     if cid {
-        return has_ros(d);
+        return has_ros(d, p);
     }
     true
 }
@@ -102,10 +108,12 @@ pub fn refusal(
     let charstrings = f.charstrings;
     let top = f.top;
     let end = f.top_end;
-    if !is_fit(cid, ask, f.cid, f.encoding, &font[top..end]) {
+    let d = &font[top..end];
+    let p = dict::read_top(d);
+    if !is_fit(cid, ask, f.cid, f.encoding, d, p) {
         return Refusal::UNSUPPORTED;
     }
-    if !ros_fine(cid, &font[top..end]) {
+    if !ros_fine(cid, d, p) {
         return Refusal::MALFORMED;
     }
     if 65535 < name {

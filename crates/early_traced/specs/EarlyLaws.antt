@@ -3,26 +3,25 @@ use Prim.Native.Nat.{ℕ, _≤_, _<_, _+_, _*_}
 use mathlib.Core.Path.{_≡_, refl, sym, ap, _∙_, subst}
 use mathlib.Core.Bool.{Bool, true, false, not}
 use mathlib.Core.List.{List, []}
+use mathlib.Core.Option.{Option, none, some}
 use native.Mathlib.Omega.{arith}
 use borrow.Author.Tests.{lt-ltb, le-ltb}
 use lib.Dec.{ltb}
 use lib.ListN.{length, take}
 use Rattle.octets.specs.Pick.{pick}
 use Rattle.bits.specs.Bits.{wordsFor}
-use Rattle.octets.specs.Octets.{Octets}
 use Rattle.octets.specs.Lists.{allBelow}
 use Rattle.prune.specs.StepLaws.{zero-one}
 use Rattle.index.specs.IndexLaws.{items-length}
 use Rattle.record.specs.Record.{rowsFrom, rowsOf, rowsFine, recordFine}
 use Rattle.dict.specs.Lookup.{rosIn, cidKeyed}
-use Rattle.cff.specs.Font.{Got, got, Program, readFont}
+use Rattle.cff.specs.Font.{Got, Program}
 use Rattle.cff.specs.Find.{workSize}
 use Rattle.cff.specs.Reads.{programOf}
 use Rattle.cff.specs.File.{InFile, tableIn}
 use Rattle.cff.specs.declared.font.Font.{Font}
 use Rattle.subset.specs.Kept.{keptOf}
 use Rattle.unfold.specs.Unfold.{Row}
-use Rattle.subset.specs.Pruned.{May, fail, yes}
 use Rattle.subset.specs.Cut.{allFound, hasRos, sameBool, unsupportedIn}
 use Rattle.outcome.specs.Entry.{refusalOf}
 use Rattle.early_refusals.specs.RefusalLaws.{work-is}
@@ -60,9 +59,9 @@ same-self true = refl
 same-self false = refl
 
 -- a trace behind 6 and 7 is refused with 11 alone
-only-eleven : (lent : ℕ) (m : May (List Row)) (w : ℕ) → fitsIn (answered lent m) ≡ false → refusedOr (answered lent m) w ≡ 11
-only-eleven lent fail w e = absurd (zero-one cc)
-only-eleven lent (yes rows) w e = by (ltb lent (length (recordOf rows))) e
+only-eleven : (lent : ℕ) (m : Option (List Row)) (w : ℕ) → fitsIn (answered lent m) ≡ false → refusedOr (answered lent m) w ≡ 11
+only-eleven lent none w e = absurd (zero-one cc)
+only-eleven lent (some rows) w e = by (ltb lent (length (recordOf rows))) e
   where
     by : (t : Bool) → fitsIn (pick t (refused 11) (traced 1 (recordOf rows))) ≡ false → refusedOr (pick t (refused 11) (traced 1 (recordOf rows))) w ≡ 11
     by true q = refl
@@ -98,9 +97,9 @@ module _ (p : Program) (name : ℕ) (keep : List ℕ) (words lent : ℕ) where
       ∙ first (unsupportedIn false p) ros (ltb 65535 name) (allBelow n keep) (allFound p kept) (answered lent (metAll p kept)) (pick (ltb words (workSize p)) 9 0)
       (subst (λ (k : ℕ). 0 < k) asked-first h)
 
-  module _ (none : refusalOf workSize (cidKeyed (p .top)) false p name keep [] 1 (workSize p) ≡ 0) where
+  module _ (not-refused : refusalOf workSize (cidKeyed (p .top)) false p name keep [] 1 (workSize p) ≡ 0) where
     tests : (unsupportedIn false p ≡ false) × (ros ≡ true) × (ltb 65535 name ≡ false) × (allBelow n keep ≡ true) × (allFound p kept ≡ true)
-    tests = passes (unsupportedIn false p) ros (ltb 65535 name) (allBelow n keep) (allFound p kept) (sym asked-first ∙ none)
+    tests = passes (unsupportedIn false p) ros (ltb 65535 name) (allBelow n keep) (allFound p kept) (sym asked-first ∙ not-refused)
 
     pub keep-passes : (allBelow n keep ≡ true) × (allFound p kept ≡ true)
     keep-passes = (tests .3, tests .4)
@@ -158,18 +157,18 @@ module _ (file : List ℕ) (f : Font) (b : List ℕ) (held : InFile file f b) wh
     own-refusal h = number ∙ early-first q name keep words lent (subst (λ (k : ℕ). 0 < k) number h)
 
     module _ (l : n ≤ 0) where
-      none : refusalOf workSize (cidKeyed (q .top)) false q name keep [] 1 (workSize q) ≡ 0
-      none = let z : n ≡ 0 = omega arith in sym number ∙ z
+      not-refused : refusalOf workSize (cidKeyed (q .top)) false q name keep [] 1 (workSize q) ≡ 0
+      not-refused = let z : n ≡ 0 = omega arith in sym number ∙ z
 
       -- what the trace asks
       pub traced-asked : (allBelow (f .charstrings .count) keep ≡ true) × (allFound q (keptOf (f .charstrings .count) keep) ≡ true)
       traced-asked =
-          let h = keep-passes q name keep words lent none in
+          let h = keep-passes q name keep words lent not-refused in
           (ap (λ (m : ℕ). allBelow m keep) (sym many) ∙ h .0, ap (λ (m : ℕ). allFound q (keptOf m keep)) (sym many) ∙ h .1)
 
       module _ (r : Bool) (fits : r ≡ fitsIn (traceOf file keep lent)) where
         pub long-refusal : not r ≡ true → 11 ≡ earlyOf q name keep words lent
-        long-refusal t = early-long q name keep words lent none (ap fitsIn (sym (trace-of keep lent)) ∙ sym fits ∙ was-false r t)
+        long-refusal t = early-long q name keep words lent not-refused (ap fitsIn (sym (trace-of keep lent)) ∙ sym fits ∙ was-false r t)
           where
             was-false : (r : Bool) → not r ≡ true → r ≡ false
             was-false true e = absurd (zero-one cc)
@@ -184,10 +183,10 @@ module _ (file : List ℕ) (f : Font) (b : List ℕ) (held : InFile file f b) wh
               was-true false e = absurd (zero-one cc)
 
           pub words-refusal : words < w → 9 ≡ earlyOf q name keep words lent
-          words-refusal h = early-words q name keep words lent none has-room (subst (λ (k : ℕ). words < k) wide h)
+          words-refusal h = early-words q name keep words lent not-refused has-room (subst (λ (k : ℕ). words < k) wide h)
 
           pub no-refusal : w ≤ words → 0 ≡ earlyOf q name keep words lent
-          no-refusal h = early-none q name keep words lent none has-room (subst (λ (k : ℕ). k ≤ words) wide h)
+          no-refusal h = early-none q name keep words lent not-refused has-room (subst (λ (k : ℕ). k ≤ words) wide h)
 
 -- ---- by the bytes of the table
 

@@ -1,11 +1,11 @@
 -- Laws of counting the rows of a record: it has room where the tracer would not refuse it with 11.
-use Prim.Native.Nat.{ℕ, _+_, _*_, _/_, _≤_, _<_}
-use mathlib.Core.Path.{_≡_, refl, sym, ap, _∙_}
+use Prim.Native.Nat.{ℕ, _/_, _≤_, _<_}
+use mathlib.Core.Path.{_≡_, refl, sym, _∙_}
 use mathlib.Core.Bool.{Bool, true, false}
 use mathlib.Core.List.{List, []}
 use native.Mathlib.Omega.{arith}
 use lib.ListN.{length}
-use Rattle.octets.specs.Octets.{Octets, put, Wrote}
+use Rattle.octets.specs.Octets.{Octets, put}
 use Rattle.octets.specs.Lists.{allBelow}
 use Rattle.prune.specs.StepLaws.{zero-one}
 use Rattle.cff.specs.Reads.{programOf}

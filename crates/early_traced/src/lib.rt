@@ -70,7 +70,7 @@ fn record_fits(font: &[u8], f: Font, keep: &[u16], lent: &[u8]) -> bool
     let table = cff::set::table(font, f);
     let charstrings = f.charstrings;
     let mut marks = [0u32; 65536];
-    kept::order::mark(keep, &mut marks, charstrings.count);
+    kept::marks::mark(keep, &mut marks, charstrings.count);
     fits_marked(table, f, &marks, lent)
 }
 

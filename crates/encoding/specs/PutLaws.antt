@@ -1,17 +1,17 @@
 -- Laws of writing: one pair, the pairs that are left, and the whole encoding.
-use Prim.Native.Nat.{ℕ, zero, suc, _+_, _*_, _-_, _≤_, _<_}
+use Prim.Native.Nat.{ℕ, zero, suc, _+_, _-_, _≤_, _<_}
 use mathlib.Core.Path.{_≡_, refl, sym, ap, _∙_}
-use mathlib.Core.Bool.{Bool, true, false}
+use mathlib.Core.Bool.{Bool, false}
 use mathlib.Core.List.{List, [], _∷_, _++_, append-nil}
 use native.Mathlib.Omega.{arith}
 use borrow.Author.Tests.{eq-eqb, ne-eqb}
 use lib.Dec.{eqb}
-use lib.ListN.{length, take, drop, getD, length-append}
+use lib.ListN.{length, getD, length-append}
 use Rattle.octets.specs.Pick.{pick}
 use Rattle.octets.specs.Octets.{bytesOf, put, Wrote}
 use Rattle.octets.specs.OctetsLaws.{length-bytes}
-use Rattle.octets.specs.PutLaws.{put-nil, put-length, put-put, wrote-none, wrote-then, wrote-as, wrote-length}
-use Rattle.subset.specs.Codes.{Pair, pairCount, pairBytes, codedBytes}
+use Rattle.octets.specs.PutLaws.{put-nil, put-put, wrote-none, wrote-then, wrote-as, wrote-length}
+use Rattle.subset.specs.Codes.{pairCount, pairBytes, codedBytes}
 use Rattle.encoding.specs.Encoded.{pairIn, pairsIn, codedIn, Encodes}
 use Rattle.encoding.specs.PairLaws.{pair-bytes-append, pairs-more, pairs-none}
 use Rattle.encoding.specs.declared.Encoding.{Encoding}

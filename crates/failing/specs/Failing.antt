@@ -3,6 +3,7 @@ use Prim.Native.Nat.{ℕ, _≤_, _<_}
 use mathlib.Core.Path.{_≡_}
 use mathlib.Core.Bool.{Bool, true, false}
 use mathlib.Core.List.{List, [], _∷_}
+use mathlib.Core.Option.{some}
 use lib.ListN.{length, getD}
 use Rattle.octets.specs.Pick.{pick}
 use Rattle.unfold.specs.Unfold.{Row, glyph}
@@ -10,7 +11,6 @@ use Rattle.prune.specs.Bodies.{All}
 use Rattle.cff.specs.Font.{Program}
 use Rattle.cff.specs.Reads.{programOf}
 use Rattle.cff.specs.declared.font.Font.{Font}
-use Rattle.subset.specs.Pruned.{yes}
 use Rattle.traced.specs.Traced.{recordOf}
 use Rattle.traced.specs.RowLaws.{RowFits}
 use Rattle.traced.specs.Theorem.{keptRows}
@@ -48,7 +48,7 @@ firstFailing p rows (g ∷ gs) = pick (holds (bodyAt p rows (glyph g))) (firstFa
 -- a record is that of the rows that the kept glyphs meet, all being plain
 pub record Recorded (p : Program) (keep rec : List ℕ) : Type 0 where
   pub rows : List Row
-  pub met : keptRows p keep ≡ yes rows
+  pub met : keptRows p keep ≡ some rows
   pub is : rec ≡ recordOf rows
   pub fits : All RowFits rows
 

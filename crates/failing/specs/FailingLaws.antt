@@ -1,5 +1,6 @@
 -- Laws of finding a body that fails: the FDs that are marked, what the words say of calls, and the first glyph that fails.
-use Prim.Native.Nat.{ℕ, _+_, _*_, _≤_, _<_}
+use mathlib.Core.Option.{Option, none, some}
+use Prim.Native.Nat.{ℕ, _+_, _≤_, _<_}
 use mathlib.Core.Path.{_≡_, refl, sym, ap, _∙_, fun-ext, subst}
 use mathlib.Core.Bool.{Bool, true, false, not}
 use mathlib.Core.List.{List, [], _∷_}
@@ -29,7 +30,7 @@ use Rattle.cff.specs.Reads.{programOf}
 use Rattle.cff.specs.declared.font.Font.{Font}
 use Rattle.subset.specs.Kept.{isIn, keptOf, localsOf}
 use Rattle.subset.specs.KeptListLaws.{in-none, in-head, in-more, in-cases, in-place, those-has}
-use Rattle.subset.specs.Pruned.{May, fail, yes, localSet, globalSet, callsIn, renumberedBody}
+use Rattle.subset.specs.Pruned.{localSet, globalSet, callsIn, renumberedBody}
 use Rattle.faithful.specs.KeptLaws.{kept-is}
 use Rattle.faithful.specs.UsedLaws.{fd-there}
 use Rattle.reach.specs.Reach.{rises}
@@ -202,16 +203,16 @@ module _ (b : List ℕ) (f : Font) (rows : List Row) (used ws : List ℕ) (globa
     pub glyph-made : (r : Sized) → r ≡ sizedOf (renumberedBody rows (callsBy ws locals globals) (glyph g) code) → (n : ℕ) → r ≡ Len n → true ≡ holds (bodyAt q rows (glyph g))
     glyph-made r s n l = by (renumberedBody rows (callsBy ws locals globals) (glyph g) code) (sym l ∙ s) ∙ ap holds body-is
       where
-        by : (m : May (List ℕ)) → Len n ≡ sizedOf m → true ≡ holds m
-        by fail z = absurd (zero-one cc)
-        by (yes bs) z = refl
+        by : (m : Option (List ℕ)) → Len n ≡ sizedOf m → true ≡ holds m
+        by none z = absurd (zero-one cc)
+        by (some bs) z = refl
 
     pub glyph-fails : (r : Sized) → r ≡ sizedOf (renumberedBody rows (callsBy ws locals globals) (glyph g) code) → r ≡ Failed → false ≡ holds (bodyAt q rows (glyph g))
     glyph-fails r s l = by (renumberedBody rows (callsBy ws locals globals) (glyph g) code) (sym l ∙ s) ∙ ap holds body-is
       where
-        by : (m : May (List ℕ)) → Failed ≡ sizedOf m → false ≡ holds m
-        by fail z = refl
-        by (yes bs) z = absurd (zero-one cc)
+        by : (m : Option (List ℕ)) → Failed ≡ sizedOf m → false ≡ holds m
+        by none z = refl
+        by (some bs) z = absurd (zero-one cc)
 
 -- ---- the first that fails
 
@@ -262,23 +263,23 @@ module _ (p : Program) (rows : List Row) (keep : List ℕ) where
 
 module _ (p : Program) (rows : List Row) where
   -- one that is found is of the list, and fails
-  failing-is : (gs : List ℕ) → firstFailing p rows gs < 65536 → (isIn (firstFailing p rows gs) gs ≡ true) × (bodyAt p rows (glyph (firstFailing p rows gs)) ≡ fail)
+  failing-is : (gs : List ℕ) → firstFailing p rows gs < 65536 → (isIn (firstFailing p rows gs) gs ≡ true) × (bodyAt p rows (glyph (firstFailing p rows gs)) ≡ none)
   unfolding firstFailing
   failing-is [] h = absurd (omega arith)
   failing-is (g ∷ gs) h = by (bodyAt p rows (glyph g)) refl (failing-is gs) h
     where
-      by : (m : May (List ℕ)) → bodyAt p rows (glyph g) ≡ m → (firstFailing p rows gs < 65536 → (isIn (firstFailing p rows gs) gs ≡ true) × (bodyAt p rows (glyph (firstFailing p rows gs)) ≡ fail))
+      by : (m : Option (List ℕ)) → bodyAt p rows (glyph g) ≡ m → (firstFailing p rows gs < 65536 → (isIn (firstFailing p rows gs) gs ≡ true) × (bodyAt p rows (glyph (firstFailing p rows gs)) ≡ none))
           → pick (holds m) (firstFailing p rows gs) g < 65536
-          → (isIn (pick (holds m) (firstFailing p rows gs) g) (g ∷ gs) ≡ true) × (bodyAt p rows (glyph (pick (holds m) (firstFailing p rows gs) g)) ≡ fail)
-      by fail e f k = (in-head g g gs refl, e)
-      by (yes bs) e f k = let a = f k in (in-more g (firstFailing p rows gs) gs (a .0), a .1)
+          → (isIn (pick (holds m) (firstFailing p rows gs) g) (g ∷ gs) ≡ true) × (bodyAt p rows (glyph (pick (holds m) (firstFailing p rows gs) g)) ≡ none)
+      by none e f k = (in-head g g gs refl, e)
+      by (some bs) e f k = let a = f k in (in-more g (firstFailing p rows gs) gs (a .0), a .1)
 
 module _ (b : List ℕ) (f : Font) (read : FontHeld b f) (keep rec : List ℕ) (below : allBelow (f .charstrings .count) keep ≡ true) (r : Recorded (programOf b f) keep rec) where
   abbrev o : Program
   o = programOf b f
 
   fds-there : FdsThere o
-  fds-there = record { some = read .program .some; fds = λ x h. fd-there o x (read .program) h }
+  fds-there = record { any = read .program .some; fds = λ x h. fd-there o x (read .program) h }
 
   -- glyph 0 and those of the keep list are kept
   one-kept : (g : ℕ) → isIn g (0 ∷ keep) ≡ true → isIn g (keptOf (length (o .charstrings)) keep) ≡ true

@@ -24,7 +24,7 @@ use Rattle.charset.specs.FdSelectRound.{select-round}
 use Rattle.cff.specs.Font.{got, Private, standard, Program, privatesAt, dictsAt, idsAt, cidParts, nameParts, fontAt, readFont, emptyPrivate}
 use Rattle.subset.specs.Kept.{privateOf}
 use Rattle.subset.specs.Pruned.{Bodies}
-use Rattle.subset.specs.Subset.{privateDict, privatePart, privateParts, matrixOf, fontDict, fontDicts, ownByCid, topByCid, cidsOf, newFds, subsetByCid}
+use Rattle.subset.specs.Subset.{privateDict, privatePart, privateParts, matrixOf, fontDicts, ownByCid, topByCid, cidsOf, newFds, subsetByCid}
 use Rattle.subset.specs.Cut.{hasRos}
 use Rattle.faithful.specs.Laid.{GoodProgram, Fitting, matricesOf, ReadsAs}
 use Rattle.faithful.specs.LiesLaws.{lies-behind, lies-within, index-back}

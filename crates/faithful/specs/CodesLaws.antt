@@ -4,18 +4,17 @@ use Prim.Native.Nat.{ℕ, zero, suc, _+_, _≤_, _<_}
 use mathlib.Core.Path.{_≡_, refl, sym, ap, _∙_}
 use mathlib.Core.Bool.{Bool, true, false}
 use mathlib.Core.List.{List, [], _∷_, _++_}
-use native.Mathlib.Nat.{not-suc-le-zero}
 use native.Mathlib.Omega.{arith}
 use borrow.Author.Tests.{eqb-true, eqb-false, eq-eqb, ne-eqb}
-use lib.Dec.{eqb, lit<}
+use lib.Dec.{eqb}
 use lib.ListN.{length, getD}
 use Rattle.octets.specs.Pick.{pick, pick-ind}
 use Rattle.octets.specs.Lists.{allBelow}
 use Rattle.octets.specs.ListLaws.{below-at}
 use Rattle.prune.specs.StepLaws.{zero-one}
-use Rattle.strings.specs.Strings.{stringText, standardString}
+use Rattle.strings.specs.Strings.{stringText}
 use Rattle.strings.specs.StringsLaws.{string-standard}
-use Rattle.charset.specs.Codes.{Naming, byString}
+use Rattle.charset.specs.Codes.{Naming}
 use Rattle.charset.specs.CodesRound.{supplied, Small, small-none, small-more}
 use Rattle.charset.specs.Predefined.{standardEncoding, expertEncoding}
 use Rattle.charset.specs.PredefinedLaws.{standard-long, expert-long}

@@ -3,21 +3,21 @@
 -- first font's subset mean (document 02, Wish 4), of which cut_examples has more.
 use Prim.Native.Nat.{ℕ, zero, suc, _<_}
 use mathlib.Core.Path.{_≡_, refl, sym, ap, _∙_, subst}
-use mathlib.Core.Logic.{_⊎_, inl, inr}
+use mathlib.Core.Logic.{inl, inr}
 use mathlib.Core.Bool.{true, false, false≢true}
 use mathlib.Core.List.{List, [], _∷_, _++_}
 use native.Mathlib.Omega.{arith}
 use borrow.Author.Tests.{ltb-true}
 use lib.Dec.{ltb}
 use lib.IntN.{pos}
-use lib.ListN.{length, take, drop}
+use lib.ListN.{length, take}
 use Rattle.octets.specs.Octets.{Octets, be, numAt}
 use Rattle.octets.specs.Lists.{allBelow}
 use Rattle.octets.specs.PickLaws.{both-hold}
 use Rattle.type2_number.specs.Number as t2
 use Rattle.unfold.specs.Unfold as u
 use Rattle.unfold.specs.Unfold.{Tok, Row, num, op, mask, local, global, entered, masked, plain}
-use Rattle.prune.specs.Bodies.{All, none, one}
+use Rattle.prune.specs.Bodies.{empty, one}
 use Rattle.prune.specs.StepLaws.{zero-one}
 use Rattle.record.specs.Record.{rowsFrom, rowsOf, lists}
 use Rattle.index.specs.Index.{offsets, runOf, judged, dataAt, tableAt, indexAt, pieces, itemsOf, told, readIndex}
@@ -106,7 +106,7 @@ sheet-faithful =
 -- the subset holds glyph 1
 sheet-held : Holds sheetProgram 1 (op 14 ∷ []) sheetSubset
 sheet-held =
-    sheet-faithful sheetProgram sheet-reads 1 (asked-kept sheetProgram (1 ∷ []) 1 (omega arith) asked-1) (op 14 ∷ []) [] sheet-unfolds (inr none)
+    sheet-faithful sheetProgram sheet-reads 1 (asked-kept sheetProgram (1 ∷ []) 1 (omega arith) asked-1) (op 14 ∷ []) [] sheet-unfolds (inr empty)
 
 -- its encoding asked for, which is the standard one: the same subset, in which code 32 is space and code 33, exclam, has no glyph
 sheet-asked : cutOf false true sheet (0x41 ∷ []) (1 ∷ []) [] 1 8192 32768 ≡ subset 0 sheetSubset
@@ -187,7 +187,7 @@ unfolds-3 = refl
 -- renumbered: the record lists what glyph 1 meets
 listed-1 : Recorded reach 1 met-1
 unfolding rowsOf rowsFrom lists numAt be
-listed-1 = inr (one refl (one refl none))
+listed-1 = inr (one refl (one refl empty))
 
 renumbered-held : Holds cidProgram 1 tokens-1 renumberedBytes
 renumbered-held =
@@ -198,7 +198,7 @@ renumbered-held =
 -- stubbed: a row more, of a subroutine that is not there
 listed-3 : Recorded wrongReach 1 met-3
 unfolding rowsOf rowsFrom lists numAt be
-listed-3 = inr (one refl (one refl (one refl none)))
+listed-3 = inr (one refl (one refl (one refl empty)))
 
 stubbed-held : Holds cidProgram 3 tokens-3 (unrenumberedBytes 0x0b)
 stubbed-held =
@@ -227,7 +227,7 @@ mask-unlisted = refl
 
 not-promised : Recorded otherLength 1 met-1 → ⊥
 not-promised (inl e) = zero-one (sym e)
-not-promised (inr (one h (one m none))) = false≢true (sym mask-unlisted ∙ m)
+not-promised (inr (one h (one m empty))) = false≢true (sym mask-unlisted ∙ m)
 
 -- ---- Wish 2, on the same font, whose FDs have no FontMatrix
 

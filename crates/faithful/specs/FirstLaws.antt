@@ -1,5 +1,5 @@
 -- The first glyph of a subset: its string id, and its CID, is 0 as in the font (TN5176, section 13: glyph 0 is .notdef).
-use Prim.Native.Nat.{ℕ, zero, suc, _-_, _<_}
+use Prim.Native.Nat.{ℕ, zero, suc, _<_}
 use mathlib.Core.Path.{_≡_, refl, ap, _∙_}
 use mathlib.Core.List.{List, [], _∷_}
 use native.Mathlib.Nat.{not-suc-le-zero}

@@ -1,6 +1,6 @@
 -- A font is read as its parts are (TN5176, section 9; document 01, 'Layout'): from the entries of its top DICT, the charstrings, the ids of the
 -- glyphs, and what its keying adds.
-use Prim.Native.Nat.{ℕ, _+_, _≤_, _<_}
+use Prim.Native.Nat.{ℕ, _≤_, _<_}
 use mathlib.Core.Path.{_≡_, ap, _∙_}
 use mathlib.Core.Bool.{Bool, true}
 use mathlib.Core.List.{List, _++_}

@@ -29,7 +29,7 @@ use Rattle.dict_write.specs.DictRound.{parts-read}
 use Rattle.dict_write.specs.EntriesRound.{entries-read, offset-read, without-proper}
 use Rattle.cff.specs.Font.{Got, refused, got, then, indexGot, dictGot, localsAt, Private, privateData, privateAt, privatesAt, dictsAt, Program, emptyPrivate}
 use Rattle.subset.specs.Kept.{privateOf}
-use Rattle.subset.specs.Subset.{privateDict, privatePart, privateParts, matrixOf, fontDict, fontDicts}
+use Rattle.subset.specs.Subset.{privateDict, privatePart, privateParts, matrixOf, fontDicts}
 use Rattle.faithful.specs.Laid.{GoodProgram, matricesOf}
 use Rattle.faithful.specs.WholeLaws.{offset-whole, private-whole, last-snoc, last-without}
 use Rattle.faithful.specs.TopFitLaws.{NormalOperands, last-normal}

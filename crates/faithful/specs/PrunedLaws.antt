@@ -5,6 +5,7 @@ use mathlib.Core.Path.{_≡_, refl, sym, ap, _∙_, subst}
 use mathlib.Core.Logic.{inl, inr}
 use mathlib.Core.Bool.{true}
 use mathlib.Core.List.{List, [], _∷_}
+use mathlib.Core.Option.{Option, none, some}
 use native.Mathlib.Decide.{decLe}
 use native.Mathlib.Nat.{zero-add}
 use native.Mathlib.Omega.{arith}
@@ -14,12 +15,12 @@ use borrow.Author.Tests.{eqb-true, eqb-false}
 use Rattle.octets.specs.Pick.{pick-ind}
 use Rattle.octets.specs.Octets.{Octets}
 use Rattle.unfold.specs.Unfold.{Tok, Row, local, global, plain, unfoldGlyph}
-use Rattle.prune.specs.Bodies.{All, none, one}
+use Rattle.prune.specs.Bodies.{All, empty, one}
 use Rattle.prune.specs.Unfolds.{same-unfolds}
 use Rattle.record.specs.Record.{rowsOf}
 use Rattle.cff.specs.Font.{Program}
 use Rattle.subset.specs.Kept.{isIn, usedFds, newFd, localsOf}
-use Rattle.subset.specs.Pruned.{Bodies, May, fail, yes as done, localSet, globalSet, stubbedFrom, mapped, renumberedSubrs, callsIn, callsAcross, renumbered, charstringsOf, stubbed, copied, Pruned, orStubbed, pruned}
+use Rattle.subset.specs.Pruned.{Bodies, localSet, globalSet, stubbedFrom, mapped, renumberedSubrs, callsIn, callsAcross, renumbered, charstringsOf, stubbed, copied, Pruned, orStubbed, pruned}
 use Rattle.faithful.specs.Faithful.{unfolded, Recorded}
 use Rattle.faithful.specs.Laid.{GoodProgram, Fitting}
 use Rattle.subset.specs.EachLaws.{length-mapped, mapped-at, length-each, each-at, length-stubbed, stubbed-at}
@@ -39,9 +40,9 @@ pruned-ways p rows used order flag P copies stubs renewed =
     pick-ind (λ (q : Pruned). P (q .bodies)) (eqb flag 0) (record { way = 2; bodies = copied p used order }) (orStubbed (renumbered p rows used order) (stubbed p rows used order))
     (λ t. copies (eqb-true flag 0 t)) (λ t. go (eqb-false flag 0 t) (renumbered p rows used order) refl)
   where
-    go : (flag ≡ 0 → ⊥) → (m : May Bodies) → renumbered p rows used order ≡ m → P (orStubbed m (stubbed p rows used order) .bodies)
-    go n fail e = stubs n
-    go n (done b) e = renewed n b (renews p rows used order b e)
+    go : (flag ≡ 0 → ⊥) → (m : Option Bodies) → renumbered p rows used order ≡ m → P (orStubbed m (stubbed p rows used order) .bodies)
+    go n none e = stubs n
+    go n (some b) e = renewed n b (renews p rows used order b e)
 
 -- ---- the bodies fit
 
@@ -86,7 +87,7 @@ module _ (p : Program) (rows : List Row) (used order : List ℕ) (good : GoodPro
   -- those that are renumbered
   renewed-fits : (b : Bodies) → Renews p rows used order b → Fitting (length order) used b
   renewed-fits b new =
-      let f : ℕ → May (List (List ℕ)) = λ n. renumberedSubrs rows (localSet rows n) (callsIn p rows n) (local n) (localsOf p n) in
+      let f : ℕ → Option (List (List ℕ)) = λ n. renumberedSubrs rows (localSet rows n) (callsIn p rows n) (local n) (localsOf p n) in
       let few = subrs-few rows (globalSet rows) (callsAcross p rows used) global (p .globals) (b .globals) (new .globals) in
       record {
         glyphs = length-each _ order (b .charstrings) (new .charstrings);
@@ -109,7 +110,7 @@ pruned-fits p rows used order flag good =
 
 -- every row is one of all
 all-rows : (met : List Row) → All (λ r. Unit) met
-all-rows [] = none
+all-rows [] = empty
 all-rows (r ∷ met) = one tt (all-rows met)
 
 -- rows that are recorded are listed, where the flag is not 0

@@ -4,6 +4,7 @@ use Prim.Native.Nat.{ℕ, _<_}
 use mathlib.Core.Path.{_≡_, refl, ap, _∙_, subst}
 use mathlib.Core.Bool.{Bool, true, false}
 use mathlib.Core.List.{List, []}
+use mathlib.Core.Option.{some}
 use lib.Dec.{eqb}
 use lib.IntN.{ℤ}
 use lib.ListN.{length, getD}
@@ -11,14 +12,13 @@ use Rattle.octets.specs.Pick.{pick}
 use Rattle.type2_number.specs.Number.{Reading}
 use Rattle.charstring.specs.declared.MaskLen.the-variants.{Given}
 use Rattle.unfold.specs.Unfold.{Tok, Row, Site, glyph, local, global, entered, masked, plain, unfoldGlyph}
-use Rattle.prune.specs.Renumber.{becomes}
 use Rattle.prune.specs.Bodies.{All, Renumbers}
 use Rattle.prune.specs.Unfolds.{renumbered-unfolds}
 use Rattle.prune.specs.BelongsLaws.{Belongs, rows-belong}
 use Rattle.record.specs.Record.{lists, givenIn, twoLengths}
 use Rattle.cff.specs.Font.{Program}
 use Rattle.subset.specs.Kept.{isIn, newFd, localsOf}
-use Rattle.subset.specs.Pruned.{Bodies, yes as done, localSet, globalSet, renumberedSubrs, localOperand, globalOperand, callsIn, callsAcross}
+use Rattle.subset.specs.Pruned.{Bodies, localSet, globalSet, renumberedSubrs, localOperand, globalOperand, callsIn, callsAcross}
 use Rattle.faithful.specs.Laid.{GoodProgram}
 use Rattle.subset.specs.EachLaws.{each-at}
 use Rattle.faithful.specs.UsedLaws.{new-fd-at}
@@ -48,10 +48,10 @@ module _ (p : Program) (good : GoodProgram p) (rows : List Row) (small : (q : Ro
     ls = getD (b .locals) (newFd used fd) []
 
     -- they are those of the font, renumbered
-    locals-turned : renumberedSubrs rows (localSet rows fd) (callsIn p rows fd) (local fd) (localsOf p fd) ≡ done ls
+    locals-turned : renumberedSubrs rows (localSet rows fd) (callsIn p rows fd) (local fd) (localsOf p fd) ≡ some ls
     locals-turned =
         let k = new-fd-at used fd inUse in
-        subst (λ (f : ℕ). renumberedSubrs rows (localSet rows f) (callsIn p rows f) (local f) (localsOf p f) ≡ done ls) (k .1)
+        subst (λ (f : ℕ). renumberedSubrs rows (localSet rows f) (callsIn p rows f) (local f) (localsOf p f) ≡ some ls) (k .1)
         (each-at (λ f. renumberedSubrs rows (localSet rows f) (callsIn p rows f) (local f) (localsOf p f)) used (b .locals) (new .locals) (newFd used fd) [] (k .0))
 
     -- a listed subroutine's number has two bytes
@@ -79,10 +79,10 @@ module _ (p : Program) (good : GoodProgram p) (rows : List Row) (small : (q : Ro
         given-listed rows (global k) offset len (u .one) (h .is)
 
     -- an operand that a call becomes is a reading
-    call-reading : (c : ℕ) (z y : ℤ) → callsIn p rows fd c z ≡ becomes y → Reading y
+    call-reading : (c : ℕ) (z y : ℤ) → callsIn p rows fd c z ≡ some y → Reading y
     call-reading c z y e = go (eqb c 10) e
       where
-        go : (t : Bool) → pick t (localOperand p rows fd z) (globalOperand p rows z) ≡ becomes y → Reading y
+        go : (t : Bool) → pick t (localOperand p rows fd z) (globalOperand p rows z) ≡ some y → Reading y
         go true h =
             subrs-reading rows (localSet rows fd) (callsIn p rows fd) (local fd) (localsOf p fd) ls locals-turned small-local z y h (good .locals fd .count)
         go false h =

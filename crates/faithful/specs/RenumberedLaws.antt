@@ -4,6 +4,7 @@ use Prim.Native.Nat.{ℕ, _+_, _≤_, _<_}
 use mathlib.Core.Path.{_≡_, refl, sym, ap, _∙_, subst}
 use mathlib.Core.Bool.{Bool, true, false}
 use mathlib.Core.List.{List, [], _∷_}
+use mathlib.Core.Option.{Option, none, some}
 use native.Mathlib.Omega.{arith}
 use lib.Dec.{eqb}
 use lib.IntN.{ℤ}
@@ -12,15 +13,15 @@ use borrow.Author.Tests.{eqb-true}
 use Rattle.octets.specs.Pick.{pick}
 use Rattle.type2_number.specs.Number.{Reading}
 use Rattle.charstring.specs.Bias.{biasOf}
-use Rattle.unfold.specs.Unfold.{Row, Site, glyph, local, global, last, target, targetOf}
-use Rattle.prune.specs.Renumber.{new, fails, becomes, operandOf, Calls, Bytes, failed, bytes, renumberCharstring}
+use Rattle.unfold.specs.Unfold.{Row, Site, glyph, local, global, targetOf}
+use Rattle.prune.specs.Renumber.{operandOf, Calls, renumberCharstring}
 use Rattle.prune.specs.OperandLaws.{operand-target, operand-reading}
 use Rattle.prune.specs.StepLaws.{zero-one}
 use Rattle.record.specs.Record.{givenIn, twoLengths}
 use Rattle.cff.specs.Font.{Program}
 use Rattle.subset.specs.Kept.{isIn, those, localsOf}
 use Rattle.bits.specs.Bits.{countBelow}
-use Rattle.subset.specs.Pruned.{Bodies, rank, reached, May, fail, yes as done, whole, each, localSet, globalSet, renumberedBody, renumberedSubrs, localOperand, globalOperand, callsIn, callsAcross, renumbered}
+use Rattle.subset.specs.Pruned.{Bodies, rank, reached, each, localSet, globalSet, renumberedBody, renumberedSubrs, localOperand, globalOperand, callsIn, callsAcross, renumbered}
 use Rattle.subset.specs.EachLaws.{and-yes, length-each, each-at}
 use Rattle.subset.specs.RankLaws.{count-few, count-below, count-bound, rank-new, length-those, those-at}
 
@@ -29,21 +30,16 @@ use Rattle.subset.specs.RankLaws.{count-few, count-below, count-bound, rank-new
 -- a body that is turned has no two lengths
 pub record Turned (rows : List Row) (calls : Calls) (site : Site) (s s' : List ℕ) : Type 0 where
   pub one : twoLengths rows site ≡ false
-  pub is : renumberCharstring calls (givenIn rows site) s ≡ bytes s'
-
--- bytes that are whole
-whole-yes : (q : Bytes) (s' : List ℕ) → whole q ≡ done s' → q ≡ bytes s'
-whole-yes failed s' e = absurd (zero-one cc)
-whole-yes (bytes bs) s' e = let f : bs ≡ s' = cc in ap bytes f
+  pub is : renumberCharstring calls (givenIn rows site) s ≡ some s'
 
 -- a body that does not fail is turned
-pub body-turned : (rows : List Row) (calls : Calls) (site : Site) (s s' : List ℕ) → renumberedBody rows calls site s ≡ done s' → Turned rows calls site s s'
+pub body-turned : (rows : List Row) (calls : Calls) (site : Site) (s s' : List ℕ) → renumberedBody rows calls site s ≡ some s' → Turned rows calls site s s'
 unfolding renumberedBody
 body-turned rows calls site s s' e = go (twoLengths rows site) refl e
   where
-    go : (t : Bool) → twoLengths rows site ≡ t → pick t fail (whole (renumberCharstring calls (givenIn rows site) s)) ≡ done s' → Turned rows calls site s s'
+    go : (t : Bool) → twoLengths rows site ≡ t → pick t none (renumberCharstring calls (givenIn rows site) s) ≡ some s' → Turned rows calls site s s'
     go true f h = absurd (zero-one cc)
-    go false f h = record { one = f; is = whole-yes (renumberCharstring calls (givenIn rows site) s) s' h }
+    go false f h = record { one = f; is = h }
 
 -- ---- subroutines
 
@@ -53,18 +49,18 @@ pub record Ranked (set : ℕ → Bool) (subrs : List (List ℕ)) (i n : ℕ) : T
   pub there : i < length subrs
   pub at : n ≡ countBelow set i
 
-module _ (rows : List Row) (set : ℕ → Bool) (calls : Calls) (site : ℕ → Site) (subrs l : List (List ℕ)) (e : renumberedSubrs rows set calls site subrs ≡ done l) where
+module _ (rows : List Row) (set : ℕ → Bool) (calls : Calls) (site : ℕ → Site) (subrs l : List (List ℕ)) (e : renumberedSubrs rows set calls site subrs ≡ some l) where
   -- what becomes of a subroutine
-  abbrev body : ℕ → May (List ℕ)
+  abbrev body : ℕ → Option (List ℕ)
   body k = renumberedBody rows calls (site k) (getD subrs k [])
 
   -- no number without a subroutine is reached, and each reached one is turned
-  subrs-told : (reached set ≡ countBelow set (length subrs)) × (each body (those set (length subrs) 0) ≡ done l)
+  subrs-told : (reached set ≡ countBelow set (length subrs)) × (each body (those set (length subrs) 0) ≡ some l)
   unfolding renumberedSubrs
   subrs-told = go (eqb (reached set) (countBelow set (length subrs))) refl e
     where
-      go : (t : Bool) → eqb (reached set) (countBelow set (length subrs)) ≡ t → pick t (each body (those set (length subrs) 0)) fail ≡ done l
-          → (reached set ≡ countBelow set (length subrs)) × (each body (those set (length subrs) 0) ≡ done l)
+      go : (t : Bool) → eqb (reached set) (countBelow set (length subrs)) ≡ t → pick t (each body (those set (length subrs) 0)) none ≡ some l
+          → (reached set ≡ countBelow set (length subrs)) × (each body (those set (length subrs) 0) ≡ some l)
       go true f h = (eqb-true (reached set) (countBelow set (length subrs)) f, h)
       go false f h = absurd (zero-one cc)
 
@@ -90,8 +86,8 @@ module _ (rows : List Row) (set : ℕ → Bool) (calls : Calls) (site : ℕ → 
   subrs-body i n r =
       let c : countBelow set i < countBelow set (length subrs) = count-below set i (length subrs) (r .member) (r .there) in
       let b = each-at body (those set (length subrs) 0) l (subrs-told .1) (countBelow set i) [] (omega (arith, length-of-those)) in
-      let q : body i ≡ done (getD l (countBelow set i) []) = ap body (sym (those-at set (length subrs) i (r .there) (r .member))) ∙ b in
-      body-turned rows calls (site i) (getD subrs i []) (getD l n []) (q ∙ ap (λ (m : ℕ). done (getD l m [])) (sym (r .at)))
+      let q : body i ≡ some (getD l (countBelow set i) []) = ap body (sym (those-at set (length subrs) i (r .there) (r .member))) ∙ b in
+      body-turned rows calls (site i) (getD subrs i []) (getD l n []) (q ∙ ap (λ (m : ℕ). some (getD l m [])) (sym (r .at)))
 
   module _ (small : (i : ℕ) → set i ≡ true → i < 65536) where
     -- a reached subroutine is there
@@ -99,19 +95,19 @@ module _ (rows : List Row) (set : ℕ → Bool) (calls : Calls) (site : ℕ → 
     subrs-there i h = count-bound set 65536 (length subrs) i (subrs-told .0) h (small i h)
 
     -- a rank is below the count of those reached
-    rank-below : (i n : ℕ) → rank set i ≡ new n → n < reached set
+    rank-below : (i n : ℕ) → rank set i ≡ some n → n < reached set
     rank-below i n h =
         let r = rank-new set i n h in
         let c = count-below set i 65536 (r .0) (small i (r .0)) in
         subst (λ (m : ℕ). m < reached set) (sym (r .1)) c
 
-    module _ (z y : ℤ) (o : operandOf (rank set) (biasOf (length subrs)) (biasOf (reached set)) z ≡ becomes y) where
+    module _ (z y : ℤ) (o : operandOf (rank set) (biasOf (length subrs)) (biasOf (reached set)) z ≡ some y) where
       -- a call that is rewritten calls the subroutine at the rank
-      pub subrs-call : (i : ℕ) → targetOf (length subrs) (last z) ≡ target i → (n : ℕ) × (targetOf (length l) (last y) ≡ target n) × Ranked set subrs i n
+      pub subrs-call : (i : ℕ) → targetOf (length subrs) (some z) ≡ some i → (n : ℕ) × (targetOf (length l) (some y) ≡ some n) × Ranked set subrs i n
       subrs-call i t =
           let q = operand-target (rank set) (length subrs) (reached set) rank-below z y o i t in
           let r = rank-new set i (q .0) (q .2) in
-          (q .0, ap (λ (m : ℕ). targetOf m (last y)) subrs-length ∙ q .1, record { member = r .0; there = subrs-there i (r .0); at = r .1 })
+          (q .0, ap (λ (m : ℕ). targetOf m (some y)) subrs-length ∙ q .1, record { member = r .0; there = subrs-there i (r .0); at = r .1 })
 
       -- its operand is a reading
       pub subrs-reading : length subrs < 65536 → Reading y
@@ -127,10 +123,10 @@ callsOf p rows used fd (local f k) = callsIn p rows fd
 callsOf p rows used fd (global k) = callsAcross p rows used
 
 -- where a local call fails, one that is rewritten is of a global subroutine
-across-global : (p : Program) (rows : List Row) (f b : ℕ) (z y : ℤ) → pick (eqb b 10) fails (globalOperand p rows z) ≡ becomes y → callsIn p rows f b z ≡ becomes y
+across-global : (p : Program) (rows : List Row) (f b : ℕ) (z y : ℤ) → pick (eqb b 10) none (globalOperand p rows z) ≡ some y → callsIn p rows f b z ≡ some y
 across-global p rows f b z y e = go (eqb b 10) e
   where
-    go : (t : Bool) → pick t fails (globalOperand p rows z) ≡ becomes y → pick t (localOperand p rows f z) (globalOperand p rows z) ≡ becomes y
+    go : (t : Bool) → pick t none (globalOperand p rows z) ≡ some y → pick t (localOperand p rows f z) (globalOperand p rows z) ≡ some y
     go true h = absurd (zero-one cc)
     go false h = h
 
@@ -144,15 +140,15 @@ only-fd f fd e = go (eqb f fd) refl e
     go false h q = absurd (zero-one cc)
 
 -- calls in a global subroutine are rewritten as the glyph's own
-across-in : (p : Program) (rows : List Row) (used : List ℕ) (fd : ℕ) → isIn fd used ≡ true → (b : ℕ) (z y : ℤ) → callsAcross p rows used b z ≡ becomes y
-    → callsIn p rows fd b z ≡ becomes y
+across-in : (p : Program) (rows : List Row) (used : List ℕ) (fd : ℕ) → isIn fd used ≡ true → (b : ℕ) (z y : ℤ) → callsAcross p rows used b z ≡ some y
+    → callsIn p rows fd b z ≡ some y
 across-in p rows [] fd h b z y e = across-global p rows fd b z y e
-across-in p rows (f ∷ []) fd h b z y e = subst (λ (x : ℕ). callsIn p rows x b z ≡ becomes y) (only-fd f fd h) e
+across-in p rows (f ∷ []) fd h b z y e = subst (λ (x : ℕ). callsIn p rows x b z ≡ some y) (only-fd f fd h) e
 across-in p rows (f ∷ g ∷ fs) fd h b z y e = across-global p rows fd b z y e
 
 -- calls in every body that the glyph runs are rewritten as its own
-pub calls-in : (p : Program) (rows : List Row) (used : List ℕ) (fd : ℕ) → isIn fd used ≡ true → (site : Site) (b : ℕ) (z y : ℤ) → callsOf p rows used fd site b z ≡ becomes y
-    → callsIn p rows fd b z ≡ becomes y
+pub calls-in : (p : Program) (rows : List Row) (used : List ℕ) (fd : ℕ) → isIn fd used ≡ true → (site : Site) (b : ℕ) (z y : ℤ) → callsOf p rows used fd site b z ≡ some y
+    → callsIn p rows fd b z ≡ some y
 calls-in p rows used fd h (glyph n) b z y e = e
 calls-in p rows used fd h (local f k) b z y e = e
 calls-in p rows used fd h (global k) b z y e = across-in p rows used fd h b z y e
@@ -161,12 +157,12 @@ calls-in p rows used fd h (global k) b z y e = across-in p rows used fd h b z y 
 
 -- the bodies of a font that are renumbered
 pub record Renews (p : Program) (rows : List Row) (used order : List ℕ) (b : Bodies) : Type 0 where
-  pub globals : renumberedSubrs rows (globalSet rows) (callsAcross p rows used) global (p .globals) ≡ done (b .globals)
-  pub locals : each (λ f. renumberedSubrs rows (localSet rows f) (callsIn p rows f) (local f) (localsOf p f)) used ≡ done (b .locals)
-  pub charstrings : each (λ g. renumberedBody rows (callsIn p rows (getD (p .fds) g 0)) (glyph g) (getD (p .charstrings) g [])) order ≡ done (b .charstrings)
+  pub globals : renumberedSubrs rows (globalSet rows) (callsAcross p rows used) global (p .globals) ≡ some (b .globals)
+  pub locals : each (λ f. renumberedSubrs rows (localSet rows f) (callsIn p rows f) (local f) (localsOf p f)) used ≡ some (b .locals)
+  pub charstrings : each (λ g. renumberedBody rows (callsIn p rows (getD (p .fds) g 0)) (glyph g) (getD (p .charstrings) g [])) order ≡ some (b .charstrings)
 
 -- bodies whose renumbering does not fail
-pub renews : (p : Program) (rows : List Row) (used order : List ℕ) (b : Bodies) → renumbered p rows used order ≡ done b → Renews p rows used order b
+pub renews : (p : Program) (rows : List Row) (used order : List ℕ) (b : Bodies) → renumbered p rows used order ≡ some b → Renews p rows used order b
 unfolding renumbered
 renews p rows used order b e =
     let gs = and-yes (renumberedSubrs rows (globalSet rows) (callsAcross p rows used) global (p .globals)) _ b e in

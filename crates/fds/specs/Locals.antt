@@ -1,6 +1,6 @@
 -- The local subroutines of the FDs in use, as the code holds them (document 02, Wish 7: a bit for each in the work words): a table tells by FD
 -- which are in use, and another where the bits of their locals stand in the work words (bodies `ranksIn`).
-use Prim.Native.Nat.{ℕ, _+_, _≤_, _<_}
+use Prim.Native.Nat.{ℕ, _+_, _<_}
 use mathlib.Core.Path.{_≡_}
 use mathlib.Core.Bool.{Bool, true, false, not}
 use mathlib.Core.List.{List, [], _∷_, _++_}

@@ -2,7 +2,7 @@
 use Prim.Native.Nat.{ℕ, _+_, _≤_, _<_}
 use mathlib.Core.Path.{_≡_, refl, sym, ap, _∙_, subst}
 use mathlib.Core.Bool.{Bool, true, false}
-use mathlib.Core.List.{List, [], _∷_, _++_}
+use mathlib.Core.List.{List, _++_}
 use native.Mathlib.Omega.{arith}
 use lib.Dec.{eqb}
 use lib.ListN.{length, getD, set, length-set}
@@ -28,7 +28,7 @@ use Rattle.renumber.specs.Ranks.{ranksAt}
 use Rattle.renumber.specs.declared.Ranks.{Ranks}
 use Rattle.bodies.specs.Ways.{ranksIn}
 use Rattle.fds.specs.declared.RankedLocals.{RankedLocals}
-use Rattle.fds.specs.Locals.{inUse, usedBelow, fdsIn, localsFor, fdBits, bitsFor, numbered, allNumbered, fdRanks, rankedLocals, withRanks, RankedFd, RankedFds, RanksLocals}
+use Rattle.fds.specs.Locals.{inUse, usedBelow, localsFor, fdBits, bitsFor, numbered, allNumbered, fdRanks, rankedLocals, withRanks, RankedFd, RankedFds, RanksLocals}
 use Rattle.fds.specs.UsedLaws.{used-next, unused-next, locals-last, bits-last, numbered-last, bits-length, locals-few, locals-within, unused-apart}
 
 -- ---- one FD

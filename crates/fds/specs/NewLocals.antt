@@ -4,14 +4,12 @@ use Prim.Native.Nat.{ℕ, _+_, _≤_, _<_}
 use mathlib.Core.Path.{_≡_}
 use mathlib.Core.Bool.{Bool, true}
 use mathlib.Core.List.{List}
+use mathlib.Core.Option.{Option}
 use lib.ListN.{length, getD}
 use Rattle.index.specs.Write.{total}
 use Rattle.unfold.specs.Unfold.{Row, local}
 use Rattle.cff.specs.Font.{Program}
 use Rattle.subset.specs.Kept.{localsOf}
-use Rattle.bits.specs.Bits.{countBelow}
-use Rattle.subset.specs.Pruned.{May, mapped}
-use Rattle.subset.specs.Subset.{privateParts}
 use Rattle.reach.specs.Reach.{rises}
 use Rattle.renumber.specs.Ranks.{callsBy, Ranked}
 use Rattle.renumber.specs.declared.Ranks.{Ranks}
@@ -21,7 +19,7 @@ use Rattle.fds.specs.Locals.{inUse, fdsIn, UsedOf}
 
 module _ (way : ℕ) (p : Program) (rows : List Row) (ws : List ℕ) (own globals : Ranks) where
   -- the local subroutines of an FD with these ranks by the way, or that their renumbering fails; the same where it does not
-  abbrev pub localsWith : ℕ → May (List (List ℕ))
+  abbrev pub localsWith : ℕ → Option (List (List ℕ))
   localsWith f = subrsBy way rows (reachedIn ws own) (callsBy ws own globals) (local f) (localsOf p f)
 
   abbrev pub newWith : ℕ → List (List ℕ)
@@ -39,7 +37,7 @@ pub record FdIn (b : List ℕ) (p : Program) (ws : List ℕ) (own globals : Rank
 
 module _ (way : ℕ) (p : Program) (rows : List Row) (ws table : List ℕ) (globals : Ranks) where
   -- those of an FD by the tables
-  abbrev pub localsBy : ℕ → May (List (List ℕ))
+  abbrev pub localsBy : ℕ → Option (List (List ℕ))
   localsBy f = localsWith way p rows ws (ranksIn table f) globals f
 
   abbrev pub newLocals : ℕ → List (List ℕ)

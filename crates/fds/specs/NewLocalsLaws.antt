@@ -3,6 +3,7 @@ use Prim.Native.Nat.{ℕ, zero, suc, _+_, _-_, _≤_, _<_}
 use mathlib.Core.Path.{_≡_, refl, sym, ap, _∙_, subst}
 use mathlib.Core.Bool.{Bool, true, false}
 use mathlib.Core.List.{List, [], _∷_, _++_}
+use mathlib.Core.Option.{Option}
 use native.Mathlib.Omega.{arith}
 use lib.ListN.{length, getD, set}
 use lib.Seq.{getD-set-same, getD-set-other}
@@ -17,11 +18,10 @@ use Rattle.cff.specs.Reads.{GoodPrivate}
 use Rattle.cff.specs.Reads as reads
 use Rattle.cff.specs.declared.private.PrivateAt.{PrivateAt}
 use Rattle.subset.specs.Kept.{those, localsOf, privateOf}
-use Rattle.subset.specs.Pruned.{May}
 use Rattle.reach.specs.Cases.{by-number}
 use Rattle.renumber.specs.Ranks.{callsBy}
 use Rattle.renumber.specs.declared.Ranks.{Ranks}
-use Rattle.bodies.specs.Ways.{holds, measuredOf, newSubrs, subrsBy, reachedIn, ranksIn, siteIn, SubrsIn}
+use Rattle.bodies.specs.Ways.{holds, measuredOf, subrsBy, reachedIn, ranksIn, siteIn, SubrsIn}
 use Rattle.bodies.specs.Pruning.{allHold}
 use Rattle.bodies.specs.Sizes.{Bounded}
 use Rattle.bodies.specs.SubrsLaws.{new-subrs-is}
@@ -29,14 +29,14 @@ use Rattle.bodies.specs.WritingLaws.{measured-failed, measured-total}
 use Rattle.bodies.specs.declared.Measured.{Measured}
 use Rattle.bodies.specs.declared.Measured.the-variants.{Failed, Total}
 use Rattle.bodies.specs.declared.subrs.Subrs.the-variants.{Local}
-use Rattle.fds.specs.Locals.{inUse, usedBelow, fdsIn}
+use Rattle.fds.specs.Locals.{inUse, usedBelow}
 use Rattle.fds.specs.UsedLaws.{used-next, unused-next, both-last, one-last, unused-apart}
 use Rattle.fds.specs.LocalsLaws.{locals-count}
 use Rattle.fds.specs.NewLocals.{localsWith, FdIn, localsBy, newLocals, MeasuresLocals, LocalsIn}
 
 -- ---- some that hold
 
-module _ {A : Type 0} (f : ℕ → May A) where
+module _ {A : Type 0} (f : ℕ → Option A) where
   hold-last : (fs : List ℕ) (x : ℕ) → allHold f (fs ++ (x ∷ [])) ≡ pick (allHold f fs) (holds (f x)) false
   unfolding allHold
   hold-last [] x = one-last (holds (f x))

@@ -2,7 +2,7 @@
 -- privatePart and privateParts).
 use Prim.Native.Nat.{ℕ, _+_, _≤_, _<_}
 use mathlib.Core.Path.{_≡_}
-use mathlib.Core.Bool.{Bool, true}
+use mathlib.Core.Bool.{true}
 use mathlib.Core.List.{List}
 use lib.ListN.{length, getD}
 use Rattle.index.specs.Write.{total}
@@ -15,7 +15,7 @@ use Rattle.subset.specs.Subset.{privatePart, privateParts}
 use Rattle.renumber.specs.declared.Ranks.{Ranks}
 use Rattle.bodies.specs.Ways.{holds, reachedIn, ranksIn}
 use Rattle.bodies.specs.Pruning.{allHold}
-use Rattle.fds.specs.Locals.{inUse, usedBelow, fdsIn}
+use Rattle.fds.specs.Locals.{inUse, fdsIn}
 use Rattle.fds.specs.NewLocals.{localsWith, newWith, localsBy, newLocals}
 
 -- the ranks tell how many are reached

@@ -1,5 +1,5 @@
 -- Laws of the Private parts with their new local subroutines, written FD by FD.
-use Prim.Native.Nat.{ℕ, zero, suc, _+_, _-_, _*_, _≤_, _<_}
+use Prim.Native.Nat.{ℕ, zero, suc, _+_, _-_, _≤_, _<_}
 use mathlib.Core.Path.{_≡_, refl, sym, ap, _∙_, subst}
 use mathlib.Core.Bool.{Bool, true, false}
 use mathlib.Core.List.{List, [], _∷_, _++_, append-nil, append-assoc}
@@ -9,7 +9,7 @@ use lib.Dec.{eqb}
 use lib.ListN.{length, getD, length-append}
 use Rattle.octets.specs.Pick.{pick}
 use Rattle.octets.specs.Octets.{Wrote}
-use Rattle.octets.specs.PutLaws.{wrote-none, wrote-then, wrote-as, wrote-length}
+use Rattle.octets.specs.PutLaws.{wrote-then, wrote-as, wrote-length}
 use Rattle.index.specs.Index.{itemsOf}
 use Rattle.index.specs.Write.{total, indexBytes}
 use Rattle.index.specs.WriteLaws.{total-within}
@@ -22,7 +22,7 @@ use Rattle.cff.specs.declared.private.PrivateAt.{PrivateAt}
 use Rattle.subset.specs.Kept.{those, localsOf, privateOf}
 use Rattle.bits.specs.Bits.{countBelow}
 use Rattle.subset.specs.Pruned.{mapped}
-use Rattle.subset.specs.Subset.{privateDict, privatePart, privateParts}
+use Rattle.subset.specs.Subset.{privatePart, privateParts}
 use Rattle.renumber.specs.Ranks.{callsBy}
 use Rattle.renumber.specs.declared.Ranks.{Ranks}
 use Rattle.private_dicts.specs.Privates.{privateDictBy}
@@ -33,7 +33,7 @@ use Rattle.bodies.specs.SubrsLaws.{new-subrs-is, new-subrs-many}
 use Rattle.bodies.specs.declared.subrs.Subrs.the-variants.{Local}
 use Rattle.fds.specs.Locals.{inUse, usedBelow, fdsIn}
 use Rattle.fds.specs.UsedLaws.{used-next, unused-next}
-use Rattle.fds.specs.NewLocals.{localsWith, newWith, FdIn, localsBy, newLocals}
+use Rattle.fds.specs.NewLocals.{newWith, FdIn, localsBy, newLocals}
 use Rattle.fds.specs.NewLocalsLaws.{subrs-in, items-are, hold-fails}
 use Rattle.fds.specs.NewParts.{partWith, PartRoom, partsFor, PartsRoom}
 

@@ -2,13 +2,12 @@
 use Prim.Native.Nat.{ℕ, zero, suc, _+_, _*_, _≤_, _<_}
 use mathlib.Core.Path.{_≡_, refl, sym, ap, _∙_, subst}
 use mathlib.Core.Bool.{Bool, true, false}
-use mathlib.Core.List.{List, [], _∷_, _++_, append-nil, append-assoc}
-use native.Mathlib.Nat.{le-refl}
+use mathlib.Core.List.{List, [], _∷_, _++_}
 use native.Mathlib.Omega.{arith}
 use borrow.Author.Tests.{eq-eqb, ne-eqb}
 use lib.Dec.{eqb}
-use lib.ListN.{length, getD, set, length-append, length-set}
-use Rattle.octets.specs.Pick.{pick, pick-ind}
+use lib.ListN.{length, getD, set, length-append}
+use Rattle.octets.specs.Pick.{pick}
 use Rattle.octets.specs.Octets.{Octets, put}
 use Rattle.octets.specs.PutLaws.{put-nil, put-snoc}
 use Rattle.octets.specs.Lists.{partOf, sumOf}
@@ -32,7 +31,7 @@ use Rattle.private_dicts.specs.Privates.{privateDictBy, sizesOf, lensOf}
 use Rattle.private_dicts.specs.PrivatesLaws.{private-dict-is, none-length, some-length, part-few}
 use Rattle.fds.specs.Locals.{inUse, usedBelow, fdsIn}
 use Rattle.fds.specs.UsedLaws.{used-next, unused-next}
-use Rattle.fds.specs.Parts.{leftIn, subrsLen, dictLen, partBy, partAt, PartFits, PartsFit, SizesParts}
+use Rattle.fds.specs.Parts.{leftIn, subrsLen, dictLen, partBy, partAt, SizesParts}
 use Rattle.fds.specs.declared.parts.Part.{Part}
 
 -- ---- how many new local subroutines

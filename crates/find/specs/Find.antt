@@ -1,6 +1,6 @@
 -- The first glyph that has a name or a CID (document 01, 'Entries and their refusals'; the Rust's lookup tables keep the first). A glyph's id is its string id or CID.
 use Prim.Native.Nat.{ℕ, _+_}
-use mathlib.Core.Bool.{Bool, true, false}
+use mathlib.Core.Bool.{Bool, false}
 use mathlib.Core.List.{List, [], _∷_}
 use lib.Dec.{eqb}
 use Rattle.octets.specs.Pick.{pick}

@@ -9,9 +9,8 @@ use lib.Dec.{eqb}
 use lib.ListN.{length, drop, getD, drop-of-length-le}
 use lib.Seq.{drop-cons}
 use borrow.Author.Tests.{eq-eqb, ne-eqb, eqb-true, eqb-false}
-use Rattle.octets.specs.Pick.{pick}
 use Rattle.strings.specs.Text.{sameText}
-use Rattle.strings.specs.TextLaws.{same-refl, same-not, same-lengths}
+use Rattle.strings.specs.TextLaws.{same-refl, same-not}
 use Rattle.strings.specs.Strings.{standardString, stringText, sidOf}
 use Rattle.strings.specs.StringsLaws.{string-standard, string-own, string-none, sid-text, sid-is, sid-other}
 use Rattle.strings.specs.declared.Sid.{Sid}

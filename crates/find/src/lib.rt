@@ -1,6 +1,6 @@
 // The glyph of a name or a CID (the Rust's `gid` and `gid_of_cid`): the first glyph that has it, by one pass over the glyphs.
 ghost use mathlib.Core.Path.{_≡_};
-ghost use Prim.Native.Nat.{_+_, _≤_, _<_};
+ghost use Prim.Native.Nat.{_<_};
 ghost use Rattle.index.specs.Index.{itemsOf};
 ghost use Rattle.index.specs.Good.{Good};
 ghost use Rattle.strings.specs.Text.{sameText};

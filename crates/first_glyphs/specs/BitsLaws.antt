@@ -1,10 +1,9 @@
 -- Laws of the bits of ids that were met.
 use Prim.Native.Nat.{ℕ, _+_, _/_, _%_, _^_, _<_}
-use mathlib.Core.Path.{_≡_, refl, ap, _∙_}
-use mathlib.Core.Bool.{Bool, true, false}
+use mathlib.Core.Path.{_≡_, ap, _∙_}
+use mathlib.Core.Bool.{Bool, false}
 use mathlib.Core.List.{List}
 use native.Mathlib.Nat.{zero-div}
-use native.Mathlib.Omega.{arith}
 use lib.Dec.{eqb}
 use lib.Bits.{bitOr}
 use lib.ListN.{length, getD, set, length-set, replicate, length-replicate}

@@ -1,7 +1,7 @@
 -- The front of a subset over what the code holds (document 01, 'Layout'; crates/subset, subsetByName and subsetByCid): header, names, top DICT
 -- and strings. The font is held by positions; eight slots hold the string ids of its top DICT and eight more the new ones; the kept glyphs are
 -- read through a window of the order in which they are written (crates/order_window).
-use Prim.Native.Nat.{ℕ, _+_, _≤_, _<_}
+use Prim.Native.Nat.{ℕ, _+_, _≤_}
 use mathlib.Core.Path.{_≡_}
 use mathlib.Core.Bool.{Bool, true, false}
 use mathlib.Core.List.{List, [], _∷_, _++_}

@@ -3,13 +3,13 @@ use Prim.Native.Nat.{ℕ, _≤_, _<_}
 use mathlib.Core.Path.{_≡_}
 use mathlib.Core.Bool.{true}
 use mathlib.Core.List.{List, []}
+use mathlib.Core.Option.{Option}
 use lib.ListN.{length, getD}
 use Rattle.index.specs.Good.{Good}
 use Rattle.index.specs.Index.{itemsOf}
 use Rattle.charset.specs.FdPlaces.{fdOf}
 use Rattle.charset.specs.declared.fd_select.FdSelect.{FdSelect}
 use Rattle.unfold.specs.Unfold.{Row, glyph}
-use Rattle.subset.specs.Pruned.{May}
 use Rattle.reach.specs.Reach.{rises}
 use Rattle.renumber.specs.Ranks.{callsBy, Ranked}
 use Rattle.bodies.specs.Ways.{bodyBy, ranksIn}
@@ -21,7 +21,7 @@ abbrev pub glyphOf : List ℕ → FdSelect → ℕ → Glyph
 glyphOf b select g = record { number = g; fd = fdOf b select g }
 
 -- its charstring by the way, or that its renumbering fails
-abbrev pub charstringFor : Source → Glyph → List Row → List ℕ → List ℕ → List ℕ → May (List ℕ)
+abbrev pub charstringFor : Source → Glyph → List Row → List ℕ → List ℕ → List ℕ → Option (List ℕ)
 charstringFor from g rows ws table b =
     bodyBy (from .how .way) rows (callsBy ws (ranksIn table (g .fd)) (from .how .globals)) (glyph (g .number)) (getD (itemsOf b (from .ix)) (g .number) [])
 

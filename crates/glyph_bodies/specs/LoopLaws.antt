@@ -3,6 +3,7 @@ use Prim.Native.Nat.{ℕ, _+_, _-_, _%_, _≤_, _<_}
 use mathlib.Core.Path.{_≡_, refl, sym, ap, _∙_, subst}
 use mathlib.Core.Bool.{true}
 use mathlib.Core.List.{List}
+use mathlib.Core.Option.{Option}
 use native.Mathlib.Omega.{arith}
 use lib.ListN.{length, getD}
 use Rattle.octets.specs.Octets.{Wrote}
@@ -13,7 +14,7 @@ use Rattle.charset.specs.FdFound.{fd-at}
 use Rattle.unfold.specs.Unfold.{Row}
 use Rattle.cff.specs.Reads.{programOf}
 use Rattle.cff.specs.declared.font.Font.{Font}
-use Rattle.subset.specs.Pruned.{May, each}
+use Rattle.subset.specs.Pruned.{each}
 use Rattle.renumber.specs.Turn.{sizedOf, bodyOf}
 use Rattle.renumber.specs.declared.Sized.{Sized}
 use Rattle.renumber.specs.declared.Sized.the-variants.{Failed, Len}
@@ -39,12 +40,12 @@ abbrev pub sourceOf : Manner → Order → Source
 sourceOf how o = record { how = how; ix = o .f .charstrings }
 
 -- the charstring of the i-th kept glyph
-abbrev pub charstringAt : Source → Font → List Row → List ℕ → List ℕ → List ℕ → ℕ → May (List ℕ)
+abbrev pub charstringAt : Source → Font → List Row → List ℕ → List ℕ → List ℕ → ℕ → Option (List ℕ)
 charstringAt from f rows ws table b i =
     charstringOf (from .how .way) rows (programOf b f .fds) ws table (from .how .globals) (itemsOf b (from .ix)) (getD (glyphsOf b f ws) i 0)
 
 -- those of all
-abbrev pub charstringsBy : Source → Font → List Row → List ℕ → List ℕ → List ℕ → May (List (List ℕ))
+abbrev pub charstringsBy : Source → Font → List Row → List ℕ → List ℕ → List ℕ → Option (List (List ℕ))
 charstringsBy from f rows ws table b = charstringsOf (from .how .way) rows (programOf b f .fds) ws table (from .how .globals) (itemsOf b (from .ix)) (glyphsOf b f ws)
 
 -- the window of a loop has place i, and can go on to the next
@@ -75,7 +76,7 @@ module _ {b ws table old : List ℕ} {o : Order} {how : Manner} {rows : List Row
   abbrev from : Source
   from = sourceOf how o
 
-  abbrev F : ℕ → May (List ℕ)
+  abbrev F : ℕ → Option (List ℕ)
   F = charstringAt from (o .f) rows ws table b
 
   -- all, place by place
@@ -145,7 +146,7 @@ module _ {b ws table old : List ℕ} {o : Order} {how : Manner} {rows : List Row
 
       pub glyph-room : (at n : ℕ) → (holds (F i) ≡ true) × (at + length (bodyOf (F i)) ≤ n)
           → (holds (charstringFor from g rows ws table b) ≡ true) × (at + length (bodyOf (charstringFor from g rows ws table b)) ≤ n)
-      glyph-room at n e = (ap holds glyph-body ∙ e .0, subst (λ (m : May (List ℕ)). at + length (bodyOf m) ≤ n) (sym glyph-body) (e .1))
+      glyph-room at n e = (ap holds glyph-body ∙ e .0, subst (λ (m : Option (List ℕ)). at + length (bodyOf m) ≤ n) (sym glyph-body) (e .1))
 
       pub glyph-wrote : {out new : List ℕ} {at q : ℕ} → Wrote out at (bodyOf (charstringFor from g rows ws table b)) new q → Wrote out at (bodyOf (F i)) new q
       glyph-wrote w = wrote-as w (ap bodyOf glyph-body)

@@ -3,6 +3,7 @@ use Prim.Native.Nat.{ℕ, _+_, _-_, _%_, _≤_, _<_}
 use mathlib.Core.Path.{_≡_, refl, sym, _∙_}
 use mathlib.Core.Bool.{true}
 use mathlib.Core.List.{List}
+use mathlib.Core.Option.{Option}
 use lib.ListN.{length, getD}
 use Rattle.octets.specs.Octets.{bytesOf, Wrote}
 use Rattle.bits.specs.Bits.{countBelow}
@@ -11,7 +12,6 @@ use Rattle.index.specs.Write.{headBytes, sizeFor, indexBytes, indexFor}
 use Rattle.index.specs.Begun.{Meant, endPlace}
 use Rattle.index.specs.declared.Index.{Index}
 use Rattle.unfold.specs.Unfold.{Row}
-use Rattle.subset.specs.Pruned.{May}
 use Rattle.renumber.specs.Turn.{bodyOf}
 use Rattle.order_window.specs.Window.{Ordered}
 use Rattle.order_window.specs.declared.Held.{Held}
@@ -26,10 +26,10 @@ use Rattle.glyph_bodies.specs.declared.glyphs.Glyph.{Glyph}
 
 module _ {b ws table old : List ℕ} {o : Order} {how : Manner} {rows : List Row} (c : CharstringsIn b ws table o how rows) (s : Ordered b ws old o) (out : List ℕ) {sum at : ℕ}
     (room : Room (charstringsFrom how o rows ws table b) sum at (length out)) {to : Index} (is : to ≡ indexFor at (o .count) sum) where
-  abbrev F : ℕ → May (List ℕ)
+  abbrev F : ℕ → Option (List ℕ)
   F = charstringAt (sourceOf how o) (o .f) rows ws table b
 
-  abbrev B : May (List (List ℕ))
+  abbrev B : Option (List (List ℕ))
   B = charstringsFrom how o rows ws table b
 
   many : o .count ≡ countBelow every (o .count)

@@ -6,9 +6,10 @@ ghost use lib.ListN.{length, getD};
 ghost use Rattle.octets.specs.Octets.{Wrote};
 ghost use Rattle.charset.specs.FdPlaces.{GoodSelect};
 ghost use Rattle.record.specs.Record.{rowsOf};
-ghost use Rattle.mask_rows.specs.MaskRows.{Covers};
+ghost use Rattle.mask_rows.specs.MaskRows.{Covers, HasOrNone};
 ghost use Rattle.renumber.specs.Turn.{sizedOf, bodyOf};
 ghost use Rattle.bodies.specs.Ways.{holds};
+ghost use Rattle.bodies.specs.Windows.{Lent};
 ghost use Rattle.bodies.specs.Sizes.{AtMost};
 ghost use Rattle.glyph_bodies.specs.Glyphs.{glyphOf, GlyphIn, charstringFor, inOrder};
 use bodies::Manner;
@@ -85,7 +86,41 @@ fn in_order(from: Source) -> Source
     Source { how, ix }
 }
 
-// The same by a part of the record, where it has the rows of the glyph.
+// The same where the glyph has more rows than a window holds.
+fn long_len(
+    from: Source,
+    glyph: Glyph,
+    font: &[u8],
+    words: &[u32],
+    table: &[usize],
+    rows: &[u8],
+    keys: &mut [u64],
+    bytes: &mut [u8],
+) -> Sized
+    requires { ⌜ (GlyphIn (now font) (now words) (now table) from glyph (rowsOf (now rows))) × (Lent (now keys) (now bytes)) ⌝ }
+    ensures { λ r. ⌜ (r ≡ sizedOf (charstringFor from glyph (rowsOf (now (rows .entry))) (now (words .entry)) (now (table .entry)) (now (font .entry)))) × (AtMost 335544320 r) ⌝ }
+{
+    let how = from.how;
+    if how.way == 0 {
+        let number = glyph.number;
+        let locals = bodies::ranks_in(table, glyph.fd);
+        let code = index::item(font, from.ix, number);
+        let site = Site::Glyph(number);
+        return long_bodies::renumbered_len(
+            code,
+            words,
+            locals,
+            how.globals,
+            rows,
+            site,
+            keys,
+            bytes,
+        );
+    }
+    charstring_len(from, glyph, font, words, table, rows)
+}
+
+// The same by a part of the record, where it has the rows of the glyph; a longer one takes the part's place.
 pub fn windowed_len(
     from: Source,
     glyph: Glyph,
@@ -93,11 +128,14 @@ pub fn windowed_len(
     words: &[u32],
     table: &[usize],
     rows: &[u8],
-    bytes: &[u8],
     masks: Window,
+    keys: &mut [u64],
+    bytes: &mut [u8],
 ) -> Sized
-    requires { ⌜ (GlyphIn (now font) (now words) (now table) from glyph (rowsOf (now rows))) × (Covers (now rows) (now bytes) 2 0 masks) ⌝ }
-    ensures { λ r. ⌜ (r ≡ sizedOf (charstringFor from glyph (rowsOf (now (rows .entry))) (now (words .entry)) (now (table .entry)) (now (font .entry)))) × (AtMost 335544320 r) ⌝ }
+    requires { ⌜ (GlyphIn (now font) (now words) (now table) from glyph (rowsOf (now rows))) × (Covers (now rows) (now bytes) 2 0 masks) × (HasOrNone (glyph .number) masks)
+        × (Lent (now keys) (now bytes)) ⌝ }
+    ensures { λ r. ⌜ (r ≡ sizedOf (charstringFor from glyph (rowsOf (now (rows .entry))) (now (words .entry)) (now (table .entry)) (now (font .entry)))) × (AtMost 335544320 r)
+        × (Covers (now (rows .entry)) (now (bytes .exit)) 2 0 masks) ⌝ }
 {
     if glyph.number < masks.from {
         return charstring_len(from, glyph, font, words, table, rows);
@@ -112,7 +150,7 @@ pub fn windowed_len(
             &bytes[..masks.len],
         );
     }
-    charstring_len(from, glyph, font, words, table, rows)
+    long_len(from, glyph, font, words, table, rows, keys, bytes)
 }
 
 // The charstring of a glyph by the way, from `at` on; the place after it.
@@ -150,7 +188,47 @@ pub fn put_charstring(
     )
 }
 
-// The same by a part of the record, where it has the rows of the glyph.
+// The same where the glyph has more rows than a window holds.
+fn put_long(
+    from: Source,
+    glyph: Glyph,
+    font: &[u8],
+    words: &[u32],
+    table: &[usize],
+    rows: &[u8],
+    out: &mut [u8],
+    at: usize,
+    keys: &mut [u64],
+    bytes: &mut [u8],
+) -> usize
+    requires { ⌜ (GlyphIn (now font) (now words) (now table) from glyph (rowsOf (now rows))) × (Lent (now keys) (now bytes))
+        × (holds (charstringFor from glyph (rowsOf (now rows)) (now words) (now table) (now font)) ≡ true)
+        × (at + length (bodyOf (charstringFor from glyph (rowsOf (now rows)) (now words) (now table) (now font))) ≤ length (now out)) ⌝ }
+    ensures { λ r. ⌜ Wrote (now (out .entry)) at (bodyOf (charstringFor from glyph (rowsOf (now (rows .entry))) (now (words .entry)) (now (table .entry)) (now (font .entry)))) (now (out .exit)) r ⌝ }
+{
+    let how = from.how;
+    if how.way == 0 {
+        let number = glyph.number;
+        let locals = bodies::ranks_in(table, glyph.fd);
+        let code = index::item(font, from.ix, number);
+        let site = Site::Glyph(number);
+        return long_bodies::put_renumbered(
+            code,
+            words,
+            locals,
+            how.globals,
+            rows,
+            site,
+            out,
+            at,
+            keys,
+            bytes,
+        );
+    }
+    put_charstring(from, glyph, font, words, table, rows, out, at)
+}
+
+// The same by a part of the record, where it has the rows of the glyph; a longer one takes the part's place.
 pub fn put_windowed(
     from: Source,
     glyph: Glyph,
@@ -158,15 +236,17 @@ pub fn put_windowed(
     words: &[u32],
     table: &[usize],
     rows: &[u8],
-    bytes: &[u8],
     masks: Window,
     out: &mut [u8],
     at: usize,
+    keys: &mut [u64],
+    bytes: &mut [u8],
 ) -> usize
-    requires { ⌜ (GlyphIn (now font) (now words) (now table) from glyph (rowsOf (now rows))) × (Covers (now rows) (now bytes) 2 0 masks)
-        × (holds (charstringFor from glyph (rowsOf (now rows)) (now words) (now table) (now font)) ≡ true)
+    requires { ⌜ (GlyphIn (now font) (now words) (now table) from glyph (rowsOf (now rows))) × (Covers (now rows) (now bytes) 2 0 masks) × (HasOrNone (glyph .number) masks)
+        × (Lent (now keys) (now bytes)) × (holds (charstringFor from glyph (rowsOf (now rows)) (now words) (now table) (now font)) ≡ true)
         × (at + length (bodyOf (charstringFor from glyph (rowsOf (now rows)) (now words) (now table) (now font))) ≤ length (now out)) ⌝ }
-    ensures { λ r. ⌜ Wrote (now (out .entry)) at (bodyOf (charstringFor from glyph (rowsOf (now (rows .entry))) (now (words .entry)) (now (table .entry)) (now (font .entry)))) (now (out .exit)) r ⌝ }
+    ensures { λ r. ⌜ (Wrote (now (out .entry)) at (bodyOf (charstringFor from glyph (rowsOf (now (rows .entry))) (now (words .entry)) (now (table .entry)) (now (font .entry)))) (now (out .exit)) r)
+        × (Covers (now (rows .entry)) (now (bytes .exit)) 2 0 masks) ⌝ }
 {
     if glyph.number < masks.from {
         return put_charstring(from, glyph, font, words, table, rows, out, at);
@@ -183,5 +263,5 @@ pub fn put_windowed(
             at,
         );
     }
-    put_charstring(from, glyph, font, words, table, rows, out, at)
+    put_long(from, glyph, font, words, table, rows, out, at, keys, bytes)
 }

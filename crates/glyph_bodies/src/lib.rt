@@ -53,7 +53,17 @@ fn total_by_windows(
         }
         let glyph = glyphs::glyph_at(font, f.select, &*window, u, i);
         masks = mask_rows::advance(masks, rows, 2, 0, glyph.number, &mut keys, &mut bytes);
-        match glyphs::windowed_len(from, glyph, font, words, table, rows, &bytes, masks) {
+        match glyphs::windowed_len(
+            from,
+            glyph,
+            font,
+            words,
+            table,
+            rows,
+            masks,
+            &mut keys,
+            &mut bytes,
+        ) {
             Sized::Len(len) => {
                 total += len;
                 i += 1;
@@ -175,10 +185,11 @@ fn put_by_windows(
             words,
             table,
             rows,
-            &bytes,
             masks,
             &mut *out,
             p,
+            &mut keys,
+            &mut bytes,
         );
         index::put_end(out, to, i, p);
         i += 1;

@@ -15,7 +15,6 @@ use Rattle.strings.specs.Strings.{stringText}
 use Rattle.charset.specs.CharsetPlaces.{idsOf}
 use Rattle.charset.specs.FdPlaces.{fdOf}
 use Rattle.charset.specs.FdFound.{fd-at}
-use Rattle.cff.specs.Font.{Program}
 use Rattle.cff.specs.Reads.{programOf, GoodFont}
 use Rattle.cff.specs.declared.font.Font.{Font}
 use Rattle.glyph_entries.specs.Glyph.{Told, refused, told, textOf, wordsOf, glyphIn, Tells}

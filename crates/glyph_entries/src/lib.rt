@@ -1,10 +1,7 @@
-// What whoever writes a PDF asks of a font's glyphs: the name or CID of a glyph and its FD, and the glyphs of many names or CIDs with one
-// reading of the font. The font is a file, an OpenType one or a bare font (document 02, Wish 9).
-pub mod cids;
-pub mod names;
+// What whoever writes a PDF asks of a font's glyphs: the name or CID of a glyph and its FD, and where an item stands. The font is a file, an
+// OpenType one or a bare font (document 02, Wish 9).
 pub mod places;
 
-ghost use mathlib.Core.Path.{_≡_};
 ghost use mathlib.Core.List.{[], _∷_};
 ghost use lib.ListN.{length};
 ghost use Rattle.cff.specs.Font.{readFont};

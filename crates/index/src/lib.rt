@@ -10,6 +10,7 @@ ghost use Rattle.index.specs.Good.{Lies, Good, offsetOf};
 ghost use Rattle.index.specs.Place.{StartsAt, itemPlace};
 ghost use Rattle.index.specs.Write.{total, sizeFor, headBytes, indexBytes, indexLen, indexFor};
 ghost use Rattle.index.specs.Begun.{WroteItem, endPlace};
+use refusal::Refusal;
 
 // An INDEX in a font: how many items, the bytes of an offset, where the offsets stand, the byte before the data, and the end.
 pub struct Index {
@@ -61,19 +62,19 @@ fn table_at(font: &[u8], table: usize, count: usize, size: usize) -> IndexAt
     ensures { λ r. ⌜ r ≡ tableAt (now (font .entry)) table count size ⌝ }
 {
     if size < 1 {
-        return IndexAt::Refused(2);
+        return IndexAt::Refused(Refusal::MALFORMED);
     }
     if 4 < size {
-        return IndexAt::Refused(2);
+        return IndexAt::Refused(Refusal::MALFORMED);
     }
     let n = font.len();
     let past = table + (count + 1) * size;
     if n < past {
-        return IndexAt::Refused(1);
+        return IndexAt::Refused(Refusal::TRUNCATED);
     }
     let first = octets::num_at(font, table, size);
     if first != 1 {
-        return IndexAt::Refused(2);
+        return IndexAt::Refused(Refusal::MALFORMED);
     }
     let base = past - 1;
     let run = judge(font, first, table + size, size, count, n - base);
@@ -109,17 +110,17 @@ pub fn read_index(font: &[u8], at: usize) -> IndexAt
 {
     let n = font.len();
     if n < 2 {
-        return IndexAt::Refused(1);
+        return IndexAt::Refused(Refusal::TRUNCATED);
     }
     if n - 2 < at {
-        return IndexAt::Refused(1);
+        return IndexAt::Refused(Refusal::TRUNCATED);
     }
     let count = octets::u16_at(font, at);
     if count == 0 {
         return IndexAt::Found(empty_at(at));
     }
     if n - 2 == at {
-        return IndexAt::Refused(1);
+        return IndexAt::Refused(Refusal::TRUNCATED);
     }
     let size = octets::u8_at(font, at + 2);
     table_at(font, at + 3, count, size)

@@ -36,7 +36,7 @@ glyph-as globals locals fd g s = body-as globals locals fd 10 (glyph g) s bodies
 pub rows-met : (globals locals : List (List ℕ)) (fd g : ℕ) (s : List ℕ) (ts : List Tok) (rows : List Row) → unfoldGlyph globals locals fd g s ≡ plain ts rows
     → All (RowMet globals locals fd g s) rows
 unfolding unfoldGlyph
-rows-met globals locals fd g [] ts rows e = let k : [] ≡ rows = cc in subst (All (RowMet globals locals fd g [])) k All.none
+rows-met globals locals fd g [] ts rows e = let k : [] ≡ rows = cc in subst (All (RowMet globals locals fd g [])) k All.empty
 rows-met globals locals fd g (b ∷ bs) ts rows e =
     by (runBody globals locals fd 10 (glyph g) (b ∷ bs) bodies.fresh) (glyph-as globals locals fd g (b ∷ bs))
     (proper-body globals locals fd g (b ∷ bs) 10 (glyph g) (b ∷ bs) fresh own fresh-few) e

@@ -9,7 +9,7 @@ use lib.ListN.{length}
 use borrow.Author.Tests.{ltb-true}
 use Rattle.octets.specs.Pick.{pick, pick-ind}
 use Rattle.unfold.specs.Unfold.{Row, Site, glyph, entered, masked, isGlyph}
-use Rattle.prune.specs.Bodies.{All, none, one}
+use Rattle.prune.specs.Bodies.{All, empty, one}
 use Rattle.turns.specs.Turns.{Few, turnAt}
 use Rattle.turns.specs.TurnLaws.{Sound, turn-sound}
 use Rattle.turns.specs.declared.Counts.{Counts}
@@ -53,15 +53,15 @@ module _ (globals locals : List (List ℕ)) (fd g : ℕ) (code : List ℕ) where
     proper-turn : (on : ℕ → ℕ → Counts → Trace) → ((n p : ℕ) (x : Counts) → Few x → P (on n p x)) → (at : ℕ) (t : Turn)
         → Sound (length locals) (length globals) s at t → P (turned globals locals fd enter on site at t)
     proper-turn on ons at Breaks k = tt
-    proper-turn on ons at (Returns x) k = (k, none)
-    proper-turn on ons at Ends k = none
+    proper-turn on ons at (Returns x) k = (k, empty)
+    proper-turn on ons at Ends k = empty
     proper-turn on ons at (Goes n p x) k = ons n p x (k .2)
     proper-turn on ons at (Masks len x) k =
-        proper-meets (masked site at len ∷ []) (on (at + 1 + len) (at + 1 + len) x) (one (masking at len run (k .1) (k .0)) none) (ons (at + 1 + len) (at + 1 + len) x (k .2))
+        proper-meets (masked site at len ∷ []) (on (at + 1 + len) (at + 1 + len) x) (one (masking at len run (k .1) (k .0)) empty) (ons (at + 1 + len) (at + 1 + len) x (k .2))
     proper-turn on ons at (Calls wide i x) k =
         let r = runs-for wide i (k .0) in
         let t = siteFor fd wide i in
-        proper-meets (entered t ∷ []) (afterwards (enter t (bodyFor globals locals wide i) x) (on (at + 1) (at + 1))) (one (entering r (no-glyph wide i)) none)
+        proper-meets (entered t ∷ []) (afterwards (enter t (bodyFor globals locals wide i) x) (on (at + 1) (at + 1))) (one (entering r (no-glyph wide i)) empty)
         (proper-after (enter t (bodyFor globals locals wide i) x) (on (at + 1) (at + 1)) (enters t (bodyFor globals locals wide i) x r (k .1)) (λ y f. ons (at + 1) (at + 1) y f))
 
     proper-walk : (k at prev : ℕ) (x : Counts) → Few x → P (traceWalk globals locals fd enter k site s at prev x)
@@ -81,7 +81,7 @@ module _ (globals locals : List (List ℕ)) (fd g : ℕ) (code : List ℕ) where
   unfolding enterAt
   proper-call d wide i x h f =
       proper-meets (entered (siteFor fd wide i) ∷ []) (enterAt globals locals fd d (siteFor fd wide i) (bodyFor globals locals wide i) x)
-      (one (entering (runs-for wide i h) (no-glyph wide i)) none) (by d)
+      (one (entering (runs-for wide i h) (no-glyph wide i)) empty) (by d)
     where
       by : (k : ℕ) → P (enterAt globals locals fd k (siteFor fd wide i) (bodyFor globals locals wide i) x)
       by zero = tt

@@ -3,6 +3,7 @@ use Prim.Native.Nat.{ℕ, zero, suc, _+_, _-_, _/_, _<_}
 use mathlib.Core.Path.{_≡_, refl, sym, ap, _∙_}
 use mathlib.Core.Bool.{Bool, true, false}
 use mathlib.Core.List.{List, [], _∷_, _++_, append-nil, append-assoc}
+use mathlib.Core.Option.{Option, none, some}
 use native.Mathlib.Omega.{arith}
 use borrow.Author.Tests.{lt-ltb, le-ltb, ltb-true}
 use lib.Dec.{ltb, eqb}
@@ -12,7 +13,7 @@ use Rattle.octets.specs.Pick.{pick}
 use Rattle.type2_number.specs.Number.{Read, cut, operator, number as aNumber, numberAt}
 use Rattle.type2_number.specs.NumberLaws.{Further, further}
 use Rattle.charstring.specs.Token.{isMask}
-use Rattle.unfold.specs.Unfold.{Tok, num, op, esc, mask, Row, Site, local, global, entered, masked, isGlyph, State, Run, broken as broke, returned as back, ended as done, Last, none, last, leave, calling, Target, nowhere, target, targetOf, after, isStem, isPath, meeting, callTo, stemAt, maskAt, escapeAt, operatorAt, stepAt, walk, runBody}
+use Rattle.unfold.specs.Unfold.{Tok, num, op, esc, mask, Row, Site, local, global, entered, masked, isGlyph, State, Run, broken as broke, returned as back, ended as done, leave, calling, targetOf, after, isStem, isPath, meeting, callTo, stemAt, maskAt, escapeAt, operatorAt, stepAt, walk, runBody}
 use Rattle.turns.specs.Turns.{lastOf, lastAt, leaves, callTurn, maskTurn, stemTurn, escapeTurn, clearingTurn, operatorTurn, turnBy}
 use Rattle.turns.specs.TargetLaws.{zero-one}
 use Rattle.turns.specs.declared.Counts.{Counts}
@@ -48,7 +49,7 @@ meets-after a (ended rs) on = refl
 
 module _ (globals locals : List (List ℕ)) (fd : ℕ) (enter : Site → List ℕ → State → Run) (enter' : Site → List ℕ → Counts → Trace)
     (enters : (site : Site) (s : List ℕ) (st : State) → tell (enter site s st) ≡ meets (st .met) (enter' site s (lean st))) where
-  module _ (site : Site) (s : List ℕ) (on : ℕ → Last → State → Run) (on' : ℕ → ℕ → Counts → Trace)
+  module _ (site : Site) (s : List ℕ) (on : ℕ → Option ℤ → State → Run) (on' : ℕ → ℕ → Counts → Trace)
       (ons : (n p : ℕ) (st : State) → tell (on n (lastAt s p n) st) ≡ meets (st .met) (on' n p (lean st))) (at prev : ℕ) (st : State) where
     abbrev T : Turn → Trace
     T t = meets (st .met) (turned globals locals fd enter' on' site at t)
@@ -66,7 +67,7 @@ module _ (globals locals : List (List ℕ)) (fd : ℕ) (enter : Site → List �
     after-none : (n : ℕ) (y : State) → tell (on n none y) ≡ meets (y .met) (on' n n (lean y))
     after-none n y =
         let e : lastAt s n n ≡ none = rw (le-ltb n n (omega arith)) in
-        ap (λ (l : Last). tell (on n l y)) (sym e) ∙ ons n n y
+        ap (λ (l : Option ℤ). tell (on n l y)) (sym e) ∙ ons n n y
 
     ends-as : (y : State) → y .met ≡ st .met → tell (done y) ≡ T Ends
     ends-as y q = ap ended (q ∙ sym (append-nil (st .met)))
@@ -74,10 +75,10 @@ module _ (globals locals : List (List ℕ)) (fd : ℕ) (enter : Site → List �
     goes-as : (n : ℕ) (y : State) → y .met ≡ st .met → tell (on n none y) ≡ T (Goes n n (lean y))
     goes-as n y q = after-none n y ∙ ap (λ (r : List Row). meets r (on' n n (lean y))) q
 
-    number-as : (z : ℤ) (n : ℕ) → numberAt s at ≡ aNumber z n → at < n → (y : State) → y .met ≡ st .met → tell (on n (last z) y) ≡ T (Goes n at (lean y))
+    number-as : (z : ℤ) (n : ℕ) → numberAt s at ≡ aNumber z n → at < n → (y : State) → y .met ≡ st .met → tell (on n (some z) y) ≡ T (Goes n at (lean y))
     number-as z n e h y q =
-        let f : lastAt s at n ≡ last z = rw (lt-ltb at n h) (ap lastOf e) in
-        ap (λ (l : Last). tell (on n l y)) (sym f) ∙ ons n at y ∙ ap (λ (r : List Row). meets r (on' n at (lean y))) q
+        let f : lastAt s at n ≡ some z = rw (lt-ltb at n h) (ap lastOf e) in
+        ap (λ (l : Option ℤ). tell (on n l y)) (sym f) ∙ ons n at y ∙ ap (λ (r : List Row). meets r (on' n at (lean y))) q
 
     masks-as : (len : ℕ) (y : State) → y .met ≡ st .met ++ (masked site at len ∷ []) → tell (on (at + 1 + len) none y) ≡ T (Masks len (lean y))
     masks-as len y q =
@@ -107,13 +108,13 @@ module _ (globals locals : List (List ℕ)) (fd : ℕ) (enter : Site → List �
         after-as (st .met ++ (entered which ∷ [])) (enter which (bodyFor globals locals wide i) (calling which st)) (enter' which (bodyFor globals locals wide i) (lean (calling which st))) (enters which (bodyFor globals locals wide i) (calling which st))
         ∙ sym (meets-both (st .met) (entered which ∷ []) (afterwards (enter' which (bodyFor globals locals wide i) (lean (calling which st))) (on' (at + 1) (at + 1))))
 
-    local-as : (q : Target) → tell (callTo enter on (local fd) locals (at + 1) st q) ≡ T (callTurn false (lean st) q)
-    local-as nowhere = refl
-    local-as (target i) = calls-as false i
+    local-as : (q : Option ℕ) → tell (callTo enter on (local fd) locals (at + 1) st q) ≡ T (callTurn false (lean st) q)
+    local-as none = refl
+    local-as (some i) = calls-as false i
 
-    global-as : (q : Target) → tell (callTo enter on global globals (at + 1) st q) ≡ T (callTurn true (lean st) q)
-    global-as nowhere = refl
-    global-as (target i) = calls-as true i
+    global-as : (q : Option ℕ) → tell (callTo enter on global globals (at + 1) st q) ≡ T (callTurn true (lean st) q)
+    global-as none = refl
+    global-as (some i) = calls-as true i
 
     mask-as : (b n : ℕ) → tell (maskAt on site s b at n st) ≡ T (maskTurn s at n (st .spent))
     mask-as b n =
@@ -154,7 +155,7 @@ module _ (globals locals : List (List ℕ)) (fd : ℕ) (enter : Site → List �
     unfolding stepAt turnBy
     step-as cut e f = refl
     step-as (aNumber z n) e f =
-        split (ltb (st .args) 48) _ broke _ Breaks (left (num z) (st .args + 1) (st .stems) st (on n (last z)) (Goes n at) (λ y q. number-as z n e (f .0) y q)) refl
+        split (ltb (st .args) 48) _ broke _ Breaks (left (num z) (st .args + 1) (st .stems) st (on n (some z)) (Goes n at) (λ y q. number-as z n e (f .0) y q)) refl
     step-as operator e f = operator-as (getD s at 0)
 
   walk-as : (k : ℕ) (site : Site) (s : List ℕ) (at prev : ℕ) (st : State)

@@ -2,6 +2,4 @@ pub mod Packed
 pub mod MarkLaws
 pub mod GatherLaws
 pub mod SlotLaws
-pub mod FdsLaws
 pub mod OrderLaws
-pub mod FdsOrderLaws

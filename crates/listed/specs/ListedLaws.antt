@@ -1,14 +1,13 @@
 -- Laws of marks beside a window: one key looked for, several one after the other, and all that are marked.
-use Prim.Native.Nat.{ℕ, zero, suc, _+_, _-_, _*_, _/_, _≤_, _<_}
-use mathlib.Core.Path.{_≡_, refl, sym, ap, _∙_, subst}
+use Prim.Native.Nat.{ℕ, zero, suc, _+_, _-_, _/_, _≤_, _<_}
+use mathlib.Core.Path.{_≡_, refl, sym, ap, _∙_}
 use mathlib.Core.Bool.{Bool, true, false, false≢true}
 use mathlib.Core.List.{List, [], _∷_, map}
 use native.Mathlib.Nat.{not-suc-le-zero, add-zero}
-use native.Mathlib.Numerals.{add-one}
 use native.Mathlib.Omega.{arith}
 use borrow.Author.Tests.{lt-ltb, eq-eqb, ne-eqb, ltb-true, ltb-false, eqb-true, eqb-false}
 use lib.Dec.{ltb, eqb}
-use lib.ListN.{length, take, drop, getD, set, length-set, length-drop, replicate, length-replicate}
+use lib.ListN.{length, take, getD, set, length-set, length-drop, replicate, length-replicate}
 use lib.Seq.{length-take-le, getD-take, getD-drop}
 use Rattle.octets.specs.Pick.{pick}
 use Rattle.octets.specs.PickLaws.{both-hold}

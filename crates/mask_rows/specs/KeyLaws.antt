@@ -1,13 +1,13 @@
 -- Laws of keys: a record lists a row of a mask exactly where its key is among the record's; the ten bytes of keys that rise are a record of their rows, which rises.
-use Prim.Native.Nat.{ℕ, zero, suc, _+_, _*_, _/_, _%_, _^_, _≤_, _<_}
-use mathlib.Core.Path.{_≡_, refl, sym, ap, _∙_, subst}
-use mathlib.Core.Bool.{Bool, true, false, _&&_, false≢true}
+use Prim.Native.Nat.{ℕ, _+_, _*_, _/_, _%_, _≤_, _<_}
+use mathlib.Core.Path.{_≡_, refl, sym, ap, _∙_}
+use mathlib.Core.Bool.{Bool, true, false}
 use mathlib.Core.List.{List, [], _∷_, _++_, map, append-assoc}
 use native.Mathlib.Omega.{arith}
 use borrow.Author.Tests.{le-ltb, eq-eqb, ne-eqb, eqb-true, ltb-true, ltb-false}
 use lib.Arith.{digits-div, digits-mod}
 use lib.Dec.{ltb, eqb}
-use lib.ListN.{length, drop, getD, length-append}
+use lib.ListN.{length, drop, length-append}
 use lib.Seq.{drop-drop, drop-at}
 use Rattle.octets.specs.Pick.{pick}
 use Rattle.octets.specs.PickLaws.{not-true}
@@ -19,7 +19,7 @@ use Rattle.subset.specs.Kept.{isIn}
 use Rattle.reach.specs.Reach.{Fits, keyOf, rises}
 use Rattle.reach.specs.RowLaws.{AllFit}
 use Rattle.reach.specs.Cases.{by-number}
-use Rattle.row_window.specs.Window.{placed, gathered, inRange, within, Below, Rising, none, one}
+use Rattle.row_window.specs.Window.{placed, gathered, within, Below, Rising, none, one}
 use Rattle.row_window.specs.KeyLaws.{bytes-split}
 use Rattle.mask_rows.specs.MaskRows.{keyFor, noKey, keyIn, rowFor, rowBytes, rowsBytes}
 use Rattle.mask_rows.specs.SameLaws.{and-left, and-right, same-truth, together}

@@ -4,18 +4,18 @@ use Prim.Native.Nat.{ℕ}
 use mathlib.Core.Path.{_≡_, refl, sym, ap, _∙_, fun-ext, subst}
 use mathlib.Core.Bool.{Bool, true, false, _&&_, not, false≢true}
 use mathlib.Core.List.{List, [], _∷_}
+use mathlib.Core.Option.{none}
 use native.Mathlib.Omega.{arith}
-use borrow.Author.Tests.{eq-eqb, ne-eqb, eqb-true, eqb-false}
+use borrow.Author.Tests.{eq-eqb, ne-eqb, eqb-true}
 use lib.Dec.{eqb}
 use Rattle.octets.specs.Pick.{pick}
-use Rattle.octets.specs.PickLaws.{not-true}
 use Rattle.charstring.specs.declared.MaskLen.{MaskLen}
 use Rattle.charstring.specs.declared.MaskLen.the-variants.{Own, Given}
 use Rattle.unfold.specs.Unfold.{Row, Site, masked, glyph, local, global}
 use Rattle.record.specs.Record.{sameRow, lists, atPlace, ofBody, disagrees, givenIn, twoLengths}
 use Rattle.reach.specs.Cases.{by-number}
 use Rattle.prune.specs.Renumber.{Calls, renumberCharstring}
-use Rattle.subset.specs.Pruned.{May, fail, whole, renumberedBody}
+use Rattle.subset.specs.Pruned.{renumberedBody}
 use Rattle.mask_rows.specs.MaskRows.{SameMasks}
 
 -- ---- tests
@@ -32,11 +32,11 @@ and-both : (t u : Bool) → t ≡ true → u ≡ true → t && u ≡ true
 and-both true u e f = f
 and-both false u e f = absurd (false≢true e)
 
-either-left : (t u : Bool) → t ≡ true → pick t true u ≡ true
+pub either-left : (t u : Bool) → t ≡ true → pick t true u ≡ true
 either-left true u e = refl
 either-left false u e = absurd (false≢true e)
 
-either-right : (t u : Bool) → u ≡ true → pick t true u ≡ true
+pub either-right : (t u : Bool) → u ≡ true → pick t true u ≡ true
 either-right true u e = refl
 either-right false u e = e
 
@@ -135,7 +135,7 @@ disagrees-found r (q ∷ rs) site b e = by (atPlace r q && not (eqb (r .len) (q 
         let f = again d in
         (f .0, f .1, either-right (sameRow q (masked site (r .offset) (f .0))) _ (f .2))
 
-two-found : (rows : List Row) (site : Site) → twoLengths rows site ≡ true → Two rows site
+pub two-found : (rows : List Row) (site : Site) → twoLengths rows site ≡ true → Two rows site
 unfolding twoLengths lists
 two-found [] site e = absurd (false≢true e)
 two-found (r ∷ rs) site e = by (ofBody r site && disagrees r rs) refl e (two-found rs site)
@@ -177,7 +177,7 @@ disagrees-back r (q ∷ rs) site offset len p n e = by (sameRow q (masked site o
         either-left (atPlace r q && not (eqb (r .len) (q .len))) _ (and-both (atPlace r q) _ (at-both r q (masked site offset 0) p (s .0)) (ap not f))
     by false t d again = either-right (atPlace r q && not (eqb (r .len) (q .len))) _ (again d)
 
-two-back : (rows : List Row) (site : Site) (offset one two : ℕ) → (one ≡ two → ⊥) → lists rows (masked site offset one) ≡ true
+pub two-back : (rows : List Row) (site : Site) (offset one two : ℕ) → (one ≡ two → ⊥) → lists rows (masked site offset one) ≡ true
     → lists rows (masked site offset two) ≡ true → twoLengths rows site ≡ true
 unfolding twoLengths lists
 two-back [] site offset one two n e f = absurd (false≢true e)
@@ -226,6 +226,20 @@ given-some (r ∷ rs) site offset len e g = by (atPlace r (masked site offset 0)
     by false true s v d f again = false≢true (sym s ∙ same-placed r site offset len v .0)
     by false false s v d f again = again d f
 
+-- where a record has one length at each offset, the length that is given at one goes by what is listed there
+pub given-alike : (rows rows' : List Row) (site : Site) → twoLengths rows site ≡ false → (offset : ℕ)
+    → ((len : ℕ) → lists rows (masked site offset len) ≡ lists rows' (masked site offset len)) → givenIn rows site offset ≡ givenIn rows' site offset
+given-alike rows rows' site once offset same = by (givenIn rows site offset) (givenIn rows' site offset) refl refl
+  where
+    by : (x y : MaskLen) → givenIn rows site offset ≡ x → givenIn rows' site offset ≡ y → x ≡ y
+    by Own Own e f = refl
+    by Own (Given m) e f = absurd (given-some rows site offset m (same m ∙ given-listed rows' site offset m f) e)
+    by (Given l) Own e f = absurd (given-some rows' site offset l (sym (same l) ∙ given-listed rows site offset l e) f)
+    by (Given l) (Given m) e f =
+        by-number l m (λ h. ap Given h)
+        (λ n. absurd (false≢true (sym once
+        ∙ two-back rows site offset l m n (given-listed rows site offset l e) (same m ∙ given-listed rows' site offset m f))))
+
 -- ---- the law
 
 module _ (rows rows' : List Row) (site : Site) (same : SameMasks rows rows' site) where
@@ -239,17 +253,8 @@ module _ (rows rows' : List Row) (site : Site) (same : SameMasks rows rows' site
       two-back rows site (w .offset) (w .one) (w .two) (w .other) (same (w .offset) (w .one) ∙ w .first) (same (w .offset) (w .two) ∙ w .second))
 
   -- where there are not, the length that is given
-  pub same-given : twoLengths rows site ≡ false → (offset : ℕ) → givenIn rows site offset ≡ givenIn rows' site offset
-  same-given once offset = by (givenIn rows site offset) (givenIn rows' site offset) refl refl
-    where
-      by : (x y : MaskLen) → givenIn rows site offset ≡ x → givenIn rows' site offset ≡ y → x ≡ y
-      by Own Own e f = refl
-      by Own (Given m) e f = absurd (given-some rows site offset m (same offset m ∙ given-listed rows' site offset m f) e)
-      by (Given l) Own e f = absurd (given-some rows' site offset l (sym (same offset l) ∙ given-listed rows site offset l e) f)
-      by (Given l) (Given m) e f =
-          by-number l m (λ h. ap Given h)
-          (λ n. absurd (false≢true (sym once
-          ∙ two-back rows site offset l m n (given-listed rows site offset l e) (same offset m ∙ given-listed rows' site offset m f))))
+  same-given : twoLengths rows site ≡ false → (offset : ℕ) → givenIn rows site offset ≡ givenIn rows' site offset
+  same-given once offset = given-alike rows rows' site once offset (same offset)
 
   -- the body renumbered
   pub same-body : (calls : Calls) (s : List ℕ) → renumberedBody rows calls site s ≡ renumberedBody rows' calls site s
@@ -257,10 +262,10 @@ module _ (rows rows' : List Row) (site : Site) (same : SameMasks rows rows' site
   same-body calls s = by (twoLengths rows site) refl
     where
       by : (t : Bool) → twoLengths rows site ≡ t
-          → pick (twoLengths rows site) fail (whole (renumberCharstring calls (givenIn rows site) s))
-          ≡ pick (twoLengths rows' site) fail (whole (renumberCharstring calls (givenIn rows' site) s))
+          → pick (twoLengths rows site) none (renumberCharstring calls (givenIn rows site) s)
+          ≡ pick (twoLengths rows' site) none (renumberCharstring calls (givenIn rows' site) s)
       by true e = rw (e, sym same-two ∙ e)
       by false e =
           let g : givenIn rows site ≡ givenIn rows' site = fun-ext (same-given e) in
           let f : twoLengths rows' site ≡ false = sym same-two ∙ e in
-          rw (e, f) (ap (λ (given : ℕ → MaskLen). whole (renumberCharstring calls given s)) g)
+          rw (e, f) (ap (λ (given : ℕ → MaskLen). renumberCharstring calls given s) g)

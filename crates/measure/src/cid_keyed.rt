@@ -52,7 +52,7 @@ fn measure_planned(
         rows,
     );
     let end = at.end;
-    if 67108864 < end {
+    if octets::LONGEST < end {
         return Answer::Refused(Refusal::SUBSET);
     }
     Answer::Subset {

@@ -3,7 +3,7 @@ pub mod cid_keyed;
 pub mod name_keyed;
 
 ghost use mathlib.Core.Path.{_≡_};
-ghost use mathlib.Core.Bool.{true, false};
+ghost use mathlib.Core.Bool.{false};
 ghost use lib.ListN.{length};
 ghost use Rattle.cff.specs.Reads.{programOf};
 ghost use Rattle.parts.specs.Ready.{FontHeld};

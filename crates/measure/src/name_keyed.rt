@@ -45,7 +45,7 @@ fn measure_planned(
     let how = c.cut.plan.how;
     let at = places_named(c, font, name, slots, used, words, table, totals, rows);
     let end = at.end;
-    if 67108864 < end {
+    if octets::LONGEST < end {
         return Answer::Refused(Refusal::SUBSET);
     }
     Answer::Subset {

@@ -1,8 +1,10 @@
 pub mod Pick
+pub mod Steps
 pub mod PickLaws
 pub mod Octets
 pub mod Lists
 pub mod Examples
 pub mod OctetsLaws
 pub mod PutLaws
+pub mod StepsLaws
 pub mod ListLaws

@@ -1,14 +1,14 @@
 -- Laws of big-endian numbers, and that a number written reads back.
-use Prim.Native.Nat.{ℕ, zero, suc, _+_, _-_, _*_, _/_, _%_, _^_, _≤_, _<_}
+use Prim.Native.Nat.{ℕ, zero, suc, _+_, _*_, _/_, _^_, _≤_, _<_}
 use mathlib.Core.Path.{_≡_, refl, sym, ap, _∙_, subst}
 use mathlib.Core.List.{List, [], _∷_, _++_}
 use native.Mathlib.Nat.{pow-suc, pow-le-pow-right, lt-of-lt-of-le, div-add-mod', div-lt-iff-lt-mul, add-zero}
 use native.Mathlib.Numerals.{add-one}
 use native.Mathlib.Omega.{arith}
-use lib.Dec.{lit<, lit≤}
+use lib.Dec.{lit<}
 use lib.ListN.{length, take, drop, getD, length-append, length-drop}
 use lib.Seq.{take-suc, getD-drop, take-at, drop-at}
-use Rattle.octets.specs.Octets.{Octets, be, numAt, bytesOf}
+use Rattle.octets.specs.Octets.{be, numAt, bytesOf}
 
 pub be-snoc : (a : ℕ) (xs : List ℕ) (x : ℕ) → be a (xs ++ (x ∷ [])) ≡ be a xs * 256 + x
 unfolding be

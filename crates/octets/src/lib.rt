@@ -8,6 +8,9 @@ ghost use Prim.Native.Nat.{_+_, _≤_, _<_, _^_};
 ghost use lib.ListN.{length, getD};
 ghost use Rattle.octets.specs.Octets.{numAt, bytesOf, Wrote};
 
+// The longest file that is read and the longest subset that is written, in bytes (document 01, 'Entries and their refusals').
+pub const LONGEST: usize = 67108864;
+
 // A byte as a wider number.
 pub fn wide(x: u8) -> usize
     ensures { λ r. ⌜ (r ≡ x) × (r < 256) ⌝ }

@@ -7,9 +7,6 @@ ghost use Rattle.index.specs.Place.{StartsAt};
 ghost use Rattle.opentype.specs.Opentype.{tableOf, rowFrom, placeOf};
 use refusal::Refusal;
 
-// The longest file that is read, in bytes (document 01, 'Entries and their refusals').
-const LONGEST: usize = 67108864;
-
 // `OTTO` and `CFF `, as numbers of four bytes.
 const OTTO: usize = 0x4f54544f;
 
@@ -58,7 +55,7 @@ pub fn place_of(file: &[u8]) -> Place
     ensures { λ r. ⌜ r ≡ placeOf (now (file .entry)) ⌝ }
 {
     let n = file.len();
-    if LONGEST < n {
+    if octets::LONGEST < n {
         return Place::Refused(Refusal::TOO_LONG);
     }
     if n < 4 {

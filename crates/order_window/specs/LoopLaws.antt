@@ -2,7 +2,7 @@
 use Prim.Native.Nat.{ℕ, _+_, _-_, _*_, _/_, _%_, _^_, _≤_, _<_}
 use mathlib.Core.Path.{_≡_, refl, sym, ap, _∙_, subst}
 use mathlib.Core.Bool.{Bool, true}
-use mathlib.Core.Logic.{_⊎_, inl, inr, ⊎-elim}
+use mathlib.Core.Logic.{inl, inr, ⊎-elim}
 use mathlib.Core.List.{List}
 use native.Mathlib.Omega.{arith}
 use lib.Dec.{eqb}
@@ -12,7 +12,7 @@ use Rattle.octets.specs.Octets.{put}
 use Rattle.bits.specs.Bits.{wordsFor, bitIn, bitsOf}
 use Rattle.cff.specs.Reads.{programOf, GoodFont}
 use Rattle.cff.specs.declared.font.Font.{Font}
-use Rattle.subset.specs.Kept.{those, keeps, keptOf, writtenOrder}
+use Rattle.subset.specs.Kept.{keeps, keptOf, writtenOrder}
 use Rattle.subset.specs.Cut.{allFound}
 use Rattle.faithful.specs.KeptLaws.{kept-some}
 use Rattle.order.specs.BitLaws.{kept-by-bits}

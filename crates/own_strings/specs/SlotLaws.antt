@@ -1,6 +1,6 @@
 -- Laws of slots that are used one after the other: what the use of one adds to the own strings, that its new id is the next one exactly
 -- where it adds a string, and that the code gives it that id.
-use Prim.Native.Nat.{ℕ, suc, _+_, _-_, _<_, _≤_}
+use Prim.Native.Nat.{ℕ, suc, _+_, _<_, _≤_}
 use mathlib.Core.Path.{_≡_, refl, sym, ap, _∙_}
 use mathlib.Core.Bool.{Bool, true, false}
 use mathlib.Core.List.{List, [], _∷_, _++_, append-assoc}

@@ -9,11 +9,13 @@ ghost use Rattle.index.specs.Index.{itemsOf};
 ghost use Rattle.index.specs.Good.{Good};
 ghost use Rattle.dict.specs.Lookup.{idIn};
 ghost use Rattle.dict.specs.Places.{entriesOf};
+ghost use Rattle.dict.specs.Noted.{Placed};
 ghost use Rattle.strings.specs.Strings.{stringText, sidOf};
 ghost use Rattle.strings.specs.declared.Sid.the-variants.{Other};
 ghost use Rattle.own_strings.specs.Slots.{firstSlots, slotsOf, slotIds, ownOf, slotsOwn, slotHas, slotWith, givenId, counted};
 ghost use Rattle.own_strings.specs.Ready.{HasStrings};
 use decimal::IdOf;
+use dict::Places;
 use dict::RosIn;
 use index::Index;
 use strings::Sid;
@@ -26,10 +28,11 @@ pub struct Own {
 }
 
 // The slot of an entry: its string id, or 65536.
-fn slot_of(d: &[u8], op: usize) -> usize
+fn slot_of(d: &[u8], p: Places, op: usize) -> usize
+    requires { ⌜ Placed (now d) p ⌝ }
     ensures { λ r. ⌜ r ≡ slotOf (idIn op (entriesOf (now (d .entry)))) ⌝ }
 {
-    match dict::string_id(d, op) {
+    match dict::string_id(d, p, op) {
         IdOf::Absent => 65536,
         IdOf::Id(sid) => sid,
     }
@@ -45,12 +48,12 @@ fn put_two(slots: &mut [usize], x: usize, y: usize)
 }
 
 // Puts the slots of registry and ordering.
-fn put_first(d: &[u8], cid: bool, slots: &mut [usize])
-    requires { ⌜ 2 ≤ length (now slots) ⌝ }
+fn put_first(d: &[u8], p: Places, cid: bool, slots: &mut [usize])
+    requires { ⌜ (2 ≤ length (now slots)) × (Placed (now d) p) ⌝ }
     ensures { λ r. ⌜ now (slots .exit) ≡ put (now (slots .entry)) 0 (firstSlots cid (entriesOf (now (d .entry)))) ⌝ }
 {
     if cid {
-        match dict::ros(d) {
+        match dict::ros(d, p) {
             RosIn::None => put_two(slots, 65536, 65536),
             RosIn::Ros {
                 registry,
@@ -68,10 +71,11 @@ pub fn put_slots(d: &[u8], cid: bool, slots: &mut [usize])
     requires { ⌜ 16 ≤ length (now slots) ⌝ }
     ensures { λ r. ⌜ now (slots .exit) ≡ put (now (slots .entry)) 0 (slotsOf cid (entriesOf (now (d .entry)))) ⌝ }
 {
-    put_first(d, cid, &mut *slots);
+    let p = dict::read_top(d);
+    put_first(d, p, cid, &mut *slots);
     let mut k = 0;
     while k < 6 {
-        slots[2 + k] = slot_of(d, dict::op::copied_top_string(k));
+        slots[2 + k] = slot_of(d, p, dict::op::copied_top_string(k));
         k += 1;
     }
 }

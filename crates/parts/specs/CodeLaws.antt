@@ -4,6 +4,7 @@ use Prim.Native.Nat.{ℕ, _+_, _≤_}
 use mathlib.Core.Path.{_≡_, sym, ap, _∙_, subst}
 use mathlib.Core.Bool.{true}
 use mathlib.Core.List.{List, []}
+use mathlib.Core.Option.{Option}
 use native.Mathlib.Omega.{arith}
 use lib.Dec.{eqb}
 use lib.ListN.{length, getD}
@@ -15,7 +16,7 @@ use Rattle.unfold.specs.Unfold.{Row, glyph, global}
 use Rattle.cff.specs.Font.{Program}
 use Rattle.cff.specs.Reads.{programOf}
 use Rattle.bits.specs.Bits.{countBelow}
-use Rattle.subset.specs.Pruned.{May, mapped, globalSet, callsIn}
+use Rattle.subset.specs.Pruned.{globalSet, callsIn}
 use Rattle.subset.specs.EachLaws.{length-mapped}
 use Rattle.order_window.specs.Window.{glyphsOf}
 use Rattle.glyph_bodies.specs.Charstrings.{CharstringsIn, charstringsFrom}
@@ -38,7 +39,7 @@ use Rattle.parts.specs.Ready.{bodiesFor, Ready}
 use Rattle.parts.specs.declared.Planned.{Planned}
 
 -- room for the INDEX of bodies that do not fail, where its length is small
-room-for : (bodies : May (List (List ℕ))) (new : List (List ℕ)) (sum at room : ℕ) → holds bodies ≡ true → manyOf bodies ≡ new → sum ≡ total new
+room-for : (bodies : Option (List (List ℕ))) (new : List (List ℕ)) (sum at room : ℕ) → holds bodies ≡ true → manyOf bodies ≡ new → sum ≡ total new
     → at + length (indexBytes new) ≤ 67108864 → at + length (indexBytes new) ≤ room → Room bodies sum at room
 room-for bodies new sum at room done same is small fits =
     let t = total-within new in
@@ -68,10 +69,10 @@ module _ (b : List ℕ) (rows : List Row) (used ws table : List ℕ) (r : Planne
   abbrev across : Ranks
   across = acrossBy table (fdsIn used)
 
-  abbrev theGlobals : May (List (List ℕ))
+  abbrev theGlobals : Option (List (List ℕ))
   theGlobals = globalsBy way p rows ws used table own (glyphsOf b (r .order .f) ws)
 
-  abbrev theGlyphs : May (List (List ℕ))
+  abbrev theGlyphs : Option (List (List ℕ))
   theGlyphs = glyphsBy way p rows ws used table own (glyphsOf b (r .order .f) ws)
 
   -- neither fails

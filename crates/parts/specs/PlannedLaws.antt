@@ -3,6 +3,7 @@ use Prim.Native.Nat.{ℕ, _+_, _≤_}
 use mathlib.Core.Path.{_≡_, refl, sym, ap, _∙_, fun-ext, subst}
 use mathlib.Core.Bool.{Bool, true, false}
 use mathlib.Core.List.{List, [], _++_}
+use mathlib.Core.Option.{Option, none, some}
 use native.Mathlib.Omega.{arith}
 use lib.Dec.{eqb}
 use lib.ListN.{length, take, drop, getD}
@@ -17,7 +18,7 @@ use Rattle.cff.specs.Font.{Program}
 use Rattle.bits.specs.Bits.{wordsFor}
 use Rattle.cff.specs.Find.{localsWords}
 use Rattle.cff.specs.Reads.{programOf}
-use Rattle.subset.specs.Pruned.{Pruned, May, fail, yes, each, mapped, callsIn, pruned}
+use Rattle.subset.specs.Pruned.{Pruned, each, mapped, callsIn, pruned}
 use Rattle.order.specs.Walks.{manyIn}
 use Rattle.order_window.specs.declared.Order.{Order}
 use Rattle.order_window.specs.Window.{glyphsOf, Ordered}
@@ -56,9 +57,9 @@ last-holds true false v e = absurd (zero-one cc)
 last-holds false u v e = absurd (zero-one cc)
 
 -- bodies of which none fails
-each-made : (f : ℕ → May (List ℕ)) (ks : List ℕ) (m : May (List (List ℕ))) → each f ks ≡ m → holds m ≡ true → manyOf m ≡ mapped (λ k. bodyOf (f k)) ks
-each-made f ks fail e h = absurd (zero-one cc)
-each-made f ks (yes l) e h = sym (each-parts f bodyOf (λ a. refl) ks l e)
+each-made : (f : ℕ → Option (List ℕ)) (ks : List ℕ) (m : Option (List (List ℕ))) → each f ks ≡ m → holds m ≡ true → manyOf m ≡ mapped (λ k. bodyOf (f k)) ks
+each-made f ks none e h = absurd (zero-one cc)
+each-made f ks (some l) e h = sym (each-parts f bodyOf (λ a. refl) ks l e)
 
 module _ (b : List ℕ) (o : Order) (used old window : List ℕ) (h : PlanIn b o used old window) where
   abbrev p : Program
@@ -132,11 +133,11 @@ module _ (b : List ℕ) (o : Order) (used old window : List ℕ) (h : PlanIn b o
         charstrings-are =
             let order = glyphsOf b (o .f) ws in
             let g = new-glyphs p (h .read .program) rows narrow used ws (ranked .globals) table (s .ranked) order within (r .way) numbered in
-            let body : ℕ → May (List ℕ) = λ g. bodyBy (r .way) rows (callsIn p rows (getD (p .fds) g 0)) (glyph g) (getD (p .charstrings) g []) in
-            let some : holds (glyphsBy (r .way) p rows ws used table (ranked .globals) order) ≡ true
+            let body : ℕ → Option (List ℕ) = λ g. bodyBy (r .way) rows (callsIn p rows (getD (p .fds) g 0)) (glyph g) (getD (p .charstrings) g []) in
+            let made : holds (glyphsBy (r .way) p rows ws used table (ranked .globals) order) ≡ true
             = last-holds (holds (globalsBy (r .way) p rows ws used table (ranked .globals) order))
             (allHold (localsBy (r .way) p rows ws table (ranked .globals)) (fdsIn used)) _ made in
-            each-made body order (glyphsBy (r .way) p rows ws used table (ranked .globals) order) (sym g) some
+            each-made body order (glyphsBy (r .way) p rows ws used table (ranked .globals) order) (sym g) made
             ∙ ap (λ (l : ℕ → List ℕ). mapped l order)
             (fun-ext (λ g. sym (new-body-is (r .way) rows (callsIn p rows (getD (p .fds) g 0)) (glyph g) (getD (p .charstrings) g []))))
 

@@ -1,16 +1,14 @@
 -- The bodies that the work words and the tables give by the way are those of the subset, and no part fails exactly where the font can be
 -- renumbered.
-use Prim.Native.Nat.{ℕ, zero, suc, _+_, _*_, _%_, _<_}
+use Prim.Native.Nat.{ℕ, zero, suc, _<_}
 use mathlib.Core.Path.{_≡_, refl, sym, ap, _∙_, fun-ext, subst}
-use mathlib.Core.Bool.{Bool, true, false}
+use mathlib.Core.Bool.{true}
 use mathlib.Core.List.{List, [], _∷_}
 use mathlib.Core.Logic.{⊎-elim}
 use native.Mathlib.Omega.{arith}
 use borrow.Author.Tests.{eqb-true}
-use lib.ListN.{length, drop, getD}
-use lib.Seq.{getD-take, getD-drop}
+use lib.ListN.{length, getD}
 use Rattle.octets.specs.Octets.{Octets}
-use Rattle.octets.specs.Pick.{pick}
 use Rattle.octets.specs.PickLaws.{both-hold}
 use Rattle.record.specs.Record.{rowsOf}
 use Rattle.unfold.specs.Unfold.{Row, glyph, local, global}
@@ -19,10 +17,8 @@ use Rattle.cff.specs.Font.{Program}
 use Rattle.subset.specs.Kept.{isIn, localsOf, fdsOf}
 use Rattle.bits.specs.Bits.{countBelow}
 use Rattle.subset.specs.Pruned.{each, reached, localSet, globalSet, callsIn, callsAcross}
-use Rattle.subset.specs.EachLaws.{mapped-at}
 use Rattle.subset.specs.KeptListLaws.{in-none, in-head, in-cases, those-has, those-in}
 use Rattle.faithful.specs.Laid.{GoodProgram}
-use Rattle.faithful.specs.UsedLaws.{fd-there}
 use Rattle.renumber.specs.Ranks.{callsBy}
 use Rattle.renumber.specs.RanksLaws.{HoldsRanks, calls-in, calls-across, calls-across-none}
 use Rattle.renumber.specs.HoldsLaws.{narrow-set}

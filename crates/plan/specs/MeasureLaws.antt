@@ -3,14 +3,13 @@ use Prim.Native.Nat.{ℕ, _≤_}
 use mathlib.Core.Path.{_≡_, refl, sym, ap, _∙_, subst}
 use mathlib.Core.Bool.{Bool, true, false}
 use mathlib.Core.List.{List}
+use mathlib.Core.Option.{Option}
 use native.Mathlib.Omega.{arith}
-use lib.ListN.{length}
 use Rattle.octets.specs.Pick.{pick}
 use Rattle.octets.specs.PickLaws.{first-fails}
 use Rattle.unfold.specs.Unfold.{Row}
 use Rattle.prune.specs.StepLaws.{zero-one}
 use Rattle.cff.specs.Font.{Program}
-use Rattle.subset.specs.Pruned.{May}
 use Rattle.renumber.specs.declared.Ranks.{Ranks}
 use Rattle.renumber.specs.Ranks.{callsBy}
 use Rattle.bodies.specs.Ways.{holds, measuredOf, subrsBy, reachedIn, siteIn}
@@ -55,10 +54,10 @@ module _ (way : ℕ) (p : Program) (rows : List Row) (ws used table : List ℕ) 
 
 module _ (way : ℕ) (p : Program) (rows : List Row) (ws used table : List ℕ) (globals : Ranks) (order totals : List ℕ) where
   -- the globals and the charstrings by the way; whether the locals of no FD fail
-  abbrev theGlobals : May (List (List ℕ))
+  abbrev theGlobals : Option (List (List ℕ))
   theGlobals = globalsBy way p rows ws used table globals order
 
-  abbrev theGlyphs : May (List (List ℕ))
+  abbrev theGlyphs : Option (List (List ℕ))
   theGlyphs = glyphsBy way p rows ws used table globals order
 
   abbrev localsHold : Bool

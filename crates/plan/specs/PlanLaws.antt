@@ -2,14 +2,13 @@
 use Prim.Native.Nat.{ℕ}
 use mathlib.Core.Path.{_≡_, refl, sym, ap, _∙_, subst}
 use mathlib.Core.Bool.{Bool, true, false}
+use mathlib.Core.Option.{Option}
 use lib.Dec.{eqb}
 use mathlib.Core.List.{List, [], _∷_}
 use borrow.Author.Tests.{eq-eqb, ne-eqb}
-use lib.ListN.{length}
 use Rattle.octets.specs.Pick.{pick}
 use Rattle.unfold.specs.Unfold.{Row}
 use Rattle.cff.specs.Font.{Program}
-use Rattle.subset.specs.Pruned.{May}
 use Rattle.renumber.specs.declared.Ranks.{Ranks}
 use Rattle.bodies.specs.Ways.{holds}
 use Rattle.glyph_bodies.specs.Charstrings.{charstringOf}
@@ -23,7 +22,7 @@ use Rattle.plan.specs.declared.Plan.{Plan}
 use Rattle.plan.specs.MeasureLaws.{measures}
 
 -- all of a list hold where each does
-hold-all : {A : Type 0} (f : ℕ → May A) → ((x : ℕ) → holds (f x) ≡ true) → (fs : List ℕ) → allHold f fs ≡ true
+hold-all : {A : Type 0} (f : ℕ → Option A) → ((x : ℕ) → holds (f x) ≡ true) → (fs : List ℕ) → allHold f fs ≡ true
 unfolding allHold
 hold-all f h [] = refl
 hold-all f h (x ∷ fs) = ap (λ (t : Bool). pick t (allHold f fs) false) (h x) ∙ hold-all f h fs

@@ -1,5 +1,5 @@
 -- The bits of all subroutines in the work words (document 02, Wish 7): those of the globals, and behind them those of the locals of each FD in use.
-use Prim.Native.Nat.{ℕ, _+_, _*_, _≤_, _<_}
+use Prim.Native.Nat.{ℕ, _+_, _≤_, _<_}
 use mathlib.Core.Path.{_≡_}
 use mathlib.Core.Bool.{Bool, true, false}
 use mathlib.Core.List.{List, _++_}

@@ -1,15 +1,16 @@
 -- The sizes of all bodies by the way (document 01, 'Corners in write.rs'), over what the work words and the tables hold.
-use Prim.Native.Nat.{ℕ, _+_, _≤_, _<_}
+use Prim.Native.Nat.{ℕ, _≤_, _<_}
 use mathlib.Core.Path.{_≡_}
 use mathlib.Core.Bool.{Bool, true, false}
 use mathlib.Core.List.{List, [], _∷_}
+use mathlib.Core.Option.{Option}
 use lib.Dec.{eqb}
 use lib.ListN.{length, getD}
 use Rattle.octets.specs.Pick.{pick}
 use Rattle.index.specs.Write.{total}
 use Rattle.unfold.specs.Unfold.{Row, global}
 use Rattle.cff.specs.Font.{Program}
-use Rattle.subset.specs.Pruned.{May, localSet, globalSet}
+use Rattle.subset.specs.Pruned.{localSet, globalSet}
 use Rattle.renumber.specs.Ranks.{callsBy}
 use Rattle.renumber.specs.declared.Ranks.{Ranks}
 use Rattle.cff.specs.Reads.{GoodFont, programOf}
@@ -46,10 +47,10 @@ FdsUsed p used order = (i : ℕ) → i < length order → inUse used (getD (p .f
 
 module _ (way : ℕ) (p : Program) (rows : List Row) (ws used table : List ℕ) (globals : Ranks) (order : List ℕ) where
   -- the globals by the way, and the charstrings, or that their renumbering fails
-  abbrev pub globalsBy : May (List (List ℕ))
+  abbrev pub globalsBy : Option (List (List ℕ))
   globalsBy = subrsBy way rows (reachedIn ws globals) (callsBy ws (acrossBy table (fdsIn used)) globals) global (p .globals)
 
-  abbrev pub glyphsBy : May (List (List ℕ))
+  abbrev pub glyphsBy : Option (List (List ℕ))
   glyphsBy = charstringsOf way rows (p .fds) ws table globals (p .charstrings) order
 
   -- whether no part fails

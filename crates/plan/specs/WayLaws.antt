@@ -4,6 +4,7 @@ use Prim.Native.Nat.{ℕ, _<_}
 use mathlib.Core.Path.{_≡_, refl, sym, ap, _∙_}
 use mathlib.Core.Bool.{Bool, true, false}
 use mathlib.Core.List.{List, [], _∷_}
+use mathlib.Core.Option.{Option, none}
 use native.Mathlib.Omega.{arith}
 use lib.Dec.{eqb}
 use lib.ListN.{length, getD}
@@ -13,7 +14,7 @@ use Rattle.unfold.specs.Unfold.{Row, glyph, local, global}
 use Rattle.prune.specs.StepLaws.{zero-one}
 use Rattle.cff.specs.Font.{Program}
 use Rattle.subset.specs.Kept.{isIn, those, localsOf}
-use Rattle.subset.specs.Pruned.{Pruned, May, fail, each, localSet, globalSet, renumberedSubrs, callsIn, callsAcross, renumberedBody, pruned}
+use Rattle.subset.specs.Pruned.{Pruned, each, localSet, globalSet, renumberedSubrs, callsIn, callsAcross, renumberedBody, pruned}
 use Rattle.subset.specs.KeptListLaws.{those-in}
 use Rattle.faithful.specs.Laid.{GoodProgram}
 use Rattle.renumber.specs.declared.Ranks.{Ranks}
@@ -33,7 +34,7 @@ use Rattle.plan.specs.FontLaws.{locals-same, globals-same, glyphs-same}
 no-number : (rows : List Row) (p : Program) (f : ℕ) → numbered p rows f ≡ false → holds (renumberedLocals p rows f) ≡ false
 unfolding renumberedSubrs
 no-number rows p f e =
-    ap (λ (t : Bool). holds (pick t (each (λ k. renumberedBody rows (callsIn p rows f) (local f k) (getD (localsOf p f) k [])) (those (localSet rows f) (length (localsOf p f)) 0)) fail)) e
+    ap (λ (t : Bool). holds (pick t (each (λ k. renumberedBody rows (callsIn p rows f) (local f k) (getD (localsOf p f) k [])) (those (localSet rows f) (length (localsOf p f)) 0)) none)) e
 
 no-numbers : (rows : List Row) (p : Program) (fs : List ℕ) → allNumbered p rows fs ≡ false → allHold (renumberedLocals p rows) fs ≡ false
 unfolding allNumbered allHold
@@ -57,7 +58,7 @@ unnumbered-fails p rows used order e = renumbers-parts p rows used order ∙ go 
         ap (λ (b : Bool). pick (holds (renumberedGlobals p rows used)) (pick b (allHold (renumberedGlyph p rows) order) false) false) (no-numbers rows p used h)
         ∙ pick-same (holds (renumberedGlobals p rows used)) false
     go false n h =
-        ap (λ (t : Bool). pick (holds (pick t (each (λ k. renumberedBody rows (callsAcross p rows used) (global k) (getD (p .globals) k [])) (those (globalSet rows) (length (p .globals)) 0)) fail))
+        ap (λ (t : Bool). pick (holds (pick t (each (λ k. renumberedBody rows (callsAcross p rows used) (global k) (getD (p .globals) k [])) (those (globalSet rows) (length (p .globals)) 0)) none))
         (pick (allHold (renumberedLocals p rows) used) (allHold (renumberedGlyph p rows) order) false) false) n
 
 module _ (p : Program) (good : GoodProgram p) (rows : List Row) (narrow : Narrow rows) (used ws : List ℕ) (globals : Ranks) (table : List ℕ)
@@ -73,7 +74,7 @@ module _ (p : Program) (good : GoodProgram p) (rows : List Row) (narrow : Narrow
       let cs = glyphs-same p good rows narrow used ws globals table h 0 (λ z. all) order within in
       let ls = hold-same (localsBy 0 p rows ws table globals) (renumberedLocals p rows) (fdsIn used)
       (λ f m. locals-same p good rows narrow used ws globals table h 0 (λ z. all) f (in-use f m .0) (in-use f m .1)) in
-      ap (λ (m : May (List (List ℕ))). pick (holds m) (pick (allHold (localsBy 0 p rows ws table globals) (fdsIn used)) (holds (glyphsBy 0 p rows ws used table globals order)) false) false) gs
+      ap (λ (m : Option (List (List ℕ))). pick (holds m) (pick (allHold (localsBy 0 p rows ws table globals) (fdsIn used)) (holds (glyphsBy 0 p rows ws used table globals order)) false) false) gs
       ∙ ap (λ (b : Bool). pick (holds (renumberedGlobals p rows (fdsIn used))) (pick b (holds (glyphsBy 0 p rows ws used table globals order)) false) false) ls
       ∙ ap (λ (b : Bool). pick (holds (renumberedGlobals p rows (fdsIn used))) (pick (allHold (renumberedLocals p rows) (fdsIn used)) b false) false)
       (ap holds cs ∙ holds-each (renumberedGlyph p rows) order)

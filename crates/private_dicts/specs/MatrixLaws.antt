@@ -7,12 +7,10 @@ use native.Mathlib.Omega.{arith}
 use lib.ListN.{length, getD, length-append}
 use Rattle.octets.specs.Octets.{Octets}
 use Rattle.index.specs.Index.{itemsOf}
-use Rattle.index.specs.Good.{Good}
 use Rattle.index.specs.IndexLaws.{items-length}
 use Rattle.index.specs.FoundLaws.{item-octets}
 use Rattle.dict.specs.Op.{fontMatrix}
-use Rattle.dict.specs.Dict.{Entry}
-use Rattle.dict.specs.Lookup.{Operands, lastOf}
+use Rattle.dict.specs.Lookup.{lastOf}
 use Rattle.dict.specs.Places.{entriesOf}
 use Rattle.dict_write.specs.Written.{copiedEntry, privateEntry}
 use Rattle.dict_write.specs.ShortLaws.{copied-short}

@@ -18,6 +18,7 @@ ghost use Rattle.private_dicts.specs.Privates.{FdRead, privateDictBy, ma
 use cff::font::Font;
 use cff::private::PrivateAt;
 use cff::private::PrivateRead;
+use dict::nowhere;
 use dict::op::Op;
 use dict_write::copied_len;
 use dict_write::private_len;
@@ -106,7 +107,7 @@ fn matrix_len(font: &[u8], f: Font, fd: usize) -> usize
 {
     let dicts = f.dicts;
     let d = index::item(font, dicts, fd);
-    copied_len(d, Op::FONT_MATRIX)
+    copied_len(d, nowhere(0), Op::FONT_MATRIX)
 }
 
 // The length of the FontMatrix entries of the first so many FDs of a list.
@@ -140,7 +141,7 @@ fn put_font_dict(
 {
     let dicts = f.dicts;
     let d = index::item(font, dicts, fd);
-    let p = put_copied(d, Op::FONT_MATRIX, &mut *out, at);
+    let p = put_copied(d, nowhere(0), Op::FONT_MATRIX, &mut *out, at);
     put_private_entry(size, place, out, p)
 }
 

@@ -2,7 +2,7 @@
 use mathlib.Core.Path.{_≡_, sym, ap, subst}
 use mathlib.Core.List.{List, [], _∷_, _++_}
 use Rattle.unfold.specs.Unfold.{Row, State, Run, broken, returned, ended, after}
-use Rattle.prune.specs.Bodies.{All, none, one}
+use Rattle.prune.specs.Bodies.{All, empty, one}
 use Rattle.prune.specs.StepLaws.{Unbroken}
 
 -- a state with other rows
@@ -33,7 +33,7 @@ module _ (listed : Row → Type 0) where
   unbroken (ended st) h = tt
 
   pub all-front : (rows : List Row) (r : Row) → All listed (rows ++ (r ∷ [])) → All listed rows
-  all-front [] r h = none
+  all-front [] r h = empty
   all-front (x ∷ rows) r (one p h) = one p (all-front rows r h)
 
   pub all-last : (rows : List Row) (r : Row) → All listed (rows ++ (r ∷ [])) → listed r

@@ -1,12 +1,14 @@
 -- The rows that a glyph meets are its own (document 01, 'Plain glyphs' and 'Reach record'): a mask stands in the glyph itself or in a subroutine
 -- that it enters. So a record may say what it likes of the masks of other bodies, which are not rewritten.
+use lib.IntN.{ℤ}
 use Prim.Native.Nat.{ℕ, zero, suc, _+_}
 use mathlib.Core.Path.{_≡_, refl, sym, subst}
 use mathlib.Core.List.{List, [], _∷_, _++_}
+use mathlib.Core.Option.{Option, none, some}
 use native.Mathlib.Omega.{arith}
 use lib.ListN.{length, getD}
-use Rattle.unfold.specs.Unfold.{Tok, Row, Site, glyph, local, global, entered, masked, State, Run, broken, returned, ended, Last, none, last, calling, after, walk, runBody, plain, glyphOf, fresh, unfoldGlyph}
-use Rattle.prune.specs.Bodies.{All, none as nothing, one}
+use Rattle.unfold.specs.Unfold.{Tok, Row, Site, glyph, local, global, entered, masked, State, Run, broken, returned, ended, calling, after, walk, runBody, plain, glyphOf, fresh, unfoldGlyph}
+use Rattle.prune.specs.Bodies.{All, empty as nothing, one}
 use Rattle.prune.specs.StepLaws.{zero-one, maskNow, Step, reads, callsLocal, callsGlobal, returns, ends, escapes, masks, clears, walk-was}
 use Rattle.prune.specs.AlikeLaws.{Listed, unbroken, all-last}
 use Rattle.prune.specs.SameLaws.{Backs, backs-none, backs-body, body-starts}
@@ -63,9 +65,9 @@ module _ (globals locals : List (List ℕ)) (fd g : ℕ) (listed : Row → Type 
       (site : Site) (s : List ℕ) (runs : Runs site) where
     abbrev Walks : ℕ → Type 0
     Walks k =
-        (at : ℕ) (l : Last) (st : State) (r : Run) → All Own (st .met) → walk globals locals fd enter k site s at l st ≡ r → Listed listed r → Listed Own r
+        (at : ℕ) (l : Option ℤ) (st : State) (r : Run) → All Own (st .met) → walk globals locals fd enter k site s at l st ≡ r → Listed listed r → Listed Own r
 
-    module _ (k : ℕ) (next : Walks k) (at : ℕ) (l : Last) (st : State) (r : Run) (own : All Own (st .met)) (h : Listed listed r) where
+    module _ (k : ℕ) (next : Walks k) (at : ℕ) (l : Option ℤ) (st : State) (r : Run) (own : All Own (st .met)) (h : Listed listed r) where
       own-call : (which : Site) (body : List ℕ) → (listed (entered which) → Runs which × Own (entered which))
           → after (enter which body (calling which st)) (walk globals locals fd enter k site s (at + 1) none) ≡ r → Listed Own r
       own-call which body o e =
@@ -76,7 +78,7 @@ module _ (globals locals : List (List ℕ)) (fd g : ℕ) (listed : Row → Type 
           (λ x p f. next (at + 1) none x r p f h)
 
       own-step : Step globals locals fd enter k site s at l st r → Listed Own r
-      own-step (reads z n f a b e) = next n (last z) _ r own e h
+      own-step (reads z n f a b e) = next n (some z) _ r own e h
       own-step (callsLocal i o f e) = own-call (local fd i) (getD locals i []) (λ p. ((refl, p), own-local i p)) e
       own-step (callsGlobal i o f e) = own-call (global i) (getD globals i []) (λ p. (p, own-global i p)) e
       own-step (returns o f e) = subst (Listed Own) e own

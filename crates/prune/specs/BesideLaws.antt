@@ -4,6 +4,7 @@ use Prim.Native.Nat.{ℕ, _+_, _-_, _≤_, _<_}
 use mathlib.Core.Path.{_≡_, refl, sym, ap, _∙_, subst}
 use mathlib.Core.Bool.{Bool, true, false}
 use mathlib.Core.List.{List, [], _∷_, _++_}
+use mathlib.Core.Option.{Option, none, some}
 use native.Mathlib.Nat.{add-zero}
 use native.Mathlib.Omega.{arith}
 use lib.Dec.{ltb, eqb}
@@ -22,7 +23,7 @@ use Rattle.charstring.specs.Token.{Tok, num, op, esc, mask, isMask}
 use Rattle.charstring.specs.Encode.{encode}
 use Rattle.charstring.specs.declared.MaskLen.{MaskLen}
 use Rattle.charstring.specs.declared.MaskLen.the-variants.{Given}
-use Rattle.prune.specs.Renumber.{becomes, Calls, isCall, done, Waiting, nobody, waits, renumber, bytes, renumberCharstring}
+use Rattle.prune.specs.Renumber.{Calls, isCall, renumber, renumberCharstring}
 use Rattle.prune.specs.StepLaws.{Operator}
 use Rattle.prune.specs.LeftLaws.{Left, left-number, left-op, left-escape, left-mask, left-start}
 use Rattle.prune.specs.RenumberLaws.{keptBefore, renumber-num, renumber-op, renumber-esc, renumber-mask, renumber-call, renumbered-whole}
@@ -60,44 +61,44 @@ written-operator s at b rest o lies =
 -- ---- the two places
 
 -- the number that waits is a reading
-abbrev Readable : Waiting → Type 0
-Readable nobody = Unit
-Readable (waits z) = Reading z
+abbrev Readable : Option ℤ → Type 0
+Readable none = Unit
+Readable (some z) = Reading z
 
 module _ (given : ℕ → MaskLen) (calls : Calls) (s s' : List ℕ) where
-  pub record Beside (w : Waiting) (at at' : ℕ) : Type 0 where
+  pub record Beside (w : Option ℤ) (at at' : ℕ) : Type 0 where
     pub old : List Tok
     pub new : List Tok
     pub left : Left given s at false old
-    pub turns : renumber calls w old ≡ done new
+    pub turns : renumber calls w old ≡ some new
     pub lies : drop at' s' ≡ encode new
     pub waiting : Readable w
 
   -- the number that waited stands there unchanged
-  abbrev pub Caught : Waiting → ℕ → ℕ → Type 0
-  Caught nobody at' p = at' ≡ p
-  Caught (waits z) at' p = Number s' at' z p
+  abbrev pub Caught : Option ℤ → ℕ → ℕ → Type 0
+  Caught none at' p = at' ≡ p
+  Caught (some z) at' p = Number s' at' z p
 
   -- past the number that waited, if it is kept
-  catch : (w : Waiting) (at' : ℕ) (us : List Tok) → Readable w → drop at' s' ≡ encode (keptBefore w us) → (p : ℕ) × Caught w at' p × (drop p s' ≡ encode us)
+  catch : (w : Option ℤ) (at' : ℕ) (us : List Tok) → Readable w → drop at' s' ≡ encode (keptBefore w us) → (p : ℕ) × Caught w at' p × (drop p s' ≡ encode us)
   unfolding encode
-  catch nobody at' us r lies = (at', refl, lies)
-  catch (waits z) at' us r lies =
+  catch none at' us r lies = (at', refl, lies)
+  catch (some z) at' us r lies =
       (at' + length (encoded z), written-number s' at' z (encode us) r lies, behind s' at' (encoded z) (encode us) lies)
 
   -- the operator b stands in the renumbered body, past the number that waited
-  pub record Met (w : Waiting) (at' b p : ℕ) : Type 0 where
+  pub record Met (w : Option ℤ) (at' b p : ℕ) : Type 0 where
     pub caught : Caught w at' p
     pub inside : p < length s'
     pub operates : Operator s' p b
 
-  met : (w : Waiting) (at' b p : ℕ) (rest : List ℕ) → OperatorByte b → Caught w at' p → drop p s' ≡ b ∷ rest → Met w at' b p
+  met : (w : Option ℤ) (at' b p : ℕ) (rest : List ℕ) → OperatorByte b → Caught w at' p → drop p s' ≡ b ∷ rest → Met w at' b p
   met w at' b p rest o c lies =
       let v = written-operator s' p b rest o lies in
       record { caught = c; inside = v .0; operates = v .1 }
 
   module _ (octets : Octets s) where
-    pub beside-start : renumberCharstring calls given s ≡ bytes s' → Beside nobody 0 0
+    pub beside-start : renumberCharstring calls given s ≡ some s' → Beside none 0 0
     beside-start e =
         let x = renumbered-whole calls given s s' e in
         record { old = x .old; new = x .new; left = left-start given s octets (x .old) (x .reads); turns = x .turns; lies = x .writes; waiting = tt }
@@ -105,11 +106,11 @@ module _ (given : ℕ → MaskLen) (calls : Calls) (s s' : List ℕ) where
     operator-at : (at b : ℕ) → Operator s at b → OperatorByte b
     operator-at at b o = subst OperatorByte (o .byte) (operator-byte s at (o .here))
 
-    module _ (w : Waiting) (at at' : ℕ) (x : Beside w at at') (h : at < length s) where
-      turned : (t : Tok) (others : List Tok) → x .old ≡ t ∷ others → renumber calls w (t ∷ others) ≡ done (x .new)
+    module _ (w : Option ℤ) (at at' : ℕ) (x : Beside w at at') (h : at < length s) where
+      turned : (t : Tok) (others : List Tok) → x .old ≡ t ∷ others → renumber calls w (t ∷ others) ≡ some (x .new)
       turned t others e = ap (renumber calls w) (sym e) ∙ x .turns
 
-      pub beside-number : (z : ℤ) (n : ℕ) → numberAt s at ≡ number z n → (p : ℕ) × Caught w at' p × Beside (waits z) n p
+      pub beside-number : (z : ℤ) (n : ℕ) → numberAt s at ≡ number z n → (p : ℕ) × Caught w at' p × Beside (some z) n p
       beside-number z n f =
           let t = left-number given s octets at (x .old) (x .left) z n h f in
           let q = renumber-num calls w (t .others) (x .new) z (turned (num z) (t .others) (t .is)) in
@@ -118,7 +119,7 @@ module _ (given : ℕ → MaskLen) (calls : Calls) (s s' : List ℕ) where
 
       -- an operator that is no call, no escape and no mask
       pub beside-operator : (b : ℕ) → Operator s at b → eqb b 12 ≡ false → isCall b ≡ false → isMask b ≡ false
-          → (p : ℕ) × Met w at' b p × Beside nobody (at + 1) (p + 1)
+          → (p : ℕ) × Met w at' b p × Beside none (at + 1) (p + 1)
       unfolding encode
       beside-operator b o n c f =
           let t = left-op given s octets at (x .old) (x .left) b h o n in
@@ -137,7 +138,7 @@ module _ (given : ℕ → MaskLen) (calls : Calls) (s s' : List ℕ) where
           )
 
       pub beside-escape : (e : ℕ) → Operator s at 12 → getD s (at + 1) 0 ≡ e → ltb (length s - at) 2 ≡ false
-          → (p : ℕ) × Met w at' 12 p × (getD s' (p + 1) 0 ≡ e) × (ltb (length s' - p) 2 ≡ false) × Beside nobody (at + 2) (p + 2)
+          → (p : ℕ) × Met w at' 12 p × (getD s' (p + 1) 0 ≡ e) × (ltb (length s' - p) 2 ≡ false) × Beside none (at + 2) (p + 2)
       unfolding encode
       beside-escape e o f n =
           let t = left-escape given s octets at (x .old) (x .left) e h o f n in
@@ -163,7 +164,7 @@ module _ (given : ℕ → MaskLen) (calls : Calls) (s s' : List ℕ) where
       pub beside-mask : (b len : ℕ) → Operator s at b → eqb b 12 ≡ false → isCall b ≡ false → isMask b ≡ true → given at ≡ Given len
           → ltb (length s - (at + 1)) len ≡ false
           → (p : ℕ) × Met w at' b p × (take len (drop (p + 1) s') ≡ take len (drop (at + 1) s)) × (ltb (length s' - (p + 1)) len ≡ false)
-          × Beside nobody (at + 1 + len) (p + 1 + len)
+          × Beside none (at + 1 + len) (p + 1 + len)
       unfolding encode
       beside-mask b len o n c f g i =
           let bs = take len (drop (at + 1) s) in
@@ -171,7 +172,7 @@ module _ (given : ℕ → MaskLen) (calls : Calls) (s s' : List ℕ) where
           let t = left-op given s octets at (x .old) (x .left) b h o n in
           let u = left-mask given s octets (at + 1) (t .others) (subst (λ (d : Bool). Left given s (at + 1) d (t .others)) f (t .left)) len (ap given a ∙ g) i in
           let q = renumber-op calls w (t .others) (x .new) b c (turned (op b) (t .others) (t .is)) in
-          let v = renumber-mask calls nobody (u .others) (q .0) bs (ap (renumber calls nobody) (sym (u .is)) ∙ q .1) in
+          let v = renumber-mask calls none (u .others) (q .0) bs (ap (renumber calls none) (sym (u .is)) ∙ q .1) in
           let p = catch w at' (op b ∷ q .0) (x .waiting) (x .lies ∙ ap encode (q .2)) in
           let lies : drop (p .0 + 1) s' ≡ bs ++ encode (v .0) = behind s' (p .0) (b ∷ []) (encode (q .0)) (p .2) ∙ ap encode (v .2) in
           let r = ltb-false (length s - (at + 1)) len i in
@@ -193,18 +194,18 @@ module _ (given : ℕ → MaskLen) (calls : Calls) (s s' : List ℕ) where
           )
 
     -- a call: it takes the number that waited, and another one stands in the renumbered body
-    pub beside-call : (operand : (b : ℕ) (z y : ℤ) → calls b z ≡ becomes y → Reading y) (z : ℤ) (at at' : ℕ) → Beside (waits z) at at' → at < length s
+    pub beside-call : (operand : (b : ℕ) (z y : ℤ) → calls b z ≡ some y → Reading y) (z : ℤ) (at at' : ℕ) → Beside (some z) at at' → at < length s
         → (b : ℕ) → Operator s at b → eqb b 12 ≡ false → isCall b ≡ true → isMask b ≡ false
-        → (y : ℤ) × (calls b z ≡ becomes y) × (p : ℕ) × Met (waits y) at' b p × Beside nobody (at + 1) (p + 1)
+        → (y : ℤ) × (calls b z ≡ some y) × (p : ℕ) × Met (some y) at' b p × Beside none (at + 1) (p + 1)
     unfolding encode
     beside-call operand z at at' x h b o n c f =
         let t = left-op given s octets at (x .old) (x .left) b h o n in
-        let q = renumber-call calls z b (t .others) (x .new) c (ap (renumber calls (waits z)) (sym (t .is)) ∙ x .turns) in
-        let p = catch (waits (q .0)) at' (op b ∷ q .1) (operand b z (q .0) (q .2)) (x .lies ∙ ap encode (q .4)) in (
+        let q = renumber-call calls z b (t .others) (x .new) c (ap (renumber calls (some z)) (sym (t .is)) ∙ x .turns) in
+        let p = catch (some (q .0)) at' (op b ∷ q .1) (operand b z (q .0) (q .2)) (x .lies ∙ ap encode (q .4)) in (
           q .0,
           q .2,
           p .0,
-          met (waits (q .0)) at' b (p .0) (encode (q .1)) (operator-at at b o) (p .1) (p .2),
+          met (some (q .0)) at' b (p .0) (encode (q .1)) (operator-at at b o) (p .1) (p .2),
           record {
             old = t .others;
             new = q .1;

@@ -3,18 +3,19 @@
 use Prim.Native.Nat.{ℕ}
 use mathlib.Core.Path.{_≡_}
 use mathlib.Core.List.{List, [], _∷_}
+use mathlib.Core.Option.{some}
 use lib.IntN.{ℤ}
 use lib.ListN.{length, getD}
 use Rattle.octets.specs.Octets.{Octets}
 use Rattle.type2_number.specs.Number.{Reading}
 use Rattle.charstring.specs.declared.MaskLen.{MaskLen}
 use Rattle.charstring.specs.declared.MaskLen.the-variants.{Given}
-use Rattle.unfold.specs.Unfold.{Row, Site, glyph, local, global, entered, masked, Last, last, Target, target, targetOf}
-use Rattle.prune.specs.Renumber.{Operand, becomes, Calls, Bytes, bytes, renumberCharstring}
+use Rattle.unfold.specs.Unfold.{Row, Site, glyph, local, global, masked, targetOf}
+use Rattle.prune.specs.Renumber.{Calls, renumberCharstring}
 
 -- every row of a list is one of those listed
 pub data All (listed : Row → Type 0) : List Row → Type 0 where
-  none : All listed []
+  empty : All listed []
   one : {r : Row} {rs : List Row} → listed r → All listed rs → All listed (r ∷ rs)
 
 -- the font's subroutines and the subset's, for a glyph of FD fd there and fd' here: which rows the record lists, the lengths it gives for a
@@ -24,15 +25,15 @@ pub record Renumbers (globals locals globals' locals' : List (List ℕ)) (fd : �
   -- a mask that is listed has its length given
   pub lengths : (site : Site) (offset len : ℕ) → listed (masked site offset len) → given site offset ≡ Given len
   -- a call that is rewritten calls the new subroutine of the one it called
-  pub localCall : (site : Site) (z y : ℤ) (i : ℕ) → calls site 10 z ≡ becomes y → targetOf (length locals) (last z) ≡ target i
-      → (n : ℕ) × (targetOf (length locals') (last y) ≡ target n) × isLocal i n
-  pub globalCall : (site : Site) (z y : ℤ) (i : ℕ) → calls site 29 z ≡ becomes y → targetOf (length globals) (last z) ≡ target i
-      → (n : ℕ) × (targetOf (length globals') (last y) ≡ target n) × isGlobal i n
+  pub localCall : (site : Site) (z y : ℤ) (i : ℕ) → calls site 10 z ≡ some y → targetOf (length locals) (some z) ≡ some i
+      → (n : ℕ) × (targetOf (length locals') (some y) ≡ some n) × isLocal i n
+  pub globalCall : (site : Site) (z y : ℤ) (i : ℕ) → calls site 29 z ≡ some y → targetOf (length globals) (some z) ≡ some i
+      → (n : ℕ) × (targetOf (length globals') (some y) ≡ some n) × isGlobal i n
   -- its operand is a reading
-  pub operand : (site : Site) (b : ℕ) (z y : ℤ) → calls site b z ≡ becomes y → Reading y
+  pub operand : (site : Site) (b : ℕ) (z y : ℤ) → calls site b z ≡ some y → Reading y
   -- the new subroutine is the old one, renumbered
-  pub localBody : (i n : ℕ) → isLocal i n → renumberCharstring (calls (local fd i)) (given (local fd i)) (getD locals i []) ≡ bytes (getD locals' n [])
-  pub globalBody : (i n : ℕ) → isGlobal i n → renumberCharstring (calls (global i)) (given (global i)) (getD globals i []) ≡ bytes (getD globals' n [])
+  pub localBody : (i n : ℕ) → isLocal i n → renumberCharstring (calls (local fd i)) (given (local fd i)) (getD locals i []) ≡ some (getD locals' n [])
+  pub globalBody : (i n : ℕ) → isGlobal i n → renumberCharstring (calls (global i)) (given (global i)) (getD globals i []) ≡ some (getD globals' n [])
   -- bodies are bytes
   pub localOctets : (i : ℕ) → Octets (getD locals i [])
   pub globalOctets : (i : ℕ) → Octets (getD globals i [])

@@ -4,6 +4,7 @@ use Prim.Native.Nat.{ℕ, zero, suc, _<_}
 use mathlib.Core.Path.{_≡_, refl, sym, ap, subst}
 use mathlib.Core.Bool.{Bool, true, false}
 use mathlib.Core.List.{List, [], _∷_}
+use mathlib.Core.Option.{Option, none, some}
 use native.Mathlib.Omega.{arith}
 use lib.Dec.{eqb}
 use lib.IntN.{ℤ, pos}
@@ -19,8 +20,8 @@ use Rattle.charstring.specs.Encode.{encode}
 use Rattle.charstring.specs.declared.MaskLen.{MaskLen}
 use Rattle.charstring.specs.declared.MaskLen.the-variants.{Own}
 use Rattle.unfold.specs.Unfold.{num, op, Row, Site, glyph, local, global, entered, masked, leave, but, targetOf, operatorAt, stepAt, walk, runBody, plain, unfoldGlyph}
-use Rattle.prune.specs.Renumber.{New, none, new, fails, becomes, Calls, oldOf, operandOf, renumber, bytes, renumberCharstring}
-use Rattle.prune.specs.Bodies.{none as nothing, one, Renumbers}
+use Rattle.prune.specs.Renumber.{Calls, operandOf, renumber, renumberCharstring}
+use Rattle.prune.specs.Bodies.{empty as nothing, one, Renumbers}
 use Rattle.prune.specs.StepLaws.{zero-one}
 use Rattle.prune.specs.OperandLaws.{operand-target, operand-reading}
 use Rattle.prune.specs.Unfolds.{renumbered-unfolds}
@@ -32,11 +33,11 @@ abbrev locals' : List (List ℕ)
 locals' = (0x8c ∷ 0x8d ∷ 0x05 ∷ 0x0b ∷ []) ∷ []
 
 -- the third is the first of one
-abbrev third : ℕ → New
-third i = pick (eqb i 2) (new 0) none
+abbrev third : ℕ → Option ℕ
+third i = pick (eqb i 2) (some 0) none
 
 abbrev calls : Site → Calls
-calls site b z = pick (eqb b 10) (operandOf third (biasOf 3) (biasOf 1) z) fails
+calls site b z = pick (eqb b 10) (operandOf third (biasOf 3) (biasOf 1) z) none
 
 -- the record has one row
 abbrev listed : Row → Type 0
@@ -45,10 +46,10 @@ listed r = r ≡ entered (local 3 2)
 abbrev given : Site → ℕ → MaskLen
 given site offset = Own
 
-only-third : (i n : ℕ) → third i ≡ new n → (i ≡ 2) × (n ≡ 0)
+only-third : (i n : ℕ) → third i ≡ some n → (i ≡ 2) × (n ≡ 0)
 only-third i n e = go (eqb i 2) refl e
   where
-    go : (t : Bool) → eqb i 2 ≡ t → pick t (new 0) none ≡ new n → (i ≡ 2) × (n ≡ 0)
+    go : (t : Bool) → eqb i 2 ≡ t → pick t (some 0) none ≡ some n → (i ≡ 2) × (n ≡ 0)
     go true f h = (eqb-true i 2 f, cc)
     go false f h = absurd (zero-one cc)
 
@@ -83,15 +84,15 @@ octets-local (suc zero) = octets-return
 octets-local (suc (suc zero)) = octets-third
 octets-local (suc (suc (suc i))) = octets-none
 
-third-body : renumberCharstring (calls (local 3 2)) (given (local 3 2)) (getD locals 2 []) ≡ bytes (getD locals' 0 [])
-unfolding renumberCharstring renumber oldOf tokensOf tokensFrom tokenAt numberAt rounded keep24 encode numberBytes integerBytes fixedBytes bytesOf
+third-body : renumberCharstring (calls (local 3 2)) (given (local 3 2)) (getD locals 2 []) ≡ some (getD locals' 0 [])
+unfolding renumberCharstring renumber tokensOf tokensFrom tokenAt numberAt rounded keep24 encode numberBytes integerBytes fixedBytes bytesOf
 third-body = refl
 
-the-glyph : renumberCharstring (calls (glyph 7)) (given (glyph 7)) (0x22 ∷ 0x0a ∷ 0x0e ∷ []) ≡ bytes (0x20 ∷ 0x0a ∷ 0x0e ∷ [])
-unfolding renumberCharstring renumber oldOf tokensOf tokensFrom tokenAt numberAt rounded keep24 encode numberBytes integerBytes fixedBytes bytesOf
+the-glyph : renumberCharstring (calls (glyph 7)) (given (glyph 7)) (0x22 ∷ 0x0a ∷ 0x0e ∷ []) ≡ some (0x20 ∷ 0x0a ∷ 0x0e ∷ [])
+unfolding renumberCharstring renumber tokensOf tokensFrom tokenAt numberAt rounded keep24 encode numberBytes integerBytes fixedBytes bytesOf
 the-glyph = refl
 
-third-renumbers : Renumbers [] locals [] locals' 3 listed given calls (λ i n. third i ≡ new n) (λ i n. ⊥)
+third-renumbers : Renumbers [] locals [] locals' 3 listed given calls (λ i n. third i ≡ some n) (λ i n. ⊥)
 third-renumbers =
     record {
       lengths = λ site offset len h. absurd (no-mask site offset len h);
@@ -104,22 +105,22 @@ third-renumbers =
       globalOctets = λ i. octets-none;
     }
   where
-    below : (i n : ℕ) → third i ≡ new n → n < 1
+    below : (i n : ℕ) → third i ≡ some n → n < 1
     below i n h = let p = only-third i n h in omega (arith, p .1)
 
-    reading : (b : ℕ) (z y : ℤ) → calls (global 0) b z ≡ becomes y → Reading y
+    reading : (b : ℕ) (z y : ℤ) → calls (global 0) b z ≡ some y → Reading y
     reading b z y e = go (eqb b 10) e
       where
-        go : (t : Bool) → pick t (operandOf third (biasOf 3) (biasOf 1) z) fails ≡ becomes y → Reading y
+        go : (t : Bool) → pick t (operandOf third (biasOf 3) (biasOf 1) z) none ≡ some y → Reading y
         go true f = operand-reading third 3 1 below z y f (omega arith)
         go false f = absurd (zero-one cc)
 
-    body : (i n : ℕ) → third i ≡ new n
-        → renumberCharstring (calls (local 3 i)) (given (local 3 i)) (getD locals i []) ≡ bytes (getD locals' n [])
+    body : (i n : ℕ) → third i ≡ some n
+        → renumberCharstring (calls (local 3 i)) (given (local 3 i)) (getD locals i []) ≡ some (getD locals' n [])
     body i n h =
         let p = only-third i n h in
-        subst (λ (j : ℕ). renumberCharstring (calls (local 3 j)) (given (local 3 j)) (getD locals j []) ≡ bytes (getD locals' n [])) (sym (p .0))
-        (subst (λ (m : ℕ). renumberCharstring (calls (local 3 2)) (given (local 3 2)) (getD locals 2 []) ≡ bytes (getD locals' m [])) (sym (p .1)) third-body)
+        subst (λ (j : ℕ). renumberCharstring (calls (local 3 j)) (given (local 3 j)) (getD locals j []) ≡ some (getD locals' n [])) (sym (p .0))
+        (subst (λ (m : ℕ). renumberCharstring (calls (local 3 2)) (given (local 3 2)) (getD locals 2 []) ≡ some (getD locals' m [])) (sym (p .1)) third-body)
 
 before : unfoldGlyph [] locals 3 7 (0x22 ∷ 0x0a ∷ 0x0e ∷ []) ≡ plain (num (pos 65536) ∷ num (pos 131072) ∷ op 5 ∷ op 14 ∷ []) (entered (local 3 2) ∷ [])
 unfolding unfoldGlyph runBody walk stepAt operatorAt leave but targetOf numberAt rounded keep24
@@ -127,5 +128,5 @@ before = refl
 
 after : (rows : List Row) × (unfoldGlyph [] locals' 0 1 (0x20 ∷ 0x0a ∷ 0x0e ∷ []) ≡ plain (num (pos 65536) ∷ num (pos 131072) ∷ op 5 ∷ op 14 ∷ []) rows)
 after =
-    renumbered-unfolds [] locals [] locals' 3 0 7 1 listed given calls (λ i n. third i ≡ new n) (λ i n. ⊥) third-renumbers (0x22 ∷ 0x0a ∷ 0x0e ∷ [])
+    renumbered-unfolds [] locals [] locals' 3 0 7 1 listed given calls (λ i n. third i ≡ some n) (λ i n. ⊥) third-renumbers (0x22 ∷ 0x0a ∷ 0x0e ∷ [])
     (0x20 ∷ 0x0a ∷ 0x0e ∷ []) octets-glyph the-glyph _ _ before (one refl nothing)

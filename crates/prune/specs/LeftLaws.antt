@@ -3,6 +3,7 @@ use Prim.Native.Nat.{ℕ, zero, suc, _+_, _-_, _*_, _≤_, _<_}
 use mathlib.Core.Path.{_≡_, refl, sym, ap, _∙_, subst}
 use mathlib.Core.Bool.{Bool, true, false}
 use mathlib.Core.List.{List, [], _∷_}
+use mathlib.Core.Option.{Option, none, some}
 use native.Mathlib.Omega.{arith}
 use lib.Dec.{ltb, eqb}
 use lib.IntN.{ℤ}
@@ -11,7 +12,7 @@ use borrow.Author.Tests.{lt-ltb}
 use Rattle.octets.specs.Pick.{pick}
 use Rattle.octets.specs.Octets.{Octets}
 use Rattle.type2_number.specs.Number.{Read, operator, number, numberAt}
-use Rattle.charstring.specs.Token.{Tok, num, op, esc, mask, isMask, stemsAfter, maskLen, Lexeme, lost, gotOp, gotEsc, gotMask, maskAt, operatorAt, plainAt, tokenAt, Body, bad, tokens, join, onward, more, tokensFrom, tokensOf, start}
+use Rattle.charstring.specs.Token.{Tok, num, op, esc, mask, isMask, stemsAfter, maskLen, Lexeme, lost, gotOp, gotEsc, gotMask, maskAt, operatorAt, plainAt, tokenAt, join, onward, more, tokensFrom, tokensOf, start}
 use Rattle.charstring.specs.Answers.{Within}
 use Rattle.charstring.specs.TokensLaws.{bit, fuelOf, Fine, Moves, fine, start-within}
 use Rattle.charstring.specs.declared.MaskLen.{MaskLen}
@@ -27,7 +28,7 @@ pub record Left (given : ℕ → MaskLen) (s : List ℕ) (at : ℕ) (due : Bool)
   pub mark : cursor .due ≡ due
   pub within : Within s cursor
   pub enough : fuelOf s cursor ≤ fuel
-  pub rest : tokensFrom fuel given s cursor ≡ tokens ts
+  pub rest : tokensFrom fuel given s cursor ≡ some ts
 
 -- a token and what is left behind it
 pub record Then (given : ℕ → MaskLen) (s : List ℕ) (t : Tok) (at : ℕ) (due : Bool) (ts : List Tok) : Type 0 where
@@ -36,13 +37,13 @@ pub record Then (given : ℕ → MaskLen) (s : List ℕ) (t : Tok) (at : ℕ) (d
   pub left : Left given s at due others
 
 -- a token before the others
-join-tokens : (t : Tok) (x : Body) (ts : List Tok) → join (t ∷ []) x ≡ tokens ts → (us : List Tok) × (x ≡ tokens us) × (ts ≡ t ∷ us)
-join-tokens t bad ts e = absurd (zero-one cc)
-join-tokens t (tokens us) ts e = (us, refl, cc)
+join-tokens : (t : Tok) (x : Option (List Tok)) (ts : List Tok) → join (t ∷ []) x ≡ some ts → (us : List Tok) × (x ≡ some us) × (ts ≡ t ∷ us)
+join-tokens t none ts e = absurd (zero-one cc)
+join-tokens t (some us) ts e = (us, refl, cc)
 
 module _ (given : ℕ → MaskLen) (s : List ℕ) (octets : Octets s) where
   -- a token that was read, by the cursor behind it
-  read : (c d : Cursor) (j : ℕ) (t : Tok) (n : ℕ) (ts : List Tok) → Moves s c d n → fuelOf s c ≤ suc j → join (t ∷ []) (tokensFrom j given s d) ≡ tokens ts
+  read : (c d : Cursor) (j : ℕ) (t : Tok) (n : ℕ) (ts : List Tok) → Moves s c d n → fuelOf s c ≤ suc j → join (t ∷ []) (tokensFrom j given s d) ≡ some ts
       → Then given s t (d .at) (d .due) ts
   read c d j t n ts m h e =
       let p = join-tokens t (tokensFrom j given s d) ts e in
@@ -54,21 +55,21 @@ module _ (given : ℕ → MaskLen) (s : List ℕ) (octets : Octets s) where
 
   -- a step of the reading
   turn : (c : Cursor) (k : ℕ) (q : Lexeme) (ts : List Tok) → Within s c → fuelOf s c ≤ k → 0 < fuelOf s c → more s c ≡ true
-      → tokenAt s (given (c .at - 1)) c ≡ q → tokensFrom k given s c ≡ tokens ts
-      → (j : ℕ) × (fuelOf s c ≤ suc j) × (onward s q (tokensFrom j given s) ≡ tokens ts) × Fine s c q
+      → tokenAt s (given (c .at - 1)) c ≡ q → tokensFrom k given s c ≡ some ts
+      → (j : ℕ) × (fuelOf s c ≤ suc j) × (onward s q (tokensFrom j given s) ≡ some ts) × Fine s c q
   unfolding tokensFrom
   turn c zero q ts w h o m f e = absurd (zero-one (omega arith))
   turn c (suc j) q ts w h o m f e = (
     j,
     h,
     ap (λ (x : Lexeme). onward s x (tokensFrom j given s)) (sym f)
-        ∙ sym (ap (λ (x : Bool). pick x (onward s (tokenAt s (given (c .at - 1)) c) (tokensFrom j given s)) (tokens [])) m) ∙ e,
+        ∙ sym (ap (λ (x : Bool). pick x (onward s (tokenAt s (given (c .at - 1)) c) (tokensFrom j given s)) (some [])) m) ∙ e,
     subst (Fine s c) f (fine s c w octets (given (c .at - 1)) m),
   )
 
   -- at a place where no mask is due
   turn-plain : (at : ℕ) (ts : List Tok) (x : Left given s at false ts) (q : Read) → at < length s → numberAt s at ≡ q
-      → (j : ℕ) × (fuelOf s (x .cursor) ≤ suc j) × (onward s (plainAt s (x .cursor) q) (tokensFrom j given s) ≡ tokens ts) × Fine s (x .cursor) (plainAt s (x .cursor) q)
+      → (j : ℕ) × (fuelOf s (x .cursor) ≤ suc j) × (onward s (plainAt s (x .cursor) q) (tokensFrom j given s) ≡ some ts) × Fine s (x .cursor) (plainAt s (x .cursor) q)
   unfolding tokenAt
   turn-plain at ts x q h f =
       let c = x .cursor in
@@ -90,11 +91,11 @@ module _ (given : ℕ → MaskLen) (s : List ℕ) (octets : Octets s) where
 
   -- at an operator
   turn-operator : (at : ℕ) (ts : List Tok) (x : Left given s at false ts) (b : ℕ) → at < length s → Operator s at b
-      → (j : ℕ) × (fuelOf s (x .cursor) ≤ suc j) × (onward s (operatorAt s (x .cursor) b) (tokensFrom j given s) ≡ tokens ts) × Fine s (x .cursor) (operatorAt s (x .cursor) b)
+      → (j : ℕ) × (fuelOf s (x .cursor) ≤ suc j) × (onward s (operatorAt s (x .cursor) b) (tokensFrom j given s) ≡ some ts) × Fine s (x .cursor) (operatorAt s (x .cursor) b)
   turn-operator at ts x b h o =
       let p = turn-plain at ts x operator h (o .here) in
       let e : getD s (x .cursor .at) 0 ≡ b = ap (λ (n : ℕ). getD s n 0) (x .place) ∙ o .byte in
-      subst (λ (y : ℕ). (j : ℕ) × (fuelOf s (x .cursor) ≤ suc j) × (onward s (operatorAt s (x .cursor) y) (tokensFrom j given s) ≡ tokens ts) × Fine s (x .cursor) (operatorAt s (x .cursor) y)) e p
+      subst (λ (y : ℕ). (j : ℕ) × (fuelOf s (x .cursor) ≤ suc j) × (onward s (operatorAt s (x .cursor) y) (tokensFrom j given s) ≡ some ts) × Fine s (x .cursor) (operatorAt s (x .cursor) y)) e p
 
   pub left-op : (at : ℕ) (ts : List Tok) → Left given s at false ts → (b : ℕ) → at < length s → Operator s at b → eqb b 12 ≡ false
       → Then given s (op b) (at + 1) (isMask b) ts
@@ -138,6 +139,6 @@ module _ (given : ℕ → MaskLen) (s : List ℕ) (octets : Octets s) where
       subst (λ (a : ℕ). Then given s (mask (take len (drop a s))) (a + len) false ts) (x .place)
       (read c d (p .0) (mask (take len (drop (c .at) s))) len ts (p .3 .1) (p .1) (p .2))
 
-  pub left-start : (ts : List Tok) → tokensOf given s ≡ tokens ts → Left given s 0 false ts
+  pub left-start : (ts : List Tok) → tokensOf given s ≡ some ts → Left given s 0 false ts
   unfolding tokensOf
   left-start ts e = record { cursor = start; fuel = 2 * length s; place = refl; mark = refl; within = start-within given s octets; enough = omega arith; rest = e }

@@ -1,4 +1,5 @@
 pub mod Renumber
+pub mod RenumberSteps
 pub mod Bodies
 pub mod StepLaws
 pub mod AlikeLaws

@@ -1,101 +1,53 @@
 -- One charstring or subroutine renumbered (the Rust's renumber_charstring; document 01, 'Corners in write.rs'): a call (10, 29) must follow
 -- a number token directly, integral, whose old subroutine has a new number; the number becomes the new one less the new bias.
-use Prim.Native.Nat.{ℕ, suc, _+_, _-_, _*_, _/_, _%_}
-use mathlib.Core.Bool.{Bool, true, false}
+use Prim.Native.Nat.{ℕ}
+use mathlib.Core.Bool.{Bool, true}
 use mathlib.Core.List.{List, [], _∷_}
-use lib.Dec.{leb, eqb}
-use lib.IntN.{ℤ, pos, negsuc}
+use mathlib.Core.Option.{Option, none, some, Option·map}
+use lib.Dec.{eqb}
+use lib.IntN.{ℤ}
 use Rattle.octets.specs.Pick.{pick}
+use Rattle.octets.specs.Steps.{and}
 use Rattle.type2_number.specs.Number.{whole}
-use Rattle.charstring.specs.Token.{Tok, num, op, esc, mask, Body, bad, tokens, tokensOf}
+use Rattle.charstring.specs.Bias.{numbered}
+use Rattle.charstring.specs.Token.{Tok, num, op, esc, mask, tokensOf}
 use Rattle.charstring.specs.Encode.{encode}
 use Rattle.charstring.specs.declared.MaskLen.{MaskLen}
 
--- the new number of a subroutine, by its old one: none where it was not reached
-pub data New : Type 0 where
-  none : New
-  new : ℕ → New
-
--- what becomes of a call's operand, in 65536ths: the renumbering fails, or the new operand
-pub data Operand : Type 0 where
-  fails : Operand
-  becomes : ℤ → Operand
-
--- the old number that an operand names: whole, and not below 0 with the bias
-pub data Old : Type 0 where
-  nothing : Old
-  old : ℕ → Old
-
-unfoldable pub oldOf : ℕ → ℤ → Old
-oldOf bias (pos n) = pick (eqb (n % 65536) 0) (old (n / 65536 + bias)) nothing
-oldOf bias (negsuc m) = pick (eqb (suc m % 65536) 0) (pick (leb (suc m / 65536) bias) (old (bias - suc m / 65536)) nothing) nothing
-
-abbrev pub newOf : (ℕ → New) → Old → New
-newOf numbers nothing = none
-newOf numbers (old i) = numbers i
-
-abbrev pub operandFor : ℕ → New → Operand
-operandFor bias none = fails
-operandFor bias (new n) = becomes (whole n bias)
-
--- the operand of a call of subroutines with these new numbers, the bias before and after
-abbrev pub operandOf : (ℕ → New) → ℕ → ℕ → ℤ → Operand
-operandOf numbers oldBias newBias z = operandFor newBias (newOf numbers (oldOf oldBias z))
-
--- what becomes of the operand of a call, by the operator
+-- what becomes of the operand of a call, by the operator: none where the renumbering fails
 abbrev pub Calls : Type 0
-Calls = ℕ → ℤ → Operand
+Calls = ℕ → ℤ → Option ℤ
+
+-- the operand of a call of subroutines with these new numbers, none for one that was not reached; the bias before and after
+abbrev pub operandOf : (ℕ → Option ℕ) → ℕ → ℕ → ℤ → Option ℤ
+operandOf numbers oldBias newBias z = Option·map (λ (n : ℕ). whole n newBias) (and (numbered oldBias z) numbers)
 
 abbrev pub isCall : ℕ → Bool
 isCall b = pick (eqb b 10) true (eqb b 29)
 
--- a list of tokens renumbered, or that this fails
-pub data Renumbered : Type 0 where
-  failed : Renumbered
-  done : List Tok → Renumbered
+-- a token before others
+abbrev pub before : Tok → Option (List Tok) → Option (List Tok)
+before t r = Option·map (λ (ts : List Tok). t ∷ ts) r
 
-abbrev pub before : Tok → Renumbered → Renumbered
-before t failed = failed
-before t (done ts) = done (t ∷ ts)
+-- the number token just before, which no call takes
+abbrev pub kept : Option ℤ → Option (List Tok) → Option (List Tok)
+kept none r = r
+kept (some z) r = before (num z) r
 
--- a call with its operand before it
-abbrev pub called : ℕ → Operand → Renumbered → Renumbered
-called b fails r = failed
-called b (becomes z) r = before (num z) (before (op b) r)
+-- a call with its new operand before it; the old one is the number token just before
+abbrev pub called : ℕ → Option ℤ → Option (List Tok) → Option (List Tok)
+called b z r = and z (λ (y : ℤ). before (num y) (before (op b) r))
 
--- the number token just before, which a call can take, or none
-pub data Waiting : Type 0 where
-  nobody : Waiting
-  waits : ℤ → Waiting
+abbrev pub calledAfter : Calls → ℕ → Option ℤ → Option (List Tok) → Option (List Tok)
+calledAfter calls b w r = and w (λ (z : ℤ). called b (calls b z) r)
 
--- the number that waited stays as it was
-abbrev pub kept : Waiting → Renumbered → Renumbered
-kept nobody r = r
-kept (waits z) r = before (num z) r
-
-abbrev pub calledAfter : Calls → ℕ → Waiting → Renumbered → Renumbered
-calledAfter calls b nobody r = failed
-calledAfter calls b (waits z) r = called b (calls b z) r
-
-unfoldable pub renumber : Calls → Waiting → List Tok → Renumbered
-renumber calls w [] = kept w (done [])
-renumber calls w (num z ∷ ts) = kept w (renumber calls (waits z) ts)
-renumber calls w (op b ∷ ts) = pick (isCall b) (calledAfter calls b w (renumber calls nobody ts)) (kept w (before (op b) (renumber calls nobody ts)))
-renumber calls w (esc b ∷ ts) = kept w (before (esc b) (renumber calls nobody ts))
-renumber calls w (mask bs ∷ ts) = kept w (before (mask bs) (renumber calls nobody ts))
+unfoldable pub renumber : Calls → Option ℤ → List Tok → Option (List Tok)
+renumber calls w [] = kept w (some [])
+renumber calls w (num z ∷ ts) = kept w (renumber calls (some z) ts)
+renumber calls w (op b ∷ ts) = pick (isCall b) (calledAfter calls b w (renumber calls none ts)) (kept w (before (op b) (renumber calls none ts)))
+renumber calls w (esc b ∷ ts) = kept w (before (esc b) (renumber calls none ts))
+renumber calls w (mask bs ∷ ts) = kept w (before (mask bs) (renumber calls none ts))
 
 -- a body renumbered: its tokens read with the lengths given for its masks, renumbered, and written
-pub data Bytes : Type 0 where
-  failed : Bytes
-  bytes : List ℕ → Bytes
-
-abbrev pub writtenBack : Renumbered → Bytes
-writtenBack failed = failed
-writtenBack (done ts) = bytes (encode ts)
-
-abbrev pub renumberedTokens : Calls → Body → Bytes
-renumberedTokens calls bad = failed
-renumberedTokens calls (tokens ts) = writtenBack (renumber calls nobody ts)
-
-unfoldable pub renumberCharstring : Calls → (ℕ → MaskLen) → List ℕ → Bytes
-renumberCharstring calls given code = renumberedTokens calls (tokensOf given code)
+unfoldable pub renumberCharstring : Calls → (ℕ → MaskLen) → List ℕ → Option (List ℕ)
+renumberCharstring calls given code = and (tokensOf given code) (λ (ts : List Tok). Option·map encode (renumber calls none ts))

@@ -1,11 +1,13 @@
 -- Subroutines that stay as they are, where the record lists them: a walk goes the same way over them. For stubbed and copied subroutines.
+use lib.IntN.{ℤ}
 use Prim.Native.Nat.{ℕ, zero, suc, _+_}
 use mathlib.Core.Path.{_≡_, refl, sym, ap, _∙_, subst}
 use mathlib.Core.Bool.{true}
 use mathlib.Core.List.{List, [], _∷_, _++_}
+use mathlib.Core.Option.{Option, none, some}
 use lib.Dec.{ltb}
 use lib.ListN.{length, getD}
-use Rattle.unfold.specs.Unfold.{op, Row, Site, local, global, entered, isGlyph, State, Run, broken, returned, ended, Last, none, last, calling, targetOf, after, masked, walk, runBody}
+use Rattle.unfold.specs.Unfold.{op, Row, Site, local, global, entered, isGlyph, State, Run, broken, returned, ended, calling, targetOf, after, masked, walk, runBody}
 use Rattle.prune.specs.Bodies.{All}
 use Rattle.prune.specs.StepLaws.{leaving, maskNow, Step, reads, callsLocal, callsGlobal, returns, ends, escapes, masks, clears, walk-was, walk-goes}
 use Rattle.prune.specs.AlikeLaws.{rowed, Listed, Alike, Follows, unbroken, all-front, all-last, follows-after}
@@ -27,10 +29,10 @@ module _ (globals locals globals' locals' : List (List ℕ)) (fd fd' : ℕ) (lis
   module _ (enter enter' : Site → List ℕ → State → Run) (enters : Enters enter enter') (site site' : Site) (kind : isGlyph site' ≡ isGlyph site) (s : List ℕ) where
     abbrev Walks : ℕ → Type 0
     Walks k =
-        (at : ℕ) (l : Last) (st : State) (r : Run) → walk globals locals fd enter k site s at l st ≡ r → Listed listed r
+        (at : ℕ) (l : Option ℤ) (st : State) (r : Run) → walk globals locals fd enter k site s at l st ≡ r → Listed listed r
         → Follows listed (st .met) r (λ rows. walk globals' locals' fd' enter' k site' s at l (rowed rows st))
 
-    module _ (k : ℕ) (next : Walks k) (at : ℕ) (inside : ltb at (length s) ≡ true) (l : Last) (st : State) (r : Run) (h : Listed listed r) where
+    module _ (k : ℕ) (next : Walks k) (at : ℕ) (inside : ltb at (length s) ≡ true) (l : Option ℤ) (st : State) (r : Run) (h : Listed listed r) where
       goes-as : (rows : List Row) (x : Run) → Step globals' locals' fd' enter' k site' s at l (rowed rows st) x → Alike r x
           → Alike r (walk globals' locals' fd' enter' (suc k) site' s at l (rowed rows st))
       goes-as rows x t a = subst (Alike r) (sym (walk-goes globals' locals' fd' enter' k site' s at l (rowed rows st) x inside t)) a
@@ -55,7 +57,7 @@ module _ (globals locals globals' locals' : List (List ℕ)) (fd fd' : ℕ) (lis
       same-step : Step globals locals fd enter k site s at l st r
           → Follows listed (st .met) r (λ rows. walk globals' locals' fd' enter' (suc k) site' s at l (rowed rows st))
       same-step (reads z n f a b e) =
-          let p = next n (last z) _ r e h in
+          let p = next n (some z) _ r e h in
           record { before = p .before; alike = λ rows. goes-as rows _ (reads z n f a b refl) (p .alike rows) }
       same-step (callsLocal i o f e) =
           same-call (local fd i) (local fd' i) (getD locals i []) (getD locals' i []) refl (same .local-body i) e
@@ -110,7 +112,7 @@ module _ (globals locals : List (List ℕ)) (fd : ℕ) (listed : Row → Type 0)
   -- walks that end with listed rows start with listed rows
   abbrev pub Backs : (Site → List ℕ → State → Run) → Type 0
   Backs enter =
-      (k : ℕ) (site : Site) (s : List ℕ) (at : ℕ) (l : Last) (st : State) (r : Run) → walk globals locals fd enter k site s at l st ≡ r → Listed listed r → All listed (st .met)
+      (k : ℕ) (site : Site) (s : List ℕ) (at : ℕ) (l : Option ℤ) (st : State) (r : Run) → walk globals locals fd enter k site s at l st ≡ r → Listed listed r → All listed (st .met)
 
   pub backs-none : Backs (λ t b x. broken)
   backs-none k site s at l st r e h =

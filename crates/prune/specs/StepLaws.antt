@@ -3,6 +3,7 @@ use Prim.Native.Nat.{ℕ, suc, _+_, _-_, _/_}
 use mathlib.Core.Path.{_≡_, refl, sym, ap, _∙_, subst}
 use mathlib.Core.Bool.{Bool, true, false}
 use mathlib.Core.List.{List, [], _∷_, _++_}
+use mathlib.Core.Option.{Option, none, some}
 use native.Mathlib.Omega.{arith}
 use lib.Dec.{ltb, eqb}
 use lib.IntN.{ℤ}
@@ -11,7 +12,7 @@ use borrow.Author.Tests.{eqb-true}
 use Rattle.octets.specs.Pick.{pick}
 use Rattle.type2_number.specs.Number.{Read, cut, operator, number as aNumber, numberAt}
 use Rattle.charstring.specs.Token.{isMask}
-use Rattle.unfold.specs.Unfold.{Tok, num, op, esc, mask, Site, local, global, masked, isGlyph, State, Run, broken, returned, ended, Last, none, last, leave, calling, Target, nowhere, target, targetOf, after, isStem, isPath, meeting, callTo, stemAt, maskAt, escapeAt, operatorAt, stepAt, walk}
+use Rattle.unfold.specs.Unfold.{Tok, num, op, esc, mask, Site, local, global, masked, isGlyph, State, Run, broken, returned, ended, leave, calling, targetOf, after, isStem, isPath, meeting, callTo, stemAt, maskAt, escapeAt, operatorAt, stepAt, walk}
 
 -- two constructors that would be equal
 pub zero-one : _≡_ {A = ℕ} 0 1 → ⊥
@@ -65,15 +66,15 @@ choose : {P : Type 0} (t : Bool) (a b r : Run) → pick t a b ≡ r → (t ≡ t
 choose true a b r e f g = f refl e
 choose false a b r e f g = g refl e
 
-module _ (globals locals : List (List ℕ)) (fd : ℕ) (enter : Site → List ℕ → State → Run) (on : ℕ → Last → State → Run)
-    (site : Site) (s : List ℕ) (at : ℕ) (l : Last) (st : State) where
+module _ (globals locals : List (List ℕ)) (fd : ℕ) (enter : Site → List ℕ → State → Run) (on : ℕ → Option ℤ → State → Run)
+    (site : Site) (s : List ℕ) (at : ℕ) (l : Option ℤ) (st : State) where
   -- the cases of a step that is not broken, and what it comes to
   pub data Stepped (r : Run) : Type 0 where
     reads : (z : ℤ) (n : ℕ) → numberAt s at ≡ aNumber z n → ltb (st .args) 48 ≡ true → ltb (st .spent) 65536 ≡ true
-        → on n (last z) (leaving (num z) (st .args + 1) (st .stems) st) ≡ r → Stepped r
-    callsLocal : (i : ℕ) → Operator s at 10 → targetOf (length locals) l ≡ target i
+        → on n (some z) (leaving (num z) (st .args + 1) (st .stems) st) ≡ r → Stepped r
+    callsLocal : (i : ℕ) → Operator s at 10 → targetOf (length locals) l ≡ some i
         → after (enter (local fd i) (getD locals i []) (calling (local fd i) st)) (on (at + 1) none) ≡ r → Stepped r
-    callsGlobal : (i : ℕ) → Operator s at 29 → targetOf (length globals) l ≡ target i
+    callsGlobal : (i : ℕ) → Operator s at 29 → targetOf (length globals) l ≡ some i
         → after (enter (global i) (getD globals i []) (calling (global i) st)) (on (at + 1) none) ≡ r → Stepped r
     returns : Operator s at 11 → isGlyph site ≡ false → returned st ≡ r → Stepped r
     ends : Operator s at 14 → ltb 1 (st .args) ≡ false → ltb (st .spent) 65536 ≡ true → ended (leaving (op 14) 0 (st .stems) st) ≡ r → Stepped r
@@ -99,15 +100,15 @@ module _ (globals locals : List (List ℕ)) (fd : ℕ) (enter : Site → List �
   unfolding leave
   left t args stems x go r u e = taken (ltb (x .spent) 65536) _ r u e
 
-  called-local : (o : Operator s at 10) (q : Target) → targetOf (length locals) l ≡ q → (r : Run) → Unbroken r
+  called-local : (o : Operator s at 10) (q : Option ℕ) → targetOf (length locals) l ≡ q → (r : Run) → Unbroken r
       → callTo enter on (local fd) locals (at + 1) st q ≡ r → Stepped r
-  called-local o nowhere f r u e = absurd (subst Unbroken (sym e) u)
-  called-local o (target i) f r u e = callsLocal i o f e
+  called-local o none f r u e = absurd (subst Unbroken (sym e) u)
+  called-local o (some i) f r u e = callsLocal i o f e
 
-  called-global : (o : Operator s at 29) (q : Target) → targetOf (length globals) l ≡ q → (r : Run) → Unbroken r
+  called-global : (o : Operator s at 29) (q : Option ℕ) → targetOf (length globals) l ≡ q → (r : Run) → Unbroken r
       → callTo enter on global globals (at + 1) st q ≡ r → Stepped r
-  called-global o nowhere f r u e = absurd (subst Unbroken (sym e) u)
-  called-global o (target i) f r u e = callsGlobal i o f e
+  called-global o none f r u e = absurd (subst Unbroken (sym e) u)
+  called-global o (some i) f r u e = callsGlobal i o f e
 
   escaped : Operator s at 12 → (r : Run) → Unbroken r → escapeAt on s at st ≡ r → Stepped r
   escaped o r u e =
@@ -155,7 +156,7 @@ module _ (globals locals : List (List ℕ)) (fd : ℕ) (enter : Site → List �
   step-was cut f r u e = absurd (subst Unbroken (sym e) u)
   step-was (aNumber z n) f r u e =
       let p = taken (ltb (st .args) 48) _ r u e in
-      let w = left (num z) (st .args + 1) (st .stems) st (on n (last z)) r u (p .1) in
+      let w = left (num z) (st .args + 1) (st .stems) st (on n (some z)) r u (p .1) in
       reads z n f (p .0) (w .0) (w .1)
   step-was operator f r u e = operator-was (getD s at 0) (record { here = f; byte = refl }) r u e
 
@@ -182,7 +183,7 @@ module _ (globals locals : List (List ℕ)) (fd : ℕ) (enter : Site → List �
   step-taken : (r : Run) → Stepped r → stepAt globals locals fd enter on site s at l st (numberAt s at) ≡ r
   unfolding stepAt operatorAt
   step-taken r (reads z n f h k e) =
-      ap (stepAt globals locals fd enter on site s at l st) f ∙ rw h (goes (num z) (st .args + 1) (st .stems) st (on n (last z)) k ∙ e)
+      ap (stepAt globals locals fd enter on site s at l st) f ∙ rw h (goes (num z) (st .args + 1) (st .stems) st (on n (some z)) k ∙ e)
   step-taken r (callsLocal i o f e) = at-operator 10 r o (ap (callTo enter on (local fd) locals (at + 1) st) f ∙ e)
   step-taken r (callsGlobal i o f e) = at-operator 29 r o (ap (callTo enter on global globals (at + 1) st) f ∙ e)
   step-taken r (returns o f e) = at-operator 11 r o (rw f e)
@@ -193,7 +194,7 @@ module _ (globals locals : List (List ℕ)) (fd : ℕ) (enter : Site → List �
       (rw (m, h, i) (goes (mask b (take (maskNow st) (drop (at + 1) s))) 0 (stemsNow st) (meeting (masked site at (maskNow st)) st) (on (at + 1 + maskNow st) none) k ∙ e))
   step-taken r (clears b n o c m h k e) = at-clearing b r o c (clear-stems b n m h ∙ goes (op b) 0 n st (on (at + 1) none) k ∙ e)
 
-module _ (globals locals : List (List ℕ)) (fd : ℕ) (enter : Site → List ℕ → State → Run) (k : ℕ) (site : Site) (s : List ℕ) (at : ℕ) (l : Last)
+module _ (globals locals : List (List ℕ)) (fd : ℕ) (enter : Site → List ℕ → State → Run) (k : ℕ) (site : Site) (s : List ℕ) (at : ℕ) (l : Option ℤ)
     (st : State) (r : Run) where
   -- a step of a walk
   abbrev pub Step : Type 0

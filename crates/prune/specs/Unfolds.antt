@@ -3,13 +3,14 @@
 use Prim.Native.Nat.{ℕ}
 use mathlib.Core.Path.{_≡_, refl, sym, ap, _∙_, subst}
 use mathlib.Core.List.{List, [], _∷_}
+use mathlib.Core.Option.{some}
 use lib.ListN.{length, getD}
 use Rattle.unfold.specs.Unfold.{Tok, Row, Site, glyph, local, global, entered, Run, broken, returned, ended, walk, runBody, plain, glyphOf, fresh, unfoldGlyph}
 use Rattle.octets.specs.Octets.{Octets}
 use Rattle.charstring.specs.Token.{tokensFrom, tokensOf}
 use Rattle.charstring.specs.Encode.{encode}
 use Rattle.charstring.specs.declared.MaskLen.{MaskLen}
-use Rattle.prune.specs.Renumber.{Calls, renumber, bytes, renumberCharstring}
+use Rattle.prune.specs.Renumber.{Calls, renumber, renumberCharstring}
 use Rattle.prune.specs.Bodies.{All, Renumbers}
 use Rattle.prune.specs.StepLaws.{zero-one}
 use Rattle.prune.specs.AlikeLaws.{Listed, Alike}
@@ -34,7 +35,7 @@ unfolding unfoldGlyph runBody walk
 run-glyph globals locals fd g [] ts rows e = absurd (zero-one cc)
 run-glyph globals locals fd g (b ∷ bs) ts rows e = e
 
-renumbered-nothing : (calls : Calls) (given : ℕ → MaskLen) (s' : List ℕ) → renumberCharstring calls given [] ≡ bytes s' → [] ≡ s'
+renumbered-nothing : (calls : Calls) (given : ℕ → MaskLen) (s' : List ℕ) → renumberCharstring calls given [] ≡ some s' → [] ≡ s'
 unfolding renumberCharstring tokensOf tokensFrom renumber encode
 renumbered-nothing calls given s' e = cc
 
@@ -56,7 +57,7 @@ same-unfolds globals locals globals' locals' fd fd' g g' listed ll gl lb gb (b �
 -- THE THEOREM for renumbered charstrings and subroutines
 pub renumbered-unfolds : (globals locals globals' locals' : List (List ℕ)) (fd fd' g g' : ℕ) (listed : Row → Type 0) (given : Site → ℕ → MaskLen) (calls : Site → Calls)
     (isLocal isGlobal : ℕ → ℕ → Type 0) → Renumbers globals locals globals' locals' fd listed given calls isLocal isGlobal
-    → (s s' : List ℕ) → Octets s → renumberCharstring (calls (glyph g)) (given (glyph g)) s ≡ bytes s'
+    → (s s' : List ℕ) → Octets s → renumberCharstring (calls (glyph g)) (given (glyph g)) s ≡ some s'
     → (ts : List Tok) (rows : List Row) → unfoldGlyph globals locals fd g s ≡ plain ts rows → All listed rows
     → (rows' : List Row) × (unfoldGlyph globals' locals' fd' g' s' ≡ plain ts rows')
 unfolding unfoldGlyph

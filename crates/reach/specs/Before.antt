@@ -3,22 +3,22 @@ use Prim.Native.Nat.{ℕ, _+_, _-_, _<_}
 use mathlib.Core.Path.{_≡_, refl, sym, ap, _∙_}
 use mathlib.Core.Bool.{Bool, true, false}
 use mathlib.Core.List.{List}
+use mathlib.Core.Option.{Option, none, some}
 use native.Mathlib.Omega.{arith}
 use borrow.Author.Tests.{ne-eqb}
 use lib.Dec.{eqb}
 use lib.ListN.{take, drop, getD}
 use lib.Seq.{getD-drop, getD-take}
 use Rattle.octets.specs.Pick.{pick}
-use Rattle.prune.specs.Renumber.{New, none, new}
 use Rattle.bits.specs.Bits.{countBelow, wordsFor, bitsOf}
 use Rattle.reach.specs.Reach.{ranksOf, numberIn}
 use Rattle.reach.specs.WordLaws.{ranks-at, number-is}
 
 -- the new number that a word stood for
-abbrev pub numberOf : ℕ → New
-numberOf w = pick (eqb w 0) none (new (w - 1))
+abbrev pub numberOf : ℕ → Option ℕ
+numberOf w = pick (eqb w 0) none (some (w - 1))
 
-number-of : (t : Bool) (n : ℕ) → numberOf (pick t (n + 1) 0) ≡ pick t (new n) none
+number-of : (t : Bool) (n : ℕ) → numberOf (pick t (n + 1) 0) ≡ pick t (some n) none
 number-of true n = let e : n + 1 - 1 ≡ n = omega arith in rw (ne-eqb (n + 1) 0 (λ z. omega arith), e)
 number-of false n = refl
 

@@ -3,10 +3,10 @@ use Prim.Native.Nat.{ℕ}
 use mathlib.Core.Path.{_≡_, refl, sym}
 use mathlib.Core.Bool.{true, false}
 use mathlib.Core.List.{List, [], _∷_}
+use mathlib.Core.Option.{none, some}
 use native.Mathlib.Omega.{arith}
 use Rattle.octets.specs.Octets.{be, numAt}
 use Rattle.record.specs.Record.{rowsFrom, rowsOf, lists}
-use Rattle.prune.specs.Renumber.{none, new}
 use Rattle.bits.specs.Bits.{countBelow, wordOf, wordsOf, bitsOf}
 use Rattle.reach.specs.Reach.{rises, setOf, ranksOf, numberIn}
 use Rattle.reach.specs.Before.{same-number}
@@ -38,7 +38,7 @@ unfolding ranksOf countBelow lists rowsOf rowsFrom numAt be
 ranks-locals = refl
 
 -- behind two other words the bits give the third the number 0, which its word, a rank plus 1, stood for
-number-third : numberIn (9 ∷ 9 ∷ 4 ∷ []) 2 3 2 ≡ new 0
+number-third : numberIn (9 ∷ 9 ∷ 4 ∷ []) 2 3 2 ≡ some 0
 number-third = same-number (9 ∷ 9 ∷ 4 ∷ []) 2 (9 ∷ 9 ∷ 0 ∷ 0 ∷ 1 ∷ []) 2 3 (setOf (rowsOf three) false 1) (sym bits-locals) (sym ranks-locals) 2 (omega arith)
 
 -- the first is not reached

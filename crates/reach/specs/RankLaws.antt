@@ -5,14 +5,14 @@ use mathlib.Core.Bool.{Bool, true, false}
 use mathlib.Core.List.{List, _++_}
 use native.Mathlib.Omega.{arith}
 use borrow.Author.Tests.{lt-ltb, le-ltb}
-use lib.Dec.{ltb, eqb}
+use lib.Dec.{eqb}
 use lib.ListN.{length, take, drop, getD, replicate, length-replicate, getD-replicate, List·getD-eq-default}
 use lib.Seq.{drop-drop}
 use Rattle.octets.specs.Octets.{Octets, put}
 use Rattle.octets.specs.Pick.{pick}
 use Rattle.unfold.specs.Unfold.{Row}
 use Rattle.record.specs.Record.{rowsOf}
-use Rattle.bits.specs.Bits.{countBelow, wordsFor, bitIn, below, wordsOf, bitsOf, wholeOnes, eighth, four, sumBelow, lowSums, highSums, onesTo}
+use Rattle.bits.specs.Bits.{countBelow, wordsFor, bitIn, below, bitsOf, wholeOnes, eighth, four, sumBelow, lowSums, highSums, onesTo}
 use Rattle.bits.specs.BitsLaws.{whole-is, count-alike}
 use Rattle.bits.specs.WordsLaws.{words-known, words-length, own-bit, none-set}
 use Rattle.subset.specs.Pruned.{reached}

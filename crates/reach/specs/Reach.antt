@@ -2,13 +2,13 @@
 use Prim.Native.Nat.{ℕ, zero, suc, _+_, _-_, _*_, _/_, _<_}
 use mathlib.Core.Bool.{Bool, true, false, _&&_}
 use mathlib.Core.List.{List, [], _∷_}
+use mathlib.Core.Option.{Option, none}
 use lib.Dec.{ltb, eqb}
 use lib.ListN.{length, drop}
 use Rattle.octets.specs.Pick.{pick}
 use Rattle.unfold.specs.Unfold.{Row, glyph, local, global}
 use Rattle.unfold.specs.Unfold as body
 use Rattle.record.specs.Record.{rowOf, rowsFrom, takesFd}
-use Rattle.prune.specs.Renumber.{New, none}
 use Rattle.bits.specs.Bits.{countBelow, bitIn, lowSums, highSums}
 use Rattle.subset.specs.Pruned.{rank, reached, localSet, globalSet}
 use Rattle.reach.specs.declared.Row as code
@@ -53,7 +53,7 @@ rankedOf set count =
     record { reached = countBelow set count; all = eqb (reached set) (countBelow set count); low = lowSums set count; high = highSums set count }
 
 -- the new number of subroutine k of count whose bits stand in the words from at on: how many ones are below its own
-abbrev pub numberIn : List ℕ → ℕ → ℕ → ℕ → New
+abbrev pub numberIn : List ℕ → ℕ → ℕ → ℕ → Option ℕ
 numberIn ws at count k = pick (ltb k count) (rank (bitIn ws at) k) none
 
 -- ---- rows by their number

@@ -1,8 +1,9 @@
 -- Laws of words that hold ranks, plus 1 (those of the FDs in use) or bits, which give each subroutine its new number; a number past the count is in no row.
-use Prim.Native.Nat.{ℕ, zero, suc, _+_, _-_, _≤_, _<_}
+use Prim.Native.Nat.{ℕ, zero, suc, _+_, _≤_, _<_}
 use mathlib.Core.Path.{_≡_, refl, sym, ap, _∙_}
 use mathlib.Core.Bool.{Bool, true, false}
 use mathlib.Core.List.{List, [], _∷_}
+use mathlib.Core.Option.{none, some}
 use native.Mathlib.Nat.{add-zero}
 use native.Mathlib.Omega.{arith}
 use borrow.Author.Tests.{lt-ltb, eqb-true}
@@ -14,7 +15,6 @@ use Rattle.octets.specs.Pick.{pick}
 use Rattle.octets.specs.PickLaws.{not-true}
 use Rattle.octets.specs.PutLaws.{put-length, drop-put-at}
 use Rattle.unfold.specs.Unfold.{Row}
-use Rattle.prune.specs.Renumber.{none, new}
 use Rattle.record.specs.Record.{lists}
 use Rattle.bits.specs.Bits.{countBelow, wordsFor, bitIn, bitsOf}
 use Rattle.bits.specs.BitsLaws.{count-alike}
@@ -59,7 +59,7 @@ pub number-is : (ws : List ℕ) (at count : ℕ) (set : ℕ → Bool) → take (
 number-is ws at count set e k h =
     let n = count-alike (bitIn ws at) set k (λ i l. bit-told ws at count set e i (omega arith)) in
     rw (lt-ltb k count h)
-    (ap (λ (t : Bool). pick t (new (countBelow (bitIn ws at) k)) none) (bit-told ws at count set e k h) ∙ ap (λ (m : ℕ). pick (set k) (new m) none) n)
+    (ap (λ (t : Bool). pick t (some (countBelow (bitIn ws at) k)) none) (bit-told ws at count set e k h) ∙ ap (λ (m : ℕ). pick (set k) (some m) none) n)
 
 -- ---- numbers past the count
 

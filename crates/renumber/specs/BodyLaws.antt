@@ -3,6 +3,7 @@ use Prim.Native.Nat.{ℕ, _+_, _-_, _*_, _≤_}
 use mathlib.Core.Path.{_≡_, refl, sym, ap, _∙_, subst}
 use mathlib.Core.Bool.{Bool, true, false, false≢true}
 use mathlib.Core.List.{List, [], _∷_, _++_, append-assoc, append-nil}
+use mathlib.Core.Option.{Option, none, some}
 use native.Mathlib.Omega.{arith}
 use lib.IntN.{ℤ}
 use lib.ListN.{length, length-append}
@@ -16,7 +17,7 @@ use Rattle.charstring.specs.declared.MaskLen.{MaskLen}
 use Rattle.charstring.specs.declared.Token.{Token}
 use Rattle.charstring.specs.declared.Token.the-variants.{Num, Op, Esc, Mask}
 use Rattle.charstring.specs.declared.Cursor.{Cursor}
-use Rattle.charstring.specs.Token.{Tok, Body, bad, tokens, join, more, tokenAt, tokensFrom, tokensOf, start}
+use Rattle.charstring.specs.Token.{Tok, join, more, tokenAt, tokensFrom, tokensOf, start}
 use Rattle.charstring.specs.Encode.{encode}
 use Rattle.charstring.specs.Answers.{stepOf, told, tokenLen, Writable, givenAt}
 use Rattle.charstring.specs.TokensLaws.{fuelOf, Next}
@@ -24,8 +25,9 @@ use Rattle.charstring.specs.EncodeLaws.{encode-append, Walk, walk-start, walk-n
 use Rattle.unfold.specs.Unfold.{Row, Site}
 use Rattle.record.specs.Record.{givenIn, twoLengths}
 use Rattle.prune.specs.StepLaws.{zero-one}
-use Rattle.prune.specs.Renumber.{becomes, Calls, isCall, Renumbered, failed, done, nobody, renumber, Bytes, bytes, writtenBack, renumberedTokens, renumberCharstring}
-use Rattle.subset.specs.Pruned.{fail, whole, renumberedBody}
+use Rattle.prune.specs.Renumber.{Calls, isCall, renumber, renumberCharstring}
+use Rattle.prune.specs.RenumberSteps.{writtenBack, renumberedTokens}
+use Rattle.subset.specs.Pruned.{renumberedBody}
 use Rattle.renumber.specs.Turn.{waitingIn, HoldsHeld, callTurn, turnOf, after, turnedAt, heldBytes, sentBytes, heldLen, ownLen, sizedOf, bodyOf, isYes}
 use Rattle.renumber.specs.TurnLaws.{ahead, ahead-none, ahead-ahead, heldToks, sentToks, sent-bytes, held-bytes, held-length, sent-length, stuck-sends, sends-same, turn-sends, turn-stuck, Onward, onward-of, failed-of}
 use Rattle.renumber.specs.declared.turns.Held.{Held}
@@ -40,7 +42,7 @@ pub record Turning (calls : Calls) (given : ℕ → MaskLen) (s : List ℕ) (c :
   pub read : List Tok
   pub walk : Walk given s c read
   pub held : HoldsHeld h
-  pub carries : (ts : List Tok) → renumber calls nobody (read ++ ts) ≡ ahead sent (renumber calls (waitingIn h) ts)
+  pub carries : (ts : List Tok) → renumber calls none (read ++ ts) ≡ ahead sent (renumber calls (waitingIn h) ts)
 
 -- the most bytes that a number that is held can take
 abbrev pub heldMost : Held → ℕ
@@ -99,38 +101,38 @@ after-held s (Op b) w = tt
 after-held s (Esc b) w = tt
 after-held s (Mask start len) w = tt
 
-end-held : (calls : Calls) (h : Held) → renumber calls (waitingIn h) [] ≡ done (heldToks h)
+end-held : (calls : Calls) (h : Held) → renumber calls (waitingIn h) [] ≡ some (heldToks h)
 unfolding renumber
 end-held calls Nothing = refl
 end-held calls (Number v) = refl
 
 -- ---- a walk
 
-module _ (calls : Calls) (reads : (b : ℕ) (z y : ℤ) → calls b z ≡ becomes y → Reading y) (given : ℕ → MaskLen) (s : List ℕ) (b : Octets s) where
+module _ (calls : Calls) (reads : (b : ℕ) (z y : ℤ) → calls b z ≡ some y → Reading y) (given : ℕ → MaskLen) (s : List ℕ) (b : Octets s) where
   turning-start : Turning calls given s start Nothing []
-  turning-start = record { read = []; walk = walk-start given s b; held = tt; carries = λ ts. ahead-none (renumber calls nobody ts) }
+  turning-start = record { read = []; walk = walk-start given s b; held = tt; carries = λ ts. ahead-none (renumber calls none ts) }
 
   -- what was written is no longer than the whole
   pub sent-within : (c : Cursor) (h : Held) (sent : List Tok) → Turning calls given s c h sent → (bs : List ℕ)
-      → renumberedTokens calls (tokensOf given s) ≡ bytes bs → length (encode sent) ≤ length bs
+      → renumberedTokens calls (tokensOf given s) ≡ some bs → length (encode sent) ≤ length bs
   sent-within c h sent w bs e = go (tokensFrom (fuelOf s c) given s c) (ap (renumberedTokens calls) (sym (w .walk .rest)) ∙ e)
     where
-      more-written : (r : Renumbered) → writtenBack (ahead sent r) ≡ bytes bs → length (encode sent) ≤ length bs
-      more-written failed f = absurd (zero-one cc)
-      more-written (done us) f =
+      more-written : (r : Option (List Tok)) → writtenBack (ahead sent r) ≡ some bs → length (encode sent) ≤ length bs
+      more-written none f = absurd (zero-one cc)
+      more-written (some us) f =
           let g : encode (sent ++ us) ≡ bs = cc in
           let k : length bs ≡ length (encode sent) + length (encode us) = ap length (sym g) ∙ ap length (encode-append sent us) ∙ length-append (encode sent) (encode us) in
           omega arith
 
-      go : (x : Body) → renumberedTokens calls (join (w .read) x) ≡ bytes bs → length (encode sent) ≤ length bs
-      go bad f = absurd (zero-one cc)
-      go (tokens us) f = more-written (renumber calls (waitingIn h) us) (ap writtenBack (sym (w .carries us)) ∙ f)
+      go : (x : Option (List Tok)) → renumberedTokens calls (join (w .read) x) ≡ some bs → length (encode sent) ≤ length bs
+      go none f = absurd (zero-one cc)
+      go (some us) f = more-written (renumber calls (waitingIn h) us) (ap writtenBack (sym (w .carries us)) ∙ f)
 
   module _ (c : Cursor) (h : Held) (sent : List Tok) (w : Turning calls given s c h sent) where
-    turning-end : more s c ≡ false → renumberedTokens calls (tokensOf given s) ≡ bytes (encode (sent ++ heldToks h))
+    turning-end : more s c ≡ false → renumberedTokens calls (tokensOf given s) ≡ some (encode (sent ++ heldToks h))
     turning-end m =
         ap (renumberedTokens calls) (walk-end given s b c (w .read) (w .walk) m)
-        ∙ ap (λ (ts : List Tok). writtenBack (renumber calls nobody ts)) (sym (append-nil (w .read)))
+        ∙ ap (λ (ts : List Tok). writtenBack (renumber calls none ts)) (sym (append-nil (w .read)))
         ∙ ap writtenBack (w .carries [] ∙ ap (ahead sent) (end-held calls h))
 
     module _ (m : more s c ≡ true) (r : Turned) (e : r ≡ turnedAt calls h (stepOf (tokenAt s (givenAt given c) c))) where
@@ -144,8 +146,8 @@ module _ (calls : Calls) (reads : (b : ℕ) (z y : ℤ) → calls b z ≡ become
       turning-held v t d f = turn-sends calls reads s h t v [] (w .held) (onward v t d f .turn) .1
 
       -- a token and what is left after it
-      after-read : (t : Token) (ts : List Tok) → renumber calls nobody ((w .read ++ (told s t ∷ [])) ++ ts) ≡ ahead sent (renumber calls (waitingIn h) (told s t ∷ ts))
-      after-read t ts = ap (renumber calls nobody) (append-assoc (w .read) (told s t ∷ []) ts) ∙ w .carries (told s t ∷ ts)
+      after-read : (t : Token) (ts : List Tok) → renumber calls none ((w .read ++ (told s t ∷ [])) ++ ts) ≡ ahead sent (renumber calls (waitingIn h) (told s t ∷ ts))
+      after-read t ts = ap (renumber calls none) (append-assoc (w .read) (told s t ∷ []) ts) ∙ w .carries (told s t ∷ ts)
 
       pub turning-turn : (v : Held) (t : Token) (d : Cursor) → r ≡ On v t d → Turning calls given s d (after t) (sent ++ sentToks s v t)
       turning-turn v t d f =
@@ -158,14 +160,14 @@ module _ (calls : Calls) (reads : (b : ℕ) (z y : ℤ) → calls b z ≡ become
                 ∙ ahead-ahead sent (sentToks s v t) (renumber calls (waitingIn (after t)) ts);
           }
 
-      stuck-join : (t : Token) → turnOf calls h t ≡ Stuck → (x : Body) → renumberedTokens calls (join (w .read ++ (told s t ∷ [])) x) ≡ failed
-      stuck-join t k bad = refl
-      stuck-join t k (tokens us) = ap writtenBack (after-read t us ∙ ap (ahead sent) (turn-stuck calls reads s h t us k))
+      stuck-join : (t : Token) → turnOf calls h t ≡ Stuck → (x : Option (List Tok)) → renumberedTokens calls (join (w .read ++ (told s t ∷ [])) x) ≡ none
+      stuck-join t k none = refl
+      stuck-join t k (some us) = ap writtenBack (after-read t us ∙ ap (ahead sent) (turn-stuck calls reads s h t us k))
 
-      turning-failed : r ≡ FailedAt → renumberedTokens calls (tokensOf given s) ≡ failed
+      turning-failed : r ≡ FailedAt → renumberedTokens calls (tokensOf given s) ≡ none
       turning-failed f =
           let st = stepOf (tokenAt s (givenAt given c) c) in
-          failed-of calls h st (renumberedTokens calls (tokensOf given s) ≡ failed) (sym e ∙ f)
+          failed-of calls h st (renumberedTokens calls (tokensOf given s) ≡ none) (sym e ∙ f)
           (λ k. ap (renumberedTokens calls) (walk-cut given s b c (w .read) (w .walk) m st refl k))
           (λ t d k l. ap (renumberedTokens calls) (walk-turn given s b c (w .read) (w .walk) m st refl t d k .rest) ∙ stuck-join t l (tokensFrom (fuelOf s d) given s d))
 
@@ -180,14 +182,14 @@ module _ (calls : Calls) (reads : (b : ℕ) (z y : ℤ) → calls b z ≡ become
     pub sized-room : len + heldLen h ≤ 5 * c .at
     sized-room = let k = held-most h in omega (arith, w .small)
 
-    pub sized-end : more s c ≡ false → (n : ℕ) → n ≡ heldLen h → Len (len + n) ≡ sizedOf (whole (renumberCharstring calls given s))
+    pub sized-end : more s c ≡ false → (n : ℕ) → n ≡ heldLen h → Len (len + n) ≡ sizedOf (renumberCharstring calls given s)
     unfolding renumberCharstring
     sized-end m n g =
         let k : length (encode (w .sent ++ heldToks h)) ≡ length (encode (w .sent)) + length (heldBytes h)
         = ap length (encode-append (w .sent) (heldToks h)) ∙ length-append (encode (w .sent)) (encode (heldToks h))
         ∙ ap (λ (l : List ℕ). length (encode (w .sent)) + length l) (held-bytes h) in
         let l : len + n ≡ length (encode (w .sent ++ heldToks h)) = omega (arith, w .size, held-length h) in
-        ap Len l ∙ ap (λ (x : Bytes). sizedOf (whole x)) (sym (turning-end c h (w .sent) (w .turning) m))
+        ap Len l ∙ ap (λ (x : Option (List ℕ)). sizedOf x) (sym (turning-end c h (w .sent) (w .turning) m))
 
     module _ (m : more s c ≡ true) (r : Turned) (e : r ≡ turnedAt calls h (stepOf (tokenAt s (givenAt given c) c))) where
       pub sizing-turn : (v : Held) (t : Token) (d : Cursor) → r ≡ On v t d → (n : ℕ) → n ≡ heldLen v + ownLen t
@@ -206,9 +208,9 @@ module _ (calls : Calls) (reads : (b : ℕ) (z y : ℤ) → calls b z ≡ become
             small = omega (arith, w .small);
           })
 
-      pub sized-failed : r ≡ FailedAt → Failed ≡ sizedOf (whole (renumberCharstring calls given s))
+      pub sized-failed : r ≡ FailedAt → Failed ≡ sizedOf (renumberCharstring calls given s)
       unfolding renumberCharstring
-      sized-failed f = ap (λ (x : Bytes). sizedOf (whole x)) (sym (turning-failed c h (w .sent) (w .turning) m r e f))
+      sized-failed f = ap (λ (x : Option (List ℕ)). sizedOf x) (sym (turning-failed c h (w .sent) (w .turning) m r e f))
 
   -- ---- writing
 
@@ -218,7 +220,7 @@ module _ (calls : Calls) (reads : (b : ℕ) (z y : ℤ) → calls b z ≡ become
     putting-start c e =
         subst (λ (x : Cursor). Putting calls given s old to x Nothing old to) (sym e) (record { sent = []; turning = turning-start; wrote = wrote-none old to })
 
-    module _ (bs : List ℕ) (y : renumberedTokens calls (tokensOf given s) ≡ bytes bs) (room : to + length bs ≤ length old)
+    module _ (bs : List ℕ) (y : renumberedTokens calls (tokensOf given s) ≡ some bs) (room : to + length bs ≤ length old)
         (c : Cursor) (h : Held) (new : List ℕ) (p : ℕ) (w : Putting calls given s old to c h new p) where
       pub same-length : length new ≡ length old
       same-length = let k = sent-within c h (w .sent) (w .turning) bs y in wrote-length (w .wrote) (omega arith)
@@ -226,7 +228,7 @@ module _ (calls : Calls) (reads : (b : ℕ) (z y : ℤ) → calls b z ≡ become
       -- all that is written at the end
       whole-sent : more s c ≡ false → encode (w .sent) ++ heldBytes h ≡ bs
       whole-sent m =
-          let e : bytes (encode (w .sent ++ heldToks h)) ≡ bytes bs = sym (turning-end c h (w .sent) (w .turning) m) ∙ y in
+          let e : some (encode (w .sent ++ heldToks h)) ≡ some bs = sym (turning-end c h (w .sent) (w .turning) m) ∙ y in
           let f : encode (w .sent ++ heldToks h) ≡ bs = cc in
           ap (λ (l : List ℕ). encode (w .sent) ++ l) (sym (held-bytes h)) ∙ sym (encode-append (w .sent) (heldToks h)) ∙ f
 
@@ -262,26 +264,26 @@ module _ (calls : Calls) (reads : (b : ℕ) (z y : ℤ) → calls b z ≡ become
         pub putting-failed : r ≡ FailedAt → ⊥
         putting-failed f = no-bytes (sym (turning-failed c h (w .sent) (w .turning) m r e f) ∙ y)
           where
-            no-bytes : _≡_ {A = Bytes} failed (bytes bs) → ⊥
+            no-bytes : _≡_ {A = Option (List ℕ)} none (some bs) → ⊥
             no-bytes g = zero-one cc
 
 -- ---- a body with the lengths that a record gives
 
 pub whole-body : (rows : List Row) (calls : Calls) (site : Site) (s : List ℕ) → isYes (renumberedBody rows calls site s) ≡ true
-    → renumberedTokens calls (tokensOf (givenIn rows site) s) ≡ bytes (bodyOf (renumberedBody rows calls site s))
+    → renumberedTokens calls (tokensOf (givenIn rows site) s) ≡ some (bodyOf (renumberedBody rows calls site s))
 unfolding renumberedBody renumberCharstring
 whole-body rows calls site s e = go (twoLengths rows site) (renumberedTokens calls (tokensOf (givenIn rows site) s)) e
   where
-    go : (t : Bool) (x : Bytes) → isYes (pick t fail (whole x)) ≡ true → x ≡ bytes (bodyOf (pick t fail (whole x)))
+    go : (t : Bool) (x : Option (List ℕ)) → isYes (pick t none x) ≡ true → x ≡ some (bodyOf (pick t none x))
     go true x f = absurd (false≢true f)
-    go false failed f = absurd (false≢true f)
-    go false (bytes bs) f = refl
+    go false none f = absurd (false≢true f)
+    go false (some bs) f = refl
 
 pub two-fail : (rows : List Row) (calls : Calls) (site : Site) (s : List ℕ) → twoLengths rows site ≡ true → Failed ≡ sizedOf (renumberedBody rows calls site s)
 unfolding renumberedBody
 two-fail rows calls site s e = rw e
 
 pub one-length : (rows : List Row) (calls : Calls) (site : Site) (s : List ℕ) → twoLengths rows site ≡ false
-    → sizedOf (whole (renumberCharstring calls (givenIn rows site) s)) ≡ sizedOf (renumberedBody rows calls site s)
+    → sizedOf (renumberCharstring calls (givenIn rows site) s) ≡ sizedOf (renumberedBody rows calls site s)
 unfolding renumberedBody
 one-length rows calls site s e = rw e

@@ -2,6 +2,7 @@
 use Prim.Native.Nat.{ℕ, _+_, _≤_}
 use mathlib.Core.Path.{_≡_, refl, sym, ap, _∙_, subst}
 use mathlib.Core.List.{List, _++_}
+use mathlib.Core.Option.{Option}
 use native.Mathlib.Omega.{arith}
 use mathlib.Core.Bool.{Bool, true, false}
 use lib.Dec.{eqb}
@@ -21,7 +22,7 @@ use Rattle.charstring.specs.declared.Step.{Step}
 use Rattle.charstring.specs.declared.Step.the-variants.{Tok as TokAt, Lost}
 use Rattle.charstring.specs.Token.{tokenAt}
 use Rattle.charstring.specs.Answers.{stepOf}
-use Rattle.prune.specs.Renumber.{Operand, Calls, isCall, operandOf}
+use Rattle.prune.specs.Renumber.{Calls, isCall, operandOf}
 use Rattle.renumber.specs.Ranks.{numbersIn, callsBy, Ranked}
 use Rattle.renumber.specs.Turn.{HoldsHeld, turnFor, callTurn, turnOf, turnedBy, turnedAt, heldBytes, ownBytes}
 use Rattle.renumber.specs.declared.Ranks.{Ranks}
@@ -76,7 +77,7 @@ pub called-ranked : (ws : List ℕ) (locals globals : Ranks) → Ranked ws local
     → (q : Ranks) → q ≡ pick (eqb b 10) locals globals → Ranked ws q
 called-ranked ws locals globals l g t b e q f = subst (Ranked ws) (sym f) (pick-ind (Ranked ws) (eqb b 10) locals globals (λ u. l) (λ u. g))
 
-pub call-held : (operand : ℤ → Operand) (h : Held) (v : Float) (r : Turn) → h ≡ Number v → r ≡ turnFor (operand (scaledOf v)) → r ≡ callTurn operand h
+pub call-held : (operand : ℤ → Option ℤ) (h : Held) (v : Float) (r : Turn) → h ≡ Number v → r ≡ turnFor (operand (scaledOf v)) → r ≡ callTurn operand h
 call-held operand h v r e f = f ∙ ap (callTurn operand) (sym e)
 
 module _ (ws : List ℕ) (locals globals : Ranks) (h : Held) (t : Token) where

@@ -2,6 +2,7 @@
 use mathlib.Core.Path.{_≡_, refl}
 use mathlib.Core.Bool.{false}
 use mathlib.Core.List.{List, [], _∷_}
+use mathlib.Core.Option.{Option, none, some}
 use lib.Dec.{eqb}
 use Prim.Native.Nat.{ℕ}
 use Rattle.octets.specs.Octets.{bytesOf}
@@ -10,14 +11,14 @@ use Rattle.type2_number.specs.Encoding.{numberBytes, integerBytes, fixedBytes}
 use Rattle.charstring.specs.Token.{tokenAt, tokensFrom, tokensOf}
 use Rattle.charstring.specs.Encode.{encode}
 use Rattle.charstring.specs.declared.MaskLen.the-variants.{Own}
-use Rattle.prune.specs.Renumber.{oldOf, renumber, Bytes, failed, bytes, renumberCharstring}
+use Rattle.prune.specs.Renumber.{renumber, renumberCharstring}
 use Rattle.bits.specs.Bits.{countBelow}
 use Rattle.renumber.specs.Ranks.{ranksAt, callsBy}
 use Rattle.renumber.specs.Run.{isThree, isFive, threeLen, fiveLen, plainLen, runBytes}
 use Rattle.renumber.specs.declared.turns.Held.the-variants.{Nothing}
 
 -- three local subroutines, the third reached, and no global ones
-abbrev third : List ℕ → Bytes
+abbrev third : List ℕ → Option (List ℕ)
 third code = renumberCharstring (callsBy (4 ∷ []) (ranksAt (λ k. eqb k 2) 0 3) (ranksAt (λ k. false) 1 0)) (λ o. Own) code
 
 -- the sums below the eighths of its one word
@@ -26,13 +27,13 @@ unfolding countBelow
 third-sums = refl
 
 -- document 01, 'Corners in write.rs'
-third-called : third (0x22 ∷ 0x0a ∷ 0x0e ∷ []) ≡ bytes (0x20 ∷ 0x0a ∷ 0x0e ∷ [])
-unfolding countBelow renumberCharstring renumber oldOf tokensOf tokensFrom tokenAt numberAt rounded keep24 encode numberBytes integerBytes fixedBytes bytesOf
+third-called : third (0x22 ∷ 0x0a ∷ 0x0e ∷ []) ≡ some (0x20 ∷ 0x0a ∷ 0x0e ∷ [])
+unfolding countBelow renumberCharstring renumber tokensOf tokensFrom tokenAt numberAt rounded keep24 encode numberBytes integerBytes fixedBytes bytesOf
 third-called = refl
 
 -- a call of the first one, which is not reached, fails
-first-called : third (0x20 ∷ 0x0a ∷ 0x0e ∷ []) ≡ failed
-unfolding countBelow renumberCharstring renumber oldOf tokensOf tokensFrom tokenAt numberAt rounded keep24 encode numberBytes integerBytes fixedBytes bytesOf
+first-called : third (0x20 ∷ 0x0a ∷ 0x0e ∷ []) ≡ none
+unfolding countBelow renumberCharstring renumber tokensOf tokensFrom tokenAt numberAt rounded keep24 encode numberBytes integerBytes fixedBytes bytesOf
 first-called = refl
 
 -- 108 0 rmoveto -105 callsubr hintmask, and the first byte of a number that the end cuts off

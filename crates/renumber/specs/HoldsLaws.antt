@@ -1,24 +1,16 @@
 -- What ranking leaves in the work words: the bits of the subroutines that a record has, where it has no other number.
-use Prim.Native.Nat.{ℕ, _+_, _-_, _≤_, _<_}
-use mathlib.Core.Path.{_≡_, sym, ap, _∙_, subst}
-use mathlib.Core.Bool.{Bool, true, false}
-use mathlib.Core.List.{List, _++_}
+use Prim.Native.Nat.{ℕ, _≤_}
+use mathlib.Core.Path.{_≡_}
+use mathlib.Core.Bool.{false}
+use mathlib.Core.List.{List}
 use native.Mathlib.Omega.{arith}
-use lib.ListN.{length, take, drop}
-use lib.Seq.{length-take-le, take-at, drop-at}
-use borrow.Author.Tests.{eqb-true}
-use Rattle.octets.specs.Octets.{Octets, put}
-use Rattle.octets.specs.PutLaws.{put-length}
+use Rattle.octets.specs.Octets.{Octets}
 use Rattle.record.specs.Record.{rowsOf}
-use Rattle.bits.specs.Bits.{countBelow}
-use Rattle.subset.specs.Pruned.{reached, localSet, globalSet}
-use Rattle.reach.specs.Reach.{ranksOf, rankedOf}
 use Rattle.reach.specs.Ranks.{reachedIn, pastOf}
 use Rattle.reach.specs.RowLaws.{all-fit}
 use Rattle.reach.specs.Cases.{by-number}
-use Rattle.reach.specs.CountLaws.{length-ranks, none-past, some-past}
+use Rattle.reach.specs.CountLaws.{none-past, some-past}
 use Rattle.reach.specs.declared.ranks.Ranked as code
-use Rattle.renumber.specs.RanksLaws.{HoldsRanks}
 
 -- a row's number has two bytes
 pub narrow-set : (b : List ℕ) → Octets b → (kind fd k : ℕ) → 65536 ≤ k → reachedIn (rowsOf b) kind fd k ≡ false

@@ -3,6 +3,7 @@ use Prim.Native.Nat.{ℕ, zero, suc, _+_, _-_, _*_, _/_, _%_, _≤_, _<_}
 use mathlib.Core.Path.{_≡_, refl, sym, ap, _∙_, subst}
 use mathlib.Core.Bool.{Bool, true, false, true≢false, false≢true}
 use mathlib.Core.List.{List}
+use mathlib.Core.Option.{Option, none, some}
 use native.Mathlib.Nat.{div-lt-iff-lt-mul, div-mul-le-self, lt-div-mul-add}
 use native.Mathlib.Omega.{arith}
 use lib.Dec.{ltb, eqb}
@@ -15,10 +16,11 @@ use Rattle.type2_number.specs.Floats.{floatOf}
 use Rattle.bits.specs.Bits.{countBelow, wordsFor, bitIn, below, eighth, sumBelow, lowSums, sumIn}
 use Rattle.bits.specs.BitsLaws.{count-alike}
 use Rattle.bits.specs.SumsLaws.{sum-is}
-use Rattle.charstring.specs.Bias.{biasOf}
+use Rattle.charstring.specs.Bias.{biasOf, numbered}
 use Rattle.subset.specs.RankLaws.{count-below}
 use Rattle.prune.specs.StepLaws.{zero-one}
-use Rattle.prune.specs.Renumber.{New, none, new, Old, nothing, old, oldOf, newOf, operandFor, operandOf, becomes}
+use Rattle.prune.specs.Renumber.{operandOf}
+use Rattle.prune.specs.RenumberSteps.{newOf, operandFor}
 use Rattle.prune.specs.OperandLaws.{operand-reading}
 use Rattle.renumber.specs.Ranks.{rankIn, numberOf, rankAt, newIn, numbersIn, callsBy, Ranked}
 use Rattle.renumber.specs.Turn.{turnFor}
@@ -138,52 +140,48 @@ module _ (ws : List ℕ) (q : Ranks) (good : Ranked ws q) (i : ℕ) (h : i < q .
 -- ---- the subroutine that an operand names, as the code finds it
 
 module _ (bias : ℕ) where
-  fraction : (z : ℤ) → (mag z % 65536 ≡ 0 → ⊥) → 65536 ≡ numberOf (oldOf bias z)
-  unfolding oldOf
+  fraction : (z : ℤ) → (mag z % 65536 ≡ 0 → ⊥) → 65536 ≡ numberOf (numbered bias z)
   fraction (pos m) k = rw (ne-eqb (m % 65536) 0 k)
   fraction (negsuc m) k = rw (ne-eqb (suc m % 65536) 0 k)
 
-  before-first : (z : ℤ) → isNeg z ≡ true → mag z % 65536 ≡ 0 → bias < mag z / 65536 → 65536 ≡ numberOf (oldOf bias z)
-  unfolding oldOf
+  before-first : (z : ℤ) → isNeg z ≡ true → mag z % 65536 ≡ 0 → bias < mag z / 65536 → 65536 ≡ numberOf (numbered bias z)
   before-first (pos m) u k l = absurd (false≢true u)
   before-first (negsuc m) u k l = rw (eq-eqb (suc m % 65536) 0 k, lt-leb (suc m / 65536) bias l)
 
-  down : (z : ℤ) → isNeg z ≡ true → mag z % 65536 ≡ 0 → mag z / 65536 ≤ bias → bias - mag z / 65536 ≡ numberOf (oldOf bias z)
-  unfolding oldOf
+  down : (z : ℤ) → isNeg z ≡ true → mag z % 65536 ≡ 0 → mag z / 65536 ≤ bias → bias - mag z / 65536 ≡ numberOf (numbered bias z)
   down (pos m) u k l = absurd (false≢true u)
   down (negsuc m) u k l = rw (eq-eqb (suc m % 65536) 0 k, le-leb (suc m / 65536) bias l)
 
-  up : (z : ℤ) → isNeg z ≡ false → mag z % 65536 ≡ 0 → mag z / 65536 + bias ≡ numberOf (oldOf bias z)
-  unfolding oldOf
+  up : (z : ℤ) → isNeg z ≡ false → mag z % 65536 ≡ 0 → mag z / 65536 + bias ≡ numberOf (numbered bias z)
   up (pos m) u k = rw (eq-eqb (m % 65536) 0 k)
   up (negsuc m) u k = absurd (true≢false u)
 
   module _ (z : ℤ) (size : ℕ) (g : size ≡ mag z) where
-    pub number-fraction : (size % 65536 ≡ 0 → ⊥) → 65536 ≡ numberOf (oldOf bias z)
+    pub number-fraction : (size % 65536 ≡ 0 → ⊥) → 65536 ≡ numberOf (numbered bias z)
     number-fraction n = fraction z (λ e. n (ap (λ (k : ℕ). k % 65536) g ∙ e))
 
     module _ (neg : Bool) (n : neg ≡ isNeg z) (h : size % 65536 ≡ 0) (added : ℕ) (a : added ≡ bias) where
       even : mag z % 65536 ≡ 0
       even = ap (λ (k : ℕ). k % 65536) (sym g) ∙ h
 
-      pub number-before : neg ≡ true → added < size / 65536 → 65536 ≡ numberOf (oldOf bias z)
+      pub number-before : neg ≡ true → added < size / 65536 → 65536 ≡ numberOf (numbered bias z)
       number-before t l = before-first z (sym n ∙ t) even (subst (λ (k : ℕ). bias < k / 65536) g (subst (λ (k : ℕ). k < size / 65536) a l))
 
-      pub number-down : neg ≡ true → size / 65536 ≤ added → added - size / 65536 ≡ numberOf (oldOf bias z)
+      pub number-down : neg ≡ true → size / 65536 ≤ added → added - size / 65536 ≡ numberOf (numbered bias z)
       number-down t l =
           ap (λ (k : ℕ). k - size / 65536) a ∙ ap (λ (k : ℕ). bias - k / 65536) g
           ∙ down z (sym n ∙ t) even (subst (λ (k : ℕ). k / 65536 ≤ bias) g (subst (λ (k : ℕ). size / 65536 ≤ k) a l))
 
-      pub number-up : neg ≡ false → size / 65536 + added ≡ numberOf (oldOf bias z)
+      pub number-up : neg ≡ false → size / 65536 + added ≡ numberOf (numbered bias z)
       number-up t = ap (λ (k : ℕ). size / 65536 + k) a ∙ ap (λ (k : ℕ). k / 65536 + bias) g ∙ up z (sym n ∙ t) even
 
 -- its rank is that of its number
-pub rank-number : (ws : List ℕ) (q : Ranks) → q .count < 65536 → (o : Old) (i r : ℕ) → i ≡ numberOf o → r ≡ rankIn ws q i → r ≡ rankAt ws q o
+pub rank-number : (ws : List ℕ) (q : Ranks) → q .count < 65536 → (o : Option ℕ) (i r : ℕ) → i ≡ numberOf o → r ≡ rankIn ws q i → r ≡ rankAt ws q o
 rank-number ws q few o i r e f = f ∙ ap (rankIn ws q) e ∙ by o
   where
-    by : (o : Old) → rankIn ws q (numberOf o) ≡ rankAt ws q o
-    by nothing = rw (le-ltb 65536 (q .count) (omega arith))
-    by (old k) = refl
+    by : (o : Option ℕ) → rankIn ws q (numberOf o) ≡ rankAt ws q o
+    by none = rw (le-ltb 65536 (q .count) (omega arith))
+    by (some k) = refl
 
 -- ---- the new number
 
@@ -193,59 +191,59 @@ number-rank ws q i = go (ltb i (q .count)) (bitIn ws (q .at) i)
     n : ℕ
     n = countBelow (bitIn ws (q .at)) i
 
-    go : (t u : Bool) → pick t (pick u (new n) none) none ≡ newIn (pick t (pick u (n + 1) 0) 0)
+    go : (t u : Bool) → pick t (pick u (some n) none) none ≡ newIn (pick t (pick u (n + 1) 0) 0)
     go true true = let e : n + 1 ≡ suc n = omega arith in sym (ap newIn e)
     go true false = refl
     go false u = refl
 
-new-rank : (ws : List ℕ) (q : Ranks) (o : Old) → newOf (numbersIn ws q) o ≡ newIn (rankAt ws q o)
-new-rank ws q nothing = refl
-new-rank ws q (old i) = number-rank ws q i
+new-rank : (ws : List ℕ) (q : Ranks) (o : Option ℕ) → newOf (numbersIn ws q) o ≡ newIn (rankAt ws q o)
+new-rank ws q none = refl
+new-rank ws q (some i) = number-rank ws q i
 
-new-below : (r m n : ℕ) → newIn r ≡ new n → r ≤ m → n < m
+new-below : (r m n : ℕ) → newIn r ≡ some n → r ≤ m → n < m
 new-below zero m n e h = absurd (zero-one cc)
 new-below (suc k) m n e h = let f : k ≡ n = cc in omega arith
 
 module _ (ws : List ℕ) (q : Ranks) (good : Ranked ws q) where
-  pub rank-below : (o : Old) → rankAt ws q o ≤ q .reached
-  rank-below nothing = omega arith
-  rank-below (old i) =
+  pub rank-below : (o : Option ℕ) → rankAt ws q o ≤ q .reached
+  rank-below none = omega arith
+  rank-below (some i) =
       pick-ind (λ (r : ℕ). r ≤ q .reached) (ltb i (q .count)) (pick (bitIn ws (q .at) i) (countBelow (bitIn ws (q .at)) i + 1) 0) 0
       (λ t. pick-ind (λ (r : ℕ). r ≤ q .reached) (bitIn ws (q .at) i) (countBelow (bitIn ws (q .at)) i + 1) 0
       (λ u. let b = count-below (bitIn ws (q .at)) i (q .count) u (ltb-true i (q .count) t) in omega (arith, good .reaches)) (λ u. omega arith))
       (λ t. omega arith)
 
-  pub number-below : (i n : ℕ) → numbersIn ws q i ≡ new n → n < q .reached
-  number-below i n e = new-below (rankIn ws q i) (q .reached) n (sym (number-rank ws q i) ∙ e) (rank-below (old i))
+  pub number-below : (i n : ℕ) → numbersIn ws q i ≡ some n → n < q .reached
+  number-below i n e = new-below (rankIn ws q i) (q .reached) n (sym (number-rank ws q i) ∙ e) (rank-below (some i))
 
-  pub operand-reads : (z y : ℤ) → operandOf (numbersIn ws q) (biasOf (q .count)) (biasOf (q .reached)) z ≡ becomes y → Reading y
+  pub operand-reads : (z y : ℤ) → operandOf (numbersIn ws q) (biasOf (q .count)) (biasOf (q .reached)) z ≡ some y → Reading y
   operand-reads z y e = operand-reading (numbersIn ws q) (q .count) (q .reached) number-below z y e (good .fewReached)
 
-  module _ (z : ℤ) (r : ℕ) (e : r ≡ rankAt ws q (oldOf (biasOf (q .count)) z)) where
-    becomes-by : newOf (numbersIn ws q) (oldOf (biasOf (q .count)) z) ≡ newIn r
-    becomes-by = new-rank ws q (oldOf (biasOf (q .count)) z) ∙ ap newIn (sym e)
+  module _ (z : ℤ) (r : ℕ) (e : r ≡ rankAt ws q (numbered (biasOf (q .count)) z)) where
+    becomes-by : newOf (numbersIn ws q) (numbered (biasOf (q .count)) z) ≡ newIn r
+    becomes-by = new-rank ws q (numbered (biasOf (q .count)) z) ∙ ap newIn (sym e)
 
     pub rank-small : r < 65536
-    rank-small = let k = rank-below (oldOf (biasOf (q .count)) z) in omega (arith, good .fewReached)
+    rank-small = let k = rank-below (numbered (biasOf (q .count)) z) in omega (arith, good .fewReached)
 
     -- no rank: the renumbering fails
     pub operand-stuck : r ≡ 0 → Stuck ≡ turnFor (operandOf (numbersIn ws q) (biasOf (q .count)) (biasOf (q .reached)) z)
-    operand-stuck f = ap (λ (x : New). turnFor (operandFor (biasOf (q .reached)) x)) (sym (becomes-by ∙ ap newIn f))
+    operand-stuck f = ap (λ (x : Option ℕ). turnFor (operandFor (biasOf (q .reached)) x)) (sym (becomes-by ∙ ap newIn f))
 
     -- the rank less 1 is the new number
     pub operand-sends : (r ≡ 0 → ⊥) → (b : ℕ) → b ≡ biasOf (q .reached) → (v : Float) → v ≡ floatOf (rounded (whole (r - 1) b))
         → Sends (Number v) ≡ turnFor (operandOf (numbersIn ws q) (biasOf (q .count)) (biasOf (q .reached)) z)
     operand-sends n b a v f =
         let k : suc (r - 1) ≡ r = omega arith in
-        let g : operandOf (numbersIn ws q) (biasOf (q .count)) (biasOf (q .reached)) z ≡ becomes (whole (r - 1) (biasOf (q .reached)))
+        let g : operandOf (numbersIn ws q) (biasOf (q .count)) (biasOf (q .reached)) z ≡ some (whole (r - 1) (biasOf (q .reached)))
         = ap (operandFor (biasOf (q .reached))) (becomes-by ∙ ap newIn (sym k)) in
         ap (λ (x : Float). Sends (Number x)) (f ∙ ap (λ (k : ℕ). floatOf (rounded (whole (r - 1) k))) a ∙ ap floatOf (operand-reads z (whole (r - 1) (biasOf (q .reached))) g .kept)) ∙ ap turnFor (sym g)
 
 -- the operands of calls are readings
-pub calls-read : (ws : List ℕ) (locals globals : Ranks) → Ranked ws locals → Ranked ws globals → (b : ℕ) (z y : ℤ) → callsBy ws locals globals b z ≡ becomes y → Reading y
+pub calls-read : (ws : List ℕ) (locals globals : Ranks) → Ranked ws locals → Ranked ws globals → (b : ℕ) (z y : ℤ) → callsBy ws locals globals b z ≡ some y → Reading y
 calls-read ws locals globals l g b z y e = go (eqb b 10) e
   where
     go : (t : Bool) → pick t (operandOf (numbersIn ws locals) (biasOf (locals .count)) (biasOf (locals .reached)) z)
-        (operandOf (numbersIn ws globals) (biasOf (globals .count)) (biasOf (globals .reached)) z) ≡ becomes y → Reading y
+        (operandOf (numbersIn ws globals) (biasOf (globals .count)) (biasOf (globals .reached)) z) ≡ some y → Reading y
     go true f = operand-reads ws locals l z y f
     go false f = operand-reads ws globals g z y f

@@ -4,12 +4,13 @@ use Prim.Native.Nat.{ℕ, zero, suc, _+_, _≤_, _<_}
 use mathlib.Core.Path.{_≡_}
 use mathlib.Core.Bool.{Bool}
 use mathlib.Core.List.{List}
+use mathlib.Core.Option.{Option, none, some}
 use lib.Dec.{ltb, eqb}
 use lib.ListN.{length}
 use Rattle.octets.specs.Pick.{pick}
 use Rattle.bits.specs.Bits.{countBelow, wordsFor, bitIn, lowSums, highSums}
 use Rattle.charstring.specs.Bias.{biasOf}
-use Rattle.prune.specs.Renumber.{New, none, new, Old, nothing, old, operandOf, Calls}
+use Rattle.prune.specs.Renumber.{operandOf, Calls}
 use Rattle.reach.specs.Reach.{numberIn}
 use Rattle.renumber.specs.declared.Ranks.{Ranks}
 
@@ -22,22 +23,22 @@ abbrev pub rankIn : List ℕ → Ranks → ℕ → ℕ
 rankIn ws q i = pick (ltb i (q .count)) (pick (bitIn ws (q .at) i) (countBelow (bitIn ws (q .at)) i + 1) 0) 0
 
 -- the number of the subroutine that an operand names: 65536, which none has, where it names none
-abbrev pub numberOf : Old → ℕ
-numberOf nothing = 65536
-numberOf (old i) = i
+abbrev pub numberOf : Option ℕ → ℕ
+numberOf none = 65536
+numberOf (some i) = i
 
 -- the rank of the subroutine that an operand names, plus 1
-abbrev pub rankAt : List ℕ → Ranks → Old → ℕ
-rankAt ws q nothing = 0
-rankAt ws q (old i) = rankIn ws q i
+abbrev pub rankAt : List ℕ → Ranks → Option ℕ → ℕ
+rankAt ws q none = 0
+rankAt ws q (some i) = rankIn ws q i
 
 -- the new number that a rank, plus 1, says: 0 for none
-abbrev pub newIn : ℕ → New
+abbrev pub newIn : ℕ → Option ℕ
 newIn zero = none
-newIn (suc m) = new m
+newIn (suc m) = some m
 
 -- the new numbers of subroutines by their bits in the words
-abbrev pub numbersIn : List ℕ → Ranks → ℕ → New
+abbrev pub numbersIn : List ℕ → Ranks → ℕ → Option ℕ
 numbersIn ws q i = numberIn ws (q .at) (q .count) i
 
 -- what becomes of a call's operand

@@ -3,6 +3,7 @@ use Prim.Native.Nat.{ℕ, _+_, _≤_, _<_}
 use mathlib.Core.Path.{_≡_, refl, sym, ap, _∙_}
 use mathlib.Core.Bool.{Bool, true, false}
 use mathlib.Core.List.{List, [], _∷_}
+use mathlib.Core.Option.{Option, none, some}
 use native.Mathlib.Decide.{decLe}
 use native.Mathlib.Omega.{arith}
 use lib.Dec.{ltb, eqb}
@@ -11,18 +12,19 @@ use lib.ListN.{length, take, drop}
 use borrow.Author.Tests.{ltb-true, ltb-false, le-ltb}
 use Rattle.octets.specs.Pick.{pick}
 use Rattle.charstring.specs.declared.MaskLen.{MaskLen}
-use Rattle.charstring.specs.Token.{Tok, num, op, esc, mask, Body, bad, tokens, tokensOf}
-use Rattle.charstring.specs.Bias.{biasOf}
+use Rattle.charstring.specs.Token.{Tok, num, op, esc, mask, tokensOf}
+use Rattle.charstring.specs.Bias.{biasOf, numbered}
 use Rattle.unfold.specs.Unfold.{Row, Site}
 use Rattle.record.specs.Record.{givenIn, twoLengths}
-use Rattle.prune.specs.Renumber.{none, Old, nothing, old, oldOf, newOf, operandFor, operandOf, Operand, fails, Calls, isCall, Renumbered, before, called, calledAfter, Waiting, nobody, waits, kept, renumber, Bytes, writtenBack, renumberedTokens, renumberCharstring}
+use Rattle.prune.specs.Renumber.{operandOf, Calls, isCall, before, called, calledAfter, kept, renumber, renumberCharstring}
+use Rattle.prune.specs.RenumberSteps.{newOf, operandFor, writtenBack, renumberedTokens}
 use Rattle.cff.specs.Font.{Program}
 use Rattle.subset.specs.Kept.{localsOf}
 use Rattle.bits.specs.Bits.{countBelow, wordsFor, bitIn, below, bitsOf, lowSums, highSums}
 use Rattle.bits.specs.BitsLaws.{count-alike}
 use Rattle.bits.specs.WordsLaws.{bit-told}
 use Rattle.bits.specs.SumsLaws.{below-alike, low-alike, high-alike}
-use Rattle.subset.specs.Pruned.{rank, reached, fail, whole, localSet, globalSet, renumberedBody, callsIn, callsAcross}
+use Rattle.subset.specs.Pruned.{rank, reached, localSet, globalSet, renumberedBody, callsIn, callsAcross}
 use Rattle.subset.specs.RankLaws.{count-few}
 use Rattle.reach.specs.CountLaws.{count-more}
 use Rattle.reach.specs.WordLaws.{number-is}
@@ -96,42 +98,42 @@ module _ (ws : List ℕ) (q : Ranks) (set : ℕ → Bool) (h : HoldsRanks ws q s
   operand-rank count e z =
       let f : biasOf (q .reached) ≡ biasOf (reached set) = ap biasOf reached-is in
       let g : biasOf (q .count) ≡ biasOf count = ap biasOf e in
-      ap (operandFor (biasOf (q .reached))) (go (oldOf (biasOf (q .count)) z))
-      ∙ ap (λ (b : ℕ). operandFor b (newOf (rank set) (oldOf (biasOf (q .count)) z))) f
-      ∙ ap (λ (b : ℕ). operandFor (biasOf (reached set)) (newOf (rank set) (oldOf b z))) g
+      ap (operandFor (biasOf (q .reached))) (go (numbered (biasOf (q .count)) z))
+      ∙ ap (λ (b : ℕ). operandFor b (newOf (rank set) (numbered (biasOf (q .count)) z))) f
+      ∙ ap (λ (b : ℕ). operandFor (biasOf (reached set)) (newOf (rank set) (numbered b z))) g
     where
-      go : (o : Old) → newOf (numbersIn ws q) o ≡ newOf (rank set) o
-      go nothing = refl
-      go (old i) = numbers-rank i
+      go : (o : Option ℕ) → newOf (numbersIn ws q) o ≡ newOf (rank set) o
+      go none = refl
+      go (some i) = numbers-rank i
 
 -- ---- calls that become alike renumber alike
 
 module _ (calls calls' : Calls) (same : (b : ℕ) (z : ℤ) → calls b z ≡ calls' b z) where
-  called-alike : (b : ℕ) (w : Waiting) (r : Renumbered) → calledAfter calls b w r ≡ calledAfter calls' b w r
-  called-alike b nobody r = refl
-  called-alike b (waits z) r = ap (λ (o : Operand). called b o r) (same b z)
+  called-alike : (b : ℕ) (w : Option ℤ) (r : Option (List Tok)) → calledAfter calls b w r ≡ calledAfter calls' b w r
+  called-alike b none r = refl
+  called-alike b (some z) r = ap (λ (o : Option ℤ). called b o r) (same b z)
 
-  renumber-alike : (w : Waiting) (ts : List Tok) → renumber calls w ts ≡ renumber calls' w ts
+  renumber-alike : (w : Option ℤ) (ts : List Tok) → renumber calls w ts ≡ renumber calls' w ts
   unfolding renumber
   renumber-alike w [] = refl
-  renumber-alike w (num z ∷ ts) = ap (kept w) (renumber-alike (waits z) ts)
+  renumber-alike w (num z ∷ ts) = ap (kept w) (renumber-alike (some z) ts)
   renumber-alike w (op b ∷ ts) =
-      ap (λ (r : Renumbered). pick (isCall b) (calledAfter calls b w r) (kept w (before (op b) r))) (renumber-alike nobody ts)
-      ∙ ap (λ (r : Renumbered). pick (isCall b) r (kept w (before (op b) (renumber calls' nobody ts)))) (called-alike b w (renumber calls' nobody ts))
-  renumber-alike w (esc b ∷ ts) = ap (λ (r : Renumbered). kept w (before (esc b) r)) (renumber-alike nobody ts)
-  renumber-alike w (mask bs ∷ ts) = ap (λ (r : Renumbered). kept w (before (mask bs) r)) (renumber-alike nobody ts)
+      ap (λ (r : Option (List Tok)). pick (isCall b) (calledAfter calls b w r) (kept w (before (op b) r))) (renumber-alike none ts)
+      ∙ ap (λ (r : Option (List Tok)). pick (isCall b) r (kept w (before (op b) (renumber calls' none ts)))) (called-alike b w (renumber calls' none ts))
+  renumber-alike w (esc b ∷ ts) = ap (λ (r : Option (List Tok)). kept w (before (esc b) r)) (renumber-alike none ts)
+  renumber-alike w (mask bs ∷ ts) = ap (λ (r : Option (List Tok)). kept w (before (mask bs) r)) (renumber-alike none ts)
 
   pub charstring-alike : (given : ℕ → MaskLen) (code : List ℕ) → renumberCharstring calls given code ≡ renumberCharstring calls' given code
   unfolding renumberCharstring
   charstring-alike given code = go (tokensOf given code)
     where
-      go : (x : Body) → renumberedTokens calls x ≡ renumberedTokens calls' x
-      go bad = refl
-      go (tokens ts) = ap writtenBack (renumber-alike nobody ts)
+      go : (x : Option (List Tok)) → renumberedTokens calls x ≡ renumberedTokens calls' x
+      go none = refl
+      go (some ts) = ap writtenBack (renumber-alike none ts)
 
   pub body-alike : (rows : List Row) (site : Site) (s : List ℕ) → renumberedBody rows calls site s ≡ renumberedBody rows calls' site s
   unfolding renumberedBody
-  body-alike rows site s = ap (λ (x : Bytes). pick (twoLengths rows site) fail (whole x)) (charstring-alike (givenIn rows site) s)
+  body-alike rows site s = ap (λ (x : Option (List ℕ)). pick (twoLengths rows site) none x) (charstring-alike (givenIn rows site) s)
 
 -- ---- a font's calls
 
@@ -155,21 +157,21 @@ module _ (p : Program) (rows : List Row) (ws : List ℕ) (locals globals : Ranks
   renumbered-in f l m given code = charstring-alike (callsBy ws locals globals) (callsIn p rows f) (calls-in f l m) given code
 
   -- with no local subroutines, a call of one fails
-  no-numbers : locals .count ≡ 0 → (z : ℤ) → operandOf (numbersIn ws locals) (biasOf (locals .count)) (biasOf (locals .reached)) z ≡ fails
-  no-numbers e z = ap (operandFor (biasOf (locals .reached))) (go (oldOf (biasOf (locals .count)) z))
+  no-numbers : locals .count ≡ 0 → (z : ℤ) → operandOf (numbersIn ws locals) (biasOf (locals .count)) (biasOf (locals .reached)) z ≡ none
+  no-numbers e z = ap (operandFor (biasOf (locals .reached))) (go (numbered (biasOf (locals .count)) z))
     where
-      go : (o : Old) → newOf (numbersIn ws locals) o ≡ none
-      go nothing = refl
-      go (old i) = rw (le-ltb i (locals .count) (omega arith))
+      go : (o : Option ℕ) → newOf (numbersIn ws locals) o ≡ none
+      go none = refl
+      go (some i) = rw (le-ltb i (locals .count) (omega arith))
 
   none-local : locals .count ≡ 0 → (b : ℕ) (z : ℤ)
-      → callsBy ws locals globals b z ≡ pick (eqb b 10) fails (operandOf (rank (globalSet rows)) (biasOf (length (p .globals))) (biasOf (reached (globalSet rows))) z)
+      → callsBy ws locals globals b z ≡ pick (eqb b 10) none (operandOf (rank (globalSet rows)) (biasOf (length (p .globals))) (biasOf (reached (globalSet rows))) z)
   none-local e b z = go (eqb b 10)
     where
       go : (t : Bool)
           → pick t (operandOf (numbersIn ws locals) (biasOf (locals .count)) (biasOf (locals .reached)) z)
           (operandOf (numbersIn ws globals) (biasOf (globals .count)) (biasOf (globals .reached)) z)
-          ≡ pick t fails (operandOf (rank (globalSet rows)) (biasOf (length (p .globals))) (biasOf (reached (globalSet rows))) z)
+          ≡ pick t none (operandOf (rank (globalSet rows)) (biasOf (length (p .globals))) (biasOf (reached (globalSet rows))) z)
       go true = no-numbers e z
       go false = operand-rank ws globals (globalSet rows) g (length (p .globals)) n z
 

@@ -4,6 +4,7 @@ use Prim.Native.Nat.{ℕ, _+_, _-_, _*_, _≤_, _<_}
 use mathlib.Core.Path.{_≡_}
 use mathlib.Core.Bool.{Bool, true, false, not}
 use mathlib.Core.List.{List, _++_}
+use mathlib.Core.Option.{some}
 use lib.Dec.{ltb, eqb}
 use lib.IntN.{ℤ}
 use lib.ListN.{length, take, drop, getD}
@@ -14,7 +15,7 @@ use Rattle.charstring.specs.declared.MaskLen.{MaskLen}
 use Rattle.charstring.specs.declared.Cursor.{Cursor}
 use Rattle.charstring.specs.Token.{Tok}
 use Rattle.charstring.specs.Encode.{encode}
-use Rattle.prune.specs.Renumber.{Calls, becomes}
+use Rattle.prune.specs.Renumber.{Calls}
 use Rattle.renumber.specs.Turn.{cursor, heldBytes}
 use Rattle.renumber.specs.BodyLaws.{Turning}
 use Rattle.renumber.specs.declared.runs.Run.{Run}
@@ -79,7 +80,7 @@ pub record Standing (calls : Calls) (given : ℕ → MaskLen) (s : List ℕ) (c 
 
 -- any walk that stands at c, holding h, comes to d, holding g, and writes these bytes on the way
 pub record Passes (s : List ℕ) (c : Cursor) (h : Held) (d : Cursor) (g : Held) (bs : List ℕ) : Type 0 where
-  pub goes : (calls : Calls) → ((b : ℕ) (z y : ℤ) → calls b z ≡ becomes y → Reading y) → (given : ℕ → MaskLen) (pre : List ℕ)
+  pub goes : (calls : Calls) → ((b : ℕ) (z y : ℤ) → calls b z ≡ some y → Reading y) → (given : ℕ → MaskLen) (pre : List ℕ)
       → Standing calls given s c h pre → Standing calls given s d g (pre ++ bs)
 
 -- what a run from a cursor on is: where it goes on at all, the number that was held and the bytes up to its last number are written

@@ -3,6 +3,7 @@ use Prim.Native.Nat.{ℕ, _+_, _-_, _*_, _≤_, _<_}
 use mathlib.Core.Path.{_≡_, refl, sym, ap, _∙_, subst}
 use mathlib.Core.Bool.{false}
 use mathlib.Core.List.{List, _++_}
+use mathlib.Core.Option.{some}
 use native.Mathlib.Omega.{arith}
 use lib.Dec.{ltb}
 use lib.IntN.{ℤ}
@@ -18,7 +19,8 @@ use Rattle.charstring.specs.declared.Cursor.{Cursor}
 use Rattle.charstring.specs.Token.{Tok, tokensOf}
 use Rattle.charstring.specs.Encode.{encode}
 use Rattle.charstring.specs.TokensLaws.{fuelOf}
-use Rattle.prune.specs.Renumber.{becomes, Calls, bytes, renumberedTokens}
+use Rattle.prune.specs.Renumber.{Calls}
+use Rattle.prune.specs.RenumberSteps.{renumberedTokens}
 use Rattle.renumber.specs.Turn.{cursor, heldBytes, heldLen}
 use Rattle.renumber.specs.TurnLaws.{held-length}
 use Rattle.renumber.specs.BodyLaws.{Turning, heldMost, Sizing, Putting, held-most, sent-within, same-length}
@@ -48,7 +50,7 @@ most-in s last at =
     five Nothing = omega arith
     five (Number v) = omega arith
 
-module _ (calls : Calls) (reads : (b : ℕ) (z y : ℤ) → calls b z ≡ becomes y → Reading y) (given : ℕ → MaskLen) (s : List ℕ) (b : Octets s)
+module _ (calls : Calls) (reads : (b : ℕ) (z y : ℤ) → calls b z ≡ some y → Reading y) (given : ℕ → MaskLen) (s : List ℕ) (b : Octets s)
     (c : Cursor) (r : Run) (run : RunFrom s c r) (on : c .at < r .at) where
   -- where the walk stands after the run
   after-run : (h : Held) (sent : List Tok) → Turning calls given s c h sent
@@ -69,7 +71,7 @@ module _ (calls : Calls) (reads : (b : ℕ) (z y : ℤ) → calls b z ≡ become
         small = omega (arith, w .small, held-most h, most-in s (r .last) (r .at), run .starts, run .ends);
       })
 
-  module _ (old : List ℕ) (to : ℕ) (bs : List ℕ) (y : renumberedTokens calls (tokensOf given s) ≡ bytes bs) (room : to + length bs ≤ length old)
+  module _ (old : List ℕ) (to : ℕ) (bs : List ℕ) (y : renumberedTokens calls (tokensOf given s) ≡ some bs) (room : to + length bs ≤ length old)
       (h : Held) (new : List ℕ) (p : ℕ) (w : Putting calls given s old to c h new p) where
     pub putting-run-room : p + length (runBytes s h (c .at) (r .last)) ≤ length new
     putting-run-room =

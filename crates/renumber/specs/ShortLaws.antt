@@ -10,10 +10,10 @@ use lib.IntN.{ℤ, pos, negsuc, negℤ}
 use lib.ListN.{length, take, drop, getD}
 use lib.Seq.{drop-cons}
 use borrow.Author.Tests.{ltb-true, ltb-false, eqb-true, eqb-false, not-true, not-false, lt-ltb, le-ltb, le-leb, lt-leb, eq-eqb, ne-eqb}
-use lib.Dec.{ltb, leb, eqb}
+use lib.Dec.{ltb, eqb}
 use Rattle.octets.specs.Pick.{pick}
 use Rattle.octets.specs.Octets.{Octets, bytesOf}
-use Rattle.type2_number.specs.Number.{keep24, rounded, whole, sixteen, fixed, number, numberAt, Reading}
+use Rattle.type2_number.specs.Number.{whole, sixteen, fixed, number, numberAt, Reading}
 use Rattle.type2_number.specs.Encoding.{integerBytes, encoded}
 use Rattle.type2_number.specs.NumberLaws.{OperatorByte, long, form-28, form-1, form-up, form-down, form-ff}
 use Rattle.type2_number.specs.Rounding.{keep-small, rounded-neg, rounded-pos}

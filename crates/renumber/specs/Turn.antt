@@ -1,9 +1,10 @@
 -- A body renumbered token by token (the Rust's renumber_charstring; document 01, 'Corners in write.rs'), as the code goes: a number token is
 -- held until the next token, which writes it as it is, or, being a call, its new operand. The code's answers for what the definitions say.
-use Prim.Native.Nat.{ℕ, _+_, _≤_}
+use Prim.Native.Nat.{ℕ, _≤_}
 use mathlib.Core.Path.{_≡_}
 use mathlib.Core.Bool.{Bool, true, false}
 use mathlib.Core.List.{List, [], _∷_, _++_}
+use mathlib.Core.Option.{Option, none, some}
 use lib.IntN.{ℤ}
 use lib.ListN.{length, take, drop}
 use Rattle.octets.specs.Pick.{pick}
@@ -15,8 +16,7 @@ use Rattle.charstring.specs.declared.Cursor.{Cursor}
 use Rattle.charstring.specs.declared.Step.{Step}
 use Rattle.charstring.specs.declared.Step.the-variants.{Tok as TokAt, Lost}
 use Rattle.unfold.specs.Unfold.{Row}
-use Rattle.prune.specs.Renumber.{Operand, fails, becomes, Calls, isCall, Waiting, nobody, waits}
-use Rattle.subset.specs.Pruned.{May, fail, yes}
+use Rattle.prune.specs.Renumber.{Calls, isCall}
 use Rattle.reach.specs.declared.Site.{Site}
 use Rattle.reach.specs.Reach.{SiteFits, rises}
 use Rattle.renumber.specs.Ranks.{Ranked}
@@ -31,9 +31,9 @@ use Rattle.renumber.specs.declared.Sized.{Sized}
 use Rattle.renumber.specs.declared.Sized.the-variants.{Failed, Len}
 
 -- the number that is held, as the definitions say it
-abbrev pub waitingIn : Held → Waiting
-waitingIn Nothing = nobody
-waitingIn (Number v) = waits (scaledOf v)
+abbrev pub waitingIn : Held → Option ℤ
+waitingIn Nothing = none
+waitingIn (Number v) = some (scaledOf v)
 
 -- a number that is held is a reading
 abbrev pub HoldsHeld : Held → Type 0
@@ -41,12 +41,12 @@ HoldsHeld Nothing = Unit
 HoldsHeld (Number v) = HoldsReading v
 
 -- what a call's operand becomes
-abbrev pub turnFor : Operand → Turn
-turnFor fails = Stuck
-turnFor (becomes z) = Sends (Number (floatOf z))
+abbrev pub turnFor : Option ℤ → Turn
+turnFor none = Stuck
+turnFor (some z) = Sends (Number (floatOf z))
 
 -- a call takes the number just before it
-abbrev pub callTurn : (ℤ → Operand) → Held → Turn
+abbrev pub callTurn : (ℤ → Option ℤ) → Held → Turn
 callTurn operand Nothing = Stuck
 callTurn operand (Number v) = turnFor (operand (scaledOf v))
 
@@ -111,14 +111,14 @@ pub record Inputs (s ws : List ℕ) (locals globals : Ranks) (rows : List Row) (
   pub size : length s ≤ 67108864
 
 -- how long a body is once it is renumbered, its bytes, and whether there are any
-abbrev pub sizedOf : May (List ℕ) → Sized
-sizedOf fail = Failed
-sizedOf (yes bs) = Len (length bs)
+abbrev pub sizedOf : Option (List ℕ) → Sized
+sizedOf none = Failed
+sizedOf (some bs) = Len (length bs)
 
-abbrev pub bodyOf : May (List ℕ) → List ℕ
-bodyOf fail = []
-bodyOf (yes bs) = bs
+abbrev pub bodyOf : Option (List ℕ) → List ℕ
+bodyOf none = []
+bodyOf (some bs) = bs
 
-abbrev pub isYes : May (List ℕ) → Bool
-isYes fail = false
-isYes (yes bs) = true
+abbrev pub isYes : Option (List ℕ) → Bool
+isYes none = false
+isYes (some bs) = true

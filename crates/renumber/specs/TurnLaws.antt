@@ -1,8 +1,9 @@
 -- Laws of a body renumbered token by token: what was written so far and what is left give the whole.
-use Prim.Native.Nat.{ℕ, _+_, _-_}
+use Prim.Native.Nat.{ℕ, _+_}
 use mathlib.Core.Path.{_≡_, refl, sym, ap, _∙_, subst}
 use mathlib.Core.Bool.{Bool, true, false}
 use mathlib.Core.List.{List, [], _∷_, _++_, append-assoc, append-nil}
+use mathlib.Core.Option.{Option, none, some}
 use native.Mathlib.Omega.{arith}
 use lib.IntN.{ℤ}
 use lib.ListN.{length, take, drop, length-append}
@@ -21,7 +22,7 @@ use Rattle.charstring.specs.Answers.{told, Writable}
 use Rattle.charstring.specs.TokenLaws.{token-length}
 use Rattle.charstring.specs.EncodeLaws.{encode-append}
 use Rattle.prune.specs.StepLaws.{zero-one}
-use Rattle.prune.specs.Renumber.{Operand, fails, becomes, Calls, isCall, Renumbered, failed, done, before, called, calledAfter, Waiting, nobody, waits, kept, renumber}
+use Rattle.prune.specs.Renumber.{Calls, isCall, before, called, calledAfter, kept, renumber}
 use Rattle.renumber.specs.Turn.{waitingIn, HoldsHeld, turnFor, callTurn, turnOf, after, turnedBy, turnedAt, heldBytes, ownBytes, sentBytes, heldLen, ownLen}
 use Rattle.renumber.specs.declared.turns.Held.{Held}
 use Rattle.renumber.specs.declared.turns.Held.the-variants.{Nothing, Number}
@@ -32,17 +33,17 @@ use Rattle.renumber.specs.declared.Turned.the-variants.{Failed as Failed
 -- ---- tokens written before what is left
 
 -- some tokens before a list of tokens renumbered
-abbrev pub ahead : List Tok → Renumbered → Renumbered
-ahead ts failed = failed
-ahead ts (done us) = done (ts ++ us)
+abbrev pub ahead : List Tok → Option (List Tok) → Option (List Tok)
+ahead ts none = none
+ahead ts (some us) = some (ts ++ us)
 
-pub ahead-none : (r : Renumbered) → r ≡ ahead [] r
-ahead-none failed = refl
-ahead-none (done us) = refl
+pub ahead-none : (r : Option (List Tok)) → r ≡ ahead [] r
+ahead-none none = refl
+ahead-none (some us) = refl
 
-pub ahead-ahead : (ts us : List Tok) (r : Renumbered) → ahead ts (ahead us r) ≡ ahead (ts ++ us) r
-ahead-ahead ts us failed = refl
-ahead-ahead ts us (done vs) = ap done (sym (append-assoc ts us vs))
+pub ahead-ahead : (ts us : List Tok) (r : Option (List Tok)) → ahead ts (ahead us r) ≡ ahead (ts ++ us) r
+ahead-ahead ts us none = refl
+ahead-ahead ts us (some vs) = ap some (sym (append-assoc ts us vs))
 
 -- the tokens that are written at a token: the number that was held, and the token unless it is a number
 abbrev pub heldToks : Held → List Tok
@@ -95,21 +96,21 @@ sent-length s h t w =
 
 -- ---- one token
 
-kept-ahead : (h : Held) (r : Renumbered) → kept (waitingIn h) r ≡ ahead (heldToks h ++ []) r
-kept-ahead Nothing failed = refl
-kept-ahead Nothing (done us) = refl
-kept-ahead (Number v) failed = refl
-kept-ahead (Number v) (done us) = refl
+kept-ahead : (h : Held) (r : Option (List Tok)) → kept (waitingIn h) r ≡ ahead (heldToks h ++ []) r
+kept-ahead Nothing none = refl
+kept-ahead Nothing (some us) = refl
+kept-ahead (Number v) none = refl
+kept-ahead (Number v) (some us) = refl
 
-kept-own : (h : Held) (t : Tok) (r : Renumbered) → kept (waitingIn h) (before t r) ≡ ahead (heldToks h ++ (t ∷ [])) r
-kept-own Nothing t failed = refl
-kept-own Nothing t (done us) = refl
-kept-own (Number v) t failed = refl
-kept-own (Number v) t (done us) = refl
+kept-own : (h : Held) (t : Tok) (r : Option (List Tok)) → kept (waitingIn h) (before t r) ≡ ahead (heldToks h ++ (t ∷ [])) r
+kept-own Nothing t none = refl
+kept-own Nothing t (some us) = refl
+kept-own (Number v) t none = refl
+kept-own (Number v) t (some us) = refl
 
-kept-failed : (w : Waiting) (t : Tok) → kept w (before t failed) ≡ failed
-kept-failed nobody t = refl
-kept-failed (waits z) t = refl
+kept-failed : (w : Option ℤ) (t : Tok) → kept w (before t none) ≡ none
+kept-failed none t = refl
+kept-failed (some z) t = refl
 
 pub stuck-sends : (v : Held) → Stuck ≡ Sends v → ⊥
 stuck-sends v e = zero-one cc
@@ -117,12 +118,12 @@ stuck-sends v e = zero-one cc
 pub sends-same : (h v : Held) → Sends h ≡ Sends v → h ≡ v
 sends-same h v e = cc
 
-module _ (calls : Calls) (reads : (b : ℕ) (z y : ℤ) → calls b z ≡ becomes y → Reading y) where
+module _ (calls : Calls) (reads : (b : ℕ) (z y : ℤ) → calls b z ≡ some y → Reading y) where
   -- a call
-  called-turn : (b : ℕ) (z : ℤ) (v : Held) (r : Renumbered) (o : Operand) → calls b z ≡ o → turnFor o ≡ Sends v
+  called-turn : (b : ℕ) (z : ℤ) (v : Held) (r : Option (List Tok)) (o : Option ℤ) → calls b z ≡ o → turnFor o ≡ Sends v
       → (called b o r ≡ ahead (heldToks v ++ (op b ∷ [])) r) × HoldsHeld v
-  called-turn b z v r fails f e = absurd (stuck-sends v e)
-  called-turn b z v r (becomes y) f e =
+  called-turn b z v r none f e = absurd (stuck-sends v e)
+  called-turn b z v r (some y) f e =
       let k = reads b z y f in
       let g : Number (floatOf y) ≡ v = sends-same (Number (floatOf y)) v e in (
         ap (λ (x : ℤ). before (num x) (before (op b) r)) (sym (back-reading y k))
@@ -131,7 +132,7 @@ module _ (calls : Calls) (reads : (b : ℕ) (z y : ℤ) → calls b z ≡ become
         subst HoldsHeld g (holds y k),
       )
 
-  op-turn : (b : ℕ) (h v : Held) (r : Renumbered) (k : Bool) → HoldsHeld h → pick k (callTurn (calls b) h) (Sends h) ≡ Sends v
+  op-turn : (b : ℕ) (h v : Held) (r : Option (List Tok)) (k : Bool) → HoldsHeld h → pick k (callTurn (calls b) h) (Sends h) ≡ Sends v
       → (pick k (calledAfter calls b (waitingIn h) r) (kept (waitingIn h) (before (op b) r)) ≡ ahead (heldToks v ++ (op b ∷ [])) r) × HoldsHeld v
   op-turn b h v r false l e =
       let g = sends-same h v e in
@@ -139,15 +140,15 @@ module _ (calls : Calls) (reads : (b : ℕ) (z y : ℤ) → calls b z ≡ become
   op-turn b Nothing v r true l e = absurd (stuck-sends v e)
   op-turn b (Number x) v r true l e = called-turn b (scaledOf x) v r (calls b (scaledOf x)) refl e
 
-  op-stuck : (b : ℕ) (h : Held) (r : Renumbered) (k : Bool) → pick k (callTurn (calls b) h) (Sends h) ≡ Stuck
-      → pick k (calledAfter calls b (waitingIn h) r) (kept (waitingIn h) (before (op b) r)) ≡ failed
+  op-stuck : (b : ℕ) (h : Held) (r : Option (List Tok)) (k : Bool) → pick k (callTurn (calls b) h) (Sends h) ≡ Stuck
+      → pick k (calledAfter calls b (waitingIn h) r) (kept (waitingIn h) (before (op b) r)) ≡ none
   op-stuck b h r false e = absurd (stuck-sends h (sym e))
   op-stuck b Nothing r true e = refl
   op-stuck b (Number x) r true e = go (calls b (scaledOf x)) e
     where
-      go : (o : Operand) → turnFor o ≡ Stuck → called b o r ≡ failed
-      go fails f = refl
-      go (becomes y) f = absurd (stuck-sends (Number (floatOf y)) (sym f))
+      go : (o : Option ℤ) → turnFor o ≡ Stuck → called b o r ≡ none
+      go none f = refl
+      go (some y) f = absurd (stuck-sends (Number (floatOf y)) (sym f))
 
   -- a token that sends a number: what is written, before what is left
   pub turn-sends : (s : List ℕ) (h : Held) (t : Token) (v : Held) (ts : List Tok) → HoldsHeld h → turnOf calls h t ≡ Sends v
@@ -155,24 +156,24 @@ module _ (calls : Calls) (reads : (b : ℕ) (z y : ℤ) → calls b z ≡ become
   unfolding renumber
   turn-sends s h (Num x) v ts l e =
       let g = sends-same h v e in
-      let r = renumber calls (waits (scaledOf x)) ts in
+      let r = renumber calls (some (scaledOf x)) ts in
       (kept-ahead h r ∙ ap (λ (y : Held). ahead (heldToks y ++ []) r) g, subst HoldsHeld g l)
-  turn-sends s h (Op b) v ts l e = op-turn b h v (renumber calls nobody ts) (isCall b) l e
+  turn-sends s h (Op b) v ts l e = op-turn b h v (renumber calls none ts) (isCall b) l e
   turn-sends s h (Esc b) v ts l e =
       let g = sends-same h v e in
-      let r = renumber calls nobody ts in
+      let r = renumber calls none ts in
       (kept-own h (esc b) r ∙ ap (λ (y : Held). ahead (heldToks y ++ (esc b ∷ [])) r) g, subst HoldsHeld g l)
   turn-sends s h (Mask start len) v ts l e =
       let g = sends-same h v e in
-      let r = renumber calls nobody ts in
+      let r = renumber calls none ts in
       let m = mask (take len (drop start s)) in
       (kept-own h m r ∙ ap (λ (y : Held). ahead (heldToks y ++ (m ∷ [])) r) g, subst HoldsHeld g l)
 
   -- and one at which the renumbering fails
-  pub turn-stuck : (s : List ℕ) (h : Held) (t : Token) (ts : List Tok) → turnOf calls h t ≡ Stuck → renumber calls (waitingIn h) (told s t ∷ ts) ≡ failed
+  pub turn-stuck : (s : List ℕ) (h : Held) (t : Token) (ts : List Tok) → turnOf calls h t ≡ Stuck → renumber calls (waitingIn h) (told s t ∷ ts) ≡ none
   unfolding renumber
   turn-stuck s h (Num x) ts e = absurd (stuck-sends h (sym e))
-  turn-stuck s h (Op b) ts e = op-stuck b h (renumber calls nobody ts) (isCall b) e
+  turn-stuck s h (Op b) ts e = op-stuck b h (renumber calls none ts) (isCall b) e
   turn-stuck s h (Esc b) ts e = absurd (stuck-sends h (sym e))
   turn-stuck s h (Mask start len) ts e = absurd (stuck-sends h (sym e))
 

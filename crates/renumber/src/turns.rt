@@ -6,8 +6,8 @@ ghost use lib.Dec.{eqb};
 ghost use Rattle.octets.specs.Pick.{pick};
 ghost use Rattle.bits.specs.Bits.{countBelow, bitIn};
 ghost use Rattle.type2_number.specs.Floats.{scaledOf, HoldsReading};
-ghost use Rattle.charstring.specs.Bias.{biasOf};
-ghost use Rattle.prune.specs.Renumber.{oldOf, operandOf, isCall};
+ghost use Rattle.charstring.specs.Bias.{biasOf, numbered};
+ghost use Rattle.prune.specs.Renumber.{operandOf, isCall};
 ghost use Rattle.renumber.specs.Ranks.{rankIn, numberOf, rankAt, numbersIn, callsBy, Ranked};
 ghost use Rattle.renumber.specs.Turn.{HoldsHeld, turnFor, callTurn, turnOf, after};
 use crate::Ranks;
@@ -54,7 +54,7 @@ fn rank_in(words: &[u32], q: Ranks, i: usize) -> usize
 // The number of the subroutine that an operand calls, of so many: 65536, which none has, where it calls none.
 fn number_at(count: usize, v: f32) -> usize
     requires { ⌜ HoldsReading v ⌝ }
-    ensures { λ r. ⌜ r ≡ numberOf (oldOf (biasOf count) (scaledOf v)) ⌝ }
+    ensures { λ r. ⌜ r ≡ numberOf (numbered (biasOf count) (scaledOf v)) ⌝ }
 {
     let s = count_of(v);
     let neg = s.neg;
@@ -76,7 +76,7 @@ fn number_at(count: usize, v: f32) -> usize
 // The rank of the subroutine that an operand calls, plus 1: 0 where it calls none.
 fn rank_at(words: &[u32], q: Ranks, v: f32) -> usize
     requires { ⌜ (Ranked (now words) q) × (HoldsReading v) ⌝ }
-    ensures { λ r. ⌜ r ≡ rankAt (now (words .entry)) q (oldOf (biasOf (q .count)) (scaledOf v)) ⌝ }
+    ensures { λ r. ⌜ r ≡ rankAt (now (words .entry)) q (numbered (biasOf (q .count)) (scaledOf v)) ⌝ }
 {
     rank_in(words, q, number_at(q.count, v))
 }

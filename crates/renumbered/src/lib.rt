@@ -9,7 +9,7 @@ ghost use Rattle.charstring.specs.Token.{more, tokenAt};
 ghost use Rattle.charstring.specs.Answers.{stepOf, givenAt, Within, Writable};
 ghost use Rattle.prune.specs.Renumber.{renumberCharstring};
 ghost use Rattle.record.specs.Record.{rowsOf, givenIn};
-ghost use Rattle.subset.specs.Pruned.{whole, renumberedBody};
+ghost use Rattle.subset.specs.Pruned.{renumberedBody};
 ghost use Rattle.reach.specs.Reach.{siteOf, SiteFits, rises};
 ghost use Rattle.renumber.specs.Ranks.{callsBy};
 ghost use Rattle.renumber.specs.Turn.{HoldsHeld, cursor, turnedAt, heldBytes, ownBytes, sentBytes, heldLen, ownLen, Inputs, sizedOf, bodyOf, isYes};
@@ -36,7 +36,7 @@ use type2_number::number_len;
 use type2_number::put_number;
 
 // How many bytes the number that was held takes.
-fn held_len(h: Held) -> usize
+pub fn held_len(h: Held) -> usize
     requires { ⌜ HoldsHeld h ⌝ }
     ensures { λ r. ⌜ r ≡ heldLen h ⌝ }
 {
@@ -59,7 +59,7 @@ fn own_len(t: Token) -> usize
 }
 
 // How many bytes are written at a token: the number that was held, and the token.
-fn sent_len(h: Held, t: Token) -> usize
+pub fn sent_len(h: Held, t: Token) -> usize
     requires { ⌜ (HoldsHeld h) × (ownLen t ≤ 67108864) ⌝ }
     ensures { λ r. ⌜ r ≡ heldLen h + ownLen t ⌝ }
 {
@@ -67,7 +67,7 @@ fn sent_len(h: Held, t: Token) -> usize
 }
 
 // The number that was held, from `at` on; the place after it.
-fn put_held(h: Held, out: &mut [u8], at: usize) -> usize
+pub fn put_held(h: Held, out: &mut [u8], at: usize) -> usize
     requires { ⌜ (HoldsHeld h) × (at + length (heldBytes h) ≤ length (now out)) ⌝ }
     ensures { λ r. ⌜ Wrote (now (out .entry)) at (heldBytes h) (now (out .exit)) r ⌝ }
 {
@@ -91,7 +91,7 @@ fn put_own(code: &[u8], t: Token, out: &mut [u8], at: usize) -> usize
 }
 
 // The number that was held and then a token other than a number, from `at` on; the place after them.
-fn put_sent(code: &[u8], h: Held, t: Token, out: &mut [u8], at: usize) -> usize
+pub fn put_sent(code: &[u8], h: Held, t: Token, out: &mut [u8], at: usize) -> usize
     requires { ⌜ (HoldsHeld h) × (Writable (now code) t) × (at + length (sentBytes (now code) h t) ≤ length (now out)) ⌝ }
     ensures { λ r. ⌜ Wrote (now (out .entry)) at (sentBytes (now (code .entry)) h t) (now (out .exit)) r ⌝ }
 {
@@ -100,7 +100,7 @@ fn put_sent(code: &[u8], h: Held, t: Token, out: &mut [u8], at: usize) -> usize
 }
 
 // How many bytes are written at a run: the number that was held, and the run up to the number that it holds back.
-fn run_len(h: Held, from: usize, last: usize) -> usize
+pub fn run_len(h: Held, from: usize, last: usize) -> usize
     requires { ⌜ (HoldsHeld h) × (from ≤ last) × (last ≤ 67108864) ⌝ }
     ensures { λ r. ⌜ r ≡ heldLen h + (last - from) ⌝ }
 {
@@ -108,7 +108,7 @@ fn run_len(h: Held, from: usize, last: usize) -> usize
 }
 
 // The number that was held and then the bytes of a body between two places, from `at` on; the place after them.
-fn put_run(code: &[u8], h: Held, from: usize, last: usize, out: &mut [u8], at: usize) -> usize
+pub fn put_run(code: &[u8], h: Held, from: usize, last: usize, out: &mut [u8], at: usize) -> usize
     requires { ⌜ (HoldsHeld h) × (from ≤ last) × (last ≤ length (now code)) × (at + length (runBytes (now code) h from last) ≤ length (now out)) ⌝ }
     ensures { λ r. ⌜ Wrote (now (out .entry)) at (runBytes (now (code .entry)) h from last) (now (out .exit)) r ⌝ }
 {
@@ -131,7 +131,7 @@ fn given_at(rows: &[u8], rising: bool, site: Site, c: Cursor) -> MaskLen
 
 // The token where reading stands. That comes as four numbers, and the loops take `next` over number by number: a Cursor passed whole is copied
 // through memory at each token, which took half of the time.
-fn turn_at(
+pub fn turn_at(
     code: &[u8],
     words: &[u32],
     locals: Ranks,
@@ -182,8 +182,8 @@ fn body_len(
     site: Site,
 ) -> Sized
     requires { ⌜ Inputs (now code) (now words) locals globals (rowsOf (now rows)) rising site ⌝ }
-    ensures { λ r. ⌜ r ≡ sizedOf (whole (renumberCharstring (callsBy (now (words .entry)) locals globals)
-        (givenIn (rowsOf (now (rows .entry))) (siteOf site)) (now (code .entry)))) ⌝ }
+    ensures { λ r. ⌜ r ≡ sizedOf (renumberCharstring (callsBy (now (words .entry)) locals globals)
+        (givenIn (rowsOf (now (rows .entry))) (siteOf site)) (now (code .entry))) ⌝ }
 {
     let mut c = start();
     let mut h = Held::Nothing;

@@ -1,14 +1,13 @@
 -- Worked examples, computed: document 01's input and its output, and inputs at the edges of the form.
 use Prim.Native.Nat.{ℕ}
 use mathlib.Core.Path.{_≡_, refl}
-use mathlib.Core.List.{List, [], _∷_, _++_}
+use mathlib.Core.List.{List, [], _∷_}
 use mathlib.Core.Option.{none, some}
-use lib.Dec.{ltb, leb, eqb}
 use Rattle.octets.specs.Octets.{bytesOf}
 use Rattle.hexlines.specs.Hexlines.{hexValue, isHex, spelt, digitOf, hexText}
 use Rattle.cases.specs.Lines.{linesOf}
 use Rattle.subset.specs.Cut.{refused, subset}
-use Rattle.sheet.specs.Sheet.{Sheet, hexUpTo, isKept, hexOf, allRows, filled, areRows, rowBytes, pairs, isSheet, sheetIn, sheetOf, inLines, printed, cutOfSheet, answerTo, cutSheet}
+use Rattle.sheet.specs.Sheet.{hexUpTo, isKept, hexOf, allRows, filled, areRows, rowBytes, pairs, isSheet, sheetIn, sheetOf, inLines, printed, answerTo, cutSheet}
 
 -- document 01's font, input, subset and output
 abbrev theFont : List ℕ

@@ -2,11 +2,11 @@
 -- Lines of lower-case hexadecimal: font (up to 16,384 bytes), new name (up to 256), kept numbers (4 digits each, up to 1,024), flag (2 digits), then
 -- one row a line (up to 512). The lines are known by their places: those of font, name and kept numbers may be empty, and only rows may be absent.
 -- An empty row adds nothing and does not count; any other has 20 digits. The last line feed may be missing.
-use Prim.Native.Nat.{ℕ, zero, suc, _+_, _*_, _%_}
+use Prim.Native.Nat.{ℕ, _+_, _*_, _%_}
 use mathlib.Core.Bool.{Bool, true, false}
 use mathlib.Core.List.{List, [], _∷_, _++_}
 use mathlib.Core.Option.{Option, none, some}
-use lib.Dec.{ltb, leb, eqb}
+use lib.Dec.{leb, eqb}
 use lib.ListN.{length, getD}
 use Rattle.octets.specs.Pick.{pick}
 use Rattle.octets.specs.Octets.{bytesOf}

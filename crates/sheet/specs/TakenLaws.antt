@@ -1,6 +1,6 @@
 -- A text that was taken is read from the buffer: what is read there is what the whole text holds.
 use Prim.Native.Nat.{ℕ, _≤_, _<_}
-use mathlib.Core.Path.{_≡_, ap, _∙_, subst}
+use mathlib.Core.Path.{ap, _∙_, subst}
 use mathlib.Core.List.{List}
 use mathlib.Core.Option.{Option}
 use native.Mathlib.Omega.{arith}

@@ -1,8 +1,8 @@
 -- Taking a text piece by piece (document 01, 'One sheet, whole': an empty row adds nothing): the line feeds of empty rows are not kept, so a sheet
 -- takes up to 48,134 bytes, however many empty rows its text has.
-use Prim.Native.Nat.{ℕ, zero, suc, _+_, _≤_, _<_}
+use Prim.Native.Nat.{ℕ, _+_, _≤_, _<_}
 use mathlib.Core.Path.{_≡_}
-use mathlib.Core.Bool.{Bool, true, false}
+use mathlib.Core.Bool.{Bool, false}
 use mathlib.Core.List.{List, [], _∷_, _++_}
 use lib.Dec.{ltb, eqb}
 use lib.ListN.{length, take}

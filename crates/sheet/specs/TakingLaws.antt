@@ -1,15 +1,14 @@
 -- Laws of taking: a byte at a time.
-use Prim.Native.Nat.{ℕ, zero, suc, _+_, _≤_, _<_}
+use Prim.Native.Nat.{ℕ, _+_, _≤_, _<_}
 use mathlib.Core.Path.{_≡_, refl, sym, ap, _∙_, subst}
-use mathlib.Core.Bool.{Bool, true, false}
+use mathlib.Core.Bool.{true, false}
 use mathlib.Core.List.{List, [], _∷_, _++_, append-assoc, append-nil}
 use native.Mathlib.Omega.{arith}
 use native.Mathlib.Numerals.{add-one}
 use borrow.Author.Tests.{eq-eqb, ne-eqb, lt-ltb, le-ltb}
-use lib.Dec.{eqb, ltb}
+use lib.Dec.{eqb}
 use lib.ListN.{length, take, set, getD, length-append}
 use lib.Seq.{take-suc-set, take-suc, take-all}
-use Rattle.octets.specs.Pick.{pick}
 use Rattle.sheet.specs.Taking.{nextMode, endsEmpty, keptOf, squeezed, modeAfter, Held, whole, over, Took}
 
 -- ---- where a byte stands, by the code's tests

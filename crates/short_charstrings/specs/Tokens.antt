@@ -1,20 +1,23 @@
 -- What the definition of short charstrings says of tokens: the unfolding of one is its tokens, the last of them endchar, and no other is.
-use Prim.Native.Nat.{ℕ, zero, suc, _+_, _-_, _/_, _%_}
+use Prim.Native.Nat.{ℕ, zero, suc, _+_, _-_, _/_}
 use mathlib.Core.Path.{_≡_, refl, sym, ap, _∙_, subst}
 use mathlib.Core.Bool.{Bool, true, false}
 use mathlib.Core.List.{List, [], _∷_, _++_}
+use mathlib.Core.Option.{Option, none, some}
 use native.Mathlib.Omega.{arith}
 use borrow.Author.Tests.{le-ltb}
-use lib.Dec.{ltb, leb, eqb}
-use lib.IntN.{pos, negsuc}
+use lib.Dec.{ltb, eqb}
+use lib.IntN.{ℤ}
 use lib.ListN.{length, take, drop, getD}
 use Rattle.octets.specs.Pick.{pick, pick-ind}
-use Rattle.octets.specs.PickLaws.{pick-same, both-hold, other-holds}
+use Rattle.octets.specs.Steps.{and}
+use Rattle.octets.specs.StepsLaws.{and-ind}
+use Rattle.octets.specs.PickLaws.{both-hold, other-holds}
 use Rattle.octets.specs.Lists.{allBelow}
 use Rattle.type2_number.specs.Number.{Read, cut, operator, number as aNumber, numberAt}
-use Rattle.charstring.specs.Bias.{biasOf}
+use Rattle.charstring.specs.Bias.{biasOf, numbered}
 use Rattle.charstring.specs.Token.{isMask}
-use Rattle.unfold.specs.Unfold.{Tok, num, op, esc, mask, Row, Site, glyph, State, Run, broken, returned, ended, Last, none, last, Target, nowhere, targetOf, leave, isStem, isPath, meeting, masked, callTo, stemAt, maskAt, escapeAt, operatorAt, stepAt, walk, runBody, plain, glyphOf, fresh, unfoldGlyph}
+use Rattle.unfold.specs.Unfold.{Tok, num, op, esc, mask, Row, Site, glyph, State, Run, broken, returned, ended, targetOf, leave, isStem, isPath, meeting, masked, callTo, stemAt, maskAt, escapeAt, operatorAt, stepAt, walk, runBody, plain, glyphOf, fresh, unfoldGlyph}
 use Rattle.short_charstrings.specs.Short.{alone, isPlain, ends, isShort}
 use Rattle.short_charstrings.specs.NextLaws.{never}
 
@@ -44,12 +47,9 @@ one-more (u ∷ us) t h e = by (isEnd u) h (λ d. one-more us t d e)
     by true d on = d
     by false d on = on d
 
-no-target : (l : Last) → targetOf 0 l ≡ nowhere
+no-target : (l : Option ℤ) → targetOf 0 l ≡ none
 unfolding targetOf
-no-target none = refl
-no-target (last (pos n)) = rw (le-ltb (n / 65536 + biasOf 0) 0 (omega arith)) (pick-same (eqb (n % 65536) 0) nowhere)
-no-target (last (negsuc m)) =
-    rw (le-ltb (biasOf 0 - suc m / 65536) 0 (omega arith), pick-same (leb (suc m / 65536) (biasOf 0)) nowhere) (pick-same (eqb (suc m % 65536) 0) nowhere)
+no-target l = and-ind (λ (o : Option ℕ). o ≡ none) (and l (numbered (biasOf 0))) _ refl (λ i. rw (le-ltb i 0 (omega arith)))
 
 -- how it may end: with one endchar left
 abbrev Fine : Run → Type 0
@@ -58,20 +58,20 @@ Fine (returned st) = Unit
 Fine (ended st) = OneEnd (st .out)
 
 abbrev On : Type 0
-On = ℕ → Last → State → Run
+On = ℕ → Option ℤ → State → Run
 
 left : (t : Tok) (args stems : ℕ) (st : State) (go : State → Run) → ((y : State) → y .out ≡ st .out ++ (t ∷ []) → Fine (go y)) → Fine (leave t args stems st go)
 unfolding leave
 left t args stems st go h = pick-ind Fine (ltb (st .spent) 65536) _ broken (λ e. h _ refl) (λ e. tt)
 
-module _ (enter : Site → List ℕ → State → Run) (s : List ℕ) (on : On) (ons : (n : ℕ) (l : Last) (x : State) → hasEnd (x .out) ≡ false → Fine (on n l x))
-    (at : ℕ) (l : Last) (st : State) (h : hasEnd (st .out) ≡ false) where
-  goes : (t : Tok) (args stems n : ℕ) (m : Last) (x : State) → x .out ≡ st .out → isEnd t ≡ false → Fine (leave t args stems x (on n m))
+module _ (enter : Site → List ℕ → State → Run) (s : List ℕ) (on : On) (ons : (n : ℕ) (l : Option ℤ) (x : State) → hasEnd (x .out) ≡ false → Fine (on n l x))
+    (at : ℕ) (l : Option ℤ) (st : State) (h : hasEnd (st .out) ≡ false) where
+  goes : (t : Tok) (args stems n : ℕ) (m : Option ℤ) (x : State) → x .out ≡ st .out → isEnd t ≡ false → Fine (leave t args stems x (on n m))
   goes t args stems n m x q e =
       left t args stems x (on n m) (λ y f. ons n m y (ap hasEnd (f ∙ ap (λ (o : List Tok). o ++ (t ∷ [])) q) ∙ one-more (st .out) t h e))
 
   calls : (which : ℕ → Site) → Fine (callTo enter on which [] (at + 1) st (targetOf 0 l))
-  calls which = subst (λ (q : Target). Fine (callTo enter on which [] (at + 1) st q)) (sym (no-target l)) tt
+  calls which = subst (λ (q : Option ℕ). Fine (callTo enter on which [] (at + 1) st q)) (sym (no-target l)) tt
 
   escapes : Fine (escapeAt on s at st)
   escapes =
@@ -106,10 +106,10 @@ module _ (enter : Site → List ℕ → State → Run) (s : List ℕ) (on : On) 
   steps : (r : Read) → Fine (stepAt [] [] 0 enter on (glyph 0) s at l st r)
   unfolding stepAt
   steps cut = tt
-  steps (aNumber z n) = pick-ind Fine (ltb (st .args) 48) _ broken (λ a. goes (num z) (st .args + 1) (st .stems) n (last z) st refl refl) (λ a. tt)
+  steps (aNumber z n) = pick-ind Fine (ltb (st .args) 48) _ broken (λ a. goes (num z) (st .args + 1) (st .stems) n (some z) st refl refl) (λ a. tt)
   steps operator = operators (getD s at 0)
 
-walks : (enter : Site → List ℕ → State → Run) (k : ℕ) (s : List ℕ) (at : ℕ) (l : Last) (st : State) → hasEnd (st .out) ≡ false
+walks : (enter : Site → List ℕ → State → Run) (k : ℕ) (s : List ℕ) (at : ℕ) (l : Option ℤ) (st : State) → hasEnd (st .out) ≡ false
     → Fine (walk [] [] 0 enter k (glyph 0) s at l st)
 unfolding walk
 walks enter zero s at l st h = tt

@@ -1,7 +1,8 @@
 -- The cases that document 01 marks with a star, each a theorem about the definitions. Bytes are hexadecimal, as there.
 use mathlib.Core.Path.{_≡_, refl}
-use mathlib.Core.Bool.{Bool, true, false}
+use mathlib.Core.Bool.{true, false}
 use mathlib.Core.List.{List, [], _∷_}
+use mathlib.Core.Option.{Option, none, some}
 use Prim.Native.Nat.{ℕ}
 use Rattle.octets.specs.Octets.{bytesOf}
 use Rattle.type2_number.specs.Number.{keep24, rounded, numberAt}
@@ -15,7 +16,7 @@ use Rattle.decimal.specs.Values.{truncOf}
 use Rattle.decimal.specs.Written.{int5Bytes, intBytes, digitsOf, widthIn, widthOf, realText, packed, realBytes}
 use Rattle.decimal.specs.Written as written
 use Rattle.charset.specs.FdSelectBytes.{changes, entryBytes, fdSelectBytes}
-use Rattle.prune.specs.Renumber.{New, none, new, oldOf, operandOf, renumber, bytes, renumberCharstring}
+use Rattle.prune.specs.Renumber.{operandOf, renumber, renumberCharstring}
 use lib.Dec.{eqb}
 use Rattle.octets.specs.Pick.{pick}
 
@@ -46,11 +47,11 @@ number-ff-01-00-00-01 = refl
 -- ---- 'Corners in write.rs'
 
 -- three local subroutines, the third reached: it is the first of one
-abbrev third : ℕ → New
-third i = pick (eqb i 2) (new 0) none
+abbrev third : ℕ → Option ℕ
+third i = pick (eqb i 2) (some 0) none
 
-renumbered-third : renumberCharstring (λ b z. operandOf third (biasOf 3) (biasOf 1) z) (λ o. Own) (0x22 ∷ 0x0a ∷ 0x0e ∷ []) ≡ bytes (0x20 ∷ 0x0a ∷ 0x0e ∷ [])
-unfolding renumberCharstring renumber oldOf tokensOf tokensFrom tokenAt numberAt rounded keep24 encode numberBytes integerBytes fixedBytes bytesOf
+renumbered-third : renumberCharstring (λ b z. operandOf third (biasOf 3) (biasOf 1) z) (λ o. Own) (0x22 ∷ 0x0a ∷ 0x0e ∷ []) ≡ some (0x20 ∷ 0x0a ∷ 0x0e ∷ [])
+unfolding renumberCharstring renumber tokensOf tokensFrom tokenAt numberAt rounded keep24 encode numberBytes integerBytes fixedBytes bytesOf
 renumbered-third = refl
 
 -- DICT integers; 2147483647 is a real

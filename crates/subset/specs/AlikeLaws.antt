@@ -4,6 +4,7 @@ use Prim.Native.Nat.{ℕ, suc, _+_}
 use mathlib.Core.Path.{_≡_, refl, ap, _∙_}
 use mathlib.Core.Bool.{Bool, true, false}
 use mathlib.Core.List.{List, [], _∷_}
+use mathlib.Core.Option.{Option}
 use native.Mathlib.Omega.{arith}
 use lib.ListN.{length, getD}
 use Rattle.octets.specs.Pick.{pick}
@@ -13,7 +14,7 @@ use Rattle.prune.specs.StepLaws.{zero-one}
 use Rattle.cff.specs.Font.{Program}
 use Rattle.subset.specs.Kept.{isIn, those}
 use Rattle.subset.specs.KeptListLaws.{in-head, in-more, those-in}
-use Rattle.subset.specs.Pruned.{May, each, renumberedBody, renumberedSubrs, stubbedFrom, mapped}
+use Rattle.subset.specs.Pruned.{each, renumberedBody, renumberedSubrs, stubbedFrom, mapped}
 use Rattle.subset.specs.Texts.{namesOf}
 use Rattle.subset.specs.Subset.{cidsOf}
 
@@ -24,7 +25,7 @@ pick-alike false a b d same = refl
 
 -- ---- what is done with each of a list
 
-pub each-alike : {A : Type 0} (f g : ℕ → May A) (ks : List ℕ) → ((k : ℕ) → isIn k ks ≡ true → f k ≡ g k) → each f ks ≡ each g ks
+pub each-alike : {A : Type 0} (f g : ℕ → Option A) (ks : List ℕ) → ((k : ℕ) → isIn k ks ≡ true → f k ≡ g k) → each f ks ≡ each g ks
 unfolding each
 each-alike f g [] same = refl
 each-alike f g (k ∷ ks) same = rw (same k (in-head k k ks refl), each-alike f g ks (λ j h. same j (in-more k j ks h)))

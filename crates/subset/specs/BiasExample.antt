@@ -3,6 +3,7 @@
 -- the Rust's, from its subset of such a font.
 use mathlib.Core.Path.{_≡_, refl}
 use mathlib.Core.List.{List, [], _∷_}
+use mathlib.Core.Option.{some}
 use native.Mathlib.Omega.{arith}
 use lib.ListN.{replicate}
 use Rattle.octets.specs.Octets.{be, numAt, bytesOf}
@@ -12,10 +13,10 @@ use Rattle.charstring.specs.Token.{tokensOf, tokensFrom, tokenAt}
 use Rattle.charstring.specs.Encode.{encode}
 use Rattle.unfold.specs.Unfold.{Row, glyph, local, entered}
 use Rattle.record.specs.Record.{lists, givenIn, disagrees, twoLengths}
-use Rattle.prune.specs.Renumber.{oldOf, renumber, renumberCharstring}
+use Rattle.prune.specs.Renumber.{renumber, renumberCharstring}
 use Rattle.cff.specs.Font.{standard, Program}
 use Rattle.bits.specs.Bits.{countBelow}
-use Rattle.subset.specs.Pruned.{yes, reached, localSet, callsIn, renumberedBody}
+use Rattle.subset.specs.Pruned.{reached, localSet, callsIn, renumberedBody}
 use Rattle.subset.specs.ReachedLaws.{numbersBelow, lists-past, count-past}
 
 -- a program with so many
@@ -51,8 +52,8 @@ unfolding countBelow lists
 below-1239 = refl
 
 -- the glyph that calls it
-call-renumbered : renumberedBody reachRows (callsIn manyLocals reachRows 0) (glyph 1) (0xf7 ∷ 0x00 ∷ 0x0a ∷ 0x0e ∷ []) ≡ yes (0x20 ∷ 0x0a ∷ 0x0e ∷ [])
+call-renumbered : renumberedBody reachRows (callsIn manyLocals reachRows 0) (glyph 1) (0xf7 ∷ 0x00 ∷ 0x0a ∷ 0x0e ∷ []) ≡ some (0x20 ∷ 0x0a ∷ 0x0e ∷ [])
 unfolding
-    renumberedBody lists givenIn twoLengths disagrees renumberCharstring renumber oldOf encode numberAt keep24 rounded numberBytes integerBytes fixedBytes tokensOf
+    renumberedBody lists givenIn twoLengths disagrees renumberCharstring renumber encode numberAt keep24 rounded numberBytes integerBytes fixedBytes tokensOf
     tokensFrom tokenAt bytesOf numAt be
 call-renumbered = simp (few-reached, below-1240, below-1239)

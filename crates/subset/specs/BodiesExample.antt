@@ -11,7 +11,7 @@ use Rattle.charstring.specs.Token.{tokensOf, tokensFrom, tokenAt}
 use Rattle.charstring.specs.Encode.{encode}
 use Rattle.unfold.specs.Unfold.{global, entered}
 use Rattle.record.specs.Record.{lists, givenIn, disagrees, twoLengths}
-use Rattle.prune.specs.Renumber.{oldOf, renumber, renumberCharstring}
+use Rattle.prune.specs.Renumber.{renumber, renumberCharstring}
 use Rattle.subset.specs.Kept.{those}
 use Rattle.bits.specs.Bits.{countBelow}
 use Rattle.subset.specs.Pruned.{Bodies, reached, globalSet, localSet, each, renumberedBody, renumberedSubrs, stubbedFrom, mapped, renumbered, stubbed, copied, pruned}
@@ -88,7 +88,7 @@ unrenumberedBodies unreached =
 -- way 0
 pub bodies-renumbered : pruned cidProgram reachRows used order 1 ≡ record { way = 0; bodies = renumberedBodies }
 unfolding
-    pruned renumbered renumberedSubrs renumberedBody each those lists givenIn twoLengths disagrees renumberCharstring renumber oldOf encode numberAt keep24 rounded
+    pruned renumbered renumberedSubrs renumberedBody each those lists givenIn twoLengths disagrees renumberCharstring renumber encode numberAt keep24 rounded
     numberBytes integerBytes fixedBytes tokensOf tokensFrom tokenAt bytesOf numAt be
 bodies-renumbered = simp (few-reached, below-two, below-one)
 

@@ -1,7 +1,7 @@
 -- The glyphs of codes (TN5176, section 12; document 02, Wish 4), and the encoding of a subset: format 0 without codes of its own, and a
 -- supplement for each code whose glyph is kept, codes rising.
 use Prim.Native.Nat.{ℕ, zero, suc, _+_}
-use mathlib.Core.Bool.{Bool, true, false}
+use mathlib.Core.Bool.{Bool}
 use mathlib.Core.List.{List, [], _∷_, _++_}
 use lib.Dec.{ltb, eqb}
 use lib.ListN.{length, getD}

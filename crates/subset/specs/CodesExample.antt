@@ -1,7 +1,7 @@
 -- Worked examples (document 02, Wish 4), computed: a font of four glyphs, `.notdef`, `space`, `exclam` and one whose own string is `A`.
 use Prim.Native.Nat.{ℕ}
 use mathlib.Core.Path.{_≡_, refl}
-use mathlib.Core.List.{List, [], _∷_, map}
+use mathlib.Core.List.{List, [], _∷_}
 use Rattle.octets.specs.Octets.{be, numAt, bytesOf}
 use Rattle.octets.specs.Lists.{joined}
 use Rattle.index.specs.Write.{total, sizeFor, ends, tableBytes, headBytes, itemsBytes, indexBytes}
@@ -12,10 +12,10 @@ use Rattle.charset.specs.CharsetBytes.{idBytes, charsetBytes}
 use Rattle.strings.specs.Text.{codes, sameText}
 use Rattle.strings.specs.Table.{standardNames}
 use Rattle.strings.specs.Strings.{standardStrings, standardString, stringText, sidIn, sidOf}
-use Rattle.charset.specs.Codes.{Naming, byNumber, byString}
+use Rattle.charset.specs.Codes.{byNumber, byString}
 use Rattle.charset.specs.Predefined.{standardEncoding}
 use Rattle.find.specs.Find.{glyphWithText}
-use Rattle.find.specs.declared.Found.the-variants.{Absent, Glyph}
+use Rattle.find.specs.declared.Found.the-variants.{Glyph}
 use Rattle.cff.specs.Font.{standard, expert, custom, Program, emptyPrivate}
 use Rattle.subset.specs.Kept.{isIn}
 use Rattle.subset.specs.Texts.{hasText, ownStrings, placeIn, newId, namedEntries, textsOf, namesOf}

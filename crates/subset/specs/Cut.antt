@@ -1,6 +1,6 @@
 -- The outcome of a subset call (document 01, 'Entries and their refusals'): the refusals in their order, or the way and the bytes; and what
 -- a call leaves in the output and in the work words.
-use Prim.Native.Nat.{ℕ, zero, suc, _+_}
+use Prim.Native.Nat.{ℕ, zero, suc}
 use mathlib.Core.Bool.{Bool, true, false, not}
 use mathlib.Core.List.{List, [], _∷_, _++_}
 use lib.Dec.{ltb, eqb}

@@ -4,10 +4,12 @@ use Prim.Native.Nat.{ℕ, zero, suc, _+_, _<_}
 use mathlib.Core.Path.{_≡_, refl, sym, ap, _∙_}
 use mathlib.Core.Bool.{Bool, true}
 use mathlib.Core.List.{List, [], _∷_}
+use mathlib.Core.Option.{Option, none, some}
 use native.Mathlib.Omega.{arith}
 use lib.ListN.{length, getD}
+use Rattle.octets.specs.Steps.{and}
 use Rattle.prune.specs.StepLaws.{zero-one}
-use Rattle.subset.specs.Pruned.{May, fail, yes as done, and, each, stubbedFrom, mapped}
+use Rattle.subset.specs.Pruned.{each, stubbedFrom, mapped}
 
 -- ---- mapped
 
@@ -27,15 +29,15 @@ mapped-at f (x ∷ l) (suc i) d h = mapped-at f l i d (omega arith)
 -- ---- one step and the next
 
 -- both were taken
-pub and-yes : {A B : Type 0} (m : May A) (f : A → May B) (b : B) → and m f ≡ done b → (a : A) × (m ≡ done a) × (f a ≡ done b)
-and-yes fail f b e = absurd (zero-one cc)
-and-yes (done a) f b e = (a, refl, e)
+pub and-yes : {A B : Type 0} (m : Option A) (f : A → Option B) (b : B) → and m f ≡ some b → (a : A) × (m ≡ some a) × (f a ≡ some b)
+and-yes none f b e = absurd (zero-one cc)
+and-yes (some a) f b e = (a, refl, e)
 
 -- ---- each
 
-module _ {A : Type 0} (f : ℕ → May A) where
+module _ {A : Type 0} (f : ℕ → Option A) where
   -- the first, and the others
-  each-more : (k : ℕ) (ks : List ℕ) (l : List A) → each f (k ∷ ks) ≡ done l → (b : A) × (bs : List A) × (f k ≡ done b) × (each f ks ≡ done bs) × (l ≡ b ∷ bs)
+  each-more : (k : ℕ) (ks : List ℕ) (l : List A) → each f (k ∷ ks) ≡ some l → (b : A) × (bs : List A) × (f k ≡ some b) × (each f ks ≡ some bs) × (l ≡ b ∷ bs)
   unfolding each
   each-more k ks l e =
       let p = and-yes (f k) _ l e in
@@ -43,7 +45,7 @@ module _ {A : Type 0} (f : ℕ → May A) where
       (p .0, q .0, p .1, q .1, cc)
 
   -- as many as there were
-  pub length-each : (ks : List ℕ) (l : List A) → each f ks ≡ done l → length l ≡ length ks
+  pub length-each : (ks : List ℕ) (l : List A) → each f ks ≡ some l → length l ≡ length ks
   unfolding each
   length-each [] l e = let m : [] ≡ l = cc in ap length (sym m)
   length-each (k ∷ ks) l e =
@@ -51,12 +53,12 @@ module _ {A : Type 0} (f : ℕ → May A) where
       ap length (p .4) ∙ ap suc (length-each ks (p .1) (p .3))
 
   -- at a place stands what became of the element there
-  pub each-at : (ks : List ℕ) (l : List A) → each f ks ≡ done l → (i : ℕ) (d : A) → i < length ks → f (getD ks i 0) ≡ done (getD l i d)
+  pub each-at : (ks : List ℕ) (l : List A) → each f ks ≡ some l → (i : ℕ) (d : A) → i < length ks → f (getD ks i 0) ≡ some (getD l i d)
   each-at [] l e i d h = absurd (zero-one (omega arith))
-  each-at (k ∷ ks) l e zero d h = let p = each-more k ks l e in p .2 ∙ ap (λ (x : List A). done (getD x 0 d)) (sym (p .4))
+  each-at (k ∷ ks) l e zero d h = let p = each-more k ks l e in p .2 ∙ ap (λ (x : List A). some (getD x 0 d)) (sym (p .4))
   each-at (k ∷ ks) l e (suc i) d h =
       let p = each-more k ks l e in
-      each-at ks (p .1) (p .3) i d (omega arith) ∙ ap (λ (x : List A). done (getD x (suc i) d)) (sym (p .4))
+      each-at ks (p .1) (p .3) i d (omega arith) ∙ ap (λ (x : List A). some (getD x (suc i) d)) (sym (p .4))
 
 -- ---- stubbed
 

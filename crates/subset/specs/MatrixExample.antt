@@ -1,8 +1,7 @@
 -- Worked examples of document 02, Wish 2: the Font DICTs of a subset, of a font whose FDs have a FontMatrix.
-use Prim.Native.Nat.{ℕ}
 use mathlib.Core.Path.{_≡_, refl}
 use mathlib.Core.Bool.{false}
-use mathlib.Core.List.{List, [], _∷_}
+use mathlib.Core.List.{[], _∷_}
 use Rattle.octets.specs.Octets.{bytesOf}
 use Rattle.decimal.specs.declared.Decimal.{Decimal}
 use Rattle.decimal.specs.Decimal.{zerosOf, zeros, stripped, normal, whole}

@@ -31,7 +31,7 @@ use Rattle.strings.specs.Strings.{stringText, standardString, standardStrings, 
 use Rattle.find.specs.Find.{glyphWithText}
 use Rattle.unfold.specs.Unfold.{Row, local, entered}
 use Rattle.record.specs.Record.{rowsFrom, rowsOf, rowsFine, recordFine, lists, givenIn, disagrees, twoLengths}
-use Rattle.prune.specs.Renumber.{oldOf, renumber, renumberCharstring}
+use Rattle.prune.specs.Renumber.{renumber, renumberCharstring}
 use Rattle.opentype.specs.Opentype.{placeOf}
 use Rattle.cff.specs.Font.{got, standard, Program, charset, charStrings, readTable, readFont, setAt, fontsAt, fontAt, nameParts, idsAt, privateAt, privateData, localsAt, codingAt, encodingGot}
 use Rattle.cff.specs.Find.{workSize, localsWords}
@@ -156,7 +156,7 @@ renumberedBodies =
 -- way 0
 bodies-renumbered : pruned nameProgram reachRows (0 ∷ []) (0 ∷ 1 ∷ 2 ∷ []) 1 ≡ record { way = 0; bodies = renumberedBodies }
 unfolding
-    pruned renumbered renumberedSubrs renumberedBody each those lists givenIn twoLengths disagrees renumberCharstring renumber oldOf encode t2.numberAt t2.keep24
+    pruned renumbered renumberedSubrs renumberedBody each those lists givenIn twoLengths disagrees renumberCharstring renumber encode t2.numberAt t2.keep24
     t2.rounded t2e.numberBytes t2e.integerBytes t2e.fixedBytes tok.tokensOf tok.tokensFrom tok.tokenAt bytesOf numAt be
 bodies-renumbered = simp (few-reached, below-four, below-three, below-one, no-globals, below-none)
 

@@ -1,16 +1,18 @@
 -- What becomes of charstrings and subroutines (document 01, 'Corners in write.rs'; the Rust's prune and prune_cid, renumber and renumber_cid, stubbed): renumbered, or stubbed,
 -- or copied. A name-keyed font has one FD, 0.
-use Prim.Native.Nat.{ℕ, zero, suc, _+_}
+use Prim.Native.Nat.{ℕ, _+_}
 use mathlib.Core.Bool.{Bool}
 use mathlib.Core.List.{List, [], _∷_}
+use mathlib.Core.Option.{Option, none, some}
 use lib.Dec.{eqb}
 use lib.IntN.{ℤ}
 use lib.ListN.{length, getD}
 use Rattle.octets.specs.Pick.{pick}
+use Rattle.octets.specs.Steps.{and}
 use Rattle.bits.specs.Bits.{countBelow}
 use Rattle.charstring.specs.Bias.{biasOf}
 use Rattle.unfold.specs.Unfold.{Row, Site, glyph, local, global, entered}
-use Rattle.prune.specs.Renumber.{New, none, new, Operand, fails, operandOf, Calls, Bytes, failed, bytes, renumberCharstring}
+use Rattle.prune.specs.Renumber.{operandOf, Calls, renumberCharstring}
 use Rattle.record.specs.Record.{lists, givenIn, twoLengths}
 use Rattle.cff.specs.Font.{Program}
 use Rattle.subset.specs.Kept.{those, localsOf}
@@ -24,31 +26,17 @@ pub record Bodies : Type 0 where
 -- ---- ranks
 
 -- the new number of a subroutine: how many reached ones are below it
-abbrev pub rank : (ℕ → Bool) → ℕ → New
-rank set i = pick (set i) (new (countBelow set i)) none
+abbrev pub rank : (ℕ → Bool) → ℕ → Option ℕ
+rank set i = pick (set i) (some (countBelow set i)) none
 
 -- how many are reached; a row's number has two bytes
 abbrev pub reached : (ℕ → Bool) → ℕ
 reached set = countBelow set 65536
 
--- ---- one step and the next, either of which fails
-
-pub data May (A : Type 0) : Type 0 where
-  fail : May A
-  yes : A → May A
-
-abbrev pub and : {A B : Type 0} → May A → (A → May B) → May B
-and fail f = fail
-and (yes a) f = f a
-
-abbrev pub whole : Bytes → May (List ℕ)
-whole failed = fail
-whole (bytes bs) = yes bs
-
 -- each of a list
-unfoldable pub each : {A : Type 0} → (ℕ → May A) → List ℕ → May (List A)
-each f [] = yes []
-each f (k ∷ ks) = and (f k) (λ b. and (each f ks) (λ bs. yes (b ∷ bs)))
+unfoldable pub each : {A : Type 0} → (ℕ → Option A) → List ℕ → Option (List A)
+each f [] = some []
+each f (k ∷ ks) = and (f k) (λ b. and (each f ks) (λ bs. some (b ∷ bs)))
 
 -- what a record has of the local subroutines of an FD, and of the globals
 abbrev pub localSet : List Row → ℕ → ℕ → Bool
@@ -58,14 +46,14 @@ abbrev pub globalSet : List Row → ℕ → Bool
 globalSet rows k = lists rows (entered (global k))
 
 -- a body, with the lengths that the record gives for its masks; two lengths at one offset fail
-unfoldable pub renumberedBody : List Row → Calls → Site → List ℕ → May (List ℕ)
-renumberedBody rows calls site s = pick (twoLengths rows site) fail (whole (renumberCharstring calls (givenIn rows site) s))
+unfoldable pub renumberedBody : List Row → Calls → Site → List ℕ → Option (List ℕ)
+renumberedBody rows calls site s = pick (twoLengths rows site) none (renumberCharstring calls (givenIn rows site) s)
 
 -- the reached ones of some subroutines; a number without a subroutine fails
-unfoldable pub renumberedSubrs : List Row → (ℕ → Bool) → Calls → (ℕ → Site) → List (List ℕ) → May (List (List ℕ))
+unfoldable pub renumberedSubrs : List Row → (ℕ → Bool) → Calls → (ℕ → Site) → List (List ℕ) → Option (List (List ℕ))
 renumberedSubrs rows set calls site subrs =
     pick (eqb (reached set) (countBelow set (length subrs)))
-    (each (λ k. renumberedBody rows calls (site k) (getD subrs k [])) (those set (length subrs) 0)) fail
+    (each (λ k. renumberedBody rows calls (site k) (getD subrs k [])) (those set (length subrs) 0)) none
 
 -- each unreached subroutine is a return
 unfoldable pub stubbedFrom : (ℕ → Bool) → ℕ → List (List ℕ) → List (List ℕ)
@@ -80,10 +68,10 @@ mapped f (x ∷ xs) = f x ∷ mapped f xs
 
 module _ (p : Program) (rows : List Row) where
   -- what becomes of the operand of a call of a local subroutine of an FD, and of a global one
-  abbrev pub localOperand : ℕ → ℤ → Operand
+  abbrev pub localOperand : ℕ → ℤ → Option ℤ
   localOperand f z = operandOf (rank (localSet rows f)) (biasOf (length (localsOf p f))) (biasOf (reached (localSet rows f))) z
 
-  abbrev pub globalOperand : ℤ → Operand
+  abbrev pub globalOperand : ℤ → Option ℤ
   globalOperand z = operandOf (rank (globalSet rows)) (biasOf (length (p .globals))) (biasOf (reached (globalSet rows))) z
 
   -- the calls of a glyph or a local subroutine of an FD; those of a global one, which may call a local one only where one FD is in use
@@ -91,17 +79,17 @@ module _ (p : Program) (rows : List Row) where
   callsIn f b z = pick (eqb b 10) (localOperand f z) (globalOperand z)
 
   abbrev pub callsAcross : List ℕ → Calls
-  callsAcross [] b z = pick (eqb b 10) fails (globalOperand z)
+  callsAcross [] b z = pick (eqb b 10) none (globalOperand z)
   callsAcross (f ∷ []) b z = callsIn f b z
-  callsAcross (f ∷ g ∷ fs) b z = pick (eqb b 10) fails (globalOperand z)
+  callsAcross (f ∷ g ∷ fs) b z = pick (eqb b 10) none (globalOperand z)
 
 -- renumbered: the FDs in use, and the order in which the glyphs are written
-unfoldable pub renumbered : Program → List Row → List ℕ → List ℕ → May Bodies
+unfoldable pub renumbered : Program → List Row → List ℕ → List ℕ → Option Bodies
 renumbered p rows used order =
     and (renumberedSubrs rows (globalSet rows) (callsAcross p rows used) global (p .globals)) (λ gs.
     and (each (λ f. renumberedSubrs rows (localSet rows f) (callsIn p rows f) (local f) (localsOf p f)) used) (λ ls.
     and (each (λ g. renumberedBody rows (callsIn p rows (getD (p .fds) g 0)) (glyph g) (getD (p .charstrings) g [])) order) (λ cs.
-    yes (record { globals = gs; locals = ls; charstrings = cs }))))
+    some (record { globals = gs; locals = ls; charstrings = cs }))))
 
 abbrev pub charstringsOf : Program → List ℕ → List (List ℕ)
 charstringsOf p order = mapped (λ g. getD (p .charstrings) g []) order
@@ -123,9 +111,9 @@ pub record Pruned : Type 0 where
   pub way : ℕ
   pub bodies : Bodies
 
-abbrev pub orStubbed : May Bodies → Bodies → Pruned
-orStubbed fail s = record { way = 1; bodies = s }
-orStubbed (yes b) s = record { way = 0; bodies = b }
+abbrev pub orStubbed : Option Bodies → Bodies → Pruned
+orStubbed none s = record { way = 1; bodies = s }
+orStubbed (some b) s = record { way = 0; bodies = b }
 
 unfoldable pub pruned : Program → List Row → List ℕ → List ℕ → ℕ → Pruned
 pruned p rows used order flag =

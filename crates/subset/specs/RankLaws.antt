@@ -4,12 +4,12 @@ use Prim.Native.Nat.{ℕ, zero, suc, _+_, _≤_, _<_}
 use mathlib.Core.Path.{_≡_, refl, sym, ap, _∙_}
 use mathlib.Core.Bool.{Bool, true, false}
 use mathlib.Core.List.{List, _∷_}
+use mathlib.Core.Option.{some}
 use native.Mathlib.Decide.{decLe}
 use native.Mathlib.Numerals.{add-one}
 use native.Mathlib.Omega.{arith}
 use lib.ListN.{length, getD}
 use Rattle.octets.specs.Pick.{pick}
-use Rattle.prune.specs.Renumber.{new}
 use Rattle.prune.specs.StepLaws.{zero-one}
 use Rattle.subset.specs.Kept.{those}
 use Rattle.bits.specs.Bits.{countBelow}
@@ -58,7 +58,7 @@ count-bound set m n i e h l = go (decLe (i + 1) n)
     go (no k) = omega (arith, count-rises set n i (omega arith), count-below set i m h l)
 
 -- a rank is of a number of the set, and counts those below it
-pub rank-new : (set : ℕ → Bool) (i n : ℕ) → rank set i ≡ new n → (set i ≡ true) × (n ≡ countBelow set i)
+pub rank-new : (set : ℕ → Bool) (i n : ℕ) → rank set i ≡ some n → (set i ≡ true) × (n ≡ countBelow set i)
 rank-new set i n e = go (set i) refl
   where
     go : (t : Bool) → set i ≡ t → (set i ≡ true) × (n ≡ countBelow set i)

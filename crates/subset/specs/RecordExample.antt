@@ -2,6 +2,7 @@
 -- gives the same for each of these records.
 use mathlib.Core.Path.{_≡_, refl}
 use mathlib.Core.List.{List, [], _∷_}
+use mathlib.Core.Option.{none, some}
 use Rattle.octets.specs.Octets.{be, numAt, bytesOf}
 use Rattle.type2_number.specs.Number.{keep24, rounded, numberAt}
 use Rattle.type2_number.specs.Encoding.{numberBytes, integerBytes, fixedBytes}
@@ -9,9 +10,9 @@ use Rattle.charstring.specs.Token.{tokensOf, tokensFrom, tokenAt}
 use Rattle.charstring.specs.Encode.{encode}
 use Rattle.unfold.specs.Unfold.{Row, glyph, local, global, entered, masked}
 use Rattle.record.specs.Record.{lists, givenIn, disagrees, twoLengths}
-use Rattle.prune.specs.Renumber.{oldOf, renumber, renumberCharstring}
+use Rattle.prune.specs.Renumber.{renumber, renumberCharstring}
 use Rattle.subset.specs.Kept.{those}
-use Rattle.subset.specs.Pruned.{fail, yes, callsAcross, each, renumberedBody, renumberedSubrs, stubbedFrom, mapped, renumbered, stubbed, pruned}
+use Rattle.subset.specs.Pruned.{callsAcross, each, renumberedBody, renumberedSubrs, stubbedFrom, mapped, renumbered, stubbed, pruned}
 use Rattle.subset.specs.CidFont.{cidProgram, reachRows}
 use Rattle.subset.specs.BodiesExample.{used, order, few-reached, below-two, below-one, renumberedBodies, unrenumberedBodies}
 
@@ -21,7 +22,7 @@ others = entered (local 1 7) ∷ masked (glyph 2) 0 1 ∷ masked (glyph 2) 0 2 �
 
 passed-over : pruned cidProgram others used order 1 ≡ record { way = 0; bodies = renumberedBodies }
 unfolding
-    pruned renumbered renumberedSubrs renumberedBody each those lists givenIn twoLengths disagrees renumberCharstring renumber oldOf encode numberAt keep24 rounded
+    pruned renumbered renumberedSubrs renumberedBody each those lists givenIn twoLengths disagrees renumberCharstring renumber encode numberAt keep24 rounded
     numberBytes integerBytes fixedBytes tokensOf tokensFrom tokenAt bytesOf numAt be
 passed-over = simp (few-reached, below-two, below-one)
 
@@ -31,13 +32,13 @@ unfolding pruned renumbered renumberedSubrs renumberedBody each those lists twoL
 two-lengths = simp (few-reached, below-two)
 
 -- a global subroutine that calls a local one: with two FDs in use it fails, with one it is renumbered
-local-from-global : renumberedBody reachRows (callsAcross cidProgram reachRows used) (global 1) (0x21 ∷ 0x0a ∷ 0x0b ∷ []) ≡ fail
+local-from-global : renumberedBody reachRows (callsAcross cidProgram reachRows used) (global 1) (0x21 ∷ 0x0a ∷ 0x0b ∷ []) ≡ none
 unfolding
     renumberedBody lists givenIn twoLengths disagrees renumberCharstring renumber encode numberAt keep24 rounded tokensOf tokensFrom tokenAt bytesOf numAt be
 local-from-global = refl
 
-local-of-one-fd : renumberedBody reachRows (callsAcross cidProgram reachRows (0 ∷ [])) (global 1) (0x21 ∷ 0x0a ∷ 0x0b ∷ []) ≡ yes (0x20 ∷ 0x0a ∷ 0x0b ∷ [])
+local-of-one-fd : renumberedBody reachRows (callsAcross cidProgram reachRows (0 ∷ [])) (global 1) (0x21 ∷ 0x0a ∷ 0x0b ∷ []) ≡ some (0x20 ∷ 0x0a ∷ 0x0b ∷ [])
 unfolding
-    renumberedBody lists givenIn twoLengths disagrees renumberCharstring renumber oldOf encode numberAt keep24 rounded numberBytes integerBytes fixedBytes tokensOf
+    renumberedBody lists givenIn twoLengths disagrees renumberCharstring renumber encode numberAt keep24 rounded numberBytes integerBytes fixedBytes tokensOf
     tokensFrom tokenAt bytesOf numAt be
 local-of-one-fd = simp (few-reached, below-two, below-one)

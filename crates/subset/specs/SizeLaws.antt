@@ -1,17 +1,13 @@
 -- How many work words a call asks for changes nothing but refusal 9: with enough of them the outcome is the same, whatever is asked for.
-use Prim.Native.Nat.{ℕ, _+_, _*_, _≤_}
+use Prim.Native.Nat.{ℕ, _≤_}
 use mathlib.Core.Path.{_≡_, refl, sym, ap, _∙_}
-use mathlib.Core.Bool.{Bool, false}
+use mathlib.Core.Bool.{Bool}
 use mathlib.Core.List.{List, [], _∷_}
 use native.Mathlib.Omega.{arith}
 use borrow.Author.Tests.{le-ltb}
-use lib.Dec.{ltb}
-use lib.ListN.{length}
-use Rattle.octets.specs.Pick.{pick}
-use Rattle.bits.specs.Bits.{wordsFor}
 use Rattle.cff.specs.Font.{Got, got, Private, Program, readFont}
 use Rattle.cff.specs.Find.{localsTotal, localsWords, workSize}
-use Rattle.subset.specs.Cut.{Outcome, cutProgram, cutRead, cutWith}
+use Rattle.subset.specs.Cut.{cutRead, cutWith}
 use Rattle.subset.specs.Before.{workBefore}
 
 -- two sizes, and words enough for each

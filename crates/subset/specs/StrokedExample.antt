@@ -22,24 +22,24 @@ use Rattle.decimal.specs.Values.{truncOf}
 use Rattle.decimal.specs.Written as decw
 use Rattle.dict.specs.Dict as dict
 use Rattle.dict.specs.Lookup.{lastFrom, lastOf}
-use Rattle.dict_write.specs.Written.{copiedEntry, opBytes, operandsBytes, entryBytes, entriesBytes, offsetEntry, privateEntry, without}
+use Rattle.dict_write.specs.Written.{copiedEntry, opBytes, operandsBytes, entriesBytes, offsetEntry, privateEntry, without}
 use Rattle.charset.specs.Listed.{listOf}
 use Rattle.charset.specs.CharsetBytes.{idBytes, charsetBytes}
 use Rattle.charset.specs.FdSelectBytes as select
 use Rattle.strings.specs.Table.{standardNames}
 use Rattle.strings.specs.Text.{codes, sameText}
 use Rattle.strings.specs.Strings.{stringText, standardString, standardStrings, sidIn, sidOf}
-use Rattle.find.specs.Find.{glyphWithText, glyphWithId}
+use Rattle.find.specs.Find.{glyphWithText}
 use Rattle.prune.specs.Renumber.{renumber, renumberCharstring}
 use Rattle.record.specs.Record.{rowsFrom, rowsOf, rowsFine, recordFine, lists, givenIn, disagrees, twoLengths}
 use Rattle.opentype.specs.Opentype.{placeOf}
 use Rattle.cff.specs.Font as font
 use Rattle.cff.specs.Find as cfffind
-use Rattle.subset.specs.Kept.{isIn, those, placed, sortedBy, fdsOf, newFd}
+use Rattle.subset.specs.Kept.{isIn, those, fdsOf}
 use Rattle.bits.specs.Bits.{countBelow}
 use Rattle.subset.specs.Pruned.{each, renumberedBody, renumberedSubrs, renumbered, pruned}
 use Rattle.subset.specs.Texts.{hasText, ownStrings, placeIn, newId, namedEntries, textsOf, namesOf}
-use Rattle.subset.specs.Subset.{namedBytes, copiedBytes, newIds, privateParts, fontDicts, cidsOf, newFds, subsetByName, subsetByCid, subsetBytes}
+use Rattle.subset.specs.Subset.{namedBytes, copiedBytes, newIds, subsetByName, subsetBytes}
 use Rattle.subset.specs.Cut.{Outcome, refused, subset, allFound, cutWith, cutOf}
 
 -- ---- name-keyed

@@ -9,7 +9,7 @@ use Rattle.octets.specs.Pick.{pick}
 use Rattle.decimal.specs.Decimal.{normal, whole}
 use Rattle.dict.specs.Op.{subrs, fontMatrix, ros, cidCount, copiedTopEntries, copiedTopStrings}
 use Rattle.dict.specs.Dict.{Entry}
-use Rattle.dict.specs.Lookup.{Operands, absent, operands, lastOf, rosIn, cidCountIn, cidKeyed}
+use Rattle.dict.specs.Lookup.{Operands, lastOf, rosIn, cidCountIn, cidKeyed}
 use Rattle.dict.specs.declared.RosIn.{RosIn}
 use Rattle.dict.specs.declared.RosIn.the-variants.{Ros, None}
 use Rattle.dict_write.specs.Written.{entryBytes, copiedEntry, offsetEntry, privateEntry, privateBytes}

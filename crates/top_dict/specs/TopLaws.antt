@@ -20,7 +20,6 @@ use Rattle.decimal.specs.TakenLaws.{whole-normal}
 use Rattle.dict.specs.Op.{isOperator, ros, cidCount, copiedTopEntries, copiedTopStrings}
 use Rattle.dict.specs.Dict.{Entry}
 use Rattle.dict.specs.Lookup.{Operands, absent, operands, lastOf, oneOf, rosAs, rosIn, countAs, cidCountIn}
-use Rattle.dict.specs.Places.{entriesOf}
 use Rattle.dict.specs.declared.One.{One}
 use Rattle.dict.specs.declared.One.the-variants.{Number, Absent as NoNumber}
 use Rattle.dict.specs.declared.RosIn.{RosIn}

@@ -10,6 +10,7 @@ ghost use Rattle.decimal.specs.Written.{numberBytes};
 ghost use Rattle.dict.specs.Op.{isOperator, cidCount, copiedTopEntries};
 ghost use Rattle.dict.specs.Lookup.{rosIn, cidCountIn};
 ghost use Rattle.dict.specs.Places.{entriesOf};
+ghost use Rattle.dict.specs.Noted.{Placed};
 ghost use Rattle.index.specs.Write.{indexBytes};
 ghost use Rattle.subset.specs.Codes.{encodingEntry};
 ghost use Rattle.subset.specs.Subset.{copiedBytes};
@@ -17,11 +18,13 @@ ghost use Rattle.top_dict.specs.Top.{Filled, Offsets, valueEntry, slotEn
 use decimal::whole;
 use decimal_write::number_len;
 use decimal_write::put_number;
+use dict::Places;
 use dict::RosIn;
 use dict::cid_count;
 use dict::op::Op;
 use dict::op::copied_top_entry;
 use dict::op::copied_top_string;
+use dict::read_top;
 use dict::ros;
 use dict_write::copied_len;
 use dict_write::op_len;
@@ -114,56 +117,56 @@ fn put_strings(slots: &[usize], out: &mut [u8], at: usize) -> usize
 }
 
 // How many bytes the entries take that are copied as they are.
-fn entries_len(d: &[u8]) -> usize
-    requires { ⌜ length (now d) ≤ 67108864 ⌝ }
+fn entries_len(d: &[u8], places: Places) -> usize
+    requires { ⌜ (length (now d) ≤ 67108864) × (Placed (now d) places) ⌝ }
     ensures { λ r. ⌜ (r ≡ length (copiedBytes (entriesOf (now (d .entry))) copiedTopEntries)) × (r ≤ 60000000000) ⌝ }
 {
     let mut len: usize = 0;
     let mut k: usize = 0;
     while k < 6 {
-        len += copied_len(d, copied_top_entry(k));
+        len += copied_len(d, places, copied_top_entry(k));
         k += 1;
     }
     len
 }
 
 // The entries that are copied as they are, from `at` on; the place after them.
-fn put_entries(d: &[u8], out: &mut [u8], at: usize) -> usize
-    requires { ⌜ at + length (copiedBytes (entriesOf (now d)) copiedTopEntries) ≤ length (now out) ⌝ }
+fn put_entries(d: &[u8], places: Places, out: &mut [u8], at: usize) -> usize
+    requires { ⌜ (at + length (copiedBytes (entriesOf (now d)) copiedTopEntries) ≤ length (now out)) × (Placed (now d) places) ⌝ }
     ensures { λ r. ⌜ Wrote (now (out .entry)) at (copiedBytes (entriesOf (now (d .entry))) copiedTopEntries) (now (out .exit)) r ⌝ }
 {
     let mut p = at;
     let mut k: usize = 0;
     while k < 6 {
-        p = put_copied(d, copied_top_entry(k), &mut *out, p);
+        p = put_copied(d, places, copied_top_entry(k), &mut *out, p);
         k += 1;
     }
     p
 }
 
 // How many bytes the entries take that both keyings carry over.
-fn carried_len(d: &[u8], slots: &[usize]) -> usize
-    requires { ⌜ (length (now d) ≤ 67108864) × (Filled (now slots)) ⌝ }
+fn carried_len(d: &[u8], places: Places, slots: &[usize]) -> usize
+    requires { ⌜ (length (now d) ≤ 67108864) × (Filled (now slots)) × (Placed (now d) places) ⌝ }
     ensures { λ r. ⌜ (r ≡ length (carried (entriesOf (now (d .entry))) (now (slots .entry)))) × (r ≤ 60000000618) ⌝ }
 {
-    strings_len(slots) + entries_len(d)
+    strings_len(slots) + entries_len(d, places)
 }
 
 // The entries that both keyings carry over, from `at` on; the place after them.
-fn put_carried(d: &[u8], slots: &[usize], out: &mut [u8], at: usize) -> usize
-    requires { ⌜ (Filled (now slots)) × (at + length (carried (entriesOf (now d)) (now slots)) ≤ length (now out)) ⌝ }
+fn put_carried(d: &[u8], places: Places, slots: &[usize], out: &mut [u8], at: usize) -> usize
+    requires { ⌜ (Filled (now slots)) × (at + length (carried (entriesOf (now d)) (now slots)) ≤ length (now out)) × (Placed (now d) places) ⌝ }
     ensures { λ r. ⌜ Wrote (now (out .entry)) at (carried (entriesOf (now (d .entry))) (now (slots .entry))) (now (out .exit)) r ⌝ }
 {
     let p = put_strings(slots, out, at);
-    put_entries(d, out, p)
+    put_entries(d, places, out, p)
 }
 
 // How many bytes ROS takes.
-fn ros_len(d: &[u8], slots: &[usize]) -> usize
-    requires { ⌜ Filled (now slots) ⌝ }
+fn ros_len(d: &[u8], places: Places, slots: &[usize]) -> usize
+    requires { ⌜ (Filled (now slots)) × (Placed (now d) places) ⌝ }
     ensures { λ r. ⌜ (r ≡ length (rosOf (now (slots .entry)) (rosIn (entriesOf (now (d .entry)))))) × (r ≤ 305) ⌝ }
 {
-    let found = ros(d);
+    let found = ros(d, places);
     match found {
         RosIn::None => 0,
         RosIn::Ros {
@@ -188,11 +191,11 @@ fn put_ids(slots: &[usize], out: &mut [u8], at: usize) -> usize
 }
 
 // ROS, from `at` on; the place after it.
-fn put_ros(d: &[u8], slots: &[usize], out: &mut [u8], at: usize) -> usize
-    requires { ⌜ (Filled (now slots)) × (at + length (rosOf (now slots) (rosIn (entriesOf (now d)))) ≤ length (now out)) ⌝ }
+fn put_ros(d: &[u8], places: Places, slots: &[usize], out: &mut [u8], at: usize) -> usize
+    requires { ⌜ (Filled (now slots)) × (at + length (rosOf (now slots) (rosIn (entriesOf (now d)))) ≤ length (now out)) × (Placed (now d) places) ⌝ }
     ensures { λ r. ⌜ Wrote (now (out .entry)) at (rosOf (now (slots .entry)) (rosIn (entriesOf (now (d .entry))))) (now (out .exit)) r ⌝ }
 {
-    let found = ros(d);
+    let found = ros(d, places);
     match found {
         RosIn::None => at,
         RosIn::Ros {
@@ -210,18 +213,19 @@ fn put_ros(d: &[u8], slots: &[usize], out: &mut [u8], at: usize) -> usize
 }
 
 // How many bytes CIDCount takes.
-fn count_len(d: &[u8]) -> usize
+fn count_len(d: &[u8], places: Places) -> usize
+    requires { ⌜ Placed (now d) places ⌝ }
     ensures { λ r. ⌜ (r ≡ length (valueEntry cidCount (cidCountIn (entriesOf (now (d .entry)))))) × (r ≤ 103) ⌝ }
 {
-    value_len(Op::CID_COUNT, cid_count(d))
+    value_len(Op::CID_COUNT, cid_count(d, places))
 }
 
 // CIDCount, from `at` on; the place after it.
-fn put_count(d: &[u8], out: &mut [u8], at: usize) -> usize
-    requires { ⌜ at + length (valueEntry cidCount (cidCountIn (entriesOf (now d)))) ≤ length (now out) ⌝ }
+fn put_count(d: &[u8], places: Places, out: &mut [u8], at: usize) -> usize
+    requires { ⌜ (at + length (valueEntry cidCount (cidCountIn (entriesOf (now d)))) ≤ length (now out)) × (Placed (now d) places) ⌝ }
     ensures { λ r. ⌜ Wrote (now (out .entry)) at (valueEntry cidCount (cidCountIn (entriesOf (now (d .entry))))) (now (out .exit)) r ⌝ }
 {
-    put_value(Op::CID_COUNT, cid_count(d), out, at)
+    put_value(Op::CID_COUNT, cid_count(d, places), out, at)
 }
 
 // How many bytes the Encoding's entry takes: none for offset 0, the standard encoding.
@@ -236,15 +240,23 @@ fn encoding_len(v: usize) -> usize
 
 // The length of the top DICT, whatever its offsets are: 23 bytes for those of a name-keyed subset and 6 for its Encoding, 26 for those of a
 // CID-keyed one.
+fn placed_len(cid: bool, v: usize, d: &[u8], places: Places, slots: &[usize]) -> usize
+    requires { ⌜ (length (now d) ≤ 67108864) × (Filled (now slots)) × (Placed (now d) places) ⌝ }
+    ensures { λ r. ⌜ (r ≡ topLen cid v (entriesOf (now (d .entry))) (now (slots .entry))) × (r ≤ 60000001058) ⌝ }
+{
+    let n = carried_len(d, places, slots);
+    if cid {
+        return ros_len(d, places, slots) + n + count_len(d, places) + 26;
+    }
+    n + 23 + encoding_len(v)
+}
+
+// The same, the entries of d being found by one pass.
 pub fn top_len(cid: bool, v: usize, d: &[u8], slots: &[usize]) -> usize
     requires { ⌜ (length (now d) ≤ 67108864) × (Filled (now slots)) ⌝ }
     ensures { λ r. ⌜ (r ≡ topLen cid v (entriesOf (now (d .entry))) (now (slots .entry))) × (r ≤ 60000001058) ⌝ }
 {
-    let n = carried_len(d, slots);
-    if cid {
-        return ros_len(d, slots) + n + count_len(d) + 26;
-    }
-    n + 23 + encoding_len(v)
+    placed_len(cid, v, d, read_top(d), slots)
 }
 
 // The Encoding's entry, from `at` on; the place after it.
@@ -312,8 +324,9 @@ fn put_cid_offsets(
 }
 
 // The top DICT of a name-keyed subset, from `at` on; the place after it.
-pub fn put_top_named(
+fn put_top_named(
     d: &[u8],
+    places: Places,
     slots: &[usize],
     at1: usize,
     v: usize,
@@ -323,26 +336,28 @@ pub fn put_top_named(
     out: &mut [u8],
     at: usize,
 ) -> usize
-    requires { ⌜ (Filled (now slots)) × (Offsets at1 at2 size at3) × (v < 2147483648) × (at + length (topNamed (entriesOf (now d)) (now slots) at1 v at2 size at3) ≤ length (now out)) ⌝ }
+    requires { ⌜ (Filled (now slots)) × (Offsets at1 at2 size at3) × (v < 2147483648) × (at + length (topNamed (entriesOf (now d)) (now slots) at1 v at2 size at3) ≤ length (now out))
+        × (Placed (now d) places) ⌝ }
     ensures { λ r. ⌜ Wrote (now (out .entry)) at (topNamed (entriesOf (now (d .entry))) (now (slots .entry)) at1 v at2 size at3) (now (out .exit)) r ⌝ }
 {
-    let p = put_carried(d, slots, out, at);
+    let p = put_carried(d, places, slots, out, at);
     put_named_offsets(at1, v, at2, size, at3, out, p)
 }
 
 // What a CID-keyed subset's top DICT holds before its offsets, from `at` on; the place after it.
-fn put_cid_front(d: &[u8], slots: &[usize], out: &mut [u8], at: usize) -> usize
-    requires { ⌜ (Filled (now slots)) × (at + length (cidFront (entriesOf (now d)) (now slots)) ≤ length (now out)) ⌝ }
+fn put_cid_front(d: &[u8], places: Places, slots: &[usize], out: &mut [u8], at: usize) -> usize
+    requires { ⌜ (Filled (now slots)) × (at + length (cidFront (entriesOf (now d)) (now slots)) ≤ length (now out)) × (Placed (now d) places) ⌝ }
     ensures { λ r. ⌜ Wrote (now (out .entry)) at (cidFront (entriesOf (now (d .entry))) (now (slots .entry))) (now (out .exit)) r ⌝ }
 {
-    let p = put_ros(d, slots, out, at);
-    let q = put_carried(d, slots, out, p);
-    put_count(d, out, q)
+    let p = put_ros(d, places, slots, out, at);
+    let q = put_carried(d, places, slots, out, p);
+    put_count(d, places, out, q)
 }
 
 // The top DICT of a CID-keyed subset, from `at` on; the place after it.
-pub fn put_top_cid(
+fn put_top_cid(
     d: &[u8],
+    places: Places,
     slots: &[usize],
     at1: usize,
     at2: usize,
@@ -351,10 +366,10 @@ pub fn put_top_cid(
     out: &mut [u8],
     at: usize,
 ) -> usize
-    requires { ⌜ (Filled (now slots)) × (Offsets at1 at2 at3 at4) × (at + length (topCid (entriesOf (now d)) (now slots) at1 at2 at3 at4) ≤ length (now out)) ⌝ }
+    requires { ⌜ (Filled (now slots)) × (Offsets at1 at2 at3 at4) × (at + length (topCid (entriesOf (now d)) (now slots) at1 at2 at3 at4) ≤ length (now out)) × (Placed (now d) places) ⌝ }
     ensures { λ r. ⌜ Wrote (now (out .entry)) at (topCid (entriesOf (now (d .entry))) (now (slots .entry)) at1 at2 at3 at4) (now (out .exit)) r ⌝ }
 {
-    let p = put_cid_front(d, slots, out, at);
+    let p = put_cid_front(d, places, slots, out, at);
     put_cid_offsets(at1, at2, at3, at4, out, p)
 }
 
@@ -383,9 +398,10 @@ pub fn put_named_index(
         × (at + length (indexBytes (topNamed (entriesOf (now d)) (now slots) at1 v at2 size at3 ∷ [])) ≤ length (now out)) ⌝ }
     ensures { λ r. ⌜ Wrote (now (out .entry)) at (indexBytes (topNamed (entriesOf (now (d .entry))) (now (slots .entry)) at1 v at2 size at3 ∷ [])) (now (out .exit)) r ⌝ }
 {
-    let n = top_len(false, v, d, slots);
+    let places = read_top(d);
+    let n = placed_len(false, v, d, places, slots);
     let p = put_single_head(n, out, at);
-    put_top_named(d, slots, at1, v, at2, size, at3, out, p)
+    put_top_named(d, places, slots, at1, v, at2, size, at3, out, p)
 }
 
 // The INDEX of the top DICT of a CID-keyed subset, from `at` on; the place after it.
@@ -403,7 +419,8 @@ pub fn put_cid_index(
         × (at + length (indexBytes (topCid (entriesOf (now d)) (now slots) at1 at2 at3 at4 ∷ [])) ≤ length (now out)) ⌝ }
     ensures { λ r. ⌜ Wrote (now (out .entry)) at (indexBytes (topCid (entriesOf (now (d .entry))) (now (slots .entry)) at1 at2 at3 at4 ∷ [])) (now (out .exit)) r ⌝ }
 {
-    let n = top_len(true, 0, d, slots);
+    let places = read_top(d);
+    let n = placed_len(true, 0, d, places, slots);
     let p = put_single_head(n, out, at);
-    put_top_cid(d, slots, at1, at2, at3, at4, out, p)
+    put_top_cid(d, places, slots, at1, at2, at3, at4, out, p)
 }

@@ -1,10 +1,9 @@
 -- The charstrings and subroutines of a font that was read are no longer than the font: offsets in them fit four bytes.
 use Prim.Native.Nat.{ℕ, zero, suc, _+_, _≤_}
-use mathlib.Core.Path.{_≡_, refl, ap, _∙_, subst}
+use mathlib.Core.Path.{_≡_, ap, _∙_, subst}
 use mathlib.Core.Bool.{Bool, true, false}
 use mathlib.Core.List.{List, [], _∷_}
 use native.Mathlib.Omega.{arith}
-use borrow.Author.Tests.{ltb-false}
 use lib.Dec.{ltb, eqb}
 use lib.ListN.{length, take, drop, getD}
 use Rattle.octets.specs.Pick.{pick}
@@ -20,7 +19,7 @@ use Rattle.dict.specs.declared.OffsetIn.the-variants.{Refused as RefusedOffset,
 use Rattle.dict.specs.declared.PrivateIn.{PrivateIn}
 use Rattle.dict.specs.declared.PrivateIn.the-variants.{Refused as RefusedPrivate, Private as PrivateEntry, Absent as NoPrivate}
 use Rattle.charset.specs.FdSelect.{noFds}
-use Rattle.cff.specs.Font.{charset, encoding, charStrings, fdArray, fdSelect, Got, refused as refusedFont, got, then, Private, standard, Added, Program, indexGot, dictGot, unless, needed, orZero, localsAt, privateData, privateAt, privatesAt, dictsAt, idsAt, fdsAt, codingAt, encodingGot, cidParts, nameParts, fontAt, fontsAt, firstOf, setAt, readTable, readFont, emptyPrivate}
+use Rattle.cff.specs.Font.{charset, encoding, charStrings, fdArray, fdSelect, Got, got, then, Private, standard, Added, Program, indexGot, dictGot, unless, needed, orZero, localsAt, privateData, privateAt, privatesAt, dictsAt, idsAt, fdsAt, encodingGot, cidParts, nameParts, fontAt, fontsAt, firstOf, setAt, readTable, readFont, emptyPrivate}
 use Rattle.cff.specs.FileLaws.{read-within, within-short}
 use Rattle.cff.specs.ReadsLaws.{no}
 use Rattle.subset.specs.Kept.{localsOf}

@@ -8,7 +8,7 @@ use borrow.Author.Tests.{eqb-true, eq-eqb}
 use lib.Dec.{ltb, eqb}
 use Rattle.octets.specs.Pick.{pick, pick-ind}
 use Rattle.unfold.specs.Unfold.{Row}
-use Rattle.prune.specs.Bodies.{All, none, one}
+use Rattle.prune.specs.Bodies.{All, empty, one}
 use Rattle.prune.specs.StepLaws.{zero-one}
 use Rattle.record.specs.Record.{sameRow, lists}
 use Rattle.row_window.specs.Window.{placed, gathered}
@@ -112,11 +112,11 @@ module _ (P : Row → Type 0) where
   all-at r (q ∷ rows) (one p a) (there h) = all-at r rows a h
 
   pub all-from : (rows : List Row) → ((r : Row) → Has Row r rows → P r) → All P rows
-  all-from [] f = none
+  all-from [] f = empty
   all-from (q ∷ rows) f = one (f q (here refl)) (all-from rows (λ r h. f r (there h)))
 
   pub all-more : (rows : List Row) (r : Row) → All P rows → P r → All P (rows ++ (r ∷ []))
-  all-more [] r a p = one p none
+  all-more [] r a p = one p empty
   all-more (q ∷ rows) r (one o a) p = one o (all-more rows r a p)
 
 -- ---- what a record lists

@@ -1,4 +1,5 @@
 -- What glyphs meet together (document 02, Wish 1): each row of theirs, and no other; or one of them is not plain. And which glyphs are kept.
+use mathlib.Core.Option.{Option, none, some}
 use Prim.Native.Nat.{ℕ, zero, suc, _+_, _<_}
 use mathlib.Core.Path.{_≡_, refl, sym, ap, _∙_, subst}
 use mathlib.Core.Bool.{Bool, true, false}
@@ -11,12 +12,12 @@ use lib.ListN.{length}
 use Rattle.octets.specs.Pick.{pick, pick-ind}
 use Rattle.octets.specs.Lists.{allBelow}
 use Rattle.octets.specs.ListLaws.{below-at}
+use Rattle.octets.specs.Steps.{and}
 use Rattle.unfold.specs.Unfold.{Tok, Row, Glyph, notPlain, plain}
 use Rattle.prune.specs.StepLaws.{zero-one}
 use Rattle.cff.specs.Font.{Program}
 use Rattle.subset.specs.Kept.{isIn, those, keeps, keptOf}
 use Rattle.subset.specs.KeptListLaws.{in-head, in-more, in-cases, in-none, in-place, those-in}
-use Rattle.subset.specs.Pruned.{May, fail, yes, and}
 use Rattle.faithful.specs.Faithful.{unfolded, IsKept}
 use Rattle.traced.specs.Traced.{metBy, metAll}
 use Rattle.traced.specs.Has.{Has, there}
@@ -45,20 +46,20 @@ module _ (p : Program) where
     pub met : List Row
     pub rest : List Row
     pub first : unfolded p g ≡ plain tokens met
-    pub others : metAll p gs ≡ yes rest
+    pub others : metAll p gs ≡ some rest
     pub all : met ++ rest ≡ rows
 
-  pub split : (g : ℕ) (gs : List ℕ) (rows : List Row) → metAll p (g ∷ gs) ≡ yes rows → Split g gs rows
+  pub split : (g : ℕ) (gs : List ℕ) (rows : List Row) → metAll p (g ∷ gs) ≡ some rows → Split g gs rows
   unfolding metAll
   split g gs rows e = by (unfolded p g) refl (metAll p gs) refl e
     where
-      by : (u : Glyph) → unfolded p g ≡ u → (m : May (List Row)) → metAll p gs ≡ m → and (metBy u) (λ met. and m (λ rest. yes (met ++ rest))) ≡ yes rows → Split g gs rows
+      by : (u : Glyph) → unfolded p g ≡ u → (m : Option (List Row)) → metAll p gs ≡ m → and (metBy u) (λ met. and m (λ rest. some (met ++ rest))) ≡ some rows → Split g gs rows
       by notPlain a m b h = absurd (zero-one cc)
-      by (plain ts met) a fail b h = absurd (zero-one cc)
-      by (plain ts met) a (yes rest) b h = record { tokens = ts; met = met; rest = rest; first = a; others = b; all = cc }
+      by (plain ts met) a none b h = absurd (zero-one cc)
+      by (plain ts met) a (some rest) b h = record { tokens = ts; met = met; rest = rest; first = a; others = b; all = cc }
 
   -- each glyph's rows are there
-  pub met-within : (gs : List ℕ) (rows : List Row) → metAll p gs ≡ yes rows → (g : ℕ) → isIn g gs ≡ true → Within p g rows
+  pub met-within : (gs : List ℕ) (rows : List Row) → metAll p gs ≡ some rows → (g : ℕ) → isIn g gs ≡ true → Within p g rows
   met-within [] rows e g h = absurd (in-none g h)
   met-within (x ∷ gs) rows e g h =
       let s = split x gs rows e in
@@ -79,7 +80,7 @@ module _ (p : Program) where
       (in-cases x g gs h)
 
   -- and no other
-  pub met-from : (gs : List ℕ) (rows : List Row) → metAll p gs ≡ yes rows → (r : Row) → Has Row r rows → (g : ℕ) × (isIn g gs ≡ true) × Meets p g r
+  pub met-from : (gs : List ℕ) (rows : List Row) → metAll p gs ≡ some rows → (r : Row) → Has Row r rows → (g : ℕ) × (isIn g gs ≡ true) × Meets p g r
   unfolding metAll
   met-from [] rows e r h = let z : [] ≡ rows = cc in absurd (has-none Row r (subst (Has Row r) (sym z) h))
   met-from (x ∷ gs) rows e r h =
@@ -90,16 +91,16 @@ module _ (p : Program) where
       (has-either Row r (s .met) (s .rest) (subst (Has Row r) (sym (s .all)) h))
 
   -- where it fails one is not plain
-  pub met-fails : (gs : List ℕ) → metAll p gs ≡ fail → (g : ℕ) × (isIn g gs ≡ true) × (unfolded p g ≡ notPlain)
+  pub met-fails : (gs : List ℕ) → metAll p gs ≡ none → (g : ℕ) × (isIn g gs ≡ true) × (unfolded p g ≡ notPlain)
   unfolding metAll
   met-fails [] e = absurd (zero-one cc)
   met-fails (x ∷ gs) e = by (unfolded p x) refl (metAll p gs) refl e (met-fails gs)
     where
-      by : (u : Glyph) → unfolded p x ≡ u → (m : May (List Row)) → metAll p gs ≡ m → and (metBy u) (λ met. and m (λ rest. yes (met ++ rest))) ≡ fail
-          → (metAll p gs ≡ fail → (g : ℕ) × (isIn g gs ≡ true) × (unfolded p g ≡ notPlain)) → (g : ℕ) × (isIn g (x ∷ gs) ≡ true) × (unfolded p g ≡ notPlain)
+      by : (u : Glyph) → unfolded p x ≡ u → (m : Option (List Row)) → metAll p gs ≡ m → and (metBy u) (λ met. and m (λ rest. some (met ++ rest))) ≡ none
+          → (metAll p gs ≡ none → (g : ℕ) × (isIn g gs ≡ true) × (unfolded p g ≡ notPlain)) → (g : ℕ) × (isIn g (x ∷ gs) ≡ true) × (unfolded p g ≡ notPlain)
       by notPlain a m b h f = (x, in-head x x gs refl, a)
-      by (plain ts met) a fail b h f = let q = f b in (q .0, in-more x (q .0) gs (q .1), q .2)
-      by (plain ts met) a (yes rest) b h f = absurd (zero-one cc)
+      by (plain ts met) a none b h f = let q = f b in (q .0, in-more x (q .0) gs (q .1), q .2)
+      by (plain ts met) a (some rest) b h f = absurd (zero-one cc)
 
 -- ---- the kept glyphs
 
@@ -138,7 +139,7 @@ module _ (keep keep' : List ℕ) (same : (g : ℕ) → keeps keep g ≡ keeps ke
   kept-same n = those-same (keeps keep) (keeps keep') same n 0
 
   pub below-as : (n : ℕ) → 0 < n → allBelow n keep' ≡ true → allBelow n keep ≡ true
-  below-as n some e = below-from n keep (λ g h. ⊎-elim (λ z. omega (arith, z)) (λ i. below-in n keep' e g i) (asked-for keep' g (sym (same g) ∙ kept g h)))
+  below-as n any e = below-from n keep (λ g h. ⊎-elim (λ z. omega (arith, z)) (λ i. below-in n keep' e g i) (asked-for keep' g (sym (same g) ∙ kept g h)))
     where
       kept : (g : ℕ) → isIn g keep ≡ true → keeps keep g ≡ true
       kept g h = pick-ind (λ (t : Bool). t ≡ true) (eqb g 0) true (isIn g keep) (λ t. refl) (λ t. h)

@@ -1,4 +1,5 @@
 -- The three parts make up the record (document 02, Wish 1): a glyph meets masks of kind 2 in itself alone, so that these can be sorted glyph by glyph.
+use mathlib.Core.Option.{some}
 use Prim.Native.Nat.{ℕ, zero, suc, _+_, _≤_, _<_}
 use mathlib.Core.Path.{_≡_, refl, sym, ap, _∙_, subst}
 use mathlib.Core.Bool.{Bool, true, false}
@@ -13,14 +14,13 @@ use Rattle.octets.specs.PickLaws.{pick-same}
 use Rattle.octets.specs.Octets.{Octets}
 use Rattle.strings.specs.TableLaws.{and-left}
 use Rattle.unfold.specs.Unfold.{Tok, Row, Glyph, plain}
-use Rattle.prune.specs.Bodies.{All, none as nothing, one as listing}
+use Rattle.prune.specs.Bodies.{All, empty as nothing, one as listing}
 use Rattle.prune.specs.BelongsLaws.{Belongs, rows-belong}
 use Rattle.record.specs.Record.{rowFine}
 use Rattle.dict.specs.Lookup.{cidKeyed}
 use Rattle.cff.specs.Font.{got, Program, readFont}
 use Rattle.subset.specs.Kept.{those, keeps, keptOf, localsOf}
 use Rattle.subset.specs.KeptListLaws.{those-in}
-use Rattle.subset.specs.Pruned.{yes}
 use Rattle.row_window.specs.Window.{gathered, inRange, within, Below, none, one}
 use Rattle.row_window.specs.WindowLaws.{within-both, range-split}
 use Rattle.row_window.specs.NextLaws.{within-all}
@@ -113,22 +113,22 @@ step g top met rest h own later =
 module _ (p : Program) (test : ℕ → Bool) (total : ℕ) (few : total ≤ 65536)
     (own : (g : ℕ) → g < total → (ts : List Tok) (met : List Row) → unfolded p g ≡ plain ts met → (r : Row) → Has Row r met → MaskIn g (g + 1) r) where
   -- rows of later glyphs
-  later : (n g : ℕ) → g + n ≤ total → (rows : List Row) → metAll p (those test n g) ≡ yes rows → (r : Row) → Has Row r rows → MaskIn g (g + n) r
+  later : (n g : ℕ) → g + n ≤ total → (rows : List Row) → metAll p (those test n g) ≡ some rows → (r : Row) → Has Row r rows → MaskIn g (g + n) r
   later n g h rows e r i =
       let m = met-from p (those test n g) rows e r i in
       let t = those-in test n g (m .0) (m .1) in
       mask-wider (m .0) (m .0 + 1) g (g + n) r (own (m .0) (omega (arith, t .1)) (m .2 .tokens) (m .2 .met) (m .2 .plainly) r (m .2 .has)) (t .0) (omega (arith, t .1))
 
-  masks-sorted : (n g : ℕ) → g + n ≤ total → (rows : List Row) → metAll p (those test n g) ≡ yes rows
+  masks-sorted : (n g : ℕ) → g + n ≤ total → (rows : List Row) → metAll p (those test n g) ≡ some rows
       → keysIn (maskFrom g) subrsFrom rows ≡ masksOf p (those test n g)
   unfolding those metAll masksOf gathered within
   masks-sorted zero g h rows e = let z : rows ≡ [] = cc in ap (λ (l : List Row). keysIn (maskFrom g) subrsFrom l) z
   masks-sorted (suc n) g h rows e =
       by (test g) e (λ rest o. masks-sorted n (g + 1) (omega arith) rest o) (λ rest o. later n (g + 1) (omega arith) rest o)
     where
-      by : (t : Bool) → metAll p (pick t (g ∷ those test n (g + 1)) (those test n (g + 1))) ≡ yes rows
-          → ((rest : List Row) → metAll p (those test n (g + 1)) ≡ yes rest → keysIn (maskFrom (g + 1)) subrsFrom rest ≡ masksOf p (those test n (g + 1)))
-          → ((rest : List Row) → metAll p (those test n (g + 1)) ≡ yes rest → (r : Row) → Has Row r rest → MaskIn (g + 1) (g + 1 + n) r)
+      by : (t : Bool) → metAll p (pick t (g ∷ those test n (g + 1)) (those test n (g + 1))) ≡ some rows
+          → ((rest : List Row) → metAll p (those test n (g + 1)) ≡ some rest → keysIn (maskFrom (g + 1)) subrsFrom rest ≡ masksOf p (those test n (g + 1)))
+          → ((rest : List Row) → metAll p (those test n (g + 1)) ≡ some rest → (r : Row) → Has Row r rest → MaskIn (g + 1) (g + 1 + n) r)
           → keysIn (maskFrom g) subrsFrom rows ≡ masksOf p (pick t (g ∷ those test n (g + 1)) (those test n (g + 1)))
       by true i next beyond =
           let s = split p g (those test n (g + 1)) rows i in
@@ -181,7 +181,7 @@ module _ (font keep : List ℕ) (octets : Octets font) (p : Program) (is : readF
       }
 
   -- THE LAW of the parts: what the kept glyphs enter; the masks in each of them, glyph by glyph; the masks in subroutines
-  pub kept-parts : (rows : List Row) → keptRows p keep ≡ yes rows
+  pub kept-parts : (rows : List Row) → keptRows p keep ≡ some rows
       → recordOf rows
       ≡ keysBytes (keysIn 0 (maskFrom 0) rows) ++ (keysBytes (masksOf p (keptOf (length (p .charstrings)) keep)) ++ keysBytes (keysIn subrsFrom keysEnd rows))
   kept-parts rows e =

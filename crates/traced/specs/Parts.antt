@@ -2,9 +2,9 @@
 -- glyph; the masks in subroutines, kinds 3 and 4.
 use Prim.Native.Nat.{ℕ, _+_}
 use mathlib.Core.List.{List, [], _∷_, _++_, map}
+use mathlib.Core.Option.{Option, none, some}
 use Rattle.unfold.specs.Unfold.{Row}
 use Rattle.cff.specs.Font.{Program}
-use Rattle.subset.specs.Pruned.{May, fail, yes}
 use Rattle.row_window.specs.Window.{gathered, within}
 use Rattle.row_window.specs.Key.{keyOf}
 use Rattle.faithful.specs.Faithful.{unfolded}
@@ -29,9 +29,9 @@ abbrev pub keysIn : ℕ → ℕ → List Row → List ℕ
 keysIn low high rows = gathered [] (within low high (map keyFor rows))
 
 -- the masks in a plain glyph itself
-abbrev pub masksIn : ℕ → May (List Row) → List ℕ
-masksIn g fail = []
-masksIn g (yes met) = keysIn (maskFrom g) (maskFrom (g + 1)) met
+abbrev pub masksIn : ℕ → Option (List Row) → List ℕ
+masksIn g none = []
+masksIn g (some met) = keysIn (maskFrom g) (maskFrom (g + 1)) met
 
 -- those of glyphs, one after the other
 unfoldable pub masksOf : Program → List ℕ → List ℕ

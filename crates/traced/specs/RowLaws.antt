@@ -1,6 +1,6 @@
 -- Laws of a record's bytes (document 01, 'Reach record'): rows whose fields fit their bytes read back; a record has the rows that it is made of,
 -- rising; and it is what the keys of its rows give, sorted.
-use Prim.Native.Nat.{ℕ, zero, suc, _+_, _*_, _/_, _%_, _^_, _<_}
+use Prim.Native.Nat.{ℕ, zero, suc, _*_, _/_, _%_, _^_, _<_}
 use mathlib.Core.Path.{_≡_, refl, sym, ap, _∙_, subst}
 use mathlib.Core.List.{List, [], _∷_, _++_, map, append-assoc}
 use mathlib.Core.Logic.{⊎-elim}
@@ -10,7 +10,7 @@ use lib.Seq.{drop-drop}
 use Rattle.octets.specs.Octets.{Octets, be, bytesOf}
 use Rattle.octets.specs.OctetsLaws.{length-bytes, be-bytes, drop-front, num-written}
 use Rattle.unfold.specs.Unfold.{Row}
-use Rattle.prune.specs.Bodies.{All, none, one}
+use Rattle.prune.specs.Bodies.{All, empty, one}
 use Rattle.record.specs.Record.{rowOf, rowsFrom, rowsOf}
 use Rattle.row_window.specs.Window.{gathered, Rising, none as noNumber}
 use Rattle.row_window.specs.WindowLaws.{rising-gathered}
@@ -79,7 +79,7 @@ record-tens rows = tens-length (gathered [] (map rowKey rows))
 
 rows-read : (l : List Row) → All RowFits l → rowsFrom (length l) (tensBytes (map rowKey l)) ≡ l
 unfolding rowsFrom tensBytes
-rows-read [] none = refl
+rows-read [] empty = refl
 rows-read (r ∷ l) (one f a) =
     let rest = tensBytes (map rowKey l) in
     let e : rowOf (bytesOf 10 (rowKey r) ++ rest) ≡ r = ap (λ (b : List ℕ). rowOf (b ++ rest)) (ten-row r f) ∙ row-read r f rest in
@@ -176,7 +176,7 @@ record-octets rows = octets-tens (gathered [] (map rowKey rows))
 -- ---- the record by keys
 
 keys-ten : (rows : List Row) → All RowFits rows → map rowKey rows ≡ map tenOf (map keyFor rows)
-keys-ten [] none = refl
+keys-ten [] empty = refl
 keys-ten (r ∷ rows) (one f a) =
     ap (λ (k : ℕ). k ∷ map rowKey rows) (row-key r f) ∙ ap (λ (l : List ℕ). tenOf (keyFor r) ∷ l) (keys-ten rows a)
 

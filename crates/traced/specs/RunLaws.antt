@@ -1,17 +1,19 @@
 -- The rows that a glyph meets (document 01, 'Plain glyphs' and 'Reach record') fit their bytes and are of the right form: refusal 8 does not meet them.
-use Prim.Native.Nat.{ℕ, zero, suc, _+_, _-_, _/_, _%_, _≤_, _<_}
+use Prim.Native.Nat.{ℕ, zero, suc, _+_, _≤_, _<_}
 use mathlib.Core.Path.{_≡_, refl, subst}
 use mathlib.Core.Bool.{Bool, true, false}
 use mathlib.Core.List.{List, [], _∷_}
+use mathlib.Core.Option.{Option, none, some}
 use native.Mathlib.Omega.{arith}
 use borrow.Author.Tests.{eq-eqb, ltb-true, ltb-false}
-use lib.Dec.{ltb, leb, eqb}
-use lib.IntN.{pos, negsuc}
+use lib.Dec.{ltb}
+use lib.IntN.{ℤ}
 use lib.ListN.{length, getD}
 use Rattle.octets.specs.Pick.{pick}
-use Rattle.charstring.specs.Bias.{biasOf}
-use Rattle.unfold.specs.Unfold.{Tok, Row, Site, glyph, local, global, entered, masked, State, Run, broken, returned, ended, Last, none, last, calling, nowhere, target, targetOf, after, walk, runBody, plain, glyphOf, fresh, unfoldGlyph}
-use Rattle.prune.specs.Bodies.{All, none as nothing}
+use Rattle.octets.specs.Steps.{and}
+use Rattle.charstring.specs.Bias.{biasOf, numbered}
+use Rattle.unfold.specs.Unfold.{Tok, Row, Site, glyph, local, global, entered, masked, State, Run, broken, returned, ended, calling, targetOf, after, walk, runBody, plain, glyphOf, fresh, unfoldGlyph}
+use Rattle.prune.specs.Bodies.{All, empty as nothing}
 use Rattle.prune.specs.StepLaws.{zero-one, stemsNow, maskNow, Step, reads, callsLocal, callsGlobal, returns, ends, escapes, masks, clears, walk-was}
 use Rattle.record.specs.Record.{rowFine}
 use Rattle.traced.specs.RowLaws.{RowFits}
@@ -26,7 +28,7 @@ pub record Proper (cid : Bool) (r : Row) : Type 0 where
 -- a body whose number and FD fit; in a name-keyed font the FD is 0
 pub record FdFits (cid : Bool) (fd : ℕ) : Type 0 where
   pub byte : fd < 256
-  pub none : cid ≡ false → fd ≡ 0
+  pub one : cid ≡ false → fd ≡ 0
 
 abbrev pub SiteFits : Bool → Site → Type 0
 SiteFits cid (glyph g) = g < 65536
@@ -41,7 +43,7 @@ enters-local cid fd k f h =
   where
     by : (c : Bool) → FdFits c fd → rowFine c (entered (local fd k)) ≡ true
     by true g = refl
-    by false g = rw (eq-eqb fd 0 (g .none refl))
+    by false g = rw (eq-eqb fd 0 (g .one refl))
 
 enters-global : (cid : Bool) (k : ℕ) → k < 65536 → Proper cid (entered (global k))
 enters-global cid k h =
@@ -63,7 +65,7 @@ masks-in cid (local fd k) offset len s o l =
   where
     by : (c : Bool) → FdFits c fd → rowFine c (masked (local fd k) offset len) ≡ true
     by true g = refl
-    by false g = rw (eq-eqb fd 0 (g .none refl))
+    by false g = rw (eq-eqb fd 0 (g .one refl))
 masks-in cid (global k) offset len s o l =
     record { fits = record { kind = omega arith; fd = omega arith; number = s; offset = o; len = l }; fine = by cid }
   where
@@ -76,24 +78,17 @@ mask-short : (st : State) → ltb 96 (stemsNow st) ≡ false → maskNow st < 16
 mask-short st h = omega (arith, ltb-false 96 (stemsNow st) h)
 
 -- the subroutine that a call names is one of them
-tested : (t u : Bool) (count n i : ℕ) → pick t (pick u (target n) nowhere) nowhere ≡ target i → (u ≡ true → n < count) → i < count
-tested true true count n i e f = let s : n ≡ i = cc in subst (λ (k : ℕ). k < count) s (f refl)
-tested true false count n i e f = absurd (zero-one cc)
-tested false u count n i e f = absurd (zero-one cc)
+tested : (u : Bool) (count n i : ℕ) → pick u (some n) none ≡ some i → (u ≡ true → n < count) → i < count
+tested true count n i e f = let s : n ≡ i = cc in subst (λ (k : ℕ). k < count) s (f refl)
+tested false count n i e f = absurd (zero-one cc)
 
-pub target-below : (count : ℕ) (l : Last) (i : ℕ) → targetOf count l ≡ target i → i < count
+pub target-below : (count : ℕ) (l : Option ℤ) (i : ℕ) → targetOf count l ≡ some i → i < count
 unfolding targetOf
-target-below count none i e = absurd (zero-one cc)
-target-below count (last (pos n)) i e =
-    tested (eqb (n % 65536) 0) (ltb (n / 65536 + biasOf count) count) count (n / 65536 + biasOf count) i e (λ t. ltb-true (n / 65536 + biasOf count) count t)
-target-below count (last (negsuc m)) i e = by (eqb (suc m % 65536) 0) e
+target-below count l i e = go (and l (numbered (biasOf count))) e
   where
-    by : (t : Bool) → pick t (pick (leb (suc m / 65536) (biasOf count)) (pick (ltb (biasOf count - suc m / 65536) count) (target (biasOf count - suc m / 65536)) nowhere) nowhere) nowhere
-        ≡ target i → i < count
-    by true h =
-        tested (leb (suc m / 65536) (biasOf count)) (ltb (biasOf count - suc m / 65536) count) count (biasOf count - suc m / 65536) i h
-        (λ t. ltb-true (biasOf count - suc m / 65536) count t)
-    by false h = absurd (zero-one cc)
+    go : (o : Option ℕ) → and o (λ (k : ℕ). pick (ltb k count) (some k) none) ≡ some i → i < count
+    go none h = absurd (zero-one cc)
+    go (some k) h = tested (ltb k count) count k i h (λ t. ltb-true k count t)
 
 -- ---- a run
 
@@ -119,9 +114,9 @@ module _ (cid : Bool) (globals locals : List (List ℕ)) (fd : ℕ) (fdFits : Fd
 
   module _ (enter : Site → List ℕ → State → Run) (enters : Enters enter) (site : Site) (s : List ℕ) (fits : SiteFits cid site) (short : length s ≤ 67108864) where
     abbrev Walks : ℕ → Type 0
-    Walks k = (at : ℕ) (l : Last) (st : State) (r : Run) → All P (st .met) → walk globals locals fd enter k site s at l st ≡ r → Good r
+    Walks k = (at : ℕ) (l : Option ℤ) (st : State) (r : Run) → All P (st .met) → walk globals locals fd enter k site s at l st ≡ r → Good r
 
-    module _ (k : ℕ) (next : Walks k) (at : ℕ) (l : Last) (st : State) (r : Run) (own : All P (st .met)) (inside : at < length s) where
+    module _ (k : ℕ) (next : Walks k) (at : ℕ) (l : Option ℤ) (st : State) (r : Run) (own : All P (st .met)) (inside : at < length s) where
       good-call : (which : Site) (body : List ℕ) → SiteFits cid which → length body ≤ 67108864 → P (entered which)
           → after (enter which body (calling which st)) (walk globals locals fd enter k site s (at + 1) none) ≡ r → Good r
       good-call which body f h p e =
@@ -130,7 +125,7 @@ module _ (cid : Bool) (globals locals : List (List ℕ)) (fd : ℕ) (fdFits : Fd
           (λ x a g. next (at + 1) none x r a g)
 
       good-step : Step globals locals fd enter k site s at l st r → Good r
-      good-step (reads z n f a b e) = next n (last z) _ r own e
+      good-step (reads z n f a b e) = next n (some z) _ r own e
       good-step (callsLocal i o f e) =
           let h : i < 65536 = omega (arith, target-below (length locals) l i f, fewLocals) in
           good-call (local fd i) (getD locals i []) (fdFits, h) (shortLocals i) (enters-local cid fd i fdFits h) e

@@ -1,6 +1,7 @@
 -- What tracing promises (document 02, Wish 1), whatever the font and the keep list are: with flag 1 the record lists exactly what the kept glyphs
 -- meet, in rising byte order without repeats; flag 0 stands exactly where a kept glyph is not plain; no subset call refuses a traced record; and a
 -- subset cut by it holds every plain kept glyph (document 01's demand 3, with no word of a record).
+use mathlib.Core.Option.{Option, none, some}
 use Prim.Native.Nat.{ℕ, _%_, _<_}
 use mathlib.Core.Path.{_≡_, refl, sym, ap, _∙_, subst}
 use mathlib.Core.Bool.{Bool, true, false}
@@ -22,9 +23,8 @@ use Rattle.dict.specs.Lookup.{cidKeyed}
 use Rattle.cff.specs.Font.{Got, refused as refusedFont, got, Program, readFont}
 use Rattle.cff.specs.Find.{workSize}
 use Rattle.subset.specs.Kept.{keeps, keptOf, localsOf}
-use Rattle.subset.specs.Pruned.{May, fail, yes}
 use Rattle.subset.specs.Cut.{refused as refusedCut, subset, allFound, cutRead, cutWith, cutOf}
-use Rattle.row_window.specs.Window.{Rising, none}
+use Rattle.row_window.specs.Window.{Rising, none as noKeys}
 use Rattle.faithful.specs.Faithful.{unfolded, IsKept, Recorded, Holds, Faithful}
 use Rattle.faithful.specs.GoodLaws.{font-good}
 use Rattle.faithful.specs.KeptLaws.{kept-is}
@@ -41,29 +41,29 @@ use Rattle.traced.specs.MetLaws.{Meets, met-within, met-from, met-fails,
 -- ---- a call that is not refused
 
 -- the rows that the kept glyphs meet
-abbrev pub keptRows : Program → List ℕ → May (List Row)
+abbrev pub keptRows : Program → List ℕ → Option (List Row)
 keptRows p keep = metAll p (keptOf (length (p .charstrings)) keep)
 
 -- flag 0 with nothing, where one is not plain
-record Without (m : May (List Row)) (flag : ℕ) (rec : List ℕ) : Type 0 where
-  fails : m ≡ fail
+record Without (m : Option (List Row)) (flag : ℕ) (rec : List ℕ) : Type 0 where
+  fails : m ≡ none
   zero-flag : flag ≡ 0
   empty : rec ≡ []
 
 -- flag 1 and the record of the rows met
-record Recording (m : May (List Row)) (flag : ℕ) (rec : List ℕ) : Type 0 where
+record Recording (m : Option (List Row)) (flag : ℕ) (rec : List ℕ) : Type 0 where
   rows : List Row
-  met : m ≡ yes rows
+  met : m ≡ some rows
   one-flag : flag ≡ 1
   is : rec ≡ recordOf rows
 
-abbrev Answered : May (List Row) → ℕ → List ℕ → Type 0
+abbrev Answered : Option (List Row) → ℕ → List ℕ → Type 0
 Answered m flag rec = Without m flag rec ⊎ Recording m flag rec
 
 was-answered : (p : Program) (keep : List ℕ) (room flag : ℕ) (rec : List ℕ) → traceProgram p keep room ≡ traced flag rec → Answered (keptRows p keep) flag rec
 was-answered p keep room flag rec e = by-below (allBelow (length (p .charstrings)) keep) e
   where
-    by-room : (rows : List Row) → keptRows p keep ≡ yes rows → (t : Bool) → pick t (refused 11) (traced 1 (recordOf rows)) ≡ traced flag rec
+    by-room : (rows : List Row) → keptRows p keep ≡ some rows → (t : Bool) → pick t (refused 11) (traced 1 (recordOf rows)) ≡ traced flag rec
         → Answered (keptRows p keep) flag rec
     by-room rows a true g = absurd (zero-one cc)
     by-room rows a false g =
@@ -71,12 +71,12 @@ was-answered p keep room flag rec e = by-below (allBelow (length (p .charstrings
         let l : recordOf rows ≡ rec = cc in
         inr (record { rows = rows; met = a; one-flag = sym n; is = sym l })
 
-    by-rows : (m : May (List Row)) → keptRows p keep ≡ m → answered room m ≡ traced flag rec → Answered (keptRows p keep) flag rec
-    by-rows fail a h =
+    by-rows : (m : Option (List Row)) → keptRows p keep ≡ m → answered room m ≡ traced flag rec → Answered (keptRows p keep) flag rec
+    by-rows none a h =
         let n : 0 ≡ flag = cc in
         let l : [] ≡ rec = cc in
         inl (record { fails = a; zero-flag = sym n; empty = sym l })
-    by-rows (yes rows) a h = by-room rows a (ltb room (length (recordOf rows))) h
+    by-rows (some rows) a h = by-room rows a (ltb room (length (recordOf rows))) h
 
     by-found : (t : Bool) → pick t (answered room (keptRows p keep)) (refused 7) ≡ traced flag rec → Answered (keptRows p keep) flag rec
     by-found true h = by-rows (keptRows p keep) refl h
@@ -97,7 +97,7 @@ glyph-proper font octets p is g h ts met e =
     let short = font-short font p is in
     let fd = getD (p .fds) g 0 in
     let there = below-at (length (p .privates)) (p .fds) (good .fdsThere) g (omega (arith, good .fdsCount)) in
-    let fits : FdFits (cidKeyed (p .top)) fd = record { byte = good .fds g; none = λ n. omega (arith, good .onePrivate n, there) } in
+    let fits : FdFits (cidKeyed (p .top)) fd = record { byte = good .fds g; one = λ n. omega (arith, good .onePrivate n, there) } in
     rows-proper (cidKeyed (p .top)) (p .globals) (localsOf p fd) fd fits (good .globals .count) (good .locals fd .count) (short .globals) (short .locals fd) g
     (getD (p .charstrings) g []) ts met (omega (arith, good .charstrings .count)) (short .charstrings g) e
 
@@ -121,13 +121,13 @@ module _ (font keep : List ℕ) (room : ℕ) (octets : Octets font) (p : Program
   told flag rec e = was-answered p keep room flag rec (ap (λ (g : Got Program). traceRead g keep room) (sym is) ∙ e)
 
   -- the rows that the kept glyphs meet are proper
-  kept-proper : (rows : List Row) → keptRows p keep ≡ yes rows → (r : Row) → Has Row r rows → Proper (cidKeyed (p .top)) r
+  kept-proper : (rows : List Row) → keptRows p keep ≡ some rows → (r : Row) → Has Row r rows → Proper (cidKeyed (p .top)) r
   kept-proper rows e r h =
       let m = met-from p (keptOf (length (p .charstrings)) keep) rows e r h in
       let k = in-kept p keep (m .0) (m .1) in
       all-at (Proper (cidKeyed (p .top))) r (m .2 .met) (glyph-proper font octets p is (m .0) (k .there) (m .2 .tokens) (m .2 .met) (m .2 .plainly)) (m .2 .has)
 
-  pub kept-fits : (rows : List Row) → keptRows p keep ≡ yes rows → All RowFits rows
+  pub kept-fits : (rows : List Row) → keptRows p keep ≡ some rows → All RowFits rows
   kept-fits rows e = all-from RowFits rows (λ r h. kept-proper rows e r h .fits)
 
   -- flag 1: the rows
@@ -177,7 +177,7 @@ module _ (font keep : List ℕ) (room : ℕ) (octets : Octets font) (p : Program
   pub trace-rises : (flag : ℕ) (rec : List ℕ) → traceOf font keep room ≡ traced flag rec → Rising (map rowKey (rowsOf rec))
   unfolding rowsOf rowsFrom
   trace-rises flag rec e =
-      ⊎-elim (λ w. subst (λ (b : List ℕ). Rising (map rowKey (rowsOf b))) (sym (w .empty)) none)
+      ⊎-elim (λ w. subst (λ (b : List ℕ). Rising (map rowKey (rowsOf b))) (sym (w .empty)) noKeys)
       (λ r. subst (λ (b : List ℕ). Rising (map rowKey (rowsOf b))) (sym (r .is)) (record-rises (r .rows) (kept-fits (r .rows) (r .met))))
       (told flag rec e)
 
@@ -239,8 +239,8 @@ trace-keeps font keep keep' room octets same = go (readFont font) refl
     go (refusedFont n) e = refl
     go (got p) e =
         let n = length (p .charstrings) in
-        let some = font-good font p octets e .some in
+        let any = font-good font p octets e .some in
         let b : allBelow n keep ≡ allBelow n keep'
-        = same-tests (allBelow n keep) (allBelow n keep') (λ h. below-as keep' keep (λ g. sym (same g)) n some h) (λ h. below-as keep keep' same n some h) in
+        = same-tests (allBelow n keep) (allBelow n keep') (λ h. below-as keep' keep (λ g. sym (same g)) n any h) (λ h. below-as keep keep' same n any h) in
         ap (λ (t : Bool). pick t (pick (allFound p (keptOf n keep)) (answered room (metAll p (keptOf n keep))) (refused 7)) (refused 6)) b
         ∙ ap (λ (l : List ℕ). pick (allBelow n keep') (pick (allFound p l) (answered room (metAll p l)) (refused 7)) (refused 6)) (kept-same keep keep' same n)

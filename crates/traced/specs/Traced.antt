@@ -3,15 +3,16 @@
 use Prim.Native.Nat.{ℕ}
 use mathlib.Core.Path.{_≡_}
 use mathlib.Core.List.{List, [], _∷_, _++_, map}
+use mathlib.Core.Option.{Option, none, some}
 use lib.Dec.{ltb}
 use lib.ListN.{length}
 use Rattle.octets.specs.Pick.{pick}
 use Rattle.octets.specs.Octets.{be, bytesOf, put}
 use Rattle.octets.specs.Lists.{allBelow}
+use Rattle.octets.specs.Steps.{and}
 use Rattle.unfold.specs.Unfold.{Row, Glyph, notPlain, plain}
 use Rattle.cff.specs.Font.{Got, refused as refusedFont, got, Program, readFont}
 use Rattle.subset.specs.Kept.{keptOf}
-use Rattle.subset.specs.Pruned.{May, fail, yes, and}
 use Rattle.subset.specs.Cut.{allFound}
 use Rattle.row_window.specs.Window.{gathered}
 use Rattle.faithful.specs.Faithful.{unfolded}
@@ -21,14 +22,14 @@ use Rattle.traced.specs.declared.TracedAs.the-variants.{Refused, Record}
 -- ---- what glyphs meet
 
 -- the rows that a plain glyph meets
-abbrev pub metBy : Glyph → May (List Row)
-metBy notPlain = fail
-metBy (plain ts met) = yes met
+abbrev pub metBy : Glyph → Option (List Row)
+metBy notPlain = none
+metBy (plain ts met) = some met
 
 -- the rows that glyphs meet, where all are plain
-unfoldable pub metAll : Program → List ℕ → May (List Row)
-metAll p [] = yes []
-metAll p (g ∷ gs) = and (metBy (unfolded p g)) (λ met. and (metAll p gs) (λ rows. yes (met ++ rows)))
+unfoldable pub metAll : Program → List ℕ → Option (List Row)
+metAll p [] = some []
+metAll p (g ∷ gs) = and (metBy (unfolded p g)) (λ met. and (metAll p gs) (λ rows. some (met ++ rows)))
 
 -- ---- the record
 
@@ -57,9 +58,9 @@ pub data Traced : Type 0 where
   traced : ℕ → List ℕ → Traced
 
 -- flag 0 with an empty record where a kept glyph is not plain; else flag 1, and 11 where the record is too long for the room
-abbrev pub answered : ℕ → May (List Row) → Traced
-answered room fail = traced 0 []
-answered room (yes rows) = pick (ltb room (length (recordOf rows))) (refused 11) (traced 1 (recordOf rows))
+abbrev pub answered : ℕ → Option (List Row) → Traced
+answered room none = traced 0 []
+answered room (some rows) = pick (ltb room (length (recordOf rows))) (refused 11) (traced 1 (recordOf rows))
 
 -- a font that was read: 6 a number past the font, 7 a glyph that finding would not give
 abbrev pub traceProgram : Program → List ℕ → ℕ → Traced

@@ -1,11 +1,11 @@
 -- Laws of the answer: the record by its keys, refusals 11, 6 and 7, and what the entry promises.
-use Prim.Native.Nat.{ℕ, _+_, _-_, _*_, _/_, _≤_, _<_}
+use Prim.Native.Nat.{ℕ, _-_, _*_, _/_, _≤_, _<_}
 use mathlib.Core.Path.{_≡_, refl, sym, ap, _∙_, subst}
 use mathlib.Core.Bool.{Bool, true, false, not}
-use mathlib.Core.List.{List, [], _∷_, map}
+use mathlib.Core.List.{List, []}
+use mathlib.Core.Option.{Option, none, some}
 use native.Mathlib.Omega.{arith}
-use borrow.Author.Tests.{lt-ltb, le-ltb, ltb-false}
-use lib.Dec.{ltb}
+use borrow.Author.Tests.{lt-ltb, le-ltb}
 use lib.ListN.{length, take}
 use lib.Seq.{length-take-le}
 use Rattle.octets.specs.Pick.{pick}
@@ -14,15 +14,14 @@ use Rattle.octets.specs.PutLaws.{put-nil, wrote-as}
 use Rattle.octets.specs.Lists.{allBelow, partOf}
 use Rattle.index.specs.IndexLaws.{items-length}
 use Rattle.unfold.specs.Unfold.{Row}
-use Rattle.prune.specs.Bodies.{All, none as noRow}
+use Rattle.prune.specs.Bodies.{All, empty as noRow}
 use Rattle.prune.specs.StepLaws.{zero-one}
-use Rattle.cff.specs.Font.{Got, refused as refusedFont, got, Program, readFont}
-use Rattle.cff.specs.Reads.{programOf, GoodFont}
+use Rattle.cff.specs.Font.{Got, refused as refusedFont, Program, readFont}
+use Rattle.cff.specs.Reads.{programOf}
 use Rattle.cff.specs.File.{InFile}
 use Rattle.cff.specs.FileLaws.{table-short}
 use Rattle.cff.specs.declared.font.Font.{Font}
 use Rattle.subset.specs.Kept.{those, keeps, keptOf}
-use Rattle.subset.specs.Pruned.{May, fail, yes}
 use Rattle.subset.specs.Cut.{allFound}
 use Rattle.kept.specs.Packed.{Marks, marked}
 use Rattle.kept.specs.OrderLaws.{kept-marked}
@@ -33,8 +32,7 @@ use Rattle.row_window.specs.KeyLaws.{keys-length}
 use Rattle.row_window.specs.NextLaws.{within-all, window-whole}
 use Rattle.interpret.specs.declared.Met.{Met}
 use Rattle.interpret.specs.declared.Met.the-variants.{NotPlain, Plain}
-use Rattle.traced.specs.Traced.{metAll, recordOf, Traced, refused, traced, answered, traceProgram, traceRead, traceOf, tracedAs, leavesRecord, Traces}
-use Rattle.traced.specs.Parts.{keyFor}
+use Rattle.traced.specs.Traced.{metAll, recordOf, Traced, refused, traced, answered, traceRead, traceOf, tracedAs, leavesRecord, Traces}
 use Rattle.traced.specs.RowLaws.{RowFits, record-keys}
 use Rattle.traced.specs.Theorem.{kept-fits}
 use Rattle.traced.specs.declared.TracedAs.{TracedAs}
@@ -103,18 +101,18 @@ module _ (b : List ℕ) (f : Font) (marks : List ℕ) (fit : RowsFit (metIn b f 
   pub marked-broken : a ≡ NotPlain → (out : List ℕ) → Answers (answered (length out) (metIn b f marks)) out out (Record 0 0)
   marked-broken e out = by (metIn b f marks) (w .says)
     where
-      by : (m : May (List Row)) → Filling m (record { low = 0; high = top }) keys keys' a → Answers (answered (length out) m) out out (Record 0 0)
-      by fail x = record { answers = refl; output = sym (put-nil out 0) }
-      by (yes rows) x = let k : NotPlain ≡ Plain (x .0) = sym e ∙ x .1 in absurd (zero-one cc)
+      by : (m : Option (List Row)) → Filling m (record { low = 0; high = top }) keys keys' a → Answers (answered (length out) m) out out (Record 0 0)
+      by none x = record { answers = refl; output = sym (put-nil out 0) }
+      by (some rows) x = let k : NotPlain ≡ Plain (x .0) = sym e ∙ x .1 in absurd (zero-one cc)
 
   -- all are
   module _ (n : ℕ) (e : a ≡ Plain n) where
     pub marked-plainly : Plainly b f marks
     marked-plainly = record { plain = by (metIn b f marks) (w .says); fits = fit }
       where
-        by : (m : May (List Row)) → Filling m (record { low = 0; high = top }) keys keys' a → m ≡ yes (orNone m)
-        by fail x = let k : Plain n ≡ NotPlain = sym e ∙ x in absurd (zero-one cc)
-        by (yes rows) x = refl
+        by : (m : Option (List Row)) → Filling m (record { low = 0; high = top }) keys keys' a → m ≡ some (orNone m)
+        by none x = let k : Plain n ≡ NotPlain = sym e ∙ x in absurd (zero-one cc)
+        by (some rows) x = refl
 
     pub marked-shown : length keys ≡ 65536 → Shown (keysIn b f marks) keys' n
     marked-shown l =
@@ -203,9 +201,9 @@ module _ (file : List ℕ) (f : Font) (b : List ℕ) (octets : Octets file) (hel
   pub kept-rows : RowsFit (metKept b f keep)
   kept-rows = record { fits = by (metKept b f keep) refl }
     where
-      by : (x : May (List Row)) → metKept b f keep ≡ x → All RowFits (orNone x)
-      by fail e = noRow
-      by (yes rows) e = kept-fits file keep 0 octets p (held .is) rows (ap (λ (n : ℕ). metAll p (keptOf n keep)) many ∙ e)
+      by : (x : Option (List Row)) → metKept b f keep ≡ x → All RowFits (orNone x)
+      by none e = noRow
+      by (some rows) e = kept-fits file keep 0 octets p (held .is) rows (ap (λ (n : ℕ). metAll p (keptOf n keep)) many ∙ e)
 
 -- ---- the kept glyphs
 

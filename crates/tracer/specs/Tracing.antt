@@ -1,8 +1,9 @@
 -- What the functions of the tracer ask and leave (document 02, Wish 1): the rows that the marked glyphs meet, as keys, by windows of the least of
 -- them one behind the other; and the answer.
-use Prim.Native.Nat.{ℕ, _≤_, _<_}
+use Prim.Native.Nat.{ℕ, _≤_}
 use mathlib.Core.Path.{_≡_}
 use mathlib.Core.List.{List, [], _++_, map}
+use mathlib.Core.Option.{Option, none, some}
 use lib.ListN.{length, take, getD}
 use Rattle.octets.specs.Pick.{pick}
 use Rattle.unfold.specs.Unfold.{Row}
@@ -11,7 +12,6 @@ use Rattle.cff.specs.Reads.{programOf, GoodFont}
 use Rattle.cff.specs.declared.font.Font.{Font}
 use Rattle.subset.specs.Kept.{those, localsOf, keptOf}
 use Rattle.subset.specs.Cut.{allFound}
-use Rattle.subset.specs.Pruned.{May, fail, yes}
 use Rattle.faithful.specs.Laid.{GoodProgram}
 use Rattle.kept.specs.Packed.{marked}
 use Rattle.row_window.specs.Window.{gathered, within, Gathers}
@@ -50,20 +50,20 @@ pub record SubrsOf (b : List ℕ) (f : Font) (fd : ℕ) (q : Subrs) : Type 0 whe
 -- ---- rows
 
 -- the rows that the marked glyphs meet, where all are plain
-abbrev pub metIn : List ℕ → Font → List ℕ → May (List Row)
+abbrev pub metIn : List ℕ → Font → List ℕ → Option (List Row)
 metIn b f marks = metAll (programOf b f) (those (marked marks) (f .charstrings .count) 0)
 
-abbrev pub orNone : May (List Row) → List Row
-orNone fail = []
-orNone (yes rows) = rows
+abbrev pub orNone : Option (List Row) → List Row
+orNone none = []
+orNone (some rows) = rows
 
 -- they fit their bytes
-pub record RowsFit (m : May (List Row)) : Type 0 where
+pub record RowsFit (m : Option (List Row)) : Type 0 where
   pub fits : All RowFits (orNone m)
 
 -- all marked glyphs are plain
 pub record Plainly (b : List ℕ) (f : Font) (marks : List ℕ) : Type 0 where
-  pub plain : metIn b f marks ≡ yes (orNone (metIn b f marks))
+  pub plain : metIn b f marks ≡ some (orNone (metIn b f marks))
   pub fits : RowsFit (metIn b f marks)
 
 -- their keys, and these rising without repeats
@@ -76,11 +76,11 @@ sortedIn b f marks = gathered [] (keysIn b f marks)
 -- ---- windows
 
 -- what filling a window answers and leaves
-abbrev pub Filling : May (List Row) → Range → List ℕ → List ℕ → Met → Type 0
-Filling fail range keys keys' r = r ≡ NotPlain
-Filling (yes rows) range keys keys' r = (n : ℕ) × (r ≡ Plain n) × Gathers (within (range .low) (range .high) (map keyFor rows)) keys keys' n
+abbrev pub Filling : Option (List Row) → Range → List ℕ → List ℕ → Met → Type 0
+Filling none range keys keys' r = r ≡ NotPlain
+Filling (some rows) range keys keys' r = (n : ℕ) × (r ≡ Plain n) × Gathers (within (range .low) (range .high) (map keyFor rows)) keys keys' n
 
-pub record Fills (m : May (List Row)) (range : Range) (keys keys' : List ℕ) (r : Met) : Type 0 where
+pub record Fills (m : Option (List Row)) (range : Range) (keys keys' : List ℕ) (r : Met) : Type 0 where
   pub says : Filling m range keys keys' r
 
 -- a window of n keys behind those that are done: the least of the keys from `low` on
@@ -108,7 +108,7 @@ pub record Answers (t : Traced) (out out' : List ℕ) (r : TracedAs) : Type 0 wh
   pub output : out' ≡ leavesRecord t out
 
 -- the rows that the kept glyphs meet, where all are plain
-abbrev pub metKept : List ℕ → Font → List ℕ → May (List Row)
+abbrev pub metKept : List ℕ → Font → List ℕ → Option (List Row)
 metKept b f keep = metAll (programOf b f) (keptOf (f .charstrings .count) keep)
 
 -- the outcome behind refusal 6

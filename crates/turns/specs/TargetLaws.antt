@@ -1,8 +1,9 @@
 -- Laws of a number's end and of the subroutine that a number names, each for one way out of the code.
-use Prim.Native.Nat.{ℕ, _+_, _-_, _/_, _%_, _≤_, _<_}
+use Prim.Native.Nat.{ℕ, suc, _+_, _-_, _/_, _%_, _≤_, _<_}
 use mathlib.Core.Path.{_≡_, refl, sym, ap, _∙_, subst}
 use mathlib.Core.Bool.{Bool, true, false}
 use mathlib.Core.List.{List}
+use mathlib.Core.Option.{Option, none, some}
 use native.Mathlib.Decide.{decLt}
 use native.Mathlib.Omega.{arith}
 use lib.Dec.{ltb, leb, eqb}
@@ -11,6 +12,7 @@ use lib.IntN.{ℤ, pos, negsuc}
 use lib.ListN.{length, getD}
 use borrow.Author.Tests.{lt-ltb, le-ltb, lt-leb, le-leb, eq-eqb, ne-eqb}
 use Rattle.octets.specs.Pick.{pick, pick-ind}
+use Rattle.octets.specs.StepsLaws.{and-pick}
 use Rattle.octets.specs.Octets.{Octets}
 use Rattle.type2_number.specs.Number.{isNeg, mag, Read, cut, operator, number, taken, numberAt}
 use Rattle.type2_number.specs.NumberLaws.{short, long, form-28, form-op, form-1, form-up, form-down, form-ff}
@@ -19,7 +21,7 @@ use Rattle.type2_number.specs.Readings.{ReadingRead, reading-at, back-reading, 
 use Rattle.type2_number.specs.declared.Number.{Number}
 use Rattle.type2_number.specs.declared.Number.the-variants.{Num, Cut as CutOff, Operator as AnOperator}
 use Rattle.charstring.specs.Bias.{biasOf}
-use Rattle.unfold.specs.Unfold.{Last, none, last, Target as Named, nowhere, target, targetOf}
+use Rattle.unfold.specs.Unfold.{targetOf}
 use Rattle.turns.specs.Turns.{endOf, targetFor, lastOf, lastAt}
 use Rattle.turns.specs.declared.NumberEnd.the-variants.{Cut, Operator, At}
 use Rattle.turns.specs.declared.Target.{Target}
@@ -72,17 +74,19 @@ module _ (s : List ℕ) (at : ℕ) where
 
 -- ---- the subroutine that a number names, by its sign and its size
 
-abbrev targetBy : ℕ → ℕ → Bool → ℕ → Named
+abbrev targetBy : ℕ → ℕ → Bool → ℕ → Option ℕ
 targetBy bias count neg size =
     pick (eqb (size % 65536) 0)
-    (pick neg (pick (leb (size / 65536) bias) (pick (ltb (bias - size / 65536) count) (target (bias - size / 65536)) nowhere) nowhere)
-    (pick (ltb (size / 65536 + bias) count) (target (size / 65536 + bias)) nowhere))
-    nowhere
+    (pick neg (pick (leb (size / 65536) bias) (pick (ltb (bias - size / 65536) count) (some (bias - size / 65536)) none) none)
+    (pick (ltb (size / 65536 + bias) count) (some (size / 65536 + bias)) none))
+    none
 
-target-signed : (count : ℕ) (z : ℤ) → targetOf count (last z) ≡ targetBy (biasOf count) count (isNeg z) (mag z)
+target-signed : (count : ℕ) (z : ℤ) → targetOf count (some z) ≡ targetBy (biasOf count) count (isNeg z) (mag z)
 unfolding targetOf
-target-signed count (pos n) = refl
-target-signed count (negsuc m) = refl
+target-signed count (pos n) = and-pick (eqb (n % 65536) 0) _ _
+target-signed count (negsuc m) =
+    and-pick (eqb (suc m % 65536) 0) _ _
+    ∙ ap (λ (o : Option ℕ). pick (eqb (suc m % 65536) 0) o none) (and-pick (leb (suc m / 65536) (biasOf count)) (some (biasOf count - suc m / 65536)) (λ (k : ℕ). pick (ltb k count) (some k) none))
 
 bias-small : (count : ℕ) → biasOf count ≤ 32768
 bias-small count =
@@ -93,39 +97,39 @@ pub bias-few : (added count : ℕ) → added ≡ biasOf count → added ≤ 3276
 bias-few added count e = subst (λ (b : ℕ). b ≤ 32768) (sym e) (bias-small count)
 
 module _ (count : ℕ) (z : ℤ) (neg : Bool) (size added : ℕ) (n : neg ≡ isNeg z) (g : size ≡ mag z) (a : added ≡ biasOf count) where
-  target-is : targetBy added count neg size ≡ targetOf count (last z)
+  target-is : targetBy added count neg size ≡ targetOf count (some z)
   target-is =
       ap (λ (b : ℕ). targetBy b count neg size) a ∙ ap (λ (t : Bool). targetBy (biasOf count) count t size) n
       ∙ ap (targetBy (biasOf count) count (isNeg z)) g ∙ sym (target-signed count z)
 
-  pub target-fraction : (size % 65536 ≡ 0 → ⊥) → Nowhere ≡ targetFor (targetOf count (last z))
-  target-fraction k = let e : nowhere ≡ targetBy added count neg size = rw (ne-eqb (size % 65536) 0 k) in ap targetFor (e ∙ target-is)
+  pub target-fraction : (size % 65536 ≡ 0 → ⊥) → Nowhere ≡ targetFor (targetOf count (some z))
+  target-fraction k = let e : none ≡ targetBy added count neg size = rw (ne-eqb (size % 65536) 0 k) in ap targetFor (e ∙ target-is)
 
   module _ (even : size % 65536 ≡ 0) where
     module _ (t : neg ≡ true) where
-      pub target-before : added < size / 65536 → Nowhere ≡ targetFor (targetOf count (last z))
+      pub target-before : added < size / 65536 → Nowhere ≡ targetFor (targetOf count (some z))
       target-before l =
-          let e : nowhere ≡ targetBy added count neg size = rw (eq-eqb (size % 65536) 0 even, t, lt-leb (size / 65536) added l) in ap targetFor (e ∙ target-is)
+          let e : none ≡ targetBy added count neg size = rw (eq-eqb (size % 65536) 0 even, t, lt-leb (size / 65536) added l) in ap targetFor (e ∙ target-is)
 
-      pub target-down : size / 65536 ≤ added → added - size / 65536 < count → Subr (added - size / 65536) ≡ targetFor (targetOf count (last z))
+      pub target-down : size / 65536 ≤ added → added - size / 65536 < count → Subr (added - size / 65536) ≡ targetFor (targetOf count (some z))
       target-down l k =
-          let e : target (added - size / 65536) ≡ targetBy added count neg size
+          let e : some (added - size / 65536) ≡ targetBy added count neg size
           = rw (eq-eqb (size % 65536) 0 even, t, le-leb (size / 65536) added l, lt-ltb (added - size / 65536) count k) in ap targetFor (e ∙ target-is)
 
-      pub target-down-past : size / 65536 ≤ added → count ≤ added - size / 65536 → Nowhere ≡ targetFor (targetOf count (last z))
+      pub target-down-past : size / 65536 ≤ added → count ≤ added - size / 65536 → Nowhere ≡ targetFor (targetOf count (some z))
       target-down-past l k =
-          let e : nowhere ≡ targetBy added count neg size
+          let e : none ≡ targetBy added count neg size
           = rw (eq-eqb (size % 65536) 0 even, t, le-leb (size / 65536) added l, le-ltb (added - size / 65536) count k) in ap targetFor (e ∙ target-is)
 
     module _ (t : neg ≡ false) where
-      pub target-up : size / 65536 + added < count → Subr (size / 65536 + added) ≡ targetFor (targetOf count (last z))
+      pub target-up : size / 65536 + added < count → Subr (size / 65536 + added) ≡ targetFor (targetOf count (some z))
       target-up k =
-          let e : target (size / 65536 + added) ≡ targetBy added count neg size
+          let e : some (size / 65536 + added) ≡ targetBy added count neg size
           = rw (eq-eqb (size % 65536) 0 even, t, lt-ltb (size / 65536 + added) count k) in ap targetFor (e ∙ target-is)
 
-      pub target-up-past : count ≤ size / 65536 + added → Nowhere ≡ targetFor (targetOf count (last z))
+      pub target-up-past : count ≤ size / 65536 + added → Nowhere ≡ targetFor (targetOf count (some z))
       target-up-past k =
-          let e : nowhere ≡ targetBy added count neg size = rw (eq-eqb (size % 65536) 0 even, t, le-ltb (size / 65536 + added) count k) in ap targetFor (e ∙ target-is)
+          let e : none ≡ targetBy added count neg size = rw (eq-eqb (size % 65536) 0 even, t, le-ltb (size / 65536 + added) count k) in ap targetFor (e ∙ target-is)
 
 -- ---- the number just before a place
 
@@ -133,17 +137,17 @@ module _ (s : List ℕ) (prev at : ℕ) (h : prev < at) where
   last-is : lastOf (numberAt s prev) ≡ lastAt s prev at
   last-is = rw (lt-ltb prev at h)
 
-  pub last-read : Octets s → (r : Number) → r ≡ numberOf (numberAt s prev) → (v : Float) (n : ℕ) → r ≡ Num v n → (HoldsReading v) × (last (scaledOf v) ≡ lastAt s prev at)
+  pub last-read : Octets s → (r : Number) → r ≡ numberOf (numberAt s prev) → (v : Float) (n : ℕ) → r ≡ Num v n → (HoldsReading v) × (some (scaledOf v) ≡ lastAt s prev at)
   last-read b r e v n f = let p = by (numberAt s prev) (reading-at s prev b) (sym e ∙ f) in (p .0, p .1 ∙ last-is)
     where
-      by : (q : Read) → ReadingRead q → numberOf q ≡ Num v n → (HoldsReading v) × (last (scaledOf v) ≡ lastOf q)
+      by : (q : Read) → ReadingRead q → numberOf q ≡ Num v n → (HoldsReading v) × (some (scaledOf v) ≡ lastOf q)
       by cut p k = absurd (zero-one cc)
       by operator p k = absurd (zero-one cc)
-      by (number z m) p k = let g : floatOf z ≡ v = cc in (subst HoldsReading g (holds z p), ap last (ap scaledOf (sym g) ∙ back-reading z p))
+      by (number z m) p k = let g : floatOf z ≡ v = cc in (subst HoldsReading g (holds z p), ap some (ap scaledOf (sym g) ∙ back-reading z p))
 
   pub last-cut : (count : ℕ) (r : Number) → r ≡ numberOf (numberAt s prev) → r ≡ CutOff → Nowhere ≡ targetFor (targetOf count (lastAt s prev at))
   unfolding targetOf
-  last-cut count r e f = ap (λ (l : Last). targetFor (targetOf count l)) (by (numberAt s prev) (sym e ∙ f) ∙ last-is)
+  last-cut count r e f = ap (λ (l : Option ℤ). targetFor (targetOf count l)) (by (numberAt s prev) (sym e ∙ f) ∙ last-is)
     where
       by : (q : Read) → numberOf q ≡ CutOff → none ≡ lastOf q
       by cut k = refl
@@ -152,7 +156,7 @@ module _ (s : List ℕ) (prev at : ℕ) (h : prev < at) where
 
   pub last-operator : (count : ℕ) (r : Number) → r ≡ numberOf (numberAt s prev) → r ≡ AnOperator → Nowhere ≡ targetFor (targetOf count (lastAt s prev at))
   unfolding targetOf
-  last-operator count r e f = ap (λ (l : Last). targetFor (targetOf count l)) (by (numberAt s prev) (sym e ∙ f) ∙ last-is)
+  last-operator count r e f = ap (λ (l : Option ℤ). targetFor (targetOf count l)) (by (numberAt s prev) (sym e ∙ f) ∙ last-is)
     where
       by : (q : Read) → numberOf q ≡ AnOperator → none ≡ lastOf q
       by cut k = refl
@@ -161,7 +165,7 @@ module _ (s : List ℕ) (prev at : ℕ) (h : prev < at) where
 
 pub no-last : (s : List ℕ) (prev at count : ℕ) → at ≤ prev → Nowhere ≡ targetFor (targetOf count (lastAt s prev at))
 unfolding targetOf
-no-last s prev at count h = let e : none ≡ lastAt s prev at = rw (le-ltb prev at h) in ap (λ (l : Last). targetFor (targetOf count l)) e
+no-last s prev at count h = let e : none ≡ lastAt s prev at = rw (le-ltb prev at h) in ap (λ (l : Option ℤ). targetFor (targetOf count l)) e
 
-pub last-names : (s : List ℕ) (prev at count : ℕ) (l : Last) → l ≡ lastAt s prev at → (r : Target) → r ≡ targetFor (targetOf count l) → r ≡ targetFor (targetOf count (lastAt s prev at))
-last-names s prev at count l e r f = f ∙ ap (λ (m : Last). targetFor (targetOf count m)) e
+pub last-names : (s : List ℕ) (prev at count : ℕ) (l : Option ℤ) → l ≡ lastAt s prev at → (r : Target) → r ≡ targetFor (targetOf count l) → r ≡ targetFor (targetOf count (lastAt s prev at))
+last-names s prev at count l e r f = f ∙ ap (λ (m : Option ℤ). targetFor (targetOf count m)) e

@@ -1,19 +1,22 @@
 -- Laws of turns: what a turn says is within the body and the limits; and the ways out of the code, each by what it was told.
-use Prim.Native.Nat.{ℕ, suc, _+_, _-_, _/_, _%_, _≤_, _<_}
+use Prim.Native.Nat.{ℕ, _+_, _-_, _/_, _≤_, _<_}
 use mathlib.Core.Path.{_≡_, refl, sym, ap, _∙_}
 use mathlib.Core.Bool.{Bool, true, false}
 use mathlib.Core.List.{List}
+use mathlib.Core.Option.{Option, none, some}
 use native.Mathlib.Omega.{arith}
-use lib.Dec.{ltb, leb, eqb}
-use lib.IntN.{pos, negsuc}
+use lib.Dec.{ltb, eqb}
+use lib.IntN.{ℤ}
 use lib.ListN.{length, getD}
 use borrow.Author.Tests.{lt-ltb, le-ltb, ltb-true, ltb-false}
 use Rattle.octets.specs.Pick.{pick, pick-ind}
+use Rattle.octets.specs.Steps.{and}
+use Rattle.octets.specs.StepsLaws.{and-ind}
 use Rattle.type2_number.specs.Number.{Read, cut, operator, number, numberAt}
 use Rattle.type2_number.specs.NumberLaws.{Further, further}
-use Rattle.charstring.specs.Bias.{biasOf}
+use Rattle.charstring.specs.Bias.{biasOf, numbered}
 use Rattle.charstring.specs.Token.{isMask}
-use Rattle.unfold.specs.Unfold.{Last, none, last, Target as Named, nowhere, target, targetOf, isStem, isPath}
+use Rattle.unfold.specs.Unfold.{targetOf, isStem, isPath}
 use Rattle.turns.specs.TargetLaws.{zero-one}
 use Rattle.turns.specs.Turns.{Few, endOf, targetFor, lastAt, leaves, goesOn, callTurn, escapeTurn, maskTurn, stemTurn, clearingTurn, operatorTurn, turnBy, turnAt}
 use Rattle.turns.specs.declared.Counts.{Counts}
@@ -25,20 +28,16 @@ use Rattle.turns.specs.declared.Turn.{Turn}
 use Rattle.turns.specs.declared.Turn.the-variants.{Breaks, Returns, Ends, Goes, Masks, Calls}
 
 -- a subroutine that a number names is there
-abbrev Below : ℕ → Named → Type 0
-Below count nowhere = Unit
-Below count (target i) = i < count
+abbrev Below : ℕ → Option ℕ → Type 0
+Below count none = Unit
+Below count (some i) = i < count
 
-named : (count i : ℕ) → Below count (pick (ltb i count) (target i) nowhere)
-named count i = pick-ind (Below count) (ltb i count) (target i) nowhere (λ t. ltb-true i count t) (λ t. tt)
+named : (count i : ℕ) → Below count (pick (ltb i count) (some i) none)
+named count i = pick-ind (Below count) (ltb i count) (some i) none (λ t. ltb-true i count t) (λ t. tt)
 
-target-below : (count : ℕ) (l : Last) → Below count (targetOf count l)
+target-below : (count : ℕ) (l : Option ℤ) → Below count (targetOf count l)
 unfolding targetOf
-target-below count none = tt
-target-below count (last (pos n)) = pick-ind (Below count) (eqb (n % 65536) 0) _ nowhere (λ t. named count (n / 65536 + biasOf count)) (λ t. tt)
-target-below count (last (negsuc m)) =
-    pick-ind (Below count) (eqb (suc m % 65536) 0) _ nowhere
-    (λ t. pick-ind (Below count) (leb (suc m / 65536) (biasOf count)) _ nowhere (λ u. named count (biasOf count - suc m / 65536)) (λ u. tt)) (λ t. tt)
+target-below count l = and-ind (Below count) (and l (numbered (biasOf count))) _ tt (named count)
 
 -- what a turn says: on behind its token and within the body, a mask of at most 12 bytes within it, a subroutine that is there; few operands and stems
 abbrev pub Sound : ℕ → ℕ → List ℕ → ℕ → Turn → Type 0
@@ -59,9 +58,9 @@ module _ (locals globals : ℕ) (s : List ℕ) (at : ℕ) (h : at < length s) wh
   goes-sound : (n p args stems spent : ℕ) → at < n → n ≤ length s → args ≤ 48 → stems ≤ 96 → S (goesOn n p args stems spent)
   goes-sound n p args stems spent i j a b = leaves-sound args stems spent (Goes n p) (i, j, record { operands = a; hints = b })
 
-  call-sound : (wide : Bool) (x : Counts) → Few x → (q : Named) → Below (pick wide globals locals) q → S (callTurn wide x q)
-  call-sound wide x f nowhere b = tt
-  call-sound wide x f (target i) b = (b, record { operands = omega arith; hints = f .hints })
+  call-sound : (wide : Bool) (x : Counts) → Few x → (q : Option ℕ) → Below (pick wide globals locals) q → S (callTurn wide x q)
+  call-sound wide x f none b = tt
+  call-sound wide x f (some i) b = (b, record { operands = omega arith; hints = f .hints })
 
   escape-sound : (x : Counts) → Few x → S (escapeTurn s at x)
   escape-sound x f =
@@ -116,20 +115,20 @@ module _ (locals globals : ℕ) (s : List ℕ) (at : ℕ) (h : at < length s) wh
 -- ---- the ways out of the code
 
 -- the subroutine that a call names
-module _ (wide : Bool) (x : Counts) (q : Named) (r : Target) (e : r ≡ targetFor q) where
+module _ (wide : Bool) (x : Counts) (q : Option ℕ) (r : Target) (e : r ≡ targetFor q) where
   pub call-nowhere : r ≡ Nowhere → Breaks ≡ callTurn wide x q
   call-nowhere f = by q (sym e ∙ f)
     where
-      by : (p : Named) → targetFor p ≡ Nowhere → Breaks ≡ callTurn wide x p
-      by nowhere k = refl
-      by (target i) k = absurd (zero-one cc)
+      by : (p : Option ℕ) → targetFor p ≡ Nowhere → Breaks ≡ callTurn wide x p
+      by none k = refl
+      by (some i) k = absurd (zero-one cc)
 
   pub call-names : (i : ℕ) → r ≡ Subr i → (n : ℕ) → n ≡ x .args - 1 → Calls wide i (record { args = n; stems = x .stems; spent = x .spent }) ≡ callTurn wide x q
   call-names i f n g = by q (sym e ∙ f)
     where
-      by : (p : Named) → targetFor p ≡ Subr i → Calls wide i (record { args = n; stems = x .stems; spent = x .spent }) ≡ callTurn wide x p
-      by nowhere k = absurd (zero-one cc)
-      by (target j) k =
+      by : (p : Option ℕ) → targetFor p ≡ Subr i → Calls wide i (record { args = n; stems = x .stems; spent = x .spent }) ≡ callTurn wide x p
+      by none k = absurd (zero-one cc)
+      by (some j) k =
           let h : i ≡ j = cc in
           ap (λ (m : ℕ). Calls wide m (record { args = n; stems = x .stems; spent = x .spent })) h
           ∙ ap (λ (m : ℕ). Calls wide j (record { args = m; stems = x .stems; spent = x .spent })) g

@@ -1,14 +1,16 @@
 -- What a token of a body brings (document 01, 'Plain glyphs'; crates/unfold), as the code goes: by the counts of what has run, without the
 -- tokens that it leaves and the rows that it meets. The number just before a place is told by where it starts.
+use lib.IntN.{ℤ}
 use Prim.Native.Nat.{ℕ, _+_, _-_, _/_, _≤_}
 use mathlib.Core.Bool.{Bool, true, false}
 use mathlib.Core.List.{List}
+use mathlib.Core.Option.{Option, none, some}
 use lib.Dec.{ltb, eqb}
 use lib.ListN.{length, getD}
 use Rattle.octets.specs.Pick.{pick}
 use Rattle.type2_number.specs.Number.{Read, cut, operator, number, numberAt}
 use Rattle.charstring.specs.Token.{isMask}
-use Rattle.unfold.specs.Unfold.{Last, none, last, Target as Named, nowhere, target, targetOf, isStem, isPath}
+use Rattle.unfold.specs.Unfold.{targetOf, isStem, isPath}
 use Rattle.turns.specs.declared.Counts.{Counts}
 use Rattle.turns.specs.declared.Turn.{Turn}
 use Rattle.turns.specs.declared.Turn.the-variants.{Breaks, Returns, Ends, Goes, Masks, Calls}
@@ -28,17 +30,17 @@ endOf cut = Cut
 endOf operator = Operator
 endOf (number z n) = At n
 
-abbrev pub targetFor : Named → Target
-targetFor nowhere = Nowhere
-targetFor (target i) = Subr i
+abbrev pub targetFor : Option ℕ → Target
+targetFor none = Nowhere
+targetFor (some i) = Subr i
 
 -- the number just before a place: the one that starts at `prev`, none where that is the place itself
-abbrev pub lastOf : Read → Last
+abbrev pub lastOf : Read → Option ℤ
 lastOf cut = none
 lastOf operator = none
-lastOf (number z n) = last z
+lastOf (number z n) = some z
 
-abbrev pub lastAt : List ℕ → ℕ → ℕ → Last
+abbrev pub lastAt : List ℕ → ℕ → ℕ → Option ℤ
 lastAt s prev at = pick (ltb prev at) (lastOf (numberAt s prev)) none
 
 -- one token more, its operands cleared or one more; at most 65,536 tokens and calls
@@ -49,9 +51,9 @@ abbrev pub goesOn : ℕ → ℕ → ℕ → ℕ → ℕ → Turn
 goesOn at prev args stems spent = leaves args stems spent (Goes at prev)
 
 -- a call: its operand is taken back, and what it had spent is the call's
-abbrev pub callTurn : Bool → Counts → Named → Turn
-callTurn wide x nowhere = Breaks
-callTurn wide x (target i) = Calls wide i (record { args = x .args - 1; stems = x .stems; spent = x .spent })
+abbrev pub callTurn : Bool → Counts → Option ℕ → Turn
+callTurn wide x none = Breaks
+callTurn wide x (some i) = Calls wide i (record { args = x .args - 1; stems = x .stems; spent = x .spent })
 
 -- an escape: 34 to 37
 abbrev pub escapeTurn : List ℕ → ℕ → Counts → Turn

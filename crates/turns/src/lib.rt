@@ -2,11 +2,12 @@
 // breaks or ends, goes on in the same body, meets a mask or calls a subroutine. The number just before a token is kept as the place where it
 // starts, and read only at a call.
 ghost use mathlib.Core.Path.{_≡_};
+ghost use mathlib.Core.Option.{some};
 ghost use Prim.Native.Nat.{_-_, _≤_, _<_};
 ghost use lib.ListN.{length, getD};
 ghost use Rattle.type2_number.specs.Number.{numberAt};
 ghost use Rattle.type2_number.specs.Floats.{scaledOf, HoldsReading};
-ghost use Rattle.unfold.specs.Unfold.{last, targetOf, isStem, isPath};
+ghost use Rattle.unfold.specs.Unfold.{targetOf, isStem, isPath};
 ghost use Rattle.turns.specs.Turns.{Few, endOf, targetFor, lastAt, goesOn, callTurn, maskTurn, escapeTurn, clearingTurn, operatorTurn, turnAt};
 use charstring::bias;
 use charstring::is_mask;
@@ -79,7 +80,7 @@ pub enum Target {
 // The subroutine of `count` that a number names.
 fn target_of(v: f32, count: usize) -> Target
     requires { ⌜ HoldsReading v ⌝ }
-    ensures { λ r. ⌜ r ≡ targetFor (targetOf count (last (scaledOf v))) ⌝ }
+    ensures { λ r. ⌜ r ≡ targetFor (targetOf count (some (scaledOf v))) ⌝ }
 {
     let s = count_of(v);
     let neg = s.neg;

@@ -1,12 +1,12 @@
 -- What a reading (document 01, 'Corners in charstring.rs') is worth: its sign and its count of 65536ths, by a comparison with 0.0 and a product with 65536.0 at f64, both exact.
 use mathlib.Core.Path.{_≡_, refl, sym, ap, _∙_, subst}
-use Prim.Native.Nat.{ℕ, zero, suc, _+_, _-_, _*_, _/_, _%_, _^_, _≤_, _<_}
-use native.Mathlib.Nat.{mul-one, one-mul, mul-comm, mul-assoc, mul-right-comm, mul-pos, zero-lt-suc, zero-mul, mul-div-cancel, lt-irrefl, eq-zero-or-pos, le-of-mul-le-mul-right}
+use Prim.Native.Nat.{ℕ, zero, suc, _+_, _*_, _/_, _^_, _≤_, _<_}
+use native.Mathlib.Nat.{mul-one, mul-pos, zero-lt-suc, zero-mul, mul-div-cancel, lt-irrefl, eq-zero-or-pos}
 use native.Mathlib.Omega.{arith}
 use mathlib.Core.Logic.{_⊎_, inl, inr}
 use mathlib.Core.Bool.{Bool, true, false, not, _&&_, true≢false, false≢true}
-use lib.Dec.{T, ltb, leb, le→leb, leb·suc-zero, lit<, lit≤}
-use lib.IntN.{ℤ, pos, negsuc, negℤ}
+use lib.Dec.{T, ltb, le→leb, leb·suc-zero, lit<, lit≤}
+use lib.IntN.{ℤ, pos, negsuc}
 use borrow.Author.Tests.{lt-ltb}
 use lib.Ieee.{Float, nan, inf, fin, binary32, binary64, up, down, round, neg, mul, lt, ofInt, ofBits, inUnsigned, toUnsigned, inFloat, fits, isNan}
 use lib.Ieee.Fits.{down-pos, and-i, fits-widens}
@@ -15,11 +15,11 @@ use lib.Ieee.Scale.{round-same}
 use lib.Ieee.Order.{round-mono}
 use lib.Ieee.Positive.{first-pos, positive-of-value, values-of-le}
 use lib.Ieee.Back.{unsigned-back}
-use Rattle.type2_number.specs.Number.{keep24, rounded}
+use Rattle.type2_number.specs.Number.{keep24}
 use Rattle.type2_number.specs.Number.{mag, isNeg}
 use Rattle.type2_number.specs.Floats.{floatOf, signed, scaledOf, HoldsReading}
 use Rattle.type2_number.specs.FloatLaws.{floatOf-pos, floatOf-neg}
-use Rattle.type2_number.specs.Rounding.{keep-val, keep-pos, rounded-pos, rounded-neg}
+use Rattle.type2_number.specs.Rounding.{keep-val, keep-pos}
 
 -- ---- the comparison with 0.0
 lt-pos : (x : Float) (a : ℕ) → HasValue x false a 65536 → lt x (ofBits binary32 0) ≡ false

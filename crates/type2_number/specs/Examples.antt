@@ -1,9 +1,9 @@
 -- Worked examples, computed.
 use mathlib.Core.Path.{_≡_, refl}
-use mathlib.Core.List.{List, [], _∷_}
+use mathlib.Core.List.{[], _∷_}
 use lib.IntN.{pos, negsuc}
 use Rattle.octets.specs.Octets.{bytesOf}
-use Rattle.type2_number.specs.Number.{keep24, rounded, Read, cut, operator, number, numberAt}
+use Rattle.type2_number.specs.Number.{keep24, rounded, cut, operator, number, numberAt}
 use Rattle.type2_number.specs.Encoding.{integerBytes, fixedBytes, numberBytes, encoded}
 
 -- 25 digits: a tie goes to the even neighbour, down and up

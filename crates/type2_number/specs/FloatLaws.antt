@@ -1,19 +1,19 @@
 -- Laws of f32 arithmetic on counts of 65536ths.
-use mathlib.Core.Path.{_≡_, refl, sym, ap, _∙_, subst}
-use Prim.Native.Nat.{ℕ, zero, suc, _+_, _-_, _*_, _/_, _%_, _^_, _≤_, _<_, compare}
-use native.Mathlib.Nat.{mul-one, one-mul, mul-comm, mul-assoc, mul-left-comm, mul-right-comm, mul-pos, zero-lt-suc, add-mul, lt-of-lt-of-le, mul-lt-mul-of-pos-right, lt-irrefl, mul-sub}
+use mathlib.Core.Path.{_≡_, refl, sym, ap, _∙_}
+use Prim.Native.Nat.{ℕ, zero, suc, _+_, _-_, _*_, _/_, _^_, _≤_, _<_}
+use native.Mathlib.Nat.{mul-one, mul-comm, mul-assoc, mul-left-comm, mul-right-comm, mul-pos, zero-lt-suc, add-mul, lt-of-lt-of-le, mul-lt-mul-of-pos-right, lt-irrefl, mul-sub}
 use native.Mathlib.Omega.{arith}
-use mathlib.Core.Bool.{Bool, true, false, not, cond, _&&_, true≢false, false≢true}
-use lib.Dec.{T, ltb, leb, lt→ltb, lit<, lit≤}
-use lib.IntN.{ℤ, pos, negsuc, negℤ}
-use lib.Pow.{pow-pos, pow-add, pow-lt, shl-lt}
+use mathlib.Core.Bool.{Bool, true, false, not, cond, true≢false, false≢true}
+use lib.Dec.{ltb, lit<, lit≤}
+use lib.IntN.{pos, negℤ}
+use lib.Pow.{shl-lt}
 use borrow.Author.Tests.{lt-ltb, le-ltb, le-leb, lt-leb}
-use lib.Ieee.{Float, nan, inf, fin, Format, binary32, binary64, prec, emax, low, up, down, round, units, odd, neg, sum, add, div, ofInt, ofBits}
-use lib.Ieee.Fits.{round-is, up-pos, down-pos}
+use lib.Ieee.{Float, nan, inf, fin, Format, binary32, prec, emax, low, up, down, round, units, odd, neg, sum, add, div, ofInt, ofBits}
+use lib.Ieee.Fits.{round-is, down-pos}
 use lib.Ieee.Exact.{HasValue, round-exact}
 use lib.Ieee.Back.{round-whole}
 use lib.Ieee.Scale.{round-same}
-use Rattle.type2_number.specs.Number.{diff, whole, fixed}
+use Rattle.type2_number.specs.Number.{whole, fixed}
 use Rattle.type2_number.specs.Floats.{floatOf}
 
 -- ---- the negative of a rounded value

@@ -1,10 +1,10 @@
 -- Worked examples: the theorems of the two-byte forms, used at the ends of ranges.
-use mathlib.Core.Path.{_≡_, refl, sym, ap, _∙_}
+use mathlib.Core.Path.{_≡_, refl}
 use mathlib.Core.Bool.{true, false}
-use mathlib.Core.List.{List, [], _∷_}
-use Prim.Native.Nat.{ℕ, _≤_, _<_}
+use mathlib.Core.List.{[], _∷_}
+use Prim.Native.Nat.{ℕ, _<_}
 use native.Mathlib.Omega.{arith}
-use lib.IntN.{ℤ, pos, negsuc}
+use lib.IntN.{pos, negsuc}
 use Rattle.type2_number.specs.Encoding.{integerBytes}
 use Rattle.type2_number.specs.Forms.{formAt, In}
 use Rattle.type2_number.specs.FormsLaws.{disjoint, within, form-writes}

@@ -1,5 +1,5 @@
 -- `numberAt` by its cases: what the first byte and the bytes left say.
-use mathlib.Core.Path.{_≡_, refl, sym, ap, _∙_}
+use mathlib.Core.Path.{_≡_, _∙_}
 use mathlib.Core.List.{List}
 use Prim.Native.Nat.{ℕ, _+_, _-_, _*_, _≤_, _<_}
 use native.Mathlib.Omega.{arith}
@@ -11,7 +11,7 @@ use Rattle.type2_number.specs.declared.Number.the-variants.{Num, Cut, Op
 use lib.ListN.{length, getD}
 use lib.Dec.{ltb, eqb}
 use borrow.Author.Tests.{lt-ltb, le-ltb, eq-eqb, ne-eqb, ltb-true, ltb-false, eqb-false}
-use Rattle.octets.specs.Pick.{pick, pick-ind}
+use Rattle.octets.specs.Pick.{pick-ind}
 use Rattle.type2_number.specs.Number.{Read, cut, operator, number, taken, numberAt, whole, fixed, sixteen, rounded}
 
 module _ (s : List ℕ) (at : ℕ) where

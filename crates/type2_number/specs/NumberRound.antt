@@ -1,21 +1,18 @@
 -- A number that was written reads back: the bytes of a reading read as that reading, whatever follows them.
 use mathlib.Core.Path.{_≡_, refl, sym, ap, _∙_, subst}
-use mathlib.Core.Logic.{_⊎_, inl, inr}
 use mathlib.Core.List.{List, [], _∷_, _++_}
-use mathlib.Core.Bool.{Bool, true, false}
-use Prim.Native.Nat.{ℕ, zero, suc, _+_, _-_, _*_, _/_, _%_, _≤_, _<_, min}
-use native.Mathlib.Nat.{mod-lt}
+use mathlib.Core.Bool.{true, false}
+use Prim.Native.Nat.{ℕ, suc, _+_, _-_, _*_, _/_, _%_, _≤_, _<_}
 use native.Mathlib.Decide.{decLt, decLe}
 use native.Mathlib.Omega.{arith}
-use lib.Dec.{ltb, leb, eqb, lit<}
+use lib.Dec.{lit<}
 use lib.IntN.{ℤ, pos, negsuc, negℤ}
 use lib.ListN.{length, drop, getD}
 use borrow.Author.Tests.{lt-ltb, le-ltb, lt-leb, le-leb}
-use Rattle.octets.specs.Pick.{pick}
 use Rattle.octets.specs.Octets.{bytesOf}
 use Rattle.octets.specs.ListLaws.{lies-at, lies-first, lies-length}
-use Rattle.type2_number.specs.Number.{diff, mag, isNeg, keep24, rounded, whole, fixed, sixteen, Read, cut, number, taken, numberAt, Reading}
-use Rattle.type2_number.specs.Encoding.{integerBytes, fixedBytes, numberBytes, encoded}
+use Rattle.type2_number.specs.Number.{diff, mag, isNeg, keep24, rounded, whole, fixed, sixteen, number, numberAt, Reading}
+use Rattle.type2_number.specs.Encoding.{integerBytes, encoded}
 use Rattle.type2_number.specs.NumberLaws.{long, form-28, form-1, form-up, form-down, form-ff}
 use Rattle.type2_number.specs.EncodingLaws.{one-neg, one-pos, two-neg, two-pos, three-neg, three-pos, fixed-neg, fixed-pos, fixed-top, encoded-fraction, encoded-integer, encoded-big}
 

@@ -1,19 +1,19 @@
 -- Every number that is read is a reading, and a reading is what its f32 stands for.
 use mathlib.Core.Path.{_≡_, refl, sym, ap, _∙_, subst}
 use mathlib.Core.List.{List}
-use Prim.Native.Nat.{ℕ, zero, suc, _+_, _-_, _*_, _^_, _≤_, _<_}
-use native.Mathlib.Nat.{le-trans, le-of-eq, eq-of-mul-eq-mul-right, mul-assoc, mul-right-comm, mul-comm}
+use Prim.Native.Nat.{ℕ, zero, suc, _+_, _-_, _*_, _≤_, _<_}
+use native.Mathlib.Nat.{le-trans, le-of-eq, eq-of-mul-eq-mul-right}
 use native.Mathlib.Omega.{arith}
 use mathlib.Core.Bool.{Bool, true, false}
 use lib.ListN.{length, getD}
-use lib.Dec.{leb, ltb, eqb, lit<, lit≤, ltb→lt, T}
-use borrow.Author.Tests.{leb-true, leb-false, ltb-true, ltb-false}
+use lib.Dec.{leb, ltb, eqb}
+use borrow.Author.Tests.{ltb-true, ltb-false}
 use lib.IntN.{ℤ, pos, negsuc, negℤ}
-use lib.Ieee.{Float, nan, inf, fin, binary32, round, up, down}
+use lib.Ieee.{Float, nan, inf, fin, binary32, round, down}
 use lib.Ieee.Exact.{HasValue}
 use lib.Ieee.Fits.{down-pos}
 use Rattle.octets.specs.Pick.{pick}
-use Rattle.type2_number.specs.Number.{Read, cut, operator, number, taken, numberAt, keep24, rounded, diff, whole, fixed, sixteen}
+use Rattle.type2_number.specs.Number.{Read, cut, operator, number, numberAt, keep24, rounded, diff, whole, fixed, sixteen}
 use Rattle.type2_number.specs.Number.{mag, isNeg}
 use Rattle.type2_number.specs.Floats.{floatOf, scaledOf, signed, HoldsReading}
 use Rattle.type2_number.specs.Number.{Reading}

@@ -2,16 +2,16 @@
 use mathlib.Core.Path.{_≡_, refl, sym, ap, _∙_, subst}
 use mathlib.Core.Logic.{_⊎_, inl, inr}
 use Prim.Native.Nat.{ℕ, zero, suc, _+_, _-_, _*_, _/_, _%_, _^_, _≤_, _<_, compare}
-use native.Mathlib.Nat.{mul-one, one-mul, mul-comm, mul-assoc, mul-left-comm, mul-right-comm, mul-pos, zero-lt-suc, lt-irrefl, eq-of-mul-eq-mul-right, le-trans, le-of-eq, le-of-lt, lt-of-lt-of-le, lt-of-le-of-lt, lt-of-not-le, not-le-of-lt, mul-le-mul-right, mul-lt-mul-of-pos-right, mul-div-cancel, div-mul-le-self, div-one, mod-one, eq-or-lt-of-le, mul-le-mul-left, le-div-iff-mul-le}
+use native.Mathlib.Nat.{mul-one, one-mul, mul-comm, mul-assoc, mul-left-comm, mul-right-comm, mul-pos, zero-lt-suc, eq-of-mul-eq-mul-right, le-trans, le-of-eq, lt-of-lt-of-le, lt-of-le-of-lt, lt-of-not-le, not-le-of-lt, mul-le-mul-right, mul-div-cancel, div-one, mod-one, eq-or-lt-of-le, mul-le-mul-left, le-div-iff-mul-le}
 use native.Mathlib.Omega.{arith}
 use native.Mathlib.Decide.{decLt}
 use mathlib.Core.Bool.{Bool, true, false}
-use lib.Dec.{T, leb, ltb, lit<, lit≤}
-use lib.IntN.{ℤ, pos, negsuc, negℤ}
-use lib.Pow.{pow-pos, pow-add, pow-lt, pow-mono, shl-lt}
-use lib.Ieee.{Float, nan, inf, fin, Format, binary32, prec, emax, low, up, down, size, nearest, round, units}
-use lib.Ieee.Digits.{size-lt, size-le, size-reaches, back}
-use lib.Ieee.Fits.{round-is, round-fits, core, nearest-le, kept-lt, down-pos}
+use lib.Dec.{leb, ltb, lit<}
+use lib.IntN.{pos, negℤ}
+use lib.Pow.{pow-pos, pow-add, pow-mono, shl-lt}
+use lib.Ieee.{Float, nan, inf, fin, binary32, up, down, size, nearest, round, units}
+use lib.Ieee.Digits.{size-lt, size-le, size-reaches}
+use lib.Ieee.Fits.{round-is, round-fits, core, nearest-le, kept-lt}
 use lib.Ieee.Exact.{HasValue, round-exact, units-val}
 use lib.Ieee.Nearest.{closest, closest-same, nearest-ge}
 use Rattle.octets.specs.Pick.{pick}

@@ -1,7 +1,7 @@
 -- Two values that a format holds, with one sign and one fraction, are one value.
 use mathlib.Core.Path.{_≡_, refl, sym, ap, _∙_, subst}
-use Prim.Native.Nat.{ℕ, zero, suc, _+_, _-_, _*_, _%_, _^_, _≤_, _<_}
-use native.Mathlib.Nat.{mul-one, one-mul, mul-comm, mul-assoc, mul-left-comm, mul-right-comm, mul-pos, zero-lt-suc, zero-mul, lt-irrefl, pow-succ', pow-suc, eq-of-mul-eq-mul-right}
+use Prim.Native.Nat.{ℕ, zero, suc, _+_, _*_, _%_, _^_, _<_}
+use native.Mathlib.Nat.{mul-one, one-mul, mul-assoc, mul-left-comm, mul-right-comm, mul-pos, zero-lt-suc, zero-mul, lt-irrefl, pow-succ', pow-suc, eq-of-mul-eq-mul-right}
 use native.Mathlib.Omega.{arith}
 use mathlib.Core.Bool.{Bool, _&&_}
 use lib.Dec.{T, ltb, leb, eqb, eqb→eq}

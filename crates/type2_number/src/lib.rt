@@ -2,7 +2,7 @@
 // `encode` does. The definitions count 65536ths; nothing above this crate sees how an f32 rounds.
 ghost use mathlib.Core.Path.{_≡_};
 ghost use mathlib.Core.Bool.{true, false};
-ghost use mathlib.Core.List.{[], _∷_};
+ghost use mathlib.Core.List.{_∷_};
 ghost use Prim.Native.Nat.{_+_, _*_, _≤_, _<_};
 ghost use lib.ListN.{length};
 ghost use Rattle.octets.specs.Octets.{bytesOf, Wrote};

@@ -3,9 +3,9 @@
 use mathlib.Core.Path.{_≡_, refl}
 use mathlib.Core.List.{List, [], _∷_, _++_}
 use Prim.Native.Nat.{ℕ, zero, suc}
-use lib.IntN.{pos, negsuc}
+use lib.IntN.{pos}
 use Rattle.type2_number.specs.Number.{keep24, rounded, numberAt}
-use Rattle.unfold.specs.Unfold.{Tok, num, op, esc, mask, Row, Glyph, notPlain, plain, State, glyph, Run, broken, ended, leave, but, targetOf, operatorAt, stepAt, walk, runBody, unfoldGlyph}
+use Rattle.unfold.specs.Unfold.{num, op, esc, mask, Glyph, notPlain, plain, State, glyph, broken, ended, leave, but, targetOf, operatorAt, stepAt, walk, runBody, unfoldGlyph}
 
 abbrev unfolded : List (List ℕ) → List (List ℕ) → List ℕ → Glyph
 unfolded globals locals code = unfoldGlyph globals locals 3 7 code

@@ -1,14 +1,16 @@
 -- The unfolding of a glyph, sentence by sentence from document 01, 'Plain glyphs' (TN5177, sections 4 and 5 and appendix B for the
 -- operators and limits): from the subroutines a glyph can call and its charstring to `not plain`, or its tokens and the rows met.
-use Prim.Native.Nat.{ℕ, zero, suc, _+_, _-_, _/_, _%_}
+use Prim.Native.Nat.{ℕ, zero, suc, _+_, _-_, _/_}
 use mathlib.Core.Bool.{Bool, true, false}
 use mathlib.Core.List.{List, [], _∷_, _++_}
-use lib.Dec.{ltb, leb, eqb}
-use lib.IntN.{ℤ, pos, negsuc}
+use mathlib.Core.Option.{Option, none, some}
+use lib.Dec.{ltb, eqb}
+use lib.IntN.{ℤ}
 use lib.ListN.{length, take, drop, getD}
 use Rattle.octets.specs.Pick.{pick}
+use Rattle.octets.specs.Steps.{and}
 use Rattle.type2_number.specs.Number.{Read, cut, operator, number as aNumber, numberAt}
-use Rattle.charstring.specs.Bias.{biasOf}
+use Rattle.charstring.specs.Bias.{biasOf, numbered}
 use Rattle.charstring.specs.Token.{isMask}
 
 -- a token that is left: a number by its reading, an operator, an escape, or a mask, 19 or 20 with its bytes
@@ -62,11 +64,6 @@ pub data Run : Type 0 where
   returned : State → Run
   ended : State → Run
 
--- a call's operand: the number just before it in the same body
-pub data Last : Type 0 where
-  none : Last
-  last : ℤ → Last
-
 -- one token more, its operands cleared; at most 65,536 tokens and calls
 unfoldable pub leave : Tok → ℕ → ℕ → State → (State → Run) → Run
 leave t args stems st go =
@@ -82,19 +79,9 @@ but (t ∷ u ∷ ts) = t ∷ but (u ∷ ts)
 abbrev pub calling : Site → State → State
 calling site st = record { args = st .args - 1; stems = st .stems; spent = st .spent; out = but (st .out); met = st .met ++ (entered site ∷ []) }
 
--- the subroutine that an operand names: whole, and with the bias a number of one that exists
-pub data Target : Type 0 where
-  nowhere : Target
-  target : ℕ → Target
-
-unfoldable pub targetOf : ℕ → Last → Target
-targetOf count none = nowhere
-targetOf count (last (pos n)) =
-    pick (eqb (n % 65536) 0) (pick (ltb (n / 65536 + biasOf count) count) (target (n / 65536 + biasOf count)) nowhere) nowhere
-targetOf count (last (negsuc m)) =
-    pick (eqb (suc m % 65536) 0)
-    (pick (leb (suc m / 65536) (biasOf count)) (pick (ltb (biasOf count - suc m / 65536) count) (target (biasOf count - suc m / 65536)) nowhere) nowhere)
-    nowhere
+-- the subroutine that a call's operand, the number just before it in the same body, names: whole, and with the bias a number of one that exists
+unfoldable pub targetOf : ℕ → Option ℤ → Option ℕ
+targetOf count l = and (and l (numbered (biasOf count))) (λ (i : ℕ). pick (ltb i count) (some i) none)
 
 -- after a subroutine: on in the caller, or the end
 abbrev pub after : Run → (State → Run) → Run
@@ -119,12 +106,12 @@ abbrev Enter : Type 0
 Enter = Site → List ℕ → State → Run
 
 abbrev On : Type 0
-On = ℕ → Last → State → Run
+On = ℕ → Option ℤ → State → Run
 
 -- a call of the subroutine i of those that `which` names; the caller goes on at `next`
-abbrev pub callTo : Enter → On → (ℕ → Site) → List (List ℕ) → ℕ → State → Target → Run
-callTo enter on which subrs next st nowhere = broken
-callTo enter on which subrs next st (target i) = after (enter (which i) (getD subrs i []) (calling (which i) st)) (on next none)
+abbrev pub callTo : Enter → On → (ℕ → Site) → List (List ℕ) → ℕ → State → Option ℕ → Run
+callTo enter on which subrs next st none = broken
+callTo enter on which subrs next st (some i) = after (enter (which i) (getD subrs i []) (calling (which i) st)) (on next none)
 
 -- a stem operator with n stems then: at most 96
 abbrev pub stemAt : On → ℕ → ℕ → ℕ → State → Run
@@ -147,7 +134,7 @@ escapeAt on s at st =
 
 module _ (globals locals : List (List ℕ)) (fd : ℕ) where
   -- the operator b at a place
-  unfoldable pub operatorAt : Enter → On → Site → List ℕ → ℕ → Last → State → ℕ → Run
+  unfoldable pub operatorAt : Enter → On → Site → List ℕ → ℕ → Option ℤ → State → ℕ → Run
   operatorAt enter on site s at l st b =
       pick (eqb b 10) (callTo enter on (local fd) locals (at + 1) st (targetOf (length locals) l))
       (pick (eqb b 29) (callTo enter on global globals (at + 1) st (targetOf (length globals) l))
@@ -159,13 +146,13 @@ module _ (globals locals : List (List ℕ)) (fd : ℕ) where
       (pick (isPath b) (leave (op b) 0 (st .stems) st (on (at + 1) none)) broken)))))))
 
   -- what stands at a place: a number waits, at most 48 of them
-  unfoldable pub stepAt : Enter → On → Site → List ℕ → ℕ → Last → State → Read → Run
+  unfoldable pub stepAt : Enter → On → Site → List ℕ → ℕ → Option ℤ → State → Read → Run
   stepAt enter on site s at l st cut = broken
-  stepAt enter on site s at l st (aNumber z n) = pick (ltb (st .args) 48) (leave (num z) (st .args + 1) (st .stems) st (on n (last z))) broken
+  stepAt enter on site s at l st (aNumber z n) = pick (ltb (st .args) 48) (leave (num z) (st .args + 1) (st .stems) st (on n (some z))) broken
   stepAt enter on site s at l st operator = operatorAt enter on site s at l st (getD s at 0)
 
   -- a body from a place on, k tokens at most; running off its end is not plain
-  unfoldable pub walk : Enter → ℕ → Site → List ℕ → ℕ → Last → State → Run
+  unfoldable pub walk : Enter → ℕ → Site → List ℕ → ℕ → Option ℤ → State → Run
   walk enter zero site s at l st = broken
   walk enter (suc k) site s at l st =
       pick (ltb at (length s)) (stepAt enter (λ n m x. walk enter k site s n m x) site s at l st (numberAt s at)) broken

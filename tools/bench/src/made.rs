@@ -98,6 +98,21 @@ pub fn cid_keyed(order: &str, culprit: Option<usize>) -> Vec<u8> {
     font(&cids, None, culprit)
 }
 
+/// A name-keyed font of these charstrings, whose names are those of the standard charset, and these subroutines.
+pub fn standard(charstrings: &[Vec<u8>], globals: &[Vec<u8>], locals: &[Vec<u8>]) -> Vec<u8> {
+    let front = |charstrings, private| {
+        let top = [entry(&[charstrings], &[17]), entry(&[6, private], &[18])].concat();
+        let (name, top) = (index(&[b"Made".to_vec()]), index(&[top]));
+        [vec![1, 0, 4, 4], name, top, index(&[]), index(globals)].concat()
+    };
+    let charstrings_at = front(0, 0).len();
+    let charstrings = index(charstrings);
+    // A Private DICT of six bytes, and its subroutines.
+    let private = [entry(&[6], &[19]), index(locals)].concat();
+    let front = front(charstrings_at, charstrings_at + charstrings.len());
+    [front, charstrings, private].concat()
+}
+
 /// Another order, always the same.
 pub fn shuffle<T>(list: &mut [T]) {
     let mut state = 0x9e37_79b9_7f4a_7c15_u64;

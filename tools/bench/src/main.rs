@@ -1,11 +1,18 @@
 //! Times reading and subsetting, ours against the original Rust and HarfBuzz, on the same fonts in one run. See README.md.
 
+#[cfg(feature = "counted")]
+mod counted;
 mod growth;
 mod harfbuzz;
+mod inputs;
 mod made;
 mod measure;
+#[cfg(feature = "counted")]
+mod memory;
 mod original;
 mod ours;
+#[cfg(feature = "counted")]
+mod painted;
 mod reading;
 mod sheet;
 mod small;
@@ -20,6 +27,10 @@ mod wide;
 mod cff;
 include!("../../oracle/src/siblings.rs");
 
+// The original's writers with a record of ours in the place of its trace.
+#[allow(dead_code)]
+#[path = "../../compare/src/hooked.rs"]
+mod hooked;
 #[path = "../../compare/src/names.rs"]
 mod names;
 #[allow(dead_code)]
@@ -29,8 +40,9 @@ mod record;
 use std::process::ExitCode;
 use std::{env, fs};
 
-const USAGE: &str = "usage: tools/bench/run all|fonts|growth|read|wide|small [FILE...]
-       tools/bench/run stack";
+const USAGE: &str = "usage: tools/bench/run all|fonts|growth|read|wide|small|memory [FILE...]
+       tools/bench/run stack|made
+       tools/bench/run commands [WORD...]";
 
 /// The files of a folder that `run` names by a variable.
 fn folder(variable: &str) -> Vec<String> {
@@ -83,7 +95,14 @@ fn main() -> ExitCode {
         Some((what, named)) if what == "read" => reading::print(&fonts(named)),
         Some((what, named)) if what == "wide" => wide::print(&wide_fonts(named)),
         Some((what, named)) if what == "small" => small::print(&fonts(named)),
+        #[cfg(feature = "counted")]
+        Some((what, named)) if what == "memory" => memory::print(&fonts(named)),
         Some((what, [])) if what == "stack" => stack::print(),
+        Some((what, [])) if what == "made" => inputs::print(),
+        // A process of `made`'s own.
+        Some((what, [side, call, kind, order])) if what == "made-try" => {
+            inputs::attempt(side, call, kind, order);
+        }
         // A process of `stack`'s own.
         Some((what, [call, font, rows, kib])) if what == "stack-try" => {
             return stack::attempt(call, font, rows, kib.parse().expect("a number"));

@@ -18,6 +18,11 @@ pub const SHORT: Budget = Budget {
     time: Duration::from_millis(15),
     runs: 8,
 };
+/// What an input that was made to be slow is given.
+pub const SLOW: Budget = Budget {
+    time: Duration::from_secs(1),
+    runs: 3,
+};
 
 /// The least time, in microseconds, and what the last run gave.
 pub fn least<T>(run: impl FnMut() -> T) -> (f64, T) {

@@ -1,7 +1,8 @@
 //! The original: parsed and subset from the bytes, and the record of what its trace reaches.
 
 use crate::cff::{CffProgram, write};
-use crate::record;
+use crate::hooked;
+use crate::record::{self, Row};
 use std::collections::BTreeSet;
 
 /// What the original is asked for: its own form of a keep list.
@@ -34,6 +35,16 @@ pub fn cut(font: &[u8], name: &[u8], kept: &Kept) -> Vec<u8> {
         Kept::Names(names) => write::subset(&program, name, names),
         Kept::Cids(cids) => write::subset_cid(&program, name, cids),
     }
+    .expect("a subset")
+}
+
+/// The same with these rows in the place of its own trace.
+pub fn cut_by(font: &[u8], name: &[u8], kept: &Kept, rows: Vec<Row>) -> Vec<u8> {
+    let program = CffProgram::parse(font).expect("a font that is read");
+    hooked::with(hooked::Given::Rows(rows), || match kept {
+        Kept::Names(names) => hooked::write::subset(&program, name, names),
+        Kept::Cids(cids) => hooked::write::subset_cid(&program, name, cids),
+    })
     .expect("a subset")
 }
 

@@ -74,9 +74,13 @@ fn ratios(what: &str, all: &[Times], ratio: impl Fn(&Times) -> Option<f64>) {
         of[0],
         of.len()
     );
-    println!("| font | kept | ratio | ours | traced | Rust | HarfBuzz |\n|---|---|---|---|---|---|---|");
+    println!(
+        "| font | kept | ratio | ours | traced | Rust | HarfBuzz |\n|---|---|---|---|---|---|---|"
+    );
     for (r, t) in found.iter().take(WORST) {
-        let other = t.harfbuzz.map_or(String::from("–"), |time| format!("{time:.0}"));
+        let other = t
+            .harfbuzz
+            .map_or(String::from("–"), |time| format!("{time:.0}"));
         println!(
             "| {} | {} | {r:.2} | {:.0} | {:.0} | {:.0} | {other} |",
             t.name, t.kept, t.ours, t.traced, t.theirs
@@ -84,7 +88,12 @@ fn ratios(what: &str, all: &[Times], ratio: impl Fn(&Times) -> Option<f64>) {
     }
 }
 
-fn amount(title: &str, fonts: &[(String, Vec<u8>)], keep: fn(&CffProgram) -> Vec<u16>, most: usize) {
+fn amount(
+    title: &str,
+    fonts: &[(String, Vec<u8>)],
+    keep: fn(&CffProgram) -> Vec<u16>,
+    most: usize,
+) {
     let (mut all, mut refused, mut differ) = (Vec::new(), 0, Vec::new());
     for (name, bytes) in fonts {
         let program = catch_unwind(|| CffProgram::parse(bytes));
@@ -109,15 +118,31 @@ fn amount(title: &str, fonts: &[(String, Vec<u8>)], keep: fn(&CffProgram) -> Vec
         if differ.is_empty() { "" } else { ": " },
         differ.join(", ")
     );
-    ratios("The original's time over ours", &all, |t| Some(t.theirs / t.ours));
-    ratios("The original's time over ours with our trace", &all, |t| Some(t.theirs / t.traced));
-    ratios("HarfBuzz's time over ours with our trace", &all, |t| Some(t.harfbuzz? / t.traced));
+    ratios("The original's time over ours", &all, |t| {
+        Some(t.theirs / t.ours)
+    });
+    ratios("The original's time over ours with our trace", &all, |t| {
+        Some(t.theirs / t.traced)
+    });
+    ratios("HarfBuzz's time over ours with our trace", &all, |t| {
+        Some(t.harfbuzz? / t.traced)
+    });
     println!();
 }
 
 /// Two parts, by the glyphs that are kept.
 pub fn print(fonts: &[(String, Vec<u8>)]) {
     std::panic::set_hook(Box::new(|_| ()));
-    amount("A result sheet's letters", fonts, sheet::letters, usize::MAX);
-    amount("All glyphs, of fonts with at most 5,000", fonts, sheet::all, MOST_GLYPHS);
+    amount(
+        "A result sheet's letters",
+        fonts,
+        sheet::letters,
+        usize::MAX,
+    );
+    amount(
+        "All glyphs, of fonts with at most 5,000",
+        fonts,
+        sheet::all,
+        MOST_GLYPHS,
+    );
 }

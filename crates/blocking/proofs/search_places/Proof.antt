@@ -1,7 +1,6 @@
 -- `blocking::search_places` meets its contract: each kept glyph stands at its own place, and a 0 there leaves it out; no other than `only` need be tried.
 use mathlib.Core.Path.{sym}
 use native.Mathlib.Omega.{arith}
-use lib.ListN.{length}
 use lib.Seq.{length-take-le}
 use Rattle.index.specs.IndexLaws.{items-length}
 use Rattle.cff.specs.Reads.{programOf}

@@ -1,8 +1,5 @@
 -- `by_name::put_codes` meets its contract: one code after the other.
 use Prim.Native.Nat.{_-_}
-use mathlib.Core.Path.{_∙_}
-use native.Mathlib.Omega.{arith}
-use denote.Ref.{now}
 use Rattle.by_name.specs.NamedKeptLaws.{Putting, putting-start, putting-next, putting-end}
 use borrow.Author.Needs.{needs}
 use Rattle.by_name.proofs.put_codes.Statement.{statement}

@@ -1,5 +1,4 @@
 -- `cff_cases::put_font` meets its contract: no refusal, the sizes, the keying and W in a row.
-use Prim.Native.Nat.{ℕ}
 use mathlib.Core.Path.{ap}
 use native.Mathlib.Omega.{arith}
 use Rattle.octets.specs.Octets.{bytesOf}

@@ -1,5 +1,5 @@
 -- `charstring::bias` meets its contract: the tests of the definition, in its order.
-use borrow.Author.Tests.{lt-ltb, le-ltb, eq-eqb, ne-eqb}
+use borrow.Author.Tests.{lt-ltb, le-ltb}
 use Rattle.charstring.proofs.bias.Statement.{statement}
 use Rattle.charstring.proofs.bias.Tie as tie
 

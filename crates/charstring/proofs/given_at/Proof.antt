@@ -1,9 +1,4 @@
 -- `charstring::given_at` meets its contract: only a mask that is due asks.
-use mathlib.Core.Path.{sym, ap, _∙_}
-use mathlib.Core.Bool.{Bool}
-use Prim.Native.Nat.{_-_}
-use Rattle.octets.specs.Pick.{pick}
-use Rattle.charstring.specs.declared.MaskLen.the-variants.{Own}
 use borrow.Author.Needs.{needs}
 use Rattle.charstring.proofs.given_at.Statement.{statement}
 use Rattle.charstring.proofs.given_at.Tie as tie

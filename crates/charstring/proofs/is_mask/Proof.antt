@@ -1,5 +1,5 @@
 -- `charstring::is_mask` meets its contract: the tests of the definition, in its order.
-use borrow.Author.Tests.{lt-ltb, le-ltb, eq-eqb, ne-eqb}
+use borrow.Author.Tests.{eq-eqb, ne-eqb}
 use Rattle.charstring.proofs.is_mask.Statement.{statement}
 use Rattle.charstring.proofs.is_mask.Tie as tie
 

@@ -1,6 +1,5 @@
 -- `charstring::is_stem` meets its contract: the tests of the definition, in its order.
-use borrow.Author.Tests.{lt-ltb, le-ltb, eq-eqb, ne-eqb}
-use mathlib.Core.Path.{_∙_}
+use borrow.Author.Tests.{eq-eqb, ne-eqb}
 use borrow.Author.Needs.{needs}
 use Rattle.charstring.proofs.is_stem.Statement.{statement}
 use Rattle.charstring.proofs.is_stem.Tie as tie

@@ -3,9 +3,9 @@ use borrow.Author.Needs.{needs}
 use Prim.Native.Nat.{_+_, _-_, _≤_, _<_}
 use mathlib.Core.Path.{_≡_, refl, sym, ap, _∙_}
 use native.Mathlib.Omega.{arith}
-use lib.ListN.{length, drop, getD}
+use lib.ListN.{length, drop}
 use Rattle.charstring.specs.Token.{lookup}
-use Rattle.charstring.specs.declared.MaskLen.the-variants.{Own, Given}
+use Rattle.charstring.specs.declared.MaskLen.the-variants.{Given}
 use Rattle.charstring.specs.EncodeLaws.{lookup-here, lookup-on, lookup-end}
 use Rattle.charstring.proofs.lookup.Statement.{statement}
 use Rattle.charstring.proofs.lookup.Tie as tie

@@ -1,5 +1,5 @@
 -- `charstring::mask_at` meets its contract: the one test of the definition.
-use borrow.Author.Tests.{lt-ltb, le-ltb, eq-eqb, ne-eqb}
+use borrow.Author.Tests.{lt-ltb, le-ltb}
 use borrow.Author.Needs.{needs}
 use Rattle.charstring.proofs.mask_at.Statement.{statement}
 use Rattle.charstring.proofs.mask_at.Tie as tie

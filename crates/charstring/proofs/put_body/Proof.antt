@@ -1,9 +1,8 @@
 -- `charstring::put_body` meets its contract: the tokens done stand in the output; a cut body is excluded.
 use borrow.Author.Needs.{needs}
-use Prim.Native.Nat.{_-_, _+_, _≤_}
+use Prim.Native.Nat.{_-_}
 use mathlib.Core.Path.{_≡_, refl, sym, ap, _∙_}
-use mathlib.Core.Bool.{true, false}
-use native.Mathlib.Omega.{arith}
+use mathlib.Core.Bool.{true}
 use lib.ListN.{length}
 use Rattle.octets.specs.Octets.{Octets}
 use Rattle.charstring.specs.Token.{more, tokenAt, lookup}

@@ -1,5 +1,4 @@
 -- `checker::check_font` meets its contract: the tests in their order.
-use mathlib.Core.Path.{refl}
 use Rattle.octets.specs.Octets.{Octets}
 use Rattle.checker.specs.CheckLaws.{table-held, table-fits, check-number, check-below, check-found, check-form, check-refused, check-accepted}
 use borrow.Author.Needs.{needs}

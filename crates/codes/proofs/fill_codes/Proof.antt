@@ -3,7 +3,6 @@ use borrow.Author.Needs.{needs}
 use Prim.Native.Nat.{_≤_}
 use native.Mathlib.Omega.{arith}
 use lib.ListN.{length}
-use denote.Ref.{now}
 use Rattle.codes.specs.FillLaws.{CodesLeft, codes-start, codes-turn, codes-done}
 use Rattle.codes.proofs.fill_codes.Statement.{statement}
 use Rattle.codes.proofs.fill_codes.Tie as tie

@@ -1,7 +1,6 @@
 -- `codes::fill_first` meets its contract: by the kind.
 use borrow.Author.Needs.{needs}
-use native.Mathlib.Omega.{arith}
-use Rattle.codes.specs.FillLaws.{kind-codes, kind-ranges, fills-codes, fills-ranges}
+use Rattle.codes.specs.FillLaws.{kind-ranges, fills-codes, fills-ranges}
 use Rattle.codes.proofs.fill_first.Statement.{statement}
 use Rattle.codes.proofs.fill_first.Tie as tie
 

@@ -3,7 +3,6 @@ use borrow.Author.Needs.{needs}
 use Prim.Native.Nat.{_≤_}
 use native.Mathlib.Omega.{arith}
 use lib.ListN.{length}
-use denote.Ref.{now}
 use Rattle.codes.specs.FillLaws.{RangeLeft, range-start, range-turn, range-done}
 use Rattle.codes.proofs.fill_range.Statement.{statement}
 use Rattle.codes.proofs.fill_range.Tie as tie

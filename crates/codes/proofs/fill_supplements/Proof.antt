@@ -3,7 +3,6 @@ use borrow.Author.Needs.{needs}
 use Prim.Native.Nat.{_≤_}
 use native.Mathlib.Omega.{arith}
 use lib.ListN.{length}
-use denote.Ref.{now}
 use Rattle.cff.specs.Reads.{programOf}
 use Rattle.codes.specs.FillLaws.{SuppliedLeft, supplied-start, supplied-turn, supplied-done}
 use Rattle.codes.proofs.fill_supplements.Statement.{statement}

@@ -1,15 +1,11 @@
 -- `dict::cid_count` meets its contract: the one operand of CIDCount, clamped, or the default.
 use Rattle.dict.specs.LookupLaws.{one-normal, count-absent, count-is}
-use Rattle.dict.specs.NotedLaws.{nowhere-placed}
 use borrow.Author.Needs.{needs}
 use Rattle.dict.proofs.cid_count.Statement.{statement}
 use Rattle.dict.proofs.cid_count.Tie as tie
 
-nowhere-requires : tie.Need-nowhere-requires
-nowhere-requires c κs = search needs
-
 number-requires : tie.Need-number-requires
-number-requires c κs = nowhere-placed _ _ (c .nowhere .ensures .1)
+number-requires c κs = search needs
 
 enum-told : tie.Need-enum-told
 enum-told c = search needs
@@ -18,7 +14,7 @@ enum-known-v : tie.Need-enum-known-v
 enum-known-v c = search needs
 
 to-u32-requires : tie.Need-to-u32-requires
-to-u32-requires c κs = one-normal _ (λ i. (c .before .before .before .before .before .shared-slice-known .given i) .fits) _ _ _ (c .before .before .before .number .ensures) (c .before .v .given .1)
+to-u32-requires c κs = one-normal _ (λ i. (c .before .before .before .before .shared-slice-known .given i) .fits) _ _ _ (c .before .before .before .number .ensures) (c .before .v .given .1)
 
 returns : tie.Need-returns
 returns c = count-absent _ _ (c .before .before .number .ensures) (c .enum-told .given .1)
@@ -28,4 +24,4 @@ returns-2 c = count-is _ _ _ _ (c .before .before .before .before .number .ensur
 
 pub cid-count-spec : {M : Type 1} → statement M
 cid-count-spec =
-    tie.close (tie.spec nowhere-requires number-requires enum-told enum-known-v to-u32-requires returns returns-2)
+    tie.close (tie.spec number-requires enum-told enum-known-v to-u32-requires returns returns-2)

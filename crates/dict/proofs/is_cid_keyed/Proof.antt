@@ -17,7 +17,7 @@ returns : tie.Need-returns
 returns c = there-not _ _ _ (c .before .before .place .ensures) (c .enum-told .given .1)
 
 returns-2 : tie.Need-returns-2
-returns-2 c = there-is _ _ _ (c .before .before .place .ensures) _ _ _ (c .enum-told2 .given .1)
+returns-2 c = there-is _ _ _ (c .before .before .place .ensures) _ _ (c .enum-told2 .given .1)
 
 pub is-cid-keyed-spec : {M : Type 1} → statement M
 is-cid-keyed-spec =

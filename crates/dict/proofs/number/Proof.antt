@@ -17,13 +17,13 @@ operand-requires : tie.Need-operand-requires
 operand-requires c κs = search needs
 
 returns : tie.Need-returns
-returns c = one-is _ _ _ (c .before .before .before .before .before .place .ensures) _ _ _ (c .before .before .before .start .given .1) (c .before .if1 .taken) _ (c .operand .ensures)
+returns c = one-is _ _ _ (c .before .before .before .before .before .place .ensures) _ _ (c .before .before .before .start .given .1) (c .before .if1 .taken) _ (c .operand .ensures)
 
 returns-2 : tie.Need-returns-2
 returns-2 c = one-absent _ _ _ (c .before .before .place .ensures) (c .enum-told .given .1)
 
 returns-3 : tie.Need-returns-3
-returns-3 c = one-other _ _ _ (c .before .before .before .before .place .ensures) _ _ _ (c .before .before .start .given .1) (c .if1 .left)
+returns-3 c = one-other _ _ _ (c .before .before .before .before .place .ensures) _ _ (c .before .before .start .given .1) (c .if1 .left)
 
 pub number-spec : {M : Type 1} → statement M
 number-spec =

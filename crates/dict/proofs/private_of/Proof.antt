@@ -23,13 +23,13 @@ private-at-requires : tie.Need-private-at-requires
 private-at-requires c κs = (operand-normal _ (λ i. (c .before .before .before .before .before .before .before .shared-slice-known .given i) .fits) _ _ _ _ (c .before .operand .ensures), operand-normal _ (λ i. (c .before .before .before .before .before .before .before .shared-slice-known .given i) .fits) _ _ _ _ (c .operand2 .ensures))
 
 returns : tie.Need-returns
-returns c = private-is _ _ (c .before .before .before .before .before .before .before .place .ensures) _ _ _ (c .before .before .before .before .before .start .given .1) (c .before .before .before .if1 .taken) _ _ (c .before .before .operand .ensures) (c .before .operand2 .ensures) _ (c .private-at .ensures)
+returns c = private-is _ _ (c .before .before .before .before .before .before .before .place .ensures) _ _ (c .before .before .before .before .before .start .given .1) (c .before .before .before .if1 .taken) _ _ (c .before .before .operand .ensures) (c .before .operand2 .ensures) _ (c .private-at .ensures)
 
 returns-2 : tie.Need-returns-2
 returns-2 c = private-absent _ _ (c .before .before .place .ensures) (c .enum-told .given .1)
 
 returns-3 : tie.Need-returns-3
-returns-3 c = private-wrong _ _ (c .before .before .before .before .place .ensures) _ _ _ (c .before .before .start .given .1) (c .if1 .left)
+returns-3 c = private-wrong _ _ (c .before .before .before .before .place .ensures) _ _ (c .before .before .start .given .1) (c .if1 .left)
 
 pub private-of-spec : {M : Type 1} → statement M
 private-of-spec =

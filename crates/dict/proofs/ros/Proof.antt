@@ -4,8 +4,8 @@ use borrow.Author.Needs.{needs}
 use Rattle.dict.proofs.ros.Statement.{statement}
 use Rattle.dict.proofs.ros.Tie as tie
 
-find-entry-requires : tie.Need-find-entry-requires
-find-entry-requires c κs = search needs
+place-requires : tie.Need-place-requires
+place-requires c κs = search needs
 
 enum-told : tie.Need-enum-told
 enum-told c = search needs
@@ -26,19 +26,19 @@ ros-at-requires : tie.Need-ros-at-requires
 ros-at-requires c κs = (operand-normal _ (λ i. (c .before .before .before .before .before .before .before .before .shared-slice-known .given i) .fits) _ _ _ _ (c .before .before .operand .ensures), operand-normal _ (λ i. (c .before .before .before .before .before .before .before .before .shared-slice-known .given i) .fits) _ _ _ _ (c .before .operand2 .ensures), operand-normal _ (λ i. (c .before .before .before .before .before .before .before .before .shared-slice-known .given i) .fits) _ _ _ _ (c .operand3 .ensures))
 
 returns : tie.Need-returns
-returns c = ros-is _ _ (c .before .before .before .before .before .before .before .before .find-entry .ensures) _ _ _ (c .before .before .before .before .before .before .start .given .1) (c .before .before .before .before .if1 .taken) _ _ _ (c .before .before .before .operand .ensures) (c .before .before .operand2 .ensures) (c .before .operand3 .ensures) _ (c .ros-at .ensures)
+returns c = ros-is _ _ (c .before .before .before .before .before .before .before .before .place .ensures) _ _ (c .before .before .before .before .before .before .start .given .1) (c .before .before .before .before .if1 .taken) _ _ _ (c .before .before .before .operand .ensures) (c .before .before .operand2 .ensures) (c .before .operand3 .ensures) _ (c .ros-at .ensures)
 
 returns-2 : tie.Need-returns-2
-returns-2 c = ros-absent _ _ (c .before .before .find-entry .ensures) (c .enum-told .given .1)
+returns-2 c = ros-absent _ _ (c .before .before .place .ensures) (c .enum-told .given .1)
 
 returns-3 : tie.Need-returns-3
-returns-3 c = ros-wrong _ _ (c .before .before .before .before .find-entry .ensures) _ _ _ (c .before .before .start .given .1) (c .if1 .left)
+returns-3 c = ros-wrong _ _ (c .before .before .before .before .place .ensures) _ _ (c .before .before .start .given .1) (c .if1 .left)
 
 pub ros-spec : {M : Type 1} → statement M
 ros-spec =
     tie.close
     (tie.spec
-    find-entry-requires
+    place-requires
     enum-told
     enum-known-start
     operand-requires

@@ -1,5 +1,5 @@
 use borrow.Author.Needs.{needs}
-use mathlib.Core.Path.{_≡_, sym, ap, _∙_}
+use mathlib.Core.Path.{sym, ap, _∙_}
 use Rattle.subset.specs.Cut.{hasRos}
 use Rattle.early_refusals.proofs.has_ros.Statement.{statement}
 use Rattle.early_refusals.proofs.has_ros.Tie as tie

@@ -1,5 +1,4 @@
 -- `encoding_at` meets its contract: by the kind.
-use borrow.Author.Needs.{needs}
 use borrow.Author.Tests.{eq-eqb, ne-eqb}
 use Rattle.encoding.proofs.encoding_at.Statement.{statement}
 use Rattle.encoding.proofs.encoding_at.Tie as tie

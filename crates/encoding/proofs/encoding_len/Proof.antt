@@ -1,6 +1,5 @@
 -- `encoding_len` meets its contract: by the kind.
 use borrow.Author.Needs.{needs}
-use mathlib.Core.Path.{refl}
 use native.Mathlib.Omega.{arith}
 use borrow.Author.Tests.{eq-eqb, ne-eqb}
 use Rattle.encoding.proofs.encoding_len.Statement.{statement}

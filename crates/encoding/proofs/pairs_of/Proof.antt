@@ -1,5 +1,4 @@
 -- `pairs_of` meets its contract: by its test.
-use borrow.Author.Needs.{needs}
 use native.Mathlib.Omega.{arith}
 use borrow.Author.Tests.{eq-eqb, ne-eqb}
 use Rattle.encoding.proofs.pairs_of.Statement.{statement}

@@ -1,9 +1,9 @@
 -- `find::find_id` meets its contract: no glyph that was passed has the id.
 use borrow.Author.Needs.{needs}
-use Prim.Native.Nat.{_-_, _+_}
+use Prim.Native.Nat.{_-_}
 use mathlib.Core.Path.{_≡_, refl, sym, ap, _∙_}
 use native.Mathlib.Omega.{arith}
-use lib.ListN.{length, drop, getD}
+use lib.ListN.{drop}
 use Rattle.find.specs.Find.{glyphWithId}
 use Rattle.find.specs.FindLaws.{idsAhead, ids-ahead, Passing, passing-start, passing-inside, passing-ready, passing-id, passing-next, id-here, id-later, id-nowhere}
 use Rattle.find.proofs.find_id.Statement.{statement}

@@ -1,9 +1,9 @@
 -- `find::find_text` meets its contract: no glyph that was passed has the name.
 use borrow.Author.Needs.{needs}
-use Prim.Native.Nat.{_-_, _+_}
+use Prim.Native.Nat.{_-_}
 use mathlib.Core.Path.{_≡_, refl, sym, ap, _∙_}
 use native.Mathlib.Omega.{arith}
-use lib.ListN.{length, drop, getD}
+use lib.ListN.{drop}
 use Rattle.index.specs.Index.{itemsOf}
 use Rattle.strings.specs.Text.{sameText}
 use Rattle.strings.specs.Strings.{stringText}

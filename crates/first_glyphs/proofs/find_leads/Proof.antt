@@ -1,5 +1,5 @@
 -- `first_glyphs::find_leads` meets its contract: the ids of the glyphs are gathered and sorted, and the first with a text leads.
-use Prim.Native.Nat.{_≤_, _<_}
+use Prim.Native.Nat.{_≤_}
 use mathlib.Core.Path.{_≡_, sym, _∙_}
 use mathlib.Core.List.{_++_}
 use native.Mathlib.Omega.{arith}

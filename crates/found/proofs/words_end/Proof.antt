@@ -1,5 +1,5 @@
 -- `found::words_end` meets its contract. The invariant: no flag is set from the word on.
-use Prim.Native.Nat.{_*_, _-_, _≤_}
+use Prim.Native.Nat.{_*_, _≤_}
 use native.Mathlib.Omega.{arith}
 use borrow.Author.Needs.{needs}
 use denote.Ref.{now}

@@ -1,5 +1,4 @@
 -- `front::prepare_named` meets its contract: the slots, and then the names of the kept glyphs, which differ.
-use denote.Ref.{now}
 use Rattle.front.specs.PrepareLaws.{has-strings, named-measured}
 use borrow.Author.Needs.{needs}
 use Rattle.front.proofs.prepare_named.Statement.{statement}

@@ -14,7 +14,7 @@ use Rattle.order_window.specs.LoopLaws.{order-start, order-asks, order-end}
 use Rattle.bodies.specs.Ways.{manyOf, every}
 use Rattle.bodies.specs.WritingLaws.{Writing}
 use Rattle.glyph_bodies.specs.LoopLaws.{charstringsBy, Turned, turn-moved, turn-kept, glyph-asks, glyph-asked}
-use Rattle.glyph_bodies.specs.PartLaws.{fills-glyph}
+use Rattle.glyph_bodies.specs.PartLaws.{fills-glyph, lent-long}
 use Rattle.glyph_bodies.specs.PutLaws.{head-asked, charstrings-meant, put-start, put-size, put-whole, put-asked, end-asked, put-next}
 use Rattle.glyph_bodies.proofs.put_by_windows.Statement.{statement}
 use Rattle.glyph_bodies.proofs.put_by_windows.Tie as tie
@@ -110,7 +110,7 @@ abbrev G₁ : tie.After-advance Inv-loop μ-loop → tie.After-glyph-at Inv-loop
 G₁ a = a .before .before .before
 
 abbrev A₁ : tie.After-put-windowed Inv-loop μ-loop → tie.After-advance Inv-loop μ-loop
-A₁ d = d .before .before .before .before .before
+A₁ d = d .before .before .before .before .before .before
 
 keys-long : (a : tie.After-advance Inv-loop μ-loop) → length (a .advance .last .1 .1 .1 .1 .1 .0) ≡ 9216
 keys-long a = a .advance .kept .1 .1 .1 .1 .1 .0 ∙ T₁ (J₁ (G₁ a)) .before .loop .inv .3
@@ -134,11 +134,14 @@ advance-requires c κs =
     (fills-glyph (glyph-asked (s .pre .0) (s .pre .1) (turned j) (t .loop-test .taken) _ (g .glyph-at .ensures)) (l .loop .inv .3) (l .loop .inv .4), l .loop .inv .2)
 
 slice-aggregate-put-windowed : tie.Need-slice-aggregate-put-windowed Inv-loop μ-loop
-slice-aggregate-put-windowed c = sym (bytes-long (c .before .before .before))
+slice-aggregate-put-windowed c = sym (keys-long (c .before .before .before .before))
+
+slice-aggregate-put-windowed-2 : tie.Need-slice-aggregate-put-windowed-2 Inv-loop μ-loop
+slice-aggregate-put-windowed-2 c = sym (bytes-long (c .before .before .before .before .before))
 
 put-windowed-requires : tie.Need-put-windowed-requires Inv-loop μ-loop
 put-windowed-requires c κs =
-    let a = c .before .before .before .before in
+    let a = c .before .before .before .before .before in
     let g = G₁ a in
     let j = J₁ g in
     let t = T₁ j in
@@ -148,11 +151,11 @@ put-windowed-requires c κs =
     let s = S₁ x in
     let q = put-asked (s .pre .0) (s .pre .1) (now (s .args .out)) (s .pre .2) (x .index-for .ensures) _ (h .put-head .kept .0) (l .loop .inv .0) (turned j) (t .loop-test .taken) _
     (g .glyph-at .ensures) in
-    (q .0, a .advance .ensures, q .1, q .2)
+    (q .0, a .advance .ensures .0, a .advance .ensures .1, lent-long (keys-long a) (bytes-long a), q .1, q .2)
 
 put-end-requires : tie.Need-put-end-requires Inv-loop μ-loop
 put-end-requires c κs =
-    let d = c .before .before .before in
+    let d = c .before .before .before .before .before in
     let g = G₁ (A₁ d) in
     let j = J₁ g in
     let t = T₁ j in
@@ -161,11 +164,11 @@ put-end-requires c κs =
     let x = X₁ h in
     let s = S₁ x in
     end-asked (s .pre .0) (s .pre .1) (now (s .args .out)) (s .pre .2) (x .index-for .ensures) _ (h .put-head .kept .0) (l .loop .inv .0) (turned j) (t .loop-test .taken) _ (g .glyph-at .ensures)
-    (d .put-windowed .ensures)
+    (d .put-windowed .ensures .0)
 
 -- the charstring that was written last
 abbrev D₁ : tie.After-slice-known6 Inv-loop μ-loop → tie.After-put-windowed Inv-loop μ-loop
-D₁ c = c .before .before .before .before .before .before
+D₁ c = c .before .before .before .before .before .before .before .before
 
 add-i : tie.Need-add-i Inv-loop μ-loop
 add-i c = let t = T₁ (J₁ (G₁ (A₁ (D₁ c)))) in omega (arith, t .loop-test .taken, S₂ (t .before) .pre .1 .few)
@@ -185,11 +188,11 @@ loop-again c =
     let x = X₁ h in
     let s = S₁ x in (
       put-next (s .pre .0) (s .pre .1) (now (s .args .out)) (s .pre .2) (x .index-for .ensures) _ (h .put-head .kept .0) (l .loop .inv .0) (turned j) (t .loop-test .taken) _ (g .glyph-at .ensures)
-          (d .put-windowed .ensures) (c .before .before .put-end .ensures),
+          (d .put-windowed .ensures .0) (c .before .before .put-end .ensures),
       turned j .next,
-      a .advance .ensures,
-      keys-long a,
-      bytes-long a,
+      d .put-windowed .ensures .1,
+      d .put-windowed .kept .1 .1 .1 .1 .1 .1 .1 .1 .1 .0 ∙ keys-long a,
+      d .put-windowed .kept .1 .1 .1 .1 .1 .1 .1 .1 .1 .1 .0 ∙ bytes-long a,
     )
 
 same-length : tie.Need-same-length Inv-loop μ-loop
@@ -229,6 +232,7 @@ put-by-windows-spec =
     slice-aggregate-advance-2
     advance-requires
     slice-aggregate-put-windowed
+    slice-aggregate-put-windowed-2
     put-windowed-requires
     put-end-requires
     add-i

@@ -16,7 +16,7 @@ use Rattle.bodies.specs.Ways.{every}
 use Rattle.bodies.specs.Sizes.{Adding}
 use Rattle.bodies.specs.SizesLaws.{adding-start}
 use Rattle.glyph_bodies.specs.LoopLaws.{charstringAt, Turned, turn-moved, turn-kept, glyph-asks, glyph-asked, total-failed, total-room, total-next, total-whole}
-use Rattle.glyph_bodies.specs.PartLaws.{fills-glyph}
+use Rattle.glyph_bodies.specs.PartLaws.{fills-glyph, lent-long}
 use Rattle.glyph_bodies.proofs.total_by_windows.Statement.{statement}
 use Rattle.glyph_bodies.proofs.total_by_windows.Tie as tie
 
@@ -72,7 +72,7 @@ abbrev G₁ : tie.After-advance Inv-loop μ-loop → tie.After-glyph-at Inv-loop
 G₁ a = a .before .before .before
 
 abbrev A₁ : tie.After-windowed-len Inv-loop μ-loop → tie.After-advance Inv-loop μ-loop
-A₁ d = d .before .before .before .before
+A₁ d = d .before .before .before .before .before
 
 keys-long : (a : tie.After-advance Inv-loop μ-loop) → length (a .advance .last .1 .1 .1 .1 .1 .0) ≡ 9216
 keys-long a = a .advance .kept .1 .1 .1 .1 .1 .0 ∙ T₁ (J₁ (G₁ a)) .before .loop .inv .3
@@ -96,70 +96,77 @@ advance-requires c κs =
     (fills-glyph (glyph-asked (s .pre .0) (s .pre .1) (turned j) (t .loop-test .taken) _ (g .glyph-at .ensures)) (l .loop .inv .3) (l .loop .inv .4), l .loop .inv .2)
 
 slice-aggregate-windowed-len : tie.Need-slice-aggregate-windowed-len Inv-loop μ-loop
-slice-aggregate-windowed-len c = sym (bytes-long (c .before .before .before))
+slice-aggregate-windowed-len c = sym (keys-long (c .before .before .before))
+
+slice-aggregate-windowed-len-2 : tie.Need-slice-aggregate-windowed-len-2 Inv-loop μ-loop
+slice-aggregate-windowed-len-2 c = sym (bytes-long (c .before .before .before .before))
 
 windowed-len-requires : tie.Need-windowed-len-requires Inv-loop μ-loop
 windowed-len-requires c κs =
-    let a = c .before .before .before in
+    let a = c .before .before .before .before in
     let g = G₁ a in
     let j = J₁ g in
     let t = T₁ j in
-    let s = S₁ (t .before) in
-    (glyph-asked (s .pre .0) (s .pre .1) (turned j) (t .loop-test .taken) _ (g .glyph-at .ensures), a .advance .ensures)
+    let s = S₁ (t .before) in (
+      glyph-asked (s .pre .0) (s .pre .1) (turned j) (t .loop-test .taken) _ (g .glyph-at .ensures),
+      a .advance .ensures .0,
+      a .advance .ensures .1,
+      lent-long (keys-long a) (bytes-long a),
+    )
 
 enum-known-len : tie.Need-enum-known-len Inv-loop μ-loop
 enum-known-len c = search needs
 
 add-total : tie.Need-add-total Inv-loop μ-loop
 add-total c =
-    let d = c .before .before .before in
+    let d = c .before .before .before .before .before in
     let a = A₁ d in
     let g = G₁ a in
     let j = J₁ g in
     let t = T₁ j in
     let l = t .before in
     let s = S₁ l in
-    let m = total-room (s .pre .0) (s .pre .1) (turned j) (t .loop-test .taken) _ (g .glyph-at .ensures) _ (l .loop .inv .0) _ (d .windowed-len .ensures) _ (c .before .len .given .1) in
+    let m = total-room (s .pre .0) (s .pre .1) (turned j) (t .loop-test .taken) _ (g .glyph-at .ensures) _ (l .loop .inv .0) _ (d .windowed-len .ensures .0, d .windowed-len .ensures .1) _ (c .before .len .given .1) in
     omega (arith, m)
 
 add-i : tie.Need-add-i Inv-loop μ-loop
-add-i c = let t = T₁ (J₁ (G₁ (A₁ (c .before .before .before)))) in omega (arith, t .loop-test .taken, S₁ (t .before) .pre .1 .few)
+add-i c = let t = T₁ (J₁ (G₁ (A₁ (c .before .before .before .before .before)))) in omega (arith, t .loop-test .taken, S₁ (t .before) .pre .1 .few)
 
 loop-less : tie.Need-loop-less Inv-loop μ-loop
-loop-less c = let t = T₁ (J₁ (G₁ (A₁ (c .before .before .before)))) in omega (arith, t .loop-test .taken)
+loop-less c = let t = T₁ (J₁ (G₁ (A₁ (c .before .before .before .before .before)))) in omega (arith, t .loop-test .taken)
 
 loop-again : tie.Need-loop-again Inv-loop μ-loop
 loop-again c =
-    let d = c .before .before .before in
+    let d = c .before .before .before .before .before in
     let a = A₁ d in
     let g = G₁ a in
     let j = J₁ g in
     let t = T₁ j in
     let l = t .before in
     let s = S₁ l in (
-      total-next (s .pre .0) (s .pre .1) (turned j) (t .loop-test .taken) _ (g .glyph-at .ensures) _ (l .loop .inv .0) _ (d .windowed-len .ensures) _ (c .before .len .given .1),
+      total-next (s .pre .0) (s .pre .1) (turned j) (t .loop-test .taken) _ (g .glyph-at .ensures) _ (l .loop .inv .0) _ (d .windowed-len .ensures .0, d .windowed-len .ensures .1) _ (c .before .len .given .1),
       turned j .next,
-      a .advance .ensures,
-      keys-long a,
-      bytes-long a,
+      d .windowed-len .ensures .2,
+      d .windowed-len .kept .1 .1 .1 .1 .1 .1 .1 .0 ∙ keys-long a,
+      d .windowed-len .kept .1 .1 .1 .1 .1 .1 .1 .1 .0 ∙ bytes-long a,
     )
 
 enum-told : tie.Need-enum-told Inv-loop μ-loop
 enum-told c = search needs
 
 same-length : tie.Need-same-length Inv-loop μ-loop
-same-length c = turned (J₁ (G₁ (A₁ (c .before .before)))) .next .size
+same-length c = turned (J₁ (G₁ (A₁ (c .before .before .before .before)))) .next .size
 
 returns : tie.Need-returns Inv-loop μ-loop
 returns c =
-    let d = c .before .before in
+    let d = c .before .before .before .before in
     let a = A₁ d in
     let g = G₁ a in
     let j = J₁ g in
     let t = T₁ j in
     let l = t .before in
     let s = S₁ l in (
-      total-failed (s .pre .0) (s .pre .1) (turned j) (t .loop-test .taken) _ (g .glyph-at .ensures) _ (l .loop .inv .0) _ (d .windowed-len .ensures) (c .enum-told .given .1),
+      total-failed (s .pre .0) (s .pre .1) (turned j) (t .loop-test .taken) _ (g .glyph-at .ensures) _ (l .loop .inv .0) _ (d .windowed-len .ensures .0, d .windowed-len .ensures .1) (c .enum-told .given .1),
       tt,
       order-end _ _ _ _ (s .pre .1) _ _ _ (turned j .next),
     )
@@ -187,6 +194,7 @@ total-by-windows-spec =
     slice-aggregate-advance-2
     advance-requires
     slice-aggregate-windowed-len
+    slice-aggregate-windowed-len-2
     windowed-len-requires
     enum-known-len
     add-total

@@ -3,7 +3,7 @@ use Prim.Native.Nat.{_≤_, _-_, _+_, _*_}
 use mathlib.Core.Path.{_≡_, sym, ap, _∙_}
 use native.Mathlib.Omega.{arith}
 use borrow.Author.Needs.{needs}
-use borrow.Author.Tests.{lt-ltb, le-ltb, eq-eqb, ne-eqb}
+use borrow.Author.Tests.{lt-ltb, le-ltb}
 use denote.Ref.{now}
 use Rattle.index.specs.Index.{judged, dataAt, tableAt}
 use Rattle.index.specs.IndexLaws.{last-within, table-judged, table-size, first-bad, first-fine}

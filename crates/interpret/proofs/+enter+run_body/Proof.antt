@@ -1,12 +1,12 @@
 -- `interpret::run_body` and `enter` meet their contracts: the rows noted so far and what is left to run are the whole run; a call's
 -- row and its subroutine's are the call's.
-use Prim.Native.Nat.{_-_, _+_, _*_}
+use Prim.Native.Nat.{_-_, _+_, _*_, _<_}
 use native.Mathlib.Omega.{arith}
 use lib.ListN.{length}
 use borrow.Author.Needs.{needs}
 use Rattle.interpret.specs.StandingLaws.{Standing, stand-start, stand-few, stand-room, stand-off, stand-breaks, stand-returns, stand-ends, stand-further, stand-goes, mask-asks, mask-room, stand-masks, call-asks, stand-broken, stand-ended, stand-returned, entered-fits, body-fits, entered-ran, too-deep}
 use mathlib.Core.Path.{_∙_}
-use Prim.Native.Nat.{ℕ, _<_}
+use Prim.Native.Nat.{ℕ}
 use borrow.Fn.Kinds.{In}
 use borrow.Fn.PlainCycle.{Measures, is, falls, and}
 use Rattle.interpret.proofs.enter.Reads as enter

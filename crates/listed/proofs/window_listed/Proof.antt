@@ -1,9 +1,8 @@
 -- `listed::window_listed` meets its contract: all marks are clear before the pass.
 use mathlib.Core.Path.{refl, _∙_}
-use native.Mathlib.Omega.{arith}
 use lib.Seq.{length-take-le}
 use denote.Ref.{now}
-use Rattle.listed.specs.ListedLaws.{window-seen, seen-long}
+use Rattle.listed.specs.ListedLaws.{window-seen}
 use borrow.Author.Needs.{needs}
 use Rattle.listed.proofs.window_listed.Statement.{statement}
 use Rattle.listed.proofs.window_listed.Tie as tie

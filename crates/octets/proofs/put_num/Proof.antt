@@ -1,11 +1,9 @@
 -- `octets::put_num` meets its contract. The invariant: writing what is left gives what writing all of it gave.
-use Prim.Native.Nat.{ℕ, suc, _≤_, _<_, _-_, _+_, _*_, _/_, _%_}
+use Prim.Native.Nat.{ℕ, _≤_, _+_}
 use mathlib.Core.Path.{_≡_, refl, sym, ap, _∙_}
-use mathlib.Core.List.{List, [], _∷_, _++_}
 use native.Mathlib.Omega.{arith}
 use borrow.Author.Needs.{needs}
-use lib.ListN.{length, set, length-set}
-use denote.Ref.{now}
+use lib.ListN.{length, length-set}
 use Rattle.octets.specs.Octets.{put, bytesOf}
 use Rattle.octets.specs.PutLaws.{put-nil, put-digit}
 use Rattle.octets.specs.OctetsLaws.{length-bytes}

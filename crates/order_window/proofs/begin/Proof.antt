@@ -1,9 +1,8 @@
 -- `begin` meets its contract: the first window has all words, or nothing is held.
-use mathlib.Core.Path.{_≡_, refl}
+use mathlib.Core.Path.{refl}
 use native.Mathlib.Omega.{arith}
 use borrow.Author.Needs.{needs}
 use denote.Ref.{now}
-use lib.ListN.{length}
 use Rattle.order.specs.Walks.{startOf, Stands}
 use Rattle.order.specs.WalkLaws.{start-stands}
 use Rattle.order_window.specs.LoopLaws.{begin-asks, begun-whole, begun-none}

@@ -1,5 +1,5 @@
 -- `own_strings::given_id` meets its contract: by the kind of string id, and by the first slot that has its text.
-use mathlib.Core.Path.{_≡_, refl, sym, ap, _∙_}
+use mathlib.Core.Path.{sym, _∙_}
 use native.Mathlib.Omega.{arith}
 use Rattle.index.specs.Index.{itemsOf}
 use Rattle.own_strings.specs.TurnLaws.{given-none, given-low, given-standard, given-slot, given-next}

@@ -1,5 +1,4 @@
 -- `own_strings::own_text` meets its contract: an item of the INDEX, or no text past them.
-use native.Mathlib.Omega.{arith}
 use Rattle.own_strings.specs.TurnLaws.{text-item, text-none}
 use borrow.Author.Needs.{needs}
 use Rattle.own_strings.proofs.own_text.Statement.{statement}

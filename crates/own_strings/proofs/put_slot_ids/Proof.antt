@@ -1,7 +1,5 @@
 -- `own_strings::put_slot_ids` meets its contract: each slot is given the id that its text has among the own strings in the end.
-use mathlib.Core.Path.{_≡_, refl, sym, ap, _∙_}
 use native.Mathlib.Omega.{arith}
-use borrow.Author.Needs.{needs}
 use Prim.Native.Nat.{_-_}
 use Rattle.index.specs.Index.{itemsOf}
 use Rattle.own_strings.specs.IdsLaws.{SlotTurn, slot-start, slot-end, slot-length, slot-bound, slot-turn}

@@ -1,5 +1,5 @@
 -- `own_strings::slot_has` meets its contract: an empty slot has none, and else its text is compared.
-use mathlib.Core.Path.{_≡_, refl, sym, ap, _∙_}
+use mathlib.Core.Path.{sym}
 use borrow.Author.Tests.{eq-eqb, ne-eqb}
 use Rattle.own_strings.proofs.slot_has.Statement.{statement}
 use Rattle.own_strings.proofs.slot_has.Tie as tie

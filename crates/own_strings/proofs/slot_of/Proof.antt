@@ -1,5 +1,5 @@
 -- `own_strings::slot_of` meets its contract: by what the entry holds.
-use mathlib.Core.Path.{_≡_, refl, sym, ap, _∙_}
+use mathlib.Core.Path.{sym, ap, _∙_}
 use borrow.Author.Needs.{needs}
 use Rattle.subset.specs.Texts.{slotOf}
 use Rattle.own_strings.proofs.slot_of.Statement.{statement}

@@ -1,5 +1,4 @@
 -- `reader::part` meets its contract: the part from at to at + n has n bytes and begins at at.
-use Prim.Native.Nat.{_-_}
 use mathlib.Core.Path.{refl}
 use native.Mathlib.Nat.{add-comm}
 use borrow.Author.Needs.{needs}

@@ -3,6 +3,7 @@ use Prim.Native.Nat.{ℕ, _-_}
 use mathlib.Core.Path.{_≡_, refl, sym, _∙_}
 use mathlib.Core.Bool.{true}
 use mathlib.Core.List.{List}
+use mathlib.Core.Option.{some}
 use native.Mathlib.Omega.{arith}
 use lib.IntN.{ℤ}
 use Rattle.octets.specs.Octets.{Octets}
@@ -10,7 +11,7 @@ use Rattle.type2_number.specs.Number.{Reading}
 use Rattle.charstring.specs.declared.MaskLen.{MaskLen}
 use Rattle.charstring.specs.Token.{more, tokenAt}
 use Rattle.charstring.specs.TokensLaws.{fuelOf, Next}
-use Rattle.prune.specs.Renumber.{Calls, becomes}
+use Rattle.prune.specs.Renumber.{Calls}
 use Rattle.record.specs.Record.{rowsOf, givenIn}
 use Rattle.reach.specs.Reach.{siteOf}
 use Rattle.renumber.specs.Ranks.{callsBy}
@@ -38,7 +39,7 @@ givenBy l = givenIn (rowsOf (l .before .before .before .before .before .args .ro
 abbrev codeOf : tie.At-loop Inv-loop μ-loop → List ℕ
 codeOf l = l .before .before .before .before .before .args .code .now
 
-reads : (l : tie.At-loop Inv-loop μ-loop) (b : ℕ) (z y : ℤ) → callsIn l b z ≡ becomes y → Reading y
+reads : (l : tie.At-loop Inv-loop μ-loop) (b : ℕ) (z y : ℤ) → callsIn l b z ≡ some y → Reading y
 reads l = calls-read _ _ _ (l .before .before .before .before .before .pre .localRanks) (l .before .before .before .before .before .pre .globalRanks)
 
 bytes : (l : tie.At-loop Inv-loop μ-loop) → Octets (codeOf l)

@@ -10,7 +10,7 @@ strings-len-requires : tie.Need-strings-len-requires
 strings-len-requires c κs = c .before .before .pre .1
 
 entries-len-requires : tie.Need-entries-len-requires
-entries-len-requires c κs = c .before .before .before .pre .0
+entries-len-requires c κs = let s = c .before .before .before in (s .pre .0, s .pre .2)
 
 add-result : tie.Need-add-result
 add-result c = omega (arith, c .before .strings-len .ensures .1, c .entries-len .ensures .1)

@@ -1,7 +1,6 @@
 -- `top_dict::encoding_len` meets its contract: both cases of `encodingLen`.
 use native.Mathlib.Omega.{arith}
 use Rattle.top_dict.specs.TopLaws.{encoding-none, encoding-there}
-use borrow.Author.Needs.{needs}
 use Rattle.top_dict.proofs.encoding_len.Statement.{statement}
 use Rattle.top_dict.proofs.encoding_len.Tie as tie
 

@@ -11,16 +11,16 @@ use Rattle.top_dict.proofs.entries_len.Statement.{statement}
 use Rattle.top_dict.proofs.entries_len.Tie as tie
 
 abbrev Inv-loop : tie.InvT-loop
-Inv-loop d len₀ k₀ len k = (k ≤ 6) × (len ≤ 7000000000 * k) × Measuring (copiedBytes (entriesOf d) copiedTopEntries) (copiedFrom (entriesOf d) k) len
+Inv-loop d places len₀ k₀ len k = (k ≤ 6) × (len ≤ 7000000000 * k) × Measuring (copiedBytes (entriesOf d) copiedTopEntries) (copiedFrom (entriesOf d) k) len
 
 abbrev μ-loop : tie.MeasureT-loop
-μ-loop d len₀ k₀ len k = 6 - k
+μ-loop d places len₀ k₀ len k = 6 - k
 
 -- an entry that is copied is not much longer than the DICT
 short : (c : tie.After-copied-len Inv-loop μ-loop) → c .copied-len .result ≤ 7000000000
 short c =
     let s = c .before .before .before .before .before in
-    omega (arith, c .copied-len .ensures, copied-short (s .args .d .now) (λ i. (c .before .before .before .before .shared-slice-known .given i) .fits) (s .pre) (c .before .copied-top-entry .result))
+    omega (arith, c .copied-len .ensures, copied-short (s .args .d .now) (λ i. (c .before .before .before .before .shared-slice-known .given i) .fits) (s .pre .0) (c .before .copied-top-entry .result))
 
 loop-holds : tie.Need-loop-holds Inv-loop μ-loop
 loop-holds c = (omega arith, omega arith, measuring-start _)

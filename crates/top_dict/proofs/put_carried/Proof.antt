@@ -10,7 +10,7 @@ put-strings-requires : tie.Need-put-strings-requires
 put-strings-requires c κs = let s = c .before .before .before .before in (s .pre .0, split-room _ _ (s .pre .1) (carried-parts (entriesOf (s .args .d .now)) (s .args .slots .now)))
 
 put-entries-requires : tie.Need-put-entries-requires
-put-entries-requires c κs = let s = c .before .before .before .before .before .before .before .before in writing-left (s .pre .1) (writing-turn (s .pre .1) (carried-parts (entriesOf (s .args .d .now)) (s .args .slots .now)) (writing-start _ _ _) (c .before .before .before .put-strings .ensures))
+put-entries-requires c κs = let s = c .before .before .before .before .before .before .before .before in (writing-left (s .pre .1) (writing-turn (s .pre .1) (carried-parts (entriesOf (s .args .d .now)) (s .args .slots .now)) (writing-start _ _ _) (c .before .before .before .put-strings .ensures)), s .pre .2)
 
 same-length : tie.Need-same-length
 same-length c = search needs

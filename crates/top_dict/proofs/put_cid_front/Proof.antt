@@ -7,13 +7,13 @@ use Rattle.top_dict.proofs.put_cid_front.Statement.{statement}
 use Rattle.top_dict.proofs.put_cid_front.Tie as tie
 
 put-ros-requires : tie.Need-put-ros-requires
-put-ros-requires c κs = let s = c .before .before .before .before in (s .pre .0, split-room _ _ (s .pre .1) (front-parts (entriesOf (s .args .d .now)) (s .args .slots .now)))
+put-ros-requires c κs = let s = c .before .before .before .before in (s .pre .0, split-room _ _ (s .pre .1) (front-parts (entriesOf (s .args .d .now)) (s .args .slots .now)), s .pre .2)
 
 put-carried-requires : tie.Need-put-carried-requires
-put-carried-requires c κs = let s = c .before .before .before .before .before .before .before .before in (s .pre .0, writing-room (s .pre .1) (front-rest (entriesOf (s .args .d .now)) (s .args .slots .now)) (writing-turn (s .pre .1) (front-parts (entriesOf (s .args .d .now)) (s .args .slots .now)) (writing-start _ _ _) (c .before .before .before .put-ros .ensures)))
+put-carried-requires c κs = let s = c .before .before .before .before .before .before .before .before in (s .pre .0, writing-room (s .pre .1) (front-rest (entriesOf (s .args .d .now)) (s .args .slots .now)) (writing-turn (s .pre .1) (front-parts (entriesOf (s .args .d .now)) (s .args .slots .now)) (writing-start _ _ _) (c .before .before .before .put-ros .ensures)), s .pre .2)
 
 put-count-requires : tie.Need-put-count-requires
-put-count-requires c κs = let s = c .before .before .before .before .before .before .before .before .before .before .before .before in writing-left (s .pre .1) (writing-turn (s .pre .1) (front-rest (entriesOf (s .args .d .now)) (s .args .slots .now)) (writing-turn (s .pre .1) (front-parts (entriesOf (s .args .d .now)) (s .args .slots .now)) (writing-start _ _ _) (c .before .before .before .before .before .before .before .put-ros .ensures)) (c .before .before .before .put-carried .ensures))
+put-count-requires c κs = let s = c .before .before .before .before .before .before .before .before .before .before .before .before in (writing-left (s .pre .1) (writing-turn (s .pre .1) (front-rest (entriesOf (s .args .d .now)) (s .args .slots .now)) (writing-turn (s .pre .1) (front-parts (entriesOf (s .args .d .now)) (s .args .slots .now)) (writing-start _ _ _) (c .before .before .before .before .before .before .before .put-ros .ensures)) (c .before .before .before .put-carried .ensures)), s .pre .2)
 
 same-length : tie.Need-same-length
 same-length c = search needs

@@ -10,26 +10,30 @@ use borrow.Author.Needs.{needs}
 use Rattle.top_dict.proofs.put_cid_index.Statement.{statement}
 use Rattle.top_dict.proofs.put_cid_index.Tie as tie
 
-top-len-requires : tie.Need-top-len-requires
-top-len-requires c κs = let s = c .before .before .before in (s .pre .0, s .pre .1)
+read-top-requires : tie.Need-read-top-requires
+read-top-requires c κs = search needs
+
+placed-len-requires : tie.Need-placed-len-requires
+placed-len-requires c κs = let s = c .before .before .before .before in (s .pre .0, s .pre .1, c .read-top .ensures .placed)
 
 put-single-head-requires : tie.Need-put-single-head-requires
-put-single-head-requires c κs = let s = c .before .before .before .before .before in (subst (λ (n : ℕ). n < 4294967295) (sym (c .before .top-len .ensures .0)) (s .pre .3), split-room _ _ (s .pre .4) (single-parts _ (topCid (entriesOf (s .args .d .now)) (s .args .slots .now) (s .args .at1) (s .args .at2) (s .args .at3) (s .args .at4)) (c .before .top-len .ensures .0 ∙ cid-measured (entriesOf (s .args .d .now)) (s .args .slots .now) 0 (s .args .at1) (s .args .at2) (s .args .at3) (s .args .at4))))
+put-single-head-requires c κs = let s = c .before .before .before .before .before .before in (subst (λ (n : ℕ). n < 4294967295) (sym (c .before .placed-len .ensures .0)) (s .pre .3), split-room _ _ (s .pre .4) (single-parts _ (topCid (entriesOf (s .args .d .now)) (s .args .slots .now) (s .args .at1) (s .args .at2) (s .args .at3) (s .args .at4)) (c .before .placed-len .ensures .0 ∙ cid-measured (entriesOf (s .args .d .now)) (s .args .slots .now) 0 (s .args .at1) (s .args .at2) (s .args .at3) (s .args .at4))))
 
 put-top-cid-requires : tie.Need-put-top-cid-requires
-put-top-cid-requires c κs = let s = c .before .before .before .before .before .before .before .before .before in (s .pre .1, s .pre .2, writing-left (s .pre .4) (writing-turn (s .pre .4) (single-parts _ (topCid (entriesOf (s .args .d .now)) (s .args .slots .now) (s .args .at1) (s .args .at2) (s .args .at3) (s .args .at4)) (c .before .before .before .before .before .top-len .ensures .0 ∙ cid-measured (entriesOf (s .args .d .now)) (s .args .slots .now) 0 (s .args .at1) (s .args .at2) (s .args .at3) (s .args .at4))) (writing-start _ _ _) (c .before .before .before .put-single-head .ensures)))
+put-top-cid-requires c κs = let s = c .before .before .before .before .before .before .before .before .before .before in (s .pre .1, s .pre .2, writing-left (s .pre .4) (writing-turn (s .pre .4) (single-parts _ (topCid (entriesOf (s .args .d .now)) (s .args .slots .now) (s .args .at1) (s .args .at2) (s .args .at3) (s .args .at4)) (c .before .before .before .before .before .placed-len .ensures .0 ∙ cid-measured (entriesOf (s .args .d .now)) (s .args .slots .now) 0 (s .args .at1) (s .args .at2) (s .args .at3) (s .args .at4))) (writing-start _ _ _) (c .before .before .before .put-single-head .ensures)), c .before .before .before .before .before .before .read-top .ensures .placed)
 
 same-length : tie.Need-same-length
 same-length c = search needs
 
 returns : tie.Need-returns
-returns c = let s = c .before .before .before .before .before .before .before .before .before .before .before .before in writing-last (s .pre .4) (writing-turn (s .pre .4) (single-parts _ (topCid (entriesOf (s .args .d .now)) (s .args .slots .now) (s .args .at1) (s .args .at2) (s .args .at3) (s .args .at4)) (c .before .before .before .before .before .before .before .before .top-len .ensures .0 ∙ cid-measured (entriesOf (s .args .d .now)) (s .args .slots .now) 0 (s .args .at1) (s .args .at2) (s .args .at3) (s .args .at4))) (writing-start _ _ _) (c .before .before .before .before .before .before .put-single-head .ensures)) (c .before .before .put-top-cid .ensures)
+returns c = let s = c .before .before .before .before .before .before .before .before .before .before .before .before .before in writing-last (s .pre .4) (writing-turn (s .pre .4) (single-parts _ (topCid (entriesOf (s .args .d .now)) (s .args .slots .now) (s .args .at1) (s .args .at2) (s .args .at3) (s .args .at4)) (c .before .before .before .before .before .before .before .before .placed-len .ensures .0 ∙ cid-measured (entriesOf (s .args .d .now)) (s .args .slots .now) 0 (s .args .at1) (s .args .at2) (s .args .at3) (s .args .at4))) (writing-start _ _ _) (c .before .before .before .before .before .before .put-single-head .ensures)) (c .before .before .put-top-cid .ensures)
 
 pub put-cid-index-spec : {M : Type 1} → statement M
 put-cid-index-spec =
     tie.close
     (tie.spec
-    top-len-requires
+    read-top-requires
+    placed-len-requires
     put-single-head-requires
     put-top-cid-requires
     same-length

@@ -15,7 +15,7 @@ cid-count-requires : tie.Need-cid-count-requires
 cid-count-requires c κs = search needs
 
 put-value-requires : tie.Need-put-value-requires
-put-value-requires c κs = let e = c .before .cid-count .ensures in (refl, subst (λ (n : ℕ). n < 1000000000000000) (sym e) (count-small _), omega (arith, c .before .before .before .before .pre, ap (λ (n : ℕ). length (valueEntry cidCount n)) e))
+put-value-requires c κs = let e = c .before .cid-count .ensures in (refl, subst (λ (n : ℕ). n < 1000000000000000) (sym e) (count-small _), omega (arith, c .before .before .before .before .pre .0, ap (λ (n : ℕ). length (valueEntry cidCount n)) e))
 
 same-length : tie.Need-same-length
 same-length c = search needs

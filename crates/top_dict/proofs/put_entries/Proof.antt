@@ -10,10 +10,10 @@ use Rattle.top_dict.proofs.put_entries.Statement.{statement}
 use Rattle.top_dict.proofs.put_entries.Tie as tie
 
 abbrev Inv-loop : tie.InvT-loop
-Inv-loop d out₀ at p₀ k₀ out p k = (k ≤ 6) × Writing (copiedBytes (entriesOf d) copiedTopEntries) out₀ at (copiedFrom (entriesOf d) k) out p
+Inv-loop d places out₀ at p₀ k₀ out p k = (k ≤ 6) × Writing (copiedBytes (entriesOf d) copiedTopEntries) out₀ at (copiedFrom (entriesOf d) k) out p
 
 abbrev μ-loop : tie.MeasureT-loop
-μ-loop d out₀ at p₀ k₀ out p k = 6 - k
+μ-loop d places out₀ at p₀ k₀ out p k = 6 - k
 
 loop-holds : tie.Need-loop-holds Inv-loop μ-loop
 loop-holds c = (omega arith, writing-start _ _ _)
@@ -22,7 +22,7 @@ copied-top-entry-requires : tie.Need-copied-top-entry-requires Inv-loop μ-loop
 copied-top-entry-requires c κs = c .loop-test .taken
 
 put-copied-requires : tie.Need-put-copied-requires Inv-loop μ-loop
-put-copied-requires c κs = let i = c .before .before in let s = i .before .before .before .before in let e = c .before .copied-top-entry .ensures in (copied-operator _ _ (i .loop-test .taken) e, writing-room (s .pre) (copied-next _ _ (i .loop-test .taken) _ e) (i .before .loop .inv .1))
+put-copied-requires c κs = let i = c .before .before in let s = i .before .before .before .before in let e = c .before .copied-top-entry .ensures in (copied-operator _ _ (i .loop-test .taken) e, writing-room (s .pre .0) (copied-next _ _ (i .loop-test .taken) _ e) (i .before .loop .inv .1), s .pre .1)
 
 add-k : tie.Need-add-k Inv-loop μ-loop
 add-k c = omega (arith, c .before .before .before .before .before .loop-test .taken)
@@ -31,7 +31,7 @@ loop-less : tie.Need-loop-less Inv-loop μ-loop
 loop-less c = omega (arith, c .before .before .before .before .before .loop-test .taken)
 
 loop-again : tie.Need-loop-again Inv-loop μ-loop
-loop-again c = let i = c .before .before .before .before .before in let s = i .before .before .before .before in (omega (arith, i .loop-test .taken), writing-turn (s .pre) (copied-next _ _ (i .loop-test .taken) _ (c .before .before .before .before .copied-top-entry .ensures)) (i .before .loop .inv .1) (c .before .before .put-copied .ensures))
+loop-again c = let i = c .before .before .before .before .before in let s = i .before .before .before .before in (omega (arith, i .loop-test .taken), writing-turn (s .pre .0) (copied-next _ _ (i .loop-test .taken) _ (c .before .before .before .before .copied-top-entry .ensures)) (i .before .loop .inv .1) (c .before .before .put-copied .ensures))
 
 same-length : tie.Need-same-length Inv-loop μ-loop
 same-length c = c .before .loop .inv .1 .size

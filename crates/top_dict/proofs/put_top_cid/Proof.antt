@@ -7,7 +7,7 @@ use Rattle.top_dict.proofs.put_top_cid.Statement.{statement}
 use Rattle.top_dict.proofs.put_top_cid.Tie as tie
 
 put-cid-front-requires : tie.Need-put-cid-front-requires
-put-cid-front-requires c κs = let s = c .before .before .before .before in (s .pre .0, split-room _ _ (s .pre .2) (top-cid-parts (entriesOf (s .args .d .now)) (s .args .slots .now) (s .args .at1) (s .args .at2) (s .args .at3) (s .args .at4)))
+put-cid-front-requires c κs = let s = c .before .before .before .before in (s .pre .0, split-room _ _ (s .pre .2) (top-cid-parts (entriesOf (s .args .d .now)) (s .args .slots .now) (s .args .at1) (s .args .at2) (s .args .at3) (s .args .at4)), s .pre .3)
 
 put-cid-offsets-requires : tie.Need-put-cid-offsets-requires
 put-cid-offsets-requires c κs = let s = c .before .before .before .before .before .before .before .before in (s .pre .1, writing-left (s .pre .2) (writing-turn (s .pre .2) (top-cid-parts (entriesOf (s .args .d .now)) (s .args .slots .now) (s .args .at1) (s .args .at2) (s .args .at3) (s .args .at4)) (writing-start _ _ _) (c .before .before .before .put-cid-front .ensures)))

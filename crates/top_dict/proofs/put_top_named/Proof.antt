@@ -7,7 +7,7 @@ use Rattle.top_dict.proofs.put_top_named.Statement.{statement}
 use Rattle.top_dict.proofs.put_top_named.Tie as tie
 
 put-carried-requires : tie.Need-put-carried-requires
-put-carried-requires c κs = let s = c .before .before .before .before in (s .pre .0, split-room _ _ (s .pre .3) (top-named-parts (entriesOf (s .args .d .now)) (s .args .slots .now) (s .args .at1) (s .args .v) (s .args .at2) (s .args .size) (s .args .at3)))
+put-carried-requires c κs = let s = c .before .before .before .before in (s .pre .0, split-room _ _ (s .pre .3) (top-named-parts (entriesOf (s .args .d .now)) (s .args .slots .now) (s .args .at1) (s .args .v) (s .args .at2) (s .args .size) (s .args .at3)), s .pre .4)
 
 put-named-offsets-requires : tie.Need-put-named-offsets-requires
 put-named-offsets-requires c κs = let s = c .before .before .before .before .before .before .before .before in (s .pre .1, s .pre .2, writing-left (s .pre .3) (writing-turn (s .pre .3) (top-named-parts (entriesOf (s .args .d .now)) (s .args .slots .now) (s .args .at1) (s .args .v) (s .args .at2) (s .args .size) (s .args .at3)) (writing-start _ _ _) (c .before .before .before .put-carried .ensures)))

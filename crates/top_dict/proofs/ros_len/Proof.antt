@@ -20,13 +20,13 @@ shared-slice-read-whole-len : tie.Need-shared-slice-read-whole-len
 shared-slice-read-whole-len c = search needs
 
 whole-len-requires : tie.Need-whole-len-requires
-whole-len-requires c κs = registry-small _ (c .before .before .before .before .before .before .before .pre)
+whole-len-requires c κs = registry-small _ (c .before .before .before .before .before .before .before .pre .0)
 
 shared-slice-read-whole-len-2 : tie.Need-shared-slice-read-whole-len-2
 shared-slice-read-whole-len-2 c = search needs
 
 whole-len-requires-2 : tie.Need-whole-len-requires-2
-whole-len-requires-2 c κs = ordering-small _ (c .before .before .before .before .before .before .before .before .before .pre)
+whole-len-requires-2 c κs = ordering-small _ (c .before .before .before .before .before .before .before .before .before .pre .0)
 
 add-result : tie.Need-add-result
 add-result c = search needs

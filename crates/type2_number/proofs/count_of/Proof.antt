@@ -1,5 +1,5 @@
 -- `type2_number::count_of` meets its contract: a comparison with 0.0 and a product with 65536.0 at f64, both exact.
-use mathlib.Core.Path.{_≡_, refl, sym, ap, _∙_}
+use mathlib.Core.Path.{refl, sym, ap, _∙_}
 use mathlib.Core.Bool.{true, false, false≢true}
 use native.Mathlib.Nat.{le-trans, le-of-eq}
 use lib.Ieee.{neg}

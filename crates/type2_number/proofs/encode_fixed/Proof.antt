@@ -1,5 +1,4 @@
 -- `type2_number::encode_fixed` meets its contract: each branch writes the bytes of its case.
-use native.Mathlib.Omega.{arith}
 use Rattle.octets.specs.PutLaws.{wrote-as}
 use Rattle.type2_number.specs.EncodingLaws.{fixed-neg, fixed-pos, fixed-top}
 use borrow.Author.Needs.{needs}

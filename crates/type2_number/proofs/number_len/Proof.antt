@@ -1,6 +1,5 @@
 -- `type2_number::number_len` meets its contract: the lengths of the cases of `numberBytes`.
 use mathlib.Core.Path.{sym, _∙_}
-use native.Mathlib.Omega.{arith}
 use Rattle.type2_number.specs.Floats.{scaledOf}
 use Rattle.type2_number.specs.EncodingLaws.{fraction-length, big-length, integer-length, length-one, length-two, length-three}
 use borrow.Author.Needs.{needs}

@@ -1,6 +1,6 @@
 -- `type2_number::put_negative` meets its contract: each arm writes the bytes of its form.
 use mathlib.Core.Path.{refl}
-use mathlib.Core.Bool.{true, false}
+use mathlib.Core.Bool.{true}
 use native.Mathlib.Omega.{arith}
 use Rattle.octets.specs.PutLaws.{wrote-as}
 use Rattle.type2_number.specs.EncodingLaws.{length-one, length-two, length-three, one-neg, three-neg}

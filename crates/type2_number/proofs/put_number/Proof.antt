@@ -1,5 +1,4 @@
 -- `type2_number::put_number` meets its contract: each branch writes the bytes of its case of `numberBytes`.
-use mathlib.Core.Path.{sym, ap}
 use native.Mathlib.Omega.{arith}
 use Rattle.octets.specs.PutLaws.{wrote-as}
 use Rattle.type2_number.specs.Floats.{scaledOf}

@@ -1,6 +1,6 @@
 -- `write::cut_glyphs` meets its contract: each keying is cut by its function, which asks and promises the same.
 use borrow.Author.Needs.{needs}
-use mathlib.Core.Bool.{true, false}
+use mathlib.Core.Bool.{false}
 use Rattle.write.specs.EntryLaws.{passed-keyed, passed-cid, cut-as-cid}
 use Rattle.write.proofs.cut_glyphs.Statement.{statement}
 use Rattle.write.proofs.cut_glyphs.Tie as tie

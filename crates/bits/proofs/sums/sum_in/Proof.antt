@@ -1,5 +1,4 @@
 -- `bits::sums::sum_in` meets its contract: the test of the definition.
-use mathlib.Core.Path.{refl}
 use native.Mathlib.Omega.{arith}
 use borrow.Author.Tests.{lt-ltb, le-ltb}
 use borrow.Author.Needs.{needs}

@@ -31,7 +31,7 @@ same-length-2 c = search needs
 returns : tie.Need-returns
 returns c =
     let a = c .before .before .before .before in
-    global-covers (a .before .before .before .enum-told .given .1) (a .advance .ensures)
+    (global-covers (a .before .before .before .enum-told .given .1) (a .advance .ensures .0), a .advance .ensures .1)
 
 same-length-3 : tie.Need-same-length-3
 same-length-3 c = search needs
@@ -42,7 +42,7 @@ same-length-4 c = search needs
 returns-2 : tie.Need-returns-2
 returns-2 c =
     let a = c .before .before .before .before in
-    local-covers (a .before .before .before .before .of .given .1) (a .advance2 .ensures)
+    (local-covers (a .before .before .before .before .of .given .1) (a .advance2 .ensures .0), a .advance2 .ensures .1)
 
 pub advance-spec : {M : Type 1} → statement M
 advance-spec =

@@ -1,7 +1,6 @@
 -- `bodies::subrs::is_reached` meets its contract: its bit says whether a subroutine is reached.
 use mathlib.Core.Path.{sym}
 use native.Mathlib.Omega.{arith}
-use borrow.Author.Needs.{needs}
 use denote.Ref.{now}
 use Rattle.bodies.specs.SubrsLaws.{reached-none}
 use Rattle.bodies.specs.CodeLaws.{bit-reached}

@@ -3,6 +3,7 @@ use Prim.Native.Nat.{ℕ, _-_}
 use mathlib.Core.Path.{_≡_, sym, ap, _∙_}
 use mathlib.Core.Bool.{Bool, true}
 use mathlib.Core.List.{List}
+use mathlib.Core.Option.{Option}
 use native.Mathlib.Omega.{arith}
 use borrow.Author.Needs.{needs}
 use lib.ListN.{length}
@@ -14,7 +15,7 @@ use Rattle.index.specs.Begun.{Meant}
 use Rattle.record.specs.Record.{rowsOf}
 use Rattle.subset.specs.Kept.{those}
 use Rattle.bits.specs.Bits.{countBelow}
-use Rattle.subset.specs.Pruned.{May, each}
+use Rattle.subset.specs.Pruned.{each}
 use Rattle.subset.specs.RankLaws.{count-few}
 use Rattle.renumber.specs.Ranks.{callsBy}
 use Rattle.bodies.specs.Ways.{manyOf, reachedIn, siteIn, isKept, subrBy, subrsBy}
@@ -39,12 +40,12 @@ Start = tie.Start Inv-loop μ-loop
 abbrev T : Start → ℕ → Bool
 T s = isKept (s .args .from .way) (reachedIn (now (s .args .words)) (s .args .from .own))
 
-abbrev F : Start → ℕ → May (List ℕ)
+abbrev F : Start → ℕ → Option (List ℕ)
 F s =
     subrBy (s .args .from .way) (rowsOf (now (s .args .rows))) (reachedIn (now (s .args .words)) (s .args .from .own))
     (callsBy (now (s .args .words)) (s .args .from .locals) (s .args .from .globals)) (siteIn (s .args .from .of)) (itemsOf (now (s .args .font)) (s .args .from .ix))
 
-abbrev B : Start → May (List (List ℕ))
+abbrev B : Start → Option (List (List ℕ))
 B s =
     subrsBy (s .args .from .way) (rowsOf (now (s .args .rows))) (reachedIn (now (s .args .words)) (s .args .from .own))
     (callsBy (now (s .args .words)) (s .args .from .locals) (s .args .from .globals)) (siteIn (s .args .from .of)) (itemsOf (now (s .args .font)) (s .args .from .ix))

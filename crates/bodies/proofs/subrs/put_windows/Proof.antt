@@ -3,6 +3,7 @@ use Prim.Native.Nat.{ℕ, _-_}
 use mathlib.Core.Path.{_≡_, refl, sym, ap, _∙_}
 use mathlib.Core.Bool.{Bool, true}
 use mathlib.Core.List.{List}
+use mathlib.Core.Option.{Option}
 use native.Mathlib.Omega.{arith}
 use borrow.Author.Needs.{needs}
 use lib.ListN.{length}
@@ -14,7 +15,7 @@ use Rattle.index.specs.Begun.{Meant}
 use Rattle.record.specs.Record.{rowsOf}
 use Rattle.subset.specs.Kept.{those}
 use Rattle.bits.specs.Bits.{countBelow}
-use Rattle.subset.specs.Pruned.{May, each}
+use Rattle.subset.specs.Pruned.{each}
 use Rattle.subset.specs.RankLaws.{count-few}
 use Rattle.renumber.specs.Ranks.{callsBy}
 use Rattle.bodies.specs.Ways.{manyOf, reachedIn, siteIn, isKept, subrBy, subrsBy}
@@ -43,12 +44,12 @@ Start = tie.Start Inv-loop μ-loop
 abbrev T : Start → ℕ → Bool
 T s = isKept (s .args .from .way) (reachedIn (now (s .args .words)) (s .args .from .own))
 
-abbrev F : Start → ℕ → May (List ℕ)
+abbrev F : Start → ℕ → Option (List ℕ)
 F s =
     subrBy (s .args .from .way) (rowsOf (now (s .args .rows))) (reachedIn (now (s .args .words)) (s .args .from .own))
     (callsBy (now (s .args .words)) (s .args .from .locals) (s .args .from .globals)) (siteIn (s .args .from .of)) (itemsOf (now (s .args .font)) (s .args .from .ix))
 
-abbrev B : Start → May (List (List ℕ))
+abbrev B : Start → Option (List (List ℕ))
 B s =
     subrsBy (s .args .from .way) (rowsOf (now (s .args .rows))) (reachedIn (now (s .args .words)) (s .args .from .own))
     (callsBy (now (s .args .words)) (s .args .from .locals) (s .args .from .globals)) (siteIn (s .args .from .of)) (itemsOf (now (s .args .font)) (s .args .from .ix))
@@ -119,7 +120,7 @@ taken c = sym (c .before .is-kept .ensures) ∙ c .if1 .taken
 
 -- the window after it was advanced, and where the turn began
 abbrev A₁ : tie.After-put-windowed Inv-loop μ-loop → tie.After-advance Inv-loop μ-loop
-A₁ d = d .before .before .before .before .before .before .before
+A₁ d = d .before .before .before .before .before .before .before .before
 
 abbrev Y₁ : tie.After-advance Inv-loop μ-loop → tie.Then1 Inv-loop μ-loop
 Y₁ a = a .before .before .before
@@ -133,28 +134,35 @@ advance-requires c κs =
 
 put-windowed-requires : tie.Need-put-windowed-requires Inv-loop μ-loop
 put-windowed-requires c κs =
-    let a = c .before .before .before .before .before .before in
+    let a = c .before .before .before .before .before .before .before in
     let y = Y₁ a in
     let t = y .before .before in
     let l = t .before in
     let h = H₁ l in
     let s = S₁ h in
-    let q = writing-room (B s) (F s) (T s) (s .args .from .ix .count) (same s) (s .pre .2 .done) _ _ (meant h) (l .loop .k) (l .loop .put) (l .loop .inv .0) (t .loop-test .taken) (taken y) in
-    (s .pre .0, t .loop-test .taken, a .advance .ensures, q .0, q .1)
+    let q = writing-room (B s) (F s) (T s) (s .args .from .ix .count) (same s) (s .pre .2 .done) _ _ (meant h) (l .loop .k) (l .loop .put) (l .loop .inv .0) (t .loop-test .taken) (taken y) in (
+      s .pre .0,
+      t .loop-test .taken,
+      a .advance .ensures .0,
+      a .advance .ensures .1,
+      lent-same (s .pre .3) _ _ (a .advance .kept .1 .1 .1 .1 .0 ∙ l .loop .inv .2) (a .advance .kept .1 .1 .1 .1 .1 .0 ∙ l .loop .inv .3),
+      q .0,
+      q .1,
+    )
 
 put-end-requires : tie.Need-put-end-requires Inv-loop μ-loop
 put-end-requires c κs =
-    let d = c .before .before .before in
+    let d = c .before .before .before .before .before .before .before in
     let y = Y₁ (A₁ d) in
     let t = y .before .before in
     let l = t .before in
     let h = H₁ l in
     let s = S₁ h in
-    writing-end (B s) (F s) (T s) (s .args .from .ix .count) (same s) (s .pre .2 .done) _ _ (meant h) (l .loop .k) (l .loop .put) (l .loop .inv .0) (t .loop-test .taken) (taken y) (d .put-windowed .ensures)
+    writing-end (B s) (F s) (T s) (s .args .from .ix .count) (same s) (s .pre .2 .done) _ _ (meant h) (l .loop .k) (l .loop .put) (l .loop .inv .0) (t .loop-test .taken) (taken y) (d .put-windowed .ensures .0)
 
 -- the subroutine that was written last
-abbrev D₁ : tie.After-slice-known8 Inv-loop μ-loop → tie.After-put-windowed Inv-loop μ-loop
-D₁ c = c .before .before .before .before .before .before
+abbrev D₁ : tie.After-slice-known10 Inv-loop μ-loop → tie.After-put-windowed Inv-loop μ-loop
+D₁ c = c .before .before .before .before .before .before .before .before .before .before
 
 add-put : tie.Need-add-put Inv-loop μ-loop
 add-put c =
@@ -179,10 +187,10 @@ loop-again c =
     let h = H₁ l in
     let s = S₁ h in (
       writing-on (B s) (F s) (T s) (s .args .from .ix .count) (same s) (s .pre .2 .done) _ _ (meant h) (l .loop .k) (l .loop .put) (l .loop .inv .0) (t .loop-test .taken) (taken y)
-          (d .put-windowed .ensures) (c .before .before .put-end .ensures),
-      a .advance .ensures,
-      a .advance .kept .1 .1 .1 .1 .0 ∙ l .loop .inv .2,
-      a .advance .kept .1 .1 .1 .1 .1 .0 ∙ l .loop .inv .3,
+          (d .put-windowed .ensures .0) (c .before .before .put-end .ensures),
+      d .put-windowed .ensures .1,
+      d .put-windowed .kept .1 .1 .1 .1 .1 .1 .1 .1 .0 ∙ a .advance .kept .1 .1 .1 .1 .0 ∙ l .loop .inv .2,
+      d .put-windowed .kept .1 .1 .1 .1 .1 .1 .1 .1 .1 .0 ∙ a .advance .kept .1 .1 .1 .1 .1 .0 ∙ l .loop .inv .3,
     )
 
 add-k-2 : tie.Need-add-k-2 Inv-loop μ-loop

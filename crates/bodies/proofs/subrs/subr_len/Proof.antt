@@ -3,11 +3,11 @@ use Prim.Native.Nat.{ℕ}
 use mathlib.Core.Path.{sym, _∙_}
 use mathlib.Core.Bool.{Bool}
 use mathlib.Core.List.{List}
+use mathlib.Core.Option.{Option}
 use borrow.Author.Needs.{needs}
 use denote.Ref.{now}
 use Rattle.index.specs.Index.{itemsOf}
 use Rattle.record.specs.Record.{rowsOf}
-use Rattle.subset.specs.Pruned.{May}
 use Rattle.renumber.specs.Ranks.{callsBy}
 use Rattle.bodies.specs.Ways.{reachedIn, siteIn, isKept, subrBy}
 use Rattle.bodies.specs.CodeLaws.{len-kept, len-left}
@@ -18,7 +18,7 @@ use Rattle.bodies.proofs.subrs.subr_len.Tie as tie
 abbrev T : tie.Start → ℕ → Bool
 T s = isKept (s .args .from .way) (reachedIn (now (s .args .words)) (s .args .from .own))
 
-abbrev F : tie.Start → ℕ → May (List ℕ)
+abbrev F : tie.Start → ℕ → Option (List ℕ)
 F s =
     subrBy (s .args .from .way) (rowsOf (now (s .args .rows))) (reachedIn (now (s .args .words)) (s .args .from .own))
     (callsBy (now (s .args .words)) (s .args .from .locals) (s .args .from .globals)) (siteIn (s .args .from .of)) (itemsOf (now (s .args .font)) (s .args .from .ix))

@@ -1,15 +1,16 @@
 -- `bodies::subrs::total_directly` meets its contract. The invariant: the subroutines below k were measured; one that is not written adds nothing.
 use Prim.Native.Nat.{ℕ, _+_, _-_}
 use mathlib.Core.Path.{_≡_, refl, sym, ap, _∙_, subst}
-use mathlib.Core.Bool.{Bool, true}
+use mathlib.Core.Bool.{Bool}
 use mathlib.Core.List.{List}
+use mathlib.Core.Option.{Option}
 use native.Mathlib.Omega.{arith}
 use borrow.Author.Needs.{needs}
 use denote.Ref.{now}
 use Rattle.index.specs.Index.{itemsOf}
 use Rattle.record.specs.Record.{rowsOf}
 use Rattle.subset.specs.Kept.{those}
-use Rattle.subset.specs.Pruned.{May, each}
+use Rattle.subset.specs.Pruned.{each}
 use Rattle.renumber.specs.Ranks.{callsBy}
 use Rattle.bodies.specs.Ways.{measuredOf, reachedIn, siteIn, isKept, subrBy, subrsBy}
 use Rattle.bodies.specs.Sizes.{Adding, AtMost, lenAt}
@@ -32,7 +33,7 @@ abbrev μ-loop : tie.MeasureT-loop
 abbrev T : tie.Start Inv-loop μ-loop → ℕ → Bool
 T s = isKept (s .args .from .way) (reachedIn (now (s .args .words)) (s .args .from .own))
 
-abbrev F : tie.Start Inv-loop μ-loop → ℕ → May (List ℕ)
+abbrev F : tie.Start Inv-loop μ-loop → ℕ → Option (List ℕ)
 F s =
     subrBy (s .args .from .way) (rowsOf (now (s .args .rows))) (reachedIn (now (s .args .words)) (s .args .from .own))
     (callsBy (now (s .args .words)) (s .args .from .locals) (s .args .from .globals)) (siteIn (s .args .from .of)) (itemsOf (now (s .args .font)) (s .args .from .ix))

@@ -3,6 +3,7 @@ use Prim.Native.Nat.{ℕ, _-_}
 use mathlib.Core.Path.{_≡_, refl, sym, ap, _∙_}
 use mathlib.Core.Bool.{Bool}
 use mathlib.Core.List.{List}
+use mathlib.Core.Option.{Option}
 use native.Mathlib.Omega.{arith}
 use lib.ListN.{length}
 use borrow.Author.Needs.{needs}
@@ -10,7 +11,7 @@ use denote.Ref.{now}
 use Rattle.index.specs.Index.{itemsOf}
 use Rattle.record.specs.Record.{rowsOf}
 use Rattle.subset.specs.Kept.{those}
-use Rattle.subset.specs.Pruned.{May, each}
+use Rattle.subset.specs.Pruned.{each}
 use Rattle.renumber.specs.Ranks.{callsBy}
 use Rattle.bodies.specs.Ways.{measuredOf, reachedIn, siteIn, isKept, subrBy, subrsBy}
 use Rattle.bodies.specs.Sizes.{Adding}
@@ -36,7 +37,7 @@ abbrev μ-loop : tie.MeasureT-loop
 abbrev T : tie.Start Inv-loop μ-loop → ℕ → Bool
 T s = isKept (s .args .from .way) (reachedIn (now (s .args .words)) (s .args .from .own))
 
-abbrev F : tie.Start Inv-loop μ-loop → ℕ → May (List ℕ)
+abbrev F : tie.Start Inv-loop μ-loop → ℕ → Option (List ℕ)
 F s =
     subrBy (s .args .from .way) (rowsOf (now (s .args .rows))) (reachedIn (now (s .args .words)) (s .args .from .own))
     (callsBy (now (s .args .words)) (s .args .from .locals) (s .args .from .globals)) (siteIn (s .args .from .of)) (itemsOf (now (s .args .font)) (s .args .from .ix))
@@ -54,7 +55,7 @@ S₁ c = c .before .before .before .before .before .before
 
 -- the window after it was advanced, and the turn
 abbrev A₁ : tie.After-windowed-len Inv-loop μ-loop → tie.After-advance Inv-loop μ-loop
-A₁ d = d .before .before .before .before .before .before
+A₁ d = d .before .before .before .before .before .before .before
 
 abbrev T₁ : tie.After-advance Inv-loop μ-loop → tie.In-loop Inv-loop μ-loop
 T₁ a = a .before .before .before
@@ -73,16 +74,23 @@ advance-requires c κs =
 
 windowed-len-requires : tie.Need-windowed-len-requires Inv-loop μ-loop
 windowed-len-requires c κs =
-    let a = c .before .before .before .before .before in
+    let a = c .before .before .before .before .before .before in
     let t = T₁ a in
-    (S₁ (t .before) .pre .0, t .loop-test .taken, a .advance .ensures)
+    let l = t .before in
+    let s = S₁ l in (
+      s .pre .0,
+      t .loop-test .taken,
+      a .advance .ensures .0,
+      a .advance .ensures .1,
+      lent-same (s .pre .1) _ _ (a .advance .kept .1 .1 .1 .1 .0 ∙ l .loop .inv .2) (a .advance .kept .1 .1 .1 .1 .1 .0 ∙ l .loop .inv .3),
+    )
 
 enum-known-len : tie.Need-enum-known-len Inv-loop μ-loop
 enum-known-len c = search needs
 
 add-total : tie.Need-add-total Inv-loop μ-loop
 add-total c =
-    let d = c .before .before .before in
+    let d = c .before .before .before .before .before .before .before in
     let t = T₁ (A₁ d) in
     let l = t .before in
     let s = S₁ l in
@@ -90,37 +98,43 @@ add-total c =
     omega (arith, m)
 
 add-k : tie.Need-add-k Inv-loop μ-loop
-add-k c = let t = T₁ (A₁ (c .before .before .before)) in omega (arith, t .loop-test .taken, S₁ (t .before) .pre .0 .few)
+add-k c = let t = T₁ (A₁ (c .before .before .before .before .before .before .before)) in omega (arith, t .loop-test .taken, S₁ (t .before) .pre .0 .few)
 
 loop-less : tie.Need-loop-less Inv-loop μ-loop
-loop-less c = let t = T₁ (A₁ (c .before .before .before)) in omega (arith, t .loop-test .taken)
+loop-less c = let t = T₁ (A₁ (c .before .before .before .before .before .before .before)) in omega (arith, t .loop-test .taken)
 
 loop-again : tie.Need-loop-again Inv-loop μ-loop
 loop-again c =
-    let d = c .before .before .before in
+    let d = c .before .before .before .before .before .before .before in
     let a = A₁ d in
     let t = T₁ a in
     let l = t .before in
     let s = S₁ l in (
       adding-on (F s) (T s) (s .args .from .ix .count) (l .loop .k) (l .loop .total) (l .loop .inv .0) (t .loop-test .taken) _ (d .windowed-len .ensures .0) (d .windowed-len .ensures .1) _
           (c .before .len .given .1),
-      a .advance .ensures,
-      a .advance .kept .1 .1 .1 .1 .0 ∙ l .loop .inv .2,
-      a .advance .kept .1 .1 .1 .1 .1 .0 ∙ l .loop .inv .3,
+      d .windowed-len .ensures .2,
+      d .windowed-len .kept .1 .1 .1 .1 .1 .1 .0 ∙ a .advance .kept .1 .1 .1 .1 .0 ∙ l .loop .inv .2,
+      d .windowed-len .kept .1 .1 .1 .1 .1 .1 .1 .0 ∙ a .advance .kept .1 .1 .1 .1 .1 .0 ∙ l .loop .inv .3,
     )
 
 enum-told : tie.Need-enum-told Inv-loop μ-loop
 enum-told c = search needs
 
 same-length : tie.Need-same-length Inv-loop μ-loop
-same-length c = search needs
+same-length c =
+    let d = c .before .before .before .before .before .before in
+    let a = A₁ d in
+    d .windowed-len .kept .1 .1 .1 .1 .1 .1 .0 ∙ a .advance .kept .1 .1 .1 .1 .0 ∙ T₁ a .before .loop .inv .2
 
 same-length-2 : tie.Need-same-length-2 Inv-loop μ-loop
-same-length-2 c = search needs
+same-length-2 c =
+    let d = c .before .before .before .before .before .before in
+    let a = A₁ d in
+    d .windowed-len .kept .1 .1 .1 .1 .1 .1 .1 .0 ∙ a .advance .kept .1 .1 .1 .1 .1 .0 ∙ T₁ a .before .loop .inv .3
 
 returns : tie.Need-returns Inv-loop μ-loop
 returns c =
-    let d = c .before .before in
+    let d = c .before .before .before .before .before .before in
     let t = T₁ (A₁ d) in
     let l = t .before in
     let s = S₁ l in (

@@ -1,5 +1,4 @@
 -- `cff::set::table` meets its contract: the table of a font that was read lies in the file.
-use borrow.Author.Needs.{needs}
 use Rattle.cff.specs.FileLaws.{font-there, font-lent}
 use Rattle.cff.proofs.set.table.Statement.{statement}
 use Rattle.cff.proofs.set.table.Tie as tie

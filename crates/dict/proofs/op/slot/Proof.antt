@@ -1,62 +1,22 @@
--- `dict::op::slot` meets its contract: each operator that is asked for has its own slot.
-use mathlib.Core.Path.{sym, ap}
-use Rattle.dict.specs.Noted.{asked, slotOf}
-use Rattle.dict.specs.NotedLaws.{slot-none}
+-- `dict::op::slot` meets its contract: by the table.
+use borrow.Author.Needs.{needs}
+use Rattle.dict.specs.Noted.{asked}
 use Rattle.dict.proofs.op.slot.Statement.{statement}
 use Rattle.dict.proofs.op.slot.Tie as tie
 
+subset-slot-requires : tie.Need-subset-slot-requires
+subset-slot-requires c κs = search needs
+
 returns : tie.Need-returns
-unfolding slotOf
-returns c = sym (ap (slotOf asked) (c .match .keys1))
+unfolding asked
+returns c = rw (c .before .if1 .taken) (c .subset-slot .ensures)
+
+read-slot-requires : tie.Need-read-slot-requires
+read-slot-requires c κs = search needs
 
 returns-2 : tie.Need-returns-2
-unfolding slotOf
-returns-2 c = sym (ap (slotOf asked) (c .match .keys2))
-
-returns-3 : tie.Need-returns-3
-unfolding slotOf
-returns-3 c = sym (ap (slotOf asked) (c .match .keys3))
-
-returns-4 : tie.Need-returns-4
-unfolding slotOf
-returns-4 c = sym (ap (slotOf asked) (c .match .keys4))
-
-returns-5 : tie.Need-returns-5
-unfolding slotOf
-returns-5 c = sym (ap (slotOf asked) (c .match .keys5))
-
-returns-6 : tie.Need-returns-6
-unfolding slotOf
-returns-6 c = sym (ap (slotOf asked) (c .match .keys6))
-
-returns-7 : tie.Need-returns-7
-unfolding slotOf
-returns-7 c = sym (ap (slotOf asked) (c .match .keys7))
-
-returns-8 : tie.Need-returns-8
-unfolding slotOf
-returns-8 c = sym (ap (slotOf asked) (c .match .keys8))
-
-returns-9 : tie.Need-returns-9
-unfolding slotOf
-returns-9 c = sym (ap (slotOf asked) (c .match .keys9))
-
-returns-10 : tie.Need-returns-10
-returns-10 c =
-    let m = c .match .rest in
-    slot-none _ (m .0 .0 .0 .0 .0 .0 .0 .0 .1) (m .0 .0 .0 .0 .0 .0 .0 .1) (m .0 .0 .0 .0 .0 .0 .1) (m .0 .0 .0 .0 .0 .1) (m .0 .0 .0 .0 .1) (m .0 .0 .0 .1) (m .0 .0 .1) (m .0 .1) (m .1)
+unfolding asked
+returns-2 c = rw (c .before .if1 .left) (c .read-slot .ensures)
 
 pub slot-spec : {M : Type 1} → statement M
-slot-spec =
-    tie.close
-    (tie.spec
-    returns
-    returns-2
-    returns-3
-    returns-4
-    returns-5
-    returns-6
-    returns-7
-    returns-8
-    returns-9
-    returns-10)
+slot-spec = tie.close (tie.spec subset-slot-requires returns read-slot-requires returns-2)

@@ -10,7 +10,7 @@ use Rattle.cff.specs.Reads.{programOf}
 use Rattle.fds.specs.Locals.{inUse}
 use Rattle.fds.specs.Parts.{partBy, partAt}
 use Rattle.fds.specs.UsedLaws.{not-used, is-used}
-use Rattle.fds.specs.PartsLaws.{Measuring, measuring-start, measuring-number, measuring-pass, measuring-small, measuring-take, measuring-done}
+use Rattle.fds.specs.PartsLaws.{Measuring, measuring-start, measuring-pass, measuring-small, measuring-take, measuring-done}
 use Rattle.fds.proofs.parts.part_sizes.Statement.{statement}
 use Rattle.fds.proofs.parts.part_sizes.Tie as tie
 

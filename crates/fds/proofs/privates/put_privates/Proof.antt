@@ -1,5 +1,5 @@
 -- `privates::put_privates` meets its contract. The invariant: the parts of the FDs in use below fd are written.
-use Prim.Native.Nat.{ℕ, _≤_, _-_}
+use Prim.Native.Nat.{_≤_, _-_}
 use mathlib.Core.Path.{_≡_, refl, sym}
 use mathlib.Core.Bool.{true}
 use native.Mathlib.Omega.{arith}

@@ -1,5 +1,4 @@
 -- `totals::locals_total` meets its contract: the INDEX of the Private DICT holds the local subroutines of the FD.
-use borrow.Author.Needs.{needs}
 use denote.Ref.{now}
 use Rattle.record.specs.Record.{rowsOf}
 use Rattle.cff.specs.Reads.{programOf}

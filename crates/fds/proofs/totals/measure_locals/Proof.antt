@@ -1,6 +1,6 @@
 -- `totals::measure_locals` meets its contract. The invariant: the new local subroutines of the FDs in use below fd are measured, and none of
 -- these FDs fails.
-use Prim.Native.Nat.{ℕ, _≤_, _-_}
+use Prim.Native.Nat.{_≤_, _-_}
 use mathlib.Core.Path.{_≡_, refl}
 use mathlib.Core.Bool.{true}
 use native.Mathlib.Omega.{arith}

@@ -1,7 +1,7 @@
 -- `renumber::turns::rank_below` meets its contract: the ones from the sum below the eighth on, or every number of the eighth.
 use native.Mathlib.Omega.{arith}
 use denote.Ref.{now}
-use Rattle.renumber.specs.OperandLaws.{eighth-pos, eighth-few, eighth-front, sum-front, eighth-whole}
+use Rattle.renumber.specs.OperandLaws.{eighth-few, eighth-front, sum-front, eighth-whole}
 use borrow.Author.Needs.{needs}
 use Rattle.renumber.proofs.turns.rank_below.Statement.{statement}
 use Rattle.renumber.proofs.turns.rank_below.Tie as tie

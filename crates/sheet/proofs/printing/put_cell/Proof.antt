@@ -1,7 +1,5 @@
 -- `printing::put_cell` meets its contract: the line feed stands behind the 16th byte.
 use native.Mathlib.Omega.{arith}
-use mathlib.Core.Path.{ap}
-use lib.ListN.{length, length-append}
 use Rattle.octets.specs.PutLaws.{wrote-then, wrote-as}
 use Rattle.sheet.specs.Printing.{cell-last, cell-inner, last-length, inner-length, text-length}
 use borrow.Author.Needs.{needs}

@@ -1,6 +1,5 @@
 -- `reading::first_lines` meets its contract: one line after the other, or too few.
 use native.Mathlib.Omega.{arith}
-use denote.Ref.{now}
 use Rattle.sheet.specs.Reading.{HeadIs}
 use Rattle.sheet.specs.ReadingLaws.{short-none, short-one, short-two, short-three, four-lines}
 use borrow.Author.Needs.{needs}

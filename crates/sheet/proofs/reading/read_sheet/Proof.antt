@@ -1,7 +1,5 @@
 -- `reading::read_sheet` meets its contract: fewer than four lines, lines that are no sheet's, or its parts.
 use mathlib.Core.Path.{sym, _∙_}
-use native.Mathlib.Omega.{arith}
-use denote.Ref.{now}
 use Rattle.sheet.specs.PartsLaws.{four-told, short-told, reads-parts, reads-not, reads-other}
 use borrow.Author.Needs.{needs}
 use Rattle.sheet.proofs.reading.read_sheet.Statement.{statement}

@@ -1,0 +1,5 @@
+pub mod Offsets
+pub mod TwoLaws
+pub mod PartLaws
+pub mod WalkLaws
+pub mod Examples
