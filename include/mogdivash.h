@@ -21,10 +21,11 @@
    Time. A call is linear in its input but for what is said at cff_trace and two things, which come with hostile fonts and records:
    more than 128 different Privates that overlap, and the fonts of a set, are read again wherever they are named (65,535 font
    dictionaries each with a Private of 100 KB of its own, all overlapping, a font of 1.2 MB: 11 seconds of cff_read; it grows with the
-   product of both); and where rows do not rise, all are passed over for each 8,192 of them (200,000 falling rows of one glyph: about a
-   second; the 342,878 rows of all glyphs of Noto Sans CJK, shuffled: 0.7, rising 0.2), and for each hint mask of glyphs whose CIDs do
-   not rise. Subsetting passes over the top DICT five times, cff_read once. A service that takes uploads should limit the size of a
-   file, put the rows of a record in order, and call from a process of its own with a limit on its CPU time.
+   product of both); and where rows do not rise, all are passed over for each 8,192 of them (200,000 falling rows of one glyph: half a
+   second; the 342,878 rows of all glyphs of Noto Sans CJK, shuffled: 0.8, rising 0.2), and for each hint mask of glyphs whose CIDs do
+   not rise. Subsetting passes over the top DICT five times, cff_read once (60 MB of reals: 4 seconds, and 1). A service that takes
+   uploads should limit the size of a file, put the rows of a record in order, and call from a process of its own with a limit on its
+   CPU time.
 
    Composed glyphs. A glyph that is composed of two others (endchar with four operands, as accented letters of old fonts are) is not
    plain: nothing is promised of it, and the subset does not add its parts. A caller that keeps one keeps its parts too: the glyphs
