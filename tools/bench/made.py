@@ -71,7 +71,7 @@ def subroutines():
 
 
 def reals():
-    """A top DICT of 60 MB of reals, 48 to an operator that nothing asks for."""
+    """A top DICT of 60 MB of reals, 48 to an operator, FontBBox, which subsetting copies."""
     one = b"\x1e\xe1\x2a\x5f" * 48 + b"\x05"
     many = one * (60_000_000 // len(one))
 
