@@ -1,4 +1,6 @@
 // One bit for each number, 32 to a word (document 02, Wish 7): the bits of a set of numbers stand in the words from a place on.
+#![tactic(auto)]
+
 pub mod sums;
 
 ghost use Rattle.std.specs.Prelude.{◌≡◌, ◌+◌, ◌*◌, ◌/◌, ◌≤◌, ◌<◌, length};

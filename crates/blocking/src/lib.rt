@@ -1,5 +1,7 @@
 // Which glyph costs the small file (document 02, Wish 12): the list traced and its cut measured, and where it is stubbed the same for the list without each
 // kept glyph. The list without a glyph has a 0 in its place, since glyph 0 is always kept.
+#![tactic(auto)]
+
 ghost use Rattle.std.specs.Prelude.{◌≡◌, true, ◌-◌, ◌≤◌, ◌<◌, length, set, replicate};
 ghost use Rattle.octets.specs.Pick.{pick};
 ghost use Rattle.octets.specs.Lists.{all_below};

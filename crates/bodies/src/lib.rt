@@ -1,5 +1,7 @@
 // Charstrings and subroutines of a subset, by the way: 0 renumbered, 1 stubbed, 2 copied (document 01, 'Corners in write.rs'); and the INDEXes of subroutines.
 // Each is measured first, then written item by item.
+#![tactic(auto)]
+
 pub mod subrs;
 
 ghost use Rattle.std.specs.Prelude.{◌≡◌, true, ◌+◌, ◌*◌, ◌≤◌, ◌<◌, length};

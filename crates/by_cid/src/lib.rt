@@ -1,4 +1,6 @@
 // The cut of a CID-keyed font (the Rust's subset_cid).
+#![tactic(auto)]
+
 ghost use Rattle.std.specs.Prelude.{◌≡◌, true, false, ◌≤◌, length};
 ghost use Rattle.record.specs.Record.{rows_of};
 ghost use Rattle.cff.specs.Reads.{program_of};

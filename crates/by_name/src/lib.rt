@@ -1,4 +1,6 @@
 // The cut of a name-keyed font (the Rust's subset).
+#![tactic(auto)]
+
 ghost use Rattle.std.specs.Prelude.{false, [], ◌∷◌, ◌≤◌, ◌≡◌, length, take};
 ghost use Rattle.octets.specs.Octets.{put};
 ghost use Rattle.record.specs.Record.{rows_of};

@@ -1,6 +1,8 @@
 // The entries of reading, finding and INDEX items for C and Rust to link (document 01, 'Entries and their refusals'): numbers and
 // lent slices only. A call returns 0 and writes its answer to the start of what was lent, or returns a refusal and writes nothing.
 // 11 stands for lent words or bytes that are too few, after every other refusal. include/mogdivash.h has the C declarations.
+#![tactic(auto)]
+
 pub mod check;
 pub mod culprits;
 pub mod cut;

@@ -1,4 +1,6 @@
 // Reading a font (the Rust's parse_fonts), and the answers of what is asked of one (its CffProgram).
+#![tactic(auto)]
+
 pub mod font;
 pub mod private;
 pub mod set;

@@ -1,5 +1,7 @@
 // The stored cases of reading a font, finding and INDEX items (tools/compare/README.md, 'Stored cases'): what cff answers to them.
 // An input that is not of its kind's form is Outside, never skipped.
+#![tactic(auto)]
+
 ghost use Rattle.std.specs.Prelude.{◌+◌, ◌≤◌, length};
 ghost use Rattle.octets.specs.Octets.{Wrote};
 ghost use Rattle.cases.specs.Answers.{Gives};

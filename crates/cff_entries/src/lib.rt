@@ -1,5 +1,7 @@
 // What is asked of a font (the Rust's CffProgram): the entries read, find and item, and the numbers of keyings and kinds of items. The font is
 // a file, an OpenType one or a bare font (document 02, Wish 9).
+#![tactic(auto)]
+
 ghost use Rattle.std.specs.Prelude.{◌≡◌};
 ghost use Rattle.octets.specs.Pick.{pick};
 ghost use Rattle.opentype.specs.Opentype.{place_of};

@@ -1,5 +1,7 @@
 // The numbers that a font gives each glyph: its string id or CID (the charset, here), its font dictionary (`fd_select`), and the checks of
 // its code (`encoding`). Tables are read in place, with positions by value; a pass over all glyphs goes by a cursor.
+#![tactic(auto)]
+
 pub mod encoding;
 pub mod fd_select;
 pub mod fd_writer;

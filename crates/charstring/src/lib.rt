@@ -1,5 +1,7 @@
 // Type 2 charstrings without the machine: the subroutine bias, the tokens of a body, and tokens written back (charstring.rs).
 // A body is read one token at a time, in place; a cursor by value holds what the Rust's loop holds.
+#![tactic(auto)]
+
 ghost use Rattle.std.specs.Prelude.{◌≡◌, false, true, ◌+◌, ◌≤◌, ◌<◌, length, get_or};
 ghost use Rattle.octets.specs.Octets.{Wrote};
 ghost use Rattle.charstring.specs.Bias.{bias_of};

@@ -1,4 +1,6 @@
 // What the proved functions answer to the input of a stored case of charstring.rs. An input that is not of its kind's form is Outside, never skipped.
+#![tactic(auto)]
+
 ghost use Rattle.std.specs.Prelude.{◌+◌, ◌*◌, ◌≤◌, length};
 ghost use Rattle.octets.specs.Octets.{Wrote};
 ghost use Rattle.type2_number.specs.Floats.{scaled_of, HoldsReading};

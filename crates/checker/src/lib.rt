@@ -1,5 +1,7 @@
 // The checker (document 02, Wish 6): whether a reach record, whoever made it, is accepted for a font and a keep list. The rows that the kept glyphs
 // meet are taken from the tracer window by window, and each window is looked up in one pass over the record.
+#![tactic(auto)]
+
 pub mod numbers;
 
 ghost use Rattle.std.specs.Prelude.{◌≡◌, true, ◌≤◌, length};

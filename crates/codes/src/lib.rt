@@ -1,5 +1,7 @@
 // The glyphs of the codes of a custom encoding (TN5176, section 12; document 02, Wish 4), in a table of 256 places: 0 for a code without a glyph,
 // else the glyph's number + 1. Each naming is stored in its turn, so that the last glyph that a code names stands there in the end.
+#![tactic(auto)]
+
 ghost use Rattle.std.specs.Prelude.{◌≡◌, ◌+◌, ◌*◌, ◌≤◌, ◌<◌, ltb, eqb, length, take, drop};
 ghost use Rattle.octets.specs.Pick.{pick};
 ghost use Rattle.charset.specs.Codes.{codes_from, range_from, ranges_from, supplied_from, namings_at};

@@ -1,4 +1,6 @@
 // Document 01, 'One sheet, whole': reads a sheet from standard input, cuts its font and prints the subset or the refusal.
+#![tactic(auto)]
+
 use libc::STDOUT_FILENO;
 
 fn main() {

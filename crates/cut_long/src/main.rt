@@ -1,5 +1,7 @@
 // The program `cut` again, for another stored run: its stdin has above 4,096 bytes, so that it comes in more than one read, and thousands of empty rows.
 // No contract says which bytes a read gives; this run stops a loop that takes too few.
+#![tactic(auto)]
+
 use libc::STDOUT_FILENO;
 
 fn main() {

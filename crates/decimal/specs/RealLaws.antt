@@ -140,8 +140,8 @@ module _ (h : Held) (es : Bool) (exp bytes next : ℕ) (s : Bool) (n f e k : ℕ
 
 -- ---- a text at its end, by the stage that the code found
 
-no : ◌≡◌ {A = ℕ} 0 1 → ⊥
-no h = omega arith
+never : ◌≡◌ {A = ℕ} 0 1 → ⊥
+never h = omega arith
 
 malformed : (next k : ℕ) → Refused 2 ≡ answer_of (placed next (value_of k bad))
 unfolding value_of
@@ -154,66 +154,66 @@ module _ (st : Stage) (bytes next : ℕ) where
   pub ended_start : (held : Held) (r : NumberAt) → st ≡ Start → held ≡ held_of false 0 0 → Finished bytes next held false 0 r → Ended st bytes next r
   unfolding form_of
   ended_start held r e q t begun k h c b = t false 0 0 0 k q refl (none-few k) b
-  ended_start held r e q t (in_mantissa s any point n f) k h c b = absurd (no cc)
-  ended_start held r e q t (after_e s n f) k h c b = absurd (no cc)
-  ended_start held r e q t (in_exponent s n f es any p) k h c b = absurd (no cc)
-  ended_start held r e q t spoilt k h c b = absurd (no cc)
+  ended_start held r e q t (in_mantissa s any point n f) k h c b = absurd (never cc)
+  ended_start held r e q t (after_e s n f) k h c b = absurd (never cc)
+  ended_start held r e q t (in_exponent s n f es any p) k h c b = absurd (never cc)
+  ended_start held r e q t spoilt k h c b = absurd (never cc)
 
   module _ (any point : Bool) (held : Held) (e : st ≡ Mantissa any point held) where
     pub ended_mantissa : (r : NumberAt) → any ≡ true → Finished bytes next held false 0 r → Ended st bytes next r
     unfolding mantissa
-    ended_mantissa r a t begun k h c b = absurd (no cc)
+    ended_mantissa r a t begun k h c b = absurd (never cc)
     ended_mantissa r a t (in_mantissa s any' point' n f) k h c b =
         let p : any' ≡ true = cc in
         let q : held ≡ held_of s n f = cc in
         rw p (t s n f 0 k q refl c b)
-    ended_mantissa r a t (after_e s n f) k h c b = absurd (no cc)
-    ended_mantissa r a t (in_exponent s n f es any' q) k h c b = absurd (no cc)
-    ended_mantissa r a t spoilt k h c b = absurd (no cc)
+    ended_mantissa r a t (after_e s n f) k h c b = absurd (never cc)
+    ended_mantissa r a t (in_exponent s n f es any' q) k h c b = absurd (never cc)
+    ended_mantissa r a t spoilt k h c b = absurd (never cc)
 
     pub ended_bare : any ≡ false → Ended st bytes next (Refused 2)
     unfolding mantissa
-    ended_bare a begun k h c b = absurd (no cc)
+    ended_bare a begun k h c b = absurd (never cc)
     ended_bare a (in_mantissa s any' point' n f) k h c b = let p : any' ≡ false = cc in rw p (malformed next (k + 1))
-    ended_bare a (after_e s n f) k h c b = absurd (no cc)
-    ended_bare a (in_exponent s n f es any' q) k h c b = absurd (no cc)
-    ended_bare a spoilt k h c b = absurd (no cc)
+    ended_bare a (after_e s n f) k h c b = absurd (never cc)
+    ended_bare a (in_exponent s n f es any' q) k h c b = absurd (never cc)
+    ended_bare a spoilt k h c b = absurd (never cc)
 
   pub ended_exponent : (held : Held) → st ≡ Exponent held → Ended st bytes next (Refused 2)
   unfolding exponent
-  ended_exponent held e begun k h c b = absurd (no cc)
-  ended_exponent held e (in_mantissa s any point n f) k h c b = absurd (no cc)
+  ended_exponent held e begun k h c b = absurd (never cc)
+  ended_exponent held e (in_mantissa s any point n f) k h c b = absurd (never cc)
   ended_exponent held e (after_e s n f) k h c b = malformed next (k + 1)
-  ended_exponent held e (in_exponent s n f es any q) k h c b = absurd (no cc)
-  ended_exponent held e spoilt k h c b = absurd (no cc)
+  ended_exponent held e (in_exponent s n f es any q) k h c b = absurd (never cc)
+  ended_exponent held e spoilt k h c b = absurd (never cc)
 
   module _ (held : Held) (eneg any : Bool) (exp : ℕ) (e : st ≡ Power held eneg any exp) where
     pub ended_power : (r : NumberAt) → any ≡ true → Finished bytes next held eneg exp r → Ended st bytes next r
     unfolding exp_digits
-    ended_power r a t begun k h c b = absurd (no cc)
-    ended_power r a t (in_mantissa s any' point n f) k h c b = absurd (no cc)
-    ended_power r a t (after_e s n f) k h c b = absurd (no cc)
+    ended_power r a t begun k h c b = absurd (never cc)
+    ended_power r a t (in_mantissa s any' point n f) k h c b = absurd (never cc)
+    ended_power r a t (after_e s n f) k h c b = absurd (never cc)
     ended_power r a t (in_exponent s n f es any' q) k h c b =
         let p : any' ≡ true = cc in
         let u : es ≡ eneg = cc in
         let v : held ≡ held_of s n f = cc in
         let w : exp ≡ min q 1000 = cc in
         rw (p, u) (t s n f q k v w c b)
-    ended_power r a t spoilt k h c b = absurd (no cc)
+    ended_power r a t spoilt k h c b = absurd (never cc)
 
     pub ended_e : any ≡ false → Ended st bytes next (Refused 2)
     unfolding exp_digits
-    ended_e a begun k h c b = absurd (no cc)
-    ended_e a (in_mantissa s any' point n f) k h c b = absurd (no cc)
-    ended_e a (after_e s n f) k h c b = absurd (no cc)
+    ended_e a begun k h c b = absurd (never cc)
+    ended_e a (in_mantissa s any' point n f) k h c b = absurd (never cc)
+    ended_e a (after_e s n f) k h c b = absurd (never cc)
     ended_e a (in_exponent s n f es any' q) k h c b = let p : any' ≡ false = cc in rw p (malformed next (k + 1))
-    ended_e a spoilt k h c b = absurd (no cc)
+    ended_e a spoilt k h c b = absurd (never cc)
 
   pub ended_malformed : st ≡ Malformed → Ended st bytes next (Refused 2)
-  ended_malformed e begun k h c b = absurd (no cc)
-  ended_malformed e (in_mantissa s any point n f) k h c b = absurd (no cc)
-  ended_malformed e (after_e s n f) k h c b = absurd (no cc)
-  ended_malformed e (in_exponent s n f es any q) k h c b = absurd (no cc)
+  ended_malformed e begun k h c b = absurd (never cc)
+  ended_malformed e (in_mantissa s any point n f) k h c b = absurd (never cc)
+  ended_malformed e (after_e s n f) k h c b = absurd (never cc)
+  ended_malformed e (in_exponent s n f es any q) k h c b = absurd (never cc)
   ended_malformed e spoilt k h c b = malformed next (k + 1)
 
 -- the counts of a stage, by its variant

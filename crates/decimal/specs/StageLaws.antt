@@ -169,67 +169,67 @@ module _ (any point : Bool) (held : Held) (x : ℕ) (s : Bool) (n f : ℕ) (e : 
 
 -- ---- a nibble, by the stage that the code found
 
-no : ◌≡◌ {A = ℕ} 0 1 → ⊥
-no h = omega arith
+never : ◌≡◌ {A = ℕ} 0 1 → ⊥
+never h = omega arith
 
 module _ (st : Stage) (x : ℕ) where
   pub start-minus : (held : Held) → st ≡ Start → x ≡ 14 → held ≡ held_of true 0 0 → (g : Exact) → st ≡ stage_of g → Mantissa false false held ≡ stage_of (step_of g x)
   start-minus held e h q begun k = rw (eq-eqb x 14 h) (ap (Mantissa false false) q)
-  start-minus held e h q (in_mantissa s any point n f) k = absurd (no cc)
-  start-minus held e h q (after_e s n f) k = absurd (no cc)
-  start-minus held e h q (in_exponent s n f es any p) k = absurd (no cc)
-  start-minus held e h q spoilt k = absurd (no cc)
+  start-minus held e h q (in_mantissa s any point n f) k = absurd (never cc)
+  start-minus held e h q (after_e s n f) k = absurd (never cc)
+  start-minus held e h q (in_exponent s n f es any p) k = absurd (never cc)
+  start-minus held e h q spoilt k = absurd (never cc)
 
   pub start_other : (held : Held) (r : Stage) → st ≡ Start → (x ≡ 14 → ⊥) → held ≡ held_of false 0 0
       → ((s : Bool) (n f : ℕ) → held ≡ held_of s n f → r ≡ stage_of (mantissa_step s false false n f x))
       → (g : Exact) → st ≡ stage_of g → r ≡ stage_of (step_of g x)
   start_other held r e h q t begun k = rw (ne_eqb x 14 h) (t false 0 0 q)
-  start_other held r e h q t (in_mantissa s any point n f) k = absurd (no cc)
-  start_other held r e h q t (after_e s n f) k = absurd (no cc)
-  start_other held r e h q t (in_exponent s n f es any p) k = absurd (no cc)
-  start_other held r e h q t spoilt k = absurd (no cc)
+  start_other held r e h q t (in_mantissa s any point n f) k = absurd (never cc)
+  start_other held r e h q t (after_e s n f) k = absurd (never cc)
+  start_other held r e h q t (in_exponent s n f es any p) k = absurd (never cc)
+  start_other held r e h q t spoilt k = absurd (never cc)
 
   pub step-mantissa : (any point : Bool) (held : Held) (r : Stage) → st ≡ Mantissa any point held
       → ((s : Bool) (n f : ℕ) → held ≡ held_of s n f → r ≡ stage_of (mantissa_step s any point n f x))
       → (g : Exact) → st ≡ stage_of g → r ≡ stage_of (step_of g x)
-  step-mantissa any point held r e t begun k = absurd (no cc)
+  step-mantissa any point held r e t begun k = absurd (never cc)
   step-mantissa any point held r e t (in_mantissa s any' point' n f) k =
       let p : any' ≡ any = cc in
       let q : point' ≡ point = cc in
       let a : held ≡ held_of s n f = cc in
       rw (p, q) (t s n f a)
-  step-mantissa any point held r e t (after_e s n f) k = absurd (no cc)
-  step-mantissa any point held r e t (in_exponent s n f es any' q) k = absurd (no cc)
-  step-mantissa any point held r e t spoilt k = absurd (no cc)
+  step-mantissa any point held r e t (after_e s n f) k = absurd (never cc)
+  step-mantissa any point held r e t (in_exponent s n f es any' q) k = absurd (never cc)
+  step-mantissa any point held r e t spoilt k = absurd (never cc)
 
   pub exponent-minus : (held : Held) → st ≡ Exponent held → x ≡ 14 → (g : Exact) → st ≡ stage_of g → Power held true false 0 ≡ stage_of (step_of g x)
-  exponent-minus held e h begun k = absurd (no cc)
-  exponent-minus held e h (in_mantissa s any point n f) k = absurd (no cc)
+  exponent-minus held e h begun k = absurd (never cc)
+  exponent-minus held e h (in_mantissa s any point n f) k = absurd (never cc)
   exponent-minus held e h (after_e s n f) k = let p : held ≡ held_of s n f = cc in rw (eq-eqb x 14 h, p)
-  exponent-minus held e h (in_exponent s n f es any q) k = absurd (no cc)
-  exponent-minus held e h spoilt k = absurd (no cc)
+  exponent-minus held e h (in_exponent s n f es any q) k = absurd (never cc)
+  exponent-minus held e h spoilt k = absurd (never cc)
 
   pub exponent-plus : (held : Held) (r : Stage) → st ≡ Exponent held → (x ≡ 14 → ⊥)
       → ((s : Bool) (n f e : ℕ) → held ≡ held_of s n f → 0 ≡ min e 1000 → r ≡ stage_of (exponent_step s n f false e x))
       → (g : Exact) → st ≡ stage_of g → r ≡ stage_of (step_of g x)
-  exponent-plus held r e h t begun k = absurd (no cc)
-  exponent-plus held r e h t (in_mantissa s any point n f) k = absurd (no cc)
+  exponent-plus held r e h t begun k = absurd (never cc)
+  exponent-plus held r e h t (in_mantissa s any point n f) k = absurd (never cc)
   exponent-plus held r e h t (after_e s n f) k = let p : held ≡ held_of s n f = cc in rw (ne_eqb x 14 h) (t s n f 0 p refl)
-  exponent-plus held r e h t (in_exponent s n f es any q) k = absurd (no cc)
-  exponent-plus held r e h t spoilt k = absurd (no cc)
+  exponent-plus held r e h t (in_exponent s n f es any q) k = absurd (never cc)
+  exponent-plus held r e h t spoilt k = absurd (never cc)
 
   pub step-power : (held : Held) (eneg any : Bool) (exp : ℕ) (r : Stage) → st ≡ Power held eneg any exp
       → ((s : Bool) (n f e : ℕ) → held ≡ held_of s n f → exp ≡ min e 1000 → r ≡ stage_of (exponent_step s n f eneg e x))
       → (g : Exact) → st ≡ stage_of g → r ≡ stage_of (step_of g x)
-  step-power held eneg any exp r e t begun k = absurd (no cc)
-  step-power held eneg any exp r e t (in_mantissa s any' point n f) k = absurd (no cc)
-  step-power held eneg any exp r e t (after_e s n f) k = absurd (no cc)
+  step-power held eneg any exp r e t begun k = absurd (never cc)
+  step-power held eneg any exp r e t (in_mantissa s any' point n f) k = absurd (never cc)
+  step-power held eneg any exp r e t (after_e s n f) k = absurd (never cc)
   step-power held eneg any exp r e t (in_exponent s n f es any' q) k = let p : es ≡ eneg = cc in let a : held ≡ held_of s n f = cc in let b : exp ≡ min q 1000 = cc in rw p (t s n f q a b)
-  step-power held eneg any exp r e t spoilt k = absurd (no cc)
+  step-power held eneg any exp r e t spoilt k = absurd (never cc)
 
   pub step-malformed : st ≡ Malformed → (g : Exact) → st ≡ stage_of g → Malformed ≡ stage_of (step_of g x)
-  step-malformed e begun k = absurd (no cc)
-  step-malformed e (in_mantissa s any point n f) k = absurd (no cc)
-  step-malformed e (after_e s n f) k = absurd (no cc)
-  step-malformed e (in_exponent s n f es any q) k = absurd (no cc)
+  step-malformed e begun k = absurd (never cc)
+  step-malformed e (in_mantissa s any point n f) k = absurd (never cc)
+  step-malformed e (after_e s n f) k = absurd (never cc)
+  step-malformed e (in_exponent s n f es any q) k = absurd (never cc)
   step-malformed e spoilt k = refl

@@ -1,5 +1,7 @@
 // The numbers of a DICT (TN5176, section 4, tables 3 to 5) as exact decimals. The Rust holds an f64; within the limits of refusal 5 of
 // document 01 the decimal and the f64 print, truncate, compare and clamp alike.
+#![tactic(auto)]
+
 pub mod real;
 
 ghost use Rattle.std.specs.Prelude.{◌≡◌, true, false, ◌+◌, ◌-◌, ◌*◌, ◌/◌, ◌^◌, ◌≤◌, ◌<◌, min, ltb, length, get_or};

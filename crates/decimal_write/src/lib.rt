@@ -1,4 +1,6 @@
 // A number written into a DICT: the Rust's `dict_int`, `dict_int5`, `dict_real` and `dict_number`, measured first.
+#![tactic(auto)]
+
 ghost use Rattle.std.specs.Prelude.{◌≡◌, [], ◌∷◌, ◌+◌, ◌-◌, ◌/◌, ◌%◌, ◌^◌, ◌≤◌, ◌<◌, length, get_or};
 ghost use Rattle.octets.specs.Octets.{bytes_of, Wrote};
 ghost use Rattle.decimal.specs.Decimal.{Normal};

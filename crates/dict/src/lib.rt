@@ -1,5 +1,7 @@
 // A DICT of TN5176, section 4, read in place on a slice that is exactly its bytes (the Rust's Dict and module op in mod.rs), and its
 // entries written (dict_op and DictWriter in write.rs).
+#![tactic(auto)]
+
 pub mod op;
 
 ghost use Rattle.std.specs.Prelude.{◌≡◌, false, [], ◌∷◌, ◌+◌, ◌<◌, length, get_or};

@@ -1,5 +1,7 @@
 // Entries of a DICT written: the Rust's dict_op and DictWriter (write.rs), measured first. An entry of the font is copied from where its
 // operands stand.
+#![tactic(auto)]
+
 ghost use Rattle.std.specs.Prelude.{◌≡◌, true, ◌+◌, ◌≤◌, ◌<◌, length};
 ghost use Rattle.octets.specs.Octets.{Wrote};
 ghost use Rattle.dict.specs.Op.{is_operator};

@@ -1,4 +1,6 @@
 // The refusals of subsetting before the work words are used, in document 01's order.
+#![tactic(auto)]
+
 ghost use Rattle.std.specs.Prelude.{◌≡◌, true, false, not, ◌+◌, ◌<◌};
 ghost use Rattle.octets.specs.Pick.{pick};
 ghost use Rattle.dict.specs.Lookup.{ros_in};

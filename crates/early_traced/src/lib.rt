@@ -1,5 +1,7 @@
 // The refusals of a traced cut before the work words are used (document 02, Wish 12): the subset call's own 3, 2, 4, 6 and 7, 11 a traced record longer than
 // the lent slice, and 9. Nothing is written: the rows are counted.
+#![tactic(auto)]
+
 ghost use Rattle.std.specs.Prelude.{◌≡◌, true, ◌≤◌, length};
 ghost use Rattle.octets.specs.Lists.{all_below};
 ghost use Rattle.cff.specs.Reads.{program_of};

@@ -1,6 +1,8 @@
 // The encoding of a subset (document 02, Wish 4), from the codes of the font and the new ids of the kept glyphs: made in a table of 256 places, which
 // hold 0 for a code without a pair, else the new id + 1; measured and written. The kept glyphs come from windows of their order (document 02, Wish 10),
 // once for all codes.
+#![tactic(auto)]
+
 ghost use Rattle.std.specs.Prelude.{◌≡◌, ℕ, ◌+◌, ◌≤◌, ◌<◌, length, get_or, eqb};
 ghost use Rattle.octets.specs.Pick.{pick};
 ghost use Rattle.octets.specs.Octets.{Wrote};

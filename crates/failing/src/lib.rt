@@ -1,5 +1,7 @@
 // Which glyph alone can be the culprit (document 02, Wish 12): a kept glyph whose charstring cannot be renumbered by the rows that the kept glyphs meet.
 // Without any other glyph it still cannot.
+#![tactic(auto)]
+
 ghost use Rattle.std.specs.Prelude.{◌≡◌, true, ◌∷◌, ◌≤◌, ◌<◌, length, get_or, set, replicate};
 ghost use Rattle.octets.specs.Lists.{all_below};
 ghost use Rattle.unfold.specs.Unfold.{glyph};

@@ -1,5 +1,7 @@
 // Everything that goes over the FDs in use: the bits of their local subroutines in the work words, and their Private DICTs with the new
 // local subroutines behind them.
+#![tactic(auto)]
+
 pub mod parts;
 pub mod privates;
 pub mod totals;

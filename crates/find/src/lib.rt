@@ -1,4 +1,6 @@
 // The glyph of a name or a CID (the Rust's `gid` and `gid_of_cid`): the first glyph that has it, by one pass over the glyphs.
+#![tactic(auto)]
+
 ghost use Rattle.std.specs.Prelude.{◌≡◌, ◌<◌};
 ghost use Rattle.index.specs.Index.{items_of};
 ghost use Rattle.index.specs.Good.{Good};

@@ -1,5 +1,7 @@
 // What the proved functions answer to the input of a stored case of the format's parts. An input that is not of its kind's form is Outside,
 // never skipped.
+#![tactic(auto)]
+
 pub mod dicts;
 pub mod glyphs;
 pub mod indexes;

@@ -1,5 +1,7 @@
 // Whether finding gives the kept glyphs (document 01, refusal 7): the first glyph that has a name or a CID is the one found. The kept ones are flagged
 // by a bit for each glyph.
+#![tactic(auto)]
+
 pub mod marks;
 
 ghost use Rattle.std.specs.Prelude.{◌≡◌, true, ◌≤◌, ◌<◌, length};

@@ -1,5 +1,7 @@
 // The front of a subset (document 01, 'Layout'; the Rust's subset and subset_cid): its strings prepared, and header, names, top DICT and
 // strings measured and written.
+#![tactic(auto)]
+
 ghost use Rattle.std.specs.Prelude.{◌≡◌, true, false, [], ◌∷◌, ◌++◌, ◌≤◌, ◌<◌, length};
 ghost use Rattle.octets.specs.Octets.{Wrote};
 ghost use Rattle.index.specs.Write.{index_bytes};

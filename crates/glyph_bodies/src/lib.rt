@@ -1,6 +1,8 @@
 // The charstrings of the kept glyphs by the way (document 01, 'Corners in write.rs'), in the order in which they are written, which is read through a
 // window (document 02, Wish 10). The local subroutines of a glyph's FD have their ranks where a table says. A loop calls `hold` only where the window does
 // not have the place: a call for each glyph takes about as long as the copy of a short charstring.
+#![tactic(auto)]
+
 pub mod glyphs;
 
 ghost use Rattle.std.specs.Prelude.{◌≡◌, length};

@@ -1,5 +1,7 @@
 // What whoever writes a PDF asks of a font's glyphs: the name or CID of a glyph and its FD, and where an item stands. The font is a file, an
 // OpenType one or a bare font (document 02, Wish 9).
+#![tactic(auto)]
+
 pub mod places;
 
 ghost use Rattle.std.specs.Prelude.{[], ◌∷◌, length};

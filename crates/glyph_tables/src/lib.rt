@@ -1,5 +1,7 @@
 // Charset and FDSelect of a CID-keyed subset (document 01, 'Layout'), from windows of the order in which the kept glyphs are written (document 02,
 // Wish 10): the charset (here), the FDs in use by their new numbers (`fds`), and the FDSelect (`select`).
+#![tactic(auto)]
+
 pub mod fds;
 pub mod select;
 

@@ -1,4 +1,6 @@
 // Lines of lower-case hexadecimal in a slice: where a line and a field end, and the bytes that digits spell.
+#![tactic(auto)]
+
 ghost use Rattle.std.specs.Prelude.{◌≡◌, true, ◌+◌, ◌≤◌, ◌<◌, length};
 ghost use Rattle.std.proofs.Math.Seq.{slice};
 ghost use Rattle.octets.specs.Octets.{Wrote};

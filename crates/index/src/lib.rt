@@ -1,5 +1,7 @@
 // An INDEX of TN5176, section 5: read in place, its items parts of the caller's bytes; and written into a lent slice,
 // each item together with the offset of its end.
+#![tactic(auto)]
+
 ghost use Rattle.std.specs.Prelude.{◌≡◌, [], ◌∷◌, ◌+◌, ◌*◌, ◌-◌, ◌≤◌, ◌<◌, length, drop, get_or};
 ghost use Rattle.octets.specs.Octets.{bytes_of, Wrote};
 ghost use Rattle.index.specs.Index.{offsets, run_of, table_at, empty_at, index_at, items_of};

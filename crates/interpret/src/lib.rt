@@ -1,5 +1,7 @@
 // A glyph run by recursion (document 01: 'Tracer enters a called subroutine by recursion, remaining depth falling from 10'), each row that it
 // meets noted in a window of a range (document 02, Wish 1).
+#![tactic(auto)]
+
 ghost use Rattle.std.specs.Prelude.{◌≡◌, [], ◌∷◌, ◌≤◌, ◌<◌, length};
 ghost use Rattle.octets.specs.Pick.{pick};
 ghost use Rattle.unfold.specs.Unfold.{entered, masked, is_glyph, unfold_glyph};

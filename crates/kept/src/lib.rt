@@ -1,4 +1,6 @@
 // The glyphs that a subset keeps (document 01, 'Layout'): refusal 6, and a mark for each.
+#![tactic(auto)]
+
 pub mod marks;
 
 ghost use Rattle.std.specs.Prelude.{◌≡◌, true, ◌<◌};

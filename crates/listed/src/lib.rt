@@ -1,5 +1,7 @@
 // Whether a record lists the rows of a window (document 02, Wish 6): one pass over the record marks each key of the window that a row has, found by
 // halves, and then all must be marked. The record's order does not matter.
+#![tactic(auto)]
+
 ghost use Rattle.std.specs.Prelude.{◌≡◌, [], ◌∷◌, ◌≤◌, length, take};
 ghost use Rattle.kept.specs.Packed.{marked};
 ghost use Rattle.reach.specs.Reach.{row_in, Fits};

@@ -1,6 +1,8 @@
 // One charstring or subroutine with more rows of masks than a window holds, renumbered (document 01, 'Reach record': order and repeats are free): measured,
 // and written. Masks come at rising offsets as the tokens are read, so that the windows of its rows follow each other. A body whose rows stand in a
 // record that rises is crate `renumbered`'s: its loops ask no more than it needs.
+#![tactic(auto)]
+
 pub mod offsets;
 
 ghost use Rattle.std.specs.Prelude.{◌≡◌, true, false, ◌+◌, ◌-◌, ◌≤◌, ◌<◌, length};

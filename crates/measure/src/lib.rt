@@ -1,4 +1,6 @@
 // A cut that is measured and not written: the outcome of a subset call whose output is large enough, 67,108,864 bytes, with no output lent.
+#![tactic(auto)]
+
 pub mod cid_keyed;
 pub mod name_keyed;
 

@@ -1,5 +1,7 @@
 // The names of the kept glyphs as strings of a name-keyed subset (document 01, 'Layout'), over the order in which they are written (document 02, Wish 10):
 // the own strings counted, the String INDEX and the charset written. No id is stored: each loop gives them anew, by the own strings counted so far.
+#![tactic(auto)]
+
 ghost use Rattle.std.specs.Prelude.{◌≡◌, ◌+◌, ◌≤◌, length};
 ghost use Rattle.octets.specs.Octets.{Wrote};
 ghost use Rattle.index.specs.Index.{items_of};

@@ -1,4 +1,6 @@
 // The parts of a name-keyed subset (document 01, 'Layout'): where they stand, and each written behind the other.
+#![tactic(auto)]
+
 ghost use Rattle.std.specs.Prelude.{◌+◌, ◌≤◌, length};
 ghost use Rattle.octets.specs.Octets.{Wrote};
 ghost use Rattle.record.specs.Record.{rows_of};

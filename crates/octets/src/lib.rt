@@ -1,5 +1,7 @@
 // Big-endian numbers read from a slice at a position, and bytes written into a lent slice: the Rust's Reader and to_be_bytes.
 // A reader here requires that its bytes are there: the caller tests first, since a refusal has its place in the caller's order.
+#![tactic(auto)]
+
 pub mod words;
 
 ghost use Rattle.std.specs.Prelude.{◌≡◌, [], ◌∷◌, ◌+◌, ◌≤◌, ◌<◌, ◌^◌, length, get_or};

@@ -1,4 +1,6 @@
 // Where the font stands in a file: the table `CFF ` of an OpenType file, or the file itself.
+#![tactic(auto)]
+
 ghost use Rattle.std.specs.Prelude.{◌≡◌, ◌+◌, ◌*◌, ◌≤◌, ◌<◌, length};
 ghost use Rattle.octets.specs.Lists.{part_of};
 ghost use Rattle.index.specs.Place.{StartsAt};

@@ -1,6 +1,8 @@
 // The kept glyphs by their places in the order in which they are written (document 02, Wish 10): a window of the order is held, and moved where the place
 // that is asked for is not in it. A loop over all places, the next after the last, takes one walk; where the window has room for all kept glyphs it is
 // filled once, whatever loops there are.
+#![tactic(auto)]
+
 ghost use Rattle.std.specs.Prelude.{◌≡◌, true, false, ℕ, ◌-◌, ◌*◌, ◌≤◌, ◌<◌, length, get_or};
 ghost use Rattle.bits.specs.Bits.{words_for, bit_in};
 ghost use Rattle.cff.specs.Reads.{program_of, GoodFont};

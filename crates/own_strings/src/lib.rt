@@ -1,5 +1,7 @@
 // The strings of a subset (the Rust's Strings in write.rs; document 01, 'Layout'): which texts are its own, and the new id of a string id
 // that it uses. The texts are used in order: those of eight slots of the top DICT (here), then the names of the glyphs (name_strings).
+#![tactic(auto)]
+
 ghost use Rattle.std.specs.Prelude.{◌≡◌, [], ◌∷◌, ◌+◌, ◌-◌, ◌≤◌, ◌<◌, length, take, drop};
 ghost use Rattle.octets.specs.Octets.{put};
 ghost use Rattle.index.specs.Index.{items_of};

@@ -1,5 +1,7 @@
 // The bodies of a subset from its plan (document 01, 'Corners in write.rs'): all subroutines ranked, the way found and all bodies measured;
 // what is measured and written then is the subset's.
+#![tactic(auto)]
+
 ghost use Rattle.std.specs.Prelude.{◌≡◌, ◌+◌, ◌≤◌, length};
 ghost use Rattle.octets.specs.Octets.{Wrote};
 ghost use Rattle.index.specs.Write.{index_bytes, index_len_lem};

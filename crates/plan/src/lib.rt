@@ -1,5 +1,7 @@
 // The plan of a subset (document 01, 'Corners in write.rs'): all subroutines that are reached get their bits in the work words, the way is found, and the bodies
 // are measured.
+#![tactic(auto)]
+
 pub mod sizes;
 
 ghost use Rattle.std.specs.Prelude.{◌≡◌, ◌+◌, ◌≤◌, length};

@@ -1,4 +1,6 @@
 // The Private DICTs of a subset and the Font DICTs of a CID-keyed one, measured first and then written (the Rust's subset and subset_cid).
+#![tactic(auto)]
+
 ghost use Rattle.std.specs.Prelude.{◌≡◌, true, ◌++◌, ℕ, ◌+◌, ◌≤◌, ◌<◌, length, take, get_or};
 ghost use Rattle.octets.specs.Octets.{Wrote};
 ghost use Rattle.dict.specs.Places.{entries_of};

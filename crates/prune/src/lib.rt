@@ -1,1 +1,2 @@
 // Renumbering the calls of charstrings and subroutines (write.rs): the definitions of specs/Renumber.antt. The code is in `renumber` and `renumbered`.
+#![tactic(auto)]

@@ -1,5 +1,7 @@
 // The reach record (document 01, 'Reach record'), read in place: its rows and refusal 8 (here), the lengths that it gives for masks
 // (`masks`), and the ranks of the subroutines that it has, in the work words (`ranks`).
+#![tactic(auto)]
+
 pub mod masks;
 pub mod ranks;
 

@@ -1,5 +1,7 @@
 // The Rust's Reader: a struct that holds the caller's bytes and a position in them (document 01, 'What must change shape').
 // Each function over it is thin and proved by hand; the work is that of covered functions on a slice and a position.
+#![tactic(auto)]
+
 ghost use Rattle.std.specs.Prelude.{◌≡◌, ◌+◌, ◌≤◌, ◌<◌, ◌^◌, length, take, drop, get_or};
 ghost use Rattle.octets.specs.Octets.{num_at};
 ghost use Rattle.reader.specs.Moved.{moved};

@@ -1,4 +1,6 @@
 // Why a call is refused: the refusal numbers of documents 01 ('Entries and their refusals') and 02, the counterpart of program.rs.
+#![tactic(auto)]
+
 ghost use Rattle.std.specs.Prelude.{◌≡◌};
 ghost use Rattle.refusal.specs.Refusal.{is_refusal};
 

@@ -1,5 +1,7 @@
 // Renumbering, token by token (the Rust's renumber_charstring; document 01, 'Corners in write.rs'): what becomes of a call, and runs of tokens
 // that stay as they are. The new numbers of subroutines are found by their bits in the work words. Crate `renumbered` measures and writes whole bodies.
+#![tactic(auto)]
+
 pub mod runs;
 pub mod turns;
 

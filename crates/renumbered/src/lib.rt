@@ -1,5 +1,7 @@
 // One charstring or subroutine renumbered (the Rust's renumber_charstring; document 01, 'Corners in write.rs'): measured first, then written.
 // A number token is held back until the next token is read.
+#![tactic(auto)]
+
 ghost use Rattle.std.specs.Prelude.{◌≡◌, true, ◌+◌, ◌-◌, ◌≤◌, ◌<◌, length};
 ghost use Rattle.octets.specs.Octets.{Wrote};
 ghost use Rattle.charstring.specs.Token.{more, token_at};

@@ -1,5 +1,7 @@
 // Replays stored cases, a line each (tools/oracle/README.md, 'Lines'), against the proved functions, and prints of each file how many of
 // each kind agreed: the original Rust's answers, and document 01's corners.
+#![tactic(auto)]
+
 mod answers;
 mod lines;
 

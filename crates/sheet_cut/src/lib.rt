@@ -1,4 +1,6 @@
 // Document 01, 'One sheet, whole': from the input that the program `cut` has taken to what it prints.
+#![tactic(auto)]
+
 ghost use Rattle.std.specs.Prelude.{List, false, ℕ, ◌+◌, ◌*◌, ◌≤◌, length};
 ghost use Rattle.octets.specs.Octets.{Wrote};
 ghost use Rattle.cff.specs.Font.{read_font};

@@ -1,4 +1,6 @@
 // Document 01, 'One sheet, whole': a sheet taken from standard input, piece by piece, and what is printed of it. The programs `cut` and `cut_long` print it.
+#![tactic(auto)]
+
 ghost use Rattle.std.specs.Prelude.{◌≤◌, length};
 ghost use Rattle.io.specs.Counts.{IsPrefixLen};
 ghost use Rattle.sheet_cut.specs.Cutting.{Given};

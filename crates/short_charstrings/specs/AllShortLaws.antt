@@ -50,10 +50,12 @@ module _ (s t : List ℕ) (e : next_of s ≡ next t) where
 -- ---- all steps
 
 only-short : {s : List ℕ} {us : List (List ℕ)} → Steps s us → (u : List ℕ) → Among u us → is_short u ≡ true
+only-short (done {s = s} _) u x = elim x [ ]
 only-short {s} (step t e r) u here = (least s t e).short
 only-short (step t e r) u (later a) = only-short r u a
 
 all-behind : {s : List ℕ} {us : List (List ℕ)} → Steps s us → (u : List ℕ) → Among u us → start_of s ≤ place_of u
+all-behind (done {s = s} _) u x = elim x [ ]
 all-behind {s} (step t e r) u here = behind-begins s (given s t e) (ending t (least s t e).short) (least s t e).behind
 all-behind {s} (step t e r) u (later a) = let h = all-behind r u a in let o = step-on s t e in omega (arith, h, o.0)
 

@@ -1,5 +1,7 @@
 // Short charstrings, one after the other (document 02, Wish 13): plain, of 1 to 4 bytes, without a call, the last byte their only endchar.
 // What ends in endchar is counted upward, and each is run.
+#![tactic(auto)]
+
 ghost use Rattle.std.specs.Prelude.{◌≡◌, ◌-◌, ◌≤◌, ◌<◌, length};
 ghost use Rattle.octets.specs.Octets.{Wrote};
 ghost use Rattle.short_charstrings.specs.Short.{ends, is_short};

@@ -1,5 +1,7 @@
 // Walks all short charstrings from nothing on (document 02, Wish 13), and prints how many there are of each length, how many in all, and FNV-1a, 32
 // bits, over their bytes one behind the other. tools/short_charstrings.py makes the same text another way.
+#![tactic(auto)]
+
 ghost use Rattle.std.specs.Prelude.{◌≡◌};
 ghost use Rattle.short_count.specs.Count.{fnv, fnv_over, zeros, Walked};
 

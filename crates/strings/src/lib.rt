@@ -1,5 +1,7 @@
 // The standard strings of TN5176, Appendix A, and string ids: the Rust's STANDARD_STRINGS, the standard part of sid_name and of
 // Strings::sid.
+#![tactic(auto)]
+
 ghost use Rattle.std.specs.Prelude.{◌≡◌, ◌+◌, ◌<◌, ◌≤◌, length};
 ghost use Rattle.octets.specs.Octets.{Wrote};
 ghost use Rattle.strings.specs.Table.{standard_offsets, standard_order};

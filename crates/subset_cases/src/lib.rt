@@ -1,5 +1,7 @@
 // The stored cases of subsetting (tools/compare/README.md, 'Stored subsets'): what write answers to them, S by name and D by CID.
 // An input that is not of this form, or that lends more than there is room for here, is Outside, never skipped.
+#![tactic(auto)]
+
 pub mod left;
 
 ghost use Rattle.std.specs.Prelude.{◌≤◌, ◌≡◌, false, length, replicate};

@@ -1,4 +1,6 @@
 // The top DICT of a subset, measured first and then written, and the INDEX that holds it alone (the Rust's subset and subset_cid).
+#![tactic(auto)]
+
 ghost use Rattle.std.specs.Prelude.{◌≡◌, true, false, [], ◌∷◌, ◌+◌, ◌≤◌, ◌<◌, length};
 ghost use Rattle.octets.specs.Octets.{Wrote};
 ghost use Rattle.decimal.specs.Decimal.{normal};

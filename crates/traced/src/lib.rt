@@ -1,4 +1,5 @@
 // The tracer's answer, and in specs/ what it stands for: the reach record of the kept glyphs (document 02, Wish 1). No code.
+#![tactic(auto)]
 
 // The answer of a trace: the refusal, or the flag and the length of the record.
 #[derive(Drop)]

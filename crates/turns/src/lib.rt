@@ -1,6 +1,8 @@
 // What a token of a body brings when a glyph is run (document 01, 'Plain glyphs'; crate unfold), without the tokens that it leaves: the run
 // breaks or ends, goes on in the same body, meets a mask or calls a subroutine. The number just before a token is kept as the place where it
 // starts, and read only at a call.
+#![tactic(auto)]
+
 ghost use Rattle.std.specs.Prelude.{◌≡◌, ◌-◌, ◌≤◌, ◌<◌, length, get_or};
 ghost use Rattle.std.proofs.Math.Option.{some};
 ghost use Rattle.type2_number.specs.Number.{number_at};

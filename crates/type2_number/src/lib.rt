@@ -1,5 +1,7 @@
 // The numbers of a Type 2 charstring (TN5177, section 3.2): read to the f32 that the Rust's `number` gives, and written back as its
 // `encode` does. The definitions count 65536ths; nothing above this crate sees how an f32 rounds.
+#![tactic(auto)]
+
 ghost use Rattle.std.specs.Prelude.{◌≡◌, true, false, ◌∷◌, ◌+◌, ◌*◌, ◌≤◌, ◌<◌, length};
 ghost use Rattle.octets.specs.Octets.{bytes_of, Wrote};
 ghost use Rattle.type2_number.specs.Number.{is_neg, mag, whole, fixed, sixteen, rounded, number_at};

@@ -1,4 +1,6 @@
 // Subsetting (write.rs: subset, subset_cid): refusals in document 01's order, then the cut by the keying.
+#![tactic(auto)]
+
 ghost use Rattle.std.specs.Prelude.{◌≡◌, true, false, length};
 ghost use Rattle.cff.specs.Reads.{program_of};
 ghost use Rattle.cff.specs.File.{HasFont};
