@@ -3,7 +3,7 @@
 
 A name in backquotes is a definition, law, function, constant or type of a crate, a must-fail edit, a module, or a name of the original
 (docs/src). `A.b` is b in A.antt, `a::b` is b of the crate or module a. A crate's name before a name, as in: subset `Cut.Outcome`,
-`leavesOut`, holds for it and for those that follow behind commas; there the name must stand in that crate. A name without one must
+`leaves_out`, holds for it and for those that follow behind commas; there the name must stand in that crate. A name without one must
 stand in a crate that its row names, if it names any, else anywhere. Names of other forms, as bytes and commands, are passed over.
 """
 

@@ -74,11 +74,11 @@ def definitions(names, offsets, order):
         "use Prim.Native.Nat.{ℕ}\n"
         "use Prim.Native.String.{String}\n"
         "use mathlib.Core.List.{List, [], _∷_}\n\n"
-        + cons("standardNames", "String", "the names in the order of their ids, from 0 to 390", [f'"{n}"' for n in names])
+        + cons("standard_names", "String", "the names in the order of their ids, from 0 to 390", [f'"{n}"' for n in names])
         + "\n"
-        + cons("standardOffsets", "ℕ", "where each name begins in the text of all names, and where the last one ends", [str(n) for n in offsets])
+        + cons("standard_offsets", "ℕ", "where each name begins in the text of all names, and where the last one ends", [str(n) for n in offsets])
         + "\n"
-        + cons("standardOrder", "ℕ", "the ids in the rising byte order of their names", [str(n) for n in order])
+        + cons("standard_order", "ℕ", "the ids in the rising byte order of their names", [str(n) for n in order])
     )
 
 

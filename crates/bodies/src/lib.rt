@@ -17,14 +17,14 @@ use reach::Site;
 use renumber::{Ranks, Sized};
 
 // The bytes of some bodies together, or that their renumbering fails.
-#[derive(Drop)]
+#[derive(Clone, Copy)]
 pub enum Measured {
     Failed,
     Total(usize),
 }
 
 // How bodies are written: the way, the bits of the globals, and whether the rows rise.
-#[derive(Drop)]
+#[derive(Clone, Copy)]
 pub struct Manner {
     pub way: u8,
     pub globals: Ranks,

@@ -20,14 +20,14 @@ use reach::Site;
 use renumber::{Ranks, Sized};
 
 // The subroutines of an INDEX: the globals, or the locals of an FD.
-#[derive(Drop)]
+#[derive(Clone, Copy)]
 pub enum Subrs {
     Global,
     Local(usize),
 }
 
 // Subroutines, and how they are written: the way, their INDEX, their bits, the bits of those that they call, and whether the rows rise.
-#[derive(Drop)]
+#[derive(Clone, Copy)]
 pub struct Source {
     pub way: u8,
     pub of: Subrs,

@@ -25,7 +25,7 @@ use parts::plan_all;
 use refusal::Refusal;
 
 // The own strings of a subset, and what it has of an encoding.
-#[derive(Drop)]
+#[derive(Clone, Copy)]
 pub struct Names {
     pub own: Own,
     pub encoding: Encoding,

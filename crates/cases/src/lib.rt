@@ -9,7 +9,7 @@ ghost use Rattle.std.specs.Prelude.{◌≡◌};
 ghost use Rattle.octets.specs.Pick.{pick};
 
 // The answer's bytes stand at the start of the lent slice, so many; or the input is outside the kind's domain.
-#[derive(Drop)]
+#[derive(Clone, Copy)]
 pub enum Answered {
     Bytes(usize),
     Outside,

@@ -16,7 +16,7 @@ use index::{Index, IndexAt};
 use refusal::Refusal;
 
 // What reading the encoding finds: a refusal, or where it stands: 0 is the standard one and 1 the expert one.
-#[derive(Drop)]
+#[derive(Clone, Copy)]
 pub enum EncodingAt {
     Refused(u8),
     Found(usize),
@@ -24,7 +24,7 @@ pub enum EncodingAt {
 
 // The font dictionaries of a font. Of a CID-keyed font: the DICTs of its FDs, and its FDSelect. Of a name-keyed one: its Private DICT, and
 // its encoding. And how many words a bit for each local subroutine takes, of all Private DICTs together.
-#[derive(Drop)]
+#[derive(Clone, Copy)]
 pub struct Parts {
     pub dicts: Index,
     pub private: PrivateAt,
@@ -34,14 +34,14 @@ pub struct Parts {
 }
 
 // What reading them finds: a refusal, or the parts.
-#[derive(Drop)]
+#[derive(Clone, Copy)]
 pub enum PartsRead {
     Refused(u8),
     Found(Parts),
 }
 
 // A font, by positions: where its table starts in the file and how long it is, from where all other positions count; whether it is CID-keyed, its top DICT, its INDEXes, the ids of its glyphs, its font dictionaries and its encoding; and how many words the bits of its local subroutines take.
-#[derive(Drop)]
+#[derive(Clone, Copy)]
 pub struct Font {
     pub start: usize,
     pub len: usize,
@@ -60,7 +60,7 @@ pub struct Font {
 }
 
 // What reading a font finds: a refusal, or the font.
-#[derive(Drop)]
+#[derive(Clone, Copy)]
 pub enum FontRead {
     Refused(u8),
     Found(Font),

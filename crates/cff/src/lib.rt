@@ -6,7 +6,7 @@ pub mod private;
 pub mod set;
 
 // What reading answers of a font: how many glyphs, global subroutines and strings, whether it is CID-keyed, and the work words a cut takes.
-#[derive(Drop)]
+#[derive(Clone, Copy)]
 pub struct Counts {
     pub glyphs: usize,
     pub globals: usize,
@@ -16,14 +16,14 @@ pub struct Counts {
 }
 
 // The answer of reading.
-#[derive(Drop)]
+#[derive(Clone, Copy)]
 pub enum ReadAs {
     Refused(u8),
     Font(Counts),
 }
 
 // The answer of finding.
-#[derive(Drop)]
+#[derive(Clone, Copy)]
 pub enum FoundAs {
     Refused(u8),
     Absent,
@@ -31,7 +31,7 @@ pub enum FoundAs {
 }
 
 // The INDEXes that items are asked of.
-#[derive(Drop)]
+#[derive(Clone, Copy)]
 pub enum ItemKind {
     Charstring,
     Global,

@@ -14,7 +14,7 @@ use index::{Index, IndexAt};
 use refusal::Refusal;
 
 // A Private DICT in a font: where it starts, its bytes, and its local subroutines.
-#[derive(Drop)]
+#[derive(Clone, Copy)]
 pub struct PrivateAt {
     pub start: usize,
     pub size: usize,
@@ -22,14 +22,14 @@ pub struct PrivateAt {
 }
 
 // What reading a Private DICT finds: a refusal, or the Private DICT.
-#[derive(Drop)]
+#[derive(Clone, Copy)]
 pub enum PrivateRead {
     Refused(u8),
     Found(PrivateAt),
 }
 
 // A Private DICT that was read, by its size and offset: how many words a bit for each of its local subroutines takes, and the place where it is remembered.
-#[derive(Drop)]
+#[derive(Clone, Copy)]
 pub struct SeenPrivate {
     pub size: usize,
     pub offset: usize,
@@ -38,14 +38,14 @@ pub struct SeenPrivate {
 }
 
 // What reading the Private DICT of the next FD finds: a refusal, or that Private DICT.
-#[derive(Drop)]
+#[derive(Clone, Copy)]
 pub enum NextPrivate {
     Refused(u8),
     Read(SeenPrivate),
 }
 
 // What reading the Private DICTs of all FDs finds: a refusal, or how many words the bits of their local subroutines take together, each rounded up.
-#[derive(Drop)]
+#[derive(Clone, Copy)]
 pub enum LocalsRead {
     Refused(u8),
     Total(usize),

@@ -8,7 +8,7 @@ use refusal::Refusal;
 
 // An FDSelect of a font: `count` ranges, the first of which starts at glyph `first`. Their entries stand from `at` on, an FD and a number of
 // `wide` bytes that says where the range ends: 2 in format 3; 0 in format 0, where each range is one glyph.
-#[derive(Drop)]
+#[derive(Clone, Copy)]
 pub struct FdSelect {
     pub count: usize,
     pub first: usize,
@@ -17,14 +17,14 @@ pub struct FdSelect {
 }
 
 // What reading an FDSelect finds: a refusal, 1 truncated or 2 malformed, or the FDSelect.
-#[derive(Drop)]
+#[derive(Clone, Copy)]
 pub enum FdSelectAt {
     Refused(u8),
     Found(FdSelect),
 }
 
 // A place before a glyph: the FD of the range under way, where that range ends, and the ranges behind it.
-#[derive(Drop)]
+#[derive(Clone, Copy)]
 pub struct FdCursor {
     pub gid: usize,
     pub fd: u8,
@@ -35,7 +35,7 @@ pub struct FdCursor {
 }
 
 // A glyph's FD, and the cursor behind the glyph.
-#[derive(Drop)]
+#[derive(Clone, Copy)]
 pub struct FdStep {
     pub fd: u8,
     pub next: FdCursor,

@@ -5,7 +5,7 @@ ghost use Rattle.charset.specs.FdWriter.{writer_of, pushed, pushed_bytes, CanCou
 
 // An FDSelect under way: where it starts, the FD of the last glyph (256 before the first), how many ranges there are so far, where the next
 // one goes, and how many glyphs there were.
-#[derive(Drop)]
+#[derive(Clone, Copy)]
 pub struct FdSelectWriter {
     pub start: usize,
     pub last: usize,

@@ -15,7 +15,7 @@ use refusal::Refusal;
 
 // A charset of a font: the first `own` glyphs have their own numbers as ids, glyph 0 alone where there is a table, all of them where the
 // charset is the predefined one; the others stand in ranges from `at` on, whose nLeft has `width` bytes.
-#[derive(Drop)]
+#[derive(Clone, Copy)]
 pub struct Charset {
     pub own: usize,
     pub width: usize,
@@ -23,14 +23,14 @@ pub struct Charset {
 }
 
 // What reading a charset finds: a refusal, 1 truncated or 2 malformed, or the charset.
-#[derive(Drop)]
+#[derive(Clone, Copy)]
 pub enum CharsetAt {
     Refused(u8),
     Found(Charset),
 }
 
 // A place between two glyphs: the range under way, with its next id and how many ids are left in it, and where the next range stands.
-#[derive(Drop)]
+#[derive(Clone, Copy)]
 pub struct CharsetCursor {
     pub id: usize,
     pub left: usize,
@@ -39,7 +39,7 @@ pub struct CharsetCursor {
 }
 
 // A glyph's id, and the cursor behind the glyph.
-#[derive(Drop)]
+#[derive(Clone, Copy)]
 pub struct IdStep {
     pub id: usize,
     pub next: CharsetCursor,

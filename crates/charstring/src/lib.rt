@@ -25,7 +25,7 @@ pub fn bias(count: usize) -> usize
 }
 
 // One unit of a charstring: a number, a one-byte operator, a two-byte operator, or the place of a hint mask's bytes.
-#[derive(Drop)]
+#[derive(Clone, Copy)]
 pub enum Token {
     Num(f32),
     Op(u8),
@@ -34,7 +34,7 @@ pub enum Token {
 }
 
 // A mask's length: as the reach record gives it for its place, or the body's own count.
-#[derive(Drop)]
+#[derive(Clone, Copy)]
 pub enum MaskLen {
     Own,
     Given(usize),
@@ -42,7 +42,7 @@ pub enum MaskLen {
 
 // Where reading a body stands: the next byte, the numbers since the last operator, the stems so far, and whether a mask is due,
 // its operator being the token just read.
-#[derive(Drop)]
+#[derive(Clone, Copy)]
 pub struct Cursor {
     pub at: usize,
     pub args: usize,
@@ -51,7 +51,7 @@ pub struct Cursor {
 }
 
 // The next token and where reading stands after it, or that the end cuts it off.
-#[derive(Drop)]
+#[derive(Clone, Copy)]
 pub enum Step {
     Tok { token: Token, next: Cursor },
     Lost,
@@ -277,7 +277,7 @@ pub fn given_at(pairs: &[u32], c: Cursor) -> MaskLen
 }
 
 // How long a body is once it is written back, or that the end cuts off a token.
-#[derive(Drop)]
+#[derive(Clone, Copy)]
 pub enum Measured {
     Unread,
     Length(usize),
@@ -328,7 +328,7 @@ fn put_body(code: &[u8], pairs: &[u32], out: &mut [u8], to: usize) -> usize
 }
 
 // What writing a body back comes to: a token that the end cuts off, no room, or the place after it.
-#[derive(Drop)]
+#[derive(Clone, Copy)]
 pub enum Recoded {
     Cut,
     Full,

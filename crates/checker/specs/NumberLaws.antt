@@ -54,7 +54,7 @@ pub limited_as : (p : Program) (a c : ℕ) (old new : List ℕ) → a ≡ c → 
 limited_as p a c old new e l = subst (λ (k : ℕ). Limited p k old new) e l
 
 -- how many local subroutines there are, by a Private DICT
-pub locals_many : (b : List ℕ) (p : Program) (fd : ℕ) (q : PrivateAt) → GoodPrivate b q × (reads.privateOf b q ≡ private_of p fd) → q.locals.count ≡ length (locals_of p fd)
+pub locals_many : (b : List ℕ) (p : Program) (fd : ℕ) (q : PrivateAt) → GoodPrivate b q × (reads.private_of b q ≡ private_of p fd) → q.locals.count ≡ length (locals_of p fd)
 locals_many b p fd q e = sym (items-length b q.locals) ∙ ap (λ (x : Private). length x.locals) e.1
 
 -- ---- the FDs of the marked glyphs

@@ -15,7 +15,7 @@ use outcome::Prepared;
 use parts::Planned;
 
 // A cut and the places of its parts.
-#[derive(Drop)]
+#[derive(Clone, Copy)]
 pub struct PlacedCut {
     pub cut: Prepared,
     pub at: CidPlaces,

@@ -2,7 +2,7 @@
 #![tactic(auto)]
 
 // The answer: the refusal, the smallest glyph without which the traced subset is renumbered, or none.
-#[derive(Drop)]
+#[derive(Clone, Copy)]
 pub enum Culprit {
     Refused(u8),
     None,

@@ -15,7 +15,7 @@ use octets::wide;
 use refusal::Refusal;
 
 // ± digits × 10 ^ up / 10 ^ down; normalised, so that two equal numbers are one value.
-#[derive(Drop)]
+#[derive(Clone, Copy)]
 pub struct Decimal {
     pub neg: bool,
     pub digits: usize,
@@ -24,7 +24,7 @@ pub struct Decimal {
 }
 
 // What stands at a position of a DICT: a refusal's number, no number, or a number and the position after it.
-#[derive(Drop)]
+#[derive(Clone, Copy)]
 pub enum NumberAt {
     Refused(u8),
     NotNumber,
@@ -32,7 +32,7 @@ pub enum NumberAt {
 }
 
 // Where the number at a position of a DICT ends: a refusal's number, no number, or the position after it.
-#[derive(Drop)]
+#[derive(Clone, Copy)]
 pub enum PastAt {
     Refused(u8),
     NotNumber,
@@ -40,28 +40,28 @@ pub enum PastAt {
 }
 
 // A number cut to 32 bits: its sign and its size.
-#[derive(Drop)]
+#[derive(Clone, Copy)]
 pub struct Signed {
     pub neg: bool,
     pub size: usize,
 }
 
 // A string id, or that the number is none.
-#[derive(Drop)]
+#[derive(Clone, Copy)]
 pub enum IdOf {
     Id(usize),
     Absent,
 }
 
 // An offset, or the refusal's number.
-#[derive(Drop)]
+#[derive(Clone, Copy)]
 pub enum OffsetOf {
     Refused(u8),
     Offset(usize),
 }
 
 // The digits of a real so far: without the zeros at their end, how many zeros that were, and how many digits stand behind the point.
-#[derive(Drop)]
+#[derive(Clone, Copy)]
 struct Held {
     pub neg: bool,
     pub digits: usize,
@@ -70,7 +70,7 @@ struct Held {
 }
 
 // How far the text of a real was read.
-#[derive(Drop)]
+#[derive(Clone, Copy)]
 enum Stage {
     Start,
     Mantissa {

@@ -20,7 +20,7 @@ use octets::wide;
 use refusal::Refusal;
 
 // What stands at a position of a DICT: a refusal's number, an operand, or an operator, with the position after it.
-#[derive(Drop)]
+#[derive(Clone, Copy)]
 pub enum TokenAt {
     Refused(u8),
     Operand(usize),
@@ -29,7 +29,7 @@ pub enum TokenAt {
 
 // The entry at a position: a refusal's number; or its operator, where that stands, how many operands are before it, and the position
 // after it.
-#[derive(Drop)]
+#[derive(Clone, Copy)]
 pub enum EntryAt {
     Refused(u8),
     Entry {
@@ -41,7 +41,7 @@ pub enum EntryAt {
 }
 
 // Where the operands of the last entry of an operator stand, and how many they are.
-#[derive(Drop)]
+#[derive(Clone, Copy)]
 pub enum Found {
     Absent,
     Entry { start: usize, count: usize },
@@ -50,7 +50,7 @@ pub enum Found {
 // Where the last entries that reading asks for stand, or those that subsetting asks for, each in the slot of its operator, with one more than its operands
 // are: 0 where there is no such entry. The slot behind is for all other operators. Where nothing was noted, an entry is found by a pass of its own. And the
 // DICT's refusal, or 0.
-#[derive(Drop)]
+#[derive(Clone, Copy)]
 pub struct Places {
     pub refusal: u8,
     pub noted: bool,
@@ -60,14 +60,14 @@ pub struct Places {
 }
 
 // The one operand of an entry.
-#[derive(Drop)]
+#[derive(Clone, Copy)]
 pub enum One {
     Absent,
     Number(Decimal),
 }
 
 // An entry that is an offset: not there, a refusal's number, or the offset.
-#[derive(Drop)]
+#[derive(Clone, Copy)]
 pub enum OffsetIn {
     Absent,
     Refused(u8),
@@ -75,7 +75,7 @@ pub enum OffsetIn {
 }
 
 // A Private entry: not there, a refusal's number, or where the Private DICT is.
-#[derive(Drop)]
+#[derive(Clone, Copy)]
 pub enum PrivateIn {
     Absent,
     Refused(u8),
@@ -83,7 +83,7 @@ pub enum PrivateIn {
 }
 
 // A ROS entry: two string ids and a number, or none that can be used.
-#[derive(Drop)]
+#[derive(Clone, Copy)]
 pub enum RosIn {
     None,
     Ros {

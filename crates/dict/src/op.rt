@@ -4,7 +4,7 @@ ghost use Rattle.dict.specs.Op.{copied_top_entries, copied_top_strings};
 ghost use Rattle.dict.specs.Noted.{asked_by_reading, asked_by_subsetting, asked, slot_of};
 
 // The operators that reader and writer name: the byte of a one-byte operator, or 3072 + e for the escape `12 e`.
-#[derive(Drop)]
+#[derive(Clone, Copy)]
 pub struct Op;
 
 impl Op {

@@ -14,7 +14,7 @@ ghost use Rattle.encoding.specs.Encoded.{pair_in, pairs_in, coded_in, Encodes, e
 use order_window::Order;
 
 // What a subset has: kind 0 no encoding, 1 the Expert one, 2 the pairs of a table; and how many pairs.
-#[derive(Drop)]
+#[derive(Clone, Copy)]
 pub struct Encoding {
     pub kind: usize,
     pub pairs: usize,

@@ -58,7 +58,7 @@ dicts-count : (p : Program) (at : ℕ) (used : List ℕ) (lss : List (List (List
 unfolding font_dicts
 dicts-count p at [] lss same = refl
 dicts-count p at (f ∷ fs) [] same = absurd (omega arith)
-dicts-count p at (f ∷ fs) (ls ∷ lss) same = ap suc (dicts-count p _ fs lss (omega arith))
+dicts-count p at (f ∷ fs) (ls ∷ lss) same = ap suc (dicts-count p (at + length (private_part (private_of p f) ls)) fs lss (omega arith))
 
 -- of eleven bytes and its FontMatrix, wherever its Private DICT stands
 unfoldable matrices_len : Program → List ℕ → ℕ

@@ -30,7 +30,7 @@ use Rattle.fds.specs.UsedLaws.{used-next, unused_next, locals-last, bits_last, n
 -- ---- one FD
 
 -- how many locals a Private DICT has
-pub locals-count : (b : List ℕ) (q : PrivateAt) (x : Private) → GoodPrivate b q × (reads.privateOf b q ≡ x) → (q.locals.count ≡ length x.locals) × (q.locals.count < 65536)
+pub locals-count : (b : List ℕ) (q : PrivateAt) (x : Private) → GoodPrivate b q × (reads.private_of b q ≡ x) → (q.locals.count ≡ length x.locals) × (q.locals.count < 65536)
 locals-count b q x h = (sym (items-length b q.locals) ∙ ap (λ (y : Private). length y.locals) h.1, h.0.locals.few)
 
 -- the locals of a font take few words

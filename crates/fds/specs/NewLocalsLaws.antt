@@ -70,7 +70,7 @@ module _ {A : Type 0} (f : ℕ → Option A) where
 -- ---- one FD
 
 module _ (way : ℕ) (b : List ℕ) (p : Program) (rows : List Row) (ws : List ℕ) (own globals : Ranks) (rising : Bool) (f : ℕ)
-    (w : FdIn b p ws own globals rows rising f) (q : PrivateAt) (g : GoodPrivate b q × (reads.privateOf b q ≡ private_of p f)) where
+    (w : FdIn b p ws own globals rows rising f) (q : PrivateAt) (g : GoodPrivate b q × (reads.private_of b q ≡ private_of p f)) where
   -- the INDEX of the Private DICT holds its local subroutines
   pub subrs_in : SubrsIn b ws q.locals own own globals rows rising (Local f)
   subrs_in =

@@ -59,7 +59,7 @@ module _ (x : Private) (ls : List (List ℕ)) (left : ℕ) (many : left ≡ leng
 -- ---- one FD
 
 module _ (way : ℕ) (b : List ℕ) (p : Program) (rows : List Row) (ws : List ℕ) (own globals : Ranks) (rising : Bool) (f : ℕ)
-    (w : FdIn b p ws own globals rows rising f) (q : PrivateAt) (g : GoodPrivate b q × (reads.privateOf b q ≡ private_of p f))
+    (w : FdIn b p ws own globals rows rising f) (q : PrivateAt) (g : GoodPrivate b q × (reads.private_of b q ≡ private_of p f))
     (sum at room : ℕ) (r : PartRoom way p rows ws own globals sum at room f) where
   abbrev new : List (List ℕ)
   new = new_with way p rows ws own globals f
@@ -86,17 +86,17 @@ module _ (way : ℕ) (b : List ℕ) (p : Program) (rows : List Row) (ws : List �
     many : left ≡ length new
     many = l ∙ new_many
 
-    dict-same : private_dict_by (reads.privateOf b q).entries left ≡ private_dict_by (private_of p f).entries left
+    dict-same : private_dict_by (reads.private_of b q).entries left ≡ private_dict_by (private_of p f).entries left
     dict-same = ap (λ (y : Private). private_dict_by y.entries left) g.1
 
-    pub dict-asked : (length (private_dict_by (reads.privateOf b q).entries left) < 2147483648)
-        × (at + length (private_dict_by (reads.privateOf b q).entries left) ≤ room)
+    pub dict-asked : (length (private_dict_by (reads.private_of b q).entries left) < 2147483648)
+        × (at + length (private_dict_by (reads.private_of b q).entries left) ≤ room)
     dict-asked =
         let d = dict-within (private_of p f) new left many in
         let e = ap length dict-same in
         (omega (arith, r.few), omega (arith, r.fits))
 
-    module _ (old mid : List ℕ) (to : ℕ) (o : room ≡ length old) (v : Wrote old at (private_dict_by (reads.privateOf b q).entries left) mid to) where
+    module _ (old mid : List ℕ) (to : ℕ) (o : room ≡ length old) (v : Wrote old at (private_dict_by (reads.private_of b q).entries left) mid to) where
       pub part_none : left ≡ 0 → Wrote old at (part_with way p rows ws own globals f) mid to
       part_none e = wrote_as v (dict-same ∙ none-bytes (private_of p f) new left many e)
 
@@ -111,7 +111,7 @@ module _ (way : ℕ) (b : List ℕ) (p : Program) (rows : List Row) (ws : List �
             let s = some-length (private_of p f) new left many n in
             let t = total-within new in
             let d = ap length dict-same in
-            let k : at + length (private_dict_by (reads.privateOf b q).entries left) ≤ length old = omega (arith, r.fits) in
+            let k : at + length (private_dict_by (reads.private_of b q).entries left) ≤ length old = omega (arith, r.fits) in
             let i = ap (λ (x : List (List ℕ)). length (index_bytes x)) same_new in
             record {
               done = in_index;

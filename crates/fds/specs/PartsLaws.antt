@@ -56,7 +56,7 @@ subrs-few left t h =
 
 -- ---- one FD
 
-dict-few : (b : List ℕ) → Octets b → length b ≤ 67108864 → (q : PrivateAt) (x : Private) → GoodPrivate b q × (reads.privateOf b q ≡ x)
+dict-few : (b : List ℕ) → Octets b → length b ≤ 67108864 → (q : PrivateAt) (x : Private) → GoodPrivate b q × (reads.private_of b q ≡ x)
     → (left : ℕ) → length (private_dict_by x.entries left) ≤ 6912212998
 dict-few b o h q x g left =
     let d = part_of b q.start q.size in
@@ -66,8 +66,8 @@ dict-few b o h q x g left =
     let m : length (private_dict_by x.entries left) ≡ length (private_dict_by (entries_of d) left) = ap length e in
     by_number left 0 (λ z. omega (arith, none-length (entries_of d) left z)) (λ n. omega (arith, some-length (entries_of d) left n))
 
-pub fd-dict : (b : List ℕ) → Octets b → length b ≤ 67108864 → (q : PrivateAt) (x : Private) → GoodPrivate b q × (reads.privateOf b q ≡ x)
-    → (left r : ℕ) → r ≡ length (private_dict_by (reads.privateOf b q).entries left) → (r ≡ length (private_dict_by x.entries left)) × (r ≤ 6912212998)
+pub fd-dict : (b : List ℕ) → Octets b → length b ≤ 67108864 → (q : PrivateAt) (x : Private) → GoodPrivate b q × (reads.private_of b q ≡ x)
+    → (left r : ℕ) → r ≡ length (private_dict_by (reads.private_of b q).entries left) → (r ≡ length (private_dict_by x.entries left)) × (r ≤ 6912212998)
 fd-dict b o h q x g left r e =
     let k : r ≡ length (private_dict_by x.entries left) = e ∙ ap (λ (y : Private). length (private_dict_by y.entries left)) g.1 in
     (k, omega (arith, dict-few b o h q x g left))

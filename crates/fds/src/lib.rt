@@ -20,7 +20,7 @@ use cff::font::Font;
 use renumber::Ranks;
 
 // The bits of the local subroutines of an FD, and whether the record has no other number.
-#[derive(Drop)]
+#[derive(Clone, Copy)]
 pub struct RankedLocals {
     pub own: Ranks,
     pub all: bool,

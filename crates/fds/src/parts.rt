@@ -8,7 +8,7 @@ ghost use Rattle.fds.specs.Parts.{left_in, subrs_len, dict_len, part_by, PartsFi
 use cff::font::Font;
 
 // The size of a Private DICT, and the length of the part that it and its local subroutines make.
-#[derive(Drop)]
+#[derive(Clone, Copy)]
 pub struct Part {
     pub size: usize,
     pub len: usize,

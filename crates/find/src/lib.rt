@@ -14,7 +14,7 @@ use index::Index;
 use strings::Sid;
 
 // Which glyph it is, or that no glyph has the name or CID.
-#[derive(Drop)]
+#[derive(Clone, Copy)]
 pub enum Found {
     Absent,
     Glyph(usize),

@@ -31,7 +31,7 @@ use index::Index;
 const LOOKS: usize = 17;
 
 // What a pass tells: whether all glyphs are found, or that it looked too often to say.
-#[derive(Drop)]
+#[derive(Clone, Copy)]
 pub enum Told {
     Yes,
     No,

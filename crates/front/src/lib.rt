@@ -94,7 +94,7 @@ fn put_names(name: &[u8], total: usize, out: &mut [u8]) -> usize
 
 // Where charset, charstrings and Private of a name-keyed subset stand, the Encoding's offset, which is 0 for none, the size of the Private DICT,
 // and the length of the subset.
-#[derive(Drop)]
+#[derive(Clone, Copy)]
 pub struct NamedPlaces {
     pub charset: usize,
     pub encoding: usize,
@@ -145,7 +145,7 @@ pub fn put_front_named(
 }
 
 // Where charset, FDSelect, charstrings, the FD INDEX and the Private parts of a CID-keyed subset stand; and where all ends.
-#[derive(Drop)]
+#[derive(Clone, Copy)]
 pub struct CidPlaces {
     pub charset: usize,
     pub select: usize,

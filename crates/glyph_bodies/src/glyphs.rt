@@ -19,14 +19,14 @@ use reach::Site;
 use renumber::Sized;
 
 // The charstrings of a font, and how they are written.
-#[derive(Drop)]
+#[derive(Clone, Copy)]
 pub struct Source {
     pub how: Manner,
     pub ix: Index,
 }
 
 // A glyph, and its FD.
-#[derive(Drop)]
+#[derive(Clone, Copy)]
 pub struct Glyph {
     pub number: usize,
     pub fd: usize,

@@ -9,7 +9,7 @@ ghost use Rattle.hexlines.specs.Hexlines.{hex_value_lem, line_end, field_end_lem
 
 // What unhexing comes to: Done with the place behind the bytes written; Bad for an odd count of digits, a byte that is no
 // digit, or no room.
-#[derive(Drop)]
+#[derive(Clone, Copy)]
 pub enum Unhexed {
     Done(usize),
     Bad,

@@ -13,7 +13,7 @@ ghost use Rattle.index.specs.Begun.{WroteItem, end_place};
 use refusal::Refusal;
 
 // An INDEX in a font: how many items, the bytes of an offset, where the offsets stand, the byte before the data, and the end.
-#[derive(Drop)]
+#[derive(Clone, Copy)]
 pub struct Index {
     pub count: usize,
     pub size: usize,
@@ -23,14 +23,14 @@ pub struct Index {
 }
 
 // What reading an INDEX finds: a refusal, 1 truncated or 2 malformed; or the INDEX.
-#[derive(Drop)]
+#[derive(Clone, Copy)]
 pub enum IndexAt {
     Refused(u8),
     Found(Index),
 }
 
 // A run of offsets: the refusal of its first bad pair, or its last offset.
-#[derive(Drop)]
+#[derive(Clone, Copy)]
 pub enum Run {
     Bad(u8),
     Last(usize),

@@ -16,7 +16,7 @@ use row_window::note;
 use turns::{Counts, Turn, turn_at};
 
 // The subroutines that a glyph can call: the global ones, and the local ones of its FD.
-#[derive(Drop)]
+#[derive(Clone, Copy)]
 pub struct Subrs {
     pub globals: Index,
     pub locals: Index,
@@ -24,14 +24,14 @@ pub struct Subrs {
 }
 
 // The keys from low up to high, which is not among them.
-#[derive(Drop)]
+#[derive(Clone, Copy)]
 pub struct Range {
     pub low: u64,
     pub high: u64,
 }
 
 // The body that runs: a glyph's charstring, a local or a global subroutine.
-#[derive(Drop)]
+#[derive(Clone, Copy)]
 pub enum Site {
     Glyph(usize),
     Local { fd: usize, number: usize },
@@ -39,7 +39,7 @@ pub enum Site {
 }
 
 // How a body's run ends: in what is not plain, by return with the counts then, or by endchar; and how many keys the window has.
-#[derive(Drop)]
+#[derive(Clone, Copy)]
 pub enum Ran {
     Broken,
     Returned(Counts, usize),
@@ -47,7 +47,7 @@ pub enum Ran {
 }
 
 // Whether a glyph is plain, and how many keys the window has then. Of a window after a glyph that is not plain nothing is said.
-#[derive(Drop)]
+#[derive(Clone, Copy)]
 pub enum Met {
     NotPlain,
     Plain(usize),

@@ -19,7 +19,7 @@ use order_window::Order;
 use own_strings::Own;
 
 // A String INDEX that was begun: where its parts stand, how many strings are written, and the place of the next.
-#[derive(Drop)]
+#[derive(Clone, Copy)]
 pub struct Started {
     pub ix: Index,
     pub count: usize,

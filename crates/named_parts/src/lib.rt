@@ -18,14 +18,14 @@ use outcome::Prepared;
 use parts::{Planned, globals_len, glyphs_len, put_globals};
 
 // A cut, and what its subset has of an encoding.
-#[derive(Drop)]
+#[derive(Clone, Copy)]
 pub struct CodedCut {
     pub cut: Prepared,
     pub encoding: Encoding,
 }
 
 // A cut and the places of its parts.
-#[derive(Drop)]
+#[derive(Clone, Copy)]
 pub struct PlacedCut {
     pub cut: Prepared,
     pub encoding: Encoding,

@@ -14,7 +14,7 @@ const OTTO: usize = 0x4f54544f;
 const CFF_TAG: usize = 0x43464620;
 
 // Where the font stands in a file: a refusal, or the start and the length of its table.
-#[derive(Drop)]
+#[derive(Clone, Copy)]
 pub enum Place {
     Refused(u8),
     Table { start: usize, len: usize },

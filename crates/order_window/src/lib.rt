@@ -17,7 +17,7 @@ use cff::font::Font;
 use order::Walk;
 
 // What a window holds: the words of the order from place `from` on, up to where a walk stands.
-#[derive(Drop)]
+#[derive(Clone, Copy)]
 pub struct Held {
     pub walk: Walk,
     pub from: usize,
@@ -25,7 +25,7 @@ pub struct Held {
 
 // The kept glyphs of a font in their order: the font as it was read, how many they are, and what the window holds where no loop is under way: all
 // of them, or nothing.
-#[derive(Drop)]
+#[derive(Clone, Copy)]
 pub struct Order {
     pub f: Font,
     pub count: usize,

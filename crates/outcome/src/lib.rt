@@ -6,14 +6,14 @@ use own_strings::Own;
 use parts::Planned;
 
 // The answer of a cut: the refusal, or the way (0 renumbered, 1 stubbed, 2 copied) and the length of the subset.
-#[derive(Drop)]
+#[derive(Clone, Copy)]
 pub enum Answer {
     Refused(u8),
     Subset { way: u8, len: usize },
 }
 
 // What is prepared of a cut: the plan of its bodies, its own strings, and how many FDs are in use.
-#[derive(Drop)]
+#[derive(Clone, Copy)]
 pub struct Prepared {
     pub plan: Planned,
     pub own: Own,

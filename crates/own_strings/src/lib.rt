@@ -21,7 +21,7 @@ use index::Index;
 use strings::Sid;
 
 // How many own strings there are, and their bytes together.
-#[derive(Drop)]
+#[derive(Clone, Copy)]
 pub struct Own {
     pub count: usize,
     pub total: usize,

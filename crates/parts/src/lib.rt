@@ -18,7 +18,7 @@ use bodies::subrs::{Source, Subrs};
 use order_window::Order;
 
 // The kept glyphs, how bodies are written by the way that was found, and the bytes of the globals and of the charstrings by it.
-#[derive(Drop)]
+#[derive(Clone, Copy)]
 pub struct Planned {
     pub order: Order,
     pub how: Manner,

@@ -21,7 +21,7 @@ use order_window::Order;
 use renumber::Ranks;
 
 // Where the bits of the globals stand; whether the record has no number without a subroutine.
-#[derive(Drop)]
+#[derive(Clone, Copy)]
 pub struct RankedAll {
     pub globals: Ranks,
     pub all: bool,
@@ -62,7 +62,7 @@ pub fn rank_all(
 }
 
 // The way (0 renumbered, 1 stubbed, 2 copied), and the bytes of the globals and of the charstrings.
-#[derive(Drop)]
+#[derive(Clone, Copy)]
 pub struct Plan {
     pub way: u8,
     pub globals_total: usize,

@@ -15,7 +15,7 @@ use order_window::Order;
 use renumber::Ranks;
 
 // Whether no part fails, and then the bytes of the globals and of the charstrings.
-#[derive(Drop)]
+#[derive(Clone, Copy)]
 pub struct Measures {
     pub all: bool,
     pub globals: usize,

@@ -75,7 +75,7 @@ module _ (b d : List ℕ) (f : FdRead b d) where
         let q : refused n ≡ got f.private = sym g ∙ named in
         no (let z : ◌≡◌ {A = ℕ} 0 1 = cc in z)
 
-    pub fd-found : (q : PrivateAt) → r ≡ FoundPrivate q → GoodPrivate b q × (got (reads.privateOf b q) ≡ fd_private b d)
+    pub fd-found : (q : PrivateAt) → r ≡ FoundPrivate q → GoodPrivate b q × (got (reads.private_of b q) ≡ fd_private b d)
     fd-found q e =
         let g = subst (ReadsPrivate b (private_at b (private_in (entries_of d)))) e h in
         (g.0, sym g.1 ∙ named ∙ sym f.is)
@@ -98,18 +98,18 @@ module _ (b : List ℕ) (f : Font) (g : GoodFont b f) (fd : ℕ) (h : fd < lengt
     pub fd-read : (d : List ℕ) → d ≡ get_or (items_of b f.dicts) fd [] → FdRead b d
     fd-read d e = record { private = private_of (program_of b f) fd; is = ap (fd_private b) e ∙ fd_is }
 
-    pub fd-answer : (d : List ℕ) → d ≡ get_or (items_of b f.dicts) fd [] → (q : PrivateAt) → GoodPrivate b q × (got (reads.privateOf b q) ≡ fd_private b d)
-        → GoodPrivate b q × (reads.privateOf b q ≡ private_of (program_of b f) fd)
-    fd-answer d e q r = (r.0, got_same (reads.privateOf b q) (private_of (program_of b f) fd) (r.1 ∙ ap (fd_private b) e ∙ fd_is))
+    pub fd-answer : (d : List ℕ) → d ≡ get_or (items_of b f.dicts) fd [] → (q : PrivateAt) → GoodPrivate b q × (got (reads.private_of b q) ≡ fd_private b d)
+        → GoodPrivate b q × (reads.private_of b q ≡ private_of (program_of b f) fd)
+    fd-answer d e q r = (r.0, got_same (reads.private_of b q) (private_of (program_of b f) fd) (r.1 ∙ ap (fd_private b) e ∙ fd_is))
 
   -- in a name-keyed one
   only_one : (cid : Bool) → cid ≡ false → (n : ℕ) → n < length (privates_of b cid f.dicts f.private)
-      → reads.privateOf b f.private ≡ get_or (privates_of b cid f.dicts f.private) n empty_private
+      → reads.private_of b f.private ≡ get_or (privates_of b cid f.dicts f.private) n empty_private
   only_one true e n k = absurd (true≢false e)
   only_one false e zero k = refl
   only_one false e (suc n) k = absurd (no (omega arith))
 
-  pub fd-one : f.cid ≡ false → GoodPrivate b f.private × (reads.privateOf b f.private ≡ private_of (program_of b f) fd)
+  pub fd-one : f.cid ≡ false → GoodPrivate b f.private × (reads.private_of b f.private ≡ private_of (program_of b f) fd)
   fd-one c = (g.parts.private, only_one f.cid c fd h)
 
 -- ---- a Private DICT that is written

@@ -10,7 +10,7 @@ ghost use Rattle.record.specs.Record.{takes_fd, row_fine_lem, rows_fine_lem, row
 ghost use Rattle.reach.specs.Reach.{row_in, row_no, Fits, fd_fine, mask_fine};
 
 // A row of a record: its five numbers.
-#[derive(Drop)]
+#[derive(Clone, Copy)]
 pub struct Row {
     pub kind: usize,
     pub fd: usize,
@@ -20,7 +20,7 @@ pub struct Row {
 }
 
 // A body that the record speaks of.
-#[derive(Drop)]
+#[derive(Clone, Copy)]
 pub enum Site {
     Glyph(usize),
     Local { fd: usize, number: usize },

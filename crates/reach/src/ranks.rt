@@ -10,7 +10,7 @@ ghost use Rattle.reach.specs.Ranks.{tells, mark_row, marked, past_row, past_of, 
 use crate::Row;
 
 // How many of some subroutines are reached, whether the record has no other number, and how many are reached below each eighth of their words.
-#[derive(Drop)]
+#[derive(Clone, Copy)]
 pub struct Ranked {
     pub reached: usize,
     pub all: bool,

@@ -103,7 +103,7 @@ pub fn part(src: &[u8], at: usize, n: usize) -> &[u8]
 }
 
 // What is read of a font's header: its major version, and how long it is.
-#[derive(Drop)]
+#[derive(Clone, Copy)]
 pub struct Header {
     pub major: usize,
     pub size: usize,

@@ -8,7 +8,7 @@ use Rattle.std.proofs.lemmas.Bool.{false≢true}
 use Rattle.std.proofs.Math.Decide.{dec_lt, dec_le}
 use native.Mathlib.Omega.{arith}
 use Rattle.std.proofs.Math.ListN.{get_or}
-use borrow.Author.Tests.{ltb-true, ltb-false, eqb-true, eqb-false, not_true, not-false, lt-ltb, le-ltb, le-leb, lt-leb, eq-eqb, ne_eqb}
+use borrow.Author.Tests.{ltb-true, ltb-false, eqb-true, eqb-false, not-true, not-false, lt-ltb, le-ltb, le-leb, lt-leb, eq-eqb, ne_eqb}
 use Rattle.octets.specs.Pick.{pick}
 use Rattle.octets.specs.Octets.{Octets, bytes_of}
 use Rattle.type2_number.specs.Number.{whole, sixteen, fixed, number, number_at, Reading}
@@ -228,7 +228,7 @@ operates_told v e = go (ltb v 32) refl
     go : (a : Bool) → ltb v 32 ≡ a → OperatorByte v
     go false p = absurd (false≢true (sym (ap (λ (t : Bool). pick t (not (eqb v 28)) false) p) ∙ e))
     go true p =
-        let f : eqb v 28 ≡ false = not_true _ (sym (ap (λ (t : Bool). pick t (not (eqb v 28)) false) p) ∙ e) in
+        let f : eqb v 28 ≡ false = not-true _ (sym (ap (λ (t : Bool). pick t (not (eqb v 28)) false) p) ∙ e) in
         record { low = ltb-true v 32 p; other = eqb-false v 28 f }
 
 three_facts : (n : ℕ) → is_three_lem n ≡ true → (1131 < n) × (n ≡ 32768 → ⊥) × (n < 64405)

@@ -10,7 +10,7 @@ use charstring::{Cursor, Token};
 
 // Where the bits of some subroutines stand in the work words, how many subroutines there are, and how many of them are reached: all of them,
 // and those below each eighth of the words (16 bits each, four to a number).
-#[derive(Drop)]
+#[derive(Clone, Copy)]
 pub struct Ranks {
     pub at: usize,
     pub count: usize,
@@ -20,7 +20,7 @@ pub struct Ranks {
 }
 
 // A token of a body read: the renumbering fails there, or the number that is written just before it, the token, and where reading stands.
-#[derive(Drop)]
+#[derive(Clone, Copy)]
 pub enum Turned {
     Failed,
     On {
@@ -31,7 +31,7 @@ pub enum Turned {
 }
 
 // The length of a body renumbered, or that this fails.
-#[derive(Drop)]
+#[derive(Clone, Copy)]
 pub enum Sized {
     Failed,
     Len(usize),

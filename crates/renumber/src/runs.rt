@@ -10,7 +10,7 @@ use charstring::stems_after;
 use type2_number::{Number, read_number};
 
 // A run of plain tokens: where reading stands after it, and where its last number starts; that is the same place where it ends in an operator.
-#[derive(Drop)]
+#[derive(Clone, Copy)]
 pub struct Run {
     pub at: usize,
     pub last: usize,

@@ -79,14 +79,14 @@ fn rank_at(words: &[u32], q: Ranks, v: f32) -> usize
 }
 
 // A number token that was read and is not yet written, or none.
-#[derive(Drop)]
+#[derive(Clone, Copy)]
 pub enum Held {
     Nothing,
     Number(f32),
 }
 
 // What a token brings: the renumbering fails, or the number that is written just before the token.
-#[derive(Drop)]
+#[derive(Clone, Copy)]
 pub enum Turn {
     Stuck,
     Sends(Held),

@@ -9,14 +9,14 @@ ghost use Rattle.sheet.specs.Reading.{rows_after, part, FourLines, HeadIs, is_sh
 ghost use Rattle.sheet.specs.Taking.{Took};
 
 // The first four lines of a text: fewer, or the places where they end.
-#[derive(Drop)]
+#[derive(Clone, Copy)]
 pub enum Head {
     Short,
     Lines(usize, usize, usize, usize),
 }
 
 // Other input; or how many bytes the font and the name have, how many numbers are kept, how many bytes the record has, and the flag.
-#[derive(Drop)]
+#[derive(Clone, Copy)]
 pub enum SheetIn {
     Other,
     Parts(usize, usize, usize, usize, u8),

@@ -3,7 +3,7 @@ ghost use Rattle.std.specs.Prelude.{◌≡◌, List, ◌++◌, ℕ, ◌≤◌, l
 ghost use Rattle.sheet.specs.Taking.{next_mode, ends_empty, kept_of, Held, Took};
 
 // What was taken: how many bytes are in the buffer, 48,135 for too many, and where the next one stands. Both are 0 at the start.
-#[derive(Drop)]
+#[derive(Clone, Copy)]
 pub struct Taken {
     pub len: usize,
     pub mode: usize,

@@ -9,7 +9,7 @@ ghost use Rattle.sheet_read.specs.Program.{Goes, Prints};
 use libc::STDIN_FILENO;
 
 // What came of one read: it failed, the input is at its end, or more was taken: how many bytes are in the buffer now, and where the next one stands.
-#[derive(Drop)]
+#[derive(Clone, Copy)]
 enum Next {
     Failed,
     End,

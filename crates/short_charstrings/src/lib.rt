@@ -15,7 +15,7 @@ use refusal::Refusal;
 const CANDIDATES: usize = 16843009;
 
 // Where the next charstring stands among them: a refusal, behind all, or its place.
-#[derive(Drop)]
+#[derive(Clone, Copy)]
 pub enum Place {
     Refused(u8),
     Behind,
@@ -23,7 +23,7 @@ pub enum Place {
 }
 
 // What a call answers: a refusal, that none is left, or the length of the next charstring.
-#[derive(Drop)]
+#[derive(Clone, Copy)]
 pub enum NextAs {
     Refused(u8),
     NoneLeft,

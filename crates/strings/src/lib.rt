@@ -11,7 +11,7 @@ ghost use Rattle.strings.specs.Strings.{standard_text, standard_string, sid_of};
 pub mod table;
 
 // How a text stands to another in byte order.
-#[derive(Drop)]
+#[derive(Clone, Copy)]
 pub enum Order {
     Less,
     Same,
@@ -19,7 +19,7 @@ pub enum Order {
 }
 
 // The string id of a text: a standard one, or none of them.
-#[derive(Drop)]
+#[derive(Clone, Copy)]
 pub enum Sid {
     Standard(usize),
     Other,

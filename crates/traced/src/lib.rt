@@ -2,7 +2,7 @@
 #![tactic(auto)]
 
 // The answer of a trace: the refusal, or the flag and the length of the record.
-#[derive(Drop)]
+#[derive(Clone, Copy)]
 pub enum TracedAs {
     Refused(u8),
     Record { flag: u8, len: usize },

@@ -14,7 +14,7 @@ use charstring::{bias, is_mask};
 use type2_number::{Number, count_of, read_number};
 
 // What has run so far: operands waiting, stems, tokens and calls spent.
-#[derive(Drop)]
+#[derive(Clone, Copy)]
 pub struct Counts {
     pub args: usize,
     pub stems: usize,
@@ -23,7 +23,7 @@ pub struct Counts {
 
 // What a token brings, with the counts after it: what is not plain; a return; endchar; the next place, and where the number just before that
 // starts, or the place again where there is none; a mask of so many bytes; a call of a global (true) or a local subroutine, by its number.
-#[derive(Drop)]
+#[derive(Clone, Copy)]
 pub enum Turn {
     Breaks,
     Returns(Counts),
@@ -34,7 +34,7 @@ pub enum Turn {
 }
 
 // Where the number at a place ends, or that the end cuts it off, or that an operator stands there.
-#[derive(Drop)]
+#[derive(Clone, Copy)]
 pub enum NumberEnd {
     Cut,
     Operator,
@@ -73,7 +73,7 @@ fn number_end(code: &[u8], at: usize) -> NumberEnd
 }
 
 // The subroutine that an operand names: none, or its number.
-#[derive(Drop)]
+#[derive(Clone, Copy)]
 pub enum Target {
     Nowhere,
     Subr(usize),

@@ -55,7 +55,7 @@ fn pair(a: u8, b: u8) -> usize
 }
 
 // What stands at a position: a number and the position after it, a number that the end cuts off, or an operator.
-#[derive(Drop)]
+#[derive(Clone, Copy)]
 pub enum Number {
     Num { value: f32, next: usize },
     Cut,
@@ -116,7 +116,7 @@ pub fn read_number(code: &[u8], at: usize) -> Number
 }
 
 // A count of 65536ths, as its sign and its size.
-#[derive(Drop)]
+#[derive(Clone, Copy)]
 pub struct Scaled {
     pub neg: bool,
     pub size: usize,

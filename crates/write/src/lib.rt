@@ -11,7 +11,7 @@ use cff::font::{Font, FontRead};
 use outcome::Answer;
 
 // Which call it is: of a CID-keyed font or not, with its encoding or not, and whether it is the small one (document 02, Wish 10).
-#[derive(Drop)]
+#[derive(Clone, Copy)]
 pub struct Call {
     pub cid: bool,
     pub ask: bool,

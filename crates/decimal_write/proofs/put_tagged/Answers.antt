@@ -1,0 +1,7 @@
+-- `decimal_write::put_tagged` meets its contract: one write after the other.
+use Rattle.std.proofs.Common.{arith}
+use Rattle.octets.specs.PutLaws.{wrote_then}
+use Rattle.decimal_write.proofs.put_tagged.Goals as goal
+
+pub returns : goal.returns
+returns c = wrote_then (omega arith) c.put_byte-p.ensures c.put_num.ensures
