@@ -1,0 +1,12 @@
+-- `dict::charstring_type` meets its contract: the one operand of CharstringType is 2 or not.
+use Rattle.dict.specs.LookupLaws.{type_absent, type_two, type_other}
+use Rattle.dict.proofs.charstring_type.Goals as goal
+
+pub returns-then-is_two : goal.returns-then-is_two
+returns-then-is_two c = type_two _ _ _ _ c.number.ensures c.in-Number.is c.is_two.ensures c.if-is_two.true
+
+pub returns-in-Absent : goal.returns-in-Absent
+returns-in-Absent c = type_absent _ _ c.number.ensures c.in-Absent.is
+
+pub returns-else-is_two : goal.returns-else-is_two
+returns-else-is_two c = type_other _ _ _ _ c.number.ensures c.in-Number.is c.is_two.ensures c.if-is_two.false

@@ -1,0 +1,15 @@
+-- `dict::private_of` meets its contract: the place that was found holds the operands of the last Private.
+use Rattle.dict.specs.LookupLaws.{operand_normal, private-absent, private_wrong, private_is}
+use Rattle.dict.proofs.private_of.Goals as goal
+
+pub private_at-requires : goal.private_at-requires
+private_at-requires c = (operand_normal _ (λ i. (c.type_inv.d i).fits) _ _ _ _ c.operand.ensures, operand_normal _ (λ i. (c.type_inv.d i).fits) _ _ _ _ c.operand-then-count-eq2.ensures)
+
+pub returns-then-count-eq2 : goal.returns-then-count-eq2
+returns-then-count-eq2 c = private_is _ _ c.place.ensures _ _ c.in-Entry.is c.if-count-eq2.true _ _ c.operand.ensures c.operand-then-count-eq2.ensures _ c.private_at.ensures
+
+pub returns-in-Absent : goal.returns-in-Absent
+returns-in-Absent c = private-absent _ _ c.place.ensures c.in-Absent.is
+
+pub returns-else-count-eq2 : goal.returns-else-count-eq2
+returns-else-count-eq2 c = private_wrong _ _ c.place.ensures _ _ c.in-Entry.is c.if-count-eq2.false

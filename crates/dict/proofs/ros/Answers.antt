@@ -1,0 +1,15 @@
+-- `dict::ros` meets its contract: the place that was found holds the operands of the last ROS.
+use Rattle.dict.specs.LookupLaws.{operand_normal, ros-absent, ros_wrong, ros_is}
+use Rattle.dict.proofs.ros.Goals as goal
+
+pub ros_at-requires : goal.ros_at-requires
+ros_at-requires c = (operand_normal _ (λ i. (c.type_inv.d i).fits) _ _ _ _ c.operand.ensures, operand_normal _ (λ i. (c.type_inv.d i).fits) _ _ _ _ c.operand-then-count-eq3.ensures, operand_normal _ (λ i. (c.type_inv.d i).fits) _ _ _ _ c.operand-then-count-eq3-2.ensures)
+
+pub returns-then-count-eq3 : goal.returns-then-count-eq3
+returns-then-count-eq3 c = ros_is _ _ c.place.ensures _ _ c.in-Entry.is c.if-count-eq3.true _ _ _ c.operand.ensures c.operand-then-count-eq3.ensures c.operand-then-count-eq3-2.ensures _ c.ros_at.ensures
+
+pub returns-in-Absent : goal.returns-in-Absent
+returns-in-Absent c = ros-absent _ _ c.place.ensures c.in-Absent.is
+
+pub returns-else-count-eq3 : goal.returns-else-count-eq3
+returns-else-count-eq3 c = ros_wrong _ _ c.place.ensures _ _ c.in-Entry.is c.if-count-eq3.false

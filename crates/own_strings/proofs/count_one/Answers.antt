@@ -1,0 +1,19 @@
+-- `own_strings::count_one` meets its contract: one more where the id is the next.
+use Rattle.std.proofs.Common.{ap, arith, length}
+use Rattle.own_strings.specs.TurnLaws.{text-short, count_low, count_same, count_next}
+use Rattle.own_strings.proofs.count_one.Goals as goal
+
+pub returns-then-x-lt391 : goal.returns-then-x-lt391
+returns-then-x-lt391 c = count_low _ c.args.own _ _ c.if-x-lt391.true
+
+pub returns-then-id-count : goal.returns-then-id-count
+returns-then-id-count c = count_same _ c.args.own _ _ c.if-x-lt391.false c.if-id-count.true
+
+pub own_text-text-requires : goal.own_text-text-requires
+own_text-text-requires c = (c.requires.0.good, c.if-x-lt391.false)
+
+pub overflow_add-result-2 : goal.overflow_add-result-2
+overflow_add-result-2 c = omega (arith, c.requires.2, ap length c.own_text-text.ensures, text-short _ _ c.requires.0 c.args.x c.if-x-lt391.false)
+
+pub returns : goal.returns
+returns c = count_next _ c.args.own _ _ c.if-x-lt391.false c.if-id-count.false _ c.own_text-text.ensures

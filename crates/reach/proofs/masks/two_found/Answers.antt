@@ -1,0 +1,68 @@
+-- `reach::masks::two_found` meets its contract.
+use Rattle.std.proofs.Common.{ap, arith, refl, sym, ◌+◌, ◌∙◌, ◌≡◌}
+use Rattle.octets.specs.Octets.{Octets}
+use Rattle.reach.specs.Reach.{row_in, row_no, key_of_lem}
+use Rattle.reach.specs.Masks.{body_of_lem, clashes}
+use Rattle.reach.specs.TwoLaws.{clash_rows, neighbours_start, neighbours_off, neighbours_clash, neighbours_on, neighbours_done}
+use Rattle.reach.proofs.masks.two_found.Goals as goal
+use Rattle.reach.proofs.masks.two_found.Goals.{After-clashes, At-loop-i, Else-body_of-body}
+
+-- the record is bytes
+bytes : (c : At-loop-i) → Octets c.args.rows.now
+bytes c i = (c.type_inv.rows i).fits
+
+-- the row of a turn is of the body
+own : (c : Else-body_of-body)
+    → body_of_lem (row_no c.args.rows.now c.loop-i.i)
+    ≡ c.args.body
+own c = sym (c.body_of.ensures.0 ∙ ap body_of_lem c.row_at-r.ensures.0) ∙ c.if-body_of-body.false
+
+-- whether it and the next one clash
+told : (c : After-clashes) → let b = c.args.rows.now in
+    clashes (key_of_lem (row_no b c.loop-i.i)) (row_no b c.loop-i.i).len (row_no b (c.loop-i.i + 1)) ≡ c.clashes.result
+told c =
+    clash_rows c.args.rows.now c.loop-i.i (row_in c.row_at-r.result) (row_in c.row_at.result) c.row_at-r.ensures.0 c.row_at.ensures.0 _ c.key_of.ensures _ c.clashes.ensures
+
+pub overflow_mul-body : goal.overflow_mul-body
+overflow_mul-body c = omega (arith, c.requires.1)
+
+pub first_at-i-requires : goal.first_at-i-requires
+first_at-i-requires c = c.requires.0
+
+pub loop-i-init : goal.loop-i-init
+loop-i-init c = (refl, neighbours_start _ _ _ _ refl c.first_at-i.ensures)
+
+pub overflow_add-i : goal.overflow_add-i
+overflow_add-i c = omega (arith, c.loop-i.invariant.1.within)
+
+pub row_at-r-requires : goal.row_at-r-requires
+row_at-r-requires c = omega arith
+
+pub body_of-requires : goal.body_of-requires
+body_of-requires c = c.row_at-r.ensures.1
+
+pub returns-then-body_of-body : goal.returns-then-body_of-body
+returns-then-body_of-body c =
+    let e = c.body_of.ensures.0 ∙ ap body_of_lem c.row_at-r.ensures.0 in
+    neighbours_off _ (bytes (goal.at.returns-then-body_of-body c).At-loop-i) c.requires.0 _ _ c.loop-i.invariant.1 (omega arith) (λ z. c.if-body_of-body.true (e ∙ z))
+
+pub row_at-requires : goal.row_at-requires
+row_at-requires c = omega arith
+
+pub key_of-requires : goal.key_of-requires
+key_of-requires c = c.row_at-r.ensures.1
+
+pub clashes-requires : goal.clashes-requires
+clashes-requires c = c.row_at.ensures.1
+
+pub returns-then-clashes : goal.returns-then-clashes
+returns-then-clashes c =
+    neighbours_clash _ (bytes (goal.at.returns-then-clashes c).At-loop-i) c.requires.0 _ _ c.loop-i.invariant.1 (omega arith) (own (goal.at.returns-then-clashes c).Else-body_of-body) (told (goal.at.returns-then-clashes c).After-clashes ∙ c.if-clashes.true)
+
+pub loop-i-preserved : goal.loop-i-preserved
+loop-i-preserved c =
+    (c.loop-i.invariant.0, neighbours_on _ (bytes (goal.at.loop-i-preserved c).At-loop-i) c.requires.0 _ _ c.loop-i.invariant.1 (omega arith) (own (goal.at.loop-i-preserved c).Else-body_of-body) (told (goal.at.loop-i-preserved c).After-clashes ∙ c.if-clashes.false))
+
+pub returns : goal.returns
+returns c =
+    neighbours_done _ (bytes (goal.at.returns c).At-loop-i) c.requires.0 _ _ c.loop-i.invariant.1 (omega arith)

@@ -1,0 +1,17 @@
+-- `top_dict::put_cid_offsets` meets its contract: the four entries, one behind the other.
+use Rattle.std.proofs.Common.{refl}
+use Rattle.top_dict.specs.Writing.{split-room, writing_start, writing-room, writing-turn, writing-left, writing-last}
+use Rattle.top_dict.specs.TopParts.{cid-parts, cid_rest}
+use Rattle.top_dict.proofs.put_cid_offsets.Goals as goal
+
+pub put_glyph_offsets-p-requires : goal.put_glyph_offsets-p-requires
+put_glyph_offsets-p-requires c = (c.requires.0.first, c.requires.0.second, split-room _ _ c.requires.1 (cid-parts c.args.at1 c.args.at2 c.args.at3 c.args.at4))
+
+pub put_offset_entry-q-requires : goal.put_offset_entry-q-requires
+put_offset_entry-q-requires c = (refl, c.requires.0.third, writing-room c.requires.1 (cid_rest c.args.at3 c.args.at4) (writing-turn c.requires.1 (cid-parts c.args.at1 c.args.at2 c.args.at3 c.args.at4) (writing_start _ _ _) c.put_glyph_offsets-p.ensures))
+
+pub put_offset_entry-requires : goal.put_offset_entry-requires
+put_offset_entry-requires c = (refl, c.requires.0.fourth, writing-left c.requires.1 (writing-turn c.requires.1 (cid_rest c.args.at3 c.args.at4) (writing-turn c.requires.1 (cid-parts c.args.at1 c.args.at2 c.args.at3 c.args.at4) (writing_start _ _ _) c.put_glyph_offsets-p.ensures) c.put_offset_entry-q.ensures))
+
+pub returns : goal.returns
+returns c = writing-last c.requires.1 (writing-turn c.requires.1 (cid_rest c.args.at3 c.args.at4) (writing-turn c.requires.1 (cid-parts c.args.at1 c.args.at2 c.args.at3 c.args.at4) (writing_start _ _ _) c.put_glyph_offsets-p.ensures) c.put_offset_entry-q.ensures) c.put_offset_entry.ensures
