@@ -5,7 +5,7 @@ use Rattle.std.proofs.Math.Path.{ap}
 use Rattle.std.proofs.Math.Seq.{take-length}
 use Rattle.octets.specs.Lists.{part_of}
 use Rattle.octets.specs.Octets.{Octets, num_at}
-use Rattle.index.specs.FoundLaws.{part_octets}
+use Rattle.index.proofs.FoundLaws.{part_octets}
 use Rattle.opentype.specs.Opentype.{otto, place_of}
 use Rattle.opentype.specs.OpentypeLaws as place
 use Rattle.opentype.specs.declared.Place.{Place}

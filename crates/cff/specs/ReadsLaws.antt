@@ -16,7 +16,7 @@ use Rattle.octets.specs.Lists.{part_of}
 use Rattle.index.specs.Index.{first_of, offsets, run_of, empty_at, index_at, pieces, items_of, Read, found, read_index}
 use Rattle.index.specs.Good.{Good}
 use Rattle.index.specs.IndexLaws.{items-length}
-use Rattle.index.specs.FoundLaws.{found-good, found-count, read_found, read_refused}
+use Rattle.index.proofs.FoundLaws.{found-good, found-count, read_found, read_refused}
 use Rattle.index.specs.declared.Index.{Index}
 use Rattle.index.specs.declared.IndexAt.{IndexAt}
 use Rattle.index.specs.declared.IndexAt.TheVariants.{Refused as RefusedIndex, Found as FoundIndex}
@@ -27,7 +27,7 @@ use Rattle.dict.specs.Dict.{Entry, Dict, refused as refusedDict, entries, readin
 use Rattle.dict.specs.Op.{subrs, private}
 use Rattle.dict.specs.Lookup.{Operands, absent, operands, one_of, last_from, last_of, offset_told, offset_as, offset_in, private_as, private_in}
 use Rattle.dict.specs.Places.{refusal_of, listed, entries_of, Good as GoodDict}
-use Rattle.dict.specs.LookupLaws.{good-entries}
+use Rattle.dict.proofs.LookupLaws.{good-entries}
 use Rattle.dict.specs.declared.One.{One}
 use Rattle.dict.specs.declared.One.TheVariants.{Number, Absent as NoNumber}
 use Rattle.dict.specs.declared.OffsetIn.{OffsetIn}

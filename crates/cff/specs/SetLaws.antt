@@ -11,7 +11,7 @@ use Rattle.octets.specs.Octets.{Octets}
 use Rattle.index.specs.Index.{index_at, items_of, read_index}
 use Rattle.index.specs.Good.{Good, offset_of}
 use Rattle.index.specs.IndexLaws.{items-length, item-within, item-part}
-use Rattle.index.specs.FoundLaws.{found-good, found-count, read_found, read_refused}
+use Rattle.index.proofs.FoundLaws.{found-good, found-count, read_found, read_refused}
 use Rattle.index.specs.declared.Index.{Index}
 use Rattle.index.specs.declared.IndexAt.{IndexAt}
 use Rattle.index.specs.declared.IndexAt.TheVariants.{Refused as RefusedIndex, Found as FoundIndex}

@@ -6,8 +6,4 @@ pub mod Proper
 pub mod Examples
 pub mod TokenLaws
 pub mod EntryLaws
-pub mod WalkLaws
-pub mod LookupLaws
-pub mod ProperLaws
 pub mod Noted
-pub mod NotedLaws

@@ -8,7 +8,7 @@ use Rattle.dict.specs.Op.{is_operator, subrs}
 use Rattle.dict.specs.Dict.{Entry, entries, dict_of}
 use Rattle.dict.specs.Places.{entries_of}
 use Rattle.dict.specs.Proper.{AllProper}
-use Rattle.dict.specs.ProperLaws.{entries_proper}
+use Rattle.dict.proofs.ProperLaws.{entries_proper}
 use Rattle.dict_write.specs.Written.{entry_bytes, entries_bytes, offset_entry, without, private_bytes}
 use Rattle.dict_write.specs.Parts.{Part, plain, offset, part_bytes, parts_bytes, part_entry, parts_entries, AllFit}
 use Rattle.dict_write.specs.DictRound.{parts-read}

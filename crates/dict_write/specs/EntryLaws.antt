@@ -13,7 +13,7 @@ use Rattle.decimal.specs.Number.{number, number_at, answer_of, Taken}
 use Rattle.decimal.specs.TakenLaws.{number-taken, answer-number}
 use Rattle.decimal.specs.Written.{number_bytes}
 use Rattle.dict.specs.Places.{operands_at}
-use Rattle.dict.specs.LookupLaws.{operands_next, operands_none}
+use Rattle.dict.proofs.LookupLaws.{operands_next, operands_none}
 use Rattle.dict_write.specs.Written.{operands_bytes}
 
 no : ◌≡◌ {A = ℕ} 0 1 → ⊥

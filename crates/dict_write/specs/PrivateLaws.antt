@@ -11,8 +11,8 @@ use Rattle.dict.specs.Op.{is_operator, subrs}
 use Rattle.dict.specs.Dict.{Entry, Reading, entry_at, readings_at}
 use Rattle.dict.specs.Places.{entry_told, listed, entries_of, operands_at}
 use Rattle.dict.specs.EntryLaws.{readings_end}
-use Rattle.dict.specs.WalkLaws.{Answered, answered, left_stopped, left-entry}
-use Rattle.dict.specs.ProperLaws.{Named, entry_named}
+use Rattle.dict.proofs.WalkLaws.{Answered, answered, left_stopped, left-entry}
+use Rattle.dict.proofs.ProperLaws.{Named, entry_named}
 use Rattle.dict.specs.declared.EntryAt.{EntryAt}
 use Rattle.dict.specs.declared.EntryAt.TheVariants.{Refused, Entry as EntryFound}
 use Rattle.dict_write.specs.Written.{entry_bytes, entries_bytes, without, private_bytes}

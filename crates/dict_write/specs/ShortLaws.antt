@@ -25,7 +25,7 @@ use Rattle.dict.specs.declared.Found.{Found}
 use Rattle.dict.specs.declared.Found.TheVariants.{Absent, Entry as FoundAt}
 use Rattle.dict.specs.TokenLaws.{Passes, token-passes}
 use Rattle.dict.specs.EntryLaws.{Entered, entered, from-entered}
-use Rattle.dict.specs.LookupLaws.{number_out}
+use Rattle.dict.proofs.LookupLaws.{number_out}
 use Rattle.dict_write.specs.Written.{op_bytes_lem, operands_bytes, entry_bytes, entries_bytes, copied_entry, without, private_bytes}
 use Rattle.dict_write.specs.WriteLaws.{copied-absent, copied-found}
 

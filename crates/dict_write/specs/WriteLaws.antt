@@ -12,7 +12,7 @@ use Rattle.decimal_write.specs.IntLaws.{length_int5}
 use Rattle.dict.specs.Op.{private, subrs}
 use Rattle.dict.specs.Lookup.{last_of, operands}
 use Rattle.dict.specs.Places.{entries_of, place_of, operands_at}
-use Rattle.dict.specs.LookupLaws.{none_last, found-last}
+use Rattle.dict.proofs.LookupLaws.{none_last, found-last}
 use Rattle.dict.specs.declared.Found.{Found}
 use Rattle.dict.specs.declared.Found.TheVariants.{Absent, Entry as FoundAt}
 use Rattle.dict_write.specs.Written.{op_bytes_lem, operands_bytes, entry_bytes, offset_entry, private_entry, copied_entry}

@@ -12,7 +12,7 @@ use Rattle.index.specs.Index.{read_index}
 use Rattle.dict.specs.Dict.{Entry, dict_of}
 use Rattle.dict.specs.Lookup.{offset_in, private_in, cid_keyed, charstring_type_in}
 use Rattle.dict.specs.Proper.{AllProper}
-use Rattle.dict.specs.ProperLaws.{entries_proper, dict_proper}
+use Rattle.dict.proofs.ProperLaws.{entries_proper, dict_proper}
 use Rattle.charset.specs.FdSelect.{no_fds}
 use Rattle.cff.specs.Font.{charset, encoding, char_strings, fd_array, fd_select_lem, got, then, Private, standard, Added, Program, index_got, dict_got, unless, needed, or_zero, private_at, privates_at, dicts_at, ids_at, fds_at, encoding_got, cid_parts, name_parts, font_at, fonts_at, first_of, set_at, read_table, read_font, empty_private}
 use Rattle.cff.specs.FileLaws.{read-within, within_octets}

@@ -10,13 +10,13 @@ use Rattle.octets.specs.Pick.{pick}
 use Rattle.octets.specs.Octets.{Octets}
 use Rattle.octets.specs.Lists.{all_below}
 use Rattle.index.specs.Index.{Read, refused as refusedRead, found, read_index}
-use Rattle.index.specs.FoundLaws.{part_octets, found-good, found-read, read-bounds, item_octets}
+use Rattle.index.proofs.FoundLaws.{part_octets, found-good, found-read, read-bounds, item_octets}
 use Rattle.index.specs.IndexLaws.{items-length}
 use Rattle.dict.specs.Dict.{Entry, Dict, refused as refusedDict, entries, dict_of}
 use Rattle.dict.specs.Op.{subrs}
 use Rattle.dict.specs.Lookup.{offset_in, private_in}
 use Rattle.dict.specs.Proper.{AllProper}
-use Rattle.dict.specs.ProperLaws.{dict_proper}
+use Rattle.dict.proofs.ProperLaws.{dict_proper}
 use Rattle.dict.specs.declared.OffsetIn.{OffsetIn}
 use Rattle.dict.specs.declared.OffsetIn.TheVariants.{Refused as RefusedOffset, At, Absent as NoOffset}
 use Rattle.dict.specs.declared.PrivateIn.{PrivateIn}

@@ -4,7 +4,7 @@ use Rattle.std.proofs.Common.{sym, ap, ◌∙◌, arith, length-append, length-d
 use Rattle.index.specs.Index.{found, read_index}
 use Rattle.index.specs.Write.{index_bytes}
 use Rattle.index.specs.WriteLaws.{total-within}
-use Rattle.index.specs.IndexRound.{read-written}
+use Rattle.index.proofs.IndexRound.{read-written}
 
 module _ (bs : List ℕ) (at : ℕ) (xs post : List ℕ) (lies : drop at bs ≡ xs ++ post) where
   -- what stands behind a part

@@ -15,7 +15,7 @@ use Rattle.dict.specs.Dict.{Entry, Dict, entries, dict_of}
 use Rattle.dict.specs.Lookup.{Operands, absent, operands, last_from, last_of, only, offset_told, offset_as, offset_in, private_in}
 use Rattle.dict.specs.Proper.{AllProper}
 use Rattle.dict.specs.Places.{entries_of}
-use Rattle.dict.specs.LookupLaws.{entries_are}
+use Rattle.dict.proofs.LookupLaws.{entries_are}
 use Rattle.dict.specs.declared.OffsetIn.TheVariants.{At, Absent}
 use Rattle.dict.specs.declared.PrivateIn.{PrivateIn}
 use Rattle.dict.specs.declared.PrivateIn.TheVariants.{Private as PrivateEntry}

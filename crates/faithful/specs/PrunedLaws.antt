@@ -13,7 +13,7 @@ use Rattle.octets.specs.Pick.{pick_ind}
 use Rattle.octets.specs.Octets.{Octets}
 use Rattle.unfold.specs.Unfold.{Tok, Row, local, global, plain, unfold_glyph}
 use Rattle.prune.specs.Bodies.{All, empty, one}
-use Rattle.prune.specs.Unfolds.{same_unfolds}
+use Rattle.prune.proofs.Unfolds.{same_unfolds}
 use Rattle.record.specs.Record.{rows_of}
 use Rattle.cff.specs.Font.{Program}
 use Rattle.subset.specs.Kept.{is_in, used_fds, new_fd, locals_of}

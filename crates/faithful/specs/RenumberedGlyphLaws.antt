@@ -8,7 +8,7 @@ use Rattle.type2_number.specs.Number.{Reading}
 use Rattle.charstring.specs.declared.MaskLen.TheVariants.{Given}
 use Rattle.unfold.specs.Unfold.{Tok, Row, Site, glyph, local, global, entered, masked, plain, unfold_glyph}
 use Rattle.prune.specs.Bodies.{All, Renumbers}
-use Rattle.prune.specs.Unfolds.{renumbered_unfolds}
+use Rattle.prune.proofs.Unfolds.{renumbered_unfolds}
 use Rattle.prune.specs.BelongsLaws.{Belongs, rows_belong}
 use Rattle.record.specs.Record.{lists, given_in, two_lengths_lem}
 use Rattle.cff.specs.Font.{Program}

@@ -11,7 +11,7 @@ use Rattle.octets.specs.PutLaws.{put_nil, put_snoc}
 use Rattle.octets.specs.Lists.{part_of, sum_of}
 use Rattle.index.specs.Write.{total, size_for, index_bytes, index_len_lem}
 use Rattle.index.specs.WriteLaws.{len_some, length-index, ends-small}
-use Rattle.index.specs.FoundLaws.{part_octets}
+use Rattle.index.proofs.FoundLaws.{part_octets}
 use Rattle.dict.specs.Places.{entries_of}
 use Rattle.dict_write.specs.Written.{private_bytes}
 use Rattle.dict_write.specs.ShortLaws.{private-short}

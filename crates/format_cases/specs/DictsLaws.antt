@@ -16,7 +16,7 @@ use Rattle.dict.specs.Dict.{Entry, Dict, refused, entries, Token, bad, operand, 
 use Rattle.dict.specs.Places.{entry_told, or_none, operands_at}
 use Rattle.dict.specs.TokenLaws.{Passes, token-passes}
 use Rattle.dict.specs.EntryLaws.{readings_end}
-use Rattle.dict.specs.WalkLaws.{Answered, answered, left_stopped, left-entry}
+use Rattle.dict.proofs.WalkLaws.{Answered, answered, left_stopped, left-entry}
 use Rattle.dict.specs.declared.EntryAt.{EntryAt}
 use Rattle.dict.specs.declared.EntryAt.TheVariants.{Refused, Entry as EntryFound}
 use Rattle.cases.specs.Answers.{Starts}

@@ -15,7 +15,7 @@ use Rattle.dict.specs.Dict.{Entry}
 use Rattle.dict.specs.Lookup.{Operands, absent, operands, last_of, one_of, id_in, ros_as, ros_in}
 use Rattle.dict.specs.declared.RosIn.{RosIn}
 use Rattle.dict.specs.declared.RosIn.TheVariants.{Ros}
-use Rattle.dict.specs.LookupLaws.{id_low}
+use Rattle.dict.proofs.LookupLaws.{id_low}
 use Rattle.index.specs.Index.{items_of}
 use Rattle.index.specs.declared.Index.{Index}
 use Rattle.strings.specs.Strings.{string_text}

@@ -5,7 +5,7 @@ use Rattle.std.proofs.Math.Option.{Option}
 use Rattle.octets.specs.Octets.{Octets, Wrote}
 use Rattle.octets.specs.PutLaws.{wrote_as}
 use Rattle.index.specs.Index.{items_of}
-use Rattle.index.specs.FoundLaws.{item_octets}
+use Rattle.index.proofs.FoundLaws.{item_octets}
 use Rattle.unfold.specs.Unfold.{Row, glyph}
 use Rattle.record.specs.Record.{rows_of}
 use Rattle.subset.specs.Pruned.{renumbered_body}

@@ -5,8 +5,6 @@ pub mod IndexLaws
 pub mod Write
 pub mod WriteLaws
 pub mod PutApart
-pub mod FoundLaws
 pub mod Begun
 pub mod BegunLaws
-pub mod IndexRound
 pub mod Examples

@@ -10,7 +10,7 @@ use Rattle.decimal.specs.declared.IdOf.{IdOf}
 use Rattle.decimal.specs.declared.IdOf.TheVariants.{Id, Absent}
 use Rattle.dict.specs.Op.{ros, copied_top_strings}
 use Rattle.dict.specs.Lookup.{Operands, absent, operands, last_of, one_of, id_in, ros_as, ros_in}
-use Rattle.dict.specs.LookupLaws.{id_low}
+use Rattle.dict.proofs.LookupLaws.{id_low}
 use Rattle.strings.specs.Strings.{string_text}
 use Rattle.cff.specs.Font.{Program}
 use Rattle.subset.specs.Texts.{Named, named_by, named_entries, texts_of, slot_of}

@@ -4,7 +4,7 @@ use Rattle.std.proofs.Common.{sym, ap, ◌∙◌, arith, length-append}
 use Rattle.octets.specs.Octets.{Octets}
 use Rattle.index.specs.Index.{items_of}
 use Rattle.index.specs.IndexLaws.{items-length}
-use Rattle.index.specs.FoundLaws.{item_octets}
+use Rattle.index.proofs.FoundLaws.{item_octets}
 use Rattle.dict.specs.Op.{font_matrix}
 use Rattle.dict.specs.Lookup.{last_of}
 use Rattle.dict.specs.Places.{entries_of}

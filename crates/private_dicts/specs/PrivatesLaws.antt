@@ -15,7 +15,7 @@ use Rattle.index.specs.IndexLaws.{items-length}
 use Rattle.dict.specs.Op.{subrs}
 use Rattle.dict.specs.Dict.{Entry, Dict, refused as refusedDict, entries, dict_of}
 use Rattle.dict.specs.Lookup.{private_in}
-use Rattle.dict.specs.LookupLaws.{entries_are}
+use Rattle.dict.proofs.LookupLaws.{entries_are}
 use Rattle.dict.specs.Places.{entries_of}
 use Rattle.dict_write.specs.Written.{offset_entry, private_bytes}
 use Rattle.dict_write.specs.WriteLaws.{subrs-length}

@@ -25,7 +25,7 @@ use dict_write::{
 // The Private DICT of the FD with bytes d, which was read before.
 fn read_fd(font: &[u8], d: &[u8]) -> PrivateAt
     requires { (2 ≤ length font.now) × (FdRead font.now d.now) }
-    ensures { GoodPrivate font.now result × (got (reads.privateOf font.now result) ≡ fd_private font.now d.now) }
+    ensures { GoodPrivate font.now result × (got (reads.private_of font.now result) ≡ fd_private font.now d.now) }
 {
     let read = cff::private::private_at(font, d);
     match read {
@@ -37,7 +37,7 @@ fn read_fd(font: &[u8], d: &[u8]) -> PrivateAt
 // The Private DICT of an FD; in a name-keyed font the one.
 pub fn fd_private(font: &[u8], f: Font, fd: usize) -> PrivateAt
     requires { (GoodFont font.now f) × (fd < length (program_of font.now f).privates) }
-    ensures { GoodPrivate font.now result × (reads.privateOf font.now result ≡ private_of (program_of font.now f) fd) }
+    ensures { GoodPrivate font.now result × (reads.private_of font.now result ≡ private_of (program_of font.now f) fd) }
 {
     let cid = f.cid;
     let dicts = f.dicts;
@@ -63,7 +63,7 @@ fn bytes_len(d: &[u8], left: usize) -> usize
 // The length of a Private DICT with so many local subroutines behind it.
 pub fn dict_len(font: &[u8], q: PrivateAt, left: usize) -> usize
     requires { (length font.now ≤ 67108864) × (GoodPrivate font.now q) }
-    ensures { result ≡ length (private_dict_by (reads.privateOf font.now q).entries left) }
+    ensures { result ≡ length (private_dict_by (reads.private_of font.now q).entries left) }
 {
     let start = q.start;
     let end = start + q.size;
@@ -85,9 +85,9 @@ fn put_bytes(d: &[u8], left: usize, out: &mut [u8], at: usize) -> usize
 
 // A Private DICT with so many local subroutines behind it, from `at` on; the place after it.
 pub fn put_dict(font: &[u8], q: PrivateAt, left: usize, out: &mut [u8], at: usize) -> usize
-    requires { (length font.now ≤ 67108864) × (GoodPrivate font.now q) × (length (private_dict_by (reads.privateOf font.now q).entries left) < 2147483648)
-        × (at + length (private_dict_by (reads.privateOf font.now q).entries left) ≤ length out.old) }
-    ensures { Wrote out.old at (private_dict_by (reads.privateOf font.now q).entries left) out.new result }
+    requires { (length font.now ≤ 67108864) × (GoodPrivate font.now q) × (length (private_dict_by (reads.private_of font.now q).entries left) < 2147483648)
+        × (at + length (private_dict_by (reads.private_of font.now q).entries left) ≤ length out.old) }
+    ensures { Wrote out.old at (private_dict_by (reads.private_of font.now q).entries left) out.new result }
 {
     let start = q.start;
     let end = start + q.size;

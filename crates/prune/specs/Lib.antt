@@ -6,9 +6,5 @@ pub mod AlikeLaws
 pub mod SameLaws
 pub mod LeftLaws
 pub mod RenumberLaws
-pub mod BesideLaws
-pub mod WalkLaws
-pub mod Unfolds
 pub mod OperandLaws
 pub mod BelongsLaws
-pub mod Examples

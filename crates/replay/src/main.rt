@@ -11,6 +11,10 @@ ghost use Rattle.octets.specs.Octets.{Wrote};
 ghost use Rattle.cases.specs.Report.{report_of};
 ghost use Rattle.replay.specs.Answers.{answer_to};
 
+use std::fs::File;
+use std::io::Read;
+use std::rt::Files;
+
 // The report of the n bytes that were read into a buffer, written to the start of out; its length.
 fn put_report_of(kinds: &[u8], buffer: &[u8], n: usize, out: &mut [u8]) -> usize
     requires { (length kinds.now ≤ 24) × (n ≤ length buffer.now) × (2048 ≤ length out.old) }
@@ -24,33 +28,54 @@ fn put_report_of(kinds: &[u8], buffer: &[u8], n: usize, out: &mut [u8]) -> usize
     octets::put_bytes(out, 0, b"text too long\n")
 }
 
+// Reads until a buffer is full, the file ends or a read fails; how many bytes it put at the start of the buffer.
+fn read_full(file: &mut impl Read, buffer: &mut [u8]) -> usize
+    ensures { IsPrefixLen result buffer.new }
+{
+    let mut done = 0;
+    while done < buffer.len() {
+        match file.read(&mut buffer[done..]) {
+            Ok(0) => break,
+            Ok(n) => done += n,
+            Err(_) => break,
+        }
+    }
+    done
+}
+
 // Prints the report of a file, by these kinds; lines of other kinds are counted in the row `?`. Returns how many bytes it printed, which
 // `put_report_of` determines: 0 where there is no such file.
-fn replay_file(path: &[u8], kinds: &[u8], buffer: &mut [u8; 1048576]) -> usize
+fn replay_file(
+    rt: &(impl Files + Print + Eprint),
+    path: &str,
+    kinds: &[u8],
+    buffer: &mut [u8; 1048576],
+) -> usize
     requires { length kinds.now ≤ 24 }
     ensures { result ≤ 2048 }
 {
-    let fd = os::open_read(path);
-    if fd < 0 {
-        os::fail(path);
-        return 0;
-    }
-    let n = io::read_full(fd, &mut *buffer);
+    let mut file = match File::open(rt, path) {
+        Ok(file) => file,
+        Err(e) => {
+            let _ = eprintln!(rt; "{path}: {e}");
+            return 0;
+        }
+    };
+    let n = read_full(&mut file, &mut *buffer);
     let mut out = [0u8; 2048];
     let k = put_report_of(kinds, &*buffer, n, &mut out);
-    io::write_all(1, &out[..k]);
-    libc::close(fd);
+    let _ = rt.write_all(&out[..k]);
     k
 }
 
 // The file corners holds document 01's cases, 'Corners in charstring.rs', written by hand: the bias at 1239, 1240, 33899 and 33900;
 // four numbers rewritten; the own count of a mask, one stem at 1, 3, 18, 23, 19 and 20 and none at 21, 17 and 18 numbers, stems of
 // three operators, numbers before 21; the record's length, longer and shorter than the own, and one for another offset.
-fn main() {
+fn main(rt: HostRuntime) {
     let mut buffer = [0u8; 1048576];
-    replay_file(b"charstring", b"nifteb", &mut buffer);
-    replay_file(b"corners", b"nifteb", &mut buffer);
-    replay_file(b"format", b"xdwcs", &mut buffer);
-    replay_file(b"cff", b"RNCI", &mut buffer);
-    replay_file(b"subset", b"SD", &mut buffer);
+    replay_file(&rt, "charstring", b"nifteb", &mut buffer);
+    replay_file(&rt, "corners", b"nifteb", &mut buffer);
+    replay_file(&rt, "format", b"xdwcs", &mut buffer);
+    replay_file(&rt, "cff", b"RNCI", &mut buffer);
+    replay_file(&rt, "subset", b"SD", &mut buffer);
 }

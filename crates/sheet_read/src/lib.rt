@@ -1,12 +1,12 @@
-// Document 01, 'One sheet, whole': a sheet taken from standard input, piece by piece, and what is printed of it. The programs `cut` and `cut_long` print it.
+// Document 01, 'One sheet, whole': a sheet taken from standard input, or from another reader, piece by piece, and what is printed of it. The programs `cut` and `cut_long` print it.
 #![tactic(auto)]
 
-ghost use Rattle.std.specs.Prelude.{◌≤◌, length};
+ghost use Rattle.std.specs.Prelude.{◌≤◌, ◌≤ℤ◌, pos, negsuc, length};
 ghost use Rattle.io.specs.Counts.{IsPrefixLen};
 ghost use Rattle.sheet_cut.specs.Cutting.{Given};
 ghost use Rattle.sheet_read.specs.Program.{Goes, Prints};
 
-use libc::STDIN_FILENO;
+use std::io::Read;
 
 // What came of one read: it failed, the input is at its end, or more was taken: how many bytes are in the buffer now, and where the next one stands.
 #[derive(Clone, Copy)]
@@ -32,10 +32,21 @@ fn take_read(got: isize, piece: &[u8], len: usize, mode: usize, buffer: &mut [u8
     Next::More(t.len, t.mode)
 }
 
-// Takes standard input to its end; returns how many bytes are in the buffer. After a read that fails nothing is: that is other input. Which bytes a read
+// What a read put in front of a piece: how many bytes, or -1 if it failed.
+fn read_piece(input: &mut impl Read, piece: &mut [u8; 4096]) -> isize
+    ensures least { negsuc 0 ≤ℤ result }
+    ensures most { result ≤ℤ pos (length piece.new) }
+{
+    match input.read(&mut *piece) {
+        Ok(n) => n as isize,
+        Err(_) => -1,
+    }
+}
+
+// Takes the input to its end; returns how many bytes are in the buffer. After a read that fails nothing is: that is other input. Which bytes a read
 // gives is known to no contract, so this one says that some text was taken. A proved loop has to end, and counts its turns down from a number that no
 // run uses up.
-fn take_input(buffer: &mut [u8]) -> usize
+fn take_input(input: &mut impl Read, buffer: &mut [u8]) -> usize
     requires { 48134 ≤ length buffer.old }
     ensures { Given result buffer.new }
 {
@@ -44,7 +55,7 @@ fn take_input(buffer: &mut [u8]) -> usize
     let mut turns = u64::MAX;
     while 0 < turns {
         let mut piece = [0u8; 4096];
-        let got = libc::read(STDIN_FILENO, &mut piece);
+        let got = read_piece(&mut *input, &mut piece);
         let next = take_read(got, &piece, len, mode, &mut *buffer);
         match next {
             Next::Failed => return 0,
@@ -59,12 +70,12 @@ fn take_input(buffer: &mut [u8]) -> usize
     len
 }
 
-// Writes what is printed of standard input to the start of page; returns its length.
-pub fn put_cut(page: &mut [u8]) -> usize
+// Writes what is printed of the input to the start of page; returns its length.
+pub fn put_cut(input: &mut impl Read, page: &mut [u8]) -> usize
     requires { 98316 ≤ length page.old }
     ensures { (Prints page.old page.new result) × IsPrefixLen result page.new }
 {
     let mut buffer = [0u8; 48134];
-    let len = take_input(&mut buffer);
+    let len = take_input(input, &mut buffer);
     sheet_cut::cut_taken(&buffer, len, page)
 }

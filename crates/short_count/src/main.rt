@@ -5,8 +5,8 @@
 ghost use Rattle.std.specs.Prelude.{◌≡◌};
 ghost use Rattle.short_count.specs.Count.{fnv, fnv_over, zeros, Walked};
 
-use libc::STDOUT_FILENO;
 use short_charstrings::NextAs;
+use std::io;
 
 // One byte more.
 fn mix(hash: u32, b: u8) -> u32
@@ -54,21 +54,18 @@ fn walk_all(counts: &mut [u64]) -> u32
     }
 }
 
-fn print_line(word: &[u8], n: u64) {
-    io::write_all(STDOUT_FILENO, word);
-    io::print_decimal(STDOUT_FILENO, n);
-    io::write_all(STDOUT_FILENO, b"\n");
+fn print_line(rt: &impl Print, word: &[u8], n: u64) -> io::Result<()> {
+    rt.write_all(word)?;
+    println!(rt; "{n}")
 }
 
-fn main() {
+fn main(rt: HostRuntime) -> io::Result<()> {
     let mut counts = [0u64; 5];
     let hash = walk_all(&mut counts);
-    print_line(b"1 byte: ", counts[1]);
-    print_line(b"2 bytes: ", counts[2]);
-    print_line(b"3 bytes: ", counts[3]);
-    print_line(b"4 bytes: ", counts[4]);
-    print_line(b"all: ", counts[0]);
-    io::write_all(STDOUT_FILENO, b"FNV-1a: ");
-    io::print_hex(STDOUT_FILENO, hash as u64, 8);
-    io::write_all(STDOUT_FILENO, b"\n");
+    print_line(&rt, b"1 byte: ", counts[1])?;
+    print_line(&rt, b"2 bytes: ", counts[2])?;
+    print_line(&rt, b"3 bytes: ", counts[3])?;
+    print_line(&rt, b"4 bytes: ", counts[4])?;
+    print_line(&rt, b"all: ", counts[0])?;
+    println!(rt; "FNV-1a: {hash:08x}")
 }

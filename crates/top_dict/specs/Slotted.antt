@@ -15,7 +15,7 @@ use Rattle.decimal.specs.Decimal.{normal, whole}
 use Rattle.decimal.specs.Written.{number_bytes}
 use Rattle.dict.specs.Op.{ros, cid_count, copied_top_entries, copied_top_strings}
 use Rattle.dict.specs.Lookup.{one_of, id_in, ros_in, cid_count_in}
-use Rattle.dict.specs.LookupLaws.{id_low}
+use Rattle.dict.proofs.LookupLaws.{id_low}
 use Rattle.dict.specs.declared.RosIn.{RosIn}
 use Rattle.dict.specs.declared.RosIn.TheVariants.{Ros, None}
 use Rattle.dict_write.specs.Written.{op_bytes_lem, operands_bytes, entry_bytes, offset_entry, private_entry}

@@ -8,7 +8,7 @@ use Rattle.octets.specs.Pick.{pick}
 use Rattle.octets.specs.Lists.{all_below}
 use Rattle.index.specs.Index.{read_index, found}
 use Rattle.index.specs.Write.{total}
-use Rattle.index.specs.FoundLaws.{found-read, found-good, items-total}
+use Rattle.index.proofs.FoundLaws.{found-read, found-good, items-total}
 use Rattle.dict.specs.Dict.{Entry, dict_of}
 use Rattle.dict.specs.Op.{subrs}
 use Rattle.dict.specs.Lookup.{offset_in, private_in, cid_keyed, charstring_type_in}

@@ -10,6 +10,4 @@ pub mod Counts
 pub mod Readings
 pub mod NumberLaws
 pub mod EncodingLaws
-pub mod FormsLaws
-pub mod FormsExamples
 pub mod NumberRound

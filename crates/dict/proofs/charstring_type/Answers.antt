@@ -1,5 +1,5 @@
 -- `dict::charstring_type` meets its contract: the one operand of CharstringType is 2 or not.
-use Rattle.dict.specs.LookupLaws.{type_absent, type_two, type_other}
+use Rattle.dict.proofs.LookupLaws.{type_absent, type_two, type_other}
 use Rattle.dict.proofs.charstring_type.Goals as goal
 
 pub returns-then-is_two : goal.returns-then-is_two

@@ -1,5 +1,5 @@
 -- `dict::cid_count` meets its contract: the one operand of CIDCount, clamped, or the default.
-use Rattle.dict.specs.LookupLaws.{one-normal, count-absent, count_is}
+use Rattle.dict.proofs.LookupLaws.{one-normal, count-absent, count_is}
 use Rattle.dict.proofs.cid_count.Goals as goal
 
 pub to_u32-requires : goal.to_u32-requires

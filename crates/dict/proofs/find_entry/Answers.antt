@@ -1,6 +1,6 @@
 -- `dict::find_entry` meets its contract: what was found so far, and what is left of the DICT, give what the whole does.
 use Rattle.std.proofs.Common.{arith}
-use Rattle.dict.specs.WalkLaws.{answered, finding_start, finding_end, finding_stopped, finding_here, finding_on}
+use Rattle.dict.proofs.WalkLaws.{answered, finding_start, finding_end, finding_stopped, finding_here, finding_on}
 use Rattle.dict.proofs.find_entry.Goals as goal
 
 pub loop-at-init : goal.loop-at-init

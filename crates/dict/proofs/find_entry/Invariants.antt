@@ -1,5 +1,5 @@
 use Rattle.std.proofs.Common.{length, ◌-◌}
-use Rattle.dict.specs.WalkLaws.{Finding}
+use Rattle.dict.proofs.WalkLaws.{Finding}
 use Rattle.dict.proofs.find_entry.Given as goal
 
 abbrev pub invariant-loop-at : goal.invariant-loop-at

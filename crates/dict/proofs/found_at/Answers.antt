@@ -1,5 +1,5 @@
 -- `dict::found_at` meets its contract, test by test.
-use Rattle.dict.specs.NotedLaws.{found_none, found_some}
+use Rattle.dict.proofs.NotedLaws.{found_none, found_some}
 use Rattle.dict.proofs.found_at.Goals as goal
 
 pub returns-then-count-eq0 : goal.returns-then-count-eq0

@@ -1,5 +1,5 @@
 -- `dict::is_cid_keyed` meets its contract: ROS was found or not.
-use Rattle.dict.specs.LookupLaws.{there_is, there_not}
+use Rattle.dict.proofs.LookupLaws.{there_is, there_not}
 use Rattle.dict.proofs.is_cid_keyed.Goals as goal
 
 pub returns-in-Absent : goal.returns-in-Absent

@@ -1,5 +1,5 @@
 -- `dict::is_stroked` meets its contract: the one operand of PaintType is 0 or not.
-use Rattle.dict.specs.LookupLaws.{stroked_absent, stroked_number}
+use Rattle.dict.proofs.LookupLaws.{stroked_absent, stroked_number}
 use Rattle.dict.proofs.is_stroked.Goals as goal
 
 pub returns-in-Absent : goal.returns-in-Absent

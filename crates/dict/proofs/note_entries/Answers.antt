@@ -1,7 +1,7 @@
 -- `dict::note_entries` meets its contract: what was noted so far, and what is left of the DICT, give what the whole does.
 use Rattle.std.proofs.Common.{arith, ◌<◌}
-use Rattle.dict.specs.WalkLaws.{answered}
-use Rattle.dict.specs.NotedLaws.{slot-few, noting_start, noting_end, noting_refused, noting_few, noting_turn}
+use Rattle.dict.proofs.WalkLaws.{answered}
+use Rattle.dict.proofs.NotedLaws.{slot-few, noting_start, noting_end, noting_refused, noting_few, noting_turn}
 use Rattle.dict.proofs.note_entries.Goals as goal
 use Rattle.dict.proofs.note_entries.Goals.{After-slot-j}
 

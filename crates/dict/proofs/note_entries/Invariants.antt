@@ -1,5 +1,5 @@
 use Rattle.std.proofs.Common.{length, ◌-◌}
-use Rattle.dict.specs.NotedLaws.{Noting}
+use Rattle.dict.proofs.NotedLaws.{Noting}
 use Rattle.dict.proofs.note_entries.Given as goal
 
 abbrev pub invariant-loop-at : goal.invariant-loop-at

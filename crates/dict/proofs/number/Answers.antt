@@ -1,5 +1,5 @@
 -- `dict::number` meets its contract: the place that was found holds the operands of the last entry.
-use Rattle.dict.specs.LookupLaws.{one-absent, one_other, one_is}
+use Rattle.dict.proofs.LookupLaws.{one-absent, one_other, one_is}
 use Rattle.dict.proofs.number.Goals as goal
 
 pub returns-then-count-eq1 : goal.returns-then-count-eq1

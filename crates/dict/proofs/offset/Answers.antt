@@ -1,5 +1,5 @@
 -- `dict::offset` meets its contract: the one operand, taken for an offset.
-use Rattle.dict.specs.LookupLaws.{one-normal, offset-absent, offset_refused, offset_at}
+use Rattle.dict.proofs.LookupLaws.{one-normal, offset-absent, offset_refused, offset_at}
 use Rattle.dict.proofs.offset.Goals as goal
 
 pub offset_of-requires : goal.offset_of-requires

@@ -1,6 +1,6 @@
 -- `dict::operand` meets its contract: the operands that are left to pass lead to the one that is wanted.
 use Rattle.std.proofs.Common.{arith}
-use Rattle.dict.specs.LookupLaws.{skipping_start, skipping_over, skipping_refused, skipping_none, skipping_further, skipping_here, skipping_turn}
+use Rattle.dict.proofs.LookupLaws.{skipping_start, skipping_over, skipping_refused, skipping_none, skipping_further, skipping_here, skipping_turn}
 use Rattle.dict.proofs.operand.Goals as goal
 
 pub loop-at-init : goal.loop-at-init

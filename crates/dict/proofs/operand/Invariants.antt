@@ -1,5 +1,5 @@
 use Rattle.std.proofs.Common.{length, ◌-◌}
-use Rattle.dict.specs.LookupLaws.{Skipping}
+use Rattle.dict.proofs.LookupLaws.{Skipping}
 use Rattle.dict.proofs.operand.Given as goal
 
 abbrev pub invariant-loop-at : goal.invariant-loop-at

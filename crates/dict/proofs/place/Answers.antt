@@ -1,5 +1,5 @@
 -- `dict::place` meets its contract: the slot has the last entry of its operator.
-use Rattle.dict.specs.NotedLaws.{place-noted}
+use Rattle.dict.proofs.NotedLaws.{place-noted}
 use Rattle.dict.proofs.place.Goals as goal
 
 pub returns-then-j-slots : goal.returns-then-j-slots

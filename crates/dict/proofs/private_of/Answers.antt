@@ -1,5 +1,5 @@
 -- `dict::private_of` meets its contract: the place that was found holds the operands of the last Private.
-use Rattle.dict.specs.LookupLaws.{operand_normal, private-absent, private_wrong, private_is}
+use Rattle.dict.proofs.LookupLaws.{operand_normal, private-absent, private_wrong, private_is}
 use Rattle.dict.proofs.private_of.Goals as goal
 
 pub private_at-requires : goal.private_at-requires

@@ -1,6 +1,6 @@
 -- `dict::read_entry` meets its contract: the operands counted so far and the rest of the entry make the whole of it.
 use Rattle.std.proofs.Common.{arith}
-use Rattle.dict.specs.WalkLaws.{counting-start, counting-over, counting_refused, counting-operator, counting_further, counting-turn}
+use Rattle.dict.proofs.WalkLaws.{counting-start, counting-over, counting_refused, counting-operator, counting_further, counting-turn}
 use Rattle.dict.proofs.read_entry.Goals as goal
 
 pub loop-at-init : goal.loop-at-init

@@ -1,5 +1,5 @@
 use Rattle.std.proofs.Common.{length, ◌-◌}
-use Rattle.dict.specs.WalkLaws.{Counting}
+use Rattle.dict.proofs.WalkLaws.{Counting}
 use Rattle.dict.proofs.read_entry.Given as goal
 
 abbrev pub invariant-loop-at : goal.invariant-loop-at

@@ -1,5 +1,5 @@
 -- `dict::ros` meets its contract: the place that was found holds the operands of the last ROS.
-use Rattle.dict.specs.LookupLaws.{operand_normal, ros-absent, ros_wrong, ros_is}
+use Rattle.dict.proofs.LookupLaws.{operand_normal, ros-absent, ros_wrong, ros_is}
 use Rattle.dict.proofs.ros.Goals as goal
 
 pub ros_at-requires : goal.ros_at-requires

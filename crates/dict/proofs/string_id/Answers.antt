@@ -1,5 +1,5 @@
 -- `dict::string_id` meets its contract: the one operand, taken for a string id.
-use Rattle.dict.specs.LookupLaws.{one-normal, id_absent, id_is}
+use Rattle.dict.proofs.LookupLaws.{one-normal, id_absent, id_is}
 use Rattle.dict.proofs.string_id.Goals as goal
 
 pub id_of-requires : goal.id_of-requires

@@ -2,7 +2,7 @@
 use Rattle.std.proofs.Common.{arith}
 use Rattle.dict_write.specs.EntryLaws.{none_left, none_refused, none_number, operand_taken, operand_first, measuring_start, measuring_end, measuring_sum, measuring_turn}
 use Rattle.dict_write.specs.ShortLaws.{operands_short}
-use Rattle.dict.specs.LookupLaws.{operands_out}
+use Rattle.dict.proofs.LookupLaws.{operands_out}
 use Rattle.dict_write.proofs.operands_len.Goals as goal
 
 pub loop-left-init : goal.loop-left-init

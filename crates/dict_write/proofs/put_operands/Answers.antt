@@ -1,7 +1,7 @@
 -- `dict_write::put_operands` meets its contract: the operands done stand in the output, and those that are left follow.
 use Rattle.std.proofs.Common.{arith}
 use Rattle.dict_write.specs.EntryLaws.{none_left, none_refused, none_number, operand_taken, operand_first, copying_start, copying_end, copying_room, copying_turn}
-use Rattle.dict.specs.LookupLaws.{operands_out}
+use Rattle.dict.proofs.LookupLaws.{operands_out}
 use Rattle.dict_write.proofs.put_operands.Goals as goal
 
 pub loop-left-init : goal.loop-left-init

@@ -1,7 +1,7 @@
 -- `private_dicts::matrix_len` meets its contract: the Font DICT of the FD is an item of the FD array.
 use Rattle.std.proofs.Common.{ap, arith, length, ◌∙◌, ◌≤◌}
 use Rattle.index.specs.IndexLaws.{item-short}
-use Rattle.dict.specs.NotedLaws.{nowhere_placed}
+use Rattle.dict.proofs.NotedLaws.{nowhere_placed}
 use Rattle.private_dicts.specs.PrivatesLaws.{fd-within}
 use Rattle.private_dicts.specs.MatrixLaws.{matrix_bytes, matrix_short}
 use Rattle.private_dicts.proofs.matrix_len.Goals as goal

@@ -1,7 +1,7 @@
 -- `private_dicts::put_font_dict` meets its contract: the FontMatrix, and then Private.
 use Rattle.std.proofs.Common.{arith, refl}
 use Rattle.octets.specs.PutLaws.{wrote_then, wrote_as}
-use Rattle.dict.specs.NotedLaws.{nowhere_placed}
+use Rattle.dict.proofs.NotedLaws.{nowhere_placed}
 use Rattle.dict_write.specs.WriteLaws.{room-then}
 use Rattle.private_dicts.specs.PrivatesLaws.{fd-within}
 use Rattle.private_dicts.specs.MatrixLaws.{matrix_bytes, matrix_room}

@@ -2,7 +2,7 @@
 use Rattle.std.proofs.Common.{arith, refl, true}
 use Rattle.octets.specs.PutLaws.{wrote_as}
 use Rattle.type2_number.specs.EncodingLaws.{length-one, length_two, length_three, one-neg, three-neg}
-use Rattle.type2_number.specs.FormsLaws.{form_bytes}
+use Rattle.type2_number.proofs.FormsLaws.{form_bytes}
 use Rattle.type2_number.proofs.put_negative.Goals as goal
 
 pub put_byte-requires : goal.put_byte-requires

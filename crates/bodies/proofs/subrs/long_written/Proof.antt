@@ -7,7 +7,7 @@ use native.Mathlib.Omega.{arith}
 use borrow.Author.Rules.{rules}
 use Rattle.octets.specs.Octets.{Octets}
 use Rattle.index.specs.Index.{items_of}
-use Rattle.index.specs.FoundLaws.{item_octets}
+use Rattle.index.proofs.FoundLaws.{item_octets}
 use Rattle.prune.specs.Renumber.{Calls}
 use Rattle.record.specs.Record.{rows_of}
 use Rattle.reach.specs.Reach.{site_of}

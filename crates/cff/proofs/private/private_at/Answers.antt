@@ -1,5 +1,5 @@
 -- `cff::private::private_at` meets its contract: nothing was noted of the DICT.
-use Rattle.dict.specs.NotedLaws.{nowhere_placed}
+use Rattle.dict.proofs.NotedLaws.{nowhere_placed}
 use Rattle.cff.proofs.private.private_at.Goals as goal
 
 pub named_private-requires : goal.named_private-requires

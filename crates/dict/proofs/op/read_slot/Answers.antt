@@ -1,7 +1,7 @@
 -- `dict::op::read_slot` meets its contract: each operator that reading asks for has its own slot.
 use Rattle.std.proofs.Common.{ap, sym}
 use Rattle.dict.specs.Noted.{asked_by_reading, slot_of}
-use Rattle.dict.specs.NotedLaws.{slot-none}
+use Rattle.dict.proofs.NotedLaws.{slot-none}
 use Rattle.dict.proofs.op.read_slot.Goals as goal
 
 pub returns-in-15 : goal.returns-in-15

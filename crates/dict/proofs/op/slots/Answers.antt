@@ -1,6 +1,6 @@
 -- `dict::op::slots` meets its contract: by the table.
 use Rattle.std.proofs.Common.{arith}
-use Rattle.dict.specs.NotedLaws.{many_subsetting, many_reading}
+use Rattle.dict.proofs.NotedLaws.{many_subsetting, many_reading}
 use Rattle.dict.proofs.op.slots.Goals as goal
 
 pub returns-then-subsetting : goal.returns-then-subsetting

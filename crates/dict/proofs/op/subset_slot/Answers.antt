@@ -1,7 +1,7 @@
 -- `dict::op::subset_slot` meets its contract: each operator that subsetting asks for has its own slot.
 use Rattle.std.proofs.Common.{ap, sym}
 use Rattle.dict.specs.Noted.{asked_by_subsetting, slot_of}
-use Rattle.dict.specs.NotedLaws.{slot-none}
+use Rattle.dict.proofs.NotedLaws.{slot-none}
 use Rattle.dict.proofs.op.subset_slot.Goals as goal
 
 pub returns-in-5 : goal.returns-in-5

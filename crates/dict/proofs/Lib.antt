@@ -1,0 +1,4 @@
+pub mod LookupLaws
+pub mod NotedLaws
+pub mod WalkLaws
+pub mod ProperLaws

@@ -1,0 +1,428 @@
+-- Laws of looking an entry up: the place that was found holds the operands of the last entry, and what one, two or three operands say.
+use Prim.Native.Nat.{ℕ, zero, suc, ◌+◌, ◌-◌, ◌≤◌, ◌<◌}
+use Rattle.std.specs.Prelude.{◌≡◌, Bool, true, false, not, ltb, eqb, length, get_or}
+use Rattle.std.proofs.Math.Path.{refl}
+use Rattle.std.proofs.Common.{sym, ap, ◌∙◌, subst, not-suc-le-zero, add-one, arith, ltb-true, ltb-false}
+use mathlib.Core.List.{List, [], ◌∷◌}
+use Rattle.std.proofs.Math.ListN.{get_or-eq_default}
+use Rattle.octets.specs.Pick.{pick, pick_ind}
+use Rattle.octets.specs.Octets.{Octets}
+use Rattle.decimal.specs.declared.Decimal.{Decimal}
+use Rattle.decimal.specs.declared.NumberAt.{NumberAt}
+use Rattle.decimal.specs.declared.NumberAt.TheVariants.{Refused as RefusedAt, NotNumber, Num}
+use Rattle.decimal.specs.declared.IdOf.{IdOf}
+use Rattle.decimal.specs.declared.IdOf.TheVariants.{Id, Absent as NoId}
+use Rattle.decimal.specs.declared.OffsetOf.{OffsetOf}
+use Rattle.decimal.specs.declared.OffsetOf.TheVariants.{Refused as RefusedOffset, Offset}
+use Rattle.decimal.specs.Decimal.{nought, Normal}
+use Rattle.decimal.specs.DecimalLaws.{normal-nought}
+use Rattle.decimal.specs.TakenLaws.{whole-normal, number-taken}
+use Rattle.decimal.specs.Values.{trunc_of, clamped, id_of, offset_of, is_two}
+use Rattle.decimal.specs.Number.{Number, refused as refusedNumber, not_number, number, number_at, answer_of}
+use Rattle.decimal.specs.NumberLaws.{form_none}
+use Rattle.dict.specs.Dict.{Entry, Reading, stopped, got, entry_at, followed, readings_from, readings_at, refused, entries, before, gathered, dict_of}
+use Rattle.dict.specs.Lookup.{Operands, absent, operands, last_from, last_of, only, one_of, offset_told, offset_as, offset_in, private_as, private_in, id_as, id_in, is_there, ros_as, ros_in, count_as, cid_count_in, stroked_as, stroked_in, type_as, charstring_type_in}
+use Rattle.dict.specs.Op.{private, paint_type, charstring_type, ros, cid_count}
+use Rattle.dict.specs.Proper.{AllNormal}
+use Rattle.dict.specs.Places.{refusal_of, listed, entries_of, Good, last_place, place_of, or_none, operands_at}
+use Rattle.dict.specs.TokenLaws.{Further, further}
+use Rattle.dict.proofs.WalkLaws.{before-refusal}
+use Rattle.dict.specs.EntryLaws.{Entered, entered}
+use Rattle.dict.specs.declared.Found.{Found}
+use Rattle.dict.specs.declared.Found.TheVariants.{Absent, Entry as FoundAt}
+use Rattle.dict.specs.declared.One.{One}
+use Rattle.dict.specs.declared.One.TheVariants.{Number as The, Absent as NoNumber}
+use Rattle.dict.specs.declared.OffsetIn.TheVariants.{Refused as RefusedIn, At, Absent as NoOffset}
+use Rattle.dict.specs.declared.PrivateIn.{PrivateIn}
+use Rattle.dict.specs.declared.PrivateIn.TheVariants.{Refused as RefusedPrivate, Absent as NoPrivate}
+use Rattle.dict.specs.declared.RosIn.{RosIn}
+use Rattle.dict.specs.declared.RosIn.TheVariants.{None}
+
+no : ◌≡◌ {A = ℕ} 0 1 → ⊥
+no h = omega arith
+
+-- ---- a number's answer, taken apart
+
+num_is : (q : Number) (d : Decimal) (next : ℕ) → answer_of q ≡ Num d next → q ≡ number d next
+num_is (refusedNumber m) d next e = absurd (no cc)
+num_is not_number d next e = absurd (no cc)
+num_is (number x m) d next e = let k : x ≡ d = cc in let l : m ≡ next = cc in rw (k, l)
+
+pub number_out : (b : List ℕ) (at : ℕ) → length b ≤ at → number_at b at ≡ not_number
+number_out b at h =
+    let z : get_or b at 0 ≡ 0 = get_or-eq_default b 0 h in
+    form_none b at (λ q. omega arith) (λ q. omega arith) (λ q. omega arith) (omega arith)
+
+-- ---- the operands from a position on
+
+module _ (b : List ℕ) (at : ℕ) where
+  pub operands_next : (n next : ℕ) (d : Decimal) → number_at b at ≡ number d next → operands_at (suc n) b at ≡ d ∷ operands_at n b next
+  unfolding operands_at
+  operands_next n next d e = rw e
+
+  none_told : (n : ℕ) (q : Number) → number_at b at ≡ q → ((d : Decimal) (next : ℕ) → answer_of q ≡ Num d next → ⊥) → operands_at n b at ≡ []
+  unfolding operands_at
+  none_told zero q e f = refl
+  none_told (suc n) (refusedNumber m) e f = rw e
+  none_told (suc n) not_number e f = rw e
+  none_told (suc n) (number d next) e f = absurd (f d next refl)
+
+  -- no number there: no operand
+  pub operands_none : (n : ℕ) (r : NumberAt) → r ≡ answer_of (number_at b at) → ((d : Decimal) (next : ℕ) → r ≡ Num d next → ⊥) → operands_at n b at ≡ []
+  operands_none n r e f = none_told n (number_at b at) refl (λ d next g. f d next (e ∙ g))
+
+  pub operands_out : (n : ℕ) → length b ≤ at → operands_at n b at ≡ []
+  operands_out n h = none_told n not_number (number_out b at h) (λ d next g. no cc)
+
+-- ---- skipping to the k-th operand: what is left of the way leads to it
+pub record Skipping (b : List ℕ) (start k at left : ℕ) : Type 0 where
+  pub rest : get_or (operands_at (left + 1) b at) left nought ≡ get_or (operands_at (k + 1) b start) k nought
+
+pub skipping_start : (b : List ℕ) (start k : ℕ) → Skipping b start k start k
+skipping_start b start k = record { rest = refl }
+
+module _ (b : List ℕ) (start k at left : ℕ) (w : Skipping b start k at left) where
+  nothing : operands_at (left + 1) b at ≡ [] → nought ≡ get_or (operands_at (k + 1) b start) k nought
+  nothing e = sym (ap (λ (l : List Decimal). get_or l left nought) e) ∙ w.rest
+
+  pub skipping_over : length b ≤ at → nought ≡ get_or (operands_at (k + 1) b start) k nought
+  skipping_over h = nothing (operands_out b at (left + 1) h)
+
+  module _ (r : NumberAt) (e : r ≡ answer_of (number_at b at)) where
+    pub skipping_refused : (n : ℕ) → r ≡ RefusedAt n → nought ≡ get_or (operands_at (k + 1) b start) k nought
+    skipping_refused n f = nothing (operands_none b at (left + 1) r e (λ d next g. no cc))
+
+    pub skipping_none : r ≡ NotNumber → nought ≡ get_or (operands_at (k + 1) b start) k nought
+    skipping_none f = nothing (operands_none b at (left + 1) r e (λ d next g. no cc))
+
+    module _ (d : Decimal) (next : ℕ) (f : r ≡ Num d next) where
+      pub skipping_further : at < length b → (at < next) × (next ≤ length b)
+      skipping_further h = subst (Further b at) (num_is (number_at b at) d next (sym e ∙ f)) (further b at h)
+
+      this : operands_at (left + 1) b at ≡ d ∷ operands_at left b next
+      this = ap (λ (n : ℕ). operands_at n b at) (add-one left) ∙ operands_next b at left next d (num_is (number_at b at) d next (sym e ∙ f))
+
+      pub skipping_here : left ≡ 0 → d ≡ get_or (operands_at (k + 1) b start) k nought
+      skipping_here z = sym (ap (λ (n : ℕ). get_or (d ∷ operands_at left b next) n nought) z) ∙ sym (ap (λ (l : List Decimal). get_or l left nought) this) ∙ w.rest
+
+      second : (n : ℕ) → left ≡ suc n → get_or (operands_at left b next) n nought ≡ get_or (operands_at (k + 1) b start) k nought
+      second n z = sym (ap (λ (m : ℕ). get_or (d ∷ operands_at left b next) m nought) z) ∙ sym (ap (λ (l : List Decimal). get_or l left nought) this) ∙ w.rest
+
+      pub skipping_turn : (left ≡ 0 → ⊥) → Skipping b start k next (left - 1)
+      skipping_turn z =
+          let p : left ≡ suc (left - 1) = omega arith in
+          let q : left - 1 + 1 ≡ left = omega arith in
+          record { rest = ap (λ (m : ℕ). get_or (operands_at m b next) (left - 1) nought) q ∙ second (left - 1) p }
+
+-- ---- what was read stands where it was read
+
+unfoldable pub Chain : List ℕ → ℕ → List Reading → Type 0
+Chain b at [] = Unit
+Chain b at (stopped n ∷ rs) = 0 < n
+Chain b at (got op ds end next ∷ rs) = (operands_at (length ds) b at ≡ ds) × Chain b next rs
+
+module _ (b : List ℕ) where
+  followed-chain : (at : ℕ) (r : Reading) → Entered b at r → (f : ℕ → List Reading) → ((next : ℕ) → Chain b next (f next)) → Chain b at (followed r f)
+  unfolding Chain
+  followed-chain at (stopped n) p f h = p
+  followed-chain at (got op ds end next) p f h = (p.here, h next)
+
+  from-chain : (k at : ℕ) → Chain b at (readings_from k b at)
+  unfolding Chain readings_from
+  from-chain zero at = tt
+  from-chain (suc k) at =
+      pick_ind (Chain b at) (ltb at (length b)) _ _ (λ e. followed-chain at (entry_at b at) (entered b at) (readings_from k b) (from-chain k)) (λ e. tt)
+
+  pub chain : (at : ℕ) → Chain b at (readings_at b at)
+  unfolding readings_at
+  chain at = from-chain (length b) at
+
+-- a place holds these operands
+pub record Held (b : List ℕ) (start count : ℕ) (ds : List Decimal) : Type 0 where
+  pub counted : count ≡ length ds
+  pub here : operands_at (length ds) b start ≡ ds
+
+abbrev Matches : List ℕ → Found → Operands → Type 0
+Matches b Absent absent = Unit
+Matches b Absent (operands ds) = ⊥
+Matches b (FoundAt start count) absent = ⊥
+Matches b (FoundAt start count) (operands ds) = Held b start count ds
+
+module _ (b : List ℕ) (op : ℕ) where
+  pick-matches : (t : Bool) (f g : Found) (o p : Operands) → Matches b f o → Matches b g p → Matches b (pick t f g) (pick t o p)
+  pick-matches true f g o p m n = m
+  pick-matches false f g o p m n = n
+
+  last-matches : (rs : List Reading) (at : ℕ) (found : Found) (o : Operands) → Chain b at rs → Matches b found o → Matches b (last_place op at found rs) (last_from op o (listed rs))
+  unfolding Chain last_place last_from listed
+  last-matches [] at found o c m = m
+  last-matches (stopped n ∷ rs) at found o c m = m
+  last-matches (got p ds end next ∷ rs) at found o c m =
+      last-matches rs next (pick (eqb p op) (FoundAt at (length ds)) found) (pick (eqb p op) (operands ds) o) c.1
+      (pick-matches (eqb p op) (FoundAt at (length ds)) found (operands ds) o (record { counted = refl; here = c.0 }) m)
+
+  place-matches : Matches b (place_of op b) (last_of op (entries_of b))
+  unfolding last_of
+  place-matches = last-matches (readings_at b 0) 0 Absent absent (chain b 0) tt
+
+-- the operands at the place that was found are those of the last entry
+pub record Last (b : List ℕ) (op start count : ℕ) : Type 0 where
+  pub numbers : List Decimal
+  pub last : last_of op (entries_of b) ≡ operands numbers
+  pub held : Held b start count numbers
+
+absent-of : (b : List ℕ) (o : Operands) → Matches b Absent o → o ≡ absent
+absent-of b absent m = refl
+absent-of b (operands ds) m = absurd m
+
+last-of : (b : List ℕ) (op start count : ℕ) (o : Operands) → last_of op (entries_of b) ≡ o → Matches b (FoundAt start count) o → Last b op start count
+last-of b op start count absent e m = absurd m
+last-of b op start count (operands ds) e m = record { numbers = ds; last = e; held = m }
+
+module _ (b : List ℕ) (op : ℕ) (r : Found) (e : r ≡ place_of op b) where
+  found-matches : (f : Found) → r ≡ f → Matches b f (last_of op (entries_of b))
+  found-matches f q = subst (λ (x : Found). Matches b x (last_of op (entries_of b))) (sym e ∙ q) (place-matches b op)
+
+  pub none_last : r ≡ Absent → last_of op (entries_of b) ≡ absent
+  none_last q = absent-of b (last_of op (entries_of b)) (found-matches Absent q)
+
+  pub found-last : (start count : ℕ) → r ≡ FoundAt start count → Last b op start count
+  found-last start count q = last-of b op start count (last_of op (entries_of b)) refl (found-matches (FoundAt start count) q)
+
+-- ---- the k-th of them
+
+module _ (b : List ℕ) where
+  operand_same : (k n m at : ℕ) (q : Number) → number_at b at ≡ q → k < n → k < m → get_or (operands_at n b at) k nought ≡ get_or (operands_at m b at) k nought
+  unfolding operands_at
+  operand_same k zero m at q e h l = absurd (not-suc-le-zero h)
+  operand_same k (suc n) zero at q e h l = absurd (not-suc-le-zero l)
+  operand_same k (suc n) (suc m) at (refusedNumber x) e h l = rw e
+  operand_same k (suc n) (suc m) at not_number e h l = rw e
+  operand_same zero (suc n) (suc m) at (number d next) e h l = rw e
+  operand_same (suc k) (suc n) (suc m) at (number d next) e h l = rw e (operand_same k n m next (number_at b next) refl (omega arith) (omega arith))
+
+  held_operand : (start count : ℕ) (ds : List Decimal) → Held b start count ds → (k : ℕ) → k < count → get_or (operands_at (k + 1) b start) k nought ≡ get_or ds k nought
+  held_operand start count ds h k l =
+      operand_same k (k + 1) (length ds) start (number_at b start) refl (omega arith) (omega (arith, h.counted)) ∙ ap (λ (x : List Decimal). get_or x k nought) h.here
+
+  pub last_operand : (op start count : ℕ) (l : Last b op start count) (k : ℕ) (v : Decimal) → k < count → v ≡ get_or (operands_at (k + 1) b start) k nought → v ≡ get_or l.numbers k nought
+  last_operand op start count l k v h e = e ∙ held_operand start count l.numbers l.held k h
+
+-- ---- one operand
+
+only_one : (ds : List Decimal) → length ds ≡ 1 → The (get_or ds 0 nought) ≡ only (operands ds)
+only_one [] e = absurd (no e)
+only_one (d ∷ []) e = refl
+only_one (d ∷ f ∷ ds) e = absurd (no (omega arith))
+
+only_other : (ds : List Decimal) → (length ds ≡ 1 → ⊥) → NoNumber ≡ only (operands ds)
+only_other [] e = refl
+only_other (d ∷ []) e = absurd (e refl)
+only_other (d ∷ f ∷ ds) e = refl
+
+module _ (b : List ℕ) (op : ℕ) (r : Found) (e : r ≡ place_of op b) where
+  pub one-absent : r ≡ Absent → NoNumber ≡ one_of op (entries_of b)
+  one-absent q = sym (ap only (none_last b op r e q))
+
+  module _ (start count : ℕ) (q : r ≡ FoundAt start count) where
+    pub one_other : (count ≡ 1 → ⊥) → NoNumber ≡ one_of op (entries_of b)
+    one_other n =
+        let l = found-last b op r e start count q in
+        only_other l.numbers (λ z. n (l.held.counted ∙ z)) ∙ sym (ap only l.last)
+
+    pub one_is : count ≡ 1 → (v : Decimal) → v ≡ get_or (operands_at 1 b start) 0 nought → The v ≡ one_of op (entries_of b)
+    one_is n v f =
+        let l = found-last b op r e start count q in
+        ap The (last_operand b op start count l 0 v (omega arith) f) ∙ only_one l.numbers (sym l.held.counted ∙ n) ∙ sym (ap only l.last)
+
+  pub there_not : r ≡ Absent → false ≡ is_there (last_of op (entries_of b))
+  there_not q = sym (ap is_there (none_last b op r e q))
+
+  pub there_is : (start count : ℕ) → r ≡ FoundAt start count → true ≡ is_there (last_of op (entries_of b))
+  there_is start count q = sym (ap is_there (found-last b op r e start count q).last)
+
+-- ---- its numbers are normal
+
+module _ (b : List ℕ) (o : Octets b) where
+  none-normal : (q : Number) (f : ℕ → List Decimal) → ((d : Decimal) (next : ℕ) → q ≡ number d next → Normal d) → ((next : ℕ) → AllNormal (f next)) → AllNormal (or_none q f)
+  unfolding AllNormal
+  none-normal (refusedNumber n) f h l = tt
+  none-normal not_number f h l = tt
+  none-normal (number d next) f h l = (h d next refl, l next)
+
+  number-normal : (at : ℕ) (d : Decimal) (next : ℕ) → number_at b at ≡ number d next → (t : Bool) → ltb at (length b) ≡ t → Normal d
+  number-normal at d next e true h = (number-taken b at d next o (ltb-true at (length b) h) e).normal
+  number-normal at d next e false h = absurd (no (let f = number_out b at (ltb-false at (length b) h) in cc))
+
+  pub operands_normal : (n at : ℕ) → AllNormal (operands_at n b at)
+  unfolding operands_at AllNormal
+  operands_normal zero at = tt
+  operands_normal (suc n) at =
+      none-normal (number_at b at) (operands_at n b) (λ d next e. number-normal at d next e (ltb at (length b)) refl) (operands_normal n)
+
+  pub nought-normal : Normal nought
+  nought-normal = subst Normal (normal-nought false 0 0) (whole-normal false 0 (omega arith))
+
+  one-of : (ds : List Decimal) (k : ℕ) → AllNormal ds → Normal (get_or ds k nought)
+  unfolding AllNormal
+  one-of [] k h = nought-normal
+  one-of (d ∷ ds) zero h = h.0
+  one-of (d ∷ ds) (suc k) h = one-of ds k h.1
+
+  pub operand_normal : (n at k : ℕ) (v : Decimal) → v ≡ get_or (operands_at n b at) k nought → Normal v
+  operand_normal n at k v e = subst Normal (sym e) (one-of (operands_at n b at) k (operands_normal n at))
+
+  only-normal : (f : Found) (p : Operands) → Matches b f p → (v : Decimal) → only p ≡ The v → Normal v
+  only-normal f absent m v e = absurd (no cc)
+  only-normal f (operands []) m v e = absurd (no cc)
+  only-normal Absent (operands (d ∷ [])) m v e = absurd m
+  only-normal (FoundAt start count) (operands (d ∷ [])) m v e =
+      let k : d ≡ v = cc in
+      let l = subst AllNormal m.here (operands_normal 1 start) in
+      subst Normal k (one-of (d ∷ []) 0 l)
+  only-normal f (operands (d ∷ x ∷ ds)) m v e = absurd (no cc)
+
+  pub one-normal : (op : ℕ) (r : One) (v : Decimal) → r ≡ one_of op (entries_of b) → r ≡ The v → Normal v
+  one-normal op r v e f = only-normal (place_of op b) (last_of op (entries_of b)) (place-matches b op) v (sym e ∙ f)
+
+-- ---- what the one operand says
+
+module _ (es : List Entry) (op : ℕ) (r : One) (e : r ≡ one_of op es) where
+  pub offset-absent : r ≡ NoNumber → NoOffset ≡ offset_in op es
+  offset-absent f = ap offset_as (sym f ∙ e)
+
+  module _ (v : Decimal) (f : r ≡ The v) (q : OffsetOf) (g : q ≡ offset_of v) where
+    pub offset_refused : (n : ℕ) → q ≡ RefusedOffset n → RefusedIn n ≡ offset_in op es
+    offset_refused n h = ap offset_told (sym h ∙ g) ∙ ap offset_as (sym f ∙ e)
+
+    pub offset_at : (at : ℕ) → q ≡ Offset at → At at ≡ offset_in op es
+    offset_at at h = ap offset_told (sym h ∙ g) ∙ ap offset_as (sym f ∙ e)
+
+  pub id_absent : r ≡ NoNumber → NoId ≡ id_in op es
+  id_absent f = ap id_as (sym f ∙ e)
+
+  pub id_is : (v : Decimal) (q : IdOf) → r ≡ The v → q ≡ id_of v → q ≡ id_in op es
+  id_is v q f g = g ∙ ap id_as (sym f ∙ e)
+
+-- a string id has 16 bits
+low_id : (t s u : Bool) (m sid : ℕ) → ltb m 65536 ≡ u → pick t (Id 0) (pick s NoId (pick u (Id m) NoId)) ≡ Id sid → sid < 65536
+low_id true s u m sid h e = let z : 0 ≡ sid = cc in omega arith
+low_id false true u m sid h e = absurd (no cc)
+low_id false false true m sid h e = let z : m ≡ sid = cc in omega (arith, ltb-true m 65536 h)
+low_id false false false m sid h e = absurd (no cc)
+
+pub id_low : (o : One) (sid : ℕ) → id_as o ≡ Id sid → sid < 65536
+id_low NoNumber sid e = absurd (no cc)
+id_low (The d) sid e = low_id (eqb (trunc_of d) 0) d.neg (ltb (trunc_of d) 65536) (trunc_of d) sid refl e
+
+module _ (es : List Entry) (r : One) where
+  pub count-absent : r ≡ one_of cid_count es → r ≡ NoNumber → 8720 ≡ cid_count_in es
+  count-absent e f = ap count_as (sym f ∙ e)
+
+  pub count_is : (v : Decimal) (n : ℕ) → r ≡ one_of cid_count es → r ≡ The v → n ≡ clamped 4294967295 v → n ≡ cid_count_in es
+  count_is v n e f g = g ∙ ap count_as (sym f ∙ e)
+
+  pub type_absent : r ≡ one_of charstring_type es → r ≡ NoNumber → 0 ≡ charstring_type_in es
+  type_absent e f = ap type_as (sym f ∙ e)
+
+  module _ (v : Decimal) (t : Bool) (e : r ≡ one_of charstring_type es) (f : r ≡ The v) (g : t ≡ is_two v) where
+    pub type_two : t ≡ true → 0 ≡ charstring_type_in es
+    type_two h = ap (λ (x : Bool). pick x 0 3) (sym h ∙ g) ∙ ap type_as (sym f ∙ e)
+
+    pub type_other : t ≡ false → 3 ≡ charstring_type_in es
+    type_other h = ap (λ (x : Bool). pick x 0 3) (sym h ∙ g) ∙ ap type_as (sym f ∙ e)
+
+-- ---- PaintType
+
+module _ (es : List Entry) (r : One) (e : r ≡ one_of paint_type es) where
+  pub stroked_absent : r ≡ NoNumber → false ≡ stroked_in es
+  stroked_absent f = ap stroked_as (sym f ∙ e)
+
+  pub stroked_number : (v : Decimal) → r ≡ The v → not (eqb v.digits 0) ≡ stroked_in es
+  stroked_number v f = ap stroked_as (sym f ∙ e)
+
+-- ---- two operands, and three
+
+private-two : (ds : List Decimal) → length ds ≡ 2 → private_as (operands (get_or ds 0 nought ∷ get_or ds 1 nought ∷ [])) ≡ private_as (operands ds)
+private-two [] e = absurd (no (omega arith))
+private-two (s ∷ []) e = absurd (no (omega arith))
+private-two (s ∷ o ∷ []) e = refl
+private-two (s ∷ o ∷ d ∷ ds) e = absurd (no (omega arith))
+
+private_other : (ds : List Decimal) → (length ds ≡ 2 → ⊥) → RefusedPrivate 2 ≡ private_as (operands ds)
+private_other [] n = refl
+private_other (s ∷ []) n = refl
+private_other (s ∷ o ∷ []) n = absurd (n refl)
+private_other (s ∷ o ∷ d ∷ ds) n = refl
+
+ros-three : (ds : List Decimal) → length ds ≡ 3 → ros_as (operands (get_or ds 0 nought ∷ get_or ds 1 nought ∷ get_or ds 2 nought ∷ [])) ≡ ros_as (operands ds)
+ros-three [] e = absurd (no (omega arith))
+ros-three (r ∷ []) e = absurd (no (omega arith))
+ros-three (r ∷ o ∷ []) e = absurd (no (omega arith))
+ros-three (r ∷ o ∷ s ∷ []) e = refl
+ros-three (r ∷ o ∷ s ∷ d ∷ ds) e = absurd (no (omega arith))
+
+ros_other : (ds : List Decimal) → (length ds ≡ 3 → ⊥) → None ≡ ros_as (operands ds)
+ros_other [] n = refl
+ros_other (r ∷ []) n = refl
+ros_other (r ∷ o ∷ []) n = refl
+ros_other (r ∷ o ∷ s ∷ []) n = absurd (n refl)
+ros_other (r ∷ o ∷ s ∷ d ∷ ds) n = refl
+
+module _ (b : List ℕ) (r : Found) where
+  module _ (e : r ≡ place_of private b) where
+    pub private-absent : r ≡ Absent → NoPrivate ≡ private_in (entries_of b)
+    private-absent q = sym (ap private_as (none_last b private r e q))
+
+    module _ (start count : ℕ) (q : r ≡ FoundAt start count) where
+      pub private_wrong : (count ≡ 2 → ⊥) → RefusedPrivate 2 ≡ private_in (entries_of b)
+      private_wrong n =
+          let l = found-last b private r e start count q in
+          private_other l.numbers (λ z. n (l.held.counted ∙ z)) ∙ sym (ap private_as l.last)
+
+      pub private_is : count ≡ 2 → (s o : Decimal) → s ≡ get_or (operands_at 1 b start) 0 nought → o ≡ get_or (operands_at 2 b start) 1 nought
+          → (x : PrivateIn) → x ≡ private_as (operands (s ∷ o ∷ [])) → x ≡ private_in (entries_of b)
+      private_is n s o f g x h =
+          let l = found-last b private r e start count q in
+          let u = last_operand b private start count l 0 s (omega arith) f in
+          let v = last_operand b private start count l 1 o (omega arith) g in
+          h ∙ ap (λ (y : Decimal). private_as (operands (y ∷ o ∷ []))) u ∙ ap (λ (y : Decimal). private_as (operands (get_or l.numbers 0 nought ∷ y ∷ []))) v
+          ∙ private-two l.numbers (sym l.held.counted ∙ n) ∙ sym (ap private_as l.last)
+
+  module _ (e : r ≡ place_of ros b) where
+    pub ros-absent : r ≡ Absent → None ≡ ros_in (entries_of b)
+    ros-absent q = sym (ap ros_as (none_last b ros r e q))
+
+    module _ (start count : ℕ) (q : r ≡ FoundAt start count) where
+      pub ros_wrong : (count ≡ 3 → ⊥) → None ≡ ros_in (entries_of b)
+      ros_wrong n =
+          let l = found-last b ros r e start count q in
+          ros_other l.numbers (λ z. n (l.held.counted ∙ z)) ∙ sym (ap ros_as l.last)
+
+      pub ros_is : count ≡ 3 → (g o s : Decimal) → g ≡ get_or (operands_at 1 b start) 0 nought → o ≡ get_or (operands_at 2 b start) 1 nought
+          → s ≡ get_or (operands_at 3 b start) 2 nought → (x : RosIn) → x ≡ ros_as (operands (g ∷ o ∷ s ∷ [])) → x ≡ ros_in (entries_of b)
+      ros_is n g o s h i j x k =
+          let l = found-last b ros r e start count q in
+          let u = last_operand b ros start count l 0 g (omega arith) h in
+          let v = last_operand b ros start count l 1 o (omega arith) i in
+          let w = last_operand b ros start count l 2 s (omega arith) j in
+          k ∙ ap (λ (y : Decimal). ros_as (operands (y ∷ o ∷ s ∷ []))) u ∙ ap (λ (y : Decimal). ros_as (operands (get_or l.numbers 0 nought ∷ y ∷ s ∷ []))) v
+          ∙ ap (λ (y : Decimal). ros_as (operands (get_or l.numbers 0 nought ∷ get_or l.numbers 1 nought ∷ y ∷ []))) w
+          ∙ ros-three l.numbers (sym l.held.counted ∙ n) ∙ sym (ap ros_as l.last)
+
+-- ---- a DICT that is not refused holds the entries that were read
+
+gathered-listed : (b : List ℕ) (at : ℕ) (rs : List Reading) → Chain b at rs → refusal_of (gathered rs) ≡ 0 → gathered rs ≡ entries (listed rs)
+unfolding Chain gathered listed
+gathered-listed b at [] c e = refl
+gathered-listed b at (stopped n ∷ rs) c e = absurd (no (omega arith))
+gathered-listed b at (got op ds end next ∷ rs) c e =
+    ap (before (record { op = op; operands = ds }))
+    (gathered-listed b next rs c.1 (sym (before-refusal (record { op = op; operands = ds }) (gathered rs)) ∙ e))
+
+pub good-entries : (b : List ℕ) → Good b → dict_of b ≡ entries (entries_of b)
+unfolding dict_of
+good-entries b g = gathered-listed b 0 (readings_at b 0) (chain b 0) g.accepted
+
+pub entries_are : (b : List ℕ) (es : List Entry) → dict_of b ≡ entries es → entries_of b ≡ es
+entries_are b es e = let g = good-entries b (record { accepted = ap refusal_of e }) in cc

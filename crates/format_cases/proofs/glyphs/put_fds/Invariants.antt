@@ -1,0 +1,20 @@
+-- The invariant: the cursor stands before glyph g, and writing the FDs from there on gives what writing all gives.
+use Rattle.std.proofs.Common.{drop, ◌+◌, ◌-◌, ◌≡◌, ◌≤◌}
+use Rattle.index.specs.Write.{table_bytes}
+use Rattle.charset.specs.FdPlaces.{fds_of, StandsFd}
+use Rattle.charset.specs.declared.fd_select.FdSelect.{FdSelect}
+use Rattle.charset.specs.declared.fd_select.FdCursor.{FdCursor}
+use Rattle.cases.specs.Writing.{Writing}
+use Rattle.format_cases.proofs.glyphs.put_fds.Given as goal
+
+-- the FDSelect of its first cursor
+abbrev pub of : FdCursor → FdSelect
+of u = record { count = u.count; first = u.end; wide = u.wide; at = u.at }
+
+abbrev pub invariant-loop-g : goal.invariant-loop-g
+invariant-loop-g l =
+    StandsFd l.font (of l.initial.u) l.g l.u × (l.g ≤ l.n) × (l.p ≡ l.at + l.g)
+    × Writing l.initial.out l.at (table_bytes 1 (fds_of l.font (of l.initial.u) l.n)) l.out l.p (table_bytes 1 (drop l.g (fds_of l.font (of l.initial.u) l.n)))
+
+abbrev pub decreases-loop-g : goal.decreases-loop-g
+decreases-loop-g l = l.n - l.g

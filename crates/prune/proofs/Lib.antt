@@ -1,0 +1,4 @@
+pub mod BesideLaws
+pub mod Examples
+pub mod Unfolds
+pub mod WalkLaws

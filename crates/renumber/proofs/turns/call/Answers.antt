@@ -1,0 +1,9 @@
+-- `renumber::turns::call` meets its contract: a call takes the number that is held.
+use Rattle.renumber.specs.CodeLaws.{held_as, call_held}
+use Rattle.renumber.proofs.turns.call.Goals as goal
+
+pub new_operand-requires : goal.new_operand-requires
+new_operand-requires c = (c.requires.0, held_as _ _ c.in-Number.is c.requires.1)
+
+pub returns-in-Number : goal.returns-in-Number
+returns-in-Number c = call_held _ _ _ _ c.in-Number.is c.new_operand.ensures

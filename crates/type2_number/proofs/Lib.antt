@@ -1,0 +1,2 @@
+pub mod FormsExamples
+pub mod FormsLaws
