@@ -10,8 +10,8 @@ use Rattle.cff.specs.Font.{got, Program, read_font}
 use Rattle.subset.specs.Kept.{is_in}
 use Rattle.subset.specs.Cut.{subset, cut_of}
 use Rattle.subset.specs.CidFont.{cid_font, cid_program, reads, reach}
-use Rattle.subset.specs.CidExample.{renumbered_bytes, renumbers}
-use Rattle.subset.specs.NameExample as named
+use Rattle.subset.proofs.CidExample.{renumbered_bytes, renumbers}
+use Rattle.subset.proofs.NameExample as named
 use Rattle.faithful.specs.Faithful.{unfolded, IsKept, Holds}
 use Rattle.traced.specs.Has.{here, there}
 use Rattle.traced.specs.HeldExample as traced

@@ -15,7 +15,7 @@ use Rattle.cff.specs.Font.{Program}
 use Rattle.subset.specs.Kept.{is_in, keeps, kept_of, sorted_by, written_order, used_fds, locals_of}
 use Rattle.subset.specs.KeptListLaws.{those_in, sorted_in}
 use Rattle.subset.specs.Pruned.{Bodies, each, rank, reached, local_set, global_set, renumbered_body, renumbered_subrs, stubbed_from, mapped, calls_in, calls_across, renumbered, charstrings_of, stubbed, copied, Pruned, or_stubbed, pruned}
-use Rattle.subset.specs.AlikeLaws.{each-alike, mapped-alike, stubbed-alike, renumbered-alike}
+use Rattle.subset.proofs.AlikeLaws.{each-alike, mapped-alike, stubbed-alike, renumbered-alike}
 use Rattle.alike.specs.Alike.{SameFor, Alike}
 
 -- the calls of a glyph or a local subroutine, by how many local and how many global subroutines the font has

@@ -20,7 +20,7 @@ use Rattle.subset.specs.Texts.{new_id}
 use Rattle.subset.specs.Pruned.{Bodies}
 use Rattle.subset.specs.Codes.{Coded}
 use Rattle.subset.specs.Subset.{ros_entry, private_dict, private_part, font_dict, private_parts, font_dicts, cids_of, new_fds, own_by_cid, subset_by_name, subset_by_cid, subset_bytes}
-use Rattle.subset.specs.AlikeLaws.{cids-alike}
+use Rattle.subset.proofs.AlikeLaws.{cids-alike}
 use Rattle.alike.specs.Alike.{Alike}
 use Rattle.alike.specs.TopLaws.{keyed-same, ros-same, count_same, copied-same, named-same, names_same, id_same, texts-same, matrix_same, used-same}
 

@@ -31,7 +31,7 @@ use Rattle.subset.specs.Texts.{Named, named_by, named_entries, texts_of, name_of
 use Rattle.subset.specs.Codes.{code_of, glyph_by, or_else, last_named, Pair, pair_of, pairs_from, Coded, none, pairs, coded_by_lem, coded_if}
 use Rattle.subset.specs.Subset.{copied_bytes, ros_texts, named, own_by_name, own_by_cid, matrix_of}
 use Rattle.subset.specs.Cut.{is_glyph, is_found, all_found_lem, is_expert, unsupported_in, own_of}
-use Rattle.subset.specs.AlikeLaws.{names-alike}
+use Rattle.subset.proofs.AlikeLaws.{names-alike}
 use Rattle.alike.specs.Alike.{places, without_all, Alike}
 
 -- ---- entries of other operators do not say what the last of one is

@@ -21,7 +21,7 @@ use Rattle.cff.specs.Font.{got, Coding, standard, expert, custom, coding_refusal
 use Rattle.cff.specs.ReadsLaws.{no}
 use Rattle.subset.specs.Kept.{private_of}
 use Rattle.subset.specs.Texts.{names_of}
-use Rattle.subset.specs.TextsLaws.{ids-length, names-length}
+use Rattle.subset.proofs.TextsLaws.{ids-length, names-length}
 use Rattle.subset.specs.Pruned.{Bodies}
 use Rattle.subset.specs.Codes.{Pair, Coded, none, predefined, pairs, pair_bytes, encoding_bytes, coded_bytes, coded_at}
 use Rattle.subset.specs.Subset.{private_dict, private_part, own_by_name, top_by_name, new_ids, one_local_lem, subset_by_name}

@@ -35,7 +35,7 @@ use Rattle.subset.specs.Subset.{matrix_of}
 use Rattle.subset.specs.Cut.{Outcome, subset, cut_read, cut_with, cut_of}
 use Rattle.subset.specs.Examples.{sheet, sheet_subset, the_sheet}
 use Rattle.subset.specs.CidFont.{cid_font, cid_program, reads, reach, wrong_reach}
-use Rattle.subset.specs.CidExample.{renumbered_bytes, unrenumbered_bytes, renumbers, stubs, copies}
+use Rattle.subset.proofs.CidExample.{renumbered_bytes, unrenumbered_bytes, renumbers, stubs, copies}
 use Rattle.faithful.specs.Faithful.{unfolded, IsKept, found_for, Recorded, Holds, Faithful}
 use Rattle.faithful.specs.Matrices.{matrix_for, KeepsMatrices, Scaled}
 use Rattle.faithful.specs.Codes.{KeepsCodes}

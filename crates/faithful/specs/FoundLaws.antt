@@ -22,7 +22,7 @@ use Rattle.subset.specs.Subset.{named, own_by_name, new_ids, cids_of}
 use Rattle.subset.specs.Cut.{is_glyph, is_found, all_found_lem}
 use Rattle.subset.specs.KeptListLaws.{in_none, in_head, in_more, in_cases, in_at, in_place, Distinct, one, sorted_in, sorted-distinct}
 use Rattle.faithful.specs.KeptLaws.{kept-distinct}
-use Rattle.subset.specs.TextsLaws.{has_right, new-text, names-has, ids-length, names-length}
+use Rattle.subset.proofs.TextsLaws.{has_right, new-text, names-has, ids-length, names-length}
 
 -- ---- refusal 7 passed
 

@@ -12,7 +12,7 @@ use Rattle.subset.specs.Kept.{is_in, sorted_by}
 use Rattle.subset.specs.Texts.{has_text, name_of, names_of}
 use Rattle.subset.specs.Cut.{all_found_lem}
 use Rattle.subset.specs.KeptListLaws.{in_head, in_more, in_at, Distinct, one, those-distinct}
-use Rattle.subset.specs.TextsLaws.{names-length}
+use Rattle.subset.proofs.TextsLaws.{names-length}
 use Rattle.faithful.specs.FoundLaws.{names-differ}
 use Rattle.order.specs.Order.{kept_in}
 use Rattle.order.specs.Walks.{many_in}

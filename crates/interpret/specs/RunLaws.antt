@@ -6,7 +6,7 @@ use Rattle.std.proofs.Common.{sym, ◌∙◌, append-nil, lt-ltb, le-ltb}
 use Rattle.std.proofs.lemmas.List.{map-append}
 use native.Mathlib.Omega.{arith}
 use Rattle.index.specs.IndexLaws.{items-length}
-use Rattle.unfold.specs.Unfold.{Row, Site, entered, masked, is_glyph, broken as broke}
+use Rattle.unfold.specs.Unfold.{Row, Site, entered, masked, is_glyph}
 use Rattle.row_window.specs.Window.{within, Collecting, Collects}
 use Rattle.row_window.specs.WindowLaws.{collects_none, collects_as, notes_then}
 use Rattle.turns.specs.Turns.{Few, turn_at_lem}

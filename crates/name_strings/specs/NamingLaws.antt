@@ -14,7 +14,7 @@ use Rattle.charset.specs.CharsetFound.{good-small}
 use Rattle.cff.specs.Reads.{GoodFont}
 use Rattle.cff.specs.declared.font.Font.{Font}
 use Rattle.subset.specs.Texts.{has_text, own_strings_lem}
-use Rattle.subset.specs.TextsLaws.{has_left, ids-length as new-ids-length}
+use Rattle.subset.proofs.TextsLaws.{has_left, ids-length as new-ids-length}
 use Rattle.order.specs.Walks.{many_in, order_in}
 use Rattle.order_window.specs.declared.Order.{Order}
 use Rattle.order_window.specs.Window.{glyphs_of, Ordered}

@@ -16,7 +16,7 @@ use Rattle.subset.specs.Texts.{names_of}
 use Rattle.subset.specs.Pruned.{Bodies, mapped}
 use Rattle.subset.specs.Codes.{Coded, coded_bytes, coded_at}
 use Rattle.subset.specs.Subset.{private_dict, private_part, private_parts, own_by_name, top_by_name, new_ids, one_local_lem, subset_by_name}
-use Rattle.subset.specs.TextsLaws.{names-length, ids-length}
+use Rattle.subset.proofs.TextsLaws.{names-length, ids-length}
 use Rattle.order_window.specs.declared.Order.{Order}
 use Rattle.order_window.specs.Window.{glyphs_of, Ordered}
 use Rattle.faithful.specs.ByName.{coded-within, dict-within}

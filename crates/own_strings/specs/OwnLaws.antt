@@ -10,7 +10,7 @@ use Rattle.strings.specs.Strings.{sid_of}
 use Rattle.strings.specs.StringsLaws.{sid_below}
 use Rattle.strings.specs.declared.Sid.{Sid}
 use Rattle.strings.specs.declared.Sid.TheVariants.{Standard, Other}
-use Rattle.subset.specs.TextsLaws.{own-has}
+use Rattle.subset.proofs.TextsLaws.{own-has}
 use Rattle.subset.specs.Texts.{has_text, with_text, own_strings_lem, place_in, new_id}
 
 -- ---- texts among others

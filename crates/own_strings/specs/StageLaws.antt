@@ -18,7 +18,7 @@ use Rattle.subset.specs.Texts.{has_text, own_strings_lem}
 use Rattle.subset.specs.Subset.{new_ids}
 use Rattle.own_strings.specs.declared.Own.{Own}
 use Rattle.own_strings.specs.Slots.{slot_texts, slot_id, slot_ids, word_names, word_ids, own_of, given_id, counted}
-use Rattle.subset.specs.TextsLaws.{has-head, has_right, own-has}
+use Rattle.subset.proofs.TextsLaws.{has-head, has_right, own-has}
 use Rattle.own_strings.specs.OwnLaws.{new-keeps}
 use Rattle.own_strings.specs.SlotLaws.{used, used-first, stage-more, stage-rest, Using, empty, standard, there, new, use-cases, used-empty, used-standard, used_there, used-new, slot-empty, slot-full, other_high, Step, next, stays, step, counted_is, given_is}
 

@@ -10,15 +10,11 @@ pub mod SizeLaws
 pub mod RankLaws
 pub mod EachLaws
 pub mod KeptListLaws
-pub mod TextsLaws
 pub mod ReachedLaws
-pub mod AlikeLaws
 pub mod Examples
 pub mod CidFont
 pub mod BodiesExample
-pub mod CidExample
 pub mod MatrixExample
-pub mod NameExample
 pub mod BiasExample
 pub mod RecordExample
 pub mod StrokedExample

@@ -25,7 +25,7 @@ use Rattle.opentype.specs.Opentype.{place_of}
 use Rattle.cff.specs.Font.{got, standard, Program, char_strings, private_at, ids_at, coding_at, encoding_got, name_parts, font_at, fonts_at, set_at, read_table, read_font, empty_private}
 use Rattle.subset.specs.Kept.{is_in, those, keeps}
 use Rattle.subset.specs.Cut.{all_found_lem}
-use Rattle.subset.specs.NameExample.{name_font, name_program, reads, reach, renumbered_bytes, renumbers}
+use Rattle.subset.proofs.NameExample.{name_font, name_program, reads, reach, renumbered_bytes, renumbers}
 use Rattle.row_window.specs.Window.{placed, gathered, Rising}
 use Rattle.faithful.specs.Faithful.{unfolded, IsKept, Holds}
 use Rattle.traced.specs.Traced.{met_all, row_key, tens_bytes, record_of, traced, trace_program, trace_read, trace_of}

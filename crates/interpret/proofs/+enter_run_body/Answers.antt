@@ -1,0 +1,60 @@
+-- `interpret::run_body` and `enter` meet their contracts: the rows noted so far and what is left to run are the whole run; a call's
+-- row and its subroutine's are the call's.
+use Rattle.std.proofs.Common.{arith}
+use Rattle.interpret.specs.StandingLaws.{stand_start, stand_off, stand_breaks, stand_returns, stand_ends, stand_further, stand_goes, mask_asks, mask-room, stand_masks, call_asks, stand_broken, stand_ended, stand_returned, entered-fits, body-fits, entered_ran, too_deep}
+use Rattle.interpret.proofs.+enter_run_body.Goals as goal
+
+pub enter-returns-then-depth-eq0 : goal.enter-returns-then-depth-eq0
+enter-returns-then-depth-eq0 t c = too_deep _ _ _ c.args.global c.args.number c.args.x _ _ _ c.if-depth-eq0.true
+
+pub enter-run_body-requires : goal.enter-run_body-requires
+enter-run_body-requires t c = (omega (arith, c.decreases, c.if-depth-eq0.false), (c.requires.0, entered-fits c.requires.0 c.args.global _ c.requires.1 c.site_for-site.ensures, body-fits c.requires.0 c.args.global _ c.requires.1 c.site_for-site.ensures c.subr-body.ensures, c.requires.2, c.note_entered-m.ensures.window))
+
+pub enter-returns : goal.enter-returns
+enter-returns t c = entered_ran c.requires.0 c.args.global _ c.requires.1 c.site_for-site.ensures c.subr-body.ensures _ _ _ _ _ c.if-depth-eq0.false c.note_entered-m.ensures c.run_body.ensures
+
+pub run_body-loop-at-init : goal.run_body-loop-at-init
+run_body-loop-at-init t c = stand_start _ _ _ _ _ _ _ _ _ _ c.requires.0 c.requires.1 c.requires.2 c.requires.3 c.requires.4 c.is_glyph-own.ensures
+
+pub run_body-returns-in-Breaks : goal.run_body-returns-in-Breaks
+run_body-returns-in-Breaks t c = stand_breaks c.loop-at.invariant c.loop-at-test.true c.turn_at.ensures c.in-Breaks.is
+
+pub run_body-returns-in-Returns : goal.run_body-returns-in-Returns
+run_body-returns-in-Returns t c = stand_returns c.loop-at.invariant c.loop-at-test.true c.turn_at.ensures _ c.in-Returns.is
+
+pub run_body-returns-in-Ends : goal.run_body-returns-in-Ends
+run_body-returns-in-Ends t c = stand_ends c.loop-at.invariant c.loop-at-test.true c.turn_at.ensures c.in-Ends.is
+
+pub run_body-loop-at-smaller-in-Goes : goal.run_body-loop-at-smaller-in-Goes
+run_body-loop-at-smaller-in-Goes t c =
+    let k = stand_further c.loop-at.invariant c.loop-at-test.true c.turn_at.ensures _ _ _ c.in-Goes.is in
+    omega (arith, k, c.loop-at-test.true)
+
+pub run_body-loop-at-preserved-in-Goes : goal.run_body-loop-at-preserved-in-Goes
+run_body-loop-at-preserved-in-Goes t c = stand_goes c.loop-at.invariant c.loop-at-test.true c.turn_at.ensures _ _ _ c.in-Goes.is
+
+pub run_body-note_mask-n-requires : goal.run_body-note_mask-n-requires
+run_body-note_mask-n-requires t c = mask_asks c.loop-at.invariant c.loop-at-test.true c.turn_at.ensures _ _ c.in-Masks.is
+
+pub run_body-overflow_add-at-in-Masks : goal.run_body-overflow_add-at-in-Masks
+run_body-overflow_add-at-in-Masks t c =
+    let k = mask-room c.loop-at.invariant c.loop-at-test.true c.turn_at.ensures _ _ c.in-Masks.is in
+    omega (arith, k, c.loop-at.invariant.size)
+
+pub run_body-loop-at-preserved-in-Masks : goal.run_body-loop-at-preserved-in-Masks
+run_body-loop-at-preserved-in-Masks t c = stand_masks c.loop-at.invariant c.loop-at-test.true c.turn_at.ensures _ _ c.in-Masks.is c.note_mask-n.ensures
+
+pub run_body-enter-requires : goal.run_body-enter-requires
+run_body-enter-requires t c = (omega (arith, c.decreases), call_asks c.loop-at.invariant c.loop-at-test.true c.turn_at.ensures _ _ _ c.in-Calls.is)
+
+pub run_body-returns-in-Broken : goal.run_body-returns-in-Broken
+run_body-returns-in-Broken t c = stand_broken c.loop-at.invariant c.loop-at-test.true c.turn_at.ensures _ _ _ c.in-Calls.is c.enter.ensures c.in-Broken.is
+
+pub run_body-returns-in-Ended : goal.run_body-returns-in-Ended
+run_body-returns-in-Ended t c = stand_ended c.loop-at.invariant c.loop-at-test.true c.turn_at.ensures _ _ _ c.in-Calls.is c.enter.ensures _ c.in-Ended.is
+
+pub run_body-loop-at-preserved : goal.run_body-loop-at-preserved
+run_body-loop-at-preserved t c = stand_returned c.loop-at.invariant c.loop-at-test.true c.turn_at.ensures _ _ _ c.in-Calls.is c.enter.ensures _ _ c.in-Returned.is
+
+pub run_body-returns : goal.run_body-returns
+run_body-returns t c = stand_off c.loop-at.invariant c.loop-at-test.false

@@ -1,0 +1,17 @@
+-- `short_charstrings::ends` meets its contract: the run answers by the unfolding with no subroutines.
+use Rattle.std.proofs.Common.{arith, lit<, lit≤, refl}
+use Rattle.row_window.specs.MergeLaws.{collecting_none}
+use Rattle.short_charstrings.specs.CodeLaws.{none_ready, ends-none, ends-met}
+use Rattle.short_charstrings.proofs.ends.Goals as goal
+
+pub returns-then-code-lt1 : goal.returns-then-code-lt1
+returns-then-code-lt1 c = ends-none _ c.if-code-lt1.true
+
+pub run_glyph-requires : goal.run_glyph-requires
+run_glyph-requires c = (none_ready _ refl, lit< tt, omega (arith, c.requires), collecting_none _ (lit≤ tt))
+
+pub returns-in-NotPlain : goal.returns-in-NotPlain
+returns-in-NotPlain c = ends-met _ _ _ _ _ _ _ c.if-code-lt1.false c.run_glyph.ensures _ c.in-NotPlain.is
+
+pub returns-in-Plain : goal.returns-in-Plain
+returns-in-Plain c = ends-met _ _ _ _ _ _ _ c.if-code-lt1.false c.run_glyph.ensures _ c.in-Plain.is

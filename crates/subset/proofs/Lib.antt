@@ -1,0 +1,4 @@
+pub mod CidExample
+pub mod NameExample
+pub mod TextsLaws
+pub mod AlikeLaws
