@@ -7,4 +7,3 @@ pub mod NextLaws
 pub mod AllShort
 pub mod AllShortLaws
 pub mod Tokens
-pub mod Examples

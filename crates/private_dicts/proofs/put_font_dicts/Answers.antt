@@ -1,5 +1,5 @@
 -- `private_dicts::put_font_dicts` meets its contract: the first k Font DICTs are written, with the offsets of their ends.
-use Rattle.std.proofs.Common.{List, arith, get_or, length, take, ℕ, ◌*◌, ◌++◌, ◌+◌, ◌<◌, ◌≡◌}
+use Rattle.std.proofs.Common.{[], List, arith, get_or, length, take, ℕ, ◌*◌, ◌++◌, ◌+◌, ◌<◌, ◌≡◌}
 use Rattle.octets.specs.Lists.{sum_of}
 use Rattle.dict.specs.Op.{font_matrix}
 use Rattle.dict_write.specs.Written.{copied_entry, private_entry}

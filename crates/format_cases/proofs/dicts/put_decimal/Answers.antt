@@ -1,5 +1,5 @@
 -- `dicts::put_decimal` meets its contract: one write after the other.
-use Rattle.std.proofs.Common.{ap, arith, ℕ, ◌∷◌}
+use Rattle.std.proofs.Common.{[], ap, arith, ℕ, ◌∷◌}
 use Rattle.octets.specs.OctetsLaws.{length-bytes}
 use Rattle.octets.specs.PutLaws.{wrote_then, wrote_as}
 use Rattle.format_cases.specs.Dicts.{decimal_bytes}
