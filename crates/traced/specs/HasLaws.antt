@@ -22,6 +22,7 @@ module _ (A : Type 0) (x : A) where
   Some (y ∷ l) = Unit
 
   has_some : (l : List A) → Has A x l → Some l
+  has_some [] x'' = elim x'' [ ]
   has_some (y ∷ l) (here e) = tt
   has_some (y ∷ l) (there h) = tt
 
@@ -29,6 +30,7 @@ module _ (A : Type 0) (x : A) where
   has-none h = has_some [] h
 
   pub has_left : (l m : List A) → Has A x l → Has A x (l ++ m)
+  has_left [] m x'' = elim x'' [ ]
   has_left (y ∷ l) m (here e) = here e
   has_left (y ∷ l) m (there h) = there (has_left l m h)
 
@@ -46,6 +48,7 @@ module _ (A : Type 0) (x : A) where
 module _ (x : ℕ) where
   placed-from : (k : ℕ) (l : List ℕ) → Has ℕ x (placed k l) → (k ≡ x) ⊎ Has ℕ x l
   unfolding placed
+  placed-from k [] (there x5) = elim x5 [ ]
   placed-from k [] (here e) = inl e
   placed-from k (y ∷ l) h =
       pick_ind (λ (m : List ℕ). Has ℕ x m → (k ≡ x) ⊎ Has ℕ x (y ∷ l)) (ltb k y) (k ∷ y ∷ l) _ (λ t. front)
@@ -68,6 +71,7 @@ module _ (x : ℕ) where
 
   placed_old : (k : ℕ) (l : List ℕ) → Has ℕ x l → Has ℕ x (placed k l)
   unfolding placed
+  placed_old k [] h = elim h [ ]
   placed_old k (y ∷ l) h =
       pick_ind (Has ℕ x) (ltb k y) _ _ (λ t. there h) (λ t. pick_ind (Has ℕ x) (eqb k y) _ _ (λ u. h) (λ u. behind (placed_old k l) h))
     where
@@ -88,6 +92,7 @@ module _ (x : ℕ) where
 
   pub gathered-new : (c ks : List ℕ) → Has ℕ x ks → Has ℕ x (gathered c ks)
   unfolding gathered
+  gathered-new c [] x'' = elim x'' [ ]
   gathered-new c (k ∷ ks) (here e) = gathered_old (placed k c) ks (placed-new k c e)
   gathered-new c (k ∷ ks) (there h) = gathered-new (placed k c) ks h
 
@@ -95,10 +100,12 @@ module _ (x : ℕ) where
 
 module _ (f : Row → ℕ) where
   pub map_has : (r : Row) (rows : List Row) → Has Row r rows → Has ℕ (f r) (map f rows)
+  map_has r [] x' = elim x' [ ]
   map_has r (q ∷ rows) (here e) = here (ap f e)
   map_has r (q ∷ rows) (there h) = there (map_has r rows h)
 
   pub map_from : (k : ℕ) (rows : List Row) → Has ℕ k (map f rows) → (r : Row) × Has Row r rows × (f r ≡ k)
+  map_from k [] x' = elim x' [ ]
   map_from k (q ∷ rows) (here e) = (q, here refl, e)
   map_from k (q ∷ rows) (there h) = let m = map_from k rows h in (m.0, there m.1, m.2)
 
@@ -106,6 +113,7 @@ module _ (f : Row → ℕ) where
 
 module _ (P : Row → Type 0) where
   pub all-at : (r : Row) (rows : List Row) → All P rows → Has Row r rows → P r
+  all-at r [] _ x3 = elim x3 [ ]
   all-at r (q ∷ rows) (one p a) (here e) = subst P e p
   all-at r (q ∷ rows) (one p a) (there h) = all-at r rows a h
 
@@ -125,6 +133,7 @@ same_self r =
 
 pub has_listed : (q : Row) (rows : List Row) → Has Row q rows → lists rows q ≡ true
 unfolding lists
+has_listed q [] x' = elim x' [ ]
 has_listed q (r ∷ rows) (here e) = let s : same_row_lem r q ≡ true = ap (same_row_lem r) (sym e) ∙ same_self r in rw s
 has_listed q (r ∷ rows) (there h) = pick_ind (λ (t : Bool). t ≡ true) (same_row_lem r q) true (lists rows q) (λ t. refl) (λ t. has_listed q rows h)
 

@@ -1,4 +1,7 @@
 -- `renumber::turns::call` meets its contract: a call takes the number that is held.
+use Rattle.charstring.specs.Bias.{bias_of}
+use Rattle.prune.specs.Renumber.{operand_of}
+use Rattle.renumber.specs.Ranks.{numbers_in}
 use Rattle.renumber.specs.CodeLaws.{held_as, call_held}
 use Rattle.renumber.proofs.turns.call.Goals as goal
 
@@ -6,4 +9,4 @@ pub new_operand-requires : goal.new_operand-requires
 new_operand-requires c = (c.requires.0, held_as _ _ c.in-Number.is c.requires.1)
 
 pub returns-in-Number : goal.returns-in-Number
-returns-in-Number c = call_held _ _ _ _ c.in-Number.is c.new_operand.ensures
+returns-in-Number c = call_held (operand_of (numbers_in c.args.words.now c.args.q) (bias_of c.args.q.count) (bias_of c.args.q.reached)) _ _ _ c.in-Number.is c.new_operand.ensures
