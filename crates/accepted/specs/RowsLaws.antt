@@ -18,6 +18,7 @@ module _ (test : Row → Bool) where
   -- what holds of each holds of one of them
   pub each_at : (rows : List Row) → each_row test rows ≡ true → (r : Row) → Has Row r rows → test r ≡ true
   unfolding each_row
+  each_at [] e r x'' = elim x'' [ ]
   each_at (q ∷ rows) e r (here i) = ap test (sym i) ∙ (both_hold (test q) (each_row test rows) e).0
   each_at (q ∷ rows) e r (there h) = each_at rows (both_hold (test q) (each_row test rows) e).1 r h
 
@@ -30,6 +31,7 @@ module _ (test : Row → Bool) where
 
 fine_at : (cid : Bool) (rows : List Row) → rows_fine_lem cid rows ≡ true → (r : Row) → Has Row r rows → row_fine_lem cid r ≡ true
 unfolding rows_fine_lem
+fine_at cid [] e r x'' = elim x'' [ ]
 fine_at cid (q ∷ rows) e r (here i) = ap (row_fine_lem cid) (sym i) ∙ and_left (row_fine_lem cid q) (rows_fine_lem cid rows) e
 fine_at cid (q ∷ rows) e r (there h) = fine_at cid rows (and_right (row_fine_lem cid q) (rows_fine_lem cid rows) e) r h
 

@@ -3,7 +3,7 @@
 use Prim.Native.Nat.{ℕ, zero, suc, ◌-◌, ◌*◌}
 use Rattle.std.specs.Prelude.{◌≡◌, Bool, ◌&&◌, not, eqb, ℤ}
 use Rattle.std.proofs.Math.Path.{refl, ap}
-use Rattle.std.proofs.Common.{sym, ◌∙◌, subst, eqb-true, eq-eqb}
+use Rattle.std.proofs.Common.{take, drop, sym, ◌∙◌, subst, eqb-true, eq-eqb}
 use Rattle.std.proofs.Math.Bool.{true, false}
 use mathlib.Core.List.{List, [], ◌∷◌}
 use Rattle.std.proofs.Math.Option.{Option, none, some}
@@ -38,7 +38,7 @@ module _ (given given' : ℕ → MaskLen) (same : (o : ℕ) → given o ≡ give
   onward-same (got_num z c) f g e = ap (join (num z ∷ [])) (e c)
   onward-same (got_op b c) f g e = ap (join (op b ∷ [])) (e c)
   onward-same (got_esc b c) f g e = ap (join (esc b ∷ [])) (e c)
-  onward-same (got_mask at n c) f g e = ap (join _) (e c)
+  onward-same (got_mask at n c) f g e = ap (join (mask (take n (drop at s)) ∷ [])) (e c)
 
   from-same : (k : ℕ) (c : Cursor) → tokens_from k given s c ≡ tokens_from k given' s c
   unfolding tokens_from

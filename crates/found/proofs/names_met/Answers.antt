@@ -1,0 +1,131 @@
+-- `found::names_met` meets its contract.
+use Rattle.std.proofs.Common.{List, ap, arith, get_or, length, refl, sym, ℕ, ◌+◌, ◌<◌, ◌∙◌, ◌≡◌}
+use Rattle.bits.specs.Bits.{bit_in}
+use Rattle.index.specs.Index.{items_of}
+use Rattle.strings.specs.Strings.{string_text}
+use Rattle.charset.specs.CharsetPlaces.{ids_of}
+use Rattle.charset.specs.CharsetFound.{good_length}
+use Rattle.find.specs.FindLaws.{ids-ahead, Passing, passing-start, passing_ready, passing_id, passing-next}
+use Rattle.kept.specs.Packed.{name_found}
+use Rattle.first_glyphs.specs.FoundLaws.{all_start, all_stops, all-passed, Seen, seen_none, seen_next}
+use Rattle.first_glyphs.specs.FirstLaws.{seen_not_named}
+use Rattle.found.specs.Hash.{hash_of_lem}
+use Rattle.found.specs.HashLaws.{hash-by, met-none, new-found, met_next, met-again}
+use Rattle.found.specs.FlagsLaws.{all-next, all-fails, all_ended}
+use Rattle.found.proofs.names_met.Goals as goal
+use Rattle.found.proofs.names_met.Lts.View as view
+use Rattle.found.proofs.names_met.Goals.{After-looks_left-looks, After-slice_known-in-loop-g-1}
+
+below : (t : After-slice_known-in-loop-g-1) → t.loop-g.g < t.args.n
+below t = omega (arith, t.flags_end-end.ensures.0, t.loop-g-test.true)
+
+inside : (t : After-slice_known-in-loop-g-1) → t.loop-g.g < length (ids_of t.args.font.now t.args.c t.args.n)
+inside t = omega (arith, good_length _ _ _ t.requires.0, below t)
+
+id_is : (t : After-slice_known-in-loop-g-1) → t.next_id-s.result.id ≡ get_or (ids_of t.args.font.now t.args.c t.args.n) t.loop-g.g 0
+id_is t =
+    let a = t.args in
+    let b = a.font.now in
+    let u = t.charset_start-u.result in
+    passing_id b u a.n t.loop-g.u t.loop-g.g t.loop-g.invariant.0 (below t) t.next_id-s.result t.next_id-s.ensures.0
+    ∙ ap (λ (l : List ℕ). get_or l t.loop-g.g 0) (ids-ahead b a.c a.n u t.charset_start-u.ensures)
+
+passed : (t : After-slice_known-in-loop-g-1) → Passing t.args.font.now t.charset_start-u.result t.args.n t.next_id-s.result.next (t.loop-g.g + 1)
+passed t = passing-next _ _ _ _ _ t.loop-g.invariant.0 (below t) _ t.next_id-s.ensures.0
+
+hashed : (q : After-looks_left-looks) → q.hash_of.result
+    ≡ hash_of_lem (string_text (items_of q.args.font.now q.args.strings)
+    (get_or (ids_of q.args.font.now q.args.c q.args.n) q.loop-g.g 0))
+hashed q = hash-by _ (ids_of q.args.font.now q.args.c q.args.n) q.loop-g.g q.next_id-s.result.id _ _ (id_is (view.up-After-slice_known-in-loop-g-1 _ _ _ _ _ q.before.before.before.before.before.before.before.before.before)) q.text_at-name.ensures q.hash_of.ensures.0
+
+seen-then : (t : After-slice_known-in-loop-g-1) → Seen (ids_of t.args.font.now t.args.c t.args.n) (t.loop-g.g + 1) (bit_in t.see.last.0 0)
+seen-then t = seen_next _ t.loop-g.g _ t.loop-g.invariant.2 _ (id_is t) _ t.see.ensures.bits
+
+pub loop-g-init : goal.loop-g-init
+loop-g-init c = (
+  passing-start _ c.args.c _ _ c.requires.0 c.charset_start-u.ensures,
+  met-none _ _ _,
+  seen_none _ _ c.requires.6.none,
+  c.requires.5,
+  refl,
+  c.requires.6.size,
+  refl,
+  omega arith,
+  omega arith,
+  all_start _ _ _,
+)
+
+pub next_id-s-requires : goal.next_id-s-requires
+next_id-s-requires c =
+    let e = c.flags_end-end.ensures.0 in
+    passing_ready _ _ _ _ _ c.loop-g.invariant.0 (omega (arith, e, c.loop-g-test.true))
+
+pub has_bit-flag-requires : goal.has_bit-flag-requires
+has_bit-flag-requires c =
+    omega (arith, c.flags_end-end.ensures.0, c.loop-g-test.true, c.requires.2)
+
+pub see-requires : goal.see-requires
+see-requires c = omega (arith, c.next_id-s.ensures.1, c.loop-g.invariant.5)
+
+pub returns-then-flag : goal.returns-then-flag
+returns-then-flag c =
+    let l = c.loop-g in
+    all_stops (name_found (items_of c.args.font.now c.args.strings) (ids_of c.args.font.now c.args.c c.args.n))
+    (bit_in c.args.flags.now 0) c.args.n l.g (below (goal.at.returns-then-flag c).After-slice_known-in-loop-g-1) (sym c.has_bit-flag.ensures ∙ c.if-flag.true)
+    (seen_not_named _ _ l.g _ l.invariant.2 _ (id_is (goal.at.returns-then-flag c).After-slice_known-in-loop-g-1) (inside (goal.at.returns-then-flag c).After-slice_known-in-loop-g-1) (sym c.see.ensures.was ∙ c.if-see.true)) ∙ l.invariant.9
+
+pub loop-g-preserved-then-see : goal.loop-g-preserved-then-see
+loop-g-preserved-then-see c =
+    let l = c.loop-g in (
+      passed (goal.at.loop-g-preserved-then-see c).After-slice_known-in-loop-g-1,
+      met-again _ _ l.g _ l.invariant.1 _ l.invariant.2 _ (id_is (goal.at.loop-g-preserved-then-see c).After-slice_known-in-loop-g-1) (sym c.see.ensures.was ∙ c.if-see.true),
+      seen-then (goal.at.loop-g-preserved-then-see c).After-slice_known-in-loop-g-1,
+      l.invariant.3,
+      l.invariant.4,
+      c.see.ensures.size ∙ l.invariant.5,
+      c.see.ensures.size ∙ l.invariant.6,
+      l.invariant.7,
+      omega (arith, c.loop-g-test.true),
+      all-passed (name_found (items_of c.args.font.now c.args.strings) (ids_of c.args.font.now c.args.c c.args.n))
+          (bit_in c.args.flags.now 0) c.args.n l.g (below (goal.at.loop-g-preserved-then-see c).After-slice_known-in-loop-g-1) (sym c.has_bit-flag.ensures ∙ c.if-flag.false) ∙ l.invariant.9,
+    )
+
+pub returns-then-looks-eq0 : goal.returns-then-looks-eq0
+returns-then-looks-eq0 c = refl
+
+pub flagged_found-requires : goal.flagged_found-requires
+flagged_found-requires c =
+    let l = c.loop-g in (
+      c.requires.0,
+      c.requires.1,
+      below (goal.at.flagged_found-requires c).After-slice_known-in-loop-g-1,
+      λ e. new-found _ _ l.g _ l.invariant.1 _ (hashed (goal.at.flagged_found-requires c).After-looks_left-looks) (inside (goal.at.flagged_found-requires c).After-slice_known-in-loop-g-1) (sym c.meet-new.ensures.is ∙ e),
+    )
+
+pub loop-g-preserved : goal.loop-g-preserved
+loop-g-preserved c =
+    let l = c.loop-g in
+    let b = c.args.font.now in (
+      passed (goal.at.loop-g-preserved c).After-slice_known-in-loop-g-1,
+      met_next _ _ l.g _ l.invariant.1 _ (hashed (goal.at.loop-g-preserved c).After-looks_left-looks) _ c.meet-new.ensures.bits,
+      seen-then (goal.at.loop-g-preserved c).After-slice_known-in-loop-g-1,
+      c.meet-new.ensures.size ∙ l.invariant.3,
+      c.meet-new.ensures.size ∙ l.invariant.4,
+      c.see.ensures.size ∙ l.invariant.5,
+      c.see.ensures.size ∙ l.invariant.6,
+      omega (arith, c.if-looks-eq0.false),
+      omega (arith, c.loop-g-test.true),
+      all-next (name_found (items_of b c.args.strings) (ids_of b c.args.c c.args.n)) (bit_in c.args.flags.now 0) c.args.n l.g (below (goal.at.loop-g-preserved c).After-slice_known-in-loop-g-1) _ c.has_bit-flag.ensures
+          (sym c.flagged_found.ensures ∙ c.if-flagged_found.true) ∙ l.invariant.9,
+    )
+
+pub returns-else-flagged_found : goal.returns-else-flagged_found
+returns-else-flagged_found c =
+    let b = c.args.font.now in
+    all-fails (name_found (items_of b c.args.strings) (ids_of b c.args.c c.args.n)) (bit_in c.args.flags.now 0) c.args.n c.loop-g.g (below (goal.at.returns-else-flagged_found c).After-slice_known-in-loop-g-1) _ c.has_bit-flag.ensures
+    (sym c.flagged_found.ensures ∙ c.if-flagged_found.false) ∙ c.loop-g.invariant.9
+
+pub returns : goal.returns
+returns c =
+    let e = c.flags_end-end.ensures.1 in
+    all_ended _ c.args.flags.now _ _ _ c.loop-g-test.false e ∙ c.loop-g.invariant.9

@@ -1,0 +1,15 @@
+-- `gather` meets its contract: the words have the bits of the kept glyphs, and of no others.
+use Rattle.std.proofs.Common.{arith}
+use Rattle.order_window.specs.LoopLaws.{gathered-kept, gathered-marked}
+use Rattle.order_window.proofs.gather.Goals as goal
+
+pub begin-requires : goal.begin-requires
+begin-requires c = (
+  gathered-marked c.args.font.now c.args.f c.args.words.now _ c.args.keep.now c.mark.ensures c.requires.0 c.requires.2
+      (omega (arith, c.requires.3, c.mark.auto.words)),
+  c.requires.4,
+)
+
+pub returns : goal.returns
+returns c =
+    (c.begin.ensures.0, c.begin.ensures.1, gathered-kept c.args.font.now c.args.f c.args.words.now _ c.args.keep.now c.mark.ensures)

@@ -1,0 +1,13 @@
+-- `renumbered::renumbered_len` meets its contract: two lengths at one offset fail, and then the body decides.
+use Rattle.std.proofs.Common.{sym, ◌∙◌}
+use Rattle.renumber.specs.BodyLaws.{two-fail, one-length}
+use Rattle.renumbered.proofs.renumbered_len.Goals as goal
+
+pub two_lengths-requires : goal.two_lengths-requires
+two_lengths-requires c = let p = c.requires in (p.order, p.body)
+
+pub returns-then-two_lengths : goal.returns-then-two_lengths
+returns-then-two_lengths c = two-fail _ _ _ _ (sym c.two_lengths.ensures ∙ c.if-two_lengths.true)
+
+pub returns : goal.returns
+returns c = c.body_len.ensures ∙ one-length _ _ _ _ (sym c.two_lengths.ensures ∙ c.if-two_lengths.false)
