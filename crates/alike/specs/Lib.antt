@@ -1,8 +1,3 @@
 pub mod Alike
 pub mod CountsLaws
 pub mod TopLaws
-pub mod PartsLaws
-pub mod BodiesLaws
-pub mod Theorem
-pub mod Calls
-pub mod Small

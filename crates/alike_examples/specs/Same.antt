@@ -12,7 +12,7 @@ use Rattle.subset.specs.Kept.{is_in, those, keeps, fds_of, private_of}
 use Rattle.subset.specs.Pruned.{local_set, global_set}
 use Rattle.alike.specs.Alike.{without_all, SameFor, SamePrivate, in_use_lem, ListedAlike, AllAlike}
 use Rattle.alike.specs.CountsLaws.{work_counts}
-use Rattle.alike.specs.Theorem.{no_trace, no_trace_copied}
+use Rattle.alike.proofs.Theorem.{no_trace, no_trace_copied}
 use Rattle.alike_examples.specs.Fonts.{bare, bare_program, bare-reads, moved, moved_program, moved-reads, reach, keep, cut}
 
 -- glyph 2 is not kept

@@ -28,7 +28,8 @@ use Rattle.outcome.specs.declared.Answer.{Answer}
 use Rattle.outcome.specs.declared.Answer.TheVariants.{Refused as RefusedAnswer}
 use Rattle.write.specs.EntryLaws.{program-cut, font-held}
 use Rattle.traced.specs.Traced.{Traced, refused, traced, record_of, met_all, answered, trace_program, trace_read, trace_of, traced_as, leaves_record, Traces}
-use Rattle.traced.specs.Theorem.{kept_rows, trace_fine, kept-fits}
+use Rattle.traced.specs.Theorem.{kept_rows}
+use Rattle.traced.proofs.Theorem.{trace_fine, kept-fits}
 use Rattle.traced.specs.declared.TracedAs.{TracedAs}
 use Rattle.traced.specs.declared.TracedAs.TheVariants.{Refused, Record}
 use Rattle.culprit.specs.Culprit.{cut_traced, traced_cut, has_way}

@@ -33,9 +33,9 @@ use Rattle.outcome.specs.declared.Answer.TheVariants.{Refused as RefusedAnswer, 
 use Rattle.early_refusals.specs.RefusalLaws.{work_is}
 use Rattle.write.specs.EntryLaws.{program-cut, zeros_are}
 use Rattle.traced.specs.Traced.{Traced, refused as refusedTrace, traced, record_of, met_all, answered, trace_program, trace_read, trace_of}
-use Rattle.traced.specs.Theorem.{trace_fine}
+use Rattle.traced.proofs.Theorem.{trace_fine}
 use Rattle.culprit.specs.Culprit.{cut_traced, traced_cut, without, has_way, is_culprit, first_of, least_culprit, answer_by, culprit_in, culprit_read, culprit_of, passes_nine, uses_read, uses_lent, words_in, Blocks}
-use Rattle.culprit.specs.Theorem.{not_six, is_least, other_way, has-way}
+use Rattle.culprit.proofs.Theorem.{not_six, is_least, other_way, has-way}
 use Rattle.culprit.specs.declared.Culprit.{Culprit}
 use Rattle.culprit.specs.declared.Culprit.TheVariants.{Refused, None}
 use Rattle.early_traced.specs.Early.{refused_or, early_of}

@@ -20,7 +20,7 @@ use Rattle.cff.specs.Font.{Program}
 use Rattle.subset.specs.Kept.{is_in, those, keeps}
 use Rattle.subset.specs.KeptListLaws.{in_at, in_place}
 use Rattle.culprit.specs.Culprit.{traced_cut, without, has_way, is_culprit, first_of, least_culprit}
-use Rattle.culprit.specs.CulpritLaws.{in_without, cut_keeps, first_is, first-none, none_first}
+use Rattle.culprit.proofs.CulpritLaws.{in_without, cut_keeps, first_is, first-none, none_first}
 use Rattle.culprit.specs.declared.Culprit.{Culprit}
 use Rattle.culprit.specs.declared.Culprit.TheVariants.{None, Glyph}
 use Rattle.failing.specs.Failing.{Only}

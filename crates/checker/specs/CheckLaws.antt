@@ -27,7 +27,7 @@ use Rattle.interpret.specs.declared.Met.{Met}
 use Rattle.interpret.specs.declared.Met.TheVariants.{NotPlain, Plain}
 use Rattle.traced.specs.Traced.{met_all}
 use Rattle.traced.specs.RowLaws.{RowFits}
-use Rattle.traced.specs.Theorem.{kept-fits}
+use Rattle.traced.proofs.Theorem.{kept-fits}
 use Rattle.tracer.specs.Tracing.{top, Held, met_in, or_none, RowsFit, Plainly, keys_in, sorted_in, Filling, Fills}
 use Rattle.tracer.specs.WindowsLaws.{refill-plain}
 use Rattle.listed.specs.Listed.{row_keys, all_in}

@@ -28,7 +28,7 @@ use Rattle.reach.specs.RowLaws.{rest-none, rest-next, AllFit, all_fit}
 use Rattle.faithful.specs.UsedLaws.{uses, fd_there}
 use Rattle.tracer.specs.Tracing.{Held, fd_for}
 use Rattle.accepted.specs.Accepted.{each_row, number_is}
-use Rattle.accepted.specs.Theorem.{fd-from}
+use Rattle.accepted.proofs.Theorem.{fd-from}
 use Rattle.checker.specs.Checking.{number_fits, Unlimited, Known, Limited, limit_in, Limits}
 
 -- ---- one FD

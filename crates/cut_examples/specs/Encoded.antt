@@ -42,8 +42,8 @@ use Rattle.subset.specs.Codes.{last_named, glyph_of, pairs_from, coded_by_lem, p
 use Rattle.subset.specs.Subset.{named_bytes, copied_bytes, new_ids, subset_by_name, subset_bytes}
 use Rattle.subset.specs.Cut.{refused, subset, all_found_lem, cut_read, cut_with, cut_of}
 use Rattle.faithful.specs.Codes.{KeepsCodes}
-use Rattle.faithful.specs.Theorem.{codes-back}
-use Rattle.faithful.specs.Examples.{octets_of, none_octets}
+use Rattle.faithful.proofs.Theorem.{codes-back}
+use Rattle.faithful.proofs.Examples.{octets_of, none_octets}
 
 -- ---- its own encoding: code 65 names A; 66 Qx, and then A by a supplement, whose string id 34 is the standard one; 67 Qx, which is not kept
 

@@ -11,7 +11,6 @@ pub mod UsedLaws
 pub mod RecordLaws
 pub mod RenumberedLaws
 pub mod RenumberedGlyphLaws
-pub mod PrunedLaws
 pub mod WholeLaws
 pub mod LiesLaws
 pub mod PrivateBack
@@ -23,6 +22,3 @@ pub mod TopLaws
 pub mod CodesLaws
 pub mod ByName
 pub mod ByCid
-pub mod Held
-pub mod Theorem
-pub mod Examples

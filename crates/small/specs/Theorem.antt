@@ -9,7 +9,7 @@ use Rattle.subset.specs.SizeLaws.{enough_same}
 use Rattle.faithful.specs.Faithful.{Faithful}
 use Rattle.faithful.specs.Matrices.{Scaled}
 use Rattle.faithful.specs.Codes.{KeepsCodes}
-use Rattle.faithful.specs.Theorem.{faithful, matrix_back, codes-back}
+use Rattle.faithful.proofs.Theorem.{faithful, matrix_back, codes-back}
 use Rattle.small.specs.Small.{small_size, cut_small, SameAsLarge}
 
 -- a font that reading refuses is refused whatever is asked for

@@ -1,13 +1,7 @@
 pub mod Traced
 pub mod Parts
-pub mod Examples
 pub mod Has
 pub mod HasLaws
 pub mod RowLaws
 pub mod BodyLaws
-pub mod RunLaws
-pub mod MetLaws
-pub mod EightLaws
 pub mod Theorem
-pub mod PartLaws
-pub mod HeldExample

@@ -28,8 +28,9 @@ use Rattle.row_window.specs.NextLaws.{within_all, window-whole}
 use Rattle.interpret.specs.declared.Met.{Met}
 use Rattle.interpret.specs.declared.Met.TheVariants.{NotPlain, Plain}
 use Rattle.traced.specs.Traced.{met_all, record_of, Traced, refused, traced, answered, trace_read, trace_of, traced_as, leaves_record, Traces}
-use Rattle.traced.specs.RowLaws.{RowFits, record-keys}
-use Rattle.traced.specs.Theorem.{kept-fits}
+use Rattle.traced.specs.RowLaws.{RowFits}
+use Rattle.traced.proofs.RowLaws.{record-keys}
+use Rattle.traced.proofs.Theorem.{kept-fits}
 use Rattle.traced.specs.declared.TracedAs.{TracedAs}
 use Rattle.traced.specs.declared.TracedAs.TheVariants.{Refused, Record}
 use Rattle.tracer.specs.Tracing.{top, Held, met_in, or_none, RowsFit, Plainly, keys_in, sorted_in, Filling, Fills, Shown, Counted, Answers, met_kept, kept_answer}

@@ -19,7 +19,7 @@ use Rattle.subset.specs.Pruned.{Pruned, pruned}
 use Rattle.subset.specs.Subset.{subset_bytes}
 use Rattle.subset.specs.Codes.{Coded, coded_if, pair_count}
 use Rattle.subset.specs.Cut.{Outcome, refused, subset, all_found_lem, has_ros_lem, same_bool_lem, own_of, written, unsupported_in, cut_program, cut_read, cut_with, leaves_out, zeros, uses_work, leaves_work}
-use Rattle.faithful.specs.Theorem.{faithful, codes-back, same_bool}
+use Rattle.faithful.proofs.Theorem.{faithful, codes-back, same_bool}
 use Rattle.faithful.specs.GoodLaws.{font-good}
 use Rattle.parts.specs.Ready.{FontHeld}
 use Rattle.small.specs.Small.{small_size}

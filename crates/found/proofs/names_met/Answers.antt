@@ -38,7 +38,7 @@ hashed : (q : After-looks_left-looks) → q.hash_of.result
     (get_or (ids_of q.args.font.now q.args.c q.args.n) q.loop-g.g 0))
 hashed q = hash-by _ (ids_of q.args.font.now q.args.c q.args.n) q.loop-g.g q.next_id-s.result.id _ _ (id_is (view.up-After-slice_known-in-loop-g-1 _ _ _ _ _ q.before.before.before.before.before.before.before.before.before)) q.text_at-name.ensures q.hash_of.ensures.0
 
-seen-then : (t : After-slice_known-in-loop-g-1) → Seen (ids_of t.args.font.now t.args.c t.args.n) (t.loop-g.g + 1) (bit_in t.see.last.0 0)
+seen-then : (t : After-slice_known-in-loop-g-1) → Seen (ids_of t.args.font.now t.args.c t.args.n) (t.loop-g.g + 1) (bit_in t.see.new.seen 0)
 seen-then t = seen_next _ t.loop-g.g _ t.loop-g.invariant.2 _ (id_is t) _ t.see.ensures.bits
 
 pub loop-g-init : goal.loop-g-init

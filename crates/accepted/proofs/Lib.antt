@@ -1,0 +1,4 @@
+pub mod Theorem
+pub mod UsedExample
+pub mod Examples
+pub mod EnteredLaws

@@ -1,0 +1,5 @@
+pub mod Calls
+pub mod PartsLaws
+pub mod Small
+pub mod Theorem
+pub mod BodiesLaws

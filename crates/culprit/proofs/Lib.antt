@@ -1,0 +1,5 @@
+pub mod NarrowLaws
+pub mod Examples
+pub mod NarrowExample
+pub mod Theorem
+pub mod CulpritLaws

@@ -1,0 +1,18 @@
+-- `slots_own` meets its contract: a slot adds a string exactly where its id is the next.
+use Rattle.name_strings.specs.SlotCountLaws.{counting-start, counting_asks, counting-next, counting_end}
+use Rattle.name_strings.proofs.slots_own.Goals as goal
+
+pub loop-j-init : goal.loop-j-init
+loop-j-init c = counting-start _ _ c.requires.0 _ c.requires.1
+
+pub count_one-own-requires : goal.count_one-own-requires
+count_one-own-requires c =
+    counting_asks _ _ c.requires.0 _ c.requires.1 _ _ c.loop-j.invariant
+
+pub loop-j-preserved : goal.loop-j-preserved
+loop-j-preserved c =
+    counting-next _ _ c.requires.0 _ c.requires.1 _ _ c.loop-j.invariant c.loop-j-test.true _ c.count_one-own.ensures
+
+pub returns : goal.returns
+returns c =
+    counting_end _ _ c.requires.0 _ c.requires.1 _ _ c.loop-j.invariant c.loop-j-test.false
