@@ -16,9 +16,9 @@ use Rattle.cff.specs.Reads.{program_of}
 use Rattle.cff.specs.File.{InFile}
 use Rattle.cff.specs.FileLaws.{table-short}
 use Rattle.cff.specs.declared.font.Font.{Font}
-use Rattle.subset.specs.Kept.{those, keeps, kept_of}
+use Rattle.subset.specs.Kept.{keeps, kept_of}
 use Rattle.subset.specs.Cut.{all_found_lem}
-use Rattle.kept.specs.Packed.{Marks, marked}
+use Rattle.kept.specs.Packed.{Marks}
 use Rattle.kept.specs.OrderLaws.{kept-marked}
 use Rattle.faithful.specs.GoodLaws.{font-good}
 use Rattle.row_window.specs.Window.{gathered, within, Gathers}

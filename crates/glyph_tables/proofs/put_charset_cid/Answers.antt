@@ -52,7 +52,7 @@ word_at-id-requires c =
 
 pub put_num-p-requires : goal.put_num-p-requires
 put_num-p-requires c =
-    charset-space _ _ _ c.requires.1 (put (goal.at.put_num-p-requires c).After-slice_known-4-1) (more (goal.at.put_num-p-requires c).At-loop-i)
+    charset-space _ _ _ c.requires.1 (put (goal.at.put_num-p-requires c).At-loop-i) (more (goal.at.put_num-p-requires c).In-loop-i)
 
 pub overflow_add-i : goal.overflow_add-i
 overflow_add-i c =
@@ -63,7 +63,7 @@ loop-i-preserved c = (
   omega arith,
   λ old g k. loop_next _ _ _ _ _ _ _ _ (c.loop-i.invariant.1 old g k) _ _ (omega (arith, c.loop-i-test.true, c.requires.0.many)) c.hold-u-in-loop-i.auto.window
       c.hold-u-in-loop-i.ensures.0 c.hold-u-in-loop-i.ensures.1 c.hold-u-in-loop-i.ensures.2 c.hold-u-in-loop-i.ensures.3,
-  λ old v room. charset-next old _ _ room (c.loop-i.invariant.2 old v room) (more (goal.at.loop-i-preserved c).At-loop-i)
+  λ old v room. charset-next old _ _ room (c.loop-i.invariant.2 old v room) (more (goal.at.loop-i-preserved c).In-loop-i)
       (read_cid _ _ _ _ c.requires.0 _ _ _ _ c.hold-u-in-loop-i.ensures.0 c.hold-u-in-loop-i.ensures.1 c.hold-u-in-loop-i.ensures.2 c.loop-i-test.true c.word_at-id.ensures.0)
       c.put_num-p.ensures,
 )

@@ -1,5 +1,5 @@
 -- `begin_strings` meets its contract: of the slots those are written whose id is the next. The invariant: c strings stand behind the head.
-use Rattle.std.proofs.Common.{List, ap, arith, length, ℕ, ⊎_elim, ◌+◌, ◌∙◌, ◌≡◌}
+use Rattle.std.proofs.Common.{List, ap, arith, length, ℕ, ◌+◌, ◌∙◌, ◌≡◌}
 use Rattle.index.specs.Index.{items_of}
 use Rattle.index.specs.Write.{total}
 use Rattle.index.specs.WriteLaws.{head-room}
@@ -10,7 +10,7 @@ use Rattle.own_strings.specs.Slots.{slots_own}
 use Rattle.name_strings.specs.Strings.{SlotWriting}
 use Rattle.name_strings.specs.WriteLaws.{slot-start, slot_string, slot_next, slot_same, slot_end}
 use Rattle.name_strings.proofs.begin_strings.Goals as goal
-use Rattle.name_strings.proofs.begin_strings.Goals.{After-struct_known-1, Start}
+use Rattle.name_strings.proofs.begin_strings.Goals.{then-id-c, else-id-c, After-struct_known-1, Start}
 
 -- the own strings
 abbrev all : Start → List (List ℕ)
@@ -57,7 +57,15 @@ pub overflow_add-c-then-id-c : goal.overflow_add-c-then-id-c
 overflow_add-c-then-id-c c = let v = c.loop-j.invariant in omega (arith, v.few, v.small)
 
 pub loop-j-preserved : goal.loop-j-preserved
-loop-j-preserved c = ?
+loop-j-preserved c =
+    let v = c.loop-j.invariant in
+    let g = c.requires.1 in
+    elim c.if-id-c.branch [
+      | then-id-c h ↦ let q = slot_string _ _ g _ _ _ _ _ _ v c.loop-j-test.true h.if-id-c.true in
+          slot_next _ _ g _ _ _ _ _ _ v c.loop-j-test.true h.if-id-c.true _ _ _ h.out-is h.p-is h.c-is
+          (begun_more _ _ _ v.meant _ q.1 _ (h.own_text-text.ensures ∙ q.2) v.begun h.put_item-p.ensures)
+      | else-id-c h ↦ slot_same _ _ g _ _ _ _ _ _ v c.loop-j-test.true h.if-id-c.false _ _ _ h.out-is h.p-is h.c-is
+    ]
 
 pub returns : goal.returns
 returns c =

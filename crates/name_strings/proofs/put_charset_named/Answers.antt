@@ -1,6 +1,6 @@
 -- `put_charset_named` meets its contract: the id that a name is given is its new one. The invariant: the window comes to place i, the own strings before
 -- it are counted, and the ids of i glyphs are written, of which the format was the beginning.
-use Rattle.std.proofs.Common.{List, arith, get_or, length, sym, ℕ, ⊎_elim, ◌<◌, ◌∙◌, ◌≡◌}
+use Rattle.std.proofs.Common.{List, arith, get_or, length, sym, ℕ, ◌<◌, ◌∙◌, ◌≡◌}
 use Rattle.order.specs.Walks.{order_in}
 use Rattle.order_window.specs.WindowLaws.{held-inside}
 use Rattle.order_window.specs.LoopLaws.{order-start, order_asks, order_end, loop_next, read_word}
@@ -9,7 +9,7 @@ use Rattle.name_strings.specs.NamingLaws.{naming-start, naming_asks, naming_coun
 use Rattle.name_strings.specs.CharsetLaws.{CharsetPut, format-room, charset-start, charset-pass, charset-space, charset-next, charset_done}
 use Rattle.name_strings.proofs.put_charset_named.Goals as goal
 use Rattle.name_strings.proofs.put_charset_named.Lts.View as view
-use Rattle.name_strings.proofs.put_charset_named.Goals.{After-word_at-x, At-loop-i, In-loop-i, Start}
+use Rattle.name_strings.proofs.put_charset_named.Goals.{then-i-gt0, else-i-gt0, After-word_at-x, At-loop-i, In-loop-i, Start}
 
 -- the ids
 abbrev ids : Start → List ℕ
@@ -68,7 +68,15 @@ pub overflow_add-i : goal.overflow_add-i
 overflow_add-i c = omega (arith, c.loop-i-test.true, c.requires.3.few)
 
 pub loop-i-preserved : goal.loop-i-preserved
-loop-i-preserved c = ?
+loop-i-preserved c =
+    let n = c.loop-i.invariant.1 in (
+      loop_next _ _ _ _ _ _ _ _ c.loop-i.invariant.0 _ _ (more (goal.at.loop-i-preserved c).In-loop-i) c.hold-u.auto.window c.hold-u.ensures.0 c.hold-u.ensures.1 c.hold-u.ensures.2 c.hold-u.ensures.3,
+      naming-next _ _ _ _ _ _ n (more (goal.at.loop-i-preserved c).In-loop-i) _ (word (goal.at.loop-i-preserved c).After-word_at-x) _ c.given_id-id.ensures _ c.count_one-own.ensures,
+      λ old v room. elim c.if-i-gt0.branch [
+        | then-i-gt0 q ↦ charset-next old _ _ room (c.loop-i.invariant.2 old v room) q.if-i-gt0.true (some (goal.at.loop-i-preserved c).In-loop-i) (naming_id _ _ _ _ _ _ n (more (goal.at.loop-i-preserved c).In-loop-i) _ (word (goal.at.loop-i-preserved c).After-word_at-x) _ c.given_id-id.ensures) q.put_num-p.ensures _ _ q.out-is q.p-is
+        | else-i-gt0 q ↦ charset-pass old _ _ room (c.loop-i.invariant.2 old v room) q.if-i-gt0.false _ _ q.out-is q.p-is
+      ],
+    )
 
 pub returns : goal.returns
 returns c =

@@ -1,6 +1,6 @@
 -- `put_strings` meets its contract: behind the strings of the slots, of the names those are written whose id is the next. The invariant: the window comes
 -- to place i, the own strings before it are counted, and all of them stand behind the head.
-use Rattle.std.proofs.Common.{List, arith, get_or, length, refl, ℕ, ⊎_elim, ◌<◌, ◌∙◌, ◌≡◌}
+use Rattle.std.proofs.Common.{List, arith, get_or, length, refl, ℕ, ◌<◌, ◌∙◌, ◌≡◌}
 use Rattle.index.specs.Begun.{Meant, Begun}
 use Rattle.index.specs.BegunLaws.{begun_room, begun_more}
 use Rattle.order.specs.Walks.{order_in}
@@ -10,7 +10,7 @@ use Rattle.name_strings.specs.NamingLaws.{naming-start}
 use Rattle.name_strings.specs.WriteLaws.{begun_is, others-meant, others_begun, others-whole, name-start, name_asks, name_string, name-next, name-same, name_end}
 use Rattle.name_strings.proofs.put_strings.Goals as goal
 use Rattle.name_strings.proofs.put_strings.Lts.View as view
-use Rattle.name_strings.proofs.put_strings.Goals.{After-word_at-sid, At-loop-i, In-loop-i, Start}
+use Rattle.name_strings.proofs.put_strings.Goals.{then-id-c, else-id-c, After-word_at-sid, At-loop-i, In-loop-i, Start}
 use Rattle.name_strings.proofs.put_strings.Invariants.{own}
 
 abbrev all : Start → List (List ℕ)
@@ -72,7 +72,22 @@ pub overflow_add-i : goal.overflow_add-i
 overflow_add-i c = omega (arith, c.loop-i-test.true, c.requires.3.few)
 
 pub loop-i-preserved : goal.loop-i-preserved
-loop-i-preserved c = ?
+loop-i-preserved c =
+    let n = c.loop-i.invariant.1 in
+    let e = c.given_id-id.ensures in
+    let m = more (goal.at.loop-i-preserved c).In-loop-i in
+    let w = word (goal.at.loop-i-preserved c).After-word_at-sid in (
+      loop_next _ _ _ _ _ _ _ _ c.loop-i.invariant.0 _ _ m c.hold-u.auto.window c.hold-u.ensures.0 c.hold-u.ensures.1 c.hold-u.ensures.2 c.hold-u.ensures.3,
+      elim c.if-id-c.branch [
+        | then-id-c q ↦ name-next _ _ _ _ _ _ n m _ w _ e q.if-id-c.true _ q.c-is
+        | else-id-c q ↦ name-same _ _ _ _ _ _ n m _ w _ e q.if-id-c.false _ q.c-is
+      ],
+      λ mid meant g. elim c.if-id-c.branch [
+        | then-id-c q ↦ let x = name_string _ _ _ _ _ _ n m _ w _ e q.if-id-c.true in
+            begun_is _ _ _ q.out-is q.p-is q.c-is (begun_more mid _ _ meant _ x.1 _ (q.own_text-text.ensures ∙ x.2) (c.loop-i.invariant.2 mid meant g) q.put_item-p.ensures)
+        | else-id-c q ↦ begun_is _ _ _ q.out-is q.p-is q.c-is (c.loop-i.invariant.2 mid meant g)
+      ],
+    )
 
 pub returns : goal.returns
 returns c = (

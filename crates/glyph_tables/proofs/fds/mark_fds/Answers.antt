@@ -34,7 +34,7 @@ fd_of-fd-requires c = c.requires.0.good.parts.select
 
 pub bounds-marks-fd : goal.bounds-marks-fd
 bounds-marks-fd c =
-    omega (arith, c.fd_of-fd.type-inv, c.loop-i.invariant.1.size, c.requires.1)
+    omega (arith, c.fd_of-fd.type_inv, c.loop-i.invariant.1.size, c.requires.1)
 
 pub overflow_add-i : goal.overflow_add-i
 overflow_add-i c =

@@ -33,7 +33,7 @@ fd w =
 new : (d : After-new_fd-fd) → (d.new_fd-fd.result ≡ get_or (new_fds_by d.args.table.now (fds (view.up-At-loop-i _ _ _ _ _ d.before.before.before.before.before.before.before.before.before))) d.loop-i.i 0)
 new d =
     let table = d.args.table.now in
-    d.new_fd-fd.ensures ∙ ap (new_fd_by table) (fd (view.up-After-new_fd-arg-1 _ _ _ _ _ d.before.before)) ∙ select-at table (fds (view.up-At-loop-i _ _ _ _ _ d.before.before.before.before.before.before.before.before.before)) d.loop-i.i (left (view.up-In-loop-i _ _ _ _ _ d.before.before.before.before.before.before.before.before))
+    d.new_fd-fd.ensures ∙ ap (new_fd_by table) (fd (view.up-After-word_at-g _ _ _ _ _ d.before.before.before)) ∙ select-at table (fds (view.up-At-loop-i _ _ _ _ _ d.before.before.before.before.before.before.before.before.before)) d.loop-i.i (left (view.up-In-loop-i _ _ _ _ _ d.before.before.before.before.before.before.before.before))
 
 -- all glyphs were pushed
 all : (t : After-loop-i) → (Pushed t.args.out.now t.args.at (new_fds_by t.args.table.now (fds (view.up-At-loop-i _ _ _ _ _ t.before.before))) t.loop-i.out t.loop-i.w)
@@ -55,7 +55,7 @@ word_at-g-requires c =
 
 pub new_fd-fd-requires : goal.new_fd-fd-requires
 new_fd-fd-requires c =
-    (c.requires.0.good.parts.select, subst (HasNumber c.args.table.now) (sym (fd c)) (c.requires.1 c.loop-i.i (left (goal.at.new_fd-fd-requires c).In-loop-i)))
+    (c.requires.0.good.parts.select, subst (HasNumber c.args.table.now) (sym (fd (goal.at.new_fd-fd-requires c).After-word_at-g)) (c.requires.1 c.loop-i.i (left (goal.at.new_fd-fd-requires c).In-loop-i)))
 
 pub push-w-requires : goal.push-w-requires
 push-w-requires c = (

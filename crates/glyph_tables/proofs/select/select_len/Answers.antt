@@ -42,7 +42,7 @@ word_at-g-requires c =
 
 pub new_fd-fd-requires : goal.new_fd-fd-requires
 new_fd-fd-requires c =
-    (c.requires.0.good.parts.select, subst (HasNumber c.args.table.now) (sym (fd c)) (c.requires.1 c.loop-i.i (omega (arith, many (goal.at.new_fd-fd-requires c).At-loop-i, c.loop-i-test.true))))
+    (c.requires.0.good.parts.select, subst (HasNumber c.args.table.now) (sym (fd (goal.at.new_fd-fd-requires c).After-word_at-g)) (c.requires.1 c.loop-i.i (omega (arith, many (goal.at.new_fd-fd-requires c).At-loop-i, c.loop-i-test.true))))
 
 pub count_push-w-requires : goal.count_push-w-requires
 count_push-w-requires c = counts (goal.at.count_push-w-requires c).At-loop-i
@@ -59,7 +59,7 @@ loop-i-preserved c =
       loop_next _ _ _ _ _ _ _ _ c.loop-i.invariant.1 _ _ (omega (arith, c.loop-i-test.true, c.requires.0.many)) c.hold-u.auto.window
           c.hold-u.ensures.0 c.hold-u.ensures.1 c.hold-u.ensures.2 c.hold-u.ensures.3,
       count-more 0 (new_fds_by table (fds (goal.at.loop-i-preserved c).At-loop-i)) _ _ _ _ (omega (arith, more, select-count table (fds (goal.at.loop-i-preserved c).At-loop-i)))
-          (c.new_fd-fd.ensures ∙ ap (new_fd_by table) (fd (goal.at.loop-i-preserved c).After-new_fd-arg-1) ∙ select-at table (fds (goal.at.loop-i-preserved c).At-loop-i) c.loop-i.i more) c.loop-i.invariant.2 c.count_push-w.ensures,
+          (c.new_fd-fd.ensures ∙ ap (new_fd_by table) (fd (goal.at.loop-i-preserved c).After-word_at-g) ∙ select-at table (fds (goal.at.loop-i-preserved c).At-loop-i) c.loop-i.i more) c.loop-i.invariant.2 c.count_push-w.ensures,
     )
 
 pub fd_select_len-requires : goal.fd_select_len-requires

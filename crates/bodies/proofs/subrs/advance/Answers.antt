@@ -1,0 +1,19 @@
+-- `bodies::subrs::advance` meets its contract: the globals' rows have kind 4, those of the locals of an FD kind 3.
+use Rattle.bodies.specs.WindowsLaws.{fills_global, covers_global, global_covers, fills_local, covers_local, local_covers}
+use Rattle.bodies.proofs.subrs.advance.Goals as goal
+
+pub advance-requires : goal.advance-requires
+advance-requires c =
+    (fills_global c.in-Global.is c.requires.0, covers_global c.in-Global.is c.requires.1)
+
+pub advance-requires-in-Local : goal.advance-requires-in-Local
+advance-requires-in-Local c =
+    (fills_local c.in-Local.is c.requires.0, covers_local c.in-Local.is c.requires.1)
+
+pub returns-in-Global : goal.returns-in-Global
+returns-in-Global c =
+    (global_covers c.in-Global.is c.advance.ensures.0, c.advance.ensures.1)
+
+pub returns-in-Local : goal.returns-in-Local
+returns-in-Local c =
+    (local_covers c.in-Local.is c.advance-in-Local.ensures.0, c.advance-in-Local.ensures.1)

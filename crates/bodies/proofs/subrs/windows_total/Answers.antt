@@ -1,0 +1,82 @@
+-- `bodies::subrs::windows_total` meets its contract.
+use Rattle.std.proofs.Common.{Bool, List, ap, arith, refl, sym, ℕ, ◌∙◌, ◌≡◌}
+use Rattle.std.proofs.Math.Option.{Option}
+use Rattle.index.specs.Index.{items_of}
+use Rattle.record.specs.Record.{rows_of}
+use Rattle.subset.specs.Kept.{those}
+use Rattle.subset.specs.Pruned.{each}
+use Rattle.renumber.specs.Ranks.{calls_by}
+use Rattle.bodies.specs.Ways.{measured_of, reached_in, site_in, is_kept, subr_by, subrs_by}
+use Rattle.bodies.specs.SizesLaws.{adding_start, adding_end, adding_failed, adding_on, adding_room, adding_small}
+use Rattle.bodies.specs.SubrsLaws.{index-each}
+use Rattle.bodies.specs.WindowsLaws.{lent_same, fills_subr}
+use Rattle.mask_rows.specs.FillLaws.{covers-none}
+use Rattle.bodies.proofs.subrs.windows_total.Goals as goal
+use Rattle.bodies.proofs.subrs.windows_total.Goals.{Start}
+
+-- which are written, what each is, and all
+abbrev T : Start → ℕ → Bool
+T s = is_kept s.args.from.way (reached_in s.args.words.now s.args.from.own)
+
+abbrev F : Start → ℕ → Option (List ℕ)
+F s =
+    subr_by s.args.from.way (rows_of s.args.rows.now) (reached_in s.args.words.now s.args.from.own)
+    (calls_by s.args.words.now s.args.from.locals s.args.from.globals) (site_in s.args.from.of) (items_of s.args.font.now s.args.from.ix)
+
+all : (s : Start)
+    → measured_of (each (F s) (those (T s) s.args.from.ix.count 0))
+    ≡ measured_of (subrs_by s.args.from.way (rows_of s.args.rows.now) (reached_in s.args.words.now s.args.from.own)
+    (calls_by s.args.words.now s.args.from.locals s.args.from.globals) (site_in s.args.from.of) (items_of s.args.font.now s.args.from.ix))
+all s =
+    ap measured_of (sym (index-each s.args.from.way s.args.font.now s.args.words.now s.args.from.ix s.args.from.own s.args.from.locals s.args.from.globals
+    (rows_of s.args.rows.now) s.args.from.rising s.args.from.of s.requires.0 (calls_by s.args.words.now s.args.from.locals s.args.from.globals) (site_in s.args.from.of)))
+
+pub loop-k-init : goal.loop-k-init
+loop-k-init c =
+    (adding_start (F (goal.at.loop-k-init c).Start) (T (goal.at.loop-k-init c).Start) c.args.from.ix.count, covers-none _ _ _ _, refl, refl)
+
+pub advance-window-requires : goal.advance-window-requires
+advance-window-requires c =
+    (fills_subr c.args.from c.requires.0 (lent_same c.requires.1 _ _ c.loop-k.invariant.2 c.loop-k.invariant.3) _ c.loop-k-test.true, c.loop-k.invariant.1)
+
+pub windowed_len-requires : goal.windowed_len-requires
+windowed_len-requires c = (
+  c.requires.0,
+  c.loop-k-test.true,
+  c.advance-window.ensures.0,
+  c.advance-window.ensures.1,
+  lent_same c.requires.1 _ _ (c.advance-window.auto.keys ∙ c.loop-k.invariant.2) (c.advance-window.auto.bytes ∙ c.loop-k.invariant.3),
+)
+
+pub overflow_add-total : goal.overflow_add-total
+overflow_add-total c =
+    let m = adding_room (F (goal.at.overflow_add-total c).Start) (T (goal.at.overflow_add-total c).Start) c.args.from.ix.count c.loop-k.k c.loop-k.total c.loop-k.invariant.0 c.loop-k-test.true c.requires.0.few _ _ c.windowed_len.ensures.1 c.in-Len.is in
+    omega (arith, m)
+
+pub overflow_add-k : goal.overflow_add-k
+overflow_add-k c = omega (arith, c.loop-k-test.true, c.requires.0.few)
+
+pub loop-k-smaller : goal.loop-k-smaller
+loop-k-smaller c = omega (arith, c.loop-k-test.true)
+
+pub loop-k-preserved : goal.loop-k-preserved
+loop-k-preserved c = (
+  adding_on (F (goal.at.loop-k-preserved c).Start) (T (goal.at.loop-k-preserved c).Start) c.args.from.ix.count c.loop-k.k c.loop-k.total c.loop-k.invariant.0 c.loop-k-test.true _ c.windowed_len.ensures.0 c.windowed_len.ensures.1 _
+      c.in-Len.is,
+  c.windowed_len.ensures.2,
+  c.windowed_len.auto.keys ∙ c.advance-window.auto.keys ∙ c.loop-k.invariant.2,
+  c.windowed_len.auto.bytes ∙ c.advance-window.auto.bytes ∙ c.loop-k.invariant.3,
+)
+
+pub returns-in-Failed : goal.returns-in-Failed
+returns-in-Failed c = (
+  adding_failed (F (goal.at.returns-in-Failed c).Start) (T (goal.at.returns-in-Failed c).Start) c.args.from.ix.count c.loop-k.k c.loop-k.total c.loop-k.invariant.0 c.loop-k-test.true _ c.windowed_len.ensures.0 c.in-Failed.is
+      ∙ all (goal.at.returns-in-Failed c).Start,
+  tt,
+)
+
+pub returns : goal.returns
+returns c = (
+  adding_end (F (goal.at.returns c).Start) (T (goal.at.returns c).Start) c.args.from.ix.count c.loop-k.k c.loop-k.total c.loop-k.invariant.0 c.loop-k-test.false ∙ all (goal.at.returns c).Start,
+  adding_small (F (goal.at.returns c).Start) (T (goal.at.returns c).Start) c.args.from.ix.count c.loop-k.k c.loop-k.total c.loop-k.invariant.0 c.requires.0.few,
+)

@@ -1,0 +1,23 @@
+-- `front::put_front_cid` meets its contract: header and names, the INDEX of the top DICT, and that of the strings.
+use Rattle.front.specs.ByCidLaws.{names-asked, top-asked, own-asked, all-wrote}
+use Rattle.front.proofs.put_front_cid.Goals as goal
+
+pub put_names-p-requires : goal.put_names-p-requires
+put_names-p-requires c =
+    let a = c.args in
+    names-asked a.font.now a.f a.slots.now a.own a.name.now a.out.now c.requires.0 a.at.end a.at.charset a.at.select a.at.glyphs a.at.dicts
+
+pub put_cid_index-q-requires : goal.put_cid_index-q-requires
+put_cid_index-q-requires c =
+    let a = c.args in
+    top-asked a.font.now a.f a.slots.now a.own a.name.now a.out.now c.requires.0 a.at.end a.at.charset a.at.select a.at.glyphs a.at.dicts c.put_names-p.ensures c.requires.1
+
+pub put_slot_strings-requires : goal.put_slot_strings-requires
+put_slot_strings-requires c =
+    let a = c.args in
+    own-asked a.font.now a.f a.slots.now a.own a.name.now a.out.now c.requires.0 a.at.end a.at.charset a.at.select a.at.glyphs a.at.dicts c.put_names-p.ensures c.put_cid_index-q.ensures
+
+pub returns : goal.returns
+returns c =
+    let a = c.args in
+    all-wrote a.font.now a.f a.slots.now a.own a.name.now a.out.now c.requires.0 a.at.end a.at.charset a.at.select a.at.glyphs a.at.dicts c.put_names-p.ensures c.put_cid_index-q.ensures c.put_slot_strings.ensures
