@@ -5,7 +5,7 @@ use Rattle.std.proofs.Common.{sym, ◌∙◌, eqb-true}
 use mathlib.Core.List.{List, [], ◌∷◌}
 use Rattle.octets.specs.Pick.{pick}
 use Rattle.octets.specs.PickLaws.{both_hold}
-use Rattle.strings.specs.TableLaws.{and_left, and_right}
+use Rattle.strings.proofs.TableLaws.{and_left, and_right}
 use Rattle.unfold.specs.Unfold.{Row, local, global, entered}
 use Rattle.record.specs.Record.{rows_of, takes_fd, row_fine_lem, rows_fine_lem, record_fine}
 use Rattle.faithful.specs.RecordLaws.{row_is}

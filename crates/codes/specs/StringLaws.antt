@@ -9,7 +9,7 @@ use Rattle.octets.specs.PutLaws.{take_put}
 use Rattle.strings.specs.Table.{standard_names}
 use Rattle.strings.specs.Text.{codes, same_text_lem}
 use Rattle.strings.specs.Strings.{standard_strings, standard_string, string_text}
-use Rattle.strings.specs.StringsLaws.{string_standard, string_own, string_none}
+use Rattle.strings.proofs.StringsLaws.{string_standard, string_own, string_none}
 use Rattle.charset.specs.CharsetFound.{good_length}
 use Rattle.find.specs.Find.{glyph_with_text}
 use Rattle.find.specs.declared.Found.{Found}

@@ -11,7 +11,7 @@ use Rattle.std.proofs.Math.ListN.{length}
 use Rattle.std.proofs.lemmas.Bool.{eqb-false}
 use Rattle.octets.specs.Pick.{pick}
 use Rattle.octets.specs.PickLaws.{not_true}
-use Rattle.strings.specs.TableLaws.{and_left, and_right}
+use Rattle.strings.proofs.TableLaws.{and_left, and_right}
 use Rattle.charstring.specs.Token.{Tok, num, op, esc, mask, Lexeme, lost, got_num, got_op, got_esc, got_mask, join, onward, more, token_at, tokens_from, start, tokens_of}
 use Rattle.charstring.specs.declared.Cursor.{Cursor}
 use Rattle.charstring.specs.declared.MaskLen.{MaskLen}

@@ -12,7 +12,7 @@ use Rattle.octets.specs.Lists.{all_below}
 use Rattle.octets.specs.ListLaws.{below_at}
 use Rattle.prune.specs.StepLaws.{zero_one}
 use Rattle.strings.specs.Strings.{string_text}
-use Rattle.strings.specs.StringsLaws.{string_standard}
+use Rattle.strings.proofs.StringsLaws.{string_standard}
 use Rattle.charset.specs.Codes.{Naming}
 use Rattle.charset.specs.CodesRound.{supplied, Small, small-none, small-more}
 use Rattle.charset.specs.Predefined.{standard_encoding, expert_encoding}

@@ -6,7 +6,7 @@ use Rattle.std.proofs.Common.{◌∙◌, not-suc-le-zero, arith}
 use mathlib.Core.List.{List, [], ◌∷◌}
 use Rattle.std.proofs.Math.ListN.{get_or}
 use Rattle.strings.specs.Strings.{string_text, sid_of}
-use Rattle.strings.specs.StringsLaws.{string_standard, sid_standard}
+use Rattle.strings.proofs.StringsLaws.{string_standard, sid_standard}
 use Rattle.strings.specs.declared.Sid.TheVariants.{Standard}
 use Rattle.cff.specs.Font.{Program}
 use Rattle.subset.specs.Kept.{those, kept_of, sorted_by, keeps}

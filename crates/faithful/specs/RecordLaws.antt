@@ -6,7 +6,7 @@ use Rattle.std.proofs.lemmas.Bool.{not-false}
 use Rattle.octets.specs.Pick.{pick}
 use Rattle.octets.specs.PickLaws.{none-holds}
 use Rattle.octets.specs.Octets.{Octets, be, num_at}
-use Rattle.strings.specs.TableLaws.{and_left, and_right}
+use Rattle.strings.proofs.TableLaws.{and_left, and_right}
 use Rattle.charstring.specs.declared.MaskLen.TheVariants.{Given}
 use Rattle.unfold.specs.Unfold.{Row, Site, glyph, local, global, masked}
 use Rattle.prune.specs.StepLaws.{zero_one}

@@ -14,7 +14,7 @@ use Rattle.decimal.specs.TakenLaws.{whole-normal}
 use Rattle.decimal.specs.Values.{trunc_of, i32_of}
 use Rattle.strings.specs.Text.{same_text_lem}
 use Rattle.strings.specs.Strings.{string_text, sid_of}
-use Rattle.strings.specs.StringsLaws.{sid_below}
+use Rattle.strings.proofs.StringsLaws.{sid_below}
 use Rattle.strings.specs.declared.Sid.{Sid}
 use Rattle.strings.specs.declared.Sid.TheVariants.{Standard, Other}
 use Rattle.dict.specs.Op.{is_operator, ros, cid_count, copied_top_entries, copied_top_strings}

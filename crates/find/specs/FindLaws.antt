@@ -6,7 +6,7 @@ use Rattle.std.proofs.lemmas.Bool.{eqb-false}
 use Rattle.strings.specs.Text.{same_text_lem}
 use Rattle.strings.specs.TextLaws.{same_refl, same_not}
 use Rattle.strings.specs.Strings.{standard_string, string_text, sid_of}
-use Rattle.strings.specs.StringsLaws.{string_standard, string_own, string_none, sid_text, sid_is, sid_other}
+use Rattle.strings.proofs.StringsLaws.{string_standard, string_own, string_none, sid_text, sid_is, sid_other}
 use Rattle.strings.specs.declared.Sid.{Sid}
 use Rattle.strings.specs.declared.Sid.TheVariants.{Standard, Other}
 use Rattle.charset.specs.Listed.{numbers_of}

@@ -7,7 +7,7 @@ use Rattle.prune.specs.StepLaws.{zero_one}
 use Rattle.strings.specs.Text.{same_text_lem}
 use Rattle.strings.specs.TextLaws.{same_refl}
 use Rattle.strings.specs.Strings.{sid_of}
-use Rattle.strings.specs.StringsLaws.{sid_below}
+use Rattle.strings.proofs.StringsLaws.{sid_below}
 use Rattle.strings.specs.declared.Sid.{Sid}
 use Rattle.strings.specs.declared.Sid.TheVariants.{Standard, Other}
 use Rattle.subset.proofs.TextsLaws.{own-has}

@@ -17,7 +17,7 @@ use Rattle.index.specs.WriteLaws.{total-append}
 use Rattle.strings.specs.Text.{same_text_lem}
 use Rattle.strings.specs.TextLaws.{same_true}
 use Rattle.strings.specs.Strings.{string_text, sid_of}
-use Rattle.strings.specs.StringsLaws.{string_standard, sid_standard, sid_below}
+use Rattle.strings.proofs.StringsLaws.{string_standard, sid_standard, sid_below}
 use Rattle.strings.specs.declared.Sid.{Sid}
 use Rattle.strings.specs.declared.Sid.TheVariants.{Standard, Other}
 use Rattle.subset.specs.Texts.{has_text, with_text, own_strings_lem, place_in, new_id}

@@ -17,7 +17,7 @@ use Rattle.dict.specs.declared.RosIn.{RosIn}
 use Rattle.dict.specs.declared.RosIn.TheVariants.{Ros, None}
 use Rattle.decimal.specs.declared.Signed.{Signed}
 use Rattle.strings.specs.Strings.{string_text, sid_of}
-use Rattle.strings.specs.StringsLaws.{string_own, string_none}
+use Rattle.strings.proofs.StringsLaws.{string_own, string_none}
 use Rattle.strings.specs.declared.Sid.{Sid}
 use Rattle.strings.specs.declared.Sid.TheVariants.{Standard, Other}
 use Rattle.subset.specs.Texts.{slot_of}

@@ -4,7 +4,3 @@ pub mod Strings
 pub mod TableTest
 pub mod Examples
 pub mod TextLaws
-pub mod TableLaws
-pub mod NamesLaws
-pub mod StringsLaws
-pub mod SearchLaws

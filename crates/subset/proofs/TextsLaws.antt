@@ -6,7 +6,7 @@ use Rattle.prune.specs.StepLaws.{zero_one}
 use Rattle.strings.specs.Text.{same_text_lem}
 use Rattle.strings.specs.TextLaws.{same_refl, same_true}
 use Rattle.strings.specs.Strings.{string_text, sid_of}
-use Rattle.strings.specs.StringsLaws.{string_standard, string_own, sid_text, sid_below}
+use Rattle.strings.proofs.StringsLaws.{string_standard, string_own, sid_text, sid_below}
 use Rattle.strings.specs.declared.Sid.{Sid}
 use Rattle.strings.specs.declared.Sid.TheVariants.{Standard, Other}
 use Rattle.cff.specs.Font.{Program}

@@ -9,7 +9,7 @@ use mathlib.Core.List.{List, [], ◌∷◌, ◌++◌, map, append-nil}
 use Rattle.octets.specs.Pick.{pick}
 use Rattle.octets.specs.PickLaws.{pick_same}
 use Rattle.octets.specs.Octets.{Octets}
-use Rattle.strings.specs.TableLaws.{and_left}
+use Rattle.strings.proofs.TableLaws.{and_left}
 use Rattle.unfold.specs.Unfold.{Tok, Row, Glyph, plain}
 use Rattle.prune.specs.Bodies.{All, empty as nothing, one as listing}
 use Rattle.prune.specs.BelongsLaws.{Belongs, rows_belong}

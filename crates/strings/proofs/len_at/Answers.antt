@@ -1,7 +1,7 @@
 -- `strings::len_at` meets its contract: the table's law says that the two offsets are as far apart as the name is long.
 use Rattle.std.proofs.Common.{arith, refl}
 use Rattle.strings.specs.Strings.{standard_text}
-use Rattle.strings.specs.TableLaws.{Named, named}
+use Rattle.strings.proofs.TableLaws.{Named, named}
 use Rattle.strings.proofs.len_at.Goals as goal
 use Rattle.strings.proofs.len_at.Goals.{Start}
 

@@ -2,8 +2,8 @@
 use Rattle.std.proofs.Common.{arith, rules, ◌+◌, ◌-◌, ◌/◌, ◌<◌, ◌∙◌, ◌≡◌}
 use Rattle.strings.specs.Table.{standard_order}
 use Rattle.strings.specs.Text.{order_of}
-use Rattle.strings.specs.NamesLaws.{in_order}
-use Rattle.strings.specs.SearchLaws.{narrowed_not, narrowed_up, narrowed_down, listed, listed_below, compared, searched_same, searched_none}
+use Rattle.strings.proofs.NamesLaws.{in_order}
+use Rattle.strings.proofs.SearchLaws.{narrowed_not, narrowed_up, narrowed_down, listed, listed_below, compared, searched_same, searched_none}
 use Rattle.strings.proofs.search.Goals as goal
 use Rattle.strings.proofs.search.Lts.View as view
 use Rattle.strings.proofs.search.Goals.{After-order_of-found, In-loop-low}

@@ -1,6 +1,6 @@
 -- The invariant: the names before low are less than the text, and those from high on more.
 use Rattle.std.proofs.Common.{◌-◌, ◌≤◌}
-use Rattle.strings.specs.SearchLaws.{Narrowed}
+use Rattle.strings.proofs.SearchLaws.{Narrowed}
 use Rattle.strings.proofs.search.Given as goal
 
 abbrev pub invariant-loop-low : goal.invariant-loop-low

@@ -1,6 +1,6 @@
 -- `strings::standard_string` meets its contract: the table's law says that the part between the two offsets is the name.
 use Rattle.std.proofs.Common.{arith}
-use Rattle.strings.specs.TableLaws.{Named, named}
+use Rattle.strings.proofs.TableLaws.{Named, named}
 use Rattle.strings.proofs.standard_string.Goals as goal
 use Rattle.strings.proofs.standard_string.Goals.{Start}
 

@@ -12,7 +12,7 @@ use Rattle.strings.specs.Text.{order_of}
 use Rattle.strings.specs.TextLaws.{order_refl, order_trans}
 use Rattle.strings.specs.Strings.{standard_string}
 use Rattle.strings.specs.TableTest.{is_less, ordered, has_all, table_tests}
-use Rattle.strings.specs.TableLaws.{table-passes, and_left, and_right, every-at, order-length}
+use Rattle.strings.proofs.TableLaws.{table-passes, and_left, and_right, every-at, order-length}
 use Rattle.strings.specs.declared.Order.{Order}
 use Rattle.strings.specs.declared.Order.TheVariants.{Less, Same, More}
 

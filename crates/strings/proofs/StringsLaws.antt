@@ -6,8 +6,8 @@ use Rattle.octets.specs.Pick.{pick_ind}
 use Rattle.strings.specs.Text.{same_text_lem}
 use Rattle.strings.specs.TextLaws.{same_true, same_false}
 use Rattle.strings.specs.Strings.{standard_strings, standard_string, string_text, sid_in, sid_of}
-use Rattle.strings.specs.TableLaws.{strings-length}
-use Rattle.strings.specs.NamesLaws.{names-differ}
+use Rattle.strings.proofs.TableLaws.{strings-length}
+use Rattle.strings.proofs.NamesLaws.{names-differ}
 use Rattle.strings.specs.declared.Sid.{Sid}
 use Rattle.strings.specs.declared.Sid.TheVariants.{Standard, Other}
 

@@ -6,9 +6,9 @@ use Rattle.strings.specs.Table.{standard_order}
 use Rattle.strings.specs.Text.{order_of}
 use Rattle.strings.specs.TextLaws.{order_refl, order_same, order_trans, order_flip}
 use Rattle.strings.specs.Strings.{standard_string, sid_of}
-use Rattle.strings.specs.TableLaws.{order-length}
-use Rattle.strings.specs.NamesLaws.{in_order, order-within, order-rises, rank_of, rank-within, rank-name}
-use Rattle.strings.specs.StringsLaws.{sid_is, sid_none}
+use Rattle.strings.proofs.TableLaws.{order-length}
+use Rattle.strings.proofs.NamesLaws.{in_order, order-within, order-rises, rank_of, rank-within, rank-name}
+use Rattle.strings.proofs.StringsLaws.{sid_is, sid_none}
 use Rattle.strings.specs.declared.Order.{Order}
 use Rattle.strings.specs.declared.Order.TheVariants.{Less, Same, More}
 use Rattle.strings.specs.declared.Sid.TheVariants.{Standard, Other}

@@ -1,0 +1,4 @@
+pub mod TableLaws
+pub mod NamesLaws
+pub mod SearchLaws
+pub mod StringsLaws
