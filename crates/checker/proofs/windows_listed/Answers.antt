@@ -2,7 +2,6 @@
 use Rattle.std.proofs.Common.{arith, sym, ◌∙◌}
 use Rattle.tracer.specs.WindowsLaws.{keys_below}
 use Rattle.checker.specs.AskLaws.{ask_start, ask_fits, ask_last, ask_stops, ask_key, ask_less, ask_next}
-use Rattle.checker.specs.CheckLaws.{was_false, was_true}
 use Rattle.checker.proofs.windows_listed.Goals as goal
 
 pub loop-n-init : goal.loop-n-init
@@ -13,7 +12,7 @@ window_listed-requires c = let v = c.loop-n.invariant in (v.asks.window, ask_fit
 
 pub returns-then-not-window_listed : goal.returns-then-not-window_listed
 returns-then-not-window_listed c =
-    ask_stops _ _ _ _ _ c.loop-n.invariant c.loop-n-test.true (sym c.window_listed.ensures ∙ was_false _ c.if-not-window_listed.true)
+    ask_stops _ _ _ _ _ c.loop-n.invariant c.loop-n-test.true (sym c.window_listed.ensures ∙ c.if-not-window_listed.true)
 
 pub bounds-keys : goal.bounds-keys
 bounds-keys c = omega (arith, c.loop-n.invariant.asks.size)
@@ -32,7 +31,7 @@ loop-n-smaller c =
 
 pub loop-n-preserved : goal.loop-n-preserved
 loop-n-preserved c =
-    ask_next _ _ _ _ _ c.loop-n.invariant c.loop-n-test.true (sym c.window_listed.ensures ∙ was_true _ c.if-not-window_listed.false) _ _ c.refill-n.ensures
+    ask_next _ _ _ _ _ c.loop-n.invariant c.loop-n-test.true (sym c.window_listed.ensures ∙ c.if-not-window_listed.false) _ _ c.refill-n.ensures
 
 pub window_listed-requires-2 : goal.window_listed-requires-2
 window_listed-requires-2 c = let v = c.loop-n.invariant in (v.asks.window, ask_fits _ _ _ _ _ v)
