@@ -1,5 +1,5 @@
-//! Links the proved library: libmogdivash.a of the folder that MOGDIVASH_LIB names, or libcapi.a, which `rt staticlib capi` makes, of that
-//! folder or of target/staticlib of the repository, or else what tools/library has put into build/. Holds the version to the file VERSION.
+//! Links the proved library: libmogdivash.a of the folder that MOGDIVASH_LIB names, or libcapi.a, which `rt lib capi` makes, of that
+//! folder or of crates/capi/out of the repository, or else what tools/library has put into build/. Holds the version to the file VERSION.
 
 use std::path::{Path, PathBuf};
 use std::{env, fs};
@@ -15,7 +15,7 @@ fn archive(dir: &Path, name: &str) -> PathBuf {
 fn folders(root: &Path) -> Vec<PathBuf> {
     match env::var_os("MOGDIVASH_LIB") {
         Some(dir) => vec![dir.into()],
-        None => vec![root.join("target/staticlib"), root.join("build")],
+        None => vec![root.join("crates/capi/out"), root.join("build")],
     }
 }
 
@@ -29,7 +29,7 @@ fn link(root: &Path) {
         .find(|(dir, name)| archive(dir, name).exists());
     let Some((dir, name)) = found else {
         panic!(
-            "no library in {folders:?}: run tools/library or `rt staticlib capi`, or set MOGDIVASH_LIB"
+            "no library in {folders:?}: run tools/library or `rt lib capi`, or set MOGDIVASH_LIB"
         );
     };
     println!("cargo:rerun-if-changed={}", archive(&dir, name).display());

@@ -32,12 +32,14 @@ in_has k [] e = absurd (in_none k e)
 in_has k (x ∷ l) e = ⊎_elim (λ i. here i) (λ i. there (in_has k l i)) (in_cases x k l e)
 
 has_in : (k : ℕ) (l : List ℕ) → Has ℕ k l → is_in k l ≡ true
+has_in k [] x' = elim x' [ ]
 has_in k (x ∷ l) (here e) = in_head x k l e
 has_in k (x ∷ l) (there h) = in_more x k l (has_in k l h)
 
 module _ (q : ℕ → Bool) where
   all-has : (l : List ℕ) → all_of q l ≡ true → (k : ℕ) → Has ℕ k l → q k ≡ true
   unfolding all_of
+  all-has [] e k x'' = elim x'' [ ]
   all-has (x ∷ l) e k (here i) = ap q (sym i) ∙ (both_hold (q x) (all_of q l) e).0
   all-has (x ∷ l) e k (there h) = all-has l (both_hold (q x) (all_of q l) e).1 k h
 
@@ -48,6 +50,7 @@ module _ (q : ℕ → Bool) where
 
 fit_at : (rows : List Row) → AllFit rows → (q : Row) → Has Row q rows → Fits q
 unfolding AllFit
+fit_at [] a q x'' = elim x'' [ ]
 fit_at (r ∷ rows) a q (here e) = subst Fits e a.0
 fit_at (r ∷ rows) a q (there h) = fit_at rows a.1 q h
 

@@ -1,5 +1,5 @@
 -- `glyph_bodies::put_by_windows` meets its contract.
-use Rattle.std.proofs.Common.{arith, length, sym, ℕ, ⊎_elim, ◌∙◌, ◌≡◌}
+use Rattle.std.proofs.Common.{arith, length, sym, ℕ, ◌∙◌, ◌≡◌}
 use lib.ListN.{length-replicate}
 use Rattle.mask_rows.specs.FillLaws.{covers-none}
 use Rattle.order_window.specs.LoopLaws.{order-start, order_asks, order_end}
@@ -7,15 +7,17 @@ use Rattle.glyph_bodies.specs.LoopLaws.{Turned, turn_moved, turn-kept, glyph_ask
 use Rattle.glyph_bodies.specs.PartLaws.{fills_glyph, lent_long}
 use Rattle.glyph_bodies.specs.PutLaws.{head-asked, charstrings-meant, put-start, put_whole, put-asked, end_asked, put_next}
 use Rattle.glyph_bodies.proofs.put_by_windows.Goals as goal
-use Rattle.glyph_bodies.proofs.put_by_windows.Goals.{After-advance-masks, Joined-u-i}
+use Rattle.glyph_bodies.proofs.put_by_windows.Goals.{After-advance-masks, Joined-u-i, then-u-i, else-u-i}
 
 -- the window has the place
 turned : (j : Joined-u-i)
     → Turned j.args.font.now j.args.o j.args.words.now j.args.window.now j.if-u-i.window j.if-u-i.u
     j.loop-i.i
 turned j =
-    ⊎_elim (λ m. turn_moved j.requires.1 j.loop-i.invariant.1 j.loop-i-test.true m.2.kept.1.1.1.0 m.2.ensures m.5 m.6)
-    (λ k. turn-kept j.requires.1 j.loop-i.invariant.1 j.loop-i-test.true k.0.left k.1 k.2) j.if-u-i.branch
+    elim j.if-u-i.branch [
+      | then-u-i m ↦ turn_moved j.requires.1 j.loop-i.invariant.1 j.loop-i-test.true m.hold-u.auto.window m.hold-u.ensures m.window-is m.u-is
+      | else-u-i k ↦ turn-kept j.requires.1 j.loop-i.invariant.1 j.loop-i-test.true k.if-u-i.false k.window-is k.u-is
+    ]
 
 pub index_for-to-requires : goal.index_for-to-requires
 index_for-to-requires c =
@@ -27,7 +29,7 @@ put_head-requires c =
 
 pub overflow_add-p : goal.overflow_add-p
 overflow_add-p c =
-    omega (arith, charstrings-meant c.requires.0 c.requires.1 c.args.out.now c.requires.2 c.index_for-to.ensures c.put_head.new.out c.put_head.auto.out, c.good.1.1.1.1.1.1.1.1.0.0)
+    omega (arith, charstrings-meant c.requires.0 c.requires.1 c.args.out.now c.requires.2 c.index_for-to.ensures c.put_head.new.out c.put_head.auto.out, c.ranges.at.fits)
 
 pub loop-i-init : goal.loop-i-init
 loop-i-init c = (

@@ -1,0 +1,8 @@
+-- `failing::mark_fd` meets its contract: FDSelect gives the glyph's FD.
+use Rattle.std.proofs.Common.{ap, set}
+use Rattle.failing.specs.FailingLaws.{glyph_fd}
+use Rattle.failing.proofs.mark_fd.Goals as goal
+
+pub returns : goal.returns
+returns c =
+    ap (λ k. set c.args.used.now k 1) (glyph_fd c.args.font.now c.args.f c.requires.0 c.args.g c.requires.1 _ c.fd_of-fd.ensures)
