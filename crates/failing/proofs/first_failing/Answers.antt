@@ -1,4 +1,5 @@
 -- `failing::first_failing` meets its contract: glyph 0, then the keep list; the invariant: what is left gives what all give.
+use Rattle.std.proofs.lemmas.Bool.{not_from_false, not_from_true}
 use Rattle.std.proofs.Common.{arith, length, refl, sym, ◌<◌, ◌∙◌}
 use Rattle.record.specs.Record.{rows_of}
 use Rattle.cff.specs.Reads.{program_of}
@@ -10,11 +11,11 @@ is_made-requires c = (c.requires.0, c.requires.0.read.font.some, c.requires.2.fi
 
 pub returns-then-not-is_made : goal.returns-then-not-is_made
 returns-then-not-is_made c =
-    zero-fails (program_of c.args.font.now c.args.f) (rows_of c.args.rows.now) c.args.keep.now (turned_true c.is_made.result c.if-not-is_made.true ∙ c.is_made.ensures)
+    zero-fails (program_of c.args.font.now c.args.f) (rows_of c.args.rows.now) c.args.keep.now (turned_true c.is_made.result (not_from_false _ c.if-not-is_made.true) ∙ c.is_made.ensures)
 
 pub loop-i-init : goal.loop-i-init
 loop-i-init c =
-    (refl, asking_start (program_of c.args.font.now c.args.f) (rows_of c.args.rows.now) c.args.keep.now (turned_false c.is_made.result c.if-not-is_made.false ∙ c.is_made.ensures))
+    (refl, asking_start (program_of c.args.font.now c.args.f) (rows_of c.args.rows.now) c.args.keep.now (turned_false c.is_made.result (not_from_true _ c.if-not-is_made.false) ∙ c.is_made.ensures))
 
 pub is_made-requires-in-loop-i : goal.is_made-requires-in-loop-i
 is_made-requires-in-loop-i c =
