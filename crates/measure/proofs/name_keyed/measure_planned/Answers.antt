@@ -1,0 +1,11 @@
+-- `measure::name_keyed::measure_planned` meets its contract: the length that was measured is that of the subset, which is tested.
+use Rattle.measure.specs.MeasureLaws.{named_long, named-fits}
+use Rattle.measure.proofs.name_keyed.measure_planned.Goals as goal
+
+pub returns-then-end-gt-LONGEST : goal.returns-then-end-gt-LONGEST
+returns-then-end-gt-LONGEST c =
+    named_long _ _ _ _ _ _ _ c.requires.0 c.args.name.now _ _ c.requires.1 _ c.requires.2 _ c.places_named-at.ensures c.if-end-gt-LONGEST.true
+
+pub returns : goal.returns
+returns c =
+    named-fits _ _ _ _ _ _ _ c.requires.0 c.args.name.now _ _ c.requires.1 _ c.requires.2 _ c.places_named-at.ensures c.if-end-gt-LONGEST.false
