@@ -82,12 +82,12 @@ DECLARED = {c: declared(c) for c in os.listdir(f"{ROOT}/crates")}
 
 def place(module, name, crate):
     """What an import names: a definition of the tree, a type of the code, or a name of the kit."""
-    m = re.match(r"Rattle·(\w+)(?:·specs)?\.specs\.(.*)", module)
-    if not m:
+    m = re.match(r"Rattle\.(\w+)\.(?:specs|proofs)\.(.*)", module)
+    if not m or m.group(1) not in DECLARED:
         return ("kit", module, name)
     there, path = m.group(1), m.group(2).split(".")
     if path[0] == "declared":
-        return (there, "src", path[-2] if path[-1] == "the-variants" else path[-1])
+        return (there, "src", path[-2] if path[-1] == "TheVariants" else path[-1])
     return defined(there, path[0], name)
 
 
@@ -132,10 +132,11 @@ def named(line, module, file, own):
     left, equals, right = line.partition(" = ")
     if equals and left.split()[:1] == [own]:
         free |= {t for t in re.findall(IDENT, left) if lookup(t, module, file) is None or t[0].islower() and t not in module.parent and t not in module.imports}
-    line = re.sub(rf"(?<=[{{;]) ?{IDENT} = ", " ", re.sub(rf"\s\.{IDENT}", " ", line))
+    line = re.sub(rf"(?<=[{{;]) ?{IDENT} = ", " ", line)
     for alias, inside in re.findall(rf"({IDENT})\.({IDENT})", line):
         if alias in module.aliases:
             found.add(place(module.aliases[alias], inside, module.crate))
+    line = re.sub(rf"\.{IDENT}", " ", line)
     for token in set(re.findall(IDENT, line)) - free - {own}:
         found.add(lookup(token, module, file))
     return found - {None}
@@ -173,7 +174,8 @@ def contract(crate, function):
         for use in re.findall(r"ghost use ([^;]*);", text):
             module.imported(use)
         clauses = [l for l in m.group(0).split("\n")[:-1] if l.strip()]
-        said = [l for l in clauses if "⌜" in l or "⌝" in l or l.lstrip().startswith(("×", "requires", "ensures"))]
+        first = next((i for i, l in enumerate(clauses) if l.lstrip().startswith(("requires", "ensures"))), len(clauses))
+        said = clauses[first:]
         return set().union(*(named(l, module, "", function) for l in said)), len(said)
     sys.exit(f"believed.py: no function {function} in {crate}")
 

@@ -38,8 +38,10 @@ def defined_in_code(text):
 
 class Crate:
     def __init__(self, name):
-        specs, code = read(f"crates/{name}/specs/**/*.antt"), read(f"crates/{name}/src/**/*.rt")
-        self.specs = {stem(f): defined_in_specs(t) for f, t in specs.items()}
+        specs, code = read(f"crates/{name}/specs/**/*.antt") | read(f"crates/{name}/proofs/*.antt"), read(f"crates/{name}/src/**/*.rt")
+        self.specs = {}
+        for f, t in specs.items():
+            self.specs.setdefault(stem(f), set()).update(defined_in_specs(t))
         self.code = {stem(f): defined_in_code(t) for f, t in code.items()}
         self.edits = {stem(f) for f in glob.glob(f"{ROOT}/crates/{name}/must-fail/*.edit")}
         self.known = {name} | self.edits | set(self.specs) | set(self.code)

@@ -4,48 +4,37 @@ use Rattle.by_name.specs.NamedKeptLaws.{names-asked, named_refused, encode-asked
 use Rattle.measure.specs.RoomLaws.{lent, ordered-measured}
 use Rattle.measure.specs.MeasureLaws.{named-measured}
 use Rattle.measure.proofs.name_keyed.measure_ordered.Goals as goal
-use Rattle.measure.proofs.name_keyed.measure_ordered.Goals.{Start}
-
--- the arguments; after the strings, and after the encoding
-abbrev S : tie.After-prepare-named-arg2 → Start
-S c = c.before.before.before.before.before.before.before.before
 
 pub prepare_named-own-requires : goal.prepare_named-own-requires
 prepare_named-own-requires c =
-    let s = S c in
-    names-asked false _ s.args.rows.now s.args.name.now s.args.traced _ _ _ s.pre.0 s.pre.1
+    names-asked false _ c.args.rows.now c.args.name.now c.args.traced _ _ _ c.requires.0 c.requires.1
 
 pub returns-then-own-gt64609 : goal.returns-then-own-gt64609
 returns-then-own-gt64609 c =
-    let s = S (goal.at.returns-then-own-gt64609 c).After-prepare_named-arg-1 in
     let e = c.prepare_named-own.ensures in
-    ordered-measured s.args.font.now s.args.rows.now s.args.name.now s.args.traced s.args.o s.args.words.now _ _
-    (named_refused false _ s.args.rows.now s.args.name.now s.args.traced _ _ _ s.pre.0 s.pre.1 _ _ _ e.0 e.1 e.2 lent c.if-own-gt64609.true)
+    ordered-measured c.args.font.now c.args.rows.now c.args.name.now c.args.traced c.args.o c.args.words.now _ _
+    (named_refused false _ c.args.rows.now c.args.name.now c.args.traced _ _ _ c.requires.0 c.requires.1 _ _ _ e.0 e.1 e.2 lent c.if-own-gt64609.true)
 
 pub encode_behind-encoding-requires : goal.encode_behind-encoding-requires
 encode_behind-encoding-requires c =
-    let s = S (goal.at.encode_behind-encoding-requires c).After-prepare_named-arg-1 in
     let e = c.prepare_named-own.ensures in
-    encode-asked false _ s.args.rows.now s.args.name.now s.args.traced _ _ _ s.pre.0 s.pre.1 _ _ _ e.0 e.1 e.2 c.prepare_named-own.auto.slots
+    encode-asked false _ c.args.rows.now c.args.name.now c.args.traced _ _ _ c.requires.0 c.requires.1 _ _ _ e.0 e.1 e.2 c.prepare_named-own.auto.slots
 
 pub returns-then-encoding-gt255 : goal.returns-then-encoding-gt255
 returns-then-encoding-gt255 c =
-    let s = S (goal.at.returns-then-encoding-gt255 c).After-prepare_named-arg-1 in
     let e = c.prepare_named-own.ensures in
-    ordered-measured s.args.font.now s.args.rows.now s.args.name.now s.args.traced s.args.o s.args.words.now _ _
-    (pairs_refused false _ s.args.rows.now s.args.name.now s.args.traced _ _ _ s.pre.0 s.pre.1 _ _ _ e.0 e.1 e.2 c.if-own-gt64609.false _ _ c.encode_behind-encoding.ensures.0
+    ordered-measured c.args.font.now c.args.rows.now c.args.name.now c.args.traced c.args.o c.args.words.now _ _
+    (pairs_refused false _ c.args.rows.now c.args.name.now c.args.traced _ _ _ c.requires.0 c.requires.1 _ _ _ e.0 e.1 e.2 c.if-own-gt64609.false _ _ c.encode_behind-encoding.ensures.0
     c.prepare_named-own.auto.slots lent c.if-encoding-gt255.true)
 
 pub measure_prepared-requires : goal.measure_prepared-requires
 measure_prepared-requires c =
-    let s = S (goal.at.measure_prepared-requires c).After-prepare_named-arg-1 in
     let e = c.prepare_named-own.ensures in
-    prepared_asked false _ s.args.rows.now s.args.name.now s.args.traced _ _ _ s.pre.0 s.pre.1 _ _ _ e.0 e.1 e.2 c.if-own-gt64609.false _ _ c.encode_behind-encoding.ensures.0
+    prepared_asked false _ c.args.rows.now c.args.name.now c.args.traced _ _ _ c.requires.0 c.requires.1 _ _ _ e.0 e.1 e.2 c.if-own-gt64609.false _ _ c.encode_behind-encoding.ensures.0
     c.prepare_named-own.auto.slots c.if-encoding-gt255.false c.encode_behind-encoding.ensures.1
 
 pub returns : goal.returns
 returns c =
-    let s = S (goal.at.returns c).After-prepare_named-arg-1 in
     let e = c.prepare_named-own.ensures in
-    named-measured _ s.args.rows.now s.args.name.now s.args.traced _ _ _ s.pre.0 s.pre.1 _ _ _ e.0 e.1 e.2 c.if-own-gt64609.false _ _ c.encode_behind-encoding.ensures.0
+    named-measured _ c.args.rows.now c.args.name.now c.args.traced _ _ _ c.requires.0 c.requires.1 _ _ _ e.0 e.1 e.2 c.if-own-gt64609.false _ _ c.encode_behind-encoding.ensures.0
     c.prepare_named-own.auto.slots c.if-encoding-gt255.false _ c.measure_prepared.ensures
