@@ -3,3 +3,4 @@ pub mod PartsLaws
 pub mod Small
 pub mod Theorem
 pub mod BodiesLaws
+pub mod TopLaws

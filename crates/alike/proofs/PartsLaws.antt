@@ -22,7 +22,7 @@ use Rattle.subset.specs.Codes.{Coded}
 use Rattle.subset.specs.Subset.{ros_entry, private_dict, private_part, font_dict, private_parts, font_dicts, cids_of, new_fds, own_by_cid, subset_by_name, subset_by_cid, subset_bytes}
 use Rattle.subset.proofs.AlikeLaws.{cids-alike}
 use Rattle.alike.specs.Alike.{Alike}
-use Rattle.alike.specs.TopLaws.{keyed-same, ros-same, count_same, copied-same, named-same, names_same, id_same, texts-same, matrix_same, used-same}
+use Rattle.alike.proofs.TopLaws.{keyed-same, ros-same, count_same, copied-same, named-same, names_same, id_same, texts-same, matrix_same, used-same}
 
 -- a Private DICT and its local subroutines, by the bytes of its entries
 abbrev dict_by : List (List ℕ) → List ℕ → List ℕ

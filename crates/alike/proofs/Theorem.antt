@@ -15,7 +15,7 @@ use Rattle.subset.specs.Subset.{subset_bytes}
 use Rattle.subset.specs.Cut.{Outcome, refused, subset, all_found_lem, has_ros_lem, same_bool_lem, own_of, unsupported_in, written, cut_program, cut_read, cut_with}
 use Rattle.alike.specs.Alike.{Alike, SameReply, CountsAlone, NoTrace, NoTraceCopied}
 use Rattle.alike.specs.CountsLaws.{alike_counts}
-use Rattle.alike.specs.TopLaws.{keyed-same, ros-same, unsupported-same, own_same, order_alike, used-same, found-same, coded-same}
+use Rattle.alike.proofs.TopLaws.{keyed-same, ros-same, unsupported-same, own_same, order_alike, used-same, found-same, coded-same}
 use Rattle.alike.proofs.PartsLaws.{bytes_same}
 use Rattle.alike.proofs.BodiesLaws.{pruned-same, copied-same}
 

@@ -1,3 +1,2 @@
 pub mod Alike
 pub mod CountsLaws
-pub mod TopLaws
