@@ -1,5 +1,6 @@
 -- `lines::answer_agrees` meets its contract: our answer, where there is one, is compared with the stored field.
-use Rattle.std.proofs.Common.{List, Option, ap, sym, ℕ, ◌∙◌, ◌≡◌}
+use Rattle.std.proofs.Math.Option.{Option}
+use Rattle.std.proofs.Common.{List, ap, length-take-le, sym, ℕ, ◌∙◌, ◌≡◌}
 use Rattle.replay.specs.Answers.{answer_to}
 use Rattle.cases.specs.Fields.{field_bytes, both_same}
 use Rattle.cases.specs.AnswersLaws.{Lent, lent-some, gives_lent, gives_outside}
@@ -13,6 +14,9 @@ found c k e = gives_lent _ _ _ c.answer.ensures k e
 
 pub slice_bounds-found-end : goal.slice_bounds-found-end
 slice_bounds-found-end c = (found (goal.at.slice_bounds-found-end c).After-answer _ c.in-Bytes.is).fits
+
+pub slice_bounds-holds-end : goal.slice_bounds-holds-end
+slice_bounds-holds-end c = sym (length-take-le _ _ (found (goal.at.slice_bounds-holds-end c).After-answer _ c.in-Bytes.is).fits)
 
 pub returns-in-Bytes : goal.returns-in-Bytes
 returns-in-Bytes c = c.holds.ensures ∙ ap (λ (o : Option (List ℕ)). both_same o (field_bytes 4096 c.args.stored.now)) (lent-some (found (goal.at.returns-in-Bytes c).After-answer _ c.in-Bytes.is))

@@ -1,5 +1,6 @@
 -- `lines::fields_agree` meets its contract: the input is read, and its answer compared.
-use Rattle.std.proofs.Common.{List, Option, ap, length-take-le, rules, sym, ℕ, ◌∙◌, ◌≡◌}
+use Rattle.std.proofs.Math.Option.{Option}
+use Rattle.std.proofs.Common.{List, ap, length-take-le, rules, sym, ℕ, ◌∙◌, ◌≡◌}
 use Rattle.hexlines.specs.declared.Unhexed.TheVariants.{Done}
 use Rattle.cases.specs.Fields.{field_bytes, both_same}
 use Rattle.cases.specs.Lines.{answer_of}
