@@ -1,4 +1,4 @@
-//! Links the proved library: libmogdivash.a of the folder that MOGDIVASH_LIB names, or libcapi.a, which `rt lib capi` makes, of that
+//! Links the proved library: libmogdivash.a of the folder that MOGDIVASH_LIB names, or libcapi.a, which `rt lib` makes in crates/capi, of that
 //! folder or of crates/capi/out of the repository, or else what tools/library has put into build/. Holds the version to the file VERSION.
 
 use std::path::{Path, PathBuf};
@@ -29,7 +29,7 @@ fn link(root: &Path) {
         .find(|(dir, name)| archive(dir, name).exists());
     let Some((dir, name)) = found else {
         panic!(
-            "no library in {folders:?}: run tools/library or `rt lib capi`, or set MOGDIVASH_LIB"
+            "no library in {folders:?}: run tools/library or `rt lib` in crates/capi, or set MOGDIVASH_LIB"
         );
     };
     println!("cargo:rerun-if-changed={}", archive(&dir, name).display());
