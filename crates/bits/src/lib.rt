@@ -46,10 +46,8 @@ pub fn whole_ones(words: &[u32], at: usize, q: usize) -> usize
     ensures { (result ≡ whole_ones_lem words.now at q) × (result ≤ 32 * q) }
 {
     let mut n: u32 = 0;
-    let mut i: usize = 0;
-    while i < q {
+    for i in 0..q {
         n += ones_of(words[at + i]);
-        i += 1;
     }
     n as usize
 }

@@ -92,10 +92,8 @@ pub fn put_num(out: &mut [u8], at: usize, value: usize, size: usize) -> usize
     requires { at + size ≤ length out.old }
     ensures { Wrote out.old at (bytes_of size value) out.new result }
 {
-    let mut i = size;
     let mut v = value;
-    while 0 < i {
-        i -= 1;
+    for i in (0..size).rev() {
         out[at + i] = (v % 256) as u8;
         v /= 256;
     }
@@ -108,10 +106,6 @@ pub fn put_bytes(out: &mut [u8], at: usize, src: &[u8]) -> usize
     ensures { Wrote out.old at src.now out.new result }
 {
     let n = src.len();
-    let mut i = 0;
-    while i < n {
-        out[at + i] = src[i];
-        i += 1;
-    }
+    out[at..at + n].copy_from_slice(src);
     at + n
 }

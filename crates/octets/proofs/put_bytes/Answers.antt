@@ -1,21 +1,11 @@
 -- `octets::put_bytes` meets its contract.
-use Rattle.std.proofs.Common.{ap, arith, get_or, length, length-set, refl, rules, set, sym, ◌+◌, ◌<◌, ◌∙◌}
-use Rattle.octets.specs.PutLaws.{put_nil, put_next, put_all}
+use Rattle.std.proofs.Common.{refl, ◌≡◌, ◌+◌, ◌-◌, arith, length, drop-drop}
+use Rattle.octets.specs.Octets.{put}
 use Rattle.octets.proofs.put_bytes.Goals as goal
 
-pub loop-i-init : goal.loop-i-init
-loop-i-init c = (search rules, refl, refl, sym (put_nil _ _))
-
-pub loop-i-preserved : goal.loop-i-preserved
-loop-i-preserved c =
-    let a = c.args in
-    let l = c.loop-i in
-    let r : a.at + l.i < length a.out.now = omega arith in
-    let m : l.i < length a.src.now = omega arith in
-    (omega arith, l.invariant.1, simp length-set l.invariant.2, ap (λ o. set o (a.at + l.i) (get_or a.src.now l.i 0)) l.invariant.3 ∙ put_next a.out.now a.at a.src.now l.i r m)
-
 pub returns : goal.returns
+unfolding put
 returns c =
     let a = c.args in
-    let l = c.loop-i in
-    record { is = l.invariant.3 ∙ put_all a.out.now a.at a.src.now l.i (omega arith); behind = refl }
+    let e : a.at + length a.src.now - a.at ≡ length a.src.now = omega arith in
+    record { is = rw (c.copy_from_slice.ensures.after, e, drop-drop) refl; behind = refl }

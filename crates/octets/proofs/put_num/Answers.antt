@@ -1,19 +1,15 @@
 -- `octets::put_num` meets its contract.
-use Rattle.std.proofs.Common.{ap, arith, length, length-set, refl, rules, sym, ℕ, ◌+◌, ◌∙◌, ◌≡◌, ◌≤◌}
+use Rattle.std.proofs.Common.{ap, arith, sym, ℕ, ◌+◌, ◌∙◌, ◌≡◌}
 use Rattle.octets.specs.Octets.{put, bytes_of}
 use Rattle.octets.specs.PutLaws.{put_nil, put-digit}
 use Rattle.octets.specs.OctetsLaws.{length-bytes}
 use Rattle.octets.proofs.put_num.Goals as goal
 
-pub loop-i-init : goal.loop-i-init
-loop-i-init c = (search rules, refl, refl)
-
 pub loop-i-preserved : goal.loop-i-preserved
 loop-i-preserved c =
     let a = c.args in
     let l = c.loop-i in
-    let r : a.at + l.i ≤ length l.out = omega arith in
-    (omega arith, simp length-set l.invariant.1, put-digit l.out a.at l.i l.v c.loop-i-test.true r ∙ l.invariant.2)
+    put-digit l.out a.at l.i l.v c.loop-i-test.true (omega arith) ∙ l.invariant
 
 pub returns : goal.returns
 unfolding bytes_of
@@ -22,6 +18,6 @@ returns c =
     let l = c.loop-i in
     let e : l.i ≡ 0 = omega arith in
     record {
-      is = sym (put_nil l.out a.at) ∙ ap (λ (k : ℕ). put l.out a.at (bytes_of k l.v)) (sym e) ∙ l.invariant.2;
+      is = sym (put_nil l.out a.at) ∙ ap (λ (k : ℕ). put l.out a.at (bytes_of k l.v)) (sym e) ∙ l.invariant;
       behind = ap (λ (k : ℕ). a.at + k) (sym (length-bytes a.size a.value));
     }
