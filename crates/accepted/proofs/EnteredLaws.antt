@@ -1,7 +1,6 @@
 -- The rows that a glyph meets (document 01, 'Plain glyphs'): each subroutine that it enters exists, and the body of each mask is its own charstring or a
 -- subroutine that it enters.
-use Rattle.std.specs.Prelude.{ℤ, ◌≡◌, length, get_or}
-use Rattle.std.proofs.Math.Option.{Option, none, some}
+use Rattle.std.specs.Prelude.{ℤ, ◌≡◌, length, get_or, None, Option, Some}
 use Prim.Native.Nat.{ℕ, zero, suc, ◌+◌, ◌<◌}
 use Rattle.std.proofs.Math.Path.{refl, subst}
 use Rattle.std.proofs.Common.{sym, ⊎_elim}
@@ -94,15 +93,15 @@ module _ (globals locals : List (List ℕ)) (fd g : ℕ) where
       more q h = record { sound = sound_more st.met q own.sound h; grows = λ x y. one_grows st.met q x (own.grows x y) }
 
       good_call : (which : Site) (body : List ℕ) → Runs (with st.met (entered which)) which → Known (with st.met (entered which)) (entered which)
-          → after (enter which body (calling which st)) (walk globals locals fd enter k site s (at + 1) none) ≡ r → Good base r
+          → after (enter which body (calling which st)) (walk globals locals fd enter k site s (at + 1) None) ≡ r → Good base r
       good_call which body runs known e =
           let m = more (entered which) known in
-          good-after base (with st.met (entered which)) m.grows (enter which body (calling which st)) (walk globals locals fd enter k site s (at + 1) none) r e
+          good-after base (with st.met (entered which)) m.grows (enter which body (calling which st)) (walk globals locals fd enter k site s (at + 1) None) r e
           (enters which body (calling which st) runs m.sound _ refl)
-          (λ x a q. next (at + 1) none x r a q)
+          (λ x a q. next (at + 1) None x r a q)
 
       good-step : Step globals locals fd enter k site s at l st r → Good base r
-      good-step (reads z n f a b e) = next n (some z) _ r own e
+      good-step (reads z n f a b e) = next n (Some z) _ r own e
       good-step (calls_local i o f e) =
           let h = target_below (length locals) l i f in
           good_call (local fd i) (get_or locals i []) (refl, h, new-one st.met (entered (local fd i))) (enters_local i h refl) e
@@ -111,12 +110,12 @@ module _ (globals locals : List (List ℕ)) (fd g : ℕ) where
           good_call (global i) (get_or globals i []) (h, new-one st.met (entered (global i))) (enters_global i h refl) e
       good-step (returns o f e) = subst (Good base) e own
       good-step (ends o f a e) = subst (Good base) e own
-      good-step (escapes x o f a b c d e) = next (at + 2) none _ r own e
+      good-step (escapes x o f a b c d e) = next (at + 2) None _ r own e
       good-step (masks b o c m a d f e) =
           let row = masked site at (mask_now st) in
           let runs = runs_grow base (with st.met row) (λ x y. one_grows st.met row x (own.grows x y)) site here-runs in
-          next (at + 1 + mask_now st) none _ r (more row (masks_in site at (mask_now st) runs refl)) e
-      good-step (clears b n o c m a d e) = next (at + 1) none _ r own e
+          next (at + 1 + mask_now st) None _ r (more row (masks_in site at (mask_now st) runs refl)) e
+      good-step (clears b n o c m a d e) = next (at + 1) None _ r own e
 
     good-walk : (k : ℕ) → Walks k
     unfolding walk
@@ -133,9 +132,9 @@ module _ (globals locals : List (List ℕ)) (fd g : ℕ) where
   good-body : (d : ℕ) → Enters (run_body globals locals fd d)
   unfolding run_body
   good-body zero site s st runs own r e =
-      good-walk (λ t b x. broken) (λ t b x f a q u. subst (Good x.met) u tt) site s st.met runs (length s) 0 none st r (start st.met own) e
+      good-walk (λ t b x. broken) (λ t b x f a q u. subst (Good x.met) u tt) site s st.met runs (length s) 0 None st r (start st.met own) e
   good-body (suc d) site s st runs own r e =
-      good-walk (run_body globals locals fd d) (good-body d) site s st.met runs (length s) 0 none st r (start st.met own) e
+      good-walk (run_body globals locals fd d) (good-body d) site s st.met runs (length s) 0 None st r (start st.met own) e
 
   good_glyph : (r : Run) (ts : List Tok) (rows : List Row) → glyph_of r ≡ plain ts rows → Good [] r → Sound rows
   good_glyph broken ts rows e x = absurd (zero_one cc)

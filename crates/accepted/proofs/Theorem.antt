@@ -1,8 +1,7 @@
 -- What the checker promises (document 02, Wish 6), whatever the font, the keep list and the record are: it accepts a record exactly where the three
 -- conditions hold; a subset from an accepted record, cut with flag 1, holds every kept glyph; what was traced with flag 1 is accepted; and with a second
 -- length for a mask that is met a subset call that is not refused answers with stubs.
-use Rattle.std.proofs.Math.Option.{Option, none, some}
-use Rattle.std.specs.Prelude.{ℕ, ◌≤◌, ◌<◌, ◌≡◌, refl, Bool, false, List, [], ◌∷◌, ◌⊎◌, ltb, eqb, length, get_or}
+use Rattle.std.specs.Prelude.{ℕ, ◌≤◌, ◌<◌, ◌≡◌, refl, Bool, false, List, [], ◌∷◌, ◌⊎◌, ltb, eqb, length, get_or, None, Option, Some}
 use Rattle.std.proofs.Common.{sym, ◌∙◌, subst, inr, ⊎_elim, arith, ltb-true, lt-ltb, eqb-true}
 use Rattle.std.proofs.Math.Path.{ap}
 use Rattle.std.proofs.Math.Bool.{true}
@@ -78,12 +77,12 @@ module _ (p : Program) (keep rec : List ℕ) (good : GoodProgram p) where
     unfolding accepted_by
     both = both_hold (each_row (number_is p used) (rows_of rec)) (lists_met (rows_of rec) (kept_rows p keep)) e
 
-    rows-met : (met : List Row) × (kept_rows p keep ≡ some met) × (each_row (lists (rows_of rec)) met ≡ true)
+    rows-met : (met : List Row) × (kept_rows p keep ≡ Some met) × (each_row (lists (rows_of rec)) met ≡ true)
     rows-met = by (kept_rows p keep) refl both.1
       where
-        by : (m : Option (List Row)) → kept_rows p keep ≡ m → lists_met (rows_of rec) m ≡ true → (met : List Row) × (kept_rows p keep ≡ some met) × (each_row (lists (rows_of rec)) met ≡ true)
-        by none a h = absurd (zero_one cc)
-        by (some met) a h = (met, a, h)
+        by : (m : Option (List Row)) → kept_rows p keep ≡ m → lists_met (rows_of rec) m ≡ true → (met : List Row) × (kept_rows p keep ≡ Some met) × (each_row (lists (rows_of rec)) met ≡ true)
+        by None a h = absurd (zero_one cc)
+        by (Some met) a h = (met, a, h)
 
     pub accepted-holds : Accepted p keep rec
     accepted-holds =
@@ -114,16 +113,16 @@ module _ (p : Program) (keep rec : List ℕ) (good : GoodProgram p) where
   -- ---- and back
 
   module _ (fine : record_fine (cid_keyed p.top) rec 1 ≡ true) (a : Accepted p keep rec) where
-    plain-all : (met : List Row) × (kept_rows p keep ≡ some met)
+    plain-all : (met : List Row) × (kept_rows p keep ≡ Some met)
     plain-all = by (kept_rows p keep) refl
       where
-        by : (m : Option (List Row)) → kept_rows p keep ≡ m → (met : List Row) × (kept_rows p keep ≡ some met)
-        by none e =
+        by : (m : Option (List Row)) → kept_rows p keep ≡ m → (met : List Row) × (kept_rows p keep ≡ Some met)
+        by None e =
             let f = met-fails p kept e in
             let u = a.plains f.0 (in_kept p keep f.0 f.1) in
             let s : not_plain_lem ≡ plain u.0 u.1 = sym f.2 ∙ u.2 in
             absurd (zero_one cc)
-        by (some met) e = (met, e)
+        by (Some met) e = (met, e)
 
     met-listed : each_row (lists (rows_of rec)) plain-all.0 ≡ true
     met-listed =

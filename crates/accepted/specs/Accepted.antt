@@ -1,7 +1,6 @@
 -- Records from elsewhere (document 02, Wish 6): a record is accepted exactly when every kept glyph is plain, the record lists all that their unfoldings
 -- meet, and each subroutine that it lists as reached, unused FDs aside, exists. Further rows are allowed. The flag counts as 1.
-use Rattle.std.specs.Prelude.{ℕ, Bool, true, false, List, [], ◌∷◌, ltb, eqb, length}
-use Rattle.std.proofs.Math.Option.{Option, none, some}
+use Rattle.std.specs.Prelude.{ℕ, Bool, true, false, List, [], ◌∷◌, ltb, eqb, length, None, Option, Some}
 use Rattle.octets.specs.Pick.{pick}
 use Rattle.octets.specs.Lists.{all_below}
 use Rattle.unfold.specs.Unfold.{Row}
@@ -21,8 +20,8 @@ each_row test (r ∷ rows) = pick (test r) (each_row test rows) false
 
 -- every glyph is plain, and each row that they meet is listed
 abbrev pub lists_met : List Row → Option (List Row) → Bool
-lists_met rows none = false
-lists_met rows (some met) = each_row (lists rows) met
+lists_met rows None = false
+lists_met rows (Some met) = each_row (lists rows) met
 
 -- the subroutine of a row exists, where the row lists one as reached: kind 0 a local one, of an FD in use; kind 1 a global one
 abbrev pub number_is : Program → List ℕ → Row → Bool

@@ -1,7 +1,6 @@
 -- Two lengths for one mask (document 01, 'Corners in write.rs'): where a record has them for a body that is rewritten, a subset call that is not refused
 -- answers way 1.
-use Rattle.std.proofs.Math.Option.{Option, none, some}
-use Rattle.std.specs.Prelude.{ℕ, ◌<◌, ◌≡◌, refl, Bool, true, false, List, [], ◌∷◌, ltb, length, get_or}
+use Rattle.std.specs.Prelude.{ℕ, ◌<◌, ◌≡◌, refl, Bool, true, false, List, [], ◌∷◌, ltb, length, get_or, None, Option, Some}
 use Rattle.std.proofs.Common.{sym, ◌∙◌, ⊎_elim, arith}
 use Rattle.std.proofs.Math.Path.{ap}
 use Rattle.std.proofs.Math.Dec.{eqb}
@@ -40,32 +39,32 @@ two-listed rows site offset a b h k differ = by (two_lengths_lem rows site) refl
 
 -- ---- what fails
 
-and-fails : {A B : Type 0} (m : Option A) → and {A = A} {B = B} m (λ a. none) ≡ none
-and-fails none = refl
-and-fails (some a) = refl
+and-fails : {A B : Type 0} (m : Option A) → and {A = A} {B = B} m (λ a. None) ≡ None
+and-fails None = refl
+and-fails (Some a) = refl
 
-each-fails : {A : Type 0} (f : ℕ → Option A) (ks : List ℕ) (k : ℕ) → is_in k ks ≡ true → f k ≡ none → each f ks ≡ none
+each-fails : {A : Type 0} (f : ℕ → Option A) (ks : List ℕ) (k : ℕ) → is_in k ks ≡ true → f k ≡ None → each f ks ≡ None
 unfolding each
 each-fails {A} f [] k h e = absurd (in_none k h)
 each-fails {A} f (x ∷ ks) k h e =
     ⊎_elim
-    (λ i. ap (λ (m : Option A). and m (λ b. and (each f ks) (λ bs. some (b ∷ bs)))) (ap f i ∙ e))
-    (λ i. ap (λ (m : Option (List A)). and (f x) (λ b. and m (λ bs. some (b ∷ bs)))) (each-fails f ks k i e) ∙ and-fails (f x))
+    (λ i. ap (λ (m : Option A). and m (λ b. and (each f ks) (λ bs. Some (b ∷ bs)))) (ap f i ∙ e))
+    (λ i. ap (λ (m : Option (List A)). and (f x) (λ b. and m (λ bs. Some (b ∷ bs)))) (each-fails f ks k i e) ∙ and-fails (f x))
     (in_cases x k ks h)
 
 module _ (rows : List Row) where
-  body-fails : (calls : Calls) (site : Site) (s : List ℕ) → two_lengths_lem rows site ≡ true → renumbered_body rows calls site s ≡ none
+  body-fails : (calls : Calls) (site : Site) (s : List ℕ) → two_lengths_lem rows site ≡ true → renumbered_body rows calls site s ≡ None
   unfolding renumbered_body
   body-fails calls site s e = rw e
 
   subrs-fail : (set : ℕ → Bool) (calls : Calls) (site : ℕ → Site) (subrs : List (List ℕ)) (k : ℕ) → set k ≡ true → k < length subrs → two_lengths_lem rows (site k) ≡ true
-      → renumbered_subrs rows set calls site subrs ≡ none
+      → renumbered_subrs rows set calls site subrs ≡ None
   unfolding renumbered_subrs
   subrs-fail set calls site subrs k is h e =
       let f = each-fails (λ j. renumbered_body rows calls (site j) (get_or subrs j [])) (those set (length subrs) 0) k
       (those-has set (length subrs) 0 k (omega arith) (omega (arith, h)) is) (body-fails calls (site k) (get_or subrs k []) e) in
       let there = eqb (reached set) (count_below set (length subrs)) in
-      ap (λ (m : Option (List (List ℕ))). pick there m none) f ∙ pick_same there none
+      ap (λ (m : Option (List (List ℕ))). pick there m None) f ∙ pick_same there None
 
   module _ (p : Program) (used order : List ℕ) where
     -- a body that is rewritten: a glyph that is written, or a subroutine that is listed and exists
@@ -84,16 +83,16 @@ module _ (rows : List Row) where
     glyphs_part = each (λ g. renumbered_body rows (calls_in p rows (get_or p.fds g 0)) (glyph g) (get_or p.charstrings g [])) order
 
     abbrev three : Option (List (List ℕ)) → Option (List (List (List ℕ))) → Option (List (List ℕ)) → Option Bodies
-    three a b c = and a (λ gs. and b (λ ls. and c (λ cs. some (record { globals = gs; locals = ls; charstrings = cs }))))
+    three a b c = and a (λ gs. and b (λ ls. and c (λ cs. Some (record { globals = gs; locals = ls; charstrings = cs }))))
 
-    third-fails : (a : Option (List (List ℕ))) (b : Option (List (List (List ℕ)))) → three a b none ≡ none
-    third-fails none b = refl
-    third-fails (some gs) b = and-fails b
+    third-fails : (a : Option (List (List ℕ))) (b : Option (List (List (List ℕ)))) → three a b None ≡ None
+    third-fails None b = refl
+    third-fails (Some gs) b = and-fails b
 
-    second-fails : (a : Option (List (List ℕ))) (c : Option (List (List ℕ))) → three a none c ≡ none
+    second-fails : (a : Option (List (List ℕ))) (c : Option (List (List ℕ))) → three a None c ≡ None
     second-fails a c = and-fails a
 
-    renumbered-fails : (site : Site) → Rewritten site → two_lengths_lem rows site ≡ true → renumbered p rows used order ≡ none
+    renumbered-fails : (site : Site) → Rewritten site → two_lengths_lem rows site ≡ true → renumbered p rows used order ≡ None
     unfolding renumbered
     renumbered-fails (glyph g) h e =
         ap (three globals_part locals_part) (each-fails _ order g h (body-fails (calls_in p rows (get_or p.fds g 0)) (glyph g) (get_or p.charstrings g []) e))

@@ -1,10 +1,9 @@
 -- The bodies of a subset are the same for fonts that are alike where they are asked: renumbered or stubbed the subroutines that the record lists as reached,
 -- in FDs in use; copied all of these FDs and all globals; and of the charstrings the kept ones.
-use Rattle.std.specs.Prelude.{ℕ, ◌<◌, ◌≡◌, refl, Bool, true, false, eqb, ℤ, length, get_or}
+use Rattle.std.specs.Prelude.{ℕ, ◌<◌, ◌≡◌, refl, Bool, true, false, eqb, ℤ, length, get_or, None, Option, Some}
 use Rattle.std.proofs.Common.{sym, ◌∙◌, arith, eqb-true, ext_get_or}
 use Rattle.std.proofs.Math.Path.{ap}
 use mathlib.Core.List.{List, [], ◌∷◌}
-use Rattle.std.proofs.Math.Option.{Option, none, some}
 use Rattle.octets.specs.Pick.{pick, pick_ind}
 use Rattle.octets.specs.Steps.{and}
 use Rattle.charstring.specs.Bias.{bias_of}
@@ -27,7 +26,7 @@ calls_by rows f locals globals b z =
     pick (eqb b 10) (operand_of (rank (local_set rows f)) (bias_of locals) (bias_of (reached (local_set rows f))) z) (global_by rows globals z)
 
 abbrev across_by : List Row → ℕ → Calls
-across_by rows globals b z = pick (eqb b 10) none (global_by rows globals z)
+across_by rows globals b z = pick (eqb b 10) None (global_by rows globals z)
 
 -- bodies that were copied
 abbrev copied_as : List (List ℕ) → List (List (List ℕ)) → List (List ℕ) → Pruned
@@ -103,7 +102,7 @@ module _ {keep : List ℕ} {global : ℕ → Bool} {local : ℕ → ℕ → Bool
 
       -- the parts of a font that is renumbered, and the whole
       abbrev joined : Option (List (List ℕ)) → Option (List (List (List ℕ))) → Option (List (List ℕ)) → Option Bodies
-      joined gs ls cs = and gs (λ g. and ls (λ l. and cs (λ c. some (record { globals = g; locals = l; charstrings = c }))))
+      joined gs ls cs = and gs (λ g. and ls (λ l. and cs (λ c. Some (record { globals = g; locals = l; charstrings = c }))))
 
       abbrev globals_for : Program → Option (List (List ℕ))
       globals_for x = renumbered_subrs rows (global_set rows) (calls_across x rows used) globalSite x.globals

@@ -1,6 +1,6 @@
 -- The bytes of a subset are the same for fonts that are alike, its bodies being the same.
 use Prim.Native.Nat.{ℕ, ◌+◌}
-use Rattle.std.specs.Prelude.{◌≡◌, Bool, eqb, get_or}
+use Rattle.std.specs.Prelude.{◌≡◌, Bool, eqb, get_or, None, Option, Some}
 use Rattle.std.proofs.Math.Path.{refl, ap}
 use Rattle.std.proofs.Common.{◌∙◌}
 use mathlib.Core.List.{List, [], ◌∷◌, ◌++◌}
@@ -9,8 +9,7 @@ use Rattle.octets.specs.Pick.{pick}
 use Rattle.decimal.specs.Decimal.{normal, whole}
 use Rattle.dict.specs.Op.{subrs, ros, font_matrix}
 use Rattle.dict.specs.Lookup.{Operands, ros_in, cid_keyed}
-use Rattle.dict.specs.declared.RosIn.{RosIn}
-use Rattle.dict.specs.declared.RosIn.TheVariants.{Ros, None}
+use Rattle.dict.specs.declared.RosEntry.{RosEntry}
 use Rattle.dict_write.specs.Written.{entries_bytes, entry_bytes, copied_entry, offset_entry, private_entry, private_bytes}
 use Rattle.index.specs.Write.{index_bytes}
 use Rattle.strings.specs.Strings.{string_text}
@@ -72,10 +71,10 @@ module _ {keep : List ℕ} {global : ℕ → Bool} {local : ℕ → ℕ → Bool
   new_fds_same used (g ∷ gs) =
       ap (λ (l : List ℕ). new_fd used (get_or l g 0) ∷ new_fds p used gs) a.fds ∙ ap (λ (l : List ℕ). new_fd used (get_or q.fds g 0) ∷ l) (new_fds_same used gs)
 
-  ros-by : (own : List (List ℕ)) (r : RosIn) → ros_entry p own r ≡ ros_entry q own r
+  ros-by : (own : List (List ℕ)) (r : Option RosEntry) → ros_entry p own r ≡ ros_entry q own r
   ros-by own None = refl
-  ros-by own (Ros registry ordering s) =
-      ap (λ (l : List (List ℕ)). entry_bytes ros (whole (new_id own (string_text l registry)) ∷ whole (new_id own (string_text l ordering)) ∷ normal s.neg s.size 0 0 ∷ []))
+  ros-by own (Some q) =
+      ap (λ (l : List (List ℕ)). entry_bytes ros (whole (new_id own (string_text l q.registry)) ∷ whole (new_id own (string_text l q.ordering)) ∷ normal q.supplement.neg q.supplement.size 0 0 ∷ []))
       a.strings
 
   ros-entry-same : (own : List (List ℕ)) → ros_entry p own (ros_in p.top) ≡ ros_entry q own (ros_in q.top)

@@ -1,11 +1,11 @@
 -- Unused letters leave no trace, proved (document 02, Wish 8): no test of a call and no part of a subset asks for an unkept charstring or for a body that the
 -- record does not list, and none asks where a part stood.
-use Rattle.std.specs.Prelude.{ℕ, ◌≡◌, refl, Bool, true, false, List, ltb, length}
+use Rattle.std.specs.Prelude.{ℕ, ◌≡◌, refl, Bool, true, false, List, ltb, length, Option}
 use Rattle.std.proofs.Common.{sym, ap, ◌∙◌}
 use Rattle.octets.specs.Pick.{pick}
 use Rattle.octets.specs.Lists.{all_below}
 use Rattle.dict.specs.Lookup.{ros_in, cid_keyed}
-use Rattle.dict.specs.declared.RosIn.{RosIn}
+use Rattle.dict.specs.declared.RosEntry.{RosEntry}
 use Rattle.record.specs.Record.{rows_of, record_fine}
 use Rattle.cff.specs.Font.{Got, Program}
 use Rattle.subset.specs.Kept.{kept_of, written_order, used_fds}
@@ -80,7 +80,7 @@ module _ {keep : List ℕ} {global : ℕ → Bool} {local : ℕ → ℕ → Bool
       program-alike =
           let keyed = same_bool_lem cid (cid_keyed q.top) in
           let unsupported = unsupported_in ask q in
-          let ros_of : RosIn → Bool = λ r. pick cid (has_ros_lem r) true in
+          let ros_of : Option RosEntry → Bool = λ r. pick cid (has_ros_lem r) true in
           let ros = ros_of (ros_in q.top) in
           let long = ltb 65535 (length name) in
           let below = all_below (length p.charstrings) keep in
@@ -89,7 +89,7 @@ module _ {keep : List ℕ} {global : ℕ → Bool} {local : ℕ → ℕ → Bool
           ap (λ (t : Bool). tested (same_bool_lem cid t) (unsupported_in ask p) (ros_of (ros_in p.top)) long below (all_found_lem p kept) fine (ltb words (size p)) cut)
           (keyed-same a)
           ∙ (ap (λ (t : Bool). tested keyed t (ros_of (ros_in p.top)) long below (all_found_lem p kept) fine (ltb words (size p)) cut) (unsupported-same a ask)
-          ∙ (ap (λ (r : RosIn). tested keyed unsupported (ros_of r) long below (all_found_lem p kept) fine (ltb words (size p)) cut) (ros-same a)
+          ∙ (ap (λ (r : Option RosEntry). tested keyed unsupported (ros_of r) long below (all_found_lem p kept) fine (ltb words (size p)) cut) (ros-same a)
           ∙ (ap (λ (t : Bool). tested keyed unsupported ros long below t fine (ltb words (size p)) cut) (found-same a kept)
           ∙ (ap (λ (s : ℕ). tested keyed unsupported ros long below (all_found_lem q kept) fine (ltb words s) cut) (counts p q (alike_counts a))
           ∙ (ap (tested keyed unsupported ros long below (all_found_lem q kept) fine (ltb words (size q))) behind_other

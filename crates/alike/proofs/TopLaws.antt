@@ -1,7 +1,7 @@
 -- What a subset takes from the top DICT, the charset and the Encoding of a font is the same for fonts that are alike: keying, ROS, entries that are copied,
 -- strings, the order in which glyphs are written, the FDs in use, whether finding gives the kept glyphs, and codes.
 use Prim.Native.Nat.{ℕ, zero, suc, ◌+◌}
-use Rattle.std.specs.Prelude.{◌≡◌, Bool, true, ltb, length}
+use Rattle.std.specs.Prelude.{◌≡◌, Bool, true, ltb, length, None, Option, Some}
 use Rattle.std.proofs.Math.Path.{refl, sym, ap}
 use Rattle.std.proofs.Common.{◌∙◌, eqb-true}
 use Rattle.std.proofs.Math.Bool.{false}
@@ -10,19 +10,14 @@ use Rattle.std.proofs.Math.Dec.{eqb}
 use Rattle.std.proofs.Math.ListN.{get_or}
 use Rattle.octets.specs.Pick.{pick, pick_ind}
 use Rattle.prune.specs.StepLaws.{zero_one}
-use Rattle.decimal.specs.declared.IdOf.{IdOf}
-use Rattle.decimal.specs.declared.IdOf.TheVariants.{Id, Absent as NoId}
 use Rattle.dict.specs.Op.{private, font_matrix, paint_type, ros, cid_count, copied_top_entries, copied_top_strings}
 use Rattle.dict.specs.Dict.{Entry}
 use Rattle.dict.specs.Lookup.{Operands, absent, operands, last_from, last_of, only, is_there, cid_keyed, ros_as, ros_in, count_as, cid_count_in, stroked_as, stroked_in, id_as, id_in}
-use Rattle.dict.specs.declared.RosIn.{RosIn}
-use Rattle.dict.specs.declared.RosIn.TheVariants.{Ros, None}
+use Rattle.dict.specs.declared.RosEntry.{RosEntry}
 use Rattle.dict_write.specs.Written.{without}
 use Rattle.strings.specs.Strings.{string_text}
 use Rattle.charset.specs.Codes.{Naming, by_number, by_string}
 use Rattle.find.specs.Find.{glyph_with_id, glyph_with_text}
-use Rattle.find.specs.declared.Found.{Found}
-use Rattle.find.specs.declared.Found.TheVariants.{Absent, Glyph}
 use Rattle.cff.specs.Font.{Coding, standard, expert, custom, Program}
 use Rattle.cff.specs.Find.{found_as_lem}
 use Rattle.cff.specs.declared.FoundAs.TheVariants.{Absent as NotFound}
@@ -112,9 +107,9 @@ module _ {keep : List ℕ} {global : ℕ → Bool} {local : ℕ → ℕ → Bool
 
   -- ---- strings
 
-  named-by : (op : ℕ) (i : IdOf) (rest : List Named) → named_by p op i rest ≡ named_by q op i rest
-  named-by op NoId rest = refl
-  named-by op (Id sid) rest = ap (λ (s : List (List ℕ)). record { op = op; text = string_text s sid } ∷ rest) a.strings
+  named-by : (op : ℕ) (i : Option ℕ) (rest : List Named) → named_by p op i rest ≡ named_by q op i rest
+  named-by op None rest = refl
+  named-by op (Some sid) rest = ap (λ (s : List (List ℕ)). record { op = op; text = string_text s sid } ∷ rest) a.strings
 
   named-each : (ops : List ℕ) → apart ops ≡ true → named_entries p ops ≡ named_entries q ops
   unfolding named_entries apart
@@ -122,7 +117,7 @@ module _ {keep : List ℕ} {global : ℕ → Bool} {local : ℕ → ℕ → Bool
   named-each (op ∷ ops) t =
       let e = apart-both (is_in op places) (apart ops) t in
       let i : id_in op p.top ≡ id_in op q.top = ap (λ (o : Operands). id_as (only o)) (last-same op e.0) in
-      ap (λ (x : IdOf). named_by p op x (named_entries p ops)) i
+      ap (λ (x : Option ℕ). named_by p op x (named_entries p ops)) i
       ∙ (ap (named_by p op (id_in op q.top)) (named-each ops e.1) ∙ named-by op (id_in op q.top) (named_entries q ops))
 
   pub named-same : named p ≡ named q
@@ -135,9 +130,9 @@ module _ {keep : List ℕ} {global : ℕ → Bool} {local : ℕ → ℕ → Bool
   pub names_same : (gs : List ℕ) → names_of p gs ≡ names_of q gs
   names_same gs = names-alike p q a.strings gs (λ g h. id_same g)
 
-  texts-by : (r : RosIn) → ros_texts p r ≡ ros_texts q r
+  texts-by : (r : Option RosEntry) → ros_texts p r ≡ ros_texts q r
   texts-by None = refl
-  texts-by (Ros registry ordering s) = ap (λ (l : List (List ℕ)). string_text l registry ∷ string_text l ordering ∷ []) a.strings
+  texts-by (Some q) = ap (λ (l : List (List ℕ)). string_text l q.registry ∷ string_text l q.ordering ∷ []) a.strings
 
   pub texts-same : ros_texts p (ros_in p.top) ≡ ros_texts q (ros_in q.top)
   texts-same = ap (ros_texts p) ros-same ∙ texts-by (ros_in q.top)
@@ -185,32 +180,32 @@ module _ {keep : List ℕ} {global : ℕ → Bool} {local : ℕ → ℕ → Bool
   -- ---- the Encoding
 
   glyph-by : (n : Naming) → glyph_by p n ≡ glyph_by q n
-  glyph-by (by_number code g) = ap (λ (n : ℕ). pick (ltb g n) (Glyph g) Absent) a.charstrings.many
+  glyph-by (by_number code g) = ap (λ (n : ℕ). pick (ltb g n) (Some g) None) a.charstrings.many
   glyph-by (by_string code sid) =
       ap (λ (s : List (List ℕ)). glyph_with_text s (string_text s sid) 0 p.ids) a.strings
       ∙ ap (λ (l : List ℕ). glyph_with_text q.strings (string_text q.strings sid) 0 l) a.ids
 
-  last-named : (code : ℕ) (f : Found) (ns : List Naming) → last_named p code f ns ≡ last_named q code f ns
+  last-named : (code : ℕ) (f : Option ℕ) (ns : List Naming) → last_named p code f ns ≡ last_named q code f ns
   unfolding last_named
   last-named code f [] = refl
   last-named code f (n ∷ ns) =
-      ap (λ (x : Found). last_named p code (pick (eqb (code_of n) code) (or_else x f) f) ns) (glyph-by n)
+      ap (λ (x : Option ℕ). last_named p code (pick (eqb (code_of n) code) (or_else x f) f) ns) (glyph-by n)
       ∙ last-named code (pick (eqb (code_of n) code) (or_else (glyph_by q n) f) f) ns
 
   name-same : (g : ℕ) → name_of p g ≡ name_of q g
   name-same g = ap (λ (s : List (List ℕ)). string_text s (get_or p.ids g 0)) a.strings ∙ ap (string_text q.strings) (id_same g)
 
-  pair-of : (kept : List ℕ) (own : List (List ℕ)) (code : ℕ) (f : Found) → pair_of p kept own code f ≡ pair_of q kept own code f
-  pair-of kept own code Absent = refl
-  pair-of kept own code (Glyph g) = ap (λ (t : List ℕ). pick (is_in g kept) (record { code = code; id = new_id own t } ∷ []) []) (name-same g)
+  pair-of : (kept : List ℕ) (own : List (List ℕ)) (code : ℕ) (f : Option ℕ) → pair_of p kept own code f ≡ pair_of q kept own code f
+  pair-of kept own code None = refl
+  pair-of kept own code (Some g) = ap (λ (t : List ℕ). pick (is_in g kept) (record { code = code; id = new_id own t } ∷ []) []) (name-same g)
 
   pairs-from : (ns : List Naming) (kept : List ℕ) (own : List (List ℕ)) (n code : ℕ) → pairs_from p ns kept own n code ≡ pairs_from q ns kept own n code
   unfolding pairs_from
   pairs-from ns kept own zero code = refl
   pairs-from ns kept own (suc n) code =
-      ap (λ (f : Found). pair_of p kept own code f ++ pairs_from p ns kept own n (code + 1)) (last-named code Absent ns)
-      ∙ (ap (λ (l : List Pair). l ++ pairs_from p ns kept own n (code + 1)) (pair-of kept own code (last_named q code Absent ns))
-      ∙ ap (λ (l : List Pair). pair_of q kept own code (last_named q code Absent ns) ++ l) (pairs-from ns kept own n (code + 1)))
+      ap (λ (f : Option ℕ). pair_of p kept own code f ++ pairs_from p ns kept own n (code + 1)) (last-named code None ns)
+      ∙ (ap (λ (l : List Pair). l ++ pairs_from p ns kept own n (code + 1)) (pair-of kept own code (last_named q code None ns))
+      ∙ ap (λ (l : List Pair). pair_of q kept own code (last_named q code None ns) ++ l) (pairs-from ns kept own n (code + 1)))
 
   coded_by : (kept : List ℕ) (own : List (List ℕ)) (c : Coding) → coded_by_lem p kept own c ≡ coded_by_lem q kept own c
   unfolding coded_by_lem

@@ -1,9 +1,8 @@
 -- Laws of one list that is tried: what its trace hands on, what measuring asks, and that the outcome is the traced cut's.
-use Rattle.std.specs.Prelude.{ℕ, ◌+◌, ◌≤◌, refl, Bool, List, [], ltb, eqb, length, take}
+use Rattle.std.specs.Prelude.{ℕ, ◌+◌, ◌≤◌, refl, Bool, List, [], ltb, eqb, length, take, None, Option, Some}
 use Rattle.std.proofs.Math.Path.{◌≡◌, ap}
 use Rattle.std.proofs.Common.{sym, ◌∙◌, subst, arith, le-ltb, ltb-false}
 use Rattle.std.proofs.Math.Bool.{true, false}
-use Rattle.std.proofs.Math.Option.{Option, none, some}
 use Rattle.octets.specs.Pick.{pick, pick_ind}
 use Rattle.octets.specs.Octets.{Octets, put}
 use Rattle.octets.specs.PutLaws.{take_put, put-length}
@@ -48,8 +47,8 @@ pub trace_passes : (p : Program) (keep : List ℕ) (lent flag : ℕ) (rec : List
 trace_passes p keep lent flag rec e = by (all_below (length p.charstrings) keep) (all_found_lem p (kept_of (length p.charstrings) keep)) refl refl e
   where
     short : (m : Option (List Row)) → answered lent m ≡ traced flag rec → length rec ≤ lent
-    short none h = let z : [] ≡ rec = cc in omega (arith, ap length (sym z))
-    short (some rows) h =
+    short None h = let z : [] ≡ rec = cc in omega (arith, ap length (sym z))
+    short (Some rows) h =
         pick_ind (λ t. t ≡ traced flag rec → length rec ≤ lent) (ltb lent (length (record_of rows))) (refused 11) (traced 1 (record_of rows))
         (λ q k. absurd (zero_one cc))
         (λ q k. let z : record_of rows ≡ rec = cc in omega (arith, ap length (sym z), ltb-false lent (length (record_of rows)) q))
@@ -178,8 +177,8 @@ module _ (file : List ℕ) (f : Font) (b : List ℕ) (octets : Octets file) (hel
         (passes-answered p keep (length old) (traced flag (take len new)) (traced_handed flag len e).is flag (take len new) refl ∙ ap (λ (k : ℕ). traced k (take len new)) one)
       where
         by : (m : Option (List Row)) → kept_rows p keep ≡ m → answered (length old) m ≡ traced 1 (take len new) → Recorded p keep (take len new)
-        by none z h = absurd (zero_one cc)
-        by (some rows) z h =
+        by None z h = absurd (zero_one cc)
+        by (Some rows) z h =
             pick_ind (λ t. t ≡ traced 1 (take len new) → Recorded p keep (take len new)) (ltb (length old) (length (record_of rows))) (refused 11) (traced 1 (record_of rows))
             (λ q k. absurd (zero_one cc))
             (λ q k. let i : record_of rows ≡ take len new = cc in record { rows = rows; met = z; is = sym i; fits = kept-fits file keep (length old) octets p held.is rows z })

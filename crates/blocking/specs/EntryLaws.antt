@@ -1,11 +1,10 @@
 -- Laws of the entry: a refusal before the work words are used leaves all as it was; behind it the first W words and the record slice end as zeros. How many
 -- words are lent beyond W does not matter.
-use Rattle.std.specs.Prelude.{ℕ, ◌+◌, ◌-◌, ◌*◌, ◌≤◌, ◌<◌, ◌≡◌, Bool, true, ltb, eqb, length, take, replicate}
+use Rattle.std.specs.Prelude.{ℕ, ◌+◌, ◌-◌, ◌*◌, ◌≤◌, ◌<◌, ◌≡◌, Bool, true, ltb, eqb, length, take, replicate, None, Option, Some}
 use Rattle.std.proofs.Math.Path.{refl, sym, ap}
 use Rattle.std.proofs.Common.{◌∙◌, subst, arith, length-take-le}
 use Rattle.std.proofs.Math.Bool.{false}
 use mathlib.Core.List.{List, ◌++◌}
-use Rattle.std.proofs.Math.Option.{Option, none, some}
 use borrow.Author.Tests.{le-ltb, ltb-false, eq-eqb, ne_eqb}
 use Rattle.std.proofs.Math.ListN.{drop}
 use Rattle.octets.specs.Pick.{pick, pick_ind}
@@ -21,7 +20,7 @@ use Rattle.cff.specs.Find.{work_size}
 use Rattle.cff.specs.Reads.{program_of}
 use Rattle.cff.specs.File.{InFile}
 use Rattle.cff.specs.declared.font.Font.{Font}
-use Rattle.subset.specs.Kept.{is_in, those, kept_of, written_order, used_fds}
+use Rattle.subset.specs.Kept.{is_in, kept_of, written_order, used_fds}
 use Rattle.subset.specs.KeptListLaws.{those-same}
 use Rattle.subset.specs.Pruned.{pruned}
 use Rattle.subset.specs.Codes.{coded_if}
@@ -37,7 +36,7 @@ use Rattle.traced.proofs.Theorem.{trace_fine}
 use Rattle.culprit.specs.Culprit.{cut_traced, traced_cut, without, has_way, is_culprit, first_of, least_culprit, answer_by, culprit_in, culprit_read, culprit_of, passes_nine, uses_read, uses_lent, words_in, Blocks}
 use Rattle.culprit.proofs.Theorem.{not_six, is_least, other_way, has-way}
 use Rattle.culprit.specs.declared.Culprit.{Culprit}
-use Rattle.culprit.specs.declared.Culprit.TheVariants.{Refused, None}
+use Rattle.culprit.specs.declared.Culprit.TheVariants.{Refused, None as NoCulprit}
 use Rattle.early_traced.specs.Early.{refused_or, early_of}
 use Rattle.blocking.specs.Search.{CanCut}
 use Rattle.blocking.specs.CutLaws.{trace_passes, cut-behind}
@@ -79,8 +78,8 @@ trace_low p keep lent n e =
     by : (d f : Bool) (m : Option (List Row)) → pick d (pick f (answered lent m) (refusedTrace 7)) (refusedTrace 6) ≡ refusedTrace n → (0 < n) × (passes_nine (refused n) ≡ false)
     by false f m h = let z : 6 ≡ n = cc in low 6 z (omega arith, refl)
     by true false m h = let z : 7 ≡ n = cc in low 7 z (omega arith, refl)
-    by true true none h = absurd (zero_one cc)
-    by true true (some rows) h =
+    by true true None h = absurd (zero_one cc)
+    by true true (Some rows) h =
         pick_ind (λ t. t ≡ refusedTrace n → (0 < n) × (passes_nine (refused n) ≡ false)) (ltb lent (length (record_of rows))) (refusedTrace 11) (traced 1 (record_of rows))
         (λ q k. let z : 11 ≡ n = cc in low 11 z (omega arith, refl))
         (λ q k. absurd (zero_one cc))
@@ -212,7 +211,7 @@ module _ (p : Program) (name keep : List ℕ) (words lent : ℕ) where
     answers_least one r q = q ∙ sym (is_least p name keep words lent (subst (λ (w : ℕ). has_way w (traced_cut p name keep words lent) ≡ true) one has))
 
     -- another way
-    pub answers_none : (way ≡ 1 → ⊥) → None ≡ culprit_in p name keep words lent
+    pub answers_none : (way ≡ 1 → ⊥) → NoCulprit ≡ culprit_in p name keep words lent
     answers_none n =
         let w = has-way way (traced_cut p name keep words lent) has in
         sym (other_way p name keep words lent way w.0 w.1 (ne_eqb way 1 n))

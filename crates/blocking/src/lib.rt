@@ -9,7 +9,6 @@ ghost use Rattle.cff.specs.Find.{work_size};
 ghost use Rattle.cff.specs.Reads.{program_of};
 ghost use Rattle.cff.specs.File.{HasFont, table_in};
 ghost use Rattle.subset.specs.Kept.{those};
-ghost use Rattle.subset.specs.Cut.{subset};
 ghost use Rattle.traced.specs.Traced.{trace_program, traced};
 ghost use Rattle.outcome.specs.Entry.{answer_of};
 ghost use Rattle.culprit.specs.Culprit.{traced_cut, has_way, first_of, least_culprit, culprit_in, Blocks};
@@ -106,17 +105,9 @@ fn first_freed(
     ensures { result ≡ first_of (those (frees (program_of (table_in font.now f) f) name.now list.old (length words.old) (length slice.old))
         (length list.old - 1) 1) }
 {
-    let n = list.len();
-    let mut g: usize = 1;
-    while g < n {
-        let kept = list[g];
-        if kept == 0 {
-            g += 1;
-        } else {
-            if is_freed(font, f, name, &mut *list, g, &mut *words, &mut *slice) {
-                return Culprit::Glyph(g as u16);
-            }
-            g += 1;
+    for g in 1..list.len() {
+        if list[g] != 0 && is_freed(font, f, name, &mut *list, g, &mut *words, &mut *slice) {
+            return Culprit::Glyph(g as u16);
         }
     }
     Culprit::None
@@ -179,12 +170,8 @@ fn spread(keep: &[u16], list: &mut [u16])
     requires { all_below (length list.old) keep.now ≡ true }
     ensures { list.new ≡ spread keep.now list.old }
 {
-    let m = keep.len();
-    let mut i = 0;
-    while i < m {
-        let g = keep[i];
-        list[g as usize] = g;
-        i += 1;
+    for g in keep {
+        list[*g as usize] = *g;
     }
 }
 
@@ -255,18 +242,6 @@ fn culprit_in(
     }
 }
 
-// Sets all bytes to 0.
-fn clear(slice: &mut [u8])
-    ensures { slice.new ≡ replicate (length slice.old) 0 }
-{
-    let n = slice.len();
-    let mut i = 0;
-    while i < n {
-        slice[i] = 0;
-        i += 1;
-    }
-}
-
 // The answer for a font that was read in a file.
 fn culprit_font(
     font: &[u8],
@@ -287,7 +262,7 @@ fn culprit_font(
     let words = &mut work[..w];
     let r = culprit_in(font, f, name, keep, &mut *words, &mut *slice);
     reach::ranks::clear(words);
-    clear(slice);
+    slice.fill(0);
     r
 }
 

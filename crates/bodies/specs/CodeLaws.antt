@@ -1,7 +1,6 @@
 -- Laws of one body, by the cases in which the code takes it: the way, and whether a subroutine is reached.
-use Rattle.std.specs.Prelude.{ℕ, ◌+◌, ◌*◌, ◌≤◌, ◌<◌, ◌≡◌, Bool, true, false, not, List, [], ◌∷◌, length, get_or}
+use Rattle.std.specs.Prelude.{ℕ, ◌+◌, ◌*◌, ◌≤◌, ◌<◌, ◌≡◌, Bool, true, false, not, List, [], ◌∷◌, length, get_or, None, Option, Some}
 use Rattle.std.proofs.Common.{sym, ap, ◌∙◌, subst, arith, lt-ltb, eq-eqb, ne_eqb}
-use Rattle.std.proofs.Math.Option.{Option, none, some}
 use Rattle.octets.specs.Pick.{pick}
 use Rattle.octets.specs.Octets.{Octets, bytes_of, Wrote}
 use Rattle.octets.specs.PutLaws.{wrote_as}
@@ -19,8 +18,6 @@ use Rattle.renumber.specs.Ranks.{calls_by, Ranked}
 use Rattle.renumber.specs.OperandLaws.{calls-read}
 use Rattle.renumber.specs.Turn.{Inputs, sized_of, body_of_lem, is_yes}
 use Rattle.renumber.specs.declared.Ranks.{Ranks}
-use Rattle.renumber.specs.declared.Sized.{Sized}
-use Rattle.renumber.specs.declared.Sized.TheVariants.{Len}
 use Rattle.bodies.specs.Ways.{holds, new_body, body_by, subr_by, reached_in, is_kept, is_stub, kept_count, site_in, SubrsFit, SubrsIn}
 use Rattle.bodies.specs.Sizes.{AtMost, len_at}
 use Rattle.bodies.specs.SizesLaws.{renumbered-short, at_most_more}
@@ -31,15 +28,15 @@ use Rattle.bodies.specs.declared.subrs.Subrs.TheVariants.{Global, Local}
 -- ---- a body by the way
 
 holds_yes : (m : Option (List ℕ)) → holds m ≡ true → is_yes m ≡ true
-holds_yes none e = e
-holds_yes (some bs) e = e
+holds_yes None e = e
+holds_yes (Some bs) e = e
 
 module _ (way : ℕ) (rows : List Row) (calls : Calls) (site : Site) (s : List ℕ) where
   by-renumbered : way ≡ 0 → renumbered_body rows calls site s ≡ body_by way rows calls site s
-  by-renumbered e = ap (λ (b : Bool). pick b (renumbered_body rows calls site s) (some s)) (sym (eq-eqb way 0 e))
+  by-renumbered e = ap (λ (b : Bool). pick b (renumbered_body rows calls site s) (Some s)) (sym (eq-eqb way 0 e))
 
-  by-copied : (way ≡ 0 → ⊥) → some s ≡ body_by way rows calls site s
-  by-copied e = ap (λ (b : Bool). pick b (renumbered_body rows calls site s) (some s)) (sym (ne_eqb way 0 e))
+  by-copied : (way ≡ 0 → ⊥) → Some s ≡ body_by way rows calls site s
+  by-copied e = ap (λ (b : Bool). pick b (renumbered_body rows calls site s) (Some s)) (sym (ne_eqb way 0 e))
 
   pub new-renumbered : way ≡ 0 → body_of_lem (renumbered_body rows calls site s) ≡ new_body way rows calls site s
   new-renumbered e = ap body_of_lem (by-renumbered e) ∙ sym (new-body_is way rows calls site s)
@@ -47,7 +44,7 @@ module _ (way : ℕ) (rows : List Row) (calls : Calls) (site : Site) (s : List �
   pub new-copied : (way ≡ 0 → ⊥) → s ≡ new_body way rows calls site s
   new-copied e = ap body_of_lem (by-copied e) ∙ sym (new-body_is way rows calls site s)
 
-  pub copied_len : (way ≡ 0 → ⊥) → (Len (length s) ≡ sized_of (body_by way rows calls site s)) × (length s ≤ 5 * length s)
+  pub copied_len : (way ≡ 0 → ⊥) → (Some (length s) ≡ sized_of (body_by way rows calls site s)) × (length s ≤ 5 * length s)
   copied_len e = (ap sized_of (by-copied e), omega arith)
 
   pub renumbered-room : way ≡ 0 → (at n : ℕ) → holds (body_by way rows calls site s) ≡ true → at + length (new_body way rows calls site s) ≤ n
@@ -61,7 +58,7 @@ module _ (way : ℕ) (rows : List Row) (calls : Calls) (site : Site) (s : List �
   copied-room e at n k = subst (λ (l : List ℕ). at + length l ≤ n) (sym (new-copied e)) k
 
 pub renumbered_len : (way : ℕ) (rows : List Row) (ws : List ℕ) (locals globals : Ranks) (site : Site) (s : List ℕ) → Octets s → Ranked ws locals → Ranked ws globals → way ≡ 0
-    → (r : Sized) → r ≡ sized_of (renumbered_body rows (calls_by ws locals globals) site s)
+    → (r : Option ℕ) → r ≡ sized_of (renumbered_body rows (calls_by ws locals globals) site s)
     → (r ≡ sized_of (body_by way rows (calls_by ws locals globals) site s)) × AtMost (5 * length s) r
 renumbered_len way rows ws locals globals site s b l g e r h = (
   h ∙ ap sized_of (by-renumbered way rows (calls_by ws locals globals) site s e),
@@ -112,16 +109,16 @@ item_inputs {b} {ws} {ix} w k h s e site f =
 
 -- five times an item is not too long
 pub item-bound : (b : List ℕ) (ix : Index) → Good b ix → length b ≤ 67108864 → (k : ℕ) → k < ix.count → (s : List ℕ) → s ≡ get_or (items_of b ix) k []
-    → (r : Sized) → AtMost (5 * length s) r → AtMost 335544320 r
+    → (r : Option ℕ) → AtMost (5 * length s) r → AtMost 335544320 r
 item-bound b ix g l k h s e r m = let n = ap length e in at_most_more (5 * length s) 335544320 (omega (arith, item-short b ix g k h)) r m
 
 -- ---- a subroutine
 
 module _ (way : ℕ) (rows : List Row) (set : ℕ → Bool) (calls : Calls) (of : Subrs) (subrs : List (List ℕ)) (k : ℕ) where
-  stub_is : is_stub way set k ≡ true → some (11 ∷ []) ≡ subr_by way rows set calls (site_in of) subrs k
-  stub_is e = ap (λ (b : Bool). pick b (some (11 ∷ [])) (body_by way rows calls (site_in of k) (get_or subrs k []))) (sym e)
+  stub_is : is_stub way set k ≡ true → Some (11 ∷ []) ≡ subr_by way rows set calls (site_in of) subrs k
+  stub_is e = ap (λ (b : Bool). pick b (Some (11 ∷ [])) (body_by way rows calls (site_in of k) (get_or subrs k []))) (sym e)
 
-  pub stub_len : is_stub way set k ≡ true → (Len 1 ≡ sized_of (subr_by way rows set calls (site_in of) subrs k)) × (1 ≤ 335544320)
+  pub stub_len : is_stub way set k ≡ true → (Some 1 ≡ sized_of (subr_by way rows set calls (site_in of) subrs k)) × (1 ≤ 335544320)
   stub_len e = (ap sized_of (stub_is e), omega arith)
 
   pub stub_room : is_stub way set k ≡ true → (at n : ℕ) → at + length (body_of_lem (subr_by way rows set calls (site_in of) subrs k)) ≤ n → at + 1 ≤ n
@@ -136,12 +133,12 @@ module _ (way : ℕ) (rows : List Row) (set : ℕ → Bool) (calls : Calls) (of 
     body_is : body_by way rows calls site s ≡ subr_by way rows set calls (site_in of) subrs k
     body_is =
         ap (λ (x : Site). body_by way rows calls x s) f ∙ ap (λ (x : List ℕ). body_by way rows calls (site_in of k) x) g
-        ∙ ap (λ (b : Bool). pick b (some (11 ∷ [])) (body_by way rows calls (site_in of k) (get_or subrs k []))) (sym e)
+        ∙ ap (λ (b : Bool). pick b (Some (11 ∷ [])) (body_by way rows calls (site_in of k) (get_or subrs k []))) (sym e)
 
     new_is : new_body way rows calls site s ≡ body_of_lem (subr_by way rows set calls (site_in of) subrs k)
     new_is = new-body_is way rows calls site s ∙ ap body_of_lem body_is
 
-    pub subr_len : (r : Sized) → r ≡ sized_of (body_by way rows calls site s) → r ≡ sized_of (subr_by way rows set calls (site_in of) subrs k)
+    pub subr_len : (r : Option ℕ) → r ≡ sized_of (body_by way rows calls site s) → r ≡ sized_of (subr_by way rows set calls (site_in of) subrs k)
     subr_len r h = h ∙ ap sized_of body_is
 
     pub subr_room : (at n : ℕ) → holds (subr_by way rows set calls (site_in of) subrs k) ≡ true → at + length (body_of_lem (subr_by way rows set calls (site_in of) subrs k)) ≤ n
@@ -153,11 +150,11 @@ module _ (way : ℕ) (rows : List Row) (set : ℕ → Bool) (calls : Calls) (of 
     subr_wrote w = wrote_as w new_is
 
 -- how long number k is, by whether it passes
-pub len_kept : (test : ℕ → Bool) (f : ℕ → Option (List ℕ)) (k n : ℕ) → test k ≡ true → (r : Sized) → (r ≡ sized_of (f k)) × AtMost n r → (r ≡ len_at test f k) × AtMost n r
-len_kept test f k n e r h = (h.0 ∙ ap (λ (b : Bool). pick b (sized_of (f k)) (Len 0)) (sym e), h.1)
+pub len_kept : (test : ℕ → Bool) (f : ℕ → Option (List ℕ)) (k n : ℕ) → test k ≡ true → (r : Option ℕ) → (r ≡ sized_of (f k)) × AtMost n r → (r ≡ len_at test f k) × AtMost n r
+len_kept test f k n e r h = (h.0 ∙ ap (λ (b : Bool). pick b (sized_of (f k)) (Some 0)) (sym e), h.1)
 
-pub len_left : (test : ℕ → Bool) (f : ℕ → Option (List ℕ)) (k n : ℕ) → test k ≡ false → (Len 0 ≡ len_at test f k) × (0 ≤ n)
-len_left test f k n e = (ap (λ (b : Bool). pick b (sized_of (f k)) (Len 0)) (sym e), omega arith)
+pub len_left : (test : ℕ → Bool) (f : ℕ → Option (List ℕ)) (k n : ℕ) → test k ≡ false → (Some 0 ≡ len_at test f k) × (0 ≤ n)
+len_left test f k n e = (ap (λ (b : Bool). pick b (sized_of (f k)) (Some 0)) (sym e), omega arith)
 
 -- ---- the site of a subroutine
 

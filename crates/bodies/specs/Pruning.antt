@@ -1,6 +1,5 @@
 -- The bodies of a subset by the way (document 01, 'Corners in write.rs'), and which way it is.
-use Rattle.std.specs.Prelude.{ℕ, Bool, true, false, List, [], ◌∷◌, eqb, get_or}
-use Rattle.std.proofs.Math.Option.{Option}
+use Rattle.std.specs.Prelude.{ℕ, Bool, true, false, List, [], ◌∷◌, eqb, get_or, Option}
 use Rattle.octets.specs.Pick.{pick}
 use Rattle.unfold.specs.Unfold.{Row, glyph, local, global}
 use Rattle.cff.specs.Font.{Program}

@@ -1,8 +1,7 @@
 -- The words that ranking leaves say what the record has reached (document 01, 'Reach record'): the subroutines by the words are the subroutines
 -- by the record, of the globals and of the locals of an FD.
-use Rattle.std.specs.Prelude.{ℕ, suc, ◌+◌, ◌≤◌, ◌<◌, ◌≡◌, refl, Bool, true, false, List, [], ◌∷◌, eqb, ℤ, length, take, drop, get_or}
+use Rattle.std.specs.Prelude.{ℕ, suc, ◌+◌, ◌≤◌, ◌<◌, ◌≡◌, refl, Bool, true, false, List, [], ◌∷◌, eqb, ℤ, length, take, drop, get_or, None, Some}
 use Rattle.std.proofs.Common.{sym, ap, ◌∙◌, arith, lt-ltb, eqb-true}
-use Rattle.std.proofs.Math.Option.{none, some}
 use Rattle.std.proofs.Math.Decide.{dec_le}
 use Rattle.octets.specs.Pick.{pick}
 use Rattle.unfold.specs.Unfold.{Row, Site}
@@ -42,10 +41,10 @@ reached-told ws own set same r = r ∙ sym (count-alike (reached_in ws own) set 
 
 -- a number without a subroutine fails
 pub past-fails : (rows : List Row) (set : ℕ → Bool) (calls : Calls) (site : ℕ → Site) (subrs : List (List ℕ))
-    → eqb (reached set) (count_below set (length subrs)) ≡ false → renumbered_subrs rows set calls site subrs ≡ none
+    → eqb (reached set) (count_below set (length subrs)) ≡ false → renumbered_subrs rows set calls site subrs ≡ None
 unfolding renumbered_subrs
 past-fails rows set calls site subrs e =
-    ap (λ (t : Bool). pick t (each (λ k. renumbered_body rows calls (site k) (get_or subrs k [])) (those set (length subrs) 0)) none) e
+    ap (λ (t : Bool). pick t (each (λ k. renumbered_body rows calls (site k) (get_or subrs k [])) (those set (length subrs) 0)) None) e
 
 -- stubbed alike, where the sets are the same at each of the subroutines
 pub stubbed-alike : (set set' : ℕ → Bool) (k : ℕ) (l : List (List ℕ)) → ((i : ℕ) → i < length l → set (k + i) ≡ set' (k + i)) → stubbed_from set k l ≡ stubbed_from set' k l
@@ -69,4 +68,4 @@ subrs-record way rows set set' calls calls' site subrs below all = go (eqb way 0
     go false e =
         let f : stubbed_from set 0 subrs ≡ stubbed_from set' 0 subrs
         = stubbed-alike set set' 0 subrs (λ i h. let z : 0 + i ≡ i = omega arith in ap set z ∙ below i h ∙ ap set' (sym z)) in
-        rw e (ap (λ (l : List (List ℕ)). some (pick (eqb way 1) l subrs)) f)
+        rw e (ap (λ (l : List (List ℕ)). Some (pick (eqb way 1) l subrs)) f)

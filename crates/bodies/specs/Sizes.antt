@@ -1,35 +1,30 @@
 -- How long bodies are together, body by body (document 01, 'Corners in write.rs'): of numbers that pass a test, in order.
-use Rattle.std.specs.Prelude.{ℕ, ◌+◌, ◌-◌, ◌*◌, ◌≤◌, ◌≡◌, Bool, List}
-use Rattle.std.proofs.Math.Option.{Option, none, some}
+use Rattle.std.specs.Prelude.{ℕ, ◌+◌, ◌-◌, ◌*◌, ◌≤◌, ◌≡◌, Bool, List, None, Option, Some}
 use Rattle.octets.specs.Pick.{pick}
 use Rattle.index.specs.Write.{total}
 use Rattle.subset.specs.Kept.{those}
 use Rattle.subset.specs.Pruned.{each}
 use Rattle.renumber.specs.Turn.{sized_of}
-use Rattle.renumber.specs.declared.Sized.{Sized}
-use Rattle.renumber.specs.declared.Sized.TheVariants.{Failed, Len}
 use Rattle.bodies.specs.Ways.{measured_of}
-use Rattle.bodies.specs.declared.Measured.{Measured}
-use Rattle.bodies.specs.declared.Measured.TheVariants.{Failed as FailedAll, Total}
 
 -- a length that is no more than n
-abbrev pub AtMost : ℕ → Sized → Type 0
-AtMost n Failed = Unit
-AtMost n (Len m) = m ≤ n
+abbrev pub AtMost : ℕ → Option ℕ → Type 0
+AtMost n None = Unit
+AtMost n (Some m) = m ≤ n
 
 -- a sum of at most 65,535 such lengths, each of five times a font
-abbrev pub Bounded : Measured → Type 0
-Bounded FailedAll = Unit
-Bounded (Total t) = t ≤ 21989897011200
+abbrev pub Bounded : Option ℕ → Type 0
+Bounded None = Unit
+Bounded (Some t) = t ≤ 21989897011200
 
 -- some bodies after others that have t bytes together
-abbrev pub added_to : ℕ → Option (List (List ℕ)) → Measured
-added_to t none = FailedAll
-added_to t (some l) = Total (t + total l)
+abbrev pub added_to : ℕ → Option (List (List ℕ)) → Option ℕ
+added_to t None = None
+added_to t (Some l) = Some (t + total l)
 
 -- how long the body of a number is: 0 where it does not pass
-abbrev pub len_at : (ℕ → Bool) → (ℕ → Option (List ℕ)) → ℕ → Sized
-len_at test f k = pick (test k) (sized_of (f k)) (Len 0)
+abbrev pub len_at : (ℕ → Bool) → (ℕ → Option (List ℕ)) → ℕ → Option ℕ
+len_at test f k = pick (test k) (sized_of (f k)) (Some 0)
 
 -- the bodies of the numbers below k were measured, and have t bytes together
 pub record Adding (f : ℕ → Option (List ℕ)) (test : ℕ → Bool) (n k t : ℕ) : Type 0 where

@@ -1,6 +1,5 @@
 -- Subroutines (document 01, 'Corners in write.rs') by the code's own values: where they stand, and how they are written.
-use Rattle.std.specs.Prelude.{ℕ, Bool, List}
-use Rattle.std.proofs.Math.Option.{Option}
+use Rattle.std.specs.Prelude.{ℕ, Bool, List, Option}
 use Rattle.index.specs.Index.{items_of}
 use Rattle.unfold.specs.Unfold.{Row}
 use Rattle.renumber.specs.Ranks.{calls_by}

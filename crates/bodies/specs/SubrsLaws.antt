@@ -1,11 +1,10 @@
 -- Subroutines by the way, number by number: those that are written, and what each is.
 use Prim.Native.Nat.{ℕ, suc, ◌+◌, ◌≤◌, ◌<◌}
-use Rattle.std.specs.Prelude.{◌≡◌, refl, Bool, not, length}
+use Rattle.std.specs.Prelude.{◌≡◌, refl, Bool, not, length, None, Option, Some}
 use Rattle.std.proofs.Common.{sym, ◌∙◌}
 use Rattle.std.proofs.Math.Path.{ap}
 use Rattle.std.proofs.Math.Bool.{true, false}
 use mathlib.Core.List.{List, [], ◌∷◌}
-use Rattle.std.proofs.Math.Option.{Option, none, some}
 use native.Mathlib.Omega.{arith}
 use borrow.Author.Tests.{le-ltb, eqb-true, eq-eqb, ne_eqb}
 use Rattle.std.proofs.Math.Dec.{eqb}
@@ -41,12 +40,12 @@ reached-all ws own h = count_past (reached_in ws own) own.count 65536 (reached-n
 -- ---- each by its number
 
 -- where none fails
-each-made : {A : Type 0} (f : ℕ → Option A) (g : ℕ → A) → ((k : ℕ) → f k ≡ some (g k)) → (ks : List ℕ) → each f ks ≡ some (mapped g ks)
+each-made : {A : Type 0} (f : ℕ → Option A) (g : ℕ → A) → ((k : ℕ) → f k ≡ Some (g k)) → (ks : List ℕ) → each f ks ≡ Some (mapped g ks)
 unfolding each mapped
 each-made f g h [] = refl
 each-made {A} f g h (k ∷ ks) =
-    ap (λ (x : Option A). and x (λ b. and (each f ks) (λ bs. some (b ∷ bs)))) (h k)
-    ∙ ap (λ (x : Option (List A)). and x (λ bs. some (g k ∷ bs))) (each-made f g h ks)
+    ap (λ (x : Option A). and x (λ b. and (each f ks) (λ bs. Some (b ∷ bs)))) (h k)
+    ∙ ap (λ (x : Option (List A)). and x (λ bs. Some (g k ∷ bs))) (each-made f g h ks)
 
 -- what is made of each item of a list, by its number
 module _ (make : ℕ → List ℕ → List ℕ) (all : ℕ → List (List ℕ) → List (List ℕ)) (empty : (k : ℕ) → [] ≡ all k [])
@@ -66,7 +65,7 @@ module _ (make : ℕ → List ℕ → List ℕ) (all : ℕ → List (List ℕ) �
   numbered-all = numbered 0 subrs (λ i. ap (λ (j : ℕ). get_or subrs j []) (let q : 0 + i ≡ i = omega arith in q))
 
 -- a subroutine that is reached, or a return
-stub_one : (t : Bool) (s : List ℕ) → pick (not t) (some (11 ∷ [])) (some s) ≡ some (pick t s (11 ∷ []))
+stub_one : (t : Bool) (s : List ℕ) → pick (not t) (Some (11 ∷ [])) (Some s) ≡ Some (pick t s (11 ∷ []))
 stub_one true s = refl
 stub_one false s = refl
 
@@ -83,26 +82,26 @@ module _ (way : ℕ) (rows : List Row) (set : ℕ → Bool) (calls : Calls) (sit
       apart h = ne_eqb way 1 (λ q. let z = eqb-true way 0 h in zero_one (sym z ∙ q))
 
       go : (t u : Bool) → (t ≡ true → u ≡ false)
-          → pick t (renumbered_subrs rows set calls site subrs) (some (pick u (stubbed_from set 0 subrs) subrs))
-          ≡ each (λ k. pick (pick u (not (set k)) false) (some (11 ∷ [])) (pick t (renumbered_body rows calls (site k) (get_or subrs k [])) (some (get_or subrs k []))))
+          → pick t (renumbered_subrs rows set calls site subrs) (Some (pick u (stubbed_from set 0 subrs) subrs))
+          ≡ each (λ k. pick (pick u (not (set k)) false) (Some (11 ∷ [])) (pick t (renumbered_body rows calls (site k) (get_or subrs k [])) (Some (get_or subrs k []))))
           (those (λ k. pick t (set k) true) (length subrs) 0)
       go true true h = let z : true ≡ false = h refl in absurd (zero_one cc)
       go true false h =
-          ap (λ (b : Bool). pick b (each (λ k. renumbered_body rows calls (site k) (get_or subrs k [])) (those set (length subrs) 0)) none)
+          ap (λ (b : Bool). pick b (each (λ k. renumbered_body rows calls (site k) (get_or subrs k [])) (those set (length subrs) 0)) None)
           (eq-eqb (reached set) (count_below set (length subrs)) e)
       go false true h =
           sym (each-made _ (λ k. pick (set k) (get_or subrs k []) (11 ∷ [])) (λ k. stub_one (set k) (get_or subrs k [])) (those every (length subrs) 0)
-          ∙ ap some (numbered-all (λ k s. pick (set k) s (11 ∷ [])) (stubbed_from set) (λ k. refl) (λ k s l. refl) subrs))
+          ∙ ap Some (numbered-all (λ k s. pick (set k) s (11 ∷ [])) (stubbed_from set) (λ k. refl) (λ k s l. refl) subrs))
       go false false h =
           sym (each-made _ (λ k. get_or subrs k []) (λ k. refl) (those every (length subrs) 0)
-          ∙ ap some (numbered-all (λ k s. s) (λ k l. l) (λ k. refl) (λ k s l. refl) subrs))
+          ∙ ap Some (numbered-all (λ k s. s) (λ k l. l) (λ k. refl) (λ k s l. refl) subrs))
 
   -- the subroutines, of which none fails
   pub new-subrs_is : new_subrs way rows set calls site subrs ≡ many_of (subrs_by way rows set calls site subrs)
   new-subrs_is = go (eqb way 0)
     where
       go : (t : Bool) → pick t (many_of (renumbered_subrs rows set calls site subrs)) (pick (eqb way 1) (stubbed_from set 0 subrs) subrs)
-          ≡ many_of (pick t (renumbered_subrs rows set calls site subrs) (some (pick (eqb way 1) (stubbed_from set 0 subrs) subrs)))
+          ≡ many_of (pick t (renumbered_subrs rows set calls site subrs) (Some (pick (eqb way 1) (stubbed_from set 0 subrs) subrs)))
       go true = refl
       go false = refl
 
@@ -110,7 +109,7 @@ module _ (way : ℕ) (rows : List Row) (set : ℕ → Bool) (calls : Calls) (sit
 pub new-body_is : (way : ℕ) (rows : List Row) (calls : Calls) (site : Site) (s : List ℕ) → new_body way rows calls site s ≡ body_of_lem (body_by way rows calls site s)
 new-body_is way rows calls site s = go (eqb way 0)
   where
-    go : (t : Bool) → pick t (body_of_lem (renumbered_body rows calls site s)) s ≡ body_of_lem (pick t (renumbered_body rows calls site s) (some s))
+    go : (t : Bool) → pick t (body_of_lem (renumbered_body rows calls site s)) s ≡ body_of_lem (pick t (renumbered_body rows calls site s) (Some s))
     go true = refl
     go false = refl
 

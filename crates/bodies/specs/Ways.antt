@@ -1,7 +1,6 @@
 -- The charstrings and subroutines of a subset, by the way (document 01, 'Corners in write.rs'): 0 renumbered, 1 stubbed, 2 copied; the new
 -- numbers of subroutines stand in the work words.
-use Rattle.std.specs.Prelude.{ℕ, ◌+◌, ◌≤◌, ◌<◌, ◌≡◌, Bool, true, false, not, List, [], ◌∷◌, eqb, length, get_or}
-use Rattle.std.proofs.Math.Option.{Option, none, some}
+use Rattle.std.specs.Prelude.{ℕ, ◌+◌, ◌≤◌, ◌<◌, ◌≡◌, Bool, true, false, not, List, [], ◌∷◌, eqb, length, get_or, None, Option, Some}
 use Rattle.octets.specs.Pick.{pick}
 use Rattle.bits.specs.Bits.{words_for, bit_in, below}
 use Rattle.index.specs.Good.{Good}
@@ -15,23 +14,21 @@ use Rattle.reach.specs.Reach.{rises}
 use Rattle.renumber.specs.Ranks.{Ranked}
 use Rattle.renumber.specs.Turn.{body_of_lem}
 use Rattle.renumber.specs.declared.Ranks.{Ranks}
-use Rattle.bodies.specs.declared.Measured.{Measured}
-use Rattle.bodies.specs.declared.Measured.TheVariants.{Failed, Total}
 use Rattle.bodies.specs.declared.subrs.Subrs.{Subrs}
 use Rattle.bodies.specs.declared.subrs.Subrs.TheVariants.{Global, Local}
 
 -- the bodies of some, whether there are any, and how many bytes they have together
 abbrev pub many_of : Option (List (List ℕ)) → List (List ℕ)
-many_of none = []
-many_of (some l) = l
+many_of None = []
+many_of (Some l) = l
 
 abbrev pub holds : {A : Type 0} → Option A → Bool
-holds none = false
-holds (some a) = true
+holds None = false
+holds (Some a) = true
 
-abbrev pub measured_of : Option (List (List ℕ)) → Measured
-measured_of none = Failed
-measured_of (some l) = Total (total l)
+abbrev pub measured_of : Option (List (List ℕ)) → Option ℕ
+measured_of None = None
+measured_of (Some l) = Some (total l)
 
 -- some bodies that do not fail, and room for their INDEX from a place on
 pub record Room (bodies : Option (List (List ℕ))) (sum at room : ℕ) : Type 0 where
@@ -48,7 +45,7 @@ abbrev pub new_body : ℕ → List Row → Calls → Site → List ℕ → List 
 new_body way rows calls site s = pick (eqb way 0) (body_of_lem (renumbered_body rows calls site s)) s
 
 abbrev pub body_by : ℕ → List Row → Calls → Site → List ℕ → Option (List ℕ)
-body_by way rows calls site s = pick (eqb way 0) (renumbered_body rows calls site s) (some s)
+body_by way rows calls site s = pick (eqb way 0) (renumbered_body rows calls site s) (Some s)
 
 -- the subroutines of an INDEX by the way, of which the set is reached; the same, or that their renumbering fails
 abbrev pub new_subrs : ℕ → List Row → (ℕ → Bool) → Calls → (ℕ → Site) → List (List ℕ) → List (List ℕ)
@@ -57,7 +54,7 @@ new_subrs way rows set calls site subrs =
 
 abbrev pub subrs_by : ℕ → List Row → (ℕ → Bool) → Calls → (ℕ → Site) → List (List ℕ) → Option (List (List ℕ))
 subrs_by way rows set calls site subrs =
-    pick (eqb way 0) (renumbered_subrs rows set calls site subrs) (some (pick (eqb way 1) (stubbed_from set 0 subrs) subrs))
+    pick (eqb way 0) (renumbered_subrs rows set calls site subrs) (Some (pick (eqb way 1) (stubbed_from set 0 subrs) subrs))
 
 -- what the bits in the words say is reached
 abbrev pub reached_in : List ℕ → Ranks → ℕ → Bool
@@ -83,7 +80,7 @@ is_stub way set k = pick (eqb way 1) (not (set k)) false
 
 -- a subroutine as it is written
 abbrev pub subr_by : ℕ → List Row → (ℕ → Bool) → Calls → (ℕ → Site) → List (List ℕ) → ℕ → Option (List ℕ)
-subr_by way rows set calls site subrs k = pick (is_stub way set k) (some (11 ∷ [])) (body_by way rows calls (site k) (get_or subrs k []))
+subr_by way rows set calls site subrs k = pick (is_stub way set k) (Some (11 ∷ [])) (body_by way rows calls (site k) (get_or subrs k []))
 
 -- how many are written
 abbrev pub kept_count : ℕ → ℕ → ℕ → ℕ

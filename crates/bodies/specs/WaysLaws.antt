@@ -1,9 +1,8 @@
 -- The bodies by the way are those of crates/subset, and the renumbering of a font fails exactly where that of a part does.
-use Rattle.std.specs.Prelude.{ℕ, ◌≡◌, Bool, List, [], ◌∷◌, eqb, ℤ}
+use Rattle.std.specs.Prelude.{ℕ, ◌≡◌, Bool, List, [], ◌∷◌, eqb, ℤ, None, Option, Some}
 use Rattle.std.proofs.Math.Path.{refl, ap, fun_ext}
 use Rattle.std.proofs.Common.{sym, ◌∙◌}
 use Rattle.std.proofs.Math.Bool.{true, false}
-use Rattle.std.proofs.Math.Option.{Option, none, some}
 use Rattle.octets.specs.Pick.{pick}
 use Rattle.octets.specs.Steps.{and}
 use Rattle.unfold.specs.Unfold.{Row, Site}
@@ -39,7 +38,7 @@ subrs-by-alike way rows set set' calls calls' site subrs same alike =
 -- ---- each of a list
 
 -- what each is, where none fails
-pub each-parts : {A : Type 0} (f : ℕ → Option A) (part : Option A → A) → ((a : A) → part (some a) ≡ a) → (ks : List ℕ) (l : List A) → each f ks ≡ some l
+pub each-parts : {A : Type 0} (f : ℕ → Option A) (part : Option A → A) → ((a : A) → part (Some a) ≡ a) → (ks : List ℕ) (l : List A) → each f ks ≡ Some l
     → mapped (λ k. part (f k)) ks ≡ l
 unfolding each mapped
 each-parts f part h [] l e = let m : [] ≡ l = cc in m
@@ -60,22 +59,22 @@ pub mapped-bodies : (f : ℕ → Option (List ℕ)) (g : ℕ → List ℕ) → (
 mapped-bodies f g same ks h = mapped-alike g (λ k. body_of_lem (f k)) same ks ∙ go (each f ks) refl h
   where
     go : (m : Option (List (List ℕ))) → each f ks ≡ m → holds m ≡ true → mapped (λ k. body_of_lem (f k)) ks ≡ many_of m
-    go none e q = absurd (zero_one cc)
-    go (some l) e q = each-parts f body_of_lem (λ a. refl) ks l e
+    go None e q = absurd (zero_one cc)
+    go (Some l) e q = each-parts f body_of_lem (λ a. refl) ks l e
 
 -- one holds, and then the next
 holds-and : {A B : Type 0} (m : Option A) (f : A → Option B) (b : Bool) → ((a : A) → holds (f a) ≡ b) → holds (and m f) ≡ pick (holds m) b false
-holds-and none f b h = refl
-holds-and (some a) f b h = h a
+holds-and None f b h = refl
+holds-and (Some a) f b h = h a
 
 pub holds-each : {A : Type 0} (f : ℕ → Option A) (ks : List ℕ) → holds (each f ks) ≡ all_hold f ks
 unfolding each all_hold
 holds-each f [] = refl
 holds-each {A} f (k ∷ ks) = holds-and (f k) _ (all_hold f ks) (λ b. rest b (each f ks) (holds-each f ks))
   where
-    rest : (b : A) (m : Option (List A)) → holds m ≡ all_hold f ks → holds (and m (λ bs. some (b ∷ bs))) ≡ all_hold f ks
-    rest b none h = h
-    rest b (some l) h = h
+    rest : (b : A) (m : Option (List A)) → holds m ≡ all_hold f ks → holds (and m (λ bs. Some (b ∷ bs))) ≡ all_hold f ks
+    rest b None h = h
+    rest b (Some l) h = h
 
 -- ---- a font's
 
@@ -96,7 +95,7 @@ module _ (p : Program) (rows : List Row) (used order : List ℕ) where
   unfolding stubbed bodies_by
   stubbed-by = refl
 
-  renumbered-by : (b : Bodies) → renumbered p rows used order ≡ some b → b ≡ bodies_by p rows 0 used order
+  renumbered-by : (b : Bodies) → renumbered p rows used order ≡ Some b → b ≡ bodies_by p rows 0 used order
   unfolding bodies_by
   renumbered-by b e =
       let r = renews p rows used order b e in
@@ -114,8 +113,8 @@ module _ (p : Program) (rows : List Row) (used order : List ℕ) where
           → pick t (record { way = 2; bodies = copied p used order }) (or_stubbed m (stubbed p rows used order))
           ≡ record { way = pick t 2 (pick (holds m) 0 1); bodies = bodies_by p rows (pick t 2 (pick (holds m) 0 1)) used order }
       go true m e = ap (λ (b : Bodies). record { way = 2; bodies = b }) copied-by
-      go false none e = ap (λ (b : Bodies). record { way = 1; bodies = b }) stubbed-by
-      go false (some b) e = ap (λ (x : Bodies). record { way = 0; bodies = x }) (renumbered-by b e)
+      go false None e = ap (λ (b : Bodies). record { way = 1; bodies = b }) stubbed-by
+      go false (Some b) e = ap (λ (x : Bodies). record { way = 0; bodies = x }) (renumbered-by b e)
 
   -- the renumbering of a font holds where that of the globals, of the locals of each FD in use, and of each glyph does
   pub renumbers-parts : renumbers p rows used order

@@ -1,8 +1,7 @@
 -- A body by a window of the record that has its rows is the body by the whole record.
-use Rattle.std.specs.Prelude.{ℕ, ◌+◌, ◌≤◌, ◌<◌, ◌≡◌, refl, Bool, true, false, List, [], ◌∷◌, eqb, length, take, get_or}
+use Rattle.std.specs.Prelude.{ℕ, ◌+◌, ◌≤◌, ◌<◌, ◌≡◌, refl, Bool, true, false, List, [], ◌∷◌, eqb, length, take, get_or, Option, Some}
 use Rattle.std.proofs.Common.{sym, ap, ◌∙◌, subst, arith}
 use Rattle.std.proofs.lemmas.Bool.{false≢true}
-use Rattle.std.proofs.Math.Option.{Option, some}
 use Rattle.octets.specs.Pick.{pick}
 use Rattle.octets.specs.Octets.{Wrote}
 use Rattle.octets.specs.PutLaws.{wrote_as}
@@ -15,8 +14,6 @@ use Rattle.reach.specs.declared.Site as code
 use Rattle.renumber.specs.Turn.{Inputs, sized_of, body_of_lem}
 use Rattle.renumber.specs.Ranks.{calls_by}
 use Rattle.renumber.specs.declared.Ranks.{Ranks}
-use Rattle.renumber.specs.declared.Sized.{Sized}
-use Rattle.renumber.specs.declared.Sized.TheVariants.{Len}
 use Rattle.mask_rows.specs.MaskRows.{SameMasks, Fillable, Covers, HasOrNone}
 use Rattle.mask_rows.specs.FillLaws.{covers-none}
 use Rattle.mask_rows.specs.SameLaws.{same_body}
@@ -34,7 +31,7 @@ use Rattle.bodies.specs.declared.subrs.Subrs.TheVariants.{Global, Local}
 -- a body by records that list the same rows of its masks
 pub by-same : (way : ℕ) (rows rows' : List Row) (calls : Calls) (site : Site) (s : List ℕ) → SameMasks rows rows' site
     → body_by way rows calls site s ≡ body_by way rows' calls site s
-by-same way rows rows' calls site s same = ap (λ (m : Option (List ℕ)). pick (eqb way 0) m (some s)) (same_body rows rows' site same calls s)
+by-same way rows rows' calls site s same = ap (λ (m : Option (List ℕ)). pick (eqb way 0) m (Some s)) (same_body rows rows' site same calls s)
 
 -- room stays
 pub lent_same : {keys bytes : List ℕ} → Lent keys bytes → (keys' bytes' : List ℕ) → length keys' ≡ length keys → length bytes' ≡ length bytes → Lent keys' bytes'
@@ -77,18 +74,18 @@ module _ (rec bytes : List ℕ) (w : Window) (source : Source) (covers : Covers 
       window_subr : subr_from source' (rows_of part) ws b k ≡ subr_from source (rows_of rec) ws b k
       window_subr =
           ap (λ (x : Source). subr_from x (rows_of part) ws b k) e
-          ∙ ap (λ (m : Option (List ℕ)). pick (is_stub source.way (reached_in ws source.own) k) (some (11 ∷ [])) m)
+          ∙ ap (λ (m : Option (List ℕ)). pick (is_stub source.way (reached_in ws source.own) k) (Some (11 ∷ [])) m)
           (sym (by-same source.way (rows_of rec) (rows_of part) (calls_by ws source.locals source.globals) (site_in source.of k) (get_or (items_of b source.ix) k [])
           (same_site source.of rec bytes w covers k from to)))
 
       kept_same : kept_from source' ws k ≡ kept_from source ws k
       kept_same = ap (λ (x : Source). kept_from x ws k) e
 
-      pub subr_window_len : (r : Sized) → (r ≡ len_at (kept_from source' ws) (subr_from source' (rows_of part) ws b) k) × AtMost 335544320 r
+      pub subr_window_len : (r : Option ℕ) → (r ≡ len_at (kept_from source' ws) (subr_from source' (rows_of part) ws b) k) × AtMost 335544320 r
           → (r ≡ len_at (kept_from source ws) (subr_from source (rows_of rec) ws b) k) × AtMost 335544320 r
       subr_window_len r h = (
-        h.0 ∙ ap (λ (t : Bool). pick t (sized_of (subr_from source' (rows_of part) ws b k)) (Len 0)) kept_same
-            ∙ ap (λ (m : Option (List ℕ)). pick (kept_from source ws k) (sized_of m) (Len 0)) window_subr,
+        h.0 ∙ ap (λ (t : Bool). pick t (sized_of (subr_from source' (rows_of part) ws b k)) (Some 0)) kept_same
+            ∙ ap (λ (m : Option (List ℕ)). pick (kept_from source ws k) (sized_of m) (Some 0)) window_subr,
         h.1,
       )
 

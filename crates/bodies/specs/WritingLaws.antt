@@ -1,7 +1,6 @@
 -- Bodies of numbers that pass a test, written one after the other as the items of an INDEX.
-use Rattle.std.specs.Prelude.{ℕ, zero, suc, ◌+◌, ◌-◌, ◌≤◌, ◌<◌, ◌≡◌, refl, Bool, true, false, List, [], length, get_or}
+use Rattle.std.specs.Prelude.{ℕ, zero, suc, ◌+◌, ◌-◌, ◌≤◌, ◌<◌, ◌≡◌, refl, Bool, true, false, List, [], length, get_or, None, Option, Some}
 use Rattle.std.proofs.Common.{sym, ap, ◌∙◌, arith}
-use Rattle.std.proofs.Math.Option.{Option, none, some}
 use Rattle.octets.specs.Octets.{bytes_of, Wrote}
 use Rattle.index.specs.Good.{Lies}
 use Rattle.index.specs.Write.{total, head_bytes, size_for, index_bytes, index_for_lem}
@@ -17,21 +16,20 @@ use Rattle.subset.specs.EachLaws.{length-each, each_at}
 use Rattle.subset.specs.RankLaws.{count-few, count-rises, count-below, count_next, length-those, those-at}
 use Rattle.renumber.specs.Turn.{body_of_lem}
 use Rattle.bodies.specs.Ways.{many_of, holds, measured_of, every, Room}
-use Rattle.bodies.specs.declared.Measured.TheVariants.{Failed, Total}
 
 -- some that do not fail
-pub holds_many : (m : Option (List (List ℕ))) → holds m ≡ true → m ≡ some (many_of m)
-holds_many none e = absurd (zero_one cc)
-holds_many (some l) e = refl
+pub holds_many : (m : Option (List (List ℕ))) → holds m ≡ true → m ≡ Some (many_of m)
+holds_many None e = absurd (zero_one cc)
+holds_many (Some l) e = refl
 
 -- what measuring says: that they fail, or how long they are together
-pub measured_failed : (m : Option (List (List ℕ))) → measured_of m ≡ Failed → holds m ≡ false
-measured_failed none e = refl
-measured_failed (some l) e = absurd (zero_one cc)
+pub measured_failed : (m : Option (List (List ℕ))) → measured_of m ≡ None → holds m ≡ false
+measured_failed None e = refl
+measured_failed (Some l) e = absurd (zero_one cc)
 
-pub measured-total : (m : Option (List (List ℕ))) (t : ℕ) → measured_of m ≡ Total t → (holds m ≡ true) × (t ≡ total (many_of m))
-measured-total none t e = absurd (zero_one cc)
-measured-total (some l) t e = let q : total l ≡ t = cc in (refl, sym q)
+pub measured-total : (m : Option (List (List ℕ))) (t : ℕ) → measured_of m ≡ Some t → (holds m ≡ true) × (t ≡ total (many_of m))
+measured-total None t e = absurd (zero_one cc)
+measured-total (Some l) t e = let q : total l ≡ t = cc in (refl, sym q)
 
 -- all numbers below n are counted
 pub count-every : (n : ℕ) → count_below every n ≡ n
@@ -58,7 +56,7 @@ writing_start old to items test n = record { among = omega arith; counted = omeg
 -- the bodies as they are asked for: of the numbers below n that pass
 module _ (bodies : Option (List (List ℕ))) (f : ℕ → Option (List ℕ)) (test : ℕ → Bool) (n : ℕ)
     (same : bodies ≡ each f (those test n 0)) (done : holds bodies ≡ true) where
-  each-items : each f (those test n 0) ≡ some (many_of bodies)
+  each-items : each f (those test n 0) ≡ Some (many_of bodies)
   each-items = sym same ∙ holds_many bodies done
 
   pub items_many : length (many_of bodies) ≡ count_below test n
@@ -68,7 +66,7 @@ module _ (bodies : Option (List (List ℕ))) (f : ℕ → Option (List ℕ)) (te
     pub item-more : count_below test k < length (many_of bodies)
     item-more = omega (arith, items_many, count-below test k n e h)
 
-    pub item_is : f k ≡ some (get_or (many_of bodies) (count_below test k) [])
+    pub item_is : f k ≡ Some (get_or (many_of bodies) (count_below test k) [])
     item_is =
         let b = each_at f (those test n 0) (many_of bodies) each-items (count_below test k) [] (omega (arith, item-more, items_many, those_many test n)) in
         ap f (sym (those-at test n k h e)) ∙ b

@@ -14,14 +14,7 @@ ghost use Rattle.bodies.specs.Ways.{holds, new_body, body_by, ranks_in};
 ghost use Rattle.bodies.specs.Sizes.{AtMost};
 
 use reach::Site;
-use renumber::{Ranks, Sized};
-
-// The bytes of some bodies together, or that their renumbering fails.
-#[derive(Clone, Copy)]
-pub enum Measured {
-    Failed,
-    Total(usize),
-}
+use renumber::Ranks;
 
 // How bodies are written: the way, the bits of the globals, and whether the rows rise.
 #[derive(Clone, Copy)]
@@ -61,7 +54,7 @@ pub fn body_len(
     rows: &[u8],
     rising: bool,
     site: Site,
-) -> Sized
+) -> Option<usize>
     requires { Inputs code.now words.now locals globals (rows_of rows.now) rising site }
     ensures { (result ≡ sized_of (body_by way (rows_of rows.now) (calls_by words.now locals globals) (site_of site) code.now))
         × (AtMost (5 * length code.now) result) }
@@ -69,7 +62,7 @@ pub fn body_len(
     if way == 0 {
         return renumbered::renumbered_len(code, words, locals, globals, rows, rising, site);
     }
-    Sized::Len(code.len())
+    Some(code.len())
 }
 
 // A charstring or subroutine by the way, from `at` on; the place after it.

@@ -13,13 +13,13 @@ ghost use Rattle.bodies.specs.Sources.{Sourced, kept_from, subr_from, subrs_from
 ghost use Rattle.bodies.specs.Sizes.{AtMost, Bounded, len_at};
 ghost use Rattle.bodies.specs.Windows.{source_in_order, kind_of, fd_of, Lent};
 
-use crate::Measured;
 use index::Index;
 use mask_rows::Window;
 use reach::Site;
-use renumber::{Ranks, Sized};
+use renumber::Ranks;
 
 // The subroutines of an INDEX: the globals, or the locals of an FD.
+// (It stays an enum: they are two kinds, and an Option is no plainer, since None would not say that the globals are meant.)
 #[derive(Clone, Copy)]
 pub enum Subrs {
     Global,
@@ -83,12 +83,12 @@ fn site_in(of: Subrs, k: usize) -> Site
 }
 
 // How long a subroutine is as it is written, or that its renumbering fails.
-fn written_len(from: Source, font: &[u8], words: &[u32], rows: &[u8], k: usize) -> Sized
+fn written_len(from: Source, font: &[u8], words: &[u32], rows: &[u8], k: usize) -> Option<usize>
     requires { (Sourced from (rows_of rows.now) words.now font.now) × (k < from.ix.count) }
     ensures { (result ≡ sized_of (subr_from from (rows_of rows.now) words.now font.now k)) × (AtMost 335544320 result) }
 {
     if is_stub(from.way, words, from.own, k) {
-        return Sized::Len(1);
+        return Some(1);
     }
     let of = from.of;
     let site = site_in(of, k);
@@ -106,7 +106,7 @@ fn written_len(from: Source, font: &[u8], words: &[u32], rows: &[u8], k: usize) 
 }
 
 // The same, 0 for a subroutine that is not written.
-fn subr_len(from: Source, font: &[u8], words: &[u32], rows: &[u8], k: usize) -> Sized
+fn subr_len(from: Source, font: &[u8], words: &[u32], rows: &[u8], k: usize) -> Option<usize>
     requires { (Sourced from (rows_of rows.now) words.now font.now) × (k < from.ix.count) }
     ensures { (result ≡ len_at (kept_from from words.now) (subr_from from (rows_of rows.now) words.now font.now) k)
         × (AtMost 335544320 result) }
@@ -114,7 +114,7 @@ fn subr_len(from: Source, font: &[u8], words: &[u32], rows: &[u8], k: usize) -> 
     if is_kept(from.way, words, from.own, k) {
         return written_len(from, font, words, rows, k);
     }
-    Sized::Len(0)
+    Some(0)
 }
 
 // The window for the k-th of some subroutines.
@@ -164,7 +164,7 @@ fn long_written(
     k: usize,
     keys: &mut [u64],
     bytes: &mut [u8],
-) -> Sized
+) -> Option<usize>
     requires { (Sourced from (rows_of rows.now) words.now font.now) × (k < from.ix.count) × (Lent keys.old bytes.old) }
     ensures { (result ≡ sized_of (subr_from from (rows_of rows.now) words.now font.now k)) × (AtMost 335544320 result) }
 {
@@ -195,7 +195,7 @@ fn long_len(
     k: usize,
     keys: &mut [u64],
     bytes: &mut [u8],
-) -> Sized
+) -> Option<usize>
     requires { (Sourced from (rows_of rows.now) words.now font.now) × (k < from.ix.count) × (Lent keys.old bytes.old) }
     ensures { (result ≡ len_at (kept_from from words.now) (subr_from from (rows_of rows.now) words.now font.now) k)
         × (AtMost 335544320 result) }
@@ -203,7 +203,7 @@ fn long_len(
     if is_kept(from.way, words, from.own, k) {
         return long_written(from, font, words, rows, k, keys, bytes);
     }
-    Sized::Len(0)
+    Some(0)
 }
 
 // How long a subroutine is, by a window of the record where it has the rows of the subroutine; a longer one takes the window's place.
@@ -216,7 +216,7 @@ fn windowed_len(
     k: usize,
     keys: &mut [u64],
     bytes: &mut [u8],
-) -> Sized
+) -> Option<usize>
     requires { (Sourced from (rows_of rows.now) words.now font.now) × (k < from.ix.count) × (Covers rows.now bytes.old (kind_of from.of) (fd_of from.of) window)
         × (HasOrNone k window) × (Lent keys.old bytes.old) }
     ensures { (result ≡ len_at (kept_from from words.now) (subr_from from (rows_of rows.now) words.now font.now) k)
@@ -239,11 +239,10 @@ fn windows_total(
     rows: &[u8],
     keys: &mut [u64],
     bytes: &mut [u8],
-) -> Measured
+) -> Option<usize>
     requires { (Sourced from (rows_of rows.now) words.now font.now) × (Lent keys.old bytes.old) }
     ensures { (result ≡ measured_of (subrs_from from (rows_of rows.now) words.now font.now)) × (Bounded result) }
 {
-    let n = from.ix.count;
     let of = from.of;
     let mut window = Window {
         from: 0,
@@ -251,24 +250,16 @@ fn windows_total(
         len: 0,
     };
     let mut total: usize = 0;
-    let mut k: usize = 0;
-    while k < n {
+    for k in 0..from.ix.count {
         window = advance(window, rows, of, k, &mut *keys, &mut *bytes);
-        match windowed_len(from, font, words, rows, window, k, &mut *keys, &mut *bytes) {
-            Sized::Len(len) => {
-                total += len;
-                k += 1;
-            }
-            Sized::Failed => {
-                return Measured::Failed;
-            }
-        }
+        let len = windowed_len(from, font, words, rows, window, k, &mut *keys, &mut *bytes)?;
+        total += len;
     }
-    Measured::Total(total)
+    Some(total)
 }
 
 // The same, with the window on the stack.
-fn total_by_windows(from: Source, font: &[u8], words: &[u32], rows: &[u8]) -> Measured
+fn total_by_windows(from: Source, font: &[u8], words: &[u32], rows: &[u8]) -> Option<usize>
     requires { Sourced from (rows_of rows.now) words.now font.now }
     ensures { (result ≡ measured_of (subrs_from from (rows_of rows.now) words.now font.now)) × (Bounded result) }
 {
@@ -279,33 +270,22 @@ fn total_by_windows(from: Source, font: &[u8], words: &[u32], rows: &[u8]) -> Me
 
 // The bytes of some subroutines together, by the way, each by the whole record; or that their renumbering fails. Which
 // are written is asked here: most are not where few glyphs are kept, and a call for each would be felt.
-fn total_directly(from: Source, font: &[u8], words: &[u32], rows: &[u8]) -> Measured
+fn total_directly(from: Source, font: &[u8], words: &[u32], rows: &[u8]) -> Option<usize>
     requires { Sourced from (rows_of rows.now) words.now font.now }
     ensures { (result ≡ measured_of (subrs_from from (rows_of rows.now) words.now font.now)) × (Bounded result) }
 {
-    let n = from.ix.count;
     let mut total: usize = 0;
-    let mut k: usize = 0;
-    while k < n {
+    for k in 0..from.ix.count {
         if is_kept(from.way, words, from.own, k) {
-            match written_len(from, font, words, rows, k) {
-                Sized::Len(len) => {
-                    total += len;
-                    k += 1;
-                }
-                Sized::Failed => {
-                    return Measured::Failed;
-                }
-            }
-        } else {
-            k += 1;
+            let len = written_len(from, font, words, rows, k)?;
+            total += len;
         }
     }
-    Measured::Total(total)
+    Some(total)
 }
 
 // The bytes of some subroutines together, by the way; or that their renumbering fails. Masks are asked for only where they are renumbered.
-pub fn subrs_total(from: Source, font: &[u8], words: &[u32], rows: &[u8]) -> Measured
+pub fn subrs_total(from: Source, font: &[u8], words: &[u32], rows: &[u8]) -> Option<usize>
     requires { Sourced from (rows_of rows.now) words.now font.now }
     ensures { (result ≡ measured_of (subrs_from from (rows_of rows.now) words.now font.now)) × (Bounded result) }
 {
@@ -469,8 +449,7 @@ fn put_windows(
     };
     let mut p = to.base + 1;
     let mut put: usize = 0;
-    let mut k: usize = 0;
-    while k < n {
+    for k in 0..n {
         if is_kept(from.way, words, from.own, k) {
             window = advance(window, rows, of, k, &mut *keys, &mut *bytes);
             p = put_windowed(
@@ -487,9 +466,6 @@ fn put_windows(
             );
             index::put_end(out, to, put, p);
             put += 1;
-            k += 1;
-        } else {
-            k += 1;
         }
     }
     p
@@ -540,15 +516,11 @@ fn put_directly(
     index::put_head(out, at, count, total);
     let mut p = to.base + 1;
     let mut j: usize = 0;
-    let mut k: usize = 0;
-    while k < n {
+    for k in 0..n {
         if is_kept(from.way, words, from.own, k) {
             p = put_subr(from, font, words, rows, k, &mut *out, p);
             index::put_end(out, to, j, p);
             j += 1;
-            k += 1;
-        } else {
-            k += 1;
         }
     }
     p

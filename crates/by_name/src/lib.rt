@@ -1,8 +1,7 @@
 // The cut of a name-keyed font (the Rust's subset).
 #![tactic(auto)]
 
-ghost use Rattle.std.specs.Prelude.{false, [], ◌∷◌, ◌≤◌, ◌≡◌, length, take};
-ghost use Rattle.octets.specs.Octets.{put};
+ghost use Rattle.std.specs.Prelude.{false, [], ◌∷◌, ◌≤◌, ◌≡◌, length};
 ghost use Rattle.record.specs.Record.{rows_of};
 ghost use Rattle.cff.specs.Reads.{program_of};
 ghost use Rattle.subset.specs.Codes.{coded_if};
@@ -123,18 +122,6 @@ fn cut_prepared(
     )
 }
 
-// Puts the codes of a table behind the sixteen slots.
-fn put_codes(table: &[usize], slots: &mut [usize])
-    requires { (256 ≤ length table.now) × (272 ≤ length slots.old) }
-    ensures { slots.new ≡ put slots.old 16 (take 256 table.now) }
-{
-    let mut code = 0;
-    while code < 256 {
-        slots[16 + code] = table[code];
-        code += 1;
-    }
-}
-
 // What the subset has of an encoding; its codes stand behind the sixteen slots, which are read while they are made.
 pub fn encode_behind(
     font: &[u8],
@@ -153,7 +140,7 @@ pub fn encode_behind(
 {
     let mut table = [0usize; 256];
     let encoding = encode(font, o, ask, words, window, &*slots, &mut table);
-    put_codes(&table, slots);
+    slots[16..272].copy_from_slice(&table);
     encoding
 }
 

@@ -1,11 +1,9 @@
 -- What the number that a call returns says (document 01, 'Entries and their refusals'): 0 exactly where the answer was written; any other is a refusal, and nothing was written.
-use Rattle.std.specs.Prelude.{ℕ, zero, suc, ◌≤◌, ◌≡◌, refl, Bool, true, false, List, [], ◌∷◌, ltb, eqb, length}
+use Rattle.std.specs.Prelude.{ℕ, zero, suc, ◌≤◌, ◌≡◌, refl, Bool, true, false, List, [], ◌∷◌, ltb, eqb, length, None, Option, Some}
 use Rattle.std.proofs.Common.{sym, ◌∙◌, subst, arith, ne_eqb}
 use Rattle.octets.specs.Pick.{pick, pick_ind}
 use Rattle.octets.specs.Octets.{put}
 use Rattle.find.specs.Find.{glyph_with_id, glyph_with_text}
-use Rattle.find.specs.declared.Found.{Found}
-use Rattle.find.specs.declared.Found.TheVariants.{Absent as NoGlyph, Glyph as TheGlyph}
 use Rattle.dict.specs.Lookup.{cid_keyed}
 use Rattle.cff.specs.Font.{Got, refused as refusedFont, got, Program, read_font}
 use Rattle.cff.specs.Find.{read_as, found_as_lem, name_as, cid_as, items_in, item_refusal_lem, item_of}
@@ -56,15 +54,15 @@ read_sound (refusedFont n) low = low_refused (refusedFont n) low n refl
 read_sound (got p) low = sound_given
 
 -- finding never refuses what was read
-found_sound : (x : Found) → Sound (found_answer (found_as_lem x))
-found_sound NoGlyph = sound_given
-found_sound (TheGlyph g) = sound_given
+found_sound : (x : Option ℕ) → Sound (found_answer (found_as_lem x))
+found_sound None = sound_given
+found_sound (Some g) = sound_given
 
-unless_cid : (t : Bool) (x : Found) → Sound (found_answer (pick t Absent (found_as_lem x)))
+unless_cid : (t : Bool) (x : Option ℕ) → Sound (found_answer (pick t Absent (found_as_lem x)))
 unless_cid true x = sound_given
 unless_cid false x = found_sound x
 
-if_cid : (t : Bool) (x : Found) → Sound (found_answer (pick t (found_as_lem x) Absent))
+if_cid : (t : Bool) (x : Option ℕ) → Sound (found_answer (pick t (found_as_lem x) Absent))
 if_cid true x = found_sound x
 if_cid false x = sound_given
 

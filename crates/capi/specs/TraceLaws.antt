@@ -1,7 +1,6 @@
 -- Laws of the tracer for C: a record has room where it is written, so the front that is lent for it, put back, is the slice with the record in front.
-use Rattle.std.specs.Prelude.{ℕ, ◌≤◌, ◌≡◌, refl, Bool, true, false, List, [], ◌∷◌, ◌++◌, ltb, length, take, drop}
+use Rattle.std.specs.Prelude.{ℕ, ◌≤◌, ◌≡◌, refl, Bool, true, false, List, [], ◌∷◌, ◌++◌, ltb, length, take, drop, None, Option, Some}
 use Rattle.std.proofs.Common.{sym, ap, ◌∙◌, subst, append-nil, arith, ltb-false, take-append-drop}
-use Rattle.std.proofs.Math.Option.{Option, none, some}
 use Rattle.std.proofs.Math.Seq.{take-length, drop-length}
 use Rattle.octets.specs.Pick.{pick, pick_ind}
 use Rattle.octets.specs.Octets.{put}
@@ -25,8 +24,8 @@ Fits room (refused n) = Unit
 Fits room (traced flag rec) = length rec ≤ room
 
 answered-fits : (room : ℕ) (m : Option (List Row)) → Fits room (answered room m)
-answered-fits room none = omega arith
-answered-fits room (some rows) =
+answered-fits room None = omega arith
+answered-fits room (Some rows) =
     pick_ind (Fits room) (ltb room (length (record_of rows))) (refused 11) (traced 1 (record_of rows)) (λ e. tt) (λ e. ltb-false room (length (record_of rows)) e)
 
 read_fits : (room : ℕ) (keep : List ℕ) (g : Got Program) → Fits room (trace_read g keep room)

@@ -1,6 +1,5 @@
 -- Worked examples: the lines of a text, lines that agree and lines that do not, and rows of a report.
-use Rattle.std.specs.Prelude.{ℕ, ◌≡◌, refl, true, false, List, [], ◌∷◌, replicate}
-use Rattle.std.proofs.Math.Option.{some}
+use Rattle.std.specs.Prelude.{ℕ, ◌≡◌, refl, true, false, List, [], ◌∷◌, replicate, Some}
 use Rattle.octets.specs.Lists.{before}
 use Rattle.hexlines.specs.Hexlines.{hex_value_lem, field_end_lem, is_hex_lem, spelt, hex_bytes, room_for}
 use Rattle.strings.specs.Text.{same_text_lem}
@@ -11,7 +10,7 @@ use Rattle.cases.specs.Report.{decimal}
 
 -- the answer to an input is the input
 abbrev echo : Answering
-echo kind s = some s
+echo kind s = Some s
 
 -- the lines of `a`, an empty line and `b`, the last without its line feed
 pub three-lines : lines_of (97 ∷ 10 ∷ 10 ∷ 98 ∷ []) ≡ (97 ∷ []) ∷ [] ∷ (98 ∷ []) ∷ []

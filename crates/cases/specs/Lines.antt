@@ -1,7 +1,6 @@
 -- A text of stored cases (tools/oracle/README.md, 'Lines'): a line `KIND INPUT ANSWER` each.
--- A line agrees where our answer to its input is its answer; any other line has failed. None is passed over.
-use Rattle.std.specs.Prelude.{ℕ, ◌+◌, ◌-◌, Bool, false, List, [], ◌∷◌, ltb, leb, eqb, length, take, drop, get_or}
-use Rattle.std.proofs.Math.Option.{Option, none, some}
+-- A line agrees where our answer to its input is its answer; any other line has failed. none is passed over.
+use Rattle.std.specs.Prelude.{ℕ, ◌+◌, ◌-◌, Bool, false, List, [], ◌∷◌, ltb, leb, eqb, length, take, drop, get_or, None, Option, Some}
 use Rattle.octets.specs.Pick.{pick}
 use Rattle.hexlines.specs.Hexlines.{field_end_lem}
 use Rattle.cases.specs.Fields.{field_bytes, both_same}
@@ -22,8 +21,8 @@ Answering = ℕ → List ℕ → Option (List ℕ)
 
 -- the answer to an input of a kind, if there is an input
 abbrev pub answer_of : Answering → ℕ → Option (List ℕ) → Option (List ℕ)
-answer_of answer kind none = none
-answer_of answer kind (some s) = answer kind s
+answer_of answer kind None = None
+answer_of answer kind (Some s) = answer kind s
 
 -- is this a case, and our answer to its input its answer? An input and an answer have up to 4,096 bytes.
 unfoldable pub agrees : Answering → List ℕ → Bool

@@ -1,10 +1,9 @@
 -- What a report of stored cases (tools/oracle/README.md, 'Lines') means: where its last line says `all agreed`, each line of the text is a case and our answer its answer; and its counts add
 -- up to the number of lines.
-use Rattle.std.specs.Prelude.{ℕ, zero, suc, ◌+◌, ◌-◌, ◌*◌, ◌≤◌, ◌<◌, ◌≡◌, refl, Bool, true, false, ltb, leb, eqb, take, drop, get_or, set, replicate}
+use Rattle.std.specs.Prelude.{ℕ, zero, suc, ◌+◌, ◌-◌, ◌*◌, ◌≤◌, ◌<◌, ◌≡◌, refl, Bool, true, false, ltb, leb, eqb, take, drop, get_or, set, replicate, None, Option, Some}
 use Rattle.std.proofs.Common.{sym, ap, not-suc-le-zero, eqb-true}
 use Rattle.std.proofs.lemmas.Bool.{false≢true}
 use mathlib.Core.List.{List, [], ◌∷◌, ◌++◌}
-use Rattle.std.proofs.Math.Option.{Option, none, some}
 use native.Mathlib.Omega.{arith}
 use Rattle.std.proofs.Math.ListN.{length}
 use Rattle.std.proofs.lemmas.List.{length-replicate}
@@ -24,9 +23,9 @@ use Rattle.cases.specs.Report.{all_agreed, first_word, word_bytes, first_bytes}
 pub record Agrees (answer : Answering) (line : List ℕ) : Type 0 where
   pub input : List ℕ
   pub stored : List ℕ
-  pub first : field_bytes 4096 (take (field_end_lem line 2 (length line) - 2) (drop 2 line)) ≡ some input
-  pub second : field_bytes 4096 (drop (field_end_lem line 2 (length line) + 1) line) ≡ some stored
-  pub same : answer (get_or line 0 0) input ≡ some stored
+  pub first : field_bytes 4096 (take (field_end_lem line 2 (length line) - 2) (drop 2 line)) ≡ Some input
+  pub second : field_bytes 4096 (drop (field_end_lem line 2 (length line) + 1) line) ≡ Some stored
+  pub same : answer (get_or line 0 0) input ≡ Some stored
 
 passed : (t : Bool) (b : Bool) → pick t false b ≡ true → b ≡ true
 passed true b e = absurd (false≢true e)
@@ -36,14 +35,14 @@ held : (t : Bool) (b : Bool) → pick t b false ≡ true → b ≡ true
 held true b e = e
 held false b e = absurd (false≢true e)
 
-both : (a b : Option (List ℕ)) → both_same a b ≡ true → (l : List ℕ) × (a ≡ some l) × (b ≡ some l)
-both none b e = absurd (false≢true e)
-both (some x) none e = absurd (false≢true e)
-both (some x) (some y) e = (x, refl, ap some (sym (same_true x y e)))
+both : (a b : Option (List ℕ)) → both_same a b ≡ true → (l : List ℕ) × (a ≡ Some l) × (b ≡ Some l)
+both None b e = absurd (false≢true e)
+both (Some x) None e = absurd (false≢true e)
+both (Some x) (Some y) e = (x, refl, ap Some (sym (same_true x y e)))
 
-answered : (answer : Answering) (kind : ℕ) (o : Option (List ℕ)) (l : List ℕ) → answer_of answer kind o ≡ some l → (s : List ℕ) × (o ≡ some s) × (answer kind s ≡ some l)
-answered answer kind none l e = absurd (let z : ◌≡◌ {A = ℕ} 0 1 = cc in (let y : ⊥ = omega arith in y))
-answered answer kind (some s) l e = (s, refl, e)
+answered : (answer : Answering) (kind : ℕ) (o : Option (List ℕ)) (l : List ℕ) → answer_of answer kind o ≡ Some l → (s : List ℕ) × (o ≡ Some s) × (answer kind s ≡ Some l)
+answered answer kind None l e = absurd (let z : ◌≡◌ {A = ℕ} 0 1 = cc in (let y : ⊥ = omega arith in y))
+answered answer kind (Some s) l e = (s, refl, e)
 
 pub agrees_means : (answer : Answering) (line : List ℕ) → agrees answer line ≡ true → Agrees answer line
 unfolding agrees

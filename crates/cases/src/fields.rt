@@ -1,37 +1,31 @@
 // The fields of a line: hexadecimal, `-` for none.
-ghost use Rattle.std.specs.Prelude.{◌≡◌, length};
-ghost use Rattle.std.proofs.Math.Option.{some};
+ghost use Rattle.std.specs.Prelude.{◌≡◌, length, Some};
 ghost use Rattle.hexlines.specs.Hexlines.{Unhexes};
 ghost use Rattle.cases.specs.Fields.{is_dash, field_bytes, both_same};
-
-use hexlines::Unhexed;
 
 fn is_dash(text: &[u8]) -> bool
     ensures { result ≡ is_dash text.now }
 {
-    if text.len() == 1 {
-        return text[0] == b'-';
-    }
-    false
+    text == b"-".as_slice()
 }
 
 // The bytes of a field, written to the start of out: `-` is none.
-pub fn read_field(text: &[u8], out: &mut [u8]) -> Unhexed
+pub fn read_field(text: &[u8], out: &mut [u8]) -> Option<usize>
     ensures { Unhexes (field_bytes (length out.old) text.now) out.old 0 out.new result }
 {
     if is_dash(text) {
-        return Unhexed::Done(0);
+        return Some(0);
     }
     hexlines::unhex(text, 0, text.len(), out, 0)
 }
 
 // Whether a field holds just these bytes.
 pub fn holds(text: &[u8], bytes: &[u8]) -> bool
-    ensures { result ≡ both_same (some bytes.now) (field_bytes 4096 text.now) }
+    ensures { result ≡ both_same (Some bytes.now) (field_bytes 4096 text.now) }
 {
     let mut stored = [0u8; 4096];
     match read_field(text, &mut stored) {
-        Unhexed::Done(k) => check::same(bytes, &stored[..k]),
-        Unhexed::Bad => false,
+        Some(k) => bytes == &stored[..k],
+        None => false,
     }
 }

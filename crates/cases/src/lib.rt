@@ -8,19 +8,9 @@ pub mod tally;
 ghost use Rattle.std.specs.Prelude.{◌≡◌};
 ghost use Rattle.octets.specs.Pick.{pick};
 
-// The answer's bytes stand at the start of the lent slice, so many; or the input is outside the kind's domain.
-#[derive(Clone, Copy)]
-pub enum Answered {
-    Bytes(usize),
-    Outside,
-}
-
 // The byte of a sign: 1 if negative.
 pub fn sign_of(neg: bool) -> u8
     ensures { result ≡ pick neg 1 0 }
 {
-    if neg {
-        return 1;
-    }
-    0
+    u8::from(neg)
 }

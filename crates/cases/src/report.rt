@@ -47,12 +47,9 @@ fn put_rows(kinds: &[u8], counts: &[usize], out: &mut [u8]) -> usize
     requires { (2 * length kinds.now ≤ length counts.now) × (58 * length kinds.now + 10 ≤ length out.old) }
     ensures { Wrote out.old 0 (rows_bytes kinds.now counts.now 0) out.new result }
 {
-    let n = kinds.len();
-    let mut i = 0;
     let mut p = 0;
-    while i < n {
-        p = put_row(kinds[i], counts[2 * i], counts[2 * i + 1], &mut *out, p);
-        i += 1;
+    for (i, kind) in kinds.iter().enumerate() {
+        p = put_row(*kind, counts[2 * i], counts[2 * i + 1], out, p);
     }
     p
 }

@@ -1,10 +1,8 @@
 -- What is asked of a program (document 01, 'Entries and their refusals'): counts, the glyph of a name or a CID, an INDEX item.
-use Rattle.std.specs.Prelude.{ℕ, ◌+◌, ◌*◌, List, [], ◌∷◌, ltb, length, get_or}
+use Rattle.std.specs.Prelude.{ℕ, ◌+◌, ◌*◌, List, [], ◌∷◌, ltb, length, get_or, None, Option, Some}
 use Rattle.octets.specs.Pick.{pick}
 use Rattle.bits.specs.Bits.{words_for}
 use Rattle.find.specs.Find.{glyph_with_id, glyph_with_text}
-use Rattle.find.specs.declared.Found.{Found}
-use Rattle.find.specs.declared.Found.TheVariants.{Absent as NoGlyph, Glyph as TheGlyph}
 use Rattle.dict.specs.Lookup.{cid_keyed}
 use Rattle.cff.specs.Font.{Got, refused, got, Private, Program}
 use Rattle.cff.specs.declared.Counts.{Counts}
@@ -45,9 +43,9 @@ read_as (refused n) = RefusedRead n
 read_as (got p) = Font (counts_of p)
 
 -- a glyph that was looked for
-abbrev pub found_as_lem : Found → FoundAs
-found_as_lem NoGlyph = Absent
-found_as_lem (TheGlyph g) = Glyph g
+abbrev pub found_as_lem : Option ℕ → FoundAs
+found_as_lem None = Absent
+found_as_lem (Some g) = Glyph g
 
 -- by name in a name-keyed font, by CID in a CID-keyed one; absent with the other keying
 abbrev pub find_name : Program → List ℕ → FoundAs

@@ -1,6 +1,6 @@
 -- Reading is refused by one of the numbers 1 to 5 (document 01, 'Entries and their refusals') or 15 (document 02, Wish 9), so that 0 is free to say that a call was
 -- not refused, and 6 and 11 that it was refused by another step.
-use Rattle.std.specs.Prelude.{ℕ, zero, suc, ◌+◌, ◌≤◌, ◌<◌, ◌≡◌, refl, List, [], ◌∷◌, ltb, eqb, length, take, drop, get_or}
+use Rattle.std.specs.Prelude.{ℕ, zero, suc, ◌+◌, ◌≤◌, ◌<◌, ◌≡◌, refl, List, [], ◌∷◌, ltb, eqb, length, take, drop, get_or, None, Option, Some}
 use Rattle.std.proofs.Common.{sym, subst, arith}
 use Rattle.octets.specs.Pick.{pick}
 use Rattle.octets.specs.Lists.{all_below, part_of}
@@ -12,8 +12,6 @@ use Rattle.index.specs.Index.{Read}
 use Rattle.dict.specs.Dict.{Entry, Dict}
 use Rattle.dict.specs.Op.{subrs, private, charstring_type}
 use Rattle.dict.specs.Lookup.{Operands, absent, operands, last_of, one_of, offset_told, offset_as, offset_in, private_as, private_in, type_as, charstring_type_in, cid_keyed}
-use Rattle.dict.specs.declared.One.{One}
-use Rattle.dict.specs.declared.One.TheVariants.{Number, Absent as NoNumber}
 use Rattle.dict.specs.declared.OffsetIn.{OffsetIn}
 use Rattle.dict.specs.declared.OffsetIn.TheVariants.{Refused as RefusedOffset, At, Absent as NoOffset}
 use Rattle.dict.specs.declared.PrivateIn.{PrivateIn}
@@ -23,7 +21,7 @@ use Rattle.opentype.specs.Opentype.{place_of}
 use Rattle.opentype.specs.OpentypeLaws.{Numbered, place-numbered}
 use Rattle.opentype.specs.declared.Place.{Place}
 use Rattle.opentype.specs.declared.Place.TheVariants.{Refused as RefusedPlace, Table}
-use Rattle.cff.specs.Font.{charset, encoding, char_strings, fd_array, fd_select_lem, Got, refused, got, then, Private, Program, index_got, dict_got, list_got, unless, needed, or_zero, locals_at, private_data, private_at, privates_at, ids_at, fds_at, coding_refusal, encoding_got, cid_parts, name_parts, font_at, fonts_at, first_of, index_then, set_at, read_table, read_at, read_font}
+use Rattle.cff.specs.Font.{charset, encoding, char_strings, fd_array, fd_select_lem, Got, refused, got, then, Program, index_got, dict_got, list_got, unless, needed, or_zero, locals_at, private_data, private_at, privates_at, ids_at, fds_at, coding_refusal, encoding_got, cid_parts, name_parts, font_at, fonts_at, first_of, index_then, set_at, read_table, read_at, read_font}
 use Rattle.cff.specs.FontLaws.{unless_refused}
 use Rattle.cff.specs.PartRefusals.{Refusal, Refusal?, truncated, malformed, unsupported, too_long, of-both, OfRead, read_refused, read_found, index-refusal, OfDict, dict_refused, dict-entries, dict-refusal, OfList, list_refused, list_listed, charset-refusal, none_refused, one_refused, fd-select-refusal, encoding-refusal}
 
@@ -57,9 +55,9 @@ told-refusal : {o : OffsetOf} → OfWhole o → OfOffset (offset_told o)
 told-refusal (of_refused r) = of_refused r
 told-refusal of-offset = of_at
 
-offset_as_refusal : (o : One) → OfOffset (offset_as o)
-offset_as_refusal NoNumber = of-absent
-offset_as_refusal (Number d) = told-refusal (whole-refusal d)
+offset_as_refusal : (o : Option Decimal) → OfOffset (offset_as o)
+offset_as_refusal None = of-absent
+offset_as_refusal (Some d) = told-refusal (whole-refusal d)
 
 offset-refusal : (op : ℕ) (es : List Entry) → OfOffset (offset_in op es)
 offset-refusal op es = offset_as_refusal (one_of op es)
@@ -75,9 +73,9 @@ private_as_refusal (operands (s ∷ o ∷ d ∷ ds)) = of_refused malformed
 private-refusal : (es : List Entry) → OfPrivate (private_in es)
 private-refusal es = private_as_refusal (last_of private es)
 
-type_as_refusal : (o : One) → Refusal? (type_as o)
-type_as_refusal NoNumber = none_refused
-type_as_refusal (Number d) = of-both Refusal? (is_two d) none_refused (one_refused unsupported)
+type_as_refusal : (o : Option Decimal) → Refusal? (type_as o)
+type_as_refusal None = none_refused
+type_as_refusal (Some d) = of-both Refusal? (is_two d) none_refused (one_refused unsupported)
 
 type_refusal : (es : List Entry) → Refusal? (charstring_type_in es)
 type_refusal es = type_as_refusal (one_of charstring_type es)

@@ -1,5 +1,5 @@
 -- Laws of reading: one step's answer for the next, in place.
-use Rattle.std.specs.Prelude.{ℕ, zero, suc, ◌+◌, ◌*◌, ◌≤◌, ◌<◌, min, ◌≡◌, refl, Bool, true, false, ltb, eqb, length, get_or, set, replicate}
+use Rattle.std.specs.Prelude.{ℕ, zero, suc, ◌+◌, ◌*◌, ◌≤◌, ◌<◌, min, ◌≡◌, refl, Bool, true, false, ltb, eqb, length, get_or, set, replicate, None, Option, Some}
 use Rattle.std.proofs.Common.{sym, ◌∙◌, add-one, lt-ltb, le-ltb, ltb-true, ltb-false, eqb-true, lit≤, lit<, length-set, drop-cons, get_or-set_same, get_or-set_other}
 use Rattle.std.proofs.Math.Path.{ap, subst}
 use mathlib.Core.List.{List, [], ◌∷◌}
@@ -13,23 +13,19 @@ use Rattle.octets.specs.Pick.{pick}
 use Rattle.bits.specs.Bits.{words_for}
 use Rattle.octets.specs.Octets.{Octets}
 use Rattle.octets.specs.Lists.{part_of}
-use Rattle.index.specs.Index.{first_of, offsets, run_of, empty_at, index_at, pieces, items_of, Read, found, read_index}
-use Rattle.index.specs.Good.{Good}
+use Rattle.index.specs.Index.{first_of, offsets, run_of, empty_at, index_at, pieces, items_of, read_index}
 use Rattle.index.specs.IndexLaws.{items-length}
 use Rattle.index.proofs.FoundLaws.{found-good, found-count, read_found, read_refused}
 use Rattle.index.specs.declared.Index.{Index}
 use Rattle.index.specs.declared.IndexAt.{IndexAt}
 use Rattle.index.specs.declared.IndexAt.TheVariants.{Refused as RefusedIndex, Found as FoundIndex}
 use Rattle.decimal.specs.Values.{trunc_of}
-use Rattle.decimal.specs.declared.OffsetOf.{OffsetOf}
 use Rattle.decimal.specs.declared.OffsetOf.TheVariants.{Refused as NotOffset, Offset}
 use Rattle.dict.specs.Dict.{Entry, Dict, refused as refusedDict, entries, readings_from, readings_at, gathered, dict_of}
 use Rattle.dict.specs.Op.{subrs, private}
 use Rattle.dict.specs.Lookup.{Operands, absent, operands, one_of, last_from, last_of, offset_told, offset_as, offset_in, private_as, private_in}
 use Rattle.dict.specs.Places.{refusal_of, listed, entries_of, Good as GoodDict}
 use Rattle.dict.proofs.LookupLaws.{good-entries}
-use Rattle.dict.specs.declared.One.{One}
-use Rattle.dict.specs.declared.One.TheVariants.{Number, Absent as NoNumber}
 use Rattle.dict.specs.declared.OffsetIn.{OffsetIn}
 use Rattle.dict.specs.declared.OffsetIn.TheVariants.{Refused as RefusedOffset, At, Absent as NoOffset}
 use Rattle.dict.specs.declared.PrivateIn.{PrivateIn}
@@ -43,8 +39,8 @@ use Rattle.cff.specs.declared.private.PrivateRead.TheVariants.{Refused as Refuse
 use Rattle.cff.specs.declared.private.SeenPrivate.{SeenPrivate}
 use Rattle.cff.specs.declared.private.NextPrivate.{NextPrivate}
 use Rattle.cff.specs.declared.private.NextPrivate.TheVariants.{Refused as RefusedNext, Read as ReadNext}
-use Rattle.cff.specs.declared.private.LocalsRead.{LocalsRead}
 use Rattle.cff.specs.declared.private.LocalsRead.TheVariants.{Refused as RefusedLocals, Total}
+use Rattle.decimal.specs.declared.Decimal.{Decimal}
 
 pub no : ◌≡◌ {A = ℕ} 0 1 → ⊥
 no h = omega arith
@@ -90,9 +86,9 @@ small-pick true t m v k h = absurd (no cc)
 small-pick false true m v k h = let e : m ≡ v = cc in omega arith
 small-pick false false m v k h = absurd (no cc)
 
-small_one : (o : One) (v : ℕ) → offset_as o ≡ At v → v ≤ 4294967296
-small_one NoNumber v h = absurd (no cc)
-small_one (Number d) v h = small-pick d.neg (eqb d.down 0) (min (trunc_of d) 4294967296) v (min-le_right _ _) h
+small_one : (o : Option Decimal) (v : ℕ) → offset_as o ≡ At v → v ≤ 4294967296
+small_one None v h = absurd (no cc)
+small_one (Some d) v h = small-pick d.neg (eqb d.down 0) (min (trunc_of d) 4294967296) v (min-le_right _ _) h
 
 pub offset-small : (op : ℕ) (es : List Entry) (r : OffsetIn) (v : ℕ) → r ≡ offset_in op es → r ≡ At v → v ≤ 4294967296
 offset-small op es r v e f = small_one (one_of op es) v (sym e ∙ f)

@@ -1,5 +1,5 @@
 -- Laws of reading a set of fonts, and of what is asked of the one that is used.
-use Rattle.std.specs.Prelude.{ℕ, ◌+◌, ◌*◌, ◌≤◌, ◌<◌, ◌≡◌, refl, true, false, eqb, length, drop, get_or}
+use Rattle.std.specs.Prelude.{ℕ, ◌+◌, ◌*◌, ◌≤◌, ◌<◌, ◌≡◌, refl, true, false, eqb, length, drop, get_or, Option}
 use Rattle.std.proofs.Common.{sym, ◌∙◌, add-one, arith, drop-cons}
 use Rattle.std.proofs.Math.Path.{ap, subst}
 use mathlib.Core.List.{List, [], ◌∷◌}
@@ -17,16 +17,14 @@ use Rattle.index.specs.declared.IndexAt.{IndexAt}
 use Rattle.index.specs.declared.IndexAt.TheVariants.{Refused as RefusedIndex, Found as FoundIndex}
 use Rattle.charset.specs.CharsetPlaces.{ids_of}
 use Rattle.find.specs.Find.{glyph_with_id, glyph_with_text}
-use Rattle.find.specs.declared.Found.{Found}
 use Rattle.cff.specs.Font.{Got, refused, got, then, Program, fonts_at, first_of, index_then, set_at, read_table, read_font}
 use Rattle.cff.specs.Find.{counts_of, found_as_lem, find_name, find_cid, items_in, item_refusal_lem, item_of}
 use Rattle.cff.specs.Reads.{Holds, font_of, program_of, HasTop, GoodFont, ReadsFont, index_in_lem, HasSet, font_with, fonts_of, behind_tops}
 use Rattle.cff.specs.File.{InFile, HasFont, ReadsFile}
 use Rattle.cff.specs.ReadsLaws.{drop-over, then_refused, then-got}
 use Rattle.cff.specs.declared.Counts.{Counts}
-use Rattle.cff.specs.declared.ReadAs.{ReadAs}
 use Rattle.cff.specs.declared.FoundAs.{FoundAs}
-use Rattle.cff.specs.declared.FoundAs.TheVariants.{Absent, Glyph}
+use Rattle.cff.specs.declared.FoundAs.TheVariants.{Absent}
 use Rattle.cff.specs.declared.ItemKind.{ItemKind}
 use Rattle.cff.specs.declared.ItemKind.TheVariants.{Charstring, Global, Text}
 use Rattle.cff.specs.declared.font.Font.{Font}
@@ -265,7 +263,7 @@ module _ (b : List ℕ) (f : Font) (g : GoodFont b f) where
   pub name-keyed : f.cid ≡ true → (name : List ℕ) → Absent ≡ find_name (program_of b f) name
   name-keyed q name = sym (ap (λ t. pick t Absent (found_as_lem (glyph_with_text (items_of b f.strings) name 0 (ids_of b f.charset f.charstrings.count)))) (sym g.cid ∙ q))
 
-  pub name_looked : f.cid ≡ false → (name : List ℕ) (r : Found) → r ≡ glyph_with_text (items_of b f.strings) name 0 (ids_of b f.charset f.charstrings.count)
+  pub name_looked : f.cid ≡ false → (name : List ℕ) (r : Option ℕ) → r ≡ glyph_with_text (items_of b f.strings) name 0 (ids_of b f.charset f.charstrings.count)
       → (x : FoundAs) → found_as_lem r ≡ x → x ≡ find_name (program_of b f) name
   name_looked q name r e x i =
       sym i ∙ ap found_as_lem e
@@ -274,7 +272,7 @@ module _ (b : List ℕ) (f : Font) (g : GoodFont b f) where
   pub cid_other : f.cid ≡ false → (cid : ℕ) → Absent ≡ find_cid (program_of b f) cid
   cid_other q cid = sym (ap (λ t. pick t (found_as_lem (glyph_with_id cid 0 (ids_of b f.charset f.charstrings.count))) Absent) (sym g.cid ∙ q))
 
-  pub cid_looked : f.cid ≡ true → (cid : ℕ) (r : Found) → r ≡ glyph_with_id cid 0 (ids_of b f.charset f.charstrings.count)
+  pub cid_looked : f.cid ≡ true → (cid : ℕ) (r : Option ℕ) → r ≡ glyph_with_id cid 0 (ids_of b f.charset f.charstrings.count)
       → (x : FoundAs) → found_as_lem r ≡ x → x ≡ find_cid (program_of b f) cid
   cid_looked q cid r e x i =
       sym i ∙ ap found_as_lem e

@@ -5,8 +5,9 @@ ghost use Rattle.dict.specs.Lookup.{offset_in};
 ghost use Rattle.dict.specs.Places.{entries_of};
 ghost use Rattle.dict.specs.Noted.{Placed};
 ghost use Rattle.cff.specs.Font.{fd_select_lem, ids_at, fds_at, encoding_got, cid_parts, name_parts};
-ghost use Rattle.cff.specs.Reads.{ReadsItems, named_index, named_ids, named_encoding, ReadsIds, ReadsCoding, ReadsFds, ReadsParts, HasDicts, HasLocals, parts_by, HasTop, HasGlyphs, top_of, font_of, ReadsFont};
+ghost use Rattle.cff.specs.Reads.{ReadsItems, named_index, named_ids, named_encoding, ReadsIds, ReadsCoding, ReadsFds, ReadsParts, HasDicts, HasLocals, parts_by, HasTop, HasGlyphs, top_of, font_of, index_in_lem, ReadsFont};
 
+use crate::ItemKind;
 use crate::private::{LocalsRead, PrivateAt, PrivateRead};
 use charset::fd_select::{FdSelect, FdSelectAt};
 use charset::{Charset, CharsetAt};
@@ -57,6 +58,17 @@ pub struct Font {
     pub select: FdSelect,
     pub encoding: usize,
     pub words: usize,
+}
+
+// The INDEX of a kind of items.
+pub fn index_in(f: Font, kind: ItemKind) -> Index
+    ensures { result ≡ index_in_lem kind f }
+{
+    match kind {
+        ItemKind::Charstring => f.charstrings,
+        ItemKind::Global => f.globals,
+        ItemKind::Text => f.strings,
+    }
 }
 
 // What reading a font finds: a refusal, or the font.

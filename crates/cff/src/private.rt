@@ -139,18 +139,11 @@ pub fn named_private(font: &[u8], d: &[u8], p: Places) -> PrivateRead
 fn recall(sizes: &[usize; 128], offsets: &[usize; 128], size: usize, offset: usize) -> usize
     ensures { Recalls sizes.now offsets.now size offset result }
 {
-    let mut i: usize = 0;
-    while i < 128 {
-        let s = sizes[i];
-        let o = offsets[i];
-        if s == size {
-            if o == offset {
-                return i;
-            }
-        }
-        i += 1;
-    }
-    128
+    sizes
+        .iter()
+        .zip(offsets)
+        .position(|(s, o)| *s == size && *o == offset)
+        .unwrap_or(128)
 }
 
 // The place for the next Private DICT that is read, after one that is remembered at a place: those read first are forgotten first.
@@ -263,14 +256,12 @@ pub fn read_privates(font: &[u8], dicts: Index) -> LocalsRead
     requires { (2 ≤ length font.now) × Holds font.now dicts }
     ensures { ReadsLocals (privates_at font.now (items_of font.now dicts)) result }
 {
-    let n = dicts.count;
     let mut sizes = [0usize; 128];
     let mut offsets = [0usize; 128];
     let mut words = [0usize; 128];
     let mut free: usize = 0;
     let mut total: usize = 0;
-    let mut k: usize = 0;
-    while k < n {
+    for k in 0..dicts.count {
         let d = index::item(font, dicts, k);
         let next = fd_private(font, d, &sizes, &offsets, &words, free);
         match next {
@@ -284,7 +275,6 @@ pub fn read_privates(font: &[u8], dicts: Index) -> LocalsRead
                 words[place] = l.words;
                 free = free_after(free, place);
                 total += l.words;
-                k += 1;
             }
         }
     }

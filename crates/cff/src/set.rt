@@ -28,17 +28,10 @@ fn read_others(font: &[u8], tops: Index, strings: Index, globals: Index, first: 
         × ReadsFont font.now (font_with font.now strings globals (get_or (items_of font.now tops) 0 [])) (FoundFont first) }
     ensures { ReadsFont font.now (fonts_of font.now strings globals (items_of font.now tops)) result }
 {
-    let n = tops.count;
-    let mut k: usize = 1;
-    while k < n {
+    for k in 1..tops.count {
         let read = font_of(font, tops, k, strings, globals);
-        match read {
-            FontRead::Refused(e) => {
-                return FontRead::Refused(e);
-            }
-            FontRead::Found(_) => {
-                k += 1;
-            }
+        if let FontRead::Refused(e) = read {
+            return FontRead::Refused(e);
         }
     }
     FontRead::Found(first)

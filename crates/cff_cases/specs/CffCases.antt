@@ -1,6 +1,5 @@
 -- The answers of stored cases R, N, C and I (tools/compare/README.md, 'Stored cases'), over what reading, finding and items are.
-use Rattle.std.specs.Prelude.{ℕ, ◌+◌, List, [], ◌∷◌, ◌++◌, ltb, eqb, length, take, drop, get_or}
-use Rattle.std.proofs.Math.Option.{Option, none, some}
+use Rattle.std.specs.Prelude.{ℕ, ◌+◌, List, [], ◌∷◌, ◌++◌, ltb, eqb, length, take, drop, get_or, None, Option, Some}
 use Rattle.octets.specs.Pick.{pick}
 use Rattle.octets.specs.Octets.{num_at, bytes_of}
 use Rattle.cff.specs.Font.{read_font}
@@ -34,26 +33,26 @@ found_bytes (Glyph g) = 0 ∷ 1 ∷ bytes_of 2 g
 
 -- kind R: nothing more is asked
 unfoldable pub read_answer : List ℕ → List ℕ → Option (List ℕ)
-read_answer font asked = pick (ltb 0 (length asked)) none (some (read_bytes (read_as (read_font font))))
+read_answer font asked = pick (ltb 0 (length asked)) None (Some (read_bytes (read_as (read_font font))))
 
 -- kind N: a name
 abbrev pub name_answer : List ℕ → List ℕ → Option (List ℕ)
-name_answer font name = some (found_bytes (name_as (read_font font) name))
+name_answer font name = Some (found_bytes (name_as (read_font font) name))
 
 -- kind C: a CID
 unfoldable pub cid_answer : List ℕ → List ℕ → Option (List ℕ)
-cid_answer font asked = pick (eqb (length asked) 2) (some (found_bytes (cid_as (read_font font) (num_at asked 0 2)))) none
+cid_answer font asked = pick (eqb (length asked) 2) (Some (found_bytes (cid_as (read_font font) (num_at asked 0 2)))) None
 
 -- the refusal of a lookup, or no refusal and the item, of at most 4,095 bytes
 unfoldable pub item_of_kind : List ℕ → ItemKind → ℕ → Option (List ℕ)
 item_of_kind font kind number =
-    pick (ltb 0 (item_refusal_lem (read_font font) kind number)) (some (item_refusal_lem (read_font font) kind number ∷ []))
-    (pick (ltb 4095 (length (item_of (read_font font) kind number))) none (some (0 ∷ item_of (read_font font) kind number)))
+    pick (ltb 0 (item_refusal_lem (read_font font) kind number)) (Some (item_refusal_lem (read_font font) kind number ∷ []))
+    (pick (ltb 4095 (length (item_of (read_font font) kind number))) None (Some (0 ∷ item_of (read_font font) kind number)))
 
 -- kind I: a kind and a number
 unfoldable pub item_answer : List ℕ → List ℕ → Option (List ℕ)
 item_answer font asked =
-    pick (eqb (length asked) 5) (pick (ltb 2 (get_or asked 0 0)) none (item_of_kind font (kind_of (get_or asked 0 0)) (num_at asked 1 4))) none
+    pick (eqb (length asked) 5) (pick (ltb 2 (get_or asked 0 0)) None (item_of_kind font (kind_of (get_or asked 0 0)) (num_at asked 1 4))) None
 
 -- the kinds' letters: R, N, C, I
 abbrev pub kinds : List ℕ
@@ -65,10 +64,10 @@ asked_answer kind font asked =
     pick (eqb kind 82) (read_answer font asked)
     (pick (eqb kind 78) (name_answer font asked)
     (pick (eqb kind 67) (cid_answer font asked)
-    (pick (eqb kind 73) (item_answer font asked) none)))
+    (pick (eqb kind 73) (item_answer font asked) None)))
 
 -- an input: the font's length in two bytes, the font, and what is asked of it
 unfoldable pub cff_answer : ℕ → List ℕ → Option (List ℕ)
 cff_answer kind s =
-    pick (ltb (length s) 2) none
-    (pick (ltb (length s) (2 + num_at s 0 2)) none (asked_answer kind (take (num_at s 0 2) (drop 2 s)) (drop (2 + num_at s 0 2) s)))
+    pick (ltb (length s) 2) None
+    (pick (ltb (length s) (2 + num_at s 0 2)) None (asked_answer kind (take (num_at s 0 2) (drop 2 s)) (drop (2 + num_at s 0 2) s)))

@@ -1,9 +1,8 @@
 -- Laws of the answers to stored cases, by the code's ways out.
-use Rattle.std.specs.Prelude.{ℕ, ◌+◌, ◌-◌, ◌≤◌, ◌<◌, ◌≡◌, get_or}
+use Rattle.std.specs.Prelude.{ℕ, ◌+◌, ◌-◌, ◌≤◌, ◌<◌, ◌≡◌, get_or, None, Some}
 use Rattle.std.proofs.Math.Path.{sym, ap}
 use Rattle.std.proofs.Common.{◌∙◌, length-append, take_all}
 use mathlib.Core.List.{List, [], ◌∷◌}
-use Rattle.std.proofs.Math.Option.{none, some}
 use native.Mathlib.Omega.{arith}
 use Rattle.std.proofs.Math.ListN.{length, take, drop, length-drop}
 use borrow.Author.Tests.{eq-eqb, ne_eqb, lt-ltb, le-ltb}
@@ -26,35 +25,35 @@ sizes_length c = rw (length-append, length-append, length-bytes 4 c.glyphs, leng
 module _ (font asked : List ℕ) where
   -- ---- kind R
 
-  pub read_more : 0 < length asked → read_answer font asked ≡ none
+  pub read_more : 0 < length asked → read_answer font asked ≡ None
   unfolding read_answer
   read_more h = rw (lt-ltb 0 (length asked) h)
 
-  pub read_found : length asked ≤ 0 → (r : ReadAs) → r ≡ read_as (read_font font) → read_answer font asked ≡ some (read_bytes r)
+  pub read_found : length asked ≤ 0 → (r : ReadAs) → r ≡ read_as (read_font font) → read_answer font asked ≡ Some (read_bytes r)
   unfolding read_answer
-  read_found h r e = rw (le-ltb 0 (length asked) h) (ap (λ (x : ReadAs). some (read_bytes x)) (sym e))
+  read_found h r e = rw (le-ltb 0 (length asked) h) (ap (λ (x : ReadAs). Some (read_bytes x)) (sym e))
 
   -- ---- kind C
 
-  pub cid_size : (length asked ≡ 2 → ⊥) → cid_answer font asked ≡ none
+  pub cid_size : (length asked ≡ 2 → ⊥) → cid_answer font asked ≡ None
   unfolding cid_answer
   cid_size h = rw (ne_eqb (length asked) 2 h)
 
   pub cid-found : length asked ≡ 2 → (n : ℕ) → n ≡ num_at asked 0 2 → (r : FoundAs) → r ≡ cid_as (read_font font) n
-      → cid_answer font asked ≡ some (found_bytes r)
+      → cid_answer font asked ≡ Some (found_bytes r)
   unfolding cid_answer
   cid-found h n k r e =
       rw (eq-eqb (length asked) 2 h)
-      (ap (λ (m : ℕ). some (found_bytes (cid_as (read_font font) m))) (sym k) ∙ ap (λ (x : FoundAs). some (found_bytes x)) (sym e))
+      (ap (λ (m : ℕ). Some (found_bytes (cid_as (read_font font) m))) (sym k) ∙ ap (λ (x : FoundAs). Some (found_bytes x)) (sym e))
 
   -- ---- kind I
 
-  pub item-size : (length asked ≡ 5 → ⊥) → item_answer font asked ≡ none
+  pub item-size : (length asked ≡ 5 → ⊥) → item_answer font asked ≡ None
   unfolding item_answer
   item-size h = rw (ne_eqb (length asked) 5 h)
 
   module _ (h : length asked ≡ 5) where
-    pub item-kind : 2 < get_or asked 0 0 → item_answer font asked ≡ none
+    pub item-kind : 2 < get_or asked 0 0 → item_answer font asked ≡ None
     unfolding item_answer
     item-kind k = rw (eq-eqb (length asked) 5 h, lt-ltb 2 (get_or asked 0 0) k)
 
@@ -67,44 +66,44 @@ module _ (font asked : List ℕ) where
 
   -- ---- another letter
 
-  pub asked-none : (b : ℕ) → (b ≡ 82 → ⊥) → (b ≡ 78 → ⊥) → (b ≡ 67 → ⊥) → (b ≡ 73 → ⊥) → asked_answer b font asked ≡ none
+  pub asked-none : (b : ℕ) → (b ≡ 82 → ⊥) → (b ≡ 78 → ⊥) → (b ≡ 67 → ⊥) → (b ≡ 73 → ⊥) → asked_answer b font asked ≡ None
   unfolding asked_answer
   asked-none b r n c i = simp (ne_eqb b 82 r, ne_eqb b 78 n, ne_eqb b 67 c, ne_eqb b 73 i)
 
 -- ---- an item of a kind
 
 module _ (font : List ℕ) (kind : ItemKind) (number n : ℕ) (e : n ≡ item_refusal_lem (read_font font) kind number) where
-  pub of-kind_refused : 0 < n → item_of_kind font kind number ≡ some (n ∷ [])
+  pub of-kind_refused : 0 < n → item_of_kind font kind number ≡ Some (n ∷ [])
   unfolding item_of_kind
   of-kind_refused h =
       let k : 0 < item_refusal_lem (read_font font) kind number = omega (arith, e) in
-      rw (lt-ltb 0 (item_refusal_lem (read_font font) kind number) k) (ap (λ (m : ℕ). some (m ∷ [])) (sym e))
+      rw (lt-ltb 0 (item_refusal_lem (read_font font) kind number) k) (ap (λ (m : ℕ). Some (m ∷ [])) (sym e))
 
   module _ (h : n ≤ 0) (bs : List ℕ) (f : bs ≡ item_of (read_font font) kind number) where
-    pub of-kind_long : 4095 < length bs → item_of_kind font kind number ≡ none
+    pub of-kind_long : 4095 < length bs → item_of_kind font kind number ≡ None
     unfolding item_of_kind
     of-kind_long l =
         let k : item_refusal_lem (read_font font) kind number ≤ 0 = omega (arith, e) in
         let m : 4095 < length (item_of (read_font font) kind number) = omega (arith, ap length f) in
         rw (le-ltb 0 (item_refusal_lem (read_font font) kind number) k, lt-ltb 4095 (length (item_of (read_font font) kind number)) m)
 
-    pub of-kind-found : length bs ≤ 4095 → item_of_kind font kind number ≡ some (0 ∷ bs)
+    pub of-kind-found : length bs ≤ 4095 → item_of_kind font kind number ≡ Some (0 ∷ bs)
     unfolding item_of_kind
     of-kind-found l =
         let k : item_refusal_lem (read_font font) kind number ≤ 0 = omega (arith, e) in
         let m : length (item_of (read_font font) kind number) ≤ 4095 = omega (arith, ap length f) in
         rw (le-ltb 0 (item_refusal_lem (read_font font) kind number) k, le-ltb 4095 (length (item_of (read_font font) kind number)) m)
-        (ap (λ (x : List ℕ). some (0 ∷ x)) (sym f))
+        (ap (λ (x : List ℕ). Some (0 ∷ x)) (sym f))
 
 -- ---- an input
 
 module _ (kind : ℕ) (s : List ℕ) where
-  pub input_short : length s < 2 → cff_answer kind s ≡ none
+  pub input_short : length s < 2 → cff_answer kind s ≡ None
   unfolding cff_answer
   input_short h = rw (lt-ltb (length s) 2 h)
 
   module _ (h : 2 ≤ length s) (n : ℕ) (e : n ≡ num_at s 0 2) where
-    pub input_cut : length s < 2 + n → cff_answer kind s ≡ none
+    pub input_cut : length s < 2 + n → cff_answer kind s ≡ None
     unfolding cff_answer
     input_cut l =
         let k : length s < 2 + num_at s 0 2 = omega (arith, e) in

@@ -7,7 +7,6 @@ ghost use Rattle.octets.specs.Octets.{Wrote};
 ghost use Rattle.cases.specs.Answers.{Gives};
 ghost use Rattle.cff_cases.specs.CffCases.{sizes_bytes, font_bytes, read_bytes, found_bytes, read_answer, name_answer, cid_answer, item_of_kind, item_answer, asked_answer, cff_answer};
 
-use cases::Answered;
 use cff::{Counts, FoundAs, ItemKind, ReadAs};
 use octets::{put_byte, put_num};
 
@@ -59,55 +58,55 @@ fn put_found(found: FoundAs, out: &mut [u8]) -> usize
 }
 
 // Kind R: nothing is asked but reading.
-fn answer_read(font: &[u8], asked: &[u8], out: &mut [u8]) -> Answered
+fn answer_read(font: &[u8], asked: &[u8], out: &mut [u8]) -> Option<usize>
     requires { 4096 ≤ length out.old }
     ensures { Gives (read_answer font.now asked.now) out.new result }
 {
     if 0 < asked.len() {
-        return Answered::Outside;
+        return None;
     }
-    Answered::Bytes(put_read(cff_entries::read(font), out))
+    Some(put_read(cff_entries::read(font), out))
 }
 
 // Kind N: a name.
-fn answer_name(font: &[u8], name: &[u8], out: &mut [u8]) -> Answered
+fn answer_name(font: &[u8], name: &[u8], out: &mut [u8]) -> Option<usize>
     requires { 4096 ≤ length out.old }
     ensures { Gives (name_answer font.now name.now) out.new result }
 {
-    Answered::Bytes(put_found(cff_entries::find_name(font, name), out))
+    Some(put_found(cff_entries::find_name(font, name), out))
 }
 
 // Kind C: a CID of two bytes.
-fn answer_cid(font: &[u8], asked: &[u8], out: &mut [u8]) -> Answered
+fn answer_cid(font: &[u8], asked: &[u8], out: &mut [u8]) -> Option<usize>
     requires { 4096 ≤ length out.old }
     ensures { Gives (cid_answer font.now asked.now) out.new result }
 {
     if asked.len() == 2 {
         let cid = octets::u16_at(asked, 0);
-        return Answered::Bytes(put_found(cff_entries::find_cid(font, cid), out));
+        return Some(put_found(cff_entries::find_cid(font, cid), out));
     }
-    Answered::Outside
+    None
 }
 
 // An item of a kind.
-fn answer_item_of(font: &[u8], kind: ItemKind, number: usize, out: &mut [u8]) -> Answered
+fn answer_item_of(font: &[u8], kind: ItemKind, number: usize, out: &mut [u8]) -> Option<usize>
     requires { 4096 ≤ length out.old }
     ensures { Gives (item_of_kind font.now kind number) out.new result }
 {
     let n = cff_entries::item_refusal(font, kind, number);
     if 0 < n {
-        return Answered::Bytes(put_byte(out, 0, n));
+        return Some(put_byte(out, 0, n));
     }
     let item = cff_entries::item(font, kind, number);
     if 4095 < item.len() {
-        return Answered::Outside;
+        return None;
     }
     let p = put_byte(out, 0, 0);
-    Answered::Bytes(octets::put_bytes(out, p, item))
+    Some(octets::put_bytes(out, p, item))
 }
 
 // Kind I: a kind of one byte and a number of four.
-fn answer_item(font: &[u8], asked: &[u8], out: &mut [u8]) -> Answered
+fn answer_item(font: &[u8], asked: &[u8], out: &mut [u8]) -> Option<usize>
     requires { 4096 ≤ length out.old }
     ensures { Gives (item_answer font.now asked.now) out.new result }
 {
@@ -115,15 +114,15 @@ fn answer_item(font: &[u8], asked: &[u8], out: &mut [u8]) -> Answered
         let kind = asked[0];
         let number = octets::u32_at(asked, 1);
         if 2 < kind {
-            return Answered::Outside;
+            return None;
         }
         return answer_item_of(font, cff_entries::kind_of(kind), number, out);
     }
-    Answered::Outside
+    None
 }
 
 // The answer to what is asked of a font, by the kind's letter.
-fn answer_asked(kind: u8, font: &[u8], asked: &[u8], out: &mut [u8]) -> Answered
+fn answer_asked(kind: u8, font: &[u8], asked: &[u8], out: &mut [u8]) -> Option<usize>
     requires { 4096 ≤ length out.old }
     ensures { Gives (asked_answer kind font.now asked.now) out.new result }
 {
@@ -132,22 +131,22 @@ fn answer_asked(kind: u8, font: &[u8], asked: &[u8], out: &mut [u8]) -> Answered
         b'N' => answer_name(font, asked, out),
         b'C' => answer_cid(font, asked, out),
         b'I' => answer_item(font, asked, out),
-        _ => Answered::Outside,
+        _ => None,
     }
 }
 
-// The answer to an input, by its kind's letter.
-pub fn answer(kind: u8, input: &[u8], out: &mut [u8]) -> Answered
+// The answer to an input, by its kind's letter: how many bytes of it stand at the start of out; None outside the kind's domain.
+pub fn answer(kind: u8, input: &[u8], out: &mut [u8]) -> Option<usize>
     requires { 4096 ≤ length out.old }
     ensures { Gives (cff_answer kind input.now) out.new result }
 {
     let n = input.len();
     if n < 2 {
-        return Answered::Outside;
+        return None;
     }
     let end = 2 + octets::u16_at(input, 0);
     if n < end {
-        return Answered::Outside;
+        return None;
     }
     answer_asked(kind, &input[2..end], &input[end..], out)
 }

@@ -7,14 +7,12 @@ ghost use Rattle.octets.specs.Pick.{pick};
 ghost use Rattle.opentype.specs.Opentype.{place_of};
 ghost use Rattle.cff.specs.Font.{read_font};
 ghost use Rattle.cff.specs.Find.{read_as, find_name, find_cid, name_as, cid_as, item_refusal_lem, item_of};
-ghost use Rattle.cff.specs.Reads.{program_of, GoodFont, index_in_lem};
+ghost use Rattle.cff.specs.Reads.{program_of, GoodFont};
 ghost use Rattle.cff.specs.Place.{LiesIn};
 ghost use Rattle.cff_entries.specs.Kinds.{kind_of};
 
 use cff::font::{Font, FontRead};
 use cff::{Counts, FoundAs, ItemKind, ReadAs};
-use find::Found;
-use index::Index;
 use refusal::Refusal;
 
 // Reads a font: its counts, its keying and W, or the refusal.
@@ -61,8 +59,8 @@ fn name_in(font: &[u8], f: Font, name: &[u8]) -> FoundAs
         strings::sid_of(name),
     );
     match found {
-        Found::Absent => FoundAs::Absent,
-        Found::Glyph(g) => FoundAs::Glyph(g),
+        None => FoundAs::Absent,
+        Some(g) => FoundAs::Glyph(g),
     }
 }
 
@@ -77,8 +75,8 @@ fn cid_in(font: &[u8], f: Font, cid: usize) -> FoundAs
     if keyed {
         let found = find::find_id(font, charset, charstrings.count, cid);
         return match found {
-            Found::Absent => FoundAs::Absent,
-            Found::Glyph(g) => FoundAs::Glyph(g),
+            None => FoundAs::Absent,
+            Some(g) => FoundAs::Glyph(g),
         };
     }
     FoundAs::Absent
@@ -106,17 +104,6 @@ pub fn find_cid(font: &[u8], cid: usize) -> FoundAs
     }
 }
 
-// The INDEX of a kind of items.
-fn index_in(f: Font, kind: ItemKind) -> Index
-    ensures { result ≡ index_in_lem kind f }
-{
-    match kind {
-        ItemKind::Charstring => f.charstrings,
-        ItemKind::Global => f.globals,
-        ItemKind::Text => f.strings,
-    }
-}
-
 // An item of an INDEX: the part of the caller's bytes itself, empty where the lookup is refused.
 pub fn item(font: &[u8], kind: ItemKind, number: usize) -> &[u8]
     ensures { (result.now ≡ item_of (read_font font.now) kind number)
@@ -126,7 +113,7 @@ pub fn item(font: &[u8], kind: ItemKind, number: usize) -> &[u8]
     match read {
         FontRead::Refused(_) => &font[0..0],
         FontRead::Found(f) => {
-            let ix = index_in(f, kind);
+            let ix = cff::font::index_in(f, kind);
             if number < ix.count {
                 return index::item(cff::set::table(font, f), ix, number);
             }
@@ -143,7 +130,7 @@ pub fn item_refusal(font: &[u8], kind: ItemKind, number: usize) -> u8
     match read {
         FontRead::Refused(n) => n,
         FontRead::Found(f) => {
-            let ix = index_in(f, kind);
+            let ix = cff::font::index_in(f, kind);
             if number < ix.count {
                 return 0;
             }
@@ -167,8 +154,5 @@ pub fn kind_of(kind: u8) -> ItemKind
 pub fn keying(cid: bool) -> u64
     ensures { result ≡ pick cid 1 0 }
 {
-    if cid {
-        return 1;
-    }
-    0
+    u64::from(cid)
 }

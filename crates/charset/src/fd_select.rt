@@ -69,12 +69,10 @@ fn check_ends(font: &[u8], s: FdSelect) -> FdSelectAt
     requires { s.at ≤ length font.now }
     ensures { result ≡ ranges_answer s (ranges_refusal 2 s.count s.first (drop s.at font.now)) }
 {
-    let len = font.len();
     let mut first = s.first;
-    let mut at = s.at;
-    let mut left = s.count;
-    while 0 < left {
-        if len - at < 3 {
+    for i in 0..s.count {
+        let at = s.at + 3 * i;
+        if font.len() - at < 3 {
             return FdSelectAt::Refused(Refusal::TRUNCATED);
         }
         let end = octets::u16_at(font, at + 1);
@@ -82,8 +80,6 @@ fn check_ends(font: &[u8], s: FdSelect) -> FdSelectAt
             return FdSelectAt::Refused(Refusal::MALFORMED);
         }
         first = end;
-        at += 3;
-        left -= 1;
     }
     FdSelectAt::Found(s)
 }
@@ -162,6 +158,7 @@ fn into_range(font: &[u8], u: FdCursor) -> FdCursor
     let mut end = u.end;
     let mut count = u.count;
     let mut at = u.at;
+    // No `for`: how many ranges are left is a part of the cursor that is returned.
     while 0 < count {
         if gid < end {
             return FdCursor {
@@ -216,14 +213,12 @@ pub fn fds_below(font: &[u8], s: FdSelect, n: usize, count: usize) -> bool
     ensures { result ≡ all_below count (fds_of font.now s n) }
 {
     let mut u = fd_select_start(s);
-    let mut g = 0;
-    while g < n {
+    for _g in 0..n {
         let step = next_fd(font, u);
-        if count <= octets::wide(step.fd) {
+        if count <= usize::from(step.fd) {
             return false;
         }
         u = step.next;
-        g += 1;
     }
     true
 }

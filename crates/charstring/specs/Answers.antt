@@ -1,6 +1,5 @@
 -- The code's answers for what the definitions of tokens (TN5177, sections 3 and 4.3) say: its tokens hold an f32 and the place of a mask, theirs a reading and its bytes.
-use Rattle.std.specs.Prelude.{ℕ, ◌+◌, ◌-◌, ◌≤◌, ◌<◌, ◌≡◌, true, List, length, take, drop, leb}
-use Rattle.std.proofs.Math.Option.{Option, none, some}
+use Rattle.std.specs.Prelude.{ℕ, ◌+◌, ◌-◌, ◌≤◌, ◌<◌, ◌≡◌, true, List, length, take, drop, leb, None, Option, Some, Ok, Err, Result}
 use Rattle.octets.specs.Pick.{pick}
 use Rattle.octets.specs.Octets.{put}
 use Rattle.type2_number.specs.Encoding.{encoded}
@@ -12,20 +11,16 @@ use Rattle.charstring.specs.declared.Token.TheVariants.{Num, Op, Esc, Mask}
 use Rattle.charstring.specs.declared.Cursor.{Cursor}
 use Rattle.charstring.specs.declared.MaskLen.{MaskLen}
 use Rattle.charstring.specs.declared.MaskLen.TheVariants.{Own}
-use Rattle.charstring.specs.declared.Measured.{Measured}
-use Rattle.charstring.specs.declared.Measured.TheVariants.{Unread, Length}
-use Rattle.charstring.specs.declared.Recoded.{Recoded}
-use Rattle.charstring.specs.declared.Recoded.TheVariants.{Cut, Full, Done}
-use Rattle.charstring.specs.declared.Step.{Step}
-use Rattle.charstring.specs.declared.Step.TheVariants.{Tok as TokAt, Lost}
+use Rattle.charstring.specs.declared.RecodeError.{RecodeError}
+use Rattle.charstring.specs.declared.RecodeError.TheVariants.{Cut, Full}
 
 -- what a step answers
-abbrev pub step_of : Lexeme → Step
-step_of lost = Lost
-step_of (got_num z c) = TokAt (Num (float_of z)) c
-step_of (got_op b c) = TokAt (Op b) c
-step_of (got_esc b c) = TokAt (Esc b) c
-step_of (got_mask start n c) = TokAt (Mask start n) c
+abbrev pub step_of : Lexeme → Option (Token × Cursor)
+step_of lost = None
+step_of (got_num z c) = Some (Num (float_of z), c)
+step_of (got_op b c) = Some (Op b, c)
+step_of (got_esc b c) = Some (Esc b, c)
+step_of (got_mask start n c) = Some (Mask start n, c)
 
 -- the token of a body s that a token of the code stands for
 abbrev pub told : List ℕ → Token → Tok
@@ -70,19 +65,19 @@ abbrev pub given_at : (ℕ → MaskLen) → Cursor → MaskLen
 given_at given c = pick c.due (given (c.at - 1)) Own
 
 -- how long a body is once it is written back
-abbrev pub measured_of : Option (List Tok) → Measured
-measured_of none = Unread
-measured_of (some ts) = Length (length (encode ts))
+abbrev pub measured_of : Option (List Tok) → Option ℕ
+measured_of None = None
+measured_of (Some ts) = Some (length (encode ts))
 
 -- what writing a body back from a place of old on answers, and what it leaves
-abbrev pub recoded_of : List ℕ → ℕ → Option (List Tok) → Recoded
-recoded_of old to none = Cut
-recoded_of old to (some ts) = pick (leb (to + length (encode ts)) (length old)) (Done (to + length (encode ts))) Full
+abbrev pub recoded_of : List ℕ → ℕ → Option (List Tok) → Result ℕ RecodeError
+recoded_of old to None = Err Cut
+recoded_of old to (Some ts) = pick (leb (to + length (encode ts)) (length old)) (Ok (to + length (encode ts))) (Err Full)
 
 abbrev pub recoded_in : List ℕ → ℕ → Option (List Tok) → List ℕ
-recoded_in old to none = old
-recoded_in old to (some ts) = pick (leb (to + length (encode ts)) (length old)) (put old to (encode ts)) old
+recoded_in old to None = old
+recoded_in old to (Some ts) = pick (leb (to + length (encode ts)) (length old)) (put old to (encode ts)) old
 
-pub record Recodes (old : List ℕ) (to : ℕ) (body : Option (List Tok)) (new : List ℕ) (r : Recoded) : Type 0 where
+pub record Recodes (old : List ℕ) (to : ℕ) (body : Option (List Tok)) (new : List ℕ) (r : Result ℕ RecodeError) : Type 0 where
   pub answer : r ≡ recoded_of old to body
   pub leaves : new ≡ recoded_in old to body

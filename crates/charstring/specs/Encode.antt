@@ -1,6 +1,5 @@
 -- Tokens written back (TN5177, section 3; the Rust's `encode`; document 01, 'Corners in charstring.rs'): numbers in the form of `encoded`, everything else as it was read.
-use Rattle.std.specs.Prelude.{ℕ, Bool, true, false, List, [], ◌∷◌, ◌++◌}
-use Rattle.std.proofs.Math.Option.{Option, none, some}
+use Rattle.std.specs.Prelude.{ℕ, Bool, true, false, List, [], ◌∷◌, ◌++◌, None, Option, Some}
 use Rattle.type2_number.specs.Encoding.{encoded}
 use Rattle.charstring.specs.Token.{Tok, num, op, esc, mask}
 
@@ -17,10 +16,10 @@ encode (t ∷ ts) = tok_bytes t ++ encode ts
 
 -- whether a body was read to its end
 abbrev pub is_whole : Option (List Tok) → Bool
-is_whole none = false
-is_whole (some ts) = true
+is_whole None = false
+is_whole (Some ts) = true
 
 -- a body written back
 abbrev pub body_bytes : Option (List Tok) → List ℕ
-body_bytes none = []
-body_bytes (some ts) = encode ts
+body_bytes None = []
+body_bytes (Some ts) = encode ts

@@ -1,10 +1,9 @@
 -- Laws of looking a mask's length up, and of a walk over a body that measures or writes each token.
-use Rattle.std.specs.Prelude.{ℕ, suc, ◌+◌, ◌-◌, ◌*◌, ◌≤◌, ◌<◌, ◌≡◌, refl, Bool, true, false, length, drop, get_or}
+use Rattle.std.specs.Prelude.{ℕ, suc, ◌+◌, ◌-◌, ◌*◌, ◌≤◌, ◌<◌, ◌≡◌, refl, Bool, true, false, length, drop, get_or, None, Option, Some, Ok, Err}
 use Rattle.std.proofs.Common.{sym, ◌∙◌, length-append, length-drop, drop-cons, eq-eqb, ne_eqb, le-leb}
 use Rattle.std.proofs.Math.Path.{ap, subst}
 use Rattle.std.proofs.lemmas.Bool.{false≢true, lt-leb}
 use mathlib.Core.List.{List, [], ◌∷◌, ◌++◌, append_assoc, append-nil}
-use Rattle.std.proofs.Math.Option.{Option, none, some}
 use native.Mathlib.Omega.{arith}
 use Rattle.octets.specs.Pick.{pick}
 use Rattle.octets.specs.Octets.{Octets, Wrote}
@@ -19,12 +18,7 @@ use Rattle.charstring.specs.declared.MaskLen.{MaskLen}
 use Rattle.charstring.specs.declared.MaskLen.TheVariants.{Own, Given}
 use Rattle.charstring.specs.declared.Token.{Token}
 use Rattle.charstring.specs.declared.Cursor.{Cursor}
-use Rattle.charstring.specs.declared.Step.{Step}
-use Rattle.charstring.specs.declared.Step.TheVariants.{Tok as TokAt, Lost}
-use Rattle.charstring.specs.declared.Measured.{Measured}
-use Rattle.charstring.specs.declared.Measured.TheVariants.{Unread, Length}
-use Rattle.charstring.specs.declared.Recoded.{Recoded}
-use Rattle.charstring.specs.declared.Recoded.TheVariants.{Cut, Full, Done}
+use Rattle.charstring.specs.declared.RecodeError.TheVariants.{Cut, Full}
 
 -- ---- looking up
 
@@ -87,14 +81,14 @@ module _ (given : ℕ → MaskLen) (s : List ℕ) (b : Octets s) where
   walk_start = record { within = start-within given s b; rest = left-start given s b ∙ sym (join-none _) }
 
   module _ (c : Cursor) (done : List Tok) (w : Walk given s c done) where
-    module _ (m : more s c ≡ true) (r : Step) (e : r ≡ step_of (token_at s (given_at given c) c)) where
+    module _ (m : more s c ≡ true) (r : Option (Token × Cursor)) (e : r ≡ step_of (token_at s (given_at given c) c)) where
       here : r ≡ step_of (token_at s (given (c.at - 1)) c)
       here = e ∙ ap step_of (given-due s (given (c.at - 1)) c)
 
-      pub walk-next : (t : Token) (d : Cursor) → r ≡ TokAt t d → Next s c (token_at s (given (c.at - 1)) c) t d
+      pub walk-next : (t : Token) (d : Cursor) → r ≡ Some (t, d) → Next s c (token_at s (given (c.at - 1)) c) t d
       walk-next t d f = next_of s c (given (c.at - 1)) b w.within m r here t d f
 
-      pub walk_turn : (t : Token) (d : Cursor) → r ≡ TokAt t d → Walk given s d (done ++ (told s t ∷ []))
+      pub walk_turn : (t : Token) (d : Cursor) → r ≡ Some (t, d) → Walk given s d (done ++ (told s t ∷ []))
       walk_turn t d f =
           let n = walk-next t d f in
           record {
@@ -102,11 +96,11 @@ module _ (given : ℕ → MaskLen) (s : List ℕ) (b : Octets s) where
             rest = w.rest ∙ ap (join done) (left-next given s b c w.within m t d n) ∙ sym (join-join done (told s t ∷ []) (tokens_from (fuel_of s d) given s d));
           }
 
-      pub walk-cut : r ≡ Lost → tokens_of given s ≡ none
+      pub walk-cut : r ≡ None → tokens_of given s ≡ None
       walk-cut f = w.rest ∙ ap (join done) (left_lost given s b c w.within m (lost_of s c (given (c.at - 1)) r here f))
 
-    pub walk_end : more s c ≡ false → tokens_of given s ≡ some done
-    walk_end m = w.rest ∙ ap (join done) (left-none given s b c m) ∙ ap some (append-nil done)
+    pub walk_end : more s c ≡ false → tokens_of given s ≡ Some done
+    walk_end m = w.rest ∙ ap (join done) (left-none given s b c m) ∙ ap Some (append-nil done)
 
 -- ---- measuring: the length so far is that of the tokens done
 pub record Measuring (given : ℕ → MaskLen) (s : List ℕ) (c : Cursor) (len : ℕ) : Type 0 where
@@ -122,16 +116,16 @@ pub record Writing (given : ℕ → MaskLen) (s old : List ℕ) (to : ℕ) (c : 
   pub wrote : Wrote old to (encode done) new p
 
 whole_length : (done : List Tok) (x : Option (List Tok)) → is_whole (join done x) ≡ true → length (encode done) ≤ length (body_bytes (join done x))
-whole_length done none e = absurd (false≢true e)
-whole_length done (some us) e = rw (encode-append, length-append) (omega arith)
+whole_length done None e = absurd (false≢true e)
+whole_length done (Some us) e = rw (encode-append, length-append) (omega arith)
 
 module _ (given : ℕ → MaskLen) (s : List ℕ) (b : Octets s) where
   pub measuring_start : (c : Cursor) → c ≡ start → Measuring given s c 0
   unfolding encode
   measuring_start c e = subst (λ (x : Cursor). Measuring given s x 0) (sym e) (record { done = []; walk = walk_start given s b; size = refl; small = omega arith })
 
-  pub measured_end : (c : Cursor) (len : ℕ) → Measuring given s c len → more s c ≡ false → Length len ≡ measured_of (tokens_of given s)
-  measured_end c len m e = ap Length m.size ∙ ap measured_of (sym (walk_end given s b c m.done m.walk e))
+  pub measured_end : (c : Cursor) (len : ℕ) → Measuring given s c len → more s c ≡ false → Some len ≡ measured_of (tokens_of given s)
+  measured_end c len m e = ap Some m.size ∙ ap measured_of (sym (walk_end given s b c m.done m.walk e))
 
   pub writing_start : (old : List ℕ) (to : ℕ) (c : Cursor) → c ≡ start → Writing given s old to c old to
   unfolding encode
@@ -149,8 +143,8 @@ module _ (given : ℕ → MaskLen) (s : List ℕ) (b : Octets s) where
   written_end old to c new p w e = wrote_as w.wrote (ap body_bytes (sym (walk_end given s b c w.done w.walk e)))
 
   -- a turn
-  module _ (c : Cursor) (m : more s c ≡ true) (r : Step) (e : r ≡ step_of (token_at s (given_at given c) c)) where
-    pub measuring_turn : (len : ℕ) → Measuring given s c len → (t : Token) (d : Cursor) → r ≡ TokAt t d → (n : ℕ) → n ≡ token_len_lem t → Measuring given s d (len + n)
+  module _ (c : Cursor) (m : more s c ≡ true) (r : Option (Token × Cursor)) (e : r ≡ step_of (token_at s (given_at given c) c)) where
+    pub measuring_turn : (len : ℕ) → Measuring given s c len → (t : Token) (d : Cursor) → r ≡ Some (t, d) → (n : ℕ) → n ≡ token_len_lem t → Measuring given s d (len + n)
     measuring_turn len w t d f n g =
         let x = walk-next given s b c w.done w.walk m r e t d f in
         let k : n ≡ length (tok_bytes (told s t)) = g ∙ token-length s t x.writable in
@@ -161,12 +155,12 @@ module _ (given : ℕ → MaskLen) (s : List ℕ) (b : Octets s) where
           small = omega (arith, w.small, x.moves.grows, g);
         }
 
-    pub measured-cut : (len : ℕ) → Measuring given s c len → r ≡ Lost → Unread ≡ measured_of (tokens_of given s)
+    pub measured-cut : (len : ℕ) → Measuring given s c len → r ≡ None → None ≡ measured_of (tokens_of given s)
     measured-cut len w f = ap measured_of (sym (walk-cut given s b c w.done w.walk m r e f))
 
     module _ (old : List ℕ) (to : ℕ) (new : List ℕ) (p : ℕ) (w : Writing given s old to c new p) (h : is_whole (tokens_of given s) ≡ true)
         (room : to + length (body_bytes (tokens_of given s)) ≤ length old) where
-      pub writing-room : (t : Token) (d : Cursor) → r ≡ TokAt t d → p + length (token_bytes s t) ≤ length new
+      pub writing-room : (t : Token) (d : Cursor) → r ≡ Some (t, d) → p + length (token_bytes s t) ≤ length new
       writing-room t d f =
           let v = walk_turn given s b c w.done w.walk m r e t d f in
           let k : length (encode w.done) + length (token_bytes s t) ≤ length (body_bytes (tokens_of given s))
@@ -174,7 +168,7 @@ module _ (given : ℕ → MaskLen) (s : List ℕ) (b : Octets s) where
           let n : length new ≡ length old = wrote-length w.wrote (omega arith) in
           omega (arith, w.wrote.behind)
 
-      pub writing-turn : (t : Token) (d : Cursor) → r ≡ TokAt t d → (newer : List ℕ) (q : ℕ) → Wrote new p (token_bytes s t) newer q → Writing given s old to d newer q
+      pub writing-turn : (t : Token) (d : Cursor) → r ≡ Some (t, d) → (newer : List ℕ) (q : ℕ) → Wrote new p (token_bytes s t) newer q → Writing given s old to d newer q
       writing-turn t d f newer q v =
           record {
             done = w.done ++ (told s t ∷ []);
@@ -182,31 +176,31 @@ module _ (given : ℕ → MaskLen) (s : List ℕ) (b : Octets s) where
             wrote = wrote_as (wrote_then (omega arith) w.wrote v) (sym (encode_snoc w.done (told s t)));
           }
 
-      pub writing-cut : r ≡ Lost → ⊥
+      pub writing-cut : r ≡ None → ⊥
       writing-cut f = false≢true (ap is_whole (sym (walk-cut given s b c w.done w.walk m r e f)) ∙ h)
 
 -- ---- a body measured, and then written or not
 module _ (old : List ℕ) (to : ℕ) where
-  pub recoded_cut : (x : Option (List Tok)) (r : Measured) → r ≡ measured_of x → r ≡ Unread → Recodes old to x old Cut
-  recoded_cut none r e f = record { answer = refl; leaves = refl }
-  recoded_cut (some ts) r e f = absurd (let z : ◌≡◌ {A = ℕ} 0 1 = cc in (let y : ⊥ = omega arith in y))
+  pub recoded_cut : (x : Option (List Tok)) (r : Option ℕ) → r ≡ measured_of x → r ≡ None → Recodes old to x old (Err Cut)
+  recoded_cut None r e f = record { answer = refl; leaves = refl }
+  recoded_cut (Some ts) r e f = absurd (let z : ◌≡◌ {A = ℕ} 0 1 = cc in (let y : ⊥ = omega arith in y))
 
-  pub measured-whole : (x : Option (List Tok)) (r : Measured) (n : ℕ) → r ≡ measured_of x → r ≡ Length n → (is_whole x ≡ true) × (n ≡ length (body_bytes x))
-  measured-whole none r n e f = absurd (let z : ◌≡◌ {A = ℕ} 0 1 = cc in (let y : ⊥ = omega arith in y))
-  measured-whole (some ts) r n e f = (refl, let k : length (encode ts) ≡ n = cc in sym k)
+  pub measured-whole : (x : Option (List Tok)) (r : Option ℕ) (n : ℕ) → r ≡ measured_of x → r ≡ Some n → (is_whole x ≡ true) × (n ≡ length (body_bytes x))
+  measured-whole None r n e f = absurd (let z : ◌≡◌ {A = ℕ} 0 1 = cc in (let y : ⊥ = omega arith in y))
+  measured-whole (Some ts) r n e f = (refl, let k : length (encode ts) ≡ n = cc in sym k)
 
-  pub recoded_full : (x : Option (List Tok)) (r : Measured) (n : ℕ) → r ≡ measured_of x → r ≡ Length n → length old < to + n → Recodes old to x old Full
-  recoded_full none r n e f h = absurd (let z : ◌≡◌ {A = ℕ} 0 1 = cc in (let y : ⊥ = omega arith in y))
-  recoded_full (some ts) r n e f h =
+  pub recoded_full : (x : Option (List Tok)) (r : Option ℕ) (n : ℕ) → r ≡ measured_of x → r ≡ Some n → length old < to + n → Recodes old to x old (Err Full)
+  recoded_full None r n e f h = absurd (let z : ◌≡◌ {A = ℕ} 0 1 = cc in (let y : ⊥ = omega arith in y))
+  recoded_full (Some ts) r n e f h =
       let k : length (encode ts) ≡ n = cc in
       let l : length old < to + length (encode ts) = omega arith in
       record { answer = rw (lt-leb (to + length (encode ts)) (length old) l); leaves = rw (lt-leb (to + length (encode ts)) (length old) l) }
 
   pub recoded_done : (x : Option (List Tok)) (new : List ℕ) (q : ℕ) → is_whole x ≡ true → to + length (body_bytes x) ≤ length old → Wrote old to (body_bytes x) new q
-      → Recodes old to x new (Done q)
-  recoded_done none new q h l w = absurd (false≢true h)
-  recoded_done (some ts) new q h l w =
+      → Recodes old to x new (Ok q)
+  recoded_done None new q h l w = absurd (false≢true h)
+  recoded_done (Some ts) new q h l w =
       record {
-        answer = rw (le-leb (to + length (encode ts)) (length old) l) (ap Done w.behind);
+        answer = rw (le-leb (to + length (encode ts)) (length old) l) (ap Ok w.behind);
         leaves = rw (le-leb (to + length (encode ts)) (length old) l) w.is;
       }

@@ -1,10 +1,9 @@
 -- What is read from a body is a proper list of tokens, so that it reads back once it is written.
 use Prim.Native.Nat.{ℕ, zero, suc, ◌-◌, ◌*◌, ◌≤◌, ◌<◌}
-use Rattle.std.specs.Prelude.{◌≡◌, Bool, List, [], ◌∷◌, ltb, eqb, take, drop, get_or}
+use Rattle.std.specs.Prelude.{◌≡◌, Bool, List, [], ◌∷◌, ltb, eqb, take, drop, get_or, None, Option, Some}
 use Rattle.std.proofs.Math.Path.{refl, ap, subst}
 use Rattle.std.proofs.Common.{sym, ◌∙◌, true≢false, arith}
 use Rattle.std.proofs.Math.Bool.{true, false}
-use Rattle.std.proofs.Math.Option.{Option, none, some}
 use Rattle.std.proofs.Math.ListN.{length}
 use borrow.Author.Tests.{eqb-false}
 use Rattle.octets.specs.Pick.{pick, pick_ind}
@@ -62,13 +61,13 @@ module _ (s : List ℕ) (octets : Octets s) (c : Cursor) where
       (kind-plain (number_at s c.at) refl (reading-at s c.at octets))
 
 -- a token before the others
-join-tokens : (t : Tok) (x : Option (List Tok)) (ts : List Tok) → join (t ∷ []) x ≡ some ts → (us : List Tok) × (x ≡ some us) × (t ∷ us ≡ ts)
-join-tokens t none ts e = absurd (no cc)
-join-tokens t (some us) ts e = (us, refl, cc)
+join-tokens : (t : Tok) (x : Option (List Tok)) (ts : List Tok) → join (t ∷ []) x ≡ Some ts → (us : List Tok) × (x ≡ Some us) × (t ∷ us ≡ ts)
+join-tokens t None ts e = absurd (no cc)
+join-tokens t (Some us) ts e = (us, refl, cc)
 
 module _ (s : List ℕ) (c : Cursor) (rest : Cursor → Option (List Tok))
-    (ih : (x : Cursor) → Within s x → fuel_of s x < fuel_of s c → (us : List Tok) → rest x ≡ some us → Proper x.due us) where
-  proper_onward : (d : Bool) (q : Lexeme) → Kind d q → Fine s c q → (ts : List Tok) → onward s q rest ≡ some ts → Proper d ts
+    (ih : (x : Cursor) → Within s x → fuel_of s x < fuel_of s c → (us : List Tok) → rest x ≡ Some us → Proper x.due us) where
+  proper_onward : (d : Bool) (q : Lexeme) → Kind d q → Fine s c q → (ts : List Tok) → onward s q rest ≡ Some ts → Proper d ts
   unfolding Kind
   proper_onward d lost k f ts e = absurd (no cc)
   proper_onward true (got_num z x) k f ts e = absurd k
@@ -89,13 +88,13 @@ module _ (s : List ℕ) (c : Cursor) (rest : Cursor → Option (List Tok))
       subst (Proper true) j.2 (subst (λ (y : Bool). Proper y j.0) k (ih x f.1.within f.1.shorter j.0 j.1))
 
 module _ (given : ℕ → MaskLen) (s : List ℕ) (octets : Octets s) where
-  proper_none : (c : Cursor) (d : Bool) → c.due ≡ d → bit d ≤ 0 → (ts : List Tok) → some [] ≡ some ts → Proper d ts
+  proper_none : (c : Cursor) (d : Bool) → c.due ≡ d → bit d ≤ 0 → (ts : List Tok) → Some [] ≡ Some ts → Proper d ts
   proper_none c true e h ts f = absurd (no (omega arith))
   proper_none c false e h ts f = let g : [] ≡ ts = cc in subst (Proper false) g tt
 
   turn : (k : ℕ) (c : Cursor) → Within s c
-      → ((x : Cursor) → Within s x → fuel_of s x < fuel_of s c → (us : List Tok) → tokens_from k given s x ≡ some us → Proper x.due us)
-      → (m : Bool) → more s c ≡ m → (d : Bool) → c.due ≡ d → (ts : List Tok) → tokens_from (suc k) given s c ≡ some ts → Proper d ts
+      → ((x : Cursor) → Within s x → fuel_of s x < fuel_of s c → (us : List Tok) → tokens_from k given s x ≡ Some us → Proper x.due us)
+      → (m : Bool) → more s c ≡ m → (d : Bool) → c.due ≡ d → (ts : List Tok) → tokens_from (suc k) given s c ≡ Some ts → Proper d ts
   unfolding tokens_from
   turn k c w ih true m d e ts f =
       proper_onward s c (tokens_from k given s) ih d (token_at s (given (c.at - 1)) c) (kind s octets c (given (c.at - 1)) d e)
@@ -103,17 +102,17 @@ module _ (given : ℕ → MaskLen) (s : List ℕ) (octets : Octets s) where
   turn k c w ih false m true e ts f = absurd (true≢false (sym (ap (λ (x : Bool). pick x true (ltb c.at (length s))) e) ∙ m))
   turn k c w ih false m false e ts f = proper_none c false e (omega arith) ts (rw m at f)
 
-  proper_from : (k : ℕ) (c : Cursor) → Within s c → fuel_of s c ≤ k → (d : Bool) → c.due ≡ d → (ts : List Tok) → tokens_from k given s c ≡ some ts → Proper d ts
+  proper_from : (k : ℕ) (c : Cursor) → Within s c → fuel_of s c ≤ k → (d : Bool) → c.due ≡ d → (ts : List Tok) → tokens_from k given s c ≡ Some ts → Proper d ts
   unfolding tokens_from
   proper_from zero c w h d e ts f = proper_none c d e (let g : bit c.due ≡ bit d = ap bit e in omega arith) ts f
   proper_from (suc k) c w h d e ts f =
       turn k c w (λ x v l us g. proper_from k x v (omega arith) x.due refl us g) (more s c) refl d e ts f
 
   -- the tokens of a body are proper
-  pub tokens_proper : (ts : List Tok) → tokens_of given s ≡ some ts → Proper false ts
+  pub tokens_proper : (ts : List Tok) → tokens_of given s ≡ Some ts → Proper false ts
   unfolding tokens_of
   tokens_proper ts e = proper_from (2 * length s) start (start-within given s octets) (omega arith) false refl ts e
 
   -- and so, once written back, a body has the tokens it had
-  pub recoded_tokens : (ts : List Tok) → tokens_of given s ≡ some ts → tokens_of (lengths_of 0 ts) (encode ts) ≡ some ts
+  pub recoded_tokens : (ts : List Tok) → tokens_of given s ≡ Some ts → tokens_of (lengths_of 0 ts) (encode ts) ≡ Some ts
   recoded_tokens ts e = lengths_back ts (tokens_proper ts e)

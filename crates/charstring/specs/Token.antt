@@ -1,7 +1,6 @@
 -- The tokens of a charstring or subroutine body (TN5177, sections 3 and 4.3), as the Rust's `tokens_with_masks` takes them: from the
 -- first byte to the last, calls not entered, a mask's length as it is given for its operator's place or by the body's own stems.
-use Rattle.std.specs.Prelude.{ℕ, zero, suc, ◌+◌, ◌-◌, ◌*◌, ◌/◌, Bool, true, false, List, [], ◌∷◌, ◌++◌, length, take, drop, get_or, ltb, eqb, ℤ}
-use Rattle.std.proofs.Math.Option.{Option, none, some}
+use Rattle.std.specs.Prelude.{ℕ, zero, suc, ◌+◌, ◌-◌, ◌*◌, ◌/◌, Bool, true, false, List, [], ◌∷◌, ◌++◌, length, take, drop, get_or, ltb, eqb, ℤ, None, Option, Some}
 use Rattle.octets.specs.Pick.{pick}
 use Rattle.type2_number.specs.Number.{Read, cut, operator, number, number_at}
 use Rattle.charstring.specs.declared.MaskLen.{MaskLen}
@@ -63,12 +62,12 @@ token_at s len c = pick c.due (mask_at s c (mask_len len c.stems)) (plain_at s c
 
 -- tokens before those of what follows, or none where it is cut off in one
 abbrev pub join : List Tok → Option (List Tok) → Option (List Tok)
-join ts none = none
-join ts (some us) = some (ts ++ us)
+join ts None = None
+join ts (Some us) = Some (ts ++ us)
 
 -- a token and what follows it
 abbrev pub onward : List ℕ → Lexeme → (Cursor → Option (List Tok)) → Option (List Tok)
-onward s lost rest = none
+onward s lost rest = None
 onward s (got_num z c) rest = join (num z ∷ []) (rest c)
 onward s (got_op b c) rest = join (op b ∷ []) (rest c)
 onward s (got_esc b c) rest = join (esc b ∷ []) (rest c)
@@ -80,8 +79,8 @@ more s c = pick c.due true (ltb c.at (length s))
 
 -- the tokens from a cursor on, at most k of them; `given` answers a mask operator's offset
 unfoldable pub tokens_from : ℕ → (ℕ → MaskLen) → List ℕ → Cursor → Option (List Tok)
-tokens_from zero given s c = some []
-tokens_from (suc k) given s c = pick (more s c) (onward s (token_at s (given (c.at - 1)) c) (tokens_from k given s)) (some [])
+tokens_from zero given s c = Some []
+tokens_from (suc k) given s c = pick (more s c) (onward s (token_at s (given (c.at - 1)) c) (tokens_from k given s)) (Some [])
 
 abbrev pub start : Cursor
 start = record { at = 0; args = 0; stems = 0; due = false }

@@ -1,5 +1,5 @@
 -- Laws of one token: what a step answers, by the cases in which the code takes it, and a token by its constructor.
-use Rattle.std.specs.Prelude.{ℕ, ◌+◌, ◌/◌, ◌%◌, ◌≤◌, ◌<◌, ◌≡◌, refl, Bool, true, false, List, ltb, ℤ, Float, length, drop, get_or}
+use Rattle.std.specs.Prelude.{ℕ, ◌+◌, ◌/◌, ◌%◌, ◌≤◌, ◌<◌, ◌≡◌, refl, Bool, true, false, List, ltb, ℤ, Float, length, drop, get_or, None, Option, Some}
 use Rattle.std.proofs.Common.{sym, ◌∙◌, subst, arith, length-drop, length-take-le, ltb-true}
 use Rattle.std.proofs.Math.Path.{ap}
 use Rattle.octets.specs.Pick.{pick}
@@ -15,8 +15,6 @@ use Rattle.charstring.specs.declared.MaskLen.TheVariants.{Own}
 use Rattle.charstring.specs.declared.Token.{Token}
 use Rattle.charstring.specs.declared.Token.TheVariants.{Num, Op, Esc, Mask}
 use Rattle.charstring.specs.declared.Cursor.{Cursor}
-use Rattle.charstring.specs.declared.Step.{Step}
-use Rattle.charstring.specs.declared.Step.TheVariants.{Tok as TokAt, Lost}
 
 no : ◌≡◌ {A = ℕ} 0 1 → ⊥
 no h = omega arith
@@ -36,7 +34,7 @@ pub byte_left : (s : List ℕ) (c : Cursor) → c.due ≡ false → more s c ≡
 byte_left s c e h = ltb-true c.at (length s) (sym (ap (λ (d : Bool). pick d true (ltb c.at (length s))) e) ∙ h)
 
 module _ (s : List ℕ) (len : MaskLen) (c : Cursor) where
-  pub step-mask : (r : Step) (n : ℕ) → c.due ≡ true → n ≡ mask_len len c.stems → r ≡ step_of (mask_at s c n) → r ≡ step_of (token_at s len c)
+  pub step-mask : (r : Option (Token × Cursor)) (n : ℕ) → c.due ≡ true → n ≡ mask_len len c.stems → r ≡ step_of (mask_at s c n) → r ≡ step_of (token_at s len c)
   unfolding token_at
   step-mask r n e f g = g ∙ ap (λ (k : ℕ). step_of (mask_at s c k)) f ∙ ap (λ (d : Bool). step_of (pick d (mask_at s c (mask_len len c.stems)) (plain_at s c (number_at s c.at)))) (sym e)
 
@@ -64,15 +62,15 @@ module _ (s : List ℕ) (len : MaskLen) (c : Cursor) where
 
   module _ (r : Number) (e : r ≡ number_of (number_at s c.at)) (d : c.due ≡ false) where
     pub step-num : (v : Float) (n : ℕ) → r ≡ NumAt v n
-        → TokAt (Num v) (record { at = n; args = c.args + 1; stems = c.stems; due = false }) ≡ step_of (token_at s len c)
+        → Some (Num v, record { at = n; args = c.args + 1; stems = c.stems; due = false }) ≡ step_of (token_at s len c)
     step-num v n f =
         let w = num_case (number_at s c.at) r v n e f in
-        ap (λ (x : Float). TokAt (Num x) (record { at = n; args = c.args + 1; stems = c.stems; due = false })) w.2 ∙ plain (number w.0 n) d w.1
+        ap (λ (x : Float). Some (Num x, record { at = n; args = c.args + 1; stems = c.stems; due = false })) w.2 ∙ plain (number w.0 n) d w.1
 
-    pub step_cut : r ≡ Cut → Lost ≡ step_of (token_at s len c)
+    pub step_cut : r ≡ Cut → None ≡ step_of (token_at s len c)
     step_cut f = plain cut d (cut_case (number_at s c.at) r e f)
 
-    pub step-operator : r ≡ Operator → (t : Step) → t ≡ step_of (operator_at s c (get_or s c.at 0)) → t ≡ step_of (token_at s len c)
+    pub step-operator : r ≡ Operator → (t : Option (Token × Cursor)) → t ≡ step_of (operator_at s c (get_or s c.at 0)) → t ≡ step_of (token_at s len c)
     step-operator f t g = g ∙ plain operator d (operator_case (number_at s c.at) r e f)
 
 -- ---- a token by its constructor

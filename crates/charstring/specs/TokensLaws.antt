@@ -1,11 +1,10 @@
 -- A body token by token: a step goes further on, what is left of a walk, and where a walk ends.
 use Prim.Native.Nat.{ℕ, zero, suc, ◌+◌, ◌-◌, ◌*◌, ◌/◌, ◌≤◌, ◌<◌}
-use Rattle.std.specs.Prelude.{◌≡◌, Bool, List, [], ◌∷◌, ◌++◌, ltb, eqb, ℤ, take, drop, get_or}
+use Rattle.std.specs.Prelude.{◌≡◌, Bool, List, [], ◌∷◌, ◌++◌, ltb, eqb, ℤ, take, drop, get_or, None, Option, Some}
 use Rattle.std.proofs.Math.Path.{refl, ap, subst}
-use Rattle.std.proofs.Common.{sym, ◌∙◌, append_assoc, ltb-false}
+use Rattle.std.proofs.Common.{sym, ap, ◌∙◌, append_assoc, ltb-false}
 use Rattle.std.proofs.Math.Bool.{true, false}
 use Rattle.std.proofs.lemmas.Bool.{false≢true}
-use Rattle.std.proofs.Math.Option.{Option, none, some}
 use native.Mathlib.Omega.{arith}
 use Rattle.std.proofs.Math.ListN.{length}
 use Rattle.octets.specs.Pick.{pick, pick_ind}
@@ -22,8 +21,6 @@ use Rattle.charstring.specs.declared.MaskLen.{MaskLen}
 use Rattle.charstring.specs.declared.Token.{Token}
 use Rattle.charstring.specs.declared.Token.TheVariants.{Num, Op, Esc, Mask}
 use Rattle.charstring.specs.declared.Cursor.{Cursor}
-use Rattle.charstring.specs.declared.Step.{Step}
-use Rattle.charstring.specs.declared.Step.TheVariants.{Tok as TokAt, Lost}
 
 no : ◌≡◌ {A = ℕ} 0 1 → ⊥
 no h = omega arith
@@ -137,36 +134,41 @@ next-num s c d z r m =
 next_as : (s : List ℕ) (c : Cursor) (q : Lexeme) (t u : Token) (d e : Cursor) → t ≡ u → d ≡ e → Next s c q t d → Next s c q u e
 next_as s c q t u d e f g n = subst (λ (x : Cursor). Next s c q u x) g (subst (λ (x : Token). Next s c q x d) f n)
 
-next_fine : (s : List ℕ) (c : Cursor) (q : Lexeme) → Fine s c q → (t : Token) (d : Cursor) → step_of q ≡ TokAt t d → Next s c q t d
-next_fine s c lost f t d e = absurd (no cc)
-next_fine s c (got_num z x) f t d e = next_as s c (got_num z x) (Num (float_of z)) t x d (cc) (cc) (next-num s c x z f.0 f.1)
-next_fine s c (got_op b x) f t d e = next_as s c (got_op b x) (Op b) t x d (cc) (cc) (record { moves = f; writable = tt; goes = λ rest. refl })
-next_fine s c (got_esc b x) f t d e = next_as s c (got_esc b x) (Esc b) t x d (cc) (cc) (record { moves = f; writable = tt; goes = λ rest. refl })
-next_fine s c (got_mask a n x) f t d e = next_as s c (got_mask a n x) (Mask a n) t x d (cc) (cc) (record { moves = f.1; writable = f.0; goes = λ rest. refl })
+-- a token and where reading stands after it, each by itself
+pub read_parts : (t u : Token) (c d : Cursor) → ◌≡◌ {A = Option (Token × Cursor)} (Some (t, c)) (Some (u, d)) → (t ≡ u) × (c ≡ d)
+read_parts t u c d e =
+    let p : ◌≡◌ {A = Token × Cursor} (t, c) (u, d) = cc in (ap (λ (q : Token × Cursor). q.0) p, ap (λ (q : Token × Cursor). q.1) p)
 
-pub next_of : (s : List ℕ) (c : Cursor) (len : MaskLen) → Octets s → Within s c → more s c ≡ true → (r : Step) → r ≡ step_of (token_at s len c)
-    → (t : Token) (d : Cursor) → r ≡ TokAt t d → Next s c (token_at s len c) t d
+next_fine : (s : List ℕ) (c : Cursor) (q : Lexeme) → Fine s c q → (t : Token) (d : Cursor) → step_of q ≡ Some (t, d) → Next s c q t d
+next_fine s c lost f t d e = absurd (no cc)
+next_fine s c (got_num z x) f t d e = next_as s c (got_num z x) (Num (float_of z)) t x d (read_parts _ _ _ _ e).0 (read_parts _ _ _ _ e).1 (next-num s c x z f.0 f.1)
+next_fine s c (got_op b x) f t d e = next_as s c (got_op b x) (Op b) t x d (read_parts _ _ _ _ e).0 (read_parts _ _ _ _ e).1 (record { moves = f; writable = tt; goes = λ rest. refl })
+next_fine s c (got_esc b x) f t d e = next_as s c (got_esc b x) (Esc b) t x d (read_parts _ _ _ _ e).0 (read_parts _ _ _ _ e).1 (record { moves = f; writable = tt; goes = λ rest. refl })
+next_fine s c (got_mask a n x) f t d e = next_as s c (got_mask a n x) (Mask a n) t x d (read_parts _ _ _ _ e).0 (read_parts _ _ _ _ e).1 (record { moves = f.1; writable = f.0; goes = λ rest. refl })
+
+pub next_of : (s : List ℕ) (c : Cursor) (len : MaskLen) → Octets s → Within s c → more s c ≡ true → (r : Option (Token × Cursor)) → r ≡ step_of (token_at s len c)
+    → (t : Token) (d : Cursor) → r ≡ Some (t, d) → Next s c (token_at s len c) t d
 next_of s c len b w m r e t d f = next_fine s c (token_at s len c) (fine s c w b len m) t d (sym e ∙ f)
 
-lost_is : (q : Lexeme) → step_of q ≡ Lost → q ≡ lost
+lost_is : (q : Lexeme) → step_of q ≡ None → q ≡ lost
 lost_is lost e = refl
 lost_is (got_num z x) e = absurd (no cc)
 lost_is (got_op b x) e = absurd (no cc)
 lost_is (got_esc b x) e = absurd (no cc)
 lost_is (got_mask a n x) e = absurd (no cc)
 
-pub lost_of : (s : List ℕ) (c : Cursor) (len : MaskLen) (r : Step) → r ≡ step_of (token_at s len c) → r ≡ Lost → token_at s len c ≡ lost
+pub lost_of : (s : List ℕ) (c : Cursor) (len : MaskLen) (r : Option (Token × Cursor)) → r ≡ step_of (token_at s len c) → r ≡ None → token_at s len c ≡ lost
 lost_of s c len r e f = lost_is (token_at s len c) (sym e ∙ f)
 
 -- ---- enough is enough
 
 pub join-join : (ts us : List Tok) (b : Option (List Tok)) → join (ts ++ us) b ≡ join ts (join us b)
-join-join ts us none = refl
-join-join ts us (some vs) = ap some (append_assoc ts us vs)
+join-join ts us None = refl
+join-join ts us (Some vs) = ap Some (append_assoc ts us vs)
 
 pub join-none : (b : Option (List Tok)) → join [] b ≡ b
-join-none none = refl
-join-none (some ts) = refl
+join-none None = refl
+join-none (Some ts) = refl
 
 same-onward : (s : List ℕ) (c : Cursor) (q : Lexeme) → Fine s c q → (f g : Cursor → Option (List Tok))
     → ((d : Cursor) → Within s d → fuel_of s d < fuel_of s c → f d ≡ g d) → onward s q f ≡ onward s q g
@@ -182,7 +184,7 @@ some_fuel s c true e m = let k : bit c.due ≡ 1 = ap bit e in omega arith
 some_fuel s c false e m = let h = byte_left s c e m in omega arith
 
 module _ (given : ℕ → MaskLen) (s : List ℕ) (b : Octets s) where
-  none_left : (k : ℕ) (c : Cursor) → more s c ≡ false → tokens_from k given s c ≡ some []
+  none_left : (k : ℕ) (c : Cursor) → more s c ≡ false → tokens_from k given s c ≡ Some []
   unfolding tokens_from
   none_left zero c e = refl
   none_left (suc k) c e = rw e
@@ -208,7 +210,7 @@ module _ (given : ℕ → MaskLen) (s : List ℕ) (b : Octets s) where
   abbrev pub left_from : Cursor → Option (List Tok)
   left_from c = tokens_from (fuel_of s c) given s c
 
-  pub left-none : (c : Cursor) → more s c ≡ false → left_from c ≡ some []
+  pub left-none : (c : Cursor) → more s c ≡ false → left_from c ≡ Some []
   left-none c e = none_left (fuel_of s c) c e
 
   turned : (k : ℕ) (c : Cursor) → more s c ≡ true → tokens_from (suc k) given s c ≡ onward s (token_at s (given (c.at - 1)) c) (tokens_from k given s)
@@ -225,7 +227,7 @@ module _ (given : ℕ → MaskLen) (s : List ℕ) (b : Octets s) where
       left-turn c w e ∙ n.goes (tokens_from (fuel_of s c) given s)
       ∙ ap (join (told s t ∷ [])) (enough (fuel_of s c) (fuel_of s d) d n.moves.within (omega (arith, n.moves.shorter)) (omega arith))
 
-  pub left_lost : (c : Cursor) → Within s c → more s c ≡ true → token_at s (given (c.at - 1)) c ≡ lost → left_from c ≡ none
+  pub left_lost : (c : Cursor) → Within s c → more s c ≡ true → token_at s (given (c.at - 1)) c ≡ lost → left_from c ≡ None
   left_lost c w e f = left-turn c w e ∙ ap (λ (q : Lexeme). onward s q (tokens_from (fuel_of s c) given s)) f
 
   pub start-within : Within s start

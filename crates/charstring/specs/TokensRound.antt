@@ -1,13 +1,12 @@
 -- Writing and reading fit together: tokens that were written read as the same tokens, masks by their bytes; and what was read from
 -- a body is such a list.
 use Prim.Native.Nat.{ℕ, zero, suc, ◌+◌, ◌-◌, ◌*◌, ◌≤◌, ◌<◌}
-use Rattle.std.specs.Prelude.{◌≡◌, Bool, ltb, eqb, drop}
+use Rattle.std.specs.Prelude.{◌≡◌, Bool, ltb, eqb, drop, Some}
 use Rattle.std.proofs.Math.Path.{refl, sym, ap}
 use Rattle.std.proofs.Common.{◌∙◌, not-suc-le-zero, length-append, length-drop, drop-drop, drop_at}
 use Rattle.std.proofs.Math.Bool.{true, false}
 use Rattle.std.proofs.lemmas.Bool.{false≢true}
 use mathlib.Core.List.{List, [], ◌∷◌, ◌++◌}
-use Rattle.std.proofs.Math.Option.{some}
 use native.Mathlib.Omega.{arith}
 use Rattle.std.proofs.Math.ListN.{length, take, get_or}
 use Rattle.std.proofs.Math.Seq.{take_at}
@@ -32,7 +31,7 @@ module _ (given : ℕ → MaskLen) (b : List ℕ) where
   unfolding tokens_from
   turned k c q m e = rw m (ap (λ (x : Lexeme). onward b x (tokens_from k given b)) e)
 
-  ended : (k : ℕ) (c : Cursor) → more b c ≡ false → tokens_from k given b c ≡ some []
+  ended : (k : ℕ) (c : Cursor) → more b c ≡ false → tokens_from k given b c ≡ Some []
   unfolding tokens_from
   ended zero c m = refl
   ended (suc k) c m = rw m
@@ -60,7 +59,7 @@ module _ (given : ℕ → MaskLen) (b : List ℕ) where
 
   -- the tokens of bytes that tokens were written to, from a cursor on
   back : (k : ℕ) (c : Cursor) (ts : List Tok) (d : Bool) → c.due ≡ d → Proper d ts → Gives given c.at ts → drop c.at b ≡ encode ts → length ts ≤ k
-      → tokens_from k given b c ≡ some ts
+      → tokens_from k given b c ≡ Some ts
   unfolding encode
   back k c [] true e p g lies h = absurd p
   back k c [] false e p g lies h =
@@ -129,7 +128,7 @@ few false (mask bs ∷ ts) p = absurd p
 few true (mask bs ∷ ts) p = let h = few false ts p in rw length-append (omega arith)
 
 -- THE THEOREM: tokens that were written read as the same tokens, where each mask's length is given for its operator's new place
-pub tokens-back : (given : ℕ → MaskLen) (ts : List Tok) → Proper false ts → Gives given 0 ts → tokens_of given (encode ts) ≡ some ts
+pub tokens-back : (given : ℕ → MaskLen) (ts : List Tok) → Proper false ts → Gives given 0 ts → tokens_of given (encode ts) ≡ Some ts
 unfolding tokens_of
 tokens-back given ts p g = let h = few false ts p in back given (encode ts) (2 * length (encode ts)) start ts false refl p g refl (omega arith)
 
@@ -174,5 +173,5 @@ lengths_give at true (mask bs ∷ ts) p z =
           (lengths_give (at + length bs) false ts p (λ q. absurd (false≢true q))),
     )
 
-pub lengths_back : (ts : List Tok) → Proper false ts → tokens_of (lengths_of 0 ts) (encode ts) ≡ some ts
+pub lengths_back : (ts : List Tok) → Proper false ts → tokens_of (lengths_of 0 ts) (encode ts) ≡ Some ts
 lengths_back ts p = tokens-back (lengths_of 0 ts) ts p (lengths_give 0 false ts p (λ q. absurd (false≢true q)))

@@ -34,6 +34,7 @@ pub enum Token {
 }
 
 // A mask's length: as the reach record gives it for its place, or the body's own count.
+// (It stays an enum: an Option is no plainer, since None would not say whose length is meant.)
 #[derive(Clone, Copy)]
 pub enum MaskLen {
     Own,
@@ -48,13 +49,6 @@ pub struct Cursor {
     pub args: usize,
     pub stems: usize,
     pub due: bool,
-}
-
-// The next token and where reading stands after it, or that the end cuts it off.
-#[derive(Clone, Copy)]
-pub enum Step {
-    Tok { token: Token, next: Cursor },
-    Lost,
 }
 
 // Whether an operator is followed by a mask: hintmask, cntrmask.
@@ -138,28 +132,28 @@ pub fn more(code: &[u8], c: Cursor) -> bool
 }
 
 // The mask of n bytes that is due.
-fn mask_at(code: &[u8], c: Cursor, n: usize) -> Step
+fn mask_at(code: &[u8], c: Cursor, n: usize) -> Option<(Token, Cursor)>
     requires { Within code.now c }
     ensures { result ≡ step_of (mask_at code.now c n) }
 {
     let at = c.at;
     let stems = c.stems;
     if code.len() - at < n {
-        return Step::Lost;
+        return None;
     }
-    Step::Tok {
-        token: Token::Mask { start: at, len: n },
-        next: Cursor {
+    Some((
+        Token::Mask { start: at, len: n },
+        Cursor {
             at: at + n,
             args: 0,
             stems,
             due: false,
         },
-    }
+    ))
 }
 
 // The operator or escape at a cursor.
-fn operator_at(code: &[u8], c: Cursor) -> Step
+fn operator_at(code: &[u8], c: Cursor) -> Option<(Token, Cursor)>
     requires { (Within code.now c) × (c.at < length code.now) }
     ensures { result ≡ step_of (operator_at code.now c (get_or code.now c.at 0)) }
 {
@@ -168,31 +162,32 @@ fn operator_at(code: &[u8], c: Cursor) -> Step
     let op = code[at];
     if op == 12 {
         if code.len() - at < 2 {
-            return Step::Lost;
+            return None;
         }
-        return Step::Tok {
-            token: Token::Esc(code[at + 1]),
-            next: Cursor {
+        return Some((
+            Token::Esc(code[at + 1]),
+            Cursor {
                 at: at + 2,
                 args: 0,
                 stems,
                 due: false,
             },
-        };
+        ));
     }
-    Step::Tok {
-        token: Token::Op(op),
-        next: Cursor {
+    Some((
+        Token::Op(op),
+        Cursor {
             at: at + 1,
             args: 0,
             stems: stems_after(op, c.args, stems),
             due: is_mask(op),
         },
-    }
+    ))
 }
 
-// The token at a cursor, `given` being the length for the mask whose operator stands just before it.
-pub fn next_token(code: &[u8], c: Cursor, given: MaskLen) -> Step
+// The token at a cursor and where reading stands after it, or None where the end cuts the token off; `given` is the length for the mask whose
+// operator stands just before it.
+pub fn next_token(code: &[u8], c: Cursor, given: MaskLen) -> Option<(Token, Cursor)>
     requires { (Within code.now c) × (more code.now c ≡ true) }
     ensures { result ≡ step_of (token_at code.now given c) }
 {
@@ -203,16 +198,16 @@ pub fn next_token(code: &[u8], c: Cursor, given: MaskLen) -> Step
         return mask_at(code, c, mask_len(given, stems));
     }
     match read_number(code, at) {
-        Number::Num { value, next } => Step::Tok {
-            token: Token::Num(value),
-            next: Cursor {
+        Number::Num { value, next } => Some((
+            Token::Num(value),
+            Cursor {
                 at: next,
                 args: c.args + 1,
                 stems,
                 due: false,
             },
-        },
-        Number::Cut => Step::Lost,
+        )),
+        Number::Cut => None,
         Number::Operator => operator_at(code, c),
     }
 }
@@ -250,15 +245,10 @@ pub fn put_token(code: &[u8], t: Token, out: &mut [u8], to: usize) -> usize
 pub fn lookup(pairs: &[u32], at: usize) -> MaskLen
     ensures { result ≡ lookup pairs.now at }
 {
-    let n = pairs.len();
-    let mut i = 0;
-    while i + 1 < n {
-        let offset = octets::words::wide(pairs[i]);
-        let len = octets::words::wide(pairs[i + 1]);
-        if offset == at {
-            return MaskLen::Given(len);
+    for pair in pairs.chunks_exact(2) {
+        if pair[0] as usize == at {
+            return MaskLen::Given(pair[1] as usize);
         }
-        i += 2;
     }
     MaskLen::Own
 }
@@ -276,14 +266,7 @@ pub fn given_at(pairs: &[u32], c: Cursor) -> MaskLen
     MaskLen::Own
 }
 
-// How long a body is once it is written back, or that the end cuts off a token.
-#[derive(Clone, Copy)]
-pub enum Measured {
-    Unread,
-    Length(usize),
-}
-
-pub fn measure(code: &[u8], pairs: &[u32]) -> Measured
+pub fn measure(code: &[u8], pairs: &[u32]) -> Option<usize>
     requires { length code.now ≤ 67108864 }
     ensures { result ≡ measured_of (tokens_of (lookup pairs.now) code.now) }
 {
@@ -292,16 +275,16 @@ pub fn measure(code: &[u8], pairs: &[u32]) -> Measured
     while more(code, c) {
         let given = given_at(pairs, c);
         match next_token(code, c, given) {
-            Step::Tok { token, next } => {
+            Some((token, next)) => {
                 len += token_len(token);
                 c = next;
             }
-            Step::Lost => {
-                return Measured::Unread;
+            None => {
+                return None;
             }
         }
     }
-    Measured::Length(len)
+    Some(len)
 }
 
 // The tokens of a body that can be read to its end, written from `to` on; the place after them.
@@ -315,11 +298,11 @@ fn put_body(code: &[u8], pairs: &[u32], out: &mut [u8], to: usize) -> usize
     while more(code, c) {
         let given = given_at(pairs, c);
         match next_token(code, c, given) {
-            Step::Tok { token, next } => {
+            Some((token, next)) => {
                 p = put_token(code, token, &mut *out, p);
                 c = next;
             }
-            Step::Lost => {
+            None => {
                 return p;
             }
         }
@@ -327,29 +310,28 @@ fn put_body(code: &[u8], pairs: &[u32], out: &mut [u8], to: usize) -> usize
     p
 }
 
-// What writing a body back comes to: a token that the end cuts off, no room, or the place after it.
-#[derive(Clone, Copy)]
-pub enum Recoded {
+// Why a body is not written back: the end cuts off a token, or there is no room.
+#[derive(Clone, Copy, PartialEq, Eq)]
+pub enum RecodeError {
     Cut,
     Full,
-    Done(usize),
 }
 
-// A whole body through its tokens and back: measured first, then written; where that fails the output is as it was.
-pub fn recode(code: &[u8], pairs: &[u32], out: &mut [u8], to: usize) -> Recoded
+// A whole body through its tokens and back, measured first, then written: the place after it. Where that fails the output is as it was.
+pub fn recode(code: &[u8], pairs: &[u32], out: &mut [u8], to: usize) -> Result<usize, RecodeError>
     requires { length code.now ≤ 67108864 }
     ensures { Recodes out.old to (tokens_of (lookup pairs.now) code.now) out.new result }
 {
     match measure(code, pairs) {
-        Measured::Unread => Recoded::Cut,
-        Measured::Length(n) => {
+        None => Err(RecodeError::Cut),
+        Some(n) => {
             if out.len() < to {
-                return Recoded::Full;
+                return Err(RecodeError::Full);
             }
             if out.len() - to < n {
-                return Recoded::Full;
+                return Err(RecodeError::Full);
             }
-            Recoded::Done(put_body(code, pairs, out, to))
+            Ok(put_body(code, pairs, out, to))
         }
     }
 }

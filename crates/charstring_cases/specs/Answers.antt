@@ -1,6 +1,5 @@
 -- The answer to the input of a stored case of charstring.rs (tools/oracle/README.md, 'charstring'), by its kind.
-use Rattle.std.specs.Prelude.{ℕ, true, false, List, [], ◌∷◌, eqb}
-use Rattle.std.proofs.Math.Option.{Option, none}
+use Rattle.std.specs.Prelude.{ℕ, true, false, List, [], ◌∷◌, eqb, None, Option}
 use Rattle.octets.specs.Pick.{pick}
 use Rattle.charstring_cases.specs.Numbers.{number_answer, integer_answer, fixed_answer, bias_answer}
 use Rattle.charstring_cases.specs.Streams.{stream_answer}
@@ -17,4 +16,4 @@ answer_to kind s =
     (pick (eqb kind 102) (fixed_answer s)
     (pick (eqb kind 116) (stream_answer true s)
     (pick (eqb kind 101) (stream_answer false s)
-    (pick (eqb kind 98) (bias_answer s) none)))))
+    (pick (eqb kind 98) (bias_answer s) None)))))

@@ -1,7 +1,6 @@
 -- Laws of answers, by the code's ways out: the kinds of one number, and pairs.
-use Rattle.std.specs.Prelude.{ℕ, zero, suc, ◌+◌, ◌-◌, ◌*◌, ◌≤◌, ◌<◌, ◌≡◌, refl, Bool, List, [], ◌∷◌, ◌++◌, leb, eqb, Float, ℤ, length, take, drop}
+use Rattle.std.specs.Prelude.{ℕ, zero, suc, ◌+◌, ◌-◌, ◌*◌, ◌≤◌, ◌<◌, ◌≡◌, refl, Bool, List, [], ◌∷◌, ◌++◌, leb, eqb, Float, ℤ, length, take, drop, None, Some}
 use Rattle.std.proofs.Common.{sym, ap, ◌∙◌, subst, arith, length-append, length-drop, take_all}
-use Rattle.std.proofs.Math.Option.{none, some}
 use Rattle.std.proofs.Math.ListN.{get_or}
 use borrow.Author.Tests.{eq-eqb, ne_eqb, lt-ltb, le-ltb, le-leb, lt-leb}
 use Rattle.octets.specs.Pick.{pick, pick_ind}
@@ -63,26 +62,26 @@ told-number (number z m) g v n e =
     cc
 
 module _ (s : List ℕ) where
-  pub number-none : length s ≡ 0 → number_answer s ≡ none
+  pub number-none : length s ≡ 0 → number_answer s ≡ None
   unfolding number_answer
   number-none e = rw (eq-eqb (length s) 0 e)
 
   module _ (h : length s ≡ 0 → ⊥) (r : Number) (e : r ≡ number_of (number_at s 0)) where
-    some_read : number_answer s ≡ some (read_bytes (number_at s 0))
+    some_read : number_answer s ≡ Some (read_bytes (number_at s 0))
     unfolding number_answer
     some_read = rw (ne_eqb (length s) 0 h)
 
-    pub number_cut : r ≡ Cut → number_answer s ≡ some (0 ∷ [])
-    number_cut f = some_read ∙ ap some (told-cut (number_at s 0) (sym e ∙ f))
+    pub number_cut : r ≡ Cut → number_answer s ≡ Some (0 ∷ [])
+    number_cut f = some_read ∙ ap Some (told-cut (number_at s 0) (sym e ∙ f))
 
-    pub number-operator : r ≡ Operator → number_answer s ≡ some (1 ∷ [])
-    number-operator f = some_read ∙ ap some (told-operator (number_at s 0) (sym e ∙ f))
+    pub number-operator : r ≡ Operator → number_answer s ≡ Some (1 ∷ [])
+    number-operator f = some_read ∙ ap Some (told-operator (number_at s 0) (sym e ∙ f))
 
     pub number-holds : Octets s → (v : Float) (n : ℕ) → r ≡ NumAt v n → HoldsReading v
     number-holds b v n f = told-holds (number_at s 0) (reading-at s 0 b) v n (sym e ∙ f)
 
-    pub number_read : Octets s → (v : Float) (n : ℕ) → r ≡ NumAt v n → number_answer s ≡ some (2 ∷ (count_bytes (scaled_of v) ++ bytes_of 1 n))
-    number_read b v n f = some_read ∙ ap some (told-number (number_at s 0) (reading-at s 0 b) v n (sym e ∙ f))
+    pub number_read : Octets s → (v : Float) (n : ℕ) → r ≡ NumAt v n → number_answer s ≡ Some (2 ∷ (count_bytes (scaled_of v) ++ bytes_of 1 n))
+    number_read b v n f = some_read ∙ ap Some (told-number (number_at s 0) (reading-at s 0 b) v n (sym e ∙ f))
 
 -- ---- kinds i, f and b
 
@@ -93,45 +92,45 @@ integer-length t v =
     (λ e. pick_ind (λ (l : List ℕ). length l ≤ 3) (leb v 1131) _ _ (λ f. omega arith) (λ f. omega (arith, length-bytes 2 (pick t (65536 - v) v))))
 
 module _ (s : List ℕ) where
-  pub integer-size : (length s ≡ 3 → ⊥) → integer_answer s ≡ none
+  pub integer-size : (length s ≡ 3 → ⊥) → integer_answer s ≡ None
   unfolding integer_answer
   integer-size h = rw (ne_eqb (length s) 3 h)
 
-  pub fixed-size : (length s ≡ 5 → ⊥) → fixed_answer s ≡ none
+  pub fixed-size : (length s ≡ 5 → ⊥) → fixed_answer s ≡ None
   unfolding fixed_answer
   fixed-size h = rw (ne_eqb (length s) 5 h)
 
-  pub bias_size : (length s ≡ 4 → ⊥) → bias_answer s ≡ none
+  pub bias_size : (length s ≡ 4 → ⊥) → bias_answer s ≡ None
   unfolding bias_answer
   bias_size h = rw (ne_eqb (length s) 4 h)
 
-  pub bias_found : length s ≡ 4 → bias_answer s ≡ some (bytes_of 4 (bias_of (num_at s 0 4)))
+  pub bias_found : length s ≡ 4 → bias_answer s ≡ Some (bytes_of 4 (bias_of (num_at s 0 4)))
   unfolding bias_answer
   bias_found h = rw (eq-eqb (length s) 4 h)
 
   module _ (h : length s ≡ 3) where
-    pub integer-sign : 1 < get_or s 0 0 → integer_answer s ≡ none
+    pub integer-sign : 1 < get_or s 0 0 → integer_answer s ≡ None
     unfolding integer_answer
     integer-sign k = rw (eq-eqb (length s) 3 h, lt-ltb 1 (get_or s 0 0) k)
 
-    pub integer_large : get_or s 0 0 ≤ 1 → 32768 ≤ num_at s 1 2 → integer_answer s ≡ none
+    pub integer_large : get_or s 0 0 ≤ 1 → 32768 ≤ num_at s 1 2 → integer_answer s ≡ None
     unfolding integer_answer
     integer_large k l = rw (eq-eqb (length s) 3 h, le-ltb 1 (get_or s 0 0) k, le-ltb (num_at s 1 2) 32768 l)
 
-    pub integer-found : get_or s 0 0 ≤ 1 → num_at s 1 2 < 32768 → integer_answer s ≡ some (integer_bytes (eqb (get_or s 0 0) 1) (num_at s 1 2))
+    pub integer-found : get_or s 0 0 ≤ 1 → num_at s 1 2 < 32768 → integer_answer s ≡ Some (integer_bytes (eqb (get_or s 0 0) 1) (num_at s 1 2))
     unfolding integer_answer
     integer-found k l = rw (eq-eqb (length s) 3 h, le-ltb 1 (get_or s 0 0) k, lt-ltb (num_at s 1 2) 32768 l)
 
   module _ (h : length s ≡ 5) where
-    pub fixed-sign : 1 < get_or s 0 0 → fixed_answer s ≡ none
+    pub fixed-sign : 1 < get_or s 0 0 → fixed_answer s ≡ None
     unfolding fixed_answer
     fixed-sign k = rw (eq-eqb (length s) 5 h, lt-ltb 1 (get_or s 0 0) k)
 
-    pub fixed_large : get_or s 0 0 ≤ 1 → 2147483648 < num_at s 1 4 → fixed_answer s ≡ none
+    pub fixed_large : get_or s 0 0 ≤ 1 → 2147483648 < num_at s 1 4 → fixed_answer s ≡ None
     unfolding fixed_answer
     fixed_large k l = rw (eq-eqb (length s) 5 h, le-ltb 1 (get_or s 0 0) k, lt-leb (num_at s 1 4) 2147483648 l)
 
-    pub fixed-found : get_or s 0 0 ≤ 1 → num_at s 1 4 ≤ 2147483648 → fixed_answer s ≡ some (fixed_bytes (eqb (get_or s 0 0) 1) (num_at s 1 4))
+    pub fixed-found : get_or s 0 0 ≤ 1 → num_at s 1 4 ≤ 2147483648 → fixed_answer s ≡ Some (fixed_bytes (eqb (get_or s 0 0) 1) (num_at s 1 4))
     unfolding fixed_answer
     fixed-found k l = rw (eq-eqb (length s) 5 h, le-ltb 1 (get_or s 0 0) k, le-leb (num_at s 1 4) 2147483648 l)
 
@@ -174,28 +173,28 @@ pub stream_as : (t u : Bool) (given : ℕ → MaskLen) (s : List ℕ) → t ≡ 
 stream_as t u given s e = ap (λ (x : Bool). stream_bytes x given s) (sym e)
 
 module _ (t : Bool) (s : List ℕ) where
-  pub stream_none : length s ≡ 0 → stream_answer t s ≡ none
+  pub stream_none : length s ≡ 0 → stream_answer t s ≡ None
   unfolding stream_answer
   stream_none e = rw (eq-eqb (length s) 0 e)
 
   module _ (h : length s ≡ 0 → ⊥) where
-    pub stream_many : 16 < get_or s 0 0 → stream_answer t s ≡ none
+    pub stream_many : 16 < get_or s 0 0 → stream_answer t s ≡ None
     unfolding stream_answer
     stream_many k = rw (ne_eqb (length s) 0 h, lt-ltb 16 (get_or s 0 0) k)
 
     module _ (k : get_or s 0 0 ≤ 16) where
-      pub stream_short : length s < 1 + 4 * get_or s 0 0 → stream_answer t s ≡ none
+      pub stream_short : length s < 1 + 4 * get_or s 0 0 → stream_answer t s ≡ None
       unfolding stream_answer
       stream_short l = rw (ne_eqb (length s) 0 h, le-ltb 16 (get_or s 0 0) k, lt-ltb (length s) (1 + 4 * get_or s 0 0) l)
 
       module _ (l : 1 + 4 * get_or s 0 0 ≤ length s) where
-        pub stream_long : 60 < length s - (1 + 4 * get_or s 0 0) → stream_answer t s ≡ none
+        pub stream_long : 60 < length s - (1 + 4 * get_or s 0 0) → stream_answer t s ≡ None
         unfolding stream_answer
         stream_long m =
             rw (ne_eqb (length s) 0 h, le-ltb 16 (get_or s 0 0) k, le-ltb (length s) (1 + 4 * get_or s 0 0) l, lt-ltb 60 (length s - (1 + 4 * get_or s 0 0)) m)
 
         pub stream_found : length s - (1 + 4 * get_or s 0 0) ≤ 60
-            → stream_answer t s ≡ some (stream_bytes t (lookup (pairs_at s 1 (2 * get_or s 0 0))) (drop (1 + 4 * get_or s 0 0) s))
+            → stream_answer t s ≡ Some (stream_bytes t (lookup (pairs_at s 1 (2 * get_or s 0 0))) (drop (1 + 4 * get_or s 0 0) s))
         unfolding stream_answer
         stream_found m =
             rw (ne_eqb (length s) 0 h, le-ltb 16 (get_or s 0 0) k, le-ltb (length s) (1 + 4 * get_or s 0 0) l, le-ltb 60 (length s - (1 + 4 * get_or s 0 0)) m)
@@ -213,6 +212,6 @@ stream_parts t s old new n k e w =
 -- ---- by the kind
 
 pub answer-none : (b : ℕ) (s : List ℕ) → (b ≡ 110 → ⊥) → (b ≡ 105 → ⊥) → (b ≡ 102 → ⊥) → (b ≡ 116 → ⊥) → (b ≡ 101 → ⊥) → (b ≡ 98 → ⊥)
-    → answer_to b s ≡ none
+    → answer_to b s ≡ None
 unfolding answer_to
 answer-none b s n i f t e z = simp (ne_eqb b 110 n, ne_eqb b 105 i, ne_eqb b 102 f, ne_eqb b 116 t, ne_eqb b 101 e, ne_eqb b 98 z)

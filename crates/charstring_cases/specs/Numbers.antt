@@ -1,7 +1,6 @@
 -- Stored cases of one number (tools/oracle/README.md, 'Lines'): the answer to the input of a kind n, i, f or b, from the definitions that
 -- the proved functions meet. An input that is not of its kind's form has none, and its line then counts as failed.
-use Rattle.std.specs.Prelude.{ℕ, List, [], ◌∷◌, ◌++◌, ltb, leb, eqb, ℤ, length, get_or}
-use Rattle.std.proofs.Math.Option.{Option, none, some}
+use Rattle.std.specs.Prelude.{ℕ, List, [], ◌∷◌, ◌++◌, ltb, leb, eqb, ℤ, length, get_or, None, Option, Some}
 use Rattle.octets.specs.Pick.{pick}
 use Rattle.octets.specs.Octets.{num_at, bytes_of}
 use Rattle.type2_number.specs.Number.{is_neg, mag, Read, cut, operator, number, number_at}
@@ -19,22 +18,22 @@ read_bytes operator = 1 ∷ []
 read_bytes (number z next) = 2 ∷ (count_bytes z ++ bytes_of 1 next)
 
 unfoldable pub number_answer : List ℕ → Option (List ℕ)
-number_answer s = pick (eqb (length s) 0) none (some (read_bytes (number_at s 0)))
+number_answer s = pick (eqb (length s) 0) None (Some (read_bytes (number_at s 0)))
 
 -- kind i: a sign and a size of two bytes, written as an integer
 unfoldable pub integer_answer : List ℕ → Option (List ℕ)
 integer_answer s =
     pick (eqb (length s) 3)
-    (pick (ltb 1 (get_or s 0 0)) none
-    (pick (ltb (num_at s 1 2) 32768) (some (integer_bytes (eqb (get_or s 0 0) 1) (num_at s 1 2))) none)) none
+    (pick (ltb 1 (get_or s 0 0)) None
+    (pick (ltb (num_at s 1 2) 32768) (Some (integer_bytes (eqb (get_or s 0 0) 1) (num_at s 1 2))) None)) None
 
 -- kind f: a sign and a size of four bytes, written as a 16.16
 unfoldable pub fixed_answer : List ℕ → Option (List ℕ)
 fixed_answer s =
     pick (eqb (length s) 5)
-    (pick (ltb 1 (get_or s 0 0)) none
-    (pick (leb (num_at s 1 4) 2147483648) (some (fixed_bytes (eqb (get_or s 0 0) 1) (num_at s 1 4))) none)) none
+    (pick (ltb 1 (get_or s 0 0)) None
+    (pick (leb (num_at s 1 4) 2147483648) (Some (fixed_bytes (eqb (get_or s 0 0) 1) (num_at s 1 4))) None)) None
 
 -- kind b: a count of subroutines, and its bias
 unfoldable pub bias_answer : List ℕ → Option (List ℕ)
-bias_answer s = pick (eqb (length s) 4) (some (bytes_of 4 (bias_of (num_at s 0 4)))) none
+bias_answer s = pick (eqb (length s) 4) (Some (bytes_of 4 (bias_of (num_at s 0 4)))) None

@@ -1,10 +1,9 @@
 -- Laws of the kinds t and e: a walk over a body that lists its tokens, and how long a body written back can be.
 use Prim.Native.Nat.{ℕ, zero, suc, ◌+◌, ◌-◌, ◌*◌, ◌≤◌, ◌<◌}
-use Rattle.std.specs.Prelude.{◌≡◌, Bool, List, [], ◌∷◌, ◌++◌, ◌⊎◌, leb}
+use Rattle.std.specs.Prelude.{◌≡◌, Bool, List, [], ◌∷◌, ◌++◌, ◌⊎◌, leb, None, Option, Some, Ok, Err, Result}
 use Rattle.std.proofs.Math.Path.{refl, sym, ap, subst}
 use Rattle.std.proofs.Common.{◌∙◌, append_assoc, append-nil, inl, inr, length-append, leb-false}
 use Rattle.std.proofs.Math.Bool.{true, false}
-use Rattle.std.proofs.Math.Option.{Option, none, some}
 use native.Mathlib.Omega.{arith}
 use Rattle.std.proofs.Math.ListN.{length}
 use Rattle.octets.specs.Pick.{pick}
@@ -15,16 +14,14 @@ use Rattle.charstring.specs.Token.{Tok, num, Lexeme, lost, got_num, got_op, got_
 use Rattle.charstring.specs.Encode.{tok_bytes, encode, body_bytes}
 use Rattle.charstring.specs.Answers.{step_of, told, Within, given_at, Recodes}
 use Rattle.charstring.specs.TokenLaws.{byte_left, token-length as length-told}
-use Rattle.charstring.specs.TokensLaws.{bit, fuel_of, Next, next_of, lost_of, start-within}
+use Rattle.charstring.specs.TokensLaws.{bit, fuel_of, Next, read_parts, next_of, lost_of, start-within}
 use Rattle.charstring.specs.EncodeLaws.{given-due}
 use Rattle.charstring.specs.declared.MaskLen.{MaskLen}
 use Rattle.charstring.specs.declared.Cursor.{Cursor}
 use Rattle.charstring.specs.declared.Token.{Token}
 use Rattle.charstring.specs.declared.Token.TheVariants.{Num, Op, Esc, Mask}
-use Rattle.charstring.specs.declared.Step.{Step}
-use Rattle.charstring.specs.declared.Step.TheVariants.{Tok as TokAt, Lost}
-use Rattle.charstring.specs.declared.Recoded.{Recoded}
-use Rattle.charstring.specs.declared.Recoded.TheVariants.{Cut, Full, Done}
+use Rattle.charstring.specs.declared.RecodeError.{RecodeError}
+use Rattle.charstring.specs.declared.RecodeError.TheVariants.{Cut, Full}
 use Rattle.charstring_cases.specs.Numbers.{count_bytes}
 use Rattle.charstring_cases.specs.Streams.{ahead, listed, list_from, flagged, tokens_bytes, recoded_bytes, token_bytes}
 use Rattle.cases.specs.Answers.{Starts}
@@ -37,40 +34,40 @@ no h = omega arith
 -- ---- bytes in front
 
 ahead_none : (o : Option (List ℕ)) → ahead [] o ≡ o
-ahead_none none = refl
-ahead_none (some bs) = refl
+ahead_none None = refl
+ahead_none (Some bs) = refl
 
 ahead-ahead : (a b : List ℕ) (o : Option (List ℕ)) → ahead a (ahead b o) ≡ ahead (a ++ b) o
-ahead-ahead a b none = refl
-ahead-ahead a b (some bs) = ap some (sym (append_assoc a b bs))
+ahead-ahead a b None = refl
+ahead-ahead a b (Some bs) = ap Some (sym (append_assoc a b bs))
 
 -- ---- one token
 
-only : (u v : Tok) → ◌≡◌ {A = Option (List Tok)} (some (u ∷ [])) (some (v ∷ [])) → u ≡ v
+only : (u v : Tok) → ◌≡◌ {A = Option (List Tok)} (Some (u ∷ [])) (Some (v ∷ [])) → u ≡ v
 only u v e = cc
 
 -- the token that the code has, for the lexeme that stands there
-listed-token : (s : List ℕ) (c : Cursor) (q : Lexeme) (t : Token) (d : Cursor) → Next s c q t d → step_of q ≡ TokAt t d
+listed-token : (s : List ℕ) (c : Cursor) (q : Lexeme) (t : Token) (d : Cursor) → Next s c q t d → step_of q ≡ Some (t, d)
     → (rest : Cursor → Option (List ℕ)) → listed q rest ≡ ahead (token_bytes t) (rest d)
 listed-token s c lost t d n e rest = absurd (no cc)
 listed-token s c (got_num z x) t d n e rest =
-    let f : t ≡ Num (float_of z) = cc in
-    let g : x ≡ d = cc in
-    let h : num z ≡ told s t = only (num z) (told s t) (n.goes (λ y. some [])) in
+    let f : t ≡ Num (float_of z) = sym (read_parts _ _ _ _ e).0 in
+    let g : x ≡ d = (read_parts _ _ _ _ e).1 in
+    let h : num z ≡ told s t = only (num z) (told s t) (n.goes (λ y. Some [])) in
     let i : num z ≡ num (scaled_of (float_of z)) = h ∙ ap (told s) f in
     let k : z ≡ scaled_of (float_of z) = cc in
     ap (λ (y : _). ahead (1 ∷ count_bytes y) (rest x)) k ∙ ap (λ (y : Token). ahead (token_bytes y) (rest x)) (sym f) ∙ ap (λ (y : Cursor). ahead (token_bytes t) (rest y)) g
 listed-token s c (got_op b x) t d n e rest =
-    let f : Op b ≡ t = cc in
-    let g : x ≡ d = cc in
+    let f : Op b ≡ t = (read_parts _ _ _ _ e).0 in
+    let g : x ≡ d = (read_parts _ _ _ _ e).1 in
     ap (λ (y : Token). ahead (token_bytes y) (rest x)) f ∙ ap (λ (y : Cursor). ahead (token_bytes t) (rest y)) g
 listed-token s c (got_esc b x) t d n e rest =
-    let f : Esc b ≡ t = cc in
-    let g : x ≡ d = cc in
+    let f : Esc b ≡ t = (read_parts _ _ _ _ e).0 in
+    let g : x ≡ d = (read_parts _ _ _ _ e).1 in
     ap (λ (y : Token). ahead (token_bytes y) (rest x)) f ∙ ap (λ (y : Cursor). ahead (token_bytes t) (rest y)) g
 listed-token s c (got_mask a m x) t d n e rest =
-    let f : Mask a m ≡ t = cc in
-    let g : x ≡ d = cc in
+    let f : Mask a m ≡ t = (read_parts _ _ _ _ e).0 in
+    let g : x ≡ d = (read_parts _ _ _ _ e).1 in
     ap (λ (y : Token). ahead (token_bytes y) (rest x)) f ∙ ap (λ (y : Cursor). ahead (token_bytes t) (rest y)) g
 
 -- ---- a walk: the tokens done are written, and they and what is left are the body's
@@ -109,7 +106,7 @@ module _ (given : ℕ → MaskLen) (s : List ℕ) (b : Octets s) where
       go true e = let o : bit c.due ≡ 1 = ap bit e in omega arith
       go false e = omega (arith, byte_left s c e m)
 
-  none_more : (k : ℕ) (c : Cursor) → more s c ≡ false → list_from k given s c ≡ some []
+  none_more : (k : ℕ) (c : Cursor) → more s c ≡ false → list_from k given s c ≡ Some []
   unfolding list_from
   none_more zero c e = refl
   none_more (suc k) c e = rw e
@@ -123,34 +120,34 @@ module _ (given : ℕ → MaskLen) (s : List ℕ) (b : Octets s) where
     unfolding tokens_bytes
     listing_end l e =
         starts_as (starts-wrote l.wrote)
-        (sym (ap flagged (l.rest ∙ ap (ahead l.done) (none_more l.fuel c e) ∙ ap some (append-nil l.done))))
+        (sym (ap flagged (l.rest ∙ ap (ahead l.done) (none_more l.fuel c e) ∙ ap Some (append-nil l.done))))
 
-    module _ (m : more s c ≡ true) (r : Step) (e : r ≡ step_of (token_at s (given_at given c) c)) where
-      pub listing-next : Within s c → (t : Token) (d : Cursor) → r ≡ TokAt t d → Next s c (token_at s (given_at given c) c) t d
+    module _ (m : more s c ≡ true) (r : Option (Token × Cursor)) (e : r ≡ step_of (token_at s (given_at given c) c)) where
+      pub listing-next : Within s c → (t : Token) (d : Cursor) → r ≡ Some (t, d) → Next s c (token_at s (given_at given c) c) t d
       listing-next w t d f = next_of s c (given_at given c) b w m r e t d f
 
-      pub listing-cut : Listing given s c new p → r ≡ Lost → 0 ∷ [] ≡ tokens_bytes given s
+      pub listing-cut : Listing given s c new p → r ≡ None → 0 ∷ [] ≡ tokens_bytes given s
       unfolding tokens_bytes
       listing-cut l f = sym (ap flagged (l.rest ∙ ap (ahead l.done) (cut_at l.fuel l.enough)))
         where
           nothing : token_at s (given_at given c) c ≡ lost
           nothing = lost_of s c (given_at given c) r e f
 
-          cut_at : (k : ℕ) → fuel_of s c ≤ k → list_from k given s c ≡ none
+          cut_at : (k : ℕ) → fuel_of s c ≤ k → list_from k given s c ≡ None
           cut_at zero h = absurd (let y : ⊥ = omega (arith, fuel_left c m) in y)
           cut_at (suc k) h = one_more k c m ∙ ap (λ (q : Lexeme). listed q (list_from k given s)) nothing
 
-      pub listing-room : (l : Listing given s c new p) (t : Token) (d : Cursor) → r ≡ TokAt t d → p + length (token_bytes t) ≤ length new
+      pub listing-room : (l : Listing given s c new p) (t : Token) (d : Cursor) → r ≡ Some (t, d) → p + length (token_bytes t) ≤ length new
       listing-room l t d f = omega (arith, (listing-next l.within t d f).moves.shorter, l.room, token-length t)
 
-      listing-more : (k : ℕ) (done : List ℕ) (t : Token) (d : Cursor) (n : Next s c (token_at s (given_at given c) c) t d) → r ≡ TokAt t d → fuel_of s c ≤ suc k
+      listing-more : (k : ℕ) (done : List ℕ) (t : Token) (d : Cursor) (n : Next s c (token_at s (given_at given c) c) t d) → r ≡ Some (t, d) → fuel_of s c ≤ suc k
           → list_from (2 * length s) given s start ≡ ahead done (list_from (suc k) given s c)
           → list_from (2 * length s) given s start ≡ ahead (done ++ token_bytes t) (list_from k given s d)
       listing-more k done t d n f h l =
           l ∙ ap (ahead done) (one_more k c m ∙ listed-token s c (token_at s (given_at given c) c) t d n (sym e ∙ f) (list_from k given s))
           ∙ ahead-ahead done (token_bytes t) (list_from k given s d)
 
-      pub listing-turn : (l : Listing given s c new p) (t : Token) (d : Cursor) → r ≡ TokAt t d → (newer : List ℕ) (q : ℕ) → Wrote new p (token_bytes t) newer q
+      pub listing-turn : (l : Listing given s c new p) (t : Token) (d : Cursor) → r ≡ Some (t, d) → (newer : List ℕ) (q : ℕ) → Wrote new p (token_bytes t) newer q
           → Listing given s d newer q
       listing-turn l t d f newer q v = turn l.fuel l.enough l.rest
         where
@@ -173,7 +170,7 @@ module _ (given : ℕ → MaskLen) (s : List ℕ) (b : Octets s) where
 
 -- ---- how long a body written back can be
 
-step_or_lost : (q : Lexeme) → (q ≡ lost) ⊎ ((t : Token) × (d : Cursor) × (step_of q ≡ TokAt t d))
+step_or_lost : (q : Lexeme) → (q ≡ lost) ⊎ ((t : Token) × (d : Cursor) × (step_of q ≡ Some (t, d)))
 step_or_lost lost = inl refl
 step_or_lost (got_num z d) = inr (Num (float_of z), d, refl)
 step_or_lost (got_op b d) = inr (Op b, d, refl)
@@ -182,8 +179,8 @@ step_or_lost (got_mask a n d) = inr (Mask a n, d, refl)
 
 join-length : (u : Tok) (x : Option (List Tok)) → length (body_bytes (join (u ∷ []) x)) ≤ length (tok_bytes u) + length (body_bytes x)
 unfolding encode
-join-length u none = omega arith
-join-length u (some us) = rw length-append (omega arith)
+join-length u None = omega arith
+join-length u (Some us) = rw length-append (omega arith)
 
 module _ (given : ℕ → MaskLen) (s : List ℕ) (b : Octets s) where
   -- a token takes no more than five bytes for each of its own
@@ -191,7 +188,7 @@ module _ (given : ℕ → MaskLen) (s : List ℕ) (b : Octets s) where
   Short k = (c : Cursor) → Within s c → length (body_bytes (tokens_from k given s c)) + 5 * c.at ≤ 5 * length s
 
   short-step : (k : ℕ) → Short k → (c : Cursor) → Within s c → more s c ≡ true → (q : Lexeme) → token_at s (given (c.at - 1)) c ≡ q
-      → (q ≡ lost) ⊎ ((t : Token) × (d : Cursor) × (step_of q ≡ TokAt t d))
+      → (q ≡ lost) ⊎ ((t : Token) × (d : Cursor) × (step_of q ≡ Some (t, d)))
       → length (body_bytes (onward s q (tokens_from k given s))) + 5 * c.at ≤ 5 * length s
   unfolding Short
   short-step k ih c w m q f (inl e) = rw e (omega (arith, w.inside))
@@ -223,31 +220,31 @@ module _ (given : ℕ → MaskLen) (s : List ℕ) (b : Octets s) where
 
 -- ---- a body written back behind a 1
 
-done_is : (t : Bool) (n q : ℕ) (a b : List ℕ) → pick t (Done n) Full ≡ Done q → (n ≡ q) × (pick t a b ≡ a)
+done_is : (t : Bool) (n q : ℕ) (a b : List ℕ) → pick t (Ok n) (Err Full) ≡ Ok q → (n ≡ q) × (pick t a b ≡ a)
 done_is true n q a b e = (cc, refl)
 done_is false n q a b e = absurd (no cc)
 
-never_cut : (t : Bool) (n : ℕ) → pick t (Done n) Full ≡ Cut → ⊥
+never_cut : (t : Bool) (n : ℕ) → pick t (Ok n) (Err Full) ≡ Err Cut → ⊥
 never_cut true n e = no cc
 never_cut false n e = no cc
 
-full_is : (t : Bool) (n : ℕ) → pick t (Done n) Full ≡ Full → t ≡ false
+full_is : (t : Bool) (n : ℕ) → pick t (Ok n) (Err Full) ≡ Err Full → t ≡ false
 full_is true n e = absurd (no cc)
 full_is false n e = refl
 
 module _ (one : List ℕ) (p : ℕ) where
-  pub recoded_done : (old : List ℕ) → Wrote old 0 (1 ∷ []) one p → (x : Option (List Tok)) (new : List ℕ) (r : Recoded) → Recodes one p x new r
-      → (q : ℕ) → r ≡ Done q → Starts (recoded_bytes x) new q
-  recoded_done old w none new r z q e = absurd (no (cc z.answer))
-  recoded_done old w (some ts) new r z q e =
+  pub recoded_done : (old : List ℕ) → Wrote old 0 (1 ∷ []) one p → (x : Option (List Tok)) (new : List ℕ) (r : Result ℕ RecodeError) → Recodes one p x new r
+      → (q : ℕ) → r ≡ Ok q → Starts (recoded_bytes x) new q
+  recoded_done old w None new r z q e = absurd (no (cc z.answer))
+  recoded_done old w (Some ts) new r z q e =
       let d = done_is (leb (p + length (encode ts)) (length one)) (p + length (encode ts)) q (put one p (encode ts)) one (sym z.answer ∙ e) in
       starts-wrote (wrote_then (omega arith) w (record { is = z.leaves ∙ d.1; behind = sym d.0 }))
 
-  pub recoded_cut : (x : Option (List Tok)) (new : List ℕ) (r : Recoded) → Recodes one p x new r → r ≡ Cut → 0 ∷ [] ≡ recoded_bytes x
-  recoded_cut none new r z e = refl
-  recoded_cut (some ts) new r z e = absurd (never_cut (leb (p + length (encode ts)) (length one)) (p + length (encode ts)) (sym z.answer ∙ e))
+  pub recoded_cut : (x : Option (List Tok)) (new : List ℕ) (r : Result ℕ RecodeError) → Recodes one p x new r → r ≡ Err Cut → 0 ∷ [] ≡ recoded_bytes x
+  recoded_cut None new r z e = refl
+  recoded_cut (Some ts) new r z e = absurd (never_cut (leb (p + length (encode ts)) (length one)) (p + length (encode ts)) (sym z.answer ∙ e))
 
-  pub recoded_full : (x : Option (List Tok)) (new : List ℕ) (r : Recoded) → Recodes one p x new r → r ≡ Full → length one < p + length (body_bytes x)
-  recoded_full none new r z e = absurd (no (cc z.answer))
-  recoded_full (some ts) new r z e =
+  pub recoded_full : (x : Option (List Tok)) (new : List ℕ) (r : Result ℕ RecodeError) → Recodes one p x new r → r ≡ Err Full → length one < p + length (body_bytes x)
+  recoded_full None new r z e = absurd (no (cc z.answer))
+  recoded_full (Some ts) new r z e =
       leb-false (p + length (encode ts)) (length one) (full_is (leb (p + length (encode ts)) (length one)) (p + length (encode ts)) (sym z.answer ∙ e))

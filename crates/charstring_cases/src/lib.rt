@@ -11,8 +11,8 @@ ghost use Rattle.charstring_cases.specs.Streams.{token_bytes, tokens_bytes, reco
 ghost use Rattle.cases.specs.Answers.{Starts, Gives};
 ghost use Rattle.charstring_cases.specs.Answers.{answer_to};
 
-use cases::{Answered, sign_of};
-use charstring::{Recoded, Step, Token};
+use cases::sign_of;
+use charstring::{RecodeError, Token};
 use octets::{put_byte, put_num};
 use type2_number::Number;
 
@@ -27,72 +27,72 @@ fn put_count(v: f32, out: &mut [u8], at: usize) -> usize
 }
 
 // Kind n: the number at the first byte.
-fn answer_number(input: &[u8], out: &mut [u8]) -> Answered
+fn answer_number(input: &[u8], out: &mut [u8]) -> Option<usize>
     requires { 1024 ≤ length out.old }
     ensures { Gives (number_answer input.now) out.new result }
 {
     if input.len() == 0 {
-        return Answered::Outside;
+        return None;
     }
     match type2_number::read_number(input, 0) {
-        Number::Cut => Answered::Bytes(put_byte(out, 0, 0)),
-        Number::Operator => Answered::Bytes(put_byte(out, 0, 1)),
+        Number::Cut => Some(put_byte(out, 0, 0)),
+        Number::Operator => Some(put_byte(out, 0, 1)),
         Number::Num { value, next } => {
             let p = put_byte(out, 0, 2);
             let q = put_count(value, out, p);
-            Answered::Bytes(put_num(out, q, next, 1))
+            Some(put_num(out, q, next, 1))
         }
     }
 }
 
 // Kind i: an integer written.
-fn answer_integer(input: &[u8], out: &mut [u8]) -> Answered
+fn answer_integer(input: &[u8], out: &mut [u8]) -> Option<usize>
     requires { 1024 ≤ length out.old }
     ensures { Gives (integer_answer input.now) out.new result }
 {
     if input.len() != 3 {
-        return Answered::Outside;
+        return None;
     }
     let sign = input[0];
     if 1 < sign {
-        return Answered::Outside;
+        return None;
     }
     let size = octets::u16_at(input, 1);
     if size < 32768 {
-        return Answered::Bytes(type2_number::encode_number(sign == 1, size, out, 0));
+        return Some(type2_number::encode_number(sign == 1, size, out, 0));
     }
-    Answered::Outside
+    None
 }
 
 // Kind f: a 16.16 written.
-fn answer_fixed(input: &[u8], out: &mut [u8]) -> Answered
+fn answer_fixed(input: &[u8], out: &mut [u8]) -> Option<usize>
     requires { 1024 ≤ length out.old }
     ensures { Gives (fixed_answer input.now) out.new result }
 {
     if input.len() != 5 {
-        return Answered::Outside;
+        return None;
     }
     let sign = input[0];
     if 1 < sign {
-        return Answered::Outside;
+        return None;
     }
     let size = octets::u32_at(input, 1);
     if size <= 2147483648 {
-        return Answered::Bytes(type2_number::encode_fixed(sign == 1, size, out, 0));
+        return Some(type2_number::encode_fixed(sign == 1, size, out, 0));
     }
-    Answered::Outside
+    None
 }
 
 // Kind b: the bias of a count of subroutines.
-fn answer_bias(input: &[u8], out: &mut [u8]) -> Answered
+fn answer_bias(input: &[u8], out: &mut [u8]) -> Option<usize>
     requires { 1024 ≤ length out.old }
     ensures { Gives (bias_answer input.now) out.new result }
 {
     if input.len() != 4 {
-        return Answered::Outside;
+        return None;
     }
     let count = octets::u32_at(input, 0);
-    Answered::Bytes(put_num(out, 0, charstring::bias(count), 4))
+    Some(put_num(out, 0, charstring::bias(count), 4))
 }
 
 // A token of a case.
@@ -131,11 +131,11 @@ fn put_tokens(code: &[u8], pairs: &[u32], out: &mut [u8]) -> usize
     while charstring::more(code, c) {
         let given = charstring::given_at(pairs, c);
         match charstring::next_token(code, c, given) {
-            Step::Tok { token, next } => {
+            Some((token, next)) => {
                 p = put_token(token, &mut *out, p);
                 c = next;
             }
-            Step::Lost => {
+            None => {
                 return put_byte(out, 0, 0);
             }
         }
@@ -150,9 +150,9 @@ fn put_recoded(code: &[u8], pairs: &[u32], out: &mut [u8]) -> usize
 {
     let p = put_byte(&mut *out, 0, 1);
     match charstring::recode(code, pairs, &mut *out, p) {
-        Recoded::Done(q) => q,
-        Recoded::Cut => put_byte(out, 0, 0),
-        Recoded::Full => put_byte(out, 0, 0),
+        Ok(q) => q,
+        Err(RecodeError::Cut) => put_byte(out, 0, 0),
+        Err(RecodeError::Full) => put_byte(out, 0, 0),
     }
 }
 
@@ -172,41 +172,39 @@ fn put_pairs(input: &[u8], n: usize, pairs: &mut [u32]) -> usize
     requires { (1 + 2 * n ≤ length input.now) × (n ≤ length pairs.old) }
     ensures { Wrote pairs.old 0 (pairs_at input.now 1 n) pairs.new result }
 {
-    let mut i = 0;
-    while i < n {
+    for i in 0..n {
         pairs[i] = octets::u16_at(input, 1 + 2 * i) as u32;
-        i += 1;
     }
-    i
+    n
 }
 
 // Kinds t and e: a count of pairs, the pairs, and a body.
-fn answer_stream(tokens: bool, input: &[u8], out: &mut [u8]) -> Answered
+fn answer_stream(tokens: bool, input: &[u8], out: &mut [u8]) -> Option<usize>
     requires { 1024 ≤ length out.old }
     ensures { Gives (stream_answer tokens input.now) out.new result }
 {
     let n = input.len();
     if n == 0 {
-        return Answered::Outside;
+        return None;
     }
     let count = octets::wide(input[0]);
     if 16 < count {
-        return Answered::Outside;
+        return None;
     }
     let at = 1 + 4 * count;
     if n < at {
-        return Answered::Outside;
+        return None;
     }
     if 60 < n - at {
-        return Answered::Outside;
+        return None;
     }
     let mut pairs = [0u32; 32];
     let k = put_pairs(input, 2 * count, &mut pairs);
-    Answered::Bytes(put_stream(tokens, &input[at..], &pairs[..k], out))
+    Some(put_stream(tokens, &input[at..], &pairs[..k], out))
 }
 
-// The answer to an input, by its kind's letter.
-pub fn answer(kind: u8, input: &[u8], out: &mut [u8]) -> Answered
+// The answer to an input, by its kind's letter: how many bytes of it stand at the start of out; None outside the kind's domain.
+pub fn answer(kind: u8, input: &[u8], out: &mut [u8]) -> Option<usize>
     requires { 4096 ≤ length out.old }
     ensures { Gives (answer_to kind input.now) out.new result }
 {
@@ -217,6 +215,6 @@ pub fn answer(kind: u8, input: &[u8], out: &mut [u8]) -> Answered
         b't' => answer_stream(true, input, out),
         b'e' => answer_stream(false, input, out),
         b'b' => answer_bias(input, out),
-        _ => Answered::Outside,
+        _ => None,
     }
 }

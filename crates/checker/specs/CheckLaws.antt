@@ -1,9 +1,8 @@
 -- Laws of the answer: what the marked glyphs meet, the conditions, and the refusals in their order.
-use Rattle.std.specs.Prelude.{ℕ, ◌≡◌, refl, Bool, true, false, not, length}
+use Rattle.std.specs.Prelude.{ℕ, ◌≡◌, refl, Bool, true, false, not, length, None, Option, Some}
 use Rattle.std.proofs.Math.Path.{sym, ap}
 use Rattle.std.proofs.Common.{◌∙◌, subst}
 use mathlib.Core.List.{List}
-use Rattle.std.proofs.Math.Option.{Option, none, some}
 use Rattle.octets.specs.Pick.{pick}
 use Rattle.octets.specs.Octets.{Octets}
 use Rattle.octets.specs.Lists.{all_below}
@@ -23,8 +22,6 @@ use Rattle.subset.specs.Cut.{all_found_lem}
 use Rattle.kept.specs.Packed.{Marks, marked}
 use Rattle.kept.specs.OrderLaws.{kept-marked}
 use Rattle.faithful.specs.GoodLaws.{font-good}
-use Rattle.interpret.specs.declared.Met.{Met}
-use Rattle.interpret.specs.declared.Met.TheVariants.{NotPlain, Plain}
 use Rattle.traced.specs.Traced.{met_all}
 use Rattle.traced.specs.RowLaws.{RowFits}
 use Rattle.traced.proofs.Theorem.{kept-fits}
@@ -38,24 +35,24 @@ use Rattle.checker.specs.KeyLaws.{keys-listed}
 
 -- ---- the marked glyphs
 
-module _ (b : List ℕ) (f : Font) (marks : List ℕ) (fit : RowsFit (met_in b f marks)) (keys keys' : List ℕ) (a : Met)
+module _ (b : List ℕ) (f : Font) (marks : List ℕ) (fit : RowsFit (met_in b f marks)) (keys keys' : List ℕ) (a : Option ℕ)
     (w : Fills (met_in b f marks) (record { low = 0; high = top }) keys keys' a) where
   -- one is not plain
-  pub met_broken : a ≡ NotPlain → (rec : List ℕ) → false ≡ lists_met (rows_of rec) (met_in b f marks)
+  pub met_broken : a ≡ None → (rec : List ℕ) → false ≡ lists_met (rows_of rec) (met_in b f marks)
   met_broken e rec = by (met_in b f marks) w.says
     where
       by : (m : Option (List Row)) → Filling m (record { low = 0; high = top }) keys keys' a → false ≡ lists_met (rows_of rec) m
-      by none x = refl
-      by (some rows) x = let k : NotPlain ≡ Plain x.0 = sym e ∙ x.1 in absurd (zero_one cc)
+      by None x = refl
+      by (Some rows) x = let k : None ≡ Some x.0 = sym e ∙ x.1 in absurd (zero_one cc)
 
   -- all are
-  module _ (n : ℕ) (e : a ≡ Plain n) where
+  module _ (n : ℕ) (e : a ≡ Some n) where
     pub met_plainly : Plainly b f marks
     met_plainly = record { plain = by (met_in b f marks) w.says; fits = fit }
       where
-        by : (m : Option (List Row)) → Filling m (record { low = 0; high = top }) keys keys' a → m ≡ some (or_none m)
-        by none x = let k : Plain n ≡ NotPlain = sym e ∙ x in absurd (zero_one cc)
-        by (some rows) x = refl
+        by : (m : Option (List Row)) → Filling m (record { low = 0; high = top }) keys keys' a → m ≡ Some (or_none m)
+        by None x = let k : Some n ≡ None = sym e ∙ x in absurd (zero_one cc)
+        by (Some rows) x = refl
 
     pub met_asks : length keys ≡ 65536 → Asks (keys_in b f marks) keys' n 0
     met_asks l = asks_filled (keys_in b f marks) keys keys' n 0 l (refill-plain b f marks met_plainly 0 keys keys' a w n e)
@@ -121,8 +118,8 @@ module _ (file : List ℕ) (f : Font) (b : List ℕ) (octets : Octets file) (hel
   table_fits = record { fits = by (met_all p (kept_of count keep)) refl }
     where
       by : (x : Option (List Row)) → met_all p (kept_of count keep) ≡ x → All RowFits (or_none x)
-      by none e = no_row
-      by (some rows) e = kept-fits file keep 0 octets p held.is rows (ap (λ (n : ℕ). met_all p (kept_of n keep)) many ∙ e)
+      by None e = no_row
+      by (Some rows) e = kept-fits file keep 0 octets p held.is rows (ap (λ (n : ℕ). met_all p (kept_of n keep)) many ∙ e)
 
   tested : check_of file keep rec
       ≡ pick (all_below count keep) (pick (all_found_lem p (kept_of count keep)) (pick (record_fine f.cid rec 1) (pick (accepted_by p keep rec) 0 14) 8) 7) 6

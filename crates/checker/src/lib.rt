@@ -17,7 +17,7 @@ ghost use Rattle.accepted.specs.Accepted.{lists_met, accepted_by, check_of};
 ghost use Rattle.checker.specs.Checking.{Asks};
 
 use cff::font::{Font, FontRead};
-use interpret::{Met, Range};
+use interpret::Range;
 use refusal::Refusal;
 
 // Whether the record has all rows that the marked glyphs meet, by windows from the first on.
@@ -56,8 +56,8 @@ fn lists_met(font: &[u8], f: Font, marks: &[u32], rows: &[u8]) -> bool
         high: tracer::TOP,
     };
     match tracer::fill(font, f, marks, all, &mut keys) {
-        Met::NotPlain => false,
-        Met::Plain(first) => windows_listed(font, f, marks, &mut keys, first, rows),
+        None => false,
+        Some(first) => windows_listed(font, f, marks, &mut keys, first, rows),
     }
 }
 

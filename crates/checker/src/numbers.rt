@@ -35,15 +35,9 @@ fn put_limits(font: &[u8], f: Font, marks: &[u32], limits: &mut [usize])
     ensures { Limits (program_of font.now f) (fds_of (program_of font.now f) (those (marked marks.now) f.charstrings.count 0))
         limits.new }
 {
-    let charstrings = f.charstrings;
-    let glyphs = charstrings.count;
-    let mut g: usize = 0;
-    while g < glyphs {
-        if marks[g] == 0 {
-            g += 1;
-        } else {
+    for g in 0..f.charstrings.count {
+        if marks[g] != 0 {
             put_limit(font, f, g, &mut *limits);
-            g += 1;
         }
     }
 }
@@ -68,16 +62,7 @@ fn numbers_fit(rows: &[u8], globals: usize, limits: &[usize]) -> bool
     requires { length limits.now ≡ 256 }
     ensures { result ≡ each_row (number_fits globals limits.now) (rows_of rows.now) }
 {
-    let count = rows.len() / 10;
-    let mut i = 0;
-    while i < count {
-        if number_fits(reach::row_at(rows, i), globals, limits) {
-            i += 1;
-        } else {
-            return false;
-        }
-    }
-    true
+    (0..rows.len() / 10).all(|i| number_fits(reach::row_at(rows, i), globals, limits))
 }
 
 // Whether each subroutine that the record lists exists, those of FDs that no marked glyph has aside.

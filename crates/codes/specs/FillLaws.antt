@@ -1,5 +1,5 @@
 -- Laws of the loops that fill the table: what is left to store gives, from what is stored, what all of it gives from the beginning.
-use Rattle.std.specs.Prelude.{ℕ, ◌+◌, ◌-◌, ◌*◌, ◌/◌, ◌%◌, ◌≤◌, ◌<◌, ◌≡◌, Bool, false, ltb, eqb, take, drop, get_or}
+use Rattle.std.specs.Prelude.{ℕ, ◌+◌, ◌-◌, ◌*◌, ◌/◌, ◌%◌, ◌≤◌, ◌<◌, ◌≡◌, Bool, false, ltb, eqb, take, drop, get_or, None, Some}
 use Rattle.std.proofs.Math.Path.{refl, sym, ap}
 use Rattle.std.proofs.Common.{◌∙◌, eq-eqb, ne_eqb, le-ltb, get_or-drop, drop-drop}
 use mathlib.Core.List.{List, [], ◌∷◌, ◌++◌}
@@ -10,8 +10,6 @@ use Rattle.octets.specs.Octets.{num_at}
 use Rattle.charset.specs.Encoding.{encoding_at}
 use Rattle.charset.specs.Codes.{Naming, by_number, by_string, codes_from, range_from, ranges_from, supplied_from, namings_by, namings_at}
 use Rattle.charset.specs.CodesFound.{supplements_at, GoodEncoding, encoding-good}
-use Rattle.find.specs.declared.Found.{Found}
-use Rattle.find.specs.declared.Found.TheVariants.{Absent, Glyph}
 use Rattle.cff.specs.Font.{Program}
 use Rattle.cff.specs.Reads.{GoodFont}
 use Rattle.cff.specs.declared.font.Font.{Font}
@@ -31,11 +29,11 @@ pub codes-start : (b : List ℕ) (at count n : ℕ) (old : List ℕ) → at + co
 codes-start b at count n old within few = record { size = refl; within = within; few = omega arith; is = λ p e. refl }
 
 module _ (b : List ℕ) (at count n : ℕ) (old table : List ℕ) (q glyph left : ℕ) (l : CodesLeft b at count n old table q glyph left) where
-  pub codes-turn : 0 < left → (code : ℕ) → code ≡ get_or b q 0 → (new : List ℕ) → new ≡ stored table code (pick (ltb glyph n) (Glyph glyph) Absent)
+  pub codes-turn : 0 < left → (code : ℕ) → code ≡ get_or b q 0 → (new : List ℕ) → new ≡ stored table code (pick (ltb glyph n) (Some glyph) None)
       → CodesLeft b at count n old new (q + 1) (glyph + 1) (left - 1)
   codes-turn some code c new e =
       record {
-        size = ap length e ∙ stored-length table code (pick (ltb glyph n) (Glyph glyph) Absent) ∙ l.size;
+        size = ap length e ∙ stored-length table code (pick (ltb glyph n) (Some glyph) None) ∙ l.size;
         within = omega (arith, l.within);
         few = omega (arith, l.few);
         is = λ p h. number-next p n h table new code glyph (codes_from (glyph + 1) (take (left - 1) (drop (q + 1) b))) e
@@ -61,11 +59,11 @@ pub range-start : (n first from count : ℕ) (old : List ℕ) → first < 256 �
 range-start n first from count old a b c = record { size = refl; codes = omega arith; few = omega arith; is = λ p e. refl }
 
 module _ (n first from count : ℕ) (old table : List ℕ) (code glyph left : ℕ) (l : RangeLeft n first from count old table code glyph left) where
-  pub range-turn : 0 < left → (new : List ℕ) → new ≡ stored table code (pick (ltb glyph n) (Glyph glyph) Absent)
+  pub range-turn : 0 < left → (new : List ℕ) → new ≡ stored table code (pick (ltb glyph n) (Some glyph) None)
       → RangeLeft n first from count old new (code + 1) (glyph + 1) (left - 1)
   range-turn some new e =
       record {
-        size = ap length e ∙ stored-length table code (pick (ltb glyph n) (Glyph glyph) Absent) ∙ l.size;
+        size = ap length e ∙ stored-length table code (pick (ltb glyph n) (Some glyph) None) ∙ l.size;
         codes = omega (arith, l.codes);
         few = omega (arith, l.few);
         is = λ p h. number-next p n h table new code glyph (range_from (left - 1) (code + 1) (glyph + 1)) e

@@ -1,22 +1,20 @@
 -- The glyphs of the 256 codes of a custom encoding as a table holds them (TN5176, section 12; document 02, Wish 4): 0 for a code that names none, else
 -- the glyph's number + 1. A naming whose glyph there is not, or whose code is above 255, is passed over.
-use Rattle.std.specs.Prelude.{ℕ, ◌+◌, ◌≡◌, List, [], ◌∷◌, ltb, length, set}
+use Rattle.std.specs.Prelude.{ℕ, ◌+◌, ◌≡◌, List, [], ◌∷◌, ltb, length, set, None, Option, Some}
 use Rattle.octets.specs.Pick.{pick}
 use Rattle.charset.specs.Codes.{Naming}
-use Rattle.find.specs.declared.Found.{Found}
-use Rattle.find.specs.declared.Found.TheVariants.{Absent, Glyph}
 use Rattle.cff.specs.Font.{Program}
 use Rattle.subset.specs.Codes.{code_of, glyph_by}
 
 -- what the table holds of a code with this glyph
-abbrev pub held_of : Found → ℕ
-held_of Absent = 0
-held_of (Glyph g) = g + 1
+abbrev pub held_of : Option ℕ → ℕ
+held_of None = 0
+held_of (Some g) = g + 1
 
 -- the table once a code names a glyph, or none
-abbrev pub stored : List ℕ → ℕ → Found → List ℕ
-stored table code Absent = table
-stored table code (Glyph g) = pick (ltb code 256) (set table code (g + 1)) table
+abbrev pub stored : List ℕ → ℕ → Option ℕ → List ℕ
+stored table code None = table
+stored table code (Some g) = pick (ltb code 256) (set table code (g + 1)) table
 
 -- the table once all of these are stored
 unfoldable pub filled : Program → List ℕ → List Naming → List ℕ

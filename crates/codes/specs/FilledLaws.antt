@@ -1,5 +1,5 @@
 -- Laws of a filled table: one naming after the other, and what it holds of each code in the end.
-use Rattle.std.specs.Prelude.{ℕ, zero, suc, ◌+◌, ◌-◌, ◌≤◌, ◌<◌, ◌≡◌, refl, Bool, true, false, List, [], ◌∷◌, ◌++◌, ltb, eqb, length, take, drop, get_or, set, replicate}
+use Rattle.std.specs.Prelude.{ℕ, zero, suc, ◌+◌, ◌-◌, ◌≤◌, ◌<◌, ◌≡◌, refl, Bool, true, false, List, [], ◌∷◌, ◌++◌, ltb, eqb, length, take, drop, get_or, set, replicate, None, Option, Some}
 use Rattle.std.proofs.Common.{sym, ap, ◌∙◌, add-one, arith, lt-ltb, eqb-true, length-set, drop-cons, drop-drop, get_or-drop, get_or-set_same, get_or-set_other}
 use Rattle.std.proofs.lemmas.Bool.{eqb-false}
 use Rattle.std.proofs.lemmas.List.{length-replicate}
@@ -8,8 +8,6 @@ use Rattle.octets.specs.PickLaws.{pick_same}
 use Rattle.octets.specs.ListLaws.{zeros-at}
 use Rattle.octets.specs.Octets.{num_at}
 use Rattle.charset.specs.Codes.{Naming, by_number, by_string, codes_from, range_from, ranges_from, supplied_from}
-use Rattle.find.specs.declared.Found.{Found}
-use Rattle.find.specs.declared.Found.TheVariants.{Absent, Glyph}
 use Rattle.cff.specs.Font.{Program}
 use Rattle.subset.specs.Codes.{code_of, glyph_by, or_else, last_named}
 use Rattle.codes.specs.Filled.{held_of, stored, filled}
@@ -21,16 +19,16 @@ unfolding filled
 filled-append p table [] ys = refl
 filled-append p table (x ∷ xs) ys = filled-append p (stored table (code_of x) (glyph_by p x)) xs ys
 
-pub stored-length : (table : List ℕ) (code : ℕ) (f : Found) → length (stored table code f) ≡ length table
-stored-length table code Absent = refl
-stored-length table code (Glyph g) =
+pub stored-length : (table : List ℕ) (code : ℕ) (f : Option ℕ) → length (stored table code f) ≡ length table
+stored-length table code None = refl
+stored-length table code (Some g) =
     pick_ind (λ (l : List ℕ). length l ≡ length table) (ltb code 256) (set table code (g + 1)) table (λ e. length-set table code (g + 1)) (λ e. refl)
 
 -- ---- what the table holds
 
 -- of a code, once another or the same names a glyph
-module _ (table : List ℕ) (code c : ℕ) (long : 256 ≤ length table) (low : c < 256) (prev : Found) (is : get_or table c 0 ≡ held_of prev) where
-  stored_same : (g : ℕ) (t : Bool) → eqb code c ≡ t → get_or (pick (ltb code 256) (set table code (g + 1)) table) c 0 ≡ held_of (pick t (Glyph g) prev)
+module _ (table : List ℕ) (code c : ℕ) (long : 256 ≤ length table) (low : c < 256) (prev : Option ℕ) (is : get_or table c 0 ≡ held_of prev) where
+  stored_same : (g : ℕ) (t : Bool) → eqb code c ≡ t → get_or (pick (ltb code 256) (set table code (g + 1)) table) c 0 ≡ held_of (pick t (Some g) prev)
   stored_same g true e =
       let s : code ≡ c = eqb-true code c e in
       let l : ltb code 256 ≡ true = lt-ltb code 256 (omega arith) in
@@ -41,12 +39,12 @@ module _ (table : List ℕ) (code c : ℕ) (long : 256 ≤ length table) (low : 
       (λ t. get_or-set_other table code c (g + 1) 0 (λ s. d (sym s)) ∙ is)
       (λ t. is)
 
-  stored_at : (f : Found) → get_or (stored table code f) c 0 ≡ held_of (pick (eqb code c) (or_else f prev) prev)
-  stored_at Absent = is ∙ ap held_of (sym (pick_same (eqb code c) prev))
-  stored_at (Glyph g) = stored_same g (eqb code c) refl
+  stored_at : (f : Option ℕ) → get_or (stored table code f) c 0 ≡ held_of (pick (eqb code c) (or_else f prev) prev)
+  stored_at None = is ∙ ap held_of (sym (pick_same (eqb code c) prev))
+  stored_at (Some g) = stored_same g (eqb code c) refl
 
 -- of a code, once all are stored: the last glyph that it names
-pub filled_at : (p : Program) (table : List ℕ) (ns : List Naming) (c : ℕ) → 256 ≤ length table → c < 256 → (prev : Found) → get_or table c 0 ≡ held_of prev
+pub filled_at : (p : Program) (table : List ℕ) (ns : List Naming) (c : ℕ) → 256 ≤ length table → c < 256 → (prev : Option ℕ) → get_or table c 0 ≡ held_of prev
     → get_or (filled p table ns) c 0 ≡ held_of (last_named p c prev ns)
 unfolding filled last_named
 filled_at p table [] c long low prev is = is
@@ -57,19 +55,19 @@ filled_at p table (n ∷ ns) c long low prev is =
 
 -- a table that was empty
 pub filled-empty : (p : Program) (table : List ℕ) (ns : List Naming) → table ≡ replicate 256 0 → (c : ℕ) → c < 256
-    → get_or (filled p table ns) c 0 ≡ held_of (last_named p c Absent ns)
+    → get_or (filled p table ns) c 0 ≡ held_of (last_named p c None ns)
 filled-empty p table ns e c low =
     let l : length table ≡ 256 = ap length e ∙ length-replicate {A = ℕ} 256 0 in
-    filled_at p table ns c (omega arith) low Absent (ap (λ (t : List ℕ). get_or t c 0) e ∙ zeros-at 256 c)
+    filled_at p table ns c (omega arith) low None (ap (λ (t : List ℕ). get_or t c 0) e ∙ zeros-at 256 c)
 
 -- ---- one naming more, as the loops meet it
 
 -- by a glyph's number
 pub number-next : (p : Program) (n : ℕ) → length p.charstrings ≡ n → (table new : List ℕ) (code g : ℕ) (ns : List Naming)
-    → new ≡ stored table code (pick (ltb g n) (Glyph g) Absent) → filled p new ns ≡ filled p table (by_number code g ∷ ns)
+    → new ≡ stored table code (pick (ltb g n) (Some g) None) → filled p new ns ≡ filled p table (by_number code g ∷ ns)
 unfolding filled
 number-next p n e table new code g ns h =
-    ap (λ (t : List ℕ). filled p t ns) (h ∙ ap (λ (m : ℕ). stored table code (pick (ltb g m) (Glyph g) Absent)) (sym e))
+    ap (λ (t : List ℕ). filled p t ns) (h ∙ ap (λ (m : ℕ). stored table code (pick (ltb g m) (Some g) None)) (sym e))
 
 -- the first of the bytes that are left
 byte_next : (b : List ℕ) (q left : ℕ) → 0 < left → q + left ≤ length b → take left (drop q b) ≡ get_or b q 0 ∷ take (left - 1) (drop (q + 1) b)

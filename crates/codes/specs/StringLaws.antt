@@ -1,5 +1,5 @@
 -- Laws of the glyph of a string id: its text by the kind of id, and that a glyph that is found is in the font.
-use Rattle.std.specs.Prelude.{ℕ, zero, suc, ◌+◌, ◌-◌, ◌≤◌, ◌<◌, ◌≡◌, refl, Bool, true, List, [], ◌∷◌, map, ltb, length, take, drop, get_or}
+use Rattle.std.specs.Prelude.{ℕ, zero, suc, ◌+◌, ◌-◌, ◌≤◌, ◌<◌, ◌≡◌, refl, Bool, true, List, [], ◌∷◌, map, ltb, length, take, drop, get_or, None, Option, Some}
 use Rattle.std.proofs.Common.{sym, ap, ◌∙◌, arith, lt-ltb, ltb-true}
 use Rattle.octets.specs.Pick.{pick, pick_ind}
 use Rattle.octets.specs.PickLaws.{both_hold}
@@ -12,8 +12,6 @@ use Rattle.strings.specs.Strings.{standard_strings, standard_string, string_text
 use Rattle.strings.proofs.StringsLaws.{string_standard, string_own, string_none}
 use Rattle.charset.specs.CharsetFound.{good_length}
 use Rattle.find.specs.Find.{glyph_with_text}
-use Rattle.find.specs.declared.Found.{Found}
-use Rattle.find.specs.declared.Found.TheVariants.{Absent, Glyph}
 use Rattle.cff.specs.Font.{Program}
 use Rattle.cff.specs.Reads.{GoodFont, program_of}
 use Rattle.cff.specs.declared.font.Font.{Font}
@@ -39,7 +37,7 @@ standard-text old new k end w =
     let e : end - 0 ≡ 0 + length (standard_string k) = omega (arith, w.behind) in
     ap (λ (m : ℕ). take m new) e ∙ ap (take (0 + length (standard_string k))) w.is ∙ take_put old 0 (standard_string k) (omega arith)
 
-module _ (p : Program) (sid : ℕ) (text : List ℕ) (r : Found) (found : r ≡ glyph_with_text p.strings text 0 p.ids) where
+module _ (p : Program) (sid : ℕ) (text : List ℕ) (r : Option ℕ) (found : r ≡ glyph_with_text p.strings text 0 p.ids) where
   glyph-by : text ≡ string_text p.strings sid → r ≡ string_glyph p sid
   glyph-by e = found ∙ ap (λ (t : List ℕ). glyph_with_text p.strings t 0 p.ids) e
 
@@ -54,21 +52,21 @@ module _ (p : Program) (sid : ℕ) (text : List ℕ) (r : Found) (found : r ≡ 
 
 -- ---- the glyph
 
-found_below : (strings : List (List ℕ)) (name : List ℕ) (g : ℕ) (ids : List ℕ) (k : ℕ) → glyph_with_text strings name g ids ≡ Glyph k → k < g + length ids
+found_below : (strings : List (List ℕ)) (name : List ℕ) (g : ℕ) (ids : List ℕ) (k : ℕ) → glyph_with_text strings name g ids ≡ Some k → k < g + length ids
 unfolding glyph_with_text
 found_below strings name g [] k e = let z : ◌≡◌ {A = ℕ} 0 1 = cc in absurd (omega arith)
 found_below strings name g (x ∷ ids) k e =
-    pick_ind (λ (o : Found). o ≡ Glyph k → k < g + length (x ∷ ids)) (same_text_lem (string_text strings x) name) (Glyph g) (glyph_with_text strings name (g + 1) ids)
+    pick_ind (λ (o : Option ℕ). o ≡ Some k → k < g + length (x ∷ ids)) (same_text_lem (string_text strings x) name) (Some g) (glyph_with_text strings name (g + 1) ids)
     (λ t d. let h : g ≡ k = cc in omega arith)
     (λ t d. let h = found_below strings name (g + 1) ids k d in omega arith)
     e
 
 -- one that is found is in the font, so storing it by its number stores it
-pub string_stored : (b : List ℕ) (f : Font) → GoodFont b f → (sid g : ℕ) → Glyph g ≡ string_glyph (program_of b f) sid → (table : List ℕ) (code : ℕ)
-    → stored table code (pick (ltb g f.charstrings.count) (Glyph g) Absent) ≡ stored table code (string_glyph (program_of b f) sid)
+pub string_stored : (b : List ℕ) (f : Font) → GoodFont b f → (sid g : ℕ) → Some g ≡ string_glyph (program_of b f) sid → (table : List ℕ) (code : ℕ)
+    → stored table code (pick (ltb g f.charstrings.count) (Some g) None) ≡ stored table code (string_glyph (program_of b f) sid)
 string_stored b f good sid g e table code =
     let p = program_of b f in
     let h = found_below p.strings (string_text p.strings sid) 0 p.ids g (sym e) in
     let n = good_length b f.charset f.charstrings.count good.ids in
     let l : ltb g f.charstrings.count ≡ true = lt-ltb g f.charstrings.count (omega arith) in
-    ap (λ (t : Bool). stored table code (pick t (Glyph g) Absent)) l ∙ ap (stored table code) e
+    ap (λ (t : Bool). stored table code (pick t (Some g) None)) l ∙ ap (stored table code) e

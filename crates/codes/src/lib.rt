@@ -2,22 +2,20 @@
 // else the glyph's number + 1. Each naming is stored in its turn, so that the last glyph that a code names stands there in the end.
 #![tactic(auto)]
 
-ghost use Rattle.std.specs.Prelude.{◌≡◌, ◌+◌, ◌*◌, ◌≤◌, ◌<◌, ltb, eqb, length, take, drop};
+ghost use Rattle.std.specs.Prelude.{◌≡◌, ◌+◌, ◌*◌, ◌≤◌, ◌<◌, ltb, eqb, length, take, drop, None, Some};
 ghost use Rattle.octets.specs.Pick.{pick};
 ghost use Rattle.charset.specs.Codes.{codes_from, range_from, ranges_from, supplied_from, namings_at};
 ghost use Rattle.find.specs.Find.{glyph_with_text};
-ghost use Rattle.find.specs.declared.Found.TheVariants.{Absent, Glyph};
 ghost use Rattle.cff.specs.Reads.{GoodFont, program_of};
 ghost use Rattle.subset.specs.Codes.{string_glyph};
 ghost use Rattle.codes.specs.Filled.{stored, filled, Fills};
 
 use cff::font::Font;
-use find::Found;
 
 // A code names a glyph by its number, of n glyphs: nothing where there is no such code or glyph.
 fn name_glyph(table: &mut [usize], n: usize, code: usize, glyph: usize)
     requires { 256 ≤ length table.old }
-    ensures { table.new ≡ stored table.old code (pick (ltb glyph n) (Glyph glyph) Absent) }
+    ensures { table.new ≡ stored table.old code (pick (ltb glyph n) (Some glyph) None) }
 {
     if n <= glyph {
         return;
@@ -33,14 +31,8 @@ fn fill_codes(font: &[u8], at: usize, count: usize, n: usize, table: &mut [usize
     requires { (256 ≤ length table.old) × (at + count ≤ length font.now) × (count < 256) }
     ensures { Fills n table.old (codes_from 1 (take count (drop at font.now))) table.new }
 {
-    let mut q = at;
-    let mut glyph = 1;
-    let mut left = count;
-    while 0 < left {
-        name_glyph(table, n, octets::u8_at(font, q), glyph);
-        q += 1;
-        glyph += 1;
-        left -= 1;
+    for (i, code) in font[at..at + count].iter().enumerate() {
+        name_glyph(table, n, usize::from(*code), i + 1);
     }
 }
 
@@ -49,14 +41,8 @@ fn fill_range(n: usize, first: usize, from: usize, count: usize, table: &mut [us
     requires { (256 ≤ length table.old) × (first < 256) × (from ≤ 65536) × (count ≤ 256) }
     ensures { Fills n table.old (range_from count first from) table.new }
 {
-    let mut code = first;
-    let mut glyph = from;
-    let mut left = count;
-    while 0 < left {
-        name_glyph(table, n, code, glyph);
-        code += 1;
-        glyph += 1;
-        left -= 1;
+    for i in 0..count {
+        name_glyph(table, n, first + i, from + i);
     }
 }
 
@@ -65,16 +51,12 @@ fn fill_ranges(font: &[u8], at: usize, count: usize, n: usize, table: &mut [usiz
     requires { (256 ≤ length table.old) × (at + count * 2 ≤ length font.now) × (count < 256) }
     ensures { Fills n table.old (ranges_from count 1 (drop at font.now)) table.new }
 {
-    let mut q = at;
     let mut next = 1;
-    let mut left = count;
-    while 0 < left {
-        let first = octets::u8_at(font, q);
-        let many = octets::u8_at(font, q + 1) + 1;
+    for i in 0..count {
+        let first = octets::u8_at(font, at + 2 * i);
+        let many = octets::u8_at(font, at + 2 * i + 1) + 1;
         fill_range(n, first, next, many, table);
-        q += 2;
         next += many;
-        left -= 1;
     }
 }
 
@@ -91,8 +73,8 @@ fn fill_first(font: &[u8], at: usize, kind: usize, count: usize, n: usize, table
     fill_ranges(font, at, count, n, table)
 }
 
-// The glyph that finding gives for a text.
-fn glyph_of_text(font: &[u8], f: Font, text: &[u8]) -> Found
+// The glyph that finding gives for a text, if it finds one.
+fn glyph_of_text(font: &[u8], f: Font, text: &[u8]) -> Option<usize>
     requires { GoodFont font.now f }
     ensures { result ≡ glyph_with_text (program_of font.now f).strings text.now 0 (program_of font.now f).ids }
 {
@@ -104,8 +86,8 @@ fn glyph_of_text(font: &[u8], f: Font, text: &[u8]) -> Found
     find::find_text(font, charset, n, strings, text, sid)
 }
 
-// The glyph that finding gives for a standard string, of which none has more than 32 bytes.
-fn glyph_of_standard(font: &[u8], f: Font, sid: usize) -> Found
+// The glyph that finding gives for a standard string, of which none has more than 32 bytes; if it finds one.
+fn glyph_of_standard(font: &[u8], f: Font, sid: usize) -> Option<usize>
     requires { GoodFont font.now f × (sid < 391) }
     ensures { result ≡ string_glyph (program_of font.now f) sid }
 {
@@ -114,8 +96,8 @@ fn glyph_of_standard(font: &[u8], f: Font, sid: usize) -> Found
     glyph_of_text(font, f, &text[0..end])
 }
 
-// The glyph that finding gives for the string of an id: past the font's strings the empty one.
-fn glyph_of_string(font: &[u8], f: Font, sid: usize) -> Found
+// The glyph that finding gives for the string of an id: past the font's strings the empty one; if it finds one.
+fn glyph_of_string(font: &[u8], f: Font, sid: usize) -> Option<usize>
     requires { GoodFont font.now f }
     ensures { result ≡ string_glyph (program_of font.now f) sid }
 {
@@ -140,8 +122,8 @@ fn name_string(font: &[u8], f: Font, code: usize, sid: usize, table: &mut [usize
     let n = charstrings.count;
     let found = glyph_of_string(font, f, sid);
     match found {
-        Found::Absent => {}
-        Found::Glyph(g) => name_glyph(table, n, code, g),
+        None => {}
+        Some(g) => name_glyph(table, n, code, g),
     }
 }
 
@@ -150,14 +132,10 @@ fn fill_supplements(font: &[u8], f: Font, at: usize, count: usize, table: &mut [
     requires { GoodFont font.now f × (256 ≤ length table.old) × (at + count * 3 ≤ length font.now) }
     ensures { table.new ≡ filled (program_of font.now f) table.old (supplied_from count (drop at font.now)) }
 {
-    let mut q = at;
-    let mut left = count;
-    while 0 < left {
-        let code = octets::u8_at(font, q);
-        let sid = octets::u16_at(font, q + 1);
+    for i in 0..count {
+        let code = octets::u8_at(font, at + 3 * i);
+        let sid = octets::u16_at(font, at + 3 * i + 1);
         name_string(font, f, code, sid, table);
-        q += 3;
-        left -= 1;
     }
 }
 

@@ -1,8 +1,7 @@
 -- Worked examples of what can be the culprit, computed: a charstring with dead code leaves its own glyph; a subroutine with dead code that two kept
 -- glyphs enter leaves none.
-use Rattle.std.specs.Prelude.{ℕ, ◌≡◌, refl, false, List, [], ◌∷◌}
+use Rattle.std.specs.Prelude.{ℕ, ◌≡◌, refl, false, List, [], ◌∷◌, None, Some}
 use Rattle.std.proofs.Common.{subst, arith}
-use Rattle.std.proofs.Math.Option.{none, some}
 use Rattle.octets.specs.Octets.{be, num_at, bytes_of}
 use Rattle.octets.specs.ListLaws.{zeros-at}
 use Rattle.type2_number.specs.Number as t2
@@ -47,11 +46,11 @@ dead =
 dead_fds : FdsThere dead
 dead_fds = record { any = omega arith; fds = λ x h. omega (arith, zeros-at 3 x) }
 
-dead-rows : kept_rows dead (1 ∷ 2 ∷ []) ≡ some []
+dead-rows : kept_rows dead (1 ∷ 2 ∷ []) ≡ Some []
 unfolding met_all unfold_glyph run_body walk step_at operator_at leave but target_of t2.number_at is_in those
 dead-rows = refl
 
-dead-fails : body_at dead (rows_of (record_of [])) (glyph 2) ≡ none
+dead-fails : body_at dead (rows_of (record_of [])) (glyph 2) ≡ None
 unfolding
     record_of tens_bytes gathered rows_of rows_from renumbered_body two_lengths_lem given_in renumber_charstring renumber lists t2.number_at t2.rounded t2.keep24 tok.tokens_of tok.tokens_from tok.token_at
 dead-fails = refl
@@ -83,7 +82,7 @@ shared_fds = record { any = omega arith; fds = λ x h. omega (arith, zeros-at 3 
 abbrev met : List Row
 met = entered (local 0 0) ∷ entered (local 0 0) ∷ []
 
-shared-rows : kept_rows shared (1 ∷ 2 ∷ []) ≡ some met
+shared-rows : kept_rows shared (1 ∷ 2 ∷ []) ≡ Some met
 unfolding met_all unfold_glyph run_body walk step_at operator_at leave but target_of t2.number_at t2.rounded t2.keep24 is_in those
 shared-rows = refl
 
@@ -92,7 +91,7 @@ met-fits =
     let fits : RowFits (entered (local 0 0)) = record { kind = omega arith; fd = omega arith; number = omega arith; offset = omega arith; len = omega arith } in
     one fits (one fits empty)
 
-shared-fails : body_at shared (rows_of (record_of met)) (local 0 0) ≡ none
+shared-fails : body_at shared (rows_of (record_of met)) (local 0 0) ≡ None
 unfolding
     record_of tens_bytes gathered placed bytes_of be num_at rows_of rows_from renumbered_body two_lengths_lem disagrees given_in renumber_charstring renumber lists t2.number_at t2.rounded t2.keep24 tok.tokens_of
     tok.tokens_from tok.token_at

@@ -1,7 +1,6 @@
 -- Which glyphs can be the culprit (document 02, Wish 12): the rows of a list without a glyph are among those of the list, and those of a body that the
 -- glyph does not run are the same. So a body that fails, and that the glyph does not run, fails without it.
-use Rattle.std.proofs.Math.Option.{Option, none, some}
-use Rattle.std.specs.Prelude.{ℕ, ◌<◌, ◌≡◌, Bool, ltb, eqb, length, get_or}
+use Rattle.std.specs.Prelude.{ℕ, ◌<◌, ◌≡◌, Bool, ltb, eqb, length, get_or, None, Option, Some}
 use Rattle.std.proofs.Math.Path.{refl}
 use Rattle.std.proofs.Common.{sym, ap, ◌∙◌, subst, ⊎_elim, arith, eqb-true, ne_eqb}
 use Rattle.std.proofs.Math.Bool.{true, false}
@@ -9,7 +8,6 @@ use mathlib.Core.List.{List, [], ◌∷◌}
 use Rattle.octets.specs.Pick.{pick, pick_ind}
 use Rattle.octets.specs.PickLaws.{both_hold, not_true}
 use Rattle.octets.specs.Lists.{all_below}
-use Rattle.octets.specs.Steps.{and}
 use Rattle.unfold.specs.Unfold.{Row, Site, glyph, local, global, entered, masked, plain}
 use Rattle.prune.specs.Bodies.{All}
 use Rattle.prune.specs.Renumber.{Calls}
@@ -85,25 +83,25 @@ module _ (p : Program) (name keep rec : List ℕ) (flag words : ℕ) where
 -- a list that has way 0 has plain glyphs alone, and their renumbering does not fail
 pub record Renumbers (p : Program) (keep : List ℕ) : Type 0 where
   pub rows : List Row
-  pub met : kept_rows p keep ≡ some rows
+  pub met : kept_rows p keep ≡ Some rows
   pub bodies : Bodies
-  pub is : renumbered p (rows_of (record_of rows)) (used_fds p (kept_of (length p.charstrings) keep)) (written_order p (kept_of (length p.charstrings) keep)) ≡ some bodies
+  pub is : renumbered p (rows_of (record_of rows)) (used_fds p (kept_of (length p.charstrings) keep)) (written_order p (kept_of (length p.charstrings) keep)) ≡ Some bodies
 
 module _ (p : Program) (name keep : List ℕ) (words lent : ℕ) where
-  by-bodies : (rows : List Row) → kept_rows p keep ≡ some rows → (cut p name keep (record_of rows) 1 words).way ≡ 0 → Renumbers p keep
+  by-bodies : (rows : List Row) → kept_rows p keep ≡ Some rows → (cut p name keep (record_of rows) 1 words).way ≡ 0 → Renumbers p keep
   unfolding pruned
   by-bodies rows m e =
       by (renumbered p (rows_of (record_of rows)) (used_fds p (kept_of (length p.charstrings) keep)) (written_order p (kept_of (length p.charstrings) keep))) refl e
     where
       by : (b : Option Bodies) → renumbered p (rows_of (record_of rows)) (used_fds p (kept_of (length p.charstrings) keep)) (written_order p (kept_of (length p.charstrings) keep)) ≡ b
           → (or_stubbed b (stubbed p (rows_of (record_of rows)) (used_fds p (kept_of (length p.charstrings) keep)) (written_order p (kept_of (length p.charstrings) keep)))).way ≡ 0 → Renumbers p keep
-      by none q h = absurd (zero_one (sym h))
-      by (some b) q h = record { rows = rows; met = m; bodies = b; is = q }
+      by None q h = absurd (zero_one (sym h))
+      by (Some b) q h = record { rows = rows; met = m; bodies = b; is = q }
 
   by_rows : (m : Option (List Row)) → kept_rows p keep ≡ m → has_way 0 (cut_traced p name keep words (answered lent m)) ≡ true → Renumbers p keep
   unfolding pruned
-  by_rows none q e = absurd (zero_one (let two : 2 ≡ 0 = cut-way p name keep [] 0 words e in omega arith))
-  by_rows (some rows) q e = by (ltb lent (length (record_of rows))) e
+  by_rows None q e = absurd (zero_one (let two : 2 ≡ 0 = cut-way p name keep [] 0 words e in omega arith))
+  by_rows (Some rows) q e = by (ltb lent (length (record_of rows))) e
     where
       by : (t : Bool) → has_way 0 (cut_traced p name keep words (pick t (refusedTrace 11) (traced 1 (record_of rows)))) ≡ true → Renumbers p keep
       by true h = absurd (zero_one cc)
@@ -164,9 +162,9 @@ module _ (p : Program) (keep : List ℕ) (g : ℕ) where
 
   -- ---- their rows
 
-  module _ (rows : List Row) (met : kept_rows p keep ≡ some rows) (fits : All RowFits rows) (rows' : List Row) (met' : kept_rows p (without g keep) ≡ some rows') where
+  module _ (rows : List Row) (met : kept_rows p keep ≡ Some rows) (fits : All RowFits rows) (rows' : List Row) (met' : kept_rows p (without g keep) ≡ Some rows') where
     -- a row that a kept glyph meets is there
-    has-met : (gs : List ℕ) (l : List Row) → met_all p gs ≡ some l → (x : ℕ) → is_in x gs ≡ true → (r : Row) → Meets p x r → Has Row r l
+    has-met : (gs : List ℕ) (l : List Row) → met_all p gs ≡ Some l → (x : ℕ) → is_in x gs ≡ true → (r : Row) → Meets p x r → Has Row r l
     has-met gs l e x h r m =
         let w = met-within p gs l e x h in
         let s : plain m.tokens m.met ≡ plain w.tokens w.met = sym m.plainly ∙ w.plainly in
@@ -223,19 +221,19 @@ pub record FdsThere (p : Program) : Type 0 where
 -- ---- bodies that are made
 
 -- one of those that are renumbered
-each-made : {A : Type 0} (f : ℕ → Option A) (d : A) (ks : List ℕ) (l : List A) → each f ks ≡ some l → (k : ℕ) → is_in k ks ≡ true → f k ≡ none → ⊥
+each-made : {A : Type 0} (f : ℕ → Option A) (d : A) (ks : List ℕ) (l : List A) → each f ks ≡ Some l → (k : ℕ) → is_in k ks ≡ true → f k ≡ None → ⊥
 each-made f d ks l e k h z =
     let i = in_place ks k h in
     let m = each_at f ks l e i.0 d i.1 in
-    zero_one (let n : none ≡ some (get_or l i.0 d) = sym z ∙ ap f (sym i.2) ∙ m in cc)
+    zero_one (let n : None ≡ Some (get_or l i.0 d) = sym z ∙ ap f (sym i.2) ∙ m in cc)
 
 -- a subroutine that is reached
-subrs-made : (rows : List Row) (set : ℕ → Bool) (calls : Calls) (site : ℕ → Site) (subrs l : List (List ℕ)) → renumbered_subrs rows set calls site subrs ≡ some l
-    → (k : ℕ) → k < length subrs → set k ≡ true → renumbered_body rows calls (site k) (get_or subrs k []) ≡ none → ⊥
+subrs-made : (rows : List Row) (set : ℕ → Bool) (calls : Calls) (site : ℕ → Site) (subrs l : List (List ℕ)) → renumbered_subrs rows set calls site subrs ≡ Some l
+    → (k : ℕ) → k < length subrs → set k ≡ true → renumbered_body rows calls (site k) (get_or subrs k []) ≡ None → ⊥
 unfolding renumbered_subrs
 subrs-made rows set calls site subrs l e k h t z = by (eqb (reached set) (count_below set (length subrs))) e
   where
-    by : (b : Bool) → pick b (each (λ k. renumbered_body rows calls (site k) (get_or subrs k [])) (those set (length subrs) 0)) none ≡ some l → ⊥
+    by : (b : Bool) → pick b (each (λ k. renumbered_body rows calls (site k) (get_or subrs k [])) (those set (length subrs) 0)) None ≡ Some l → ⊥
     by true q = each-made (λ k. renumbered_body rows calls (site k) (get_or subrs k [])) [] (those set (length subrs) 0) l q k (those-has set (length subrs) 0 k (omega arith) (omega arith) t) z
     by false q = zero_one cc
 
@@ -257,7 +255,7 @@ across-fails p rows fd (f ∷ []) h b z e =
     ⊎_elim (λ i. ap (λ (k : ℕ). calls_in p rows k b z) i ∙ e) (λ i. absurd (in_none fd i)) (in_cases f fd [] h)
 across-fails p rows fd (f ∷ f' ∷ fs) h b z e = by (eqb b 10) e
   where
-    by : (t : Bool) → pick t (local_operand p rows fd z) (global_operand p rows z) ≡ none → pick t none (global_operand p rows z) ≡ none
+    by : (t : Bool) → pick t (local_operand p rows fd z) (global_operand p rows z) ≡ None → pick t None (global_operand p rows z) ≡ None
     by true i = refl
     by false i = i
 
@@ -267,8 +265,8 @@ fewer_self rows site = record { fewer = λ q h. h; same = λ o l h. h }
 
 -- where all are renumbered, a body that a kept glyph runs does not fail
 body-made : (p : Program) → FdsThere p → (gs : List ℕ) → is_in 0 gs ≡ true → (x : ℕ) → is_in x gs ≡ true → x < length p.charstrings
-    → (rows : List Row) (order : List ℕ) → is_in x order ≡ true → (b : Bodies) → renumbered p rows (used_fds p gs) order ≡ some b
-    → (site : Site) → Entered p x site → ((r : Row) → Meets p x r → lists rows r ≡ true) → body_at p rows site ≡ none → ⊥
+    → (rows : List Row) (order : List ℕ) → is_in x order ≡ true → (b : Bodies) → renumbered p rows (used_fds p gs) order ≡ Some b
+    → (site : Site) → Entered p x site → ((r : Row) → Meets p x r → lists rows r ≡ true) → body_at p rows site ≡ None → ⊥
 unfolding renumbered
 body-made p there gs zero_in x kept below rows order placed b e site enters listed bad =
     let one = and_yes (renumbered_subrs rows (global_set rows) (calls_across p rows used) global p.globals) _ b e in
@@ -279,10 +277,10 @@ body-made p there gs zero_in x kept below rows order placed b e site enters list
     used : List ℕ
     used = used_fds p gs
 
-    by : (site : Site) → Entered p x site → body_at p rows site ≡ none
-        → (gl : List (List ℕ)) → renumbered_subrs rows (global_set rows) (calls_across p rows used) global p.globals ≡ some gl
-        → (ls : List (List (List ℕ))) → each (λ f. renumbered_subrs rows (local_set rows f) (calls_in p rows f) (local f) (locals_of p f)) used ≡ some ls
-        → (cs : List (List ℕ)) → each (λ g. renumbered_body rows (calls_in p rows (get_or p.fds g 0)) (glyph g) (get_or p.charstrings g [])) order ≡ some cs → ⊥
+    by : (site : Site) → Entered p x site → body_at p rows site ≡ None
+        → (gl : List (List ℕ)) → renumbered_subrs rows (global_set rows) (calls_across p rows used) global p.globals ≡ Some gl
+        → (ls : List (List (List ℕ))) → each (λ f. renumbered_subrs rows (local_set rows f) (calls_in p rows f) (local f) (locals_of p f)) used ≡ Some ls
+        → (cs : List (List ℕ)) → each (λ g. renumbered_body rows (calls_in p rows (get_or p.fds g 0)) (glyph g) (get_or p.charstrings g [])) order ≡ Some cs → ⊥
     by (glyph h) i z gl u ls v cs w =
         each-made (λ g. renumbered_body rows (calls_in p rows (get_or p.fds g 0)) (glyph g) (get_or p.charstrings g [])) [] order cs w h (ap (λ (k : ℕ). is_in k order) (sym i) ∙ placed) z
     by (local f k) i z gl u ls v cs w =
@@ -297,9 +295,9 @@ body-made p there gs zero_in x kept below rows order placed b e site enters list
 
 -- ---- the law
 
-module _ (p : Program) (there : FdsThere p) (name keep : List ℕ) (words lent : ℕ) (rows : List Row) (met : kept_rows p keep ≡ some rows) (fits : All RowFits rows) where
+module _ (p : Program) (there : FdsThere p) (name keep : List ℕ) (words lent : ℕ) (rows : List Row) (met : kept_rows p keep ≡ Some rows) (fits : All RowFits rows) where
   -- THE LAW: where a body fails that a kept glyph runs, meeting each of its masks, no other glyph is a culprit
-  pub one_culprit : (site : Site) → body_at p (rows_of (record_of rows)) site ≡ none → (x : ℕ) → is_in x (kept_of (length p.charstrings) keep) ≡ true
+  pub one_culprit : (site : Site) → body_at p (rows_of (record_of rows)) site ≡ None → (x : ℕ) → is_in x (kept_of (length p.charstrings) keep) ≡ true
       → Runs p (rows_of (record_of rows)) x site → (g : ℕ) → (x ≡ g → ⊥) → is_culprit p name keep words lent g ≡ false
   unfolding is_culprit
   one_culprit site bad x kept runs g other =
@@ -324,6 +322,6 @@ module _ (p : Program) (there : FdsThere p) (name keep : List ℕ) (words lent :
       }
 
   -- so of a charstring that fails only its own glyph can be the culprit
-  pub charstring_fails : (h : ℕ) → is_in h (kept_of (length p.charstrings) keep) ≡ true → body_at p (rows_of (record_of rows)) (glyph h) ≡ none
+  pub charstring_fails : (h : ℕ) → is_in h (kept_of (length p.charstrings) keep) ≡ true → body_at p (rows_of (record_of rows)) (glyph h) ≡ None
       → (g : ℕ) → (h ≡ g → ⊥) → is_culprit p name keep words lent g ≡ false
   charstring_fails h kept bad g other = one_culprit (glyph h) bad h kept (own_runs h) g other

@@ -1,12 +1,11 @@
 -- A body whose renumbering fails under some rows fails under fewer of them that have the same masks of it (the Rust's renumber_charstring): its tokens are
 -- the same, and a call of a subroutine that is not reached fails where fewer are reached.
 use Prim.Native.Nat.{ℕ, zero, suc, ◌-◌, ◌*◌}
-use Rattle.std.specs.Prelude.{◌≡◌, Bool, ◌&&◌, not, eqb, ℤ}
+use Rattle.std.specs.Prelude.{◌≡◌, Bool, ◌&&◌, not, eqb, ℤ, None, Option, Some}
 use Rattle.std.proofs.Math.Path.{refl, ap}
 use Rattle.std.proofs.Common.{take, drop, sym, ◌∙◌, subst, eqb-true, eq-eqb}
 use Rattle.std.proofs.Math.Bool.{true, false}
 use mathlib.Core.List.{List, [], ◌∷◌}
-use Rattle.std.proofs.Math.Option.{Option, none, some}
 use Rattle.std.proofs.Math.ListN.{length}
 use Rattle.std.proofs.lemmas.Bool.{eqb-false}
 use Rattle.octets.specs.Pick.{pick}
@@ -44,8 +43,8 @@ module _ (given given' : ℕ → MaskLen) (same : (o : ℕ) → given o ≡ give
   unfolding tokens_from
   from-same zero c = refl
   from-same (suc k) c =
-      ap (λ (l : MaskLen). pick (more s c) (onward s (token_at s l c) (tokens_from k given s)) (some [])) (same (c.at - 1))
-      ∙ ap (λ (b : Option (List Tok)). pick (more s c) b (some [])) (onward-same (token_at s (given' (c.at - 1)) c) (tokens_from k given s) (tokens_from k given' s) (from-same k))
+      ap (λ (l : MaskLen). pick (more s c) (onward s (token_at s l c) (tokens_from k given s)) (Some [])) (same (c.at - 1))
+      ∙ ap (λ (b : Option (List Tok)). pick (more s c) b (Some [])) (onward-same (token_at s (given' (c.at - 1)) c) (tokens_from k given s) (tokens_from k given' s) (from-same k))
 
   pub tokens-same : tokens_of given s ≡ tokens_of given' s
   unfolding tokens_of
@@ -55,67 +54,67 @@ module _ (given given' : ℕ → MaskLen) (same : (o : ℕ) → given o ≡ give
 
 -- each call that fails by the first fails by the second
 abbrev pub Fails : Calls → Calls → Type 0
-Fails calls calls' = (b : ℕ) (z : ℤ) → calls b z ≡ none → calls' b z ≡ none
+Fails calls calls' = (b : ℕ) (z : ℤ) → calls b z ≡ None → calls' b z ≡ None
 
-before_failed : (t : Tok) (r : Option (List Tok)) → before t r ≡ none → r ≡ none
-before_failed t none e = refl
-before_failed t (some ts) e = absurd (zero_one cc)
+before_failed : (t : Tok) (r : Option (List Tok)) → before t r ≡ None → r ≡ None
+before_failed t None e = refl
+before_failed t (Some ts) e = absurd (zero_one cc)
 
-before-fails : (t : Tok) (r : Option (List Tok)) → r ≡ none → before t r ≡ none
+before-fails : (t : Tok) (r : Option (List Tok)) → r ≡ None → before t r ≡ None
 before-fails t r e = ap (before t) e
 
-kept_failed : (w : Option ℤ) (r : Option (List Tok)) → kept w r ≡ none → r ≡ none
-kept_failed none r e = e
-kept_failed (some z) r e = before_failed (num z) r e
+kept_failed : (w : Option ℤ) (r : Option (List Tok)) → kept w r ≡ None → r ≡ None
+kept_failed None r e = e
+kept_failed (Some z) r e = before_failed (num z) r e
 
-kept-fails : (w : Option ℤ) (r : Option (List Tok)) → r ≡ none → kept w r ≡ none
-kept-fails none r e = e
-kept-fails (some z) r e = before-fails (num z) r e
+kept-fails : (w : Option ℤ) (r : Option (List Tok)) → r ≡ None → kept w r ≡ None
+kept-fails None r e = e
+kept-fails (Some z) r e = before-fails (num z) r e
 
 module _ (calls calls' : Calls) (stay : Fails calls calls') where
-  called_more : (b : ℕ) (z : ℤ) (r r' : Option (List Tok)) → (r ≡ none → r' ≡ none) → (x y : Option ℤ) → calls b z ≡ x → calls' b z ≡ y → called b x r ≡ none → called b y r' ≡ none
-  called_more b z r r' f x none i j e = refl
-  called_more b z r r' f none (some v) i j e = absurd (zero_one (let k : some v ≡ none = sym j ∙ stay b z i in cc))
-  called_more b z r r' f (some u) (some v) i j e =
+  called_more : (b : ℕ) (z : ℤ) (r r' : Option (List Tok)) → (r ≡ None → r' ≡ None) → (x y : Option ℤ) → calls b z ≡ x → calls' b z ≡ y → called b x r ≡ None → called b y r' ≡ None
+  called_more b z r r' f x None i j e = refl
+  called_more b z r r' f None (Some v) i j e = absurd (zero_one (let k : Some v ≡ None = sym j ∙ stay b z i in cc))
+  called_more b z r r' f (Some u) (Some v) i j e =
       before-fails (num v) _ (before-fails (op b) r' (f (before_failed (op b) r (before_failed (num u) _ e))))
 
-  after_more : (b : ℕ) (w : Option ℤ) (r r' : Option (List Tok)) → (r ≡ none → r' ≡ none) → called_after calls b w r ≡ none → called_after calls' b w r' ≡ none
-  after_more b none r r' f e = refl
-  after_more b (some z) r r' f e = called_more b z r r' f (calls b z) (calls' b z) refl refl e
+  after_more : (b : ℕ) (w : Option ℤ) (r r' : Option (List Tok)) → (r ≡ None → r' ≡ None) → called_after calls b w r ≡ None → called_after calls' b w r' ≡ None
+  after_more b None r r' f e = refl
+  after_more b (Some z) r r' f e = called_more b z r r' f (calls b z) (calls' b z) refl refl e
 
-  op_more : (t : Bool) (b : ℕ) (w : Option ℤ) (r r' : Option (List Tok)) → (r ≡ none → r' ≡ none)
-      → pick t (called_after calls b w r) (kept w (before (op b) r)) ≡ none → pick t (called_after calls' b w r') (kept w (before (op b) r')) ≡ none
+  op_more : (t : Bool) (b : ℕ) (w : Option ℤ) (r r' : Option (List Tok)) → (r ≡ None → r' ≡ None)
+      → pick t (called_after calls b w r) (kept w (before (op b) r)) ≡ None → pick t (called_after calls' b w r') (kept w (before (op b) r')) ≡ None
   op_more true b w r r' f e = after_more b w r r' f e
   op_more false b w r r' f e = kept-fails w _ (before-fails (op b) r' (f (before_failed (op b) r (kept_failed w _ e))))
 
-  renumber-fails : (w : Option ℤ) (ts : List Tok) → renumber calls w ts ≡ none → renumber calls' w ts ≡ none
+  renumber-fails : (w : Option ℤ) (ts : List Tok) → renumber calls w ts ≡ None → renumber calls' w ts ≡ None
   unfolding renumber
-  renumber-fails none [] e = absurd (zero_one cc)
-  renumber-fails (some z) [] e = absurd (zero_one cc)
-  renumber-fails w (num z ∷ ts) e = kept-fails w _ (renumber-fails (some z) ts (kept_failed w _ e))
-  renumber-fails w (op b ∷ ts) e = op_more (is_call b) b w _ _ (renumber-fails none ts) e
-  renumber-fails w (esc b ∷ ts) e = kept-fails w _ (before-fails (esc b) _ (renumber-fails none ts (before_failed (esc b) _ (kept_failed w _ e))))
-  renumber-fails w (mask bs ∷ ts) e = kept-fails w _ (before-fails (mask bs) _ (renumber-fails none ts (before_failed (mask bs) _ (kept_failed w _ e))))
+  renumber-fails None [] e = absurd (zero_one cc)
+  renumber-fails (Some z) [] e = absurd (zero_one cc)
+  renumber-fails w (num z ∷ ts) e = kept-fails w _ (renumber-fails (Some z) ts (kept_failed w _ e))
+  renumber-fails w (op b ∷ ts) e = op_more (is_call b) b w _ _ (renumber-fails None ts) e
+  renumber-fails w (esc b ∷ ts) e = kept-fails w _ (before-fails (esc b) _ (renumber-fails None ts (before_failed (esc b) _ (kept_failed w _ e))))
+  renumber-fails w (mask bs ∷ ts) e = kept-fails w _ (before-fails (mask bs) _ (renumber-fails None ts (before_failed (mask bs) _ (kept_failed w _ e))))
 
-  written_failed : (r : Option (List Tok)) → written_back r ≡ none → r ≡ none
-  written_failed none e = refl
-  written_failed (some ts) e = absurd (zero_one cc)
+  written_failed : (r : Option (List Tok)) → written_back r ≡ None → r ≡ None
+  written_failed None e = refl
+  written_failed (Some ts) e = absurd (zero_one cc)
 
-  body-fails : (x : Option (List Tok)) → renumbered_tokens calls x ≡ none → renumbered_tokens calls' x ≡ none
-  body-fails none e = refl
-  body-fails (some ts) e = ap written_back (renumber-fails none ts (written_failed _ e))
+  body-fails : (x : Option (List Tok)) → renumbered_tokens calls x ≡ None → renumbered_tokens calls' x ≡ None
+  body-fails None e = refl
+  body-fails (Some ts) e = ap written_back (renumber-fails None ts (written_failed _ e))
 
 -- ---- fewer rows
 
 -- the operand of a call of a subroutine that is not reached, or of none
 operand_fails : (set set' : ℕ → Bool) → ((k : ℕ) → set k ≡ false → set' k ≡ false) → (bias n n' : ℕ) (x : Option ℕ)
-    → operand_for n (new_of (rank set) x) ≡ none → operand_for n' (new_of (rank set') x) ≡ none
-operand_fails set set' less bias n n' none e = refl
-operand_fails set set' less bias n n' (some i) e = by (set i) refl e
+    → operand_for n (new_of (rank set) x) ≡ None → operand_for n' (new_of (rank set') x) ≡ None
+operand_fails set set' less bias n n' None e = refl
+operand_fails set set' less bias n n' (Some i) e = by (set i) refl e
   where
-    by : (t : Bool) → set i ≡ t → operand_for n (pick t (some (count_below set i)) none) ≡ none → operand_for n' (rank set' i) ≡ none
+    by : (t : Bool) → set i ≡ t → operand_for n (pick t (Some (count_below set i)) None) ≡ None → operand_for n' (rank set' i) ≡ None
     by true q f = absurd (zero_one cc)
-    by false q f = ap (λ (t : Bool). operand_for n' (pick t (some (count_below set' i)) none)) (less i q)
+    by false q f = ap (λ (t : Bool). operand_for n' (pick t (Some (count_below set' i)) None)) (less i q)
 
 module _ (rows rows' : List Row) (fewer : (q : Row) → Has Row q rows' → Has Row q rows) where
   lists_fewer : (q : Row) → lists rows q ≡ false → lists rows' q ≡ false
@@ -125,7 +124,7 @@ module _ (rows rows' : List Row) (fewer : (q : Row) → Has Row q rows' → Has 
   pub calls_fewer : (p : Program) (f : ℕ) → Fails (calls_in p rows f) (calls_in p rows' f)
   calls_fewer p f b z = by (eqb b 10)
     where
-      by : (t : Bool) → pick t (local_operand p rows f z) (global_operand p rows z) ≡ none → pick t (local_operand p rows' f z) (global_operand p rows' z) ≡ none
+      by : (t : Bool) → pick t (local_operand p rows f z) (global_operand p rows z) ≡ None → pick t (local_operand p rows' f z) (global_operand p rows' z) ≡ None
       by true e =
           operand_fails (local_set rows f) (local_set rows' f) (λ k. lists_fewer (entered (local f k))) 0 _ (bias_of (reached (local_set rows' f)))
           (numbered (bias_of (length (locals_of p f))) z) e
@@ -252,12 +251,12 @@ module _ (rows rows' : List Row) (site : Site) (few : Fewer rows rows' site) whe
       by Own a (Given l) b = sym a ∙ given-listed rows site o l n (has_listed _ rows (few.fewer _ (given-from rows' site o l b)))
 
   -- a body whose renumbering fails
-  pub body_fewer : (calls calls' : Calls) → Fails calls calls' → (s : List ℕ) → renumbered_body rows calls site s ≡ none → renumbered_body rows' calls' site s ≡ none
+  pub body_fewer : (calls calls' : Calls) → Fails calls calls' → (s : List ℕ) → renumbered_body rows calls site s ≡ None → renumbered_body rows' calls' site s ≡ None
   unfolding renumbered_body renumber_charstring
   body_fewer calls calls' stay s e = by (two_lengths_lem rows site) refl (two_lengths_lem rows' site) refl e
     where
-      by : (t : Bool) → two_lengths_lem rows site ≡ t → (u : Bool) → two_lengths_lem rows' site ≡ u → pick t none (renumbered_tokens calls (tokens_of (given_in rows site) s)) ≡ none
-          → pick u none (renumbered_tokens calls' (tokens_of (given_in rows' site) s)) ≡ none
+      by : (t : Bool) → two_lengths_lem rows site ≡ t → (u : Bool) → two_lengths_lem rows' site ≡ u → pick t None (renumbered_tokens calls (tokens_of (given_in rows site) s)) ≡ None
+          → pick u None (renumbered_tokens calls' (tokens_of (given_in rows' site) s)) ≡ None
       by t a true b h = refl
       by true a false b h = absurd (two_stay a b)
       by false a false b h =

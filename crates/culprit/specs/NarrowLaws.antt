@@ -1,12 +1,11 @@
 -- Which glyphs can be the culprit (document 02, Wish 12): the rows of a list without a glyph are among those of the list, and those of a body that the
 -- glyph does not run are the same. So a body that fails, and that the glyph does not run, fails without it.
-use Rattle.std.proofs.Math.Option.{Option, some}
-use Rattle.std.specs.Prelude.{ℕ, get_or}
+use Rattle.std.specs.Prelude.{ℕ, get_or, Option}
 use mathlib.Core.List.{List, []}
 use Rattle.unfold.specs.Unfold.{Row, Site, glyph, local, global}
 use Rattle.cff.specs.Font.{Program}
-use Rattle.subset.specs.Kept.{those, locals_of}
-use Rattle.subset.specs.Pruned.{renumbered_body, calls_in, renumbered}
+use Rattle.subset.specs.Kept.{locals_of}
+use Rattle.subset.specs.Pruned.{renumbered_body, calls_in}
 
 -- the FD whose local subroutines a body calls; a global one those of glyph 0, which is always kept
 abbrev pub fd_at : Program → Site → ℕ

@@ -1,5 +1,5 @@
 -- Edges of the codes (document 02, Wish 4), computed: what a code names, which encodings are read, and refusal 13.
-use Rattle.std.specs.Prelude.{ℕ, zero, suc, ◌≡◌, refl, false, List, [], ◌∷◌}
+use Rattle.std.specs.Prelude.{ℕ, zero, suc, ◌≡◌, refl, false, List, [], ◌∷◌, None, Some}
 use Rattle.octets.specs.Octets.{be, num_at, bytes_of}
 use Rattle.octets.specs.Lists.{joined}
 use Rattle.index.specs.Index.{offsets, run_of, judged, data_at, table_at, index_at, pieces, items_of, told, read_index}
@@ -20,7 +20,6 @@ use Rattle.strings.specs.Table.{standard_names}
 use Rattle.strings.specs.Text.{codes, same_text_lem}
 use Rattle.strings.specs.Strings.{string_text, standard_string, standard_strings, sid_in, sid_of}
 use Rattle.find.specs.Find.{glyph_with_text}
-use Rattle.find.specs.declared.Found.TheVariants.{Absent, Glyph}
 use Rattle.opentype.specs.Opentype.{place_of}
 use Rattle.cff.specs.Font.{Got, refused as refusedFont, got, then, or_zero, Coding, standard, expert, custom, Program, empty_private, encoding, coding_at, encoding_got, ids_at, private_at, name_parts, font_at, fonts_at, set_at, read_table, read_font}
 use Rattle.cff.specs.Find.{locals_words, read_as}
@@ -50,7 +49,7 @@ font =
 -- ---- what a code names
 
 -- an id past the strings is the empty string, by which the glyph of another such id is found
-past_the_strings : glyph_of font (custom (by_string 65 600 ∷ [])) 65 ≡ Glyph 3
+past_the_strings : glyph_of font (custom (by_string 65 600 ∷ [])) 65 ≡ Some 3
 unfolding last_named glyph_of glyph_with_text string_text standard_string standard_strings standard_names same_text_lem codes
 past_the_strings = refl
 
@@ -58,15 +57,15 @@ past_the_strings = refl
 abbrev ranges : List ℕ
 ranges = 0x01 ∷ 0x02 ∷ 0xff ∷ 0x01 ∷ 0x41 ∷ 0x00 ∷ []
 
-range-at_255 : glyph_of font (custom (namings_at ranges 0)) 255 ≡ Glyph 1
+range-at_255 : glyph_of font (custom (namings_at ranges 0)) 255 ≡ Some 1
 unfolding last_named glyph_of be codes_from range_from ranges_from supplied_from namings_by namings_at
 range-at_255 = refl
 
-range-past_255 : glyph_of font (custom (namings_at ranges 0)) 0 ≡ Absent
+range-past_255 : glyph_of font (custom (namings_at ranges 0)) 0 ≡ None
 unfolding last_named glyph_of be codes_from range_from ranges_from supplied_from namings_by namings_at
 range-past_255 = refl
 
-range-after : glyph_of font (custom (namings_at ranges 0)) 65 ≡ Glyph 3
+range-after : glyph_of font (custom (namings_at ranges 0)) 65 ≡ Some 3
 unfolding last_named glyph_of be codes_from range_from ranges_from supplied_from namings_by namings_at
 range-after = refl
 

@@ -1,9 +1,8 @@
 -- Worked examples, computed: TN5176's own, document 01's ('Corners in write.rs', 'Entries and their refusals'), and each point on which
 -- the text of a real could be read in two ways.
-use Rattle.std.specs.Prelude.{ℕ, ◌≡◌, refl, Bool, true, false, List, [], ◌∷◌, ◌++◌, replicate}
+use Rattle.std.specs.Prelude.{ℕ, ◌≡◌, refl, Bool, true, false, List, [], ◌∷◌, ◌++◌, replicate, None, Some}
 use Rattle.octets.specs.Octets.{be, num_at, bytes_of}
 use Rattle.decimal.specs.declared.Decimal.{Decimal}
-use Rattle.decimal.specs.declared.IdOf.TheVariants.{Id, Absent}
 use Rattle.decimal.specs.declared.OffsetOf.TheVariants.{Refused, Offset}
 use Rattle.decimal.specs.Decimal.{nought, zeros_of, zeros, stripped, normal}
 use Rattle.decimal.specs.Real.{nibbles, text_of, exp_digits, exponent, mantissa, form_of, value_of}
@@ -156,10 +155,10 @@ written-reals = (refl, refl, refl, refl, refl)
 
 -- fractions are dropped towards zero: -0.5 is the id 0, -1 is none; an offset must be whole
 values :
-    (id_of (dec true 5 0 1) ≡ Id 0)
-    × (id_of (dec true 1 0 0) ≡ Absent)
-    × (id_of (dec false 655359 0 1) ≡ Id 65535)
-    × (id_of (dec false 65536 0 0) ≡ Absent)
+    (id_of (dec true 5 0 1) ≡ Some 0)
+    × (id_of (dec true 1 0 0) ≡ None)
+    × (id_of (dec false 655359 0 1) ≡ Some 65535)
+    × (id_of (dec false 65536 0 0) ≡ None)
     × (clamped 65535 (dec false 1 5 0) ≡ 65535)
     × (clamped 65535 (dec true 1 5 0) ≡ 0)
     × (clamped 65535 (dec false 29 0 1) ≡ 2)

@@ -1,10 +1,8 @@
 -- What a DICT's number is taken for (document 01, 'Corners in mod.rs'): fractions are dropped towards zero, as the Rust's casts do.
-use Rattle.std.specs.Prelude.{ℕ, ◌*◌, ◌/◌, ◌^◌, min, Bool, false, ltb, eqb}
+use Rattle.std.specs.Prelude.{ℕ, ◌*◌, ◌/◌, ◌^◌, min, Bool, false, ltb, eqb, None, Option, Some}
 use Rattle.octets.specs.Pick.{pick}
 use Rattle.decimal.specs.declared.Decimal.{Decimal}
 use Rattle.decimal.specs.declared.Signed.{Signed}
-use Rattle.decimal.specs.declared.IdOf.{IdOf}
-use Rattle.decimal.specs.declared.IdOf.TheVariants.{Id, Absent}
 use Rattle.decimal.specs.declared.OffsetOf.{OffsetOf}
 use Rattle.decimal.specs.declared.OffsetOf.TheVariants.{Refused, Offset}
 
@@ -23,8 +21,8 @@ i32_of d =
     (record { neg = d.neg; size = min (trunc_of d) (pick d.neg 2147483648 2147483647) })
 
 -- a string id: absent where the number, its fraction dropped, is not one of 0 .. 65535
-abbrev pub id_of : Decimal → IdOf
-id_of d = pick (eqb (trunc_of d) 0) (Id 0) (pick d.neg Absent (pick (ltb (trunc_of d) 65536) (Id (trunc_of d)) Absent))
+abbrev pub id_of : Decimal → Option ℕ
+id_of d = pick (eqb (trunc_of d) 0) (Some 0) (pick d.neg None (pick (ltb (trunc_of d) 65536) (Some (trunc_of d)) None))
 
 -- an offset: whole and not negative, or malformed; one of 4294967296 or more stands for all that are past every font
 abbrev pub offset_of : Decimal → OffsetOf

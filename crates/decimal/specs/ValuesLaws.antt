@@ -1,10 +1,9 @@
 -- What numbers are taken for, by the cases in which the code takes them: a size that is capped at 4294967296 is enough.
-use Rattle.std.specs.Prelude.{ℕ, zero, suc, ◌-◌, ◌*◌, ◌/◌, ◌^◌, ◌≤◌, ◌<◌, min, ◌≡◌, Bool, true, false, eqb}
+use Rattle.std.specs.Prelude.{ℕ, zero, suc, ◌-◌, ◌*◌, ◌/◌, ◌^◌, ◌≤◌, ◌<◌, min, ◌≡◌, Bool, true, false, eqb, None, Some}
 use Rattle.std.proofs.Common.{sym, ap, ◌∙◌, mul-one, div-one, not-suc-le-zero, sub-one, arith, lt-ltb, le-ltb, eq-eqb, ne_eqb}
 use Rattle.std.proofs.Math.Nat.{pow-zero, pow-succ', div-div-eq-div-mul}
 use Rattle.octets.specs.Pick.{pick}
 use Rattle.decimal.specs.declared.Decimal.{Decimal}
-use Rattle.decimal.specs.declared.IdOf.TheVariants.{Id, Absent}
 use Rattle.decimal.specs.declared.OffsetOf.TheVariants.{Refused, Offset}
 use Rattle.decimal.specs.Decimal.{Normal}
 use Rattle.decimal.specs.DecimalLaws.{one_power}
@@ -87,18 +86,18 @@ module _ (d : Decimal) where
       pub i32_most : d.neg ≡ false → 2147483647 ≤ n → record { neg = false; size = 2147483647 } ≡ i32_of d
       i32_most e l = i32_is false 2147483647 e (omega arith)
 
-      pub id_neg : d.neg ≡ true → Absent ≡ id_of d
+      pub id_neg : d.neg ≡ true → None ≡ id_of d
       id_neg e = rw (some o, e)
 
-      pub id_is : d.neg ≡ false → n < 65536 → Id n ≡ id_of d
+      pub id_is : d.neg ≡ false → n < 65536 → Some n ≡ id_of d
       id_is e l =
           let m : n ≡ trunc_of d = omega arith in
-          rw (some o, lt-ltb (trunc_of d) 65536 (omega arith)) (ap Id m ∙ sym (ap (λ (t : Bool). pick t Absent (Id (trunc_of d))) e))
+          rw (some o, lt-ltb (trunc_of d) 65536 (omega arith)) (ap Some m ∙ sym (ap (λ (t : Bool). pick t None (Some (trunc_of d))) e))
 
-      pub id_high : d.neg ≡ false → 65536 ≤ n → Absent ≡ id_of d
-      id_high e l = rw (some o, le-ltb (trunc_of d) 65536 (omega arith)) (sym (ap (λ (t : Bool). pick t Absent Absent) e))
+      pub id_high : d.neg ≡ false → 65536 ≤ n → None ≡ id_of d
+      id_high e l = rw (some o, le-ltb (trunc_of d) 65536 (omega arith)) (sym (ap (λ (t : Bool). pick t None None) e))
 
-    pub id_nought : n ≡ 0 → Id 0 ≡ id_of d
+    pub id_nought : n ≡ 0 → Some 0 ≡ id_of d
     id_nought o = rw (none o)
 
     pub offset_is : d.neg ≡ false → d.down ≡ 0 → Offset n ≡ offset_of d

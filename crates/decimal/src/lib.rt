@@ -46,13 +46,6 @@ pub struct Signed {
     pub size: usize,
 }
 
-// A string id, or that the number is none.
-#[derive(Clone, Copy)]
-pub enum IdOf {
-    Id(usize),
-    Absent,
-}
-
 // An offset, or the refusal's number.
 #[derive(Clone, Copy)]
 pub enum OffsetOf {
@@ -103,18 +96,13 @@ fn scaled_up(m: usize, k: usize, cap: usize) -> usize
     ensures { result ≡ min (m * 10 ^ k) cap }
 {
     let mut n = m;
-    let mut i = k;
-    while 0 < i {
+    for _ in 0..k {
         if cap <= n {
             return cap;
         }
         n *= 10;
-        i -= 1;
     }
-    if cap <= n {
-        return cap;
-    }
-    n
+    n.min(cap)
 }
 
 // The integer n, or -n where neg, without the zeros at its end.
@@ -280,10 +268,8 @@ pub fn scaled_down(m: usize, k: usize) -> usize
     ensures { result ≡ m / 10 ^ k }
 {
     let mut n = m;
-    let mut i = k;
-    while 0 < i {
+    for _ in 0..k {
         n /= 10;
-        i -= 1;
     }
     n
 }
@@ -372,23 +358,23 @@ pub fn to_i32(d: Decimal) -> Signed
     }
 }
 
-// The string id of a string entry.
-pub fn id_of(d: Decimal) -> IdOf
+// The string id of a string entry, if the number is one.
+pub fn id_of(d: Decimal) -> Option<usize>
     requires { Normal d }
     ensures { result ≡ id_of d }
 {
     let neg = d.neg;
     let n = trunc(d);
     if n == 0 {
-        return IdOf::Id(0);
+        return Some(0);
     }
     if neg {
-        return IdOf::Absent;
+        return None;
     }
     if n < 65536 {
-        return IdOf::Id(n);
+        return Some(n);
     }
-    IdOf::Absent
+    None
 }
 
 // The Rust's `Dict::offset`: whole and not negative, or malformed.

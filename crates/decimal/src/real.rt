@@ -7,7 +7,6 @@ ghost use Rattle.decimal.specs.Number.{placed, real_at, answer_of};
 ghost use Rattle.decimal.specs.Stage.{Exact, step_of, mantissa_step, exponent_step, held_of, stage_of, Finished, Ended, Stopped};
 
 use crate::{Decimal, Held, NumberAt, PAST, Stage, TOO_MANY, scaled_up};
-use octets::wide;
 use refusal::Refusal;
 
 // One more, but 1000 at most.
@@ -301,9 +300,8 @@ pub fn parse_real(d: &[u8], at: usize) -> NumberAt
     ensures { result ≡ answer_of (real_at d.now at) }
 {
     let mut stage = Stage::Start;
-    let mut p = at + 1;
-    while p < d.len() {
-        let b = wide(d[p]);
+    for p in at + 1..d.len() {
+        let b = d[p] as usize;
         let high = b / 16;
         if high == 15 {
             return ended(stage, p - at, p + 1);
@@ -320,7 +318,6 @@ pub fn parse_real(d: &[u8], at: usize) -> NumberAt
             return NumberAt::Refused(Refusal::MALFORMED);
         }
         stage = step(stage, low);
-        p += 1;
     }
     NumberAt::Refused(Refusal::TRUNCATED)
 }

@@ -96,13 +96,7 @@ pub fn put_int(neg: bool, size: usize, out: &mut [u8], at: usize) -> usize
 fn width_of(n: usize) -> usize
     ensures { result ≡ width_of n }
 {
-    let mut m = n;
-    let mut w = 1;
-    while 10 <= m {
-        m /= 10;
-        w += 1;
-    }
-    w
+    n.max(1).ilog10() as usize + 1
 }
 
 // How many digits stand before the point.
@@ -207,10 +201,8 @@ fn put_packed(d: Decimal, n: usize, out: &mut [u8], at: usize) -> usize
     ensures { Wrote out.old at (packed (real_text d)) out.new result }
 {
     let w = whole_width(d);
-    let mut i = 0;
-    while i < n {
-        out[at + i] = (nibble(d, w, 2 * i) * 16 + nibble(d, w, 2 * i + 1)) as u8;
-        i += 1;
+    for (i, b) in out[at..at + n].iter_mut().enumerate() {
+        *b = (nibble(d, w, 2 * i) * 16 + nibble(d, w, 2 * i + 1)) as u8;
     }
     at + n
 }

@@ -1,6 +1,6 @@
 -- Laws of looking an entry up: the place that was found holds the operands of the last entry, and what one, two or three operands say.
 use Prim.Native.Nat.{ℕ, zero, suc, ◌+◌, ◌-◌, ◌≤◌, ◌<◌}
-use Rattle.std.specs.Prelude.{◌≡◌, Bool, true, false, not, ltb, eqb, length, get_or}
+use Rattle.std.specs.Prelude.{◌≡◌, Bool, true, false, not, ltb, eqb, length, get_or, None, Option, Some}
 use Rattle.std.proofs.Math.Path.{refl}
 use Rattle.std.proofs.Common.{sym, ap, ◌∙◌, subst, not-suc-le-zero, add-one, arith, ltb-true, ltb-false}
 use mathlib.Core.List.{List, [], ◌∷◌}
@@ -10,8 +10,6 @@ use Rattle.octets.specs.Octets.{Octets}
 use Rattle.decimal.specs.declared.Decimal.{Decimal}
 use Rattle.decimal.specs.declared.NumberAt.{NumberAt}
 use Rattle.decimal.specs.declared.NumberAt.TheVariants.{Refused as RefusedAt, NotNumber, Num}
-use Rattle.decimal.specs.declared.IdOf.{IdOf}
-use Rattle.decimal.specs.declared.IdOf.TheVariants.{Id, Absent as NoId}
 use Rattle.decimal.specs.declared.OffsetOf.{OffsetOf}
 use Rattle.decimal.specs.declared.OffsetOf.TheVariants.{Refused as RefusedOffset, Offset}
 use Rattle.decimal.specs.Decimal.{nought, Normal}
@@ -20,23 +18,19 @@ use Rattle.decimal.specs.TakenLaws.{whole-normal, number-taken}
 use Rattle.decimal.specs.Values.{trunc_of, clamped, id_of, offset_of, is_two}
 use Rattle.decimal.specs.Number.{Number, refused as refusedNumber, not_number, number, number_at, answer_of}
 use Rattle.decimal.specs.NumberLaws.{form_none}
-use Rattle.dict.specs.Dict.{Entry, Reading, stopped, got, entry_at, followed, readings_from, readings_at, refused, entries, before, gathered, dict_of}
+use Rattle.dict.specs.Dict.{Entry, Reading, stopped, got, entry_at, followed, readings_from, readings_at, entries, before, gathered, dict_of}
 use Rattle.dict.specs.Lookup.{Operands, absent, operands, last_from, last_of, only, one_of, offset_told, offset_as, offset_in, private_as, private_in, id_as, id_in, is_there, ros_as, ros_in, count_as, cid_count_in, stroked_as, stroked_in, type_as, charstring_type_in}
 use Rattle.dict.specs.Op.{private, paint_type, charstring_type, ros, cid_count}
 use Rattle.dict.specs.Proper.{AllNormal}
-use Rattle.dict.specs.Places.{refusal_of, listed, entries_of, Good, last_place, place_of, or_none, operands_at}
+use Rattle.dict.specs.Places.{refusal_of, listed, entries_of, Good, last_place, place_of, or_none, operands_at, found_at}
 use Rattle.dict.specs.TokenLaws.{Further, further}
 use Rattle.dict.proofs.WalkLaws.{before-refusal}
 use Rattle.dict.specs.EntryLaws.{Entered, entered}
-use Rattle.dict.specs.declared.Found.{Found}
-use Rattle.dict.specs.declared.Found.TheVariants.{Absent, Entry as FoundAt}
-use Rattle.dict.specs.declared.One.{One}
-use Rattle.dict.specs.declared.One.TheVariants.{Number as The, Absent as NoNumber}
+use Rattle.dict.specs.declared.OperandsAt.{OperandsAt}
 use Rattle.dict.specs.declared.OffsetIn.TheVariants.{Refused as RefusedIn, At, Absent as NoOffset}
 use Rattle.dict.specs.declared.PrivateIn.{PrivateIn}
 use Rattle.dict.specs.declared.PrivateIn.TheVariants.{Refused as RefusedPrivate, Absent as NoPrivate}
-use Rattle.dict.specs.declared.RosIn.{RosIn}
-use Rattle.dict.specs.declared.RosIn.TheVariants.{None}
+use Rattle.dict.specs.declared.RosEntry.{RosEntry}
 
 no : ◌≡◌ {A = ℕ} 0 1 → ⊥
 no h = omega arith
@@ -142,28 +136,28 @@ pub record Held (b : List ℕ) (start count : ℕ) (ds : List Decimal) : Type 0 
   pub counted : count ≡ length ds
   pub here : operands_at (length ds) b start ≡ ds
 
-abbrev Matches : List ℕ → Found → Operands → Type 0
-Matches b Absent absent = Unit
-Matches b Absent (operands ds) = ⊥
-Matches b (FoundAt start count) absent = ⊥
-Matches b (FoundAt start count) (operands ds) = Held b start count ds
+abbrev Matches : List ℕ → Option OperandsAt → Operands → Type 0
+Matches b None absent = Unit
+Matches b None (operands ds) = ⊥
+Matches b (Some q) absent = ⊥
+Matches b (Some q) (operands ds) = Held b q.start q.count ds
 
 module _ (b : List ℕ) (op : ℕ) where
-  pick-matches : (t : Bool) (f g : Found) (o p : Operands) → Matches b f o → Matches b g p → Matches b (pick t f g) (pick t o p)
+  pick-matches : (t : Bool) (f g : Option OperandsAt) (o p : Operands) → Matches b f o → Matches b g p → Matches b (pick t f g) (pick t o p)
   pick-matches true f g o p m n = m
   pick-matches false f g o p m n = n
 
-  last-matches : (rs : List Reading) (at : ℕ) (found : Found) (o : Operands) → Chain b at rs → Matches b found o → Matches b (last_place op at found rs) (last_from op o (listed rs))
+  last-matches : (rs : List Reading) (at : ℕ) (found : Option OperandsAt) (o : Operands) → Chain b at rs → Matches b found o → Matches b (last_place op at found rs) (last_from op o (listed rs))
   unfolding Chain last_place last_from listed
   last-matches [] at found o c m = m
   last-matches (stopped n ∷ rs) at found o c m = m
   last-matches (got p ds end next ∷ rs) at found o c m =
-      last-matches rs next (pick (eqb p op) (FoundAt at (length ds)) found) (pick (eqb p op) (operands ds) o) c.1
-      (pick-matches (eqb p op) (FoundAt at (length ds)) found (operands ds) o (record { counted = refl; here = c.0 }) m)
+      last-matches rs next (pick (eqb p op) (found_at at (length ds)) found) (pick (eqb p op) (operands ds) o) c.1
+      (pick-matches (eqb p op) (found_at at (length ds)) found (operands ds) o (record { counted = refl; here = c.0 }) m)
 
   place-matches : Matches b (place_of op b) (last_of op (entries_of b))
   unfolding last_of
-  place-matches = last-matches (readings_at b 0) 0 Absent absent (chain b 0) tt
+  place-matches = last-matches (readings_at b 0) 0 None absent (chain b 0) tt
 
 -- the operands at the place that was found are those of the last entry
 pub record Last (b : List ℕ) (op start count : ℕ) : Type 0 where
@@ -171,23 +165,23 @@ pub record Last (b : List ℕ) (op start count : ℕ) : Type 0 where
   pub last : last_of op (entries_of b) ≡ operands numbers
   pub held : Held b start count numbers
 
-absent-of : (b : List ℕ) (o : Operands) → Matches b Absent o → o ≡ absent
+absent-of : (b : List ℕ) (o : Operands) → Matches b None o → o ≡ absent
 absent-of b absent m = refl
 absent-of b (operands ds) m = absurd m
 
-last-of : (b : List ℕ) (op start count : ℕ) (o : Operands) → last_of op (entries_of b) ≡ o → Matches b (FoundAt start count) o → Last b op start count
+last-of : (b : List ℕ) (op start count : ℕ) (o : Operands) → last_of op (entries_of b) ≡ o → Matches b (found_at start count) o → Last b op start count
 last-of b op start count absent e m = absurd m
 last-of b op start count (operands ds) e m = record { numbers = ds; last = e; held = m }
 
-module _ (b : List ℕ) (op : ℕ) (r : Found) (e : r ≡ place_of op b) where
-  found-matches : (f : Found) → r ≡ f → Matches b f (last_of op (entries_of b))
-  found-matches f q = subst (λ (x : Found). Matches b x (last_of op (entries_of b))) (sym e ∙ q) (place-matches b op)
+module _ (b : List ℕ) (op : ℕ) (r : Option OperandsAt) (e : r ≡ place_of op b) where
+  found-matches : (f : Option OperandsAt) → r ≡ f → Matches b f (last_of op (entries_of b))
+  found-matches f q = subst (λ (x : Option OperandsAt). Matches b x (last_of op (entries_of b))) (sym e ∙ q) (place-matches b op)
 
-  pub none_last : r ≡ Absent → last_of op (entries_of b) ≡ absent
-  none_last q = absent-of b (last_of op (entries_of b)) (found-matches Absent q)
+  pub none_last : r ≡ None → last_of op (entries_of b) ≡ absent
+  none_last q = absent-of b (last_of op (entries_of b)) (found-matches None q)
 
-  pub found-last : (start count : ℕ) → r ≡ FoundAt start count → Last b op start count
-  found-last start count q = last-of b op start count (last_of op (entries_of b)) refl (found-matches (FoundAt start count) q)
+  pub found-last : (start count : ℕ) → r ≡ found_at start count → Last b op start count
+  found-last start count q = last-of b op start count (last_of op (entries_of b)) refl (found-matches (found_at start count) q)
 
 -- ---- the k-th of them
 
@@ -210,35 +204,35 @@ module _ (b : List ℕ) where
 
 -- ---- one operand
 
-only_one : (ds : List Decimal) → length ds ≡ 1 → The (get_or ds 0 nought) ≡ only (operands ds)
+only_one : (ds : List Decimal) → length ds ≡ 1 → Some (get_or ds 0 nought) ≡ only (operands ds)
 only_one [] e = absurd (no e)
 only_one (d ∷ []) e = refl
 only_one (d ∷ f ∷ ds) e = absurd (no (omega arith))
 
-only_other : (ds : List Decimal) → (length ds ≡ 1 → ⊥) → NoNumber ≡ only (operands ds)
+only_other : (ds : List Decimal) → (length ds ≡ 1 → ⊥) → None ≡ only (operands ds)
 only_other [] e = refl
 only_other (d ∷ []) e = absurd (e refl)
 only_other (d ∷ f ∷ ds) e = refl
 
-module _ (b : List ℕ) (op : ℕ) (r : Found) (e : r ≡ place_of op b) where
-  pub one-absent : r ≡ Absent → NoNumber ≡ one_of op (entries_of b)
+module _ (b : List ℕ) (op : ℕ) (r : Option OperandsAt) (e : r ≡ place_of op b) where
+  pub one-absent : r ≡ None → None ≡ one_of op (entries_of b)
   one-absent q = sym (ap only (none_last b op r e q))
 
-  module _ (start count : ℕ) (q : r ≡ FoundAt start count) where
-    pub one_other : (count ≡ 1 → ⊥) → NoNumber ≡ one_of op (entries_of b)
+  module _ (start count : ℕ) (q : r ≡ found_at start count) where
+    pub one_other : (count ≡ 1 → ⊥) → None ≡ one_of op (entries_of b)
     one_other n =
         let l = found-last b op r e start count q in
         only_other l.numbers (λ z. n (l.held.counted ∙ z)) ∙ sym (ap only l.last)
 
-    pub one_is : count ≡ 1 → (v : Decimal) → v ≡ get_or (operands_at 1 b start) 0 nought → The v ≡ one_of op (entries_of b)
+    pub one_is : count ≡ 1 → (v : Decimal) → v ≡ get_or (operands_at 1 b start) 0 nought → Some v ≡ one_of op (entries_of b)
     one_is n v f =
         let l = found-last b op r e start count q in
-        ap The (last_operand b op start count l 0 v (omega arith) f) ∙ only_one l.numbers (sym l.held.counted ∙ n) ∙ sym (ap only l.last)
+        ap Some (last_operand b op start count l 0 v (omega arith) f) ∙ only_one l.numbers (sym l.held.counted ∙ n) ∙ sym (ap only l.last)
 
-  pub there_not : r ≡ Absent → false ≡ is_there (last_of op (entries_of b))
+  pub there_not : r ≡ None → false ≡ is_there (last_of op (entries_of b))
   there_not q = sym (ap is_there (none_last b op r e q))
 
-  pub there_is : (start count : ℕ) → r ≡ FoundAt start count → true ≡ is_there (last_of op (entries_of b))
+  pub there_is : (start count : ℕ) → r ≡ found_at start count → true ≡ is_there (last_of op (entries_of b))
   there_is start count q = sym (ap is_there (found-last b op r e start count q).last)
 
 -- ---- its numbers are normal
@@ -272,60 +266,60 @@ module _ (b : List ℕ) (o : Octets b) where
   pub operand_normal : (n at k : ℕ) (v : Decimal) → v ≡ get_or (operands_at n b at) k nought → Normal v
   operand_normal n at k v e = subst Normal (sym e) (one-of (operands_at n b at) k (operands_normal n at))
 
-  only-normal : (f : Found) (p : Operands) → Matches b f p → (v : Decimal) → only p ≡ The v → Normal v
+  only-normal : (f : Option OperandsAt) (p : Operands) → Matches b f p → (v : Decimal) → only p ≡ Some v → Normal v
   only-normal f absent m v e = absurd (no cc)
   only-normal f (operands []) m v e = absurd (no cc)
-  only-normal Absent (operands (d ∷ [])) m v e = absurd m
-  only-normal (FoundAt start count) (operands (d ∷ [])) m v e =
+  only-normal None (operands (d ∷ [])) m v e = absurd m
+  only-normal (Some q) (operands (d ∷ [])) m v e =
       let k : d ≡ v = cc in
-      let l = subst AllNormal m.here (operands_normal 1 start) in
+      let l = subst AllNormal m.here (operands_normal 1 q.start) in
       subst Normal k (one-of (d ∷ []) 0 l)
   only-normal f (operands (d ∷ x ∷ ds)) m v e = absurd (no cc)
 
-  pub one-normal : (op : ℕ) (r : One) (v : Decimal) → r ≡ one_of op (entries_of b) → r ≡ The v → Normal v
+  pub one-normal : (op : ℕ) (r : Option Decimal) (v : Decimal) → r ≡ one_of op (entries_of b) → r ≡ Some v → Normal v
   one-normal op r v e f = only-normal (place_of op b) (last_of op (entries_of b)) (place-matches b op) v (sym e ∙ f)
 
 -- ---- what the one operand says
 
-module _ (es : List Entry) (op : ℕ) (r : One) (e : r ≡ one_of op es) where
-  pub offset-absent : r ≡ NoNumber → NoOffset ≡ offset_in op es
+module _ (es : List Entry) (op : ℕ) (r : Option Decimal) (e : r ≡ one_of op es) where
+  pub offset-absent : r ≡ None → NoOffset ≡ offset_in op es
   offset-absent f = ap offset_as (sym f ∙ e)
 
-  module _ (v : Decimal) (f : r ≡ The v) (q : OffsetOf) (g : q ≡ offset_of v) where
+  module _ (v : Decimal) (f : r ≡ Some v) (q : OffsetOf) (g : q ≡ offset_of v) where
     pub offset_refused : (n : ℕ) → q ≡ RefusedOffset n → RefusedIn n ≡ offset_in op es
     offset_refused n h = ap offset_told (sym h ∙ g) ∙ ap offset_as (sym f ∙ e)
 
     pub offset_at : (at : ℕ) → q ≡ Offset at → At at ≡ offset_in op es
     offset_at at h = ap offset_told (sym h ∙ g) ∙ ap offset_as (sym f ∙ e)
 
-  pub id_absent : r ≡ NoNumber → NoId ≡ id_in op es
+  pub id_absent : r ≡ None → None ≡ id_in op es
   id_absent f = ap id_as (sym f ∙ e)
 
-  pub id_is : (v : Decimal) (q : IdOf) → r ≡ The v → q ≡ id_of v → q ≡ id_in op es
+  pub id_is : (v : Decimal) (q : Option ℕ) → r ≡ Some v → q ≡ id_of v → q ≡ id_in op es
   id_is v q f g = g ∙ ap id_as (sym f ∙ e)
 
 -- a string id has 16 bits
-low_id : (t s u : Bool) (m sid : ℕ) → ltb m 65536 ≡ u → pick t (Id 0) (pick s NoId (pick u (Id m) NoId)) ≡ Id sid → sid < 65536
+low_id : (t s u : Bool) (m sid : ℕ) → ltb m 65536 ≡ u → pick t (Some 0) (pick s None (pick u (Some m) None)) ≡ Some sid → sid < 65536
 low_id true s u m sid h e = let z : 0 ≡ sid = cc in omega arith
 low_id false true u m sid h e = absurd (no cc)
 low_id false false true m sid h e = let z : m ≡ sid = cc in omega (arith, ltb-true m 65536 h)
 low_id false false false m sid h e = absurd (no cc)
 
-pub id_low : (o : One) (sid : ℕ) → id_as o ≡ Id sid → sid < 65536
-id_low NoNumber sid e = absurd (no cc)
-id_low (The d) sid e = low_id (eqb (trunc_of d) 0) d.neg (ltb (trunc_of d) 65536) (trunc_of d) sid refl e
+pub id_low : (o : Option Decimal) (sid : ℕ) → id_as o ≡ Some sid → sid < 65536
+id_low None sid e = absurd (no cc)
+id_low (Some d) sid e = low_id (eqb (trunc_of d) 0) d.neg (ltb (trunc_of d) 65536) (trunc_of d) sid refl e
 
-module _ (es : List Entry) (r : One) where
-  pub count-absent : r ≡ one_of cid_count es → r ≡ NoNumber → 8720 ≡ cid_count_in es
+module _ (es : List Entry) (r : Option Decimal) where
+  pub count-absent : r ≡ one_of cid_count es → r ≡ None → 8720 ≡ cid_count_in es
   count-absent e f = ap count_as (sym f ∙ e)
 
-  pub count_is : (v : Decimal) (n : ℕ) → r ≡ one_of cid_count es → r ≡ The v → n ≡ clamped 4294967295 v → n ≡ cid_count_in es
+  pub count_is : (v : Decimal) (n : ℕ) → r ≡ one_of cid_count es → r ≡ Some v → n ≡ clamped 4294967295 v → n ≡ cid_count_in es
   count_is v n e f g = g ∙ ap count_as (sym f ∙ e)
 
-  pub type_absent : r ≡ one_of charstring_type es → r ≡ NoNumber → 0 ≡ charstring_type_in es
+  pub type_absent : r ≡ one_of charstring_type es → r ≡ None → 0 ≡ charstring_type_in es
   type_absent e f = ap type_as (sym f ∙ e)
 
-  module _ (v : Decimal) (t : Bool) (e : r ≡ one_of charstring_type es) (f : r ≡ The v) (g : t ≡ is_two v) where
+  module _ (v : Decimal) (t : Bool) (e : r ≡ one_of charstring_type es) (f : r ≡ Some v) (g : t ≡ is_two v) where
     pub type_two : t ≡ true → 0 ≡ charstring_type_in es
     type_two h = ap (λ (x : Bool). pick x 0 3) (sym h ∙ g) ∙ ap type_as (sym f ∙ e)
 
@@ -334,11 +328,11 @@ module _ (es : List Entry) (r : One) where
 
 -- ---- PaintType
 
-module _ (es : List Entry) (r : One) (e : r ≡ one_of paint_type es) where
-  pub stroked_absent : r ≡ NoNumber → false ≡ stroked_in es
+module _ (es : List Entry) (r : Option Decimal) (e : r ≡ one_of paint_type es) where
+  pub stroked_absent : r ≡ None → false ≡ stroked_in es
   stroked_absent f = ap stroked_as (sym f ∙ e)
 
-  pub stroked_number : (v : Decimal) → r ≡ The v → not (eqb v.digits 0) ≡ stroked_in es
+  pub stroked_number : (v : Decimal) → r ≡ Some v → not (eqb v.digits 0) ≡ stroked_in es
   stroked_number v f = ap stroked_as (sym f ∙ e)
 
 -- ---- two operands, and three
@@ -369,12 +363,12 @@ ros_other (r ∷ o ∷ []) n = refl
 ros_other (r ∷ o ∷ s ∷ []) n = absurd (n refl)
 ros_other (r ∷ o ∷ s ∷ d ∷ ds) n = refl
 
-module _ (b : List ℕ) (r : Found) where
+module _ (b : List ℕ) (r : Option OperandsAt) where
   module _ (e : r ≡ place_of private b) where
-    pub private-absent : r ≡ Absent → NoPrivate ≡ private_in (entries_of b)
+    pub private-absent : r ≡ None → NoPrivate ≡ private_in (entries_of b)
     private-absent q = sym (ap private_as (none_last b private r e q))
 
-    module _ (start count : ℕ) (q : r ≡ FoundAt start count) where
+    module _ (start count : ℕ) (q : r ≡ found_at start count) where
       pub private_wrong : (count ≡ 2 → ⊥) → RefusedPrivate 2 ≡ private_in (entries_of b)
       private_wrong n =
           let l = found-last b private r e start count q in
@@ -390,17 +384,17 @@ module _ (b : List ℕ) (r : Found) where
           ∙ private-two l.numbers (sym l.held.counted ∙ n) ∙ sym (ap private_as l.last)
 
   module _ (e : r ≡ place_of ros b) where
-    pub ros-absent : r ≡ Absent → None ≡ ros_in (entries_of b)
+    pub ros-absent : r ≡ None → None ≡ ros_in (entries_of b)
     ros-absent q = sym (ap ros_as (none_last b ros r e q))
 
-    module _ (start count : ℕ) (q : r ≡ FoundAt start count) where
+    module _ (start count : ℕ) (q : r ≡ found_at start count) where
       pub ros_wrong : (count ≡ 3 → ⊥) → None ≡ ros_in (entries_of b)
       ros_wrong n =
           let l = found-last b ros r e start count q in
           ros_other l.numbers (λ z. n (l.held.counted ∙ z)) ∙ sym (ap ros_as l.last)
 
       pub ros_is : count ≡ 3 → (g o s : Decimal) → g ≡ get_or (operands_at 1 b start) 0 nought → o ≡ get_or (operands_at 2 b start) 1 nought
-          → s ≡ get_or (operands_at 3 b start) 2 nought → (x : RosIn) → x ≡ ros_as (operands (g ∷ o ∷ s ∷ [])) → x ≡ ros_in (entries_of b)
+          → s ≡ get_or (operands_at 3 b start) 2 nought → (x : Option RosEntry) → x ≡ ros_as (operands (g ∷ o ∷ s ∷ [])) → x ≡ ros_in (entries_of b)
       ros_is n g o s h i j x k =
           let l = found-last b ros r e start count q in
           let u = last_operand b ros start count l 0 g (omega arith) h in

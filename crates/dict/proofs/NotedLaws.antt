@@ -1,20 +1,19 @@
 -- Laws of noting where entries stand: a slot is its operator's own, and each turn of the pass notes one entry.
 use Prim.Native.Nat.{ℕ, zero, suc, ◌+◌, ◌-◌, ◌≤◌, ◌<◌}
-use Rattle.std.specs.Prelude.{◌≡◌, refl, Bool, true, false, List, [], ◌∷◌, ltb, eqb, length, get_or, set, replicate}
+use Rattle.std.specs.Prelude.{◌≡◌, refl, Bool, true, false, List, [], ◌∷◌, ltb, eqb, length, get_or, set, replicate, None, Option}
 use Rattle.std.proofs.Common.{sym, ap, ◌∙◌, subst, add-one, arith, length-set, get_or-set_same, get_or-set_other, ltb-true, eqb-true, ne_eqb}
 use Rattle.std.proofs.lemmas.List.{length-replicate, get_or-replicate}
 use Rattle.std.proofs.lemmas.Bool.{eqb-false}
 use Rattle.octets.specs.Pick.{pick, pick_ind}
 use Rattle.decimal.specs.declared.Decimal.{Decimal}
 use Rattle.dict.specs.Dict.{Token, bad, operand, operator, token_at, Reading, stopped, got, after, onward, entry_from, entry_at}
-use Rattle.dict.specs.Places.{entry_told, place_of}
+use Rattle.dict.specs.Places.{entry_told, place_of, found_at}
 use Rattle.dict.specs.Noted.{asked, slot_of, found_of, Placed, ReadsDict}
 use Rattle.dict.specs.TokenLaws.{Passes, token-passes}
 use Rattle.dict.proofs.WalkLaws.{answered, Checking, checking_start, checking_end, checking_refused, checking_turn, Finding, finding_start, finding_end, finding_here, finding_on}
 use Rattle.dict.specs.declared.EntryAt.{EntryAt}
 use Rattle.dict.specs.declared.EntryAt.TheVariants.{Refused as RefusedEntry, Entry as EntryFound}
-use Rattle.dict.specs.declared.Found.{Found}
-use Rattle.dict.specs.declared.Found.TheVariants.{Absent, Entry as FoundAt}
+use Rattle.dict.specs.declared.OperandsAt.{OperandsAt}
 use Rattle.dict.specs.declared.Places.{Places}
 
 no : ◌≡◌ {A = ℕ} 0 1 → ⊥
@@ -166,14 +165,14 @@ module _ (t : Bool) (b : List ℕ) (at : ℕ) (starts counts : List ℕ) (w : No
 
 -- ---- what a slot says
 
-pub found_none : (start count : ℕ) → count ≡ 0 → Absent ≡ found_of start count
+pub found_none : (start count : ℕ) → count ≡ 0 → None ≡ found_of start count
 found_none start count e = sym (ap (found_of start) e)
 
-pub found_some : (start count : ℕ) → (count ≡ 0 → ⊥) → FoundAt start (count - 1) ≡ found_of start count
+pub found_some : (start count : ℕ) → (count ≡ 0 → ⊥) → found_at start (count - 1) ≡ found_of start count
 found_some start zero n = absurd (n refl)
-found_some start (suc k) n = let e : suc k - 1 ≡ k = omega arith in ap (λ (m : ℕ). FoundAt start m) e
+found_some start (suc k) n = let e : suc k - 1 ≡ k = omega arith in ap (λ (m : ℕ). found_at start m) e
 
-pub place-noted : (b : List ℕ) (p : Places) → Placed b p → p.noted ≡ true → (op s : ℕ) → s ≡ slot_of (asked p.subsetting) op → (m : ℕ) → m ≡ length (asked p.subsetting) → s < m → (r : Found)
+pub place-noted : (b : List ℕ) (p : Places) → Placed b p → p.noted ≡ true → (op s : ℕ) → s ≡ slot_of (asked p.subsetting) op → (m : ℕ) → m ≡ length (asked p.subsetting) → s < m → (r : Option OperandsAt)
     → r ≡ found_of (get_or p.starts s 0) (get_or p.counts s 0) → r ≡ place_of op b
 place-noted b p w t op s q m g l r e =
     e ∙ ap (λ (j : ℕ). found_of (get_or p.starts j 0) (get_or p.counts j 0)) q ∙ (w.notes t).each op (omega (arith, q, g, l))

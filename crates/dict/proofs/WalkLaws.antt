@@ -1,20 +1,19 @@
 -- Laws for the loops that read a DICT: over the tokens of an entry, and over its entries.
-use Rattle.std.specs.Prelude.{ℕ, suc, ◌+◌, ◌≤◌, ◌<◌, ◌≡◌, refl, Bool, eqb, length}
+use Rattle.std.specs.Prelude.{ℕ, suc, ◌+◌, ◌≤◌, ◌<◌, ◌≡◌, refl, Bool, eqb, length, None, Option}
 use Rattle.std.proofs.Math.Path.{sym, ap}
 use Rattle.std.proofs.Common.{◌∙◌, subst, arith, eq-eqb, ne_eqb}
 use mathlib.Core.List.{List, [], ◌∷◌}
 use Rattle.octets.specs.Pick.{pick}
 use Rattle.decimal.specs.declared.Decimal.{Decimal}
 use Rattle.dict.specs.Dict.{Entry, Dict, refused, entries, Token, bad, operand, operator, token_at, Reading, stopped, got, after, onward, entry_at, followed, readings_at, before, gathered, dict_of}
-use Rattle.dict.specs.Places.{token_told, entry_told, refusal_of, last_place, place_of}
+use Rattle.dict.specs.Places.{token_told, entry_told, refusal_of, last_place, place_of, found_at}
 use Rattle.dict.specs.TokenLaws.{Passes, token-passes}
 use Rattle.dict.specs.EntryLaws.{entry_is, entry-ends, Stands, Entered, entered, readings_are, readings_end}
 use Rattle.dict.specs.declared.TokenAt.{TokenAt}
 use Rattle.dict.specs.declared.TokenAt.TheVariants.{Refused, Operand, Operator}
 use Rattle.dict.specs.declared.EntryAt.{EntryAt}
 use Rattle.dict.specs.declared.EntryAt.TheVariants.{Refused as RefusedEntry, Entry as EntryFound}
-use Rattle.dict.specs.declared.Found.{Found}
-use Rattle.dict.specs.declared.Found.TheVariants.{Absent, Entry as FoundAt}
+use Rattle.dict.specs.declared.OperandsAt.{OperandsAt}
 
 no : ◌≡◌ {A = ℕ} 0 1 → ⊥
 no h = omega arith
@@ -156,14 +155,14 @@ module _ (b : List ℕ) (at : ℕ) (w : Checking b at) where
         }
 
 -- ---- finding: what is left, and what was found so far, gives what the whole does
-pub record Finding (b : List ℕ) (op at : ℕ) (found : Found) : Type 0 where
+pub record Finding (b : List ℕ) (op at : ℕ) (found : Option OperandsAt) : Type 0 where
   pub inside : at ≤ length b
   pub rest : last_place op at found (readings_at b at) ≡ place_of op b
 
-pub finding_start : (b : List ℕ) (op : ℕ) → Finding b op 0 Absent
+pub finding_start : (b : List ℕ) (op : ℕ) → Finding b op 0 None
 finding_start b op = record { inside = omega arith; rest = refl }
 
-module _ (b : List ℕ) (op at : ℕ) (found : Found) (w : Finding b op at found) where
+module _ (b : List ℕ) (op at : ℕ) (found : Option OperandsAt) (w : Finding b op at found) where
   pub finding_end : length b ≤ at → found ≡ place_of op b
   unfolding last_place
   finding_end h = sym (ap (last_place op at found) (readings_end b at h)) ∙ w.rest
@@ -173,20 +172,20 @@ module _ (b : List ℕ) (op at : ℕ) (found : Found) (w : Finding b op at found
     unfolding last_place
     finding_stopped n f = sym (ap (last_place op at found) (left_stopped b at h r e n f)) ∙ w.rest
 
-    found_turn : (o end count next : ℕ) → r ≡ EntryFound o end count next → Finding b op next (pick (eqb o op) (FoundAt at count) found)
+    found_turn : (o end count next : ℕ) → r ≡ EntryFound o end count next → Finding b op next (pick (eqb o op) (found_at at count) found)
     unfolding last_place
     found_turn o end count next f =
         let a = answered b at h r e o end count next f in
         record {
           inside = a.stands.inside;
-          rest = ap (λ (n : ℕ). last_place op next (pick (eqb o op) (FoundAt at n) found) (readings_at b next)) a.counted
+          rest = ap (λ (n : ℕ). last_place op next (pick (eqb o op) (found_at at n) found) (readings_at b next)) a.counted
               ∙ sym (ap (last_place op at found) (left-entry b at h r e o end count next a)) ∙ w.rest;
         }
 
-    pub finding_here : (o end count next : ℕ) → r ≡ EntryFound o end count next → o ≡ op → Finding b op next (FoundAt at count)
+    pub finding_here : (o end count next : ℕ) → r ≡ EntryFound o end count next → o ≡ op → Finding b op next (found_at at count)
     finding_here o end count next f q =
-        subst (λ (t : Bool). Finding b op next (pick t (FoundAt at count) found)) (eq-eqb o op q) (found_turn o end count next f)
+        subst (λ (t : Bool). Finding b op next (pick t (found_at at count) found)) (eq-eqb o op q) (found_turn o end count next f)
 
     pub finding_on : (o end count next : ℕ) → r ≡ EntryFound o end count next → (o ≡ op → ⊥) → Finding b op next found
     finding_on o end count next f q =
-        subst (λ (t : Bool). Finding b op next (pick t (FoundAt at count) found)) (ne_eqb o op q) (found_turn o end count next f)
+        subst (λ (t : Bool). Finding b op next (pick t (found_at at count) found)) (ne_eqb o op q) (found_turn o end count next f)

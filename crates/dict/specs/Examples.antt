@@ -1,21 +1,17 @@
 -- Worked examples, computed: each point of document 01 ('Corners in mod.rs') on DICT entries, and each refusal.
-use Rattle.std.specs.Prelude.{ℕ, ◌≡◌, refl, true, false, List, [], ◌∷◌}
+use Rattle.std.specs.Prelude.{ℕ, ◌≡◌, refl, true, false, List, [], ◌∷◌, None, Some}
 use Rattle.octets.specs.Octets.{be, num_at}
 use Rattle.decimal.specs.declared.Decimal.{Decimal}
-use Rattle.decimal.specs.declared.IdOf.TheVariants.{Id, Absent as NoId}
 use Rattle.decimal.specs.Decimal.{nought, zeros_of, zeros, stripped, normal}
 use Rattle.decimal.specs.Real.{nibbles, text_of, exp_digits, exponent, mantissa, form_of, value_of}
 use Rattle.decimal.specs.Number.{real_at, number_at}
 use Rattle.decimal.specs.Values.{trunc_of}
 use Rattle.dict.specs.Op.{esc, paint_type}
 use Rattle.dict.specs.Dict.{Entry, refused, entries, operator_at, token_at, entry_from, entry_at, readings_from, readings_at, gathered, dict_of}
-use Rattle.dict.specs.Lookup.{absent, operands, last_from, last_of, one_of, offset_in, private_in, id_in, cid_keyed, ros_in, cid_count_in, stroked_in, charstring_type_in}
-use Rattle.dict.specs.Places.{listed, entries_of, last_place, place_of, operands_at}
-use Rattle.dict.specs.declared.One.TheVariants.{Number, Absent as NoNumber}
+use Rattle.dict.specs.Lookup.{operands, last_from, last_of, one_of, offset_in, private_in, id_in, cid_keyed, ros_in, cid_count_in, stroked_in, charstring_type_in, a_ros}
+use Rattle.dict.specs.Places.{listed, entries_of, last_place, place_of, operands_at, found_at}
 use Rattle.dict.specs.declared.OffsetIn.TheVariants.{Refused, At, Absent as NoOffset}
 use Rattle.dict.specs.declared.PrivateIn.TheVariants.{Refused as RefusedPrivate, Private, Absent as NoPrivate}
-use Rattle.dict.specs.declared.RosIn.TheVariants.{Ros, None}
-use Rattle.dict.specs.declared.Found.TheVariants.{Absent as NotFound, Entry as FoundAt}
 
 -- a whole number below ten, and an entry
 abbrev whole : ℕ → Decimal
@@ -61,9 +57,9 @@ offsets :
     (offset_in 17 twice ≡ At 2)
     × (offset_in 15 twice ≡ NoOffset)
     × (offset_in 16 twice ≡ NoOffset)
-    × (one_of 5 (entry 5 (whole 1 ∷ whole 2 ∷ []) ∷ []) ≡ NoNumber)
+    × (one_of 5 (entry 5 (whole 1 ∷ whole 2 ∷ []) ∷ []) ≡ None)
     × (last_of 5 (entry 5 (whole 1 ∷ whole 2 ∷ []) ∷ []) ≡ operands (whole 1 ∷ whole 2 ∷ []))
-    × (one_of 5 (entry 5 (whole 1 ∷ []) ∷ entry 5 [] ∷ []) ≡ NoNumber)
+    × (one_of 5 (entry 5 (whole 1 ∷ []) ∷ entry 5 [] ∷ []) ≡ None)
     × (offset_in 17 (entry 17 (record { neg = false; digits = 15; up = 0; down = 1 } ∷ []) ∷ []) ≡ Refused 2)
     × (offset_in 17 (entry 17 (record { neg = true; digits = 1; up = 0; down = 0 } ∷ []) ∷ []) ≡ Refused 2)
 unfolding trunc_of last_from last_of twice
@@ -83,12 +79,12 @@ privates = (refl, refl, refl, refl, refl, refl, refl)
 
 -- Notice -0.5 is the id 0, and 65536 is none; ROS of two operands keys the font and is no ROS; CIDCount; CharstringType 1
 others :
-    (id_in 1 (entry 1 (record { neg = true; digits = 5; up = 0; down = 1 } ∷ []) ∷ []) ≡ Id 0)
-    × (id_in 1 (entry 1 (record { neg = false; digits = 65536; up = 0; down = 0 } ∷ []) ∷ []) ≡ NoId)
+    (id_in 1 (entry 1 (record { neg = true; digits = 5; up = 0; down = 1 } ∷ []) ∷ []) ≡ Some 0)
+    × (id_in 1 (entry 1 (record { neg = false; digits = 65536; up = 0; down = 0 } ∷ []) ∷ []) ≡ None)
     × (ros_in (entry (esc 30) (whole 1 ∷ whole 2 ∷ []) ∷ []) ≡ None)
     × (cid_keyed (entry (esc 30) (whole 1 ∷ whole 2 ∷ []) ∷ []) ≡ true)
     × (cid_keyed twice ≡ false)
-    × (ros_in (entry (esc 30) (whole 1 ∷ whole 2 ∷ record { neg = true; digits = 3; up = 0; down = 0 } ∷ []) ∷ []) ≡ Ros 1 2 (record { neg = true; size = 3 }))
+    × (ros_in (entry (esc 30) (whole 1 ∷ whole 2 ∷ record { neg = true; digits = 3; up = 0; down = 0 } ∷ []) ∷ []) ≡ a_ros 1 2 (record { neg = true; size = 3 }))
     × (cid_count_in twice ≡ 8720)
     × (cid_count_in (entry (esc 34) (whole 7 ∷ []) ∷ []) ≡ 7)
     × (cid_count_in (entry (esc 34) (whole 7 ∷ whole 7 ∷ []) ∷ []) ≡ 8720)
@@ -120,8 +116,8 @@ stroked = (refl, refl, refl, refl, refl, refl, refl, refl, refl, refl, refl, ref
 
 -- where the last CharStrings stands in two, and the operand there
 places :
-    (place_of 17 (0x8c ∷ 0x11 ∷ 0x1c ∷ 0x01 ∷ 0x00 ∷ 0x11 ∷ []) ≡ FoundAt 2 1)
-    × (place_of 18 (0x8c ∷ 0x11 ∷ []) ≡ NotFound)
+    (place_of 17 (0x8c ∷ 0x11 ∷ 0x1c ∷ 0x01 ∷ 0x00 ∷ 0x11 ∷ []) ≡ found_at 2 1)
+    × (place_of 18 (0x8c ∷ 0x11 ∷ []) ≡ None)
     × (operands_at 1 (0x8c ∷ 0x11 ∷ 0x8d ∷ 0x11 ∷ []) 2 ≡ whole 2 ∷ [])
 unfolding be num_at zeros_of zeros stripped normal nibbles text_of exp_digits exponent mantissa form_of value_of real_at number_at
     operator_at token_at entry_from entry_at readings_from readings_at last_place operands_at

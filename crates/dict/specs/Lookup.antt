@@ -1,23 +1,19 @@
 -- What a DICT's entries say (document 01, 'Corners in mod.rs'; the Rust's get, number, offset, private_of, top_string, ros, cid_count): the last
 -- entry of an operator counts, and an entry with other than one operand is absent where one number is wanted.
-use Rattle.std.specs.Prelude.{ℕ, min, Bool, true, false, not, List, [], ◌∷◌, eqb}
+use Rattle.std.specs.Prelude.{ℕ, min, Bool, true, false, not, List, [], ◌∷◌, eqb, None, Option, Some}
 use Rattle.octets.specs.Pick.{pick}
 use Rattle.decimal.specs.declared.Decimal.{Decimal}
-use Rattle.decimal.specs.declared.IdOf.{IdOf}
-use Rattle.decimal.specs.declared.IdOf.TheVariants.{Absent as NoId}
 use Rattle.decimal.specs.declared.OffsetOf.{OffsetOf}
+use Rattle.decimal.specs.declared.Signed.{Signed}
 use Rattle.decimal.specs.declared.OffsetOf.TheVariants.{Refused as RefusedOffset, Offset}
 use Rattle.decimal.specs.Values.{trunc_of, clamped, i32_of, id_of, offset_of, is_two}
 use Rattle.dict.specs.Op.{private, paint_type, charstring_type, ros, cid_count}
 use Rattle.dict.specs.Dict.{Entry}
-use Rattle.dict.specs.declared.One.{One}
-use Rattle.dict.specs.declared.One.TheVariants.{Number, Absent as NoNumber}
 use Rattle.dict.specs.declared.OffsetIn.{OffsetIn}
 use Rattle.dict.specs.declared.OffsetIn.TheVariants.{Refused, At, Absent as NoOffset}
 use Rattle.dict.specs.declared.PrivateIn.{PrivateIn}
 use Rattle.dict.specs.declared.PrivateIn.TheVariants.{Refused as RefusedPrivate, Private, Absent as NoPrivate}
-use Rattle.dict.specs.declared.RosIn.{RosIn}
-use Rattle.dict.specs.declared.RosIn.TheVariants.{Ros, None}
+use Rattle.dict.specs.declared.RosEntry.{RosEntry}
 
 -- an entry's operands, or that there is no such entry
 pub data Operands : Type 0 where
@@ -34,13 +30,13 @@ unfoldable pub last_of : ℕ → List Entry → Operands
 last_of op es = last_from op absent es
 
 -- the operand where there is exactly one
-abbrev pub only : Operands → One
-only absent = NoNumber
-only (operands []) = NoNumber
-only (operands (d ∷ [])) = Number d
-only (operands (d ∷ e ∷ ds)) = NoNumber
+abbrev pub only : Operands → Option Decimal
+only absent = None
+only (operands []) = None
+only (operands (d ∷ [])) = Some d
+only (operands (d ∷ e ∷ ds)) = None
 
-abbrev pub one_of : ℕ → List Entry → One
+abbrev pub one_of : ℕ → List Entry → Option Decimal
 one_of op es = only (last_of op es)
 
 -- an offset is whole and not negative, or malformed
@@ -48,9 +44,9 @@ abbrev pub offset_told : OffsetOf → OffsetIn
 offset_told (RefusedOffset n) = Refused n
 offset_told (Offset v) = At v
 
-abbrev pub offset_as : One → OffsetIn
-offset_as NoNumber = NoOffset
-offset_as (Number d) = offset_told (offset_of d)
+abbrev pub offset_as : Option Decimal → OffsetIn
+offset_as None = NoOffset
+offset_as (Some d) = offset_told (offset_of d)
 
 abbrev pub offset_in : ℕ → List Entry → OffsetIn
 offset_in op es = offset_as (one_of op es)
@@ -70,11 +66,11 @@ abbrev pub private_in : List Entry → PrivateIn
 private_in es = private_as (last_of private es)
 
 -- a string id: absent too where the number is none
-abbrev pub id_as : One → IdOf
-id_as NoNumber = NoId
-id_as (Number d) = id_of d
+abbrev pub id_as : Option Decimal → Option ℕ
+id_as None = None
+id_as (Some d) = id_of d
 
-abbrev pub id_in : ℕ → List Entry → IdOf
+abbrev pub id_in : ℕ → List Entry → Option ℕ
 id_in op es = id_as (one_of op es)
 
 -- a font is CID-keyed where ROS is there at all
@@ -86,37 +82,40 @@ abbrev pub cid_keyed : List Entry → Bool
 cid_keyed es = is_there (last_of ros es)
 
 -- ROS: registry and ordering, which are string ids, and the supplement
-abbrev pub ros_as : Operands → RosIn
+abbrev pub a_ros : ℕ → ℕ → Signed → Option RosEntry
+a_ros r o s = Some (record { registry = r; ordering = o; supplement = s })
+
+abbrev pub ros_as : Operands → Option RosEntry
 ros_as absent = None
 ros_as (operands []) = None
 ros_as (operands (r ∷ [])) = None
 ros_as (operands (r ∷ o ∷ [])) = None
-ros_as (operands (r ∷ o ∷ s ∷ [])) = Ros (clamped 65535 r) (clamped 65535 o) (i32_of s)
+ros_as (operands (r ∷ o ∷ s ∷ [])) = a_ros (clamped 65535 r) (clamped 65535 o) (i32_of s)
 ros_as (operands (r ∷ o ∷ s ∷ d ∷ ds)) = None
 
-abbrev pub ros_in : List Entry → RosIn
+abbrev pub ros_in : List Entry → Option RosEntry
 ros_in es = ros_as (last_of ros es)
 
 -- CIDCount, 8720 where it is absent (TN5176, table 10)
-abbrev pub count_as : One → ℕ
-count_as NoNumber = 8720
-count_as (Number d) = clamped 4294967295 d
+abbrev pub count_as : Option Decimal → ℕ
+count_as None = 8720
+count_as (Some d) = clamped 4294967295 d
 
 abbrev pub cid_count_in : List Entry → ℕ
 cid_count_in es = count_as (one_of cid_count es)
 
 -- PaintType: a font is stroked where it is one number other than 0 (document 02, Wish 11)
-abbrev pub stroked_as : One → Bool
-stroked_as NoNumber = false
-stroked_as (Number d) = not (eqb d.digits 0)
+abbrev pub stroked_as : Option Decimal → Bool
+stroked_as None = false
+stroked_as (Some d) = not (eqb d.digits 0)
 
 abbrev pub stroked_in : List Entry → Bool
 stroked_in es = stroked_as (one_of paint_type es)
 
 -- CharstringType: 0, or the refusal where it is a number other than 2
-abbrev pub type_as : One → ℕ
-type_as NoNumber = 0
-type_as (Number d) = pick (is_two d) 0 3
+abbrev pub type_as : Option Decimal → ℕ
+type_as None = 0
+type_as (Some d) = pick (is_two d) 0 3
 
 abbrev pub charstring_type_in : List Entry → ℕ
 charstring_type_in es = type_as (one_of charstring_type es)

@@ -1,12 +1,11 @@
 -- Where the last entries that reading asks for stand (TN5176, section 4: those of the top DICT, of a Font DICT and of a Private DICT), or those that
 -- subsetting asks for, noted in one pass over a DICT: a table has a slot for each of their operators.
-use Rattle.std.specs.Prelude.{ℕ, zero, suc, ◌<◌, ◌≡◌, Bool, true, false, List, [], ◌∷◌, eqb, length, get_or}
+use Rattle.std.specs.Prelude.{ℕ, zero, suc, ◌<◌, ◌≡◌, Bool, true, false, List, [], ◌∷◌, eqb, length, get_or, None, Option}
 use Rattle.octets.specs.Pick.{pick}
 use Rattle.dict.specs.Op.{esc, private, subrs, paint_type, font_matrix, charstring_type, ros, cid_count}
 use Rattle.dict.specs.Dict.{dict_of}
-use Rattle.dict.specs.Places.{refusal_of, place_of}
-use Rattle.dict.specs.declared.Found.{Found}
-use Rattle.dict.specs.declared.Found.TheVariants.{Absent, Entry as FoundAt}
+use Rattle.dict.specs.Places.{refusal_of, place_of, found_at}
+use Rattle.dict.specs.declared.OperandsAt.{OperandsAt}
 use Rattle.dict.specs.declared.Places.{Places}
 
 -- reading asks for charset, Encoding, CharStrings, Private, Subrs, CharstringType, ROS, FDArray, FDSelect
@@ -28,9 +27,9 @@ slot_of [] op = 0
 slot_of (x ∷ xs) op = pick (eqb x op) 0 (suc (slot_of xs op))
 
 -- what a slot says: one more than the operands are, or 0 where there is no entry
-abbrev pub found_of : ℕ → ℕ → Found
-found_of start zero = Absent
-found_of start (suc n) = FoundAt start n
+abbrev pub found_of : ℕ → ℕ → Option OperandsAt
+found_of start zero = None
+found_of start (suc n) = found_at start n
 
 -- each slot of a table has its operator's last entry
 pub record Notes (t : Bool) (b starts counts : List ℕ) : Type 0 where

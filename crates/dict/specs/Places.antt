@@ -1,5 +1,5 @@
 -- The code's answers for what the definitions of a DICT (TN5176, section 4) say: it holds positions and counts where they hold operands.
-use Rattle.std.specs.Prelude.{ℕ, zero, suc, ◌+◌, ◌≡◌, List, [], ◌∷◌, length, eqb}
+use Rattle.std.specs.Prelude.{ℕ, zero, suc, ◌+◌, ◌≡◌, List, [], ◌∷◌, length, eqb, None, Option, Some}
 use Rattle.octets.specs.Pick.{pick}
 use Rattle.decimal.specs.declared.Decimal.{Decimal}
 use Rattle.decimal.specs.Number.{Number, refused as refusedNumber, not_number, number, number_at}
@@ -8,8 +8,7 @@ use Rattle.dict.specs.declared.TokenAt.{TokenAt}
 use Rattle.dict.specs.declared.TokenAt.TheVariants.{Refused, Operand, Operator}
 use Rattle.dict.specs.declared.EntryAt.{EntryAt}
 use Rattle.dict.specs.declared.EntryAt.TheVariants.{Refused as RefusedEntry, Entry as EntryFound}
-use Rattle.dict.specs.declared.Found.{Found}
-use Rattle.dict.specs.declared.Found.TheVariants.{Absent, Entry as FoundAt}
+use Rattle.dict.specs.declared.OperandsAt.{OperandsAt}
 
 -- the code's token
 abbrev pub token_told : Token → TokenAt
@@ -40,15 +39,19 @@ entries_of b = listed (readings_at b 0)
 pub record Good (b : List ℕ) : Type 0 where
   pub accepted : refusal_of (dict_of b) ≡ 0
 
+-- so many operands from a position on
+abbrev pub found_at : ℕ → ℕ → Option OperandsAt
+found_at start count = Some (record { start = start; count = count })
+
 -- where the last of these entries that has the operator stands, the first of them starting at a position; or else as found before
-unfoldable pub last_place : ℕ → ℕ → Found → List Reading → Found
+unfoldable pub last_place : ℕ → ℕ → Option OperandsAt → List Reading → Option OperandsAt
 last_place op at found [] = found
 last_place op at found (stopped n ∷ rs) = found
 last_place op at found (got o ds end next ∷ rs) =
-    last_place op next (pick (eqb o op) (FoundAt at (length ds)) found) rs
+    last_place op next (pick (eqb o op) (found_at at (length ds)) found) rs
 
-abbrev pub place_of : ℕ → List ℕ → Found
-place_of op b = last_place op 0 Absent (readings_at b 0)
+abbrev pub place_of : ℕ → List ℕ → Option OperandsAt
+place_of op b = last_place op 0 None (readings_at b 0)
 
 -- n operands from a position on
 abbrev pub or_none : Number → (ℕ → List Decimal) → List Decimal

@@ -13,8 +13,8 @@ ghost use Rattle.dict.specs.Noted.{found_of, Placed, ReadsDict};
 
 use crate::op::{Op, slot, slots};
 use decimal::{
-    Decimal, IdOf, NumberAt, OffsetOf, PastAt, Signed, id_of, is_two, number_at, offset_of,
-    past_number, to_i32, to_u16, to_u32, trunc,
+    Decimal, NumberAt, OffsetOf, PastAt, Signed, id_of, is_two, number_at, offset_of, past_number,
+    to_i32, to_u16, to_u32, trunc,
 };
 use octets::wide;
 use refusal::Refusal;
@@ -42,9 +42,9 @@ pub enum EntryAt {
 
 // Where the operands of the last entry of an operator stand, and how many they are.
 #[derive(Clone, Copy)]
-pub enum Found {
-    Absent,
-    Entry { start: usize, count: usize },
+pub struct OperandsAt {
+    pub start: usize,
+    pub count: usize,
 }
 
 // Where the last entries that reading asks for stand, or those that subsetting asks for, each in the slot of its operator, with one more than its operands
@@ -57,13 +57,6 @@ pub struct Places {
     pub subsetting: bool,
     pub starts: [usize; 16],
     pub counts: [usize; 16],
-}
-
-// The one operand of an entry.
-#[derive(Clone, Copy)]
-pub enum One {
-    Absent,
-    Number(Decimal),
 }
 
 // An entry that is an offset: not there, a refusal's number, or the offset.
@@ -82,15 +75,12 @@ pub enum PrivateIn {
     Private { size: usize, offset: usize },
 }
 
-// A ROS entry: two string ids and a number, or none that can be used.
+// A ROS entry: two string ids and a number.
 #[derive(Clone, Copy)]
-pub enum RosIn {
-    None,
-    Ros {
-        registry: usize,
-        ordering: usize,
-        supplement: Signed,
-    },
+pub struct RosEntry {
+    pub registry: usize,
+    pub ordering: usize,
+    pub supplement: Signed,
 }
 
 // Zero is one value.
@@ -216,10 +206,10 @@ fn note_entries(d: &[u8], subsetting: bool) -> Places
 }
 
 // Where the last entry of an operator stands: one pass.
-fn find_entry(d: &[u8], op: usize) -> Found
+fn find_entry(d: &[u8], op: usize) -> Option<OperandsAt>
     ensures { result ≡ place_of op d.now }
 {
-    let mut found = Found::Absent;
+    let mut found = None;
     let mut at: usize = 0;
     while at < d.len() {
         match read_entry(d, at) {
@@ -230,7 +220,7 @@ fn find_entry(d: &[u8], op: usize) -> Found
                 next,
             } => {
                 if o == op {
-                    found = Found::Entry { start: at, count };
+                    found = Some(OperandsAt { start: at, count });
                 }
                 at = next;
             }
@@ -256,20 +246,20 @@ pub fn nowhere(refusal: u8) -> Places
 }
 
 // The place that is noted with a count.
-fn found_at(start: usize, count: usize) -> Found
+fn found_at(start: usize, count: usize) -> Option<OperandsAt>
     ensures { result ≡ found_of start count }
 {
     if count == 0 {
-        return Found::Absent;
+        return None;
     }
-    Found::Entry {
+    Some(OperandsAt {
         start,
         count: count - 1,
-    }
+    })
 }
 
 // Where the last entry of an operator stands: as it was noted, or by a pass.
-pub fn place(d: &[u8], p: Places, op: usize) -> Found
+pub fn place(d: &[u8], p: Places, op: usize) -> Option<OperandsAt>
     requires { Placed d.now p }
     ensures { result ≡ place_of op d.now }
 {
@@ -312,18 +302,18 @@ pub fn operand(d: &[u8], start: usize, k: usize) -> Decimal
     NOUGHT
 }
 
-// The one operand of an operator's last entry.
-fn number(d: &[u8], p: Places, op: usize) -> One
+// The one operand of an operator's last entry, if it has one.
+fn number(d: &[u8], p: Places, op: usize) -> Option<Decimal>
     requires { Placed d.now p }
     ensures { result ≡ one_of op (entries_of d.now) }
 {
     match place(d, p, op) {
-        Found::Absent => One::Absent,
-        Found::Entry { start, count } => {
+        None => None,
+        Some(OperandsAt { start, count }) => {
             if count == 1 {
-                return One::Number(operand(d, start, 0));
+                return Some(operand(d, start, 0));
             }
-            One::Absent
+            None
         }
     }
 }
@@ -334,8 +324,8 @@ pub fn is_cid_keyed(d: &[u8], p: Places) -> bool
     ensures { result ≡ cid_keyed (entries_of d.now) }
 {
     match place(d, p, Op::ROS) {
-        Found::Absent => false,
-        Found::Entry { start: _, count: _ } => true,
+        None => false,
+        Some(OperandsAt { start: _, count: _ }) => true,
     }
 }
 
@@ -345,22 +335,22 @@ pub fn offset(d: &[u8], p: Places, op: usize) -> OffsetIn
     ensures { result ≡ offset_in op (entries_of d.now) }
 {
     match number(d, p, op) {
-        One::Absent => OffsetIn::Absent,
-        One::Number(v) => match offset_of(v) {
+        None => OffsetIn::Absent,
+        Some(v) => match offset_of(v) {
             OffsetOf::Refused(n) => OffsetIn::Refused(n),
             OffsetOf::Offset(at) => OffsetIn::At(at),
         },
     }
 }
 
-// The string id that an entry holds.
-pub fn string_id(d: &[u8], p: Places, op: usize) -> IdOf
+// The string id that an entry holds, if it holds one.
+pub fn string_id(d: &[u8], p: Places, op: usize) -> Option<usize>
     requires { Placed d.now p }
     ensures { result ≡ id_in op (entries_of d.now) }
 {
     match number(d, p, op) {
-        One::Absent => IdOf::Absent,
-        One::Number(v) => id_of(v),
+        None => None,
+        Some(v) => id_of(v),
     }
 }
 
@@ -370,8 +360,8 @@ pub fn cid_count(d: &[u8], p: Places) -> usize
     ensures { result ≡ cid_count_in (entries_of d.now) }
 {
     match number(d, p, Op::CID_COUNT) {
-        One::Absent => 8720,
-        One::Number(v) => to_u32(v),
+        None => 8720,
+        Some(v) => to_u32(v),
     }
 }
 
@@ -381,8 +371,8 @@ pub fn is_stroked(d: &[u8], p: Places) -> bool
     ensures { result ≡ stroked_in (entries_of d.now) }
 {
     match number(d, p, Op::PAINT_TYPE) {
-        One::Absent => false,
-        One::Number(v) => v.digits != 0,
+        None => false,
+        Some(v) => v.digits != 0,
     }
 }
 
@@ -392,8 +382,8 @@ pub fn charstring_type(d: &[u8], p: Places) -> u8
     ensures { result ≡ charstring_type_in (entries_of d.now) }
 {
     match number(d, p, Op::CHARSTRING_TYPE) {
-        One::Absent => 0,
-        One::Number(v) => {
+        None => 0,
+        Some(v) => {
             if is_two(v) {
                 return 0;
             }
@@ -427,8 +417,8 @@ pub fn private_of(d: &[u8], p: Places) -> PrivateIn
     ensures { result ≡ private_in (entries_of d.now) }
 {
     match place(d, p, Op::PRIVATE) {
-        Found::Absent => PrivateIn::Absent,
-        Found::Entry { start, count } => {
+        None => PrivateIn::Absent,
+        Some(OperandsAt { start, count }) => {
             if count == 2 {
                 return private_at(operand(d, start, 0), operand(d, start, 1));
             }
@@ -438,25 +428,25 @@ pub fn private_of(d: &[u8], p: Places) -> PrivateIn
 }
 
 // The three operands of ROS.
-fn ros_at(registry: Decimal, ordering: Decimal, supplement: Decimal) -> RosIn
+fn ros_at(registry: Decimal, ordering: Decimal, supplement: Decimal) -> Option<RosEntry>
     requires { (Normal registry) × (Normal ordering) × (Normal supplement) }
     ensures { result ≡ ros_as (operands (registry ∷ ordering ∷ supplement ∷ [])) }
 {
-    RosIn::Ros {
+    Some(RosEntry {
         registry: to_u16(registry),
         ordering: to_u16(ordering),
         supplement: to_i32(supplement),
-    }
+    })
 }
 
-// The registry, ordering and supplement of a CID-keyed font.
-pub fn ros(d: &[u8], p: Places) -> RosIn
+// The registry, ordering and supplement of a CID-keyed font, if ROS has three operands.
+pub fn ros(d: &[u8], p: Places) -> Option<RosEntry>
     requires { Placed d.now p }
     ensures { result ≡ ros_in (entries_of d.now) }
 {
     match place(d, p, Op::ROS) {
-        Found::Absent => RosIn::None,
-        Found::Entry { start, count } => {
+        None => None,
+        Some(OperandsAt { start, count }) => {
             if count == 3 {
                 return ros_at(
                     operand(d, start, 0),
@@ -464,7 +454,7 @@ pub fn ros(d: &[u8], p: Places) -> RosIn
                     operand(d, start, 2),
                 );
             }
-            RosIn::None
+            None
         }
     }
 }

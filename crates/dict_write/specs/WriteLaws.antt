@@ -1,5 +1,5 @@
 -- Laws of writing an entry: its operands and then its operator, one write after the other.
-use Rattle.std.specs.Prelude.{ℕ, ◌+◌, ◌≤◌, ◌≡◌, List, [], ◌++◌, length}
+use Rattle.std.specs.Prelude.{ℕ, ◌+◌, ◌≤◌, ◌≡◌, List, [], ◌++◌, length, None, Option}
 use Rattle.std.proofs.Math.Path.{sym, ap}
 use Rattle.std.proofs.Common.{◌∙◌, arith}
 use Rattle.std.proofs.Math.Bool.{false}
@@ -10,11 +10,10 @@ use Rattle.decimal.specs.declared.Decimal.{Decimal}
 use Rattle.decimal.specs.Written.{int5_bytes}
 use Rattle.decimal_write.specs.IntLaws.{length_int5}
 use Rattle.dict.specs.Op.{private, subrs}
-use Rattle.dict.specs.Lookup.{last_of, operands}
-use Rattle.dict.specs.Places.{entries_of, place_of, operands_at}
+use Rattle.dict.specs.Lookup.{last_of}
+use Rattle.dict.specs.Places.{entries_of, place_of, operands_at, found_at}
 use Rattle.dict.proofs.LookupLaws.{none_last, found-last}
-use Rattle.dict.specs.declared.Found.{Found}
-use Rattle.dict.specs.declared.Found.TheVariants.{Absent, Entry as FoundAt}
+use Rattle.dict.specs.declared.OperandsAt.{OperandsAt}
 use Rattle.dict_write.specs.Written.{op_bytes_lem, operands_bytes, entry_bytes, offset_entry, private_entry, copied_entry}
 use Rattle.dict_write.specs.OpLaws.{op_one}
 
@@ -96,17 +95,17 @@ module _ (size offset : ℕ) where
 
 -- ---- the last entry of an operator
 
-module _ (b : List ℕ) (op : ℕ) (r : Found) (e : r ≡ place_of op b) where
-  pub copied-absent : r ≡ Absent → [] ≡ copied_entry op (last_of op (entries_of b))
+module _ (b : List ℕ) (op : ℕ) (r : Option OperandsAt) (e : r ≡ place_of op b) where
+  pub copied-absent : r ≡ None → [] ≡ copied_entry op (last_of op (entries_of b))
   unfolding copied_entry
   copied-absent f = sym (ap (copied_entry op) (none_last b op r e f))
 
-  pub copied-found : (start count : ℕ) → r ≡ FoundAt start count → entry_bytes op (operands_at count b start) ≡ copied_entry op (last_of op (entries_of b))
+  pub copied-found : (start count : ℕ) → r ≡ found_at start count → entry_bytes op (operands_at count b start) ≡ copied_entry op (last_of op (entries_of b))
   unfolding copied_entry
   copied-found start count f =
       let l = found-last b op r e start count f in
       ap (entry_bytes op) (ap (λ (n : ℕ). operands_at n b start) l.held.counted ∙ l.held.here) ∙ sym (ap (copied_entry op) l.last)
 
-  pub copied-room : (start count : ℕ) → r ≡ FoundAt start count → (size to : ℕ) → to + length (copied_entry op (last_of op (entries_of b))) ≤ size
+  pub copied-room : (start count : ℕ) → r ≡ found_at start count → (size to : ℕ) → to + length (copied_entry op (last_of op (entries_of b))) ≤ size
       → to + length (entry_bytes op (operands_at count b start)) ≤ size
   copied-room start count f size to h = let k = ap length (copied-found start count f) in omega arith

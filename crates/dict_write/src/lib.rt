@@ -13,7 +13,7 @@ ghost use Rattle.dict_write.specs.Written.{op_bytes_lem, operands_bytes, entry_b
 use decimal::{NumberAt, number_at};
 use decimal_write::{number_len, put_int5, put_number};
 use dict::op::Op;
-use dict::{EntryAt, Found, Places, place, read_entry};
+use dict::{EntryAt, OperandsAt, Places, place, read_entry};
 
 // How many bytes an operator takes: one, or two for an escape.
 pub fn op_len(op: usize) -> usize
@@ -39,9 +39,8 @@ fn operands_len(d: &[u8], start: usize, count: usize) -> usize
     ensures { result ≡ length (operands_bytes (operands_at count d.now start)) }
 {
     let mut at = start;
-    let mut left = count;
     let mut len: usize = 0;
-    while 0 < left {
+    for _ in 0..count {
         if d.len() <= at {
             return len;
         }
@@ -49,7 +48,6 @@ fn operands_len(d: &[u8], start: usize, count: usize) -> usize
             NumberAt::Num { value, next } => {
                 len += number_len(value);
                 at = next;
-                left -= 1;
             }
             NumberAt::NotNumber => {
                 return len;
@@ -68,9 +66,8 @@ fn put_operands(d: &[u8], start: usize, count: usize, out: &mut [u8], to: usize)
     ensures { Wrote out.old to (operands_bytes (operands_at count d.now start)) out.new result }
 {
     let mut at = start;
-    let mut left = count;
     let mut p = to;
-    while 0 < left {
+    for _ in 0..count {
         if d.len() <= at {
             return p;
         }
@@ -78,7 +75,6 @@ fn put_operands(d: &[u8], start: usize, count: usize, out: &mut [u8], to: usize)
             NumberAt::Num { value, next } => {
                 p = put_number(value, &mut *out, p);
                 at = next;
-                left -= 1;
             }
             NumberAt::NotNumber => {
                 return p;
@@ -121,8 +117,8 @@ pub fn copied_len(d: &[u8], p: Places, op: usize) -> usize
     ensures { result ≡ length (copied_entry op (last_of op (entries_of d.now))) }
 {
     match place(d, p, op) {
-        Found::Absent => 0,
-        Found::Entry { start, count } => entry_len(d, start, count, op),
+        None => 0,
+        Some(OperandsAt { start, count }) => entry_len(d, start, count, op),
     }
 }
 
@@ -132,8 +128,8 @@ pub fn put_copied(d: &[u8], p: Places, op: usize, out: &mut [u8], to: usize) -> 
     ensures { Wrote out.old to (copied_entry op (last_of op (entries_of d.now))) out.new result }
 {
     match place(d, p, op) {
-        Found::Absent => to,
-        Found::Entry { start, count } => put_entry(d, start, count, op, out, to),
+        None => to,
+        Some(OperandsAt { start, count }) => put_entry(d, start, count, op, out, to),
     }
 }
 

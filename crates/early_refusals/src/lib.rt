@@ -12,7 +12,7 @@ ghost use Rattle.outcome.specs.Entry.{size_of, refusal_of};
 ghost use Rattle.early_refusals.specs.RefusalLaws.{unsupported_at};
 
 use cff::font::Font;
-use dict::{Places, RosIn};
+use dict::Places;
 use refusal::Refusal;
 
 // Whether the ROS of a top DICT can be used.
@@ -21,12 +21,8 @@ fn has_ros(d: &[u8], p: Places) -> bool
     ensures { result ≡ has_ros_lem (ros_in (entries_of d.now)) }
 {
     match dict::ros(d, p) {
-        RosIn::None => false,
-        RosIn::Ros {
-            registry: _,
-            ordering: _,
-            supplement: _,
-        } => true,
+        None => false,
+        Some(_) => true,
     }
 }
 

@@ -1,9 +1,8 @@
 -- Laws of the refusals of a traced cut before the work words are used: the code's tests are the definition's.
-use Rattle.std.specs.Prelude.{ℕ, ◌≤◌, ◌<◌, ◌+◌, ◌*◌, ◌≡◌, refl, Bool, true, not, List, [], ltb, length, take}
+use Rattle.std.specs.Prelude.{ℕ, ◌≤◌, ◌<◌, ◌+◌, ◌*◌, ◌≡◌, refl, Bool, true, not, List, [], ltb, length, take, None, Option, Some}
 use Rattle.std.proofs.Common.{sym, ◌∙◌, subst, arith}
 use Rattle.std.proofs.Math.Path.{ap}
 use Rattle.std.proofs.Math.Bool.{false}
-use Rattle.std.proofs.Math.Option.{Option, none, some}
 use borrow.Author.Tests.{lt-ltb, le-ltb}
 use Rattle.octets.specs.Pick.{pick}
 use Rattle.bits.specs.Bits.{words_for}
@@ -57,8 +56,8 @@ same_self false = refl
 
 -- a trace behind 6 and 7 is refused with 11 alone
 only_eleven : (lent : ℕ) (m : Option (List Row)) (w : ℕ) → fits_in (answered lent m) ≡ false → refused_or (answered lent m) w ≡ 11
-only_eleven lent none w e = absurd (zero_one cc)
-only_eleven lent (some rows) w e = by (ltb lent (length (record_of rows))) e
+only_eleven lent None w e = absurd (zero_one cc)
+only_eleven lent (Some rows) w e = by (ltb lent (length (record_of rows))) e
   where
     by : (t : Bool) → fits_in (pick t (refused 11) (traced 1 (record_of rows))) ≡ false → refused_or (pick t (refused 11) (traced 1 (record_of rows))) w ≡ 11
     by true q = refl

@@ -13,7 +13,7 @@ ghost use Rattle.tracer.specs.Tracing.{Held, met_in, RowsFit, keys_in, Plainly, 
 ghost use Rattle.early_traced.specs.Early.{fits_in, early_of};
 
 use cff::font::Font;
-use interpret::{Met, Range};
+use interpret::Range;
 use refusal::Refusal;
 use tracer::count_rows;
 
@@ -55,8 +55,8 @@ fn fits_marked(font: &[u8], f: Font, marks: &[u32], lent: &[u8]) -> bool
         high: 9223372036854775808,
     };
     match tracer::fill(font, f, marks, all, &mut keys) {
-        Met::NotPlain => true,
-        Met::Plain(first) => fits_first(font, f, marks, &mut keys, first, lent),
+        None => true,
+        Some(first) => fits_first(font, f, marks, &mut keys, first, lent),
     }
 }
 

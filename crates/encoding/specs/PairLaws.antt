@@ -1,6 +1,6 @@
 -- Laws of the pairs of a table: how many they are and how many bytes they have, and that they are those of the definition.
 use Prim.Native.Nat.{ℕ, zero, suc, ◌+◌, ◌*◌, ◌-◌, ◌≤◌, ◌<◌}
-use Rattle.std.specs.Prelude.{◌≡◌, Bool, true, false, eqb, length}
+use Rattle.std.specs.Prelude.{◌≡◌, Bool, true, false, eqb, length, None, Option, Some}
 use Rattle.std.proofs.Math.Path.{refl, ap}
 use Rattle.std.proofs.Common.{sym, ◌∙◌, arith, ne_eqb, length-append}
 use mathlib.Core.List.{List, [], ◌∷◌, ◌++◌, append_assoc}
@@ -9,8 +9,6 @@ use Rattle.octets.specs.Pick.{pick}
 use Rattle.octets.specs.Octets.{bytes_of}
 use Rattle.octets.specs.OctetsLaws.{length-bytes}
 use Rattle.charset.specs.Codes.{Naming}
-use Rattle.find.specs.declared.Found.{Found}
-use Rattle.find.specs.declared.Found.TheVariants.{Absent, Glyph}
 use Rattle.cff.specs.Font.{Program}
 use Rattle.subset.specs.Kept.{is_in}
 use Rattle.subset.specs.Texts.{name_of, new_id}
@@ -83,17 +81,17 @@ module _ (p : Program) (own : List (List ℕ)) (gs : List ℕ) where
       rw (t, e) refl
   kept_pair c g false = refl
 
-  found-pair : (c : ℕ) (f : Found) → pair_in c (held_after p own gs (held_of f) 0) ≡ pair_of p gs own c f
-  found-pair c Absent = ap (pair_in c) (after_none p own gs 0)
-  found-pair c (Glyph g) = ap (pair_in c) (after_kept p own gs g 0) ∙ kept_pair c g (is_in g gs)
+  found-pair : (c : ℕ) (f : Option ℕ) → pair_in c (held_after p own gs (held_of f) 0) ≡ pair_of p gs own c f
+  found-pair c None = ap (pair_in c) (after_none p own gs 0)
+  found-pair c (Some g) = ap (pair_in c) (after_kept p own gs g 0) ∙ kept_pair c g (is_in g gs)
 
-  pub pairs-same : (ns : List Naming) (named table : List ℕ) → ((c : ℕ) → c < 256 → get_or named c 0 ≡ held_of (last_named p c Absent ns))
+  pub pairs-same : (ns : List Naming) (named table : List ℕ) → ((c : ℕ) → c < 256 → get_or named c 0 ≡ held_of (last_named p c None ns))
       → Renames p own gs named table → (m c : ℕ) → c + m ≤ 256 → pairs_in table m c ≡ pairs_from p ns gs own m c
   unfolding pairs_in pairs_from
   pairs-same ns named table at r zero c h = refl
   pairs-same ns named table at r (suc m) c h =
-      let e : get_or table c 0 ≡ held_after p own gs (held_of (last_named p c Absent ns)) 0 =
+      let e : get_or table c 0 ≡ held_after p own gs (held_of (last_named p c None ns)) 0 =
       r.each c (omega arith) ∙ ap (λ (x : ℕ). held_after p own gs x 0) (at c (omega arith)) in
       ap (λ (x : ℕ). pair_in c x ++ pairs_in table m (c + 1)) e
-      ∙ ap (λ (x : List Pair). x ++ pairs_in table m (c + 1)) (found-pair c (last_named p c Absent ns))
-      ∙ ap (λ (x : List Pair). pair_of p gs own c (last_named p c Absent ns) ++ x) (pairs-same ns named table at r m (c + 1) (omega arith))
+      ∙ ap (λ (x : List Pair). x ++ pairs_in table m (c + 1)) (found-pair c (last_named p c None ns))
+      ∙ ap (λ (x : List Pair). pair_of p gs own c (last_named p c None ns) ++ x) (pairs-same ns named table at r m (c + 1) (omega arith))

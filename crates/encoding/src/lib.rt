@@ -20,29 +20,13 @@ pub struct Encoding {
     pub pairs: usize,
 }
 
-// The larger of two numbers.
-fn larger(x: usize, y: usize) -> usize
-    ensures { (x ≤ result) × (y ≤ result) }
-{
-    if x < y {
-        return y;
-    }
-    x
-}
-
 // Empties the places of all codes; the highest glyph + 1 that a code has, or 0.
 fn empty(named: &[usize], table: &mut [usize]) -> usize
     requires { (256 ≤ length named.now) × (256 ≤ length table.old) }
     ensures { Emptied named.now 256 table.new result }
 {
-    let mut top = 0;
-    let mut code = 0;
-    while code < 256 {
-        top = larger(top, named[code]);
-        table[code] = 0;
-        code += 1;
-    }
-    top
+    table[..256].fill(0);
+    named[..256].iter().copied().max().unwrap_or(0)
 }
 
 // What the place of a code with this glyph + 1 holds once a glyph with its new id came by, both plus 1.
@@ -63,11 +47,8 @@ fn put_id(named: &[usize], top: usize, glyph: usize, id: usize, table: &mut [usi
     if top < glyph {
         return;
     }
-    let mut code = 0;
-    while code < 256 {
-        let held = held_for(named[code], glyph, id, table[code]);
-        table[code] = held;
-        code += 1;
+    for (code, held) in table[..256].iter_mut().enumerate() {
+        *held = held_for(named[code], glyph, id, *held);
     }
 }
 
@@ -93,25 +74,13 @@ fn rename(
     let top = empty(named, &mut *table);
     let mut own = name_strings::slots_own(font, strings, slots);
     let mut u = o.held;
-    let mut i = 0;
-    while i < count {
+    for i in 0..count {
         u = order_window::hold(font, f, words, &mut *window, u, i);
         let w = order_window::word_at(&*window, u, i);
         let id = own_strings::given_id(font, strings, slots, 8, own.count, w / 65536);
         own = own_strings::count_one(font, strings, own, w / 65536, id);
         put_id(named, top, w % 65536 + 1, id + 1, &mut *table);
-        i += 1;
     }
-}
-
-// How many pairs a place of the table holds.
-fn pairs_of(held: usize) -> usize
-    ensures { (result ≡ pick (eqb held 0) 0 1) × (result ≤ 1) }
-{
-    if held == 0 {
-        return 0;
-    }
-    1
 }
 
 // How many pairs the table holds.
@@ -119,13 +88,7 @@ fn pair_count(table: &[usize]) -> usize
     requires { 256 ≤ length table.now }
     ensures { (result ≡ length (pairs_in table.now 256 0)) × (result ≤ 256) }
 {
-    let mut pairs = 0;
-    let mut code = 0;
-    while code < 256 {
-        pairs += pairs_of(table[code]);
-        code += 1;
-    }
-    pairs
+    table[..256].iter().filter(|held| **held != 0).count()
 }
 
 // The encoding of the subset of a name-keyed font, which was asked for.
@@ -225,11 +188,8 @@ fn put_pairs(table: &[usize], out: &mut [u8], at: usize) -> usize
     ensures { Wrote out.old at (pair_bytes (pairs_in table.now 256 0)) out.new result }
 {
     let mut p = at;
-    let mut code = 0;
-    while code < 256 {
-        let held = table[code];
+    for (code, &held) in table[..256].iter().enumerate() {
         p = put_one(code, held, out, p);
-        code += 1;
     }
     p
 }

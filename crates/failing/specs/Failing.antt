@@ -1,6 +1,5 @@
 -- What is asked to find a body that cannot be renumbered (document 02, Wish 12), and what it says: one kept glyph runs it, and no other can be the culprit.
-use Rattle.std.specs.Prelude.{ℕ, ◌≤◌, ◌<◌, ◌≡◌, Bool, true, false, List, [], ◌∷◌, length, get_or}
-use Rattle.std.proofs.Math.Option.{some}
+use Rattle.std.specs.Prelude.{ℕ, ◌≤◌, ◌<◌, ◌≡◌, Bool, true, false, List, [], ◌∷◌, length, get_or, Some}
 use Rattle.octets.specs.Pick.{pick}
 use Rattle.unfold.specs.Unfold.{Row, glyph}
 use Rattle.prune.specs.Bodies.{All}
@@ -44,7 +43,7 @@ first_failing p rows (g ∷ gs) = pick (holds (body_at p rows (glyph g))) (first
 -- a record is that of the rows that the kept glyphs meet, all being plain
 pub record Recorded (p : Program) (keep rec : List ℕ) : Type 0 where
   pub rows : List Row
-  pub met : kept_rows p keep ≡ some rows
+  pub met : kept_rows p keep ≡ Some rows
   pub is : rec ≡ record_of rows
   pub fits : All RowFits rows
 

@@ -1,6 +1,5 @@
 -- Laws of finding a body that fails: the FDs that are marked, what the words say of calls, and the first glyph that fails.
-use Rattle.std.proofs.Math.Option.{Option, none, some}
-use Rattle.std.specs.Prelude.{ℕ, ◌+◌, ◌≤◌, ◌<◌, ◌≡◌, Bool, true, false, not, eqb, length, get_or, set, replicate}
+use Rattle.std.specs.Prelude.{ℕ, ◌+◌, ◌≤◌, ◌<◌, ◌≡◌, Bool, true, false, not, eqb, length, get_or, set, replicate, None, Option, Some}
 use Rattle.std.proofs.Math.Path.{refl, sym, ap, fun_ext}
 use Rattle.std.proofs.Common.{◌∙◌, subst, inl, inr, ⊎_elim, arith, add-one, eqb-true, length-set, drop-cons, get_or-set_same, get_or-set_other}
 use mathlib.Core.List.{List, [], ◌∷◌}
@@ -35,8 +34,6 @@ use Rattle.renumber.specs.Ranks.{calls_by, Ranked}
 use Rattle.renumber.specs.RanksLaws.{HoldsRanks, calls-in}
 use Rattle.renumber.specs.Turn.{Inputs, sized_of}
 use Rattle.renumber.specs.declared.Ranks.{Ranks}
-use Rattle.renumber.specs.declared.Sized.{Sized}
-use Rattle.renumber.specs.declared.Sized.TheVariants.{Len, Failed}
 use Rattle.bodies.specs.Ways.{holds, ranks_in}
 use Rattle.fds.specs.Locals.{in_use_lem, fds_in, UsedOf, numbered, all_numbered}
 use Rattle.plan.specs.Ranked.{globals_numbered, RanksAll}
@@ -197,19 +194,19 @@ module _ (b : List ℕ) (f : Font) (rows : List Row) (used ws : List ℕ) (globa
         ∙ ap (λ (l : List ℕ). renumbered_body rows (calls_by ws (ranks_in table its) globals) (glyph g) l) c
         ∙ ap (λ o. renumbered_body rows o (glyph g) (get_or q.charstrings g [])) (calls_are its (fd-byte b f a.read g h) u)
 
-    pub glyph_made : (r : Sized) → r ≡ sized_of (renumbered_body rows (calls_by ws locals globals) (glyph g) code) → (n : ℕ) → r ≡ Len n → true ≡ holds (body_at q rows (glyph g))
+    pub glyph_made : (r : Option ℕ) → r ≡ sized_of (renumbered_body rows (calls_by ws locals globals) (glyph g) code) → (n : ℕ) → r ≡ Some n → true ≡ holds (body_at q rows (glyph g))
     glyph_made r s n l = by (renumbered_body rows (calls_by ws locals globals) (glyph g) code) (sym l ∙ s) ∙ ap holds body_is
       where
-        by : (m : Option (List ℕ)) → Len n ≡ sized_of m → true ≡ holds m
-        by none z = absurd (zero_one cc)
-        by (some bs) z = refl
+        by : (m : Option (List ℕ)) → Some n ≡ sized_of m → true ≡ holds m
+        by None z = absurd (zero_one cc)
+        by (Some bs) z = refl
 
-    pub glyph_fails : (r : Sized) → r ≡ sized_of (renumbered_body rows (calls_by ws locals globals) (glyph g) code) → r ≡ Failed → false ≡ holds (body_at q rows (glyph g))
+    pub glyph_fails : (r : Option ℕ) → r ≡ sized_of (renumbered_body rows (calls_by ws locals globals) (glyph g) code) → r ≡ None → false ≡ holds (body_at q rows (glyph g))
     glyph_fails r s l = by (renumbered_body rows (calls_by ws locals globals) (glyph g) code) (sym l ∙ s) ∙ ap holds body_is
       where
-        by : (m : Option (List ℕ)) → Failed ≡ sized_of m → false ≡ holds m
-        by none z = refl
-        by (some bs) z = absurd (zero_one cc)
+        by : (m : Option (List ℕ)) → None ≡ sized_of m → false ≡ holds m
+        by None z = refl
+        by (Some bs) z = absurd (zero_one cc)
 
 -- ---- the first that fails
 
@@ -260,16 +257,16 @@ module _ (p : Program) (rows : List Row) (keep : List ℕ) where
 
 module _ (p : Program) (rows : List Row) where
   -- one that is found is of the list, and fails
-  failing_is : (gs : List ℕ) → first_failing p rows gs < 65536 → (is_in (first_failing p rows gs) gs ≡ true) × (body_at p rows (glyph (first_failing p rows gs)) ≡ none)
+  failing_is : (gs : List ℕ) → first_failing p rows gs < 65536 → (is_in (first_failing p rows gs) gs ≡ true) × (body_at p rows (glyph (first_failing p rows gs)) ≡ None)
   unfolding first_failing
   failing_is [] h = absurd (omega arith)
   failing_is (g ∷ gs) h = by (body_at p rows (glyph g)) refl (failing_is gs) h
     where
-      by : (m : Option (List ℕ)) → body_at p rows (glyph g) ≡ m → (first_failing p rows gs < 65536 → (is_in (first_failing p rows gs) gs ≡ true) × (body_at p rows (glyph (first_failing p rows gs)) ≡ none))
+      by : (m : Option (List ℕ)) → body_at p rows (glyph g) ≡ m → (first_failing p rows gs < 65536 → (is_in (first_failing p rows gs) gs ≡ true) × (body_at p rows (glyph (first_failing p rows gs)) ≡ None))
           → pick (holds m) (first_failing p rows gs) g < 65536
-          → (is_in (pick (holds m) (first_failing p rows gs) g) (g ∷ gs) ≡ true) × (body_at p rows (glyph (pick (holds m) (first_failing p rows gs) g)) ≡ none)
-      by none e f k = (in_head g g gs refl, e)
-      by (some bs) e f k = let a = f k in (in_more g (first_failing p rows gs) gs a.0, a.1)
+          → (is_in (pick (holds m) (first_failing p rows gs) g) (g ∷ gs) ≡ true) × (body_at p rows (glyph (pick (holds m) (first_failing p rows gs) g)) ≡ None)
+      by None e f k = (in_head g g gs refl, e)
+      by (Some bs) e f k = let a = f k in (in_more g (first_failing p rows gs) gs a.0, a.1)
 
 module _ (b : List ℕ) (f : Font) (read : FontHeld b f) (keep rec : List ℕ) (below : all_below f.charstrings.count keep ≡ true) (r : Recorded (program_of b f) keep rec) where
   abbrev o : Program

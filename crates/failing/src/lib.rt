@@ -16,7 +16,7 @@ ghost use Rattle.failing.specs.Failing.{FdsMarked, Asks, first_failing, Recorded
 
 use cff::font::Font;
 use reach::Site;
-use renumber::{Ranks, Sized};
+use renumber::Ranks;
 
 // Marks the FD of a glyph as in use.
 fn mark_fd(font: &[u8], f: Font, g: usize, used: &mut [u32])
@@ -34,11 +34,8 @@ fn mark_fds(font: &[u8], f: Font, keep: &[u16], used: &mut [u32])
     ensures { FdsMarked (program_of font.now f) keep.now used.new }
 {
     mark_fd(font, f, 0, &mut *used);
-    let m = keep.len();
-    let mut i = 0;
-    while i < m {
-        mark_fd(font, f, keep[i] as usize, &mut *used);
-        i += 1;
+    for g in keep {
+        mark_fd(font, f, *g as usize, &mut *used);
     }
 }
 
@@ -65,8 +62,8 @@ fn is_made(
     let code = index::item(font, charstrings, g);
     let site = Site::Glyph(g);
     match renumbered::renumbered_len(code, words, locals, globals, rows, rising, site) {
-        Sized::Len(_) => true,
-        Sized::Failed => false,
+        Some(_) => true,
+        None => false,
     }
 }
 
@@ -89,13 +86,9 @@ fn first_failing(
     if !is_made(font, f, 0, used, globals, words, table, rows, rising) {
         return 0;
     }
-    let m = keep.len();
-    let mut i = 0;
-    while i < m {
-        let g = keep[i] as usize;
-        if is_made(font, f, g, used, globals, words, table, rows, rising) {
-            i += 1;
-        } else {
+    for k in keep {
+        let g = *k as usize;
+        if !is_made(font, f, g, used, globals, words, table, rows, rising) {
             return g;
         }
     }

@@ -1,11 +1,10 @@
 -- What becomes of charstrings and subroutines (document 01, demand 3; the Rust's prune and prune_cid): in each of the three ways the bodies
 -- fit their INDEXes, and a kept glyph unfolds to what it did, if the record lists the rows that it meets.
 use Prim.Native.Nat.{ℕ, ◌≤◌, ◌<◌}
-use Rattle.std.specs.Prelude.{◌≡◌, true, eqb}
+use Rattle.std.specs.Prelude.{◌≡◌, true, eqb, None, Option, Some}
 use Rattle.std.proofs.Math.Path.{refl, subst}
 use Rattle.std.proofs.Common.{sym, ap, ◌∙◌, inl, inr, zero-add, arith, eqb-true}
 use mathlib.Core.List.{List, [], ◌∷◌}
-use Rattle.std.proofs.Math.Option.{Option, none, some}
 use Rattle.std.proofs.Math.Decide.{dec_le}
 use Rattle.std.proofs.Math.ListN.{length, get_or, get_or-eq_default}
 use Rattle.std.proofs.lemmas.Bool.{eqb-false}
@@ -38,8 +37,8 @@ pruned_ways p rows used order flag P copies stubs renewed =
     (λ t. copies (eqb-true flag 0 t)) (λ t. go (eqb-false flag 0 t) (renumbered p rows used order) refl)
   where
     go : (flag ≡ 0 → ⊥) → (m : Option Bodies) → renumbered p rows used order ≡ m → P (or_stubbed m (stubbed p rows used order)).bodies
-    go n none e = stubs n
-    go n (some b) e = renewed n b (renews p rows used order b e)
+    go n None e = stubs n
+    go n (Some b) e = renewed n b (renews p rows used order b e)
 
 -- ---- the bodies fit
 

@@ -1,7 +1,7 @@
 -- The codes of a subset (document 02, Wish 4): the encoding that is written gives, when it is read, each code whose glyph is kept the glyph of the same
 -- name, and no other code any. By the strings of the two predefined encodings, and by the pairs, whose codes rise.
 use Prim.Native.Nat.{ℕ, zero, suc, ◌+◌, ◌≤◌, ◌<◌}
-use Rattle.std.specs.Prelude.{◌≡◌, Bool, eqb, length, get_or}
+use Rattle.std.specs.Prelude.{◌≡◌, Bool, eqb, length, get_or, None, Option, Some}
 use Rattle.std.proofs.Math.Path.{refl, ap}
 use Rattle.std.proofs.Common.{sym, ◌∙◌, arith}
 use Rattle.std.proofs.Math.Bool.{true, false}
@@ -18,8 +18,6 @@ use Rattle.charset.specs.CodesRound.{supplied, Small, small-none, small-more}
 use Rattle.charset.specs.Predefined.{standard_encoding, expert_encoding}
 use Rattle.charset.specs.PredefinedLaws.{standard_long, expert_long}
 use Rattle.find.specs.Find.{glyph_with_text}
-use Rattle.find.specs.declared.Found.{Found}
-use Rattle.find.specs.declared.Found.TheVariants.{Absent, Glyph}
 use Rattle.dict.specs.Lookup.{cid_keyed}
 use Rattle.cff.specs.Font.{Coding, standard, expert, custom, Program}
 use Rattle.subset.specs.Kept.{is_in, kept_of}
@@ -53,9 +51,9 @@ SmallIds (pairs ps) = Small (λ q. q.id) ps
 
 module _ (p : Program) (kept : List ℕ) (own : List (List ℕ)) (few : length own ≤ 64609) where
   -- of a pair in front of others
-  pair_small : (code : ℕ) (f : Found) (ps : List Pair) → Small (λ q. q.id) ps → Small (λ q. q.id) (pair_of p kept own code f ++ ps)
-  pair_small code Absent ps s = s
-  pair_small code (Glyph g) ps s =
+  pair_small : (code : ℕ) (f : Option ℕ) (ps : List Pair) → Small (λ q. q.id) ps → Small (λ q. q.id) (pair_of p kept own code f ++ ps)
+  pair_small code None ps s = s
+  pair_small code (Some g) ps s =
       pick_ind (λ (l : List Pair). Small (λ q. q.id) (l ++ ps)) (is_in g kept) (record { code = code; id = new_id own (name_of p g) } ∷ []) []
       (λ t. small-more (new-below own (name_of p g) few) s) (λ t. s)
 
@@ -63,7 +61,7 @@ module _ (p : Program) (kept : List ℕ) (own : List (List ℕ)) (few : length o
   pairs_small : (ns : List Naming) (n code : ℕ) → Small (λ q. q.id) (pairs_from p ns kept own n code)
   unfolding pairs_from
   pairs_small ns zero code = small-none
-  pairs_small ns (suc n) code = pair_small code (last_named p code Absent ns) (pairs_from p ns kept own n (code + 1)) (pairs_small ns n (code + 1))
+  pairs_small ns (suc n) code = pair_small code (last_named p code None ns) (pairs_from p ns kept own n (code + 1)) (pairs_small ns n (code + 1))
 
   -- so that the encoding of a subset reads back
   pub coded-by-small : (c : Coding) → SmallIds (coded_by_lem p kept own c)
@@ -75,9 +73,9 @@ module _ (p : Program) (kept : List ℕ) (own : List (List ℕ)) (few : length o
 -- ---- the codes of the pairs rise
 
 -- the glyph of a pair in the subset
-abbrev pair_glyph : Program → List ℕ → List (List ℕ) → Program → Found → Found
-pair_glyph p kept own q Absent = Absent
-pair_glyph p kept own q (Glyph g) = pick (is_in g kept) (string_glyph q (new_id own (name_of p g))) Absent
+abbrev pair_glyph : Program → List ℕ → List (List ℕ) → Program → Option ℕ → Option ℕ
+pair_glyph p kept own q None = None
+pair_glyph p kept own q (Some g) = pick (is_in g kept) (string_glyph q (new_id own (name_of p g))) None
 
 -- by the two ways of a test
 by-test : {A : Type 0} (t : Bool) → (t ≡ true → A) → (t ≡ false → A) → A
@@ -90,55 +88,55 @@ above c code h f = omega (arith, f)
 
 module _ (p : Program) (ns : List Naming) (kept : List ℕ) (own : List (List ℕ)) (q : Program) (code : ℕ) where
   -- a pair of another code is passed over
-  pair-past : (c : ℕ) → eqb c code ≡ false → (f x : Found) (ps : List Pair)
+  pair-past : (c : ℕ) → eqb c code ≡ false → (f x : Option ℕ) (ps : List Pair)
       → last_named q code x (said_by (pair_of p kept own c f ++ ps)) ≡ last_named q code x (said_by ps)
   unfolding last_named supplied
-  pair-past c e Absent x ps = refl
-  pair-past c e (Glyph g) x ps =
+  pair-past c e None x ps = refl
+  pair-past c e (Some g) x ps =
       let id = new_id own (name_of p g) in
       pick_ind (λ (l : List Pair). last_named q code x (said_by (l ++ ps)) ≡ last_named q code x (said_by ps)) (is_in g kept) (record { code = c; id = id } ∷ []) []
       (λ t. ap (λ (s : Bool). last_named q code (pick s (or_else (string_glyph q id) x) x) (said_by ps)) e)
       (λ t. refl)
 
   -- all of those behind it
-  pairs-past : (n c : ℕ) → code < c → (x : Found) → last_named q code x (said_by (pairs_from p ns kept own n c)) ≡ x
+  pairs-past : (n c : ℕ) → code < c → (x : Option ℕ) → last_named q code x (said_by (pairs_from p ns kept own n c)) ≡ x
   unfolding pairs_from last_named supplied
   pairs-past zero c h x = refl
   pairs-past (suc n) c h x =
-      pair-past c (ne_eqb c code (λ e. omega arith)) (last_named p c Absent ns) x (pairs_from p ns kept own n (c + 1))
+      pair-past c (ne_eqb c code (λ e. omega arith)) (last_named p c None ns) x (pairs_from p ns kept own n (c + 1))
       ∙ pairs-past n (c + 1) (omega arith) x
 
   -- no glyph before it
-  or_none : (f : Found) → or_else f Absent ≡ f
-  or_none Absent = refl
-  or_none (Glyph g) = refl
+  or_none : (f : Option ℕ) → or_else f None ≡ f
+  or_none None = refl
+  or_none (Some g) = refl
 
   -- the code's own, in front of those behind it
-  own-kept : (t : Bool) (id : ℕ) (ps : List Pair) → ((x : Found) → last_named q code x (said_by ps) ≡ x)
-      → last_named q code Absent (said_by (pick t (record { code = code; id = id } ∷ []) [] ++ ps)) ≡ pick t (string_glyph q id) Absent
+  own-kept : (t : Bool) (id : ℕ) (ps : List Pair) → ((x : Option ℕ) → last_named q code x (said_by ps) ≡ x)
+      → last_named q code None (said_by (pick t (record { code = code; id = id } ∷ []) [] ++ ps)) ≡ pick t (string_glyph q id) None
   unfolding last_named supplied
   own-kept true id ps past =
-      ap (λ (s : Bool). last_named q code (pick s (or_else (string_glyph q id) Absent) Absent) (said_by ps)) (eq-eqb code code refl)
-      ∙ past (or_else (string_glyph q id) Absent) ∙ or_none (string_glyph q id)
-  own-kept false id ps past = past Absent
+      ap (λ (s : Bool). last_named q code (pick s (or_else (string_glyph q id) None) None) (said_by ps)) (eq-eqb code code refl)
+      ∙ past (or_else (string_glyph q id) None) ∙ or_none (string_glyph q id)
+  own-kept false id ps past = past None
 
-  pair-here : (f : Found) (ps : List Pair) → ((x : Found) → last_named q code x (said_by ps) ≡ x)
-      → last_named q code Absent (said_by (pair_of p kept own code f ++ ps)) ≡ pair_glyph p kept own q f
-  pair-here Absent ps past = past Absent
-  pair-here (Glyph g) ps past = own-kept (is_in g kept) (new_id own (name_of p g)) ps past
+  pair-here : (f : Option ℕ) (ps : List Pair) → ((x : Option ℕ) → last_named q code x (said_by ps) ≡ x)
+      → last_named q code None (said_by (pair_of p kept own code f ++ ps)) ≡ pair_glyph p kept own q f
+  pair-here None ps past = past None
+  pair-here (Some g) ps past = own-kept (is_in g kept) (new_id own (name_of p g)) ps past
 
   -- so that a code has what its pair names
   pairs-named : (n c : ℕ) → c ≤ code → code < c + n
-      → last_named q code Absent (said_by (pairs_from p ns kept own n c)) ≡ pair_glyph p kept own q (last_named p code Absent ns)
+      → last_named q code None (said_by (pairs_from p ns kept own n c)) ≡ pair_glyph p kept own q (last_named p code None ns)
   unfolding pairs_from
   pairs-named zero c h l = absurd (zero_one (omega arith))
   pairs-named (suc n) c h l =
       by-test (eqb c code)
       (λ e. let same : c ≡ code = eqb-true c code e in
-      ap (λ (k : ℕ). last_named q code Absent (said_by (pair_of p kept own k (last_named p k Absent ns) ++ pairs_from p ns kept own n (c + 1)))) same
-      ∙ pair-here (last_named p code Absent ns) (pairs_from p ns kept own n (c + 1)) (pairs-past n (c + 1) (omega arith)))
+      ap (λ (k : ℕ). last_named q code None (said_by (pair_of p kept own k (last_named p k None ns) ++ pairs_from p ns kept own n (c + 1)))) same
+      ∙ pair-here (last_named p code None ns) (pairs_from p ns kept own n (c + 1)) (pairs-past n (c + 1) (omega arith)))
       (λ e. let other : c ≡ code → ⊥ = eqb-false c code e in
-      pair-past c e (last_named p c Absent ns) Absent (pairs_from p ns kept own n (c + 1)) ∙ pairs-named n (c + 1) (above c code h other) (omega arith))
+      pair-past c e (last_named p c None ns) None (pairs_from p ns kept own n (c + 1)) ∙ pairs-named n (c + 1) (above c code h other) (omega arith))
 
 -- ---- any text
 
@@ -162,7 +160,7 @@ module _ (p : Program) (n : ℕ) (keep : List ℕ) (keyed : cid_keyed p.top ≡ 
   ids = new_ids own (names_of p kept)
 
   -- a kept glyph, by its name
-  kept-named : (g : ℕ) → is_in g kept ≡ true → kept_meant p kept (Glyph g) ≡ named (name_of p g)
+  kept-named : (g : ℕ) → is_in g kept ≡ true → kept_meant p kept (Some g) ≡ named (name_of p g)
   kept-named g h = ap (λ (t : Bool). pick t (named (name_of p g)) nothing) h
 
   module _ (q : Program) (strings : q.strings ≡ own) (glyphs : q.ids ≡ ids) where
@@ -176,14 +174,14 @@ module _ (p : Program) (n : ℕ) (keep : List ℕ) (keyed : cid_keyed p.top ≡ 
         ∙ new-name-at p n keep keyed all i h
 
     -- both ways of finding a text
-    both_found : (t : List ℕ) (x y : Found) → glyph_with_text own t 0 ids ≡ x → glyph_with_text p.strings t 0 p.ids ≡ y → meant q x ≡ kept_meant p kept y
-    both_found t Absent Absent e f = refl
-    both_found t Absent (Glyph g) e f =
+    both_found : (t : List ℕ) (x y : Option ℕ) → glyph_with_text own t 0 ids ≡ x → glyph_with_text p.strings t 0 p.ids ≡ y → meant q x ≡ kept_meant p kept y
+    both_found t None None e f = refl
+    both_found t None (Some g) e f =
         pick_ind (λ (m : Meant). nothing ≡ m) (is_in g kept) (named (name_of p g)) nothing
         (λ h. let there = kept_there p n keep keyed all t g f h in
-        let z : Absent ≡ Glyph there.0 = sym e ∙ there.1 in absurd (zero_one cc))
+        let z : None ≡ Some there.0 = sym e ∙ there.1 in absurd (zero_one cc))
         (λ h. refl)
-    both_found t (Glyph i) y e f =
+    both_found t (Some i) y e f =
         let there = there_kept p n keep keyed all t i e in
         let g = get_or kept i 0 in
         ap named (name_new i there.0) ∙ sym (kept-named g (in_at kept i there.0)) ∙ ap (kept_meant p kept) (sym there.1 ∙ f)
@@ -201,11 +199,11 @@ module _ (p : Program) (n : ℕ) (keep : List ℕ) (keyed : cid_keyed p.top ≡ 
         ap (λ (t : List ℕ). meant q (glyph_with_text q.strings t 0 q.ids)) same ∙ text-meant (string_text p.strings sid)
 
     -- by a pair
-    pair-meant : (f : Found) → meant q (pair_glyph p kept own q f) ≡ kept_meant p kept f
-    pair-meant Absent = refl
-    pair-meant (Glyph g) = by-kept (is_in g kept) refl
+    pair-meant : (f : Option ℕ) → meant q (pair_glyph p kept own q f) ≡ kept_meant p kept f
+    pair-meant None = refl
+    pair-meant (Some g) = by-kept (is_in g kept) refl
       where
-        by-kept : (t : Bool) → is_in g kept ≡ t → meant q (pick t (string_glyph q (new_id own (name_of p g))) Absent) ≡ pick t (named (name_of p g)) nothing
+        by-kept : (t : Bool) → is_in g kept ≡ t → meant q (pick t (string_glyph q (new_id own (name_of p g))) None) ≡ pick t (named (name_of p g)) nothing
         by-kept true h =
             let name : string_text q.strings (new_id own (name_of p g)) ≡ name_of p g =
             ap (λ (l : List (List ℕ)). string_text l (new_id own (name_of p g))) strings ∙ new-names p n keep keyed all g h in
@@ -219,7 +217,7 @@ module _ (p : Program) (n : ℕ) (keep : List ℕ) (keyed : cid_keyed p.top ≡ 
     coding_meant standard code h = sid_meant (get_or standard_encoding code 0) (below_at 391 standard_encoding standard-ids code (omega (arith, standard_long)))
     coding_meant expert code h = sid_meant (get_or expert_encoding code 0) (below_at 391 expert_encoding expert_ids code (omega (arith, expert_long)))
     coding_meant (custom ns) code h =
-        ap (meant q) (pairs-named p ns kept own q code 256 0 (omega arith) (omega arith)) ∙ pair-meant (last_named p code Absent ns)
+        ap (meant q) (pairs-named p ns kept own q code 256 0 (omega arith) (omega arith)) ∙ pair-meant (last_named p code None ns)
 
     pub codes-meant : q.coding ≡ coding_of (coded_by_lem p kept own p.coding) → (code : ℕ) → code < 256
         → meant q (glyph_of q q.coding code) ≡ kept_meant p kept (glyph_of p p.coding code)

@@ -1,13 +1,12 @@
 -- The first glyph of a subset: its string id, and its CID, is 0 as in the font (TN5176, section 13: glyph 0 is .notdef).
 use Prim.Native.Nat.{ℕ, zero, suc, ◌<◌}
-use Rattle.std.specs.Prelude.{◌≡◌, length}
+use Rattle.std.specs.Prelude.{◌≡◌, length, Some}
 use Rattle.std.proofs.Math.Path.{refl, ap}
 use Rattle.std.proofs.Common.{◌∙◌, not-suc-le-zero, arith}
 use mathlib.Core.List.{List, [], ◌∷◌}
 use Rattle.std.proofs.Math.ListN.{get_or}
 use Rattle.strings.specs.Strings.{string_text, sid_of}
 use Rattle.strings.proofs.StringsLaws.{string_standard, sid_standard}
-use Rattle.strings.specs.declared.Sid.TheVariants.{Standard}
 use Rattle.cff.specs.Font.{Program}
 use Rattle.subset.specs.Kept.{those, kept_of, sorted_by, keeps}
 use Rattle.subset.specs.Texts.{new_id, name_of, names_of}
@@ -20,7 +19,7 @@ use Rattle.faithful.specs.KeptLaws.{kept-front}
 notdef_id : (p : Program) (own : List (List ℕ)) → get_or p.ids 0 0 ≡ 0 → new_id own (name_of p 0) ≡ 0
 unfolding new_id
 notdef_id p own e =
-    let s : sid_of (name_of p 0) ≡ Standard 0 =
+    let s : sid_of (name_of p 0) ≡ Some 0 =
     ap (λ (k : ℕ). sid_of (string_text p.strings k)) e ∙ ap sid_of (string_standard p.strings 0 (omega arith)) ∙ sid_standard 0 (omega arith) in
     rw s
 

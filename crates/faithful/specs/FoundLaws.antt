@@ -1,7 +1,7 @@
 -- Finding in a subset (document 01, 'Entries and their refusals', refusal 7): where finding gives each kept glyph of the font for its own name or
 -- CID, kept names and CIDs differ, and finding in the subset gives the glyph at the place where it was written; and a text whose glyph is not kept is
 -- absent there.
-use Rattle.std.specs.Prelude.{ℕ, zero, suc, ◌+◌, ◌<◌, ◌≡◌, refl, Bool, true, false, List, [], ◌∷◌, ◌++◌, length, get_or}
+use Rattle.std.specs.Prelude.{ℕ, zero, suc, ◌+◌, ◌<◌, ◌≡◌, refl, Bool, true, false, List, [], ◌∷◌, ◌++◌, length, get_or, None, Option, Some}
 use Rattle.std.proofs.Common.{sym, ap, ◌∙◌, ⊎_elim, le_of_suc-le-suc, not-suc-le-zero, add-zero, arith, eqb-true, eq-eqb, ne_eqb}
 use Rattle.octets.specs.Pick.{pick, pick_ind}
 use Rattle.prune.specs.StepLaws.{zero_one}
@@ -9,8 +9,6 @@ use Rattle.strings.specs.Text.{same_text_lem}
 use Rattle.strings.specs.TextLaws.{same_refl, same_true, same_not}
 use Rattle.strings.specs.Strings.{string_text}
 use Rattle.find.specs.Find.{glyph_with_id, glyph_with_text}
-use Rattle.find.specs.declared.Found.{Found}
-use Rattle.find.specs.declared.Found.TheVariants.{Absent as NoGlyph, Glyph as TheGlyph}
 use Rattle.dict.specs.Lookup.{cid_keyed}
 use Rattle.cff.specs.Font.{Program}
 use Rattle.cff.specs.Find.{found_as_lem, find_name, find_cid}
@@ -74,7 +72,7 @@ other x xs i f h e = f (ap (λ (k : ℕ). is_in k xs) e ∙ in_at xs i h)
 -- by CID, where different glyphs of the order have different CIDs
 with_id : (p : Program) (order : List ℕ) (k i : ℕ) → Distinct order
     → ((g h : ℕ) → is_in g order ≡ true → is_in h order ≡ true → get_or p.ids g 0 ≡ get_or p.ids h 0 → g ≡ h) → i < length order
-    → glyph_with_id (get_or p.ids (get_or order i 0) 0) k (cids_of p order) ≡ TheGlyph (k + i)
+    → glyph_with_id (get_or p.ids (get_or order i 0) 0) k (cids_of p order) ≡ Some (k + i)
 unfolding glyph_with_id cids_of
 with_id p [] k i d f h = absurd (not-suc-le-zero h)
 with_id p (x ∷ xs) k zero d f h = simp (eq-eqb (get_or p.ids x 0) (get_or p.ids x 0) refl, add-zero)
@@ -85,13 +83,13 @@ with_id p (x ∷ xs) k (suc i) (one n d) f h =
     λ e. other x xs i n (le_of_suc-le-suc h) (f x y (in_head x x xs refl) (in_more x y xs b) e) in
     let z : k + 1 + i ≡ k + suc i = omega arith in
     simp (ne_eqb (get_or p.ids x 0) (get_or p.ids y 0) m)
-    (with_id p xs (k + 1) i d (λ g h a c e. f g h (in_more x g xs a) (in_more x h xs c) e) (le_of_suc-le-suc h) ∙ ap TheGlyph z)
+    (with_id p xs (k + 1) i d (λ g h a c e. f g h (in_more x g xs a) (in_more x h xs c) e) (le_of_suc-le-suc h) ∙ ap Some z)
 
 -- by name, where they have different names, and their new ids name them
 with-text : (p : Program) (own : List (List ℕ)) (order : List ℕ) (k i : ℕ) → Distinct order
     → ((g h : ℕ) → is_in g order ≡ true → is_in h order ≡ true → name_of p g ≡ name_of p h → g ≡ h)
     → ((g : ℕ) → is_in g order ≡ true → string_text own (new_id own (name_of p g)) ≡ name_of p g) → i < length order
-    → glyph_with_text own (name_of p (get_or order i 0)) k (new_ids own (names_of p order)) ≡ TheGlyph (k + i)
+    → glyph_with_text own (name_of p (get_or order i 0)) k (new_ids own (names_of p order)) ≡ Some (k + i)
 unfolding glyph_with_text new_ids names_of
 with-text p own [] k i d f t h = absurd (not-suc-le-zero h)
 with-text p own (x ∷ xs) k zero d f t h =
@@ -103,18 +101,18 @@ with-text p own (x ∷ xs) k (suc i) (one n d) f t h =
     let z : k + 1 + i ≡ k + suc i = omega arith in
     rw (t x (in_head x x xs refl)) (simp (same_not (name_of p x) (name_of p y) m)
     (with-text p own xs (k + 1) i d (λ g h a c e. f g h (in_more x g xs a) (in_more x h xs c) e) (λ g a. t g (in_more x g xs a)) (le_of_suc-le-suc h)
-    ∙ ap TheGlyph z))
+    ∙ ap Some z))
 
 -- ---- any text
 
 -- a glyph that is found has the text
-text_at : (strings : List (List ℕ)) (t : List ℕ) (k : ℕ) (ids : List ℕ) (g : ℕ) → glyph_with_text strings t k ids ≡ TheGlyph g
+text_at : (strings : List (List ℕ)) (t : List ℕ) (k : ℕ) (ids : List ℕ) (g : ℕ) → glyph_with_text strings t k ids ≡ Some g
     → (i : ℕ) × (k + i ≡ g) × (i < length ids) × (string_text strings (get_or ids i 0) ≡ t)
 unfolding glyph_with_text
 text_at strings t k [] g e = absurd (zero_one cc)
 text_at strings t k (x ∷ ids) g e =
-    pick_ind (λ (f : Found). f ≡ TheGlyph g → (i : ℕ) × (k + i ≡ g) × (i < length (x ∷ ids)) × (string_text strings (get_or (x ∷ ids) i 0) ≡ t))
-    (same_text_lem (string_text strings x) t) (TheGlyph k) (glyph_with_text strings t (k + 1) ids)
+    pick_ind (λ (f : Option ℕ). f ≡ Some g → (i : ℕ) × (k + i ≡ g) × (i < length (x ∷ ids)) × (string_text strings (get_or (x ∷ ids) i 0) ≡ t))
+    (same_text_lem (string_text strings x) t) (Some k) (glyph_with_text strings t (k + 1) ids)
     (λ s h. let z : k ≡ g = cc in (0, omega arith, omega arith, same_true (string_text strings x) t s))
     (λ s h. let r = text_at strings t (k + 1) ids g h in (suc r.0, omega (arith, r.1), omega (arith, r.2), r.3))
     e
@@ -128,9 +126,9 @@ new_id_at p own (x ∷ xs) zero h = refl
 new_id_at p own (x ∷ xs) (suc i) h = new_id_at p own xs i (le_of_suc-le-suc h)
 
 -- what was found
-found_as : (f : Found) (g : ℕ) → found_as_lem f ≡ Glyph g → f ≡ TheGlyph g
-found_as NoGlyph g e = absurd (zero_one cc)
-found_as (TheGlyph h) g e = cc
+found_as : (f : Option ℕ) (g : ℕ) → found_as_lem f ≡ Glyph g → f ≡ Some g
+found_as None g e = absurd (zero_one cc)
+found_as (Some h) g e = cc
 
 module _ (p : Program) (n : ℕ) (keep : List ℕ) (keyed : cid_keyed p.top ≡ false) (all : all_found_lem p (kept_of n keep) ≡ true) where
   abbrev kept : List ℕ
@@ -151,20 +149,20 @@ module _ (p : Program) (n : ℕ) (keep : List ℕ) (keyed : cid_keyed p.top ≡ 
   new-name-at i h = ap (string_text own) (new_id_at p own kept i h) ∙ new-names (get_or kept i 0) (in_at kept i h)
 
   -- finding its own name in the font gives a kept glyph
-  pub text-found : (g : ℕ) → is_in g kept ≡ true → glyph_with_text p.strings (name_of p g) 0 p.ids ≡ TheGlyph g
+  pub text-found : (g : ℕ) → is_in g kept ≡ true → glyph_with_text p.strings (name_of p g) 0 p.ids ≡ Some g
   text-found g h =
       let f = glyph_with_text p.strings (name_of p g) 0 p.ids in
       found_as f g (ap (λ (t : Bool). pick t Absent (found_as_lem f)) (sym keyed) ∙ name-found p kept all keyed g h)
 
   -- the name of the i-th kept glyph gives glyph i in the subset
-  text-new : (i : ℕ) → i < length kept → glyph_with_text own (name_of p (get_or kept i 0)) 0 ids ≡ TheGlyph i
+  text-new : (i : ℕ) → i < length kept → glyph_with_text own (name_of p (get_or kept i 0)) 0 ids ≡ Some i
   text-new i h =
       let z : 0 + i ≡ i = omega arith in
-      with-text p own kept 0 i (kept-distinct n keep) (names-differ p kept all keyed) new-names h ∙ ap TheGlyph z
+      with-text p own kept 0 i (kept-distinct n keep) (names-differ p kept all keyed) new-names h ∙ ap Some z
 
   -- a text whose glyph is kept is found in the subset
-  pub kept_there : (t : List ℕ) (g : ℕ) → glyph_with_text p.strings t 0 p.ids ≡ TheGlyph g → is_in g kept ≡ true
-      → (i : ℕ) × (glyph_with_text own t 0 ids ≡ TheGlyph i)
+  pub kept_there : (t : List ℕ) (g : ℕ) → glyph_with_text p.strings t 0 p.ids ≡ Some g → is_in g kept ≡ true
+      → (i : ℕ) × (glyph_with_text own t 0 ids ≡ Some i)
   kept_there t g e h =
       let r = text_at p.strings t 0 p.ids g e in
       let at = in_place kept g h in
@@ -173,8 +171,8 @@ module _ (p : Program) (n : ℕ) (keep : List ℕ) (keyed : cid_keyed p.top ≡ 
       (at.0, ap (λ (x : List ℕ). glyph_with_text own x 0 ids) (sym name) ∙ text-new at.0 at.1)
 
   -- and a text that is found there has a kept glyph, whose name is the new one's: a text whose glyph is not kept is no kept glyph's name
-  pub there_kept : (t : List ℕ) (i : ℕ) → glyph_with_text own t 0 ids ≡ TheGlyph i
-      → (i < length kept) × (glyph_with_text p.strings t 0 p.ids ≡ TheGlyph (get_or kept i 0))
+  pub there_kept : (t : List ℕ) (i : ℕ) → glyph_with_text own t 0 ids ≡ Some i
+      → (i < length kept) × (glyph_with_text p.strings t 0 p.ids ≡ Some (get_or kept i 0))
   there_kept t i e =
       let r = text_at own t 0 ids i e in
       let z : r.0 ≡ i = omega (arith, r.1) in
@@ -198,4 +196,4 @@ found_cid p n keep k all i h =
     let key : ℕ → ℕ = λ g. get_or p.ids g 0 in
     let z : 0 + i ≡ i = omega arith in
     ap found_as_lem (with_id p (sorted_by key kept) 0 i (sorted-distinct key kept (kept-distinct n keep))
-    (λ g h a b e. cids-differ p kept all k g h (sym (sorted_in key kept g) ∙ a) (sym (sorted_in key kept h) ∙ b) e) h ∙ ap TheGlyph z)
+    (λ g h a b e. cids-differ p kept all k g h (sym (sorted_in key kept g) ∙ a) (sym (sorted_in key kept h) ∙ b) e) h ∙ ap Some z)

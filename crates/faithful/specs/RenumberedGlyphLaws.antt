@@ -1,8 +1,7 @@
 -- A kept glyph of a font whose charstrings and subroutines are renumbered unfolds to what it did, if the record lists the rows that it meets
 -- (document 01, demand 3).
-use Rattle.std.specs.Prelude.{ℕ, ◌<◌, ◌≡◌, refl, Bool, true, false, List, [], eqb, ℤ, length, get_or}
+use Rattle.std.specs.Prelude.{ℕ, ◌<◌, ◌≡◌, refl, Bool, true, false, List, [], eqb, ℤ, length, get_or, Some}
 use Rattle.std.proofs.Common.{ap, ◌∙◌, subst}
-use Rattle.std.proofs.Math.Option.{some}
 use Rattle.octets.specs.Pick.{pick}
 use Rattle.type2_number.specs.Number.{Reading}
 use Rattle.charstring.specs.declared.MaskLen.TheVariants.{Given}
@@ -43,10 +42,10 @@ module _ (p : Program) (good : GoodProgram p) (rows : List Row) (small : (q : Ro
     ls = get_or b.locals (new_fd used fd) []
 
     -- they are those of the font, renumbered
-    locals-turned : renumbered_subrs rows (local_set rows fd) (calls_in p rows fd) (local fd) (locals_of p fd) ≡ some ls
+    locals-turned : renumbered_subrs rows (local_set rows fd) (calls_in p rows fd) (local fd) (locals_of p fd) ≡ Some ls
     locals-turned =
         let k = new-fd-at used fd in_use_lem in
-        subst (λ (f : ℕ). renumbered_subrs rows (local_set rows f) (calls_in p rows f) (local f) (locals_of p f) ≡ some ls) k.1
+        subst (λ (f : ℕ). renumbered_subrs rows (local_set rows f) (calls_in p rows f) (local f) (locals_of p f) ≡ Some ls) k.1
         (each_at (λ f. renumbered_subrs rows (local_set rows f) (calls_in p rows f) (local f) (locals_of p f)) used b.locals new.locals (new_fd used fd) [] k.0)
 
     -- a listed subroutine's number has two bytes
@@ -74,10 +73,10 @@ module _ (p : Program) (good : GoodProgram p) (rows : List Row) (small : (q : Ro
         given-listed rows (global k) offset len u.one h.is
 
     -- an operand that a call becomes is a reading
-    call_reading : (c : ℕ) (z y : ℤ) → calls_in p rows fd c z ≡ some y → Reading y
+    call_reading : (c : ℕ) (z y : ℤ) → calls_in p rows fd c z ≡ Some y → Reading y
     call_reading c z y e = go (eqb c 10) e
       where
-        go : (t : Bool) → pick t (local_operand p rows fd z) (global_operand p rows z) ≡ some y → Reading y
+        go : (t : Bool) → pick t (local_operand p rows fd z) (global_operand p rows z) ≡ Some y → Reading y
         go true h =
             subrs-reading rows (local_set rows fd) (calls_in p rows fd) (local fd) (locals_of p fd) ls locals-turned small_local z y h (good.locals fd).count
         go false h =

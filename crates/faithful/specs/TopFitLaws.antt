@@ -1,30 +1,23 @@
 -- The top DICT of a subset is its parts, and each part fits a DICT: operators that there are, and numbers within the limits.
 use Prim.Native.Nat.{ℕ, ◌+◌, ◌≤◌, ◌<◌, min}
-use Rattle.std.specs.Prelude.{◌≡◌, Bool, true, false, eqb, length}
+use Rattle.std.specs.Prelude.{◌≡◌, Bool, true, false, eqb, length, None, Option, Some}
 use Rattle.std.proofs.Math.Path.{refl, ap}
 use Rattle.std.proofs.Common.{◌∙◌, arith}
 use mathlib.Core.List.{List, [], ◌∷◌, ◌++◌, append-nil}
 use Rattle.octets.specs.Pick.{pick, pick_ind}
 use Rattle.decimal.specs.declared.Decimal.{Decimal}
 use Rattle.decimal.specs.declared.Signed.{Signed}
-use Rattle.decimal.specs.declared.IdOf.{IdOf}
-use Rattle.decimal.specs.declared.IdOf.TheVariants.{Id, Absent}
 use Rattle.decimal.specs.Decimal.{Normal, whole}
 use Rattle.decimal.specs.TakenLaws.{whole-normal}
 use Rattle.decimal.specs.Values.{trunc_of, i32_of}
 use Rattle.strings.specs.Text.{same_text_lem}
 use Rattle.strings.specs.Strings.{string_text, sid_of}
 use Rattle.strings.proofs.StringsLaws.{sid_below}
-use Rattle.strings.specs.declared.Sid.{Sid}
-use Rattle.strings.specs.declared.Sid.TheVariants.{Standard, Other}
 use Rattle.dict.specs.Op.{is_operator, ros, cid_count, copied_top_entries, copied_top_strings}
 use Rattle.dict.specs.Dict.{Entry}
 use Rattle.dict.specs.Proper.{AllNormal, Proper, AllProper}
 use Rattle.dict.specs.Lookup.{Operands, absent, operands, last_from, last_of, one_of, id_in, ros_as, ros_in, count_as, cid_count_in}
-use Rattle.dict.specs.declared.One.{One}
-use Rattle.dict.specs.declared.One.TheVariants.{Number, Absent as NoNumber}
-use Rattle.dict.specs.declared.RosIn.{RosIn}
-use Rattle.dict.specs.declared.RosIn.TheVariants.{Ros, None}
+use Rattle.dict.specs.declared.RosEntry.{RosEntry}
 use Rattle.dict_write.specs.Written.{copied_entry, entry_bytes, offset_entry, private_entry}
 use Rattle.dict_write.specs.Parts.{Part, plain, offset, private_part, part_bytes, parts_bytes, AllFit}
 use Rattle.dict_write.specs.EntriesRound.{parts-append, fit_append}
@@ -57,10 +50,10 @@ copied-bytes es (op ∷ ops) =
     copied-one op (last_of op es) (copied_parts es ops) ∙ ap (λ (l : List ℕ). copied_entry op (last_of op es) ++ l) (copied-bytes es ops)
 
 -- of ROS
-ros-bytes : (p : Program) (own : List (List ℕ)) (r : RosIn) (ps : List Part) → parts_bytes (ros_parts p own r ++ ps) ≡ ros_entry p own r ++ parts_bytes ps
+ros-bytes : (p : Program) (own : List (List ℕ)) (r : Option RosEntry) (ps : List Part) → parts_bytes (ros_parts p own r ++ ps) ≡ ros_entry p own r ++ parts_bytes ps
 unfolding parts_bytes
 ros-bytes p own None ps = refl
-ros-bytes p own (Ros registry ordering s) ps = refl
+ros-bytes p own (Some q) ps = refl
 
 -- of what both keyings share
 shared-bytes : (p : Program) (own : List (List ℕ)) (ps : List Part)
@@ -111,9 +104,9 @@ place-within t (x ∷ xs) =
     pick_ind (λ (n : ℕ). n ≤ length (x ∷ xs)) (same_text_lem x t) 0 (place_in t xs + 1) (λ e. omega arith) (λ e. omega (arith, place-within t xs))
 
 -- by the kind of the text
-after-below : (own : List (List ℕ)) (t : List ℕ) → length own ≤ 64609 → (s : Sid) → sid_of t ≡ s → id_after s t own < 65536
-after-below own t h (Standard k) e = omega (arith, sid_below t k e)
-after-below own t h Other e = omega (arith, place-within t own)
+after-below : (own : List (List ℕ)) (t : List ℕ) → length own ≤ 64609 → (s : Option ℕ) → sid_of t ≡ s → id_after s t own < 65536
+after-below own t h (Some k) e = omega (arith, sid_below t k e)
+after-below own t h None e = omega (arith, place-within t own)
 
 -- a new string id fits two bytes
 pub new-below : (own : List (List ℕ)) (t : List ℕ) → length own ≤ 64609 → new_id own t < 65536
@@ -138,10 +131,10 @@ one_proper op n o h = record { operator = o; numbers = (number-normal n h, tt) }
 
 module _ (p : Program) (own : List (List ℕ)) (few : length own ≤ 64609) where
   -- a string entry
-  named-one-fits : (op : ℕ) → is_operator op ≡ true → (i : IdOf) (ns : List Named) → AllFit (named_parts own ns) → AllFit (named_parts own (named_by p op i ns))
+  named-one-fits : (op : ℕ) → is_operator op ≡ true → (i : Option ℕ) (ns : List Named) → AllFit (named_parts own ns) → AllFit (named_parts own (named_by p op i ns))
   unfolding named_parts AllFit
-  named-one-fits op o Absent ns h = h
-  named-one-fits op o (Id sid) ns h =
+  named-one-fits op o None ns h = h
+  named-one-fits op o (Some sid) ns h =
       let t = string_text p.strings sid in (one_proper op (new_id own t) o (omega (arith, new-below own t few)), h)
 
   -- the string entries
@@ -178,9 +171,9 @@ copied_fit es h (op ∷ ops) o =
     (copied-one-fits op o.0 (last_of op es) (last-normal op absent es h tt)) (copied_fit es h ops o.1)
 
 -- the supplement of a ROS has 32 bits
-abbrev SmallRos : RosIn → Type 0
+abbrev SmallRos : Option RosEntry → Type 0
 SmallRos None = Unit
-SmallRos (Ros registry ordering s) = s.size ≤ 2147483648
+SmallRos (Some q) = q.supplement.size ≤ 2147483648
 
 -- of any number
 supplement_small : (d : Decimal) → (i32_of d).size ≤ 2147483648
@@ -198,18 +191,18 @@ ros-small (operands (r ∷ o ∷ s ∷ [])) = supplement_small s
 ros-small (operands (r ∷ o ∷ s ∷ d ∷ ds)) = tt
 
 -- ROS
-ros-fits : (p : Program) (own : List (List ℕ)) → length own ≤ 64609 → (r : RosIn) → SmallRos r → AllFit (ros_parts p own r)
+ros-fits : (p : Program) (own : List (List ℕ)) → length own ≤ 64609 → (r : Option RosEntry) → SmallRos r → AllFit (ros_parts p own r)
 unfolding AllFit AllNormal
 ros-fits p own few None h = tt
-ros-fits p own few (Ros registry ordering s) h =
+ros-fits p own few (Some q) h =
     let text : ℕ → List ℕ = string_text p.strings in
     let id : (t : List ℕ) → Normal (whole (new_id own t)) = λ t. number-normal (new_id own t) (omega (arith, new-below own t few)) in
-    (record { operator = refl; numbers = (id (text registry), (id (text ordering), (whole-normal s.neg s.size (omega arith), tt))) }, tt)
+    (record { operator = refl; numbers = (id (text q.registry), (id (text q.ordering), (whole-normal q.supplement.neg q.supplement.size (omega arith), tt))) }, tt)
 
 -- CIDCount is below 4294967296
-count_small : (o : One) → count_as o < 4294967296
-count_small NoNumber = omega arith
-count_small (Number d) = pick_ind (λ (n : ℕ). n < 4294967296) d.neg 0 (min (trunc_of d) 4294967295) (λ t. omega arith) (λ t. omega arith)
+count_small : (o : Option Decimal) → count_as o < 4294967296
+count_small None = omega arith
+count_small (Some d) = pick_ind (λ (n : ℕ). n < 4294967296) d.neg 0 (min (trunc_of d) 4294967295) (λ t. omega arith) (λ t. omega arith)
 
 -- the encoding
 encoding-fits : (t : Bool) (v : ℕ) (ps : List Part) → v < 2147483648 → AllFit ps → AllFit (pick t [] (offset encoding v ∷ []) ++ ps)

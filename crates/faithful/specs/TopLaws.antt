@@ -1,14 +1,12 @@
 -- The top DICT of a subset reads back (document 01, 'Layout'): what reading a font looks up in it, and that its length does not depend on its
 -- offsets, which have the five-byte form.
-use Rattle.std.specs.Prelude.{ℕ, ◌+◌, ◌≤◌, ◌<◌, ◌≡◌, Bool, eqb, length}
+use Rattle.std.specs.Prelude.{ℕ, ◌+◌, ◌≤◌, ◌<◌, ◌≡◌, Bool, eqb, length, None, Option, Some}
 use Rattle.std.proofs.Math.Path.{refl, ap}
 use Rattle.std.proofs.Common.{sym, ◌∙◌, arith, eqb-true, length-append}
 use Rattle.std.proofs.Math.Bool.{true, false}
 use mathlib.Core.List.{List, [], ◌∷◌, ◌++◌}
 use Rattle.octets.specs.Pick.{pick}
 use Rattle.octets.specs.PickLaws.{none-holds}
-use Rattle.decimal.specs.declared.IdOf.{IdOf}
-use Rattle.decimal.specs.declared.IdOf.TheVariants.{Id, Absent}
 use Rattle.index.specs.Write.{total, index_len_lem, index_bytes}
 use Rattle.index.specs.WriteLaws.{length-index}
 use Rattle.decimal.specs.Decimal.{whole}
@@ -17,8 +15,7 @@ use Rattle.dict.specs.Dict.{Entry, entries, dict_of}
 use Rattle.dict.specs.Lookup.{Operands, absent, operands, last_from, last_of, only, offset_told, offset_as, offset_in, private_as, private_in, id_in, is_there, cid_keyed, ros_in, cid_count_in, type_as, charstring_type_in}
 use Rattle.dict.specs.declared.OffsetIn.TheVariants.{At}
 use Rattle.dict.specs.declared.PrivateIn.TheVariants.{Private as PrivateEntry}
-use Rattle.dict.specs.declared.RosIn.{RosIn}
-use Rattle.dict.specs.declared.RosIn.TheVariants.{Ros, None}
+use Rattle.dict.specs.declared.RosEntry.{RosEntry}
 use Rattle.dict_write.specs.Written.{op_bytes_lem, offset_entry}
 use Rattle.dict_write.specs.WriteLaws.{offset-length, private-length}
 use Rattle.dict_write.specs.Parts.{Part, plain, offset, private_part, parts_entries}
@@ -43,12 +40,12 @@ module _ (op : ℕ) (o : Operands) (rest : List Part) where
   other_leaves q e ds = ap (λ (t : Bool). pick t ds o) e
 
   -- a string entry leaves it
-  named-one-leaves : (p : Program) (own : List (List ℕ)) (q : ℕ) → eqb q op ≡ false → (i : IdOf) (ns : List Named)
+  named-one-leaves : (p : Program) (own : List (List ℕ)) (q : ℕ) → eqb q op ≡ false → (i : Option ℕ) (ns : List Named)
       → last_from op o (parts_entries (named_parts own ns ++ rest)) ≡ last_from op o (parts_entries rest)
       → last_from op o (parts_entries (named_parts own (named_by p q i ns) ++ rest)) ≡ last_from op o (parts_entries rest)
   unfolding named_parts parts_entries last_from
-  named-one-leaves p own q e Absent ns h = h
-  named-one-leaves p own q e (Id sid) ns h =
+  named-one-leaves p own q e None ns h = h
+  named-one-leaves p own q e (Some sid) ns h =
       ap (λ (x : Operands). last_from op x (parts_entries (named_parts own ns ++ rest))) (other_leaves q e _) ∙ h
 
   -- the string entries leave it
@@ -79,11 +76,11 @@ module _ (op : ℕ) (o : Operands) (rest : List Part) where
       copied-one-leaves q n.0 (last_of q es) (copied_parts es ops) (copied-leave es ops n.1)
 
   -- ROS leaves it
-  ros-leaves : (p : Program) (own : List (List ℕ)) → eqb ros op ≡ false → (r : RosIn)
+  ros-leaves : (p : Program) (own : List (List ℕ)) → eqb ros op ≡ false → (r : Option RosEntry)
       → last_from op o (parts_entries (ros_parts p own r ++ rest)) ≡ last_from op o (parts_entries rest)
   unfolding parts_entries last_from
   ros-leaves p own e None = refl
-  ros-leaves p own e (Ros registry ordering s) = ap (λ (x : Operands). last_from op x (parts_entries rest)) (other_leaves ros e _)
+  ros-leaves p own e (Some q) = ap (λ (x : Operands). last_from op x (parts_entries rest)) (other_leaves ros e _)
 
   -- the encoding leaves it
   encoding-leaves : (v : ℕ) → eqb encoding op ≡ false → (t : Bool)
@@ -185,10 +182,10 @@ module _ (p : Program) (own : List (List ℕ)) (there : has_ros_lem (ros_in p.to
   cid_last op e h k = ros-leaves op absent (shared_parts p own cid_tail) p own e (ros_in p.top) ∙ shared-leave op absent cid_tail p own h k
 
   -- ROS stays, whatever stands behind it
-  ros_stays : (r : RosIn) → has_ros_lem r ≡ true → is_there (last_from ros absent (parts_entries (ros_parts p own r ++ shared_parts p own cid_tail))) ≡ true
+  ros_stays : (r : Option RosEntry) → has_ros_lem r ≡ true → is_there (last_from ros absent (parts_entries (ros_parts p own r ++ shared_parts p own cid_tail))) ≡ true
   unfolding last_from parts_entries is_in
   ros_stays None e = absurd (no cc)
-  ros_stays (Ros registry ordering s) e = ap is_there (shared-leave ros _ cid_tail p own refl refl)
+  ros_stays (Some q) e = ap is_there (shared-leave ros _ cid_tail p own refl refl)
 
   -- so that each lookup gives what was written
   cid_top : CidTop cid_entries at₁ at₂ at₃ at₄

@@ -1,13 +1,12 @@
 -- The top DICT of a subset part by part (document 01, 'Layout'): for CID ROS, then the string entries, the copied entries, for CID CIDCount,
 -- the offsets, for a name-keyed subset the encoding's among them where it has one (document 02, Wish 4), and Private.
-use Rattle.std.specs.Prelude.{ℕ, List, [], ◌∷◌, ◌++◌, eqb}
+use Rattle.std.specs.Prelude.{ℕ, List, [], ◌∷◌, ◌++◌, eqb, None, Option, Some}
 use Rattle.octets.specs.Pick.{pick}
 use Rattle.decimal.specs.Decimal.{normal, whole}
 use Rattle.dict.specs.Op.{ros, cid_count, copied_top_entries}
 use Rattle.dict.specs.Dict.{Entry}
 use Rattle.dict.specs.Lookup.{Operands, absent, operands, last_of, ros_in, cid_count_in}
-use Rattle.dict.specs.declared.RosIn.{RosIn}
-use Rattle.dict.specs.declared.RosIn.TheVariants.{Ros, None}
+use Rattle.dict.specs.declared.RosEntry.{RosEntry}
 use Rattle.dict_write.specs.Parts.{Part, plain, offset, private_part}
 use Rattle.strings.specs.Strings.{string_text}
 use Rattle.cff.specs.Font.{Program, charset, encoding, char_strings, fd_array, fd_select_lem}
@@ -30,12 +29,12 @@ copied_parts es [] = []
 copied_parts es (op ∷ ops) = copied_part op (last_of op es) ++ copied_parts es ops
 
 -- ROS
-abbrev pub ros_parts : Program → List (List ℕ) → RosIn → List Part
+abbrev pub ros_parts : Program → List (List ℕ) → Option RosEntry → List Part
 ros_parts p own None = []
-ros_parts p own (Ros registry ordering s) =
+ros_parts p own (Some q) =
     plain (record {
       op = ros;
-      operands = whole (new_id own (string_text p.strings registry)) ∷ whole (new_id own (string_text p.strings ordering)) ∷ normal s.neg s.size 0 0 ∷ [];
+      operands = whole (new_id own (string_text p.strings q.registry)) ∷ whole (new_id own (string_text p.strings q.ordering)) ∷ normal q.supplement.neg q.supplement.size 0 0 ∷ [];
     }) ∷ []
 
 -- what both keyings share, before the other parts

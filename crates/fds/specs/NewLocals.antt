@@ -1,7 +1,6 @@
 -- The new local subroutines of the FDs in use by the way (document 01, 'Corners in write.rs'), over the ranks that the work words and the
 -- tables hold.
-use Rattle.std.specs.Prelude.{ℕ, ◌+◌, ◌≤◌, ◌<◌, ◌≡◌, Bool, true, List, length, get_or}
-use Rattle.std.proofs.Math.Option.{Option}
+use Rattle.std.specs.Prelude.{ℕ, ◌+◌, ◌≤◌, ◌<◌, ◌≡◌, Bool, true, List, length, get_or, Option}
 use Rattle.index.specs.Write.{total}
 use Rattle.unfold.specs.Unfold.{Row, local}
 use Rattle.cff.specs.Font.{Program}

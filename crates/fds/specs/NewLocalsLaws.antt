@@ -1,9 +1,8 @@
 -- Laws of the new local subroutines of the FDs in use, measured FD by FD.
-use Rattle.std.specs.Prelude.{ℕ, zero, suc, ◌+◌, ◌-◌, ◌≤◌, ◌<◌, ◌≡◌, Bool, true, false, length, get_or, set}
+use Rattle.std.specs.Prelude.{ℕ, zero, suc, ◌+◌, ◌-◌, ◌≤◌, ◌<◌, ◌≡◌, Bool, true, false, length, get_or, set, Option, None, Some}
 use Rattle.std.proofs.Math.Path.{refl, ap}
 use Rattle.std.proofs.Common.{sym, ◌∙◌, subst, arith, get_or-set_same, get_or-set_other}
 use mathlib.Core.List.{List, [], ◌∷◌, ◌++◌}
-use Rattle.std.proofs.Math.Option.{Option}
 use Rattle.octets.specs.Pick.{pick}
 use Rattle.octets.specs.PickLaws.{first-fails, pick_same}
 use Rattle.index.specs.Index.{items_of}
@@ -23,8 +22,6 @@ use Rattle.bodies.specs.Pruning.{all_hold}
 use Rattle.bodies.specs.Sizes.{Bounded}
 use Rattle.bodies.specs.SubrsLaws.{new-subrs_is}
 use Rattle.bodies.specs.WritingLaws.{measured_failed, measured-total}
-use Rattle.bodies.specs.declared.Measured.{Measured}
-use Rattle.bodies.specs.declared.Measured.TheVariants.{Failed, Total}
 use Rattle.bodies.specs.declared.subrs.Subrs.TheVariants.{Local}
 use Rattle.fds.specs.Locals.{in_use_lem, used_below}
 use Rattle.fds.specs.UsedLaws.{used-next, unused_next, both-last, one_last, unused_apart}
@@ -90,7 +87,7 @@ module _ (way : ℕ) (b : List ℕ) (p : Program) (rows : List Row) (ws : List �
   pub items_are : items_of b q.locals ≡ locals_of p f
   items_are = ap (λ (x : Private). x.locals) g.1
 
-  pub total_is : (r : Measured)
+  pub total_is : (r : Option ℕ)
       → (r ≡ measured_of (subrs_by way rows (reached_in ws own) (calls_by ws own globals) (site_in (Local f)) (items_of b q.locals))) × Bounded r
       → (r ≡ measured_of (locals_with way p rows ws own globals f)) × Bounded r
   total_is r e =
@@ -133,12 +130,12 @@ module _ (way : ℕ) (p : Program) (rows : List Row) (ws table : List ℕ) (glob
           few = λ f k t. by_number f fd (λ s. absurd (unused_apart used f fd e s t)) (λ n. h.few f (omega arith) t);
         }
 
-    module _ (u : in_use_lem used fd ≡ true) (own : Ranks) (o : own ≡ ranks_in table fd) (r : Measured)
+    module _ (u : in_use_lem used fd ≡ true) (own : Ranks) (o : own ≡ ranks_in table fd) (r : Option ℕ)
         (is : r ≡ measured_of (locals_with way p rows ws own globals fd)) where
       by-tables : r ≡ measured_of (locals_by way p rows ws table globals fd)
       by-tables = is ∙ ap (λ (q : Ranks). measured_of (locals_with way p rows ws q globals fd)) o
 
-      pub summing_take : Bounded r → (t : ℕ) → r ≡ Total t → fd < length totals → Summing (set totals fd t) (fd + 1)
+      pub summing_take : Bounded r → (t : ℕ) → r ≡ Some t → fd < length totals → Summing (set totals fd t) (fd + 1)
       summing_take m t e k =
           let most : t ≤ 21989897011200 = subst Bounded e m in
           let q = measured-total (locals_by way p rows ws table globals fd) t (sym by-tables ∙ e) in
@@ -157,7 +154,7 @@ module _ (way : ℕ) (p : Program) (rows : List Row) (ws table : List ℕ) (glob
           both true c e f = f
           both false c e f = absurd (zero_one cc)
 
-      pub summing_fails : fd < 256 → r ≡ Failed → (new : List ℕ) → MeasuresLocals way p rows ws table globals used new false
+      pub summing_fails : fd < 256 → r ≡ None → (new : List ℕ) → MeasuresLocals way p rows ws table globals used new false
       summing_fails k e new =
           let q = measured_failed (locals_by way p rows ws table globals fd) (sym by-tables ∙ e) in
           record {

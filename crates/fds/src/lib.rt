@@ -70,10 +70,7 @@ fn put_ranks(table: &mut [usize], fd: usize, q: Ranks)
 pub fn both(a: bool, b: bool) -> bool
     ensures { result ≡ pick a b false }
 {
-    if a {
-        return b;
-    }
-    false
+    a && b
 }
 
 // Sets the bits of the locals of each FD in use, one FD behind the other from `at` on; whether no number is without a subroutine.
@@ -94,16 +91,12 @@ pub fn rank_locals(
 {
     let mut place = at;
     let mut all = true;
-    let mut fd: usize = 0;
-    while fd < 256 {
-        if used[fd] == 0 {
-            fd += 1;
-        } else {
+    for fd in 0..256 {
+        if used[fd] != 0 {
             let r = rank_fd(font, f, fd, rows, &mut *words, place);
             put_ranks(&mut *table, fd, r.own);
             all = both(all, r.all);
             place += bits::words_for(r.own.count);
-            fd += 1;
         }
     }
     all

@@ -20,14 +20,10 @@ pub fn list_used(used: &[u32], fds: &mut [usize]) -> usize
     ensures { (fds.new ≡ put fds.old 0 (fds_in used.now)) × (result ≡ length (fds_in used.now)) × (result ≤ 256) }
 {
     let mut j: usize = 0;
-    let mut fd: usize = 0;
-    while fd < 256 {
-        if used[fd] == 0 {
-            fd += 1;
-        } else {
+    for fd in 0..256 {
+        if used[fd] != 0 {
             fds[j] = fd;
             j += 1;
-            fd += 1;
         }
     }
     j
@@ -96,18 +92,14 @@ pub fn part_sizes(
 {
     let mut all: usize = 0;
     let mut j: usize = 0;
-    let mut fd: usize = 0;
-    while fd < 256 {
-        if used[fd] == 0 {
-            fd += 1;
-        } else {
+    for fd in 0..256 {
+        if used[fd] != 0 {
             let left = left_in(way, table, fd);
             let part = part_of(font, f, fd, left, totals[fd]);
             sizes[j] = part.size;
             lens[j] = part.len;
             all += part.len;
             j += 1;
-            fd += 1;
         }
     }
     all

@@ -74,14 +74,10 @@ pub fn put_privates(
         (parts_for how.way (program_of font.now f) (rows_of rows.now) words.now table.now how.globals (fds_in used.now)) out.new result }
 {
     let mut p = at;
-    let mut fd: usize = 0;
-    while fd < 256 {
-        if used[fd] == 0 {
-            fd += 1;
-        } else {
+    for fd in 0..256 {
+        if used[fd] != 0 {
             let own = bodies::ranks_in(table, fd);
             p = put_part(how, font, f, fd, words, own, rows, totals[fd], &mut *out, p);
-            fd += 1;
         }
     }
     p

@@ -6,8 +6,8 @@ ghost use Rattle.bodies.specs.Ways.{measured_of};
 ghost use Rattle.bodies.specs.Sizes.{Bounded};
 ghost use Rattle.fds.specs.NewLocals.{locals_with, FdIn, MeasuresLocals, LocalsIn};
 
+use bodies::ranks_in;
 use bodies::subrs::{Source, Subrs};
-use bodies::{Measured, ranks_in};
 use cff::font::Font;
 use renumber::Ranks;
 
@@ -22,7 +22,7 @@ fn locals_total(
     globals: Ranks,
     rows: &[u8],
     rising: bool,
-) -> Measured
+) -> Option<usize>
     requires { (GoodFont font.now f) × (FdIn font.now (program_of font.now f) words.now own globals (rows_of rows.now) rising fd) }
     ensures { (result ≡ measured_of (locals_with way (program_of font.now f) (rows_of rows.now) words.now own globals fd))
         × (Bounded result) }
@@ -59,20 +59,12 @@ pub fn measure_locals(
         × (LocalsIn font.now (program_of font.now f) used.now words.now table.now globals (rows_of rows.now) rising) }
     ensures { MeasuresLocals way (program_of font.now f) (rows_of rows.now) words.now table.now globals used.now totals.new result }
 {
-    let mut fd: usize = 0;
-    while fd < 256 {
-        if used[fd] == 0 {
-            fd += 1;
-        } else {
+    for fd in 0..256 {
+        if used[fd] != 0 {
             let own = ranks_in(table, fd);
             match locals_total(way, font, f, fd, words, own, globals, rows, rising) {
-                Measured::Total(t) => {
-                    totals[fd] = t;
-                    fd += 1;
-                }
-                Measured::Failed => {
-                    return false;
-                }
+                Some(t) => totals[fd] = t,
+                None => return false,
             }
         }
     }

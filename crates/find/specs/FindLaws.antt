@@ -1,5 +1,5 @@
 -- Laws of finding: one glyph more, and a name against a string id.
-use Rattle.std.specs.Prelude.{ℕ, ◌+◌, ◌-◌, ◌≤◌, ◌<◌, ◌≡◌, refl, Bool, true, false, List, [], ◌∷◌, eqb, length, drop, get_or}
+use Rattle.std.specs.Prelude.{ℕ, ◌+◌, ◌-◌, ◌≤◌, ◌<◌, ◌≡◌, refl, Bool, true, false, List, [], ◌∷◌, eqb, length, drop, get_or, None, Option, Some}
 use Rattle.std.proofs.Common.{sym, ◌∙◌, subst, add-one, arith, drop_of_length-le, drop-cons, eq-eqb, ne_eqb, eqb-true}
 use Rattle.std.proofs.Math.Path.{ap}
 use Rattle.std.proofs.lemmas.Bool.{eqb-false}
@@ -7,8 +7,6 @@ use Rattle.strings.specs.Text.{same_text_lem}
 use Rattle.strings.specs.TextLaws.{same_refl, same_not}
 use Rattle.strings.specs.Strings.{standard_string, string_text, sid_of}
 use Rattle.strings.proofs.StringsLaws.{string_standard, string_own, string_none, sid_text, sid_is, sid_other}
-use Rattle.strings.specs.declared.Sid.{Sid}
-use Rattle.strings.specs.declared.Sid.TheVariants.{Standard, Other}
 use Rattle.charset.specs.Listed.{numbers_of}
 use Rattle.charset.specs.Charset.{ids_from}
 use Rattle.charset.specs.CharsetPlaces.{ids_of, GoodCharset, charset_start, next_id, StandsId, ReadyId}
@@ -17,8 +15,6 @@ use Rattle.charset.specs.declared.Charset.{Charset}
 use Rattle.charset.specs.declared.CharsetCursor.{CharsetCursor}
 use Rattle.charset.specs.declared.IdStep.{IdStep}
 use Rattle.find.specs.Find.{glyph_with_id, glyph_with_text, has_id}
-use Rattle.find.specs.declared.Found.{Found}
-use Rattle.find.specs.declared.Found.TheVariants.{Absent, Glyph}
 
 -- ---- one glyph more
 
@@ -26,7 +22,7 @@ module _ (ids : List ℕ) (g : ℕ) (h : g < length ids) where
   split : drop g ids ≡ get_or ids g 0 ∷ drop (g + 1) ids
   split = drop-cons ids g 0 h ∙ ap (λ (k : ℕ). get_or ids g 0 ∷ drop k ids) (sym (add-one g))
 
-  pub id_here : (id : ℕ) → get_or ids g 0 ≡ id → glyph_with_id id g (drop g ids) ≡ Glyph g
+  pub id_here : (id : ℕ) → get_or ids g 0 ≡ id → glyph_with_id id g (drop g ids) ≡ Some g
   unfolding glyph_with_id
   id_here id e = ap (glyph_with_id id g) split ∙ rw (eq-eqb (get_or ids g 0) id e)
 
@@ -35,7 +31,7 @@ module _ (ids : List ℕ) (g : ℕ) (h : g < length ids) where
   id_later id e = ap (glyph_with_id id g) split ∙ rw (ne_eqb (get_or ids g 0) id e)
 
   pub text-here : (strings : List (List ℕ)) (name : List ℕ) → same_text_lem (string_text strings (get_or ids g 0)) name ≡ true
-      → glyph_with_text strings name g (drop g ids) ≡ Glyph g
+      → glyph_with_text strings name g (drop g ids) ≡ Some g
   unfolding glyph_with_text
   text-here strings name e = ap (glyph_with_text strings name g) split ∙ rw e
 
@@ -44,29 +40,29 @@ module _ (ids : List ℕ) (g : ℕ) (h : g < length ids) where
   unfolding glyph_with_text
   text-later strings name e = ap (glyph_with_text strings name g) split ∙ rw e
 
-pub id_nowhere : (id g : ℕ) (ids : List ℕ) → length ids ≤ g → glyph_with_id id g (drop g ids) ≡ Absent
+pub id_nowhere : (id g : ℕ) (ids : List ℕ) → length ids ≤ g → glyph_with_id id g (drop g ids) ≡ None
 unfolding glyph_with_id
 id_nowhere id g ids h = ap (glyph_with_id id g) (drop_of_length-le ids h)
 
-pub text_nowhere : (strings : List (List ℕ)) (name : List ℕ) (g : ℕ) (ids : List ℕ) → length ids ≤ g → glyph_with_text strings name g (drop g ids) ≡ Absent
+pub text_nowhere : (strings : List (List ℕ)) (name : List ℕ) (g : ℕ) (ids : List ℕ) → length ids ≤ g → glyph_with_text strings name g (drop g ids) ≡ None
 unfolding glyph_with_text
 text_nowhere strings name g ids h = ap (glyph_with_text strings name g) (drop_of_length-le ids h)
 
 -- ---- a name against a string id
 
 -- a standard string is the name exactly where it has the name's id
-same_id : (id k : ℕ) (name : List ℕ) → id < 391 → sid_of name ≡ Standard k → (t : Bool) → eqb k id ≡ t → t ≡ same_text_lem (standard_string id) name
+same_id : (id k : ℕ) (name : List ℕ) → id < 391 → sid_of name ≡ Some k → (t : Bool) → eqb k id ≡ t → t ≡ same_text_lem (standard_string id) name
 same_id id k name h s true e =
     let f : k ≡ id = eqb-true k id e in
     sym (ap (λ (x : List ℕ). same_text_lem (standard_string id) x) (sym (sid_text name k s) ∙ ap standard_string f) ∙ same_refl (standard_string id))
 same_id id k name h s false e =
-    sym (same_not (standard_string id) name (λ f. eqb-false k id e (let g : Standard k ≡ Standard id = sym s ∙ sid_is name id h f in cc)))
+    sym (same_not (standard_string id) name (λ f. eqb-false k id e (let g : Some k ≡ Some id = sym s ∙ sid_is name id h f in cc)))
 
-has-id : (id : ℕ) (name : List ℕ) (sid : Sid) → id < 391 → sid ≡ sid_of name → has_id id sid ≡ same_text_lem (standard_string id) name
-has-id id name (Standard k) h s = same_id id k name h (sym s) (eqb k id) refl
-has-id id name Other h s = sym (same_not (standard_string id) name (sid_other name (sym s) id h))
+has-id : (id : ℕ) (name : List ℕ) (sid : Option ℕ) → id < 391 → sid ≡ sid_of name → has_id id sid ≡ same_text_lem (standard_string id) name
+has-id id name (Some k) h s = same_id id k name h (sym s) (eqb k id) refl
+has-id id name None h s = sym (same_not (standard_string id) name (sid_other name (sym s) id h))
 
-pub named-standard : (strings : List (List ℕ)) (id : ℕ) (name : List ℕ) (sid : Sid) → id < 391 → sid ≡ sid_of name → (r : Bool) → r ≡ has_id id sid
+pub named-standard : (strings : List (List ℕ)) (id : ℕ) (name : List ℕ) (sid : Option ℕ) → id < 391 → sid ≡ sid_of name → (r : Bool) → r ≡ has_id id sid
     → r ≡ same_text_lem (string_text strings id) name
 named-standard strings id name sid h s r e = e ∙ has-id id name sid h s ∙ ap (λ (x : List ℕ). same_text_lem x name) (sym (string_standard strings id h))
 

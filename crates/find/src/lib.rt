@@ -11,17 +11,9 @@ ghost use Rattle.find.specs.Find.{glyph_with_id, glyph_with_text, has_id};
 
 use charset::Charset;
 use index::Index;
-use strings::Sid;
-
-// Which glyph it is, or that no glyph has the name or CID.
-#[derive(Clone, Copy)]
-pub enum Found {
-    Absent,
-    Glyph(usize),
-}
 
 // Whether the text of a string id is the name; `sid` is the name's own id among the standard strings.
-pub fn is_named(font: &[u8], strings: Index, id: usize, name: &[u8], sid: Sid) -> bool
+pub fn is_named(font: &[u8], strings: Index, id: usize, name: &[u8], sid: Option<usize>) -> bool
     requires { (Good font.now strings) × (sid ≡ sid_of name.now) }
     ensures { result ≡ same_text_lem (string_text (items_of font.now strings) id) name.now }
 {
@@ -37,49 +29,49 @@ pub fn is_named(font: &[u8], strings: Index, id: usize, name: &[u8], sid: Sid) -
 }
 
 // Whether a standard string has the id.
-fn is_standard(id: usize, sid: Sid) -> bool
+fn is_standard(id: usize, sid: Option<usize>) -> bool
     ensures { result ≡ has_id id sid }
 {
-    match sid {
-        Sid::Standard(k) => k == id,
-        Sid::Other => false,
-    }
+    sid == Some(id)
 }
 
-// The first of n glyphs that has the string id or CID.
-pub fn find_id(font: &[u8], c: Charset, n: usize, id: usize) -> Found
+// The first of n glyphs that has the string id or CID, if one has.
+pub fn find_id(font: &[u8], c: Charset, n: usize, id: usize) -> Option<usize>
     requires { GoodCharset font.now c n }
     ensures { result ≡ glyph_with_id id 0 (ids_of font.now c n) }
 {
     let mut u = charset::charset_start(c);
-    let mut g = 0;
-    while g < n {
+    for g in 0..n {
         let s = charset::next_id(font, u);
         let here = s.id;
         if here == id {
-            return Found::Glyph(g);
+            return Some(g);
         }
         u = s.next;
-        g += 1;
     }
-    Found::Absent
+    None
 }
 
-// The first of n glyphs that has the name.
-pub fn find_text(font: &[u8], c: Charset, n: usize, strings: Index, name: &[u8], sid: Sid) -> Found
+// The first of n glyphs that has the name, if one has.
+pub fn find_text(
+    font: &[u8],
+    c: Charset,
+    n: usize,
+    strings: Index,
+    name: &[u8],
+    sid: Option<usize>,
+) -> Option<usize>
     requires { (GoodCharset font.now c n) × (Good font.now strings) × (sid ≡ sid_of name.now) }
     ensures { result ≡ glyph_with_text (items_of font.now strings) name.now 0 (ids_of font.now c n) }
 {
     let mut u = charset::charset_start(c);
-    let mut g = 0;
-    while g < n {
+    for g in 0..n {
         let s = charset::next_id(font, u);
         let here = s.id;
         if is_named(font, strings, here, name, sid) {
-            return Found::Glyph(g);
+            return Some(g);
         }
         u = s.next;
-        g += 1;
     }
-    Found::Absent
+    None
 }

@@ -1,5 +1,5 @@
 -- Laws of the glyphs of many names and CIDs: by the code's ways out, one name or CID more, and a glyph's CID met.
-use Rattle.std.specs.Prelude.{ℕ, ◌+◌, ◌-◌, ◌≤◌, ◌<◌, ◌≡◌, refl, Bool, true, false, not, ltb, eqb, length, take, get_or, set, replicate}
+use Rattle.std.specs.Prelude.{ℕ, ◌+◌, ◌-◌, ◌≤◌, ◌<◌, ◌≡◌, refl, Bool, true, false, not, ltb, eqb, length, take, get_or, set, replicate, Option, Some}
 use Rattle.std.proofs.Math.Path.{sym, ap}
 use Rattle.std.proofs.Common.{◌∙◌, subst, add-one, arith, lt-ltb, le-ltb, ltb-true, ltb-false, eq-eqb, ne_eqb, eqb-true, drop_of_length-le, drop-cons, drop-drop, get_or-set_same, get_or-set_other}
 use mathlib.Core.List.{List, [], ◌∷◌, map}
@@ -17,8 +17,6 @@ use Rattle.charset.specs.CharsetPlaces.{ids_of}
 use Rattle.charset.specs.CharsetFound.{good_length}
 use Rattle.find.specs.Find.{glyph_with_id, glyph_with_text}
 use Rattle.find.specs.FindLaws.{id_here, id_later, id_nowhere}
-use Rattle.find.specs.declared.Found.{Found}
-use Rattle.find.specs.declared.Found.TheVariants.{Glyph as TheGlyph}
 use Rattle.cff.specs.Font.{Got, Program, read_font}
 use Rattle.cff.specs.Find.{found_as_lem}
 use Rattle.cff.specs.File.{InFile}
@@ -106,17 +104,17 @@ module _ (number : List ℕ → ℕ) (lens bytes : List ℕ) where
       sym (ap (λ (y : List ℕ). put words i (map number (names_by y (drop at bytes)))) (drop_of_length-le lens h) ∙ put_nil words i)
 
 -- a name that was found is the name of a glyph of the font
-found_below : (strings : List (List ℕ)) (name : List ℕ) (g : ℕ) (ids : List ℕ) (k : ℕ) → glyph_with_text strings name g ids ≡ TheGlyph k → k < g + length ids
+found_below : (strings : List (List ℕ)) (name : List ℕ) (g : ℕ) (ids : List ℕ) (k : ℕ) → glyph_with_text strings name g ids ≡ Some k → k < g + length ids
 unfolding glyph_with_text
 found_below strings name g [] k e = let z : ◌≡◌ {A = ℕ} 0 1 = cc in absurd (omega arith)
 found_below strings name g (x ∷ ids) k e =
-    pick_ind (λ (o : Found). o ≡ TheGlyph k → k < g + length (x ∷ ids)) (same_text_lem (string_text strings x) name) (TheGlyph g) (glyph_with_text strings name (g + 1) ids)
+    pick_ind (λ (o : Option ℕ). o ≡ Some k → k < g + length (x ∷ ids)) (same_text_lem (string_text strings x) name) (Some g) (glyph_with_text strings name (g + 1) ids)
     (λ t d. let h : g ≡ k = cc in omega arith)
     (λ t d. let h = found_below strings name (g + 1) ids k d in omega arith)
     e
 
-pub found-small : (b : List ℕ) (f : Font) → GoodFont b f → (name : List ℕ) (r : Found)
-    → r ≡ glyph_with_text (items_of b f.strings) name 0 (ids_of b f.charset f.charstrings.count) → (g : ℕ) → r ≡ TheGlyph g → g < 65536
+pub found-small : (b : List ℕ) (f : Font) → GoodFont b f → (name : List ℕ) (r : Option ℕ)
+    → r ≡ glyph_with_text (items_of b f.strings) name 0 (ids_of b f.charset f.charstrings.count) → (g : ℕ) → r ≡ Some g → g < 65536
 found-small b f good name r e g i =
     let h = found_below (items_of b f.strings) name 0 (ids_of b f.charset f.charstrings.count) g (sym e ∙ i) in
     omega (arith, h, good_length b f.charset f.charstrings.count good.ids, good.ids.few)
@@ -192,10 +190,10 @@ settled-start ids slots s = record { is = λ id h. settle-none (get_or slots id 
 module _ (ids slots : List ℕ) (g : ℕ) (s : Settled ids g slots) (h : g < length ids) (id₀ : ℕ) (e : id₀ ≡ get_or ids g 0) where
   -- of another id nothing was met
   later : (id : ℕ) → (id ≡ id₀ → ⊥) → first_of ids g id ≡ first_of ids (g + 1) id
-  later id k = ap (λ (x : Found). number_for (found_as_lem x)) (id_later ids g h id (λ z. k (sym z ∙ sym e)))
+  later id k = ap (λ (x : Option ℕ). number_for (found_as_lem x)) (id_later ids g h id (λ z. k (sym z ∙ sym e)))
 
   here : (id : ℕ) → id ≡ id₀ → first_of ids g id ≡ g
-  here id k = ap (λ (x : Found). number_for (found_as_lem x)) (id_here ids g h id (sym e ∙ sym k))
+  here id k = ap (λ (x : Option ℕ). number_for (found_as_lem x)) (id_here ids g h id (sym e ∙ sym k))
 
   -- the first of its id goes to the slot
   new_by : g < 65536 → id₀ < length slots → get_or slots id₀ 0 ≡ 65536 → (id : ℕ) → id < 65536 → (t : Bool) → eqb id id₀ ≡ t
@@ -239,7 +237,7 @@ settled-all ids slots g h s size =
       is =
           λ id k.
           settle_end (get_or slots id 0) (eqb (get_or slots id 0) 65536) refl
-          ∙ ap (settle (get_or slots id 0)) (sym (ap (λ (x : Found). number_for (found_as_lem x)) (id_nowhere id g ids h))) ∙ s.is id k;
+          ∙ ap (settle (get_or slots id 0)) (sym (ap (λ (x : Option ℕ). number_for (found_as_lem x)) (id_nowhere id g ids h))) ∙ s.is id k;
     }
 
 -- by the keying

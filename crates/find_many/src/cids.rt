@@ -18,16 +18,12 @@ fn fill(font: &[u8], c: Charset, n: usize, slots: &mut [u32])
     ensures { Slots (λ id. number_for (found_as_lem (glyph_with_id id 0 (ids_of font.now c n)))) slots.new }
 {
     let mut u = charset::charset_start(c);
-    let mut g = 0;
-    while g < n {
+    for g in 0..n {
         let s = charset::next_id(font, u);
         let id = s.id;
         u = s.next;
         if slots[id] == 65536 {
             slots[id] = g as u32;
-            g += 1;
-        } else {
-            g += 1;
         }
     }
 }
@@ -52,12 +48,8 @@ fn put_cids(slots: &[u32], cids: &[u16], glyphs: &mut [u32])
     ensures { (number : ℕ → ℕ) → Slots number slots.now
         → glyphs.new ≡ put glyphs.old 0 (map number cids.now) }
 {
-    let count = cids.len();
-    let mut i = 0;
-    while i < count {
-        let cid = cids[i] as usize;
-        glyphs[i] = slots[cid];
-        i += 1;
+    for (i, cid) in cids.iter().enumerate() {
+        glyphs[i] = slots[*cid as usize];
     }
 }
 

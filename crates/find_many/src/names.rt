@@ -7,7 +7,6 @@ ghost use Rattle.cff.specs.Reads.{program_of, GoodFont};
 ghost use Rattle.find_many.specs.Many.{of_name, names_by, names_in, names_found, Finds};
 
 use cff::font::{Font, FontRead};
-use find::Found;
 use refusal::Refusal;
 
 // The glyph of a name in a font that was read, 65536 where it is absent; no glyph of a CID-keyed font has a name.
@@ -26,8 +25,8 @@ fn name_in(font: &[u8], f: Font, name: &[u8]) -> u32
     let sid = strings::sid_of(name);
     let found = find::find_text(font, charset, n, texts, name, sid);
     match found {
-        Found::Absent => 65536,
-        Found::Glyph(g) => g as u32,
+        None => 65536,
+        Some(g) => g as u32,
     }
 }
 
@@ -35,16 +34,13 @@ fn name_in(font: &[u8], f: Font, name: &[u8]) -> u32
 fn fit(bytes: usize, lens: &[u32]) -> bool
     ensures { result ≡ not (ltb bytes (sum_of lens.now)) }
 {
-    let count = lens.len();
     let mut left = bytes;
-    let mut i = 0;
-    while i < count {
-        let n = octets::words::wide(lens[i]);
+    for len in lens {
+        let n = *len as usize;
         if left < n {
             return false;
         }
         left -= n;
-        i += 1;
     }
     true
 }
@@ -54,14 +50,11 @@ fn put_names(font: &[u8], f: Font, names: &[u8], lens: &[u32], glyphs: &mut [u32
     requires { (GoodFont font.now f) × (sum_of lens.now ≤ length names.now) × (length lens.now ≤ length glyphs.old) }
     ensures { glyphs.new ≡ put glyphs.old 0 (map (of_name (program_of font.now f)) (names_by lens.now names.now)) }
 {
-    let count = lens.len();
     let mut at = 0;
-    let mut i = 0;
-    while i < count {
-        let end = at + octets::words::wide(lens[i]);
+    for (i, len) in lens.iter().enumerate() {
+        let end = at + *len as usize;
         glyphs[i] = name_in(font, f, &names[at..end]);
         at = end;
-        i += 1;
     }
 }
 

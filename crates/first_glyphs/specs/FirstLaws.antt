@@ -1,19 +1,17 @@
 -- Laws of the first glyph of an id and of a name (document 01, refusal 7): it alone is found by its name.
-use Rattle.std.specs.Prelude.{ℕ, zero, suc, ◌+◌, ◌≤◌, ◌<◌, ◌≡◌, refl, Bool, true, false, List, [], ◌∷◌, length, get_or}
+use Rattle.std.specs.Prelude.{ℕ, zero, suc, ◌+◌, ◌≤◌, ◌<◌, ◌≡◌, refl, Bool, true, false, List, [], ◌∷◌, length, get_or, Option, Some}
 use Rattle.std.proofs.Common.{ap, ◌∙◌, not-suc-le-zero, arith, ne_eqb}
 use Rattle.octets.specs.Pick.{pick_ind}
 use Rattle.strings.specs.Text.{same_text_lem}
 use Rattle.strings.specs.TextLaws.{same_refl, same_not}
 use Rattle.strings.specs.Strings.{string_text}
 use Rattle.find.specs.Find.{glyph_with_text}
-use Rattle.find.specs.declared.Found.{Found}
-use Rattle.find.specs.declared.Found.TheVariants.{Glyph as TheGlyph}
 use Rattle.kept.specs.Packed.{name_found}
 use Rattle.first_glyphs.specs.FoundLaws.{glyph_as, Seen}
 
 -- one at place h or before it is found where the one at place h has the name
 named-before : (strings : List (List ℕ)) (name : List ℕ) (s : ℕ) (l : List ℕ) (h : ℕ) → h < length l → string_text strings (get_or l h 0) ≡ name
-    → (k : ℕ) × (k ≤ s + h) × (glyph_with_text strings name s l ≡ TheGlyph k)
+    → (k : ℕ) × (k ≤ s + h) × (glyph_with_text strings name s l ≡ Some k)
 unfolding glyph_with_text
 named-before strings name s [] h m e = absurd (not-suc-le-zero m)
 named-before strings name s (x ∷ l) zero m e =
@@ -21,7 +19,7 @@ named-before strings name s (x ∷ l) zero m e =
     (s, omega arith, simp t)
 named-before strings name s (x ∷ l) (suc h) m e =
     let r = named-before strings name (s + 1) l h (omega arith) e in
-    pick_ind (λ (z : Found). (k : ℕ) × (k ≤ s + suc h) × (z ≡ TheGlyph k)) (same_text_lem (string_text strings x) name) (TheGlyph s) (glyph_with_text strings name (s + 1) l)
+    pick_ind (λ (z : Option ℕ). (k : ℕ) × (k ≤ s + suc h) × (z ≡ Some k)) (same_text_lem (string_text strings x) name) (Some s) (glyph_with_text strings name (s + 1) l)
     (λ t. (s, omega arith, refl))
     (λ t. (r.0, omega (arith, r.1), r.2))
 
@@ -37,13 +35,13 @@ seen_not_named strings ids g seen s id is h m = let o = s.only id m in again_not
 
 -- the first glyph with a name is found
 pub first-named : (strings : List (List ℕ)) (name : List ℕ) (s : ℕ) (l : List ℕ) (g : ℕ) → g < length l → string_text strings (get_or l g 0) ≡ name
-    → ((k : ℕ) → k < g → string_text strings (get_or l k 0) ≡ name → ⊥) → glyph_with_text strings name s l ≡ TheGlyph (s + g)
+    → ((k : ℕ) → k < g → string_text strings (get_or l k 0) ≡ name → ⊥) → glyph_with_text strings name s l ≡ Some (s + g)
 unfolding glyph_with_text
 first-named strings name s [] g h e f = absurd (not-suc-le-zero h)
 first-named strings name s (x ∷ l) zero h e f =
     let z : s ≡ s + 0 = omega arith in
     let t : same_text_lem (string_text strings x) name ≡ true = ap (λ (y : List ℕ). same_text_lem y name) e ∙ same_refl name in
-    simp t (ap TheGlyph z)
+    simp t (ap Some z)
 first-named strings name s (x ∷ l) (suc g) h e f =
     let z : s + 1 + g ≡ s + suc g = omega arith in
-    simp (same_not (string_text strings x) name (f 0 (omega arith))) (first-named strings name (s + 1) l g (omega arith) e (λ k m. f (suc k) (omega arith)) ∙ ap TheGlyph z)
+    simp (same_not (string_text strings x) name (f 0 (omega arith))) (first-named strings name (s + 1) l g (omega arith) e (λ k m. f (suc k) (omega arith)) ∙ ap Some z)

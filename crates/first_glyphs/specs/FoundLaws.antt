@@ -1,5 +1,5 @@
 -- Laws of finding (document 01, refusal 7): a glyph is found where no glyph before it has its id or name.
-use Rattle.std.specs.Prelude.{ℕ, zero, suc, ◌+◌, ◌-◌, ◌≤◌, ◌<◌, ◌≡◌, refl, Bool, true, false, List, [], ◌∷◌, eqb, length, get_or}
+use Rattle.std.specs.Prelude.{ℕ, zero, suc, ◌+◌, ◌-◌, ◌≤◌, ◌<◌, ◌≡◌, refl, Bool, true, false, List, [], ◌∷◌, eqb, length, get_or, Option, Some}
 use Rattle.std.proofs.Math.Path.{sym, ap}
 use Rattle.std.proofs.Common.{◌∙◌, not-suc-le-zero, arith, eq-eqb, ne_eqb, eqb-true}
 use Rattle.std.proofs.lemmas.Bool.{eqb-false}
@@ -7,8 +7,6 @@ use Rattle.octets.specs.Pick.{pick, pick_ind}
 use Rattle.prune.specs.StepLaws.{zero_one}
 use Rattle.strings.specs.Strings.{string_text}
 use Rattle.find.specs.Find.{glyph_with_id}
-use Rattle.find.specs.declared.Found.{Found}
-use Rattle.find.specs.declared.Found.TheVariants.{Glyph as TheGlyph}
 use Rattle.cff.specs.Find.{found_as_lem}
 use Rattle.subset.specs.Kept.{those}
 use Rattle.subset.specs.Cut.{is_glyph}
@@ -49,8 +47,8 @@ module _ (test t : ℕ → Bool) (n : ℕ) where
 
 -- ---- a glyph that was looked for
 
-pub glyph_as : (g : ℕ) (x y : Found) → x ≡ y → is_glyph g (found_as_lem x) ≡ is_glyph g (found_as_lem y)
-glyph_as g x y e = ap (λ (z : Found). is_glyph g (found_as_lem z)) e
+pub glyph_as : (g : ℕ) (x y : Option ℕ) → x ≡ y → is_glyph g (found_as_lem x) ≡ is_glyph g (found_as_lem y)
+glyph_as g x y e = ap (λ (z : Option ℕ). is_glyph g (found_as_lem z)) e
 
 -- by the text of its id
 pub name_by : (strings : List (List ℕ)) (ids : List ℕ) (g id : ℕ) (name : List ℕ) (r : Bool) → id ≡ get_or ids g 0 → name ≡ string_text strings id
@@ -58,27 +56,27 @@ pub name_by : (strings : List (List ℕ)) (ids : List ℕ) (g id : ℕ) (name : 
 name_by strings ids g id name r i n e = e ∙ ap (λ (x : List ℕ). text_found strings ids x g) (n ∙ ap (string_text strings) i)
 
 -- the first glyph with an id is found
-first_is : (id s : ℕ) (l : List ℕ) (g : ℕ) → g < length l → get_or l g 0 ≡ id → ((h : ℕ) → h < g → get_or l h 0 ≡ id → ⊥) → glyph_with_id id s l ≡ TheGlyph (s + g)
+first_is : (id s : ℕ) (l : List ℕ) (g : ℕ) → g < length l → get_or l g 0 ≡ id → ((h : ℕ) → h < g → get_or l h 0 ≡ id → ⊥) → glyph_with_id id s l ≡ Some (s + g)
 unfolding glyph_with_id
 first_is id s [] g h e f = absurd (not-suc-le-zero h)
-first_is id s (x ∷ l) zero h e f = let z : s ≡ s + 0 = omega arith in simp (eq-eqb x id e) (ap TheGlyph z)
+first_is id s (x ∷ l) zero h e f = let z : s ≡ s + 0 = omega arith in simp (eq-eqb x id e) (ap Some z)
 first_is id s (x ∷ l) (suc g) h e f =
     let z : s + 1 + g ≡ s + suc g = omega arith in
-    simp (ne_eqb x id (f 0 (omega arith))) (first_is id (s + 1) l g (omega arith) e (λ k m. f (suc k) (omega arith)) ∙ ap TheGlyph z)
+    simp (ne_eqb x id (f 0 (omega arith))) (first_is id (s + 1) l g (omega arith) e (λ k m. f (suc k) (omega arith)) ∙ ap Some z)
 
 -- one at place h or before it is found where the one at place h has the id
 pub first-before : (id s : ℕ) (l : List ℕ) (h : ℕ) → h < length l → get_or l h 0 ≡ id
-    → (k : ℕ) × (k ≤ h) × (get_or l k 0 ≡ id) × (glyph_with_id id s l ≡ TheGlyph (s + k))
+    → (k : ℕ) × (k ≤ h) × (get_or l k 0 ≡ id) × (glyph_with_id id s l ≡ Some (s + k))
 unfolding glyph_with_id
 first-before id s [] h m e = absurd (not-suc-le-zero m)
-first-before id s (x ∷ l) zero m e = let z : s ≡ s + 0 = omega arith in (0, omega arith, e, simp (eq-eqb x id e) (ap TheGlyph z))
+first-before id s (x ∷ l) zero m e = let z : s ≡ s + 0 = omega arith in (0, omega arith, e, simp (eq-eqb x id e) (ap Some z))
 first-before id s (x ∷ l) (suc h) m e =
     let r = first-before id (s + 1) l h (omega arith) e in
     let y : s ≡ s + 0 = omega arith in
     let z : s + 1 + r.0 ≡ s + suc r.0 = omega arith in
-    pick_ind (λ (f : Found). (k : ℕ) × (k ≤ suc h) × (get_or (x ∷ l) k 0 ≡ id) × (f ≡ TheGlyph (s + k))) (eqb x id) (TheGlyph s) (glyph_with_id id (s + 1) l)
-    (λ t. (0, omega arith, eqb-true x id t, ap TheGlyph y))
-    (λ t. (suc r.0, omega (arith, r.1), r.2, r.3 ∙ ap TheGlyph z))
+    pick_ind (λ (f : Option ℕ). (k : ℕ) × (k ≤ suc h) × (get_or (x ∷ l) k 0 ≡ id) × (f ≡ Some (s + k))) (eqb x id) (Some s) (glyph_with_id id (s + 1) l)
+    (λ t. (0, omega arith, eqb-true x id t, ap Some y))
+    (λ t. (suc r.0, omega (arith, r.1), r.2, r.3 ∙ ap Some z))
 
 -- ---- ids that were seen
 

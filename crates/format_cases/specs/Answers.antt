@@ -1,6 +1,5 @@
 -- The answer to the input of a stored case of the format's parts (tools/oracle/README.md, 'format'), by its kind.
-use Rattle.std.specs.Prelude.{ℕ, List, [], ◌∷◌, eqb}
-use Rattle.std.proofs.Math.Option.{Option, none}
+use Rattle.std.specs.Prelude.{ℕ, List, [], ◌∷◌, eqb, None, Option}
 use Rattle.octets.specs.Pick.{pick}
 use Rattle.format_cases.specs.Indexes.{index_answer}
 use Rattle.format_cases.specs.Dicts.{dict_answer, number_answer}
@@ -17,4 +16,4 @@ answer_to kind s =
     (pick (eqb kind 100) (dict_answer s)
     (pick (eqb kind 119) (number_answer s)
     (pick (eqb kind 99) (charset_answer s)
-    (pick (eqb kind 115) (fd_select_answer s) none))))
+    (pick (eqb kind 115) (fd_select_answer s) None))))

@@ -1,7 +1,6 @@
 -- Laws of a decimal of a case: one that is as it is written there is normalised and within the limits of refusal 5.
-use Rattle.std.specs.Prelude.{ℕ, ◌+◌, ◌-◌, ◌*◌, ◌%◌, ◌≤◌, ◌<◌, ◌≡◌, refl, Bool, true, false, List, ◌⊎◌, ltb, leb, eqb, length, get_or}
+use Rattle.std.specs.Prelude.{ℕ, ◌+◌, ◌-◌, ◌*◌, ◌%◌, ◌≤◌, ◌<◌, ◌≡◌, refl, Bool, true, false, List, ◌⊎◌, ltb, leb, eqb, length, get_or, None, Some}
 use Rattle.std.proofs.Common.{sym, ap, ◌∙◌, inl, inr, arith}
-use Rattle.std.proofs.Math.Option.{none, some}
 use borrow.Author.Tests.{lt-ltb, le-ltb, eq-eqb, ne_eqb, eqb-true, eqb-false, leb-false, ltb-false, le-leb, lt-leb}
 use Rattle.octets.specs.Pick.{pick}
 use Rattle.octets.specs.PickLaws.{both_hold, other_holds}
@@ -143,24 +142,24 @@ unfolding decimal_at
 decimal_is s high low up down a b c e = rw (a, b, c, e)
 
 module _ (s : List ℕ) where
-  pub number_size : (length s ≡ 11 → ⊥) → number_answer s ≡ none
+  pub number_size : (length s ≡ 11 → ⊥) → number_answer s ≡ None
   unfolding number_answer
   number_size h = rw (ne_eqb (length s) 11 h)
 
   module _ (h : length s ≡ 11) where
-    pub number-sign : 1 < get_or s 0 0 → number_answer s ≡ none
+    pub number-sign : 1 < get_or s 0 0 → number_answer s ≡ None
     unfolding number_answer
     number-sign k = rw (eq-eqb (length s) 11 h, lt-ltb 1 (get_or s 0 0) k)
 
     module _ (k : get_or s 0 0 ≤ 1) (d : Decimal) (e : d ≡ decimal_at s) where
-      number_is : number_answer s ≡ pick (is_decimal d) (some (number_bytes d)) none
+      number_is : number_answer s ≡ pick (is_decimal d) (Some (number_bytes d)) None
       unfolding number_answer
       number_is =
           rw (eq-eqb (length s) 11 h, le-ltb 1 (get_or s 0 0) k)
-          (ap (λ (c : Decimal). pick (is_decimal c) (some (number_bytes c)) none) (sym e))
+          (ap (λ (c : Decimal). pick (is_decimal c) (Some (number_bytes c)) None) (sym e))
 
-      pub number-none : is_decimal d ≡ false → number_answer s ≡ none
-      number-none f = number_is ∙ ap (λ (t : Bool). pick t (some (number_bytes d)) none) f
+      pub number-none : is_decimal d ≡ false → number_answer s ≡ None
+      number-none f = number_is ∙ ap (λ (t : Bool). pick t (Some (number_bytes d)) None) f
 
-      pub number-found : is_decimal d ≡ true → number_answer s ≡ some (number_bytes d)
-      number-found f = number_is ∙ ap (λ (t : Bool). pick t (some (number_bytes d)) none) f
+      pub number-found : is_decimal d ≡ true → number_answer s ≡ Some (number_bytes d)
+      number-found f = number_is ∙ ap (λ (t : Bool). pick t (Some (number_bytes d)) None) f

@@ -1,7 +1,6 @@
 -- Stored cases of a DICT and of a number written into one (tools/oracle/README.md, 'format', kinds d and w), from the definitions that
 -- dict's and decimal_write's functions meet.
-use Rattle.std.specs.Prelude.{ℕ, ◌+◌, ◌*◌, ◌%◌, Bool, true, false, List, [], ◌∷◌, ◌++◌, ltb, leb, eqb, length, get_or}
-use Rattle.std.proofs.Math.Option.{Option, none, some}
+use Rattle.std.specs.Prelude.{ℕ, ◌+◌, ◌*◌, ◌%◌, Bool, true, false, List, [], ◌∷◌, ◌++◌, ltb, leb, eqb, length, get_or, None, Option, Some}
 use Rattle.octets.specs.Pick.{pick}
 use Rattle.octets.specs.Octets.{num_at, bytes_of}
 use Rattle.decimal.specs.declared.Decimal.{Decimal}
@@ -31,7 +30,7 @@ behind front (entries es) = 0 ∷ (front ++ entries_bytes es)
 
 -- kind d: a DICT of up to 100 bytes
 unfoldable pub dict_answer : List ℕ → Option (List ℕ)
-dict_answer s = pick (ltb 100 (length s)) none (some (behind [] (dict_of s)))
+dict_answer s = pick (ltb 100 (length s)) None (Some (behind [] (dict_of s)))
 
 -- the decimal that 11 bytes hold
 unfoldable pub decimal_at : List ℕ → Decimal
@@ -51,5 +50,5 @@ is_decimal d =
 unfoldable pub number_answer : List ℕ → Option (List ℕ)
 number_answer s =
     pick (eqb (length s) 11)
-    (pick (ltb 1 (get_or s 0 0)) none
-    (pick (is_decimal (decimal_at s)) (some (number_bytes (decimal_at s))) none)) none
+    (pick (ltb 1 (get_or s 0 0)) None
+    (pick (is_decimal (decimal_at s)) (Some (number_bytes (decimal_at s))) None)) None

@@ -1,10 +1,9 @@
 -- Laws of the answers of a DICT: operands one after the other, entries one after the other, and the code's ways out.
 use Prim.Native.Nat.{ℕ, zero, suc, ◌+◌, ◌*◌, ◌≤◌, ◌<◌}
-use Rattle.std.specs.Prelude.{◌≡◌, refl, ltb, length}
+use Rattle.std.specs.Prelude.{◌≡◌, refl, ltb, length, None, Some}
 use Rattle.std.proofs.Math.Path.{sym, ap, subst}
 use Rattle.std.proofs.Common.{◌∙◌, length-append, lt-ltb, le-ltb, ltb-true}
 use mathlib.Core.List.{List, [], ◌∷◌, ◌++◌, append_assoc, append-nil}
-use Rattle.std.proofs.Math.Option.{none, some}
 use native.Mathlib.Omega.{arith}
 use Rattle.octets.specs.Pick.{pick_ind}
 use Rattle.octets.specs.Octets.{Wrote}
@@ -159,10 +158,10 @@ module _ (b : List ℕ) (at : ℕ) (new : List ℕ) (p : ℕ) (w : Listing b at 
 
 -- ---- the ways out
 
-pub dict_long : (s : List ℕ) → 100 < length s → dict_answer s ≡ none
+pub dict_long : (s : List ℕ) → 100 < length s → dict_answer s ≡ None
 unfolding dict_answer
 dict_long s h = rw (lt-ltb 100 (length s) h)
 
-pub dict-found : (s : List ℕ) → length s ≤ 100 → dict_answer s ≡ some (behind [] (dict_of s))
+pub dict-found : (s : List ℕ) → length s ≤ 100 → dict_answer s ≡ Some (behind [] (dict_of s))
 unfolding dict_answer
 dict-found s h = rw (le-ltb 100 (length s) h)

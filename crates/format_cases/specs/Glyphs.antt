@@ -1,7 +1,6 @@
 -- Stored cases of a charset and of an FDSelect (tools/oracle/README.md, 'format', kinds c and s), from the definitions that charset's
 -- functions meet.
-use Rattle.std.specs.Prelude.{ℕ, List, [], ◌∷◌, ltb, eqb, length, drop}
-use Rattle.std.proofs.Math.Option.{Option, none, some}
+use Rattle.std.specs.Prelude.{ℕ, List, [], ◌∷◌, ltb, eqb, length, drop, None, Option, Some}
 use Rattle.octets.specs.Pick.{pick}
 use Rattle.octets.specs.Octets.{num_at}
 use Rattle.index.specs.Write.{table_bytes}
@@ -11,15 +10,15 @@ use Rattle.charset.specs.FdSelect.{fd_select_at}
 
 -- the refusal, or 0 and the number of each glyph; none for more than 2,000 glyphs, whose answer has no room
 abbrev pub listed_answer : ℕ → Listed → Option (List ℕ)
-listed_answer w (refused e) = some (e ∷ [])
-listed_answer w (listed l) = pick (ltb 2000 (length l)) none (some (0 ∷ table_bytes w l))
+listed_answer w (refused e) = Some (e ∷ [])
+listed_answer w (listed l) = pick (ltb 2000 (length l)) None (Some (0 ∷ table_bytes w l))
 
 -- kind c: a position, how many glyphs, at least one, and a font; an id is two bytes
 unfoldable pub charset_answer : List ℕ → Option (List ℕ)
 charset_answer s =
-    pick (ltb (length s) 4) none
-    (pick (eqb (num_at s 2 2) 0) none (listed_answer 2 (charset_at (drop 4 s) (num_at s 0 2) (num_at s 2 2))))
+    pick (ltb (length s) 4) None
+    (pick (eqb (num_at s 2 2) 0) None (listed_answer 2 (charset_at (drop 4 s) (num_at s 0 2) (num_at s 2 2))))
 
 -- kind s: a position, how many glyphs, and a font; an FD is one byte
 unfoldable pub fd_select_answer : List ℕ → Option (List ℕ)
-fd_select_answer s = pick (ltb (length s) 4) none (listed_answer 1 (fd_select_at (drop 4 s) (num_at s 0 2) (num_at s 2 2)))
+fd_select_answer s = pick (ltb (length s) 4) None (listed_answer 1 (fd_select_at (drop 4 s) (num_at s 0 2) (num_at s 2 2)))

@@ -1,8 +1,7 @@
 -- Laws of the answers of a charset and of an FDSelect: one number after the other, and the code's ways out.
-use Rattle.std.specs.Prelude.{ℕ, ◌+◌, ◌≤◌, ◌<◌, ◌≡◌, List, [], ◌∷◌, ◌++◌, length, get_or}
+use Rattle.std.specs.Prelude.{ℕ, ◌+◌, ◌≤◌, ◌<◌, ◌≡◌, List, [], ◌∷◌, ◌++◌, length, get_or, None, Some}
 use Rattle.std.proofs.Common.{sym, ◌∙◌, arith, add-one, drop-cons}
 use Rattle.std.proofs.Math.Path.{ap}
-use Rattle.std.proofs.Math.Option.{none, some}
 use Rattle.std.proofs.Math.ListN.{drop}
 use Rattle.std.proofs.Math.Seq.{drop-length}
 use borrow.Author.Tests.{lt-ltb, le-ltb, eq-eqb, ne_eqb}
@@ -25,27 +24,27 @@ module _ (w : ℕ) where
 
   -- ---- the ways out
 
-  pub listed_refused : (q : Listed) (e : ℕ) → q ≡ refused e → listed_answer w q ≡ some (e ∷ [])
+  pub listed_refused : (q : Listed) (e : ℕ) → q ≡ refused e → listed_answer w q ≡ Some (e ∷ [])
   listed_refused q e f = ap (listed_answer w) f
 
   module _ (q : Listed) (l : List ℕ) (f : q ≡ listed l) (n : ℕ) (m : length l ≡ n) where
-    pub listed_many : 2000 < n → listed_answer w q ≡ none
+    pub listed_many : 2000 < n → listed_answer w q ≡ None
     listed_many h = let k : 2000 < length l = omega arith in ap (listed_answer w) f ∙ rw (lt-ltb 2000 (length l) k)
 
-    pub listed_found : n ≤ 2000 → listed_answer w q ≡ some (0 ∷ table_bytes w l)
+    pub listed_found : n ≤ 2000 → listed_answer w q ≡ Some (0 ∷ table_bytes w l)
     listed_found h = let k : length l ≤ 2000 = omega arith in ap (listed_answer w) f ∙ rw (le-ltb 2000 (length l) k)
 
 module _ (s : List ℕ) where
-  pub charset-short : length s < 4 → charset_answer s ≡ none
+  pub charset-short : length s < 4 → charset_answer s ≡ None
   unfolding charset_answer
   charset-short h = rw (lt-ltb (length s) 4 h)
 
-  pub fds_short : length s < 4 → fd_select_answer s ≡ none
+  pub fds_short : length s < 4 → fd_select_answer s ≡ None
   unfolding fd_select_answer
   fds_short h = rw (lt-ltb (length s) 4 h)
 
   module _ (h : 4 ≤ length s) (n : ℕ) (e : n ≡ num_at s 2 2) where
-    pub charset-none : n ≡ 0 → charset_answer s ≡ none
+    pub charset-none : n ≡ 0 → charset_answer s ≡ None
     unfolding charset_answer
     charset-none z = rw (le-ltb (length s) 4 h, eq-eqb (num_at s 2 2) 0 (sym e ∙ z))
 

@@ -1,7 +1,6 @@
 -- Stored cases of an INDEX (tools/oracle/README.md, 'format', kind x): the answer to a position and a font, from the definition that
 -- `index::read_index` meets.
-use Rattle.std.specs.Prelude.{ℕ, zero, suc, ◌+◌, ◌-◌, List, [], ◌∷◌, ◌++◌, ltb, length, drop}
-use Rattle.std.proofs.Math.Option.{Option, none, some}
+use Rattle.std.specs.Prelude.{ℕ, zero, suc, ◌+◌, ◌-◌, List, [], ◌∷◌, ◌++◌, ltb, length, drop, None, Option, Some}
 use Rattle.octets.specs.Pick.{pick}
 use Rattle.octets.specs.Octets.{num_at, bytes_of}
 use Rattle.index.specs.Index.{index_at}
@@ -25,9 +24,9 @@ head_bytes ix = (0 ∷ bytes_of 4 ix.end) ++ bytes_of 2 ix.count
 
 -- the refusal, or the INDEX; none where it has more than 600 items, whose answer has no room
 abbrev pub index_found : List ℕ → IndexAt → Option (List ℕ)
-index_found b (Refused e) = some (e ∷ [])
-index_found b (Found ix) = pick (ltb 600 ix.count) none (some (head_bytes ix ++ items_bytes b ix 0 ix.count))
+index_found b (Refused e) = Some (e ∷ [])
+index_found b (Found ix) = pick (ltb 600 ix.count) None (Some (head_bytes ix ++ items_bytes b ix 0 ix.count))
 
 -- kind x: a position and a font
 unfoldable pub index_answer : List ℕ → Option (List ℕ)
-index_answer s = pick (ltb (length s) 2) none (index_found (drop 2 s) (index_at (drop 2 s) (num_at s 0 2)))
+index_answer s = pick (ltb (length s) 2) None (index_found (drop 2 s) (index_at (drop 2 s) (num_at s 0 2)))

@@ -1,9 +1,8 @@
 -- Laws of the answers of an INDEX, by the code's ways out.
 use Prim.Native.Nat.{ℕ, zero, suc, ◌+◌, ◌-◌, ◌*◌, ◌≤◌, ◌<◌}
-use Rattle.std.specs.Prelude.{◌≡◌, List, [], ◌∷◌, ◌++◌, length, take, drop}
+use Rattle.std.specs.Prelude.{◌≡◌, List, [], ◌∷◌, ◌++◌, length, take, drop, None, Some}
 use Rattle.std.proofs.Math.Path.{refl, ap}
 use Rattle.std.proofs.Common.{sym, ◌∙◌, length-drop, take_all, lt-ltb, le-ltb}
-use Rattle.std.proofs.Math.Option.{none, some}
 use native.Mathlib.Omega.{arith}
 use Rattle.std.proofs.Math.ListN.{length-append}
 use Rattle.octets.specs.Octets.{num_at, bytes_of}
@@ -46,13 +45,13 @@ head-length ix = rw length-append (omega (arith, length-bytes 4 ix.end, length-b
 -- ---- the ways out
 
 module _ (b : List ℕ) (q r : IndexAt) (e : r ≡ q) where
-  pub found_refused : (n : ℕ) → r ≡ Refused n → index_found b q ≡ some (n ∷ [])
+  pub found_refused : (n : ℕ) → r ≡ Refused n → index_found b q ≡ Some (n ∷ [])
   found_refused n f = ap (index_found b) (sym e ∙ f)
 
-  pub found_many : (ix : Index) → r ≡ Found ix → 600 < ix.count → index_found b q ≡ none
+  pub found_many : (ix : Index) → r ≡ Found ix → 600 < ix.count → index_found b q ≡ None
   found_many ix f h = ap (index_found b) (sym e ∙ f) ∙ rw (lt-ltb 600 ix.count h)
 
-  pub found-index : (ix : Index) → r ≡ Found ix → ix.count ≤ 600 → index_found b q ≡ some (head_bytes ix ++ items_bytes b ix 0 ix.count)
+  pub found-index : (ix : Index) → r ≡ Found ix → ix.count ≤ 600 → index_found b q ≡ Some (head_bytes ix ++ items_bytes b ix 0 ix.count)
   found-index ix f h = ap (index_found b) (sym e ∙ f) ∙ rw (le-ltb 600 ix.count h)
 
 -- the font behind the fields of an input, as it is lent
@@ -60,7 +59,7 @@ pub rest-lent : (s : List ℕ) (k : ℕ) → k ≤ length s → take (length s -
 rest-lent s k h = take_all (length s - k) (drop k s) (rw length-drop (omega arith))
 
 module _ (s : List ℕ) where
-  pub index_short : length s < 2 → index_answer s ≡ none
+  pub index_short : length s < 2 → index_answer s ≡ None
   unfolding index_answer
   index_short h = rw (lt-ltb (length s) 2 h)
 

@@ -6,7 +6,6 @@ ghost use Rattle.dict.specs.Places.{operands_at};
 ghost use Rattle.cases.specs.Answers.{Starts, Gives};
 ghost use Rattle.format_cases.specs.Dicts.{decimal_bytes, operands_bytes, entry_bytes, behind, dict_answer, decimal_at, is_decimal, number_answer};
 
-use cases::Answered;
 use decimal::{Decimal, NumberAt, number_at};
 use dict::EntryAt;
 use octets::{put_byte, put_num, wide};
@@ -36,24 +35,18 @@ fn put_operands(d: &[u8], start: usize, count: usize, out: &mut [u8], to: usize)
     ensures { Wrote out.old to (operands_bytes (operands_at count d.now start)) out.new result }
 {
     let mut at = start;
-    let mut left = count;
     let mut p = to;
-    while 0 < left {
+    for _ in 0..count {
         if d.len() <= at {
             return p;
         }
         match number_at(d, at) {
             NumberAt::Num { value, next } => {
-                p = put_decimal(value, &mut *out, p);
+                p = put_decimal(value, out, p);
                 at = next;
-                left -= 1;
             }
-            NumberAt::NotNumber => {
-                return p;
-            }
-            NumberAt::Refused(_) => {
-                return p;
-            }
+            NumberAt::NotNumber => return p,
+            NumberAt::Refused(_) => return p,
         }
     }
     p
@@ -96,14 +89,14 @@ fn put_dict(d: &[u8], out: &mut [u8]) -> usize
 }
 
 // Kind d: the entries of a DICT.
-pub fn answer_dict(input: &[u8], out: &mut [u8]) -> Answered
+pub fn answer_dict(input: &[u8], out: &mut [u8]) -> Option<usize>
     requires { 4096 ≤ length out.old }
     ensures { Gives (dict_answer input.now) out.new result }
 {
     if 100 < input.len() {
-        return Answered::Outside;
+        return None;
     }
-    Answered::Bytes(put_dict(input, out))
+    Some(put_dict(input, out))
 }
 
 // The decimal that 11 bytes hold.
@@ -167,19 +160,19 @@ fn is_decimal(d: Decimal) -> bool
 }
 
 // Kind w: a decimal, written as a number of a DICT.
-pub fn answer_number(input: &[u8], out: &mut [u8]) -> Answered
+pub fn answer_number(input: &[u8], out: &mut [u8]) -> Option<usize>
     requires { 4096 ≤ length out.old }
     ensures { Gives (number_answer input.now) out.new result }
 {
     if input.len() != 11 {
-        return Answered::Outside;
+        return None;
     }
     if 1 < input[0] {
-        return Answered::Outside;
+        return None;
     }
     let d = decimal_at(input);
     if is_decimal(d) {
-        return Answered::Bytes(decimal_write::put_number(d, out, 0));
+        return Some(decimal_write::put_number(d, out, 0));
     }
-    Answered::Outside
+    None
 }

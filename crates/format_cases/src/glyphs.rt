@@ -9,7 +9,6 @@ ghost use Rattle.cases.specs.Answers.{Gives};
 ghost use Rattle.format_cases.specs.Glyphs.{listed_answer, charset_answer, fd_select_answer};
 ghost use Rattle.index.specs.Write.{table_bytes};
 
-use cases::Answered;
 use charset::fd_select::{FdSelect, FdSelectAt};
 use charset::{Charset, CharsetAt};
 use octets::{put_byte, put_num};
@@ -21,45 +20,43 @@ fn put_ids(font: &[u8], c: Charset, n: usize, out: &mut [u8], at: usize) -> usiz
 {
     let mut u = charset::charset_start(c);
     let mut p = at;
-    let mut g = 0;
-    while g < n {
+    for _ in 0..n {
         let step = charset::next_id(font, u);
-        p = put_num(&mut *out, p, step.id, 2);
+        p = put_num(out, p, step.id, 2);
         u = step.next;
-        g += 1;
     }
     p
 }
 
 // The charset of n glyphs at a place of a font.
-fn charset_in(font: &[u8], at: usize, n: usize, out: &mut [u8]) -> Answered
+fn charset_in(font: &[u8], at: usize, n: usize, out: &mut [u8]) -> Option<usize>
     requires { (0 < n) × (n < 65536) × (4096 ≤ length out.old) }
     ensures { Gives (listed_answer 2 (charset_at font.now at n)) out.new result }
 {
     match charset::read_charset(font, at, n) {
-        CharsetAt::Refused(e) => Answered::Bytes(put_byte(out, 0, e)),
+        CharsetAt::Refused(e) => Some(put_byte(out, 0, e)),
         CharsetAt::Found(c) => {
             if 2000 < n {
-                return Answered::Outside;
+                return None;
             }
             let p = put_byte(out, 0, 0);
-            Answered::Bytes(put_ids(font, c, n, out, p))
+            Some(put_ids(font, c, n, out, p))
         }
     }
 }
 
 // Kind c: the ids of a charset.
-pub fn answer_charset(input: &[u8], out: &mut [u8]) -> Answered
+pub fn answer_charset(input: &[u8], out: &mut [u8]) -> Option<usize>
     requires { 4096 ≤ length out.old }
     ensures { Gives (charset_answer input.now) out.new result }
 {
     if input.len() < 4 {
-        return Answered::Outside;
+        return None;
     }
     let at = octets::u16_at(input, 0);
     let n = octets::u16_at(input, 2);
     if n == 0 {
-        return Answered::Outside;
+        return None;
     }
     charset_in(&input[4..], at, n, out)
 }
@@ -71,40 +68,38 @@ fn put_fds(font: &[u8], s: FdSelect, n: usize, out: &mut [u8], at: usize) -> usi
 {
     let mut u = charset::fd_select::fd_select_start(s);
     let mut p = at;
-    let mut g = 0;
-    while g < n {
+    for _ in 0..n {
         let step = charset::fd_select::next_fd(font, u);
-        p = put_num(&mut *out, p, octets::wide(step.fd), 1);
+        p = put_num(out, p, step.fd as usize, 1);
         u = step.next;
-        g += 1;
     }
     p
 }
 
 // The FDSelect of n glyphs at a place of a font.
-fn fd_select_in(font: &[u8], at: usize, n: usize, out: &mut [u8]) -> Answered
+fn fd_select_in(font: &[u8], at: usize, n: usize, out: &mut [u8]) -> Option<usize>
     requires { (n < 65536) × (4096 ≤ length out.old) }
     ensures { Gives (listed_answer 1 (fd_select_at font.now at n)) out.new result }
 {
     match charset::fd_select::read_fd_select(font, at, n) {
-        FdSelectAt::Refused(e) => Answered::Bytes(put_byte(out, 0, e)),
+        FdSelectAt::Refused(e) => Some(put_byte(out, 0, e)),
         FdSelectAt::Found(s) => {
             if 2000 < n {
-                return Answered::Outside;
+                return None;
             }
             let p = put_byte(out, 0, 0);
-            Answered::Bytes(put_fds(font, s, n, out, p))
+            Some(put_fds(font, s, n, out, p))
         }
     }
 }
 
 // Kind s: the FDs of an FDSelect.
-pub fn answer_fd_select(input: &[u8], out: &mut [u8]) -> Answered
+pub fn answer_fd_select(input: &[u8], out: &mut [u8]) -> Option<usize>
     requires { 4096 ≤ length out.old }
     ensures { Gives (fd_select_answer input.now) out.new result }
 {
     if input.len() < 4 {
-        return Answered::Outside;
+        return None;
     }
     let at = octets::u16_at(input, 0);
     let n = octets::u16_at(input, 2);

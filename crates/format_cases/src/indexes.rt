@@ -6,7 +6,6 @@ ghost use Rattle.index.specs.Good.{Good};
 ghost use Rattle.cases.specs.Answers.{Gives};
 ghost use Rattle.format_cases.specs.Indexes.{item_bytes, items_bytes, head_bytes, index_found, index_answer};
 
-use cases::Answered;
 use index::{Index, IndexAt};
 use octets::{put_byte, put_num};
 
@@ -26,12 +25,9 @@ fn put_items(font: &[u8], ix: Index, out: &mut [u8], at: usize) -> usize
     requires { (Good font.now ix) × (at + 6 * ix.count ≤ length out.old) }
     ensures { Wrote out.old at (items_bytes font.now ix 0 ix.count) out.new result }
 {
-    let count = ix.count;
     let mut p = at;
-    let mut k = 0;
-    while k < count {
-        p = put_item(font, ix, k, &mut *out, p);
-        k += 1;
+    for k in 0..ix.count {
+        p = put_item(font, ix, k, out, p);
     }
     p
 }
@@ -47,29 +43,29 @@ fn put_head(ix: Index, out: &mut [u8]) -> usize
 }
 
 // The INDEX at a place of a font.
-fn index_in(font: &[u8], at: usize, out: &mut [u8]) -> Answered
+fn index_in(font: &[u8], at: usize, out: &mut [u8]) -> Option<usize>
     requires { 4096 ≤ length out.old }
     ensures { Gives (index_found font.now (index_at font.now at)) out.new result }
 {
     match index::read_index(font, at) {
-        IndexAt::Refused(e) => Answered::Bytes(put_byte(out, 0, e)),
+        IndexAt::Refused(e) => Some(put_byte(out, 0, e)),
         IndexAt::Found(ix) => {
             if 600 < ix.count {
-                return Answered::Outside;
+                return None;
             }
             let p = put_head(ix, out);
-            Answered::Bytes(put_items(font, ix, out, p))
+            Some(put_items(font, ix, out, p))
         }
     }
 }
 
 // Kind x: the INDEX at a place of a font.
-pub fn answer_index(input: &[u8], out: &mut [u8]) -> Answered
+pub fn answer_index(input: &[u8], out: &mut [u8]) -> Option<usize>
     requires { 4096 ≤ length out.old }
     ensures { Gives (index_answer input.now) out.new result }
 {
     if input.len() < 2 {
-        return Answered::Outside;
+        return None;
     }
     index_in(&input[2..], octets::u16_at(input, 0), out)
 }

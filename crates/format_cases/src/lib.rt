@@ -10,10 +10,8 @@ ghost use Rattle.std.specs.Prelude.{◌≤◌, length};
 ghost use Rattle.cases.specs.Answers.{Gives};
 ghost use Rattle.format_cases.specs.Answers.{answer_to};
 
-use cases::Answered;
-
-// The answer to an input, by its kind's letter.
-pub fn answer(kind: u8, input: &[u8], out: &mut [u8]) -> Answered
+// The answer to an input, by its kind's letter: how many bytes of it stand at the start of out; None outside the kind's domain.
+pub fn answer(kind: u8, input: &[u8], out: &mut [u8]) -> Option<usize>
     requires { 4096 ≤ length out.old }
     ensures { Gives (answer_to kind input.now) out.new result }
 {
@@ -23,6 +21,6 @@ pub fn answer(kind: u8, input: &[u8], out: &mut [u8]) -> Answered
         b'w' => dicts::answer_number(input, out),
         b'c' => glyphs::answer_charset(input, out),
         b's' => glyphs::answer_fd_select(input, out),
-        _ => Answered::Outside,
+        _ => None,
     }
 }

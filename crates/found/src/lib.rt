@@ -24,13 +24,13 @@ ghost use Rattle.found.specs.Hash.{told};
 
 use cff::font::Font;
 use charset::Charset;
-use find::Found;
 use index::Index;
 
 // A pass over the names may look for fewer than this many of them among all glyphs, and only for names of at most 127 bytes.
 const LOOKS: usize = 17;
 
 // What a pass tells: whether all glyphs are found, or that it looked too often to say.
+// (It stays an enum: an Option of a bool is no plainer, since None would not say that the pass gave up.)
 #[derive(Clone, Copy)]
 pub enum Told {
     Yes,
@@ -39,13 +39,10 @@ pub enum Told {
 }
 
 // Whether finding gave glyph g.
-fn is_glyph(found: Found, g: usize) -> bool
+fn is_glyph(found: Option<usize>, g: usize) -> bool
     ensures { result ≡ is_glyph g (found_as_lem found) }
 {
-    match found {
-        Found::Absent => false,
-        Found::Glyph(h) => h == g,
-    }
+    found == Some(g)
 }
 
 // Whether finding a name gives glyph g.
@@ -98,17 +95,11 @@ fn words_end(flags: &[u32], n: usize) -> usize
     requires { (words_for n ≤ length flags.now) × (n < 65536) }
     ensures { (result ≤ n) × Unset flags.now result n }
 {
-    let mut q = bits::words_for(n);
-    while 0 < q {
-        if 0 < flags[q - 1] {
-            if 32 * q < n {
-                return 32 * q;
-            }
-            return n;
-        }
-        q -= 1;
+    let words = bits::words_for(n);
+    match flags[..words].iter().rposition(|w| *w != 0) {
+        Some(q) => n.min(32 * (q + 1)),
+        None => 0,
     }
-    0
 }
 
 // A place among n flags behind the last that is set.
@@ -116,14 +107,12 @@ fn flags_end(flags: &[u32], n: usize) -> usize
     requires { (words_for n ≤ length flags.now) × (n < 65536) }
     ensures { (result ≤ n) × Unset flags.now result n }
 {
-    let mut end = words_end(flags, n);
-    while 0 < end {
-        if bits::has_bit(flags, 0, end - 1) {
-            return end;
+    for g in (0..words_end(flags, n)).rev() {
+        if bits::has_bit(flags, 0, g) {
+            return g + 1;
         }
-        end -= 1;
     }
-    end
+    0
 }
 
 // How many looks through all glyphs are left with the one for a glyph: one less where its flag is set and its name is not new, and none where
@@ -165,9 +154,8 @@ fn names_met<'a>(
 {
     let end = flags_end(flags, n);
     let mut u = charset::charset_start(c);
-    let mut g = 0;
     let mut looks = LOOKS;
-    while g < end {
+    for g in 0..end {
         let s = charset::next_id(font, u);
         let sid = s.id;
         u = s.next;
@@ -176,7 +164,6 @@ fn names_met<'a>(
             if flag {
                 return Told::No;
             }
-            g += 1;
         } else {
             let name = name_order::text_at(font, strings, names, offsets, sid);
             let new = marks::meet(&mut *marks, marks::hash_of(name));
@@ -184,9 +171,7 @@ fn names_met<'a>(
             if looks == 0 {
                 return Told::Open;
             }
-            if flagged_found(font, c, n, strings, g, flag, new) {
-                g += 1;
-            } else {
+            if !flagged_found(font, c, n, strings, g, flag, new) {
                 return Told::No;
             }
         }

@@ -6,12 +6,9 @@ ghost use Rattle.found.specs.Hash.{hash_of_lem, Marked};
 pub fn hash_of(text: &[u8]) -> usize
     ensures { (result ≡ hash_of_lem text.now) × (result < 4294967296) }
 {
-    let n = text.len();
     let mut h: usize = 0;
-    let mut i = 0;
-    while i < n {
-        h = (h + octets::wide(text[i])) * 16777619 % 4294967296;
-        i += 1;
+    for b in text {
+        h = (h + *b as usize) * 16777619 % 4294967296;
     }
     h
 }

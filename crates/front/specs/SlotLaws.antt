@@ -1,5 +1,5 @@
 -- Laws of the slots: what the two steps that fill them leave, and that it is what the top DICT of the subset is written from.
-use Rattle.std.specs.Prelude.{ℕ, ◌+◌, ◌≤◌, ◌<◌, ◌≡◌, Bool, true, List, [], ◌∷◌, ◌++◌, eqb, take}
+use Rattle.std.specs.Prelude.{ℕ, ◌+◌, ◌≤◌, ◌<◌, ◌≡◌, Bool, true, List, [], ◌∷◌, ◌++◌, eqb, take, Option}
 use Rattle.std.proofs.Common.{sym, ◌∙◌, subst, arith, length-append, get_or-take, get_or-drop, length-take-le}
 use Rattle.std.proofs.Math.Path.{ap}
 use Rattle.std.proofs.Math.ListN.{length, get_or}
@@ -8,13 +8,12 @@ use Rattle.octets.specs.Pick.{pick_ind}
 use Rattle.octets.specs.Octets.{put}
 use Rattle.octets.specs.PutLaws.{put-length, take_put}
 use Rattle.prune.specs.StepLaws.{zero_one}
-use Rattle.decimal.specs.Values.{clamped}
+use Rattle.decimal.specs.Values.{clamped, i32_of}
 use Rattle.decimal.specs.declared.Signed.{Signed}
 use Rattle.dict.specs.Op.{ros, copied_top_strings}
 use Rattle.dict.specs.Dict.{Entry}
-use Rattle.dict.specs.Lookup.{Operands, absent, operands, last_of, one_of, id_in, ros_as, ros_in}
-use Rattle.dict.specs.declared.RosIn.{RosIn}
-use Rattle.dict.specs.declared.RosIn.TheVariants.{Ros}
+use Rattle.dict.specs.Lookup.{Operands, absent, operands, last_of, one_of, id_in, ros_as, ros_in, a_ros}
+use Rattle.dict.specs.declared.RosEntry.{RosEntry}
 use Rattle.dict.proofs.LookupLaws.{id_low}
 use Rattle.index.specs.Index.{items_of}
 use Rattle.index.specs.declared.Index.{Index}
@@ -85,14 +84,16 @@ slots_filled b ix has slots g =
 -- ---- the slots hold what the top DICT names
 
 -- registry and ordering have 16 bits
-ros-low : (x : Operands) (r o : ℕ) (s : Signed) → ros_as x ≡ Ros r o s → (r < 65536) × (o < 65536)
+ros-low : (x : Operands) (r o : ℕ) (s : Signed) → ros_as x ≡ a_ros r o s → (r < 65536) × (o < 65536)
 ros-low absent r o s e = absurd (zero_one cc)
 ros-low (operands []) r o s e = absurd (zero_one cc)
 ros-low (operands (x ∷ [])) r o s e = absurd (zero_one cc)
 ros-low (operands (x ∷ y ∷ [])) r o s e = absurd (zero_one cc)
 ros-low (operands (x ∷ y ∷ z ∷ [])) r o s e =
-    let a : clamped 65535 x ≡ r = cc in
-    let b : clamped 65535 y ≡ o = cc in
+    let p : ◌≡◌ {A = RosEntry} (record { registry = clamped 65535 x; ordering = clamped 65535 y; supplement = i32_of z }) (record { registry = r; ordering = o; supplement = s })
+    = cc in
+    let a : clamped 65535 x ≡ r = ap (λ (q : RosEntry). q.registry) p in
+    let b : clamped 65535 y ≡ o = ap (λ (q : RosEntry). q.ordering) p in
     (subst (λ (n : ℕ). n < 65536) a (clamped_low x), subst (λ (n : ℕ). n < 65536) b (clamped_low y))
 ros-low (operands (x ∷ y ∷ z ∷ w ∷ ws)) r o s e = absurd (zero_one cc)
 
@@ -116,10 +117,10 @@ module _ (p : Program) (cid : Bool) (slots : List ℕ) (g : SlotsReady p cid slo
       ap (λ (k : ℕ). get_or (first_slots cid p.top ++ entry_slots p.top copied_top_strings) k 0) n
       ∙ get_or-append-add (first_slots cid p.top) (entry_slots p.top copied_top_strings) j 0 ∙ slots_at p.top copied_top_strings j h
 
-  first-at : cid ≡ true → (r o : ℕ) (s : Signed) → ros_in p.top ≡ Ros r o s → slots_of cid p.top ≡ r ∷ o ∷ entry_slots p.top copied_top_strings
+  first-at : cid ≡ true → (r o : ℕ) (s : Signed) → ros_in p.top ≡ a_ros r o s → slots_of cid p.top ≡ r ∷ o ∷ entry_slots p.top copied_top_strings
   unfolding slots_of
   first-at c r o s e =
-      ap (λ (t : Bool). first_slots t p.top ++ entry_slots p.top copied_top_strings) c ∙ ap (λ (x : RosIn). ros_slots x ++ entry_slots p.top copied_top_strings) e
+      ap (λ (t : Bool). first_slots t p.top ++ entry_slots p.top copied_top_strings) c ∙ ap (λ (x : Option RosEntry). ros_slots x ++ entry_slots p.top copied_top_strings) e
 
   pub slots_slotted : Slotted p cid own slots
   slots_slotted =

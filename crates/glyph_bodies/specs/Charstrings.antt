@@ -1,6 +1,5 @@
 -- The charstrings of the kept glyphs of a subset, by the way (document 01, 'Corners in write.rs'), in the order in which they are written.
-use Rattle.std.specs.Prelude.{ℕ, ◌≤◌, ◌<◌, ◌≡◌, true, List, [], length, get_or}
-use Rattle.std.proofs.Math.Option.{Option}
+use Rattle.std.specs.Prelude.{ℕ, ◌≤◌, ◌<◌, ◌≡◌, true, List, [], length, get_or, Option}
 use Rattle.index.specs.Index.{items_of}
 use Rattle.unfold.specs.Unfold.{Row, glyph}
 use Rattle.cff.specs.Reads.{program_of}

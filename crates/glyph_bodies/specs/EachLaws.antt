@@ -1,7 +1,6 @@
 -- What is done with each number below k is what is done with each of a list of k.
-use Rattle.std.specs.Prelude.{ℕ, suc, ◌+◌, ◌<◌, ◌≡◌, refl, List, [], ◌∷◌, length, get_or}
+use Rattle.std.specs.Prelude.{ℕ, suc, ◌+◌, ◌<◌, ◌≡◌, refl, List, [], ◌∷◌, length, get_or, Option, Some}
 use Rattle.std.proofs.Common.{ap, ◌∙◌, arith}
-use Rattle.std.proofs.Math.Option.{Option, some}
 use Rattle.octets.specs.Steps.{and}
 use Rattle.subset.specs.Kept.{those}
 use Rattle.subset.specs.Pruned.{each}
@@ -14,8 +13,8 @@ each_from f g k [] same = refl
 each_from {A} f g k (x ∷ l) same =
     let z : k ≡ k + 0 = omega arith in
     let e : f k ≡ g x = ap f z ∙ same 0 (omega arith) in
-    ap (λ (m : Option A). and m (λ b. and (each f (those every (length l) (k + 1))) (λ bs. some (b ∷ bs)))) e
-    ∙ ap (λ (m : Option (List A)). and (g x) (λ b. and m (λ bs. some (b ∷ bs))))
+    ap (λ (m : Option A). and m (λ b. and (each f (those every (length l) (k + 1))) (λ bs. Some (b ∷ bs)))) e
+    ∙ ap (λ (m : Option (List A)). and (g x) (λ b. and m (λ bs. Some (b ∷ bs))))
     (each_from f g (k + 1) l (λ i q. let y : k + 1 + i ≡ k + suc i = omega arith in ap f y ∙ same (suc i) (omega arith)))
 
 pub each-order : {A : Type 0} (f g : ℕ → Option A) (k : ℕ) (order : List ℕ) → k ≡ length order → ((i : ℕ) → i < k → f i ≡ g (get_or order i 0))

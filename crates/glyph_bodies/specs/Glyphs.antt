@@ -1,6 +1,5 @@
 -- The charstring of one glyph by the way (document 01, 'Corners in write.rs'), as the code takes it: the glyph and its FD by value.
-use Rattle.std.specs.Prelude.{ℕ, ◌≤◌, ◌<◌, ◌≡◌, true, List, [], length, get_or}
-use Rattle.std.proofs.Math.Option.{Option}
+use Rattle.std.specs.Prelude.{ℕ, ◌≤◌, ◌<◌, ◌≡◌, true, List, [], length, get_or, Option}
 use Rattle.index.specs.Good.{Good}
 use Rattle.index.specs.Index.{items_of}
 use Rattle.charset.specs.FdPlaces.{fd_of}

@@ -1,5 +1,5 @@
 -- Laws of one charstring, as the code takes it: by the glyph's number and FD, and the ranks of its local subroutines by the tables.
-use Rattle.std.specs.Prelude.{ℕ, ◌+◌, ◌*◌, ◌%◌, ◌≤◌, ◌<◌, ◌≡◌, true, List, [], length, get_or}
+use Rattle.std.specs.Prelude.{ℕ, ◌+◌, ◌*◌, ◌%◌, ◌≤◌, ◌<◌, ◌≡◌, true, List, [], length, get_or, Option}
 use Rattle.std.proofs.Common.{sym, ap, ◌∙◌, subst, arith}
 use Rattle.octets.specs.Octets.{Wrote}
 use Rattle.octets.specs.PutLaws.{wrote_as}
@@ -12,7 +12,6 @@ use Rattle.reach.specs.declared.Site.TheVariants.{Glyph as GlyphSite}
 use Rattle.renumber.specs.Ranks.{calls_by, Ranked}
 use Rattle.renumber.specs.Turn.{Inputs, sized_of, body_of_lem}
 use Rattle.renumber.specs.declared.Ranks.{Ranks}
-use Rattle.renumber.specs.declared.Sized.{Sized}
 use Rattle.bodies.specs.Ways.{holds, new_body, body_by, ranks_in}
 use Rattle.bodies.specs.Sizes.{AtMost}
 use Rattle.bodies.specs.SubrsLaws.{new-body_is}
@@ -53,7 +52,7 @@ module _ {b ws table : List ℕ} {from : Source} {g : Glyph} {rows : List Row} (
     new_is : new_body from.how.way rows (calls_by ws locals from.how.globals) (glyph g.number) s ≡ body_of_lem (charstring_for from g rows ws table b)
     new_is = new-body_is from.how.way rows (calls_by ws locals from.how.globals) (glyph g.number) s ∙ ap body_of_lem charstring_is
 
-    pub charstring-len : (r : Sized) → (r ≡ sized_of (body_by from.how.way rows (calls_by ws locals from.how.globals) (glyph g.number) s)) × AtMost (5 * length s) r
+    pub charstring-len : (r : Option ℕ) → (r ≡ sized_of (body_by from.how.way rows (calls_by ws locals from.how.globals) (glyph g.number) s)) × AtMost (5 * length s) r
         → (r ≡ sized_of (charstring_for from g rows ws table b)) × AtMost 335544320 r
     charstring-len r q = (q.0 ∙ ap sized_of charstring_is, item-bound b from.ix w.good w.size g.number w.inside s es r q.1)
 

@@ -1,7 +1,6 @@
 -- Laws of a loop over the charstrings of the kept glyphs: the window comes to a place, the glyph there, and what its charstring asks.
-use Rattle.std.specs.Prelude.{ℕ, ◌+◌, ◌-◌, ◌%◌, ◌≤◌, ◌<◌, ◌≡◌, refl, true, List, length, get_or}
+use Rattle.std.specs.Prelude.{ℕ, ◌+◌, ◌-◌, ◌%◌, ◌≤◌, ◌<◌, ◌≡◌, refl, true, List, length, get_or, Option, None, Some}
 use Rattle.std.proofs.Common.{sym, ap, ◌∙◌, subst, arith}
-use Rattle.std.proofs.Math.Option.{Option}
 use Rattle.octets.specs.Octets.{Wrote}
 use Rattle.octets.specs.PutLaws.{wrote_as}
 use Rattle.index.specs.Index.{items_of}
@@ -12,8 +11,6 @@ use Rattle.cff.specs.Reads.{program_of}
 use Rattle.cff.specs.declared.font.Font.{Font}
 use Rattle.subset.specs.Pruned.{each}
 use Rattle.renumber.specs.Turn.{sized_of, body_of_lem}
-use Rattle.renumber.specs.declared.Sized.{Sized}
-use Rattle.renumber.specs.declared.Sized.TheVariants.{Failed, Len}
 use Rattle.order.specs.Walks.{order_in}
 use Rattle.order_window.specs.Window.{glyphs_of, Holds, Ordered, Looping}
 use Rattle.order_window.specs.WindowLaws.{held-inside}
@@ -24,7 +21,6 @@ use Rattle.bodies.specs.Ways.{holds, measured_of, every, up_to}
 use Rattle.bodies.specs.Sizes.{AtMost, Adding}
 use Rattle.bodies.specs.SizesLaws.{adding_end, adding_failed, adding_on, adding_room, adding_small}
 use Rattle.bodies.specs.declared.Manner.{Manner}
-use Rattle.bodies.specs.declared.Measured.TheVariants.{Failed as FailedAll, Total}
 use Rattle.glyph_bodies.specs.Charstrings.{charstring_of, charstrings_of, CharstringsIn, charstrings_from}
 use Rattle.glyph_bodies.specs.Glyphs.{glyph_of, GlyphIn, charstring_for}
 use Rattle.glyph_bodies.specs.EachLaws.{each-order}
@@ -127,11 +123,11 @@ module _ {b ws table old : List ℕ} {o : Order} {how : Manner} {rows : List Row
 
       -- ---- measured
 
-      module _ (sum : ℕ) (a : Adding F every o.count i sum) (r : Sized) (e : (r ≡ sized_of (charstring_for from g rows ws table b)) × AtMost 335544320 r) where
-        pub total_failed : r ≡ Failed → FailedAll ≡ measured_of (charstrings_from how o rows ws table b)
+      module _ (sum : ℕ) (a : Adding F every o.count i sum) (r : Option ℕ) (e : (r ≡ sized_of (charstring_for from g rows ws table b)) × AtMost 335544320 r) where
+        pub total_failed : r ≡ None → None ≡ measured_of (charstrings_from how o rows ws table b)
         total_failed f = adding_failed F every o.count i sum a h r (e.0 ∙ ap sized_of glyph_body) f ∙ ap measured_of (sym all_placed)
 
-        module _ (len : ℕ) (f : r ≡ Len len) where
+        module _ (len : ℕ) (f : r ≡ Some len) where
           pub total-room : sum + len < 18446744073709551616
           total-room = adding_room F every o.count i sum a h s.few len r e.1 f
 
@@ -149,6 +145,6 @@ module _ {b ws table old : List ℕ} {o : Order} {how : Manner} {rows : List Row
 
   -- all were measured
   pub total-whole : (i sum : ℕ) → Adding F every o.count i sum → o.count ≤ i
-      → (Total sum ≡ measured_of (charstrings_from how o rows ws table b)) × (sum ≤ 21989897011200)
+      → (Some sum ≡ measured_of (charstrings_from how o rows ws table b)) × (sum ≤ 21989897011200)
   total-whole i sum a h =
       (adding_end F every o.count i sum a h ∙ ap measured_of (sym all_placed), adding_small F every o.count i sum a s.few)

@@ -1,7 +1,6 @@
 -- A charstring by a part of the record that has its rows is the charstring by the whole record.
-use Rattle.std.specs.Prelude.{ℕ, ◌+◌, ◌≤◌, ◌<◌, ◌≡◌, true, List, [], length, take, get_or}
+use Rattle.std.specs.Prelude.{ℕ, ◌+◌, ◌≤◌, ◌<◌, ◌≡◌, true, List, [], length, take, get_or, Option}
 use Rattle.std.proofs.Common.{sym, ap, ◌∙◌, subst, arith}
-use Rattle.std.proofs.Math.Option.{Option}
 use Rattle.octets.specs.Octets.{Octets, Wrote}
 use Rattle.octets.specs.PutLaws.{wrote_as}
 use Rattle.index.specs.Index.{items_of}
@@ -13,7 +12,6 @@ use Rattle.reach.specs.declared.Site.TheVariants.{Glyph as GlyphSite}
 use Rattle.renumber.specs.Turn.{sized_of, body_of_lem, is_yes}
 use Rattle.renumber.specs.Ranks.{calls_by, Ranked}
 use Rattle.renumber.specs.declared.Ranks.{Ranks}
-use Rattle.renumber.specs.declared.Sized.{Sized}
 use Rattle.mask_rows.specs.MaskRows.{Fillable, Covers}
 use Rattle.mask_rows.specs.declared.Window.{Window}
 use Rattle.bodies.specs.Ways.{holds, ranks_in}
@@ -57,7 +55,7 @@ module _ (rec bytes : List ℕ) (w : Window) (covers : Covers rec bytes 2 0 w) {
         ∙ sym (by-same from.how.way (rows_of rec) (rows_of part) (calls_by ws (ranks_in table g.fd) from.how.globals) (glyph g.number) (get_or (items_of b from.ix) g.number [])
         (λ offset len. covers.same g.number low high offset len))
 
-    pub part_len : (r : Sized) → (r ≡ sized_of (charstring_for from' g (rows_of part) ws table b)) × AtMost 335544320 r
+    pub part_len : (r : Option ℕ) → (r ≡ sized_of (charstring_for from' g (rows_of part) ws table b)) × AtMost 335544320 r
         → (r ≡ sized_of (charstring_for from g (rows_of rec) ws table b)) × AtMost 335544320 r
     part_len r h = (h.0 ∙ ap sized_of part_same, h.1)
 
@@ -88,7 +86,7 @@ module _ {b ws table : List ℕ} {from : Source} {g : Glyph} {rows : List Row} (
       record { body = omega (arith, a.inside, a.few); few = omega (arith, a.inside, a.few); some = l.some; most = l.most; room = l.room }
 
   module _ (way : from.how.way ≡ 0) (locals : Ranks) (el : locals ≡ ranks_in table g.fd) (s : List ℕ) (es : s ≡ get_or (items_of b from.ix) g.number []) where
-    pub long-len : Octets b → (r : Sized) → r ≡ sized_of (renumbered_body rows (calls_by ws locals from.how.globals) (glyph g.number) s)
+    pub long-len : Octets b → (r : Option ℕ) → r ≡ sized_of (renumbered_body rows (calls_by ws locals from.how.globals) (glyph g.number) s)
         → (r ≡ sized_of (charstring_for from g rows ws table b)) × AtMost 335544320 r
     long-len octets r h =
         let o = subst Octets (sym es) (item_octets b from.ix a.good g.number a.inside octets) in

@@ -1,7 +1,6 @@
 -- Laws of a loop that writes the charstrings of the kept glyphs as the items of an INDEX.
-use Rattle.std.specs.Prelude.{ℕ, ◌+◌, ◌-◌, ◌%◌, ◌≤◌, ◌<◌, ◌≡◌, refl, true, List, length, get_or}
+use Rattle.std.specs.Prelude.{ℕ, ◌+◌, ◌-◌, ◌%◌, ◌≤◌, ◌<◌, ◌≡◌, refl, true, List, length, get_or, Option}
 use Rattle.std.proofs.Common.{sym, ◌∙◌}
-use Rattle.std.proofs.Math.Option.{Option}
 use Rattle.octets.specs.Octets.{bytes_of, Wrote}
 use Rattle.bits.specs.Bits.{count_below}
 use Rattle.index.specs.Good.{Lies}

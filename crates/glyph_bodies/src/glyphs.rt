@@ -16,7 +16,6 @@ use index::Index;
 use mask_rows::Window;
 use order_window::Held;
 use reach::Site;
-use renumber::Sized;
 
 // The charstrings of a font, and how they are written.
 #[derive(Clone, Copy)]
@@ -50,7 +49,7 @@ pub fn charstring_len(
     words: &[u32],
     table: &[usize],
     rows: &[u8],
-) -> Sized
+) -> Option<usize>
     requires { GlyphIn font.now words.now table.now from glyph (rows_of rows.now) }
     ensures { (result ≡ sized_of (charstring_for from glyph (rows_of rows.now) words.now table.now font.now)) × (AtMost 335544320 result) }
 {
@@ -96,7 +95,7 @@ fn long_len(
     rows: &[u8],
     keys: &mut [u64],
     bytes: &mut [u8],
-) -> Sized
+) -> Option<usize>
     requires { (GlyphIn font.now words.now table.now from glyph (rows_of rows.now)) × (Lent keys.old bytes.old) }
     ensures { (result ≡ sized_of (charstring_for from glyph (rows_of rows.now) words.now table.now font.now)) × (AtMost 335544320 result) }
 {
@@ -131,7 +130,7 @@ pub fn windowed_len(
     masks: Window,
     keys: &mut [u64],
     bytes: &mut [u8],
-) -> Sized
+) -> Option<usize>
     requires { (GlyphIn font.now words.now table.now from glyph (rows_of rows.now)) × (Covers rows.now bytes.old 2 0 masks) × (HasOrNone glyph.number masks)
         × (Lent keys.old bytes.old) }
     ensures { (result ≡ sized_of (charstring_for from glyph (rows_of rows.now) words.now table.now font.now)) × (AtMost 335544320 result)

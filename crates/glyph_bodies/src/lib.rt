@@ -15,10 +15,9 @@ ghost use Rattle.bodies.specs.Sizes.{Bounded};
 ghost use Rattle.glyph_bodies.specs.Charstrings.{CharstringsIn, charstrings_from};
 
 use crate::glyphs::Source;
-use bodies::{Manner, Measured};
+use bodies::Manner;
 use mask_rows::Window;
 use order_window::Order;
-use renumber::Sized;
 
 // Their bytes together, by parts of a record that does not rise.
 fn total_by_windows(
@@ -29,7 +28,7 @@ fn total_by_windows(
     window: &mut [u32],
     table: &[usize],
     rows: &[u8],
-) -> Measured
+) -> Option<usize>
     requires { (CharstringsIn font.now words.now table.now o how (rows_of rows.now)) × (Ordered font.now words.now window.old o) }
     ensures { (result ≡ measured_of (charstrings_from how o (rows_of rows.now) words.now table.now font.now)) × (Bounded result)
         × (Ordered font.now words.now window.new o) }
@@ -47,8 +46,7 @@ fn total_by_windows(
     let n = o.count;
     let mut u = o.held;
     let mut total: usize = 0;
-    let mut i: usize = 0;
-    while i < n {
+    for i in 0..n {
         if u.walk.done <= i {
             u = order_window::hold(font, f, words, &mut *window, u, i);
         }
@@ -57,16 +55,11 @@ fn total_by_windows(
         match glyphs::windowed_len(
             from, glyph, font, words, table, rows, masks, &mut keys, &mut bytes,
         ) {
-            Sized::Len(len) => {
-                total += len;
-                i += 1;
-            }
-            Sized::Failed => {
-                return Measured::Failed;
-            }
+            Some(len) => total += len,
+            None => return None,
         }
     }
-    Measured::Total(total)
+    Some(total)
 }
 
 // Their bytes together, each by the whole record.
@@ -78,7 +71,7 @@ fn total_directly(
     window: &mut [u32],
     table: &[usize],
     rows: &[u8],
-) -> Measured
+) -> Option<usize>
     requires { (CharstringsIn font.now words.now table.now o how (rows_of rows.now)) × (Ordered font.now words.now window.old o) }
     ensures { (result ≡ measured_of (charstrings_from how o (rows_of rows.now) words.now table.now font.now)) × (Bounded result)
         × (Ordered font.now words.now window.new o) }
@@ -89,23 +82,17 @@ fn total_directly(
     let n = o.count;
     let mut u = o.held;
     let mut total: usize = 0;
-    let mut i: usize = 0;
-    while i < n {
+    for i in 0..n {
         if u.walk.done <= i {
             u = order_window::hold(font, f, words, &mut *window, u, i);
         }
         let glyph = glyphs::glyph_at(font, f.select, &*window, u, i);
         match glyphs::charstring_len(from, glyph, font, words, table, rows) {
-            Sized::Len(len) => {
-                total += len;
-                i += 1;
-            }
-            Sized::Failed => {
-                return Measured::Failed;
-            }
+            Some(len) => total += len,
+            None => return None,
         }
     }
-    Measured::Total(total)
+    Some(total)
 }
 
 // The bytes of the charstrings together, by the way; or that their renumbering fails. Masks are asked for only where they are renumbered.
@@ -117,7 +104,7 @@ pub fn charstrings_total(
     window: &mut [u32],
     table: &[usize],
     rows: &[u8],
-) -> Measured
+) -> Option<usize>
     requires { (CharstringsIn font.now words.now table.now o how (rows_of rows.now)) × (Ordered font.now words.now window.old o) }
     ensures { (result ≡ measured_of (charstrings_from how o (rows_of rows.now) words.now table.now font.now)) × (Bounded result)
         × (Ordered font.now words.now window.new o) }
@@ -164,8 +151,7 @@ fn put_by_windows(
     index::put_head(out, at, n, total);
     let mut u = o.held;
     let mut p = to.base + 1;
-    let mut i: usize = 0;
-    while i < n {
+    for i in 0..n {
         if u.walk.done <= i {
             u = order_window::hold(font, f, words, &mut *window, u, i);
         }
@@ -175,7 +161,6 @@ fn put_by_windows(
             from, glyph, font, words, table, rows, masks, &mut *out, p, &mut keys, &mut bytes,
         );
         index::put_end(out, to, i, p);
-        i += 1;
     }
     p
 }
@@ -206,15 +191,13 @@ fn put_directly(
     index::put_head(out, at, n, total);
     let mut u = o.held;
     let mut p = to.base + 1;
-    let mut i: usize = 0;
-    while i < n {
+    for i in 0..n {
         if u.walk.done <= i {
             u = order_window::hold(font, f, words, &mut *window, u, i);
         }
         let glyph = glyphs::glyph_at(font, f.select, &*window, u, i);
         p = glyphs::put_charstring(from, glyph, font, words, table, rows, &mut *out, p);
         index::put_end(out, to, i, p);
-        i += 1;
     }
     p
 }

@@ -2,24 +2,11 @@
 ghost use Rattle.std.specs.Prelude.{◌≡◌};
 ghost use Rattle.cff.specs.Font.{read_font};
 ghost use Rattle.cff.specs.Find.{item_refusal_lem, item_of};
-ghost use Rattle.cff.specs.Reads.{index_in_lem};
 ghost use Rattle.glyph_entries.specs.Place.{Shows};
 
 use cff::ItemKind;
-use cff::font::{Font, FontRead};
-use index::Index;
+use cff::font::FontRead;
 use refusal::Refusal;
-
-// The INDEX of a kind of items.
-fn index_of(f: Font, kind: ItemKind) -> Index
-    ensures { result ≡ index_in_lem kind f }
-{
-    match kind {
-        ItemKind::Charstring => f.charstrings,
-        ItemKind::Global => f.globals,
-        ItemKind::Text => f.strings,
-    }
-}
 
 // The place of an item in the file, and its length, in two words; or the refusal: reading's, 6 where there is no such number, 11 for too few words.
 pub fn item_place(font: &[u8], kind: ItemKind, number: usize, answer: &mut [u64]) -> u8
@@ -30,7 +17,7 @@ pub fn item_place(font: &[u8], kind: ItemKind, number: usize, answer: &mut [u64]
     match read {
         FontRead::Refused(n) => n,
         FontRead::Found(f) => {
-            let ix = index_of(f, kind);
+            let ix = cff::font::index_in(f, kind);
             if ix.count <= number {
                 return Refusal::NO_SUCH_NUMBER;
             }

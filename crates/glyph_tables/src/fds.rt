@@ -17,15 +17,12 @@ fn mark_fds(font: &[u8], o: Order, words: &[u32], window: &mut [u32], marks: &mu
         × (Ordered font.now words.now window.new o) }
 {
     let f = o.f;
-    let count = o.count;
     let mut u = o.held;
-    let mut i = 0;
-    while i < count {
+    for i in 0..o.count {
         u = order_window::hold(font, f, words, &mut *window, u, i);
         let g = order_window::word_at(&*window, u, i) % 65536;
         let fd = charset::fd_select::fd_of(font, f.select, g) as usize;
         marks[fd] = 1;
-        i += 1;
     }
 }
 

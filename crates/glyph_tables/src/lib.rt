@@ -29,15 +29,12 @@ pub fn put_charset_cid(
         × (Ordered font.now words.now window.new o) }
 {
     let f = o.f;
-    let count = o.count;
     let mut p = octets::put_byte(&mut *out, at, 0);
     let mut u = order_window::hold(font, f, words, &mut *window, o.held, 0);
-    let mut i = 1;
-    while i < count {
+    for i in 1..o.count {
         u = order_window::hold(font, f, words, &mut *window, u, i);
         let id = order_window::word_at(&*window, u, i) / 65536;
         p = octets::put_num(&mut *out, p, id, 2);
-        i += 1;
     }
     p
 }

@@ -28,16 +28,13 @@ pub fn select_len(font: &[u8], o: Order, words: &[u32], window: &mut [u32], tabl
         × (Ordered font.now words.now window.new o) }
 {
     let f = o.f;
-    let count = o.count;
     let mut u = o.held;
     let mut w = charset::fd_writer::begin(0);
-    let mut i = 0;
-    while i < count {
+    for i in 0..o.count {
         u = order_window::hold(font, f, words, &mut *window, u, i);
         let g = order_window::word_at(&*window, u, i) % 65536;
         let fd = new_fd(font, f.select, g, table);
         w = charset::fd_writer::count_push(w, fd);
-        i += 1;
     }
     charset::fd_writer::fd_select_len(w)
 }
@@ -60,16 +57,13 @@ pub fn put_select(
         × (Ordered font.now words.now window.new o) }
 {
     let f = o.f;
-    let count = o.count;
     let mut u = o.held;
     let mut w = charset::fd_writer::begin(at);
-    let mut i = 0;
-    while i < count {
+    for i in 0..o.count {
         u = order_window::hold(font, f, words, &mut *window, u, i);
         let g = order_window::word_at(&*window, u, i) % 65536;
         let fd = new_fd(font, f.select, g, table);
         w = charset::fd_writer::push(&mut *out, w, fd);
-        i += 1;
     }
     charset::fd_writer::finish(out, w)
 }

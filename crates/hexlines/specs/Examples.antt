@@ -1,26 +1,25 @@
 -- Worked examples, computed.
-use Rattle.std.specs.Prelude.{◌≡◌, refl, [], ◌∷◌}
-use Rattle.std.proofs.Math.Option.{none, some}
+use Rattle.std.specs.Prelude.{◌≡◌, refl, [], ◌∷◌, None, Some}
 use Rattle.octets.specs.Lists.{before}
 use Rattle.hexlines.specs.Hexlines.{hex_value_lem, line_end, field_end_lem, is_hex_lem, spelt, hex_bytes}
 
 -- `f794`
-bytes : hex_bytes (0x66 ∷ 0x37 ∷ 0x39 ∷ 0x34 ∷ []) ≡ some (0xf7 ∷ 0x94 ∷ [])
+bytes : hex_bytes (0x66 ∷ 0x37 ∷ 0x39 ∷ 0x34 ∷ []) ≡ Some (0xf7 ∷ 0x94 ∷ [])
 unfolding hex_bytes is_hex_lem spelt hex_value_lem
 bytes = refl
 
 -- an empty text
-no_bytes : hex_bytes [] ≡ some []
+no_bytes : hex_bytes [] ≡ Some []
 unfolding hex_bytes is_hex_lem spelt
 no_bytes = refl
 
 -- `f79`
-odd : hex_bytes (0x66 ∷ 0x37 ∷ 0x39 ∷ []) ≡ none
+odd : hex_bytes (0x66 ∷ 0x37 ∷ 0x39 ∷ []) ≡ None
 unfolding hex_bytes is_hex_lem hex_value_lem
 odd = refl
 
 -- `F7`: upper case is none
-upper : hex_bytes (0x46 ∷ 0x37 ∷ []) ≡ none
+upper : hex_bytes (0x46 ∷ 0x37 ∷ []) ≡ None
 unfolding hex_bytes is_hex_lem hex_value_lem
 upper = refl
 

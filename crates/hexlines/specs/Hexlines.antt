@@ -1,13 +1,10 @@
 -- Lines of lower-case hexadecimal (document 01, 'One sheet, whole'): two digits to a byte, the high one first. A line ends at a
 -- line feed (10) or with the text; the fields of a line have a blank (32) between them.
-use Rattle.std.specs.Prelude.{ℕ, ◌+◌, ◌-◌, ◌*◌, ◌/◌, ◌%◌, ◌≡◌, Bool, true, false, List, [], ◌∷◌, ltb, leb, length, drop}
-use Rattle.std.proofs.Math.Option.{Option, none, some}
+use Rattle.std.specs.Prelude.{ℕ, ◌+◌, ◌-◌, ◌*◌, ◌/◌, ◌%◌, ◌≡◌, Bool, true, false, List, [], ◌∷◌, ltb, leb, length, drop, None, Option, Some}
 use Rattle.std.proofs.Math.Seq.{slice}
 use Rattle.octets.specs.Pick.{pick}
 use Rattle.octets.specs.Octets.{put}
 use Rattle.octets.specs.Lists.{before}
-use Rattle.hexlines.specs.declared.Unhexed.{Unhexed}
-use Rattle.hexlines.specs.declared.Unhexed.TheVariants.{Done, Bad}
 
 -- the value of a digit, 0 to 9 (48 to 57) or a to f (97 to 102), and 16 for any other byte
 unfoldable pub hex_value_lem : ℕ → ℕ
@@ -39,17 +36,17 @@ spelt (x ∷ (y ∷ rest)) = (hex_value_lem x * 16 + hex_value_lem y) ∷ spelt 
 
 -- the bytes of a text of hexadecimal, and none where it is not one
 unfoldable pub hex_bytes : List ℕ → Option (List ℕ)
-hex_bytes text = pick (is_hex_lem text) (some (spelt text)) none
+hex_bytes text = pick (is_hex_lem text) (Some (spelt text)) None
 
 -- the bytes, where room many places hold them from to on, and else none
 unfoldable pub room_for : ℕ → ℕ → Option (List ℕ) → Option (List ℕ)
-room_for room to none = none
-room_for room to (some bs) = pick (ltb room (to + length bs)) none (some bs)
+room_for room to None = None
+room_for room to (Some bs) = pick (ltb room (to + length bs)) None (Some bs)
 
--- none: the answer is Bad, and the slice is as it was; bytes: they stand in it from to on, and Done says the place behind them
-unfoldable pub Unhexes : Option (List ℕ) → List ℕ → ℕ → List ℕ → Unhexed → Type 0
-Unhexes none old to new r = (r ≡ Bad) × (new ≡ old)
-Unhexes (some bs) old to new r = (r ≡ Done (to + length bs)) × (new ≡ put old to bs)
+-- none: the answer is None, and the slice is as it was; bytes: they stand in it from to on, and Some says the place behind them
+unfoldable pub Unhexes : Option (List ℕ) → List ℕ → ℕ → List ℕ → Option ℕ → Type 0
+Unhexes None old to new r = (r ≡ None) × (new ≡ old)
+Unhexes (Some bs) old to new r = (r ≡ Some (to + length bs)) × (new ≡ put old to bs)
 
 -- the digit of a value below 16
 unfoldable pub digit_of : ℕ → ℕ

@@ -1,8 +1,7 @@
 -- Laws of lines, fields and hexadecimal, as the functions meet them: a byte at a time, a pair of digits at a time.
 use Prim.Native.Nat.{ℕ, zero, suc, ◌+◌, ◌-◌, ◌*◌, ◌≤◌, ◌<◌}
-use Rattle.std.specs.Prelude.{◌≡◌, refl, Bool, true, false, List, [], ◌∷◌, ltb, get_or}
+use Rattle.std.specs.Prelude.{◌≡◌, refl, Bool, true, false, List, [], ◌∷◌, ltb, get_or, None, Option, Some}
 use Rattle.std.proofs.Common.{sym, ap, ◌∙◌, not-suc-le-zero, add-one}
-use Rattle.std.proofs.Math.Option.{Option, none, some}
 use native.Mathlib.Omega.{arith}
 use borrow.Author.Tests.{lt-ltb, le-ltb, ltb-false, eq-eqb, ne_eqb}
 use Rattle.std.proofs.Math.ListN.{length}
@@ -13,7 +12,6 @@ use Rattle.octets.specs.Octets.{Octets, put, Wrote}
 use Rattle.octets.specs.PutLaws.{put_nil}
 use Rattle.octets.specs.Lists.{before}
 use Rattle.hexlines.specs.Hexlines.{hex_value_lem, line_end, is_hex_lem, spelt, hex_bytes, room_for, Unhexes}
-use Rattle.hexlines.specs.declared.Unhexed.TheVariants.{Done, Bad}
 
 -- ---- the first of a byte
 
@@ -42,11 +40,11 @@ line-place s at = rw take-length
 -- ---- digits, a pair at a time
 
 -- a choice between bytes and none that gives bytes
-fitting : (t : Bool) (cs bs : List ℕ) → pick t none (some cs) ≡ some bs → (t ≡ false) × (cs ≡ bs)
+fitting : (t : Bool) (cs bs : List ℕ) → pick t None (Some cs) ≡ Some bs → (t ≡ false) × (cs ≡ bs)
 fitting true cs bs e = absurd (let z : ◌≡◌ {A = ℕ} 0 1 = cc in omega arith)
 fitting false cs bs e = (refl, cc)
 
-hexadecimal : (t : Bool) (cs bs : List ℕ) → pick t (some cs) none ≡ some bs → (t ≡ true) × (bs ≡ cs)
+hexadecimal : (t : Bool) (cs bs : List ℕ) → pick t (Some cs) None ≡ Some bs → (t ≡ true) × (bs ≡ cs)
 hexadecimal true cs bs e = (refl, cc)
 hexadecimal false cs bs e = absurd (let z : ◌≡◌ {A = ℕ} 0 1 = cc in omega arith)
 
@@ -140,54 +138,54 @@ put_done old new to p bs left e n w =
 -- ---- each way that unhexing goes
 
 module _ (text : List ℕ) (room to : ℕ) where
-  pub room_not_hex : is_hex_lem text ≡ false → room_for room to (hex_bytes text) ≡ none
+  pub room_not_hex : is_hex_lem text ≡ false → room_for room to (hex_bytes text) ≡ None
   unfolding hex_bytes room_for
   room_not_hex h = rw h
 
-  pub room-none : is_hex_lem text ≡ true → room < to + length (spelt text) → room_for room to (hex_bytes text) ≡ none
+  pub room-none : is_hex_lem text ≡ true → room < to + length (spelt text) → room_for room to (hex_bytes text) ≡ None
   unfolding hex_bytes room_for
   room-none h n = rw h (simp (lt-ltb room (to + length (spelt text)) n))
 
-  pub room-found : is_hex_lem text ≡ true → to + length (spelt text) ≤ room → room_for room to (hex_bytes text) ≡ some (spelt text)
+  pub room-found : is_hex_lem text ≡ true → to + length (spelt text) ≤ room → room_for room to (hex_bytes text) ≡ Some (spelt text)
   unfolding hex_bytes room_for
   room-found h n = rw h (simp (le-ltb room (to + length (spelt text)) n))
 
-pub unhexes_bad : (o : Option (List ℕ)) (old : List ℕ) (to : ℕ) → o ≡ none → Unhexes o old to old Bad
+pub unhexes_bad : (o : Option (List ℕ)) (old : List ℕ) (to : ℕ) → o ≡ None → Unhexes o old to old None
 unfolding Unhexes
 unhexes_bad o old to e = rw e (refl, refl)
 
-pub unhexes_done : (o : Option (List ℕ)) (bs old new : List ℕ) (to next : ℕ) → o ≡ some bs → Wrote old to bs new next → Unhexes o old to new (Done next)
+pub unhexes_done : (o : Option (List ℕ)) (bs old new : List ℕ) (to next : ℕ) → o ≡ Some bs → Wrote old to bs new next → Unhexes o old to new (Some next)
 unfolding Unhexes
-unhexes_done o bs old new to next e w = rw e (ap Done w.behind, w.is)
+unhexes_done o bs old new to next e w = rw e (ap Some w.behind, w.is)
 
 -- ---- what a caller has of an answer
 
 -- Bad: the slice is as it was
-pub bad-kept : (o : Option (List ℕ)) (old new : List ℕ) (to : ℕ) → Unhexes o old to new Bad → new ≡ old
+pub bad-kept : (o : Option (List ℕ)) (old new : List ℕ) (to : ℕ) → Unhexes o old to new None → new ≡ old
 unfolding Unhexes
-bad-kept none old new to u = u.1
-bad-kept (some bs) old new to u = absurd (let e = u.0 in let z : ◌≡◌ {A = ℕ} 0 1 = cc in omega arith)
+bad-kept None old new to u = u.1
+bad-kept (Some bs) old new to u = absurd (let e = u.0 in let z : ◌≡◌ {A = ℕ} 0 1 = cc in omega arith)
 
 -- Done: the bytes, and that they were written
-pub done_wrote : (o : Option (List ℕ)) (old new : List ℕ) (to next : ℕ) → Unhexes o old to new (Done next)
-    → (bs : List ℕ) × (o ≡ some bs) × Wrote old to bs new next
+pub done_wrote : (o : Option (List ℕ)) (old new : List ℕ) (to next : ℕ) → Unhexes o old to new (Some next)
+    → (bs : List ℕ) × (o ≡ Some bs) × Wrote old to bs new next
 unfolding Unhexes
-done_wrote none old new to next u = absurd (let e = u.0 in let z : ◌≡◌ {A = ℕ} 0 1 = cc in omega arith)
-done_wrote (some bs) old new to next u =
+done_wrote None old new to next u = absurd (let e = u.0 in let z : ◌≡◌ {A = ℕ} 0 1 = cc in omega arith)
+done_wrote (Some bs) old new to next u =
     let e : next ≡ to + length bs = let d = u.0 in cc in
     (bs, refl, record { is = u.1; behind = e })
 
 -- bytes for which there is room fit
-pub room-some : (room to : ℕ) (o : Option (List ℕ)) (bs : List ℕ) → room_for room to o ≡ some bs → (o ≡ some bs) × (to + length bs ≤ room)
+pub room-some : (room to : ℕ) (o : Option (List ℕ)) (bs : List ℕ) → room_for room to o ≡ Some bs → (o ≡ Some bs) × (to + length bs ≤ room)
 unfolding room_for
-room-some room to none bs e = absurd (let z : ◌≡◌ {A = ℕ} 0 1 = cc in omega arith)
-room-some room to (some cs) bs e =
+room-some room to None bs e = absurd (let z : ◌≡◌ {A = ℕ} 0 1 = cc in omega arith)
+room-some room to (Some cs) bs e =
     let p = fitting (ltb room (to + length cs)) cs bs e in
     let n = ltb-false room (to + length cs) p.0 in
-    (ap some p.1, omega (arith, n, ap length p.1))
+    (ap Some p.1, omega (arith, n, ap length p.1))
 
 -- bytes of a text are those that its digits spell
-pub bytes-some : (text bs : List ℕ) → hex_bytes text ≡ some bs → (is_hex_lem text ≡ true) × (bs ≡ spelt text)
+pub bytes-some : (text bs : List ℕ) → hex_bytes text ≡ Some bs → (is_hex_lem text ≡ true) × (bs ≡ spelt text)
 unfolding hex_bytes
 bytes-some text bs e = hexadecimal (is_hex_lem text) (spelt text) bs e
 

@@ -1,6 +1,5 @@
 -- Bytes written as hexadecimal read back: every list of bytes has a text, and the text spells it.
-use Rattle.std.specs.Prelude.{ℕ, suc, ◌+◌, ◌*◌, ◌/◌, ◌%◌, ◌≤◌, ◌<◌, ◌≡◌, refl, true, List, [], ◌∷◌, ltb}
-use Rattle.std.proofs.Math.Option.{some}
+use Rattle.std.specs.Prelude.{ℕ, suc, ◌+◌, ◌*◌, ◌/◌, ◌%◌, ◌≤◌, ◌<◌, ◌≡◌, refl, true, List, [], ◌∷◌, ltb, Some}
 use Rattle.std.proofs.Common.{arith, le-ltb, le-leb, ltb-true, ltb-false}
 use Rattle.std.proofs.lemmas.Bool.{lt-leb}
 use Rattle.octets.specs.Pick.{pick_ind}
@@ -43,6 +42,6 @@ spelt-text (b ∷ bs) o =
     let e : hex_value_lem (digit_of (b / 16)) * 16 + hex_value_lem (digit_of (b % 16)) ≡ b = omega (arith, h, l) in
     (simp (le-ltb 15 (hex_value_lem (digit_of (b / 16))) u, le-ltb 15 (hex_value_lem (digit_of (b % 16))) v, r.0), cc (e, r.1))
 
-pub bytes-text : (bs : List ℕ) → Octets bs → hex_bytes (hex_text bs) ≡ some bs
+pub bytes-text : (bs : List ℕ) → Octets bs → hex_bytes (hex_text bs) ≡ Some bs
 unfolding hex_bytes
 bytes-text bs o = let r = spelt-text bs o in rw (r.0, r.1)

@@ -29,7 +29,7 @@ pub enum IndexAt {
     Found(Index),
 }
 
-// A run of offsets: the refusal of its first bad pair, or its last offset.
+// A run of offsets: the refusal of its first bad pair, or its last offset. No Result, since `run_of` of specs/ gives it.
 #[derive(Clone, Copy)]
 pub enum Run {
     Bad(u8),
@@ -42,10 +42,8 @@ fn judge(font: &[u8], start: usize, place: usize, size: usize, count: usize, roo
     ensures { result ≡ run_of room start (offsets count size (drop place font.now)) }
 {
     let mut last = start;
-    let mut p = place;
-    let mut left = count;
-    while 0 < left {
-        let end = octets::num_at(font, p, size);
+    for i in 0..count {
+        let end = octets::num_at(font, place + i * size, size);
         if end < last {
             return Run::Bad(2);
         }
@@ -53,8 +51,6 @@ fn judge(font: &[u8], start: usize, place: usize, size: usize, count: usize, roo
             return Run::Bad(1);
         }
         last = end;
-        p += size;
-        left -= 1;
     }
     Run::Last(last)
 }

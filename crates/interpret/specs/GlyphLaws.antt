@@ -1,5 +1,5 @@
 -- Laws of a glyph's run: what it answers is over the glyph's unfolding, and the rows that it meets are a run's.
-use Rattle.std.specs.Prelude.{ℕ, ◌≡◌}
+use Rattle.std.specs.Prelude.{ℕ, ◌≡◌, None, Option, Some}
 use Rattle.std.proofs.Math.Path.{refl, ap, subst}
 use Rattle.std.proofs.Common.{sym, ◌∙◌, arith}
 use mathlib.Core.List.{List, [], ◌∷◌}
@@ -20,8 +20,6 @@ use Rattle.interpret.specs.declared.Subrs.{Subrs}
 use Rattle.interpret.specs.declared.Range.{Range}
 use Rattle.interpret.specs.declared.Ran.{Ran}
 use Rattle.interpret.specs.declared.Ran.TheVariants.{Broken, Returned, Ended}
-use Rattle.interpret.specs.declared.Met.{Met}
-use Rattle.interpret.specs.declared.Met.TheVariants.{NotPlain, Plain}
 
 pub fresh-few : Few fresh
 fresh-few = record { operands = omega arith; hints = omega arith }
@@ -54,19 +52,19 @@ module _ (font : List ℕ) (q : Subrs) (g : ℕ) (code : List ℕ) (range : Rang
   unfolded s = unfold_glyph (globals_in font q) (locals_in font q) q.fd g s
 
   -- an empty charstring
-  pub glyph_empty : length code ≡ 0 → Collecting keys n → Meets (unfold_glyph (globals_in font q) (locals_in font q) q.fd g code) range keys n keys (Plain n)
+  pub glyph_empty : length code ≡ 0 → Collecting keys n → Meets (unfold_glyph (globals_in font q) (locals_in font q) q.fd g code) range keys n keys (Some n)
   unfolding unfold_glyph
   glyph_empty e w = by code e
     where
-      by : (s : List ℕ) → length s ≡ 0 → Meets (unfolded s) range keys n keys (Plain n)
+      by : (s : List ℕ) → length s ≡ 0 → Meets (unfolded s) range keys n keys (Some n)
       by [] k = record { says = (n, refl, notes_none range w) }
       by (b ∷ bs) k = absurd (omega (arith, k))
 
   -- any other: by how its run ends
-  abbrev met_by : Ran → Met
-  met_by Broken = NotPlain
-  met_by (Returned x m) = NotPlain
-  met_by (Ended m) = Plain m
+  abbrev met_by : Ran → Option ℕ
+  met_by Broken = None
+  met_by (Returned x m) = None
+  met_by (Ended m) = Some m
 
   pub glyph_ran : (length code ≡ 0 → ⊥) → {keys' : List ℕ} {a : Ran} → Tells (trace_body (globals_in font q) (locals_in font q) q.fd 10 (glyph g) code fresh) range keys n keys' a
       → (b : Ran) → a ≡ b → Meets (unfold_glyph (globals_in font q) (locals_in font q) q.fd g code) range keys n keys' (met_by b)

@@ -1,5 +1,5 @@
 -- What running a body asks, and what it leaves: rows as keys, noted in a window of a range (crates/row_window), and the code's answers.
-use Rattle.std.specs.Prelude.{ℕ, ◌≤◌, ◌<◌, ◌≡◌, Bool, true, false, List, map, length}
+use Rattle.std.specs.Prelude.{ℕ, ◌≤◌, ◌<◌, ◌≡◌, Bool, true, false, List, map, length, None, Option, Some}
 use Rattle.index.specs.Index.{items_of}
 use Rattle.index.specs.Good.{Good}
 use Rattle.unfold.specs.Unfold.{Row, Glyph, not_plain_lem, plain}
@@ -14,8 +14,6 @@ use Rattle.interpret.specs.declared.Site.{Site}
 use Rattle.interpret.specs.declared.Site.TheVariants.{Glyph as InGlyph, Local, Global}
 use Rattle.interpret.specs.declared.Ran.{Ran}
 use Rattle.interpret.specs.declared.Ran.TheVariants.{Broken, Returned, Ended}
-use Rattle.interpret.specs.declared.Met.{Met}
-use Rattle.interpret.specs.declared.Met.TheVariants.{NotPlain, Plain}
 
 -- a body as the definitions name it, and numbers of one that a row can hold
 abbrev pub site_of : Site → bodies.Site
@@ -74,9 +72,9 @@ pub record Tells (t : Trace) (range : Range) (keys : List ℕ) (n : ℕ) (keys' 
   pub says : Telling t range keys n keys' r
 
 -- the same of a glyph, over its unfolding
-abbrev pub Meeting : Glyph → Range → List ℕ → ℕ → List ℕ → Met → Type 0
-Meeting not_plain_lem range keys n keys' r = r ≡ NotPlain
-Meeting (plain ts rows) range keys n keys' r = (m : ℕ) × (r ≡ Plain m) × Notes range rows keys n keys' m
+abbrev pub Meeting : Glyph → Range → List ℕ → ℕ → List ℕ → Option ℕ → Type 0
+Meeting not_plain_lem range keys n keys' r = r ≡ None
+Meeting (plain ts rows) range keys n keys' r = (m : ℕ) × (r ≡ Some m) × Notes range rows keys n keys' m
 
-pub record Meets (g : Glyph) (range : Range) (keys : List ℕ) (n : ℕ) (keys' : List ℕ) (r : Met) : Type 0 where
+pub record Meets (g : Glyph) (range : Range) (keys : List ℕ) (n : ℕ) (keys' : List ℕ) (r : Option ℕ) : Type 0 where
   pub says : Meeting g range keys n keys' r

@@ -1,10 +1,9 @@
 -- A run turn by turn is the unfolding's, but for the tokens: it breaks where that does, and meets the same rows.
 use Prim.Native.Nat.{ℕ, zero, suc, ◌+◌, ◌-◌, ◌/◌, ◌<◌}
-use Rattle.std.specs.Prelude.{◌≡◌, Bool, List, [], ◌∷◌, ◌++◌, eqb, ℤ, length, take, drop, get_or}
+use Rattle.std.specs.Prelude.{◌≡◌, Bool, List, [], ◌∷◌, ◌++◌, eqb, ℤ, length, take, drop, get_or, None, Option, Some}
 use Rattle.std.proofs.Math.Path.{refl}
 use Rattle.std.proofs.Common.{sym, ap, ◌∙◌, append-nil, append_assoc, arith, lt-ltb, le-ltb, ltb-true}
 use Rattle.std.proofs.Math.Bool.{true, false}
-use Rattle.std.proofs.Math.Option.{Option, none, some}
 use Rattle.std.proofs.Math.Dec.{ltb}
 use Rattle.octets.specs.Pick.{pick}
 use Rattle.type2_number.specs.Number.{Read, cut, operator, number as a_number, number_at}
@@ -61,29 +60,29 @@ module _ (globals locals : List (List ℕ)) (fd : ℕ) (enter : Site → List �
     left t args stems x go go' h = split (ltb x.spent 65536) _ broke _ Breaks (h _ refl) refl
 
     -- no number stands just before a place
-    after_none : (n : ℕ) (y : State) → tell (on n none y) ≡ meets y.met (on' n n (lean y))
+    after_none : (n : ℕ) (y : State) → tell (on n None y) ≡ meets y.met (on' n n (lean y))
     after_none n y =
-        let e : last_at s n n ≡ none = rw (le-ltb n n (omega arith)) in
+        let e : last_at s n n ≡ None = rw (le-ltb n n (omega arith)) in
         ap (λ (l : Option ℤ). tell (on n l y)) (sym e) ∙ ons n n y
 
     ends_as : (y : State) → y.met ≡ st.met → tell (done y) ≡ T Ends
     ends_as y q = ap ended (q ∙ sym (append-nil st.met))
 
-    goes_as : (n : ℕ) (y : State) → y.met ≡ st.met → tell (on n none y) ≡ T (Goes n n (lean y))
+    goes_as : (n : ℕ) (y : State) → y.met ≡ st.met → tell (on n None y) ≡ T (Goes n n (lean y))
     goes_as n y q = after_none n y ∙ ap (λ (r : List Row). meets r (on' n n (lean y))) q
 
-    number_as : (z : ℤ) (n : ℕ) → number_at s at ≡ a_number z n → at < n → (y : State) → y.met ≡ st.met → tell (on n (some z) y) ≡ T (Goes n at (lean y))
+    number_as : (z : ℤ) (n : ℕ) → number_at s at ≡ a_number z n → at < n → (y : State) → y.met ≡ st.met → tell (on n (Some z) y) ≡ T (Goes n at (lean y))
     number_as z n e h y q =
-        let f : last_at s at n ≡ some z = rw (lt-ltb at n h) (ap last_of e) in
+        let f : last_at s at n ≡ Some z = rw (lt-ltb at n h) (ap last_of e) in
         ap (λ (l : Option ℤ). tell (on n l y)) (sym f) ∙ ons n at y ∙ ap (λ (r : List Row). meets r (on' n at (lean y))) q
 
-    masks_as : (len : ℕ) (y : State) → y.met ≡ st.met ++ (masked site at len ∷ []) → tell (on (at + 1 + len) none y) ≡ T (Masks len (lean y))
+    masks_as : (len : ℕ) (y : State) → y.met ≡ st.met ++ (masked site at len ∷ []) → tell (on (at + 1 + len) None y) ≡ T (Masks len (lean y))
     masks_as len y q =
         after_none (at + 1 + len) y ∙ ap (λ (r : List Row). meets r (on' (at + 1 + len) (at + 1 + len) (lean y))) q
         ∙ sym (meets-both st.met (masked site at len ∷ []) (on' (at + 1 + len) (at + 1 + len) (lean y)))
 
     -- a subroutine's run, and what follows
-    after_as : (m : List Row) (r : Run) (r' : Trace) → tell r ≡ meets m r' → tell (after r (on (at + 1) none)) ≡ meets m (afterwards r' (on' (at + 1) (at + 1)))
+    after_as : (m : List Row) (r : Run) (r' : Trace) → tell r ≡ meets m r' → tell (after r (on (at + 1) None)) ≡ meets m (afterwards r' (on' (at + 1) (at + 1)))
     after_as m broke broken e = refl
     after_as m broke (returned x rs) e = absurd (zero_one cc)
     after_as m broke (ended rs) e = absurd (zero_one cc)
@@ -98,7 +97,7 @@ module _ (globals locals : List (List ℕ)) (fd : ℕ) (enter : Site → List �
     after_as m (done y) (returned x rs) e = absurd (zero_one cc)
     after_as m (done y) (ended rs) e = e
 
-    calls_as : (wide : Bool) (i : ℕ) → tell (after (enter (site_for fd wide i) (body_for globals locals wide i) (calling (site_for fd wide i) st)) (on (at + 1) none))
+    calls_as : (wide : Bool) (i : ℕ) → tell (after (enter (site_for fd wide i) (body_for globals locals wide i) (calling (site_for fd wide i) st)) (on (at + 1) None))
         ≡ T (Calls wide i (lean (calling (site_for fd wide i) st)))
     calls_as wide i =
         let which = site_for fd wide i in
@@ -106,23 +105,23 @@ module _ (globals locals : List (List ℕ)) (fd : ℕ) (enter : Site → List �
         ∙ sym (meets-both st.met (entered which ∷ []) (afterwards (enter' which (body_for globals locals wide i) (lean (calling which st))) (on' (at + 1) (at + 1))))
 
     local_as : (q : Option ℕ) → tell (call_to enter on (local fd) locals (at + 1) st q) ≡ T (call_turn false (lean st) q)
-    local_as none = refl
-    local_as (some i) = calls_as false i
+    local_as None = refl
+    local_as (Some i) = calls_as false i
 
     global_as : (q : Option ℕ) → tell (call_to enter on global globals (at + 1) st q) ≡ T (call_turn true (lean st) q)
-    global_as none = refl
-    global_as (some i) = calls_as true i
+    global_as None = refl
+    global_as (Some i) = calls_as true i
 
     mask_as : (b n : ℕ) → tell (mask_at on site s b at n st) ≡ T (mask_turn s at n st.spent)
     mask_as b n =
         split (ltb 96 n) broke _ Breaks _ refl
         (split (ltb (length s - (at + 1)) ((n + 7) / 8)) broke _ Breaks _ refl
-        (left (mask b (take ((n + 7) / 8) (drop (at + 1) s))) 0 n (meeting (masked site at ((n + 7) / 8)) st) (on (at + 1 + (n + 7) / 8) none) (Masks ((n + 7) / 8))
+        (left (mask b (take ((n + 7) / 8) (drop (at + 1) s))) 0 n (meeting (masked site at ((n + 7) / 8)) st) (on (at + 1 + (n + 7) / 8) None) (Masks ((n + 7) / 8))
         (λ y q. masks_as ((n + 7) / 8) y q)))
 
     stem_as : (b n : ℕ) → tell (stem_at on b at n st) ≡ T (stem_turn at n st.spent)
     stem_as b n =
-        split (ltb 96 n) broke _ Breaks _ refl (left (op b) 0 n st (on (at + 1) none) (Goes (at + 1) (at + 1)) (λ y q. goes_as (at + 1) y q))
+        split (ltb 96 n) broke _ Breaks _ refl (left (op b) 0 n st (on (at + 1) None) (Goes (at + 1) (at + 1)) (λ y q. goes_as (at + 1) y q))
 
     escape_as : tell (escape_at on s at st) ≡ T (escape_turn s at (lean st))
     escape_as =
@@ -130,7 +129,7 @@ module _ (globals locals : List (List ℕ)) (fd : ℕ) (enter : Site → List �
         split (ltb (length s - at) 2) broke _ Breaks _ refl
         (split (ltb e 34) broke _ Breaks _ refl
         (split (ltb 37 e) broke _ Breaks _ refl
-        (left (esc e) 0 st.stems st (on (at + 2) none) (Goes (at + 2) (at + 2)) (λ y q. goes_as (at + 2) y q))))
+        (left (esc e) 0 st.stems st (on (at + 2) None) (Goes (at + 2) (at + 2)) (λ y q. goes_as (at + 2) y q))))
 
     returns_as : tell (pick (is_glyph site) broke (back st)) ≡ T (pick (is_glyph site) Breaks (Returns (lean st)))
     returns_as = split (is_glyph site) broke (back st) Breaks (Returns (lean st)) refl (ap (returned (lean st)) (sym (append-nil st.met)))
@@ -145,14 +144,14 @@ module _ (globals locals : List (List ℕ)) (fd : ℕ) (enter : Site → List �
         (split (eqb b 12) _ _ _ _ escape_as
         (split (is_mask b) _ _ _ _ (mask_as b (st.stems + st.args / 2))
         (split (is_stem b) _ _ _ _ (stem_as b (st.stems + st.args / 2))
-        (split (is_path b) _ broke _ Breaks (left (op b) 0 st.stems st (on (at + 1) none) (Goes (at + 1) (at + 1)) (λ y q. goes_as (at + 1) y q)) refl)))))))
+        (split (is_path b) _ broke _ Breaks (left (op b) 0 st.stems st (on (at + 1) None) (Goes (at + 1) (at + 1)) (λ y q. goes_as (at + 1) y q)) refl)))))))
 
     step_as : (r : Read) → number_at s at ≡ r → Further s at r
         → tell (step_at globals locals fd enter on site s at (last_at s prev at) st r) ≡ T (turn_by (length locals) (length globals) (is_glyph site) s at prev (lean st) r)
     unfolding step_at turn_by
     step_as cut e f = refl
     step_as (a_number z n) e f =
-        split (ltb st.args 48) _ broke _ Breaks (left (num z) (st.args + 1) st.stems st (on n (some z)) (Goes n at) (λ y q. number_as z n e f.0 y q)) refl
+        split (ltb st.args 48) _ broke _ Breaks (left (num z) (st.args + 1) st.stems st (on n (Some z)) (Goes n at) (λ y q. number_as z n e f.0 y q)) refl
     step_as operator e f = operator_as (get_or s at 0)
 
   walk_as : (k : ℕ) (site : Site) (s : List ℕ) (at prev : ℕ) (st : State)
@@ -168,7 +167,7 @@ module _ (globals locals : List (List ℕ)) (fd : ℕ) (enter : Site → List �
       by next false e = refl
 
   start_as : (site : Site) (s : List ℕ) (st : State)
-      → tell (walk globals locals fd enter (length s) site s 0 none st) ≡ meets st.met (trace_walk globals locals fd enter' (length s) site s 0 0 (lean st))
+      → tell (walk globals locals fd enter (length s) site s 0 None st) ≡ meets st.met (trace_walk globals locals fd enter' (length s) site s 0 0 (lean st))
   start_as site s st = walk_as (length s) site s 0 0 st
 
 -- THE LAW: a body's run

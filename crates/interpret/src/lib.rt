@@ -46,13 +46,6 @@ pub enum Ran {
     Ended(usize),
 }
 
-// Whether a glyph is plain, and how many keys the window has then. Of a window after a glyph that is not plain nothing is said.
-#[derive(Clone, Copy)]
-pub enum Met {
-    NotPlain,
-    Plain(usize),
-}
-
 // A row as one number.
 fn row_key(kind: usize, fd: usize, number: usize, offset: usize, len: usize) -> u64
     requires { (kind ≤ 4) × (fd < 256) × (number < 65536) × (offset < 4294967296) × (len < 16) }
@@ -223,7 +216,8 @@ fn run_body(
     Ran::Broken
 }
 
-// A glyph of FD q.fd run from its charstring: whether it is plain, and then the rows that it meets are noted. An empty one is plain.
+// A glyph of FD q.fd run from its charstring: where it is plain, how many keys the window has once the rows that it meets are noted; else
+// None, and of the window nothing is said. An empty one is plain.
 pub fn run_glyph(
     font: &[u8],
     q: Subrs,
@@ -232,13 +226,13 @@ pub fn run_glyph(
     range: Range,
     keys: &mut [u64],
     n: usize,
-) -> Met
+) -> Option<usize>
     requires { (Ready font.now q) × (g < 65536) × (length code.now ≤ 67108864) × (Collecting keys.old n) }
     ensures { Meets (unfold_glyph (globals_in font.now q) (locals_in font.now q) q.fd g code.now)
         range keys.old n keys.new result }
 {
     if code.len() == 0 {
-        return Met::Plain(n);
+        return Some(n);
     }
     let fresh = Counts {
         args: 0,
@@ -246,8 +240,8 @@ pub fn run_glyph(
         spent: 0,
     };
     match run_body(font, q, 10, Site::Glyph(g), code, fresh, range, keys, n) {
-        Ran::Broken => Met::NotPlain,
-        Ran::Returned(_, _) => Met::NotPlain,
-        Ran::Ended(count) => Met::Plain(count),
+        Ran::Broken => None,
+        Ran::Returned(_, _) => None,
+        Ran::Ended(count) => Some(count),
     }
 }

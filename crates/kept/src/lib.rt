@@ -3,20 +3,12 @@
 
 pub mod marks;
 
-ghost use Rattle.std.specs.Prelude.{◌≡◌, true, ◌<◌};
+ghost use Rattle.std.specs.Prelude.{◌≡◌, ◌<◌};
 ghost use Rattle.octets.specs.Lists.{all_below};
 
 // Whether every number of a keep list is a glyph's: refusal 6 where not.
 pub fn keep_below(keep: &[u16], n: usize) -> bool
     ensures { result ≡ all_below n keep.now }
 {
-    let m = keep.len();
-    let mut i = 0;
-    while i < m {
-        if n <= keep[i] as usize {
-            return false;
-        }
-        i += 1;
-    }
-    true
+    keep.iter().all(|g| usize::from(*g) < n)
 }

@@ -44,12 +44,9 @@ fn see_rows(keys: &[u64], n: usize, rows: &[u8], seen: &mut [u8])
     requires { (Window keys.now n) × (n ≤ length seen.old) }
     ensures { Seen (take n keys.now) (row_keys rows.now) seen.old seen.new }
 {
-    let count = rows.len() / 10;
-    let mut i = 0;
-    while i < count {
+    for i in 0..rows.len() / 10 {
         let key = row_key(reach::row_at(rows, i));
         see(keys, n, key, &mut *seen);
-        i += 1;
     }
 }
 
@@ -58,14 +55,7 @@ fn all_seen(seen: &[u8], n: usize) -> bool
     requires { n ≤ length seen.now }
     ensures { result ≡ each_of (marked seen.now) n 0 }
 {
-    let mut left = n;
-    while 0 < left {
-        if seen[n - left] == 0 {
-            return false;
-        }
-        left -= 1;
-    }
-    true
+    !seen[..n].contains(&0)
 }
 
 // Whether each of the n keys of a window is that of a row of the record.

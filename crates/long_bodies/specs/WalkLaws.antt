@@ -1,8 +1,7 @@
 -- Laws of a walk over the tokens of a body that asks a part of its rows: at an offset of the part it reads what it reads by the whole record.
-use Rattle.std.specs.Prelude.{ℕ, ◌-◌, ◌≤◌, ◌<◌, ◌≡◌, refl, Bool, true, false, List, take}
+use Rattle.std.specs.Prelude.{ℕ, ◌-◌, ◌≤◌, ◌<◌, ◌≡◌, refl, Bool, true, false, List, take, None, Option, Float}
 use Rattle.std.proofs.Common.{sym, ap, ◌∙◌, arith}
 use Rattle.std.proofs.lemmas.Bool.{false≢true}
-use Rattle.std.proofs.Math.Option.{Option, none}
 use Rattle.octets.specs.Pick.{pick}
 use Rattle.charstring.specs.declared.MaskLen.{MaskLen}
 use Rattle.charstring.specs.declared.MaskLen.TheVariants.{Own}
@@ -18,7 +17,6 @@ use Rattle.reach.specs.declared.Site as code
 use Rattle.renumber.specs.Turn.{turned_at, Inputs, is_yes}
 use Rattle.renumber.specs.declared.Ranks.{Ranks}
 use Rattle.renumber.specs.declared.Turned.{Turned}
-use Rattle.renumber.specs.declared.turns.Held.{Held}
 use Rattle.long_bodies.specs.Offsets.{Gives}
 use Rattle.long_bodies.specs.declared.offsets.Part.{Part}
 
@@ -29,8 +27,8 @@ part_inputs i g =
     record { local_ranks = i.local_ranks; global_ranks = i.global_ranks; order = λ e. g.rising; body = i.body; size = i.size }
 
 -- THE LAW of a part: the token at its offset
-pub turned-alike : {rec bytes : List ℕ} {site : code.Site} {w : Part} → Gives rec bytes site w → (calls : Calls) (h : Held) (s : List ℕ) (c : Cursor) (offset : ℕ)
-    → offset ≡ c.at - 1 → w.from ≤ offset → offset < w.end → (r : Turned)
+pub turned-alike : {rec bytes : List ℕ} {site : code.Site} {w : Part} → Gives rec bytes site w → (calls : Calls) (h : Option Float) (s : List ℕ) (c : Cursor) (offset : ℕ)
+    → offset ≡ c.at - 1 → w.from ≤ offset → offset < w.end → (r : Option Turned)
     → r ≡ turned_at calls h (step_of (token_at s (given_at (given_in (rows_of (take w.len bytes)) (site_of site)) c) c))
     → r ≡ turned_at calls h (step_of (token_at s (given_at (given_in (rows_of rec) (site_of site)) c) c))
 turned-alike g calls h s c offset e from to r f =
@@ -41,6 +39,6 @@ pub one_each : (rows : List Row) (calls : Calls) (site : Site) (s : List ℕ) �
 unfolding renumbered_body
 one_each rows calls site s e = by (two_lengths_lem rows site) (renumber_charstring calls (given_in rows site) s) e
   where
-    by : (t : Bool) (m : Option (List ℕ)) → is_yes (pick t none m) ≡ true → t ≡ false
+    by : (t : Bool) (m : Option (List ℕ)) → is_yes (pick t None m) ≡ true → t ≡ false
     by true m f = absurd (false≢true f)
     by false m f = refl

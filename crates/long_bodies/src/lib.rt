@@ -18,9 +18,9 @@ ghost use Rattle.long_bodies.specs.Offsets.{Lent};
 use crate::offsets::Part;
 use charstring::{Cursor, more, start};
 use reach::Site;
+use renumber::Ranks;
 use renumber::runs::{held_at, run_at};
-use renumber::turns::{Held, after};
-use renumber::{Ranks, Sized, Turned};
+use renumber::turns::after;
 use renumbered::{held_len, put_held, put_run, put_sent, run_len, sent_len, turn_at};
 
 // The offset that a mask asks for where reading stands: that of its operator.
@@ -43,7 +43,7 @@ fn body_len(
     site: Site,
     keys: &mut [u64],
     bytes: &mut [u8],
-) -> Sized
+) -> Option<usize>
     requires { (Inputs code.now words.now locals globals (rows_of rows.now) false site) × (Lent keys.old bytes.old site)
         × (two_lengths_lem (rows_of rows.now) (site_of site) ≡ false) }
     ensures { result ≡ sized_of (renumber_charstring (calls_by words.now locals globals)
@@ -56,7 +56,7 @@ fn body_len(
         span: 32768,
     };
     let mut c = start();
-    let mut h = Held::Nothing;
+    let mut h = None;
     let mut len: usize = 0;
     while more(code, c) {
         let run = run_at(code, c.at, c.args, c.stems, c.due);
@@ -86,26 +86,22 @@ fn body_len(
             c.due,
             h,
         ) {
-            Turned::On {
-                before,
-                token,
-                next,
-            } => {
-                len += sent_len(before, token);
-                h = after(token);
+            Some(turned) => {
+                len += sent_len(turned.before, turned.token);
+                h = after(turned.token);
                 c = Cursor {
-                    at: next.at,
-                    args: next.args,
-                    stems: next.stems,
-                    due: next.due,
+                    at: turned.next.at,
+                    args: turned.next.args,
+                    stems: turned.next.stems,
+                    due: turned.next.due,
                 };
             }
-            Turned::Failed => {
-                return Sized::Failed;
+            None => {
+                return None;
             }
         }
     }
-    Sized::Len(len + held_len(h))
+    Some(len + held_len(h))
 }
 
 // The length of a body renumbered, or that this fails: two lengths at one offset fail too.
@@ -118,13 +114,13 @@ pub fn renumbered_len(
     site: Site,
     keys: &mut [u64],
     bytes: &mut [u8],
-) -> Sized
+) -> Option<usize>
     requires { (Inputs code.now words.now locals globals (rows_of rows.now) false site) × (Lent keys.old bytes.old site) }
     ensures { result ≡ sized_of (renumbered_body (rows_of rows.now) (calls_by words.now locals globals)
         (site_of site) code.now) }
 {
     if offsets::two_lengths(rows, site, &mut *keys) {
-        return Sized::Failed;
+        return None;
     }
     body_len(code, words, locals, globals, rows, site, keys, bytes)
 }
@@ -156,7 +152,7 @@ pub fn put_renumbered(
         span: 32768,
     };
     let mut c = start();
-    let mut h = Held::Nothing;
+    let mut h = None;
     let mut p = at;
     while more(code, c) {
         let run = run_at(code, c.at, c.args, c.stems, c.due);
@@ -186,21 +182,17 @@ pub fn put_renumbered(
             c.due,
             h,
         ) {
-            Turned::On {
-                before,
-                token,
-                next,
-            } => {
-                p = put_sent(code, before, token, &mut *out, p);
-                h = after(token);
+            Some(turned) => {
+                p = put_sent(code, turned.before, turned.token, &mut *out, p);
+                h = after(turned.token);
                 c = Cursor {
-                    at: next.at,
-                    args: next.args,
-                    stems: next.stems,
-                    due: next.due,
+                    at: turned.next.at,
+                    args: turned.next.args,
+                    stems: turned.next.stems,
+                    due: turned.next.due,
                 };
             }
-            Turned::Failed => {
+            None => {
                 return p;
             }
         }

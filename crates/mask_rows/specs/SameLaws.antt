@@ -1,12 +1,11 @@
 -- THE LAW of rows in any order (document 01, 'Reach record': order and repeats are free): what renumbering a body gives depends only on which rows of its
 -- masks a record lists.
 use Prim.Native.Nat.{ℕ}
-use Rattle.std.specs.Prelude.{◌≡◌, Bool, ◌&&◌, not, List, [], ◌∷◌, eqb}
+use Rattle.std.specs.Prelude.{◌≡◌, Bool, ◌&&◌, not, List, [], ◌∷◌, eqb, None}
 use Rattle.std.proofs.Math.Path.{refl, sym, fun_ext}
 use Rattle.std.proofs.Common.{ap, ◌∙◌, subst, arith, eq-eqb, ne_eqb, eqb-true}
 use Rattle.std.proofs.Math.Bool.{true, false}
 use Rattle.std.proofs.lemmas.Bool.{false≢true}
-use Rattle.std.proofs.Math.Option.{none}
 use Rattle.octets.specs.Pick.{pick}
 use Rattle.charstring.specs.declared.MaskLen.{MaskLen}
 use Rattle.charstring.specs.declared.MaskLen.TheVariants.{Own, Given}
@@ -261,8 +260,8 @@ module _ (rows rows' : List Row) (site : Site) (same : SameMasks rows rows' site
   same_body calls s = by (two_lengths_lem rows site) refl
     where
       by : (t : Bool) → two_lengths_lem rows site ≡ t
-          → pick (two_lengths_lem rows site) none (renumber_charstring calls (given_in rows site) s)
-          ≡ pick (two_lengths_lem rows' site) none (renumber_charstring calls (given_in rows' site) s)
+          → pick (two_lengths_lem rows site) None (renumber_charstring calls (given_in rows site) s)
+          ≡ pick (two_lengths_lem rows' site) None (renumber_charstring calls (given_in rows' site) s)
       by true e = rw (e, sym same-two ∙ e)
       by false e =
           let g : given_in rows site ≡ given_in rows' site = fun_ext (same-given e) in

@@ -1,6 +1,6 @@
 -- Laws of a loop over the names of the kept glyphs: the id that a name is given after those before it is the one that it has among all own strings in
 -- the end, since no name stands before itself; and the own strings are counted on.
-use Rattle.std.specs.Prelude.{ℕ, zero, suc, ◌+◌, ◌*◌, ◌/◌, ◌≤◌, ◌<◌, ◌≡◌, refl, Bool, true, false, take, drop, get_or}
+use Rattle.std.specs.Prelude.{ℕ, zero, suc, ◌+◌, ◌*◌, ◌/◌, ◌≤◌, ◌<◌, ◌≡◌, refl, Bool, true, false, take, drop, get_or, None}
 use Rattle.std.proofs.Common.{sym, ap, ◌∙◌, arith, take_all, length-take-le}
 use mathlib.Core.List.{List, [], ◌∷◌, ◌++◌}
 use Rattle.std.proofs.Math.ListN.{length}
@@ -9,7 +9,6 @@ use Rattle.index.specs.Index.{items_of}
 use Rattle.index.specs.Good.{Good}
 use Rattle.index.specs.Write.{total}
 use Rattle.strings.specs.Strings.{string_text, sid_of}
-use Rattle.strings.specs.declared.Sid.TheVariants.{Other}
 use Rattle.charset.specs.CharsetFound.{good-small}
 use Rattle.cff.specs.Reads.{GoodFont}
 use Rattle.cff.specs.declared.font.Font.{Font}
@@ -151,7 +150,7 @@ module _ (b : List ℕ) (f : Font) (ws slots : List ℕ) (own : Own) (i : ℕ) (
         ∙ n.apart.apart.apart i (omega (arith, names-length S order))
 
     -- and so it is an own string exactly where a slot has it
-    among : sid_of name ≡ Other → has_text name stage ≡ has_text name (slot_texts S (take 8 slots))
+    among : sid_of name ≡ None → has_text name stage ≡ has_text name (slot_texts S (take 8 slots))
     among o =
         let ts = slot_texts S (take 8 slots) in
         let us = slot_texts S (take i xs) in

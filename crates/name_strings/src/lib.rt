@@ -32,10 +32,8 @@ pub fn slots_own(font: &[u8], strings: Index, slots: &[usize]) -> Own
     ensures { result ≡ own_of (slots_own (items_of font.now strings) slots.now) }
 {
     let mut own = Own { count: 0, total: 0 };
-    let mut j = 0;
-    while j < 8 {
+    for j in 0..8 {
         own = own_strings::count_one(font, strings, own, slots[j], slots[8 + j]);
-        j += 1;
     }
     own
 }
@@ -60,13 +58,11 @@ pub fn count_names(
     let k = o.count;
     let mut u = o.held;
     let mut all = own;
-    let mut i = 0;
-    while i < k {
+    for i in 0..k {
         u = order_window::hold(font, f, words, &mut *window, u, i);
         let x = order_window::word_at(&*window, u, i) / 65536;
         let id = own_strings::given_id(font, strings, slots, 8, all.count, x);
         all = own_strings::count_one(font, strings, all, x, id);
-        i += 1;
     }
     all
 }
@@ -90,8 +86,7 @@ fn begin_strings(
     index::put_head(&mut *out, at, count, total);
     let mut p = ix.base + 1;
     let mut c = 0;
-    let mut j = 0;
-    while j < 8 {
+    for j in 0..8 {
         let sid = slots[j];
         let id = slots[8 + j];
         if id == 391 + c {
@@ -99,7 +94,6 @@ fn begin_strings(
             p = index::put_item(&mut *out, ix, c, p, text);
             c += 1;
         }
-        j += 1;
     }
     Started {
         ix,
@@ -135,8 +129,7 @@ pub fn put_strings(
     let mut p = begun.next;
     let mut c = begun.count;
     let mut u = o.held;
-    let mut i = 0;
-    while i < k {
+    for i in 0..k {
         u = order_window::hold(font, f, words, &mut *window, u, i);
         let sid = order_window::word_at(&*window, u, i) / 65536;
         let id = own_strings::given_id(font, strings, slots, 8, c, sid);
@@ -145,7 +138,6 @@ pub fn put_strings(
             p = index::put_item(&mut *out, ix, c, p, text);
             c += 1;
         }
-        i += 1;
     }
     p
 }
@@ -189,8 +181,7 @@ pub fn put_charset_named(
     let mut p = octets::put_byte(&mut *out, at, 0);
     let mut own = slots_own(font, strings, slots);
     let mut u = o.held;
-    let mut i = 0;
-    while i < k {
+    for i in 0..k {
         u = order_window::hold(font, f, words, &mut *window, u, i);
         let x = order_window::word_at(&*window, u, i) / 65536;
         let id = own_strings::given_id(font, strings, slots, 8, own.count, x);
@@ -198,7 +189,6 @@ pub fn put_charset_named(
         if 0 < i {
             p = octets::put_num(&mut *out, p, id, 2);
         }
-        i += 1;
     }
     p
 }

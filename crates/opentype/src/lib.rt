@@ -36,9 +36,8 @@ fn row_from(file: &[u8], n: usize, from: usize) -> Place
     requires { (n < 65536) × (from + 16 * n ≤ length file.now) }
     ensures { result ≡ row_from_lem file.now n from }
 {
-    let mut at = from;
-    let mut left = n;
-    while 0 < left {
+    for i in 0..n {
+        let at = from + 16 * i;
         if octets::u32_at(file, at) == CFF_TAG {
             return table_of(
                 file,
@@ -46,8 +45,6 @@ fn row_from(file: &[u8], n: usize, from: usize) -> Place
                 octets::u32_at(file, at + 12),
             );
         }
-        at += 16;
-        left -= 1;
     }
     Place::Refused(Refusal::NO_TABLE)
 }

@@ -17,8 +17,7 @@ pub fn rises(font: &[u8], c: Charset, n: usize, words: &[u32]) -> bool
 {
     let mut u = charset::charset_start(c);
     let mut low = 0;
-    let mut g = 0;
-    while g < n {
+    for g in 0..n {
         let s = charset::next_id(font, u);
         let id = s.id;
         u = s.next;
@@ -27,9 +26,6 @@ pub fn rises(font: &[u8], c: Charset, n: usize, words: &[u32]) -> bool
                 return false;
             }
             low = id + 1;
-            g += 1;
-        } else {
-            g += 1;
         }
     }
     true
@@ -46,9 +42,8 @@ pub fn next_glyphs(font: &[u8], f: Font, words: &[u32], window: &mut [u32], w: W
     let m = window.len();
     let done = w.done;
     let mut u = w.cursor;
-    let mut g = w.at;
     let mut k = 0;
-    while g < n {
+    for g in w.at..n {
         if k == m {
             return Walk {
                 search: false,
@@ -63,14 +58,11 @@ pub fn next_glyphs(font: &[u8], f: Font, words: &[u32], window: &mut [u32], w: W
         if bits::has_bit(words, 0, g) {
             window[k] = (id * 65536 + g) as u32;
             k += 1;
-            g += 1;
-        } else {
-            g += 1;
         }
     }
     Walk {
         search: false,
-        at: g,
+        at: n,
         cursor: u,
         done: done + k,
     }

@@ -1,6 +1,6 @@
 -- Laws of the own strings of a subset: they only grow at the end, so that the place of a text that is there stays, and a text that is new
 -- stands behind all others.
-use Rattle.std.specs.Prelude.{ℕ, ◌+◌, ◌<◌, ◌≡◌, refl, Bool, true, false, List, [], ◌∷◌, ◌++◌, length}
+use Rattle.std.specs.Prelude.{ℕ, ◌+◌, ◌<◌, ◌≡◌, refl, Bool, true, false, List, [], ◌∷◌, ◌++◌, length, None, Option, Some}
 use Rattle.std.proofs.Common.{sym, ap, ◌∙◌, append_assoc, append-nil, arith}
 use Rattle.octets.specs.Pick.{pick, pick_ind}
 use Rattle.prune.specs.StepLaws.{zero_one}
@@ -8,8 +8,6 @@ use Rattle.strings.specs.Text.{same_text_lem}
 use Rattle.strings.specs.TextLaws.{same_refl}
 use Rattle.strings.specs.Strings.{sid_of}
 use Rattle.strings.proofs.StringsLaws.{sid_below}
-use Rattle.strings.specs.declared.Sid.{Sid}
-use Rattle.strings.specs.declared.Sid.TheVariants.{Standard, Other}
 use Rattle.subset.proofs.TextsLaws.{own-has}
 use Rattle.subset.specs.Texts.{has_text, with_text, own_strings_lem, place_in, new_id}
 
@@ -67,9 +65,9 @@ pub record Grown (own all : List (List ℕ)) : Type 0 where
   pub rest : List (List ℕ)
   pub is : all ≡ own ++ rest
 
-with_grown : (s : Sid) (t : List ℕ) (own : List (List ℕ)) → Grown own (with_text s t own)
-with_grown (Standard k) t own = record { rest = []; is = sym (append-nil own) }
-with_grown Other t own =
+with_grown : (s : Option ℕ) (t : List ℕ) (own : List (List ℕ)) → Grown own (with_text s t own)
+with_grown (Some k) t own = record { rest = []; is = sym (append-nil own) }
+with_grown None t own =
     pick_ind (λ (l : List (List ℕ)). Grown own l) (has_text t own) own (own ++ (t ∷ []))
     (λ s. record { rest = []; is = sym (append-nil own) })
     (λ s. record { rest = t ∷ []; is = refl })
@@ -87,10 +85,10 @@ own_grown own (t ∷ ts) =
     }
 
 -- one that is not used is not new
-with-lacks : (t : List ℕ) (s : Sid) (u : List ℕ) (own : List (List ℕ)) → same_text_lem u t ≡ false → has_text t own ≡ false → has_text t (with_text s u own) ≡ false
+with-lacks : (t : List ℕ) (s : Option ℕ) (u : List ℕ) (own : List (List ℕ)) → same_text_lem u t ≡ false → has_text t own ≡ false → has_text t (with_text s u own) ≡ false
 unfolding has_text
-with-lacks t (Standard k) u own d h = h
-with-lacks t Other u own d h =
+with-lacks t (Some k) u own d h = h
+with-lacks t None u own d h =
     pick_ind (λ (l : List (List ℕ)). has_text t l ≡ false) (has_text u own) own (own ++ (u ∷ []))
     (λ s. h)
     (λ s. has-second t own (u ∷ []) h ∙ rw d)
@@ -105,43 +103,43 @@ own-lacks t own (u ∷ ts) h e =
     e
 
 -- by cases on the texts
-own-same_as : (t : List ℕ) (ts : List (List ℕ)) → sid_of t ≡ Other → (h : Bool) → has_text t ts ≡ h → has_text t (own_strings_lem [] ts) ≡ h
+own-same_as : (t : List ℕ) (ts : List (List ℕ)) → sid_of t ≡ None → (h : Bool) → has_text t ts ≡ h → has_text t (own_strings_lem [] ts) ≡ h
 unfolding has_text
 own-same_as t ts o true e = own-has t ts [] o e
 own-same_as t ts o false e = own-lacks t [] ts refl e
 
 -- a text that is not standard is an own string exactly where it is used
-pub own_same : (t : List ℕ) (ts : List (List ℕ)) → sid_of t ≡ Other → has_text t (own_strings_lem [] ts) ≡ has_text t ts
+pub own_same : (t : List ℕ) (ts : List (List ℕ)) → sid_of t ≡ None → has_text t (own_strings_lem [] ts) ≡ has_text t ts
 own_same t ts o = own-same_as t ts o (has_text t ts) refl
 
 -- ---- the new id of a text
 
 -- of a standard one, and of another
-pub new-standard : (own : List (List ℕ)) (t : List ℕ) (k : ℕ) → sid_of t ≡ Standard k → new_id own t ≡ k
+pub new-standard : (own : List (List ℕ)) (t : List ℕ) (k : ℕ) → sid_of t ≡ Some k → new_id own t ≡ k
 unfolding new_id
 new-standard own t k e = rw e
 
-pub new_other : (own : List (List ℕ)) (t : List ℕ) → sid_of t ≡ Other → new_id own t ≡ 391 + place_in t own
+pub new_other : (own : List (List ℕ)) (t : List ℕ) → sid_of t ≡ None → new_id own t ≡ 391 + place_in t own
 unfolding new_id
 new_other own t e = rw e
 
 -- by cases on the text
-new-keeps_as : (t : List ℕ) (own ts : List (List ℕ)) (s : Sid) → sid_of t ≡ s → (sid_of t ≡ Other → has_text t own ≡ true)
+new-keeps_as : (t : List ℕ) (own ts : List (List ℕ)) (s : Option ℕ) → sid_of t ≡ s → (sid_of t ≡ None → has_text t own ≡ true)
     → new_id (own_strings_lem own ts) t ≡ new_id own t
-new-keeps_as t own ts (Standard k) e f = new-standard (own_strings_lem own ts) t k e ∙ sym (new-standard own t k e)
-new-keeps_as t own ts Other e f =
+new-keeps_as t own ts (Some k) e f = new-standard (own_strings_lem own ts) t k e ∙ sym (new-standard own t k e)
+new-keeps_as t own ts None e f =
     let g = own_grown own ts in
     new_other (own_strings_lem own ts) t e ∙ ap (λ (l : List (List ℕ)). 391 + place_in t l) g.is
     ∙ ap (λ (k : ℕ). 391 + k) (place-left t own g.rest (f e)) ∙ sym (new_other own t e)
 
 -- it stays when more texts are used
-pub new-keeps : (t : List ℕ) (own ts : List (List ℕ)) → (sid_of t ≡ Other → has_text t own ≡ true) → new_id (own_strings_lem own ts) t ≡ new_id own t
+pub new-keeps : (t : List ℕ) (own ts : List (List ℕ)) → (sid_of t ≡ None → has_text t own ≡ true) → new_id (own_strings_lem own ts) t ≡ new_id own t
 new-keeps t own ts f = new-keeps_as t own ts (sid_of t) refl f
 
-new-below_as : (t : List ℕ) (own : List (List ℕ)) (s : Sid) → sid_of t ≡ s → (sid_of t ≡ Other → has_text t own ≡ true) → new_id own t < 391 + length own
-new-below_as t own (Standard k) e f = let h = sid_below t k e in omega (arith, new-standard own t k e)
-new-below_as t own Other e f = omega (arith, new_other own t e, place-below t own (f e))
+new-below_as : (t : List ℕ) (own : List (List ℕ)) (s : Option ℕ) → sid_of t ≡ s → (sid_of t ≡ None → has_text t own ≡ true) → new_id own t < 391 + length own
+new-below_as t own (Some k) e f = let h = sid_below t k e in omega (arith, new-standard own t k e)
+new-below_as t own None e f = omega (arith, new_other own t e, place-below t own (f e))
 
 -- and is below the ids that are not given
-pub new-below : (t : List ℕ) (own : List (List ℕ)) → (sid_of t ≡ Other → has_text t own ≡ true) → new_id own t < 391 + length own
+pub new-below : (t : List ℕ) (own : List (List ℕ)) → (sid_of t ≡ None → has_text t own ≡ true) → new_id own t < 391 + length own
 new-below t own f = new-below_as t own (sid_of t) refl f

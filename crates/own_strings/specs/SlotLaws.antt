@@ -1,6 +1,6 @@
 -- Laws of slots that are used one after the other: what the use of one adds to the own strings, that its new id is the next one exactly
 -- where it adds a string, and that the code gives it that id.
-use Rattle.std.specs.Prelude.{ℕ, suc, ◌+◌, ◌<◌, ◌≤◌, ◌≡◌, Bool, drop, get_or}
+use Rattle.std.specs.Prelude.{ℕ, suc, ◌+◌, ◌<◌, ◌≤◌, ◌≡◌, Bool, drop, get_or, None, Option, Some}
 use Rattle.std.proofs.Math.Path.{refl, ap}
 use Rattle.std.proofs.Common.{sym, ◌∙◌, add-zero, add-one, arith}
 use Rattle.std.proofs.Math.Bool.{true, false}
@@ -18,8 +18,6 @@ use Rattle.strings.specs.Text.{same_text_lem}
 use Rattle.strings.specs.TextLaws.{same_true}
 use Rattle.strings.specs.Strings.{string_text, sid_of}
 use Rattle.strings.proofs.StringsLaws.{string_standard, sid_standard, sid_below}
-use Rattle.strings.specs.declared.Sid.{Sid}
-use Rattle.strings.specs.declared.Sid.TheVariants.{Standard, Other}
 use Rattle.subset.specs.Texts.{has_text, with_text, own_strings_lem, place_in, new_id}
 use Rattle.own_strings.specs.declared.Own.{Own}
 use Rattle.own_strings.specs.Slots.{slot_texts, slot_id, own_of, slot_has, slot_with_lem, given_or, given_id, counted}
@@ -72,18 +70,18 @@ module _ (strings : List (List ℕ)) where
 -- it is empty, its text is standard, is there, or is new
 pub data Using (strings own : List (List ℕ)) (x : ℕ) : Type 0 where
   empty : x ≡ 65536 → Using strings own x
-  standard : (k : ℕ) → (x ≡ 65536 → ⊥) → sid_of (string_text strings x) ≡ Standard k → Using strings own x
-  there : (x ≡ 65536 → ⊥) → sid_of (string_text strings x) ≡ Other → has_text (string_text strings x) own ≡ true → Using strings own x
-  new : (x ≡ 65536 → ⊥) → sid_of (string_text strings x) ≡ Other → has_text (string_text strings x) own ≡ false → Using strings own x
+  standard : (k : ℕ) → (x ≡ 65536 → ⊥) → sid_of (string_text strings x) ≡ Some k → Using strings own x
+  there : (x ≡ 65536 → ⊥) → sid_of (string_text strings x) ≡ None → has_text (string_text strings x) own ≡ true → Using strings own x
+  new : (x ≡ 65536 → ⊥) → sid_of (string_text strings x) ≡ None → has_text (string_text strings x) own ≡ false → Using strings own x
 
 module _ (strings own : List (List ℕ)) (x : ℕ) where
-  by-text : (x ≡ 65536 → ⊥) → sid_of (string_text strings x) ≡ Other → (h : Bool) → has_text (string_text strings x) own ≡ h → Using strings own x
+  by-text : (x ≡ 65536 → ⊥) → sid_of (string_text strings x) ≡ None → (h : Bool) → has_text (string_text strings x) own ≡ h → Using strings own x
   by-text n o true e = there n o e
   by-text n o false e = new n o e
 
-  by_id : (x ≡ 65536 → ⊥) → (s : Sid) → sid_of (string_text strings x) ≡ s → Using strings own x
-  by_id n (Standard k) e = standard k n e
-  by_id n Other e = by-text n e (has_text (string_text strings x) own) refl
+  by_id : (x ≡ 65536 → ⊥) → (s : Option ℕ) → sid_of (string_text strings x) ≡ s → Using strings own x
+  by_id n (Some k) e = standard k n e
+  by_id n None e = by-text n e (has_text (string_text strings x) own) refl
 
   by-slot : (b : Bool) → eqb x 65536 ≡ b → Using strings own x
   by-slot true e = empty (eqb-true x 65536 e)
@@ -93,13 +91,13 @@ module _ (strings own : List (List ℕ)) (x : ℕ) where
   use-cases = by-slot (eqb x 65536) refl
 
   -- a slot whose text is not standard
-  pub other_high : sid_of (string_text strings x) ≡ Other → 391 ≤ x
+  pub other_high : sid_of (string_text strings x) ≡ None → 391 ≤ x
   other_high o = high (ltb x 391) refl
     where
       high : (b : Bool) → ltb x 391 ≡ b → 391 ≤ x
       high true e =
           let h : x < 391 = ltb-true x 391 e in
-          let f : sid_of (string_text strings x) ≡ Standard x = ap sid_of (string_standard strings x h) ∙ sid_standard x h in
+          let f : sid_of (string_text strings x) ≡ Some x = ap sid_of (string_standard strings x h) ∙ sid_standard x h in
           absurd (zero_one cc)
       high false e = ltb-false x 391 e
 
@@ -108,15 +106,15 @@ module _ (strings own : List (List ℕ)) (x : ℕ) where
   unfolding used
   used-empty e = rw (eq-eqb x 65536 e)
 
-  pub used-standard : (k : ℕ) → sid_of (string_text strings x) ≡ Standard k → used strings own x ≡ own
+  pub used-standard : (k : ℕ) → sid_of (string_text strings x) ≡ Some k → used strings own x ≡ own
   unfolding used
   used-standard k e = pick_ind (λ (l : List (List ℕ)). l ≡ own) (eqb x 65536) own (with_text (sid_of (string_text strings x)) (string_text strings x) own) (λ s. refl) (λ s. rw e)
 
-  pub used_there : (x ≡ 65536 → ⊥) → sid_of (string_text strings x) ≡ Other → has_text (string_text strings x) own ≡ true → used strings own x ≡ own
+  pub used_there : (x ≡ 65536 → ⊥) → sid_of (string_text strings x) ≡ None → has_text (string_text strings x) own ≡ true → used strings own x ≡ own
   unfolding used
   used_there n o h = rw (ne_eqb x 65536 n, o, h)
 
-  pub used-new : (x ≡ 65536 → ⊥) → sid_of (string_text strings x) ≡ Other → has_text (string_text strings x) own ≡ false → used strings own x ≡ own ++ (string_text strings x ∷ [])
+  pub used-new : (x ≡ 65536 → ⊥) → sid_of (string_text strings x) ≡ None → has_text (string_text strings x) own ≡ false → used strings own x ≡ own ++ (string_text strings x ∷ [])
   unfolding used
   used-new n o h = rw (ne_eqb x 65536 n, o, h)
 
@@ -149,7 +147,7 @@ pub data Step (strings own : List (List ℕ)) (x : ℕ) (all : List (List ℕ)) 
   stays : Stays strings own x all → Step strings own x all
 
 -- a text that is there when all are used
-there_below : (strings own ts : List (List ℕ)) (x : ℕ) → (x ≡ 65536 → ⊥) → sid_of (string_text strings x) ≡ Other → has_text (string_text strings x) own ≡ true
+there_below : (strings own ts : List (List ℕ)) (x : ℕ) → (x ≡ 65536 → ⊥) → sid_of (string_text strings x) ≡ None → has_text (string_text strings x) own ≡ true
     → slot_id (own_strings_lem own ts) strings x < 391 + length own
 there_below strings own ts x n o h =
     let t = string_text strings x in
@@ -160,7 +158,7 @@ there_below strings own ts x n o h =
     omega arith
 
 -- own strings to which a text was added, and then others
-new-next : (strings own ts : List (List ℕ)) (x : ℕ) → (x ≡ 65536 → ⊥) → sid_of (string_text strings x) ≡ Other → has_text (string_text strings x) own ≡ false
+new-next : (strings own ts : List (List ℕ)) (x : ℕ) → (x ≡ 65536 → ⊥) → sid_of (string_text strings x) ≡ None → has_text (string_text strings x) own ≡ false
     → Next strings own x (own_strings_lem (own ++ (string_text strings x ∷ [])) ts)
 new-next strings own ts x n o h =
     let t = string_text strings x in
@@ -278,7 +276,7 @@ module _ (strings : List (List ℕ)) (t : List ℕ) where
 
 -- after slots whose ids are known, own being the own strings so far
 module _ (strings own : List (List ℕ)) (slots ids : List ℕ) (x : ℕ) (ts all : List (List ℕ)) (grows : all ≡ own_strings_lem (used strings own x) ts)
-    (among : sid_of (string_text strings x) ≡ Other → has_text (string_text strings x) own ≡ has_text (string_text strings x) (slot_texts strings slots))
+    (among : sid_of (string_text strings x) ≡ None → has_text (string_text strings x) own ≡ has_text (string_text strings x) (slot_texts strings slots))
     (known : (j : ℕ) → j < length slots → get_or ids j 0 ≡ slot_id all strings (get_or slots j 0)) where
   abbrev text : List ℕ
   text = string_text strings x
@@ -286,14 +284,14 @@ module _ (strings own : List (List ℕ)) (slots ids : List ℕ) (x : ℕ) (ts al
   abbrev given : ℕ
   given = given_id strings slots ids (length own) x
 
-  given_other : (x ≡ 65536 → ⊥) → sid_of text ≡ Other → given ≡ given_or ids (length slots) (length own) (slot_with_lem strings text slots)
+  given_other : (x ≡ 65536 → ⊥) → sid_of text ≡ None → given ≡ given_or ids (length slots) (length own) (slot_with_lem strings text slots)
   unfolding given_id
   given_other n o = rw (ne_eqb x 65536 n, le-ltb x 391 (other_high strings own x o), o)
 
-  given-standard : (k : ℕ) → (x ≡ 65536 → ⊥) → sid_of text ≡ Standard k → (b : Bool) → ltb x 391 ≡ b → given ≡ k
+  given-standard : (k : ℕ) → (x ≡ 65536 → ⊥) → sid_of text ≡ Some k → (b : Bool) → ltb x 391 ≡ b → given ≡ k
   unfolding given_id
   given-standard k n e true h =
-      let f : sid_of text ≡ Standard x = ap sid_of (string_standard strings x (ltb-true x 391 h)) ∙ sid_standard x (ltb-true x 391 h) in
+      let f : sid_of text ≡ Some x = ap sid_of (string_standard strings x (ltb-true x 391 h)) ∙ sid_standard x (ltb-true x 391 h) in
       let g : x ≡ k = cc in
       rw (ne_eqb x 65536 n, h) g
   given-standard k n e false h = rw (ne_eqb x 65536 n, h, e)
@@ -302,7 +300,7 @@ module _ (strings own : List (List ℕ)) (slots ids : List ℕ) (x : ℕ) (ts al
   unfolding given_id
   given-empty e = rw (eq-eqb x 65536 e)
 
-  given_there : (x ≡ 65536 → ⊥) → sid_of text ≡ Other → has_text text own ≡ true → given ≡ slot_id all strings x
+  given_there : (x ≡ 65536 → ⊥) → sid_of text ≡ None → has_text text own ≡ true → given ≡ slot_id all strings x
   given_there n o h =
       let f = with-found strings text slots (sym (among o) ∙ h) in
       let j = slot_with_lem strings text slots in
@@ -310,7 +308,7 @@ module _ (strings own : List (List ℕ)) (slots ids : List ℕ) (x : ℕ) (ts al
       let p : given_or ids (length slots) (length own) j ≡ get_or ids j 0 = rw (lt-ltb j (length slots) f.within) in
       given_other n o ∙ p ∙ known j f.within ∙ slot-full strings all (get_or slots j 0) g.0 ∙ ap (new_id all) g.1 ∙ sym (slot-full strings all x n)
 
-  given-new : (x ≡ 65536 → ⊥) → sid_of text ≡ Other → has_text text own ≡ false → given ≡ slot_id all strings x
+  given-new : (x ≡ 65536 → ⊥) → sid_of text ≡ None → has_text text own ≡ false → given ≡ slot_id all strings x
   given-new n o h =
       let f = with_none strings text slots (sym (among o) ∙ h) in
       let p : given_or ids (length slots) (length own) (slot_with_lem strings text slots) ≡ 391 + length own = rw (le-ltb (slot_with_lem strings text slots) (length slots) (omega arith)) in

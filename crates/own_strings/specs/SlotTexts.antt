@@ -1,13 +1,11 @@
 -- The texts of the slots of a top DICT are the texts that the subset uses before the names of glyphs (document 01, 'Layout'): for a CID-keyed
 -- font registry and ordering of a ROS that can be used, then the string entries that are there.
-use Rattle.std.specs.Prelude.{ℕ, ◌<◌, min, ◌≡◌, refl, true, false, List, [], ◌∷◌, ◌++◌}
+use Rattle.std.specs.Prelude.{ℕ, ◌<◌, min, ◌≡◌, refl, true, false, List, [], ◌∷◌, ◌++◌, None, Option, Some}
 use Rattle.std.proofs.Common.{ap, ◌∙◌, arith, ne_eqb}
 use Rattle.std.proofs.Math.Nat.{min-le_right}
 use Rattle.octets.specs.Pick.{pick_ind}
 use Rattle.decimal.specs.Values.{trunc_of, clamped}
 use Rattle.decimal.specs.declared.Decimal.{Decimal}
-use Rattle.decimal.specs.declared.IdOf.{IdOf}
-use Rattle.decimal.specs.declared.IdOf.TheVariants.{Id, Absent}
 use Rattle.dict.specs.Op.{ros, copied_top_strings}
 use Rattle.dict.specs.Lookup.{Operands, absent, operands, last_of, one_of, id_in, ros_as, ros_in}
 use Rattle.dict.proofs.LookupLaws.{id_low}
@@ -38,11 +36,11 @@ texts-empty strings xs = refl
 
 -- ---- the string entries
 
-entry-by : (p : Program) (op : ℕ) (o : IdOf) → ((sid : ℕ) → o ≡ Id sid → sid < 65536) → (xs : List ℕ) (rest : List Named)
+entry-by : (p : Program) (op : ℕ) (o : Option ℕ) → ((sid : ℕ) → o ≡ Some sid → sid < 65536) → (xs : List ℕ) (rest : List Named)
     → slot_texts p.strings xs ≡ texts_of rest → slot_texts p.strings (slot_of o ∷ xs) ≡ texts_of (named_by p op o rest)
 unfolding texts_of
-entry-by p op Absent low xs rest e = texts-empty p.strings xs ∙ e
-entry-by p op (Id sid) low xs rest e = texts-full p.strings sid xs (low sid refl) ∙ ap (λ (l : List (List ℕ)). string_text p.strings sid ∷ l) e
+entry-by p op None low xs rest e = texts-empty p.strings xs ∙ e
+entry-by p op (Some sid) low xs rest e = texts-full p.strings sid xs (low sid refl) ∙ ap (λ (l : List (List ℕ)). string_text p.strings sid ∷ l) e
 
 entries-texts : (p : Program) (ops : List ℕ) → slot_texts p.strings (entry_slots p.top ops) ≡ texts_of (named_entries p ops)
 unfolding entry_slots named_entries texts_of slot_texts

@@ -1,26 +1,23 @@
 -- The string ids that the top DICT of a subset uses (document 01, 'Layout'): eight slots, registry and ordering of ROS and then the six
 -- string entries; 65536, which is no string id, stands where there is none. And what the code gives and counts as it passes over string ids.
-use Rattle.std.specs.Prelude.{ℕ, ◌+◌, ◌/◌, ◌<◌, ◌≡◌, Bool, false, List, [], ◌∷◌, ◌++◌, ltb, eqb, length, take, get_or}
+use Rattle.std.specs.Prelude.{ℕ, ◌+◌, ◌/◌, ◌<◌, ◌≡◌, Bool, false, List, [], ◌∷◌, ◌++◌, ltb, eqb, length, take, get_or, None, Option, Some}
 use Rattle.octets.specs.Pick.{pick}
 use Rattle.dict.specs.Op.{copied_top_strings}
 use Rattle.dict.specs.Dict.{Entry}
 use Rattle.dict.specs.Lookup.{id_in, ros_in}
-use Rattle.dict.specs.declared.RosIn.{RosIn}
-use Rattle.dict.specs.declared.RosIn.TheVariants.{Ros, None}
+use Rattle.dict.specs.declared.RosEntry.{RosEntry}
 use Rattle.index.specs.Write.{total}
 use Rattle.strings.specs.Text.{same_text_lem}
 use Rattle.strings.specs.Strings.{string_text, sid_of}
-use Rattle.strings.specs.declared.Sid.{Sid}
-use Rattle.strings.specs.declared.Sid.TheVariants.{Standard, Other}
 use Rattle.subset.specs.Texts.{has_text, own_strings_lem, new_id, slot_of}
 use Rattle.own_strings.specs.declared.Own.{Own}
 
 -- ---- slots
 
 -- the slots of registry and ordering
-abbrev pub ros_slots : RosIn → List ℕ
+abbrev pub ros_slots : Option RosEntry → List ℕ
 ros_slots None = 65536 ∷ 65536 ∷ []
-ros_slots (Ros registry ordering s) = registry ∷ ordering ∷ []
+ros_slots (Some q) = q.registry ∷ q.ordering ∷ []
 
 -- the slots of the entries of these operators
 unfoldable pub entry_slots : List Entry → List ℕ → List ℕ
@@ -91,9 +88,9 @@ slot_with_lem strings t [] = 0
 slot_with_lem strings t (x ∷ xs) = pick (slot_has strings t x) 0 (slot_with_lem strings t xs + 1)
 
 -- the id of a text: its standard one, or else another
-abbrev pub standard_or : Sid → ℕ → ℕ
-standard_or (Standard k) id = k
-standard_or Other id = id
+abbrev pub standard_or : Option ℕ → ℕ → ℕ
+standard_or (Some k) id = k
+standard_or None id = id
 
 -- the id of a slot that has the text, of the slots that these ids are for, or the next id
 abbrev pub given_or : List ℕ → ℕ → ℕ → ℕ → ℕ

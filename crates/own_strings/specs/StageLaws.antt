@@ -1,6 +1,6 @@
 -- Laws of slots and of glyph names that are used in a row: how the own strings grow, that ids that were given stay, and one turn of the
 -- loops that give ids.
-use Rattle.std.specs.Prelude.{ℕ, zero, suc, ◌+◌, ◌*◌, ◌/◌, ◌<◌, ◌≤◌, ◌≡◌, refl, Bool, true, false, eqb, take, get_or}
+use Rattle.std.specs.Prelude.{ℕ, zero, suc, ◌+◌, ◌*◌, ◌/◌, ◌<◌, ◌≤◌, ◌≡◌, refl, Bool, true, false, eqb, take, get_or, None}
 use Rattle.std.proofs.Common.{sym, ap, ◌∙◌, subst, div-lt_iff_lt-mul, not-suc-le-zero, eqb-true, ne_eqb, lit<, get_or-take, ext_get_or}
 use mathlib.Core.List.{List, [], ◌∷◌, ◌++◌}
 use native.Mathlib.Omega.{arith}
@@ -13,7 +13,6 @@ use Rattle.octets.specs.PutLaws.{drop-put-at}
 use Rattle.index.specs.Write.{total}
 use Rattle.index.specs.WriteLaws.{total-append}
 use Rattle.strings.specs.Strings.{string_text, sid_of}
-use Rattle.strings.specs.declared.Sid.TheVariants.{Other}
 use Rattle.subset.specs.Texts.{has_text, own_strings_lem}
 use Rattle.subset.specs.Subset.{new_ids}
 use Rattle.own_strings.specs.declared.Own.{Own}
@@ -180,7 +179,7 @@ module _ (old : List ℕ) (at : ℕ) (bs : List ℕ) (within : at ≤ length old
 
 -- slots xs are used after own, and slot j is given its id after the slots `before`
 module _ (strings own : List (List ℕ)) (xs : List ℕ) (j : ℕ) (h : j < length xs) (before ids : List ℕ)
-    (among : sid_of (string_text strings (get_or xs j 0)) ≡ Other
+    (among : sid_of (string_text strings (get_or xs j 0)) ≡ None
     → has_text (string_text strings (get_or xs j 0)) (own_strings_lem own (slot_texts strings (take j xs))) ≡ has_text (string_text strings (get_or xs j 0)) (slot_texts strings before))
     (known : (i : ℕ) → i < length before → get_or ids i 0 ≡ slot_id (own_strings_lem own (slot_texts strings xs)) strings (get_or before i 0))
     (so : Own) (counts : so ≡ own_of (own_strings_lem own (slot_texts strings (take j xs)))) (y : ℕ) (reads : y ≡ get_or xs j 0) (id : ℕ)

@@ -1,5 +1,5 @@
 -- Laws for one string id at a time: the text of an id, the slot that has a text, the id that a slot is given and what is counted.
-use Rattle.std.specs.Prelude.{ℕ, zero, suc, ◌+◌, ◌-◌, ◌<◌, ◌≤◌, ◌≡◌, refl, Bool, true, false, ltb, take, get_or, set}
+use Rattle.std.specs.Prelude.{ℕ, zero, suc, ◌+◌, ◌-◌, ◌<◌, ◌≤◌, ◌≡◌, refl, Bool, true, false, ltb, take, get_or, set, None, Option, Some}
 use Rattle.std.proofs.Math.Path.{sym, ap}
 use Rattle.std.proofs.Common.{◌∙◌, add-one, arith, drop-cons, get_or-take, get_or-drop, length-take-le}
 use mathlib.Core.List.{List, [], ◌∷◌}
@@ -12,14 +12,11 @@ use Rattle.index.specs.IndexLaws.{items-length, item-short}
 use Rattle.index.specs.declared.Index.{Index}
 use Rattle.dict.specs.Op.{copied_top_strings}
 use Rattle.dict.specs.Dict.{Entry}
-use Rattle.dict.specs.Lookup.{id_in, ros_in}
-use Rattle.dict.specs.declared.RosIn.{RosIn}
-use Rattle.dict.specs.declared.RosIn.TheVariants.{Ros, None}
+use Rattle.dict.specs.Lookup.{id_in, ros_in, a_ros}
+use Rattle.dict.specs.declared.RosEntry.{RosEntry}
 use Rattle.decimal.specs.declared.Signed.{Signed}
 use Rattle.strings.specs.Strings.{string_text, sid_of}
 use Rattle.strings.proofs.StringsLaws.{string_own, string_none}
-use Rattle.strings.specs.declared.Sid.{Sid}
-use Rattle.strings.specs.declared.Sid.TheVariants.{Standard, Other}
 use Rattle.subset.specs.Texts.{slot_of}
 use Rattle.own_strings.specs.declared.Own.{Own}
 use Rattle.own_strings.specs.Slots.{ros_slots, first_slots, entry_slots, slots_of, slot_has, slot_with_lem, given_or, given_id, counted}
@@ -28,11 +25,11 @@ use Rattle.own_strings.specs.Ready.{HasStrings}
 -- ---- the slots of a top DICT
 
 -- by what the DICT says of ROS
-module _ (es : List Entry) (cid : Bool) (old new : List ℕ) (found : RosIn) where
+module _ (es : List Entry) (cid : Bool) (old new : List ℕ) (found : Option RosEntry) where
   pub first-none : cid ≡ true → found ≡ ros_in es → found ≡ None → new ≡ put old 0 (65536 ∷ 65536 ∷ []) → new ≡ put old 0 (first_slots cid es)
   first-none c r e w = let f : ros_slots (ros_in es) ≡ 65536 ∷ 65536 ∷ [] = ap ros_slots (sym r ∙ e) in w ∙ ap (put old 0) (rw c (sym f))
 
-  pub first-ros : (registry ordering : ℕ) (s : Signed) → cid ≡ true → found ≡ ros_in es → found ≡ Ros registry ordering s
+  pub first-ros : (registry ordering : ℕ) (s : Signed) → cid ≡ true → found ≡ ros_in es → found ≡ a_ros registry ordering s
       → new ≡ put old 0 (registry ∷ ordering ∷ []) → new ≡ put old 0 (first_slots cid es)
   first-ros registry ordering s c r e w = let f : ros_slots (ros_in es) ≡ registry ∷ ordering ∷ [] = ap ros_slots (sym r ∙ e) in w ∙ ap (put old 0) (rw c (sym f))
 
@@ -51,9 +48,9 @@ slots_at es [] k h = absurd (omega arith)
 slots_at es (op ∷ ops) zero h = refl
 slots_at es (op ∷ ops) (suc k) h = slots_at es ops k (omega arith)
 
-ros-length : (r : RosIn) → length (ros_slots r) ≡ 2
+ros-length : (r : Option RosEntry) → length (ros_slots r) ≡ 2
 ros-length None = refl
-ros-length (Ros registry ordering s) = refl
+ros-length (Some q) = refl
 
 pub first-length : (cid : Bool) (es : List Entry) → length (first_slots cid es) ≡ 2
 first-length true es = ros-length (ros_in es)
@@ -152,20 +149,20 @@ module _ (strings : List (List ℕ)) (slots : List ℕ) (n count x : ℕ) where
   unfolding given_id
   given-low m h = rw (ne_eqb x 65536 m, lt-ltb x 391 h)
 
-  module _ (m : x ≡ 65536 → ⊥) (high : 391 ≤ x) (text : List ℕ) (e : text ≡ string_text strings x) (sid : Sid) (s : sid ≡ sid_of text) where
-    pub given-standard : (k : ℕ) → sid ≡ Standard k → k ≡ given
+  module _ (m : x ≡ 65536 → ⊥) (high : 391 ≤ x) (text : List ℕ) (e : text ≡ string_text strings x) (sid : Option ℕ) (s : sid ≡ sid_of text) where
+    pub given-standard : (k : ℕ) → sid ≡ Some k → k ≡ given
     unfolding given_id
     given-standard k f =
-        let g : sid_of (string_text strings x) ≡ Standard k = ap sid_of (sym e) ∙ sym s ∙ f in
+        let g : sid_of (string_text strings x) ≡ Some k = ap sid_of (sym e) ∙ sym s ∙ f in
         rw (ne_eqb x 65536 m, le-ltb x 391 high, g)
 
-    other : sid ≡ Other → given_or (drop 8 slots) (length (take n slots)) count (slot_with_lem strings text (take n slots)) ≡ given
+    other : sid ≡ None → given_or (drop 8 slots) (length (take n slots)) count (slot_with_lem strings text (take n slots)) ≡ given
     unfolding given_id
     other f =
-        let g : sid_of (string_text strings x) ≡ Other = ap sid_of (sym e) ∙ sym s ∙ f in
+        let g : sid_of (string_text strings x) ≡ None = ap sid_of (sym e) ∙ sym s ∙ f in
         rw (ne_eqb x 65536 m, le-ltb x 391 high, g, e)
 
-    module _ (f : sid ≡ Other) (room : n ≤ length slots) (j : ℕ) (w : j ≡ slot_with_lem strings text (take n slots)) where
+    module _ (f : sid ≡ None) (room : n ≤ length slots) (j : ℕ) (w : j ≡ slot_with_lem strings text (take n slots)) where
       pub given-slot : j < n → get_or slots (8 + j) 0 ≡ given
       given-slot h =
           let k : length (take n slots) ≡ n = length-take-le n slots room in

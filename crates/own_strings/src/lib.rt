@@ -2,7 +2,7 @@
 // that it uses. The texts are used in order: those of eight slots of the top DICT (here), then the names of the glyphs (name_strings).
 #![tactic(auto)]
 
-ghost use Rattle.std.specs.Prelude.{◌≡◌, [], ◌∷◌, ◌+◌, ◌-◌, ◌≤◌, ◌<◌, length, take, drop};
+ghost use Rattle.std.specs.Prelude.{◌≡◌, [], ◌∷◌, ◌+◌, ◌-◌, ◌≤◌, ◌<◌, length, take, drop, None};
 ghost use Rattle.octets.specs.Octets.{put};
 ghost use Rattle.index.specs.Index.{items_of};
 ghost use Rattle.index.specs.Good.{Good};
@@ -10,15 +10,12 @@ ghost use Rattle.dict.specs.Lookup.{id_in};
 ghost use Rattle.dict.specs.Places.{entries_of};
 ghost use Rattle.dict.specs.Noted.{Placed};
 ghost use Rattle.strings.specs.Strings.{string_text, sid_of};
-ghost use Rattle.strings.specs.declared.Sid.TheVariants.{Other};
 ghost use Rattle.own_strings.specs.Slots.{first_slots, slots_of, slot_ids, own_of, slots_own, slot_has, slot_with_lem, given_id, counted};
 ghost use Rattle.own_strings.specs.Ready.{HasStrings};
 ghost use Rattle.subset.specs.Texts.{slot_of};
 
-use decimal::IdOf;
-use dict::{Places, RosIn};
+use dict::Places;
 use index::Index;
-use strings::Sid;
 
 // How many own strings there are, and their bytes together.
 #[derive(Clone, Copy)]
@@ -33,8 +30,8 @@ fn slot_of(d: &[u8], p: Places, op: usize) -> usize
     ensures { result ≡ slot_of (id_in op (entries_of d.now)) }
 {
     match dict::string_id(d, p, op) {
-        IdOf::Absent => 65536,
-        IdOf::Id(sid) => sid,
+        None => 65536,
+        Some(sid) => sid,
     }
 }
 
@@ -54,12 +51,8 @@ fn put_first(d: &[u8], p: Places, cid: bool, slots: &mut [usize])
 {
     if cid {
         match dict::ros(d, p) {
-            RosIn::None => put_two(slots, 65536, 65536),
-            RosIn::Ros {
-                registry,
-                ordering,
-                supplement: _,
-            } => put_two(slots, registry, ordering),
+            None => put_two(slots, 65536, 65536),
+            Some(entry) => put_two(slots, entry.registry, entry.ordering),
         }
     } else {
         put_two(slots, 65536, 65536)
@@ -73,10 +66,8 @@ pub fn put_slots(d: &[u8], cid: bool, slots: &mut [usize])
 {
     let p = dict::read_top(d);
     put_first(d, p, cid, &mut *slots);
-    let mut k = 0;
-    while k < 6 {
+    for k in 0..6 {
         slots[2 + k] = slot_of(d, p, dict::op::copied_top_string(k));
-        k += 1;
     }
 }
 
@@ -95,28 +86,24 @@ pub fn own_text(font: &[u8], strings: Index, sid: usize) -> &[u8]
 
 // Whether a slot has a text, which is not standard.
 fn slot_has(font: &[u8], strings: Index, text: &[u8], x: usize) -> bool
-    requires { (Good font.now strings) × (sid_of text.now ≡ Other) }
+    requires { (Good font.now strings) × (sid_of text.now ≡ None) }
     ensures { result ≡ slot_has (items_of font.now strings) text.now x }
 {
     if x == 65536 {
         return false;
     }
-    find::is_named(font, strings, x, text, Sid::Other)
+    find::is_named(font, strings, x, text, None)
 }
 
 // The first of n slots that has a text, which is not standard; n where none has.
 fn slot_with(font: &[u8], strings: Index, text: &[u8], slots: &[usize], n: usize) -> usize
-    requires { (Good font.now strings) × (sid_of text.now ≡ Other) × (n ≤ length slots.now) }
+    requires { (Good font.now strings) × (sid_of text.now ≡ None) × (n ≤ length slots.now) }
     ensures { result ≡ slot_with_lem (items_of font.now strings) text.now (take n slots.now) }
 {
-    let mut j = 0;
-    while j < n {
-        if slot_has(font, strings, text, slots[j]) {
-            return j;
-        }
-        j += 1;
-    }
-    n
+    slots[..n]
+        .iter()
+        .position(|x| slot_has(font, strings, text, *x))
+        .unwrap_or(n)
 }
 
 // The new id of a slot, after the first n slots, whose ids stand from 8 on, and count own strings.
@@ -139,8 +126,8 @@ pub fn given_id(
     }
     let text = own_text(font, strings, x);
     match strings::sid_of(text) {
-        Sid::Standard(k) => k,
-        Sid::Other => {
+        Some(k) => k,
+        None => {
             let j = slot_with(font, strings, text, slots, n);
             if j < n {
                 return slots[8 + j];
@@ -178,13 +165,11 @@ pub fn put_slot_ids(font: &[u8], strings: Index, slots: &mut [usize]) -> Own
         × (result ≡ own_of (slots_own (items_of font.now strings) slots.old)) }
 {
     let mut own = Own { count: 0, total: 0 };
-    let mut j = 0;
-    while j < 8 {
+    for j in 0..8 {
         let x = slots[j];
         let id = given_id(font, strings, &*slots, j, own.count, x);
         own = count_one(font, strings, own, x, id);
         slots[8 + j] = id;
-        j += 1;
     }
     own
 }

@@ -1,9 +1,8 @@
 -- The INDEXes of global subroutines and of charstrings as the plan left them: their lengths, what their writers ask, and that what is written
 -- is the subset's.
-use Rattle.std.specs.Prelude.{ℕ, ◌+◌, ◌≤◌, ◌≡◌, true, List, [], eqb, length, get_or}
+use Rattle.std.specs.Prelude.{ℕ, ◌+◌, ◌≤◌, ◌≡◌, true, List, [], eqb, length, get_or, Option}
 use Rattle.std.proofs.Math.Path.{sym, ap}
 use Rattle.std.proofs.Common.{◌∙◌, subst, arith}
-use Rattle.std.proofs.Math.Option.{Option}
 use Rattle.octets.specs.Pick.{pick_ind}
 use Rattle.octets.specs.PickLaws.{both_hold}
 use Rattle.index.specs.Write.{total, index_bytes, index_len_lem}

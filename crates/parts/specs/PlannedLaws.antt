@@ -1,11 +1,10 @@
 -- What planning leaves: the words of the glyphs as they were, the way and the bodies those of the subset, and all bodies measured.
 use Prim.Native.Nat.{ℕ, ◌+◌, ◌≤◌}
-use Rattle.std.specs.Prelude.{◌≡◌, refl, Bool, false, eqb, take, get_or}
+use Rattle.std.specs.Prelude.{◌≡◌, refl, Bool, false, eqb, take, get_or, None, Option, Some}
 use Rattle.std.proofs.Math.Path.{sym, ap, fun_ext}
 use Rattle.std.proofs.Common.{◌∙◌, subst, arith}
 use Rattle.std.proofs.Math.Bool.{true}
 use mathlib.Core.List.{List, [], ◌++◌}
-use Rattle.std.proofs.Math.Option.{Option, none, some}
 use Rattle.std.proofs.Math.ListN.{length, drop}
 use Rattle.std.proofs.Math.Seq.{length-take-le, take-append-le, take-take}
 use Rattle.octets.specs.Octets.{put}
@@ -58,8 +57,8 @@ last-holds false u v e = absurd (zero_one cc)
 
 -- bodies of which none fails
 each-made : (f : ℕ → Option (List ℕ)) (ks : List ℕ) (m : Option (List (List ℕ))) → each f ks ≡ m → holds m ≡ true → many_of m ≡ mapped (λ k. body_of_lem (f k)) ks
-each-made f ks none e h = absurd (zero_one cc)
-each-made f ks (some l) e h = sym (each-parts f body_of_lem (λ a. refl) ks l e)
+each-made f ks None e h = absurd (zero_one cc)
+each-made f ks (Some l) e h = sym (each-parts f body_of_lem (λ a. refl) ks l e)
 
 module _ (b : List ℕ) (o : Order) (used old window : List ℕ) (h : PlanIn b o used old window) where
   abbrev p : Program

@@ -1,7 +1,6 @@
 -- Laws of measuring all bodies, part by part: the globals, the locals of the FDs in use, the charstrings.
-use Rattle.std.specs.Prelude.{ℕ, ◌≤◌, ◌≡◌, refl, Bool, true, false, List}
+use Rattle.std.specs.Prelude.{ℕ, ◌≤◌, ◌≡◌, refl, Bool, true, false, List, Option, None, Some}
 use Rattle.std.proofs.Common.{sym, ap, ◌∙◌, subst, arith}
-use Rattle.std.proofs.Math.Option.{Option}
 use Rattle.octets.specs.Pick.{pick}
 use Rattle.octets.specs.PickLaws.{first-fails}
 use Rattle.unfold.specs.Unfold.{Row}
@@ -14,8 +13,6 @@ use Rattle.bodies.specs.Sizes.{Bounded}
 use Rattle.bodies.specs.WritingLaws.{measured_failed, measured-total}
 use Rattle.bodies.specs.declared.subrs.Subrs.TheVariants.{Global}
 use Rattle.bodies.specs.Pruning.{all_hold}
-use Rattle.bodies.specs.declared.Measured.{Measured}
-use Rattle.bodies.specs.declared.Measured.TheVariants.{Failed, Total}
 use Rattle.fds.specs.Locals.{fds_in}
 use Rattle.fds.specs.NewLocals.{locals_by, MeasuresLocals}
 use Rattle.bodies.specs.declared.Manner.{Manner}
@@ -43,7 +40,7 @@ every false u v a b e = absurd (zero_one cc)
 
 module _ (way : ℕ) (p : Program) (rows : List Row) (ws used table : List ℕ) (globals : Ranks) (order : List ℕ) where
   -- the globals as they were measured, their calls by the ranks across
-  pub globals-measured : (calls : Ranks) → calls ≡ across_by table (fds_in used) → (m : Measured)
+  pub globals-measured : (calls : Ranks) → calls ≡ across_by table (fds_in used) → (m : Option ℕ)
       → m ≡ measured_of (subrs_by way rows (reached_in ws globals) (calls_by ws calls globals) (site_in Global) p.globals)
       → m ≡ measured_of (globals_by way p rows ws used table globals order)
   globals-measured calls across m is =
@@ -76,7 +73,7 @@ module _ (way : ℕ) (p : Program) (rows : List Row) (ws used table : List ℕ) 
       }
 
   -- the globals fail
-  pub globals-fail : measured_of the_globals ≡ Failed → Whole (measures false 0 0)
+  pub globals-fail : measured_of the_globals ≡ None → Whole (measures false 0 0)
   globals-fail e = none (first-fails (holds the_globals) (pick locals_hold (holds the_glyphs) false) (measured_failed the_globals e))
 
   module _ (t : Bool) (ls : MeasuresLocals way p rows ws table globals used totals t) where
@@ -87,14 +84,14 @@ module _ (way : ℕ) (p : Program) (rows : List Row) (ws used table : List ℕ) 
         (first-fails locals_hold (holds the_glyphs) (sym ls.told ∙ e)))
 
     -- a charstring fails
-    pub glyphs-fail : measured_of the_glyphs ≡ Failed → Whole (measures false 0 0)
+    pub glyphs-fail : measured_of the_glyphs ≡ None → Whole (measures false 0 0)
     glyphs-fail e =
         none (last (holds the_globals) locals_hold (holds the_glyphs)
         (measured_failed the_glyphs e))
 
     -- none fails
-    pub all-measured : (g c : ℕ) → measured_of the_globals ≡ Total g → t ≡ true
-        → measured_of the_glyphs ≡ Total c → g ≤ 21989897011200 → c ≤ 21989897011200 → Whole (measures true g c)
+    pub all-measured : (g c : ℕ) → measured_of the_globals ≡ Some g → t ≡ true
+        → measured_of the_glyphs ≡ Some c → g ≤ 21989897011200 → c ≤ 21989897011200 → Whole (measures true g c)
     all-measured g c e u d gs cs =
         let x = measured-total the_globals g e in
         let y = measured-total the_glyphs c d in
@@ -110,19 +107,19 @@ module _ (way : ℕ) (p : Program) (rows : List Row) (ws used table : List ℕ) 
         }
 
   -- what the code returns: each part as it was measured
-  module _ (m : Measured) (is : m ≡ measured_of the_globals) where
-    pub returns_globals : m ≡ Failed → (r : Measures) → r ≡ measures false 0 0 → Whole r
+  module _ (m : Option ℕ) (is : m ≡ measured_of the_globals) where
+    pub returns_globals : m ≡ None → (r : Measures) → r ≡ measures false 0 0 → Whole r
     returns_globals e r a = subst Whole (sym a) (globals-fail (sym is ∙ e))
 
     module _ (t : Bool) (ls : MeasuresLocals way p rows ws table globals used totals t) where
       pub returns_locals : t ≡ false → (r : Measures) → r ≡ measures false 0 0 → Whole r
       returns_locals e r a = subst Whole (sym a) (locals-fail t ls e)
 
-      module _ (d : Measured) (ds : d ≡ measured_of the_glyphs) where
-        pub returns_glyphs : d ≡ Failed → (r : Measures) → r ≡ measures false 0 0 → Whole r
+      module _ (d : Option ℕ) (ds : d ≡ measured_of the_glyphs) where
+        pub returns_glyphs : d ≡ None → (r : Measures) → r ≡ measures false 0 0 → Whole r
         returns_glyphs e r a = subst Whole (sym a) (glyphs-fail t ls (sym ds ∙ e))
 
-        pub returns_all : Bounded m → Bounded d → (g c : ℕ) → m ≡ Total g → t ≡ true → d ≡ Total c → Whole (measures true g c)
+        pub returns_all : Bounded m → Bounded d → (g c : ℕ) → m ≡ Some g → t ≡ true → d ≡ Some c → Whole (measures true g c)
         returns_all few short g c e u v = all-measured t ls g c (sym is ∙ e) u (sym ds ∙ v) (subst Bounded e few) (subst Bounded v short)
 
 -- what measuring asks does not name the way

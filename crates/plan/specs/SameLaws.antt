@@ -1,7 +1,6 @@
 -- What the work words and the tables give by the way is what crates/subset defines: subroutines, charstrings, and where renumbering fails.
-use Rattle.std.specs.Prelude.{ℕ, suc, ◌+◌, ◌<◌, ◌≡◌, refl, Bool, true, false, List, [], ◌∷◌, eqb, length, get_or}
+use Rattle.std.specs.Prelude.{ℕ, suc, ◌+◌, ◌<◌, ◌≡◌, refl, Bool, true, false, List, [], ◌∷◌, eqb, length, get_or, Option, Some}
 use Rattle.std.proofs.Common.{sym, ap, ◌∙◌, arith, eqb-true}
-use Rattle.std.proofs.Math.Option.{Option, some}
 use Rattle.octets.specs.Pick.{pick}
 use Rattle.octets.specs.Steps.{and}
 use Rattle.unfold.specs.Unfold.{Row, Site}
@@ -21,7 +20,7 @@ pub body_same : (way : ℕ) (rows : List Row) (calls calls' : Calls) (site : Sit
 body_same way rows calls calls' site s same = go (eqb way 0) (λ e. same (eqb-true way 0 e))
   where
     go : (t : Bool) → (t ≡ true → calls ≡ calls')
-        → pick t (renumbered_body rows calls site s) (some s) ≡ pick t (renumbered_body rows calls' site s) (some s)
+        → pick t (renumbered_body rows calls site s) (Some s) ≡ pick t (renumbered_body rows calls' site s) (Some s)
     go true h = ap (λ (c : Calls). renumbered_body rows c site s) (h refl)
     go false h = refl
 
@@ -32,13 +31,13 @@ pub subrs-same : (way : ℕ) (rows : List Row) (set set' : ℕ → Bool) (calls 
 subrs-same way rows set set' calls calls' site subrs near same = go (eqb way 0) (eqb way 1) (λ e. same (eqb-true way 0 e))
   where
     go : (t u : Bool) → (t ≡ true → (set ≡ set') × (calls ≡ calls'))
-        → pick t (renumbered_subrs rows set calls site subrs) (some (pick u (stubbed_from set 0 subrs) subrs))
-        ≡ pick t (renumbered_subrs rows set' calls' site subrs) (some (pick u (stubbed_from set' 0 subrs) subrs))
+        → pick t (renumbered_subrs rows set calls site subrs) (Some (pick u (stubbed_from set 0 subrs) subrs))
+        ≡ pick t (renumbered_subrs rows set' calls' site subrs) (Some (pick u (stubbed_from set' 0 subrs) subrs))
     go true u h =
         ap (λ (s : ℕ → Bool). renumbered_subrs rows s calls site subrs) (h refl).0
         ∙ ap (λ (c : Calls). renumbered_subrs rows set' c site subrs) (h refl).1
     go false true h =
-        ap some (stubbed-alike set set' 0 subrs (λ i k. let z : 0 + i ≡ i = omega arith in ap set z ∙ near i k ∙ ap set' (sym z)))
+        ap Some (stubbed-alike set set' 0 subrs (λ i k. let z : 0 + i ≡ i = omega arith in ap set z ∙ near i k ∙ ap set' (sym z)))
     go false false h = refl
 
 -- ---- each of some
@@ -48,8 +47,8 @@ pub each-alike : {A : Type 0} (f g : ℕ → Option A) (order : List ℕ) → ((
 unfolding each
 each-alike f g [] same = refl
 each-alike {A} f g (x ∷ order) same =
-    ap (λ (m : Option A). and m (λ b. and (each f order) (λ bs. some (b ∷ bs)))) (same 0 (omega arith))
-    ∙ ap (λ (m : Option (List A)). and (g x) (λ b. and m (λ bs. some (b ∷ bs)))) (each-alike f g order (λ i h. same (suc i) (omega arith)))
+    ap (λ (m : Option A). and m (λ b. and (each f order) (λ bs. Some (b ∷ bs)))) (same 0 (omega arith))
+    ∙ ap (λ (m : Option (List A)). and (g x) (λ b. and m (λ bs. Some (b ∷ bs)))) (each-alike f g order (λ i h. same (suc i) (omega arith)))
 
 -- all of a list hold where each is the same
 pub hold_same : {A : Type 0} (f g : ℕ → Option A) (fs : List ℕ) → ((x : ℕ) → is_in x fs ≡ true → f x ≡ g x) → all_hold f fs ≡ all_hold g fs

@@ -1,6 +1,5 @@
 -- The sizes of all bodies by the way (document 01, 'Corners in write.rs'), over what the work words and the tables hold.
-use Rattle.std.specs.Prelude.{ℕ, ◌≤◌, ◌<◌, ◌≡◌, Bool, true, false, List, [], ◌∷◌, eqb, length, get_or}
-use Rattle.std.proofs.Math.Option.{Option}
+use Rattle.std.specs.Prelude.{ℕ, ◌≤◌, ◌<◌, ◌≡◌, Bool, true, false, List, [], ◌∷◌, eqb, length, get_or, Option}
 use Rattle.octets.specs.Pick.{pick}
 use Rattle.index.specs.Write.{total}
 use Rattle.unfold.specs.Unfold.{Row, global}

@@ -1,9 +1,8 @@
 -- Which way it is: no part fails exactly where the font can be renumbered, and a number without a subroutine fails it; and the bodies by
 -- the way are those of the subset.
-use Rattle.std.specs.Prelude.{ℕ, ◌<◌, ◌≡◌, refl, Bool, true, false, List, [], ◌∷◌, eqb, length, get_or}
+use Rattle.std.specs.Prelude.{ℕ, ◌<◌, ◌≡◌, refl, Bool, true, false, List, [], ◌∷◌, eqb, length, get_or, None, Option}
 use Rattle.std.proofs.Math.Path.{sym, ap}
 use Rattle.std.proofs.Common.{◌∙◌, arith}
-use Rattle.std.proofs.Math.Option.{Option, none}
 use Rattle.octets.specs.Pick.{pick}
 use Rattle.octets.specs.PickLaws.{pick_same}
 use Rattle.unfold.specs.Unfold.{Row, glyph, local, global}
@@ -30,7 +29,7 @@ use Rattle.plan.specs.FontLaws.{locals_same, globals-same, glyphs-same}
 no_number : (rows : List Row) (p : Program) (f : ℕ) → numbered p rows f ≡ false → holds (renumbered_locals p rows f) ≡ false
 unfolding renumbered_subrs
 no_number rows p f e =
-    ap (λ (t : Bool). holds (pick t (each (λ k. renumbered_body rows (calls_in p rows f) (local f k) (get_or (locals_of p f) k [])) (those (local_set rows f) (length (locals_of p f)) 0)) none)) e
+    ap (λ (t : Bool). holds (pick t (each (λ k. renumbered_body rows (calls_in p rows f) (local f k) (get_or (locals_of p f) k [])) (those (local_set rows f) (length (locals_of p f)) 0)) None)) e
 
 no_numbers : (rows : List Row) (p : Program) (fs : List ℕ) → all_numbered p rows fs ≡ false → all_hold (renumbered_locals p rows) fs ≡ false
 unfolding all_numbered all_hold
@@ -54,7 +53,7 @@ unnumbered_fails p rows used order e = renumbers-parts p rows used order ∙ go 
         ap (λ (b : Bool). pick (holds (renumbered_globals p rows used)) (pick b (all_hold (renumbered_glyph p rows) order) false) false) (no_numbers rows p used h)
         ∙ pick_same (holds (renumbered_globals p rows used)) false
     go false n h =
-        ap (λ (t : Bool). pick (holds (pick t (each (λ k. renumbered_body rows (calls_across p rows used) (global k) (get_or p.globals k [])) (those (global_set rows) (length p.globals) 0)) none))
+        ap (λ (t : Bool). pick (holds (pick t (each (λ k. renumbered_body rows (calls_across p rows used) (global k) (get_or p.globals k [])) (those (global_set rows) (length p.globals) 0)) None))
         (pick (all_hold (renumbered_locals p rows) used) (all_hold (renumbered_glyph p rows) order) false) false) n
 
 module _ (p : Program) (good : GoodProgram p) (rows : List Row) (narrow : Narrow rows) (used ws : List ℕ) (globals : Ranks) (table : List ℕ)

@@ -9,8 +9,8 @@ ghost use Rattle.fds.specs.NewLocals.{MeasuresLocals};
 ghost use Rattle.order_window.specs.Window.{glyphs_of, Ordered};
 ghost use Rattle.plan.specs.Sizes.{across_by, globals_by, MeasureIn, MeasuresAll};
 
+use bodies::Manner;
 use bodies::subrs::{Source, Subrs};
-use bodies::{Manner, Measured};
 use order_window::Order;
 use renumber::Ranks;
 
@@ -29,14 +29,10 @@ pub fn across(used: &[u32], table: &[usize]) -> Ranks
 {
     let mut count: usize = 0;
     let mut last: usize = 0;
-    let mut fd: usize = 0;
-    while fd < 256 {
-        if used[fd] == 0 {
-            fd += 1;
-        } else {
+    for fd in 0..256 {
+        if used[fd] != 0 {
             count += 1;
             last = fd;
-            fd += 1;
         }
     }
     if count == 1 {
@@ -71,7 +67,7 @@ fn globals_total(
     words: &[u32],
     table: &[usize],
     rows: &[u8],
-) -> Measured
+) -> Option<usize>
     requires { MeasureIn font.now o used.now words.now how table.now (rows_of rows.now) }
     ensures { (result ≡ measured_of (globals_by how.way (program_of font.now o.f) (rows_of rows.now) words.now
         used.now table.now how.globals (glyphs_of font.now o.f words.now))) × (Bounded result) }
@@ -135,12 +131,12 @@ pub fn measure(
         × (Ordered font.now words.now window.new o) }
 {
     match globals_total(how, o, font, used, words, table, rows) {
-        Measured::Failed => failed(),
-        Measured::Total(g) => {
+        None => failed(),
+        Some(g) => {
             if locals_totals(how, o, font, used, words, table, rows, sums) {
                 match glyph_bodies::charstrings_total(how, o, font, words, window, table, rows) {
-                    Measured::Failed => failed(),
-                    Measured::Total(c) => Measures {
+                    None => failed(),
+                    Some(c) => Measures {
                         all: true,
                         globals: g,
                         glyphs: c,

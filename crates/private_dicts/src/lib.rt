@@ -112,10 +112,8 @@ pub fn matrices_len(font: &[u8], f: Font, fds: &[usize], count: usize) -> usize
     ensures { (result ≡ total (matrices_by (program_of font.now f) (take count fds.now))) × (result ≤ 1792000000000) }
 {
     let mut len: usize = 0;
-    let mut k: usize = 0;
-    while k < count {
-        len += matrix_len(font, f, fds[k]);
-        k += 1;
+    for fd in &fds[..count] {
+        len += matrix_len(font, f, *fd);
     }
     len
 }
@@ -164,12 +162,10 @@ pub fn put_font_dicts(
     index::put_head(out, at, count, total);
     let mut p = ix.base + 1;
     let mut place = from;
-    let mut k: usize = 0;
-    while k < count {
+    for k in 0..count {
         p = put_font_dict(font, f, fds[k], sizes[k], place, &mut *out, p);
         index::put_end(&mut *out, ix, k, p);
         place += lens[k];
-        k += 1;
     }
     p
 }

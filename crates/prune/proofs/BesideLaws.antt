@@ -1,21 +1,20 @@
 -- A place in a body beside the place in the renumbered body: what stands in the one stands in the other, a number that waits excepted,
 -- which the renumbered body has still before it: as it was, or another one if a call takes it.
-use Rattle.std.specs.Prelude.{ℕ, ◌+◌, ◌-◌, ◌≤◌, ◌<◌, ◌≡◌, Bool, true, false, List, [], ◌∷◌, ◌++◌, ltb, eqb, ℤ, get_or}
+use Rattle.std.specs.Prelude.{ℕ, ◌+◌, ◌-◌, ◌≤◌, ◌<◌, ◌≡◌, Bool, true, false, List, [], ◌∷◌, ◌++◌, ltb, eqb, ℤ, get_or, None, Option, Some}
 use Rattle.std.proofs.Math.Path.{refl, ap, subst}
 use Rattle.std.proofs.Common.{sym, ◌∙◌, add-zero, length-append, get_or-drop, drop-drop, drop_at}
-use Rattle.std.proofs.Math.Option.{Option, none, some}
 use native.Mathlib.Omega.{arith}
 use Rattle.std.proofs.Math.ListN.{length, take, drop, length-drop}
 use Rattle.std.proofs.Math.Seq.{take_at, length-take-le}
 use borrow.Author.Tests.{le-ltb, ltb-false}
 use Rattle.octets.specs.Octets.{Octets}
-use Rattle.type2_number.specs.Number.{mag, is_neg, operator, number, number_at, Reading}
+use Rattle.type2_number.specs.Number.{mag, is_neg, number, number_at, Reading}
 use Rattle.type2_number.specs.Encoding.{encoded}
 use Rattle.type2_number.specs.EncodingLaws.{number_short}
 use Rattle.type2_number.specs.NumberLaws.{OperatorByte, operator-byte, form_op}
 use Rattle.type2_number.specs.NumberRound.{number-back}
 use Rattle.type2_number.specs.Readings.{ReadingRead, reading-at}
-use Rattle.charstring.specs.Token.{Tok, num, op, esc, mask, is_mask}
+use Rattle.charstring.specs.Token.{Tok, num, op, esc, is_mask}
 use Rattle.charstring.specs.Encode.{encode}
 use Rattle.charstring.specs.declared.MaskLen.{MaskLen}
 use Rattle.charstring.specs.declared.MaskLen.TheVariants.{Given}
@@ -58,28 +57,28 @@ written-operator s at b rest o lies =
 
 -- the number that waits is a reading
 abbrev Readable : Option ℤ → Type 0
-Readable none = Unit
-Readable (some z) = Reading z
+Readable None = Unit
+Readable (Some z) = Reading z
 
 module _ (given : ℕ → MaskLen) (calls : Calls) (s s' : List ℕ) where
   pub record Beside (w : Option ℤ) (at at' : ℕ) : Type 0 where
     pub old : List Tok
     pub new : List Tok
     pub left : Left given s at false old
-    pub turns : renumber calls w old ≡ some new
+    pub turns : renumber calls w old ≡ Some new
     pub lies : drop at' s' ≡ encode new
     pub waiting : Readable w
 
   -- the number that waited stands there unchanged
   abbrev pub Caught : Option ℤ → ℕ → ℕ → Type 0
-  Caught none at' p = at' ≡ p
-  Caught (some z) at' p = Number s' at' z p
+  Caught None at' p = at' ≡ p
+  Caught (Some z) at' p = Number s' at' z p
 
   -- past the number that waited, if it is kept
   catch : (w : Option ℤ) (at' : ℕ) (us : List Tok) → Readable w → drop at' s' ≡ encode (kept_before w us) → (p : ℕ) × Caught w at' p × (drop p s' ≡ encode us)
   unfolding encode
-  catch none at' us r lies = (at', refl, lies)
-  catch (some z) at' us r lies =
+  catch None at' us r lies = (at', refl, lies)
+  catch (Some z) at' us r lies =
       (at' + length (encoded z), written-number s' at' z (encode us) r lies, behind s' at' (encoded z) (encode us) lies)
 
   -- the operator b stands in the renumbered body, past the number that waited
@@ -94,7 +93,7 @@ module _ (given : ℕ → MaskLen) (calls : Calls) (s s' : List ℕ) where
       record { caught = c; inside = v.0; operates = v.1 }
 
   module _ (octets : Octets s) where
-    pub beside-start : renumber_charstring calls given s ≡ some s' → Beside none 0 0
+    pub beside-start : renumber_charstring calls given s ≡ Some s' → Beside None 0 0
     beside-start e =
         let x = renumbered-whole calls given s s' e in
         record { old = x.old; new = x.new; left = left-start given s octets x.old x.reads; turns = x.turns; lies = x.writes; waiting = tt }
@@ -103,10 +102,10 @@ module _ (given : ℕ → MaskLen) (calls : Calls) (s s' : List ℕ) where
     operator-at at b o = subst OperatorByte o.byte (operator-byte s at o.here)
 
     module _ (w : Option ℤ) (at at' : ℕ) (x : Beside w at at') (h : at < length s) where
-      turned : (t : Tok) (others : List Tok) → x.old ≡ t ∷ others → renumber calls w (t ∷ others) ≡ some x.new
+      turned : (t : Tok) (others : List Tok) → x.old ≡ t ∷ others → renumber calls w (t ∷ others) ≡ Some x.new
       turned t others e = ap (renumber calls w) (sym e) ∙ x.turns
 
-      pub beside-number : (z : ℤ) (n : ℕ) → number_at s at ≡ number z n → (p : ℕ) × Caught w at' p × Beside (some z) n p
+      pub beside-number : (z : ℤ) (n : ℕ) → number_at s at ≡ number z n → (p : ℕ) × Caught w at' p × Beside (Some z) n p
       beside-number z n f =
           let t = left-number given s octets at x.old x.left z n h f in
           let q = renumber-num calls w t.others x.new z (turned (num z) t.others t.is) in
@@ -115,7 +114,7 @@ module _ (given : ℕ → MaskLen) (calls : Calls) (s s' : List ℕ) where
 
       -- an operator that is no call, no escape and no mask
       pub beside-operator : (b : ℕ) → Operator s at b → eqb b 12 ≡ false → is_call b ≡ false → is_mask b ≡ false
-          → (p : ℕ) × Met w at' b p × Beside none (at + 1) (p + 1)
+          → (p : ℕ) × Met w at' b p × Beside None (at + 1) (p + 1)
       unfolding encode
       beside-operator b o n c f =
           let t = left_op given s octets at x.old x.left b h o n in
@@ -134,7 +133,7 @@ module _ (given : ℕ → MaskLen) (calls : Calls) (s s' : List ℕ) where
           )
 
       pub beside-escape : (e : ℕ) → Operator s at 12 → get_or s (at + 1) 0 ≡ e → ltb (length s - at) 2 ≡ false
-          → (p : ℕ) × Met w at' 12 p × (get_or s' (p + 1) 0 ≡ e) × (ltb (length s' - p) 2 ≡ false) × Beside none (at + 2) (p + 2)
+          → (p : ℕ) × Met w at' 12 p × (get_or s' (p + 1) 0 ≡ e) × (ltb (length s' - p) 2 ≡ false) × Beside None (at + 2) (p + 2)
       unfolding encode
       beside-escape e o f n =
           let t = left-escape given s octets at x.old x.left e h o f n in
@@ -160,7 +159,7 @@ module _ (given : ℕ → MaskLen) (calls : Calls) (s s' : List ℕ) where
       pub beside-mask : (b len : ℕ) → Operator s at b → eqb b 12 ≡ false → is_call b ≡ false → is_mask b ≡ true → given at ≡ Given len
           → ltb (length s - (at + 1)) len ≡ false
           → (p : ℕ) × Met w at' b p × (take len (drop (p + 1) s') ≡ take len (drop (at + 1) s)) × (ltb (length s' - (p + 1)) len ≡ false)
-          × Beside none (at + 1 + len) (p + 1 + len)
+          × Beside None (at + 1 + len) (p + 1 + len)
       unfolding encode
       beside-mask b len o n c f g i =
           let bs = take len (drop (at + 1) s) in
@@ -168,7 +167,7 @@ module _ (given : ℕ → MaskLen) (calls : Calls) (s s' : List ℕ) where
           let t = left_op given s octets at x.old x.left b h o n in
           let u = left-mask given s octets (at + 1) t.others (subst (λ (d : Bool). Left given s (at + 1) d t.others) f t.left) len (ap given a ∙ g) i in
           let q = renumber_op calls w t.others x.new b c (turned (op b) t.others t.is) in
-          let v = renumber-mask calls none u.others q.0 bs (ap (renumber calls none) (sym u.is) ∙ q.1) in
+          let v = renumber-mask calls None u.others q.0 bs (ap (renumber calls None) (sym u.is) ∙ q.1) in
           let p = catch w at' (op b ∷ q.0) x.waiting (x.lies ∙ ap encode q.2) in
           let lies : drop (p.0 + 1) s' ≡ bs ++ encode v.0 = behind s' p.0 (b ∷ []) (encode q.0) p.2 ∙ ap encode v.2 in
           let r = ltb-false (length s - (at + 1)) len i in
@@ -190,18 +189,18 @@ module _ (given : ℕ → MaskLen) (calls : Calls) (s s' : List ℕ) where
           )
 
     -- a call: it takes the number that waited, and another one stands in the renumbered body
-    pub beside_call : (operand : (b : ℕ) (z y : ℤ) → calls b z ≡ some y → Reading y) (z : ℤ) (at at' : ℕ) → Beside (some z) at at' → at < length s
+    pub beside_call : (operand : (b : ℕ) (z y : ℤ) → calls b z ≡ Some y → Reading y) (z : ℤ) (at at' : ℕ) → Beside (Some z) at at' → at < length s
         → (b : ℕ) → Operator s at b → eqb b 12 ≡ false → is_call b ≡ true → is_mask b ≡ false
-        → (y : ℤ) × (calls b z ≡ some y) × (p : ℕ) × Met (some y) at' b p × Beside none (at + 1) (p + 1)
+        → (y : ℤ) × (calls b z ≡ Some y) × (p : ℕ) × Met (Some y) at' b p × Beside None (at + 1) (p + 1)
     unfolding encode
     beside_call operand z at at' x h b o n c f =
         let t = left_op given s octets at x.old x.left b h o n in
-        let q = renumber_call calls z b t.others x.new c (ap (renumber calls (some z)) (sym t.is) ∙ x.turns) in
-        let p = catch (some q.0) at' (op b ∷ q.1) (operand b z q.0 q.2) (x.lies ∙ ap encode q.4) in (
+        let q = renumber_call calls z b t.others x.new c (ap (renumber calls (Some z)) (sym t.is) ∙ x.turns) in
+        let p = catch (Some q.0) at' (op b ∷ q.1) (operand b z q.0 q.2) (x.lies ∙ ap encode q.4) in (
           q.0,
           q.2,
           p.0,
-          met (some q.0) at' b p.0 (encode q.1) (operator-at at b o) p.1 p.2,
+          met (Some q.0) at' b p.0 (encode q.1) (operator-at at b o) p.1 p.2,
           record {
             old = t.others;
             new = q.1;

@@ -1,8 +1,7 @@
 -- What a plain glyph unfolds to (document 01, demand 3 and 'Plain glyphs') stays the same in a subset, if the record lists the rows that the
 -- glyph meets: over subroutines that stay as they are where they are listed, and over charstrings and subroutines that are renumbered.
-use Rattle.std.specs.Prelude.{ℕ, ◌≡◌, refl, List, [], ◌∷◌, length, get_or}
+use Rattle.std.specs.Prelude.{ℕ, ◌≡◌, refl, List, [], ◌∷◌, length, get_or, Some}
 use Rattle.std.proofs.Common.{sym, ap, ◌∙◌, subst}
-use Rattle.std.proofs.Math.Option.{some}
 use Rattle.unfold.specs.Unfold.{Tok, Row, Site, glyph, local, global, entered, Run, broken, returned, ended, walk, run_body, plain, glyph_of, fresh, unfold_glyph}
 use Rattle.octets.specs.Octets.{Octets}
 use Rattle.charstring.specs.Token.{tokens_from, tokens_of}
@@ -33,7 +32,7 @@ unfolding unfold_glyph run_body walk
 run_glyph globals locals fd g [] ts rows e = absurd (zero_one cc)
 run_glyph globals locals fd g (b ∷ bs) ts rows e = e
 
-renumbered-nothing : (calls : Calls) (given : ℕ → MaskLen) (s' : List ℕ) → renumber_charstring calls given [] ≡ some s' → [] ≡ s'
+renumbered-nothing : (calls : Calls) (given : ℕ → MaskLen) (s' : List ℕ) → renumber_charstring calls given [] ≡ Some s' → [] ≡ s'
 unfolding renumber_charstring tokens_of tokens_from renumber encode
 renumbered-nothing calls given s' e = cc
 
@@ -55,7 +54,7 @@ same_unfolds globals locals globals' locals' fd fd' g g' listed ll gl lb gb (b �
 -- THE THEOREM for renumbered charstrings and subroutines
 pub renumbered_unfolds : (globals locals globals' locals' : List (List ℕ)) (fd fd' g g' : ℕ) (listed : Row → Type 0) (given : Site → ℕ → MaskLen) (calls : Site → Calls)
     (is_local isGlobal : ℕ → ℕ → Type 0) → Renumbers globals locals globals' locals' fd listed given calls is_local isGlobal
-    → (s s' : List ℕ) → Octets s → renumber_charstring (calls (glyph g)) (given (glyph g)) s ≡ some s'
+    → (s s' : List ℕ) → Octets s → renumber_charstring (calls (glyph g)) (given (glyph g)) s ≡ Some s'
     → (ts : List Tok) (rows : List Row) → unfold_glyph globals locals fd g s ≡ plain ts rows → All listed rows
     → (rows' : List Row) × (unfold_glyph globals' locals' fd' g' s' ≡ plain ts rows')
 unfolding unfold_glyph

@@ -1,11 +1,10 @@
 -- The rows that a glyph meets are its own (document 01, 'Plain glyphs' and 'Reach record'): a mask stands in the glyph itself or in a subroutine
 -- that it enters. So a record may say what it likes of the masks of other bodies, which are not rewritten.
-use Rattle.std.specs.Prelude.{ℤ, ◌≡◌, length, get_or}
+use Rattle.std.specs.Prelude.{ℤ, ◌≡◌, length, get_or, None, Option, Some}
 use Prim.Native.Nat.{ℕ, zero, suc, ◌+◌}
 use Rattle.std.proofs.Math.Path.{refl, subst}
 use Rattle.std.proofs.Common.{sym, arith}
 use mathlib.Core.List.{List, [], ◌∷◌, ◌++◌}
-use Rattle.std.proofs.Math.Option.{Option, none, some}
 use Rattle.unfold.specs.Unfold.{Tok, Row, Site, glyph, local, global, entered, masked, State, Run, broken, returned, ended, calling, after, walk, run_body, plain, glyph_of, fresh, unfold_glyph}
 use Rattle.prune.specs.Bodies.{All, empty as nothing, one}
 use Rattle.prune.specs.StepLaws.{zero_one, mask_now, Step, reads, calls_local, calls_global, returns, ends, escapes, masks, clears, walk_was}
@@ -68,26 +67,26 @@ module _ (globals locals : List (List ℕ)) (fd g : ℕ) (listed : Row → Type 
 
     module _ (k : ℕ) (next : Walks k) (at : ℕ) (l : Option ℤ) (st : State) (r : Run) (own : All Own st.met) (h : Listed listed r) where
       own_call : (which : Site) (body : List ℕ) → (listed (entered which) → Runs which × Own (entered which))
-          → after (enter which body (calling which st)) (walk globals locals fd enter k site s (at + 1) none) ≡ r → Listed Own r
+          → after (enter which body (calling which st)) (walk globals locals fd enter k site s (at + 1) None) ≡ r → Listed Own r
       own_call which body o e =
-          own-after (enter which body (calling which st)) (walk globals locals fd enter k site s (at + 1) none) r e h
-          (λ x f. backs k site s (at + 1) none x r f h)
+          own-after (enter which body (calling which st)) (walk globals locals fd enter k site s (at + 1) None) r e h
+          (λ x f. backs k site s (at + 1) None x r f h)
           (λ a. let p = o (all-last listed st.met (entered which) (starts which body (calling which st) _ refl a)) in
           enters which body (calling which st) _ p.0 (all_more Own st.met (entered which) own p.1) refl a)
-          (λ x p f. next (at + 1) none x r p f h)
+          (λ x p f. next (at + 1) None x r p f h)
 
       own-step : Step globals locals fd enter k site s at l st r → Listed Own r
-      own-step (reads z n f a b e) = next n (some z) _ r own e h
+      own-step (reads z n f a b e) = next n (Some z) _ r own e h
       own-step (calls_local i o f e) = own_call (local fd i) (get_or locals i []) (λ p. ((refl, p), own_local i p)) e
       own-step (calls_global i o f e) = own_call (global i) (get_or globals i []) (λ p. (p, own_global i p)) e
       own-step (returns o f e) = subst (Listed Own) e own
       own-step (ends o f a e) = subst (Listed Own) e own
-      own-step (escapes x o f a b c d e) = next (at + 2) none _ r own e h
+      own-step (escapes x o f a b c d e) = next (at + 2) None _ r own e h
       own-step (masks b o c m a d f e) =
           let row = masked site at (mask_now st) in
-          let p = all-last listed st.met row (backs k site s (at + 1 + mask_now st) none _ r e h) in
-          next (at + 1 + mask_now st) none _ r (all_more Own st.met row own (own-mask site at (mask_now st) runs p)) e h
-      own-step (clears b n o c m a d e) = next (at + 1) none _ r own e h
+          let p = all-last listed st.met row (backs k site s (at + 1 + mask_now st) None _ r e h) in
+          next (at + 1 + mask_now st) None _ r (all_more Own st.met row own (own-mask site at (mask_now st) runs p)) e h
+      own-step (clears b n o c m a d e) = next (at + 1) None _ r own e h
 
     own-walk : (k : ℕ) → Walks k
     unfolding walk
@@ -99,10 +98,10 @@ module _ (globals locals : List (List ℕ)) (fd g : ℕ) (listed : Row → Type 
   unfolding run_body
   own_body zero site s st r runs own e h =
       own-walk (λ t b x. broken) (backs_none globals locals fd listed) (λ t b x q f a. absurd (subst (Listed listed) (sym f) a))
-      (λ t b x q o p f a. absurd (subst (Listed listed) (sym f) a)) site s runs (length s) 0 none st r own e h
+      (λ t b x q o p f a. absurd (subst (Listed listed) (sym f) a)) site s runs (length s) 0 None st r own e h
   own_body (suc d) site s st r runs own e h =
       own-walk (run_body globals locals fd d) (backs_body globals locals fd listed d) (body-starts globals locals fd listed d) (own_body d)
-      site s runs (length s) 0 none st r own e h
+      site s runs (length s) 0 None st r own e h
 
   own_glyph : (r : Run) (ts : List Tok) (rows : List Row) → glyph_of r ≡ plain ts rows → All listed rows → (Listed listed r → Listed Own r) → All Own rows
   own_glyph broken ts rows e h o = absurd (zero_one cc)

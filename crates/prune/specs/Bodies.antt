@@ -1,12 +1,11 @@
 -- How a subset's bodies relate to the font's, as far as the unfolding of one glyph (document 01, 'Plain glyphs') is concerned: the hypotheses of the theorem that
 -- renumbering leaves what a plain glyph unfolds to.
-use Rattle.std.specs.Prelude.{ℕ, ◌≡◌, List, [], ◌∷◌, ℤ, length, get_or}
-use Rattle.std.proofs.Math.Option.{some}
+use Rattle.std.specs.Prelude.{ℕ, ◌≡◌, List, [], ◌∷◌, ℤ, length, get_or, Some}
 use Rattle.octets.specs.Octets.{Octets}
 use Rattle.type2_number.specs.Number.{Reading}
 use Rattle.charstring.specs.declared.MaskLen.{MaskLen}
 use Rattle.charstring.specs.declared.MaskLen.TheVariants.{Given}
-use Rattle.unfold.specs.Unfold.{Row, Site, glyph, local, global, masked, target_of}
+use Rattle.unfold.specs.Unfold.{Row, Site, local, global, masked, target_of}
 use Rattle.prune.specs.Renumber.{Calls, renumber_charstring}
 
 -- every row of a list is one of those listed
@@ -21,15 +20,15 @@ pub record Renumbers (globals locals globals' locals' : List (List ℕ)) (fd : �
   -- a mask that is listed has its length given
   pub lengths : (site : Site) (offset len : ℕ) → listed (masked site offset len) → given site offset ≡ Given len
   -- a call that is rewritten calls the new subroutine of the one it called
-  pub local_call : (site : Site) (z y : ℤ) (i : ℕ) → calls site 10 z ≡ some y → target_of (length locals) (some z) ≡ some i
-      → (n : ℕ) × (target_of (length locals') (some y) ≡ some n) × is_local i n
-  pub global_call : (site : Site) (z y : ℤ) (i : ℕ) → calls site 29 z ≡ some y → target_of (length globals) (some z) ≡ some i
-      → (n : ℕ) × (target_of (length globals') (some y) ≡ some n) × isGlobal i n
+  pub local_call : (site : Site) (z y : ℤ) (i : ℕ) → calls site 10 z ≡ Some y → target_of (length locals) (Some z) ≡ Some i
+      → (n : ℕ) × (target_of (length locals') (Some y) ≡ Some n) × is_local i n
+  pub global_call : (site : Site) (z y : ℤ) (i : ℕ) → calls site 29 z ≡ Some y → target_of (length globals) (Some z) ≡ Some i
+      → (n : ℕ) × (target_of (length globals') (Some y) ≡ Some n) × isGlobal i n
   -- its operand is a reading
-  pub operand : (site : Site) (b : ℕ) (z y : ℤ) → calls site b z ≡ some y → Reading y
+  pub operand : (site : Site) (b : ℕ) (z y : ℤ) → calls site b z ≡ Some y → Reading y
   -- the new subroutine is the old one, renumbered
-  pub local_body : (i n : ℕ) → is_local i n → renumber_charstring (calls (local fd i)) (given (local fd i)) (get_or locals i []) ≡ some (get_or locals' n [])
-  pub global_body : (i n : ℕ) → isGlobal i n → renumber_charstring (calls (global i)) (given (global i)) (get_or globals i []) ≡ some (get_or globals' n [])
+  pub local_body : (i n : ℕ) → is_local i n → renumber_charstring (calls (local fd i)) (given (local fd i)) (get_or locals i []) ≡ Some (get_or locals' n [])
+  pub global_body : (i n : ℕ) → isGlobal i n → renumber_charstring (calls (global i)) (given (global i)) (get_or globals i []) ≡ Some (get_or globals' n [])
   -- bodies are bytes
   pub local_octets : (i : ℕ) → Octets (get_or locals i [])
   pub global_octets : (i : ℕ) → Octets (get_or globals i [])

@@ -1,10 +1,9 @@
 -- What is left of a body's tokens from a place on (charstring's Token.antt), and its first token by what stands at the place.
 use Prim.Native.Nat.{ℕ, zero, suc, ◌+◌, ◌-◌, ◌*◌, ◌≤◌, ◌<◌}
-use Rattle.std.specs.Prelude.{◌≡◌, refl, Bool, List, [], ◌∷◌, eqb, ℤ, take, drop, get_or}
+use Rattle.std.specs.Prelude.{◌≡◌, refl, Bool, List, [], ◌∷◌, eqb, ℤ, take, drop, get_or, None, Option, Some}
 use Rattle.std.proofs.Math.Path.{sym, ap, subst}
 use Rattle.std.proofs.Common.{◌∙◌, arith}
 use Rattle.std.proofs.Math.Bool.{true, false}
-use Rattle.std.proofs.Math.Option.{Option, none, some}
 use Rattle.std.proofs.Math.Dec.{ltb}
 use Rattle.std.proofs.Math.ListN.{length}
 use borrow.Author.Tests.{lt-ltb}
@@ -27,7 +26,7 @@ pub record Left (given : ℕ → MaskLen) (s : List ℕ) (at : ℕ) (due : Bool)
   pub mark : cursor.due ≡ due
   pub within : Within s cursor
   pub enough : fuel_of s cursor ≤ fuel
-  pub rest : tokens_from fuel given s cursor ≡ some ts
+  pub rest : tokens_from fuel given s cursor ≡ Some ts
 
 -- a token and what is left behind it
 pub record Then (given : ℕ → MaskLen) (s : List ℕ) (t : Tok) (at : ℕ) (due : Bool) (ts : List Tok) : Type 0 where
@@ -36,13 +35,13 @@ pub record Then (given : ℕ → MaskLen) (s : List ℕ) (t : Tok) (at : ℕ) (d
   pub left : Left given s at due others
 
 -- a token before the others
-join-tokens : (t : Tok) (x : Option (List Tok)) (ts : List Tok) → join (t ∷ []) x ≡ some ts → (us : List Tok) × (x ≡ some us) × (ts ≡ t ∷ us)
-join-tokens t none ts e = absurd (zero_one cc)
-join-tokens t (some us) ts e = (us, refl, cc)
+join-tokens : (t : Tok) (x : Option (List Tok)) (ts : List Tok) → join (t ∷ []) x ≡ Some ts → (us : List Tok) × (x ≡ Some us) × (ts ≡ t ∷ us)
+join-tokens t None ts e = absurd (zero_one cc)
+join-tokens t (Some us) ts e = (us, refl, cc)
 
 module _ (given : ℕ → MaskLen) (s : List ℕ) (octets : Octets s) where
   -- a token that was read, by the cursor behind it
-  read : (c d : Cursor) (j : ℕ) (t : Tok) (n : ℕ) (ts : List Tok) → Moves s c d n → fuel_of s c ≤ suc j → join (t ∷ []) (tokens_from j given s d) ≡ some ts
+  read : (c d : Cursor) (j : ℕ) (t : Tok) (n : ℕ) (ts : List Tok) → Moves s c d n → fuel_of s c ≤ suc j → join (t ∷ []) (tokens_from j given s d) ≡ Some ts
       → Then given s t d.at d.due ts
   read c d j t n ts m h e =
       let p = join-tokens t (tokens_from j given s d) ts e in
@@ -54,21 +53,21 @@ module _ (given : ℕ → MaskLen) (s : List ℕ) (octets : Octets s) where
 
   -- a step of the reading
   turn : (c : Cursor) (k : ℕ) (q : Lexeme) (ts : List Tok) → Within s c → fuel_of s c ≤ k → 0 < fuel_of s c → more s c ≡ true
-      → token_at s (given (c.at - 1)) c ≡ q → tokens_from k given s c ≡ some ts
-      → (j : ℕ) × (fuel_of s c ≤ suc j) × (onward s q (tokens_from j given s) ≡ some ts) × Fine s c q
+      → token_at s (given (c.at - 1)) c ≡ q → tokens_from k given s c ≡ Some ts
+      → (j : ℕ) × (fuel_of s c ≤ suc j) × (onward s q (tokens_from j given s) ≡ Some ts) × Fine s c q
   unfolding tokens_from
   turn c zero q ts w h o m f e = absurd (zero_one (omega arith))
   turn c (suc j) q ts w h o m f e = (
     j,
     h,
     ap (λ (x : Lexeme). onward s x (tokens_from j given s)) (sym f)
-        ∙ sym (ap (λ (x : Bool). pick x (onward s (token_at s (given (c.at - 1)) c) (tokens_from j given s)) (some [])) m) ∙ e,
+        ∙ sym (ap (λ (x : Bool). pick x (onward s (token_at s (given (c.at - 1)) c) (tokens_from j given s)) (Some [])) m) ∙ e,
     subst (Fine s c) f (fine s c w octets (given (c.at - 1)) m),
   )
 
   -- at a place where no mask is due
   turn-plain : (at : ℕ) (ts : List Tok) (x : Left given s at false ts) (q : Read) → at < length s → number_at s at ≡ q
-      → (j : ℕ) × (fuel_of s x.cursor ≤ suc j) × (onward s (plain_at s x.cursor q) (tokens_from j given s) ≡ some ts) × Fine s x.cursor (plain_at s x.cursor q)
+      → (j : ℕ) × (fuel_of s x.cursor ≤ suc j) × (onward s (plain_at s x.cursor q) (tokens_from j given s) ≡ Some ts) × Fine s x.cursor (plain_at s x.cursor q)
   unfolding token_at
   turn-plain at ts x q h f =
       let c = x.cursor in
@@ -90,11 +89,11 @@ module _ (given : ℕ → MaskLen) (s : List ℕ) (octets : Octets s) where
 
   -- at an operator
   turn-operator : (at : ℕ) (ts : List Tok) (x : Left given s at false ts) (b : ℕ) → at < length s → Operator s at b
-      → (j : ℕ) × (fuel_of s x.cursor ≤ suc j) × (onward s (operator_at s x.cursor b) (tokens_from j given s) ≡ some ts) × Fine s x.cursor (operator_at s x.cursor b)
+      → (j : ℕ) × (fuel_of s x.cursor ≤ suc j) × (onward s (operator_at s x.cursor b) (tokens_from j given s) ≡ Some ts) × Fine s x.cursor (operator_at s x.cursor b)
   turn-operator at ts x b h o =
       let p = turn-plain at ts x operator h o.here in
       let e : get_or s x.cursor.at 0 ≡ b = ap (λ (n : ℕ). get_or s n 0) x.place ∙ o.byte in
-      subst (λ (y : ℕ). (j : ℕ) × (fuel_of s x.cursor ≤ suc j) × (onward s (operator_at s x.cursor y) (tokens_from j given s) ≡ some ts) × Fine s x.cursor (operator_at s x.cursor y)) e p
+      subst (λ (y : ℕ). (j : ℕ) × (fuel_of s x.cursor ≤ suc j) × (onward s (operator_at s x.cursor y) (tokens_from j given s) ≡ Some ts) × Fine s x.cursor (operator_at s x.cursor y)) e p
 
   pub left_op : (at : ℕ) (ts : List Tok) → Left given s at false ts → (b : ℕ) → at < length s → Operator s at b → eqb b 12 ≡ false
       → Then given s (op b) (at + 1) (is_mask b) ts
@@ -138,6 +137,6 @@ module _ (given : ℕ → MaskLen) (s : List ℕ) (octets : Octets s) where
       subst (λ (a : ℕ). Then given s (mask (take len (drop a s))) (a + len) false ts) x.place
       (read c d p.0 (mask (take len (drop c.at s))) len ts p.3.1 p.1 p.2)
 
-  pub left-start : (ts : List Tok) → tokens_of given s ≡ some ts → Left given s 0 false ts
+  pub left-start : (ts : List Tok) → tokens_of given s ≡ Some ts → Left given s 0 false ts
   unfolding tokens_of
   left-start ts e = record { cursor = start; fuel = 2 * length s; place = refl; mark = refl; within = start-within given s octets; enough = omega arith; rest = e }

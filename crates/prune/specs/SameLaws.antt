@@ -1,8 +1,7 @@
 -- Subroutines that stay as they are, where the record lists them: a walk goes the same way over them. For stubbed and copied subroutines.
-use Rattle.std.specs.Prelude.{ℤ, ◌≡◌, refl, true, List, [], ◌∷◌, ◌++◌, ltb, length, get_or}
+use Rattle.std.specs.Prelude.{ℤ, ◌≡◌, refl, true, List, [], ◌∷◌, ◌++◌, ltb, length, get_or, None, Option, Some}
 use Prim.Native.Nat.{ℕ, zero, suc, ◌+◌}
 use Rattle.std.proofs.Common.{sym, ap, ◌∙◌, subst}
-use Rattle.std.proofs.Math.Option.{Option, none, some}
 use Rattle.unfold.specs.Unfold.{op, Row, Site, local, global, entered, is_glyph, State, Run, broken, returned, ended, calling, target_of, after, masked, walk, run_body}
 use Rattle.prune.specs.Bodies.{All}
 use Rattle.prune.specs.StepLaws.{leaving, mask_now, Step, reads, calls_local, calls_global, returns, ends, escapes, masks, clears, walk_was, walk_goes}
@@ -35,25 +34,25 @@ module _ (globals locals globals' locals' : List (List ℕ)) (fd fd' : ℕ) (lis
 
       -- a call of a subroutine whose body stays as it is, if it is listed
       same_call : (which which' : Site) (body body' : List ℕ) → is_glyph which' ≡ is_glyph which → (listed (entered which) → body' ≡ body)
-          → after (enter which body (calling which st)) (walk globals locals fd enter k site s (at + 1) none) ≡ r
+          → after (enter which body (calling which st)) (walk globals locals fd enter k site s (at + 1) None) ≡ r
           → ((rows : List Row) → Step globals' locals' fd' enter' k site' s at l (rowed rows st)
-          (after (enter' which' body' (calling which' (rowed rows st))) (walk globals' locals' fd' enter' k site' s (at + 1) none)))
+          (after (enter' which' body' (calling which' (rowed rows st))) (walk globals' locals' fd' enter' k site' s (at + 1) None)))
           → Follows listed st.met r (λ rows. walk globals' locals' fd' enter' (suc k) site' s at l (rowed rows st))
       same_call which which' body body' q b e t =
-          let p = follows-after listed _ _ (walk globals' locals' fd' enter' k site' s (at + 1) none) r _ _ e h (λ x d. next (at + 1) none x r d h)
+          let p = follows-after listed _ _ (walk globals' locals' fd' enter' k site' s (at + 1) None) r _ _ e h (λ x d. next (at + 1) None x r d h)
           (λ g. enters which which' body (calling which st) _ q refl g) in
           let c = b (all-last listed st.met (entered which) p.before) in
           record {
             before = all-front listed st.met (entered which) p.before;
             alike = λ rows. goes_as rows _ (t rows)
-                (subst (λ (x : List ℕ). Alike r (after (enter' which' x (calling which' (rowed rows st))) (walk globals' locals' fd' enter' k site' s (at + 1) none)))
+                (subst (λ (x : List ℕ). Alike r (after (enter' which' x (calling which' (rowed rows st))) (walk globals' locals' fd' enter' k site' s (at + 1) None)))
                 (sym c) (p.alike (rows ++ (entered which' ∷ []))));
           }
 
       same_step : Step globals locals fd enter k site s at l st r
           → Follows listed st.met r (λ rows. walk globals' locals' fd' enter' (suc k) site' s at l (rowed rows st))
       same_step (reads z n f a b e) =
-          let p = next n (some z) _ r e h in
+          let p = next n (Some z) _ r e h in
           record { before = p.before; alike = λ rows. goes_as rows _ (reads z n f a b refl) (p.alike rows) }
       same_step (calls_local i o f e) =
           same_call (local fd i) (local fd' i) (get_or locals i []) (get_or locals' i []) refl (same.local_body i) e
@@ -73,16 +72,16 @@ module _ (globals locals globals' locals' : List (List ℕ)) (fd fd' : ℕ) (lis
                 (subst (λ (x : Run). Alike x (ended (leaving (op 14) 0 st.stems (rowed rows st)))) e (rows, refl));
           }
       same_step (escapes x o f a b c d e) =
-          let p = next (at + 2) none _ r e h in
+          let p = next (at + 2) None _ r e h in
           record { before = p.before; alike = λ rows. goes_as rows _ (escapes x o f a b c d refl) (p.alike rows) }
       same_step (masks b o c m a d f e) =
-          let p = next (at + 1 + mask_now st) none _ r e h in
+          let p = next (at + 1 + mask_now st) None _ r e h in
           record {
             before = all-front listed st.met (masked site at (mask_now st)) p.before;
             alike = λ rows. goes_as rows _ (masks b o c m a d f refl) (p.alike (rows ++ (masked site' at (mask_now st) ∷ [])));
           }
       same_step (clears b n o c m a d e) =
-          let p = next (at + 1) none _ r e h in
+          let p = next (at + 1) None _ r e h in
           record { before = p.before; alike = λ rows. goes_as rows _ (clears b n o c m a d refl) (p.alike rows) }
 
     same-walk : (k : ℕ) → Walks k
@@ -95,9 +94,9 @@ module _ (globals locals globals' locals' : List (List ℕ)) (fd fd' : ℕ) (lis
   pub same_body : (d : ℕ) → Enters (run_body globals locals fd d) (run_body globals' locals' fd' d)
   unfolding run_body
   same_body zero site site' s st r kind e h =
-      same-walk (λ t b x. broken) (λ t b x. broken) (λ t t' b x q i f g. absurd (subst (Listed listed) (sym f) g)) site site' kind s (length s) 0 none st r e h
+      same-walk (λ t b x. broken) (λ t b x. broken) (λ t t' b x q i f g. absurd (subst (Listed listed) (sym f) g)) site site' kind s (length s) 0 None st r e h
   same_body (suc d) site site' s st r kind e h =
-      same-walk (run_body globals locals fd d) (run_body globals' locals' fd' d) (same_body d) site site' kind s (length s) 0 none st r e h
+      same-walk (run_body globals locals fd d) (run_body globals' locals' fd' d) (same_body d) site site' kind s (length s) 0 None st r e h
 
 -- ---- a font beside itself: the rows with which a walk starts are among those it ends with
 

@@ -1,8 +1,7 @@
 -- One step of a walk (document 01, 'Plain glyphs'), by its cases: what a step that is plain was, and that a step of such a case is taken.
-use Rattle.std.specs.Prelude.{ℕ, suc, ◌+◌, ◌-◌, ◌/◌, ◌≡◌, Bool, true, false, List, [], ◌∷◌, ◌++◌, ltb, eqb, ℤ, length, take, drop, get_or}
+use Rattle.std.specs.Prelude.{ℕ, suc, ◌+◌, ◌-◌, ◌/◌, ◌≡◌, Bool, true, false, List, [], ◌∷◌, ◌++◌, ltb, eqb, ℤ, length, take, drop, get_or, None, Option, Some}
 use Rattle.std.proofs.Math.Path.{refl, ap}
 use Rattle.std.proofs.Common.{sym, ◌∙◌, subst, arith, eqb-true}
-use Rattle.std.proofs.Math.Option.{Option, none, some}
 use Rattle.octets.specs.Pick.{pick}
 use Rattle.type2_number.specs.Number.{Read, cut, operator, number as a_number, number_at}
 use Rattle.charstring.specs.Token.{is_mask}
@@ -65,27 +64,27 @@ module _ (globals locals : List (List ℕ)) (fd : ℕ) (enter : Site → List �
   -- the cases of a step that is not broken, and what it comes to
   pub data Stepped (r : Run) : Type 0 where
     reads : (z : ℤ) (n : ℕ) → number_at s at ≡ a_number z n → ltb st.args 48 ≡ true → ltb st.spent 65536 ≡ true
-        → on n (some z) (leaving (num z) (st.args + 1) st.stems st) ≡ r → Stepped r
-    calls_local : (i : ℕ) → Operator s at 10 → target_of (length locals) l ≡ some i
-        → after (enter (local fd i) (get_or locals i []) (calling (local fd i) st)) (on (at + 1) none) ≡ r → Stepped r
-    calls_global : (i : ℕ) → Operator s at 29 → target_of (length globals) l ≡ some i
-        → after (enter (global i) (get_or globals i []) (calling (global i) st)) (on (at + 1) none) ≡ r → Stepped r
+        → on n (Some z) (leaving (num z) (st.args + 1) st.stems st) ≡ r → Stepped r
+    calls_local : (i : ℕ) → Operator s at 10 → target_of (length locals) l ≡ Some i
+        → after (enter (local fd i) (get_or locals i []) (calling (local fd i) st)) (on (at + 1) None) ≡ r → Stepped r
+    calls_global : (i : ℕ) → Operator s at 29 → target_of (length globals) l ≡ Some i
+        → after (enter (global i) (get_or globals i []) (calling (global i) st)) (on (at + 1) None) ≡ r → Stepped r
     returns : Operator s at 11 → is_glyph site ≡ false → returned st ≡ r → Stepped r
     ends : Operator s at 14 → ltb 1 st.args ≡ false → ltb st.spent 65536 ≡ true → ended (leaving (op 14) 0 st.stems st) ≡ r → Stepped r
     escapes : (e : ℕ) → Operator s at 12 → get_or s (at + 1) 0 ≡ e → ltb (length s - at) 2 ≡ false → ltb e 34 ≡ false → ltb 37 e ≡ false
-        → ltb st.spent 65536 ≡ true → on (at + 2) none (leaving (esc e) 0 st.stems st) ≡ r → Stepped r
+        → ltb st.spent 65536 ≡ true → on (at + 2) None (leaving (esc e) 0 st.stems st) ≡ r → Stepped r
     masks : (b : ℕ) → Operator s at b → Clearing b → is_mask b ≡ true → ltb 96 (stems_now st) ≡ false → ltb (length s - (at + 1)) (mask_now st) ≡ false
         → ltb st.spent 65536 ≡ true
-        → on (at + 1 + mask_now st) none (leaving (mask b (take (mask_now st) (drop (at + 1) s))) 0 (stems_now st) (meeting (masked site at (mask_now st)) st)) ≡ r
+        → on (at + 1 + mask_now st) None (leaving (mask b (take (mask_now st) (drop (at + 1) s))) 0 (stems_now st) (meeting (masked site at (mask_now st)) st)) ≡ r
         → Stepped r
     clears : (b n : ℕ) → Operator s at b → Clearing b → is_mask b ≡ false → Stems b st.args st.stems n → ltb st.spent 65536 ≡ true
-        → on (at + 1) none (leaving (op b) 0 n st) ≡ r → Stepped r
+        → on (at + 1) None (leaving (op b) 0 n st) ≡ r → Stepped r
 
   -- an operator that clears the operands
   abbrev clear_at : ℕ → Run
   clear_at b =
       pick (is_mask b) (mask_at on site s b at (stems_now st) st)
-      (pick (is_stem b) (stem_at on b at (stems_now st) st) (pick (is_path b) (leave (op b) 0 st.stems st (on (at + 1) none)) broken))
+      (pick (is_stem b) (stem_at on b at (stems_now st) st) (pick (is_path b) (leave (op b) 0 st.stems st (on (at + 1) None)) broken))
 
   -- ---- what a step was
 
@@ -96,20 +95,20 @@ module _ (globals locals : List (List ℕ)) (fd : ℕ) (enter : Site → List �
 
   called_local : (o : Operator s at 10) (q : Option ℕ) → target_of (length locals) l ≡ q → (r : Run) → Unbroken r
       → call_to enter on (local fd) locals (at + 1) st q ≡ r → Stepped r
-  called_local o none f r u e = absurd (subst Unbroken (sym e) u)
-  called_local o (some i) f r u e = calls_local i o f e
+  called_local o None f r u e = absurd (subst Unbroken (sym e) u)
+  called_local o (Some i) f r u e = calls_local i o f e
 
   called_global : (o : Operator s at 29) (q : Option ℕ) → target_of (length globals) l ≡ q → (r : Run) → Unbroken r
       → call_to enter on global globals (at + 1) st q ≡ r → Stepped r
-  called_global o none f r u e = absurd (subst Unbroken (sym e) u)
-  called_global o (some i) f r u e = calls_global i o f e
+  called_global o None f r u e = absurd (subst Unbroken (sym e) u)
+  called_global o (Some i) f r u e = calls_global i o f e
 
   escaped : Operator s at 12 → (r : Run) → Unbroken r → escape_at on s at st ≡ r → Stepped r
   escaped o r u e =
       let p = passed (ltb (length s - at) 2) _ r u e in
       let q = passed (ltb (get_or s (at + 1) 0) 34) _ r u p.1 in
       let v = passed (ltb 37 (get_or s (at + 1) 0)) _ r u q.1 in
-      let w = left (esc (get_or s (at + 1) 0)) 0 st.stems st (on (at + 2) none) r u v.1 in
+      let w = left (esc (get_or s (at + 1) 0)) 0 st.stems st (on (at + 2) None) r u v.1 in
       escapes (get_or s (at + 1) 0) o refl p.0 q.0 v.0 w.0 w.1
 
   masked-at : (b : ℕ) → Operator s at b → Clearing b → is_mask b ≡ true → (r : Run) → Unbroken r
@@ -117,12 +116,12 @@ module _ (globals locals : List (List ℕ)) (fd : ℕ) (enter : Site → List �
   masked-at b o c m r u e =
       let p = passed (ltb 96 (stems_now st)) _ r u e in
       let q = passed (ltb (length s - (at + 1)) (mask_now st)) _ r u p.1 in
-      let w = left (mask b (take (mask_now st) (drop (at + 1) s))) 0 (stems_now st) (meeting (masked site at (mask_now st)) st) (on (at + 1 + mask_now st) none) r u q.1 in
+      let w = left (mask b (take (mask_now st) (drop (at + 1) s))) 0 (stems_now st) (meeting (masked site at (mask_now st)) st) (on (at + 1 + mask_now st) None) r u q.1 in
       masks b o c m p.0 q.0 w.0 w.1
 
   cleared : (b n : ℕ) → Operator s at b → Clearing b → is_mask b ≡ false → Stems b st.args st.stems n → (r : Run) → Unbroken r
-      → leave (op b) 0 n st (on (at + 1) none) ≡ r → Stepped r
-  cleared b n o c m h r u e = let w = left (op b) 0 n st (on (at + 1) none) r u e in clears b n o c m h w.0 w.1
+      → leave (op b) 0 n st (on (at + 1) None) ≡ r → Stepped r
+  cleared b n o c m h r u e = let w = left (op b) 0 n st (on (at + 1) None) r u e in clears b n o c m h w.0 w.1
 
   clearing : (b : ℕ) → Operator s at b → Clearing b → (r : Run) → Unbroken r → clear_at b ≡ r → Stepped r
   clearing b o c r u e =
@@ -150,7 +149,7 @@ module _ (globals locals : List (List ℕ)) (fd : ℕ) (enter : Site → List �
   step_was cut f r u e = absurd (subst Unbroken (sym e) u)
   step_was (a_number z n) f r u e =
       let p = taken (ltb st.args 48) _ r u e in
-      let w = left (num z) (st.args + 1) st.stems st (on n (some z)) r u p.1 in
+      let w = left (num z) (st.args + 1) st.stems st (on n (Some z)) r u p.1 in
       reads z n f p.0 w.0 w.1
   step_was operator f r u e = operator_was (get_or s at 0) (record { here = f; byte = refl }) r u e
 
@@ -170,23 +169,23 @@ module _ (globals locals : List (List ℕ)) (fd : ℕ) (enter : Site → List �
   unfolding operator_at
   at_clearing b r o c e = at-operator b r o (rw (c.not10, c.not29, c.not11, c.not14, c.not12) e)
 
-  clear_stems : (b n : ℕ) → is_mask b ≡ false → Stems b st.args st.stems n → clear_at b ≡ leave (op b) 0 n st (on (at + 1) none)
+  clear_stems : (b n : ℕ) → is_mask b ≡ false → Stems b st.args st.stems n → clear_at b ≡ leave (op b) 0 n st (on (at + 1) None)
   clear_stems b n m (stem h k) = rw (m, h, k)
   clear_stems b n m (path h k) = rw (m, h, k)
 
   step-taken : (r : Run) → Stepped r → step_at globals locals fd enter on site s at l st (number_at s at) ≡ r
   unfolding step_at operator_at
   step-taken r (reads z n f h k e) =
-      ap (step_at globals locals fd enter on site s at l st) f ∙ rw h (goes (num z) (st.args + 1) st.stems st (on n (some z)) k ∙ e)
+      ap (step_at globals locals fd enter on site s at l st) f ∙ rw h (goes (num z) (st.args + 1) st.stems st (on n (Some z)) k ∙ e)
   step-taken r (calls_local i o f e) = at-operator 10 r o (ap (call_to enter on (local fd) locals (at + 1) st) f ∙ e)
   step-taken r (calls_global i o f e) = at-operator 29 r o (ap (call_to enter on global globals (at + 1) st) f ∙ e)
   step-taken r (returns o f e) = at-operator 11 r o (rw f e)
   step-taken r (ends o f h e) = at-operator 14 r o (rw f (goes (op 14) 0 st.stems st ended h ∙ e))
-  step-taken r (escapes x o f h i j k e) = at-operator 12 r o (rw (h, f, i, j) (goes (esc x) 0 st.stems st (on (at + 2) none) k ∙ e))
+  step-taken r (escapes x o f h i j k e) = at-operator 12 r o (rw (h, f, i, j) (goes (esc x) 0 st.stems st (on (at + 2) None) k ∙ e))
   step-taken r (masks b o c m h i k e) =
       at_clearing b r o c
-      (rw (m, h, i) (goes (mask b (take (mask_now st) (drop (at + 1) s))) 0 (stems_now st) (meeting (masked site at (mask_now st)) st) (on (at + 1 + mask_now st) none) k ∙ e))
-  step-taken r (clears b n o c m h k e) = at_clearing b r o c (clear_stems b n m h ∙ goes (op b) 0 n st (on (at + 1) none) k ∙ e)
+      (rw (m, h, i) (goes (mask b (take (mask_now st) (drop (at + 1) s))) 0 (stems_now st) (meeting (masked site at (mask_now st)) st) (on (at + 1 + mask_now st) None) k ∙ e))
+  step-taken r (clears b n o c m h k e) = at_clearing b r o c (clear_stems b n m h ∙ goes (op b) 0 n st (on (at + 1) None) k ∙ e)
 
 module _ (globals locals : List (List ℕ)) (fd : ℕ) (enter : Site → List ℕ → State → Run) (k : ℕ) (site : Site) (s : List ℕ) (at : ℕ) (l : Option ℤ)
     (st : State) (r : Run) where

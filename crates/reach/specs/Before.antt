@@ -1,7 +1,6 @@
 -- What the work words held before Wish 7 of document 02: a rank, plus 1, for each subroutine. Its bit gives it the number that it had.
-use Rattle.std.specs.Prelude.{ℕ, ◌+◌, ◌-◌, ◌<◌, ◌≡◌, refl, Bool, true, false, List, eqb, take, drop, get_or}
+use Rattle.std.specs.Prelude.{ℕ, ◌+◌, ◌-◌, ◌<◌, ◌≡◌, refl, Bool, true, false, List, eqb, take, drop, get_or, None, Option, Some}
 use Rattle.std.proofs.Common.{sym, ap, ◌∙◌, arith, ne_eqb, get_or-drop, get_or-take}
-use Rattle.std.proofs.Math.Option.{Option, none, some}
 use Rattle.octets.specs.Pick.{pick}
 use Rattle.bits.specs.Bits.{count_below, words_for, bits_of}
 use Rattle.reach.specs.Reach.{ranks_of, number_in}
@@ -9,9 +8,9 @@ use Rattle.reach.specs.WordLaws.{ranks-at, number_is}
 
 -- the new number that a word stood for
 abbrev pub number_of : ℕ → Option ℕ
-number_of w = pick (eqb w 0) none (some (w - 1))
+number_of w = pick (eqb w 0) None (Some (w - 1))
 
-number-of : (t : Bool) (n : ℕ) → number_of (pick t (n + 1) 0) ≡ pick t (some n) none
+number-of : (t : Bool) (n : ℕ) → number_of (pick t (n + 1) 0) ≡ pick t (Some n) None
 number-of true n = let e : n + 1 - 1 ≡ n = omega arith in rw (ne_eqb (n + 1) 0 (λ z. omega arith), e)
 number-of false n = refl
 

@@ -1,7 +1,6 @@
 -- Worked examples, computed.
-use Rattle.std.specs.Prelude.{ℕ, ◌≡◌, refl, true, false, List, [], ◌∷◌}
+use Rattle.std.specs.Prelude.{ℕ, ◌≡◌, refl, true, false, List, [], ◌∷◌, None, Some}
 use Rattle.std.proofs.Common.{sym, arith}
-use Rattle.std.proofs.Math.Option.{none, some}
 use Rattle.octets.specs.Octets.{be, num_at}
 use Rattle.record.specs.Record.{rows_from, rows_of, lists}
 use Rattle.bits.specs.Bits.{count_below, word_of, words_of, bits_of}
@@ -35,9 +34,9 @@ unfolding ranks_of count_below lists rows_of rows_from num_at be
 ranks-locals = refl
 
 -- behind two other words the bits give the third the number 0, which its word, a rank plus 1, stood for
-number-third : number_in (9 ∷ 9 ∷ 4 ∷ []) 2 3 2 ≡ some 0
+number-third : number_in (9 ∷ 9 ∷ 4 ∷ []) 2 3 2 ≡ Some 0
 number-third = same_number (9 ∷ 9 ∷ 4 ∷ []) 2 (9 ∷ 9 ∷ 0 ∷ 0 ∷ 1 ∷ []) 2 3 (set_of (rows_of three) false 1) (sym bits_locals) (sym ranks-locals) 2 (omega arith)
 
 -- the first is not reached
-number-first : number_in (9 ∷ 9 ∷ 4 ∷ []) 2 3 0 ≡ none
+number-first : number_in (9 ∷ 9 ∷ 4 ∷ []) 2 3 0 ≡ None
 number-first = refl

@@ -1,6 +1,5 @@
 -- The reach record as the code asks it (document 01, 'Reach record'), and the new numbers of subroutines by their bits in the work words (document 02, Wish 7).
-use Rattle.std.specs.Prelude.{ℕ, zero, suc, ◌+◌, ◌-◌, ◌*◌, ◌/◌, ◌<◌, Bool, true, false, ◌&&◌, List, [], ◌∷◌, ltb, eqb, length, drop}
-use Rattle.std.proofs.Math.Option.{Option, none}
+use Rattle.std.specs.Prelude.{ℕ, zero, suc, ◌+◌, ◌-◌, ◌*◌, ◌/◌, ◌<◌, Bool, true, false, ◌&&◌, List, [], ◌∷◌, ltb, eqb, length, drop, None, Option}
 use Rattle.octets.specs.Pick.{pick}
 use Rattle.unfold.specs.Unfold.{Row, glyph, local, global}
 use Rattle.unfold.specs.Unfold as body
@@ -50,7 +49,7 @@ ranked_of set count =
 
 -- the new number of subroutine k of count whose bits stand in the words from at on: how many ones are below its own
 abbrev pub number_in : List ℕ → ℕ → ℕ → ℕ → Option ℕ
-number_in ws at count k = pick (ltb k count) (rank (bit_in ws at) k) none
+number_in ws at count k = pick (ltb k count) (rank (bit_in ws at) k) None
 
 -- ---- rows by their number
 

@@ -1,7 +1,6 @@
 -- Laws of words that hold ranks, plus 1 (those of the FDs in use) or bits, which give each subroutine its new number; a number past the count is in no row.
-use Rattle.std.specs.Prelude.{ℕ, zero, suc, ◌+◌, ◌≤◌, ◌<◌, ◌≡◌, refl, Bool, true, false, List, [], ◌∷◌, eqb, length, take, drop, get_or}
+use Rattle.std.specs.Prelude.{ℕ, zero, suc, ◌+◌, ◌≤◌, ◌<◌, ◌≡◌, refl, Bool, true, false, List, [], ◌∷◌, eqb, length, take, drop, get_or, None, Some}
 use Rattle.std.proofs.Common.{sym, ap, ◌∙◌, add-zero, arith, lt-ltb, eqb-true, get_or-drop}
-use Rattle.std.proofs.Math.Option.{none, some}
 use Rattle.std.proofs.Math.ListN.{get_or-append}
 use Rattle.octets.specs.Octets.{put}
 use Rattle.octets.specs.Pick.{pick}
@@ -52,7 +51,7 @@ pub number_is : (ws : List ℕ) (at count : ℕ) (set : ℕ → Bool) → take (
 number_is ws at count set e k h =
     let n = count-alike (bit_in ws at) set k (λ i l. bit-told ws at count set e i (omega arith)) in
     rw (lt-ltb k count h)
-    (ap (λ (t : Bool). pick t (some (count_below (bit_in ws at) k)) none) (bit-told ws at count set e k h) ∙ ap (λ (m : ℕ). pick (set k) (some m) none) n)
+    (ap (λ (t : Bool). pick t (Some (count_below (bit_in ws at) k)) None) (bit-told ws at count set e k h) ∙ ap (λ (m : ℕ). pick (set k) (Some m) None) n)
 
 -- ---- numbers past the count
 
@@ -68,7 +67,7 @@ large_set rows false fd k a h = large_unreached rows 0 fd k a h
 
 -- where the record has no other number, a number from the count on has no new one
 pub past-none : (rows : List Row) (g : Bool) (fd count k : ℕ) → AllFit rows → count ≤ k
-    → eqb (reached (set_of rows g fd)) (count_below (set_of rows g fd) count) ≡ true → rank (set_of rows g fd) k ≡ none
+    → eqb (reached (set_of rows g fd)) (count_below (set_of rows g fd) count) ≡ true → rank (set_of rows g fd) k ≡ None
 past-none rows g fd count k a h e =
     let s = set_of rows g fd in
     let q : count_below s 65536 ≡ count_below s count = eqb-true _ _ e in

@@ -100,13 +100,9 @@ fn row_fine(cid: bool, r: Row) -> bool
 fn rows_fine(cid: bool, rows: &[u8]) -> bool
     ensures { result ≡ rows_fine_lem cid (rows_of rows.now) }
 {
-    let n = rows.len() / 10;
-    let mut i = 0;
-    while i < n {
-        let r = row_at(rows, i);
-        if row_fine(cid, r) {
-            i += 1;
-        } else {
+    // `all` was tried and is slower.
+    for i in 0..rows.len() / 10 {
+        if !row_fine(cid, row_at(rows, i)) {
             return false;
         }
     }

@@ -40,16 +40,13 @@ fn site_body(site: Site) -> usize
 pub fn rises(rows: &[u8]) -> bool
     ensures { result ≡ rises (rows_of rows.now) }
 {
-    let n = rows.len() / 10;
     let mut last = 0;
-    let mut i = 0;
-    while i < n {
+    for i in 0..rows.len() / 10 {
         let key = key_of(crate::row_at(rows, i));
         if key < last {
             return false;
         }
         last = key;
-        i += 1;
     }
     true
 }
@@ -93,14 +90,11 @@ fn given_found(rows: &[u8], key: usize) -> MaskLen
 fn given_passed(rows: &[u8], key: usize) -> MaskLen
     ensures { result ≡ len_at key (rows_of rows.now) }
 {
-    let n = rows.len() / 10;
-    let mut i = 0;
-    while i < n {
+    for i in 0..rows.len() / 10 {
         let r = crate::row_at(rows, i);
         if key_of(r) == key {
             return MaskLen::Given(r.len);
         }
-        i += 1;
     }
     MaskLen::Own
 }
@@ -132,13 +126,11 @@ fn clashes(r: Row, key: usize, len: usize) -> bool
 fn other_len(rows: &[u8], from: usize, key: usize, len: usize) -> bool
     ensures { result ≡ other_len_lem key len (rest_of rows.now from) }
 {
-    let n = rows.len() / 10;
-    let mut i = from;
-    while i < n {
+    // `any` was tried and is slower.
+    for i in from..rows.len() / 10 {
         if clashes(crate::row_at(rows, i), key, len) {
             return true;
         }
-        i += 1;
     }
     false
 }
@@ -159,13 +151,11 @@ fn clash_at(rows: &[u8], i: usize, body: usize) -> bool
 fn two_passed(rows: &[u8], body: usize) -> bool
     ensures { result ≡ two_of body (rows_of rows.now) }
 {
-    let n = rows.len() / 10;
-    let mut i = 0;
-    while i < n {
+    // `any` was tried and is slower.
+    for i in 0..rows.len() / 10 {
         if clash_at(rows, i, body) {
             return true;
         }
-        i += 1;
     }
     false
 }
@@ -175,9 +165,7 @@ fn two_found(rows: &[u8], body: usize) -> bool
     requires { (rises (rows_of rows.now) ≡ true) × (body < 4294967296) }
     ensures { result ≡ two_of body (rows_of rows.now) }
 {
-    let n = rows.len() / 10;
-    let mut i = first_at(rows, body * 4294967296);
-    while i + 1 < n {
+    for i in first_at(rows, body * 4294967296)..(rows.len() / 10).saturating_sub(1) {
         let r = crate::row_at(rows, i);
         if body_of(r) != body {
             return false;
@@ -185,7 +173,6 @@ fn two_found(rows: &[u8], body: usize) -> bool
         if clashes(crate::row_at(rows, i + 1), key_of(r), r.len) {
             return true;
         }
-        i += 1;
     }
     false
 }

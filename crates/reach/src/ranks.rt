@@ -1,11 +1,11 @@
 // The new numbers of subroutines (document 02, Wish 7): a bit in the work words for each subroutine that is reached, which is numbered by the
 // ones below its bit. (Marks that become ranks, plus 1, number the FDs in use.)
-ghost use Rattle.std.specs.Prelude.{◌≡◌, ◌+◌, ◌≤◌, ◌<◌, length, get_or, set, replicate};
+ghost use Rattle.std.specs.Prelude.{◌≡◌, ◌+◌, ◌≤◌, ◌<◌, length, replicate};
 ghost use Rattle.octets.specs.Octets.{put};
 ghost use Rattle.bits.specs.Bits.{words_for, bits_of};
 ghost use Rattle.record.specs.Record.{rows_of};
 ghost use Rattle.reach.specs.Reach.{row_in, set_of, ranked_of};
-ghost use Rattle.reach.specs.Ranks.{tells, mark_row, marked, past_row, past_of, rank_for, count_for, ranked, counted, reached_in, counts_of};
+ghost use Rattle.reach.specs.Ranks.{tells, mark_row, marked, past_row, past_of, ranked, counted, reached_in, counts_of};
 
 use crate::Row;
 
@@ -71,12 +71,7 @@ fn sums_of(held: &[u32], past: usize) -> Ranked
 pub fn clear(marks: &mut [u32])
     ensures { marks.new ≡ replicate (length marks.old) 0 }
 {
-    let n = marks.len();
-    let mut i = 0;
-    while i < n {
-        marks[i] = 0;
-        i += 1;
-    }
+    marks.fill(0);
 }
 
 // Whether a row says that a subroutine of a kind and an FD is reached.
@@ -117,29 +112,12 @@ fn mark_rows(rows: &[u8], kind: usize, fd: usize, count: usize, held: &mut [u32]
     ensures { (held.new ≡ marked kind fd count (rows_of rows.now) held.old)
         × (result ≡ past_of kind fd count (rows_of rows.now)) }
 {
-    let n = rows.len() / 10;
     let mut past = 0;
-    let mut i = 0;
-    while i < n {
+    for i in 0..rows.len() / 10 {
         let r = crate::row_at(rows, i);
         past += mark_row(r, kind, fd, count, &mut *held);
-        i += 1;
     }
     past
-}
-
-// Turns the mark at a place into a rank, plus 1; returns how many marks there were up to it.
-fn rank_mark(marks: &mut [u32], i: usize, reached: usize) -> usize
-    requires { (i < length marks.old) × (reached < 65536) }
-    ensures { (marks.new ≡ set marks.old i (rank_for reached (get_or marks.old i 0)))
-        × (result ≡ count_for reached (get_or marks.old i 0)) }
-{
-    if marks[i] == 0 {
-        return reached;
-    }
-    let next = reached + 1;
-    marks[i] = next as u32;
-    next
 }
 
 // Turns marks into ranks, plus 1; returns how many marks there were.
@@ -147,12 +125,12 @@ pub fn rank_marks(marks: &mut [u32]) -> usize
     requires { length marks.old < 65536 }
     ensures { (marks.new ≡ ranked 0 marks.old) × (result ≡ counted 0 marks.old) }
 {
-    let n = marks.len();
     let mut reached = 0;
-    let mut i = 0;
-    while i < n {
-        reached = rank_mark(marks, i, reached);
-        i += 1;
+    for mark in marks.iter_mut() {
+        if *mark != 0 {
+            reached += 1;
+            *mark = reached as u32;
+        }
     }
     reached
 }

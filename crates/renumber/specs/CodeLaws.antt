@@ -1,7 +1,6 @@
 -- Laws of one token, by the cases in which the code takes it, and of the bytes written at one.
-use Rattle.std.specs.Prelude.{ℕ, ◌+◌, ◌≤◌, ◌≡◌, refl, List, ◌++◌, Bool, true, false, eqb, ℤ, Float, length}
+use Rattle.std.specs.Prelude.{ℕ, ◌+◌, ◌≤◌, ◌≡◌, refl, List, ◌++◌, Bool, true, false, eqb, ℤ, Float, length, Option, None, Some}
 use Rattle.std.proofs.Common.{sym, ap, ◌∙◌, subst, arith, length-append}
-use Rattle.std.proofs.Math.Option.{Option}
 use Rattle.octets.specs.Pick.{pick, pick_ind}
 use Rattle.octets.specs.Octets.{Wrote}
 use Rattle.octets.specs.PutLaws.{wrote_none, wrote_then, wrote-length}
@@ -11,33 +10,28 @@ use Rattle.charstring.specs.declared.MaskLen.{MaskLen}
 use Rattle.charstring.specs.declared.Token.{Token}
 use Rattle.charstring.specs.declared.Token.TheVariants.{Num, Op, Esc, Mask}
 use Rattle.charstring.specs.declared.Cursor.{Cursor}
-use Rattle.charstring.specs.declared.Step.{Step}
-use Rattle.charstring.specs.declared.Step.TheVariants.{Tok as TokAt, Lost}
 use Rattle.charstring.specs.Token.{token_at}
 use Rattle.charstring.specs.Answers.{step_of}
 use Rattle.prune.specs.Renumber.{Calls, is_call, operand_of}
 use Rattle.renumber.specs.Ranks.{numbers_in, calls_by, Ranked}
-use Rattle.renumber.specs.Turn.{HoldsHeld, turn_for, call_turn, turn_of, turned_by, turned_at, held_bytes_lem, own_bytes}
+use Rattle.renumber.specs.Turn.{HoldsHeld, turn_for, call_turn, turn_of, turned_by, turned_at, held_bytes_lem, own_bytes, a_turn}
 use Rattle.renumber.specs.declared.Ranks.{Ranks}
-use Rattle.renumber.specs.declared.turns.Held.{Held}
-use Rattle.renumber.specs.declared.turns.Held.TheVariants.{Nothing, Number}
 use Rattle.renumber.specs.declared.turns.Turn.{Turn}
 use Rattle.renumber.specs.declared.turns.Turn.TheVariants.{Stuck, Sends}
-use Rattle.renumber.specs.declared.Turned.TheVariants.{Failed as FailedAt, On}
 
 -- ---- the number that is held, by its constructor
 
-pub held_as : (h u : Held) → h ≡ u → HoldsHeld h → HoldsHeld u
+pub held_as : (h u : Option Float) → h ≡ u → HoldsHeld h → HoldsHeld u
 held_as h u e k = subst HoldsHeld e k
 
-pub held-room : (h u : Held) → h ≡ u → (at n : ℕ) → at + length (held_bytes_lem h) ≤ n → at + length (held_bytes_lem u) ≤ n
-held-room h u e at n k = subst (λ (x : Held). at + length (held_bytes_lem x) ≤ n) e k
+pub held-room : (h u : Option Float) → h ≡ u → (at n : ℕ) → at + length (held_bytes_lem h) ≤ n → at + length (held_bytes_lem u) ≤ n
+held-room h u e at n k = subst (λ (x : Option Float). at + length (held_bytes_lem x) ≤ n) e k
 
-pub wrote-held : (h u : Held) → h ≡ u → {old new : List ℕ} {to q : ℕ} → Wrote old to (held_bytes_lem u) new q → Wrote old to (held_bytes_lem h) new q
-wrote-held h u e {old} {new} {to} {q} w = subst (λ (x : Held). Wrote old to (held_bytes_lem x) new q) (sym e) w
+pub wrote-held : (h u : Option Float) → h ≡ u → {old new : List ℕ} {to q : ℕ} → Wrote old to (held_bytes_lem u) new q → Wrote old to (held_bytes_lem h) new q
+wrote-held h u e {old} {new} {to} {q} w = subst (λ (x : Option Float). Wrote old to (held_bytes_lem x) new q) (sym e) w
 
-pub wrote_nothing : (old : List ℕ) (to : ℕ) (h : Held) → h ≡ Nothing → Wrote old to (held_bytes_lem h) old to
-wrote_nothing old to h e = subst (λ (x : Held). Wrote old to (held_bytes_lem x) old to) (sym e) (wrote_none old to)
+pub wrote_nothing : (old : List ℕ) (to : ℕ) (h : Option Float) → h ≡ None → Wrote old to (held_bytes_lem h) old to
+wrote_nothing old to h e = subst (λ (x : Option Float). Wrote old to (held_bytes_lem x) old to) (sym e) (wrote_none old to)
 
 -- ---- a token by its constructor
 
@@ -70,18 +64,18 @@ pub called-ranked : (ws : List ℕ) (locals globals : Ranks) → Ranked ws local
     → (q : Ranks) → q ≡ pick (eqb b 10) locals globals → Ranked ws q
 called-ranked ws locals globals l g t b e q f = subst (Ranked ws) (sym f) (pick_ind (Ranked ws) (eqb b 10) locals globals (λ u. l) (λ u. g))
 
-pub call_held : (operand : ℤ → Option ℤ) (h : Held) (v : Float) (r : Turn) → h ≡ Number v → r ≡ turn_for (operand (scaled_of v)) → r ≡ call_turn operand h
+pub call_held : (operand : ℤ → Option ℤ) (h : Option Float) (v : Float) (r : Turn) → h ≡ Some v → r ≡ turn_for (operand (scaled_of v)) → r ≡ call_turn operand h
 call_held operand h v r e f = f ∙ ap (call_turn operand) (sym e)
 
-module _ (ws : List ℕ) (locals globals : Ranks) (h : Held) (t : Token) where
+module _ (ws : List ℕ) (locals globals : Ranks) (h : Option Float) (t : Token) where
   -- the subroutines of which a call calls one, by its operator
-  called-turn : (b : ℕ) (u : Bool) (g : Held) → eqb b 10 ≡ u → is_call b ≡ true
+  called-turn : (b : ℕ) (u : Bool) (g : Option Float) → eqb b 10 ≡ u → is_call b ≡ true
       → call_turn (operand_of (numbers_in ws (pick u locals globals)) (bias_of (pick u locals globals).count) (bias_of (pick u locals globals).reached)) g
       ≡ turn_of (calls_by ws locals globals) g (Op b)
-  called-turn b true Nothing e c = rw c
-  called-turn b true (Number v) e c = rw (c, e)
-  called-turn b false Nothing e c = rw c
-  called-turn b false (Number v) e c = rw (c, e)
+  called-turn b true None e c = rw c
+  called-turn b true (Some v) e c = rw (c, e)
+  called-turn b false None e c = rw c
+  called-turn b false (Some v) e c = rw (c, e)
 
   module _ (b : ℕ) (e : t ≡ Op b) where
     pub turn-called : is_call b ≡ true → (q : Ranks) → q ≡ pick (eqb b 10) locals globals
@@ -107,19 +101,19 @@ module _ (ws : List ℕ) (locals globals : Ranks) (h : Held) (t : Token) where
 
 -- ---- a step
 
-module _ (calls : Calls) (h : Held) (s : List ℕ) (c : Cursor) (given : MaskLen) (g : MaskLen) (k : g ≡ given) (r : Step) (e : r ≡ step_of (token_at s g c)) where
+module _ (calls : Calls) (h : Option Float) (s : List ℕ) (c : Cursor) (given : MaskLen) (g : MaskLen) (k : g ≡ given) (r : Option (Token × Cursor)) (e : r ≡ step_of (token_at s g c)) where
   stepped : r ≡ step_of (token_at s given c)
   stepped = e ∙ ap (λ (x : MaskLen). step_of (token_at s x c)) k
 
-  pub turned_lost : r ≡ Lost → FailedAt ≡ turned_at calls h (step_of (token_at s given c))
+  pub turned_lost : r ≡ None → None ≡ turned_at calls h (step_of (token_at s given c))
   turned_lost f = ap (turned_at calls h) (sym f ∙ stepped)
 
-  module _ (t : Token) (d : Cursor) (f : r ≡ TokAt t d) (q : Turn) (j : q ≡ turn_of calls h t) where
+  module _ (t : Token) (d : Cursor) (f : r ≡ Some (t, d)) (q : Turn) (j : q ≡ turn_of calls h t) where
     by_turn : turned_by q t d ≡ turned_at calls h (step_of (token_at s given c))
     by_turn = ap (λ (x : Turn). turned_by x t d) j ∙ ap (turned_at calls h) (sym f ∙ stepped)
 
-    pub turned_stuck : q ≡ Stuck → FailedAt ≡ turned_at calls h (step_of (token_at s given c))
+    pub turned_stuck : q ≡ Stuck → None ≡ turned_at calls h (step_of (token_at s given c))
     turned_stuck l = ap (λ (x : Turn). turned_by x t d) (sym l) ∙ by_turn
 
-    pub turned_sends : (v : Held) → q ≡ Sends v → On v t d ≡ turned_at calls h (step_of (token_at s given c))
+    pub turned_sends : (v : Option Float) → q ≡ Sends v → a_turn v t d ≡ turned_at calls h (step_of (token_at s given c))
     turned_sends v l = ap (λ (x : Turn). turned_by x t d) (sym l) ∙ by_turn

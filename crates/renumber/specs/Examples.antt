@@ -1,6 +1,5 @@
 -- Worked examples, computed: renumbering by bits in the work words.
-use Rattle.std.specs.Prelude.{◌≡◌, refl, false, List, [], ◌∷◌, eqb, ℕ}
-use Rattle.std.proofs.Math.Option.{Option, none, some}
+use Rattle.std.specs.Prelude.{◌≡◌, refl, false, List, [], ◌∷◌, eqb, ℕ, None, Option, Some}
 use Rattle.octets.specs.Octets.{bytes_of}
 use Rattle.type2_number.specs.Number.{keep24, rounded, number_at}
 use Rattle.type2_number.specs.Encoding.{number_bytes, integer_bytes, fixed_bytes}
@@ -11,7 +10,6 @@ use Rattle.prune.specs.Renumber.{renumber, renumber_charstring}
 use Rattle.bits.specs.Bits.{count_below}
 use Rattle.renumber.specs.Ranks.{ranks_at, calls_by}
 use Rattle.renumber.specs.Run.{is_three_lem, is_five_lem, three_len, five_len, plain_len, run_bytes}
-use Rattle.renumber.specs.declared.turns.Held.TheVariants.{Nothing}
 
 -- three local subroutines, the third reached, and no global ones
 abbrev third : List ℕ → Option (List ℕ)
@@ -23,12 +21,12 @@ unfolding count_below
 third_sums = refl
 
 -- document 01, 'Corners in write.rs'
-third-called : third (0x22 ∷ 0x0a ∷ 0x0e ∷ []) ≡ some (0x20 ∷ 0x0a ∷ 0x0e ∷ [])
+third-called : third (0x22 ∷ 0x0a ∷ 0x0e ∷ []) ≡ Some (0x20 ∷ 0x0a ∷ 0x0e ∷ [])
 unfolding count_below renumber_charstring renumber tokens_of tokens_from token_at number_at rounded keep24 encode number_bytes integer_bytes fixed_bytes bytes_of
 third-called = refl
 
 -- a call of the first one, which is not reached, fails
-first-called : third (0x20 ∷ 0x0a ∷ 0x0e ∷ []) ≡ none
+first-called : third (0x20 ∷ 0x0a ∷ 0x0e ∷ []) ≡ None
 unfolding count_below renumber_charstring renumber tokens_of tokens_from token_at number_at rounded keep24 encode number_bytes integer_bytes fixed_bytes bytes_of
 first-called = refl
 
@@ -57,5 +55,5 @@ unfolding lengths_of plain_len three_len five_len is_three_lem is_five_lem
 longer_lengths = refl
 
 -- the run up to the call is written but for its last number, which the call takes
-run-before_call : run_bytes six_tokens Nothing 0 4 ≡ 0xf7 ∷ 0x00 ∷ 0x8b ∷ 0x15 ∷ []
+run-before_call : run_bytes six_tokens None 0 4 ≡ 0xf7 ∷ 0x00 ∷ 0x8b ∷ 0x15 ∷ []
 run-before_call = refl

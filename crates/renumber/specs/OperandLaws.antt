@@ -1,8 +1,7 @@
 -- Laws of a call's new operand: by the rank of the subroutine that the old operand names; it is a reading.
-use Rattle.std.specs.Prelude.{ℕ, zero, suc, ◌+◌, ◌-◌, ◌*◌, ◌/◌, ◌%◌, ◌≤◌, ◌<◌, ◌≡◌, refl, Bool, true, false, List, ltb, eqb, ℤ, pos, negsuc, Float}
+use Rattle.std.specs.Prelude.{ℕ, zero, suc, ◌+◌, ◌-◌, ◌*◌, ◌/◌, ◌%◌, ◌≤◌, ◌<◌, ◌≡◌, refl, Bool, true, false, List, ltb, eqb, ℤ, pos, negsuc, Float, None, Option, Some}
 use Rattle.std.proofs.Common.{sym, ap, ◌∙◌, subst, true≢false, div-lt_iff_lt-mul, div-mul-le_self, arith, ltb-true, lt-ltb, le-ltb, eq-eqb, ne_eqb, le-leb}
 use Rattle.std.proofs.lemmas.Bool.{false≢true, lt-leb}
-use Rattle.std.proofs.Math.Option.{Option, none, some}
 use Rattle.std.proofs.Math.Nat.{lt-div-mul-add}
 use Rattle.octets.specs.Pick.{pick, pick_ind}
 use Rattle.type2_number.specs.Number.{is_neg, mag, whole, rounded, Reading}
@@ -19,7 +18,6 @@ use Rattle.prune.specs.OperandLaws.{operand_reading}
 use Rattle.renumber.specs.Ranks.{rank_in, number_of, rank_at, new_in, numbers_in, calls_by, Ranked}
 use Rattle.renumber.specs.Turn.{turn_for}
 use Rattle.renumber.specs.declared.Ranks.{Ranks}
-use Rattle.renumber.specs.declared.turns.Held.TheVariants.{Number}
 use Rattle.renumber.specs.declared.turns.Turn.TheVariants.{Stuck, Sends}
 
 bias_small : (count : ℕ) → bias_of count ≤ 32768
@@ -174,8 +172,8 @@ pub rank-number : (ws : List ℕ) (q : Ranks) → q.count < 65536 → (o : Optio
 rank-number ws q few o i r e f = f ∙ ap (rank_in ws q) e ∙ by o
   where
     by : (o : Option ℕ) → rank_in ws q (number_of o) ≡ rank_at ws q o
-    by none = rw (le-ltb 65536 q.count (omega arith))
-    by (some k) = refl
+    by None = rw (le-ltb 65536 q.count (omega arith))
+    by (Some k) = refl
 
 -- ---- the new number
 
@@ -185,32 +183,32 @@ number-rank ws q i = go (ltb i q.count) (bit_in ws q.at i)
     n : ℕ
     n = count_below (bit_in ws q.at) i
 
-    go : (t u : Bool) → pick t (pick u (some n) none) none ≡ new_in (pick t (pick u (n + 1) 0) 0)
+    go : (t u : Bool) → pick t (pick u (Some n) None) None ≡ new_in (pick t (pick u (n + 1) 0) 0)
     go true true = let e : n + 1 ≡ suc n = omega arith in sym (ap new_in e)
     go true false = refl
     go false u = refl
 
 new-rank : (ws : List ℕ) (q : Ranks) (o : Option ℕ) → new_of (numbers_in ws q) o ≡ new_in (rank_at ws q o)
-new-rank ws q none = refl
-new-rank ws q (some i) = number-rank ws q i
+new-rank ws q None = refl
+new-rank ws q (Some i) = number-rank ws q i
 
-new-below : (r m n : ℕ) → new_in r ≡ some n → r ≤ m → n < m
+new-below : (r m n : ℕ) → new_in r ≡ Some n → r ≤ m → n < m
 new-below zero m n e h = absurd (zero_one cc)
 new-below (suc k) m n e h = let f : k ≡ n = cc in omega arith
 
 module _ (ws : List ℕ) (q : Ranks) (good : Ranked ws q) where
   pub rank_below : (o : Option ℕ) → rank_at ws q o ≤ q.reached
-  rank_below none = omega arith
-  rank_below (some i) =
+  rank_below None = omega arith
+  rank_below (Some i) =
       pick_ind (λ (r : ℕ). r ≤ q.reached) (ltb i q.count) (pick (bit_in ws q.at i) (count_below (bit_in ws q.at) i + 1) 0) 0
       (λ t. pick_ind (λ (r : ℕ). r ≤ q.reached) (bit_in ws q.at i) (count_below (bit_in ws q.at) i + 1) 0
       (λ u. let b = count-below (bit_in ws q.at) i q.count u (ltb-true i q.count t) in omega (arith, good.reaches)) (λ u. omega arith))
       (λ t. omega arith)
 
-  pub number-below : (i n : ℕ) → numbers_in ws q i ≡ some n → n < q.reached
-  number-below i n e = new-below (rank_in ws q i) q.reached n (sym (number-rank ws q i) ∙ e) (rank_below (some i))
+  pub number-below : (i n : ℕ) → numbers_in ws q i ≡ Some n → n < q.reached
+  number-below i n e = new-below (rank_in ws q i) q.reached n (sym (number-rank ws q i) ∙ e) (rank_below (Some i))
 
-  pub operand_reads : (z y : ℤ) → operand_of (numbers_in ws q) (bias_of q.count) (bias_of q.reached) z ≡ some y → Reading y
+  pub operand_reads : (z y : ℤ) → operand_of (numbers_in ws q) (bias_of q.count) (bias_of q.reached) z ≡ Some y → Reading y
   operand_reads z y e = operand_reading (numbers_in ws q) q.count q.reached number-below z y e good.few_reached
 
   module _ (z : ℤ) (r : ℕ) (e : r ≡ rank_at ws q (numbered (bias_of q.count) z)) where
@@ -226,18 +224,18 @@ module _ (ws : List ℕ) (q : Ranks) (good : Ranked ws q) where
 
     -- the rank less 1 is the new number
     pub operand_sends : (r ≡ 0 → ⊥) → (b : ℕ) → b ≡ bias_of q.reached → (v : Float) → v ≡ float_of (rounded (whole (r - 1) b))
-        → Sends (Number v) ≡ turn_for (operand_of (numbers_in ws q) (bias_of q.count) (bias_of q.reached) z)
+        → Sends (Some v) ≡ turn_for (operand_of (numbers_in ws q) (bias_of q.count) (bias_of q.reached) z)
     operand_sends n b a v f =
         let k : suc (r - 1) ≡ r = omega arith in
-        let g : operand_of (numbers_in ws q) (bias_of q.count) (bias_of q.reached) z ≡ some (whole (r - 1) (bias_of q.reached))
+        let g : operand_of (numbers_in ws q) (bias_of q.count) (bias_of q.reached) z ≡ Some (whole (r - 1) (bias_of q.reached))
         = ap (operand_for (bias_of q.reached)) (becomes_by ∙ ap new_in (sym k)) in
-        ap (λ (x : Float). Sends (Number x)) (f ∙ ap (λ (k : ℕ). float_of (rounded (whole (r - 1) k))) a ∙ ap float_of (operand_reads z (whole (r - 1) (bias_of q.reached)) g).kept) ∙ ap turn_for (sym g)
+        ap (λ (x : Float). Sends (Some x)) (f ∙ ap (λ (k : ℕ). float_of (rounded (whole (r - 1) k))) a ∙ ap float_of (operand_reads z (whole (r - 1) (bias_of q.reached)) g).kept) ∙ ap turn_for (sym g)
 
 -- the operands of calls are readings
-pub calls-read : (ws : List ℕ) (locals globals : Ranks) → Ranked ws locals → Ranked ws globals → (b : ℕ) (z y : ℤ) → calls_by ws locals globals b z ≡ some y → Reading y
+pub calls-read : (ws : List ℕ) (locals globals : Ranks) → Ranked ws locals → Ranked ws globals → (b : ℕ) (z y : ℤ) → calls_by ws locals globals b z ≡ Some y → Reading y
 calls-read ws locals globals l g b z y e = go (eqb b 10) e
   where
     go : (t : Bool) → pick t (operand_of (numbers_in ws locals) (bias_of locals.count) (bias_of locals.reached) z)
-        (operand_of (numbers_in ws globals) (bias_of globals.count) (bias_of globals.reached) z) ≡ some y → Reading y
+        (operand_of (numbers_in ws globals) (bias_of globals.count) (bias_of globals.reached) z) ≡ Some y → Reading y
     go true f = operand_reads ws locals l z y f
     go false f = operand_reads ws globals g z y f

@@ -1,7 +1,6 @@
 -- The new numbers of subroutines by their bits in the work words (document 02, Wish 7), and what becomes of a call's operand by them (document 01,
 -- 'Corners in write.rs').
-use Rattle.std.specs.Prelude.{ℕ, zero, suc, ◌+◌, ◌≤◌, ◌<◌, ◌≡◌, Bool, List, ltb, eqb, length}
-use Rattle.std.proofs.Math.Option.{Option, none, some}
+use Rattle.std.specs.Prelude.{ℕ, zero, suc, ◌+◌, ◌≤◌, ◌<◌, ◌≡◌, Bool, List, ltb, eqb, length, None, Option, Some}
 use Rattle.octets.specs.Pick.{pick}
 use Rattle.bits.specs.Bits.{count_below, words_for, bit_in, low_sums, high_sums}
 use Rattle.charstring.specs.Bias.{bias_of}
@@ -19,18 +18,18 @@ rank_in ws q i = pick (ltb i q.count) (pick (bit_in ws q.at i) (count_below (bit
 
 -- the number of the subroutine that an operand names: 65536, which none has, where it names none
 abbrev pub number_of : Option ℕ → ℕ
-number_of none = 65536
-number_of (some i) = i
+number_of None = 65536
+number_of (Some i) = i
 
 -- the rank of the subroutine that an operand names, plus 1
 abbrev pub rank_at : List ℕ → Ranks → Option ℕ → ℕ
-rank_at ws q none = 0
-rank_at ws q (some i) = rank_in ws q i
+rank_at ws q None = 0
+rank_at ws q (Some i) = rank_in ws q i
 
 -- the new number that a rank, plus 1, says: 0 for none
 abbrev pub new_in : ℕ → Option ℕ
-new_in zero = none
-new_in (suc m) = some m
+new_in zero = None
+new_in (suc m) = Some m
 
 -- the new numbers of subroutines by their bits in the words
 abbrev pub numbers_in : List ℕ → Ranks → ℕ → Option ℕ

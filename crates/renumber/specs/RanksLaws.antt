@@ -1,9 +1,8 @@
 -- The numbers by the bits in the work words are those of crates/subset: renumbering by the words is renumbering by the record.
-use Rattle.std.specs.Prelude.{ℕ, ◌+◌, ◌≤◌, ◌<◌, ◌≡◌, Bool, true, false, ltb, eqb, ℤ, length, take, drop}
+use Rattle.std.specs.Prelude.{ℕ, ◌+◌, ◌≤◌, ◌<◌, ◌≡◌, Bool, true, false, ltb, eqb, ℤ, length, take, drop, None, Option, Some}
 use Rattle.std.proofs.Math.Path.{refl, ap}
 use Rattle.std.proofs.Common.{sym, ◌∙◌, arith, ltb-true, ltb-false, le-ltb}
 use mathlib.Core.List.{List, [], ◌∷◌}
-use Rattle.std.proofs.Math.Option.{Option, none, some}
 use Rattle.std.proofs.Math.Decide.{dec_le}
 use Rattle.octets.specs.Pick.{pick}
 use Rattle.charstring.specs.declared.MaskLen.{MaskLen}
@@ -98,37 +97,37 @@ module _ (ws : List ℕ) (q : Ranks) (set : ℕ → Bool) (h : HoldsRanks ws q s
       ∙ ap (λ (b : ℕ). operand_for (bias_of (reached set)) (new_of (rank set) (numbered b z))) g
     where
       go : (o : Option ℕ) → new_of (numbers_in ws q) o ≡ new_of (rank set) o
-      go none = refl
-      go (some i) = numbers-rank i
+      go None = refl
+      go (Some i) = numbers-rank i
 
 -- ---- calls that become alike renumber alike
 
 module _ (calls calls' : Calls) (same : (b : ℕ) (z : ℤ) → calls b z ≡ calls' b z) where
   called-alike : (b : ℕ) (w : Option ℤ) (r : Option (List Tok)) → called_after calls b w r ≡ called_after calls' b w r
-  called-alike b none r = refl
-  called-alike b (some z) r = ap (λ (o : Option ℤ). called b o r) (same b z)
+  called-alike b None r = refl
+  called-alike b (Some z) r = ap (λ (o : Option ℤ). called b o r) (same b z)
 
   renumber-alike : (w : Option ℤ) (ts : List Tok) → renumber calls w ts ≡ renumber calls' w ts
   unfolding renumber
   renumber-alike w [] = refl
-  renumber-alike w (num z ∷ ts) = ap (kept w) (renumber-alike (some z) ts)
+  renumber-alike w (num z ∷ ts) = ap (kept w) (renumber-alike (Some z) ts)
   renumber-alike w (op b ∷ ts) =
-      ap (λ (r : Option (List Tok)). pick (is_call b) (called_after calls b w r) (kept w (before (op b) r))) (renumber-alike none ts)
-      ∙ ap (λ (r : Option (List Tok)). pick (is_call b) r (kept w (before (op b) (renumber calls' none ts)))) (called-alike b w (renumber calls' none ts))
-  renumber-alike w (esc b ∷ ts) = ap (λ (r : Option (List Tok)). kept w (before (esc b) r)) (renumber-alike none ts)
-  renumber-alike w (mask bs ∷ ts) = ap (λ (r : Option (List Tok)). kept w (before (mask bs) r)) (renumber-alike none ts)
+      ap (λ (r : Option (List Tok)). pick (is_call b) (called_after calls b w r) (kept w (before (op b) r))) (renumber-alike None ts)
+      ∙ ap (λ (r : Option (List Tok)). pick (is_call b) r (kept w (before (op b) (renumber calls' None ts)))) (called-alike b w (renumber calls' None ts))
+  renumber-alike w (esc b ∷ ts) = ap (λ (r : Option (List Tok)). kept w (before (esc b) r)) (renumber-alike None ts)
+  renumber-alike w (mask bs ∷ ts) = ap (λ (r : Option (List Tok)). kept w (before (mask bs) r)) (renumber-alike None ts)
 
   pub charstring_alike : (given : ℕ → MaskLen) (code : List ℕ) → renumber_charstring calls given code ≡ renumber_charstring calls' given code
   unfolding renumber_charstring
   charstring_alike given code = go (tokens_of given code)
     where
       go : (x : Option (List Tok)) → renumbered_tokens calls x ≡ renumbered_tokens calls' x
-      go none = refl
-      go (some ts) = ap written_back (renumber-alike none ts)
+      go None = refl
+      go (Some ts) = ap written_back (renumber-alike None ts)
 
   pub body_alike : (rows : List Row) (site : Site) (s : List ℕ) → renumbered_body rows calls site s ≡ renumbered_body rows calls' site s
   unfolding renumbered_body
-  body_alike rows site s = ap (λ (x : Option (List ℕ)). pick (two_lengths_lem rows site) none x) (charstring_alike (given_in rows site) s)
+  body_alike rows site s = ap (λ (x : Option (List ℕ)). pick (two_lengths_lem rows site) None x) (charstring_alike (given_in rows site) s)
 
 -- ---- a font's calls
 
@@ -152,21 +151,21 @@ module _ (p : Program) (rows : List Row) (ws : List ℕ) (locals globals : Ranks
   renumbered_in f l m given code = charstring_alike (calls_by ws locals globals) (calls_in p rows f) (calls-in f l m) given code
 
   -- with no local subroutines, a call of one fails
-  no_numbers : locals.count ≡ 0 → (z : ℤ) → operand_of (numbers_in ws locals) (bias_of locals.count) (bias_of locals.reached) z ≡ none
+  no_numbers : locals.count ≡ 0 → (z : ℤ) → operand_of (numbers_in ws locals) (bias_of locals.count) (bias_of locals.reached) z ≡ None
   no_numbers e z = ap (operand_for (bias_of locals.reached)) (go (numbered (bias_of locals.count) z))
     where
-      go : (o : Option ℕ) → new_of (numbers_in ws locals) o ≡ none
-      go none = refl
-      go (some i) = rw (le-ltb i locals.count (omega arith))
+      go : (o : Option ℕ) → new_of (numbers_in ws locals) o ≡ None
+      go None = refl
+      go (Some i) = rw (le-ltb i locals.count (omega arith))
 
   none_local : locals.count ≡ 0 → (b : ℕ) (z : ℤ)
-      → calls_by ws locals globals b z ≡ pick (eqb b 10) none (operand_of (rank (global_set rows)) (bias_of (length p.globals)) (bias_of (reached (global_set rows))) z)
+      → calls_by ws locals globals b z ≡ pick (eqb b 10) None (operand_of (rank (global_set rows)) (bias_of (length p.globals)) (bias_of (reached (global_set rows))) z)
   none_local e b z = go (eqb b 10)
     where
       go : (t : Bool)
           → pick t (operand_of (numbers_in ws locals) (bias_of locals.count) (bias_of locals.reached) z)
           (operand_of (numbers_in ws globals) (bias_of globals.count) (bias_of globals.reached) z)
-          ≡ pick t none (operand_of (rank (global_set rows)) (bias_of (length p.globals)) (bias_of (reached (global_set rows))) z)
+          ≡ pick t None (operand_of (rank (global_set rows)) (bias_of (length p.globals)) (bias_of (reached (global_set rows))) z)
       go true = no_numbers e z
       go false = operand_rank ws globals (global_set rows) g (length p.globals) n z
 

@@ -1,5 +1,5 @@
 -- Laws of runs of plain tokens: a token passes, passes follow one another, and the loop that takes a run keeps what a run is.
-use Rattle.std.specs.Prelude.{ℕ, ◌+◌, ◌-◌, ◌≤◌, ◌<◌, ◌≡◌, Bool, length, take, drop, get_or}
+use Rattle.std.specs.Prelude.{ℕ, ◌+◌, ◌-◌, ◌≤◌, ◌<◌, ◌≡◌, Bool, length, take, drop, get_or, None, Option, Some, Float}
 use Rattle.std.proofs.Math.Path.{refl, ap, subst}
 use Rattle.std.proofs.Common.{sym, ◌∙◌, arith, take-add, drop-drop}
 use Rattle.std.proofs.Math.Bool.{true, false}
@@ -20,7 +20,6 @@ use Rattle.charstring.specs.declared.MaskLen.TheVariants.{Own}
 use Rattle.charstring.specs.declared.Token.{Token}
 use Rattle.charstring.specs.declared.Token.TheVariants.{Num, Op}
 use Rattle.charstring.specs.declared.Cursor.{Cursor}
-use Rattle.charstring.specs.declared.Step.TheVariants.{Tok as TokAt}
 use Rattle.charstring.specs.Token.{is_mask, stems_after, plain_at, operator_at, token_at}
 use Rattle.charstring.specs.Encode.{encode}
 use Rattle.charstring.specs.Answers.{step_of, Within}
@@ -33,21 +32,19 @@ use Rattle.renumber.specs.BodyLaws.{turning_turn}
 use Rattle.renumber.specs.Run.{is_plain, is_operator, plain_len, part, held_of, held_in, Standing, Passes, RunFrom}
 use Rattle.renumber.specs.ShortLaws.{ShortAt, short-at, operates_told, part-one}
 use Rattle.renumber.specs.declared.runs.Run.{Run}
-use Rattle.renumber.specs.declared.turns.Held.{Held}
-use Rattle.renumber.specs.declared.turns.Held.TheVariants.{Nothing, Number}
 use Rattle.renumber.specs.declared.turns.Turn.{Turn}
 use Rattle.renumber.specs.declared.turns.Turn.TheVariants.{Sends}
 
 -- ---- passes
 
-standing_as : {calls : Calls} {given : ℕ → MaskLen} {s : List ℕ} {c : Cursor} {h : Held} {bs cs : List ℕ} → bs ≡ cs
+standing_as : {calls : Calls} {given : ℕ → MaskLen} {s : List ℕ} {c : Cursor} {h : Option Float} {bs cs : List ℕ} → bs ≡ cs
     → Standing calls given s c h bs → Standing calls given s c h cs
 standing_as e w = record { sent = w.sent; turning = w.turning; written = w.written ∙ e }
 
-passes_as : {s : List ℕ} {c : Cursor} {h : Held} {d : Cursor} {g : Held} {bs cs : List ℕ} → bs ≡ cs → Passes s c h d g bs → Passes s c h d g cs
+passes_as : {s : List ℕ} {c : Cursor} {h : Option Float} {d : Cursor} {g : Option Float} {bs cs : List ℕ} → bs ≡ cs → Passes s c h d g bs → Passes s c h d g cs
 passes_as e p = record { goes = λ calls reads given pre w. standing_as (ap (λ (l : List ℕ). pre ++ l) e) (p.goes calls reads given pre w) }
 
-passes_then : {s : List ℕ} {c : Cursor} {h : Held} {d : Cursor} {g : Held} {e : Cursor} {k : Held} {bs cs : List ℕ}
+passes_then : {s : List ℕ} {c : Cursor} {h : Option Float} {d : Cursor} {g : Option Float} {e : Cursor} {k : Option Float} {bs cs : List ℕ}
     → Passes s c h d g bs → Passes s d g e k cs → Passes s c h e k (bs ++ cs)
 passes_then {bs = bs} {cs = cs} p q =
     record { goes = λ calls reads given pre w. standing_as (append_assoc pre bs cs) (q.goes calls reads given (pre ++ bs) (p.goes calls reads given pre w)) }
@@ -55,10 +52,10 @@ passes_then {bs = bs} {cs = cs} p q =
 -- from c on the bytes bs are passed, up to e, whatever is held at either end
 unfoldable pub Carries : List ℕ → Cursor → Cursor → List ℕ → Type 0
 Carries s c e bs =
-    (d : Cursor) (k : Held) (own : List ℕ) → ((g : Held) → Passes s e g d k (held_bytes_lem g ++ own)) → (h : Held) → Passes s c h d k (held_bytes_lem h ++ (bs ++ own))
+    (d : Cursor) (k : Option Float) (own : List ℕ) → ((g : Option Float) → Passes s e g d k (held_bytes_lem g ++ own)) → (h : Option Float) → Passes s c h d k (held_bytes_lem h ++ (bs ++ own))
 
 -- one token more
-carries_on : (s : List ℕ) (c e f : Cursor) (k : Held) (bs own : List ℕ) → Carries s c e bs → ((g : Held) → Passes s e g f k (held_bytes_lem g ++ own))
+carries_on : (s : List ℕ) (c e f : Cursor) (k : Option Float) (bs own : List ℕ) → Carries s c e bs → ((g : Option Float) → Passes s e g f k (held_bytes_lem g ++ own))
     → Carries s c f (bs ++ (own ++ held_bytes_lem k))
 unfolding Carries
 carries_on s c e f k bs own carry one d j rest next h =
@@ -72,12 +69,12 @@ carries_on s c e f k bs own carry one d j rest next h =
 -- ---- one plain token
 
 module _ (s : List ℕ) (b : Octets s) (at args stems : ℕ) (h : at < length s) where
-  module _ (t : Token) (d : Cursor) (st : step_of (token_at s Own (cursor at args stems false)) ≡ TokAt t d) where
+  module _ (t : Token) (d : Cursor) (st : step_of (token_at s Own (cursor at args stems false)) ≡ Some (t, d)) where
     token-within : Within s (cursor at args stems false) → Within s d
     token-within w =
         (next_of s (cursor at args stems false) Own b w (lt-ltb at (length s) h) (step_of (token_at s Own (cursor at args stems false))) refl t d st).moves.within
 
-    token-passes : ((calls : Calls) (g : Held) → turn_of calls g t ≡ Sends g) → (g : Held) → Passes s (cursor at args stems false) g d (after t) (sent_bytes s g t)
+    token-passes : ((calls : Calls) (g : Option Float) → turn_of calls g t ≡ Sends g) → (g : Option Float) → Passes s (cursor at args stems false) g d (after t) (sent_bytes s g t)
     token-passes sends g =
         record {
           goes = λ calls reads given pre w. record {
@@ -101,42 +98,42 @@ module _ (s : List ℕ) (b : Octets s) (at args stems : ℕ) (h : at < length s)
     no_call = rw (ne_eqb (get_or s at 0) 10 (other 10 refl), ne_eqb (get_or s at 0) 29 (other 29 refl))
 
     by_itself : step_of (operator_at s (cursor at args stems false) (get_or s at 0))
-        ≡ TokAt (Op (get_or s at 0)) (cursor (at + 1) 0 (stems_after (get_or s at 0) args stems) (is_mask (get_or s at 0)))
+        ≡ Some (Op (get_or s at 0), cursor (at + 1) 0 (stems_after (get_or s at 0) args stems) (is_mask (get_or s at 0)))
     by_itself = rw (ne_eqb (get_or s at 0) 12 (other 12 refl))
 
     operator-step : step_of (token_at s Own (cursor at args stems false))
-        ≡ TokAt (Op (get_or s at 0)) (cursor (at + 1) 0 (stems_after (get_or s at 0) args stems) false)
+        ≡ Some (Op (get_or s at 0), cursor (at + 1) 0 (stems_after (get_or s at 0) args stems) false)
     unfolding token_at
     operator-step =
         ap (λ (q : Read). step_of (plain_at s (cursor at args stems false) q)) (form_op s at low (other 28 refl)) ∙ by_itself
-        ∙ ap (λ (t : Bool). TokAt (Op (get_or s at 0)) (cursor (at + 1) 0 (stems_after (get_or s at 0) args stems) t)) no_mask
+        ∙ ap (λ (t : Bool). Some (Op (get_or s at 0), cursor (at + 1) 0 (stems_after (get_or s at 0) args stems) t)) no_mask
 
-    operator-passes : (g : Held) → Passes s (cursor at args stems false) g (cursor (at + 1) 0 (stems_after (get_or s at 0) args stems) false) Nothing
+    operator-passes : (g : Option Float) → Passes s (cursor at args stems false) g (cursor (at + 1) 0 (stems_after (get_or s at 0) args stems) false) None
         (held_bytes_lem g ++ (get_or s at 0 ∷ []))
     operator-passes g =
         token-passes (Op (get_or s at 0)) (cursor (at + 1) 0 (stems_after (get_or s at 0) args stems) false) operator-step
         (λ calls k. ap (λ (t : Bool). pick t (call_turn (calls (get_or s at 0)) k) (Sends k)) no_call) g
 
   module _ (n : ℕ) (short : ShortAt s at n) where
-    number_step : step_of (token_at s Own (cursor at args stems false)) ≡ TokAt (Num (float_of short.value)) (cursor n (args + 1) stems false)
+    number_step : step_of (token_at s Own (cursor at args stems false)) ≡ Some (Num (float_of short.value), cursor n (args + 1) stems false)
     unfolding token_at
     number_step = ap (λ (q : Read). step_of (plain_at s (cursor at args stems false) q)) short.reads
 
-    number-passes : (g : Held) → Passes s (cursor at args stems false) g (cursor n (args + 1) stems false) (Number (float_of short.value)) (held_bytes_lem g ++ [])
+    number-passes : (g : Option Float) → Passes s (cursor at args stems false) g (cursor n (args + 1) stems false) (Some (float_of short.value)) (held_bytes_lem g ++ [])
     number-passes g = token-passes (Num (float_of short.value)) (cursor n (args + 1) stems false) number_step (λ calls k. refl) g
 
-    number-own : held_bytes_lem (Number (float_of short.value)) ≡ part s at n
+    number-own : held_bytes_lem (Some (float_of short.value)) ≡ part s at n
     number-own = ap encoded (back-reading short.value short.reading) ∙ short.own
 
-    number-held : Number (float_of short.value) ≡ held_in s at n
+    number-held : Some (float_of short.value) ≡ held_in s at n
     number-held = rw (lt-ltb at n short.further, short.reads)
 
 -- ---- the number that is held, as the code finds it
 
-abbrev held_by_lem : Answer → Held
-held_by_lem (NumAt v n) = Number v
-held_by_lem Cut = Nothing
-held_by_lem Operator = Nothing
+abbrev held_by_lem : Answer → Option Float
+held_by_lem (NumAt v n) = Some v
+held_by_lem Cut = None
+held_by_lem Operator = None
 
 held_by : (q : Read) → held_by_lem (number_of q) ≡ held_of q
 held_by cut = refl
@@ -147,7 +144,7 @@ module _ (s : List ℕ) (last at : ℕ) where
   pub held-read : last < at → (r : Answer) → r ≡ number_of (number_at s last) → (u : Answer) → r ≡ u → held_by_lem u ≡ held_in s last at
   held-read h r e u f = rw (lt-ltb last at h) (ap held_by_lem (sym f ∙ e) ∙ held_by (number_at s last))
 
-  pub held_none : at ≤ last → Nothing ≡ held_in s last at
+  pub held_none : at ≤ last → None ≡ held_in s last at
   held_none h = rw (le-ltb last at h)
 
 -- ---- the loop that takes a run
@@ -196,8 +193,8 @@ running_start s at args stems w =
 carries_as : (s : List ℕ) (c e : Cursor) (bs cs : List ℕ) → bs ≡ cs → Carries s c e bs → Carries s c e cs
 carries_as s c e bs cs f w = subst (Carries s c e) f w
 
-passes-held : {s : List ℕ} {c : Cursor} {h : Held} {d : Cursor} {g k : Held} {bs : List ℕ} → g ≡ k → Passes s c h d g bs → Passes s c h d k bs
-passes-held {s} {c} {h} {d} {g} {k} {bs} e p = subst (λ (x : Held). Passes s c h d x bs) e p
+passes-held : {s : List ℕ} {c : Cursor} {h : Option Float} {d : Cursor} {g k : Option Float} {bs : List ℕ} → g ≡ k → Passes s c h d g bs → Passes s c h d k bs
+passes-held {s} {c} {h} {d} {g} {k} {bs} e p = subst (λ (x : Option Float). Passes s c h d x bs) e p
 
 module _ (s : List ℕ) (b : Octets s) (c : Cursor) (at last args stems : ℕ) (w : Running s c (run_of at last args stems)) (h : at < length s) (n : ℕ)
     (e : n ≡ plain_len s at) (some : n ≡ 0 → ⊥) where
@@ -221,10 +218,10 @@ module _ (s : List ℕ) (b : Octets s) (c : Cursor) (at last args stems : ℕ) (
           starts = omega (arith, from_at);
           ends = omega arith;
           inside = omega arith;
-          passes = λ l g. passes-held (held_none s (at + 1) (at + 1) (omega arith)) (passes_as (ap (λ (x : List ℕ). held_bytes_lem g ++ x) own) (w.carries next Nothing (get_or s at 0 ∷ []) one g));
+          passes = λ l g. passes-held (held_none s (at + 1) (at + 1) (omega arith)) (passes_as (ap (λ (x : List ℕ). held_bytes_lem g ++ x) own) (w.carries next None (get_or s at 0 ∷ []) one g));
         };
         within = token-within s b at args stems h (Op (get_or s at 0)) next (operator-step s b at args stems h low plain) w.within;
-        carries = carries_as s c next _ _ own (carries_on s c (cursor at args stems false) next Nothing (part s c.at at) (get_or s at 0 ∷ []) w.carries one);
+        carries = carries_as s c next _ _ own (carries_on s c (cursor at args stems false) next None (part s c.at at) (get_or s at 0 ∷ []) w.carries one);
       })
     where
       told : OperatorByte (get_or s at 0)
@@ -239,7 +236,7 @@ module _ (s : List ℕ) (b : Octets s) (c : Cursor) (at last args stems : ℕ) (
       next : Cursor
       next = cursor (at + 1) 0 (stems_after (get_or s at 0) args stems) false
 
-      one : (g : Held) → Passes s (cursor at args stems false) g next Nothing (held_bytes_lem g ++ (get_or s at 0 ∷ []))
+      one : (g : Option Float) → Passes s (cursor at args stems false) g next None (held_bytes_lem g ++ (get_or s at 0 ∷ []))
       one = operator-passes s b at args stems h low plain
 
       own : part s c.at at ++ (get_or s at 0 ∷ []) ≡ part s c.at (at + 1)
@@ -262,13 +259,13 @@ module _ (s : List ℕ) (b : Octets s) (c : Cursor) (at last args stems : ℕ) (
       short : ShortAt s at (at + n)
       short = short-at s at b h begins n e some
 
-      held : Held
-      held = Number (float_of short.value)
+      held : Option Float
+      held = Some (float_of short.value)
 
       next : Cursor
       next = cursor (at + n) (args + 1) stems false
 
-      one : (g : Held) → Passes s (cursor at args stems false) g next held (held_bytes_lem g ++ [])
+      one : (g : Option Float) → Passes s (cursor at args stems false) g next held (held_bytes_lem g ++ [])
       one = number-passes s b at args stems h (at + n) short
 
       own : part s c.at at ++ ([] ++ held_bytes_lem held) ≡ part s c.at (at + n)

@@ -5,7 +5,6 @@
 pub mod runs;
 pub mod turns;
 
-use crate::turns::Held;
 use charstring::{Cursor, Token};
 
 // Where the bits of some subroutines stand in the work words, how many subroutines there are, and how many of them are reached: all of them,
@@ -19,20 +18,10 @@ pub struct Ranks {
     pub high: usize,
 }
 
-// A token of a body read: the renumbering fails there, or the number that is written just before it, the token, and where reading stands.
+// A token of a body read: the number that is written just before it, the token, and where reading stands.
 #[derive(Clone, Copy)]
-pub enum Turned {
-    Failed,
-    On {
-        before: Held,
-        token: Token,
-        next: Cursor,
-    },
-}
-
-// The length of a body renumbered, or that this fails.
-#[derive(Clone, Copy)]
-pub enum Sized {
-    Failed,
-    Len(usize),
+pub struct Turned {
+    pub before: Option<f32>,
+    pub token: Token,
+    pub next: Cursor,
 }

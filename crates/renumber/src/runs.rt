@@ -5,7 +5,6 @@ ghost use Rattle.charstring.specs.Answers.{Within};
 ghost use Rattle.renumber.specs.Turn.{cursor};
 ghost use Rattle.renumber.specs.Run.{is_plain, is_operator, is_three_lem, is_five_lem, three_len, five_len, plain_len, held_in, RunFrom};
 
-use crate::turns::Held;
 use charstring::stems_after;
 use type2_number::{Number, read_number};
 
@@ -193,16 +192,16 @@ pub fn run_at(code: &[u8], at: usize, args: usize, stems: usize, due: bool) -> R
 }
 
 // The number that a run holds back.
-pub fn held_at(code: &[u8], last: usize, at: usize) -> Held
+pub fn held_at(code: &[u8], last: usize, at: usize) -> Option<f32>
     requires { at ≤ length code.now }
     ensures { result ≡ held_in code.now last at }
 {
     if last < at {
         return match read_number(code, last) {
-            Number::Num { value, next: _ } => Held::Number(value),
-            Number::Cut => Held::Nothing,
-            Number::Operator => Held::Nothing,
+            Number::Num { value, next: _ } => Some(value),
+            Number::Cut => None,
+            Number::Operator => None,
         };
     }
-    Held::Nothing
+    None
 }

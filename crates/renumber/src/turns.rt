@@ -78,18 +78,12 @@ fn rank_at(words: &[u32], q: Ranks, v: f32) -> usize
     rank_in(words, q, number_at(q.count, v))
 }
 
-// A number token that was read and is not yet written, or none.
-#[derive(Clone, Copy)]
-pub enum Held {
-    Nothing,
-    Number(f32),
-}
-
 // What a token brings: the renumbering fails, or the number that is written just before the token.
+// (It stays an enum: an Option of an Option is no plainer, since it would not be seen which None is meant.)
 #[derive(Clone, Copy)]
 pub enum Turn {
     Stuck,
-    Sends(Held),
+    Sends(Option<f32>),
 }
 
 // The new operand of a call, by its old one.
@@ -101,17 +95,17 @@ fn new_operand(words: &[u32], q: Ranks, v: f32) -> Turn
     if rank == 0 {
         return Turn::Stuck;
     }
-    Turn::Sends(Held::Number(integer(rank - 1, bias(q.reached))))
+    Turn::Sends(Some(integer(rank - 1, bias(q.reached))))
 }
 
 // A call: it takes the number just before it.
-fn call(words: &[u32], q: Ranks, h: Held) -> Turn
+fn call(words: &[u32], q: Ranks, h: Option<f32>) -> Turn
     requires { (Ranked words.now q) × (HoldsHeld h) }
     ensures { result ≡ call_turn (operand_of (numbers_in words.now q) (bias_of q.count) (bias_of q.reached)) h }
 {
     match h {
-        Held::Nothing => Turn::Stuck,
-        Held::Number(v) => new_operand(words, q, v),
+        None => Turn::Stuck,
+        Some(v) => new_operand(words, q, v),
     }
 }
 
@@ -136,7 +130,7 @@ fn called(b: u8, locals: Ranks, globals: Ranks) -> Ranks
 }
 
 // What a token brings: a call changes the number before it, any other token leaves it.
-pub fn turn_of(words: &[u32], locals: Ranks, globals: Ranks, h: Held, t: Token) -> Turn
+pub fn turn_of(words: &[u32], locals: Ranks, globals: Ranks, h: Option<f32>, t: Token) -> Turn
     requires { (Ranked words.now locals) × (Ranked words.now globals) × (HoldsHeld h) }
     ensures { result ≡ turn_of (calls_by words.now locals globals) h t }
 {
@@ -154,13 +148,13 @@ pub fn turn_of(words: &[u32], locals: Ranks, globals: Ranks, h: Held, t: Token) 
 }
 
 // The number that is held after a token.
-pub fn after(t: Token) -> Held
+pub fn after(t: Token) -> Option<f32>
     ensures { result ≡ after t }
 {
     match t {
-        Token::Num(v) => Held::Number(v),
-        Token::Op(_) => Held::Nothing,
-        Token::Esc(_) => Held::Nothing,
-        Token::Mask { start: _, len: _ } => Held::Nothing,
+        Token::Num(v) => Some(v),
+        Token::Op(_) => None,
+        Token::Esc(_) => None,
+        Token::Mask { start: _, len: _ } => None,
     }
 }

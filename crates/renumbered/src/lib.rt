@@ -14,21 +14,21 @@ ghost use Rattle.renumber.specs.Ranks.{calls_by};
 ghost use Rattle.renumber.specs.Turn.{HoldsHeld, cursor, turned_at, held_bytes_lem, own_bytes, sent_bytes, held_len_lem, own_len, Inputs, sized_of, body_of_lem, is_yes};
 ghost use Rattle.renumber.specs.Run.{run_bytes};
 
-use charstring::{Cursor, MaskLen, Step, Token, more, next_token, put_token, start};
+use charstring::{Cursor, MaskLen, Token, more, next_token, put_token, start};
 use reach::Site;
 use renumber::runs::{held_at, run_at};
-use renumber::turns::{Held, Turn, after, turn_of};
-use renumber::{Ranks, Sized, Turned};
+use renumber::turns::{Turn, after, turn_of};
+use renumber::{Ranks, Turned};
 use type2_number::{number_len, put_number};
 
 // How many bytes the number that was held takes.
-pub fn held_len(h: Held) -> usize
+pub fn held_len(h: Option<f32>) -> usize
     requires { HoldsHeld h }
     ensures { result ≡ held_len_lem h }
 {
     match h {
-        Held::Nothing => 0,
-        Held::Number(v) => number_len(v),
+        None => 0,
+        Some(v) => number_len(v),
     }
 }
 
@@ -45,7 +45,7 @@ fn own_len(t: Token) -> usize
 }
 
 // How many bytes are written at a token: the number that was held, and the token.
-pub fn sent_len(h: Held, t: Token) -> usize
+pub fn sent_len(h: Option<f32>, t: Token) -> usize
     requires { (HoldsHeld h) × (own_len t ≤ 67108864) }
     ensures { result ≡ held_len_lem h + own_len t }
 {
@@ -53,13 +53,13 @@ pub fn sent_len(h: Held, t: Token) -> usize
 }
 
 // The number that was held, from `at` on; the place after it.
-pub fn put_held(h: Held, out: &mut [u8], at: usize) -> usize
+pub fn put_held(h: Option<f32>, out: &mut [u8], at: usize) -> usize
     requires { (HoldsHeld h) × (at + length (held_bytes_lem h) ≤ length out.old) }
     ensures { Wrote out.old at (held_bytes_lem h) out.new result }
 {
     match h {
-        Held::Nothing => at,
-        Held::Number(v) => put_number(v, out, at),
+        None => at,
+        Some(v) => put_number(v, out, at),
     }
 }
 
@@ -77,7 +77,7 @@ fn put_own(code: &[u8], t: Token, out: &mut [u8], at: usize) -> usize
 }
 
 // The number that was held and then a token other than a number, from `at` on; the place after them.
-pub fn put_sent(code: &[u8], h: Held, t: Token, out: &mut [u8], at: usize) -> usize
+pub fn put_sent(code: &[u8], h: Option<f32>, t: Token, out: &mut [u8], at: usize) -> usize
     requires { (HoldsHeld h) × (Writable code.now t) × (at + length (sent_bytes code.now h t) ≤ length out.old) }
     ensures { Wrote out.old at (sent_bytes code.now h t) out.new result }
 {
@@ -86,7 +86,7 @@ pub fn put_sent(code: &[u8], h: Held, t: Token, out: &mut [u8], at: usize) -> us
 }
 
 // How many bytes are written at a run: the number that was held, and the run up to the number that it holds back.
-pub fn run_len(h: Held, from: usize, last: usize) -> usize
+pub fn run_len(h: Option<f32>, from: usize, last: usize) -> usize
     requires { (HoldsHeld h) × (from ≤ last) × (last ≤ 67108864) }
     ensures { result ≡ held_len_lem h + (last - from) }
 {
@@ -94,7 +94,14 @@ pub fn run_len(h: Held, from: usize, last: usize) -> usize
 }
 
 // The number that was held and then the bytes of a body between two places, from `at` on; the place after them.
-pub fn put_run(code: &[u8], h: Held, from: usize, last: usize, out: &mut [u8], at: usize) -> usize
+pub fn put_run(
+    code: &[u8],
+    h: Option<f32>,
+    from: usize,
+    last: usize,
+    out: &mut [u8],
+    at: usize,
+) -> usize
     requires { (HoldsHeld h) × (from ≤ last) × (last ≤ length code.now) × (at + length (run_bytes code.now h from last) ≤ length out.old) }
     ensures { Wrote out.old at (run_bytes code.now h from last) out.new result }
 {
@@ -115,7 +122,7 @@ fn given_at(rows: &[u8], rising: bool, site: Site, c: Cursor) -> MaskLen
     MaskLen::Own
 }
 
-// The token where reading stands. That comes as four numbers, and the loops take `next` over number by number: a Cursor passed whole is copied
+// The token where reading stands, or None where renumbering fails there. Where it stands comes as four numbers, and the loops take `next` over number by number: a Cursor passed whole is copied
 // through memory at each token, which took half of the time.
 pub fn turn_at(
     code: &[u8],
@@ -129,8 +136,8 @@ pub fn turn_at(
     args: usize,
     stems: usize,
     due: bool,
-    h: Held,
-) -> Turned
+    h: Option<f32>,
+) -> Option<Turned>
     requires { (Inputs code.now words.now locals globals (rows_of rows.now) rising site)
         × (Within code.now (cursor at args stems due)) × (more code.now (cursor at args stems due) ≡ true) × (HoldsHeld h) }
     ensures { result ≡ turned_at (calls_by words.now locals globals) h
@@ -145,14 +152,14 @@ pub fn turn_at(
     };
     let given = given_at(rows, rising, site, c);
     match next_token(code, c, given) {
-        Step::Lost => Turned::Failed,
-        Step::Tok { token, next } => match turn_of(words, locals, globals, h, token) {
-            Turn::Stuck => Turned::Failed,
-            Turn::Sends(before) => Turned::On {
+        None => None,
+        Some((token, next)) => match turn_of(words, locals, globals, h, token) {
+            Turn::Stuck => None,
+            Turn::Sends(before) => Some(Turned {
                 before,
                 token,
                 next,
-            },
+            }),
         },
     }
 }
@@ -166,13 +173,13 @@ fn body_len(
     rows: &[u8],
     rising: bool,
     site: Site,
-) -> Sized
+) -> Option<usize>
     requires { Inputs code.now words.now locals globals (rows_of rows.now) rising site }
     ensures { result ≡ sized_of (renumber_charstring (calls_by words.now locals globals)
         (given_in (rows_of rows.now) (site_of site)) code.now) }
 {
     let mut c = start();
-    let mut h = Held::Nothing;
+    let mut h = None;
     let mut len: usize = 0;
     while more(code, c) {
         let run = run_at(code, c.at, c.args, c.stems, c.due);
@@ -190,26 +197,22 @@ fn body_len(
         match turn_at(
             code, words, locals, globals, rows, rising, site, c.at, c.args, c.stems, c.due, h,
         ) {
-            Turned::On {
-                before,
-                token,
-                next,
-            } => {
-                len += sent_len(before, token);
-                h = after(token);
+            Some(turned) => {
+                len += sent_len(turned.before, turned.token);
+                h = after(turned.token);
                 c = Cursor {
-                    at: next.at,
-                    args: next.args,
-                    stems: next.stems,
-                    due: next.due,
+                    at: turned.next.at,
+                    args: turned.next.args,
+                    stems: turned.next.stems,
+                    due: turned.next.due,
                 };
             }
-            Turned::Failed => {
-                return Sized::Failed;
+            None => {
+                return None;
             }
         }
     }
-    Sized::Len(len + held_len(h))
+    Some(len + held_len(h))
 }
 
 // The length of a body renumbered, or that this fails: two lengths at one offset fail too.
@@ -221,13 +224,13 @@ pub fn renumbered_len(
     rows: &[u8],
     rising: bool,
     site: Site,
-) -> Sized
+) -> Option<usize>
     requires { Inputs code.now words.now locals globals (rows_of rows.now) rising site }
     ensures { result ≡ sized_of (renumbered_body (rows_of rows.now) (calls_by words.now locals globals)
         (site_of site) code.now) }
 {
     if reach::masks::two_lengths(rows, rising, site) {
-        return Sized::Failed;
+        return None;
     }
     body_len(code, words, locals, globals, rows, rising, site)
 }
@@ -252,7 +255,7 @@ pub fn put_renumbered(
         out.new result }
 {
     let mut c = start();
-    let mut h = Held::Nothing;
+    let mut h = None;
     let mut p = at;
     while more(code, c) {
         let run = run_at(code, c.at, c.args, c.stems, c.due);
@@ -270,21 +273,17 @@ pub fn put_renumbered(
         match turn_at(
             code, words, locals, globals, rows, rising, site, c.at, c.args, c.stems, c.due, h,
         ) {
-            Turned::On {
-                before,
-                token,
-                next,
-            } => {
-                p = put_sent(code, before, token, &mut *out, p);
-                h = after(token);
+            Some(turned) => {
+                p = put_sent(code, turned.before, turned.token, &mut *out, p);
+                h = after(turned.token);
                 c = Cursor {
-                    at: next.at,
-                    args: next.args,
-                    stems: next.stems,
-                    due: next.due,
+                    at: turned.next.at,
+                    args: turned.next.args,
+                    stems: turned.next.stems,
+                    due: turned.next.due,
                 };
             }
-            Turned::Failed => {
+            None => {
                 return p;
             }
         }

@@ -1,6 +1,5 @@
 -- The answer by the code's tests of a kind's letter.
-use Rattle.std.specs.Prelude.{ℕ, ◌≡◌, true, false, List}
-use Rattle.std.proofs.Math.Option.{none}
+use Rattle.std.specs.Prelude.{ℕ, ◌≡◌, true, false, List, None}
 use Rattle.cases.specs.Tally.{is_one_of}
 use Rattle.charstring_cases.specs.Answers.{kinds as charstringKinds, answer_to as charstringAnswer}
 use Rattle.format_cases.specs.Answers.{kinds as formatKinds, answer_to as formatAnswer}
@@ -28,6 +27,6 @@ module _ (kind : ℕ) (s : List ℕ) where
         unfolding answer_to
         answer-subset e = rw (n, m, l, e)
 
-        pub answer-none : is_one_of subsetKinds kind ≡ false → answer_to kind s ≡ none
+        pub answer-none : is_one_of subsetKinds kind ≡ false → answer_to kind s ≡ None
         unfolding answer_to
         answer-none e = rw (n, m, l, e)

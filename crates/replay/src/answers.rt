@@ -3,10 +3,9 @@ ghost use Rattle.std.specs.Prelude.{◌≤◌, length};
 ghost use Rattle.cases.specs.Answers.{Gives};
 ghost use Rattle.replay.specs.Answers.{answer_to};
 
-use cases::Answered;
 use cases::tally::is_one_of;
 
-pub fn answer(kind: u8, input: &[u8], out: &mut [u8]) -> Answered
+pub fn answer(kind: u8, input: &[u8], out: &mut [u8]) -> Option<usize>
     requires { 4096 ≤ length out.old }
     ensures { Gives (answer_to kind input.now) out.new result }
 {
@@ -22,5 +21,5 @@ pub fn answer(kind: u8, input: &[u8], out: &mut [u8]) -> Answered
     if is_one_of(b"SD", kind) {
         return subset_cases::answer(kind, input, out);
     }
-    Answered::Outside
+    None
 }

@@ -5,10 +5,8 @@ ghost use Rattle.cases.specs.Lines.{lines_of, answer_of, agrees};
 ghost use Rattle.cases.specs.Tally.{counted_all, first_failed, Below};
 ghost use Rattle.replay.specs.Answers.{answer_to};
 
-use cases::Answered;
 use cases::fields::{holds, read_field};
 use cases::tally::{count_line, first_failed};
-use hexlines::Unhexed;
 
 // Whether our answer to an input is the stored one.
 fn answer_agrees(kind: u8, input: &[u8], stored: &[u8]) -> bool
@@ -16,8 +14,8 @@ fn answer_agrees(kind: u8, input: &[u8], stored: &[u8]) -> bool
 {
     let mut found = [0u8; 4096];
     match crate::answers::answer(kind, input, &mut found) {
-        Answered::Bytes(k) => holds(stored, &found[..k]),
-        Answered::Outside => false,
+        Some(k) => holds(stored, &found[..k]),
+        None => false,
     }
 }
 
@@ -27,8 +25,8 @@ fn fields_agree(kind: u8, text: &[u8], stored: &[u8]) -> bool
 {
     let mut input = [0u8; 4096];
     match read_field(text, &mut input) {
-        Unhexed::Done(k) => answer_agrees(kind, &input[..k], stored),
-        Unhexed::Bad => false,
+        Some(k) => answer_agrees(kind, &input[..k], stored),
+        None => false,
     }
 }
 

@@ -1,6 +1,5 @@
 -- Worked examples, computed: document 01's input and its output, and inputs at the edges of the form.
-use Rattle.std.specs.Prelude.{ℕ, ◌≡◌, refl, List, [], ◌∷◌}
-use Rattle.std.proofs.Math.Option.{none, some}
+use Rattle.std.specs.Prelude.{ℕ, ◌≡◌, refl, List, [], ◌∷◌, None, Some}
 use Rattle.octets.specs.Octets.{bytes_of}
 use Rattle.hexlines.specs.Hexlines.{hex_value_lem, is_hex_lem, spelt, digit_of, hex_text}
 use Rattle.cases.specs.Lines.{lines_of}
@@ -21,42 +20,42 @@ abbrev the_output : List ℕ
 the_output = 48 ∷ 48 ∷ 48 ∷ 48 ∷ 48 ∷ 48 ∷ 48 ∷ 48 ∷ 51 ∷ 53 ∷ 10 ∷ 48 ∷ 49 ∷ 48 ∷ 48 ∷ 48 ∷ 52 ∷ 48 ∷ 49 ∷ 48 ∷ 48 ∷ 48 ∷ 49 ∷ 48 ∷ 49 ∷ 48 ∷ 49 ∷ 48 ∷ 50 ∷ 52 ∷ 49 ∷ 48 ∷ 48 ∷ 48 ∷ 49 ∷ 48 ∷ 49 ∷ 48 ∷ 49 ∷ 49 ∷ 56 ∷ 49 ∷ 100 ∷ 10 ∷ 48 ∷ 48 ∷ 48 ∷ 48 ∷ 48 ∷ 48 ∷ 50 ∷ 97 ∷ 48 ∷ 102 ∷ 49 ∷ 100 ∷ 48 ∷ 48 ∷ 48 ∷ 48 ∷ 48 ∷ 48 ∷ 50 ∷ 100 ∷ 49 ∷ 49 ∷ 49 ∷ 100 ∷ 48 ∷ 48 ∷ 48 ∷ 48 ∷ 48 ∷ 48 ∷ 48 ∷ 48 ∷ 10 ∷ 49 ∷ 100 ∷ 48 ∷ 48 ∷ 48 ∷ 48 ∷ 48 ∷ 48 ∷ 51 ∷ 53 ∷ 49 ∷ 50 ∷ 48 ∷ 48 ∷ 48 ∷ 48 ∷ 48 ∷ 48 ∷ 48 ∷ 48 ∷ 48 ∷ 48 ∷ 48 ∷ 48 ∷ 48 ∷ 49 ∷ 48 ∷ 48 ∷ 48 ∷ 50 ∷ 48 ∷ 49 ∷ 10 ∷ 48 ∷ 49 ∷ 48 ∷ 50 ∷ 48 ∷ 51 ∷ 48 ∷ 101 ∷ 48 ∷ 101 ∷ 10 ∷ []
 
 -- the input
-document-sheet : sheet_of (the_input) ≡ some (record { font = the_font; name = 65 ∷ []; keep = 1 ∷ []; rec = []; flag = 1 })
+document-sheet : sheet_of (the_input) ≡ Some (record { font = the_font; name = 65 ∷ []; keep = 1 ∷ []; rec = []; flag = 1 })
 unfolding sheet_of sheet_in is_sheet_lem hex_up_to is_kept hex_of are_rows all_rows filled row_bytes pairs lines_of is_hex_lem spelt hex_value_lem
 document-sheet = refl
 
 -- its last line feed is missing
-no_last-feed : sheet_of (48 ∷ 49 ∷ 48 ∷ 48 ∷ 48 ∷ 52 ∷ 48 ∷ 49 ∷ 48 ∷ 48 ∷ 48 ∷ 49 ∷ 48 ∷ 49 ∷ 48 ∷ 49 ∷ 48 ∷ 50 ∷ 53 ∷ 56 ∷ 48 ∷ 48 ∷ 48 ∷ 49 ∷ 48 ∷ 49 ∷ 48 ∷ 49 ∷ 48 ∷ 51 ∷ 97 ∷ 48 ∷ 49 ∷ 49 ∷ 48 ∷ 48 ∷ 48 ∷ 48 ∷ 48 ∷ 48 ∷ 48 ∷ 48 ∷ 48 ∷ 48 ∷ 48 ∷ 50 ∷ 48 ∷ 49 ∷ 48 ∷ 49 ∷ 48 ∷ 50 ∷ 48 ∷ 51 ∷ 48 ∷ 101 ∷ 48 ∷ 101 ∷ 10 ∷ 52 ∷ 49 ∷ 10 ∷ 48 ∷ 48 ∷ 48 ∷ 49 ∷ 10 ∷ 48 ∷ 49 ∷ []) ≡ some (record { font = the_font; name = 65 ∷ []; keep = 1 ∷ []; rec = []; flag = 1 })
+no_last-feed : sheet_of (48 ∷ 49 ∷ 48 ∷ 48 ∷ 48 ∷ 52 ∷ 48 ∷ 49 ∷ 48 ∷ 48 ∷ 48 ∷ 49 ∷ 48 ∷ 49 ∷ 48 ∷ 49 ∷ 48 ∷ 50 ∷ 53 ∷ 56 ∷ 48 ∷ 48 ∷ 48 ∷ 49 ∷ 48 ∷ 49 ∷ 48 ∷ 49 ∷ 48 ∷ 51 ∷ 97 ∷ 48 ∷ 49 ∷ 49 ∷ 48 ∷ 48 ∷ 48 ∷ 48 ∷ 48 ∷ 48 ∷ 48 ∷ 48 ∷ 48 ∷ 48 ∷ 48 ∷ 50 ∷ 48 ∷ 49 ∷ 48 ∷ 49 ∷ 48 ∷ 50 ∷ 48 ∷ 51 ∷ 48 ∷ 101 ∷ 48 ∷ 101 ∷ 10 ∷ 52 ∷ 49 ∷ 10 ∷ 48 ∷ 48 ∷ 48 ∷ 49 ∷ 10 ∷ 48 ∷ 49 ∷ []) ≡ Some (record { font = the_font; name = 65 ∷ []; keep = 1 ∷ []; rec = []; flag = 1 })
 unfolding sheet_of sheet_in is_sheet_lem hex_up_to is_kept hex_of are_rows all_rows filled row_bytes pairs lines_of is_hex_lem spelt hex_value_lem
 no_last-feed = refl
 
 -- three empty lines, the flag, and an empty row
-empty-lines : sheet_of (10 ∷ 10 ∷ 10 ∷ 48 ∷ 48 ∷ 10 ∷ 10 ∷ []) ≡ some (record { font = []; name = []; keep = []; rec = []; flag = 0 })
+empty-lines : sheet_of (10 ∷ 10 ∷ 10 ∷ 48 ∷ 48 ∷ 10 ∷ 10 ∷ []) ≡ Some (record { font = []; name = []; keep = []; rec = []; flag = 0 })
 unfolding sheet_of sheet_in is_sheet_lem hex_up_to is_kept hex_of are_rows all_rows filled row_bytes pairs lines_of is_hex_lem spelt hex_value_lem
 empty-lines = refl
 
 -- an empty row and one
-one-row : sheet_of (10 ∷ 10 ∷ 10 ∷ 48 ∷ 49 ∷ 10 ∷ 10 ∷ 48 ∷ 48 ∷ 48 ∷ 49 ∷ 48 ∷ 50 ∷ 48 ∷ 51 ∷ 48 ∷ 52 ∷ 48 ∷ 53 ∷ 48 ∷ 54 ∷ 48 ∷ 55 ∷ 48 ∷ 56 ∷ 102 ∷ 102 ∷ []) ≡ some (record { font = []; name = []; keep = []; rec = 0 ∷ 1 ∷ 2 ∷ 3 ∷ 4 ∷ 5 ∷ 6 ∷ 7 ∷ 8 ∷ 255 ∷ []; flag = 1 })
+one-row : sheet_of (10 ∷ 10 ∷ 10 ∷ 48 ∷ 49 ∷ 10 ∷ 10 ∷ 48 ∷ 48 ∷ 48 ∷ 49 ∷ 48 ∷ 50 ∷ 48 ∷ 51 ∷ 48 ∷ 52 ∷ 48 ∷ 53 ∷ 48 ∷ 54 ∷ 48 ∷ 55 ∷ 48 ∷ 56 ∷ 102 ∷ 102 ∷ []) ≡ Some (record { font = []; name = []; keep = []; rec = 0 ∷ 1 ∷ 2 ∷ 3 ∷ 4 ∷ 5 ∷ 6 ∷ 7 ∷ 8 ∷ 255 ∷ []; flag = 1 })
 unfolding sheet_of sheet_in is_sheet_lem hex_up_to is_kept hex_of are_rows all_rows filled row_bytes pairs lines_of is_hex_lem spelt hex_value_lem
 one-row = refl
 
 -- no flag line
-no_flag : sheet_of (48 ∷ 48 ∷ 10 ∷ 10 ∷ 10 ∷ []) ≡ none
+no_flag : sheet_of (48 ∷ 48 ∷ 10 ∷ 10 ∷ 10 ∷ []) ≡ None
 unfolding sheet_of sheet_in is_sheet_lem hex_up_to is_kept hex_of are_rows all_rows filled row_bytes pairs lines_of is_hex_lem spelt hex_value_lem
 no_flag = refl
 
 -- upper case
-upper_case : sheet_of (10 ∷ 52 ∷ 65 ∷ 10 ∷ 10 ∷ 48 ∷ 48 ∷ 10 ∷ []) ≡ none
+upper_case : sheet_of (10 ∷ 52 ∷ 65 ∷ 10 ∷ 10 ∷ 48 ∷ 48 ∷ 10 ∷ []) ≡ None
 unfolding sheet_of sheet_in is_sheet_lem hex_up_to is_kept hex_of are_rows all_rows filled row_bytes pairs lines_of is_hex_lem spelt hex_value_lem
 upper_case = refl
 
 -- a number of two digits
-half-number : sheet_of (10 ∷ 10 ∷ 48 ∷ 48 ∷ 10 ∷ 48 ∷ 48 ∷ 10 ∷ []) ≡ none
+half-number : sheet_of (10 ∷ 10 ∷ 48 ∷ 48 ∷ 10 ∷ 48 ∷ 48 ∷ 10 ∷ []) ≡ None
 unfolding sheet_of sheet_in is_sheet_lem hex_up_to is_kept hex_of are_rows all_rows filled row_bytes pairs lines_of is_hex_lem spelt hex_value_lem
 half-number = refl
 
 -- a row of 18 digits
-short_row : sheet_of (10 ∷ 10 ∷ 10 ∷ 48 ∷ 49 ∷ 10 ∷ 48 ∷ 48 ∷ 48 ∷ 49 ∷ 48 ∷ 50 ∷ 48 ∷ 51 ∷ 48 ∷ 52 ∷ 48 ∷ 53 ∷ 48 ∷ 54 ∷ 48 ∷ 55 ∷ 48 ∷ 56 ∷ []) ≡ none
+short_row : sheet_of (10 ∷ 10 ∷ 10 ∷ 48 ∷ 49 ∷ 10 ∷ 48 ∷ 48 ∷ 48 ∷ 49 ∷ 48 ∷ 50 ∷ 48 ∷ 51 ∷ 48 ∷ 52 ∷ 48 ∷ 53 ∷ 48 ∷ 54 ∷ 48 ∷ 55 ∷ 48 ∷ 56 ∷ []) ≡ None
 unfolding sheet_of sheet_in is_sheet_lem hex_up_to is_kept hex_of are_rows all_rows filled row_bytes pairs lines_of is_hex_lem spelt hex_value_lem
 short_row = refl
 

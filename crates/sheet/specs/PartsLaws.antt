@@ -1,8 +1,7 @@
 -- Laws of the parts of a sheet, once its lines are known to be those of one: each has room in its buffer, and stands in front of it.
-use Rattle.std.specs.Prelude.{ℕ, ◌+◌, ◌*◌, ◌%◌, ◌≤◌, ◌≡◌, Bool, true, false, List, leb, eqb, length, take, drop, get_or}
+use Rattle.std.specs.Prelude.{ℕ, ◌+◌, ◌*◌, ◌%◌, ◌≤◌, ◌≡◌, Bool, true, false, List, leb, eqb, length, take, drop, get_or, None, Some, Option}
 use Rattle.std.proofs.Math.Path.{refl, ap}
 use Rattle.std.proofs.Common.{sym, ◌∙◌, subst, arith, leb-true}
-use Rattle.std.proofs.Math.Option.{none, some}
 use Rattle.std.proofs.Math.Seq.{slice, length-slice}
 use Rattle.octets.specs.Pick.{pick}
 use Rattle.octets.specs.PickLaws.{both_hold}
@@ -12,12 +11,10 @@ use Rattle.hexlines.specs.Hexlines.{hex_value_lem, is_hex_lem, spelt}
 use Rattle.hexlines.specs.HexlinesLaws.{spelt-length, spelt-two, Pair, hex-pair}
 use Rattle.cases.specs.Lines.{lines_of}
 use Rattle.sheet.specs.Sheet.{hex_up_to, is_kept, hex_of, filled, are_rows, row_bytes, pairs, is_sheet_lem, sheet_in, sheet_of}
-use Rattle.sheet.specs.Reading.{part, FourLines, HeadIs, is_sheet_at, sheet_at, Stands, Reads}
+use Rattle.sheet.specs.Reading.{part, FourLines, HeadIs, ends, parts, is_sheet_at, sheet_at, Stands, Reads}
 use Rattle.sheet.specs.ReadingLaws.{hex-of, slice-part}
-use Rattle.sheet.specs.declared.reading.SheetIn.{SheetIn}
-use Rattle.sheet.specs.declared.reading.SheetIn.TheVariants.{Other, Parts}
-use Rattle.sheet.specs.declared.reading.Head.{Head}
-use Rattle.sheet.specs.declared.reading.Head.TheVariants.{Short, Lines}
+use Rattle.sheet.specs.declared.reading.LineEnds.{LineEnds}
+use Rattle.sheet.specs.declared.reading.Parts.{Parts}
 
 -- ---- a line
 
@@ -97,7 +94,7 @@ fine text a b c d e =
 pub stands : (text : List ℕ) (a b c d : ℕ) {font font' name name' keep keep' rec rec' : List ℕ} {m n k l flag : ℕ}
     → Wrote font 0 (spelt (slice 0 a text)) font' m → Wrote name 0 (spelt (slice (a + 1) b text)) name' n
     → Wrote keep 0 (pairs (spelt (part (b + 1) c text))) keep' k → flag ≡ get_or (spelt (part (c + 1) d text)) 0 0
-    → Wrote rec 0 (row_bytes (filled (lines_of (drop (d + 1) text)))) rec' l → Stands (sheet_at text a b c d) font' name' keep' rec' (Parts m n k l flag)
+    → Wrote rec 0 (row_bytes (filled (lines_of (drop (d + 1) text)))) rec' l → Stands (sheet_at text a b c d) font' name' keep' rec' (Some (parts m n k l flag))
 unfolding sheet_at
 stands text a b c d w x y e z =
     let f = in_front_as (spelt (part 0 a text)) w (spelt-slice 0 a text) in
@@ -109,32 +106,32 @@ stands text a b c d w x y e z =
     record { answer = cc (p, q, r, t, e); font_is = f.1; name_is = g.1; keep_is = in_front y; rec_is = in_front z }
 
 -- what the answer says of the first lines
-pub four-told : (text : List ℕ) (h : Head) (a b c d : ℕ) → HeadIs text h → h ≡ Lines a b c d → FourLines text a b c d
+pub four-told : (text : List ℕ) (h : Option LineEnds) (a b c d : ℕ) → HeadIs text h → h ≡ Some (ends a b c d) → FourLines text a b c d
 unfolding HeadIs
-four-told text h a b c d p e = subst (λ (x : Head). HeadIs text x) e p
+four-told text h a b c d p e = subst (λ (x : Option LineEnds). HeadIs text x) e p
 
-pub short-told : (text : List ℕ) (h : Head) → HeadIs text h → h ≡ Short → sheet_of text ≡ none
+pub short-told : (text : List ℕ) (h : Option LineEnds) → HeadIs text h → h ≡ None → sheet_of text ≡ None
 unfolding HeadIs
-short-told text h p e = subst (λ (x : Head). HeadIs text x) e p
+short-told text h p e = subst (λ (x : Option LineEnds). HeadIs text x) e p
 
 module _ (text : List ℕ) (a b c d : ℕ) (f : FourLines text a b c d) where
-  sheet-four : sheet_of text ≡ pick (is_sheet_at text a b c d) (some (sheet_at text a b c d)) none
+  sheet-four : sheet_of text ≡ pick (is_sheet_at text a b c d) (Some (sheet_at text a b c d)) None
   unfolding sheet_of sheet_in is_sheet_at sheet_at
   sheet-four = ap sheet_in f.are
 
-  pub reads-parts : (font name keep rec : List ℕ) (r : SheetIn) → is_sheet_at text a b c d ≡ true → Stands (sheet_at text a b c d) font name keep rec r
+  pub reads-parts : (font name keep rec : List ℕ) (r : Option Parts) → is_sheet_at text a b c d ≡ true → Stands (sheet_at text a b c d) font name keep rec r
       → Reads (sheet_of text) font name keep rec r
   unfolding Reads
   reads-parts font name keep rec r e s =
-      let m : sheet_of text ≡ some (sheet_at text a b c d) = sheet-four ∙ ap (λ (t : Bool). pick t (some (sheet_at text a b c d)) none) e in
+      let m : sheet_of text ≡ Some (sheet_at text a b c d) = sheet-four ∙ ap (λ (t : Bool). pick t (Some (sheet_at text a b c d)) None) e in
       rw m s
 
-  pub reads_not : (font name keep rec : List ℕ) → is_sheet_at text a b c d ≡ false → Reads (sheet_of text) font name keep rec Other
+  pub reads_not : (font name keep rec : List ℕ) → is_sheet_at text a b c d ≡ false → Reads (sheet_of text) font name keep rec None
   unfolding Reads
   reads_not font name keep rec e =
-      let m : sheet_of text ≡ none = sheet-four ∙ ap (λ (t : Bool). pick t (some (sheet_at text a b c d)) none) e in
+      let m : sheet_of text ≡ None = sheet-four ∙ ap (λ (t : Bool). pick t (Some (sheet_at text a b c d)) None) e in
       rw m refl
 
-pub reads_other : (text font name keep rec : List ℕ) → sheet_of text ≡ none → Reads (sheet_of text) font name keep rec Other
+pub reads_other : (text font name keep rec : List ℕ) → sheet_of text ≡ None → Reads (sheet_of text) font name keep rec None
 unfolding Reads
 reads_other text font name keep rec e = rw e refl

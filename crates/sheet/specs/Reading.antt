@@ -1,13 +1,10 @@
 -- Reading the lines of a sheet (document 01, 'One sheet, whole') in place: what the functions answer.
-use Rattle.std.specs.Prelude.{ℕ, ◌+◌, ◌-◌, ◌≤◌, ◌<◌, ◌≡◌, Bool, List, [], ◌∷◌, leb, eqb, length, take, drop}
-use Rattle.std.proofs.Math.Option.{Option, none, some}
+use Rattle.std.specs.Prelude.{ℕ, ◌+◌, ◌-◌, ◌≤◌, ◌<◌, ◌≡◌, Bool, List, [], ◌∷◌, leb, eqb, length, take, drop, None, Option, Some}
 use Rattle.octets.specs.Pick.{pick}
 use Rattle.cases.specs.Lines.{lines_of}
 use Rattle.sheet.specs.Sheet.{Sheet, hex_of, filled, is_sheet_lem, sheet_with, sheet_of}
-use Rattle.sheet.specs.declared.reading.Head.{Head}
-use Rattle.sheet.specs.declared.reading.Head.TheVariants.{Short, Lines}
-use Rattle.sheet.specs.declared.reading.SheetIn.{SheetIn}
-use Rattle.sheet.specs.declared.reading.SheetIn.TheVariants.{Other, Parts}
+use Rattle.sheet.specs.declared.reading.LineEnds.{LineEnds}
+use Rattle.sheet.specs.declared.reading.Parts.{Parts}
 
 -- how many rows there are after one more line, 513 for too many or a line that is none
 unfoldable pub rows_after : ℕ → List ℕ → ℕ
@@ -40,19 +37,26 @@ sheet_at text a b c d =
     sheet_with (part 0 a text) (part (a + 1) b text) (part (b + 1) c text) (part (c + 1) d text) (filled (lines_of (drop (d + 1) text)))
 
 -- what is said of the first lines of a text
-unfoldable pub HeadIs : List ℕ → Head → Type 0
-HeadIs text Short = sheet_of text ≡ none
-HeadIs text (Lines a b c d) = FourLines text a b c d
+unfoldable pub HeadIs : List ℕ → Option LineEnds → Type 0
+HeadIs text None = sheet_of text ≡ None
+HeadIs text (Some e) = FourLines text e.font e.name e.keep e.flag
+
+-- the code's answers, by their numbers
+abbrev pub ends : ℕ → ℕ → ℕ → ℕ → LineEnds
+ends a b c d = record { font = a; name = b; keep = c; flag = d }
+
+abbrev pub parts : ℕ → ℕ → ℕ → ℕ → ℕ → Parts
+parts m n k l flag = record { font = m; name = n; keep = k; rec = l; flag = flag }
 
 -- a sheet stands in the four buffers: so many bytes, numbers and record bytes in front, and the flag
-pub record Stands (s : Sheet) (font name keep rec : List ℕ) (r : SheetIn) : Type 0 where
-  pub answer : r ≡ Parts (length s.font) (length s.name) (length s.keep) (length s.rec) s.flag
+pub record Stands (s : Sheet) (font name keep rec : List ℕ) (r : Option Parts) : Type 0 where
+  pub answer : r ≡ Some (parts (length s.font) (length s.name) (length s.keep) (length s.rec) s.flag)
   pub font_is : take (length s.font) font ≡ s.font
   pub name_is : take (length s.name) name ≡ s.name
   pub keep_is : take (length s.keep) keep ≡ s.keep
   pub rec_is : take (length s.rec) rec ≡ s.rec
 
 -- what reading a text answers
-unfoldable pub Reads : Option Sheet → List ℕ → List ℕ → List ℕ → List ℕ → SheetIn → Type 0
-Reads none font name keep rec r = r ≡ Other
-Reads (some s) font name keep rec r = Stands s font name keep rec r
+unfoldable pub Reads : Option Sheet → List ℕ → List ℕ → List ℕ → List ℕ → Option Parts → Type 0
+Reads None font name keep rec r = r ≡ None
+Reads (Some s) font name keep rec r = Stands s font name keep rec r

@@ -1,10 +1,9 @@
 -- Laws of reading a sheet: a line at a time, and what the lines from a place on hold.
-use Rattle.std.specs.Prelude.{ℕ, zero, suc, ◌+◌, ◌-◌, ◌*◌, ◌%◌, ◌≤◌, ◌<◌, ◌≡◌, refl, Bool, true, false, ltb, leb, eqb, length, take, drop, get_or, set}
+use Rattle.std.specs.Prelude.{ℕ, zero, suc, ◌+◌, ◌-◌, ◌*◌, ◌%◌, ◌≤◌, ◌<◌, ◌≡◌, refl, Bool, true, false, ltb, leb, eqb, length, take, drop, get_or, set, None}
 use Rattle.std.proofs.Common.{sym, ◌∙◌, arith, length-append, length-drop, drop-cons}
 use Rattle.std.proofs.Math.Path.{ap}
 use Rattle.std.proofs.lemmas.Bool.{false≢true}
 use mathlib.Core.List.{List, [], ◌∷◌, ◌++◌}
-use Rattle.std.proofs.Math.Option.{none}
 use borrow.Author.Tests.{eq-eqb, ne_eqb, le-leb, lt-leb, eqb-true, leb-true, ltb-true, ltb-false}
 use Rattle.std.proofs.Math.Seq.{slice, take-length, take-nil}
 use Rattle.octets.specs.Pick.{pick}
@@ -244,7 +243,7 @@ wrote_one old p v h = record { is = put_one old p v h; behind = refl }
 
 -- ---- the first four lines
 
-pub short_none : (s : List ℕ) → length s ≡ 0 → sheet_of s ≡ none
+pub short_none : (s : List ℕ) → length s ≡ 0 → sheet_of s ≡ None
 unfolding sheet_of sheet_in
 short_none s e = ap sheet_in (lines_none s 0 (omega arith))
 
@@ -252,7 +251,7 @@ module _ (s : List ℕ) (h₀ : 0 < length s) (a : ℕ) (e₀ : a ≡ line_end s
   one : lines_of s ≡ part 0 a s ∷ lines_of (drop (a + 1) s)
   one = lines_next s 0 a h₀ e₀
 
-  pub short-one : length s ≤ a + 1 → sheet_of s ≡ none
+  pub short-one : length s ≤ a + 1 → sheet_of s ≡ None
   unfolding sheet_of sheet_in
   short-one n = ap sheet_in (one ∙ ap (λ (l : List (List ℕ)). part 0 a s ∷ l) (lines_none s (a + 1) n))
 
@@ -260,7 +259,7 @@ module _ (s : List ℕ) (h₀ : 0 < length s) (a : ℕ) (e₀ : a ≡ line_end s
     two : lines_of s ≡ part 0 a s ∷ (part (a + 1) b s ∷ lines_of (drop (b + 1) s))
     two = one ∙ ap (λ (l : List (List ℕ)). part 0 a s ∷ l) (lines_next s (a + 1) b h₁ e₁)
 
-    pub short-two : length s ≤ b + 1 → sheet_of s ≡ none
+    pub short-two : length s ≤ b + 1 → sheet_of s ≡ None
     unfolding sheet_of sheet_in
     short-two n = ap sheet_in (two ∙ ap (λ (l : List (List ℕ)). part 0 a s ∷ (part (a + 1) b s ∷ l)) (lines_none s (b + 1) n))
 
@@ -268,7 +267,7 @@ module _ (s : List ℕ) (h₀ : 0 < length s) (a : ℕ) (e₀ : a ≡ line_end s
       three : lines_of s ≡ part 0 a s ∷ (part (a + 1) b s ∷ (part (b + 1) c s ∷ lines_of (drop (c + 1) s)))
       three = two ∙ ap (λ (l : List (List ℕ)). part 0 a s ∷ (part (a + 1) b s ∷ l)) (lines_next s (b + 1) c h₂ e₂)
 
-      pub short-three : length s ≤ c + 1 → sheet_of s ≡ none
+      pub short-three : length s ≤ c + 1 → sheet_of s ≡ None
       unfolding sheet_of sheet_in
       short-three n =
           ap sheet_in (three ∙ ap (λ (l : List (List ℕ)). part 0 a s ∷ (part (a + 1) b s ∷ (part (b + 1) c s ∷ l))) (lines_none s (c + 1) n))

@@ -2,8 +2,7 @@
 -- Lines of lower-case hexadecimal: font (up to 16,384 bytes), new name (up to 256), kept numbers (4 digits each, up to 1,024), flag (2 digits), then
 -- one row a line (up to 512). The lines are known by their places: those of font, name and kept numbers may be empty, and only rows may be absent.
 -- An empty row adds nothing and does not count; any other has 20 digits. The last line feed may be missing.
-use Rattle.std.specs.Prelude.{ℕ, ◌+◌, ◌*◌, ◌%◌, Bool, true, false, List, [], ◌∷◌, ◌++◌, leb, eqb, length, get_or}
-use Rattle.std.proofs.Math.Option.{Option, none, some}
+use Rattle.std.specs.Prelude.{ℕ, ◌+◌, ◌*◌, ◌%◌, Bool, true, false, List, [], ◌∷◌, ◌++◌, leb, eqb, length, get_or, None, Option, Some}
 use Rattle.octets.specs.Pick.{pick}
 use Rattle.octets.specs.Octets.{bytes_of}
 use Rattle.hexlines.specs.Hexlines.{is_hex_lem, spelt, hex_text}
@@ -74,12 +73,12 @@ is_sheet_lem font name keep flag rows =
 
 -- the sheet of a list of lines; none for any other
 unfoldable pub sheet_in : List (List ℕ) → Option Sheet
-sheet_in [] = none
-sheet_in (font ∷ []) = none
-sheet_in (font ∷ (name ∷ [])) = none
-sheet_in (font ∷ (name ∷ (keep ∷ []))) = none
+sheet_in [] = None
+sheet_in (font ∷ []) = None
+sheet_in (font ∷ (name ∷ [])) = None
+sheet_in (font ∷ (name ∷ (keep ∷ []))) = None
 sheet_in (font ∷ (name ∷ (keep ∷ (flag ∷ rows)))) =
-    pick (is_sheet_lem font name keep flag (filled rows)) (some (sheet_with font name keep flag (filled rows))) none
+    pick (is_sheet_lem font name keep flag (filled rows)) (Some (sheet_with font name keep flag (filled rows))) None
 
 -- the sheet that a text holds
 unfoldable pub sheet_of : List ℕ → Option Sheet
@@ -110,8 +109,8 @@ cut_of_sheet s = cut_of (keying (read_font s.font)) false s.font s.name s.keep s
 
 -- `ff00` for other input
 unfoldable pub answer_to : Option Sheet → List ℕ
-answer_to none = printed (refused 0)
-answer_to (some s) = printed (cut_of_sheet s)
+answer_to None = printed (refused 0)
+answer_to (Some s) = printed (cut_of_sheet s)
 
 -- what the program prints of what it reads
 unfoldable pub cut_sheet : List ℕ → List ℕ

@@ -1,8 +1,7 @@
 -- The sheet of a text is that of what is kept of it: only line feeds of empty rows are left out. A text of which more than 48,134 bytes are kept
 -- holds no sheet.
-use Rattle.std.specs.Prelude.{ℕ, zero, suc, ◌+◌, ◌*◌, ◌%◌, ◌≤◌, ◌<◌, ◌≡◌, refl, Bool, true, false, List, [], ◌∷◌, leb, eqb, length}
+use Rattle.std.specs.Prelude.{ℕ, zero, suc, ◌+◌, ◌*◌, ◌%◌, ◌≤◌, ◌<◌, ◌≡◌, refl, Bool, true, false, List, [], ◌∷◌, leb, eqb, length, None, Some}
 use Rattle.std.proofs.Common.{sym, ap, ◌∙◌, subst, arith, ne_eqb, lt-ltb, eqb-true, leb-true}
-use Rattle.std.proofs.Math.Option.{none, some}
 use Rattle.octets.specs.Pick.{pick}
 use Rattle.octets.specs.PickLaws.{both_hold}
 use Rattle.hexlines.specs.Hexlines.{is_hex_lem}
@@ -123,7 +122,7 @@ sheet_headed (a ∷ []) = refl
 sheet_headed (a ∷ (b ∷ [])) = refl
 sheet_headed (a ∷ (b ∷ (c ∷ []))) = refl
 sheet_headed (a ∷ (b ∷ (c ∷ (d ∷ ls)))) =
-    ap (λ (t : List (List ℕ)). pick (is_sheet_lem a b c d t) (some (sheet_with a b c d t)) none) (filled-twice ls)
+    ap (λ (t : List (List ℕ)). pick (is_sheet_lem a b c d t) (Some (sheet_with a b c d t)) None) (filled-twice ls)
 
 -- what is kept of a text holds its sheet
 pub sheet-squeezed : (text : List ℕ) → sheet_of (squeezed 0 text) ≡ sheet_of text
@@ -179,11 +178,11 @@ sheet-length a b c d ls e =
     omega (arith, up_to_length 16384 a p.0, up_to_length 256 b q.0, kept-length c r.0, (hex-of d 2 s.0).0, rows-length ls s.1)
 
 sheet_long : (t : Bool) (a b c d : List ℕ) (ls : List (List ℕ)) → is_sheet_lem a b c d ls ≡ t → 48134 < total (a ∷ (b ∷ (c ∷ (d ∷ ls))))
-    → pick t (some (sheet_with a b c d ls)) none ≡ none
+    → pick t (Some (sheet_with a b c d ls)) None ≡ None
 sheet_long true a b c d ls e h = absurd (omega (arith, h, sheet-length a b c d ls e))
 sheet_long false a b c d ls e h = refl
 
-lines_long : (ls : List (List ℕ)) → 48134 < total (headed 4 ls) → sheet_in ls ≡ none
+lines_long : (ls : List (List ℕ)) → 48134 < total (headed 4 ls) → sheet_in ls ≡ None
 unfolding sheet_in headed
 lines_long [] h = refl
 lines_long (a ∷ []) h = refl
@@ -192,7 +191,7 @@ lines_long (a ∷ (b ∷ (c ∷ []))) h = refl
 lines_long (a ∷ (b ∷ (c ∷ (d ∷ ls)))) h = sheet_long (is_sheet_lem a b c d (filled ls)) a b c d (filled ls) refl h
 
 -- a text of which more than 48,134 bytes are kept holds no sheet
-pub sheet-over : (text : List ℕ) → 48134 < length (squeezed 0 text) → sheet_of text ≡ none
+pub sheet-over : (text : List ℕ) → 48134 < length (squeezed 0 text) → sheet_of text ≡ None
 unfolding sheet_of
 sheet-over text h =
     let e : total (lines_of (squeezed 0 text)) ≡ total (headed 4 (lines_of text)) = ap total (head-lines 4 0 text refl) in

@@ -85,14 +85,11 @@ fn put_lines(bytes: &[u8], out: &mut [u8], at: usize) -> usize
     requires { at + length (in_lines 0 bytes.now) ≤ length out.old }
     ensures { Wrote out.old at (in_lines 0 bytes.now) out.new result }
 {
-    let n = bytes.len();
-    let mut i = 0;
     let mut col = 0;
     let mut p = at;
-    while i < n {
-        p = put_cell(&mut *out, p, bytes[i], col);
+    for b in bytes {
+        p = put_cell(out, p, *b, col);
         col = next_col(col);
-        i += 1;
     }
     if col == 0 {
         return p;

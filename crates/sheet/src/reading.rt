@@ -1,5 +1,5 @@
 // Reads the lines of a sheet from a text into lent buffers.
-ghost use Rattle.std.specs.Prelude.{◌≡◌, true, false, List, ℕ, ◌+◌, ◌*◌, ◌≤◌, ◌<◌, length, drop, get_or};
+ghost use Rattle.std.specs.Prelude.{◌≡◌, true, false, List, ℕ, ◌+◌, ◌*◌, ◌≤◌, ◌<◌, length, drop, get_or, Some};
 ghost use Rattle.octets.specs.Pick.{pick};
 ghost use Rattle.octets.specs.Octets.{Wrote};
 ghost use Rattle.hexlines.specs.Hexlines.{spelt};
@@ -8,18 +8,23 @@ ghost use Rattle.sheet.specs.Sheet.{hex_up_to, is_kept, hex_of, filled, are_rows
 ghost use Rattle.sheet.specs.Reading.{rows_after, part, FourLines, HeadIs, is_sheet_at, sheet_at, Stands, Reads};
 ghost use Rattle.sheet.specs.Taking.{Took};
 
-// The first four lines of a text: fewer, or the places where they end.
+// Where the first four lines of a text end.
 #[derive(Clone, Copy)]
-pub enum Head {
-    Short,
-    Lines(usize, usize, usize, usize),
+pub struct LineEnds {
+    pub font: usize,
+    pub name: usize,
+    pub keep: usize,
+    pub flag: usize,
 }
 
-// Other input; or how many bytes the font and the name have, how many numbers are kept, how many bytes the record has, and the flag.
+// How many bytes the font and the name of a sheet have, how many numbers are kept, how many bytes the record has, and the flag.
 #[derive(Clone, Copy)]
-pub enum SheetIn {
-    Other,
-    Parts(usize, usize, usize, usize, u8),
+pub struct Parts {
+    pub font: usize,
+    pub name: usize,
+    pub keep: usize,
+    pub rec: usize,
+    pub flag: u8,
 }
 
 // Whether a line is hexadecimal of n digits.
@@ -107,39 +112,40 @@ pub fn put_pairs(bytes: &[u8], keep: &mut [u16]) -> usize
     requires { length bytes.now ≤ 2 * length keep.old }
     ensures { Wrote keep.old 0 (pairs bytes.now) keep.new result }
 {
-    let n = bytes.len();
-    let mut i = 0;
-    let mut p = 0;
-    while i + 1 < n {
-        keep[p] = octets::u16_at(bytes, i) as u16;
-        p += 1;
-        i += 2;
+    let n = bytes.len() / 2;
+    for p in 0..n {
+        keep[p] = octets::u16_at(bytes, 2 * p) as u16;
     }
-    p
+    n
 }
 
-// The first four lines of a text.
-fn first_lines(text: &[u8]) -> Head
+// The first four lines of a text, if it has as many.
+fn first_lines(text: &[u8]) -> Option<LineEnds>
     ensures { HeadIs text.now result }
 {
     let n = text.len();
     if n == 0 {
-        return Head::Short;
+        return None;
     }
     let a = hexlines::line_end(text, 0);
     if n <= a + 1 {
-        return Head::Short;
+        return None;
     }
     let b = hexlines::line_end(text, a + 1);
     if n <= b + 1 {
-        return Head::Short;
+        return None;
     }
     let c = hexlines::line_end(text, b + 1);
     if n <= c + 1 {
-        return Head::Short;
+        return None;
     }
     let d = hexlines::line_end(text, c + 1);
-    Head::Lines(a, b, c, d)
+    Some(LineEnds {
+        font: a,
+        name: b,
+        keep: c,
+        flag: d,
+    })
 }
 
 // Whether the lines of a text from the flag's on, which ends at d, are those of a sheet.
@@ -213,17 +219,23 @@ fn put_parts(
     name: &mut [u8],
     keep: &mut [u16],
     rec: &mut [u8],
-) -> SheetIn
+) -> Parts
     requires { (FourLines text.now a b c d) × (is_sheet_at text.now a b c d ≡ true) × (16384 ≤ length font.old) × (256 ≤ length name.old)
         × (1024 ≤ length keep.old) × (5120 ≤ length rec.old) }
-    ensures { Stands (sheet_at text.now a b c d) font.new name.new keep.new rec.new result }
+    ensures { Stands (sheet_at text.now a b c d) font.new name.new keep.new rec.new (Some result) }
 {
     let m = hexlines::put_spelt(font, 0, text, 0, a);
     let n = hexlines::put_spelt(name, 0, text, a + 1, b);
     let k = put_kept(text, b + 1, c, keep);
     let flag = flag_at(text, c + 1, d);
     let l = put_rows(text, d + 1, rec);
-    SheetIn::Parts(m, n, k, l, flag)
+    Parts {
+        font: m,
+        name: n,
+        keep: k,
+        rec: l,
+        flag,
+    }
 }
 
 // Reads the sheet that a text holds into the buffers.
@@ -233,18 +245,20 @@ pub fn read_sheet(
     name: &mut [u8],
     keep: &mut [u16],
     rec: &mut [u8],
-) -> SheetIn
+) -> Option<Parts>
     requires { (16384 ≤ length font.old) × (256 ≤ length name.old) × (1024 ≤ length keep.old) × (5120 ≤ length rec.old) }
     ensures { Reads (sheet_of text.now) font.new name.new keep.new rec.new result }
 {
     match first_lines(text) {
-        Head::Lines(a, b, c, d) => {
-            if is_sheet(text, a, b, c, d) {
-                return put_parts(text, a, b, c, d, font, name, keep, rec);
+        Some(ends) => {
+            if is_sheet(text, ends.font, ends.name, ends.keep, ends.flag) {
+                return Some(put_parts(
+                    text, ends.font, ends.name, ends.keep, ends.flag, font, name, keep, rec,
+                ));
             }
-            SheetIn::Other
+            None
         }
-        Head::Short => SheetIn::Other,
+        None => None,
     }
 }
 
@@ -256,7 +270,7 @@ pub fn read_taken(
     name: &mut [u8],
     keep: &mut [u16],
     rec: &mut [u8],
-) -> SheetIn
+) -> Option<Parts>
     requires { (48134 ≤ length buffer.now) × (16384 ≤ length font.old) × (256 ≤ length name.old) × (1024 ≤ length keep.old)
         × (5120 ≤ length rec.old) }
     ensures { (text : List ℕ) (mode : ℕ) → Took text len mode buffer.now
@@ -265,5 +279,5 @@ pub fn read_taken(
     if len <= 48134 {
         return read_sheet(&buffer[..len], font, name, keep, rec);
     }
-    SheetIn::Other
+    None
 }

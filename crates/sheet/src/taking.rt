@@ -55,15 +55,11 @@ pub fn take(piece: &[u8], len: usize, mode: usize, buffer: &mut [u8]) -> Taken
     requires { 48134 ≤ length buffer.old }
     ensures { (text : List ℕ) → Took text len mode buffer.old → Took (text ++ piece.now) result.len result.mode buffer.new }
 {
-    let n = piece.len();
     let mut l = len;
     let mut m = mode;
-    let mut i = 0;
-    while i < n {
-        let b = piece[i];
-        l = keep_byte(&mut *buffer, l, m, b);
-        m = next_mode(m, b);
-        i += 1;
+    for b in piece {
+        l = keep_byte(buffer, l, m, *b);
+        m = next_mode(m, *b);
     }
     Taken { len: l, mode: m }
 }

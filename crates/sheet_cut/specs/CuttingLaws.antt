@@ -1,8 +1,7 @@
 -- Laws of cutting one sheet: the two calls together are one by the keying of the font, and what is printed of their answer is what the sheet asks for.
-use Rattle.std.specs.Prelude.{ℕ, ◌+◌, ◌*◌, ◌≤◌, Bool, true, false, List, take, drop}
+use Rattle.std.specs.Prelude.{ℕ, ◌+◌, ◌*◌, ◌≤◌, Bool, true, false, List, take, drop, None, Option, Some}
 use Rattle.std.proofs.Math.Path.{◌≡◌, refl, sym}
 use Rattle.std.proofs.Common.{ap, ◌∙◌, subst, arith, length-append, take-append-drop, length-take-le, ne_eqb}
-use Rattle.std.proofs.Math.Option.{Option, none, some}
 use Rattle.std.proofs.Math.ListN.{length}
 use Rattle.std.proofs.Math.Seq.{take-append_seam}
 use Rattle.octets.specs.Pick.{pick}
@@ -17,10 +16,9 @@ use Rattle.outcome.specs.declared.Answer.{Answer}
 use Rattle.outcome.specs.declared.Answer.TheVariants.{Refused, Subset}
 use Rattle.sheet.specs.Sheet.{Sheet, keying, printed, cut_of_sheet, answer_to, sheet_of, cut_sheet}
 use Rattle.sheet.specs.Printing.{printed-length}
-use Rattle.sheet.specs.Reading.{Reads}
+use Rattle.sheet.specs.Reading.{Reads, parts}
 use Rattle.sheet.specs.Taking.{Took}
-use Rattle.sheet.specs.declared.reading.SheetIn.{SheetIn}
-use Rattle.sheet.specs.declared.reading.SheetIn.TheVariants.{Other, Parts}
+use Rattle.sheet.specs.declared.reading.Parts.{Parts}
 use Rattle.sheet.specs.KeyingLaws.{unsupported, cut-by-keying}
 use Rattle.sheet_cut.specs.Cutting.{length_in, outcome_in, Given, given}
 
@@ -169,16 +167,17 @@ pub record Fronts (font name keep rec : List ℕ) (m n k l : ℕ) : Type 0 where
   pub keep_fits : k ≤ length keep
   pub rec_fits : l ≤ length rec
 
-module _ (font name keep rec : List ℕ) (r : SheetIn) where
-  read_fronts : (o : Option Sheet) (m n k l flag : ℕ) → Reads o font name keep rec r → r ≡ Parts m n k l flag → Fronts font name keep rec m n k l
+module _ (font name keep rec : List ℕ) (r : Option Parts) where
+  read_fronts : (o : Option Sheet) (m n k l flag : ℕ) → Reads o font name keep rec r → r ≡ Some (parts m n k l flag) → Fronts font name keep rec m n k l
   unfolding Reads
-  read_fronts none m n k l flag h e = let x : Other ≡ Parts m n k l flag = sym h ∙ e in let z : ◌≡◌ {A = ℕ} 0 1 = cc in absurd (omega (arith, z))
-  read_fronts (some s) m n k l flag h e =
-      let x : Parts m n k l flag ≡ Parts (length s.font) (length s.name) (length s.keep) (length s.rec) s.flag = sym e ∙ h.answer in
-      let a : m ≡ length s.font = cc in
-      let b : n ≡ length s.name = cc in
-      let c : k ≡ length s.keep = cc in
-      let d : l ≡ length s.rec = cc in
+  read_fronts None m n k l flag h e = let x : ◌≡◌ {A = Option Parts} None (Some (parts m n k l flag)) = sym h ∙ e in let z : ◌≡◌ {A = ℕ} 0 1 = cc in absurd (omega (arith, z))
+  read_fronts (Some s) m n k l flag h e =
+      let x : Some (parts m n k l flag) ≡ Some (parts (length s.font) (length s.name) (length s.keep) (length s.rec) s.flag) = sym e ∙ h.answer in
+      let p : parts m n k l flag ≡ parts (length s.font) (length s.name) (length s.keep) (length s.rec) s.flag = cc in
+      let a : m ≡ length s.font = ap (λ (q : Parts). q.font) p in
+      let b : n ≡ length s.name = ap (λ (q : Parts). q.name) p in
+      let c : k ≡ length s.keep = ap (λ (q : Parts). q.keep) p in
+      let d : l ≡ length s.rec = ap (λ (q : Parts). q.rec) p in
       record {
         font_fits = front-within m font s.font a h.font_is;
         name_fits = front-within n name s.name b h.name_is;
@@ -186,39 +185,40 @@ module _ (font name keep rec : List ℕ) (r : SheetIn) where
         rec_fits = front-within l rec s.rec d h.rec_is;
       }
 
-  read-cut : (o : Option Sheet) (m n k l flag : ℕ) → Reads o font name keep rec r → r ≡ Parts m n k l flag
+  read-cut : (o : Option Sheet) (m n k l flag : ℕ) → Reads o font name keep rec r → r ≡ Some (parts m n k l flag)
       → printed (cut_of (keying (read_font (take m font))) false (take m font) (take n name) (take k keep) (take l rec) flag 8192 32768) ≡ answer_to o
   unfolding Reads answer_to cut_of_sheet
-  read-cut none m n k l flag h e = let x : Other ≡ Parts m n k l flag = sym h ∙ e in cc
-  read-cut (some s) m n k l flag h e =
-      let x : Parts m n k l flag ≡ Parts (length s.font) (length s.name) (length s.keep) (length s.rec) s.flag = sym e ∙ h.answer in
-      let a : m ≡ length s.font = cc in
-      let b : n ≡ length s.name = cc in
-      let c : k ≡ length s.keep = cc in
-      let d : l ≡ length s.rec = cc in
-      let f : flag ≡ s.flag = cc in
+  read-cut None m n k l flag h e = let x : ◌≡◌ {A = Option Parts} None (Some (parts m n k l flag)) = sym h ∙ e in cc
+  read-cut (Some s) m n k l flag h e =
+      let x : Some (parts m n k l flag) ≡ Some (parts (length s.font) (length s.name) (length s.keep) (length s.rec) s.flag) = sym e ∙ h.answer in
+      let p : parts m n k l flag ≡ parts (length s.font) (length s.name) (length s.keep) (length s.rec) s.flag = cc in
+      let a : m ≡ length s.font = ap (λ (q : Parts). q.font) p in
+      let b : n ≡ length s.name = ap (λ (q : Parts). q.name) p in
+      let c : k ≡ length s.keep = ap (λ (q : Parts). q.keep) p in
+      let d : l ≡ length s.rec = ap (λ (q : Parts). q.rec) p in
+      let f : flag ≡ s.flag = ap (λ (q : Parts). q.flag) p in
       cut-same (take m font) s.font (take n name) s.name (take k keep) s.keep (take l rec) s.rec flag s.flag
       (front_is m font s.font a h.font_is) (front_is n name s.name b h.name_is) (front_is k keep s.keep c h.keep_is)
       (front_is l rec s.rec d h.rec_is) f
 
-  read_other : (o : Option Sheet) → Reads o font name keep rec r → r ≡ Other → printed (refused 0) ≡ answer_to o
+  read_other : (o : Option Sheet) → Reads o font name keep rec r → r ≡ None → printed (refused 0) ≡ answer_to o
   unfolding Reads answer_to
-  read_other none h e = refl
-  read_other (some s) h e =
-      let x : Other ≡ Parts (length s.font) (length s.name) (length s.keep) (length s.rec) s.flag = sym e ∙ h.answer in cc
+  read_other None h e = refl
+  read_other (Some s) h e =
+      let x : ◌≡◌ {A = Option Parts} None (Some (parts (length s.font) (length s.name) (length s.keep) (length s.rec) s.flag)) = sym e ∙ h.answer in cc
 
   -- the parts of a text that was taken are within the buffers
   pub taken_fronts : (len : ℕ) (buffer : List ℕ) (m n k l flag : ℕ) → Given len buffer
-      → ((text : List ℕ) (mode : ℕ) → Took text len mode buffer → Reads (sheet_of text) font name keep rec r) → r ≡ Parts m n k l flag
+      → ((text : List ℕ) (mode : ℕ) → Took text len mode buffer → Reads (sheet_of text) font name keep rec r) → r ≡ Some (parts m n k l flag)
       → Fronts font name keep rec m n k l
   taken_fronts len buffer m n k l flag (given text mode t) f e = read_fronts (sheet_of text) m n k l flag (f text mode t) e
 
   -- what is printed of them is what the text asks for
-  pub taken-cut : (text : List ℕ) (m n k l flag : ℕ) → Reads (sheet_of text) font name keep rec r → r ≡ Parts m n k l flag
+  pub taken-cut : (text : List ℕ) (m n k l flag : ℕ) → Reads (sheet_of text) font name keep rec r → r ≡ Some (parts m n k l flag)
       → printed (cut_of (keying (read_font (take m font))) false (take m font) (take n name) (take k keep) (take l rec) flag 8192 32768) ≡ cut_sheet text
   unfolding cut_sheet
   taken-cut text m n k l flag h e = read-cut (sheet_of text) m n k l flag h e
 
-  pub other_cut : (text : List ℕ) → Reads (sheet_of text) font name keep rec r → r ≡ Other → printed (refused 0) ≡ cut_sheet text
+  pub other_cut : (text : List ℕ) → Reads (sheet_of text) font name keep rec r → r ≡ None → printed (refused 0) ≡ cut_sheet text
   unfolding cut_sheet
   other_cut text h e = read_other (sheet_of text) h e

@@ -12,7 +12,6 @@ ghost use Rattle.sheet_cut.specs.Cutting.{length_in, outcome_in, Given};
 
 use outcome::Answer;
 use sheet::printing::{put_refused, put_subset};
-use sheet::reading::SheetIn;
 use write::{subset, subset_cid};
 
 // Cuts by the keying of the font: as name-keyed, and where that is refusal 3 as CID-keyed. Refusal 3 has left the words and the output as found.
@@ -82,13 +81,13 @@ pub fn cut_taken(buffer: &[u8], len: usize, page: &mut [u8]) -> usize
     let mut rows = [0u8; 5120];
     let read = sheet::reading::read_taken(buffer, len, &mut font, &mut name, &mut keep, &mut rows);
     match read {
-        SheetIn::Other => put_refused(0, page),
-        SheetIn::Parts(m, n, k, l, flag) => cut_parts(
-            &font[..m],
-            &name[..n],
-            &keep[..k],
-            &rows[..l],
-            flag,
+        None => put_refused(0, page),
+        Some(parts) => cut_parts(
+            &font[..parts.font],
+            &name[..parts.name],
+            &keep[..parts.keep],
+            &rows[..parts.rec],
+            parts.flag,
             page,
         ),
     }

@@ -44,19 +44,17 @@ fn read_piece(input: &mut impl Read, piece: &mut [u8; 4096]) -> isize
 }
 
 // Takes the input to its end; returns how many bytes are in the buffer. After a read that fails nothing is: that is other input. Which bytes a read
-// gives is known to no contract, so this one says that some text was taken. A proved loop has to end, and counts its turns down from a number that no
-// run uses up.
+// gives is known to no contract, so this one says that some text was taken. A proved loop has to end: this one has more turns than any run takes.
 fn take_input(input: &mut impl Read, buffer: &mut [u8]) -> usize
     requires { 48134 ≤ length buffer.old }
     ensures { Given result buffer.new }
 {
     let mut len = 0;
     let mut mode = 0;
-    let mut turns = u64::MAX;
-    while 0 < turns {
+    for _ in 0..u64::MAX {
         let mut piece = [0u8; 4096];
-        let got = read_piece(&mut *input, &mut piece);
-        let next = take_read(got, &piece, len, mode, &mut *buffer);
+        let got = read_piece(input, &mut piece);
+        let next = take_read(got, &piece, len, mode, buffer);
         match next {
             Next::Failed => return 0,
             Next::End => return len,
@@ -65,7 +63,6 @@ fn take_input(input: &mut impl Read, buffer: &mut [u8]) -> usize
                 mode = m;
             }
         }
-        turns -= 1;
     }
     len
 }

@@ -1,6 +1,6 @@
 -- What the code of short charstrings meets: one law for each way out.
 use Prim.Native.Nat.{ℕ, zero, suc, ◌+◌, ◌-◌, ◌*◌, ◌/◌, ◌%◌, ◌≤◌, ◌<◌}
-use Rattle.std.specs.Prelude.{◌≡◌, Bool, List, [], ◌∷◌, ltb, length, take, get_or, set}
+use Rattle.std.specs.Prelude.{◌≡◌, Bool, List, [], ◌∷◌, ltb, length, take, get_or, set, None, Option, Some}
 use Rattle.std.proofs.Math.Path.{refl, sym, ap}
 use Rattle.std.proofs.Common.{◌∙◌, subst, lit≤, lit<}
 use Rattle.std.proofs.Math.Bool.{true, false, not}
@@ -15,8 +15,6 @@ use Rattle.index.specs.Good.{Good}
 use Rattle.unfold.specs.Unfold.{Glyph, not_plain_lem, plain, unfold_glyph}
 use Rattle.interpret.specs.Run.{Ready, Meeting, Meets}
 use Rattle.interpret.specs.declared.Range.{Range}
-use Rattle.interpret.specs.declared.Met.{Met}
-use Rattle.interpret.specs.declared.Met.TheVariants.{NotPlain, Plain}
 use Rattle.short_charstrings.specs.Short.{alone, is_plain, ends, is_short}
 use Rattle.short_charstrings.specs.Next.{candidates, candidate, place_of, nowhere, found, first_from_lem}
 
@@ -47,12 +45,12 @@ pub ends-none : (s : List ℕ) → length s < 1 → false ≡ ends s
 unfolding ends
 ends-none s h = rw (lt-ltb (length s) 1 h)
 
-abbrev met_is : Met → Bool
-met_is NotPlain = false
-met_is (Plain m) = true
+abbrev met_is : Option ℕ → Bool
+met_is None = false
+met_is (Some m) = true
 
-pub ends-met : (font s keys keys' : List ℕ) (range : Range) (n : ℕ) (r : Met) → 1 ≤ length s
-    → Meets (unfold_glyph (items_of font (empty_at 0)) (items_of font (empty_at 0)) 0 0 s) range keys n keys' r → (q : Met) → r ≡ q → met_is q ≡ ends s
+pub ends-met : (font s keys keys' : List ℕ) (range : Range) (n : ℕ) (r : Option ℕ) → 1 ≤ length s
+    → Meets (unfold_glyph (items_of font (empty_at 0)) (items_of font (empty_at 0)) 0 0 s) range keys n keys' r → (q : Option ℕ) → r ≡ q → met_is q ≡ ends s
 unfolding ends items_of offsets pieces
 ends-met font s keys keys' range n r h m q e = sym (ap met_is e) ∙ rw (le-ltb (length s) 1 h) (by (alone s) m.says)
   where

@@ -1,8 +1,7 @@
 -- What the definition of short charstrings says of tokens: the unfolding of one is its tokens, the last of them endchar, and no other is.
-use Rattle.std.specs.Prelude.{ℕ, zero, suc, ◌+◌, ◌-◌, ◌/◌, ◌≡◌, Bool, true, false, List, [], ◌∷◌, ◌++◌, ltb, eqb, ℤ, length, take, drop, get_or}
+use Rattle.std.specs.Prelude.{ℕ, zero, suc, ◌+◌, ◌-◌, ◌/◌, ◌≡◌, Bool, true, false, List, [], ◌∷◌, ◌++◌, ltb, eqb, ℤ, length, take, drop, get_or, None, Option, Some}
 use Rattle.std.proofs.Math.Path.{refl}
 use Rattle.std.proofs.Common.{sym, ap, ◌∙◌, subst, arith, le-ltb}
-use Rattle.std.proofs.Math.Option.{Option, none, some}
 use Rattle.octets.specs.Pick.{pick, pick_ind}
 use Rattle.octets.specs.Steps.{and}
 use Rattle.octets.specs.StepsLaws.{and_ind}
@@ -41,9 +40,9 @@ one_more (u ∷ us) t h e = by (is_end u) h (λ d. one_more us t d e)
     by true d on = d
     by false d on = on d
 
-no_target : (l : Option ℤ) → target_of 0 l ≡ none
+no_target : (l : Option ℤ) → target_of 0 l ≡ None
 unfolding target_of
-no_target l = and_ind (λ (o : Option ℕ). o ≡ none) (and l (numbered (bias_of 0))) _ refl (λ i. rw (le-ltb i 0 (omega arith)))
+no_target l = and_ind (λ (o : Option ℕ). o ≡ None) (and l (numbered (bias_of 0))) _ refl (λ i. rw (le-ltb i 0 (omega arith)))
 
 -- how it may end: with one endchar left
 abbrev Fine : Run → Type 0
@@ -71,16 +70,16 @@ module _ (enter : Site → List ℕ → State → Run) (s : List ℕ) (on : On) 
   escapes =
       let e = get_or s (at + 1) 0 in
       pick_ind Fine (ltb (length s - at) 2) broken _ (λ a. tt)
-      (λ a. pick_ind Fine (ltb e 34) broken _ (λ b. tt) (λ b. pick_ind Fine (ltb 37 e) broken _ (λ c. tt) (λ c. goes (esc e) 0 st.stems (at + 2) none st refl refl)))
+      (λ a. pick_ind Fine (ltb e 34) broken _ (λ b. tt) (λ b. pick_ind Fine (ltb 37 e) broken _ (λ c. tt) (λ c. goes (esc e) 0 st.stems (at + 2) None st refl refl)))
 
   masks : (b n : ℕ) → Fine (mask_at on (glyph 0) s b at n st)
   masks b n =
       pick_ind Fine (ltb 96 n) broken _ (λ a. tt)
       (λ a. pick_ind Fine (ltb (length s - (at + 1)) ((n + 7) / 8)) broken _ (λ c. tt)
-      (λ c. goes (mask b (take ((n + 7) / 8) (drop (at + 1) s))) 0 n (at + 1 + (n + 7) / 8) none (meeting (masked (glyph 0) at ((n + 7) / 8)) st) refl refl))
+      (λ c. goes (mask b (take ((n + 7) / 8) (drop (at + 1) s))) 0 n (at + 1 + (n + 7) / 8) None (meeting (masked (glyph 0) at ((n + 7) / 8)) st) refl refl))
 
   stems_of : (b n : ℕ) → eqb b 14 ≡ false → Fine (stem_at on b at n st)
-  stems_of b n e = pick_ind Fine (ltb 96 n) broken _ (λ a. tt) (λ a. goes (op b) 0 n (at + 1) none st refl e)
+  stems_of b n e = pick_ind Fine (ltb 96 n) broken _ (λ a. tt) (λ a. goes (op b) 0 n (at + 1) None st refl e)
 
   ends_so : Fine (pick (ltb 1 st.args) broken (leave (op 14) 0 st.stems st ended))
   ends_so = pick_ind Fine (ltb 1 st.args) broken _ (λ a. tt) (λ a. left (op 14) 0 st.stems st ended (λ y e. (st.out, e, h)))
@@ -95,12 +94,12 @@ module _ (enter : Site → List ℕ → State → Run) (s : List ℕ) (on : On) 
       (λ e. pick_ind Fine (eqb b 12) _ _ (λ f. escapes)
       (λ f. pick_ind Fine (is_mask b) _ _ (λ g. masks b (st.stems + st.args / 2))
       (λ g. pick_ind Fine (is_stem b) _ _ (λ i. stems_of b (st.stems + st.args / 2) e)
-      (λ i. pick_ind Fine (is_path b) _ broken (λ j. goes (op b) 0 st.stems (at + 1) none st refl e) (λ j. tt))))))))
+      (λ i. pick_ind Fine (is_path b) _ broken (λ j. goes (op b) 0 st.stems (at + 1) None st refl e) (λ j. tt))))))))
 
   steps : (r : Read) → Fine (step_at [] [] 0 enter on (glyph 0) s at l st r)
   unfolding step_at
   steps cut = tt
-  steps (a_number z n) = pick_ind Fine (ltb st.args 48) _ broken (λ a. goes (num z) (st.args + 1) st.stems n (some z) st refl refl) (λ a. tt)
+  steps (a_number z n) = pick_ind Fine (ltb st.args 48) _ broken (λ a. goes (num z) (st.args + 1) st.stems n (Some z) st refl refl) (λ a. tt)
   steps operator = operators (get_or s at 0)
 
 walks : (enter : Site → List ℕ → State → Run) (k : ℕ) (s : List ℕ) (at : ℕ) (l : Option ℤ) (st : State) → has_end st.out ≡ false
@@ -125,7 +124,7 @@ pub ends-tokens : (s : List ℕ) → ends s ≡ true → EndsOnce s
 unfolding ends unfold_glyph run_body has_end
 ends-tokens [] e = absurd (never (sym e))
 ends-tokens (b ∷ bs) e =
-    ended_once (b ∷ bs) (run_body [] [] 0 10 (glyph 0) (b ∷ bs) fresh) refl (walks (run_body [] [] 0 9) (length (b ∷ bs)) (b ∷ bs) 0 none fresh refl)
+    ended_once (b ∷ bs) (run_body [] [] 0 10 (glyph 0) (b ∷ bs) fresh) refl (walks (run_body [] [] 0 9) (length (b ∷ bs)) (b ∷ bs) 0 None fresh refl)
     (sym (rw (le-ltb (length (b ∷ bs)) 1 (omega arith))) ∙ e)
 
 pub short-tokens : (s : List ℕ) → is_short s ≡ true → EndsOnce s

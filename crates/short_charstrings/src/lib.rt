@@ -8,7 +8,7 @@ ghost use Rattle.short_charstrings.specs.Short.{ends, is_short};
 ghost use Rattle.short_charstrings.specs.Next.{candidate, candidates, place_of, first_from_lem, found_place, place_next, PlaceFits, next_of, Answers, Gives};
 
 use index::Index;
-use interpret::{Met, Range, Subrs};
+use interpret::{Range, Subrs};
 use refusal::Refusal;
 
 // All of 1 to 4 bytes that end in endchar.
@@ -53,8 +53,8 @@ fn ends(code: &[u8]) -> bool
     };
     let mut keys = [0u64; 1];
     match interpret::run_glyph(&font, q, 0, code, Range { low: 0, high: 0 }, &mut keys, 0) {
-        Met::NotPlain => false,
-        Met::Plain(_) => true,
+        None => false,
+        Some(_) => true,
     }
 }
 
@@ -145,13 +145,11 @@ fn first_from(k: usize) -> Place
     ensures { (result ≡ found_place (first_from_lem (candidates - k) k)) × PlaceFits result }
 {
     let mut code = [0u8; 4];
-    let mut at = k;
-    while at < CANDIDATES {
+    for at in k..CANDIDATES {
         let n = put_candidate(&mut code, at);
         if is_short(&code[..n]) {
             return Place::At(at);
         }
-        at += 1;
     }
     Place::Behind
 }

@@ -20,14 +20,7 @@ fn mix(hash: u32, b: u8) -> u32
 fn mix_all(hash: u32, code: &[u8]) -> u32
     ensures { result ≡ fnv_over hash code.now }
 {
-    let n = code.len();
-    let mut h = hash;
-    let mut i = 0;
-    while i < n {
-        h = mix(h, code[i]);
-        i += 1;
-    }
-    h
+    code.iter().fold(hash, |h, b| mix(h, *b))
 }
 
 // All of them, counted: in all at place 0, and of each length at its place; FNV-1a of their bytes.
@@ -46,8 +39,8 @@ fn walk_all(counts: &mut [u64]) -> u32
             NextAs::Next(k) => {
                 code = next;
                 n = k;
-                counts[0] = counts[0] + 1;
-                counts[k] = counts[k] + 1;
+                counts[0] += 1;
+                counts[k] += 1;
                 hash = mix_all(hash, &next[..k]);
             }
         }

@@ -1,6 +1,5 @@
 -- The cases that document 01 marks with a star, each a theorem about the definitions. Bytes are hexadecimal, as there.
-use Rattle.std.specs.Prelude.{◌≡◌, refl, true, false, List, [], ◌∷◌, ℕ, eqb}
-use Rattle.std.proofs.Math.Option.{Option, none, some}
+use Rattle.std.specs.Prelude.{◌≡◌, refl, true, false, List, [], ◌∷◌, ℕ, eqb, None, Option, Some}
 use Rattle.octets.specs.Octets.{bytes_of}
 use Rattle.type2_number.specs.Number.{keep24, rounded, number_at}
 use Rattle.type2_number.specs.Encoding.{integer_bytes, fixed_bytes, number_bytes}
@@ -44,9 +43,9 @@ number_ff_01_00_00_01 = refl
 
 -- three local subroutines, the third reached: it is the first of one
 abbrev third : ℕ → Option ℕ
-third i = pick (eqb i 2) (some 0) none
+third i = pick (eqb i 2) (Some 0) None
 
-renumbered-third : renumber_charstring (λ b z. operand_of third (bias_of 3) (bias_of 1) z) (λ o. Own) (0x22 ∷ 0x0a ∷ 0x0e ∷ []) ≡ some (0x20 ∷ 0x0a ∷ 0x0e ∷ [])
+renumbered-third : renumber_charstring (λ b z. operand_of third (bias_of 3) (bias_of 1) z) (λ o. Own) (0x22 ∷ 0x0a ∷ 0x0e ∷ []) ≡ Some (0x20 ∷ 0x0a ∷ 0x0e ∷ [])
 unfolding renumber_charstring renumber tokens_of tokens_from token_at number_at rounded keep24 encode number_bytes integer_bytes fixed_bytes bytes_of
 renumbered-third = refl
 

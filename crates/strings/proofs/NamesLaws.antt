@@ -13,8 +13,8 @@ use Rattle.strings.specs.TextLaws.{order_refl, order_trans}
 use Rattle.strings.specs.Strings.{standard_string}
 use Rattle.strings.specs.TableTest.{is_less, ordered, has_all, table_tests}
 use Rattle.strings.proofs.TableLaws.{table-passes, and_left, and_right, every-at, order-length}
-use Rattle.strings.specs.declared.Order.{Order}
-use Rattle.strings.specs.declared.Order.TheVariants.{Less, Same, More}
+use Rattle.std.specs.declared.cmp.Ordering.{Ordering}
+use Rattle.std.specs.declared.cmp.Ordering.TheVariants.{Less, Equal, Greater}
 
 -- ---- byte order
 
@@ -30,11 +30,11 @@ ids_all : has_all 391 standard_order ≡ true
 unfolding table_tests
 ids_all = every-at table_tests table-passes 4
 
-is-less : (o : Order) → is_less o ≡ true → o ≡ Less
+is-less : (o : Ordering) → is_less o ≡ true → o ≡ Less
 unfolding is_less
 is-less Less e = refl
-is-less Same e = cc
-is-less More e = cc
+is-less Equal e = cc
+is-less Greater e = cc
 
 ordered-tail : (s : List ℕ) (ss : List (List ℕ)) → ordered (s ∷ ss) ≡ true → ordered ss ≡ true
 unfolding ordered
@@ -108,7 +108,7 @@ module _ (k : ℕ) (h : k < 391) where
 apart : (i j : ℕ) → i < j → j < 391 → in_order i ≡ in_order j → ⊥
 apart i j h k e =
     let l : order_of (in_order j) (in_order j) ≡ Less = rw e at (order-rises i j h k) in
-    let s : order_of (in_order j) (in_order j) ≡ Same = order_refl (in_order j) in
+    let s : order_of (in_order j) (in_order j) ≡ Equal = order_refl (in_order j) in
     let z : ◌≡◌ {A = ℕ} 0 1 = cc in omega arith
 
 same_rank : (i j : ℕ) → i < 391 → j < 391 → in_order i ≡ in_order j → (s t : Bool) → ltb i j ≡ s → ltb j i ≡ t → i ≡ j

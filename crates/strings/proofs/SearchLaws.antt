@@ -1,5 +1,5 @@
 -- Why halving the names in byte order finds the id of a text: what each comparison leaves out, and what is left at the end.
-use Rattle.std.specs.Prelude.{ℕ, ◌+◌, ◌≤◌, ◌<◌, ◌≡◌, refl, Bool, true, false, List, ltb, length, get_or}
+use Rattle.std.specs.Prelude.{ℕ, ◌+◌, ◌≤◌, ◌<◌, ◌≡◌, refl, Bool, true, false, List, ltb, length, get_or, None, Some}
 use Rattle.std.proofs.Math.Path.{sym}
 use Rattle.std.proofs.Common.{◌∙◌, subst, ⊎_elim, eq-or-lt_of_le, not-suc-le-zero, arith, below_more, ltb-true, ltb-false}
 use Rattle.strings.specs.Table.{standard_order}
@@ -9,9 +9,8 @@ use Rattle.strings.specs.Strings.{standard_string, sid_of}
 use Rattle.strings.proofs.TableLaws.{order-length}
 use Rattle.strings.proofs.NamesLaws.{in_order, order-within, order-rises, rank_of, rank-within, rank-name}
 use Rattle.strings.proofs.StringsLaws.{sid_is, sid_none}
-use Rattle.strings.specs.declared.Order.{Order}
-use Rattle.strings.specs.declared.Order.TheVariants.{Less, Same, More}
-use Rattle.strings.specs.declared.Sid.TheVariants.{Standard, Other}
+use Rattle.std.specs.declared.cmp.Ordering.{Ordering}
+use Rattle.std.specs.declared.cmp.Ordering.TheVariants.{Less, Equal, Greater}
 
 -- the names before low are less than the text, and the text is less than the names from high on
 pub record Narrowed (text : List ℕ) (low high : ℕ) : Type 0 where
@@ -30,7 +29,7 @@ module _ (text : List ℕ) (low high middle : ℕ) (n : Narrowed text low high) 
         behind = n.behind;
       }
 
-  pub narrowed_down : order_of (in_order middle) text ≡ More → Narrowed text low middle
+  pub narrowed_down : order_of (in_order middle) text ≡ Greater → Narrowed text low middle
   narrowed_down e =
       let f : order_of text (in_order middle) ≡ Less = order_flip (in_order middle) text e in
       record {
@@ -50,12 +49,12 @@ module _ (order : List ℕ) (e : order ≡ standard_order) (i : ℕ) (h : i < 39
   pub listed_below : get_or order i 0 < 391
   listed_below = rw e (order-within i h)
 
-  pub compared : (name text : List ℕ) (o : Order) → name ≡ standard_string (get_or order i 0) → o ≡ order_of name text → order_of (in_order i) text ≡ o
+  pub compared : (name text : List ℕ) (o : Ordering) → name ≡ standard_string (get_or order i 0) → o ≡ order_of name text → order_of (in_order i) text ≡ o
   unfolding in_order
   compared name text o f g = sym (g ∙ rw (f, e))
 
   -- a name that is neither less nor more is the text
-  pub searched_same : (text : List ℕ) → order_of (in_order i) text ≡ Same → Standard (get_or order i 0) ≡ sid_of text
+  pub searched_same : (text : List ℕ) → order_of (in_order i) text ≡ Equal → Some (get_or order i 0) ≡ sid_of text
   unfolding in_order
   searched_same text f = rw e (sym (sid_is text (get_or standard_order i 0) (order-within i h) (order_same (in_order i) text f)))
 
@@ -71,6 +70,6 @@ left_out text low high n h i k e false t =
     let s = order_refl text in
     let z : ◌≡◌ {A = ℕ} 0 1 = cc in omega arith
 
-pub searched_none : (text : List ℕ) (low high : ℕ) → Narrowed text low high → high ≤ low → Other ≡ sid_of text
+pub searched_none : (text : List ℕ) (low high : ℕ) → Narrowed text low high → high ≤ low → None ≡ sid_of text
 searched_none text low high n h =
     sym (sid_none text (λ k l e. left_out text low high n h (rank_of k) (rank-within k l) (rank-name k l ∙ e) _ refl))

@@ -1,9 +1,8 @@
 -- Worked examples, computed.
-use Rattle.std.specs.Prelude.{◌≡◌, refl, [], ◌∷◌}
+use Rattle.std.specs.Prelude.{◌≡◌, refl, [], ◌∷◌, None, Some}
 use Rattle.strings.specs.Table.{standard_names}
 use Rattle.strings.specs.Text.{codes, same_text_lem}
 use Rattle.strings.specs.Strings.{standard_strings, standard_string, string_text, sid_in, sid_of}
-use Rattle.strings.specs.declared.Sid.TheVariants.{Standard, Other}
 
 id_0 : standard_string 0 ≡ codes ".notdef"
 unfolding standard_names codes standard_strings standard_string
@@ -21,19 +20,19 @@ id_390 : standard_string 390 ≡ codes "Semibold"
 unfolding standard_names codes standard_strings standard_string
 id_390 = refl
 
-sid_of_A : sid_of (0x41 ∷ []) ≡ Standard 34
+sid_of_A : sid_of (0x41 ∷ []) ≡ Some 34
 unfolding standard_names codes standard_strings same_text_lem sid_in sid_of
 sid_of_A = refl
 
-sid_of-last : sid_of (codes "Semibold") ≡ Standard 390
+sid_of-last : sid_of (codes "Semibold") ≡ Some 390
 unfolding standard_names codes standard_strings same_text_lem sid_in sid_of
 sid_of-last = refl
 
-sid_of_unknown : sid_of (codes "Semibol") ≡ Other
+sid_of_unknown : sid_of (codes "Semibol") ≡ None
 unfolding standard_names codes standard_strings same_text_lem sid_in sid_of
 sid_of_unknown = refl
 
-sid_of-empty : sid_of [] ≡ Other
+sid_of-empty : sid_of [] ≡ None
 unfolding standard_names codes standard_strings same_text_lem sid_in sid_of
 sid_of-empty = refl
 

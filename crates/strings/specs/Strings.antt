@@ -1,12 +1,10 @@
 -- String ids of TN5176, section 10: 0 to 390 name the standard strings of Appendix A, the ids above them the font's own strings
 -- in the order of its String INDEX. Document 01: ids above the font's strings name the empty string.
-use Rattle.std.specs.Prelude.{ℕ, suc, ◌-◌, List, [], ◌∷◌, map, ltb, get_or}
+use Rattle.std.specs.Prelude.{ℕ, suc, ◌-◌, List, [], ◌∷◌, map, ltb, get_or, None, Option, Some}
 use Rattle.octets.specs.Pick.{pick}
 use Rattle.octets.specs.Lists.{joined}
 use Rattle.strings.specs.Table.{standard_names}
 use Rattle.strings.specs.Text.{codes, same_text_lem}
-use Rattle.strings.specs.declared.Sid.{Sid}
-use Rattle.strings.specs.declared.Sid.TheVariants.{Standard, Other}
 
 -- the standard strings in the order of their ids
 unfoldable pub standard_strings : List (List ℕ)
@@ -25,10 +23,10 @@ unfoldable pub string_text : List (List ℕ) → ℕ → List ℕ
 string_text own sid = pick (ltb sid 391) (standard_string sid) (get_or own (sid - 391) [])
 
 -- the id of a text in a list of strings whose first has the id k
-unfoldable pub sid_in : ℕ → List (List ℕ) → List ℕ → Sid
-sid_in k [] text = Other
-sid_in k (s ∷ ss) text = pick (same_text_lem s text) (Standard k) (sid_in (suc k) ss text)
+unfoldable pub sid_in : ℕ → List (List ℕ) → List ℕ → Option ℕ
+sid_in k [] text = None
+sid_in k (s ∷ ss) text = pick (same_text_lem s text) (Some k) (sid_in (suc k) ss text)
 
 -- the id of a text among the standard strings
-unfoldable pub sid_of : List ℕ → Sid
+unfoldable pub sid_of : List ℕ → Option ℕ
 sid_of text = sid_in 0 standard_strings text

@@ -6,8 +6,8 @@ use Rattle.octets.specs.Lists.{all_below, before}
 use Rattle.strings.specs.Table.{standard_offsets, standard_order}
 use Rattle.strings.specs.Text.{same_text_lem, order_of}
 use Rattle.strings.specs.Strings.{standard_strings, standard_string}
-use Rattle.strings.specs.declared.Order.{Order}
-use Rattle.strings.specs.declared.Order.TheVariants.{Less, Same, More}
+use Rattle.std.specs.declared.cmp.Ordering.{Ordering}
+use Rattle.std.specs.declared.cmp.Ordering.TheVariants.{Less, Equal, Greater}
 
 -- each number is above the one before it
 unfoldable pub rises : List ℕ → Bool
@@ -21,10 +21,10 @@ offsets_from a [] = a ∷ []
 offsets_from a (s ∷ ss) = a ∷ offsets_from (a + length s) ss
 
 -- the order is Less
-unfoldable pub is_less : Order → Bool
+unfoldable pub is_less : Ordering → Bool
 is_less Less = true
-is_less Same = false
-is_less More = false
+is_less Equal = false
+is_less Greater = false
 
 -- each text is less than the next
 unfoldable pub ordered : List (List ℕ) → Bool

@@ -3,8 +3,8 @@ use Rattle.std.specs.Prelude.{ℕ, Bool, true, false, List, [], ◌∷◌, ltb, 
 use Prim.Native.Char.{code}
 use Prim.Native.String.{String, [] as []ˢ, ◌∷◌ as ◌∷ˢ◌}
 use Rattle.octets.specs.Pick.{pick}
-use Rattle.strings.specs.declared.Order.{Order}
-use Rattle.strings.specs.declared.Order.TheVariants.{Less, Same, More}
+use Rattle.std.specs.declared.cmp.Ordering.{Ordering}
+use Rattle.std.specs.declared.cmp.Ordering.TheVariants.{Less, Equal, Greater}
 
 -- the bytes of a text that is written out
 unfoldable pub codes : String → List ℕ
@@ -19,8 +19,8 @@ same_text_lem (x ∷ xs) [] = false
 same_text_lem (x ∷ xs) (y ∷ ys) = pick (eqb x y) (same_text_lem xs ys) false
 
 -- how a text stands to another: by the first byte in which they differ, and a text that ends there is less
-unfoldable pub order_of : List ℕ → List ℕ → Order
-order_of [] [] = Same
+unfoldable pub order_of : List ℕ → List ℕ → Ordering
+order_of [] [] = Equal
 order_of [] (y ∷ ys) = Less
-order_of (x ∷ xs) [] = More
-order_of (x ∷ xs) (y ∷ ys) = pick (ltb x y) Less (pick (ltb y x) More (order_of xs ys))
+order_of (x ∷ xs) [] = Greater
+order_of (x ∷ xs) (y ∷ ys) = pick (ltb x y) Less (pick (ltb y x) Greater (order_of xs ys))

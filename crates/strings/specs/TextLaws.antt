@@ -10,7 +10,7 @@ use Rattle.std.proofs.Math.Seq.{drop-cons}
 use Rattle.octets.specs.Pick.{pick, pick_ind}
 use Rattle.octets.specs.PickLaws.{not_true}
 use Rattle.strings.specs.Text.{same_text_lem, order_of}
-use Rattle.strings.specs.declared.Order.TheVariants.{Less, Same, More}
+use Rattle.std.specs.declared.cmp.Ordering.TheVariants.{Less, Equal, Greater}
 
 -- ---- equality
 
@@ -58,7 +58,7 @@ module _ (a b : List ℕ) (i : ℕ) where
 
 -- ---- byte order
 
-pub order_refl : (a : List ℕ) → order_of a a ≡ Same
+pub order_refl : (a : List ℕ) → order_of a a ≡ Equal
 unfolding order_of
 order_refl [] = refl
 order_refl (x ∷ xs) = simp (le-ltb x x (omega arith)) (order_refl xs)
@@ -69,7 +69,7 @@ module _ (x y : ℕ) (xs ys : List ℕ) where
   unfolding order_of
   head-less h = simp (lt-ltb x y h)
 
-  head_more : y < x → order_of (x ∷ xs) (y ∷ ys) ≡ More
+  head_more : y < x → order_of (x ∷ xs) (y ∷ ys) ≡ Greater
   unfolding order_of
   head_more h = simp (le-ltb x y (omega arith), lt-ltb y x h)
 
@@ -80,30 +80,30 @@ module _ (x y : ℕ) (xs ys : List ℕ) where
   less-cases : order_of (x ∷ xs) (y ∷ ys) ≡ Less → (x < y) ⊎ ((x ≡ y) × (order_of xs ys ≡ Less))
   unfolding order_of
   less-cases =
-      pick_ind (λ o. o ≡ Less → (x < y) ⊎ ((x ≡ y) × (order_of xs ys ≡ Less))) (ltb x y) Less (pick (ltb y x) More (order_of xs ys))
+      pick_ind (λ o. o ≡ Less → (x < y) ⊎ ((x ≡ y) × (order_of xs ys ≡ Less))) (ltb x y) Less (pick (ltb y x) Greater (order_of xs ys))
       (λ t e. inl (ltb-true x y t))
-      (λ t. pick_ind (λ o. o ≡ Less → (x < y) ⊎ ((x ≡ y) × (order_of xs ys ≡ Less))) (ltb y x) More (order_of xs ys)
+      (λ t. pick_ind (λ o. o ≡ Less → (x < y) ⊎ ((x ≡ y) × (order_of xs ys ≡ Less))) (ltb y x) Greater (order_of xs ys)
       (λ u e. let z : ◌≡◌ {A = ℕ} 0 1 = cc in absurd (omega arith))
       (λ u e. inr (omega (arith, ltb-false x y t, ltb-false y x u), e)))
 
-  more-cases : order_of (x ∷ xs) (y ∷ ys) ≡ More → (y < x) ⊎ ((x ≡ y) × (order_of xs ys ≡ More))
+  more-cases : order_of (x ∷ xs) (y ∷ ys) ≡ Greater → (y < x) ⊎ ((x ≡ y) × (order_of xs ys ≡ Greater))
   unfolding order_of
   more-cases =
-      pick_ind (λ o. o ≡ More → (y < x) ⊎ ((x ≡ y) × (order_of xs ys ≡ More))) (ltb x y) Less (pick (ltb y x) More (order_of xs ys))
+      pick_ind (λ o. o ≡ Greater → (y < x) ⊎ ((x ≡ y) × (order_of xs ys ≡ Greater))) (ltb x y) Less (pick (ltb y x) Greater (order_of xs ys))
       (λ t e. let z : ◌≡◌ {A = ℕ} 0 1 = cc in absurd (omega arith))
-      (λ t. pick_ind (λ o. o ≡ More → (y < x) ⊎ ((x ≡ y) × (order_of xs ys ≡ More))) (ltb y x) More (order_of xs ys)
+      (λ t. pick_ind (λ o. o ≡ Greater → (y < x) ⊎ ((x ≡ y) × (order_of xs ys ≡ Greater))) (ltb y x) Greater (order_of xs ys)
       (λ u e. inl (ltb-true y x u))
       (λ u e. inr (omega (arith, ltb-false x y t, ltb-false y x u), e)))
 
-pub order_same : (a b : List ℕ) → order_of a b ≡ Same → a ≡ b
+pub order_same : (a b : List ℕ) → order_of a b ≡ Equal → a ≡ b
 unfolding order_of
 order_same [] [] e = refl
 order_same [] (y ∷ ys) e = cc
 order_same (x ∷ xs) [] e = cc
 order_same (x ∷ xs) (y ∷ ys) e =
-    pick_ind (λ o. o ≡ Same → x ∷ xs ≡ y ∷ ys) (ltb x y) Less (pick (ltb y x) More (order_of xs ys))
+    pick_ind (λ o. o ≡ Equal → x ∷ xs ≡ y ∷ ys) (ltb x y) Less (pick (ltb y x) Greater (order_of xs ys))
     (λ t d. cc)
-    (λ t. pick_ind (λ o. o ≡ Same → x ∷ xs ≡ y ∷ ys) (ltb y x) More (order_of xs ys)
+    (λ t. pick_ind (λ o. o ≡ Equal → x ∷ xs ≡ y ∷ ys) (ltb y x) Greater (order_of xs ys)
     (λ u d. cc)
     (λ u d. let h : x ≡ y = omega (arith, ltb-false x y t, ltb-false y x u) in let k = order_same xs ys d in cc))
     e
@@ -124,7 +124,7 @@ order_trans (x ∷ xs) (y ∷ ys) (z ∷ zs) d e =
     (less-cases y z ys zs e))
     (less-cases x y xs ys d)
 
-pub order_flip : (a b : List ℕ) → order_of a b ≡ More → order_of b a ≡ Less
+pub order_flip : (a b : List ℕ) → order_of a b ≡ Greater → order_of b a ≡ Less
 unfolding order_of
 order_flip [] [] e = cc
 order_flip [] (y ∷ ys) e = cc
@@ -140,14 +140,14 @@ module _ (a b : List ℕ) (i : ℕ) where
   pub order-less : i < length a → i < length b → get_or a i 0 < get_or b i 0 → order_of (drop i a) (drop i b) ≡ Less
   order-less h k e = rw (drop-cons a i 0, drop-cons b i 0) (head-less _ _ _ _ e)
 
-  pub order-more : i < length a → i < length b → get_or b i 0 < get_or a i 0 → order_of (drop i a) (drop i b) ≡ More
+  pub order-more : i < length a → i < length b → get_or b i 0 < get_or a i 0 → order_of (drop i a) (drop i b) ≡ Greater
   order-more h k e = rw (drop-cons a i 0, drop-cons b i 0) (head_more _ _ _ _ e)
 
   pub order-on : i < length a → i < length b → get_or b i 0 ≤ get_or a i 0 → get_or a i 0 ≤ get_or b i 0
       → order_of (drop (i + 1) a) (drop (i + 1) b) ≡ order_of (drop i a) (drop i b)
   order-on h k l m = rw (add-one, drop-cons a i 0, drop-cons b i 0) (sym (head-same _ _ _ _ (omega arith)))
 
-  pub order-longer : i < length a → length b ≤ i → order_of (drop i a) (drop i b) ≡ More
+  pub order-longer : i < length a → length b ≤ i → order_of (drop i a) (drop i b) ≡ Greater
   unfolding order_of
   order-longer h k = rw (drop-cons a i 0, drop_of_length-le b k)
 
@@ -155,6 +155,6 @@ module _ (a b : List ℕ) (i : ℕ) where
   unfolding order_of
   order_shorter h k = rw (drop_of_length-le a h, drop-cons b i 0)
 
-  pub order-ends : length a ≤ i → length b ≤ i → order_of (drop i a) (drop i b) ≡ Same
+  pub order-ends : length a ≤ i → length b ≤ i → order_of (drop i a) (drop i b) ≡ Equal
   unfolding order_of
   order-ends h k = rw (drop_of_length-le a h, drop_of_length-le b k)

@@ -8,64 +8,22 @@ ghost use Rattle.strings.specs.Table.{standard_offsets, standard_order};
 ghost use Rattle.strings.specs.Text.{same_text_lem, order_of};
 ghost use Rattle.strings.specs.Strings.{standard_text, standard_string, sid_of};
 
+use std::cmp::Ordering;
+
 pub mod table;
-
-// How a text stands to another in byte order.
-#[derive(Clone, Copy)]
-pub enum Order {
-    Less,
-    Same,
-    More,
-}
-
-// The string id of a text: a standard one, or none of them.
-#[derive(Clone, Copy)]
-pub enum Sid {
-    Standard(usize),
-    Other,
-}
 
 // Whether two texts are equal.
 pub fn same_text(a: &[u8], b: &[u8]) -> bool
     ensures { result ≡ same_text_lem a.now b.now }
 {
-    let n = a.len();
-    if n != b.len() {
-        return false;
-    }
-    let mut i: usize = 0;
-    while i < n {
-        if a[i] != b[i] {
-            return false;
-        }
-        i += 1;
-    }
-    true
+    a == b
 }
 
 // How a stands to b in byte order; of two texts that go alike as far as the shorter goes, the shorter is less.
-pub fn order_of(a: &[u8], b: &[u8]) -> Order
+pub fn order_of(a: &[u8], b: &[u8]) -> Ordering
     ensures { result ≡ order_of a.now b.now }
 {
-    let mut i = 0;
-    while i < a.len() {
-        if b.len() <= i {
-            return Order::More;
-        }
-        let x = a[i];
-        let y = b[i];
-        if x < y {
-            return Order::Less;
-        }
-        if y < x {
-            return Order::More;
-        }
-        i += 1;
-    }
-    if i < b.len() {
-        return Order::Less;
-    }
-    Order::Same
+    a.cmp(b)
 }
 
 // The standard string of an id: a part of the text of all names. A function cannot return a part of a constant, which lives only
@@ -99,28 +57,29 @@ pub fn put_standard(out: &mut [u8], at: usize, k: usize) -> usize
     octets::put_bytes(out, at, standard_string(&names, &offsets, k))
 }
 
-// The id of a text among the standard strings, by halving their byte order; the caller lends the three tables.
-fn search(names: &[u8], offsets: &[u16], order: &[u16], text: &[u8]) -> Sid
+// The id of a text among the standard strings, if it is one of them, by halving their byte order; the caller lends the three tables.
+fn search(names: &[u8], offsets: &[u16], order: &[u16], text: &[u8]) -> Option<usize>
     requires { (names.now ≡ standard_text) × (offsets.now ≡ standard_offsets) × (order.now ≡ standard_order) }
     ensures { result ≡ sid_of text.now }
 {
     let mut low: usize = 0;
     let mut high: usize = 391;
+    // Not `binary_search_by`: it asks for a closure that takes any number, and ids from 391 on have no standard string.
     while low < high {
         let middle = low + (high - low) / 2;
         let k = order[middle] as usize;
         let found = order_of(standard_string(names, offsets, k), text);
         match found {
-            Order::Same => return Sid::Standard(k),
-            Order::Less => low = middle + 1,
-            Order::More => high = middle,
+            Ordering::Equal => return Some(k),
+            Ordering::Less => low = middle + 1,
+            Ordering::Greater => high = middle,
         }
     }
-    Sid::Other
+    None
 }
 
-// The id of a text among the standard strings.
-pub fn sid_of(text: &[u8]) -> Sid
+// The id of a text among the standard strings, if it is one of them.
+pub fn sid_of(text: &[u8]) -> Option<usize>
     ensures { result ≡ sid_of text.now }
 {
     let names = table::STANDARD_TEXT;

@@ -1,11 +1,10 @@
 -- What the parts of a subset ask of a font (document 02, Wish 8): bodies that agree where a set has them are stubbed and renumbered to the same,
 -- whatever the others are; the charset asks for the ids of the glyphs that are written alone.
 use Prim.Native.Nat.{ℕ, suc, ◌+◌}
-use Rattle.std.specs.Prelude.{◌≡◌, Bool, true, false, length, get_or}
+use Rattle.std.specs.Prelude.{◌≡◌, Bool, true, false, length, get_or, Option}
 use Rattle.std.proofs.Math.Path.{refl, ap}
 use Rattle.std.proofs.Common.{◌∙◌}
 use mathlib.Core.List.{List, [], ◌∷◌}
-use Rattle.std.proofs.Math.Option.{Option}
 use native.Mathlib.Omega.{arith}
 use Rattle.octets.specs.Pick.{pick}
 use Rattle.unfold.specs.Unfold.{Row, Site}

@@ -1,5 +1,5 @@
 -- The strings of a subset (document 01, 'Layout'): each text that is used has an id that names it, and the id of the first glyph stays 0.
-use Rattle.std.specs.Prelude.{ℕ, suc, ◌+◌, ◌-◌, ◌≡◌, refl, true, List, [], ◌∷◌, ◌++◌, length, get_or}
+use Rattle.std.specs.Prelude.{ℕ, suc, ◌+◌, ◌-◌, ◌≡◌, refl, true, List, [], ◌∷◌, ◌++◌, length, get_or, None, Option, Some}
 use Rattle.std.proofs.Common.{ap, ◌∙◌, ⊎_elim, add-one, arith}
 use Rattle.octets.specs.Pick.{pick, pick_ind}
 use Rattle.prune.specs.StepLaws.{zero_one}
@@ -7,8 +7,6 @@ use Rattle.strings.specs.Text.{same_text_lem}
 use Rattle.strings.specs.TextLaws.{same_refl, same_true}
 use Rattle.strings.specs.Strings.{string_text, sid_of}
 use Rattle.strings.proofs.StringsLaws.{string_standard, string_own, sid_text, sid_below}
-use Rattle.strings.specs.declared.Sid.{Sid}
-use Rattle.strings.specs.declared.Sid.TheVariants.{Standard, Other}
 use Rattle.cff.specs.Font.{Program}
 use Rattle.subset.specs.Kept.{is_in}
 use Rattle.subset.specs.Texts.{has_text, with_text, own_strings_lem, place_in, id_after, new_id, name_of, names_of}
@@ -55,9 +53,9 @@ place_is t (x ∷ xs) h =
 -- ---- the own strings
 
 -- a text that is there stays when another is used
-pub with-keeps : (t : List ℕ) (s : Sid) (u : List ℕ) (own : List (List ℕ)) → has_text t own ≡ true → has_text t (with_text s u own) ≡ true
-with-keeps t (Standard k) u own h = h
-with-keeps t Other u own h =
+pub with-keeps : (t : List ℕ) (s : Option ℕ) (u : List ℕ) (own : List (List ℕ)) → has_text t own ≡ true → has_text t (with_text s u own) ≡ true
+with-keeps t (Some k) u own h = h
+with-keeps t None u own h =
     pick_ind (λ (l : List (List ℕ)). has_text t l ≡ true) (has_text u own) own (own ++ (u ∷ []))
     (λ s. h)
     (λ s. has_left t own (u ∷ []) h)
@@ -69,15 +67,15 @@ own-keeps t [] own h = h
 own-keeps t (u ∷ ts) own h = own-keeps t ts (with_text (sid_of u) u own) (with-keeps t (sid_of u) u own h)
 
 -- a text that is not standard is there after its use
-pub with-has : (t : List ℕ) (s : Sid) (own : List (List ℕ)) → s ≡ Other → has_text t (with_text s t own) ≡ true
-with-has t (Standard k) own e = absurd (zero_one cc)
-with-has t Other own e =
+pub with-has : (t : List ℕ) (s : Option ℕ) (own : List (List ℕ)) → s ≡ None → has_text t (with_text s t own) ≡ true
+with-has t (Some k) own e = absurd (zero_one cc)
+with-has t None own e =
     pick_ind (λ (l : List (List ℕ)). has_text t l ≡ true) (has_text t own) own (own ++ (t ∷ []))
     (λ s. s)
     (λ s. has_right t own (t ∷ []) (has-head t t [] refl))
 
 -- and after the use of all
-pub own-has : (t : List ℕ) (ts own : List (List ℕ)) → sid_of t ≡ Other → has_text t ts ≡ true → has_text t (own_strings_lem own ts) ≡ true
+pub own-has : (t : List ℕ) (ts own : List (List ℕ)) → sid_of t ≡ None → has_text t ts ≡ true → has_text t (own_strings_lem own ts) ≡ true
 unfolding own_strings_lem has_text
 own-has t [] own o h = absurd (zero_one cc)
 own-has t (u ∷ ts) own o h =
@@ -90,9 +88,9 @@ own-has t (u ∷ ts) own o h =
 -- ---- the id of a text
 
 -- an id names its text where the text is standard or an own string
-id_text : (own : List (List ℕ)) (t : List ℕ) (s : Sid) → sid_of t ≡ s → (s ≡ Other → has_text t own ≡ true) → string_text own (id_after s t own) ≡ t
-id_text own t (Standard k) e f = string_standard own k (sid_below t k e) ∙ sid_text t k e
-id_text own t Other e f =
+id_text : (own : List (List ℕ)) (t : List ℕ) (s : Option ℕ) → sid_of t ≡ s → (s ≡ None → has_text t own ≡ true) → string_text own (id_after s t own) ≡ t
+id_text own t (Some k) e f = string_standard own k (sid_below t k e) ∙ sid_text t k e
+id_text own t None e f =
     let z : 391 + place_in t own - 391 ≡ place_in t own = omega arith in
     string_own own (391 + place_in t own) (omega arith) ∙ ap (λ (k : ℕ). get_or own k []) z ∙ place_is t own (f refl)
 

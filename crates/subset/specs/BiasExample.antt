@@ -1,8 +1,7 @@
 -- The bias before and after (document 01, 'Corners in charstring.rs' and 'Corners in write.rs'): of 1240 local subroutines the last alone is
 -- reached. Its operand is 108, `f7 00`, with the bias 1131, and -107, `20`, with the bias 107 of one subroutine. The body expected is
 -- the Rust's, from its subset of such a font.
-use Rattle.std.specs.Prelude.{◌≡◌, refl, List, [], ◌∷◌, replicate}
-use Rattle.std.proofs.Math.Option.{some}
+use Rattle.std.specs.Prelude.{◌≡◌, refl, List, [], ◌∷◌, replicate, Some}
 use Rattle.std.proofs.Common.{arith}
 use Rattle.octets.specs.Octets.{be, num_at, bytes_of}
 use Rattle.type2_number.specs.Number.{keep24, rounded, number_at}
@@ -50,7 +49,7 @@ unfolding count_below lists
 below_1239 = refl
 
 -- the glyph that calls it
-call_renumbered : renumbered_body reach_rows (calls_in many_locals reach_rows 0) (glyph 1) (0xf7 ∷ 0x00 ∷ 0x0a ∷ 0x0e ∷ []) ≡ some (0x20 ∷ 0x0a ∷ 0x0e ∷ [])
+call_renumbered : renumbered_body reach_rows (calls_in many_locals reach_rows 0) (glyph 1) (0xf7 ∷ 0x00 ∷ 0x0a ∷ 0x0e ∷ []) ≡ Some (0x20 ∷ 0x0a ∷ 0x0e ∷ [])
 unfolding
     renumbered_body lists given_in two_lengths_lem disagrees renumber_charstring renumber encode number_at keep24 rounded number_bytes integer_bytes fixed_bytes tokens_of
     tokens_from token_at bytes_of num_at be

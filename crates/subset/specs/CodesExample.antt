@@ -1,5 +1,5 @@
 -- Worked examples (document 02, Wish 4), computed: a font of four glyphs, `.notdef`, `space`, `exclam` and one whose own string is `A`.
-use Rattle.std.specs.Prelude.{ℕ, ◌≡◌, refl, List, [], ◌∷◌}
+use Rattle.std.specs.Prelude.{ℕ, ◌≡◌, refl, List, [], ◌∷◌, Some}
 use Rattle.octets.specs.Octets.{be, num_at, bytes_of}
 use Rattle.octets.specs.Lists.{joined}
 use Rattle.index.specs.Write.{total, size_for, ends, table_bytes, head_bytes, items_bytes, index_bytes}
@@ -13,7 +13,6 @@ use Rattle.strings.specs.Strings.{standard_strings, standard_string, string_text
 use Rattle.charset.specs.Codes.{by_number, by_string}
 use Rattle.charset.specs.Predefined.{standard_encoding}
 use Rattle.find.specs.Find.{glyph_with_text}
-use Rattle.find.specs.declared.Found.TheVariants.{Glyph}
 use Rattle.cff.specs.Font.{standard, expert, custom, Program, empty_private}
 use Rattle.subset.specs.Kept.{is_in}
 use Rattle.subset.specs.Texts.{has_text, own_strings_lem, place_in, new_id, named_entries, texts_of, names_of}
@@ -36,22 +35,22 @@ font =
     }
 
 -- the last glyph counts; a number past the font and a string that no glyph has are passed over
-last_counts : glyph_of font (custom (by_number 65 1 ∷ by_number 65 2 ∷ by_number 65 4 ∷ by_string 65 3 ∷ [])) 65 ≡ Glyph 2
+last_counts : glyph_of font (custom (by_number 65 1 ∷ by_number 65 2 ∷ by_number 65 4 ∷ by_string 65 3 ∷ [])) 65 ≡ Some 2
 unfolding last_named glyph_of glyph_with_text string_text standard_string standard_strings standard_names same_text_lem codes
 last_counts = refl
 
 -- string id 34, the standard `A`, names the glyph whose own string is `A`
-by-text : glyph_of font (custom (by_number 65 1 ∷ by_string 65 34 ∷ [])) 65 ≡ Glyph 3
+by-text : glyph_of font (custom (by_number 65 1 ∷ by_string 65 34 ∷ [])) 65 ≡ Some 3
 unfolding last_named glyph_of glyph_with_text string_text standard_string standard_strings standard_names same_text_lem codes
 by-text = refl
 
 -- so does code 65 of the Standard Encoding
-by-standard : glyph_of font standard 65 ≡ Glyph 3
+by-standard : glyph_of font standard 65 ≡ Some 3
 unfolding last_named glyph_of standard_encoding glyph_with_text string_text standard_string standard_strings standard_names same_text_lem codes
 by-standard = refl
 
 -- an unassigned code of a predefined table is `.notdef`, which names glyph 0
-by_notdef : glyph_of font standard 0 ≡ Glyph 0
+by_notdef : glyph_of font standard 0 ≡ Some 0
 unfolding last_named glyph_of standard_encoding glyph_with_text string_text standard_string standard_strings standard_names same_text_lem codes
 by_notdef = refl
 

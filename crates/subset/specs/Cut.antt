@@ -1,12 +1,11 @@
 -- The outcome of a subset call (document 01, 'Entries and their refusals'): the refusals in their order, or the way and the bytes; and what
 -- a call leaves in the output and in the work words.
-use Rattle.std.specs.Prelude.{ℕ, zero, suc, Bool, true, false, not, List, [], ◌∷◌, ◌++◌, ltb, eqb, length, drop, get_or}
+use Rattle.std.specs.Prelude.{ℕ, zero, suc, Bool, true, false, not, List, [], ◌∷◌, ◌++◌, ltb, eqb, length, drop, get_or, None, Option, Some}
 use Rattle.octets.specs.Pick.{pick}
 use Rattle.octets.specs.Octets.{put}
 use Rattle.octets.specs.Lists.{all_below}
 use Rattle.dict.specs.Lookup.{ros_in, cid_keyed, stroked_in}
-use Rattle.dict.specs.declared.RosIn.{RosIn}
-use Rattle.dict.specs.declared.RosIn.TheVariants.{Ros, None}
+use Rattle.dict.specs.declared.RosEntry.{RosEntry}
 use Rattle.record.specs.Record.{rows_of, record_fine}
 use Rattle.cff.specs.Font.{Got, refused as refusedFont, got, Coding, standard, expert, custom, Program, read_font}
 use Rattle.cff.specs.Find.{work_size, find_name, find_cid}
@@ -39,9 +38,9 @@ unfoldable pub all_found_lem : Program → List ℕ → Bool
 all_found_lem p [] = true
 all_found_lem p (g ∷ gs) = pick (is_found p g) (all_found_lem p gs) false
 
-abbrev pub has_ros_lem : RosIn → Bool
+abbrev pub has_ros_lem : Option RosEntry → Bool
 has_ros_lem None = false
-has_ros_lem (Ros r o s) = true
+has_ros_lem (Some q) = true
 
 abbrev pub same_bool_lem : Bool → Bool → Bool
 same_bool_lem true b = b

@@ -1,7 +1,6 @@
 -- What becomes of charstrings and subroutines (document 01, 'Corners in write.rs'; the Rust's prune and prune_cid, renumber and renumber_cid, stubbed): renumbered, or stubbed,
 -- or copied. A name-keyed font has one FD, 0.
-use Rattle.std.specs.Prelude.{ℕ, ◌+◌, Bool, List, [], ◌∷◌, eqb, ℤ, length, get_or}
-use Rattle.std.proofs.Math.Option.{Option, none, some}
+use Rattle.std.specs.Prelude.{ℕ, ◌+◌, Bool, List, [], ◌∷◌, eqb, ℤ, length, get_or, None, Option, Some}
 use Rattle.octets.specs.Pick.{pick}
 use Rattle.octets.specs.Steps.{and}
 use Rattle.bits.specs.Bits.{count_below}
@@ -22,7 +21,7 @@ pub record Bodies : Type 0 where
 
 -- the new number of a subroutine: how many reached ones are below it
 abbrev pub rank : (ℕ → Bool) → ℕ → Option ℕ
-rank set i = pick (set i) (some (count_below set i)) none
+rank set i = pick (set i) (Some (count_below set i)) None
 
 -- how many are reached; a row's number has two bytes
 abbrev pub reached : (ℕ → Bool) → ℕ
@@ -30,8 +29,8 @@ reached set = count_below set 65536
 
 -- each of a list
 unfoldable pub each : {A : Type 0} → (ℕ → Option A) → List ℕ → Option (List A)
-each f [] = some []
-each f (k ∷ ks) = and (f k) (λ b. and (each f ks) (λ bs. some (b ∷ bs)))
+each f [] = Some []
+each f (k ∷ ks) = and (f k) (λ b. and (each f ks) (λ bs. Some (b ∷ bs)))
 
 -- what a record has of the local subroutines of an FD, and of the globals
 abbrev pub local_set : List Row → ℕ → ℕ → Bool
@@ -42,13 +41,13 @@ global_set rows k = lists rows (entered (global k))
 
 -- a body, with the lengths that the record gives for its masks; two lengths at one offset fail
 unfoldable pub renumbered_body : List Row → Calls → Site → List ℕ → Option (List ℕ)
-renumbered_body rows calls site s = pick (two_lengths_lem rows site) none (renumber_charstring calls (given_in rows site) s)
+renumbered_body rows calls site s = pick (two_lengths_lem rows site) None (renumber_charstring calls (given_in rows site) s)
 
 -- the reached ones of some subroutines; a number without a subroutine fails
 unfoldable pub renumbered_subrs : List Row → (ℕ → Bool) → Calls → (ℕ → Site) → List (List ℕ) → Option (List (List ℕ))
 renumbered_subrs rows set calls site subrs =
     pick (eqb (reached set) (count_below set (length subrs)))
-    (each (λ k. renumbered_body rows calls (site k) (get_or subrs k [])) (those set (length subrs) 0)) none
+    (each (λ k. renumbered_body rows calls (site k) (get_or subrs k [])) (those set (length subrs) 0)) None
 
 -- each unreached subroutine is a return
 unfoldable pub stubbed_from : (ℕ → Bool) → ℕ → List (List ℕ) → List (List ℕ)
@@ -74,9 +73,9 @@ module _ (p : Program) (rows : List Row) where
   calls_in f b z = pick (eqb b 10) (local_operand f z) (global_operand z)
 
   abbrev pub calls_across : List ℕ → Calls
-  calls_across [] b z = pick (eqb b 10) none (global_operand z)
+  calls_across [] b z = pick (eqb b 10) None (global_operand z)
   calls_across (f ∷ []) b z = calls_in f b z
-  calls_across (f ∷ g ∷ fs) b z = pick (eqb b 10) none (global_operand z)
+  calls_across (f ∷ g ∷ fs) b z = pick (eqb b 10) None (global_operand z)
 
 -- renumbered: the FDs in use, and the order in which the glyphs are written
 unfoldable pub renumbered : Program → List Row → List ℕ → List ℕ → Option Bodies
@@ -84,7 +83,7 @@ renumbered p rows used order =
     and (renumbered_subrs rows (global_set rows) (calls_across p rows used) global p.globals) (λ gs.
     and (each (λ f. renumbered_subrs rows (local_set rows f) (calls_in p rows f) (local f) (locals_of p f)) used) (λ ls.
     and (each (λ g. renumbered_body rows (calls_in p rows (get_or p.fds g 0)) (glyph g) (get_or p.charstrings g [])) order) (λ cs.
-    some (record { globals = gs; locals = ls; charstrings = cs }))))
+    Some (record { globals = gs; locals = ls; charstrings = cs }))))
 
 abbrev pub charstrings_of : Program → List ℕ → List (List ℕ)
 charstrings_of p order = mapped (λ g. get_or p.charstrings g []) order
@@ -107,8 +106,8 @@ pub record Pruned : Type 0 where
   pub bodies : Bodies
 
 abbrev pub or_stubbed : Option Bodies → Bodies → Pruned
-or_stubbed none s = record { way = 1; bodies = s }
-or_stubbed (some b) s = record { way = 0; bodies = b }
+or_stubbed None s = record { way = 1; bodies = s }
+or_stubbed (Some b) s = record { way = 0; bodies = b }
 
 unfoldable pub pruned : Program → List Row → List ℕ → List ℕ → ℕ → Pruned
 pruned p rows used order flag =

@@ -1,8 +1,7 @@
 -- Laws of ranks and of lists by number (document 01, 'Layout'): where a number stands among those that pass a test, and where an FD stands
 -- among those in use.
-use Rattle.std.specs.Prelude.{ℕ, zero, suc, ◌+◌, ◌≤◌, ◌<◌, ◌≡◌, refl, Bool, true, false, List, ◌∷◌, length, get_or}
+use Rattle.std.specs.Prelude.{ℕ, zero, suc, ◌+◌, ◌≤◌, ◌<◌, ◌≡◌, refl, Bool, true, false, List, ◌∷◌, length, get_or, Some}
 use Rattle.std.proofs.Common.{sym, ap, ◌∙◌, add-one, arith}
-use Rattle.std.proofs.Math.Option.{some}
 use Rattle.std.proofs.Math.Decide.{dec_le}
 use Rattle.octets.specs.Pick.{pick}
 use Rattle.prune.specs.StepLaws.{zero_one}
@@ -53,7 +52,7 @@ count-bound set m n i e h l = go (dec_le (i + 1) n)
     go (no k) = omega (arith, count-rises set n i (omega arith), count-below set i m h l)
 
 -- a rank is of a number of the set, and counts those below it
-pub rank-new : (set : ℕ → Bool) (i n : ℕ) → rank set i ≡ some n → (set i ≡ true) × (n ≡ count_below set i)
+pub rank-new : (set : ℕ → Bool) (i n : ℕ) → rank set i ≡ Some n → (set i ≡ true) × (n ≡ count_below set i)
 rank-new set i n e = go (set i) refl
   where
     go : (t : Bool) → set i ≡ t → (set i ≡ true) × (n ≡ count_below set i)

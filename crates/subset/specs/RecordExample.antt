@@ -1,7 +1,6 @@
 -- What a record makes of the renumbering (document 01, 'Corners in write.rs' and 'Reach record'), on `cid_program`. The Rust's renumber_cid
 -- gives the same for each of these records.
-use Rattle.std.specs.Prelude.{◌≡◌, refl, List, [], ◌∷◌}
-use Rattle.std.proofs.Math.Option.{none, some}
+use Rattle.std.specs.Prelude.{◌≡◌, refl, List, [], ◌∷◌, None, Some}
 use Rattle.octets.specs.Octets.{be, num_at, bytes_of}
 use Rattle.type2_number.specs.Number.{keep24, rounded, number_at}
 use Rattle.type2_number.specs.Encoding.{number_bytes, integer_bytes, fixed_bytes}
@@ -31,12 +30,12 @@ unfolding pruned renumbered renumbered_subrs renumbered_body each those lists tw
 two_lengths = simp (few-reached, below_two)
 
 -- a global subroutine that calls a local one: with two FDs in use it fails, with one it is renumbered
-local_from_global : renumbered_body reach_rows (calls_across cid_program reach_rows used) (global 1) (0x21 ∷ 0x0a ∷ 0x0b ∷ []) ≡ none
+local_from_global : renumbered_body reach_rows (calls_across cid_program reach_rows used) (global 1) (0x21 ∷ 0x0a ∷ 0x0b ∷ []) ≡ None
 unfolding
     renumbered_body lists given_in two_lengths_lem disagrees renumber_charstring renumber encode number_at keep24 rounded tokens_of tokens_from token_at bytes_of num_at be
 local_from_global = refl
 
-local_of-one-fd : renumbered_body reach_rows (calls_across cid_program reach_rows (0 ∷ [])) (global 1) (0x21 ∷ 0x0a ∷ 0x0b ∷ []) ≡ some (0x20 ∷ 0x0a ∷ 0x0b ∷ [])
+local_of-one-fd : renumbered_body reach_rows (calls_across cid_program reach_rows (0 ∷ [])) (global 1) (0x21 ∷ 0x0a ∷ 0x0b ∷ []) ≡ Some (0x20 ∷ 0x0a ∷ 0x0b ∷ [])
 unfolding
     renumbered_body lists given_in two_lengths_lem disagrees renumber_charstring renumber encode number_at keep24 rounded number_bytes integer_bytes fixed_bytes tokens_of
     tokens_from token_at bytes_of num_at be

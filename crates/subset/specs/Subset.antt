@@ -1,14 +1,13 @@
 -- The subset's bytes (the Rust's subset and subset_cid; document 01, 'Layout'): header, names, top DICT, strings, globals, charset format 0,
 -- where it was asked for the encoding (document 02, Wish 4), for CID FDSelect, charstrings, for CID the FD INDEX, then each Private with its local subroutines. Offsets have the five-byte form, so
 -- that the top DICT's length does not depend on them.
-use Rattle.std.specs.Prelude.{ℕ, ◌+◌, List, [], ◌∷◌, ◌++◌, eqb, length, get_or}
+use Rattle.std.specs.Prelude.{ℕ, ◌+◌, List, [], ◌∷◌, ◌++◌, eqb, length, get_or, None, Option, Some}
 use Rattle.octets.specs.Pick.{pick}
 use Rattle.decimal.specs.Decimal.{normal, whole}
 use Rattle.dict.specs.Op.{subrs, font_matrix, ros, cid_count, copied_top_entries, copied_top_strings}
 use Rattle.dict.specs.Dict.{Entry}
 use Rattle.dict.specs.Lookup.{Operands, last_of, ros_in, cid_count_in, cid_keyed}
-use Rattle.dict.specs.declared.RosIn.{RosIn}
-use Rattle.dict.specs.declared.RosIn.TheVariants.{Ros, None}
+use Rattle.dict.specs.declared.RosEntry.{RosEntry}
 use Rattle.dict_write.specs.Written.{entry_bytes, copied_entry, offset_entry, private_entry, private_bytes}
 use Rattle.index.specs.Write.{size_for, index_bytes}
 use Rattle.charset.specs.CharsetBytes.{charset_bytes}
@@ -31,14 +30,14 @@ unfoldable pub copied_bytes : List Entry → List ℕ → List ℕ
 copied_bytes es [] = []
 copied_bytes es (op ∷ ops) = copied_entry op (last_of op es) ++ copied_bytes es ops
 
-abbrev pub ros_entry : Program → List (List ℕ) → RosIn → List ℕ
+abbrev pub ros_entry : Program → List (List ℕ) → Option RosEntry → List ℕ
 ros_entry p own None = []
-ros_entry p own (Ros registry ordering s) =
-    entry_bytes ros (whole (new_id own (string_text p.strings registry)) ∷ whole (new_id own (string_text p.strings ordering)) ∷ normal s.neg s.size 0 0 ∷ [])
+ros_entry p own (Some q) =
+    entry_bytes ros (whole (new_id own (string_text p.strings q.registry)) ∷ whole (new_id own (string_text p.strings q.ordering)) ∷ normal q.supplement.neg q.supplement.size 0 0 ∷ [])
 
-abbrev pub ros_texts : Program → RosIn → List (List ℕ)
+abbrev pub ros_texts : Program → Option RosEntry → List (List ℕ)
 ros_texts p None = []
-ros_texts p (Ros registry ordering s) = string_text p.strings registry ∷ string_text p.strings ordering ∷ []
+ros_texts p (Some q) = string_text p.strings q.registry ∷ string_text p.strings q.ordering ∷ []
 
 -- ---- Privates
 

@@ -1,7 +1,6 @@
 -- What a call of subsetting should leave where its work words and its output were filled before, and its answer as the answer of a stored case
 -- (tools/compare/README.md, 'Stored subsets').
-use Rattle.std.specs.Prelude.{ℕ, ◌+◌, Bool, true, false, List, [], ◌∷◌, ltb, eqb, length, take, drop}
-use Rattle.std.proofs.Math.Option.{Option, none, some}
+use Rattle.std.specs.Prelude.{ℕ, ◌+◌, Bool, true, false, List, [], ◌∷◌, ltb, eqb, length, take, drop, None, Option, Some}
 use Rattle.octets.specs.Pick.{pick}
 use Rattle.outcome.specs.declared.Answer.{Answer}
 use Rattle.outcome.specs.declared.Answer.TheVariants.{Refused, Subset}
@@ -30,13 +29,13 @@ bytes_left_lem (x ∷ xs) = pick (eqb x lent_byte) (bytes_left_lem xs) false
 
 -- a refusal, with all of the output as it was lent
 unfoldable pub refused_bytes : ℕ → List ℕ → Option (List ℕ)
-refused_bytes n out = pick (bytes_left_lem out) (some (n ∷ [])) none
+refused_bytes n out = pick (bytes_left_lem out) (Some (n ∷ [])) None
 
 -- no refusal, the way and the subset, with the output behind it as it was lent
 unfoldable pub subset_bytes : ℕ → ℕ → List ℕ → Option (List ℕ)
 subset_bytes way len out =
-    pick (ltb (length out) len) none
-    (pick (bytes_left_lem (drop len out)) (some (0 ∷ way ∷ take len out)) none)
+    pick (ltb (length out) len) None
+    (pick (bytes_left_lem (drop len out)) (Some (0 ∷ way ∷ take len out)) None)
 
 abbrev pub answer_bytes : Answer → List ℕ → Option (List ℕ)
 answer_bytes (Refused n) out = refused_bytes n out
@@ -44,4 +43,4 @@ answer_bytes (Subset way len) out = subset_bytes way len out
 
 -- an answer, W, and the work words and the output after the call
 unfoldable pub judged : Answer → ℕ → List ℕ → List ℕ → Option (List ℕ)
-judged r w work out = pick (words_left_lem 0 (zeroed r w) work) (answer_bytes r out) none
+judged r w work out = pick (words_left_lem 0 (zeroed r w) work) (answer_bytes r out) None

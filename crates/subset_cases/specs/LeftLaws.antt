@@ -1,8 +1,7 @@
 -- Laws of what a call leaves: by the turns of the tests, by the code's ways out, and that a call which keeps its contract is judged by its outcome.
-use Rattle.std.specs.Prelude.{ℕ, zero, suc, ◌+◌, ◌≤◌, ◌<◌, ◌≡◌, refl, Bool, true, false, List, [], ◌∷◌, ◌++◌, ltb, length, take, drop, get_or, replicate}
+use Rattle.std.specs.Prelude.{ℕ, zero, suc, ◌+◌, ◌≤◌, ◌<◌, ◌≡◌, refl, Bool, true, false, List, [], ◌∷◌, ◌++◌, ltb, length, take, drop, get_or, replicate, None, Some}
 use Rattle.std.proofs.Math.Path.{sym, ap}
 use Rattle.std.proofs.Common.{◌∙◌, not-suc-le-zero, le_of_suc-le-suc, arith, length-append, drop_of_length-le, eq-eqb, ne_eqb, lt-ltb, le-ltb}
-use Rattle.std.proofs.Math.Option.{none, some}
 use Rattle.std.proofs.lemmas.List.{length-replicate}
 use Rattle.std.proofs.Math.Seq.{take-append_seam, drop-append_seam}
 use Rattle.octets.specs.Pick.{pick}
@@ -71,36 +70,36 @@ module _ (n w : ℕ) (h : 10 ≤ n) where
   pub zeroed-before : 14 ≤ n → zeroed (Refused n) w ≡ 0
   zeroed-before k = rw (past_nine, le-ltb n 14 k)
 
-pub refused_kept : (n : ℕ) (out : List ℕ) → bytes_left_lem out ≡ true → refused_bytes n out ≡ some (n ∷ [])
+pub refused_kept : (n : ℕ) (out : List ℕ) → bytes_left_lem out ≡ true → refused_bytes n out ≡ Some (n ∷ [])
 unfolding refused_bytes
 refused_kept n out e = rw e
 
-pub refused_changed : (n : ℕ) (out : List ℕ) → bytes_left_lem out ≡ false → refused_bytes n out ≡ none
+pub refused_changed : (n : ℕ) (out : List ℕ) → bytes_left_lem out ≡ false → refused_bytes n out ≡ None
 unfolding refused_bytes
 refused_changed n out e = rw e
 
 module _ (way len : ℕ) (out : List ℕ) where
-  pub subset-past : length out < len → subset_bytes way len out ≡ none
+  pub subset-past : length out < len → subset_bytes way len out ≡ None
   unfolding subset_bytes
   subset-past h = rw (lt-ltb (length out) len h)
 
   module _ (h : len ≤ length out) where
-    pub subset-kept : bytes_left_lem (drop len out) ≡ true → subset_bytes way len out ≡ some (0 ∷ way ∷ take len out)
+    pub subset-kept : bytes_left_lem (drop len out) ≡ true → subset_bytes way len out ≡ Some (0 ∷ way ∷ take len out)
     unfolding subset_bytes
     subset-kept e = rw (le-ltb (length out) len h, e)
 
-    pub subset-changed : bytes_left_lem (drop len out) ≡ false → subset_bytes way len out ≡ none
+    pub subset-changed : bytes_left_lem (drop len out) ≡ false → subset_bytes way len out ≡ None
     unfolding subset_bytes
     subset-changed e = rw (le-ltb (length out) len h, e)
 
 module _ (r : Answer) (w : ℕ) (work out : List ℕ) (k : ℕ) (z : k ≡ zeroed r w) where
   pub judged-kept : words_left_lem 0 k work ≡ true → judged r w work out ≡ answer_bytes r out
   unfolding judged
-  judged-kept e = ap (λ (b : Bool). pick b (answer_bytes r out) none) (ap (λ (j : ℕ). words_left_lem 0 j work) (sym z) ∙ e)
+  judged-kept e = ap (λ (b : Bool). pick b (answer_bytes r out) None) (ap (λ (j : ℕ). words_left_lem 0 j work) (sym z) ∙ e)
 
-  pub judged-changed : words_left_lem 0 k work ≡ false → judged r w work out ≡ none
+  pub judged-changed : words_left_lem 0 k work ≡ false → judged r w work out ≡ None
   unfolding judged
-  judged-changed e = ap (λ (b : Bool). pick b (answer_bytes r out) none) (ap (λ (j : ℕ). words_left_lem 0 j work) (sym z) ∙ e)
+  judged-changed e = ap (λ (b : Bool). pick b (answer_bytes r out) None) (ap (λ (j : ℕ). words_left_lem 0 j work) (sym z) ∙ e)
 
 -- W by what reading answers
 abbrev pub work_read : ReadAs → ℕ
@@ -156,7 +155,7 @@ words-kept true w n = words-zeroed 0 w w (drop w (replicate n lent_word)) (omega
 words-kept false w n = words-lent 0 0 n 0 (omega arith)
 
 -- a subset in front of what was lent
-put-lent : (way : ℕ) (bs : List ℕ) (m : ℕ) → subset_bytes way (length bs) (put (replicate m lent_byte) 0 bs) ≡ some (0 ∷ way ∷ bs)
+put-lent : (way : ℕ) (bs : List ℕ) (m : ℕ) → subset_bytes way (length bs) (put (replicate m lent_byte) 0 bs) ≡ Some (0 ∷ way ∷ bs)
 put-lent way bs m =
     let out = replicate m lent_byte in
     let z : 0 + length bs ≡ length bs = omega arith in
@@ -165,10 +164,10 @@ put-lent way bs m =
     let d : drop (length bs) (put out 0 bs) ≡ drop (length bs) out = ap (drop (length bs)) p ∙ drop-append_seam bs (drop (length bs) out) in
     let t : take (length bs) (put out 0 bs) ≡ bs = ap (take (length bs)) p ∙ take-append_seam bs (drop (length bs) out) in
     subset-kept way (length bs) (put out 0 bs) (omega (arith, n)) (ap bytes_left_lem d ∙ bytes-lent m (length bs))
-    ∙ ap (λ (l : List ℕ). some (0 ∷ way ∷ l)) t
+    ∙ ap (λ (l : List ℕ). Some (0 ∷ way ∷ l)) t
 
 judged-outcome : (o : Outcome) (w n m : ℕ)
-    → judged (answer_of o) w (leaves_work o w (replicate n lent_word)) (leaves_out o (replicate m lent_byte)) ≡ some (outcome_bytes o)
+    → judged (answer_of o) w (leaves_work o w (replicate n lent_word)) (leaves_out o (replicate m lent_byte)) ≡ Some (outcome_bytes o)
 judged-outcome (refused x) w n m =
     judged-kept (Refused x) w (leaves_work (refused x) w (replicate n lent_word)) (replicate m lent_byte) (zeroed (Refused x) w) refl (words-kept (pick (ltb 9 x) (ltb x 14) false) w n)
     ∙ refused_kept x (replicate m lent_byte) (bytes-lent m 0)
@@ -181,7 +180,7 @@ pub judged-cuts : {cid : Bool} {font name keep rec : List ℕ} {flag : ℕ} {wor
     → Cuts cid false font name keep rec flag work out work' out' r
     → work ≡ replicate (length work) lent_word → out ≡ replicate (length out) lent_byte
     → (w : ℕ) → w ≡ work_in work_size (read_font font)
-    → judged r w work' out' ≡ some (outcome_bytes (cut_of cid false font name keep rec flag (length work) (length out)))
+    → judged r w work' out' ≡ Some (outcome_bytes (cut_of cid false font name keep rec flag (length work) (length out)))
 judged-cuts {cid} {font} {name} {keep} {rec} {flag} {work} {out} {work'} {out'} {r} c e f w g =
     let o = cut_of cid false font name keep rec flag (length work) (length out) in
     let v = work_in work_size (read_font font) in

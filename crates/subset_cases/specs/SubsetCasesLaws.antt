@@ -1,10 +1,9 @@
 -- Laws of the answers to stored cases of subsetting, by the code's ways out.
-use Rattle.std.specs.Prelude.{ℕ, ◌+◌, ◌-◌, ◌*◌, ◌≤◌, ◌<◌, ◌≡◌, Bool, drop}
+use Rattle.std.specs.Prelude.{ℕ, ◌+◌, ◌-◌, ◌*◌, ◌≤◌, ◌<◌, ◌≡◌, Bool, drop, None, Some}
 use Rattle.std.proofs.Math.Path.{sym, ap}
 use Rattle.std.proofs.Common.{◌∙◌, subst, length-take, length-drop, take_all}
 use Rattle.std.proofs.Math.Bool.{false}
 use mathlib.Core.List.{List}
-use Rattle.std.proofs.Math.Option.{none, some}
 use native.Mathlib.Omega.{arith}
 use Rattle.std.proofs.Math.ListN.{length, take, get_or}
 use borrow.Author.Tests.{ne_eqb, lt-ltb, le-ltb}
@@ -30,19 +29,19 @@ rest n s = take_all (length s - n) (drop n s) (rw length-drop (omega arith))
 -- ---- the flag, what is lent, and the record
 
 module _ (cid : Bool) (font name keep s : List ℕ) where
-  pub lent-short : length s < 5 → lent_answer cid font name keep s ≡ none
+  pub lent-short : length s < 5 → lent_answer cid font name keep s ≡ None
   unfolding lent_answer
   lent-short h = rw (lt-ltb (length s) 5 h)
 
   module _ (h : 5 ≤ length s) (words : ℕ) (e : words ≡ num_at s 1 2) where
-    pub lent-words : 1024 < words → lent_answer cid font name keep s ≡ none
+    pub lent-words : 1024 < words → lent_answer cid font name keep s ≡ None
     unfolding lent_answer
     lent-words k =
         let l : 1024 < num_at s 1 2 = omega (arith, e) in
         rw (le-ltb (length s) 5 h, lt-ltb 1024 (num_at s 1 2) l)
 
     module _ (k : words ≤ 1024) (room : ℕ) (f : room ≡ num_at s 3 2) where
-      pub lent-room : 4094 < room → lent_answer cid font name keep s ≡ none
+      pub lent-room : 4094 < room → lent_answer cid font name keep s ≡ None
       unfolding lent_answer
       lent-room m =
           let l : num_at s 1 2 ≤ 1024 = omega (arith, e) in
@@ -51,7 +50,7 @@ module _ (cid : Bool) (font name keep s : List ℕ) where
 
       -- as many words and bytes as the code lends
       pub lent_found : room ≤ 4094 → (w o : ℕ) → w ≡ words → o ≡ room
-          → lent_answer cid font name keep s ≡ some (outcome_bytes (cut_of cid false font name keep (take (length s - 5) (drop 5 s)) (get_or s 0 0) w o))
+          → lent_answer cid font name keep s ≡ Some (outcome_bytes (cut_of cid false font name keep (take (length s - 5) (drop 5 s)) (get_or s 0 0) w o))
       unfolding lent_answer
       lent_found m w o i j =
           let l : num_at s 1 2 ≤ 1024 = omega (arith, e) in
@@ -59,9 +58,9 @@ module _ (cid : Bool) (font name keep s : List ℕ) where
           let p : num_at s 1 2 ≡ w = sym (i ∙ e) in
           let q : num_at s 3 2 ≡ o = sym (j ∙ f) in
           rw (le-ltb (length s) 5 h, le-ltb 1024 (num_at s 1 2) l, le-ltb 4094 (num_at s 3 2) n)
-          (ap (λ (x : List ℕ). some (outcome_bytes (cut_of cid false font name keep x (get_or s 0 0) (num_at s 1 2) (num_at s 3 2)))) (sym (rest 5 s))
-          ∙ ap (λ (x : ℕ). some (outcome_bytes (cut_of cid false font name keep (take (length s - 5) (drop 5 s)) (get_or s 0 0) x (num_at s 3 2)))) p
-          ∙ ap (λ (x : ℕ). some (outcome_bytes (cut_of cid false font name keep (take (length s - 5) (drop 5 s)) (get_or s 0 0) w x))) q)
+          (ap (λ (x : List ℕ). Some (outcome_bytes (cut_of cid false font name keep x (get_or s 0 0) (num_at s 1 2) (num_at s 3 2)))) (sym (rest 5 s))
+          ∙ ap (λ (x : ℕ). Some (outcome_bytes (cut_of cid false font name keep (take (length s - 5) (drop 5 s)) (get_or s 0 0) x (num_at s 3 2)))) p
+          ∙ ap (λ (x : ℕ). Some (outcome_bytes (cut_of cid false font name keep (take (length s - 5) (drop 5 s)) (get_or s 0 0) w x))) q)
 
 -- ---- the numbers that are kept
 
@@ -72,19 +71,19 @@ kept-room n s h =
     omega (arith, pairs-length part, length-take (2 + 2 * n - 2) (drop 2 s))
 
 module _ (cid : Bool) (font name s : List ℕ) where
-  pub kept-short : length s < 2 → kept_answer cid font name s ≡ none
+  pub kept-short : length s < 2 → kept_answer cid font name s ≡ None
   unfolding kept_answer
   kept-short h = rw (lt-ltb (length s) 2 h)
 
   module _ (h : 2 ≤ length s) (n : ℕ) (e : n ≡ num_at s 0 2) where
-    pub kept_many : 256 < n → kept_answer cid font name s ≡ none
+    pub kept_many : 256 < n → kept_answer cid font name s ≡ None
     unfolding kept_answer
     kept_many k =
         let l : 256 < num_at s 0 2 = omega (arith, e) in
         rw (le-ltb (length s) 2 h, lt-ltb 256 (num_at s 0 2) l)
 
     module _ (k : n ≤ 256) where
-      pub kept-cut : length s < 2 + 2 * n → kept_answer cid font name s ≡ none
+      pub kept-cut : length s < 2 + 2 * n → kept_answer cid font name s ≡ None
       unfolding kept_answer
       kept-cut l =
           let i : num_at s 0 2 ≤ 256 = omega (arith, e) in
@@ -108,12 +107,12 @@ module _ (cid : Bool) (font name s : List ℕ) where
 -- ---- the name
 
 module _ (cid : Bool) (font s : List ℕ) where
-  pub named-short : length s < 1 → named_answer cid font s ≡ none
+  pub named-short : length s < 1 → named_answer cid font s ≡ None
   unfolding named_answer
   named-short h = rw (lt-ltb (length s) 1 h)
 
   module _ (h : 1 ≤ length s) (n : ℕ) (e : n ≡ get_or s 0 0) where
-    pub named-cut : length s < 1 + n → named_answer cid font s ≡ none
+    pub named-cut : length s < 1 + n → named_answer cid font s ≡ None
     unfolding named_answer
     named-cut l =
         let k : length s < 1 + get_or s 0 0 = omega (arith, e) in
@@ -132,17 +131,17 @@ module _ (cid : Bool) (font s : List ℕ) where
 
 -- ---- by the kind, and an input
 
-pub asked-none : (b : ℕ) (font asked : List ℕ) → (b ≡ 83 → ⊥) → (b ≡ 68 → ⊥) → asked_answer b font asked ≡ none
+pub asked-none : (b : ℕ) (font asked : List ℕ) → (b ≡ 83 → ⊥) → (b ≡ 68 → ⊥) → asked_answer b font asked ≡ None
 unfolding asked_answer
 asked-none b font asked p q = simp (ne_eqb b 83 p, ne_eqb b 68 q)
 
 module _ (kind : ℕ) (s : List ℕ) where
-  pub input_short : length s < 2 → subset_answer kind s ≡ none
+  pub input_short : length s < 2 → subset_answer kind s ≡ None
   unfolding subset_answer
   input_short h = rw (lt-ltb (length s) 2 h)
 
   module _ (h : 2 ≤ length s) (n : ℕ) (e : n ≡ num_at s 0 2) where
-    pub input_cut : length s < 2 + n → subset_answer kind s ≡ none
+    pub input_cut : length s < 2 + n → subset_answer kind s ≡ None
     unfolding subset_answer
     input_cut l =
         let k : length s < 2 + num_at s 0 2 = omega (arith, e) in

@@ -5,7 +5,6 @@ ghost use Rattle.octets.specs.Pick.{pick};
 ghost use Rattle.cases.specs.Answers.{Gives};
 ghost use Rattle.subset_cases.specs.Left.{lent_word, zeroed, words_left_lem, bytes_left_lem, refused_bytes, subset_bytes, answer_bytes, judged};
 
-use cases::Answered;
 use outcome::Answer;
 
 // What the i-th work word should be, the first k being zeros.
@@ -22,13 +21,10 @@ fn word_at(i: usize, k: usize) -> u32
 fn words_left(work: &[u32], k: usize) -> bool
     ensures { result ≡ words_left_lem 0 k work.now }
 {
-    let n = work.len();
-    let mut i = 0;
-    while i < n {
-        if work[i] != word_at(i, k) {
+    for (i, word) in work.iter().enumerate() {
+        if *word != word_at(i, k) {
             return false;
         }
-        i += 1;
     }
     true
 }
@@ -38,13 +34,10 @@ fn bytes_left(found: &[u8], at: usize) -> bool
     requires { at ≤ length found.now }
     ensures { result ≡ bytes_left_lem (drop at found.now) }
 {
-    let n = found.len();
-    let mut i = at;
-    while i < n {
-        if found[i] != 165 {
+    for b in &found[at..] {
+        if *b != 165 {
             return false;
         }
-        i += 1;
     }
     true
 }
@@ -68,33 +61,33 @@ fn zeroed(r: Answer, w: usize) -> usize
 }
 
 // A refusal: all of the output is as it was lent.
-fn put_refused(n: u8, found: &[u8], out: &mut [u8]) -> Answered
+fn put_refused(n: u8, found: &[u8], out: &mut [u8]) -> Option<usize>
     requires { 4096 ≤ length out.old }
     ensures { Gives (refused_bytes n found.now) out.new result }
 {
     if bytes_left(found, 0) {
-        return Answered::Bytes(octets::put_byte(out, 0, n));
+        return Some(octets::put_byte(out, 0, n));
     }
-    Answered::Outside
+    None
 }
 
 // A subset: the output behind it is as it was lent.
-fn put_subset(way: u8, len: usize, found: &[u8], out: &mut [u8]) -> Answered
+fn put_subset(way: u8, len: usize, found: &[u8], out: &mut [u8]) -> Option<usize>
     requires { (length found.now ≤ 4094) × (4096 ≤ length out.old) }
     ensures { Gives (subset_bytes way len found.now) out.new result }
 {
     if found.len() < len {
-        return Answered::Outside;
+        return None;
     }
     if bytes_left(found, len) {
         let p = octets::put_pair(out, 0, 0, way);
-        return Answered::Bytes(octets::put_bytes(out, p, &found[..len]));
+        return Some(octets::put_bytes(out, p, &found[..len]));
     }
-    Answered::Outside
+    None
 }
 
 // What a call answered, with the output that it left.
-fn put_answer(r: Answer, found: &[u8], out: &mut [u8]) -> Answered
+fn put_answer(r: Answer, found: &[u8], out: &mut [u8]) -> Option<usize>
     requires { (length found.now ≤ 4094) × (4096 ≤ length out.old) }
     ensures { Gives (answer_bytes r found.now) out.new result }
 {
@@ -105,12 +98,12 @@ fn put_answer(r: Answer, found: &[u8], out: &mut [u8]) -> Answered
 }
 
 // What a call answered, with the work words and the output that it left, W being w.
-pub fn judge(r: Answer, w: usize, work: &[u32], found: &[u8], out: &mut [u8]) -> Answered
+pub fn judge(r: Answer, w: usize, work: &[u32], found: &[u8], out: &mut [u8]) -> Option<usize>
     requires { (length found.now ≤ 4094) × (4096 ≤ length out.old) }
     ensures { Gives (judged r w work.now found.now) out.new result }
 {
     if words_left(work, zeroed(r, w)) {
         return put_answer(r, found, out);
     }
-    Answered::Outside
+    None
 }

@@ -4,8 +4,7 @@
 
 pub mod left;
 
-ghost use Rattle.std.specs.Prelude.{◌≤◌, ◌≡◌, false, length, replicate};
-ghost use Rattle.std.proofs.Math.Option.{some};
+ghost use Rattle.std.specs.Prelude.{◌≤◌, ◌≡◌, false, length, replicate, Some};
 ghost use Rattle.cases.specs.Answers.{Gives};
 ghost use Rattle.cff.specs.Font.{read_font};
 ghost use Rattle.cff.specs.Find.{work_size};
@@ -14,7 +13,6 @@ ghost use Rattle.outcome.specs.Entry.{work_in, Cuts};
 ghost use Rattle.subset_cases.specs.Left.{lent_word, lent_byte};
 ghost use Rattle.subset_cases.specs.SubsetCases.{outcome_bytes, lent_answer, kept_answer, named_answer, asked_answer, subset_answer};
 
-use cases::Answered;
 use cff::ReadAs;
 use outcome::Answer;
 use write::{subset, subset_cid};
@@ -59,10 +57,10 @@ fn answer_cut(
     work: &mut [u32],
     found: &mut [u8],
     out: &mut [u8],
-) -> Answered
+) -> Option<usize>
     requires { (work.old ≡ replicate (length work.old) lent_word) × (found.old ≡ replicate (length found.old) lent_byte)
         × (length found.old ≤ 4094) × (4096 ≤ length out.old) }
-    ensures { Gives (some (outcome_bytes (cut_of cid false font.now name.now keep.now rows.now traced
+    ensures { Gives (Some (outcome_bytes (cut_of cid false font.now name.now keep.now rows.now traced
         (length work.old) (length found.old)))) out.new result }
 {
     let r = cut(cid, font, name, keep, rows, traced, &mut *work, &mut *found);
@@ -77,21 +75,21 @@ fn answer_lent(
     keep: &[u16],
     asked: &[u8],
     out: &mut [u8],
-) -> Answered
+) -> Option<usize>
     requires { 4096 ≤ length out.old }
     ensures { Gives (lent_answer cid font.now name.now keep.now asked.now) out.new result }
 {
     if asked.len() < 5 {
-        return Answered::Outside;
+        return None;
     }
     let traced = asked[0];
     let words = octets::u16_at(asked, 1);
     let room = octets::u16_at(asked, 3);
     if 1024 < words {
-        return Answered::Outside;
+        return None;
     }
     if 4094 < room {
-        return Answered::Outside;
+        return None;
     }
     let mut work = [2779096485u32; 1024];
     let mut found = [165u8; 4094];
@@ -109,21 +107,21 @@ fn answer_lent(
 }
 
 // How many numbers are kept, and the numbers, two bytes each.
-fn answer_kept(cid: bool, font: &[u8], name: &[u8], asked: &[u8], out: &mut [u8]) -> Answered
+fn answer_kept(cid: bool, font: &[u8], name: &[u8], asked: &[u8], out: &mut [u8]) -> Option<usize>
     requires { 4096 ≤ length out.old }
     ensures { Gives (kept_answer cid font.now name.now asked.now) out.new result }
 {
     let n = asked.len();
     if n < 2 {
-        return Answered::Outside;
+        return None;
     }
     let count = octets::u16_at(asked, 0);
     if 256 < count {
-        return Answered::Outside;
+        return None;
     }
     let end = 2 + 2 * count;
     if n < end {
-        return Answered::Outside;
+        return None;
     }
     let mut keep = [0u16; 256];
     let k = sheet::reading::put_pairs(&asked[2..end], &mut keep);
@@ -131,45 +129,45 @@ fn answer_kept(cid: bool, font: &[u8], name: &[u8], asked: &[u8], out: &mut [u8]
 }
 
 // The name's length in one byte, and the name.
-fn answer_named(cid: bool, font: &[u8], asked: &[u8], out: &mut [u8]) -> Answered
+fn answer_named(cid: bool, font: &[u8], asked: &[u8], out: &mut [u8]) -> Option<usize>
     requires { 4096 ≤ length out.old }
     ensures { Gives (named_answer cid font.now asked.now) out.new result }
 {
     let n = asked.len();
     if n < 1 {
-        return Answered::Outside;
+        return None;
     }
     let end = 1 + octets::u8_at(asked, 0);
     if n < end {
-        return Answered::Outside;
+        return None;
     }
     answer_kept(cid, font, &asked[1..end], &asked[end..], out)
 }
 
 // The answer to what is asked of a font, by the kind's letter.
-fn answer_asked(kind: u8, font: &[u8], asked: &[u8], out: &mut [u8]) -> Answered
+fn answer_asked(kind: u8, font: &[u8], asked: &[u8], out: &mut [u8]) -> Option<usize>
     requires { 4096 ≤ length out.old }
     ensures { Gives (asked_answer kind font.now asked.now) out.new result }
 {
     match kind {
         b'S' => answer_named(false, font, asked, out),
         b'D' => answer_named(true, font, asked, out),
-        _ => Answered::Outside,
+        _ => None,
     }
 }
 
-// The answer to an input, by its kind's letter.
-pub fn answer(kind: u8, input: &[u8], out: &mut [u8]) -> Answered
+// The answer to an input, by its kind's letter: how many bytes of it stand at the start of out; None outside the kind's domain.
+pub fn answer(kind: u8, input: &[u8], out: &mut [u8]) -> Option<usize>
     requires { 4096 ≤ length out.old }
     ensures { Gives (subset_answer kind input.now) out.new result }
 {
     let n = input.len();
     if n < 2 {
-        return Answered::Outside;
+        return None;
     }
     let end = 2 + octets::u16_at(input, 0);
     if n < end {
-        return Answered::Outside;
+        return None;
     }
     answer_asked(kind, &input[2..end], &input[end..], out)
 }

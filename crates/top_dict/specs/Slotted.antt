@@ -1,7 +1,7 @@
 -- The top DICT (document 01, 'Layout') over slots is the subset's (crates/subset, top_by_name and top_by_cid), where the slots hold the string ids that the font's top DICT
 -- names and the ids of those texts in the subset.
 use Prim.Native.Nat.{ℕ, suc, ◌+◌, ◌<◌}
-use Rattle.std.specs.Prelude.{◌≡◌, Bool, length}
+use Rattle.std.specs.Prelude.{◌≡◌, Bool, length, None, Option, Some}
 use Rattle.std.proofs.Math.Path.{refl, ap}
 use Rattle.std.proofs.Common.{sym, ◌∙◌}
 use Rattle.std.proofs.Math.Bool.{true}
@@ -9,15 +9,12 @@ use mathlib.Core.List.{List, [], ◌∷◌, ◌++◌, append_assoc, append-nil}
 use native.Mathlib.Omega.{arith}
 use Rattle.std.proofs.Math.ListN.{get_or}
 use Rattle.decimal.specs.declared.Signed.{Signed}
-use Rattle.decimal.specs.declared.IdOf.{IdOf}
-use Rattle.decimal.specs.declared.IdOf.TheVariants.{Id, Absent}
 use Rattle.decimal.specs.Decimal.{normal, whole}
 use Rattle.decimal.specs.Written.{number_bytes}
 use Rattle.dict.specs.Op.{ros, cid_count, copied_top_entries, copied_top_strings}
-use Rattle.dict.specs.Lookup.{one_of, id_in, ros_in, cid_count_in}
+use Rattle.dict.specs.Lookup.{one_of, id_in, ros_in, cid_count_in, a_ros}
 use Rattle.dict.proofs.LookupLaws.{id_low}
-use Rattle.dict.specs.declared.RosIn.{RosIn}
-use Rattle.dict.specs.declared.RosIn.TheVariants.{Ros, None}
+use Rattle.dict.specs.declared.RosEntry.{RosEntry}
 use Rattle.dict_write.specs.Written.{op_bytes_lem, operands_bytes, entry_bytes, offset_entry, private_entry}
 use Rattle.strings.specs.Strings.{string_text}
 use Rattle.cff.specs.Font.{Program, charset, char_strings, fd_array, fd_select_lem}
@@ -30,25 +27,25 @@ use Rattle.top_dict.specs.TopLaws.{slot_there, slot-none}
 -- the slots hold the six string ids, and the new ids of those that are there; in a CID-keyed font those of registry and ordering too
 pub record Slotted (p : Program) (cid : Bool) (own : List (List ℕ)) (slots : List ℕ) : Type 0 where
   pub there : (j : ℕ) → j < 6 → get_or slots (2 + j) 0 ≡ slot_of (id_in (get_or copied_top_strings j 0) p.top)
-  pub renamed : (j sid : ℕ) → j < 6 → id_in (get_or copied_top_strings j 0) p.top ≡ Id sid → get_or slots (10 + j) 0 ≡ new_id own (string_text p.strings sid)
-  pub registry : cid ≡ true → (r o : ℕ) (s : Signed) → ros_in p.top ≡ Ros r o s → get_or slots 8 0 ≡ new_id own (string_text p.strings r)
-  pub ordering : cid ≡ true → (r o : ℕ) (s : Signed) → ros_in p.top ≡ Ros r o s → get_or slots 9 0 ≡ new_id own (string_text p.strings o)
+  pub renamed : (j sid : ℕ) → j < 6 → id_in (get_or copied_top_strings j 0) p.top ≡ Some sid → get_or slots (10 + j) 0 ≡ new_id own (string_text p.strings sid)
+  pub registry : cid ≡ true → (r o : ℕ) (s : Signed) → ros_in p.top ≡ a_ros r o s → get_or slots 8 0 ≡ new_id own (string_text p.strings r)
+  pub ordering : cid ≡ true → (r o : ℕ) (s : Signed) → ros_in p.top ≡ a_ros r o s → get_or slots 9 0 ≡ new_id own (string_text p.strings o)
 
 -- ---- the string entries
 
 module _ (p : Program) (own : List (List ℕ)) (slots : List ℕ) where
-  one-named : (op m : ℕ) (rest : List ℕ) (ns : List Named) → rest ≡ named_bytes own ns → (i : IdOf) → id_in op p.top ≡ i → get_or slots m 0 ≡ slot_of i
-      → ((sid : ℕ) → i ≡ Id sid → get_or slots (8 + m) 0 ≡ new_id own (string_text p.strings sid))
+  one-named : (op m : ℕ) (rest : List ℕ) (ns : List Named) → rest ≡ named_bytes own ns → (i : Option ℕ) → id_in op p.top ≡ i → get_or slots m 0 ≡ slot_of i
+      → ((sid : ℕ) → i ≡ Some sid → get_or slots (8 + m) 0 ≡ new_id own (string_text p.strings sid))
       → slot_entry slots m op ++ rest ≡ named_bytes own (named_by p op i ns)
   unfolding named_bytes
-  one-named op m rest ns e Absent i h f = ap (λ (l : List ℕ). l ++ rest) (sym (slot-none slots m op (omega arith))) ∙ e
-  one-named op m rest ns e (Id sid) i h f =
+  one-named op m rest ns e None i h f = ap (λ (l : List ℕ). l ++ rest) (sym (slot-none slots m op (omega arith))) ∙ e
+  one-named op m rest ns e (Some sid) i h f =
       ap (λ (l : List ℕ). l ++ rest) (sym (slot_there slots m op (omega (arith, id_low (one_of op p.top) sid i))))
       ∙ ap (λ (n : ℕ). value_entry op n ++ rest) (f sid refl)
       ∙ ap (λ (l : List ℕ). value_entry op (new_id own (string_text p.strings sid)) ++ l) e
 
   entries-named : (ops : List ℕ) (m : ℕ) → ((j : ℕ) → j < length ops → get_or slots (m + j) 0 ≡ slot_of (id_in (get_or ops j 0) p.top))
-      → ((j sid : ℕ) → j < length ops → id_in (get_or ops j 0) p.top ≡ Id sid → get_or slots (8 + (m + j)) 0 ≡ new_id own (string_text p.strings sid))
+      → ((j sid : ℕ) → j < length ops → id_in (get_or ops j 0) p.top ≡ Some sid → get_or slots (8 + (m + j)) 0 ≡ new_id own (string_text p.strings sid))
       → slot_entries slots m ops ≡ named_bytes own (named_entries p ops)
   unfolding slot_entries named_entries named_bytes
   entries-named [] m f g = refl
@@ -75,14 +72,14 @@ module _ (p : Program) (own : List (List ℕ)) (slots : List ℕ) where
   unfolding entry_bytes operands_bytes
   ros-bytes a b s = simp (append_assoc, append-nil)
 
-  ros-named : (x : RosIn) → ((r o : ℕ) (s : Signed) → x ≡ Ros r o s → get_or slots 8 0 ≡ new_id own (string_text p.strings r))
-      → ((r o : ℕ) (s : Signed) → x ≡ Ros r o s → get_or slots 9 0 ≡ new_id own (string_text p.strings o)) → ros_of slots x ≡ ros_entry p own x
+  ros-named : (x : Option RosEntry) → ((r o : ℕ) (s : Signed) → x ≡ a_ros r o s → get_or slots 8 0 ≡ new_id own (string_text p.strings r))
+      → ((r o : ℕ) (s : Signed) → x ≡ a_ros r o s → get_or slots 9 0 ≡ new_id own (string_text p.strings o)) → ros_of slots x ≡ ros_entry p own x
   unfolding ros_of ids_bytes
   ros-named None f g = refl
-  ros-named (Ros r o s) f g =
-      ros-bytes (get_or slots 8 0) (get_or slots 9 0) s
-      ∙ ap (λ (n : ℕ). entry_bytes ros (whole n ∷ whole (get_or slots 9 0) ∷ normal s.neg s.size 0 0 ∷ [])) (f r o s refl)
-      ∙ ap (λ (n : ℕ). entry_bytes ros (whole (new_id own (string_text p.strings r)) ∷ whole n ∷ normal s.neg s.size 0 0 ∷ [])) (g r o s refl)
+  ros-named (Some q) f g =
+      ros-bytes (get_or slots 8 0) (get_or slots 9 0) q.supplement
+      ∙ ap (λ (n : ℕ). entry_bytes ros (whole n ∷ whole (get_or slots 9 0) ∷ normal q.supplement.neg q.supplement.size 0 0 ∷ [])) (f q.registry q.ordering q.supplement refl)
+      ∙ ap (λ (n : ℕ). entry_bytes ros (whole (new_id own (string_text p.strings q.registry)) ∷ whole n ∷ normal q.supplement.neg q.supplement.size 0 0 ∷ [])) (g q.registry q.ordering q.supplement refl)
 
   -- ---- the top DICT
 

@@ -1,7 +1,7 @@
 -- The top DICT of a subset over what the code holds (document 01, 'Layout'; crates/subset, top_by_name and top_by_cid): the entries of the font's
 -- top DICT, and sixteen slots. Slots 0 to 7 are the font's string ids: registry, ordering and the six string entries, 65536 where there is
 -- none; slots 8 to 15 are their ids in the subset.
-use Rattle.std.specs.Prelude.{ℕ, ◌+◌, ◌≤◌, ◌<◌, Bool, List, [], ◌∷◌, ◌++◌, ltb, eqb, length, get_or}
+use Rattle.std.specs.Prelude.{ℕ, ◌+◌, ◌≤◌, ◌<◌, Bool, List, [], ◌∷◌, ◌++◌, ltb, eqb, length, get_or, None, Option, Some}
 use Rattle.octets.specs.Pick.{pick}
 use Rattle.octets.specs.Octets.{bytes_of}
 use Rattle.decimal.specs.Decimal.{normal, whole}
@@ -9,8 +9,7 @@ use Rattle.decimal.specs.Written.{number_bytes}
 use Rattle.dict.specs.Op.{ros, cid_count, copied_top_entries, copied_top_strings}
 use Rattle.dict.specs.Dict.{Entry}
 use Rattle.dict.specs.Lookup.{ros_in, cid_count_in}
-use Rattle.dict.specs.declared.RosIn.{RosIn}
-use Rattle.dict.specs.declared.RosIn.TheVariants.{Ros, None}
+use Rattle.dict.specs.declared.RosEntry.{RosEntry}
 use Rattle.dict_write.specs.Written.{op_bytes_lem, entry_bytes, offset_entry, private_entry}
 use Rattle.index.specs.Write.{size_for, head_bytes}
 use Rattle.cff.specs.Font.{charset, char_strings, fd_array, fd_select_lem}
@@ -51,9 +50,9 @@ unfoldable pub ids_bytes : List ℕ → List ℕ
 ids_bytes slots = number_bytes (whole (get_or slots 8 0)) ++ number_bytes (whole (get_or slots 9 0))
 
 -- ROS: them and the supplement
-unfoldable pub ros_of : List ℕ → RosIn → List ℕ
+unfoldable pub ros_of : List ℕ → Option RosEntry → List ℕ
 ros_of slots None = []
-ros_of slots (Ros registry ordering s) = ids_bytes slots ++ (number_bytes (normal s.neg s.size 0 0) ++ op_bytes_lem ros)
+ros_of slots (Some q) = ids_bytes slots ++ (number_bytes (normal q.supplement.neg q.supplement.size 0 0) ++ op_bytes_lem ros)
 
 -- what both keyings copy: the string entries and the others
 unfoldable pub carried : List Entry → List ℕ → List ℕ

@@ -1,5 +1,5 @@
 -- Laws of the top DICT's parts, as the code measures and writes them one behind the other.
-use Rattle.std.specs.Prelude.{ℕ, zero, suc, ◌+◌, ◌≤◌, ◌<◌, min, ◌≡◌, refl, Bool, true, false, List, [], ◌∷◌, ◌++◌, eqb, drop, get_or}
+use Rattle.std.specs.Prelude.{ℕ, zero, suc, ◌+◌, ◌≤◌, ◌<◌, min, ◌≡◌, refl, Bool, true, false, List, [], ◌∷◌, ◌++◌, eqb, drop, get_or, None, Option, Some}
 use Rattle.std.proofs.Math.Path.{sym, ap}
 use Rattle.std.proofs.Common.{◌∙◌, subst, eq-eqb, ne_eqb, lt-ltb, le-ltb, lit≤, lit<, drop_of_length-le, drop-cons}
 use Rattle.std.proofs.Math.Nat.{min-le_right}
@@ -10,16 +10,13 @@ use Rattle.octets.specs.Octets.{Wrote}
 use Rattle.octets.specs.PutLaws.{wrote_none, wrote_as}
 use Rattle.decimal.specs.declared.Signed.{Signed}
 use Rattle.decimal.specs.Decimal.{normal, whole}
-use Rattle.decimal.specs.Values.{trunc_of, i32_of}
+use Rattle.decimal.specs.Values.{trunc_of, clamped, i32_of}
 use Rattle.decimal.specs.Written.{number_bytes}
 use Rattle.decimal.specs.TakenLaws.{whole-normal}
 use Rattle.dict.specs.Op.{is_operator, ros, cid_count, copied_top_entries, copied_top_strings}
 use Rattle.dict.specs.Dict.{Entry}
-use Rattle.dict.specs.Lookup.{Operands, absent, operands, last_of, one_of, ros_as, ros_in, count_as, cid_count_in}
-use Rattle.dict.specs.declared.One.{One}
-use Rattle.dict.specs.declared.One.TheVariants.{Number, Absent as NoNumber}
-use Rattle.dict.specs.declared.RosIn.{RosIn}
-use Rattle.dict.specs.declared.RosIn.TheVariants.{Ros, None}
+use Rattle.dict.specs.Lookup.{Operands, absent, operands, last_of, one_of, ros_as, ros_in, count_as, cid_count_in, a_ros}
+use Rattle.dict.specs.declared.RosEntry.{RosEntry}
 use Rattle.dict_write.specs.Written.{op_bytes_lem, copied_entry, offset_entry, private_entry}
 use Rattle.dict_write.specs.WriteLaws.{offset-length, private-length}
 use Rattle.dict_write.specs.ShortLaws.{number_short}
@@ -28,6 +25,7 @@ use Rattle.subset.specs.Subset.{copied_bytes}
 use Rattle.top_dict.specs.Top.{Filled, value_entry, slot_entry, slot_entries, ids_bytes, ros_of, carried, code_offsets, named_offsets, glyph_offsets, cid_offsets, top_named, cid_front, top_cid, encoding_len, top_len}
 use Rattle.top_dict.specs.Writing.{Split, split-append, split-length}
 use Rattle.top_dict.specs.TopParts.{ids-parts}
+use Rattle.decimal.specs.declared.Decimal.{Decimal}
 
 no : ◌≡◌ {A = ℕ} 0 1 → ⊥
 no h = omega arith
@@ -122,17 +120,17 @@ copied-over es k h = ap (copied_bytes es) (drop_of_length-le copied_top_entries 
 
 -- ---- ROS and CIDCount
 
-module _ (slots : List ℕ) (es : List Entry) (r : RosIn) (e : r ≡ ros_in es) where
+module _ (slots : List ℕ) (es : List Entry) (r : Option RosEntry) (e : r ≡ ros_in es) where
   pub ros-none : r ≡ None → [] ≡ ros_of slots (ros_in es)
   unfolding ros_of
   ros-none f = ap (ros_of slots) (sym f ∙ e)
 
-  pub ros_there : (registry ordering : ℕ) (s : Signed) → r ≡ Ros registry ordering s
+  pub ros_there : (registry ordering : ℕ) (s : Signed) → r ≡ a_ros registry ordering s
       → Split (ros_of slots (ros_in es)) (ids_bytes slots) (number_bytes (normal s.neg s.size 0 0) ++ op_bytes_lem ros)
   unfolding ros_of
   ros_there registry ordering s f = record { is = sym (ap (ros_of slots) (sym f ∙ e)) }
 
-  pub ros-length : (registry ordering : ℕ) (s : Signed) → r ≡ Ros registry ordering s → (a b n : ℕ) → a ≡ length (number_bytes (whole (get_or slots 8 0)))
+  pub ros-length : (registry ordering : ℕ) (s : Signed) → r ≡ a_ros registry ordering s → (a b n : ℕ) → a ≡ length (number_bytes (whole (get_or slots 8 0)))
       → b ≡ length (number_bytes (whole (get_or slots 9 0))) → n ≡ length (number_bytes (normal s.neg s.size 0 0)) → a + b + n + 2 ≡ length (ros_of slots (ros_in es))
   unfolding op_bytes_lem
   ros-length registry ordering s f a b n i j k =
@@ -159,26 +157,28 @@ size_small true v s = omega arith
 size_small false v true = min-le_right v 2147483648
 size_small false v false = omega (arith, min-le_right v 2147483647)
 
-supplement_small : (p : Operands) (registry ordering : ℕ) (s : Signed) → ros_as p ≡ Ros registry ordering s → s.size ≤ 2147483648
+supplement_small : (p : Operands) (registry ordering : ℕ) (s : Signed) → ros_as p ≡ a_ros registry ordering s → s.size ≤ 2147483648
 supplement_small absent r o s h = absurd (no cc)
 supplement_small (operands []) r o s h = absurd (no cc)
 supplement_small (operands (x ∷ [])) r o s h = absurd (no cc)
 supplement_small (operands (x ∷ y ∷ [])) r o s h = absurd (no cc)
 supplement_small (operands (x ∷ y ∷ z ∷ [])) r o s h =
-    let e : i32_of z ≡ s = cc in
+    let p : ◌≡◌ {A = RosEntry} (record { registry = clamped 65535 x; ordering = clamped 65535 y; supplement = i32_of z }) (record { registry = r; ordering = o; supplement = s })
+    = cc in
+    let e : i32_of z ≡ s = ap (λ (q : RosEntry). q.supplement) p in
     subst (λ (q : Signed). q.size ≤ 2147483648) e (size_small (eqb (trunc_of z) 0) (trunc_of z) z.neg)
 supplement_small (operands (x ∷ y ∷ z ∷ w ∷ ws)) r o s h = absurd (no cc)
 
-pub ros-small : (es : List Entry) (r : RosIn) → r ≡ ros_in es → (registry ordering : ℕ) (s : Signed) → r ≡ Ros registry ordering s → s.size < 1000000000000000
+pub ros-small : (es : List Entry) (r : Option RosEntry) → r ≡ ros_in es → (registry ordering : ℕ) (s : Signed) → r ≡ a_ros registry ordering s → s.size < 1000000000000000
 ros-small es r e registry ordering s f = omega (arith, supplement_small (last_of ros es) registry ordering s (sym e ∙ f))
 
 clamped-small : (s : Bool) (v : ℕ) → pick s 0 (min v 4294967295) ≤ 4294967295
 clamped-small true v = omega arith
 clamped-small false v = min-le_right v 4294967295
 
-one-small : (o : One) → count_as o ≤ 4294967295
-one-small NoNumber = lit≤ tt
-one-small (Number d) = clamped-small d.neg (trunc_of d)
+one-small : (o : Option Decimal) → count_as o ≤ 4294967295
+one-small None = lit≤ tt
+one-small (Some d) = clamped-small d.neg (trunc_of d)
 
 pub count_small : (es : List Entry) → cid_count_in es < 1000000000000000
 count_small es = omega (arith, one-small (one_of cid_count es))

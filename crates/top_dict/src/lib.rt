@@ -17,7 +17,7 @@ ghost use Rattle.top_dict.specs.Top.{Filled, Offsets, value_entry, slot_entry, s
 use decimal::whole;
 use decimal_write::{number_len, put_number};
 use dict::op::{Op, copied_top_entry, copied_top_string};
-use dict::{Places, RosIn, cid_count, read_top, ros};
+use dict::{Places, cid_count, read_top, ros};
 use dict_write::{copied_len, op_len, put_copied, put_offset_entry, put_op, put_private_entry};
 
 // How many bytes an integer takes.
@@ -81,10 +81,8 @@ fn strings_len(slots: &[usize]) -> usize
     ensures { (result ≡ length (string_entries slots.now)) × (result ≤ 618) }
 {
     let mut len: usize = 0;
-    let mut k: usize = 0;
-    while k < 6 {
+    for k in 0..6 {
         len += slot_len(slots, 2 + k, copied_top_string(k));
-        k += 1;
     }
     len
 }
@@ -95,10 +93,8 @@ fn put_strings(slots: &[usize], out: &mut [u8], at: usize) -> usize
     ensures { Wrote out.old at (string_entries slots.now) out.new result }
 {
     let mut p = at;
-    let mut k: usize = 0;
-    while k < 6 {
+    for k in 0..6 {
         p = put_slot(slots, 2 + k, copied_top_string(k), &mut *out, p);
-        k += 1;
     }
     p
 }
@@ -109,10 +105,8 @@ fn entries_len(d: &[u8], places: Places) -> usize
     ensures { (result ≡ length (copied_bytes (entries_of d.now) copied_top_entries)) × (result ≤ 60000000000) }
 {
     let mut len: usize = 0;
-    let mut k: usize = 0;
-    while k < 6 {
+    for k in 0..6 {
         len += copied_len(d, places, copied_top_entry(k));
-        k += 1;
     }
     len
 }
@@ -123,10 +117,8 @@ fn put_entries(d: &[u8], places: Places, out: &mut [u8], at: usize) -> usize
     ensures { Wrote out.old at (copied_bytes (entries_of d.now) copied_top_entries) out.new result }
 {
     let mut p = at;
-    let mut k: usize = 0;
-    while k < 6 {
+    for k in 0..6 {
         p = put_copied(d, places, copied_top_entry(k), &mut *out, p);
-        k += 1;
     }
     p
 }
@@ -155,14 +147,10 @@ fn ros_len(d: &[u8], places: Places, slots: &[usize]) -> usize
 {
     let found = ros(d, places);
     match found {
-        RosIn::None => 0,
-        RosIn::Ros {
-            registry: _,
-            ordering: _,
-            supplement,
-        } => {
-            let neg = supplement.neg;
-            let size = supplement.size;
+        None => 0,
+        Some(entry) => {
+            let neg = entry.supplement.neg;
+            let size = entry.supplement.size;
             whole_len(false, slots[8]) + whole_len(false, slots[9]) + whole_len(neg, size) + 2
         }
     }
@@ -184,14 +172,10 @@ fn put_ros(d: &[u8], places: Places, slots: &[usize], out: &mut [u8], at: usize)
 {
     let found = ros(d, places);
     match found {
-        RosIn::None => at,
-        RosIn::Ros {
-            registry: _,
-            ordering: _,
-            supplement,
-        } => {
-            let neg = supplement.neg;
-            let size = supplement.size;
+        None => at,
+        Some(entry) => {
+            let neg = entry.supplement.neg;
+            let size = entry.supplement.size;
             let p = put_ids(slots, out, at);
             let q = put_whole(neg, size, out, p);
             put_op(Op::ROS, out, q)

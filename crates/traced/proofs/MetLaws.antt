@@ -1,6 +1,5 @@
 -- What glyphs meet together (document 02, Wish 1): each row of theirs, and no other; or one of them is not plain. And which glyphs are kept.
-use Rattle.std.proofs.Math.Option.{Option, none, some}
-use Rattle.std.specs.Prelude.{ℕ, zero, suc, ◌+◌, ◌<◌, ◌≡◌, Bool, true, false, ◌⊎◌, eqb, length}
+use Rattle.std.specs.Prelude.{ℕ, zero, suc, ◌+◌, ◌<◌, ◌≡◌, Bool, true, false, ◌⊎◌, eqb, length, None, Option, Some}
 use Rattle.std.proofs.Math.Path.{refl}
 use Rattle.std.proofs.Common.{sym, ap, ◌∙◌, subst, inl, inr, arith, eqb-true, lt-ltb}
 use mathlib.Core.List.{List, [], ◌∷◌, ◌++◌}
@@ -42,20 +41,20 @@ module _ (p : Program) where
     pub met : List Row
     pub rest : List Row
     pub first : unfolded p g ≡ plain tokens met
-    pub others : met_all p gs ≡ some rest
+    pub others : met_all p gs ≡ Some rest
     pub all : met ++ rest ≡ rows
 
-  pub split : (g : ℕ) (gs : List ℕ) (rows : List Row) → met_all p (g ∷ gs) ≡ some rows → Split g gs rows
+  pub split : (g : ℕ) (gs : List ℕ) (rows : List Row) → met_all p (g ∷ gs) ≡ Some rows → Split g gs rows
   unfolding met_all
   split g gs rows e = by (unfolded p g) refl (met_all p gs) refl e
     where
-      by : (u : Glyph) → unfolded p g ≡ u → (m : Option (List Row)) → met_all p gs ≡ m → and (met_by u) (λ met. and m (λ rest. some (met ++ rest))) ≡ some rows → Split g gs rows
+      by : (u : Glyph) → unfolded p g ≡ u → (m : Option (List Row)) → met_all p gs ≡ m → and (met_by u) (λ met. and m (λ rest. Some (met ++ rest))) ≡ Some rows → Split g gs rows
       by not_plain_lem a m b h = absurd (zero_one cc)
-      by (plain ts met) a none b h = absurd (zero_one cc)
-      by (plain ts met) a (some rest) b h = record { tokens = ts; met = met; rest = rest; first = a; others = b; all = cc }
+      by (plain ts met) a None b h = absurd (zero_one cc)
+      by (plain ts met) a (Some rest) b h = record { tokens = ts; met = met; rest = rest; first = a; others = b; all = cc }
 
   -- each glyph's rows are there
-  pub met-within : (gs : List ℕ) (rows : List Row) → met_all p gs ≡ some rows → (g : ℕ) → is_in g gs ≡ true → Within p g rows
+  pub met-within : (gs : List ℕ) (rows : List Row) → met_all p gs ≡ Some rows → (g : ℕ) → is_in g gs ≡ true → Within p g rows
   met-within [] rows e g h = absurd (in_none g h)
   met-within (x ∷ gs) rows e g h =
       let s = split x gs rows e in
@@ -76,7 +75,7 @@ module _ (p : Program) where
       (in_cases x g gs h)
 
   -- and no other
-  pub met-from : (gs : List ℕ) (rows : List Row) → met_all p gs ≡ some rows → (r : Row) → Has Row r rows → (g : ℕ) × (is_in g gs ≡ true) × Meets p g r
+  pub met-from : (gs : List ℕ) (rows : List Row) → met_all p gs ≡ Some rows → (r : Row) → Has Row r rows → (g : ℕ) × (is_in g gs ≡ true) × Meets p g r
   unfolding met_all
   met-from [] rows e r h = let z : [] ≡ rows = cc in absurd (has-none Row r (subst (Has Row r) (sym z) h))
   met-from (x ∷ gs) rows e r h =
@@ -87,16 +86,16 @@ module _ (p : Program) where
       (has_either Row r s.met s.rest (subst (Has Row r) (sym s.all) h))
 
   -- where it fails one is not plain
-  pub met-fails : (gs : List ℕ) → met_all p gs ≡ none → (g : ℕ) × (is_in g gs ≡ true) × (unfolded p g ≡ not_plain_lem)
+  pub met-fails : (gs : List ℕ) → met_all p gs ≡ None → (g : ℕ) × (is_in g gs ≡ true) × (unfolded p g ≡ not_plain_lem)
   unfolding met_all
   met-fails [] e = absurd (zero_one cc)
   met-fails (x ∷ gs) e = by (unfolded p x) refl (met_all p gs) refl e (met-fails gs)
     where
-      by : (u : Glyph) → unfolded p x ≡ u → (m : Option (List Row)) → met_all p gs ≡ m → and (met_by u) (λ met. and m (λ rest. some (met ++ rest))) ≡ none
-          → (met_all p gs ≡ none → (g : ℕ) × (is_in g gs ≡ true) × (unfolded p g ≡ not_plain_lem)) → (g : ℕ) × (is_in g (x ∷ gs) ≡ true) × (unfolded p g ≡ not_plain_lem)
+      by : (u : Glyph) → unfolded p x ≡ u → (m : Option (List Row)) → met_all p gs ≡ m → and (met_by u) (λ met. and m (λ rest. Some (met ++ rest))) ≡ None
+          → (met_all p gs ≡ None → (g : ℕ) × (is_in g gs ≡ true) × (unfolded p g ≡ not_plain_lem)) → (g : ℕ) × (is_in g (x ∷ gs) ≡ true) × (unfolded p g ≡ not_plain_lem)
       by not_plain_lem a m b h f = (x, in_head x x gs refl, a)
-      by (plain ts met) a none b h f = let q = f b in (q.0, in_more x q.0 gs q.1, q.2)
-      by (plain ts met) a (some rest) b h f = absurd (zero_one cc)
+      by (plain ts met) a None b h f = let q = f b in (q.0, in_more x q.0 gs q.1, q.2)
+      by (plain ts met) a (Some rest) b h f = absurd (zero_one cc)
 
 -- ---- the kept glyphs
 

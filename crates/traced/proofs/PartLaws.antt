@@ -1,7 +1,6 @@
 -- The three parts make up the record (document 02, Wish 1): a glyph meets masks of kind 2 in itself alone, so that these can be sorted glyph by glyph.
-use Rattle.std.proofs.Math.Option.{some}
 use Prim.Native.Nat.{ℕ, zero, suc, ◌+◌, ◌≤◌, ◌<◌}
-use Rattle.std.specs.Prelude.{◌≡◌, refl, Bool, ◌⊎◌, ltb, eqb, length, get_or}
+use Rattle.std.specs.Prelude.{◌≡◌, refl, Bool, ◌⊎◌, ltb, eqb, length, get_or, Some}
 use Rattle.std.proofs.Common.{sym, ◌∙◌, subst, inl, inr, ⊎_elim, arith, lt-ltb, le-ltb, ltb-true, ltb-false, eqb-true}
 use Rattle.std.proofs.Math.Path.{ap}
 use Rattle.std.proofs.Math.Bool.{true, false}
@@ -112,22 +111,22 @@ step g top met rest h own later =
 module _ (p : Program) (test : ℕ → Bool) (total : ℕ) (few : total ≤ 65536)
     (own : (g : ℕ) → g < total → (ts : List Tok) (met : List Row) → unfolded p g ≡ plain ts met → (r : Row) → Has Row r met → MaskIn g (g + 1) r) where
   -- rows of later glyphs
-  later : (n g : ℕ) → g + n ≤ total → (rows : List Row) → met_all p (those test n g) ≡ some rows → (r : Row) → Has Row r rows → MaskIn g (g + n) r
+  later : (n g : ℕ) → g + n ≤ total → (rows : List Row) → met_all p (those test n g) ≡ Some rows → (r : Row) → Has Row r rows → MaskIn g (g + n) r
   later n g h rows e r i =
       let m = met-from p (those test n g) rows e r i in
       let t = those_in test n g m.0 m.1 in
       mask_wider m.0 (m.0 + 1) g (g + n) r (own m.0 (omega (arith, t.1)) m.2.tokens m.2.met m.2.plainly r m.2.has) t.0 (omega (arith, t.1))
 
-  masks_sorted : (n g : ℕ) → g + n ≤ total → (rows : List Row) → met_all p (those test n g) ≡ some rows
+  masks_sorted : (n g : ℕ) → g + n ≤ total → (rows : List Row) → met_all p (those test n g) ≡ Some rows
       → keys_in (mask_from g) subrs_from rows ≡ masks_of p (those test n g)
   unfolding those met_all masks_of gathered within
   masks_sorted zero g h rows e = let z : rows ≡ [] = cc in ap (λ (l : List Row). keys_in (mask_from g) subrs_from l) z
   masks_sorted (suc n) g h rows e =
       by (test g) e (λ rest o. masks_sorted n (g + 1) (omega arith) rest o) (λ rest o. later n (g + 1) (omega arith) rest o)
     where
-      by : (t : Bool) → met_all p (pick t (g ∷ those test n (g + 1)) (those test n (g + 1))) ≡ some rows
-          → ((rest : List Row) → met_all p (those test n (g + 1)) ≡ some rest → keys_in (mask_from (g + 1)) subrs_from rest ≡ masks_of p (those test n (g + 1)))
-          → ((rest : List Row) → met_all p (those test n (g + 1)) ≡ some rest → (r : Row) → Has Row r rest → MaskIn (g + 1) (g + 1 + n) r)
+      by : (t : Bool) → met_all p (pick t (g ∷ those test n (g + 1)) (those test n (g + 1))) ≡ Some rows
+          → ((rest : List Row) → met_all p (those test n (g + 1)) ≡ Some rest → keys_in (mask_from (g + 1)) subrs_from rest ≡ masks_of p (those test n (g + 1)))
+          → ((rest : List Row) → met_all p (those test n (g + 1)) ≡ Some rest → (r : Row) → Has Row r rest → MaskIn (g + 1) (g + 1 + n) r)
           → keys_in (mask_from g) subrs_from rows ≡ masks_of p (pick t (g ∷ those test n (g + 1)) (those test n (g + 1)))
       by true i next beyond =
           let s = split p g (those test n (g + 1)) rows i in
@@ -180,7 +179,7 @@ module _ (font keep : List ℕ) (octets : Octets font) (p : Program) (is : read_
       }
 
   -- THE LAW of the parts: what the kept glyphs enter; the masks in each of them, glyph by glyph; the masks in subroutines
-  pub kept-parts : (rows : List Row) → kept_rows p keep ≡ some rows
+  pub kept-parts : (rows : List Row) → kept_rows p keep ≡ Some rows
       → record_of rows
       ≡ keys_bytes (keys_in 0 (mask_from 0) rows) ++ (keys_bytes (masks_of p (kept_of (length p.charstrings) keep)) ++ keys_bytes (keys_in subrs_from keys_end rows))
   kept-parts rows e =

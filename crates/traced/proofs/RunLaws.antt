@@ -1,9 +1,8 @@
 -- The rows that a glyph meets (document 01, 'Plain glyphs' and 'Reach record') fit their bytes and are of the right form: refusal 8 does not meet them.
 use Prim.Native.Nat.{ℕ, zero, suc, ◌+◌, ◌≤◌, ◌<◌}
-use Rattle.std.specs.Prelude.{◌≡◌, refl, Bool, true, false, ltb, ℤ, length, get_or}
+use Rattle.std.specs.Prelude.{◌≡◌, refl, Bool, true, false, ltb, ℤ, length, get_or, None, Option, Some}
 use Rattle.std.proofs.Math.Path.{subst}
 use mathlib.Core.List.{List, [], ◌∷◌}
-use Rattle.std.proofs.Math.Option.{Option, none, some}
 use Rattle.std.proofs.Common.{arith, eq-eqb, ltb-true, ltb-false}
 use Rattle.octets.specs.Pick.{pick}
 use Rattle.octets.specs.Steps.{and}
@@ -74,17 +73,17 @@ mask-short : (st : State) → ltb 96 (stems_now st) ≡ false → mask_now st < 
 mask-short st h = omega (arith, ltb-false 96 (stems_now st) h)
 
 -- the subroutine that a call names is one of them
-tested : (u : Bool) (count n i : ℕ) → pick u (some n) none ≡ some i → (u ≡ true → n < count) → i < count
+tested : (u : Bool) (count n i : ℕ) → pick u (Some n) None ≡ Some i → (u ≡ true → n < count) → i < count
 tested true count n i e f = let s : n ≡ i = cc in subst (λ (k : ℕ). k < count) s (f refl)
 tested false count n i e f = absurd (zero_one cc)
 
-pub target_below : (count : ℕ) (l : Option ℤ) (i : ℕ) → target_of count l ≡ some i → i < count
+pub target_below : (count : ℕ) (l : Option ℤ) (i : ℕ) → target_of count l ≡ Some i → i < count
 unfolding target_of
 target_below count l i e = go (and l (numbered (bias_of count))) e
   where
-    go : (o : Option ℕ) → and o (λ (k : ℕ). pick (ltb k count) (some k) none) ≡ some i → i < count
-    go none h = absurd (zero_one cc)
-    go (some k) h = tested (ltb k count) count k i h (λ t. ltb-true k count t)
+    go : (o : Option ℕ) → and o (λ (k : ℕ). pick (ltb k count) (Some k) None) ≡ Some i → i < count
+    go None h = absurd (zero_one cc)
+    go (Some k) h = tested (ltb k count) count k i h (λ t. ltb-true k count t)
 
 -- ---- a run
 
@@ -114,14 +113,14 @@ module _ (cid : Bool) (globals locals : List (List ℕ)) (fd : ℕ) (fd_fits : F
 
     module _ (k : ℕ) (next : Walks k) (at : ℕ) (l : Option ℤ) (st : State) (r : Run) (own : All P st.met) (inside : at < length s) where
       good_call : (which : Site) (body : List ℕ) → SiteFits cid which → length body ≤ 67108864 → P (entered which)
-          → after (enter which body (calling which st)) (walk globals locals fd enter k site s (at + 1) none) ≡ r → Good r
+          → after (enter which body (calling which st)) (walk globals locals fd enter k site s (at + 1) None) ≡ r → Good r
       good_call which body f h p e =
-          good-after (enter which body (calling which st)) (walk globals locals fd enter k site s (at + 1) none) r e
+          good-after (enter which body (calling which st)) (walk globals locals fd enter k site s (at + 1) None) r e
           (enters which body (calling which st) f h (all_more P st.met (entered which) own p) _ refl)
-          (λ x a g. next (at + 1) none x r a g)
+          (λ x a g. next (at + 1) None x r a g)
 
       good-step : Step globals locals fd enter k site s at l st r → Good r
-      good-step (reads z n f a b e) = next n (some z) _ r own e
+      good-step (reads z n f a b e) = next n (Some z) _ r own e
       good-step (calls_local i o f e) =
           let h : i < 65536 = omega (arith, target_below (length locals) l i f, few_locals) in
           good_call (local fd i) (get_or locals i []) (fd_fits, h) (shortLocals i) (enters_local cid fd i fd_fits h) e
@@ -130,11 +129,11 @@ module _ (cid : Bool) (globals locals : List (List ℕ)) (fd : ℕ) (fd_fits : F
           good_call (global i) (get_or globals i []) h (shortGlobals i) (enters_global cid i h) e
       good-step (returns o f e) = subst Good e own
       good-step (ends o f a e) = subst Good e own
-      good-step (escapes x o f a b c d e) = next (at + 2) none _ r own e
+      good-step (escapes x o f a b c d e) = next (at + 2) None _ r own e
       good-step (masks b o c m a d f e) =
           let row = masked site at (mask_now st) in
-          next (at + 1 + mask_now st) none _ r (all_more P st.met row own (masks_in cid site at (mask_now st) fits (omega (arith, inside, short)) (mask-short st a))) e
-      good-step (clears b n o c m a d e) = next (at + 1) none _ r own e
+          next (at + 1 + mask_now st) None _ r (all_more P st.met row own (masks_in cid site at (mask_now st) fits (omega (arith, inside, short)) (mask-short st a))) e
+      good-step (clears b n o c m a d e) = next (at + 1) None _ r own e
 
     good-walk : (k : ℕ) → Walks k
     unfolding walk
@@ -150,9 +149,9 @@ module _ (cid : Bool) (globals locals : List (List ℕ)) (fd : ℕ) (fd_fits : F
   good-body : (d : ℕ) → Enters (run_body globals locals fd d)
   unfolding run_body
   good-body zero site s st f h own r e =
-      good-walk (λ t b x. broken) (λ t b x g i a q u. subst Good u tt) site s f h (length s) 0 none st r own e
+      good-walk (λ t b x. broken) (λ t b x g i a q u. subst Good u tt) site s f h (length s) 0 None st r own e
   good-body (suc d) site s st f h own r e =
-      good-walk (run_body globals locals fd d) (good-body d) site s f h (length s) 0 none st r own e
+      good-walk (run_body globals locals fd d) (good-body d) site s f h (length s) 0 None st r own e
 
   good_glyph : (r : Run) (ts : List Tok) (rows : List Row) → glyph_of r ≡ plain ts rows → Good r → All P rows
   good_glyph broken ts rows e g = absurd (zero_one cc)

@@ -1,8 +1,7 @@
 -- What tracing promises (document 02, Wish 1), whatever the font and the keep list are: with flag 1 the record lists exactly what the kept glyphs
 -- meet, in rising byte order without repeats; flag 0 stands exactly where a kept glyph is not plain; no subset call refuses a traced record; and a
 -- subset cut by it holds every plain kept glyph (document 01's demand 3, with no word of a record).
-use Rattle.std.proofs.Math.Option.{Option, none, some}
-use Rattle.std.specs.Prelude.{ℕ, ◌%◌, ◌<◌, ◌≡◌, refl, Bool, true, false, ◌⊎◌, ltb, length, get_or}
+use Rattle.std.specs.Prelude.{ℕ, ◌%◌, ◌<◌, ◌≡◌, refl, Bool, true, false, ◌⊎◌, ltb, length, get_or, None, Option, Some}
 use Rattle.std.proofs.Common.{sym, ap, ◌∙◌, inl, inr, arith, eq-eqb}
 use Rattle.std.proofs.Math.Path.{subst}
 use mathlib.Core.List.{List, [], ◌∷◌, map}
@@ -40,14 +39,14 @@ use Rattle.traced.specs.Theorem.{kept_rows}
 
 -- flag 0 with nothing, where one is not plain
 record Without (m : Option (List Row)) (flag : ℕ) (rec : List ℕ) : Type 0 where
-  fails : m ≡ none
+  fails : m ≡ None
   zero_flag : flag ≡ 0
   empty : rec ≡ []
 
 -- flag 1 and the record of the rows met
 record Recording (m : Option (List Row)) (flag : ℕ) (rec : List ℕ) : Type 0 where
   rows : List Row
-  met : m ≡ some rows
+  met : m ≡ Some rows
   one-flag : flag ≡ 1
   is : rec ≡ record_of rows
 
@@ -57,7 +56,7 @@ Answered m flag rec = Without m flag rec ⊎ Recording m flag rec
 was_answered : (p : Program) (keep : List ℕ) (room flag : ℕ) (rec : List ℕ) → trace_program p keep room ≡ traced flag rec → Answered (kept_rows p keep) flag rec
 was_answered p keep room flag rec e = by-below (all_below (length p.charstrings) keep) e
   where
-    by-room : (rows : List Row) → kept_rows p keep ≡ some rows → (t : Bool) → pick t (refused 11) (traced 1 (record_of rows)) ≡ traced flag rec
+    by-room : (rows : List Row) → kept_rows p keep ≡ Some rows → (t : Bool) → pick t (refused 11) (traced 1 (record_of rows)) ≡ traced flag rec
         → Answered (kept_rows p keep) flag rec
     by-room rows a true g = absurd (zero_one cc)
     by-room rows a false g =
@@ -66,11 +65,11 @@ was_answered p keep room flag rec e = by-below (all_below (length p.charstrings)
         inr (record { rows = rows; met = a; one-flag = sym n; is = sym l })
 
     by_rows : (m : Option (List Row)) → kept_rows p keep ≡ m → answered room m ≡ traced flag rec → Answered (kept_rows p keep) flag rec
-    by_rows none a h =
+    by_rows None a h =
         let n : 0 ≡ flag = cc in
         let l : [] ≡ rec = cc in
         inl (record { fails = a; zero_flag = sym n; empty = sym l })
-    by_rows (some rows) a h = by-room rows a (ltb room (length (record_of rows))) h
+    by_rows (Some rows) a h = by-room rows a (ltb room (length (record_of rows))) h
 
     by-found : (t : Bool) → pick t (answered room (kept_rows p keep)) (refused 7) ≡ traced flag rec → Answered (kept_rows p keep) flag rec
     by-found true h = by_rows (kept_rows p keep) refl h
@@ -115,13 +114,13 @@ module _ (font keep : List ℕ) (room : ℕ) (octets : Octets font) (p : Program
   told flag rec e = was_answered p keep room flag rec (ap (λ (g : Got Program). trace_read g keep room) (sym is) ∙ e)
 
   -- the rows that the kept glyphs meet are proper
-  kept_proper : (rows : List Row) → kept_rows p keep ≡ some rows → (r : Row) → Has Row r rows → Proper (cid_keyed p.top) r
+  kept_proper : (rows : List Row) → kept_rows p keep ≡ Some rows → (r : Row) → Has Row r rows → Proper (cid_keyed p.top) r
   kept_proper rows e r h =
       let m = met-from p (kept_of (length p.charstrings) keep) rows e r h in
       let k = in_kept p keep m.0 m.1 in
       all-at (Proper (cid_keyed p.top)) r m.2.met (glyph_proper font octets p is m.0 k.there m.2.tokens m.2.met m.2.plainly) m.2.has
 
-  pub kept-fits : (rows : List Row) → kept_rows p keep ≡ some rows → All RowFits rows
+  pub kept-fits : (rows : List Row) → kept_rows p keep ≡ Some rows → All RowFits rows
   kept-fits rows e = all_from RowFits rows (λ r h. (kept_proper rows e r h).fits)
 
   -- flag 1: the rows

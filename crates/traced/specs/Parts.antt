@@ -1,7 +1,6 @@
 -- A record in its three parts, as it is written (document 02, Wish 1): subroutines entered, kinds 0 and 1; the masks in glyphs, kind 2, glyph by
 -- glyph; the masks in subroutines, kinds 3 and 4.
-use Rattle.std.specs.Prelude.{ℕ, ◌+◌, List, [], ◌∷◌, ◌++◌, map}
-use Rattle.std.proofs.Math.Option.{Option, none, some}
+use Rattle.std.specs.Prelude.{ℕ, ◌+◌, List, [], ◌∷◌, ◌++◌, map, None, Option, Some}
 use Rattle.unfold.specs.Unfold.{Row}
 use Rattle.cff.specs.Font.{Program}
 use Rattle.row_window.specs.Window.{gathered, within}
@@ -29,8 +28,8 @@ keys_in low high rows = gathered [] (within low high (map key_for rows))
 
 -- the masks in a plain glyph itself
 abbrev pub masks_in : ℕ → Option (List Row) → List ℕ
-masks_in g none = []
-masks_in g (some met) = keys_in (mask_from g) (mask_from (g + 1)) met
+masks_in g None = []
+masks_in g (Some met) = keys_in (mask_from g) (mask_from (g + 1)) met
 
 -- those of glyphs, one after the other
 unfoldable pub masks_of : Program → List ℕ → List ℕ

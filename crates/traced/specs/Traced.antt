@@ -1,7 +1,6 @@
 -- Tracing (document 02, Wish 1): from a font and a keep list to the reach record of document 01, 'Reach record': the subroutines that the kept
 -- glyphs enter and the masks that they meet, ten bytes each, in rising byte order without repeats; and what the entry `trace` answers and leaves.
-use Rattle.std.specs.Prelude.{ℕ, ◌≡◌, List, [], ◌∷◌, ◌++◌, map, ltb, length}
-use Rattle.std.proofs.Math.Option.{Option, none, some}
+use Rattle.std.specs.Prelude.{ℕ, ◌≡◌, List, [], ◌∷◌, ◌++◌, map, ltb, length, None, Option, Some}
 use Rattle.octets.specs.Pick.{pick}
 use Rattle.octets.specs.Octets.{be, bytes_of, put}
 use Rattle.octets.specs.Lists.{all_below}
@@ -19,13 +18,13 @@ use Rattle.traced.specs.declared.TracedAs.TheVariants.{Refused, Record}
 
 -- the rows that a plain glyph meets
 abbrev pub met_by : Glyph → Option (List Row)
-met_by not_plain_lem = none
-met_by (plain ts met) = some met
+met_by not_plain_lem = None
+met_by (plain ts met) = Some met
 
 -- the rows that glyphs meet, where all are plain
 unfoldable pub met_all : Program → List ℕ → Option (List Row)
-met_all p [] = some []
-met_all p (g ∷ gs) = and (met_by (unfolded p g)) (λ met. and (met_all p gs) (λ rows. some (met ++ rows)))
+met_all p [] = Some []
+met_all p (g ∷ gs) = and (met_by (unfolded p g)) (λ met. and (met_all p gs) (λ rows. Some (met ++ rows)))
 
 -- ---- the record
 
@@ -55,8 +54,8 @@ pub data Traced : Type 0 where
 
 -- flag 0 with an empty record where a kept glyph is not plain; else flag 1, and 11 where the record is too long for the room
 abbrev pub answered : ℕ → Option (List Row) → Traced
-answered room none = traced 0 []
-answered room (some rows) = pick (ltb room (length (record_of rows))) (refused 11) (traced 1 (record_of rows))
+answered room None = traced 0 []
+answered room (Some rows) = pick (ltb room (length (record_of rows))) (refused 11) (traced 1 (record_of rows))
 
 -- a font that was read: 6 a number past the font, 7 a glyph that finding would not give
 abbrev pub trace_program : Program → List ℕ → ℕ → Traced

@@ -1,8 +1,7 @@
 -- Laws of the answer: the record by its keys, refusals 11, 6 and 7, and what the entry promises.
-use Rattle.std.specs.Prelude.{ℕ, ◌-◌, ◌*◌, ◌/◌, ◌≤◌, ◌<◌, ◌≡◌, refl, Bool, true, false, not, List, [], length, take}
+use Rattle.std.specs.Prelude.{ℕ, ◌-◌, ◌*◌, ◌/◌, ◌≤◌, ◌<◌, ◌≡◌, refl, Bool, true, false, not, List, [], length, take, None, Option, Some}
 use Rattle.std.proofs.Common.{sym, ◌∙◌, subst, arith, lt-ltb, le-ltb, length-take-le}
 use Rattle.std.proofs.Math.Path.{ap}
-use Rattle.std.proofs.Math.Option.{Option, none, some}
 use Rattle.octets.specs.Pick.{pick}
 use Rattle.octets.specs.Octets.{Octets, Wrote}
 use Rattle.octets.specs.PutLaws.{put_nil, wrote_as}
@@ -25,8 +24,6 @@ use Rattle.row_window.specs.Window.{gathered, within, Gathers}
 use Rattle.row_window.specs.Key.{keys_bytes}
 use Rattle.row_window.specs.KeyLaws.{keys_length}
 use Rattle.row_window.specs.NextLaws.{within_all, window-whole}
-use Rattle.interpret.specs.declared.Met.{Met}
-use Rattle.interpret.specs.declared.Met.TheVariants.{NotPlain, Plain}
 use Rattle.traced.specs.Traced.{met_all, record_of, Traced, refused, traced, answered, trace_read, trace_of, traced_as, leaves_record, Traces}
 use Rattle.traced.specs.RowLaws.{RowFits}
 use Rattle.traced.proofs.RowLaws.{record-keys}
@@ -91,24 +88,24 @@ windows_all ks keys n s h = (omega (arith, s.size, s.fits), sym (shows-last ks [
 
 -- ---- the marked glyphs
 
-module _ (b : List ℕ) (f : Font) (marks : List ℕ) (fit : RowsFit (met_in b f marks)) (keys keys' : List ℕ) (a : Met)
+module _ (b : List ℕ) (f : Font) (marks : List ℕ) (fit : RowsFit (met_in b f marks)) (keys keys' : List ℕ) (a : Option ℕ)
     (w : Fills (met_in b f marks) (record { low = 0; high = top }) keys keys' a) where
   -- one is not plain
-  pub marked_broken : a ≡ NotPlain → (out : List ℕ) → Answers (answered (length out) (met_in b f marks)) out out (Record 0 0)
+  pub marked_broken : a ≡ None → (out : List ℕ) → Answers (answered (length out) (met_in b f marks)) out out (Record 0 0)
   marked_broken e out = by (met_in b f marks) w.says
     where
       by : (m : Option (List Row)) → Filling m (record { low = 0; high = top }) keys keys' a → Answers (answered (length out) m) out out (Record 0 0)
-      by none x = record { answers = refl; output = sym (put_nil out 0) }
-      by (some rows) x = let k : NotPlain ≡ Plain x.0 = sym e ∙ x.1 in absurd (zero_one cc)
+      by None x = record { answers = refl; output = sym (put_nil out 0) }
+      by (Some rows) x = let k : None ≡ Some x.0 = sym e ∙ x.1 in absurd (zero_one cc)
 
   -- all are
-  module _ (n : ℕ) (e : a ≡ Plain n) where
+  module _ (n : ℕ) (e : a ≡ Some n) where
     pub marked_plainly : Plainly b f marks
     marked_plainly = record { plain = by (met_in b f marks) w.says; fits = fit }
       where
-        by : (m : Option (List Row)) → Filling m (record { low = 0; high = top }) keys keys' a → m ≡ some (or_none m)
-        by none x = let k : Plain n ≡ NotPlain = sym e ∙ x in absurd (zero_one cc)
-        by (some rows) x = refl
+        by : (m : Option (List Row)) → Filling m (record { low = 0; high = top }) keys keys' a → m ≡ Some (or_none m)
+        by None x = let k : Some n ≡ None = sym e ∙ x in absurd (zero_one cc)
+        by (Some rows) x = refl
 
     pub marked-shown : length keys ≡ 65536 → Shown (keys_in b f marks) keys' n
     marked-shown l =
@@ -198,8 +195,8 @@ module _ (file : List ℕ) (f : Font) (b : List ℕ) (octets : Octets file) (hel
   kept-rows = record { fits = by (met_kept b f keep) refl }
     where
       by : (x : Option (List Row)) → met_kept b f keep ≡ x → All RowFits (or_none x)
-      by none e = no_row
-      by (some rows) e = kept-fits file keep 0 octets p held.is rows (ap (λ (n : ℕ). met_all p (kept_of n keep)) many ∙ e)
+      by None e = no_row
+      by (Some rows) e = kept-fits file keep 0 octets p held.is rows (ap (λ (n : ℕ). met_all p (kept_of n keep)) many ∙ e)
 
 -- ---- the kept glyphs
 

@@ -1,7 +1,6 @@
 -- What the functions of the tracer ask and leave (document 02, Wish 1): the rows that the marked glyphs meet, as keys, by windows of the least of
 -- them one behind the other; and the answer.
-use Rattle.std.specs.Prelude.{ℕ, ◌≤◌, ◌≡◌, List, [], ◌++◌, map, length, take, get_or}
-use Rattle.std.proofs.Math.Option.{Option, none, some}
+use Rattle.std.specs.Prelude.{ℕ, ◌≤◌, ◌≡◌, List, [], ◌++◌, map, length, take, get_or, None, Option, Some}
 use Rattle.octets.specs.Pick.{pick}
 use Rattle.unfold.specs.Unfold.{Row}
 use Rattle.prune.specs.Bodies.{All}
@@ -15,8 +14,6 @@ use Rattle.row_window.specs.Window.{gathered, within, Gathers}
 use Rattle.interpret.specs.Run.{globals_in, locals_in, Ready, key_for}
 use Rattle.interpret.specs.declared.Subrs.{Subrs}
 use Rattle.interpret.specs.declared.Range.{Range}
-use Rattle.interpret.specs.declared.Met.{Met}
-use Rattle.interpret.specs.declared.Met.TheVariants.{NotPlain, Plain}
 use Rattle.traced.specs.Traced.{met_all, Traced, refused, answered, traced_as, leaves_record}
 use Rattle.traced.specs.RowLaws.{RowFits}
 use Rattle.traced.specs.declared.TracedAs.{TracedAs}
@@ -51,8 +48,8 @@ abbrev pub met_in : List ℕ → Font → List ℕ → Option (List Row)
 met_in b f marks = met_all (program_of b f) (those (marked marks) f.charstrings.count 0)
 
 abbrev pub or_none : Option (List Row) → List Row
-or_none none = []
-or_none (some rows) = rows
+or_none None = []
+or_none (Some rows) = rows
 
 -- they fit their bytes
 pub record RowsFit (m : Option (List Row)) : Type 0 where
@@ -60,7 +57,7 @@ pub record RowsFit (m : Option (List Row)) : Type 0 where
 
 -- all marked glyphs are plain
 pub record Plainly (b : List ℕ) (f : Font) (marks : List ℕ) : Type 0 where
-  pub plain : met_in b f marks ≡ some (or_none (met_in b f marks))
+  pub plain : met_in b f marks ≡ Some (or_none (met_in b f marks))
   pub fits : RowsFit (met_in b f marks)
 
 -- their keys, and these rising without repeats
@@ -73,11 +70,11 @@ sorted_in b f marks = gathered [] (keys_in b f marks)
 -- ---- windows
 
 -- what filling a window answers and leaves
-abbrev pub Filling : Option (List Row) → Range → List ℕ → List ℕ → Met → Type 0
-Filling none range keys keys' r = r ≡ NotPlain
-Filling (some rows) range keys keys' r = (n : ℕ) × (r ≡ Plain n) × Gathers (within range.low range.high (map key_for rows)) keys keys' n
+abbrev pub Filling : Option (List Row) → Range → List ℕ → List ℕ → Option ℕ → Type 0
+Filling None range keys keys' r = r ≡ None
+Filling (Some rows) range keys keys' r = (n : ℕ) × (r ≡ Some n) × Gathers (within range.low range.high (map key_for rows)) keys keys' n
 
-pub record Fills (m : Option (List Row)) (range : Range) (keys keys' : List ℕ) (r : Met) : Type 0 where
+pub record Fills (m : Option (List Row)) (range : Range) (keys keys' : List ℕ) (r : Option ℕ) : Type 0 where
   pub says : Filling m range keys keys' r
 
 -- a window of n keys behind those that are done: the least of the keys from `low` on

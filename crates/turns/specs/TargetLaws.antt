@@ -1,8 +1,7 @@
 -- Laws of a number's end and of the subroutine that a number names, each for one way out of the code.
-use Rattle.std.specs.Prelude.{ℕ, suc, ◌+◌, ◌-◌, ◌/◌, ◌%◌, ◌≤◌, ◌<◌, ◌≡◌, Bool, true, false, List, ltb, leb, eqb, Float, ℤ, pos, negsuc, length, get_or}
+use Rattle.std.specs.Prelude.{ℕ, suc, ◌+◌, ◌-◌, ◌/◌, ◌%◌, ◌≤◌, ◌<◌, ◌≡◌, Bool, true, false, List, ltb, leb, eqb, Float, ℤ, pos, negsuc, length, get_or, None, Option, Some}
 use Rattle.std.proofs.Math.Path.{refl, ap}
 use Rattle.std.proofs.Common.{sym, ◌∙◌, subst, arith, lt-ltb, le-ltb, le-leb, eq-eqb, ne_eqb}
-use Rattle.std.proofs.Math.Option.{Option, none, some}
 use Rattle.std.proofs.Math.Decide.{dec_lt}
 use Rattle.std.proofs.lemmas.Bool.{lt-leb}
 use Rattle.octets.specs.Pick.{pick, pick_ind}
@@ -16,10 +15,8 @@ use Rattle.type2_number.specs.declared.Number.{Number}
 use Rattle.type2_number.specs.declared.Number.TheVariants.{Num, Cut as CutOff, Operator as AnOperator}
 use Rattle.charstring.specs.Bias.{bias_of}
 use Rattle.unfold.specs.Unfold.{target_of}
-use Rattle.turns.specs.Turns.{end_of, target_for, last_of, last_at}
+use Rattle.turns.specs.Turns.{end_of, last_of, last_at}
 use Rattle.turns.specs.declared.NumberEnd.TheVariants.{Cut, Operator, At}
-use Rattle.turns.specs.declared.Target.{Target}
-use Rattle.turns.specs.declared.Target.TheVariants.{Nowhere, Subr}
 
 -- two constructors that would be equal
 pub zero_one : ◌≡◌ {A = ℕ} 0 1 → ⊥
@@ -71,16 +68,16 @@ module _ (s : List ℕ) (at : ℕ) where
 abbrev target_by : ℕ → ℕ → Bool → ℕ → Option ℕ
 target_by bias count neg size =
     pick (eqb (size % 65536) 0)
-    (pick neg (pick (leb (size / 65536) bias) (pick (ltb (bias - size / 65536) count) (some (bias - size / 65536)) none) none)
-    (pick (ltb (size / 65536 + bias) count) (some (size / 65536 + bias)) none))
-    none
+    (pick neg (pick (leb (size / 65536) bias) (pick (ltb (bias - size / 65536) count) (Some (bias - size / 65536)) None) None)
+    (pick (ltb (size / 65536 + bias) count) (Some (size / 65536 + bias)) None))
+    None
 
-target-signed : (count : ℕ) (z : ℤ) → target_of count (some z) ≡ target_by (bias_of count) count (is_neg z) (mag z)
+target-signed : (count : ℕ) (z : ℤ) → target_of count (Some z) ≡ target_by (bias_of count) count (is_neg z) (mag z)
 unfolding target_of
 target-signed count (pos n) = and-pick (eqb (n % 65536) 0) _ _
 target-signed count (negsuc m) =
     and-pick (eqb (suc m % 65536) 0) _ _
-    ∙ ap (λ (o : Option ℕ). pick (eqb (suc m % 65536) 0) o none) (and-pick (leb (suc m / 65536) (bias_of count)) (some (bias_of count - suc m / 65536)) (λ (k : ℕ). pick (ltb k count) (some k) none))
+    ∙ ap (λ (o : Option ℕ). pick (eqb (suc m % 65536) 0) o None) (and-pick (leb (suc m / 65536) (bias_of count)) (Some (bias_of count - suc m / 65536)) (λ (k : ℕ). pick (ltb k count) (Some k) None))
 
 bias_small : (count : ℕ) → bias_of count ≤ 32768
 bias_small count =
@@ -91,39 +88,39 @@ pub bias_few : (added count : ℕ) → added ≡ bias_of count → added ≤ 327
 bias_few added count e = subst (λ (b : ℕ). b ≤ 32768) (sym e) (bias_small count)
 
 module _ (count : ℕ) (z : ℤ) (neg : Bool) (size added : ℕ) (n : neg ≡ is_neg z) (g : size ≡ mag z) (a : added ≡ bias_of count) where
-  target_is : target_by added count neg size ≡ target_of count (some z)
+  target_is : target_by added count neg size ≡ target_of count (Some z)
   target_is =
       ap (λ (b : ℕ). target_by b count neg size) a ∙ ap (λ (t : Bool). target_by (bias_of count) count t size) n
       ∙ ap (target_by (bias_of count) count (is_neg z)) g ∙ sym (target-signed count z)
 
-  pub target-fraction : (size % 65536 ≡ 0 → ⊥) → Nowhere ≡ target_for (target_of count (some z))
-  target-fraction k = let e : none ≡ target_by added count neg size = rw (ne_eqb (size % 65536) 0 k) in ap target_for (e ∙ target_is)
+  pub target-fraction : (size % 65536 ≡ 0 → ⊥) → None ≡ target_of count (Some z)
+  target-fraction k = let e : None ≡ target_by added count neg size = rw (ne_eqb (size % 65536) 0 k) in e ∙ target_is
 
   module _ (even : size % 65536 ≡ 0) where
     module _ (t : neg ≡ true) where
-      pub target-before : added < size / 65536 → Nowhere ≡ target_for (target_of count (some z))
+      pub target-before : added < size / 65536 → None ≡ target_of count (Some z)
       target-before l =
-          let e : none ≡ target_by added count neg size = rw (eq-eqb (size % 65536) 0 even, t, lt-leb (size / 65536) added l) in ap target_for (e ∙ target_is)
+          let e : None ≡ target_by added count neg size = rw (eq-eqb (size % 65536) 0 even, t, lt-leb (size / 65536) added l) in e ∙ target_is
 
-      pub target-down : size / 65536 ≤ added → added - size / 65536 < count → Subr (added - size / 65536) ≡ target_for (target_of count (some z))
+      pub target-down : size / 65536 ≤ added → added - size / 65536 < count → Some (added - size / 65536) ≡ target_of count (Some z)
       target-down l k =
-          let e : some (added - size / 65536) ≡ target_by added count neg size
-          = rw (eq-eqb (size % 65536) 0 even, t, le-leb (size / 65536) added l, lt-ltb (added - size / 65536) count k) in ap target_for (e ∙ target_is)
+          let e : Some (added - size / 65536) ≡ target_by added count neg size
+          = rw (eq-eqb (size % 65536) 0 even, t, le-leb (size / 65536) added l, lt-ltb (added - size / 65536) count k) in e ∙ target_is
 
-      pub target-down-past : size / 65536 ≤ added → count ≤ added - size / 65536 → Nowhere ≡ target_for (target_of count (some z))
+      pub target-down-past : size / 65536 ≤ added → count ≤ added - size / 65536 → None ≡ target_of count (Some z)
       target-down-past l k =
-          let e : none ≡ target_by added count neg size
-          = rw (eq-eqb (size % 65536) 0 even, t, le-leb (size / 65536) added l, le-ltb (added - size / 65536) count k) in ap target_for (e ∙ target_is)
+          let e : None ≡ target_by added count neg size
+          = rw (eq-eqb (size % 65536) 0 even, t, le-leb (size / 65536) added l, le-ltb (added - size / 65536) count k) in e ∙ target_is
 
     module _ (t : neg ≡ false) where
-      pub target_up : size / 65536 + added < count → Subr (size / 65536 + added) ≡ target_for (target_of count (some z))
+      pub target_up : size / 65536 + added < count → Some (size / 65536 + added) ≡ target_of count (Some z)
       target_up k =
-          let e : some (size / 65536 + added) ≡ target_by added count neg size
-          = rw (eq-eqb (size % 65536) 0 even, t, lt-ltb (size / 65536 + added) count k) in ap target_for (e ∙ target_is)
+          let e : Some (size / 65536 + added) ≡ target_by added count neg size
+          = rw (eq-eqb (size % 65536) 0 even, t, lt-ltb (size / 65536 + added) count k) in e ∙ target_is
 
-      pub target-up-past : count ≤ size / 65536 + added → Nowhere ≡ target_for (target_of count (some z))
+      pub target-up-past : count ≤ size / 65536 + added → None ≡ target_of count (Some z)
       target-up-past k =
-          let e : none ≡ target_by added count neg size = rw (eq-eqb (size % 65536) 0 even, t, le-ltb (size / 65536 + added) count k) in ap target_for (e ∙ target_is)
+          let e : None ≡ target_by added count neg size = rw (eq-eqb (size % 65536) 0 even, t, le-ltb (size / 65536 + added) count k) in e ∙ target_is
 
 -- ---- the number just before a place
 
@@ -131,35 +128,35 @@ module _ (s : List ℕ) (prev at : ℕ) (h : prev < at) where
   last_is : last_of (number_at s prev) ≡ last_at s prev at
   last_is = rw (lt-ltb prev at h)
 
-  pub last-read : Octets s → (r : Number) → r ≡ number_of (number_at s prev) → (v : Float) (n : ℕ) → r ≡ Num v n → (HoldsReading v) × (some (scaled_of v) ≡ last_at s prev at)
+  pub last-read : Octets s → (r : Number) → r ≡ number_of (number_at s prev) → (v : Float) (n : ℕ) → r ≡ Num v n → (HoldsReading v) × (Some (scaled_of v) ≡ last_at s prev at)
   last-read b r e v n f = let p = by (number_at s prev) (reading-at s prev b) (sym e ∙ f) in (p.0, p.1 ∙ last_is)
     where
-      by : (q : Read) → ReadingRead q → number_of q ≡ Num v n → (HoldsReading v) × (some (scaled_of v) ≡ last_of q)
+      by : (q : Read) → ReadingRead q → number_of q ≡ Num v n → (HoldsReading v) × (Some (scaled_of v) ≡ last_of q)
       by cut p k = absurd (zero_one cc)
       by operator p k = absurd (zero_one cc)
-      by (number z m) p k = let g : float_of z ≡ v = cc in (subst HoldsReading g (holds z p), ap some (ap scaled_of (sym g) ∙ back-reading z p))
+      by (number z m) p k = let g : float_of z ≡ v = cc in (subst HoldsReading g (holds z p), ap Some (ap scaled_of (sym g) ∙ back-reading z p))
 
-  pub last-cut : (count : ℕ) (r : Number) → r ≡ number_of (number_at s prev) → r ≡ CutOff → Nowhere ≡ target_for (target_of count (last_at s prev at))
+  pub last-cut : (count : ℕ) (r : Number) → r ≡ number_of (number_at s prev) → r ≡ CutOff → None ≡ target_of count (last_at s prev at)
   unfolding target_of
-  last-cut count r e f = ap (λ (l : Option ℤ). target_for (target_of count l)) (by (number_at s prev) (sym e ∙ f) ∙ last_is)
+  last-cut count r e f = ap (λ (l : Option ℤ). target_of count l) (by (number_at s prev) (sym e ∙ f) ∙ last_is)
     where
-      by : (q : Read) → number_of q ≡ CutOff → none ≡ last_of q
+      by : (q : Read) → number_of q ≡ CutOff → None ≡ last_of q
       by cut k = refl
       by operator k = refl
       by (number z m) k = absurd (zero_one cc)
 
-  pub last-operator : (count : ℕ) (r : Number) → r ≡ number_of (number_at s prev) → r ≡ AnOperator → Nowhere ≡ target_for (target_of count (last_at s prev at))
+  pub last-operator : (count : ℕ) (r : Number) → r ≡ number_of (number_at s prev) → r ≡ AnOperator → None ≡ target_of count (last_at s prev at)
   unfolding target_of
-  last-operator count r e f = ap (λ (l : Option ℤ). target_for (target_of count l)) (by (number_at s prev) (sym e ∙ f) ∙ last_is)
+  last-operator count r e f = ap (λ (l : Option ℤ). target_of count l) (by (number_at s prev) (sym e ∙ f) ∙ last_is)
     where
-      by : (q : Read) → number_of q ≡ AnOperator → none ≡ last_of q
+      by : (q : Read) → number_of q ≡ AnOperator → None ≡ last_of q
       by cut k = refl
       by operator k = refl
       by (number z m) k = absurd (zero_one cc)
 
-pub no_last : (s : List ℕ) (prev at count : ℕ) → at ≤ prev → Nowhere ≡ target_for (target_of count (last_at s prev at))
+pub no_last : (s : List ℕ) (prev at count : ℕ) → at ≤ prev → None ≡ target_of count (last_at s prev at)
 unfolding target_of
-no_last s prev at count h = let e : none ≡ last_at s prev at = rw (le-ltb prev at h) in ap (λ (l : Option ℤ). target_for (target_of count l)) e
+no_last s prev at count h = let e : None ≡ last_at s prev at = rw (le-ltb prev at h) in ap (λ (l : Option ℤ). target_of count l) e
 
-pub last-names : (s : List ℕ) (prev at count : ℕ) (l : Option ℤ) → l ≡ last_at s prev at → (r : Target) → r ≡ target_for (target_of count l) → r ≡ target_for (target_of count (last_at s prev at))
-last-names s prev at count l e r f = f ∙ ap (λ (m : Option ℤ). target_for (target_of count m)) e
+pub last-names : (s : List ℕ) (prev at count : ℕ) (l : Option ℤ) → l ≡ last_at s prev at → (r : Option ℕ) → r ≡ target_of count l → r ≡ target_of count (last_at s prev at)
+last-names s prev at count l e r f = f ∙ ap (λ (m : Option ℤ). target_of count m) e

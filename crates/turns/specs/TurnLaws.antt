@@ -1,9 +1,8 @@
 -- Laws of turns: what a turn says is within the body and the limits; and the ways out of the code, each by what it was told.
-use Rattle.std.specs.Prelude.{ℕ, ◌+◌, ◌-◌, ◌/◌, ◌≤◌, ◌<◌, ◌≡◌, Bool, List, ltb, eqb, ℤ, length, get_or}
+use Rattle.std.specs.Prelude.{ℕ, ◌+◌, ◌-◌, ◌/◌, ◌≤◌, ◌<◌, ◌≡◌, Bool, List, ltb, eqb, ℤ, length, get_or, None, Option, Some}
 use Rattle.std.proofs.Math.Path.{refl, ap}
 use Rattle.std.proofs.Common.{sym, ◌∙◌, arith}
 use Rattle.std.proofs.Math.Bool.{true, false}
-use Rattle.std.proofs.Math.Option.{Option, none, some}
 use borrow.Author.Tests.{lt-ltb, le-ltb, ltb-true, ltb-false}
 use Rattle.octets.specs.Pick.{pick, pick_ind}
 use Rattle.octets.specs.Steps.{and}
@@ -14,22 +13,20 @@ use Rattle.charstring.specs.Bias.{bias_of, numbered}
 use Rattle.charstring.specs.Token.{is_mask}
 use Rattle.unfold.specs.Unfold.{target_of, is_stem, is_path}
 use Rattle.turns.specs.TargetLaws.{zero_one}
-use Rattle.turns.specs.Turns.{Few, end_of, target_for, last_at, leaves, goes_on, call_turn, escape_turn, mask_turn, stem_turn, clearing_turn_lem, operator_turn_lem, turn_by, turn_at_lem}
+use Rattle.turns.specs.Turns.{Few, end_of, last_at, leaves, goes_on, call_turn, escape_turn, mask_turn, stem_turn, clearing_turn_lem, operator_turn_lem, turn_by, turn_at_lem}
 use Rattle.turns.specs.declared.Counts.{Counts}
 use Rattle.turns.specs.declared.NumberEnd.{NumberEnd}
 use Rattle.turns.specs.declared.NumberEnd.TheVariants.{Cut, Operator, At}
-use Rattle.turns.specs.declared.Target.{Target}
-use Rattle.turns.specs.declared.Target.TheVariants.{Nowhere, Subr}
 use Rattle.turns.specs.declared.Turn.{Turn}
 use Rattle.turns.specs.declared.Turn.TheVariants.{Breaks, Returns, Ends, Goes, Masks, Calls}
 
 -- a subroutine that a number names is there
 abbrev Below : ℕ → Option ℕ → Type 0
-Below count none = Unit
-Below count (some i) = i < count
+Below count None = Unit
+Below count (Some i) = i < count
 
-named : (count i : ℕ) → Below count (pick (ltb i count) (some i) none)
-named count i = pick_ind (Below count) (ltb i count) (some i) none (λ t. ltb-true i count t) (λ t. tt)
+named : (count i : ℕ) → Below count (pick (ltb i count) (Some i) None)
+named count i = pick_ind (Below count) (ltb i count) (Some i) None (λ t. ltb-true i count t) (λ t. tt)
 
 target_below : (count : ℕ) (l : Option ℤ) → Below count (target_of count l)
 unfolding target_of
@@ -55,8 +52,8 @@ module _ (locals globals : ℕ) (s : List ℕ) (at : ℕ) (h : at < length s) wh
   goes_sound n p args stems spent i j a b = leaves_sound args stems spent (Goes n p) (i, j, record { operands = a; hints = b })
 
   call_sound : (wide : Bool) (x : Counts) → Few x → (q : Option ℕ) → Below (pick wide globals locals) q → S (call_turn wide x q)
-  call_sound wide x f none b = tt
-  call_sound wide x f (some i) b = (b, record { operands = omega arith; hints = f.hints })
+  call_sound wide x f None b = tt
+  call_sound wide x f (Some i) b = (b, record { operands = omega arith; hints = f.hints })
 
   escape_sound : (x : Counts) → Few x → S (escape_turn s at x)
   escape_sound x f =
@@ -111,20 +108,20 @@ module _ (locals globals : ℕ) (s : List ℕ) (at : ℕ) (h : at < length s) wh
 -- ---- the ways out of the code
 
 -- the subroutine that a call names
-module _ (wide : Bool) (x : Counts) (q : Option ℕ) (r : Target) (e : r ≡ target_for q) where
-  pub call_nowhere : r ≡ Nowhere → Breaks ≡ call_turn wide x q
+module _ (wide : Bool) (x : Counts) (q : Option ℕ) (r : Option ℕ) (e : r ≡ q) where
+  pub call_nowhere : r ≡ None → Breaks ≡ call_turn wide x q
   call_nowhere f = by q (sym e ∙ f)
     where
-      by : (p : Option ℕ) → target_for p ≡ Nowhere → Breaks ≡ call_turn wide x p
-      by none k = refl
-      by (some i) k = absurd (zero_one cc)
+      by : (p : Option ℕ) → p ≡ None → Breaks ≡ call_turn wide x p
+      by None k = refl
+      by (Some i) k = absurd (zero_one cc)
 
-  pub call_names : (i : ℕ) → r ≡ Subr i → (n : ℕ) → n ≡ x.args - 1 → Calls wide i (record { args = n; stems = x.stems; spent = x.spent }) ≡ call_turn wide x q
+  pub call_names : (i : ℕ) → r ≡ Some i → (n : ℕ) → n ≡ x.args - 1 → Calls wide i (record { args = n; stems = x.stems; spent = x.spent }) ≡ call_turn wide x q
   call_names i f n g = by q (sym e ∙ f)
     where
-      by : (p : Option ℕ) → target_for p ≡ Subr i → Calls wide i (record { args = n; stems = x.stems; spent = x.spent }) ≡ call_turn wide x p
-      by none k = absurd (zero_one cc)
-      by (some j) k =
+      by : (p : Option ℕ) → p ≡ Some i → Calls wide i (record { args = n; stems = x.stems; spent = x.spent }) ≡ call_turn wide x p
+      by None k = absurd (zero_one cc)
+      by (Some j) k =
           let h : i ≡ j = cc in
           ap (λ (m : ℕ). Calls wide m (record { args = n; stems = x.stems; spent = x.spent })) h
           ∙ ap (λ (m : ℕ). Calls wide j (record { args = m; stems = x.stems; spent = x.spent })) g

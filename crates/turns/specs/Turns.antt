@@ -1,7 +1,6 @@
 -- What a token of a body brings (document 01, 'Plain glyphs'; crates/unfold), as the code goes: by the counts of what has run, without the
 -- tokens that it leaves and the rows that it meets. The number just before a place is told by where it starts.
-use Rattle.std.specs.Prelude.{ℤ, ℕ, ◌+◌, ◌-◌, ◌/◌, ◌≤◌, Bool, true, false, List, ltb, eqb, length, get_or}
-use Rattle.std.proofs.Math.Option.{Option, none, some}
+use Rattle.std.specs.Prelude.{ℤ, ℕ, ◌+◌, ◌-◌, ◌/◌, ◌≤◌, Bool, true, false, List, ltb, eqb, length, get_or, None, Option, Some}
 use Rattle.octets.specs.Pick.{pick}
 use Rattle.type2_number.specs.Number.{Read, cut, operator, number, number_at}
 use Rattle.charstring.specs.Token.{is_mask}
@@ -11,8 +10,6 @@ use Rattle.turns.specs.declared.Turn.{Turn}
 use Rattle.turns.specs.declared.Turn.TheVariants.{Breaks, Returns, Ends, Goes, Masks, Calls}
 use Rattle.turns.specs.declared.NumberEnd.{NumberEnd}
 use Rattle.turns.specs.declared.NumberEnd.TheVariants.{Cut, Operator, At}
-use Rattle.turns.specs.declared.Target.{Target}
-use Rattle.turns.specs.declared.Target.TheVariants.{Nowhere, Subr}
 
 -- what holds of the counts of a run: at most 48 operands and 96 stems
 pub record Few (x : Counts) : Type 0 where
@@ -25,18 +22,14 @@ end_of cut = Cut
 end_of operator = Operator
 end_of (number z n) = At n
 
-abbrev pub target_for : Option ℕ → Target
-target_for none = Nowhere
-target_for (some i) = Subr i
-
 -- the number just before a place: the one that starts at `prev`, none where that is the place itself
 abbrev pub last_of : Read → Option ℤ
-last_of cut = none
-last_of operator = none
-last_of (number z n) = some z
+last_of cut = None
+last_of operator = None
+last_of (number z n) = Some z
 
 abbrev pub last_at : List ℕ → ℕ → ℕ → Option ℤ
-last_at s prev at = pick (ltb prev at) (last_of (number_at s prev)) none
+last_at s prev at = pick (ltb prev at) (last_of (number_at s prev)) None
 
 -- one token more, its operands cleared or one more; at most 65,536 tokens and calls
 abbrev pub leaves : ℕ → ℕ → ℕ → (Counts → Turn) → Turn
@@ -47,8 +40,8 @@ goes_on at prev args stems spent = leaves args stems spent (Goes at prev)
 
 -- a call: its operand is taken back, and what it had spent is the call's
 abbrev pub call_turn : Bool → Counts → Option ℕ → Turn
-call_turn wide x none = Breaks
-call_turn wide x (some i) = Calls wide i (record { args = x.args - 1; stems = x.stems; spent = x.spent })
+call_turn wide x None = Breaks
+call_turn wide x (Some i) = Calls wide i (record { args = x.args - 1; stems = x.stems; spent = x.spent })
 
 -- an escape: 34 to 37
 abbrev pub escape_turn : List ℕ → ℕ → Counts → Turn

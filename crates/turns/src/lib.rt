@@ -3,12 +3,11 @@
 // starts, and read only at a call.
 #![tactic(auto)]
 
-ghost use Rattle.std.specs.Prelude.{◌≡◌, ◌-◌, ◌≤◌, ◌<◌, length, get_or};
-ghost use Rattle.std.proofs.Math.Option.{some};
+ghost use Rattle.std.specs.Prelude.{◌≡◌, ◌-◌, ◌≤◌, ◌<◌, length, get_or, Some};
 ghost use Rattle.type2_number.specs.Number.{number_at};
 ghost use Rattle.type2_number.specs.Floats.{scaled_of, HoldsReading};
 ghost use Rattle.unfold.specs.Unfold.{target_of, is_stem, is_path};
-ghost use Rattle.turns.specs.Turns.{Few, end_of, target_for, last_at, goes_on, call_turn, mask_turn, escape_turn, clearing_turn_lem, operator_turn_lem, turn_at_lem};
+ghost use Rattle.turns.specs.Turns.{Few, end_of, last_at, goes_on, call_turn, mask_turn, escape_turn, clearing_turn_lem, operator_turn_lem, turn_at_lem};
 
 use charstring::{bias, is_mask};
 use type2_number::{Number, count_of, read_number};
@@ -72,54 +71,47 @@ fn number_end(code: &[u8], at: usize) -> NumberEnd
     NumberEnd::At(at + 5)
 }
 
-// The subroutine that an operand names: none, or its number.
-#[derive(Clone, Copy)]
-pub enum Target {
-    Nowhere,
-    Subr(usize),
-}
-
-// The subroutine of `count` that a number names.
-fn target_of(v: f32, count: usize) -> Target
+// The subroutine of `count` that a number names, if it names one.
+fn target_of(v: f32, count: usize) -> Option<usize>
     requires { HoldsReading v }
-    ensures { result ≡ target_for (target_of count (some (scaled_of v))) }
+    ensures { result ≡ target_of count (Some (scaled_of v)) }
 {
     let s = count_of(v);
     let neg = s.neg;
     let size = s.size;
     let added = bias(count);
     if size % 65536 != 0 {
-        return Target::Nowhere;
+        return None;
     }
     let i = size / 65536;
     if neg {
         if added < i {
-            return Target::Nowhere;
+            return None;
         }
         if added - i < count {
-            return Target::Subr(added - i);
+            return Some(added - i);
         }
-        return Target::Nowhere;
+        return None;
     }
     if i + added < count {
-        return Target::Subr(i + added);
+        return Some(i + added);
     }
-    Target::Nowhere
+    None
 }
 
 // The subroutine of `count` that the number just before a place names.
-fn target_at(code: &[u8], prev: usize, at: usize, count: usize) -> Target
+fn target_at(code: &[u8], prev: usize, at: usize, count: usize) -> Option<usize>
     requires { at ≤ length code.now }
-    ensures { result ≡ target_for (target_of count (last_at code.now prev at)) }
+    ensures { result ≡ target_of count (last_at code.now prev at) }
 {
     if prev < at {
         return match read_number(code, prev) {
             Number::Num { value, next: _ } => target_of(value, count),
-            Number::Cut => Target::Nowhere,
-            Number::Operator => Target::Nowhere,
+            Number::Cut => None,
+            Number::Operator => None,
         };
     }
-    Target::Nowhere
+    None
 }
 
 // One token more, and on in the same body.
@@ -156,8 +148,8 @@ fn call_turn(code: &[u8], prev: usize, at: usize, global: bool, count: usize, x:
     ensures { result ≡ call_turn global x (target_of count (last_at code.now prev at)) }
 {
     match target_at(code, prev, at, count) {
-        Target::Nowhere => Turn::Breaks,
-        Target::Subr(number) => Turn::Calls(
+        None => Turn::Breaks,
+        Some(number) => Turn::Calls(
             global,
             number,
             Counts {

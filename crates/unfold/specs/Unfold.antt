@@ -1,7 +1,6 @@
 -- The unfolding of a glyph, sentence by sentence from document 01, 'Plain glyphs' (TN5177, sections 4 and 5 and appendix B for the
 -- operators and limits): from the subroutines a glyph can call and its charstring to `not plain`, or its tokens and the rows met.
-use Rattle.std.specs.Prelude.{ℕ, zero, suc, ◌+◌, ◌-◌, ◌/◌, Bool, true, false, List, [], ◌∷◌, ◌++◌, ltb, eqb, ℤ, length, take, drop, get_or}
-use Rattle.std.proofs.Math.Option.{Option, none, some}
+use Rattle.std.specs.Prelude.{ℕ, zero, suc, ◌+◌, ◌-◌, ◌/◌, Bool, true, false, List, [], ◌∷◌, ◌++◌, ltb, eqb, ℤ, length, take, drop, get_or, None, Option, Some}
 use Rattle.octets.specs.Pick.{pick}
 use Rattle.octets.specs.Steps.{and}
 use Rattle.type2_number.specs.Number.{Read, cut, operator, number as a_number, number_at}
@@ -76,7 +75,7 @@ calling site st = record { args = st.args - 1; stems = st.stems; spent = st.spen
 
 -- the subroutine that a call's operand, the number just before it in the same body, names: whole, and with the bias a number of one that exists
 unfoldable pub target_of : ℕ → Option ℤ → Option ℕ
-target_of count l = and (and l (numbered (bias_of count))) (λ (i : ℕ). pick (ltb i count) (some i) none)
+target_of count l = and (and l (numbered (bias_of count))) (λ (i : ℕ). pick (ltb i count) (Some i) None)
 
 -- after a subroutine: on in the caller, or the end
 abbrev pub after : Run → (State → Run) → Run
@@ -105,12 +104,12 @@ On = ℕ → Option ℤ → State → Run
 
 -- a call of the subroutine i of those that `which` names; the caller goes on at `next`
 abbrev pub call_to : Enter → On → (ℕ → Site) → List (List ℕ) → ℕ → State → Option ℕ → Run
-call_to enter on which subrs next st none = broken
-call_to enter on which subrs next st (some i) = after (enter (which i) (get_or subrs i []) (calling (which i) st)) (on next none)
+call_to enter on which subrs next st None = broken
+call_to enter on which subrs next st (Some i) = after (enter (which i) (get_or subrs i []) (calling (which i) st)) (on next None)
 
 -- a stem operator with n stems then: at most 96
 abbrev pub stem_at : On → ℕ → ℕ → ℕ → State → Run
-stem_at on b at n st = pick (ltb 96 n) broken (leave (op b) 0 n st (on (at + 1) none))
+stem_at on b at n st = pick (ltb 96 n) broken (leave (op b) 0 n st (on (at + 1) None))
 
 -- a mask with n stems, its own included: one bit each, rounded up to bytes, which must be there
 abbrev pub mask_at : On → Site → List ℕ → ℕ → ℕ → ℕ → State → Run
@@ -118,14 +117,14 @@ mask_at on site s b at n st =
     let len = (n + 7) / 8 in
     pick (ltb 96 n) broken
     (pick (ltb (length s - (at + 1)) len) broken
-    (leave (mask b (take len (drop (at + 1) s))) 0 n (meeting (masked site at len) st) (on (at + 1 + len) none)))
+    (leave (mask b (take len (drop (at + 1) s))) 0 n (meeting (masked site at len) st) (on (at + 1 + len) None)))
 
 -- an escape: 34 to 37
 abbrev pub escape_at : On → List ℕ → ℕ → State → Run
 escape_at on s at st =
     let e = get_or s (at + 1) 0 in
     pick (ltb (length s - at) 2) broken
-    (pick (ltb e 34) broken (pick (ltb 37 e) broken (leave (esc e) 0 st.stems st (on (at + 2) none))))
+    (pick (ltb e 34) broken (pick (ltb 37 e) broken (leave (esc e) 0 st.stems st (on (at + 2) None))))
 
 module _ (globals locals : List (List ℕ)) (fd : ℕ) where
   -- the operator b at a place
@@ -138,12 +137,12 @@ module _ (globals locals : List (List ℕ)) (fd : ℕ) where
       (pick (eqb b 12) (escape_at on s at st)
       (pick (is_mask b) (mask_at on site s b at (st.stems + st.args / 2) st)
       (pick (is_stem b) (stem_at on b at (st.stems + st.args / 2) st)
-      (pick (is_path b) (leave (op b) 0 st.stems st (on (at + 1) none)) broken)))))))
+      (pick (is_path b) (leave (op b) 0 st.stems st (on (at + 1) None)) broken)))))))
 
   -- what stands at a place: a number waits, at most 48 of them
   unfoldable pub step_at : Enter → On → Site → List ℕ → ℕ → Option ℤ → State → Read → Run
   step_at enter on site s at l st cut = broken
-  step_at enter on site s at l st (a_number z n) = pick (ltb st.args 48) (leave (num z) (st.args + 1) st.stems st (on n (some z))) broken
+  step_at enter on site s at l st (a_number z n) = pick (ltb st.args 48) (leave (num z) (st.args + 1) st.stems st (on n (Some z))) broken
   step_at enter on site s at l st operator = operator_at enter on site s at l st (get_or s at 0)
 
   -- a body from a place on, k tokens at most; running off its end is not plain
@@ -154,8 +153,8 @@ module _ (globals locals : List (List ℕ)) (fd : ℕ) where
 
   -- a body from its start, with calls d deep at most: each token has a byte, so that its length is enough
   unfoldable pub run_body : ℕ → Site → List ℕ → State → Run
-  run_body zero site s st = walk (λ t b x. broken) (length s) site s 0 none st
-  run_body (suc d) site s st = walk (run_body d) (length s) site s 0 none st
+  run_body zero site s st = walk (λ t b x. broken) (length s) site s 0 None st
+  run_body (suc d) site s st = walk (run_body d) (length s) site s 0 None st
 
 -- a glyph: not plain, or its tokens and the rows it meets
 pub data Glyph : Type 0 where

@@ -1,4 +1,5 @@
 -- `blocking::culprit_font` meets its contract: a refusal leaves all as it was; else the words that were used and the slice end as zeros.
+use Rattle.std.proofs.Common.{rules}
 use Rattle.octets.specs.Octets.{Octets}
 use Rattle.cff.specs.File.{table_in}
 use Rattle.blocking.specs.EntryLaws.{early_blocks, words_there, words-taken, words_can, late_blocks}
@@ -27,4 +28,4 @@ culprit_in-r-requires c =
 pub returns : goal.returns
 returns c =
     late_blocks c.args.font.now c.args.name.now c.args.keep.now c.args.work.now c.args.slice.now (bytes (goal.at.returns c).After-refusal-n) c.args.f (table_in c.args.font.now c.args.f) c.requires _ c.refusal-n.ensures c.if-n-gt0.false _ c.work_size-w.ensures _ c.culprit_in-r.new.words _ c.culprit_in-r.new.slice _ c.culprit_in-r.ensures
-    c.culprit_in-r.auto.words c.clear.ensures c.culprit_in-r.auto.slice c.clear-2.ensures
+    c.culprit_in-r.auto.words c.clear.ensures c.culprit_in-r.auto.slice (c.fill.ensures.after (search rules))

@@ -1,4 +1,4 @@
-use Rattle.std.proofs.Common.{length, ◌-◌, ◌≡◌}
+use Rattle.std.proofs.Common.{length, ◌≡◌}
 use Rattle.cff.specs.Reads.{program_of}
 use Rattle.cff.specs.File.{table_in}
 use Rattle.blocking.specs.Search.{frees}
@@ -7,8 +7,5 @@ use Rattle.blocking.proofs.first_freed.Given as goal
 
 abbrev pub invariant-loop-g : goal.invariant-loop-g
 invariant-loop-g l =
-    (l.n ≡ length l.initial.list) × (l.list ≡ l.initial.list) × (length l.words ≡ length l.initial.words) × (length l.slice ≡ length l.initial.slice)
+    (l.list ≡ l.initial.list)
     × Searching (frees (program_of (table_in l.font l.f) l.f) l.name l.initial.list (length l.initial.words) (length l.initial.slice)) (length l.initial.list) l.g
-
-abbrev pub decreases-loop-g : goal.decreases-loop-g
-decreases-loop-g l = l.n - l.g

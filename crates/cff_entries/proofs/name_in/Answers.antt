@@ -7,8 +7,8 @@ use Rattle.cff_entries.proofs.name_in.Goals as goal
 pub returns-then-cid : goal.returns-then-cid
 returns-then-cid c = name-keyed c.args.font.now c.args.f c.requires c.if-cid.true _
 
-pub returns-in-Absent : goal.returns-in-Absent
-returns-in-Absent c = name_looked c.args.font.now c.args.f c.requires c.if-cid.false _ _ c.find_text-found.ensures _ (ap found_as_lem c.in-Absent.is)
+pub returns-in-None : goal.returns-in-None
+returns-in-None c = name_looked c.args.font.now c.args.f c.requires c.if-cid.false _ _ c.find_text-found.ensures _ (ap found_as_lem c.in-None.is)
 
-pub returns-in-Glyph : goal.returns-in-Glyph
-returns-in-Glyph c = name_looked c.args.font.now c.args.f c.requires c.if-cid.false _ _ c.find_text-found.ensures _ (ap found_as_lem c.in-Glyph.is)
+pub returns-in-Some : goal.returns-in-Some
+returns-in-Some c = name_looked c.args.font.now c.args.f c.requires c.if-cid.false _ _ c.find_text-found.ensures _ (ap found_as_lem c.in-Some.is)

@@ -1,17 +1,39 @@
 -- `charstring::lookup` meets its contract: the pairs passed do not have the offset.
-use Rattle.std.proofs.Common.{ap, arith, length, refl, rules, sym, ◌+◌, ◌<◌, ◌∙◌}
+use Rattle.std.proofs.Common.{List, [], ap, arith, eq-eqb, get_or, length, ne_eqb, ℕ, sym, ◌++◌, ◌∙◌, ◌∷◌, ◌≡◌}
 use Rattle.charstring.specs.declared.MaskLen.TheVariants.{Given}
-use Rattle.charstring.specs.EncodeLaws.{lookup-here, lookup-on, lookup_end}
+use Rattle.charstring.specs.EncodeLaws.{lookup_end}
+use Rattle.charstring.specs.Token.{lookup}
 use Rattle.charstring.proofs.lookup.Goals as goal
 
-pub loop-i-init : goal.loop-i-init
-loop-i-init c = (refl, search rules, refl)
+-- one pair, and those behind it
+here : (xs ys : List ℕ) (at : ℕ) → length xs ≡ 2 → get_or xs 0 0 ≡ at → lookup (xs ++ ys) at ≡ Given (get_or xs 1 0)
+unfolding lookup
+here (o ∷ n ∷ []) ys at h e = rw (eq-eqb o at e)
+here [] ys at h e = cc
+here (o ∷ []) ys at h e = cc
+here (o ∷ n ∷ m ∷ xs) ys at h e = cc
 
-pub returns-then-offset-at : goal.returns-then-offset-at
-returns-then-offset-at c = let l = c.loop-i in let a = c.args in let h : l.i + 1 < length a.pairs.now = omega arith in ap Given c.wide-len.ensures.0 ∙ sym (lookup-here a.pairs.now a.at l.i h (sym c.wide-offset.ensures.0 ∙ c.if-offset-at.true)) ∙ l.invariant.2
+on : (xs ys : List ℕ) (at : ℕ) → length xs ≡ 2 → (get_or xs 0 0 ≡ at → ⊥) → lookup (xs ++ ys) at ≡ lookup ys at
+unfolding lookup
+on (o ∷ n ∷ []) ys at h e = rw (ne_eqb o at e)
+on [] ys at h e = cc
+on (o ∷ []) ys at h e = cc
+on (o ∷ n ∷ m ∷ xs) ys at h e = cc
 
-pub loop-i-preserved : goal.loop-i-preserved
-loop-i-preserved c = let l = c.loop-i in let a = c.args in let h : l.i + 1 < length a.pairs.now = omega arith in (l.invariant.0, omega arith, sym (lookup-on a.pairs.now a.at l.i h (λ e. c.if-offset-at.false (c.wide-offset.ensures.0 ∙ e))) ∙ l.invariant.2)
+pub returns-then-pair-at : goal.returns-then-pair-at
+returns-then-pair-at c =
+    let s = c.in-Some.ensures.steps in
+    let l = c.loop-pair.invariant in
+    sym (here _ _ c.args.at (s.1.1 ∙ l.0) c.if-pair-at.true) ∙ sym (ap (λ (r : List ℕ). lookup r c.args.at) s.1.0) ∙ l.1
+
+pub loop-pair-preserved : goal.loop-pair-preserved
+loop-pair-preserved c =
+    let s = c.in-Some.ensures.steps in
+    let l = c.loop-pair.invariant in
+    (s.0 ∙ l.0, sym (on _ _ c.args.at (s.1.1 ∙ l.0) c.if-pair-at.false) ∙ sym (ap (λ (r : List ℕ). lookup r c.args.at) s.1.0) ∙ l.1)
 
 pub returns : goal.returns
-returns c = let l = c.loop-i in let a = c.args in sym (lookup_end a.pairs.now a.at l.i (omega arith)) ∙ l.invariant.2
+returns c =
+    let s = c.in-None.ensures.steps in
+    let l = c.loop-pair.invariant in
+    sym (lookup_end _ c.args.at 0 (omega (arith, s.1.0, l.0))) ∙ l.1

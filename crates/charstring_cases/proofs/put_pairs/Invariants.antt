@@ -1,13 +1,9 @@
 -- The invariant: writing the numbers that are left gives what writing all of them gives.
-use Rattle.std.proofs.Common.{length, ◌-◌, ◌≡◌, ◌≤◌}
+use Rattle.std.proofs.Common.{◌≡◌}
 use Rattle.octets.specs.Octets.{put}
 use Rattle.charstring_cases.specs.Streams.{pairs_at}
 use Rattle.charstring_cases.specs.AnswersLaws.{pairs_left}
 use Rattle.charstring_cases.proofs.put_pairs.Given as goal
 
 abbrev pub invariant-loop-i : goal.invariant-loop-i
-invariant-loop-i l =
-    (l.i ≤ l.n) × (length l.pairs ≡ length l.initial.pairs) × (put l.pairs l.i (pairs_left l.input l.n l.i) ≡ put l.initial.pairs 0 (pairs_at l.input 1 l.n))
-
-abbrev pub decreases-loop-i : goal.decreases-loop-i
-decreases-loop-i l = l.n - l.i
+invariant-loop-i l = put l.pairs l.i (pairs_left l.input l.n l.i) ≡ put l.initial.pairs 0 (pairs_at l.input 1 l.n)

@@ -11,7 +11,7 @@ use Rattle.cases.specs.AnswersLaws.{starts-wrote, starts_as}
 use Rattle.charstring_cases.specs.StreamLaws.{listing_start, listing-next, listing-room, listing-turn, listing-cut, listing_end}
 use Rattle.charstring_cases.proofs.put_tokens.Goals as goal
 use Rattle.charstring_cases.proofs.put_tokens.Lts.View as view
-use Rattle.charstring_cases.proofs.put_tokens.Goals.{After-next_token, At-loop-c, In-Tok, In-loop-c}
+use Rattle.charstring_cases.proofs.put_tokens.Goals.{After-next_token, At-loop-c, In-Some, In-loop-c}
 
 abbrev given_of : At-loop-c → ℕ → MaskLen
 given_of c = lookup c.args.pairs.now
@@ -31,10 +31,10 @@ stepped c =
     c.next_token.ensures ∙ ap (λ (g : MaskLen). step_of (token_at c.args.code.now g c.loop-c.c)) c.given_at-given.ensures
 
 -- the token, and where it leads
-next : (c : In-Tok)
-    → (Next c.args.code.now c.loop-c.c (token_at c.args.code.now (given_at (given_of (view.up-At-loop-c _ _ _ _ _ c.before.before.before.before.before.before)) c.loop-c.c) c.loop-c.c) c.in-Tok.token c.in-Tok.next)
+next : (c : In-Some)
+    → (Next c.args.code.now c.loop-c.c (token_at c.args.code.now (given_at (given_of (view.up-At-loop-c _ _ _ _ _ c.before.before.before.before.before.before)) c.loop-c.c) c.loop-c.c) c.in-Some.token c.in-Some.next)
 next c =
-    listing-next (given_of (view.up-At-loop-c _ _ _ _ _ c.before.before.before.before.before.before)) c.args.code.now (bytes (view.up-At-loop-c _ _ _ _ _ c.before.before.before.before.before.before)) c.loop-c.c c.loop-c.out c.loop-c.p (going (view.up-In-loop-c _ _ _ _ _ c.before.before.before.before)) _ (stepped (view.up-After-next_token _ _ _ _ _ c.before.before)) c.loop-c.invariant.0.within _ _ c.in-Tok.is
+    listing-next (given_of (view.up-At-loop-c _ _ _ _ _ c.before.before.before.before.before.before)) c.args.code.now (bytes (view.up-At-loop-c _ _ _ _ _ c.before.before.before.before.before.before)) c.loop-c.c c.loop-c.out c.loop-c.p (going (view.up-In-loop-c _ _ _ _ _ c.before.before.before.before)) _ (stepped (view.up-After-next_token _ _ _ _ _ c.before.before)) c.loop-c.invariant.0.within _ _ c.in-Some.is
 
 pub loop-c-init : goal.loop-c-init
 loop-c-init c = (listing_start _ _ (λ i. (c.type_inv.code i).fits) _ c.start-c.ensures _ _ _ c.put_byte-p.ensures c.requires.0 (omega arith), refl, omega arith)
@@ -46,25 +46,25 @@ pub next_token-requires : goal.next_token-requires
 next_token-requires c = (c.loop-c.invariant.0.within, going (goal.at.next_token-requires c).In-loop-c)
 
 pub put_token-p-requires : goal.put_token-p-requires
-put_token-p-requires c = (measurable c.args.code.now c.in-Tok.token (next (goal.at.put_token-p-requires c).In-Tok).writable, omega (arith, (next (goal.at.put_token-p-requires c).In-Tok).moves.shorter, c.loop-c.invariant.0.room))
+put_token-p-requires c = (measurable c.args.code.now c.in-Some.token (next (goal.at.put_token-p-requires c).In-Some).writable, omega (arith, (next (goal.at.put_token-p-requires c).In-Some).moves.shorter, c.loop-c.invariant.0.room))
 
 pub loop-c-smaller : goal.loop-c-smaller
-loop-c-smaller c = (next (goal.at.loop-c-smaller c).In-Tok).moves.shorter
+loop-c-smaller c = (next (goal.at.loop-c-smaller c).In-Some).moves.shorter
 
 pub loop-c-preserved : goal.loop-c-preserved
 loop-c-preserved c =
     let g = going (goal.at.loop-c-preserved c).In-loop-c in
     let e = stepped (goal.at.loop-c-preserved c).After-next_token in
     let w = c.put_token-p.ensures in
-    let n = wrote-length w (listing-room (given_of (goal.at.loop-c-preserved c).At-loop-c) c.args.code.now (bytes (goal.at.loop-c-preserved c).At-loop-c) c.loop-c.c c.loop-c.out c.loop-c.p g _ e c.loop-c.invariant.0 _ _ c.in-Tok.is) in (
-      listing-turn (given_of (goal.at.loop-c-preserved c).At-loop-c) c.args.code.now (bytes (goal.at.loop-c-preserved c).At-loop-c) c.loop-c.c c.loop-c.out c.loop-c.p g _ e c.loop-c.invariant.0 _ _ c.in-Tok.is _ _ w,
+    let n = wrote-length w (listing-room (given_of (goal.at.loop-c-preserved c).At-loop-c) c.args.code.now (bytes (goal.at.loop-c-preserved c).At-loop-c) c.loop-c.c c.loop-c.out c.loop-c.p g _ e c.loop-c.invariant.0 _ _ c.in-Some.is) in (
+      listing-turn (given_of (goal.at.loop-c-preserved c).At-loop-c) c.args.code.now (bytes (goal.at.loop-c-preserved c).At-loop-c) c.loop-c.c c.loop-c.out c.loop-c.p g _ e c.loop-c.invariant.0 _ _ c.in-Some.is _ _ w,
       n ∙ c.loop-c.invariant.1,
       omega (arith, n, c.loop-c.invariant.2),
     )
 
-pub returns-in-Lost : goal.returns-in-Lost
-returns-in-Lost c =
-    starts_as (starts-wrote c.put_byte.ensures) (listing-cut (given_of (goal.at.returns-in-Lost c).At-loop-c) c.args.code.now (bytes (goal.at.returns-in-Lost c).At-loop-c) c.loop-c.c c.loop-c.out c.loop-c.p (going (goal.at.returns-in-Lost c).In-loop-c) _ (stepped (goal.at.returns-in-Lost c).After-next_token) c.loop-c.invariant.0 c.in-Lost.is)
+pub returns-in-None : goal.returns-in-None
+returns-in-None c =
+    starts_as (starts-wrote c.put_byte.ensures) (listing-cut (given_of (goal.at.returns-in-None c).At-loop-c) c.args.code.now (bytes (goal.at.returns-in-None c).At-loop-c) c.loop-c.c c.loop-c.out c.loop-c.p (going (goal.at.returns-in-None c).In-loop-c) _ (stepped (goal.at.returns-in-None c).After-next_token) c.loop-c.invariant.0 c.in-None.is)
 
 pub returns : goal.returns
 returns c = listing_end (given_of (goal.at.returns c).At-loop-c) c.args.code.now (bytes (goal.at.returns c).At-loop-c) c.loop-c.c c.loop-c.out c.loop-c.p c.loop-c.invariant.0 (sym c.more.ensures ∙ c.loop-c-test.false)

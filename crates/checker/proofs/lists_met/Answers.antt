@@ -12,15 +12,15 @@ pub windows_listed-requires : goal.windows_listed-requires
 windows_listed-requires c = (
   c.requires.0,
   c.requires.1,
-  met_plainly c.args.font.now c.args.f c.args.marks.now c.requires.2 _ _ _ c.fill.ensures _ c.in-Plain.is,
-  met_asks c.args.font.now c.args.f c.args.marks.now c.requires.2 _ _ _ c.fill.ensures _ c.in-Plain.is (slots-empty _ refl).size,
+  met_plainly c.args.font.now c.args.f c.args.marks.now c.requires.2 _ _ _ c.fill.ensures _ c.in-Some.is,
+  met_asks c.args.font.now c.args.f c.args.marks.now c.requires.2 _ _ _ c.fill.ensures _ c.in-Some.is (slots-empty _ refl).size,
 )
 
-pub returns-in-NotPlain : goal.returns-in-NotPlain
-returns-in-NotPlain c =
-    met_broken c.args.font.now c.args.f c.args.marks.now c.requires.2 _ _ _ c.fill.ensures c.in-NotPlain.is c.args.rows.now
+pub returns-in-None : goal.returns-in-None
+returns-in-None c =
+    met_broken c.args.font.now c.args.f c.args.marks.now c.requires.2 _ _ _ c.fill.ensures c.in-None.is c.args.rows.now
 
-pub returns-in-Plain : goal.returns-in-Plain
-returns-in-Plain c =
-    met-listed c.args.font.now c.args.f c.args.marks.now c.requires.2 _ _ _ c.fill.ensures _ c.in-Plain.is c.args.rows.now
+pub returns-in-Some : goal.returns-in-Some
+returns-in-Some c =
+    met-listed c.args.font.now c.args.f c.args.marks.now c.requires.2 _ _ _ c.fill.ensures _ c.in-Some.is c.args.rows.now
     (λ k. (c.type_inv.rows k).fits) _ c.windows_listed.ensures

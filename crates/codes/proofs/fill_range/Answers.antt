@@ -1,22 +1,18 @@
 -- `codes::fill_range` meets its contract: the codes of the range that are left give what all give.
-use Rattle.std.proofs.Common.{arith, length, ◌≤◌}
-use Rattle.codes.specs.FillLaws.{range-start, range-turn, range_done}
+use Rattle.std.proofs.Common.{◌≡◌, ◌+◌, ◌-◌, ◌<◌, ◌≤◌, arith}
+use Rattle.codes.specs.FillLaws.{range-turn, range_done}
 use Rattle.codes.proofs.fill_range.Goals as goal
 
-pub loop-left-init : goal.loop-left-init
-loop-left-init c = range-start _ _ _ _ _ c.requires.1 c.requires.2 c.requires.3
-
-pub name_glyph-requires : goal.name_glyph-requires
-name_glyph-requires c = let h : 256 ≤ length c.loop-left.table = omega (arith, c.loop-left.invariant.size, c.requires.0) in h
-
-pub overflow_add-code : goal.overflow_add-code
-overflow_add-code c = omega (arith, c.loop-left.invariant.codes)
-
-pub overflow_add-glyph : goal.overflow_add-glyph
-overflow_add-glyph c = omega (arith, c.loop-left.invariant.few)
-
-pub loop-left-preserved : goal.loop-left-preserved
-loop-left-preserved c = range-turn _ _ _ _ _ _ _ _ _ c.loop-left.invariant c.loop-left-test.true _ c.name_glyph.ensures
+pub loop-i-preserved : goal.loop-i-preserved
+loop-i-preserved c =
+    let i = c.loop-i.i in
+    let code : c.args.first + (i + 1) ≡ c.args.first + i + 1 = omega arith in
+    let glyph : c.args.from + (i + 1) ≡ c.args.from + i + 1 = omega arith in
+    let left : c.args.count - (i + 1) ≡ c.args.count - i - 1 = omega arith in
+    let some : 0 < c.args.count - i = omega (arith, c.loop-i-test.true) in
+    rw (code, glyph, left) (range-turn _ _ _ _ _ _ _ _ _ c.loop-i.invariant some _ c.name_glyph.ensures)
 
 pub returns : goal.returns
-returns c = range_done _ _ _ _ _ _ _ _ _ c.loop-left.invariant c.loop-left-test.false
+returns c =
+    let none : c.args.count - c.loop-i.i ≤ 0 = omega (arith, c.loop-i-test.false) in
+    range_done _ _ _ _ _ _ _ _ _ c.loop-i.invariant none

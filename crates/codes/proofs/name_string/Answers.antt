@@ -4,10 +4,10 @@ use Rattle.codes.specs.Filled.{stored}
 use Rattle.codes.specs.StringLaws.{string_stored}
 use Rattle.codes.proofs.name_string.Goals as goal
 
-pub returns-in-Absent : goal.returns-in-Absent
-returns-in-Absent c =
-    ap (stored c.args.table.now c.args.code) (sym c.in-Absent.is ∙ c.glyph_of_string-found.ensures)
+pub returns-in-None : goal.returns-in-None
+returns-in-None c =
+    ap (stored c.args.table.now c.args.code) (sym c.in-None.is ∙ c.glyph_of_string-found.ensures)
 
-pub returns-in-Glyph : goal.returns-in-Glyph
-returns-in-Glyph c =
-    c.name_glyph.ensures ∙ string_stored _ c.args.f c.requires.0 c.args.sid _ (sym c.in-Glyph.is ∙ c.glyph_of_string-found.ensures) _ _
+pub returns-in-Some : goal.returns-in-Some
+returns-in-Some c =
+    c.name_glyph.ensures ∙ string_stored _ c.args.f c.requires.0 c.args.sid _ (sym c.in-Some.is ∙ c.glyph_of_string-found.ensures) _ _

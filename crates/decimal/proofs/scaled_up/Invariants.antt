@@ -1,9 +1,6 @@
--- The invariant: what is left to multiply gives the whole product.
+-- The invariant: what is multiplied so far.
 use Rattle.std.proofs.Common.{◌*◌, ◌^◌, ◌≡◌}
 use Rattle.decimal.proofs.scaled_up.Given as goal
 
-abbrev pub invariant-loop-i : goal.invariant-loop-i
-invariant-loop-i l = l.n * 10 ^ l.i ≡ l.m * 10 ^ l.k
-
-abbrev pub decreases-loop-i : goal.decreases-loop-i
-decreases-loop-i l = l.i
+abbrev pub invariant-loop : goal.invariant-loop
+invariant-loop l = l.n ≡ l.m * 10 ^ l.counter

@@ -1,14 +1,17 @@
 -- `decimal_write::put_packed` meets its contract.
-use Rattle.std.proofs.Common.{arith, length-set, refl}
+use Rattle.std.proofs.Common.{arith, get_or, length, length-take, length-drop, take, take_all, drop-drop, refl, sym, List, ℕ, ◌+◌, ◌-◌, ◌<◌, ◌≤◌, ◌≡◌, ◌∙◌}
+use Rattle.std.proofs.Math.ListN.{set}
+use Rattle.std.proofs.lemmas.List.{take_more, take_more_set}
+use Rattle.octets.specs.Octets.{put}
 use Rattle.decimal.specs.Written.{real_text, packed}
-use Rattle.decimal_write.specs.TextLaws.{whole_width, packed-small, packed_start, packed-next, packed-wrote}
+use Rattle.decimal_write.specs.TextLaws.{whole_width, packed-at}
 use Rattle.decimal_write.proofs.put_packed.Goals as goal
 
-pub whole_width-w-requires : goal.whole_width-w-requires
-whole_width-w-requires c = c.requires.0
+next : (t xs : List ℕ) (i v : ℕ) → take i xs ≡ take i t → i < length xs → i < length t → v ≡ get_or t i 0 → take (i + 1) (set xs i v) ≡ take (i + 1) t
+next t xs i v e h k q = take_more_set xs i v h ∙ rw (e, q) (sym (take_more t i 0 k))
 
-pub loop-i-init : goal.loop-i-init
-loop-i-init c = let a = c.args in (omega arith, omega (arith, packed-small a.d c.requires.0), refl, packed_start a.out.now a.at (packed (real_text a.d)))
+all : (t xs : List ℕ) (i : ℕ) → take i xs ≡ take i t → length xs ≡ length t → length t ≤ i → xs ≡ t
+all t xs i e h k = sym (take_all i xs (omega arith)) ∙ (e ∙ take_all i t k)
 
 pub nibble-requires : goal.nibble-requires
 nibble-requires c = (c.requires.0, c.whole_width-w.ensures, omega (arith, whole_width c.args.d c.requires.0))
@@ -18,9 +21,17 @@ nibble-requires-in-loop-i c = (c.requires.0, c.whole_width-w.ensures, omega (ari
 
 pub loop-i-preserved : goal.loop-i-preserved
 loop-i-preserved c =
-    let a = c.args in
     let l = c.loop-i in
-    (omega arith, omega arith, simp length-set l.invariant.2, packed-next a.d a.out.now a.at (omega arith) l.out l.i l.invariant.3 _ _ (omega arith) c.nibble.ensures.0 c.nibble-in-loop-i.ensures.0)
+    let t = real_text c.args.d in
+    let k : l.i < length (packed t) = omega (arith, length-take {A = ℕ}, length-drop {A = ℕ}, c.requires.1) in
+    next (packed t) l.b-items l.i _ l.invariant (omega arith) k (omega (arith, packed-at t l.i k))
 
 pub returns : goal.returns
-returns c = let a = c.args in let l = c.loop-i in packed-wrote a.d a.out.now a.at (omega arith) l.out l.i l.invariant.3 a.n c.requires.1 c.loop-i-test.false
+unfolding put
+returns c =
+    let a = c.args in
+    let l = c.loop-i in
+    let m : length l.b-items ≡ length (packed (real_text a.d)) = omega (arith, length-take {A = ℕ}, length-drop {A = ℕ}, c.requires.1) in
+    let w : l.b-items ≡ packed (real_text a.d) = all (packed (real_text a.d)) l.b-items l.i l.invariant m (omega arith) in
+    let e : a.at + a.n - a.at ≡ length (packed (real_text a.d)) = omega (arith, c.requires.1) in
+    record { is = rw (w, e, drop-drop) refl; behind = omega (arith, c.requires.1) }

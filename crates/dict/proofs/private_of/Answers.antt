@@ -6,10 +6,10 @@ pub private_at-requires : goal.private_at-requires
 private_at-requires c = (operand_normal _ (λ i. (c.type_inv.d i).fits) _ _ _ _ c.operand.ensures, operand_normal _ (λ i. (c.type_inv.d i).fits) _ _ _ _ c.operand-then-count-eq2.ensures)
 
 pub returns-then-count-eq2 : goal.returns-then-count-eq2
-returns-then-count-eq2 c = private_is _ _ c.place.ensures _ _ c.in-Entry.is c.if-count-eq2.true _ _ c.operand.ensures c.operand-then-count-eq2.ensures _ c.private_at.ensures
+returns-then-count-eq2 c = private_is _ _ c.place.ensures _ _ c.in-Some.is c.if-count-eq2.true _ _ c.operand.ensures c.operand-then-count-eq2.ensures _ c.private_at.ensures
 
-pub returns-in-Absent : goal.returns-in-Absent
-returns-in-Absent c = private-absent _ _ c.place.ensures c.in-Absent.is
+pub returns-in-None : goal.returns-in-None
+returns-in-None c = private-absent _ _ c.place.ensures c.in-None.is
 
 pub returns-else-count-eq2 : goal.returns-else-count-eq2
-returns-else-count-eq2 c = private_wrong _ _ c.place.ensures _ _ c.in-Entry.is c.if-count-eq2.false
+returns-else-count-eq2 c = private_wrong _ _ c.place.ensures _ _ c.in-Some.is c.if-count-eq2.false

@@ -6,10 +6,10 @@ pub ros_at-requires : goal.ros_at-requires
 ros_at-requires c = (operand_normal _ (λ i. (c.type_inv.d i).fits) _ _ _ _ c.operand.ensures, operand_normal _ (λ i. (c.type_inv.d i).fits) _ _ _ _ c.operand-then-count-eq3.ensures, operand_normal _ (λ i. (c.type_inv.d i).fits) _ _ _ _ c.operand-then-count-eq3-2.ensures)
 
 pub returns-then-count-eq3 : goal.returns-then-count-eq3
-returns-then-count-eq3 c = ros_is _ _ c.place.ensures _ _ c.in-Entry.is c.if-count-eq3.true _ _ _ c.operand.ensures c.operand-then-count-eq3.ensures c.operand-then-count-eq3-2.ensures _ c.ros_at.ensures
+returns-then-count-eq3 c = ros_is _ _ c.place.ensures _ _ c.in-Some.is c.if-count-eq3.true _ _ _ c.operand.ensures c.operand-then-count-eq3.ensures c.operand-then-count-eq3-2.ensures _ c.ros_at.ensures
 
-pub returns-in-Absent : goal.returns-in-Absent
-returns-in-Absent c = ros-absent _ _ c.place.ensures c.in-Absent.is
+pub returns-in-None : goal.returns-in-None
+returns-in-None c = ros-absent _ _ c.place.ensures c.in-None.is
 
 pub returns-else-count-eq3 : goal.returns-else-count-eq3
-returns-else-count-eq3 c = ros_wrong _ _ c.place.ensures _ _ c.in-Entry.is c.if-count-eq3.false
+returns-else-count-eq3 c = ros_wrong _ _ c.place.ensures _ _ c.in-Some.is c.if-count-eq3.false

@@ -3,8 +3,8 @@ use Rattle.std.proofs.Common.{ap, length, ◌∙◌}
 use Rattle.dict_write.specs.WriteLaws.{copied-absent, copied-found}
 use Rattle.dict_write.proofs.copied_len.Goals as goal
 
-pub returns-in-Absent : goal.returns-in-Absent
-returns-in-Absent c = ap length (copied-absent _ _ _ c.place.ensures c.in-Absent.is)
+pub returns-in-None : goal.returns-in-None
+returns-in-None c = ap length (copied-absent _ _ _ c.place.ensures c.in-None.is)
 
-pub returns-in-Entry : goal.returns-in-Entry
-returns-in-Entry c = c.entry_len.ensures ∙ ap length (copied-found _ _ _ c.place.ensures _ _ c.in-Entry.is)
+pub returns-in-Some : goal.returns-in-Some
+returns-in-Some c = c.entry_len.ensures ∙ ap length (copied-found _ _ _ c.place.ensures _ _ c.in-Some.is)

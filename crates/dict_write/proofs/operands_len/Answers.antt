@@ -1,33 +1,27 @@
 -- `dict_write::operands_len` meets its contract: the length so far, and that of the operands that are left, make that of all.
-use Rattle.std.proofs.Common.{arith}
-use Rattle.dict_write.specs.EntryLaws.{none_left, none_refused, none_number, operand_taken, operand_first, measuring_start, measuring_end, measuring_sum, measuring_turn}
+use Rattle.std.proofs.Common.{arith, ◌+◌, ◌-◌, ◌≡◌}
+use Rattle.dict_write.specs.EntryLaws.{none_left, none_refused, none_number, operand_taken, operand_first, measuring_end, measuring_sum, measuring_turn}
 use Rattle.dict_write.specs.ShortLaws.{operands_short}
 use Rattle.dict.proofs.LookupLaws.{operands_out}
 use Rattle.dict_write.proofs.operands_len.Goals as goal
 
-pub loop-left-init : goal.loop-left-init
-loop-left-init c = measuring_start _ _ _
-
 pub returns-then-d-at : goal.returns-then-d-at
-returns-then-d-at c = measuring_end _ _ _ _ _ _ c.loop-left.invariant (operands_out _ _ _ c.if-d-at.true)
+returns-then-d-at c = measuring_end _ _ _ _ _ _ c.loop.invariant (operands_out _ _ _ c.if-d-at.true)
 
 pub number_len-len-requires : goal.number_len-len-requires
-number_len-len-requires c = (operand_taken _ _ c.loop-left.left _ c.number_at.ensures _ _ c.in-Num.is (λ i. (c.type_inv.d i).fits) c.if-d-at.false).normal
+number_len-len-requires c = (operand_taken _ _ (c.args.count - c.loop.counter) _ c.number_at.ensures _ _ c.in-Num.is (λ i. (c.type_inv.d i).fits) c.if-d-at.false).normal
 
 pub overflow_add-len : goal.overflow_add-len
-overflow_add-len c = omega (arith, measuring_sum _ _ _ _ _ _ c.loop-left.invariant _ _ (operand_first _ _ _ _ c.number_at.ensures _ _ c.in-Num.is c.loop-left-test.true), operands_short c.args.d.now (λ i. (c.type_inv.d i).fits) c.args.count c.args.start, c.number_len-len.ensures, c.requires)
+overflow_add-len c = omega (arith, measuring_sum _ _ _ _ _ _ c.loop.invariant _ _ (operand_first _ _ _ _ c.number_at.ensures _ _ c.in-Num.is (omega (arith, c.loop-test.true))), operands_short c.args.d.now (λ i. (c.type_inv.d i).fits) c.args.count c.args.start, c.number_len-len.ensures, c.requires)
 
-pub loop-left-smaller : goal.loop-left-smaller
-loop-left-smaller c = omega (arith, c.loop-left-test.true)
-
-pub loop-left-preserved : goal.loop-left-preserved
-loop-left-preserved c = measuring_turn _ _ _ _ _ _ c.loop-left.invariant _ _ (operand_first _ _ _ _ c.number_at.ensures _ _ c.in-Num.is c.loop-left-test.true) _ c.number_len-len.ensures
+pub loop-preserved : goal.loop-preserved
+loop-preserved c = let e : c.args.count - (c.loop.counter + 1) ≡ c.args.count - c.loop.counter - 1 = omega arith in rw e (measuring_turn _ _ _ _ _ _ c.loop.invariant _ _ (operand_first _ _ _ _ c.number_at.ensures _ _ c.in-Num.is (omega (arith, c.loop-test.true))) _ c.number_len-len.ensures)
 
 pub returns-in-NotNumber : goal.returns-in-NotNumber
-returns-in-NotNumber c = measuring_end _ _ _ _ _ _ c.loop-left.invariant (none_number _ _ _ _ c.number_at.ensures c.in-NotNumber.is)
+returns-in-NotNumber c = measuring_end _ _ _ _ _ _ c.loop.invariant (none_number _ _ _ _ c.number_at.ensures c.in-NotNumber.is)
 
 pub returns-in-Refused : goal.returns-in-Refused
-returns-in-Refused c = measuring_end _ _ _ _ _ _ c.loop-left.invariant (none_refused _ _ _ _ c.number_at.ensures _ c.in-Refused.is)
+returns-in-Refused c = measuring_end _ _ _ _ _ _ c.loop.invariant (none_refused _ _ _ _ c.number_at.ensures _ c.in-Refused.is)
 
 pub returns : goal.returns
-returns c = measuring_end _ _ _ _ _ _ c.loop-left.invariant (none_left _ _ _ c.loop-left-test.false)
+returns c = measuring_end _ _ _ _ _ _ c.loop.invariant (none_left _ _ _ (omega (arith, c.loop-test.false)))

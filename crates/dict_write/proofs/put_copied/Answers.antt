@@ -4,10 +4,10 @@ use Rattle.dict_write.specs.WriteLaws.{copied-absent, copied-found, copied-room}
 use Rattle.dict_write.proofs.put_copied.Goals as goal
 
 pub put_entry-requires : goal.put_entry-requires
-put_entry-requires c = (c.requires.0, copied-room _ _ _ c.place.ensures _ _ c.in-Entry.is _ _ c.requires.1)
+put_entry-requires c = (c.requires.0, copied-room _ _ _ c.place.ensures _ _ c.in-Some.is _ _ c.requires.1)
 
-pub returns-in-Absent : goal.returns-in-Absent
-returns-in-Absent c = wrote_as (wrote_none _ _) (copied-absent _ _ _ c.place.ensures c.in-Absent.is)
+pub returns-in-None : goal.returns-in-None
+returns-in-None c = wrote_as (wrote_none _ _) (copied-absent _ _ _ c.place.ensures c.in-None.is)
 
-pub returns-in-Entry : goal.returns-in-Entry
-returns-in-Entry c = wrote_as c.put_entry.ensures (copied-found _ _ _ c.place.ensures _ _ c.in-Entry.is)
+pub returns-in-Some : goal.returns-in-Some
+returns-in-Some c = wrote_as c.put_entry.ensures (copied-found _ _ _ c.place.ensures _ _ c.in-Some.is)

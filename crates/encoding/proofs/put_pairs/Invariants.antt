@@ -1,9 +1,5 @@
-use Rattle.std.proofs.Common.{◌-◌}
 use Rattle.encoding.specs.PutLaws.{PairsLeft}
 use Rattle.encoding.proofs.put_pairs.Given as goal
 
 abbrev pub invariant-loop-code : goal.invariant-loop-code
 invariant-loop-code l = PairsLeft l.table l.initial.out l.at l.out l.p l.code
-
-abbrev pub decreases-loop-code : goal.decreases-loop-code
-decreases-loop-code l = 256 - l.code

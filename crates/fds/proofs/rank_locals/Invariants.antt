@@ -1,5 +1,4 @@
 -- The invariant: the locals of the FDs in use below fd have their bits.
-use Rattle.std.proofs.Common.{length, ◌-◌, ◌≡◌, ◌≤◌}
 use Rattle.record.specs.Record.{rows_of}
 use Rattle.cff.specs.Reads.{program_of}
 use Rattle.fds.specs.LocalsLaws.{Ranking}
@@ -7,8 +6,4 @@ use Rattle.fds.proofs.rank_locals.Given as goal
 
 abbrev pub invariant-loop-fd : goal.invariant-loop-fd
 invariant-loop-fd l =
-    (l.fd ≤ 256) × (length l.words ≡ length l.initial.words) × (length l.table ≡ length l.initial.table)
-    × Ranking (program_of l.font l.f) (rows_of l.rows) l.used l.at l.initial.words l.words l.table l.place l.all l.fd
-
-abbrev pub decreases-loop-fd : goal.decreases-loop-fd
-decreases-loop-fd l = 256 - l.fd
+    Ranking (program_of l.font l.f) (rows_of l.rows) l.used l.at l.initial.words l.words l.table l.place l.all l.fd

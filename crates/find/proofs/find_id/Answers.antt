@@ -13,12 +13,6 @@ next_id-s-requires c = passing_ready c.args.font.now c.charset_start-u.result c.
 pub returns-then-here-id : goal.returns-then-here-id
 returns-then-here-id c = let i = ids-ahead c.args.font.now c.args.c c.args.n c.charset_start-u.result c.charset_start-u.ensures in sym (ap (glyph_with_id c.args.id 0) (sym i) ∙ c.loop-g.invariant.1 ∙ id_here _ _ (passing-inside c.args.font.now c.charset_start-u.result c.args.n c.loop-g.u c.loop-g.g c.loop-g.invariant.0 c.loop-g-test.true) _ (sym (passing_id c.args.font.now c.charset_start-u.result c.args.n c.loop-g.u c.loop-g.g c.loop-g.invariant.0 c.loop-g-test.true _ c.next_id-s.ensures.0) ∙ c.if-here-id.true))
 
-pub overflow_add-g : goal.overflow_add-g
-overflow_add-g c = omega (arith, c.loop-g-test.true)
-
-pub loop-g-smaller : goal.loop-g-smaller
-loop-g-smaller c = omega (arith, c.loop-g-test.true)
-
 pub loop-g-preserved : goal.loop-g-preserved
 loop-g-preserved c = (passing-next c.args.font.now c.charset_start-u.result c.args.n c.loop-g.u c.loop-g.g c.loop-g.invariant.0 c.loop-g-test.true _ c.next_id-s.ensures.0, c.loop-g.invariant.1 ∙ id_later _ _ (passing-inside c.args.font.now c.charset_start-u.result c.args.n c.loop-g.u c.loop-g.g c.loop-g.invariant.0 c.loop-g-test.true) _ (λ e. c.if-here-id.false (passing_id c.args.font.now c.charset_start-u.result c.args.n c.loop-g.u c.loop-g.g c.loop-g.invariant.0 c.loop-g-test.true _ c.next_id-s.ensures.0 ∙ e)))
 

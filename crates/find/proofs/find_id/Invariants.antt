@@ -1,4 +1,4 @@
-use Rattle.std.proofs.Common.{drop, ◌-◌, ◌≡◌}
+use Rattle.std.proofs.Common.{drop, ◌≡◌}
 use Rattle.find.specs.Find.{glyph_with_id}
 use Rattle.find.specs.FindLaws.{ids_ahead, Passing}
 use Rattle.find.proofs.find_id.Given as goal
@@ -6,6 +6,3 @@ use Rattle.find.proofs.find_id.Given as goal
 abbrev pub invariant-loop-g : goal.invariant-loop-g
 invariant-loop-g l =
     Passing l.font l.initial.u l.n l.u l.g × (glyph_with_id l.id 0 (ids_ahead l.font l.initial.u l.n) ≡ glyph_with_id l.id l.g (drop l.g (ids_ahead l.font l.initial.u l.n)))
-
-abbrev pub decreases-loop-g : goal.decreases-loop-g
-decreases-loop-g l = l.n - l.g

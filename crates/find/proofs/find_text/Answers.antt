@@ -13,17 +13,8 @@ loop-g-init c = (passing-start _ c.args.c _ _ c.requires.0 c.charset_start-u.ens
 pub next_id-s-requires : goal.next_id-s-requires
 next_id-s-requires c = passing_ready c.args.font.now c.charset_start-u.result c.args.n c.loop-g.u c.loop-g.g c.loop-g.invariant.0 c.loop-g-test.true
 
-pub is_named-requires : goal.is_named-requires
-is_named-requires c = (c.requires.1, c.requires.2)
-
 pub returns-then-is_named : goal.returns-then-is_named
 returns-then-is_named c = let s = c.args in let i = ids-ahead s.font.now s.c s.n c.charset_start-u.result c.charset_start-u.ensures in let e = passing_id c.args.font.now c.charset_start-u.result c.args.n c.loop-g.u c.loop-g.g c.loop-g.invariant.0 c.loop-g-test.true _ c.next_id-s.ensures.0 in sym (ap (glyph_with_text (items_of c.args.font.now c.args.strings) c.args.name.now 0) (sym i) ∙ c.loop-g.invariant.1 ∙ text-here _ _ (passing-inside c.args.font.now c.charset_start-u.result c.args.n c.loop-g.u c.loop-g.g c.loop-g.invariant.0 c.loop-g-test.true) _ _ (ap (λ j. same_text_lem (string_text (items_of s.font.now s.strings) j) s.name.now) (sym e) ∙ sym c.is_named.ensures ∙ c.if-is_named.true))
-
-pub overflow_add-g : goal.overflow_add-g
-overflow_add-g c = omega (arith, c.loop-g-test.true)
-
-pub loop-g-smaller : goal.loop-g-smaller
-loop-g-smaller c = omega (arith, c.loop-g-test.true)
 
 pub loop-g-preserved : goal.loop-g-preserved
 loop-g-preserved c = let s = c.args in let e = passing_id c.args.font.now c.charset_start-u.result c.args.n c.loop-g.u c.loop-g.g c.loop-g.invariant.0 c.loop-g-test.true _ c.next_id-s.ensures.0 in (passing-next c.args.font.now c.charset_start-u.result c.args.n c.loop-g.u c.loop-g.g c.loop-g.invariant.0 c.loop-g-test.true _ c.next_id-s.ensures.0, c.loop-g.invariant.1 ∙ text-later _ _ (passing-inside c.args.font.now c.charset_start-u.result c.args.n c.loop-g.u c.loop-g.g c.loop-g.invariant.0 c.loop-g-test.true) _ _ (ap (λ j. same_text_lem (string_text (items_of s.font.now s.strings) j) s.name.now) (sym e) ∙ sym c.is_named.ensures ∙ c.if-is_named.false))

@@ -1,4 +1,4 @@
-use Rattle.std.proofs.Common.{drop, ◌-◌, ◌≡◌}
+use Rattle.std.proofs.Common.{drop, ◌≡◌}
 use Rattle.index.specs.Index.{items_of}
 use Rattle.find.specs.Find.{glyph_with_text}
 use Rattle.find.specs.FindLaws.{ids_ahead, Passing}
@@ -7,6 +7,3 @@ use Rattle.find.proofs.find_text.Given as goal
 abbrev pub invariant-loop-g : goal.invariant-loop-g
 invariant-loop-g l =
     Passing l.font l.initial.u l.n l.u l.g × (glyph_with_text (items_of l.font l.strings) l.name 0 (ids_ahead l.font l.initial.u l.n) ≡ glyph_with_text (items_of l.font l.strings) l.name l.g (drop l.g (ids_ahead l.font l.initial.u l.n)))
-
-abbrev pub decreases-loop-g : goal.decreases-loop-g
-decreases-loop-g l = l.n - l.g

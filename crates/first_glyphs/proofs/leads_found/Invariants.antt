@@ -1,5 +1,5 @@
 -- The invariant: the leads of the glyphs that were passed are marked, and the glyphs that are left are the first of their leads exactly where all are.
-use Rattle.std.proofs.Common.{length, ◌-◌, ◌≡◌}
+use Rattle.std.proofs.Common.{◌-◌, ◌≡◌}
 use Rattle.bits.specs.Bits.{bit_in}
 use Rattle.find.specs.FindLaws.{ids_ahead, Passing}
 use Rattle.subset.specs.Kept.{those}
@@ -10,8 +10,5 @@ use Rattle.first_glyphs.proofs.leads_found.Given as goal
 
 abbrev pub invariant-loop-g : goal.invariant-loop-g
 invariant-loop-g l =
-    Passing l.font l.initial.u l.n l.u l.g × Seen (lead_ids l.leads (ids_ahead l.font l.initial.u l.n)) l.g (bit_in l.seen 0) × (length l.seen ≡ 2048) × (length l.seen ≡ length l.initial.seen)
+    Passing l.font l.initial.u l.n l.u l.g × Seen (lead_ids l.leads (ids_ahead l.font l.initial.u l.n)) l.g (bit_in l.seen 0)
     × (all_of (cid_found (lead_ids l.leads (ids_ahead l.font l.initial.u l.n))) (those (bit_in l.flags 0) (l.n - l.g) l.g) ≡ all_of (cid_found (lead_ids l.leads (ids_ahead l.font l.initial.u l.n))) (those (bit_in l.flags 0) l.n 0))
-
-abbrev pub decreases-loop-g : goal.decreases-loop-g
-decreases-loop-g l = l.n - l.g

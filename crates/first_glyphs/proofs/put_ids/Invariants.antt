@@ -1,5 +1,5 @@
 -- The invariant: the ids of the glyphs that were passed are marked, and they are in front.
-use Rattle.std.proofs.Common.{length, take, ◌-◌, ◌≡◌, ◌≤◌}
+use Rattle.std.proofs.Common.{take, ◌≤◌}
 use Rattle.bits.specs.Bits.{bit_in}
 use Rattle.find.specs.FindLaws.{ids_ahead, Passing}
 use Rattle.first_glyphs.specs.Lead.{HasIds}
@@ -8,8 +8,5 @@ use Rattle.first_glyphs.proofs.put_ids.Given as goal
 
 abbrev pub invariant-loop-g : goal.invariant-loop-g
 invariant-loop-g l =
-    Passing l.font l.initial.u l.n l.u l.g × Seen (ids_ahead l.font l.initial.u l.n) l.g (bit_in l.seen 0) × (length l.seen ≡ 2048) × (length l.seen ≡ length l.initial.seen) × (length l.ids ≡ length l.initial.ids)
+    Passing l.font l.initial.u l.n l.u l.g × Seen (ids_ahead l.font l.initial.u l.n) l.g (bit_in l.seen 0)
     × (l.k ≤ l.g) × HasIds (ids_ahead l.font l.initial.u l.n) l.g (take l.k l.ids)
-
-abbrev pub decreases-loop-g : goal.decreases-loop-g
-decreases-loop-g l = l.n - l.g

@@ -1,5 +1,5 @@
 -- `found::names_met` meets its contract.
-use Rattle.std.proofs.Common.{List, ap, arith, get_or, length, refl, sym, ℕ, ◌+◌, ◌<◌, ◌∙◌, ◌≡◌}
+use Rattle.std.proofs.Common.{List, ap, arith, get_or, length, sym, ℕ, ◌+◌, ◌<◌, ◌∙◌, ◌≡◌}
 use Rattle.bits.specs.Bits.{bit_in}
 use Rattle.index.specs.Index.{items_of}
 use Rattle.strings.specs.Strings.{string_text}
@@ -14,7 +14,7 @@ use Rattle.found.specs.HashLaws.{hash-by, met-none, new-found, met_next, met-aga
 use Rattle.found.specs.FlagsLaws.{all-next, all-fails, all_ended}
 use Rattle.found.proofs.names_met.Goals as goal
 use Rattle.found.proofs.names_met.Lts.View as view
-use Rattle.found.proofs.names_met.Goals.{After-looks_left-looks, After-slice_known-in-loop-g-1}
+use Rattle.found.proofs.names_met.Goals.{After-looks_left-looks, After-slice_known-in-loop-g-1, then-see+else-flag, else-see+else-looks-eq0+else-not-flagged_found}
 
 below : (t : After-slice_known-in-loop-g-1) → t.loop-g.g < t.args.n
 below t = omega (arith, t.flags_end-end.ensures.0, t.loop-g-test.true)
@@ -42,56 +42,19 @@ seen-then : (t : After-slice_known-in-loop-g-1) → Seen (ids_of t.args.font.now
 seen-then t = seen_next _ t.loop-g.g _ t.loop-g.invariant.2 _ (id_is t) _ t.see.ensures.bits
 
 pub loop-g-init : goal.loop-g-init
-loop-g-init c = (
-  passing-start _ c.args.c _ _ c.requires.0 c.charset_start-u.ensures,
-  met-none _ _ _,
-  seen_none _ _ c.requires.6.none,
-  c.requires.5,
-  refl,
-  c.requires.6.size,
-  refl,
-  omega arith,
-  omega arith,
-  all_start _ _ _,
-)
+loop-g-init c =
+    (passing-start _ c.args.c _ _ c.requires.0 c.charset_start-u.ensures, met-none _ _ _, seen_none _ _ c.requires.6.none, omega arith, all_start _ _ _)
 
 pub next_id-s-requires : goal.next_id-s-requires
 next_id-s-requires c =
-    let e = c.flags_end-end.ensures.0 in
-    passing_ready _ _ _ _ _ c.loop-g.invariant.0 (omega (arith, e, c.loop-g-test.true))
-
-pub has_bit-flag-requires : goal.has_bit-flag-requires
-has_bit-flag-requires c =
-    omega (arith, c.flags_end-end.ensures.0, c.loop-g-test.true, c.requires.2)
-
-pub see-requires : goal.see-requires
-see-requires c = omega (arith, c.next_id-s.ensures.1, c.loop-g.invariant.5)
+    passing_ready _ _ _ _ _ c.loop-g.invariant.0 (omega (arith, c.flags_end-end.ensures.0, c.loop-g-test.true))
 
 pub returns-then-flag : goal.returns-then-flag
 returns-then-flag c =
     let l = c.loop-g in
     all_stops (name_found (items_of c.args.font.now c.args.strings) (ids_of c.args.font.now c.args.c c.args.n))
     (bit_in c.args.flags.now 0) c.args.n l.g (below (goal.at.returns-then-flag c).After-slice_known-in-loop-g-1) (sym c.has_bit-flag.ensures ∙ c.if-flag.true)
-    (seen_not_named _ _ l.g _ l.invariant.2 _ (id_is (goal.at.returns-then-flag c).After-slice_known-in-loop-g-1) (inside (goal.at.returns-then-flag c).After-slice_known-in-loop-g-1) (sym c.see.ensures.was ∙ c.if-see.true)) ∙ l.invariant.9
-
-pub loop-g-preserved-then-see : goal.loop-g-preserved-then-see
-loop-g-preserved-then-see c =
-    let l = c.loop-g in (
-      passed (goal.at.loop-g-preserved-then-see c).After-slice_known-in-loop-g-1,
-      met-again _ _ l.g _ l.invariant.1 _ l.invariant.2 _ (id_is (goal.at.loop-g-preserved-then-see c).After-slice_known-in-loop-g-1) (sym c.see.ensures.was ∙ c.if-see.true),
-      seen-then (goal.at.loop-g-preserved-then-see c).After-slice_known-in-loop-g-1,
-      l.invariant.3,
-      l.invariant.4,
-      c.see.ensures.size ∙ l.invariant.5,
-      c.see.ensures.size ∙ l.invariant.6,
-      l.invariant.7,
-      omega (arith, c.loop-g-test.true),
-      all-passed (name_found (items_of c.args.font.now c.args.strings) (ids_of c.args.font.now c.args.c c.args.n))
-          (bit_in c.args.flags.now 0) c.args.n l.g (below (goal.at.loop-g-preserved-then-see c).After-slice_known-in-loop-g-1) (sym c.has_bit-flag.ensures ∙ c.if-flag.false) ∙ l.invariant.9,
-    )
-
-pub returns-then-looks-eq0 : goal.returns-then-looks-eq0
-returns-then-looks-eq0 c = refl
+    (seen_not_named _ _ l.g _ l.invariant.2 _ (id_is (goal.at.returns-then-flag c).After-slice_known-in-loop-g-1) (inside (goal.at.returns-then-flag c).After-slice_known-in-loop-g-1) (sym c.see.ensures.was ∙ c.if-see.true)) ∙ l.invariant.4
 
 pub flagged_found-requires : goal.flagged_found-requires
 flagged_found-requires c =
@@ -105,27 +68,33 @@ flagged_found-requires c =
 pub loop-g-preserved : goal.loop-g-preserved
 loop-g-preserved c =
     let l = c.loop-g in
-    let b = c.args.font.now in (
-      passed (goal.at.loop-g-preserved c).After-slice_known-in-loop-g-1,
-      met_next _ _ l.g _ l.invariant.1 _ (hashed (goal.at.loop-g-preserved c).After-looks_left-looks) _ c.meet-new.ensures.bits,
-      seen-then (goal.at.loop-g-preserved c).After-slice_known-in-loop-g-1,
-      c.meet-new.ensures.size ∙ l.invariant.3,
-      c.meet-new.ensures.size ∙ l.invariant.4,
-      c.see.ensures.size ∙ l.invariant.5,
-      c.see.ensures.size ∙ l.invariant.6,
-      omega (arith, c.if-looks-eq0.false),
-      omega (arith, c.loop-g-test.true),
-      all-next (name_found (items_of b c.args.strings) (ids_of b c.args.c c.args.n)) (bit_in c.args.flags.now 0) c.args.n l.g (below (goal.at.loop-g-preserved c).After-slice_known-in-loop-g-1) _ c.has_bit-flag.ensures
-          (sym c.flagged_found.ensures ∙ c.if-flagged_found.true) ∙ l.invariant.9,
-    )
-
-pub returns-else-flagged_found : goal.returns-else-flagged_found
-returns-else-flagged_found c =
     let b = c.args.font.now in
-    all-fails (name_found (items_of b c.args.strings) (ids_of b c.args.c c.args.n)) (bit_in c.args.flags.now 0) c.args.n c.loop-g.g (below (goal.at.returns-else-flagged_found c).After-slice_known-in-loop-g-1) _ c.has_bit-flag.ensures
-    (sym c.flagged_found.ensures ∙ c.if-flagged_found.false) ∙ c.loop-g.invariant.9
+    let s = (goal.at.loop-g-preserved c).After-slice_known-in-loop-g-1 in
+    elim c.if-see.branch [
+      | then-see+else-flag w ↦ rw (w.marks-is, w.looks-is) (
+        passed s,
+        met-again _ _ l.g _ l.invariant.1 _ l.invariant.2 _ (id_is s) (sym c.see.ensures.was ∙ w.if-see.true),
+        seen-then s,
+        l.invariant.3,
+        all-passed (name_found (items_of b c.args.strings) (ids_of b c.args.c c.args.n)) (bit_in c.args.flags.now 0) c.args.n l.g (below s) (sym c.has_bit-flag.ensures ∙ w.if-flag.false) ∙ l.invariant.4,
+      )
+      | else-see+else-looks-eq0+else-not-flagged_found w ↦ rw (w.marks-is, w.looks-is) (
+        passed s,
+        met_next _ _ l.g _ l.invariant.1 _ (hash-by _ (ids_of b c.args.c c.args.n) l.g c.next_id-s.result.id _ _ (id_is s) w.text_at-name.ensures w.hash_of.ensures.0) _ w.meet-new.ensures.bits,
+        seen-then s,
+        omega (arith, w.if-looks-eq0.false),
+        all-next (name_found (items_of b c.args.strings) (ids_of b c.args.c c.args.n)) (bit_in c.args.flags.now 0) c.args.n l.g (below s) _ c.has_bit-flag.ensures
+            (sym w.flagged_found.ensures ∙ w.if-not-flagged_found.false) ∙ l.invariant.4,
+      )
+    ]
+
+pub returns-then-not-flagged_found : goal.returns-then-not-flagged_found
+returns-then-not-flagged_found c =
+    let b = c.args.font.now in
+    all-fails (name_found (items_of b c.args.strings) (ids_of b c.args.c c.args.n)) (bit_in c.args.flags.now 0) c.args.n c.loop-g.g (below (goal.at.returns-then-not-flagged_found c).After-slice_known-in-loop-g-1) _ c.has_bit-flag.ensures
+    (sym c.flagged_found.ensures ∙ c.if-not-flagged_found.true) ∙ c.loop-g.invariant.4
 
 pub returns : goal.returns
 returns c =
     let e = c.flags_end-end.ensures.1 in
-    all_ended _ c.args.flags.now _ _ _ c.loop-g-test.false e ∙ c.loop-g.invariant.9
+    all_ended _ c.args.flags.now _ _ _ c.loop-g-test.false e ∙ c.loop-g.invariant.4

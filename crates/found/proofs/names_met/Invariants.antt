@@ -1,5 +1,5 @@
 -- The invariant: the names and the ids of the glyphs that were passed are marked, and the glyphs that are left are found exactly where all are. An open answer says nothing.
-use Rattle.std.proofs.Common.{length, ◌-◌, ◌<◌, ◌≡◌, ◌≤◌}
+use Rattle.std.proofs.Common.{◌-◌, ◌<◌, ◌≡◌}
 use Rattle.bits.specs.Bits.{bit_in}
 use Rattle.index.specs.Index.{items_of}
 use Rattle.charset.specs.CharsetPlaces.{ids_of}
@@ -12,10 +12,6 @@ use Rattle.found.proofs.names_met.Given as goal
 
 abbrev pub invariant-loop-g : goal.invariant-loop-g
 invariant-loop-g l =
-    Passing l.font l.initial.u l.n l.u l.g × MetNames (items_of l.font l.strings) (ids_of l.font l.c l.n) l.g (bit_in l.marks 0) × Seen (ids_of l.font l.c l.n) l.g (bit_in l.seen 0) × (length l.marks ≡ 4096) × (length l.marks ≡ length l.initial.marks)
-    × (length l.seen ≡ 2048) × (length l.seen ≡ length l.initial.seen) × (0 < l.looks) × (l.g ≤ l.end)
+    Passing l.font l.initial.u l.n l.u l.g × MetNames (items_of l.font l.strings) (ids_of l.font l.c l.n) l.g (bit_in l.marks 0) × Seen (ids_of l.font l.c l.n) l.g (bit_in l.seen 0) × (0 < l.looks)
     × (all_of (name_found (items_of l.font l.strings) (ids_of l.font l.c l.n)) (those (bit_in l.flags 0) (l.n - l.g) l.g)
     ≡ all_of (name_found (items_of l.font l.strings) (ids_of l.font l.c l.n)) (those (bit_in l.flags 0) l.n 0))
-
-abbrev pub decreases-loop-g : goal.decreases-loop-g
-decreases-loop-g l = l.end - l.g

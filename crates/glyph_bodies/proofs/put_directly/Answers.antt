@@ -51,12 +51,6 @@ put_end-requires c =
     end_asked c.requires.0 c.requires.1 c.args.out.now c.requires.2 c.index_for-to.ensures _ c.put_head.auto.out c.loop-i.invariant.0 (turned (goal.at.put_end-requires c).Joined-u-i) c.loop-i-test.true _ c.glyph_at-glyph.ensures
     c.put_charstring-p.ensures
 
-pub overflow_add-i : goal.overflow_add-i
-overflow_add-i c = omega (arith, c.loop-i-test.true, c.requires.1.few)
-
-pub loop-i-smaller : goal.loop-i-smaller
-loop-i-smaller c = omega (arith, c.loop-i-test.true)
-
 pub loop-i-preserved : goal.loop-i-preserved
 loop-i-preserved c = (
   put_next c.requires.0 c.requires.1 c.args.out.now c.requires.2 c.index_for-to.ensures _ c.put_head.auto.out c.loop-i.invariant.0 (turned (goal.at.loop-i-preserved c).Joined-u-i) c.loop-i-test.true _ c.glyph_at-glyph.ensures

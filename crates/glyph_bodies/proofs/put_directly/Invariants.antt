@@ -1,5 +1,4 @@
 -- The invariant: the charstrings of the first i kept glyphs were written, and the window comes to place i.
-use Rattle.std.proofs.Common.{◌-◌}
 use Rattle.record.specs.Record.{rows_of}
 use Rattle.order_window.specs.Window.{Looping}
 use Rattle.bodies.specs.Ways.{many_of, every}
@@ -10,6 +9,3 @@ use Rattle.glyph_bodies.proofs.put_directly.Given as goal
 abbrev pub invariant-loop-i : goal.invariant-loop-i
 invariant-loop-i l =
     Writing l.initial.out l.to (many_of (charstrings_by l.from l.f (rows_of l.rows) l.words l.table l.font)) every l.n l.i l.i l.out l.p × Looping l.font l.f l.words l.initial.window l.initial.u l.window l.u l.i
-
-abbrev pub decreases-loop-i : goal.decreases-loop-i
-decreases-loop-i l = l.n - l.i

@@ -63,29 +63,23 @@ windowed_len-requires c = (
 
 pub overflow_add-total : goal.overflow_add-total
 overflow_add-total c =
-    let m = total-room c.requires.0 c.requires.1 (turned (goal.at.overflow_add-total c).Joined-u-i) c.loop-i-test.true _ c.glyph_at-glyph.ensures _ c.loop-i.invariant.0 _ (c.windowed_len.ensures.0, c.windowed_len.ensures.1) _ c.in-Len.is in
+    let m = total-room c.requires.0 c.requires.1 (turned (goal.at.overflow_add-total c).Joined-u-i) c.loop-i-test.true _ c.glyph_at-glyph.ensures _ c.loop-i.invariant.0 _ (c.windowed_len.ensures.0, c.windowed_len.ensures.1) _ c.in-Some.is in
     omega (arith, m)
-
-pub overflow_add-i : goal.overflow_add-i
-overflow_add-i c = omega (arith, c.loop-i-test.true, c.requires.1.few)
-
-pub loop-i-smaller : goal.loop-i-smaller
-loop-i-smaller c = omega (arith, c.loop-i-test.true)
 
 pub loop-i-preserved : goal.loop-i-preserved
 loop-i-preserved c = (
-  total-next c.requires.0 c.requires.1 (turned (goal.at.loop-i-preserved c).Joined-u-i) c.loop-i-test.true _ c.glyph_at-glyph.ensures _ c.loop-i.invariant.0 _ (c.windowed_len.ensures.0, c.windowed_len.ensures.1) _ c.in-Len.is,
+  total-next c.requires.0 c.requires.1 (turned (goal.at.loop-i-preserved c).Joined-u-i) c.loop-i-test.true _ c.glyph_at-glyph.ensures _ c.loop-i.invariant.0 _ (c.windowed_len.ensures.0, c.windowed_len.ensures.1) _ c.in-Some.is,
   (turned (goal.at.loop-i-preserved c).Joined-u-i).next,
   c.windowed_len.ensures.2,
   c.windowed_len.auto.keys ∙ keys-long (goal.at.loop-i-preserved c).After-advance-masks,
   c.windowed_len.auto.bytes ∙ bytes_long (goal.at.loop-i-preserved c).After-advance-masks,
 )
 
-pub returns-in-Failed : goal.returns-in-Failed
-returns-in-Failed c = (
-  total_failed c.requires.0 c.requires.1 (turned (goal.at.returns-in-Failed c).Joined-u-i) c.loop-i-test.true _ c.glyph_at-glyph.ensures _ c.loop-i.invariant.0 _ (c.windowed_len.ensures.0, c.windowed_len.ensures.1) c.in-Failed.is,
+pub returns-in-None : goal.returns-in-None
+returns-in-None c = (
+  total_failed c.requires.0 c.requires.1 (turned (goal.at.returns-in-None c).Joined-u-i) c.loop-i-test.true _ c.glyph_at-glyph.ensures _ c.loop-i.invariant.0 _ (c.windowed_len.ensures.0, c.windowed_len.ensures.1) c.in-None.is,
   tt,
-  order_end _ _ _ _ c.requires.1 _ _ _ (turned (goal.at.returns-in-Failed c).Joined-u-i).next,
+  order_end _ _ _ _ c.requires.1 _ _ _ (turned (goal.at.returns-in-None c).Joined-u-i).next,
 )
 
 pub returns : goal.returns

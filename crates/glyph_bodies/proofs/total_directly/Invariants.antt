@@ -1,5 +1,4 @@
 -- The invariant: the charstrings of the first i kept glyphs were measured, and the window comes to place i.
-use Rattle.std.proofs.Common.{◌-◌}
 use Rattle.record.specs.Record.{rows_of}
 use Rattle.order_window.specs.Window.{Looping}
 use Rattle.bodies.specs.Ways.{every}
@@ -10,6 +9,3 @@ use Rattle.glyph_bodies.proofs.total_directly.Given as goal
 abbrev pub invariant-loop-i : goal.invariant-loop-i
 invariant-loop-i l =
     Adding (charstring_at l.from l.f (rows_of l.rows) l.words l.table l.font) every l.n l.i l.total × Looping l.font l.f l.words l.initial.window l.initial.u l.window l.u l.i
-
-abbrev pub decreases-loop-i : goal.decreases-loop-i
-decreases-loop-i l = l.n - l.i

@@ -1,5 +1,5 @@
 -- The invariant: the window, of which the first word was asked for, comes to place i, and the CIDs of i glyphs are written, of which the format was the beginning.
-use Rattle.std.proofs.Common.{List, [], length, ℕ, ◌+◌, ◌-◌, ◌<◌, ◌∷◌, ◌≤◌}
+use Rattle.std.proofs.Common.{List, [], length, ℕ, ◌+◌, ◌∷◌, ◌≤◌}
 use Rattle.octets.specs.Octets.{Wrote}
 use Rattle.charset.specs.CharsetBytes.{charset_bytes}
 use Rattle.order_window.specs.declared.Held.{Held}
@@ -10,9 +10,6 @@ use Rattle.glyph_tables.proofs.put_charset_cid.Given as goal
 
 abbrev pub invariant-loop-i : goal.invariant-loop-i
 invariant-loop-i l =
-    (0 < l.i) × ((old : List ℕ) (h : Held) → Looping l.font l.f l.words old h l.initial.window l.initial.u 1 → Looping l.font l.f l.words old h l.window l.u l.i)
+    ((old : List ℕ) (h : Held) → Looping l.font l.f l.words old h l.initial.window l.initial.u 1 → Looping l.font l.f l.words old h l.window l.u l.i)
     × ((old : List ℕ) → Wrote old l.at (0 ∷ []) l.initial.out l.initial.p → l.at + length (charset_bytes (kept_cids l.font l.f l.words)) ≤ length old
     → CharsetPut old l.at (kept_cids l.font l.f l.words) l.out l.p l.i)
-
-abbrev pub decreases-loop-i : goal.decreases-loop-i
-decreases-loop-i l = l.count - l.i

@@ -1,41 +1,51 @@
 -- `hexlines::is_hex` meets its contract.
-use Rattle.std.proofs.Common.{arith, get_or, refl, rules, sym, ◌+◌, ◌∙◌, ◌≡◌}
-use Rattle.hexlines.specs.Hexlines.{hex_value_lem}
-use Rattle.hexlines.specs.HexlinesLaws.{hex-none, hex-odd, hex-high, hex-low, hex-next}
+use Rattle.std.specs.Prelude.{ℕ, List, [], ◌∷◌, ◌%◌, length, take, drop, ◌-◌, ltb, false, ◌&&◌, ◌≡◌, refl}
+use Rattle.std.specs.List.{list_all}
+use Rattle.std.proofs.Common.{arith, rules, sym, ◌∙◌}
+use Rattle.std.proofs.lemmas.Iterator.{YieldsList-from_slice}
+use Rattle.std.proofs.lemmas.Iterator.Search.{all_from_yields_List}
+use Rattle.std.proofs.lemmas.Slice.{between_is}
+use borrow.Author.Tests.{lt-ltb, le-ltb, ltb-true, ltb-false, ne_eqb, tests}
+use lib.Seq.{slice, length-slice}
+use Rattle.octets.specs.Pick.{pick, pick_ind}
+use Rattle.octets.specs.PickLaws.{pick_same}
+use Rattle.hexlines.specs.Hexlines.{hex_value_lem, is_hex_lem}
 use Rattle.hexlines.proofs.is_hex.Goals as goal
-use Rattle.hexlines.proofs.is_hex.Goals.{After-hex_value-low}
 
--- what the digits' values are
-high : (c : After-hex_value-low)
-    → c.hex_value-high.result ≡ hex_value_lem (get_or c.args.s.now c.loop-i.i 0)
-high c = c.hex_value-high.ensures.0
+part : (s : List ℕ) (at end : ℕ) → take (end - at) (drop at s) ≡ slice at end s
+part s at end = search (rules, between_is)
 
-low : (c : After-hex_value-low) → c.hex_value-low.result ≡ hex_value_lem (get_or c.args.s.now (c.loop-i.i + 1) 0)
-low c = c.hex_value-low.ensures.0
+-- an even number of digits, and each is one
+digits : (text : List ℕ) → length text % 2 ≡ 0 → list_all (λ x. ltb (hex_value_lem x) 16) text ≡ is_hex_lem text
+unfolding is_hex_lem
+digits [] e = refl
+digits (x ∷ []) e = absurd (omega arith)
+digits (x ∷ (y ∷ text)) e =
+    let high = hex_value_lem x in
+    let low = hex_value_lem y in
+    let all = list_all (λ z. ltb (hex_value_lem z) 16) text in
+    pick_ind (λ t. (ltb high 16 && (ltb low 16 && all)) ≡ t) (ltb 15 high) false (pick (ltb 15 low) false (is_hex_lem text))
+    (λ u. simp (le-ltb high 16 (ltb-true 15 high u)))
+    (λ u. simp (lt-ltb high 16 (omega (arith, ltb-false 15 high u)))
+    (pick_ind (λ t. (ltb low 16 && all) ≡ t) (ltb 15 low) false (is_hex_lem text)
+    (λ v. simp (le-ltb low 16 (omega (arith, ltb-true 15 low v))))
+    (λ v. simp (lt-ltb low 16 (omega (arith, ltb-false 15 low v))) (digits text (omega arith)))))
 
-pub loop-i-init : goal.loop-i-init
-loop-i-init c = (search rules, refl)
+odd : (text : List ℕ) → (length text % 2 ≡ 0 → ⊥) → is_hex_lem text ≡ false
+unfolding is_hex_lem
+odd [] n = absurd (n refl)
+odd (x ∷ []) n = refl
+odd (x ∷ (y ∷ text)) n =
+    simp (odd text (λ e. n (omega arith)), pick_same (ltb 15 (hex_value_lem y)) false, pick_same (ltb 15 (hex_value_lem x)) false)
 
-pub returns-then-end-i-lt2 : goal.returns-then-end-i-lt2
-returns-then-end-i-lt2 c =
-    let l = c.loop-i in
-    sym (sym l.invariant.1 ∙ hex-odd _ l.i _ (omega arith) c.loop-i-test.true c.if-end-i-lt2.true)
+pub returns-then-end-at-eq0 : goal.returns-then-end-at-eq0
+returns-then-end-at-eq0 c =
+    let a = c.args in
+    let text = slice a.at a.end a.s.now in
+    all_from_yields_List (λ x. ltb (hex_value_lem x) 16) _ _ _ c.all.ensures.ran (YieldsList-from_slice text (c.iter.ensures.rest ∙ part a.s.now a.at a.end)) (λ x b q k. search (rules, tests))
+    ∙ digits text (omega (arith, length-slice a.at a.end a.s.now c.requires.1))
 
-pub returns-then-high-gt15 : goal.returns-then-high-gt15
-returns-then-high-gt15 c =
-    sym (sym c.loop-i.invariant.1 ∙ hex-high c.args.s.now c.loop-i.i c.args.end (omega arith) (omega arith) (omega (arith, high (goal.at.returns-then-high-gt15 c).After-hex_value-low)))
-
-pub returns-then-low-gt15 : goal.returns-then-low-gt15
-returns-then-low-gt15 c =
-    sym (sym c.loop-i.invariant.1
-    ∙ hex-low c.args.s.now c.loop-i.i c.args.end (omega arith) (omega arith) (omega (arith, high (goal.at.returns-then-low-gt15 c).After-hex_value-low)) (omega (arith, low (goal.at.returns-then-low-gt15 c).After-hex_value-low)))
-
-pub loop-i-preserved : goal.loop-i-preserved
-loop-i-preserved c = (
-  omega arith,
-  sym (hex-next c.args.s.now c.loop-i.i c.args.end (omega arith) (omega arith) (omega (arith, high (goal.at.loop-i-preserved c).After-hex_value-low)) (omega (arith, low (goal.at.loop-i-preserved c).After-hex_value-low))) ∙ c.loop-i.invariant.1,
-)
-
-pub returns : goal.returns
-returns c =
-    sym (sym c.loop-i.invariant.1 ∙ hex-none c.args.s.now c.loop-i.i c.args.end (omega arith))
+pub returns-else-end-at-eq0 : goal.returns-else-end-at-eq0
+returns-else-end-at-eq0 c =
+    let a = c.args in
+    ne_eqb _ _ c.if-end-at-eq0.false ∙ sym (odd (slice a.at a.end a.s.now) (omega (arith, length-slice a.at a.end a.s.now c.requires.1)))

@@ -1,28 +1,52 @@
 -- `hexlines::place_of` meets its contract.
-use Rattle.std.proofs.Common.{arith, refl, rules, sym, ◌∙◌}
-use Rattle.hexlines.specs.HexlinesLaws.{before_here, before-next, before-none}
+use Rattle.std.specs.Prelude.{ℕ, List, length, take, drop, ◌-◌, ◌≡◌, refl}
+use Rattle.std.specs.Option.{MatchOption, unwrap_or}
+use Rattle.std.specs.List.{AllWithin, HoldsAt}
+use Rattle.std.specs.declared.option.Option.{Option}
+use Rattle.std.specs.declared.option.Option.TheVariants.{Some, None}
+use Rattle.std.proofs.Common.{ap, arith, rules, sym, ◌<◌, ◌+◌, ◌∙◌}
+use Rattle.std.proofs.lemmas.Iterator.{YieldsList-from_slice, IsFirst-from_position, index_from_first}
+use Rattle.std.proofs.lemmas.Slice.{between_is}
+use borrow.Author.Tests.{eq-eqb, ne_eqb, tests}
+use lib.Seq.{slice, length-slice}
+use Rattle.octets.specs.Lists.{before}
 use Rattle.hexlines.proofs.place_of.Goals as goal
+use Rattle.hexlines.proofs.place_of.Goals.{After-position}
 
-pub loop-i-init : goal.loop-i-init
-loop-i-init c = (search rules, search rules, refl)
+-- what std's answer says
+abbrev Place : ℕ → List ℕ → Option ℕ → Type 0
+Place b text r =
+    MatchOption r (AllWithin (λ x. x ≡ b → ⊥) text 0 (length text)) (λ i. (i < length text) × HoldsAt (λ x. x ≡ b) text i × AllWithin (λ x. x ≡ b → ⊥) text 0 i)
 
-pub returns-then-s-i : goal.returns-then-s-i
-returns-then-s-i c =
-    let l = c.loop-i in
+first : (b : ℕ) (text : List ℕ) (r : Option ℕ) → Place b text r → before b text ≡ unwrap_or r (length text)
+unfolding before
+first b text r =
+    index_from_first (before b) (λ x. x ≡ b) (λ x. x ≡ b → ⊥) refl
+    (λ x xs h. simp (eq-eqb x b h)) (λ x xs h. simp (ne_eqb x b h) (omega arith)) text r
+
+found : (b : ℕ) (text : List ℕ) (r : Option ℕ) (k : ℕ) → Place b text r → r ≡ Some k → (before b text ≡ k) × (k < length text)
+found b text r k h e = (first b text r h ∙ ap (λ (o : Option ℕ). unwrap_or o (length text)) e, (rw e at h).0)
+
+lost : (b : ℕ) (text : List ℕ) (r : Option ℕ) → Place b text r → r ≡ None → before b text ≡ length text
+lost b text r h e = first b text r h ∙ ap (λ (o : Option ℕ). unwrap_or o (length text)) e
+
+part : (s : List ℕ) (at end : ℕ) → take (end - at) (drop at s) ≡ slice at end s
+part s at end = search (rules, between_is)
+
+place : (c : After-position) → Place c.args.b (slice c.args.at c.args.end c.args.s.now) c.position.result
+place c =
     let a = c.args in
-    let e = before_here a.b a.s.now l.i a.end c.loop-i-test.true c.requires.1 c.if-s-i.true in
-    (omega (arith, e), search rules, search rules)
+    IsFirst-from_position _ _ _ (λ x. x ≡ a.b) (λ x. x ≡ a.b → ⊥) c.position.ensures.ran
+    (YieldsList-from_slice (slice a.at a.end a.s.now) (c.iter.ensures.rest ∙ part a.s.now a.at a.end)) (λ x q k. search (rules, tests)) (λ x q k. search (rules, tests))
 
-pub loop-i-preserved : goal.loop-i-preserved
-loop-i-preserved c =
-    let l = c.loop-i in
+pub returns-in-Some : goal.returns-in-Some
+returns-in-Some c =
     let a = c.args in
-    let e = before-next a.b a.s.now l.i a.end c.loop-i-test.true c.requires.1 c.if-s-i.false in
-    (search rules, search rules, sym e ∙ l.invariant.2)
+    let e = found a.b (slice a.at a.end a.s.now) _ _ (place (goal.at.returns-in-Some c).After-position) c.in-Some.is in
+    (ap (λ (i : ℕ). a.at + i) (sym e.0), omega arith, omega (arith, e.1, length-slice a.at a.end a.s.now c.requires.1))
 
-pub returns : goal.returns
-returns c =
-    let l = c.loop-i in
+pub returns-in-None : goal.returns-in-None
+returns-in-None c =
     let a = c.args in
-    let e = before-none a.b a.s.now l.i a.end (omega arith) in
-    (omega (arith, e), search rules, search rules)
+    let e = lost a.b (slice a.at a.end a.s.now) _ (place (goal.at.returns-in-None c).After-position) c.in-None.is in
+    (omega (arith, e, length-slice a.at a.end a.s.now c.requires.1), c.requires.0, omega arith)

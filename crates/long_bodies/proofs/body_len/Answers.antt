@@ -1,7 +1,6 @@
 -- `long_bodies::body_len` meets its contract: the length so far is that of the tokens written, one by one or a run at once, and a token is read by a part of
 -- the rows as by all.
-use Rattle.std.proofs.Common.{arith, length-take-le, refl, sym, true, ℕ, ℤ, ◌-◌, ◌∙◌, ◌≡◌}
-use mathlib.Core.Option.{some}
+use Rattle.std.proofs.Common.{arith, length-take-le, refl, sym, true, ℕ, ℤ, ◌-◌, ◌∙◌, ◌≡◌, Some}
 use Rattle.octets.specs.Octets.{Octets}
 use Rattle.type2_number.specs.Number.{Reading}
 use Rattle.charstring.specs.declared.MaskLen.{MaskLen}
@@ -20,7 +19,7 @@ use Rattle.long_bodies.specs.PartLaws.{gives_none, lent_same}
 use Rattle.long_bodies.specs.WalkLaws.{part_inputs, turned-alike}
 use Rattle.long_bodies.proofs.body_len.Goals as goal
 use Rattle.long_bodies.proofs.body_len.Lts.View as view
-use Rattle.long_bodies.proofs.body_len.Goals.{After-turn_at, At-loop-locals, In-On, In-loop-locals}
+use Rattle.long_bodies.proofs.body_len.Goals.{After-turn_at, At-loop-locals, In-Some, In-loop-locals}
 
 abbrev calls_in : At-loop-locals → Calls
 calls_in l = calls_by l.args.words.now l.args.locals l.args.globals
@@ -28,7 +27,7 @@ calls_in l = calls_by l.args.words.now l.args.locals l.args.globals
 abbrev givenBy : At-loop-locals → ℕ → MaskLen
 givenBy l = given_in (rows_of l.args.rows.now) (site_of l.args.site)
 
-reads : (l : At-loop-locals) (b : ℕ) (z y : ℤ) → calls_in l b z ≡ some y → Reading y
+reads : (l : At-loop-locals) (b : ℕ) (z y : ℤ) → calls_in l b z ≡ Some y → Reading y
 reads l = calls-read _ _ _ l.requires.0.local_ranks l.requires.0.global_ranks
 
 octets : (l : At-loop-locals) → Octets l.args.code.now
@@ -43,14 +42,14 @@ turned t =
     turned-alike t.advance-part.ensures.0 (calls_in (view.up-At-loop-locals _ _ _ _ _ t.before.before.before.before.before.before.before.before.before.before.before.before.before.before.before.before)) t.loop-locals.h t.args.code.now t.loop-locals.c _ t.offset_at.ensures t.advance-part.ensures.1 t.advance-part.ensures.2 _ t.turn_at.ensures
 
 -- the token, and where it leads
-nextly : (c : In-On) → Next c.args.code.now c.loop-locals.c (token_at c.args.code.now (givenBy (view.up-At-loop-locals _ _ _ _ _ c.before.before.before.before.before.before.before.before.before.before.before.before.before.before.before.before.before) (c.loop-locals.c.at - 1)) c.loop-locals.c) c.in-On.token c.in-On.next
+nextly : (c : In-Some) → Next c.args.code.now c.loop-locals.c (token_at c.args.code.now (givenBy (view.up-At-loop-locals _ _ _ _ _ c.before.before.before.before.before.before.before.before.before.before.before.before.before.before.before.before.before) (c.loop-locals.c.at - 1)) c.loop-locals.c) c.in-Some.turned.token c.in-Some.turned.next
 nextly c =
-    turning_next (calls_in (view.up-At-loop-locals _ _ _ _ _ c.before.before.before.before.before.before.before.before.before.before.before.before.before.before.before.before.before)) (reads (view.up-At-loop-locals _ _ _ _ _ c.before.before.before.before.before.before.before.before.before.before.before.before.before.before.before.before.before)) (givenBy (view.up-At-loop-locals _ _ _ _ _ c.before.before.before.before.before.before.before.before.before.before.before.before.before.before.before.before.before)) c.args.code.now (octets (view.up-At-loop-locals _ _ _ _ _ c.before.before.before.before.before.before.before.before.before.before.before.before.before.before.before.before.before)) c.loop-locals.c _ _ c.loop-locals.invariant.0.turning (going (view.up-In-loop-locals _ _ _ _ _ c.before.before.before.before.before.before.before.before.before.before.before.before.before.before.before)) _ (turned (view.up-After-turn_at _ _ _ _ _ c.before.before)) _ _ _ c.in-On.is
+    turning_next (calls_in (view.up-At-loop-locals _ _ _ _ _ c.before.before.before.before.before.before.before.before.before.before.before.before.before.before.before.before.before)) (reads (view.up-At-loop-locals _ _ _ _ _ c.before.before.before.before.before.before.before.before.before.before.before.before.before.before.before.before.before)) (givenBy (view.up-At-loop-locals _ _ _ _ _ c.before.before.before.before.before.before.before.before.before.before.before.before.before.before.before.before.before)) c.args.code.now (octets (view.up-At-loop-locals _ _ _ _ _ c.before.before.before.before.before.before.before.before.before.before.before.before.before.before.before.before.before)) c.loop-locals.c _ _ c.loop-locals.invariant.0.turning (going (view.up-In-loop-locals _ _ _ _ _ c.before.before.before.before.before.before.before.before.before.before.before.before.before.before.before)) _ (turned (view.up-After-turn_at _ _ _ _ _ c.before.before)) _ _ _ c.in-Some.is
 
 -- the number that is written before it is a reading
-heldly : (c : In-On) → HoldsHeld c.in-On.before
+heldly : (c : In-Some) → HoldsHeld c.in-Some.turned.before
 heldly c =
-    turning_held (calls_in (view.up-At-loop-locals _ _ _ _ _ c.before.before.before.before.before.before.before.before.before.before.before.before.before.before.before.before.before)) (reads (view.up-At-loop-locals _ _ _ _ _ c.before.before.before.before.before.before.before.before.before.before.before.before.before.before.before.before.before)) (givenBy (view.up-At-loop-locals _ _ _ _ _ c.before.before.before.before.before.before.before.before.before.before.before.before.before.before.before.before.before)) c.args.code.now (octets (view.up-At-loop-locals _ _ _ _ _ c.before.before.before.before.before.before.before.before.before.before.before.before.before.before.before.before.before)) c.loop-locals.c _ _ c.loop-locals.invariant.0.turning (going (view.up-In-loop-locals _ _ _ _ _ c.before.before.before.before.before.before.before.before.before.before.before.before.before.before.before)) _ (turned (view.up-After-turn_at _ _ _ _ _ c.before.before)) _ _ _ c.in-On.is
+    turning_held (calls_in (view.up-At-loop-locals _ _ _ _ _ c.before.before.before.before.before.before.before.before.before.before.before.before.before.before.before.before.before)) (reads (view.up-At-loop-locals _ _ _ _ _ c.before.before.before.before.before.before.before.before.before.before.before.before.before.before.before.before.before)) (givenBy (view.up-At-loop-locals _ _ _ _ _ c.before.before.before.before.before.before.before.before.before.before.before.before.before.before.before.before.before)) c.args.code.now (octets (view.up-At-loop-locals _ _ _ _ _ c.before.before.before.before.before.before.before.before.before.before.before.before.before.before.before.before.before)) c.loop-locals.c _ _ c.loop-locals.invariant.0.turning (going (view.up-In-loop-locals _ _ _ _ _ c.before.before.before.before.before.before.before.before.before.before.before.before.before.before.before)) _ (turned (view.up-After-turn_at _ _ _ _ _ c.before.before)) _ _ _ c.in-Some.is
 
 pub loop-locals-init : goal.loop-locals-init
 loop-locals-init c = (
@@ -106,28 +105,28 @@ turn_at-requires c =
 
 pub sent_len-len-requires : goal.sent_len-len-requires
 sent_len-len-requires c =
-    (heldly c, own-small c.args.code.now c.in-On.token (nextly c).writable c.requires.0.size)
+    (heldly c, own-small c.args.code.now c.in-Some.turned.token (nextly c).writable c.requires.0.size)
 
-pub overflow_add-len-in-On : goal.overflow_add-len-in-On
-overflow_add-len-in-On c =
-    let m = sizing_turn (calls_in (goal.at.overflow_add-len-in-On c).At-loop-locals) (reads (goal.at.overflow_add-len-in-On c).At-loop-locals) (givenBy (goal.at.overflow_add-len-in-On c).At-loop-locals) c.args.code.now (octets (goal.at.overflow_add-len-in-On c).At-loop-locals) c.loop-locals.c _ _ c.loop-locals.invariant.0 (going (goal.at.overflow_add-len-in-On c).In-loop-locals) _ (turned (goal.at.overflow_add-len-in-On c).After-turn_at) _ _ _ c.in-On.is _ c.sent_len-len.ensures _ refl in
+pub overflow_add-len-in-Some : goal.overflow_add-len-in-Some
+overflow_add-len-in-Some c =
+    let m = sizing_turn (calls_in (goal.at.overflow_add-len-in-Some c).At-loop-locals) (reads (goal.at.overflow_add-len-in-Some c).At-loop-locals) (givenBy (goal.at.overflow_add-len-in-Some c).At-loop-locals) c.args.code.now (octets (goal.at.overflow_add-len-in-Some c).At-loop-locals) c.loop-locals.c _ _ c.loop-locals.invariant.0 (going (goal.at.overflow_add-len-in-Some c).In-loop-locals) _ (turned (goal.at.overflow_add-len-in-Some c).After-turn_at) _ _ _ c.in-Some.is _ c.sent_len-len.ensures _ refl in
     omega (arith, m.small, m.turning.walk.within.inside, c.requires.0.size)
 
 pub loop-locals-smaller : goal.loop-locals-smaller
-loop-locals-smaller c = (nextly (goal.at.loop-locals-smaller c).In-On).moves.shorter
+loop-locals-smaller c = (nextly (goal.at.loop-locals-smaller c).In-Some).moves.shorter
 
 pub loop-locals-preserved : goal.loop-locals-preserved
 loop-locals-preserved c = (
-  sizing_turn (calls_in (goal.at.loop-locals-preserved c).At-loop-locals) (reads (goal.at.loop-locals-preserved c).At-loop-locals) (givenBy (goal.at.loop-locals-preserved c).At-loop-locals) c.args.code.now (octets (goal.at.loop-locals-preserved c).At-loop-locals) c.loop-locals.c _ _ c.loop-locals.invariant.0 (going (goal.at.loop-locals-preserved c).In-loop-locals) _ (turned (goal.at.loop-locals-preserved c).After-turn_at) _ _ _ c.in-On.is _ c.sent_len-len.ensures _
+  sizing_turn (calls_in (goal.at.loop-locals-preserved c).At-loop-locals) (reads (goal.at.loop-locals-preserved c).At-loop-locals) (givenBy (goal.at.loop-locals-preserved c).At-loop-locals) c.args.code.now (octets (goal.at.loop-locals-preserved c).At-loop-locals) c.loop-locals.c _ _ c.loop-locals.invariant.0 (going (goal.at.loop-locals-preserved c).In-loop-locals) _ (turned (goal.at.loop-locals-preserved c).After-turn_at) _ _ _ c.in-Some.is _ c.sent_len-len.ensures _
       c.after-h.ensures,
   c.advance-part.ensures.0,
   c.advance-part.auto.keys ∙ c.loop-locals.invariant.2,
   c.advance-part.auto.bytes ∙ c.loop-locals.invariant.3,
 )
 
-pub returns-in-Failed : goal.returns-in-Failed
-returns-in-Failed c =
-    sized_failed (calls_in (goal.at.returns-in-Failed c).At-loop-locals) (reads (goal.at.returns-in-Failed c).At-loop-locals) (givenBy (goal.at.returns-in-Failed c).At-loop-locals) c.args.code.now (octets (goal.at.returns-in-Failed c).At-loop-locals) c.loop-locals.c _ _ c.loop-locals.invariant.0 (going (goal.at.returns-in-Failed c).In-loop-locals) _ (turned (goal.at.returns-in-Failed c).After-turn_at) c.in-Failed.is
+pub returns-in-None : goal.returns-in-None
+returns-in-None c =
+    sized_failed (calls_in (goal.at.returns-in-None c).At-loop-locals) (reads (goal.at.returns-in-None c).At-loop-locals) (givenBy (goal.at.returns-in-None c).At-loop-locals) c.args.code.now (octets (goal.at.returns-in-None c).At-loop-locals) c.loop-locals.c _ _ c.loop-locals.invariant.0 (going (goal.at.returns-in-None c).In-loop-locals) _ (turned (goal.at.returns-in-None c).After-turn_at) c.in-None.is
 
 pub held_len-requires : goal.held_len-requires
 held_len-requires c = c.loop-locals.invariant.0.turning.held

@@ -1,7 +1,6 @@
 -- `long_bodies::put_renumbered` meets its contract: the tokens written, one by one or a run at once, stand in the output, and a token is read by a part of the
 -- rows as by all; a body that fails is excluded.
-use Rattle.std.proofs.Common.{arith, length-take-le, refl, sym, true, ℕ, ℤ, ◌-◌, ◌∙◌, ◌≡◌}
-use mathlib.Core.Option.{some}
+use Rattle.std.proofs.Common.{arith, length-take-le, refl, sym, true, ℕ, ℤ, ◌-◌, ◌∙◌, ◌≡◌, Some}
 use Rattle.octets.specs.Octets.{Octets}
 use Rattle.octets.specs.PutLaws.{wrote-length}
 use Rattle.type2_number.specs.Number.{Reading}
@@ -21,7 +20,7 @@ use Rattle.long_bodies.specs.PartLaws.{gives_none, lent_same}
 use Rattle.long_bodies.specs.WalkLaws.{part_inputs, turned-alike, one_each}
 use Rattle.long_bodies.proofs.put_renumbered.Goals as goal
 use Rattle.long_bodies.proofs.put_renumbered.Lts.View as view
-use Rattle.long_bodies.proofs.put_renumbered.Goals.{After-turn_at, At-loop-locals, In-On, In-loop-locals}
+use Rattle.long_bodies.proofs.put_renumbered.Goals.{After-turn_at, At-loop-locals, In-Some, In-loop-locals}
 
 abbrev calls_in : At-loop-locals → Calls
 calls_in l = calls_by l.args.words.now l.args.locals l.args.globals
@@ -29,7 +28,7 @@ calls_in l = calls_by l.args.words.now l.args.locals l.args.globals
 abbrev givenBy : At-loop-locals → ℕ → MaskLen
 givenBy l = given_in (rows_of l.args.rows.now) (site_of l.args.site)
 
-reads : (l : At-loop-locals) (b : ℕ) (z y : ℤ) → calls_in l b z ≡ some y → Reading y
+reads : (l : At-loop-locals) (b : ℕ) (z y : ℤ) → calls_in l b z ≡ Some y → Reading y
 reads l = calls-read _ _ _ l.requires.0.local_ranks l.requires.0.global_ranks
 
 octets : (l : At-loop-locals) → Octets l.args.code.now
@@ -44,14 +43,14 @@ turned t =
     turned-alike t.advance-part.ensures.0 (calls_in (view.up-At-loop-locals _ _ _ _ _ t.before.before.before.before.before.before.before.before.before.before.before.before.before.before.before.before)) t.loop-locals.h t.args.code.now t.loop-locals.c _ t.offset_at.ensures t.advance-part.ensures.1 t.advance-part.ensures.2 _ t.turn_at.ensures
 
 -- the token, and where it leads
-nextly : (c : In-On) → Next c.args.code.now c.loop-locals.c (token_at c.args.code.now (givenBy (view.up-At-loop-locals _ _ _ _ _ c.before.before.before.before.before.before.before.before.before.before.before.before.before.before.before.before.before) (c.loop-locals.c.at - 1)) c.loop-locals.c) c.in-On.token c.in-On.next
+nextly : (c : In-Some) → Next c.args.code.now c.loop-locals.c (token_at c.args.code.now (givenBy (view.up-At-loop-locals _ _ _ _ _ c.before.before.before.before.before.before.before.before.before.before.before.before.before.before.before.before.before) (c.loop-locals.c.at - 1)) c.loop-locals.c) c.in-Some.turned.token c.in-Some.turned.next
 nextly c =
-    turning_next (calls_in (view.up-At-loop-locals _ _ _ _ _ c.before.before.before.before.before.before.before.before.before.before.before.before.before.before.before.before.before)) (reads (view.up-At-loop-locals _ _ _ _ _ c.before.before.before.before.before.before.before.before.before.before.before.before.before.before.before.before.before)) (givenBy (view.up-At-loop-locals _ _ _ _ _ c.before.before.before.before.before.before.before.before.before.before.before.before.before.before.before.before.before)) c.args.code.now (octets (view.up-At-loop-locals _ _ _ _ _ c.before.before.before.before.before.before.before.before.before.before.before.before.before.before.before.before.before)) c.loop-locals.c _ _ c.loop-locals.invariant.0.turning (going (view.up-In-loop-locals _ _ _ _ _ c.before.before.before.before.before.before.before.before.before.before.before.before.before.before.before)) _ (turned (view.up-After-turn_at _ _ _ _ _ c.before.before)) _ _ _ c.in-On.is
+    turning_next (calls_in (view.up-At-loop-locals _ _ _ _ _ c.before.before.before.before.before.before.before.before.before.before.before.before.before.before.before.before.before)) (reads (view.up-At-loop-locals _ _ _ _ _ c.before.before.before.before.before.before.before.before.before.before.before.before.before.before.before.before.before)) (givenBy (view.up-At-loop-locals _ _ _ _ _ c.before.before.before.before.before.before.before.before.before.before.before.before.before.before.before.before.before)) c.args.code.now (octets (view.up-At-loop-locals _ _ _ _ _ c.before.before.before.before.before.before.before.before.before.before.before.before.before.before.before.before.before)) c.loop-locals.c _ _ c.loop-locals.invariant.0.turning (going (view.up-In-loop-locals _ _ _ _ _ c.before.before.before.before.before.before.before.before.before.before.before.before.before.before.before)) _ (turned (view.up-After-turn_at _ _ _ _ _ c.before.before)) _ _ _ c.in-Some.is
 
 -- the number that is written before it is a reading
-heldly : (c : In-On) → HoldsHeld c.in-On.before
+heldly : (c : In-Some) → HoldsHeld c.in-Some.turned.before
 heldly c =
-    turning_held (calls_in (view.up-At-loop-locals _ _ _ _ _ c.before.before.before.before.before.before.before.before.before.before.before.before.before.before.before.before.before)) (reads (view.up-At-loop-locals _ _ _ _ _ c.before.before.before.before.before.before.before.before.before.before.before.before.before.before.before.before.before)) (givenBy (view.up-At-loop-locals _ _ _ _ _ c.before.before.before.before.before.before.before.before.before.before.before.before.before.before.before.before.before)) c.args.code.now (octets (view.up-At-loop-locals _ _ _ _ _ c.before.before.before.before.before.before.before.before.before.before.before.before.before.before.before.before.before)) c.loop-locals.c _ _ c.loop-locals.invariant.0.turning (going (view.up-In-loop-locals _ _ _ _ _ c.before.before.before.before.before.before.before.before.before.before.before.before.before.before.before)) _ (turned (view.up-After-turn_at _ _ _ _ _ c.before.before)) _ _ _ c.in-On.is
+    turning_held (calls_in (view.up-At-loop-locals _ _ _ _ _ c.before.before.before.before.before.before.before.before.before.before.before.before.before.before.before.before.before)) (reads (view.up-At-loop-locals _ _ _ _ _ c.before.before.before.before.before.before.before.before.before.before.before.before.before.before.before.before.before)) (givenBy (view.up-At-loop-locals _ _ _ _ _ c.before.before.before.before.before.before.before.before.before.before.before.before.before.before.before.before.before)) c.args.code.now (octets (view.up-At-loop-locals _ _ _ _ _ c.before.before.before.before.before.before.before.before.before.before.before.before.before.before.before.before.before)) c.loop-locals.c _ _ c.loop-locals.invariant.0.turning (going (view.up-In-loop-locals _ _ _ _ _ c.before.before.before.before.before.before.before.before.before.before.before.before.before.before.before)) _ (turned (view.up-After-turn_at _ _ _ _ _ c.before.before)) _ _ _ c.in-Some.is
 
 pub loop-locals-init : goal.loop-locals-init
 loop-locals-init c = (
@@ -104,27 +103,27 @@ turn_at-requires c =
 
 pub put_sent-p-requires : goal.put_sent-p-requires
 put_sent-p-requires c = (
-  heldly (goal.at.put_sent-p-requires c).In-On,
-  (nextly (goal.at.put_sent-p-requires c).In-On).writable,
-  putting_room (calls_in (goal.at.put_sent-p-requires c).At-loop-locals) (reads (goal.at.put_sent-p-requires c).At-loop-locals) (givenBy (goal.at.put_sent-p-requires c).At-loop-locals) c.args.code.now (octets (goal.at.put_sent-p-requires c).At-loop-locals) _ _ _ (whole-body _ _ _ _ c.requires.2) c.requires.3 c.loop-locals.c _ _ _ c.loop-locals.invariant.0 (going (goal.at.put_sent-p-requires c).In-loop-locals) _ (turned (goal.at.put_sent-p-requires c).After-turn_at) _ _ _ c.in-On.is,
+  heldly (goal.at.put_sent-p-requires c).In-Some,
+  (nextly (goal.at.put_sent-p-requires c).In-Some).writable,
+  putting_room (calls_in (goal.at.put_sent-p-requires c).At-loop-locals) (reads (goal.at.put_sent-p-requires c).At-loop-locals) (givenBy (goal.at.put_sent-p-requires c).At-loop-locals) c.args.code.now (octets (goal.at.put_sent-p-requires c).At-loop-locals) _ _ _ (whole-body _ _ _ _ c.requires.2) c.requires.3 c.loop-locals.c _ _ _ c.loop-locals.invariant.0 (going (goal.at.put_sent-p-requires c).In-loop-locals) _ (turned (goal.at.put_sent-p-requires c).After-turn_at) _ _ _ c.in-Some.is,
 )
 
 pub loop-locals-smaller : goal.loop-locals-smaller
-loop-locals-smaller c = (nextly (goal.at.loop-locals-smaller c).In-On).moves.shorter
+loop-locals-smaller c = (nextly (goal.at.loop-locals-smaller c).In-Some).moves.shorter
 
 pub loop-locals-preserved : goal.loop-locals-preserved
 loop-locals-preserved c =
-    let room = putting_room (calls_in (goal.at.loop-locals-preserved c).At-loop-locals) (reads (goal.at.loop-locals-preserved c).At-loop-locals) (givenBy (goal.at.loop-locals-preserved c).At-loop-locals) c.args.code.now (octets (goal.at.loop-locals-preserved c).At-loop-locals) _ _ _ (whole-body _ _ _ _ c.requires.2) c.requires.3 c.loop-locals.c _ _ _ c.loop-locals.invariant.0 (going (goal.at.loop-locals-preserved c).In-loop-locals) _ (turned (goal.at.loop-locals-preserved c).After-turn_at) _ _ _ c.in-On.is in (
-      putting_turn (calls_in (goal.at.loop-locals-preserved c).At-loop-locals) (reads (goal.at.loop-locals-preserved c).At-loop-locals) (givenBy (goal.at.loop-locals-preserved c).At-loop-locals) c.args.code.now (octets (goal.at.loop-locals-preserved c).At-loop-locals) _ _ _ (whole-body _ _ _ _ c.requires.2) c.requires.3 c.loop-locals.c _ _ _ c.loop-locals.invariant.0 (going (goal.at.loop-locals-preserved c).In-loop-locals) _ (turned (goal.at.loop-locals-preserved c).After-turn_at) _ _ _ c.in-On.is _ _ c.put_sent-p.ensures _ c.after-h.ensures,
+    let room = putting_room (calls_in (goal.at.loop-locals-preserved c).At-loop-locals) (reads (goal.at.loop-locals-preserved c).At-loop-locals) (givenBy (goal.at.loop-locals-preserved c).At-loop-locals) c.args.code.now (octets (goal.at.loop-locals-preserved c).At-loop-locals) _ _ _ (whole-body _ _ _ _ c.requires.2) c.requires.3 c.loop-locals.c _ _ _ c.loop-locals.invariant.0 (going (goal.at.loop-locals-preserved c).In-loop-locals) _ (turned (goal.at.loop-locals-preserved c).After-turn_at) _ _ _ c.in-Some.is in (
+      putting_turn (calls_in (goal.at.loop-locals-preserved c).At-loop-locals) (reads (goal.at.loop-locals-preserved c).At-loop-locals) (givenBy (goal.at.loop-locals-preserved c).At-loop-locals) c.args.code.now (octets (goal.at.loop-locals-preserved c).At-loop-locals) _ _ _ (whole-body _ _ _ _ c.requires.2) c.requires.3 c.loop-locals.c _ _ _ c.loop-locals.invariant.0 (going (goal.at.loop-locals-preserved c).In-loop-locals) _ (turned (goal.at.loop-locals-preserved c).After-turn_at) _ _ _ c.in-Some.is _ _ c.put_sent-p.ensures _ c.after-h.ensures,
       wrote-length c.put_sent-p.ensures room ∙ c.loop-locals.invariant.1,
       c.advance-part.ensures.0,
       c.advance-part.auto.keys ∙ c.loop-locals.invariant.3,
       c.advance-part.auto.bytes ∙ c.loop-locals.invariant.4,
     )
 
-pub returns-in-Failed : goal.returns-in-Failed
-returns-in-Failed c =
-    absurd (putting_failed (calls_in (goal.at.returns-in-Failed c).At-loop-locals) (reads (goal.at.returns-in-Failed c).At-loop-locals) (givenBy (goal.at.returns-in-Failed c).At-loop-locals) c.args.code.now (octets (goal.at.returns-in-Failed c).At-loop-locals) _ _ _ (whole-body _ _ _ _ c.requires.2) c.requires.3 c.loop-locals.c _ _ _ c.loop-locals.invariant.0 (going (goal.at.returns-in-Failed c).In-loop-locals) _ (turned (goal.at.returns-in-Failed c).After-turn_at) c.in-Failed.is)
+pub returns-in-None : goal.returns-in-None
+returns-in-None c =
+    absurd (putting_failed (calls_in (goal.at.returns-in-None c).At-loop-locals) (reads (goal.at.returns-in-None c).At-loop-locals) (givenBy (goal.at.returns-in-None c).At-loop-locals) c.args.code.now (octets (goal.at.returns-in-None c).At-loop-locals) _ _ _ (whole-body _ _ _ _ c.requires.2) c.requires.3 c.loop-locals.c _ _ _ c.loop-locals.invariant.0 (going (goal.at.returns-in-None c).In-loop-locals) _ (turned (goal.at.returns-in-None c).After-turn_at) c.in-None.is)
 
 pub put_held-requires : goal.put_held-requires
 put_held-requires c =

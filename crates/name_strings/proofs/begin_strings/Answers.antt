@@ -27,9 +27,6 @@ begun : (d : After-struct_known-1) → (let ix = d.index_for-ix.result in
     SlotWriting (items_of d.args.font.now d.args.strings) d.args.slots.now d.put_head.new.out ix d.put_head.new.out (ix.base + 1) 0 0)
 begun d = slot-start _ _ d.requires.1 _ _ d.args.at d.args.own _ d.requires.2 d.index_for-ix.ensures d.put_head.auto.out
 
-pub index_for-ix-requires : goal.index_for-ix-requires
-index_for-ix-requires c = let r = c.requires.2.room in (r.low, r.few, r.small)
-
 pub put_head-requires : goal.put_head-requires
 put_head-requires c =
     (c.requires.2.room.small, head-room _ c.args.at c.args.own.count c.args.own.total (all (goal.at.put_head-requires c).Start) (many (goal.at.put_head-requires c).Start) (sum (goal.at.put_head-requires c).Start) c.requires.2.room.room)
@@ -40,9 +37,6 @@ overflow_add-p c = omega (arith, (begun c).meant.room)
 pub loop-j-init : goal.loop-j-init
 loop-j-init c = begun c
 
-pub overflow_add-c : goal.overflow_add-c
-overflow_add-c c = let v = c.loop-j.invariant in omega (arith, v.few, v.small)
-
 pub own_text-text-requires : goal.own_text-text-requires
 own_text-text-requires c =
     (c.requires.0.good, (slot_string _ _ c.requires.1 _ _ _ _ _ _ c.loop-j.invariant c.loop-j-test.true c.if-id-c.true).0)
@@ -52,9 +46,6 @@ put_item-p-requires c =
     let v = c.loop-j.invariant in
     let q = slot_string _ _ c.requires.1 _ _ _ _ _ _ v c.loop-j-test.true c.if-id-c.true in
     begun_room _ _ _ v.meant _ q.1 _ (c.own_text-text.ensures ∙ q.2) v.begun
-
-pub overflow_add-c-then-id-c : goal.overflow_add-c-then-id-c
-overflow_add-c-then-id-c c = let v = c.loop-j.invariant in omega (arith, v.few, v.small)
 
 pub loop-j-preserved : goal.loop-j-preserved
 loop-j-preserved c =

@@ -1,10 +1,6 @@
-use Rattle.std.proofs.Common.{◌-◌}
 use Rattle.index.specs.Index.{items_of}
 use Rattle.name_strings.specs.Strings.{SlotWriting}
 use Rattle.name_strings.proofs.begin_strings.Given as goal
 
 abbrev pub invariant-loop-j : goal.invariant-loop-j
 invariant-loop-j l = SlotWriting (items_of l.font l.strings) l.slots l.initial.out l.ix l.out l.p l.c l.j
-
-abbrev pub decreases-loop-j : goal.decreases-loop-j
-decreases-loop-j l = 8 - l.j

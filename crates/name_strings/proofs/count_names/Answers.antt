@@ -1,11 +1,9 @@
 -- `count_names` meets its contract: each name is given its new id, and counted where that is the next.
 use Rattle.std.proofs.Common.{arith, get_or, length, ◌<◌, ◌≡◌}
 use Rattle.order.specs.Walks.{order_in}
-use Rattle.order_window.specs.WindowLaws.{held-inside}
-use Rattle.order_window.specs.LoopLaws.{order-start, order_asks, order_end, loop_next, read_word}
+use Rattle.order_window.specs.LoopLaws.{order-start, order_end, loop_next, read_word}
 use Rattle.name_strings.specs.NamingLaws.{naming-start, naming_asks, naming_counts, naming-next, naming_end}
 use Rattle.name_strings.proofs.count_names.Goals as goal
-use Rattle.name_strings.proofs.count_names.Lts.View as view
 use Rattle.name_strings.proofs.count_names.Goals.{After-word_at-x, In-loop-i}
 
 more : (t : In-loop-i) → (let a = t.args in t.loop-i.i < length (order_in a.font.now a.o.f a.words.now))
@@ -14,27 +12,19 @@ more t = omega (arith, t.loop-i-test.true, t.requires.4.many)
 word : (w : After-word_at-x) → (let a = w.args in
     w.word_at-x.result ≡ get_or (order_in a.font.now a.o.f a.words.now) w.loop-i.i 0)
 word w =
-    read_word _ _ _ _ _ w.hold-u.ensures.0 _ w.hold-u.ensures.1 w.hold-u.ensures.2 w.requires.4.good.glyphs.held.few (more (view.up-In-loop-i _ _ _ _ _ w.before.before.before.before.before.before)) _ w.word_at-x.ensures.0
+    let a = w.args in
+    let m : w.loop-i.i < length (order_in a.font.now a.o.f a.words.now) = omega (arith, w.loop-i-test.true, w.requires.4.many) in
+    read_word _ _ _ _ _ w.hold-u.ensures.0 _ w.hold-u.ensures.1 w.hold-u.ensures.2 w.requires.4.good.glyphs.held.few m _ w.word_at-x.ensures.0
 
 pub loop-i-init : goal.loop-i-init
 loop-i-init c =
     (order-start _ _ _ _ c.requires.4, naming-start _ _ _ _ _ _ (λ i. (c.type_inv.font i).fits) c.requires.0 c.requires.1 c.requires.3 c.requires.4 c.requires.2)
-
-pub hold-u-requires : goal.hold-u-requires
-hold-u-requires c = order_asks _ _ _ _ c.requires.4 _ _ _ c.loop-i.invariant.0 c.loop-i-test.true
-
-pub word_at-x-requires : goal.word_at-x-requires
-word_at-x-requires c =
-    (c.hold-u.ensures.1, held-inside _ _ _ _ _ c.hold-u.ensures.0 _ c.hold-u.ensures.1 c.hold-u.ensures.2)
 
 pub given_id-id-requires : goal.given_id-id-requires
 given_id-id-requires c = naming_asks _ _ _ _ _ _ c.loop-i.invariant.1
 
 pub count_one-all-requires : goal.count_one-all-requires
 count_one-all-requires c = naming_counts _ _ _ _ _ _ c.loop-i.invariant.1
-
-pub overflow_add-i : goal.overflow_add-i
-overflow_add-i c = omega (arith, c.loop-i-test.true, c.requires.4.few)
 
 pub loop-i-preserved : goal.loop-i-preserved
 loop-i-preserved c = (

@@ -1,4 +1,4 @@
-use Rattle.std.proofs.Common.{List, [], length, ℕ, ◌+◌, ◌-◌, ◌∷◌, ◌≤◌}
+use Rattle.std.proofs.Common.{List, [], length, ℕ, ◌+◌, ◌∷◌, ◌≤◌}
 use Rattle.octets.specs.Octets.{Wrote}
 use Rattle.charset.specs.CharsetBytes.{charset_bytes}
 use Rattle.order_window.specs.Window.{Looping}
@@ -11,6 +11,3 @@ invariant-loop-i l =
     Looping l.font l.f l.words l.initial.window l.initial.u l.window l.u l.i × Naming l.font l.f l.words l.slots l.own l.i
     × ((old : List ℕ) → Wrote old l.at (0 ∷ []) l.initial.out l.initial.p → l.at + length (charset_bytes (new_names l.font l.f l.words l.slots)) ≤ length old
     → CharsetPut old l.at (new_names l.font l.f l.words l.slots) l.out l.p l.i)
-
-abbrev pub decreases-loop-i : goal.decreases-loop-i
-decreases-loop-i l = l.k - l.i

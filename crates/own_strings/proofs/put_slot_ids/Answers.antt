@@ -6,32 +6,11 @@ use Rattle.own_strings.proofs.put_slot_ids.Goals as goal
 pub loop-j-init : goal.loop-j-init
 loop-j-init c = slot-start _ _ c.requires.0 _ c.requires.1
 
-pub offset_bounds-slots-j : goal.offset_bounds-slots-j
-offset_bounds-slots-j c = omega (arith, c.loop-j-test.true)
-
-pub bounds-slots-j : goal.bounds-slots-j
-bounds-slots-j c = omega (arith, c.loop-j-test.true, slot-length _ _ c.requires.0 _ c.requires.1 _ _ _ c.loop-j.invariant, c.requires.1)
-
 pub given_id-id-requires : goal.given_id-id-requires
 given_id-id-requires c = let s = c.before in (s.requires.0.good, omega (arith, c.loop-j.invariant.within), omega (arith, slot-length _ _ s.requires.0 _ s.requires.1 _ _ _ c.loop-j.invariant, s.requires.1), omega (arith, (slot-bound _ _ s.requires.0 _ s.requires.1 _ _ _ c.loop-j.invariant).0))
 
 pub count_one-own-requires : goal.count_one-own-requires
 count_one-own-requires c = let s = c.before in let q = slot-bound _ _ s.requires.0 _ s.requires.1 _ _ _ c.loop-j.invariant in (s.requires.0, omega (arith, q.0), omega (arith, q.1))
-
-pub overflow_add-slots : goal.overflow_add-slots
-overflow_add-slots c = omega (arith, c.loop-j-test.true)
-
-pub offset_bounds-slots-j-in-loop-j : goal.offset_bounds-slots-j-in-loop-j
-offset_bounds-slots-j-in-loop-j c = omega (arith, c.loop-j-test.true)
-
-pub bounds-slots-j-in-loop-j : goal.bounds-slots-j-in-loop-j
-bounds-slots-j-in-loop-j c = let s = c.before in omega (arith, c.loop-j-test.true, slot-length _ _ s.requires.0 _ s.requires.1 _ _ _ c.loop-j.invariant, s.requires.1)
-
-pub overflow_add-j : goal.overflow_add-j
-overflow_add-j c = omega (arith, c.loop-j-test.true)
-
-pub loop-j-smaller : goal.loop-j-smaller
-loop-j-smaller c = omega (arith, c.loop-j-test.true)
 
 pub loop-j-preserved : goal.loop-j-preserved
 loop-j-preserved c = let s = c.before in slot_turn _ _ s.requires.0 _ s.requires.1 _ _ c.loop-j.j c.loop-j.invariant c.loop-j-test.true _ c.given_id-id.ensures _ c.count_one-own.ensures

@@ -1,19 +1,16 @@
 -- `own_strings::put_slots` meets its contract: the first two slots, and then one of each entry.
-use Rattle.std.proofs.Common.{arith, rules, sym, ◌∙◌}
+use Rattle.std.proofs.Common.{arith, sym, ◌∙◌}
 use Rattle.octets.specs.PutLaws.{put_all, put_nil}
 use Rattle.dict.specs.Op.{copied_top_strings}
 use Rattle.dict.specs.Places.{entries_of}
-use Rattle.own_strings.specs.TurnLaws.{slots_length, slots-whole, put-slot, put-slot-length}
+use Rattle.own_strings.specs.TurnLaws.{slots_length, slots-whole, put-slot}
 use Rattle.own_strings.proofs.put_slots.Goals as goal
 
 pub loop-k-init : goal.loop-k-init
-loop-k-init c = (search rules, sym (put_nil _ 2))
-
-pub bounds-slots-k : goal.bounds-slots-k
-bounds-slots-k c = omega (arith, put-slot-length _ _ _ _ c.loop-k.invariant.0 c.loop-k.invariant.1 (omega (arith, c.put_first.auto.slots, c.requires)))
+loop-k-init c = sym (put_nil _ 2)
 
 pub loop-k-preserved : goal.loop-k-preserved
-loop-k-preserved c = (omega (arith, c.loop-k-test.true), put-slot _ _ _ _ _ _ c.loop-k.invariant.1 c.loop-k-test.true c.copied_top_string.ensures c.slot_of.ensures (omega (arith, c.put_first.auto.slots, c.requires)))
+loop-k-preserved c = put-slot _ _ _ _ _ _ c.loop-k.invariant c.loop-k-test.true c.copied_top_string.ensures c.slot_of.ensures (omega (arith, c.put_first.auto.slots, c.requires))
 
 pub returns : goal.returns
-returns c = c.loop-k.invariant.1 ∙ put_all _ 2 _ c.loop-k.k (omega (arith, slots_length (entries_of c.args.d.now) copied_top_strings, c.loop-k-test.false)) ∙ slots-whole _ _ _ _ c.put_first.ensures
+returns c = c.loop-k.invariant ∙ put_all _ 2 _ c.loop-k.k (omega (arith, slots_length (entries_of c.args.d.now) copied_top_strings, c.loop-k-test.false)) ∙ slots-whole _ _ _ _ c.put_first.ensures

@@ -1,4 +1,4 @@
-use Rattle.std.proofs.Common.{take, ◌-◌, ◌≡◌, ◌≤◌}
+use Rattle.std.proofs.Common.{take, ◌≡◌}
 use Rattle.octets.specs.Octets.{put}
 use Rattle.dict.specs.Op.{copied_top_strings}
 use Rattle.dict.specs.Places.{entries_of}
@@ -6,7 +6,4 @@ use Rattle.own_strings.specs.Slots.{entry_slots}
 use Rattle.own_strings.proofs.put_slots.Given as goal
 
 abbrev pub invariant-loop-k : goal.invariant-loop-k
-invariant-loop-k l = (l.k ≤ 6) × (l.slots ≡ put l.initial.slots 2 (take l.k (entry_slots (entries_of l.d) copied_top_strings)))
-
-abbrev pub decreases-loop-k : goal.decreases-loop-k
-decreases-loop-k l = 6 - l.k
+invariant-loop-k l = l.slots ≡ put l.initial.slots 2 (take l.k (entry_slots (entries_of l.d) copied_top_strings))

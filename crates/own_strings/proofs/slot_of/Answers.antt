@@ -3,8 +3,8 @@ use Rattle.std.proofs.Common.{ap, sym, ◌∙◌}
 use Rattle.subset.specs.Texts.{slot_of}
 use Rattle.own_strings.proofs.slot_of.Goals as goal
 
-pub returns-in-Absent : goal.returns-in-Absent
-returns-in-Absent c = ap slot_of (sym c.in-Absent.is ∙ c.string_id.ensures)
+pub returns-in-None : goal.returns-in-None
+returns-in-None c = ap slot_of (sym c.in-None.is ∙ c.string_id.ensures)
 
-pub returns-in-Id : goal.returns-in-Id
-returns-in-Id c = ap slot_of (sym c.in-Id.is ∙ c.string_id.ensures)
+pub returns-in-Some : goal.returns-in-Some
+returns-in-Some c = ap slot_of (sym c.in-Some.is ∙ c.string_id.ensures)

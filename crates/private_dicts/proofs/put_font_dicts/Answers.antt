@@ -37,22 +37,12 @@ more t = omega (arith, t.loop-k-test.true, many t.before.before.before.before.be
 item : (t : In-loop-k)
     → (copied_entry font_matrix (matrix_of (program_of t.args.font.now t.args.f) (get_or t.args.fds.now t.loop-k.k 0)) ++ private_entry (get_or t.args.sizes.now t.loop-k.k 0) t.loop-k.place
     ≡ get_or (K t.before.before.before.before.before.before.before.before.before.before.before.before.before.before.before) t.loop-k.k [])
-item t = dicts-at _ _ _ _ _ _ t.requires.3 _ _ t.loop-k-test.true t.loop-k.invariant.1
+item t = dicts-at _ _ _ _ _ _ t.requires.3 _ _ t.loop-k-test.true t.loop-k.invariant.0
 
 -- the place of the next part
 next : (t : In-loop-k)
     → (t.loop-k.place + get_or t.args.lens.now t.loop-k.k 0 ≡ t.args.from + sum_of (take (t.loop-k.k + 1) t.args.lens.now))
-next t = place-next _ _ _ _ _ _ t.requires.3 _ _ t.loop-k-test.true t.loop-k.invariant.1
-
-pub matrices_len-requires : goal.matrices_len-requires
-matrices_len-requires c =
-    (c.requires.0, c.requires.1, c.requires.2, c.requires.3.few, c.requires.3.listed, c.requires.3.there)
-
-pub overflow_mul-total : goal.overflow_mul-total
-overflow_mul-total c = omega (arith, c.requires.3.few)
-
-pub overflow_add-total : goal.overflow_add-total
-overflow_add-total c = omega (arith, c.requires.3.few, c.matrices_len.ensures.1)
+next t = place-next _ _ _ _ _ _ t.requires.3 _ _ t.loop-k-test.true t.loop-k.invariant.0
 
 pub index_for-ix-requires : goal.index_for-ix-requires
 index_for-ix-requires c = (c.requires.4, omega (arith, c.requires.3.few), omega (arith, sums c, c.requires.3.short))
@@ -65,19 +55,7 @@ pub overflow_add-p : goal.overflow_add-p
 overflow_add-p c = omega (arith, meant (goal.at.overflow_add-p c).After-put_head)
 
 pub loop-k-init : goal.loop-k-init
-loop-k-init c = (omega arith, start-place c.args.lens.now _, begun_none _ _ _)
-
-pub offset_bounds-fds-k : goal.offset_bounds-fds-k
-offset_bounds-fds-k c = omega (arith, c.loop-k-test.true, c.requires.3.few)
-
-pub bounds-fds-k : goal.bounds-fds-k
-bounds-fds-k c = omega (arith, c.loop-k-test.true, c.requires.3.listed)
-
-pub offset_bounds-sizes-k : goal.offset_bounds-sizes-k
-offset_bounds-sizes-k c = omega (arith, c.loop-k-test.true, c.requires.3.few)
-
-pub bounds-sizes-k : goal.bounds-sizes-k
-bounds-sizes-k c = omega (arith, c.loop-k-test.true, c.requires.3.sized)
+loop-k-init c = (start-place c.args.lens.now _, begun_none _ _ _)
 
 pub put_font_dict-p-requires : goal.put_font_dict-p-requires
 put_font_dict-p-requires c = (
@@ -85,39 +63,26 @@ put_font_dict-p-requires c = (
   c.requires.2,
   c.requires.3.there _ c.loop-k-test.true,
   c.requires.3.small _ c.loop-k-test.true,
-  place-small _ _ _ _ _ _ c.requires.3 _ _ c.loop-k.invariant.0 c.loop-k.invariant.1,
-  (begun_room _ _ (K (goal.at.put_font_dict-p-requires c).Start) (meant (goal.at.put_font_dict-p-requires c).After-put_head) c.loop-k.k (more (goal.at.put_font_dict-p-requires c).In-loop-k) _ (item (goal.at.put_font_dict-p-requires c).In-loop-k) c.loop-k.invariant.2).3,
+  place-small _ _ _ _ _ _ c.requires.3 _ _ (omega (arith, c.loop-k-test.true)) c.loop-k.invariant.0,
+  (begun_room _ _ (K (goal.at.put_font_dict-p-requires c).Start) (meant (goal.at.put_font_dict-p-requires c).After-put_head) c.loop-k.k (more (goal.at.put_font_dict-p-requires c).In-loop-k) _ (item (goal.at.put_font_dict-p-requires c).In-loop-k) c.loop-k.invariant.1).3,
 )
 
 pub put_end-place-requires : goal.put_end-place-requires
 put_end-place-requires c =
-    begun_end _ _ (K (goal.at.put_end-place-requires c).Start) (meant (goal.at.put_end-place-requires c).After-put_head) c.loop-k.k (more (goal.at.put_end-place-requires c).In-loop-k) (item (goal.at.put_end-place-requires c).In-loop-k) c.loop-k.invariant.2 c.put_font_dict-p.ensures
-
-pub offset_bounds-lens-k : goal.offset_bounds-lens-k
-offset_bounds-lens-k c = omega (arith, c.loop-k-test.true, c.requires.3.few)
-
-pub bounds-lens-k : goal.bounds-lens-k
-bounds-lens-k c = omega (arith, c.loop-k-test.true, c.requires.3.long)
+    begun_end _ _ (K (goal.at.put_end-place-requires c).Start) (meant (goal.at.put_end-place-requires c).After-put_head) c.loop-k.k (more (goal.at.put_end-place-requires c).In-loop-k) (item (goal.at.put_end-place-requires c).In-loop-k) c.loop-k.invariant.1 c.put_font_dict-p.ensures
 
 pub overflow_add-place : goal.overflow_add-place
 overflow_add-place c =
     omega (arith, c.loop-k-test.true, place-small _ _ _ _ _ _ c.requires.3 (c.loop-k.k + 1) _ (omega (arith, c.loop-k-test.true)) (next (goal.at.overflow_add-place c).In-loop-k))
 
-pub overflow_add-k : goal.overflow_add-k
-overflow_add-k c = omega (arith, c.loop-k-test.true, c.requires.3.few)
-
-pub loop-k-smaller : goal.loop-k-smaller
-loop-k-smaller c = omega (arith, c.loop-k-test.true)
-
 pub loop-k-preserved : goal.loop-k-preserved
 loop-k-preserved c = (
-  omega (arith, c.loop-k-test.true),
   next (goal.at.loop-k-preserved c).In-loop-k,
-  begun_more _ _ (K (goal.at.loop-k-preserved c).Start) (meant (goal.at.loop-k-preserved c).After-put_head) c.loop-k.k (more (goal.at.loop-k-preserved c).In-loop-k) _ (item (goal.at.loop-k-preserved c).In-loop-k) c.loop-k.invariant.2
+  begun_more _ _ (K (goal.at.loop-k-preserved c).Start) (meant (goal.at.loop-k-preserved c).After-put_head) c.loop-k.k (more (goal.at.loop-k-preserved c).In-loop-k) _ (item (goal.at.loop-k-preserved c).In-loop-k) c.loop-k.invariant.1
       (wrote-item _ _ c.put_font_dict-p.ensures c.put_end-place.ensures),
 )
 
 pub returns : goal.returns
 returns c =
     begun_whole c.args.at c.args.count (c.matrices_len.result + 11 * c.args.count) c.index_for-ix.result (K (goal.at.returns c).Start) c.loop-k.k
-    c.index_for-ix.ensures (many (goal.at.returns c).Start) (sums (goal.at.returns c).After-matrices_len) c.requires.5 c.put_head.ensures (omega (arith, c.loop-k.invariant.0, c.loop-k-test.false, many (goal.at.returns c).Start)) c.loop-k.invariant.2
+    c.index_for-ix.ensures (many (goal.at.returns c).Start) (sums (goal.at.returns c).After-matrices_len) c.requires.5 c.put_head.ensures (omega (arith, c.loop-k.auto.k-end, c.loop-k-test.false, many (goal.at.returns c).Start)) c.loop-k.invariant.1

@@ -1,4 +1,4 @@
-use Rattle.std.proofs.Common.{take, ◌+◌, ◌-◌, ◌≡◌, ◌≤◌}
+use Rattle.std.proofs.Common.{take, ◌+◌, ◌≡◌}
 use Rattle.octets.specs.Lists.{sum_of}
 use Rattle.index.specs.Begun.{Begun}
 use Rattle.cff.specs.Reads.{program_of}
@@ -7,7 +7,4 @@ use Rattle.private_dicts.proofs.put_font_dicts.Given as goal
 
 abbrev pub invariant-loop-k : goal.invariant-loop-k
 invariant-loop-k l =
-    (l.k ≤ l.count) × (l.place ≡ l.from + sum_of (take l.k l.lens)) × (Begun l.initial.out l.ix (font_dicts_by (program_of l.font l.f) l.fds l.sizes l.lens l.count l.from) l.k l.out l.p)
-
-abbrev pub decreases-loop-k : goal.decreases-loop-k
-decreases-loop-k l = l.count - l.k
+    (l.place ≡ l.from + sum_of (take l.k l.lens)) × (Begun l.initial.out l.ix (font_dicts_by (program_of l.font l.f) l.fds l.sizes l.lens l.count l.from) l.k l.out l.p)

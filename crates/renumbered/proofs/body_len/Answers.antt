@@ -1,6 +1,5 @@
 -- `renumbered::body_len` meets its contract: the length so far is that of the tokens written, one by one or a run at once.
-use Rattle.std.proofs.Common.{arith, refl, sym, true, ℕ, ℤ, ◌-◌, ◌∙◌, ◌≡◌}
-use mathlib.Core.Option.{some}
+use Rattle.std.proofs.Common.{arith, refl, sym, true, ℕ, ℤ, ◌-◌, ◌∙◌, ◌≡◌, Some}
 use Rattle.octets.specs.Octets.{Octets}
 use Rattle.type2_number.specs.Number.{Reading}
 use Rattle.charstring.specs.declared.MaskLen.{MaskLen}
@@ -16,7 +15,7 @@ use Rattle.renumber.specs.BodyLaws.{own-small, turning_next, turning_held, sizin
 use Rattle.renumber.specs.RunBodyLaws.{sizing_run, run_shorter}
 use Rattle.renumbered.proofs.body_len.Goals as goal
 use Rattle.renumbered.proofs.body_len.Lts.View as view
-use Rattle.renumbered.proofs.body_len.Goals.{At-loop-locals, In-On, In-loop-locals}
+use Rattle.renumbered.proofs.body_len.Goals.{At-loop-locals, In-Some, In-loop-locals}
 
 -- what the walk goes by, where its loop stands: the calls, the lengths given, the body and its bytes
 abbrev calls_in : At-loop-locals → Calls
@@ -25,7 +24,7 @@ calls_in l = calls_by l.args.words.now l.args.locals l.args.globals
 abbrev givenBy : At-loop-locals → ℕ → MaskLen
 givenBy l = given_in (rows_of l.args.rows.now) (site_of l.args.site)
 
-reads : (l : At-loop-locals) (b : ℕ) (z y : ℤ) → calls_in l b z ≡ some y → Reading y
+reads : (l : At-loop-locals) (b : ℕ) (z y : ℤ) → calls_in l b z ≡ Some y → Reading y
 reads l = calls-read _ _ _ l.requires.local_ranks l.requires.global_ranks
 
 bytes : (l : At-loop-locals) → Octets l.args.code.now
@@ -36,13 +35,13 @@ going : (c : In-loop-locals) → more c.args.code.now c.loop-locals.c ≡ true
 going c = sym c.more.ensures ∙ c.loop-locals-test.true
 
 -- the token, and where it leads
-nextly : (c : In-On)
-    → Next c.args.code.now c.loop-locals.c (token_at c.args.code.now (givenBy (view.up-At-loop-locals _ _ _ _ _ c.before.before.before.before.before.before.before.before.before) (c.loop-locals.c.at - 1)) c.loop-locals.c) c.in-On.token c.in-On.next
-nextly c = turning_next (calls_in (view.up-At-loop-locals _ _ _ _ _ c.before.before.before.before.before.before.before.before.before)) (reads (view.up-At-loop-locals _ _ _ _ _ c.before.before.before.before.before.before.before.before.before)) (givenBy (view.up-At-loop-locals _ _ _ _ _ c.before.before.before.before.before.before.before.before.before)) c.args.code.now (bytes (view.up-At-loop-locals _ _ _ _ _ c.before.before.before.before.before.before.before.before.before)) c.loop-locals.c _ _ c.loop-locals.invariant.turning (going (view.up-In-loop-locals _ _ _ _ _ c.before.before.before.before.before.before.before)) _ c.turn_at.ensures _ _ _ c.in-On.is
+nextly : (c : In-Some)
+    → Next c.args.code.now c.loop-locals.c (token_at c.args.code.now (givenBy (view.up-At-loop-locals _ _ _ _ _ c.before.before.before.before.before.before.before.before.before) (c.loop-locals.c.at - 1)) c.loop-locals.c) c.in-Some.turned.token c.in-Some.turned.next
+nextly c = turning_next (calls_in (view.up-At-loop-locals _ _ _ _ _ c.before.before.before.before.before.before.before.before.before)) (reads (view.up-At-loop-locals _ _ _ _ _ c.before.before.before.before.before.before.before.before.before)) (givenBy (view.up-At-loop-locals _ _ _ _ _ c.before.before.before.before.before.before.before.before.before)) c.args.code.now (bytes (view.up-At-loop-locals _ _ _ _ _ c.before.before.before.before.before.before.before.before.before)) c.loop-locals.c _ _ c.loop-locals.invariant.turning (going (view.up-In-loop-locals _ _ _ _ _ c.before.before.before.before.before.before.before)) _ c.turn_at.ensures _ _ _ c.in-Some.is
 
 -- the number that is written before it is a reading
-heldly : (c : In-On) → HoldsHeld c.in-On.before
-heldly c = turning_held (calls_in (view.up-At-loop-locals _ _ _ _ _ c.before.before.before.before.before.before.before.before.before)) (reads (view.up-At-loop-locals _ _ _ _ _ c.before.before.before.before.before.before.before.before.before)) (givenBy (view.up-At-loop-locals _ _ _ _ _ c.before.before.before.before.before.before.before.before.before)) c.args.code.now (bytes (view.up-At-loop-locals _ _ _ _ _ c.before.before.before.before.before.before.before.before.before)) c.loop-locals.c _ _ c.loop-locals.invariant.turning (going (view.up-In-loop-locals _ _ _ _ _ c.before.before.before.before.before.before.before)) _ c.turn_at.ensures _ _ _ c.in-On.is
+heldly : (c : In-Some) → HoldsHeld c.in-Some.turned.before
+heldly c = turning_held (calls_in (view.up-At-loop-locals _ _ _ _ _ c.before.before.before.before.before.before.before.before.before)) (reads (view.up-At-loop-locals _ _ _ _ _ c.before.before.before.before.before.before.before.before.before)) (givenBy (view.up-At-loop-locals _ _ _ _ _ c.before.before.before.before.before.before.before.before.before)) c.args.code.now (bytes (view.up-At-loop-locals _ _ _ _ _ c.before.before.before.before.before.before.before.before.before)) c.loop-locals.c _ _ c.loop-locals.invariant.turning (going (view.up-In-loop-locals _ _ _ _ _ c.before.before.before.before.before.before.before)) _ c.turn_at.ensures _ _ _ c.in-Some.is
 
 pub loop-locals-init : goal.loop-locals-init
 loop-locals-init c = sizing_start _ (calls-read _ _ _ c.requires.local_ranks c.requires.global_ranks) _ _ (λ i. (c.type_inv.code i).fits) _ c.start-c.ensures
@@ -69,19 +68,19 @@ pub turn_at-requires : goal.turn_at-requires
 turn_at-requires c = (c.requires, c.loop-locals.invariant.turning.walk.within, going (goal.at.turn_at-requires c).In-loop-locals, c.loop-locals.invariant.turning.held)
 
 pub sent_len-len-requires : goal.sent_len-len-requires
-sent_len-len-requires c = (heldly c, own-small c.args.code.now c.in-On.token (nextly c).writable c.requires.size)
+sent_len-len-requires c = (heldly c, own-small c.args.code.now c.in-Some.turned.token (nextly c).writable c.requires.size)
 
-pub overflow_add-len-in-On : goal.overflow_add-len-in-On
-overflow_add-len-in-On c = let m = sizing_turn (calls_in (goal.at.overflow_add-len-in-On c).At-loop-locals) (reads (goal.at.overflow_add-len-in-On c).At-loop-locals) (givenBy (goal.at.overflow_add-len-in-On c).At-loop-locals) c.args.code.now (bytes (goal.at.overflow_add-len-in-On c).At-loop-locals) c.loop-locals.c _ _ c.loop-locals.invariant (going (goal.at.overflow_add-len-in-On c).In-loop-locals) _ c.turn_at.ensures _ _ _ c.in-On.is _ c.sent_len-len.ensures _ refl in omega (arith, m.small, m.turning.walk.within.inside, c.requires.size)
+pub overflow_add-len-in-Some : goal.overflow_add-len-in-Some
+overflow_add-len-in-Some c = let m = sizing_turn (calls_in (goal.at.overflow_add-len-in-Some c).At-loop-locals) (reads (goal.at.overflow_add-len-in-Some c).At-loop-locals) (givenBy (goal.at.overflow_add-len-in-Some c).At-loop-locals) c.args.code.now (bytes (goal.at.overflow_add-len-in-Some c).At-loop-locals) c.loop-locals.c _ _ c.loop-locals.invariant (going (goal.at.overflow_add-len-in-Some c).In-loop-locals) _ c.turn_at.ensures _ _ _ c.in-Some.is _ c.sent_len-len.ensures _ refl in omega (arith, m.small, m.turning.walk.within.inside, c.requires.size)
 
 pub loop-locals-smaller : goal.loop-locals-smaller
-loop-locals-smaller c = (nextly (goal.at.loop-locals-smaller c).In-On).moves.shorter
+loop-locals-smaller c = (nextly (goal.at.loop-locals-smaller c).In-Some).moves.shorter
 
 pub loop-locals-preserved : goal.loop-locals-preserved
-loop-locals-preserved c = sizing_turn (calls_in (goal.at.loop-locals-preserved c).At-loop-locals) (reads (goal.at.loop-locals-preserved c).At-loop-locals) (givenBy (goal.at.loop-locals-preserved c).At-loop-locals) c.args.code.now (bytes (goal.at.loop-locals-preserved c).At-loop-locals) c.loop-locals.c _ _ c.loop-locals.invariant (going (goal.at.loop-locals-preserved c).In-loop-locals) _ c.turn_at.ensures _ _ _ c.in-On.is _ c.sent_len-len.ensures _ c.after-h.ensures
+loop-locals-preserved c = sizing_turn (calls_in (goal.at.loop-locals-preserved c).At-loop-locals) (reads (goal.at.loop-locals-preserved c).At-loop-locals) (givenBy (goal.at.loop-locals-preserved c).At-loop-locals) c.args.code.now (bytes (goal.at.loop-locals-preserved c).At-loop-locals) c.loop-locals.c _ _ c.loop-locals.invariant (going (goal.at.loop-locals-preserved c).In-loop-locals) _ c.turn_at.ensures _ _ _ c.in-Some.is _ c.sent_len-len.ensures _ c.after-h.ensures
 
-pub returns-in-Failed : goal.returns-in-Failed
-returns-in-Failed c = sized_failed (calls_in (goal.at.returns-in-Failed c).At-loop-locals) (reads (goal.at.returns-in-Failed c).At-loop-locals) (givenBy (goal.at.returns-in-Failed c).At-loop-locals) c.args.code.now (bytes (goal.at.returns-in-Failed c).At-loop-locals) c.loop-locals.c _ _ c.loop-locals.invariant (going (goal.at.returns-in-Failed c).In-loop-locals) _ c.turn_at.ensures c.in-Failed.is
+pub returns-in-None : goal.returns-in-None
+returns-in-None c = sized_failed (calls_in (goal.at.returns-in-None c).At-loop-locals) (reads (goal.at.returns-in-None c).At-loop-locals) (givenBy (goal.at.returns-in-None c).At-loop-locals) c.args.code.now (bytes (goal.at.returns-in-None c).At-loop-locals) c.loop-locals.c _ _ c.loop-locals.invariant (going (goal.at.returns-in-None c).In-loop-locals) _ c.turn_at.ensures c.in-None.is
 
 pub held_len-requires : goal.held_len-requires
 held_len-requires c = c.loop-locals.invariant.turning.held

@@ -5,7 +5,7 @@ use Rattle.renumber.specs.CodeLaws.{held_as}
 use Rattle.renumbered.proofs.held_len.Goals as goal
 
 pub number_len-requires : goal.number_len-requires
-number_len-requires c = held_as _ _ c.in-Number.is c.requires
+number_len-requires c = held_as _ _ c.in-Some.is c.requires
 
-pub returns-in-Number : goal.returns-in-Number
-returns-in-Number c = c.number_len.ensures ∙ ap held_len_lem (sym c.in-Number.is)
+pub returns-in-Some : goal.returns-in-Some
+returns-in-Some c = c.number_len.ensures ∙ ap held_len_lem (sym c.in-Some.is)

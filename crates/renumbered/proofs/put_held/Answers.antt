@@ -3,10 +3,10 @@ use Rattle.renumber.specs.CodeLaws.{held_as, held-room, wrote-held, wrote_nothin
 use Rattle.renumbered.proofs.put_held.Goals as goal
 
 pub put_number-requires : goal.put_number-requires
-put_number-requires c = (held_as _ _ c.in-Number.is c.requires.0, held-room _ _ c.in-Number.is _ _ c.requires.1)
+put_number-requires c = (held_as _ _ c.in-Some.is c.requires.0, held-room _ _ c.in-Some.is _ _ c.requires.1)
 
-pub returns-in-Nothing : goal.returns-in-Nothing
-returns-in-Nothing c = wrote_nothing _ _ _ c.in-Nothing.is
+pub returns-in-None : goal.returns-in-None
+returns-in-None c = wrote_nothing _ _ _ c.in-None.is
 
-pub returns-in-Number : goal.returns-in-Number
-returns-in-Number c = wrote-held _ _ c.in-Number.is c.put_number.ensures
+pub returns-in-Some : goal.returns-in-Some
+returns-in-Some c = wrote-held _ _ c.in-Some.is c.put_number.ensures

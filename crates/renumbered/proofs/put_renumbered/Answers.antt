@@ -1,6 +1,5 @@
 -- `renumbered::put_renumbered` meets its contract: the tokens written, one by one or a run at once, stand in the output; a body that fails is excluded.
-use Rattle.std.proofs.Common.{arith, refl, sym, true, ℕ, ℤ, ◌-◌, ◌∙◌, ◌≡◌}
-use mathlib.Core.Option.{some}
+use Rattle.std.proofs.Common.{arith, refl, sym, true, ℕ, ℤ, ◌-◌, ◌∙◌, ◌≡◌, Some}
 use Rattle.octets.specs.Octets.{Octets}
 use Rattle.octets.specs.PutLaws.{wrote-length}
 use Rattle.type2_number.specs.Number.{Reading}
@@ -17,7 +16,7 @@ use Rattle.renumber.specs.BodyLaws.{turning_next, turning_held, putting_start, p
 use Rattle.renumber.specs.RunBodyLaws.{putting_run-room, putting_run, run_shorter}
 use Rattle.renumbered.proofs.put_renumbered.Goals as goal
 use Rattle.renumbered.proofs.put_renumbered.Lts.View as view
-use Rattle.renumbered.proofs.put_renumbered.Goals.{At-loop-locals, In-On, In-loop-locals}
+use Rattle.renumbered.proofs.put_renumbered.Goals.{At-loop-locals, In-Some, In-loop-locals}
 
 -- what the walk goes by, where its loop stands: the calls, the lengths given, the body and its bytes
 abbrev calls_in : At-loop-locals → Calls
@@ -26,7 +25,7 @@ calls_in l = calls_by l.args.words.now l.args.locals l.args.globals
 abbrev givenBy : At-loop-locals → ℕ → MaskLen
 givenBy l = given_in (rows_of l.args.rows.now) (site_of l.args.site)
 
-reads : (l : At-loop-locals) (b : ℕ) (z y : ℤ) → calls_in l b z ≡ some y → Reading y
+reads : (l : At-loop-locals) (b : ℕ) (z y : ℤ) → calls_in l b z ≡ Some y → Reading y
 reads l = calls-read _ _ _ l.requires.0.local_ranks l.requires.0.global_ranks
 
 bytes : (l : At-loop-locals) → Octets l.args.code.now
@@ -37,13 +36,13 @@ going : (c : In-loop-locals) → more c.args.code.now c.loop-locals.c ≡ true
 going c = sym c.more.ensures ∙ c.loop-locals-test.true
 
 -- the token, and where it leads
-nextly : (c : In-On)
-    → Next c.args.code.now c.loop-locals.c (token_at c.args.code.now (givenBy (view.up-At-loop-locals _ _ _ _ _ c.before.before.before.before.before.before.before.before.before) (c.loop-locals.c.at - 1)) c.loop-locals.c) c.in-On.token c.in-On.next
-nextly c = turning_next (calls_in (view.up-At-loop-locals _ _ _ _ _ c.before.before.before.before.before.before.before.before.before)) (reads (view.up-At-loop-locals _ _ _ _ _ c.before.before.before.before.before.before.before.before.before)) (givenBy (view.up-At-loop-locals _ _ _ _ _ c.before.before.before.before.before.before.before.before.before)) c.args.code.now (bytes (view.up-At-loop-locals _ _ _ _ _ c.before.before.before.before.before.before.before.before.before)) c.loop-locals.c _ _ c.loop-locals.invariant.0.turning (going (view.up-In-loop-locals _ _ _ _ _ c.before.before.before.before.before.before.before)) _ c.turn_at.ensures _ _ _ c.in-On.is
+nextly : (c : In-Some)
+    → Next c.args.code.now c.loop-locals.c (token_at c.args.code.now (givenBy (view.up-At-loop-locals _ _ _ _ _ c.before.before.before.before.before.before.before.before.before) (c.loop-locals.c.at - 1)) c.loop-locals.c) c.in-Some.turned.token c.in-Some.turned.next
+nextly c = turning_next (calls_in (view.up-At-loop-locals _ _ _ _ _ c.before.before.before.before.before.before.before.before.before)) (reads (view.up-At-loop-locals _ _ _ _ _ c.before.before.before.before.before.before.before.before.before)) (givenBy (view.up-At-loop-locals _ _ _ _ _ c.before.before.before.before.before.before.before.before.before)) c.args.code.now (bytes (view.up-At-loop-locals _ _ _ _ _ c.before.before.before.before.before.before.before.before.before)) c.loop-locals.c _ _ c.loop-locals.invariant.0.turning (going (view.up-In-loop-locals _ _ _ _ _ c.before.before.before.before.before.before.before)) _ c.turn_at.ensures _ _ _ c.in-Some.is
 
 -- the number that is written before it is a reading
-heldly : (c : In-On) → HoldsHeld c.in-On.before
-heldly c = turning_held (calls_in (view.up-At-loop-locals _ _ _ _ _ c.before.before.before.before.before.before.before.before.before)) (reads (view.up-At-loop-locals _ _ _ _ _ c.before.before.before.before.before.before.before.before.before)) (givenBy (view.up-At-loop-locals _ _ _ _ _ c.before.before.before.before.before.before.before.before.before)) c.args.code.now (bytes (view.up-At-loop-locals _ _ _ _ _ c.before.before.before.before.before.before.before.before.before)) c.loop-locals.c _ _ c.loop-locals.invariant.0.turning (going (view.up-In-loop-locals _ _ _ _ _ c.before.before.before.before.before.before.before)) _ c.turn_at.ensures _ _ _ c.in-On.is
+heldly : (c : In-Some) → HoldsHeld c.in-Some.turned.before
+heldly c = turning_held (calls_in (view.up-At-loop-locals _ _ _ _ _ c.before.before.before.before.before.before.before.before.before)) (reads (view.up-At-loop-locals _ _ _ _ _ c.before.before.before.before.before.before.before.before.before)) (givenBy (view.up-At-loop-locals _ _ _ _ _ c.before.before.before.before.before.before.before.before.before)) c.args.code.now (bytes (view.up-At-loop-locals _ _ _ _ _ c.before.before.before.before.before.before.before.before.before)) c.loop-locals.c _ _ c.loop-locals.invariant.0.turning (going (view.up-In-loop-locals _ _ _ _ _ c.before.before.before.before.before.before.before)) _ c.turn_at.ensures _ _ _ c.in-Some.is
 
 pub loop-locals-init : goal.loop-locals-init
 loop-locals-init c = (putting_start _ (calls-read _ _ _ c.requires.0.local_ranks c.requires.0.global_ranks) _ _ (λ i. (c.type_inv.code i).fits) _ _ _ c.start-c.ensures, refl)
@@ -67,16 +66,16 @@ pub turn_at-requires : goal.turn_at-requires
 turn_at-requires c = (c.requires.0, c.loop-locals.invariant.0.turning.walk.within, going (goal.at.turn_at-requires c).In-loop-locals, c.loop-locals.invariant.0.turning.held)
 
 pub put_sent-p-requires : goal.put_sent-p-requires
-put_sent-p-requires c = (heldly (goal.at.put_sent-p-requires c).In-On, (nextly (goal.at.put_sent-p-requires c).In-On).writable, putting_room (calls_in (goal.at.put_sent-p-requires c).At-loop-locals) (reads (goal.at.put_sent-p-requires c).At-loop-locals) (givenBy (goal.at.put_sent-p-requires c).At-loop-locals) c.args.code.now (bytes (goal.at.put_sent-p-requires c).At-loop-locals) _ _ _ (whole-body _ _ _ _ c.requires.1) c.requires.2 c.loop-locals.c _ _ _ c.loop-locals.invariant.0 (going (goal.at.put_sent-p-requires c).In-loop-locals) _ c.turn_at.ensures _ _ _ c.in-On.is)
+put_sent-p-requires c = (heldly (goal.at.put_sent-p-requires c).In-Some, (nextly (goal.at.put_sent-p-requires c).In-Some).writable, putting_room (calls_in (goal.at.put_sent-p-requires c).At-loop-locals) (reads (goal.at.put_sent-p-requires c).At-loop-locals) (givenBy (goal.at.put_sent-p-requires c).At-loop-locals) c.args.code.now (bytes (goal.at.put_sent-p-requires c).At-loop-locals) _ _ _ (whole-body _ _ _ _ c.requires.1) c.requires.2 c.loop-locals.c _ _ _ c.loop-locals.invariant.0 (going (goal.at.put_sent-p-requires c).In-loop-locals) _ c.turn_at.ensures _ _ _ c.in-Some.is)
 
 pub loop-locals-smaller : goal.loop-locals-smaller
-loop-locals-smaller c = (nextly (goal.at.loop-locals-smaller c).In-On).moves.shorter
+loop-locals-smaller c = (nextly (goal.at.loop-locals-smaller c).In-Some).moves.shorter
 
 pub loop-locals-preserved : goal.loop-locals-preserved
-loop-locals-preserved c = (putting_turn (calls_in (goal.at.loop-locals-preserved c).At-loop-locals) (reads (goal.at.loop-locals-preserved c).At-loop-locals) (givenBy (goal.at.loop-locals-preserved c).At-loop-locals) c.args.code.now (bytes (goal.at.loop-locals-preserved c).At-loop-locals) _ _ _ (whole-body _ _ _ _ c.requires.1) c.requires.2 c.loop-locals.c _ _ _ c.loop-locals.invariant.0 (going (goal.at.loop-locals-preserved c).In-loop-locals) _ c.turn_at.ensures _ _ _ c.in-On.is _ _ c.put_sent-p.ensures _ c.after-h.ensures, wrote-length c.put_sent-p.ensures (putting_room (calls_in (goal.at.loop-locals-preserved c).At-loop-locals) (reads (goal.at.loop-locals-preserved c).At-loop-locals) (givenBy (goal.at.loop-locals-preserved c).At-loop-locals) c.args.code.now (bytes (goal.at.loop-locals-preserved c).At-loop-locals) _ _ _ (whole-body _ _ _ _ c.requires.1) c.requires.2 c.loop-locals.c _ _ _ c.loop-locals.invariant.0 (going (goal.at.loop-locals-preserved c).In-loop-locals) _ c.turn_at.ensures _ _ _ c.in-On.is) ∙ c.loop-locals.invariant.1)
+loop-locals-preserved c = (putting_turn (calls_in (goal.at.loop-locals-preserved c).At-loop-locals) (reads (goal.at.loop-locals-preserved c).At-loop-locals) (givenBy (goal.at.loop-locals-preserved c).At-loop-locals) c.args.code.now (bytes (goal.at.loop-locals-preserved c).At-loop-locals) _ _ _ (whole-body _ _ _ _ c.requires.1) c.requires.2 c.loop-locals.c _ _ _ c.loop-locals.invariant.0 (going (goal.at.loop-locals-preserved c).In-loop-locals) _ c.turn_at.ensures _ _ _ c.in-Some.is _ _ c.put_sent-p.ensures _ c.after-h.ensures, wrote-length c.put_sent-p.ensures (putting_room (calls_in (goal.at.loop-locals-preserved c).At-loop-locals) (reads (goal.at.loop-locals-preserved c).At-loop-locals) (givenBy (goal.at.loop-locals-preserved c).At-loop-locals) c.args.code.now (bytes (goal.at.loop-locals-preserved c).At-loop-locals) _ _ _ (whole-body _ _ _ _ c.requires.1) c.requires.2 c.loop-locals.c _ _ _ c.loop-locals.invariant.0 (going (goal.at.loop-locals-preserved c).In-loop-locals) _ c.turn_at.ensures _ _ _ c.in-Some.is) ∙ c.loop-locals.invariant.1)
 
-pub returns-in-Failed : goal.returns-in-Failed
-returns-in-Failed c = absurd (putting_failed (calls_in (goal.at.returns-in-Failed c).At-loop-locals) (reads (goal.at.returns-in-Failed c).At-loop-locals) (givenBy (goal.at.returns-in-Failed c).At-loop-locals) c.args.code.now (bytes (goal.at.returns-in-Failed c).At-loop-locals) _ _ _ (whole-body _ _ _ _ c.requires.1) c.requires.2 c.loop-locals.c _ _ _ c.loop-locals.invariant.0 (going (goal.at.returns-in-Failed c).In-loop-locals) _ c.turn_at.ensures c.in-Failed.is)
+pub returns-in-None : goal.returns-in-None
+returns-in-None c = absurd (putting_failed (calls_in (goal.at.returns-in-None c).At-loop-locals) (reads (goal.at.returns-in-None c).At-loop-locals) (givenBy (goal.at.returns-in-None c).At-loop-locals) c.args.code.now (bytes (goal.at.returns-in-None c).At-loop-locals) _ _ _ (whole-body _ _ _ _ c.requires.1) c.requires.2 c.loop-locals.c _ _ _ c.loop-locals.invariant.0 (going (goal.at.returns-in-None c).In-loop-locals) _ c.turn_at.ensures c.in-None.is)
 
 pub put_held-requires : goal.put_held-requires
 put_held-requires c = (c.loop-locals.invariant.0.turning.held, put_end_room (calls_in (goal.at.put_held-requires c).At-loop-locals) (reads (goal.at.put_held-requires c).At-loop-locals) (givenBy (goal.at.put_held-requires c).At-loop-locals) c.args.code.now (bytes (goal.at.put_held-requires c).At-loop-locals) _ _ _ (whole-body _ _ _ _ c.requires.1) c.requires.2 c.loop-locals.c _ _ _ c.loop-locals.invariant.0 (sym c.more.ensures ∙ c.loop-locals-test.false))

@@ -10,8 +10,8 @@ returns-then-code-lt1 c = ends-none _ c.if-code-lt1.true
 pub run_glyph-requires : goal.run_glyph-requires
 run_glyph-requires c = (none_ready _ refl, lit< tt, omega (arith, c.requires), collecting_none _ (lit≤ tt))
 
-pub returns-in-NotPlain : goal.returns-in-NotPlain
-returns-in-NotPlain c = ends-met _ _ _ _ _ _ _ c.if-code-lt1.false c.run_glyph.ensures _ c.in-NotPlain.is
+pub returns-in-None : goal.returns-in-None
+returns-in-None c = ends-met _ _ _ _ _ _ _ c.if-code-lt1.false c.run_glyph.ensures _ c.in-None.is
 
-pub returns-in-Plain : goal.returns-in-Plain
-returns-in-Plain c = ends-met _ _ _ _ _ _ _ c.if-code-lt1.false c.run_glyph.ensures _ c.in-Plain.is
+pub returns-in-Some : goal.returns-in-Some
+returns-in-Some c = ends-met _ _ _ _ _ _ _ c.if-code-lt1.false c.run_glyph.ensures _ c.in-Some.is

@@ -31,10 +31,10 @@ pub slice_bounds-is_short-end : goal.slice_bounds-is_short-end
 slice_bounds-is_short-end c = sym (length-take-le _ _ (within (goal.at.slice_bounds-is_short-end c).After-put_candidate-n))
 
 pub returns-then-is_short : goal.returns-then-is_short
-returns-then-is_short c = (ap found_place (first-here c.loop-at.at c.loop-at-test.true (told (goal.at.returns-then-is_short c).After-is_short ∙ c.if-is_short.true) ∙ c.loop-at.invariant.2), c.loop-at-test.true)
+returns-then-is_short c = (ap found_place (first-here c.loop-at.at c.loop-at-test.true (told (goal.at.returns-then-is_short c).After-is_short ∙ c.if-is_short.true) ∙ c.loop-at.invariant.1), c.loop-at-test.true)
 
 pub loop-at-preserved : goal.loop-at-preserved
-loop-at-preserved c = (kept (goal.at.loop-at-preserved c).After-put_candidate-n, omega (arith, c.loop-at-test.true), first_on c.loop-at.at c.loop-at-test.true (told (goal.at.loop-at-preserved c).After-is_short ∙ c.if-is_short.false) ∙ c.loop-at.invariant.2)
+loop-at-preserved c = (kept (goal.at.loop-at-preserved c).After-put_candidate-n, first_on c.loop-at.at c.loop-at-test.true (told (goal.at.loop-at-preserved c).After-is_short ∙ c.if-is_short.false) ∙ c.loop-at.invariant.1)
 
 pub returns : goal.returns
-returns c = (ap found_place (first-behind c.loop-at.at c.loop-at-test.false ∙ c.loop-at.invariant.2), tt)
+returns c = (ap found_place (first-behind c.loop-at.at c.loop-at-test.false ∙ c.loop-at.invariant.1), tt)

@@ -20,17 +20,8 @@ room c =
 pub loop-k-init : goal.loop-k-init
 loop-k-init c = (refl, omega arith, going-starts _ c.requires)
 
-pub slice_bounds-code-end : goal.slice_bounds-code-end
-slice_bounds-code-end c = omega (arith, c.loop-k.invariant.0, c.loop-k.invariant.1)
-
 pub slice_bounds-next_charstring-end : goal.slice_bounds-next_charstring-end
 slice_bounds-next_charstring-end c = sym (length-take-le _ _ (let i = c.loop-k.invariant in omega (arith, i.0, i.1)))
-
-pub slice_bounds-next_charstring-end-in-loop-k : goal.slice_bounds-next_charstring-end-in-loop-k
-slice_bounds-next_charstring-end-in-loop-k c = refl
-
-pub next_charstring-requires : goal.next_charstring-requires
-next_charstring-requires c = tt
 
 pub returns-in-Refused : goal.returns-in-Refused
 returns-in-Refused c = walk_ends _ _ _ c.loop-k.invariant.2 _ _ refl _ c.next_charstring.ensures _ c.in-Refused.is (lit< tt)
@@ -38,26 +29,11 @@ returns-in-Refused c = walk_ends _ _ _ c.loop-k.invariant.2 _ _ refl _ c.next_ch
 pub returns-in-NoneLeft : goal.returns-in-NoneLeft
 returns-in-NoneLeft c = walk_ends _ _ _ c.loop-k.invariant.2 _ _ refl _ c.next_charstring.ensures _ c.in-NoneLeft.is (lit< tt)
 
-pub bounds-counts-0 : goal.bounds-counts-0
-bounds-counts-0 c = let e = c.loop-k.invariant.2.size in omega (arith, e)
-
-pub overflow_add-counts : goal.overflow_add-counts
-overflow_add-counts c = let g = c.loop-k.invariant.2 in let f = g.few 0 in let w = g.within in omega (arith, f, w)
-
-pub bounds-counts-0-in-Next : goal.bounds-counts-0-in-Next
-bounds-counts-0-in-Next c = let e = c.loop-k.invariant.2.size in omega (arith, e)
-
-pub offset_bounds-counts-k : goal.offset_bounds-counts-k
-offset_bounds-counts-k c = let o = (on (goal.at.offset_bounds-counts-k c).In-Next).low in omega (arith, o)
-
 pub bounds-counts-k : goal.bounds-counts-k
 bounds-counts-k c = room (goal.at.bounds-counts-k c).In-Next
 
 pub overflow_add-counts-in-Next : goal.overflow_add-counts-in-Next
 overflow_add-counts-in-Next c = let g = c.loop-k.invariant.2 in let k = c.in-Next.k in let e = g.size in let f = g.few k in let w = g.within in let m = more-few c.loop-k.counts 0 k (omega (arith, e)) in omega (arith, f, w, m)
-
-pub offset_bounds-counts-k-in-Next : goal.offset_bounds-counts-k-in-Next
-offset_bounds-counts-k-in-Next c = let o = (on (goal.at.offset_bounds-counts-k-in-Next c).In-Next).low in omega (arith, o)
 
 pub bounds-counts-k-in-Next : goal.bounds-counts-k-in-Next
 bounds-counts-k-in-Next c = room (goal.at.bounds-counts-k-in-Next c).In-Next
@@ -67,9 +43,6 @@ slice_bounds-next-end c = let o = on (goal.at.slice_bounds-next-end c).In-Next i
 
 pub slice_bounds-mix_all-end : goal.slice_bounds-mix_all-end
 slice_bounds-mix_all-end c = sym (length-take-le _ _ (let o = on (goal.at.slice_bounds-mix_all-end c).In-Next in omega (arith, o.low, o.kept)))
-
-pub mix_all-hash-requires : goal.mix_all-hash-requires
-mix_all-hash-requires c = tt
 
 pub loop-k-smaller : goal.loop-k-smaller
 loop-k-smaller c = let o = on (goal.at.loop-k-smaller c).In-Next in let r = o.rises in let w = o.going.within in omega (arith, r, w)

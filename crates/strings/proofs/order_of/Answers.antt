@@ -1,31 +1,23 @@
--- `strings::order_of` meets its contract.
-use Rattle.std.proofs.Common.{arith, refl, rules, sym, ◌∙◌}
-use Rattle.strings.specs.TextLaws.{order-less, order-more, order-on, order-longer, order_shorter, order-ends}
+-- `strings::order_of` meets its contract: std's order of slices is the one of the definition.
+use Rattle.std.specs.Prelude.{ℕ, List, [], ◌∷◌}
+use Rattle.std.specs.Ordering.{nat_cmp}
+use Rattle.std.specs.Cmp.Lexicographic.{slice_cmp}
+use Rattle.std.proofs.Common.{refl, sym, arith, ◌∙◌, ◌≡◌}
+use Rattle.std.proofs.lemmas.Cmp.{ranked, by_ranked}
+use borrow.Author.Tests.{lt-ltb, le-ltb, eq-eqb, ne_eqb}
+use Rattle.strings.specs.Text.{order_of}
 use Rattle.strings.proofs.order_of.Goals as goal
 
-pub loop-i-init : goal.loop-i-init
-loop-i-init c = (search rules, refl)
-
-pub returns-then-b-i : goal.returns-then-b-i
-returns-then-b-i c = sym (sym c.loop-i.invariant.1 ∙ order-longer _ _ c.loop-i.i c.loop-i-test.true c.if-b-i.true)
-
-pub returns-then-x-y : goal.returns-then-x-y
-returns-then-x-y c =
-    let l = c.loop-i in
-    sym (sym l.invariant.1 ∙ order-less _ _ l.i (omega arith) (omega arith) c.if-x-y.true)
-
-pub returns-then-y-x : goal.returns-then-y-x
-returns-then-y-x c =
-    let l = c.loop-i in
-    sym (sym l.invariant.1 ∙ order-more _ _ l.i (omega arith) (omega arith) c.if-y-x.true)
-
-pub loop-i-preserved : goal.loop-i-preserved
-loop-i-preserved c =
-    let l = c.loop-i in
-    (omega arith, order-on _ _ l.i (omega arith) (omega arith) c.if-x-y.false c.if-y-x.false ∙ l.invariant.1)
-
-pub returns-then-i-b : goal.returns-then-i-b
-returns-then-i-b c = sym (sym c.loop-i.invariant.1 ∙ order_shorter _ _ c.loop-i.i c.loop-i-test.false c.if-i-b.true)
+ordered : (a b : List ℕ) → order_of a b ≡ slice_cmp nat_cmp a b
+unfolding order_of
+ordered [] [] = refl
+ordered [] (y ∷ ys) = refl
+ordered (x ∷ xs) [] = refl
+ordered (x ∷ xs) (y ∷ ys) =
+    by_ranked _ _ _ (nat_cmp x y) (ranked x y _ refl)
+    (λ _ h. simp (lt-ltb x y h))
+    (λ _ h. simp (le-ltb x y (omega arith), le-ltb y x (omega arith), eq-eqb x y h) (ordered xs ys))
+    (λ _ h. simp (le-ltb x y (omega arith), lt-ltb y x h, ne_eqb x y (omega arith)))
 
 pub returns : goal.returns
-returns c = sym (sym c.loop-i.invariant.1 ∙ order-ends _ _ c.loop-i.i c.loop-i-test.false c.if-i-b.false)
+returns c = c.cmp.ensures ∙ sym (ordered _ _)

@@ -39,9 +39,9 @@ standard_string-requires c =
     let p = c.requires in
     (p.0, p.1, listed_below _ (order_is (goal.at.standard_string-requires c).In-loop-low) (c.loop-low.low + (c.loop-low.high - c.loop-low.low) / 2) (middle-within (goal.at.standard_string-requires c).In-loop-low))
 
-pub returns-in-Same : goal.returns-in-Same
-returns-in-Same c =
-    searched_same _ (order_is (goal.at.returns-in-Same c).In-loop-low) (c.loop-low.low + (c.loop-low.high - c.loop-low.low) / 2) (middle-within (goal.at.returns-in-Same c).In-loop-low) _ (said (goal.at.returns-in-Same c).After-order_of-found ∙ c.in-Same.is)
+pub returns-in-Equal : goal.returns-in-Equal
+returns-in-Equal c =
+    searched_same _ (order_is (goal.at.returns-in-Equal c).In-loop-low) (c.loop-low.low + (c.loop-low.high - c.loop-low.low) / 2) (middle-within (goal.at.returns-in-Equal c).In-loop-low) _ (said (goal.at.returns-in-Equal c).After-order_of-found ∙ c.in-Equal.is)
 
 pub overflow_add-low : goal.overflow_add-low
 overflow_add-low c = omega arith
@@ -58,7 +58,7 @@ loop-low-smaller c = omega arith
 
 pub loop-low-preserved : goal.loop-low-preserved
 loop-low-preserved c =
-    (omega arith, omega arith, narrowed_down _ _ _ (c.loop-low.low + (c.loop-low.high - c.loop-low.low) / 2) c.loop-low.invariant.2 (middle-within (goal.at.loop-low-preserved c).In-loop-low) (said (goal.at.loop-low-preserved c).After-order_of-found ∙ c.in-More.is))
+    (omega arith, omega arith, narrowed_down _ _ _ (c.loop-low.low + (c.loop-low.high - c.loop-low.low) / 2) c.loop-low.invariant.2 (middle-within (goal.at.loop-low-preserved c).In-loop-low) (said (goal.at.loop-low-preserved c).After-order_of-found ∙ c.in-Greater.is))
 
 pub returns : goal.returns
 returns c = searched_none _ c.loop-low.low c.loop-low.high c.loop-low.invariant.2 c.loop-low-test.false

@@ -1,4 +1,4 @@
-use Rattle.std.proofs.Common.{◌*◌, ◌-◌, ◌≤◌}
+use Rattle.std.proofs.Common.{◌*◌, ◌≤◌}
 use Rattle.top_dict.specs.Writing.{Measuring}
 use Rattle.top_dict.specs.TopLaws.{copied_from}
 use Rattle.dict.specs.Op.{copied_top_entries}
@@ -7,7 +7,4 @@ use Rattle.subset.specs.Subset.{copied_bytes}
 use Rattle.top_dict.proofs.entries_len.Given as goal
 
 abbrev pub invariant-loop-k : goal.invariant-loop-k
-invariant-loop-k l = (l.k ≤ 6) × (l.len ≤ 7000000000 * l.k) × Measuring (copied_bytes (entries_of l.d) copied_top_entries) (copied_from (entries_of l.d) l.k) l.len
-
-abbrev pub decreases-loop-k : goal.decreases-loop-k
-decreases-loop-k l = 6 - l.k
+invariant-loop-k l = (l.len ≤ 7000000000 * l.k) × Measuring (copied_bytes (entries_of l.d) copied_top_entries) (copied_from (entries_of l.d) l.k) l.len

@@ -1,4 +1,3 @@
-use Rattle.std.proofs.Common.{◌-◌, ◌≤◌}
 use Rattle.top_dict.specs.Writing.{Writing}
 use Rattle.top_dict.specs.TopLaws.{copied_from}
 use Rattle.dict.specs.Op.{copied_top_entries}
@@ -7,7 +6,4 @@ use Rattle.subset.specs.Subset.{copied_bytes}
 use Rattle.top_dict.proofs.put_entries.Given as goal
 
 abbrev pub invariant-loop-k : goal.invariant-loop-k
-invariant-loop-k l = (l.k ≤ 6) × Writing (copied_bytes (entries_of l.d) copied_top_entries) l.initial.out l.at (copied_from (entries_of l.d) l.k) l.out l.p
-
-abbrev pub decreases-loop-k : goal.decreases-loop-k
-decreases-loop-k l = 6 - l.k
+invariant-loop-k l = Writing (copied_bytes (entries_of l.d) copied_top_entries) l.initial.out l.at (copied_from (entries_of l.d) l.k) l.out l.p

@@ -5,25 +5,13 @@ use Rattle.top_dict.specs.TopLaws.{strings-next, strings-over, six_operator}
 use Rattle.top_dict.proofs.put_strings.Goals as goal
 
 pub loop-k-init : goal.loop-k-init
-loop-k-init c = (omega arith, writing_start _ _ _)
-
-pub overflow_add-k : goal.overflow_add-k
-overflow_add-k c = omega (arith, c.loop-k-test.true)
-
-pub copied_top_string-requires : goal.copied_top_string-requires
-copied_top_string-requires c = c.loop-k-test.true
+loop-k-init c = writing_start _ _ _
 
 pub put_slot-p-requires : goal.put_slot-p-requires
-put_slot-p-requires c = let e = c.copied_top_string.ensures in (c.requires.0, omega (arith, c.loop-k-test.true), six_operator _ _ c.loop-k-test.true e, writing-room c.requires.1 (strings-next _ _ c.loop-k-test.true _ e) c.loop-k.invariant.1)
-
-pub overflow_add-k-in-loop-k : goal.overflow_add-k-in-loop-k
-overflow_add-k-in-loop-k c = omega (arith, c.loop-k-test.true)
-
-pub loop-k-smaller : goal.loop-k-smaller
-loop-k-smaller c = omega (arith, c.loop-k-test.true)
+put_slot-p-requires c = let e = c.copied_top_string.ensures in (c.requires.0, omega (arith, c.loop-k-test.true), six_operator _ _ c.loop-k-test.true e, writing-room c.requires.1 (strings-next _ _ c.loop-k-test.true _ e) c.loop-k.invariant)
 
 pub loop-k-preserved : goal.loop-k-preserved
-loop-k-preserved c = (omega (arith, c.loop-k-test.true), writing-turn c.requires.1 (strings-next _ _ c.loop-k-test.true _ c.copied_top_string.ensures) c.loop-k.invariant.1 c.put_slot-p.ensures)
+loop-k-preserved c = writing-turn c.requires.1 (strings-next _ _ c.loop-k-test.true _ c.copied_top_string.ensures) c.loop-k.invariant c.put_slot-p.ensures
 
 pub returns : goal.returns
-returns c = writing_end c.loop-k.invariant.1 (strings-over _ _ c.loop-k-test.false)
+returns c = writing_end c.loop-k.invariant (strings-over _ _ c.loop-k-test.false)

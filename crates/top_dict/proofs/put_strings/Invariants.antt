@@ -1,11 +1,7 @@
-use Rattle.std.proofs.Common.{◌-◌, ◌≤◌}
 use Rattle.top_dict.specs.Writing.{Writing}
 use Rattle.top_dict.specs.TopLaws.{strings_from}
 use Rattle.top_dict.specs.Top.{string_entries}
 use Rattle.top_dict.proofs.put_strings.Given as goal
 
 abbrev pub invariant-loop-k : goal.invariant-loop-k
-invariant-loop-k l = (l.k ≤ 6) × Writing (string_entries l.slots) l.initial.out l.at (strings_from l.slots l.k) l.out l.p
-
-abbrev pub decreases-loop-k : goal.decreases-loop-k
-decreases-loop-k l = 6 - l.k
+invariant-loop-k l = Writing (string_entries l.slots) l.initial.out l.at (strings_from l.slots l.k) l.out l.p

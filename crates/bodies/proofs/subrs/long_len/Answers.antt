@@ -1,6 +1,5 @@
 -- `bodies::subrs::long_len` meets its contract: one that is not written has no bytes.
-use Rattle.std.proofs.Common.{Bool, List, sym, ℕ, ◌∙◌}
-use Rattle.std.proofs.Math.Option.{Option}
+use Rattle.std.proofs.Common.{Bool, List, sym, ℕ, ◌∙◌, Option}
 use Rattle.index.specs.Index.{items_of}
 use Rattle.record.specs.Record.{rows_of}
 use Rattle.renumber.specs.Ranks.{calls_by}

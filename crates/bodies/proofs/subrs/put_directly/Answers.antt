@@ -1,6 +1,5 @@
 -- `bodies::subrs::put_directly` meets its contract.
-use Rattle.std.proofs.Common.{Bool, List, ap, arith, length, sym, true, ℕ, ◌∙◌, ◌≡◌}
-use Rattle.std.proofs.Math.Option.{Option}
+use Rattle.std.proofs.Common.{Bool, List, ap, arith, length, sym, true, ℕ, ◌∙◌, ◌≡◌, Option}
 use Rattle.octets.specs.PutLaws.{wrote_as}
 use Rattle.index.specs.Index.{items_of}
 use Rattle.index.specs.Write.{index_bytes}
@@ -16,7 +15,7 @@ use Rattle.bodies.specs.WritingLaws.{writing_start, writing-skip, writing-room, 
 use Rattle.bodies.specs.SubrsLaws.{index-each, index_many, new-subrs_is}
 use Rattle.bodies.proofs.subrs.put_directly.Goals as goal
 use Rattle.bodies.proofs.subrs.put_directly.Lts.View as view
-use Rattle.bodies.proofs.subrs.put_directly.Goals.{After-kept_count-count, After-put_head, Start, Then-is_kept}
+use Rattle.bodies.proofs.subrs.put_directly.Goals.{After-kept_count-count, After-put_head, Start, Then-is_kept, then-is_kept, else-is_kept}
 
 -- which are written, what each is, and all
 abbrev T : Start → ℕ → Bool
@@ -66,9 +65,6 @@ overflow_add-p c = omega (arith, meant (goal.at.overflow_add-p c).After-put_head
 pub loop-k-init : goal.loop-k-init
 loop-k-init c = writing_start _ _ (many_of (B (goal.at.loop-k-init c).Start)) (T (goal.at.loop-k-init c).Start) c.args.from.ix.count
 
-pub is_kept-requires : goal.is_kept-requires
-is_kept-requires c = c.requires.0.inside
-
 -- number k is written
 taken : (c : Then-is_kept) → T c.before.before.before.before.before.before.before.before.before.before.before.before.before.before.before.before.before c.loop-k.k ≡ true
 taken c = sym c.is_kept.ensures ∙ c.if-is_kept.true
@@ -86,27 +82,17 @@ pub overflow_add-j : goal.overflow_add-j
 overflow_add-j c =
     omega (arith, c.loop-k.invariant.counted, count-few (T (goal.at.overflow_add-j c).Start) c.loop-k.k, c.loop-k-test.true, c.requires.0.few)
 
-pub overflow_add-k : goal.overflow_add-k
-overflow_add-k c = omega (arith, c.loop-k-test.true, c.requires.0.few)
-
-pub loop-k-smaller-then-is_kept : goal.loop-k-smaller-then-is_kept
-loop-k-smaller-then-is_kept c = omega (arith, c.loop-k-test.true)
-
-pub loop-k-preserved-then-is_kept : goal.loop-k-preserved-then-is_kept
-loop-k-preserved-then-is_kept c =
-    writing-on (B (goal.at.loop-k-preserved-then-is_kept c).Start) (F (goal.at.loop-k-preserved-then-is_kept c).Start) (T (goal.at.loop-k-preserved-then-is_kept c).Start) c.args.from.ix.count (same (goal.at.loop-k-preserved-then-is_kept c).Start) c.requires.2.done _ _ (meant (goal.at.loop-k-preserved-then-is_kept c).After-put_head) c.loop-k.k c.loop-k.j c.loop-k.invariant c.loop-k-test.true (taken (goal.at.loop-k-preserved-then-is_kept c).Then-is_kept)
-    c.put_subr-p.ensures c.put_end.ensures
-
-pub overflow_add-k-else-is_kept : goal.overflow_add-k-else-is_kept
-overflow_add-k-else-is_kept c = omega (arith, c.loop-k-test.true, c.requires.0.few)
-
-pub loop-k-smaller : goal.loop-k-smaller
-loop-k-smaller c = omega (arith, c.loop-k-test.true)
-
 pub loop-k-preserved : goal.loop-k-preserved
 loop-k-preserved c =
-    writing-skip (B (goal.at.loop-k-preserved c).Start) (F (goal.at.loop-k-preserved c).Start) (T (goal.at.loop-k-preserved c).Start) c.args.from.ix.count (same (goal.at.loop-k-preserved c).Start) c.requires.2.done _ _ (meant (goal.at.loop-k-preserved c).After-put_head) c.loop-k.k c.loop-k.j c.loop-k.invariant c.loop-k-test.true
-    (sym c.is_kept.ensures ∙ c.if-is_kept.false)
+    let s = (goal.at.loop-k-preserved c).Start in
+    elim c.if-is_kept.branch [
+      | then-is_kept w ↦
+          rw (w.out-is, w.p-is, w.j-is) (writing-on (B s) (F s) (T s) c.args.from.ix.count (same s) c.requires.2.done _ _ (meant (goal.at.loop-k-preserved c).After-put_head) c.loop-k.k c.loop-k.j c.loop-k.invariant c.loop-k-test.true
+          (sym c.is_kept.ensures ∙ w.if-is_kept.true) w.put_subr-p.ensures w.put_end.ensures)
+      | else-is_kept w ↦
+          rw (w.out-is, w.p-is, w.j-is) (writing-skip (B s) (F s) (T s) c.args.from.ix.count (same s) c.requires.2.done _ _ (meant (goal.at.loop-k-preserved c).After-put_head) c.loop-k.k c.loop-k.j c.loop-k.invariant c.loop-k-test.true
+          (sym c.is_kept.ensures ∙ w.if-is_kept.false))
+    ]
 
 pub returns : goal.returns
 returns c =

@@ -1,5 +1,4 @@
 -- The invariant: the subroutines below k were written, with the offsets of their ends.
-use Rattle.std.proofs.Common.{◌-◌}
 use Rattle.record.specs.Record.{rows_of}
 use Rattle.bodies.specs.Ways.{many_of}
 use Rattle.bodies.specs.WritingLaws.{Writing}
@@ -10,6 +9,3 @@ abbrev pub invariant-loop-k : goal.invariant-loop-k
 invariant-loop-k l =
     Writing l.initial.out l.to (many_of (subrs_from l.from (rows_of l.rows) l.words l.font)) (kept_from l.from l.words)
     l.from.ix.count l.k l.j l.out l.p
-
-abbrev pub decreases-loop-k : goal.decreases-loop-k
-decreases-loop-k l = l.from.ix.count - l.k

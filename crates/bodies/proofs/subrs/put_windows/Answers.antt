@@ -1,6 +1,5 @@
 -- `bodies::subrs::put_windows` meets its contract.
-use Rattle.std.proofs.Common.{Bool, List, ap, arith, length, refl, sym, true, ℕ, ◌∙◌, ◌≡◌}
-use Rattle.std.proofs.Math.Option.{Option}
+use Rattle.std.proofs.Common.{Bool, List, ap, arith, length, sym, true, ℕ, ◌∙◌, ◌≡◌, Option}
 use Rattle.octets.specs.PutLaws.{wrote_as}
 use Rattle.index.specs.Index.{items_of}
 use Rattle.index.specs.Write.{index_bytes}
@@ -14,11 +13,11 @@ use Rattle.renumber.specs.Ranks.{calls_by}
 use Rattle.bodies.specs.Ways.{many_of, reached_in, site_in, is_kept, subr_by, subrs_by}
 use Rattle.bodies.specs.WritingLaws.{writing_start, writing-skip, writing-room, writing_end, writing-on, head-fits, places-meant, writing-whole}
 use Rattle.bodies.specs.SubrsLaws.{index-each, index_many, new-subrs_is}
-use Rattle.bodies.specs.WindowsLaws.{lent_same, fills_subr}
+use Rattle.bodies.specs.WindowsLaws.{lent_same}
 use Rattle.mask_rows.specs.FillLaws.{covers-none}
 use Rattle.bodies.proofs.subrs.put_windows.Goals as goal
 use Rattle.bodies.proofs.subrs.put_windows.Lts.View as view
-use Rattle.bodies.proofs.subrs.put_windows.Goals.{After-kept_count-count, After-put_head, Start, Then-is_kept}
+use Rattle.bodies.proofs.subrs.put_windows.Goals.{After-kept_count-count, After-put_head, Start, Then-is_kept, then-is_kept, else-is_kept}
 
 -- which are written, what each is, and all
 abbrev T : Start → ℕ → Bool
@@ -67,18 +66,11 @@ overflow_add-p c = omega (arith, meant (goal.at.overflow_add-p c).After-put_head
 
 pub loop-k-init : goal.loop-k-init
 loop-k-init c =
-    (writing_start _ _ (many_of (B (goal.at.loop-k-init c).Start)) (T (goal.at.loop-k-init c).Start) c.args.from.ix.count, covers-none _ _ _ _, refl, refl)
-
-pub is_kept-requires : goal.is_kept-requires
-is_kept-requires c = c.requires.0.inside
+    (writing_start _ _ (many_of (B (goal.at.loop-k-init c).Start)) (T (goal.at.loop-k-init c).Start) c.args.from.ix.count, covers-none _ _ _ _)
 
 -- number k is written
 taken : (c : Then-is_kept) → T c.before.before.before.before.before.before.before.before.before.before.before.before.before.before.before.before.before.before.before c.loop-k.k ≡ true
 taken c = sym c.is_kept.ensures ∙ c.if-is_kept.true
-
-pub advance-window-requires : goal.advance-window-requires
-advance-window-requires c =
-    (fills_subr c.args.from c.requires.0 (lent_same c.requires.3 _ _ c.loop-k.invariant.2 c.loop-k.invariant.3) _ c.loop-k-test.true, c.loop-k.invariant.1)
 
 pub put_windowed-p-requires : goal.put_windowed-p-requires
 put_windowed-p-requires c =
@@ -87,7 +79,7 @@ put_windowed-p-requires c =
       c.loop-k-test.true,
       c.advance-window.ensures.0,
       c.advance-window.ensures.1,
-      lent_same c.requires.3 _ _ (c.advance-window.auto.keys ∙ c.loop-k.invariant.2) (c.advance-window.auto.bytes ∙ c.loop-k.invariant.3),
+      lent_same c.requires.3 _ _ (c.advance-window.auto.keys ∙ c.loop-k.auto.keys) (c.advance-window.auto.bytes ∙ c.loop-k.auto.bytes),
       q.0,
       q.1,
     )
@@ -100,35 +92,21 @@ pub overflow_add-put : goal.overflow_add-put
 overflow_add-put c =
     omega (arith, c.loop-k.invariant.0.counted, count-few (T (goal.at.overflow_add-put c).Start) c.loop-k.k, c.loop-k-test.true, c.requires.0.few)
 
-pub overflow_add-k : goal.overflow_add-k
-overflow_add-k c = omega (arith, c.loop-k-test.true, c.requires.0.few)
-
-pub loop-k-smaller-then-is_kept : goal.loop-k-smaller-then-is_kept
-loop-k-smaller-then-is_kept c = omega (arith, c.loop-k-test.true)
-
-pub loop-k-preserved-then-is_kept : goal.loop-k-preserved-then-is_kept
-loop-k-preserved-then-is_kept c = (
-  writing-on (B (goal.at.loop-k-preserved-then-is_kept c).Start) (F (goal.at.loop-k-preserved-then-is_kept c).Start) (T (goal.at.loop-k-preserved-then-is_kept c).Start) c.args.from.ix.count (same (goal.at.loop-k-preserved-then-is_kept c).Start) c.requires.2.done _ _ (meant (goal.at.loop-k-preserved-then-is_kept c).After-put_head) c.loop-k.k c.loop-k.put c.loop-k.invariant.0 c.loop-k-test.true (taken (goal.at.loop-k-preserved-then-is_kept c).Then-is_kept)
-      c.put_windowed-p.ensures.0 c.put_end.ensures,
-  c.put_windowed-p.ensures.1,
-  c.put_windowed-p.auto.keys ∙ c.advance-window.auto.keys ∙ c.loop-k.invariant.2,
-  c.put_windowed-p.auto.bytes ∙ c.advance-window.auto.bytes ∙ c.loop-k.invariant.3,
-)
-
-pub overflow_add-k-else-is_kept : goal.overflow_add-k-else-is_kept
-overflow_add-k-else-is_kept c = omega (arith, c.loop-k-test.true, c.requires.0.few)
-
-pub loop-k-smaller : goal.loop-k-smaller
-loop-k-smaller c = omega (arith, c.loop-k-test.true)
-
 pub loop-k-preserved : goal.loop-k-preserved
-loop-k-preserved c = (
-  writing-skip (B (goal.at.loop-k-preserved c).Start) (F (goal.at.loop-k-preserved c).Start) (T (goal.at.loop-k-preserved c).Start) c.args.from.ix.count (same (goal.at.loop-k-preserved c).Start) c.requires.2.done _ _ (meant (goal.at.loop-k-preserved c).After-put_head) c.loop-k.k c.loop-k.put c.loop-k.invariant.0 c.loop-k-test.true
-      (sym c.is_kept.ensures ∙ c.if-is_kept.false),
-  c.loop-k.invariant.1,
-  c.loop-k.invariant.2,
-  c.loop-k.invariant.3,
-)
+loop-k-preserved c =
+    let s = (goal.at.loop-k-preserved c).Start in
+    elim c.if-is_kept.branch [
+      | then-is_kept w ↦ (
+        rw (w.out-is, w.p-is, w.put-is) (writing-on (B s) (F s) (T s) c.args.from.ix.count (same s) c.requires.2.done _ _ (meant (goal.at.loop-k-preserved c).After-put_head) c.loop-k.k c.loop-k.put c.loop-k.invariant.0 c.loop-k-test.true
+            (sym c.is_kept.ensures ∙ w.if-is_kept.true) w.put_windowed-p.ensures.0 w.put_end.ensures),
+        rw (w.bytes-is, w.window-is) w.put_windowed-p.ensures.1,
+      )
+      | else-is_kept w ↦ (
+        rw (w.out-is, w.p-is, w.put-is) (writing-skip (B s) (F s) (T s) c.args.from.ix.count (same s) c.requires.2.done _ _ (meant (goal.at.loop-k-preserved c).After-put_head) c.loop-k.k c.loop-k.put c.loop-k.invariant.0 c.loop-k-test.true
+            (sym c.is_kept.ensures ∙ w.if-is_kept.false)),
+        rw (w.bytes-is, w.window-is) c.loop-k.invariant.1,
+      )
+    ]
 
 pub returns : goal.returns
 returns c =

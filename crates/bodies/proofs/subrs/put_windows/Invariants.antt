@@ -1,5 +1,4 @@
 -- The invariant: the subroutines below k were written, with the offsets of their ends, and the window has what it says.
-use Rattle.std.proofs.Common.{length, ◌-◌, ◌≡◌}
 use Rattle.record.specs.Record.{rows_of}
 use Rattle.bodies.specs.Ways.{many_of}
 use Rattle.bodies.specs.WritingLaws.{Writing}
@@ -11,7 +10,4 @@ use Rattle.bodies.proofs.subrs.put_windows.Given as goal
 abbrev pub invariant-loop-k : goal.invariant-loop-k
 invariant-loop-k l =
     Writing l.initial.out l.to (many_of (subrs_from l.from (rows_of l.rows) l.words l.font)) (kept_from l.from l.words) l.from.ix.count l.k l.put l.out l.p
-    × Covers l.rows l.bytes (kind_of l.from.of) (fd_of l.from.of) l.window × (length l.keys ≡ length l.initial.keys) × (length l.bytes ≡ length l.initial.bytes)
-
-abbrev pub decreases-loop-k : goal.decreases-loop-k
-decreases-loop-k l = l.from.ix.count - l.k
+    × Covers l.rows l.bytes (kind_of l.from.of) (fd_of l.from.of) l.window

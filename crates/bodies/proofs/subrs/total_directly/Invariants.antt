@@ -1,5 +1,4 @@
 -- The invariant: the subroutines below k were measured; one that is not written adds nothing.
-use Rattle.std.proofs.Common.{◌-◌}
 use Rattle.record.specs.Record.{rows_of}
 use Rattle.bodies.specs.Sizes.{Adding}
 use Rattle.bodies.specs.Sources.{kept_from, subr_from}
@@ -8,6 +7,3 @@ use Rattle.bodies.proofs.subrs.total_directly.Given as goal
 abbrev pub invariant-loop-k : goal.invariant-loop-k
 invariant-loop-k l =
     Adding (subr_from l.from (rows_of l.rows) l.words l.font) (kept_from l.from l.words) l.from.ix.count l.k l.total
-
-abbrev pub decreases-loop-k : goal.decreases-loop-k
-decreases-loop-k l = l.from.ix.count - l.k

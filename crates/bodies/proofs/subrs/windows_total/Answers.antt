@@ -1,15 +1,14 @@
 -- `bodies::subrs::windows_total` meets its contract.
-use Rattle.std.proofs.Common.{Bool, List, ap, arith, refl, sym, ℕ, ◌∙◌, ◌≡◌}
-use Rattle.std.proofs.Math.Option.{Option}
+use Rattle.std.proofs.Common.{subst, Bool, List, ap, sym, ℕ, ◌∙◌, ◌≡◌, Option}
 use Rattle.index.specs.Index.{items_of}
 use Rattle.record.specs.Record.{rows_of}
 use Rattle.subset.specs.Kept.{those}
 use Rattle.subset.specs.Pruned.{each}
 use Rattle.renumber.specs.Ranks.{calls_by}
+use Rattle.bodies.specs.Sizes.{Bounded}
 use Rattle.bodies.specs.Ways.{measured_of, reached_in, site_in, is_kept, subr_by, subrs_by}
-use Rattle.bodies.specs.SizesLaws.{adding_start, adding_end, adding_failed, adding_on, adding_room, adding_small}
+use Rattle.bodies.specs.SizesLaws.{adding_start, adding_end, adding_failed, adding_on, adding_small}
 use Rattle.bodies.specs.SubrsLaws.{index-each}
-use Rattle.bodies.specs.WindowsLaws.{lent_same, fills_subr}
 use Rattle.mask_rows.specs.FillLaws.{covers-none}
 use Rattle.bodies.proofs.subrs.windows_total.Goals as goal
 use Rattle.bodies.proofs.subrs.windows_total.Goals.{Start}
@@ -33,47 +32,19 @@ all s =
 
 pub loop-k-init : goal.loop-k-init
 loop-k-init c =
-    (adding_start (F (goal.at.loop-k-init c).Start) (T (goal.at.loop-k-init c).Start) c.args.from.ix.count, covers-none _ _ _ _, refl, refl)
-
-pub advance-window-requires : goal.advance-window-requires
-advance-window-requires c =
-    (fills_subr c.args.from c.requires.0 (lent_same c.requires.1 _ _ c.loop-k.invariant.2 c.loop-k.invariant.3) _ c.loop-k-test.true, c.loop-k.invariant.1)
-
-pub windowed_len-requires : goal.windowed_len-requires
-windowed_len-requires c = (
-  c.requires.0,
-  c.loop-k-test.true,
-  c.advance-window.ensures.0,
-  c.advance-window.ensures.1,
-  lent_same c.requires.1 _ _ (c.advance-window.auto.keys ∙ c.loop-k.invariant.2) (c.advance-window.auto.bytes ∙ c.loop-k.invariant.3),
-)
-
-pub overflow_add-total : goal.overflow_add-total
-overflow_add-total c =
-    let m = adding_room (F (goal.at.overflow_add-total c).Start) (T (goal.at.overflow_add-total c).Start) c.args.from.ix.count c.loop-k.k c.loop-k.total c.loop-k.invariant.0 c.loop-k-test.true c.requires.0.few _ _ c.windowed_len.ensures.1 c.in-Len.is in
-    omega (arith, m)
-
-pub overflow_add-k : goal.overflow_add-k
-overflow_add-k c = omega (arith, c.loop-k-test.true, c.requires.0.few)
-
-pub loop-k-smaller : goal.loop-k-smaller
-loop-k-smaller c = omega (arith, c.loop-k-test.true)
+    (adding_start (F (goal.at.loop-k-init c).Start) (T (goal.at.loop-k-init c).Start) c.args.from.ix.count, covers-none _ _ _ _)
 
 pub loop-k-preserved : goal.loop-k-preserved
 loop-k-preserved c = (
   adding_on (F (goal.at.loop-k-preserved c).Start) (T (goal.at.loop-k-preserved c).Start) c.args.from.ix.count c.loop-k.k c.loop-k.total c.loop-k.invariant.0 c.loop-k-test.true _ c.windowed_len.ensures.0 c.windowed_len.ensures.1 _
-      c.in-Len.is,
+      c.in_ok-len.was,
   c.windowed_len.ensures.2,
-  c.windowed_len.auto.keys ∙ c.advance-window.auto.keys ∙ c.loop-k.invariant.2,
-  c.windowed_len.auto.bytes ∙ c.advance-window.auto.bytes ∙ c.loop-k.invariant.3,
 )
 
-pub returns-in-Failed : goal.returns-in-Failed
-returns-in-Failed c = (
-  adding_failed (F (goal.at.returns-in-Failed c).Start) (T (goal.at.returns-in-Failed c).Start) c.args.from.ix.count c.loop-k.k c.loop-k.total c.loop-k.invariant.0 c.loop-k-test.true _ c.windowed_len.ensures.0 c.in-Failed.is
-      ∙ all (goal.at.returns-in-Failed c).Start,
-  tt,
-)
+pub returns-in_err-len : goal.returns-in_err-len
+returns-in_err-len c =
+    let none = c.from_residual.ensures in
+    (none ∙ (adding_failed (F (goal.at.returns-in_err-len c).Start) (T (goal.at.returns-in_err-len c).Start) c.args.from.ix.count c.loop-k.k c.loop-k.total c.loop-k.invariant.0 c.loop-k-test.true _ c.windowed_len.ensures.0 c.in_err-len.was ∙ all (goal.at.returns-in_err-len c).Start), subst Bounded (sym none) tt)
 
 pub returns : goal.returns
 returns c = (

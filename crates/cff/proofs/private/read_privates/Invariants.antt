@@ -1,12 +1,8 @@
-use Rattle.std.proofs.Common.{◌-◌, ◌<◌, ◌≡◌}
+use Rattle.std.proofs.Common.{◌<◌}
 use Rattle.index.specs.Index.{items_of}
 use Rattle.cff.specs.Reads.{Remembers}
 use Rattle.cff.specs.ReadsLaws.{Adding}
 use Rattle.cff.proofs.private.read_privates.Given as goal
 
 abbrev pub invariant-loop-k : goal.invariant-loop-k
-invariant-loop-k l =
-    (l.n ≡ l.dicts.count) × (l.n < 65536) × Adding l.font (items_of l.font l.dicts) l.total l.k × Remembers l.font l.sizes l.offsets l.words × (l.free < 128)
-
-abbrev pub decreases-loop-k : goal.decreases-loop-k
-decreases-loop-k l = l.n - l.k
+invariant-loop-k l = Adding l.font (items_of l.font l.dicts) l.total l.k × Remembers l.font l.sizes l.offsets l.words × (l.free < 128)

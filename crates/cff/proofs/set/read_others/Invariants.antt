@@ -1,10 +1,6 @@
-use Rattle.std.proofs.Common.{◌-◌, ◌≡◌}
 use Rattle.index.specs.Index.{items_of}
 use Rattle.cff.specs.SetLaws.{Reading}
 use Rattle.cff.proofs.set.read_others.Given as goal
 
 abbrev pub invariant-loop-k : goal.invariant-loop-k
-invariant-loop-k l = (l.n ≡ l.tops.count) × Reading l.font l.strings l.globals (items_of l.font l.tops) l.first l.k
-
-abbrev pub decreases-loop-k : goal.decreases-loop-k
-decreases-loop-k l = l.n - l.k
+invariant-loop-k l = Reading l.font l.strings l.globals (items_of l.font l.tops) l.first l.k

@@ -1,5 +1,5 @@
 -- The invariant: the cursor stands before glyph g, and the glyphs from there on give what all give.
-use Rattle.std.proofs.Common.{◌-◌, ◌≡◌, ◌≤◌}
+use Rattle.std.proofs.Common.{◌-◌, ◌≡◌}
 use Rattle.octets.specs.Lists.{all_below}
 use Rattle.charset.specs.Listed.{list_of}
 use Rattle.charset.specs.FdPlaces.{fd_of, fds_of, StandsFd}
@@ -13,7 +13,4 @@ of u = record { count = u.count; first = u.end; wide = u.wide; at = u.at }
 
 abbrev pub invariant-loop-g : goal.invariant-loop-g
 invariant-loop-g l =
-    StandsFd l.font (of l.initial.u) l.g l.u × (l.g ≤ l.n) × (all_below l.count (list_of (fd_of l.font (of l.initial.u)) l.g (l.n - l.g)) ≡ all_below l.count (fds_of l.font (of l.initial.u) l.n))
-
-abbrev pub decreases-loop-g : goal.decreases-loop-g
-decreases-loop-g l = l.n - l.g
+    StandsFd l.font (of l.initial.u) l._g l.u × (all_below l.count (list_of (fd_of l.font (of l.initial.u)) l._g (l.n - l._g)) ≡ all_below l.count (fds_of l.font (of l.initial.u) l.n))

@@ -1,28 +1,22 @@
 -- `numbers::put_limits` meets its contract.
-use Rattle.std.proofs.Common.{arith, refl}
+use Rattle.std.proofs.Common.{arith}
 use Rattle.checker.specs.NumberLaws.{limits-start, limits_done, limits-passed, limits-put}
 use Rattle.checker.proofs.numbers.put_limits.Goals as goal
+use Rattle.checker.proofs.numbers.put_limits.Goals.{then-marks-g-ne0, else-marks-g-ne0}
 
 pub loop-g-init : goal.loop-g-init
-loop-g-init c = (refl, limits-start _ _ _ _ c.requires.2)
-
-pub bounds-marks-g : goal.bounds-marks-g
-bounds-marks-g c = omega (arith, c.loop-g-test.true, c.loop-g.invariant.0, c.requires.1)
-
-pub loop-g-preserved-then-marks-g-eq0 : goal.loop-g-preserved-then-marks-g-eq0
-loop-g-preserved-then-marks-g-eq0 c =
-    let v = c.loop-g.invariant in
-    (v.0, limits-passed _ _ _ _ _ v.1 (omega (arith, c.loop-g-test.true, v.0)) c.if-marks-g-eq0.true)
+loop-g-init c = limits-start _ _ _ _ c.requires.2
 
 pub put_limit-requires : goal.put_limit-requires
-put_limit-requires c =
-    let v = c.loop-g.invariant in
-    (c.requires.0, omega (arith, c.loop-g-test.true, v.0), v.1.known)
+put_limit-requires c = (c.requires.0, c.loop-g-test.true, c.loop-g.invariant.known)
 
 pub loop-g-preserved : goal.loop-g-preserved
 loop-g-preserved c =
     let v = c.loop-g.invariant in
-    (v.0, limits-put _ _ _ _ _ v.1 (omega (arith, c.loop-g-test.true, v.0)) c.if-marks-g-eq0.false _ c.put_limit.ensures)
+    elim c.if-marks-g-ne0.branch [
+      | then-marks-g-ne0 w ↦ rw w.limits-is (limits-put _ _ _ _ _ v c.loop-g-test.true w.if-marks-g-ne0.true _ w.put_limit.ensures)
+      | else-marks-g-ne0 w ↦ rw w.limits-is (limits-passed _ _ _ _ _ v c.loop-g-test.true w.if-marks-g-ne0.false)
+    ]
 
 pub returns : goal.returns
-returns c = let v = c.loop-g.invariant in limits_done _ _ _ _ _ v.1 (omega (arith, c.loop-g-test.false, v.0))
+returns c = limits_done _ _ _ _ _ c.loop-g.invariant (omega (arith, c.loop-g-test.false))

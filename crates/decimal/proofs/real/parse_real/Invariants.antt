@@ -1,10 +1,6 @@
 -- The invariant: the nibbles that are left, from the stage reached, give what all of them give.
-use Rattle.std.proofs.Common.{length, ◌-◌}
 use Rattle.decimal.specs.Stage.{Running}
 use Rattle.decimal.proofs.real.parse_real.Given as goal
 
 abbrev pub invariant-loop-p : goal.invariant-loop-p
 invariant-loop-p l = Running l.d l.at l.stage l.p
-
-abbrev pub decreases-loop-p : goal.decreases-loop-p
-decreases-loop-p l = length l.d - l.p

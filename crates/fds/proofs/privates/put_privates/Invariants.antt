@@ -1,5 +1,4 @@
 -- The invariant: the parts of the FDs in use below fd are written.
-use Rattle.std.proofs.Common.{length, ◌-◌, ◌≡◌, ◌≤◌}
 use Rattle.octets.specs.Octets.{Wrote}
 use Rattle.record.specs.Record.{rows_of}
 use Rattle.cff.specs.Reads.{program_of}
@@ -9,8 +8,4 @@ use Rattle.fds.proofs.privates.put_privates.Given as goal
 
 abbrev pub invariant-loop-fd : goal.invariant-loop-fd
 invariant-loop-fd l =
-    (l.fd ≤ 256) × (length l.out ≡ length l.initial.out)
-    × Wrote l.initial.out l.at (parts_for l.how.way (program_of l.font l.f) (rows_of l.rows) l.words l.table l.how.globals (used_below l.used l.fd)) l.out l.p
-
-abbrev pub decreases-loop-fd : goal.decreases-loop-fd
-decreases-loop-fd l = 256 - l.fd
+    Wrote l.initial.out l.at (parts_for l.how.way (program_of l.font l.f) (rows_of l.rows) l.words l.table l.how.globals (used_below l.used l.fd)) l.out l.p

@@ -1,5 +1,4 @@
 -- The invariant: the new local subroutines of the FDs in use below fd are measured, and none of these FDs fails.
-use Rattle.std.proofs.Common.{length, ◌-◌, ◌≡◌, ◌≤◌}
 use Rattle.record.specs.Record.{rows_of}
 use Rattle.cff.specs.Reads.{program_of}
 use Rattle.fds.specs.NewLocalsLaws.{Summing}
@@ -7,7 +6,4 @@ use Rattle.fds.proofs.totals.measure_locals.Given as goal
 
 abbrev pub invariant-loop-fd : goal.invariant-loop-fd
 invariant-loop-fd l =
-    (l.fd ≤ 256) × (length l.totals ≡ length l.initial.totals) × Summing l.way (program_of l.font l.f) (rows_of l.rows) l.words l.table l.globals l.used l.totals l.fd
-
-abbrev pub decreases-loop-fd : goal.decreases-loop-fd
-decreases-loop-fd l = 256 - l.fd
+    Summing l.way (program_of l.font l.f) (rows_of l.rows) l.words l.table l.globals l.used l.totals l.fd

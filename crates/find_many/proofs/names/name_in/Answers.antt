@@ -11,12 +11,12 @@ returns-then-cid c = ap number_for (name-keyed c.args.font.now c.args.f c.requir
 
 pub overflow_cast-result : goal.overflow_cast-result
 overflow_cast-result c =
-    omega (arith, found-small c.args.font.now c.args.f c.requires c.args.name.now _ c.find_text-found.ensures _ c.in-Glyph.is)
+    omega (arith, found-small c.args.font.now c.args.f c.requires c.args.name.now _ c.find_text-found.ensures _ c.in-Some.is)
 
-pub returns-in-Absent : goal.returns-in-Absent
-returns-in-Absent c =
-    ap number_for (name_looked c.args.font.now c.args.f c.requires c.if-cid.false c.args.name.now _ c.find_text-found.ensures _ (ap found_as_lem c.in-Absent.is))
+pub returns-in-None : goal.returns-in-None
+returns-in-None c =
+    ap number_for (name_looked c.args.font.now c.args.f c.requires c.if-cid.false c.args.name.now _ c.find_text-found.ensures _ (ap found_as_lem c.in-None.is))
 
-pub returns-in-Glyph : goal.returns-in-Glyph
-returns-in-Glyph c =
-    ap number_for (name_looked c.args.font.now c.args.f c.requires c.if-cid.false c.args.name.now _ c.find_text-found.ensures _ (ap found_as_lem c.in-Glyph.is))
+pub returns-in-Some : goal.returns-in-Some
+returns-in-Some c =
+    ap number_for (name_looked c.args.font.now c.args.f c.requires c.if-cid.false c.args.name.now _ c.find_text-found.ensures _ (ap found_as_lem c.in-Some.is))

@@ -1,5 +1,5 @@
 -- The invariant: the glyphs of the names that are left, written behind those that were, give what all give from the front on.
-use Rattle.std.proofs.Common.{drop, length, map, ◌+◌, ◌-◌, ◌≡◌, ◌≤◌}
+use Rattle.std.proofs.Common.{drop, length, map, ◌+◌, ◌≡◌, ◌≤◌}
 use Rattle.octets.specs.Lists.{sum_of}
 use Rattle.octets.specs.Octets.{put}
 use Rattle.cff.specs.Reads.{program_of}
@@ -8,8 +8,5 @@ use Rattle.find_many.proofs.names.put_names.Given as goal
 
 abbrev pub invariant-loop-i : goal.invariant-loop-i
 invariant-loop-i l =
-    (l.i ≤ length l.lens) × (l.count ≡ length l.lens) × (length l.glyphs ≡ length l.initial.glyphs) × (l.at + sum_of (drop l.i l.lens) ≤ length l.names)
+    (l.at + sum_of (drop l.i l.lens) ≤ length l.names)
     × (put l.glyphs l.i (map (of_name (program_of l.font l.f)) (names_by (drop l.i l.lens) (drop l.at l.names))) ≡ put l.initial.glyphs 0 (map (of_name (program_of l.font l.f)) (names_by l.lens l.names)))
-
-abbrev pub decreases-loop-i : goal.decreases-loop-i
-decreases-loop-i l = l.count - l.i

@@ -1,13 +1,10 @@
 -- The invariant: writing the operands that are left gives what writing all of them gives.
-use Rattle.std.proofs.Common.{length, ◌*◌, ◌+◌, ◌≤◌}
+use Rattle.std.proofs.Common.{length, ◌*◌, ◌+◌, ◌-◌, ◌≤◌}
 use Rattle.dict.specs.Places.{operands_at}
 use Rattle.cases.specs.Writing.{Writing}
 use Rattle.format_cases.specs.Dicts.{operands_bytes}
 use Rattle.format_cases.proofs.dicts.put_operands.Given as goal
 
-abbrev pub invariant-loop-left : goal.invariant-loop-left
-invariant-loop-left l =
-    (l.p + 11 * l.left ≤ length l.out) × Writing l.initial.out l.to (operands_bytes (operands_at l.count l.d l.start)) l.out l.p (operands_bytes (operands_at l.left l.d l.at))
-
-abbrev pub decreases-loop-left : goal.decreases-loop-left
-decreases-loop-left l = l.left
+abbrev pub invariant-loop : goal.invariant-loop
+invariant-loop l =
+    (l.p + 11 * (l.count - l.counter) ≤ length l.out) × Writing l.initial.out l.to (operands_bytes (operands_at l.count l.d l.start)) l.out l.p (operands_bytes (operands_at (l.count - l.counter) l.d l.at))

@@ -15,45 +15,43 @@ use Rattle.format_cases.specs.GlyphsLaws.{numbers-next, numbers-none}
 use Rattle.format_cases.proofs.glyphs.put_fds.Goals as goal
 use Rattle.format_cases.proofs.glyphs.put_fds.Invariants.{of}
 
-pub loop-g-init : goal.loop-g-init
-loop-g-init c =
+pub loop-init : goal.loop-init
+loop-init c =
     let a = c.args in (
       subst (λ (v : FdCursor). StandsFd a.font.now (of v) 0 v) (sym c.fd_select_start-u.ensures) (fd-start a.font.now a.s c.requires.0),
-      omega arith,
       omega arith,
       writing_start _ _ _,
     )
 
 pub next_fd-step-requires : goal.next_fd-step-requires
-next_fd-step-requires c = fd_ready _ _ _ _ c.loop-g.invariant.0 (omega arith)
+next_fd-step-requires c = fd_ready _ _ _ _ c.loop.invariant.0 (omega arith)
 
 pub put_num-p-requires : goal.put_num-p-requires
-put_num-p-requires c = let i = c.loop-g.invariant in omega (arith, i.2, i.3.size, c.requires.2, c.loop-g-test.true)
+put_num-p-requires c = let i = c.loop.invariant in omega (arith, i.1, i.2.size, c.requires.2, c.loop-test.true)
 
-pub loop-g-preserved : goal.loop-g-preserved
-loop-g-preserved c =
-    let l = c.loop-g in
+pub loop-preserved : goal.loop-preserved
+loop-preserved c =
+    let l = c.loop in
     let i = l.invariant in
     let a = c.args in
     let w = c.put_num-p.ensures in
     let s = of c.fd_select_start-u.result in
     let fds = fds_of a.font.now s a.n in
     let m : length fds ≡ a.n = list_length (fd_of a.font.now s) 0 a.n in
-    let h : l.g < length fds = omega (arith, m, c.loop-g-test.true) in
+    let h : l.counter < length fds = omega (arith, m, c.loop-test.true) in
     let e = c.next_fd-step.ensures in
-    let here = c.wide.ensures.0 ∙ ap (λ (r : FdStep). r.fd) e ∙ fd-step _ _ _ _ i.0 ∙ sym (fd-at a.font.now s a.n l.g c.loop-g-test.true) in (
-      subst (λ (r : FdStep). StandsFd a.font.now s (l.g + 1) r.next) (sym e) (fd-next _ _ _ _ i.0),
-      omega arith,
-      omega (arith, w.behind, length-bytes 1 c.wide.result, i.2),
-      writing-turn i.3 _ _ (numbers-next 1 fds l.g _ h here) (omega (arith, length-table 1 fds, m, c.requires.2)) _ _ w,
+    let here = ap (λ (r : FdStep). r.fd) e ∙ fd-step _ _ _ _ i.0 ∙ sym (fd-at a.font.now s a.n l.counter c.loop-test.true) in (
+      subst (λ (r : FdStep). StandsFd a.font.now s (l.counter + 1) r.next) (sym e) (fd-next _ _ _ _ i.0),
+      omega (arith, w.behind, length-bytes 1 c.next_fd-step.result.fd, i.1),
+      writing-turn i.2 _ _ (numbers-next 1 fds l.counter _ h here) (omega (arith, length-table 1 fds, m, c.requires.2)) _ _ w,
     )
 
 pub returns : goal.returns
 returns c =
-    let l = c.loop-g in
+    let l = c.loop in
     let a = c.args in
     let e = c.fd_select_start-u.ensures in
     let s = of c.fd_select_start-u.result in
     let m : length (fds_of a.font.now s a.n) ≡ a.n = list_length (fd_of a.font.now s) 0 a.n in
     subst (λ (v : FdCursor). Wrote a.out.now a.at (table_bytes 1 (fds_of a.font.now (of v) a.n)) l.out l.p) e
-    (writing_end l.invariant.3 (numbers-none 1 _ l.g (omega (arith, m, l.invariant.1, c.loop-g-test.false))))
+    (writing_end l.invariant.2 (numbers-none 1 _ l.counter (omega (arith, m, c.loop-test.false))))

@@ -1,5 +1,5 @@
--- The invariant: the cursor stands before glyph g, and writing the FDs from there on gives what writing all gives.
-use Rattle.std.proofs.Common.{drop, ◌+◌, ◌-◌, ◌≡◌, ◌≤◌}
+-- The invariant: the cursor stands before the glyph of the turn, and writing the FDs from there on gives what writing all gives.
+use Rattle.std.proofs.Common.{drop, ◌+◌, ◌≡◌}
 use Rattle.index.specs.Write.{table_bytes}
 use Rattle.charset.specs.FdPlaces.{fds_of, StandsFd}
 use Rattle.charset.specs.declared.fd_select.FdSelect.{FdSelect}
@@ -11,10 +11,7 @@ use Rattle.format_cases.proofs.glyphs.put_fds.Given as goal
 abbrev pub of : FdCursor → FdSelect
 of u = record { count = u.count; first = u.end; wide = u.wide; at = u.at }
 
-abbrev pub invariant-loop-g : goal.invariant-loop-g
-invariant-loop-g l =
-    StandsFd l.font (of l.initial.u) l.g l.u × (l.g ≤ l.n) × (l.p ≡ l.at + l.g)
-    × Writing l.initial.out l.at (table_bytes 1 (fds_of l.font (of l.initial.u) l.n)) l.out l.p (table_bytes 1 (drop l.g (fds_of l.font (of l.initial.u) l.n)))
-
-abbrev pub decreases-loop-g : goal.decreases-loop-g
-decreases-loop-g l = l.n - l.g
+abbrev pub invariant-loop : goal.invariant-loop
+invariant-loop l =
+    StandsFd l.font (of l.initial.u) l.counter l.u × (l.p ≡ l.at + l.counter)
+    × Writing l.initial.out l.at (table_bytes 1 (fds_of l.font (of l.initial.u) l.n)) l.out l.p (table_bytes 1 (drop l.counter (fds_of l.font (of l.initial.u) l.n)))

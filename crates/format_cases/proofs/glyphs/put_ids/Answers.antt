@@ -13,12 +13,11 @@ use Rattle.format_cases.specs.GlyphsLaws.{numbers-next, numbers-none}
 use Rattle.format_cases.proofs.glyphs.put_ids.Goals as goal
 use Rattle.format_cases.proofs.glyphs.put_ids.Invariants.{of}
 
-pub loop-g-init : goal.loop-g-init
-loop-g-init c =
+pub loop-init : goal.loop-init
+loop-init c =
     let a = c.args in
     let e = c.charset_start-u.ensures in (
       subst (λ (v : CharsetCursor). StandsId a.font.now v (ids_of a.font.now (of v) a.n)) (sym e) (id_start a.font.now a.c a.n c.requires.0),
-      omega arith,
       subst (λ (v : CharsetCursor). length (ids_of a.font.now (of v) a.n) ≡ a.n) (sym e) (good_length a.font.now a.c a.n c.requires.0),
       omega arith,
       writing_start _ _ _,
@@ -26,36 +25,35 @@ loop-g-init c =
 
 pub next_id-step-requires : goal.next_id-step-requires
 next_id-step-requires c =
-    let l = c.loop-g in
+    let l = c.loop in
     let a = c.args in
     let ids = ids_of a.font.now (of c.charset_start-u.result) a.n in
-    let h : l.g < length ids = omega (arith, l.invariant.2, c.loop-g-test.true) in
-    id_ready a.font.now l.u ids l.g h l.invariant.0
+    let h : l.counter < length ids = omega (arith, l.invariant.1, c.loop-test.true) in
+    id_ready a.font.now l.u ids l.counter h l.invariant.0
 
 pub put_num-p-requires : goal.put_num-p-requires
-put_num-p-requires c = let i = c.loop-g.invariant in omega (arith, i.3, i.4.size, c.requires.1, c.loop-g-test.true)
+put_num-p-requires c = let i = c.loop.invariant in omega (arith, i.2, i.3.size, c.requires.1, c.loop-test.true)
 
-pub loop-g-preserved : goal.loop-g-preserved
-loop-g-preserved c =
-    let l = c.loop-g in
+pub loop-preserved : goal.loop-preserved
+loop-preserved c =
+    let l = c.loop in
     let i = l.invariant in
     let a = c.args in
     let w = c.put_num-p.ensures in
     let ids = ids_of a.font.now (of c.charset_start-u.result) a.n in
-    let h : l.g < length ids = omega (arith, i.2, c.loop-g-test.true) in
+    let h : l.counter < length ids = omega (arith, i.1, c.loop-test.true) in
     let e = c.next_id-step.ensures.0 in
-    let here = ap (λ (s : IdStep). s.id) e ∙ id_step a.font.now l.u ids l.g h i.0 in (
-      subst (λ (s : IdStep). StandsId a.font.now s.next (drop (l.g + 1) ids)) (sym e) (id_next a.font.now l.u ids l.g h i.0),
-      omega arith,
-      i.2,
-      omega (arith, w.behind, length-bytes 2 c.next_id-step.result.id, i.3),
-      writing-turn i.4 _ _ (numbers-next 2 ids l.g _ h here) (omega (arith, length-table 2 ids, i.2, c.requires.1)) _ _ w,
+    let here = ap (λ (s : IdStep). s.id) e ∙ id_step a.font.now l.u ids l.counter h i.0 in (
+      subst (λ (s : IdStep). StandsId a.font.now s.next (drop (l.counter + 1) ids)) (sym e) (id_next a.font.now l.u ids l.counter h i.0),
+      i.1,
+      omega (arith, w.behind, length-bytes 2 c.next_id-step.result.id, i.2),
+      writing-turn i.3 _ _ (numbers-next 2 ids l.counter _ h here) (omega (arith, length-table 2 ids, i.1, c.requires.1)) _ _ w,
     )
 
 pub returns : goal.returns
 returns c =
-    let l = c.loop-g in
+    let l = c.loop in
     let a = c.args in
     let e = c.charset_start-u.ensures in
     subst (λ (v : CharsetCursor). Wrote a.out.now a.at (table_bytes 2 (ids_of a.font.now (of v) a.n)) l.out l.p) e
-    (writing_end l.invariant.4 (numbers-none 2 _ l.g (omega (arith, l.invariant.2, l.invariant.1, c.loop-g-test.false))))
+    (writing_end l.invariant.3 (numbers-none 2 _ l.counter (omega (arith, l.invariant.1, c.loop-test.false))))

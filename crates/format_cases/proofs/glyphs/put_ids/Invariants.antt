@@ -1,5 +1,5 @@
--- The invariant: the cursor stands before glyph g, and writing the ids from there on gives what writing all gives.
-use Rattle.std.proofs.Common.{drop, length, ◌*◌, ◌+◌, ◌-◌, ◌≡◌, ◌≤◌}
+-- The invariant: the cursor stands before the glyph of the turn, and writing the ids from there on gives what writing all gives.
+use Rattle.std.proofs.Common.{drop, length, ◌*◌, ◌+◌, ◌≡◌}
 use Rattle.index.specs.Write.{table_bytes}
 use Rattle.charset.specs.CharsetPlaces.{ids_of, StandsId}
 use Rattle.charset.specs.declared.Charset.{Charset}
@@ -11,10 +11,7 @@ use Rattle.format_cases.proofs.glyphs.put_ids.Given as goal
 abbrev pub of : CharsetCursor → Charset
 of u = record { own = u.left; width = u.width; at = u.at }
 
-abbrev pub invariant-loop-g : goal.invariant-loop-g
-invariant-loop-g l =
-    StandsId l.font l.u (drop l.g (ids_of l.font (of l.initial.u) l.n)) × (l.g ≤ l.n) × (length (ids_of l.font (of l.initial.u) l.n) ≡ l.n) × (l.p ≡ l.at + 2 * l.g)
-    × Writing l.initial.out l.at (table_bytes 2 (ids_of l.font (of l.initial.u) l.n)) l.out l.p (table_bytes 2 (drop l.g (ids_of l.font (of l.initial.u) l.n)))
-
-abbrev pub decreases-loop-g : goal.decreases-loop-g
-decreases-loop-g l = l.n - l.g
+abbrev pub invariant-loop : goal.invariant-loop
+invariant-loop l =
+    StandsId l.font l.u (drop l.counter (ids_of l.font (of l.initial.u) l.n)) × (length (ids_of l.font (of l.initial.u) l.n) ≡ l.n) × (l.p ≡ l.at + 2 * l.counter)
+    × Writing l.initial.out l.at (table_bytes 2 (ids_of l.font (of l.initial.u) l.n)) l.out l.p (table_bytes 2 (drop l.counter (ids_of l.font (of l.initial.u) l.n)))

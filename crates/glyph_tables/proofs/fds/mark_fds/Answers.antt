@@ -36,10 +36,6 @@ pub bounds-marks-fd : goal.bounds-marks-fd
 bounds-marks-fd c =
     omega (arith, c.fd_of-fd.type_inv, c.loop-i.invariant.1.size, c.requires.1)
 
-pub overflow_add-i : goal.overflow_add-i
-overflow_add-i c =
-    omega (arith, c.loop-i-test.true, c.requires.0.few)
-
 pub loop-i-preserved : goal.loop-i-preserved
 loop-i-preserved c = (
   loop_next _ _ _ _ _ _ _ _ c.loop-i.invariant.0 _ _ (omega (arith, c.loop-i-test.true, c.requires.0.many)) c.hold-u.auto.window

@@ -1,5 +1,4 @@
 -- The invariant: the window comes to place i, and the FDs of i glyphs are marked.
-use Rattle.std.proofs.Common.{◌-◌}
 use Rattle.order_window.specs.Window.{Looping}
 use Rattle.glyph_tables.specs.Tables.{kept_fds}
 use Rattle.glyph_tables.specs.MarkLaws.{FdsMarked}
@@ -8,6 +7,3 @@ use Rattle.glyph_tables.proofs.fds.mark_fds.Given as goal
 abbrev pub invariant-loop-i : goal.invariant-loop-i
 invariant-loop-i l =
     Looping l.font l.f l.words l.initial.window l.initial.u l.window l.u l.i × FdsMarked (kept_fds l.font l.f l.words) l.initial.marks l.marks l.i
-
-abbrev pub decreases-loop-i : goal.decreases-loop-i
-decreases-loop-i l = l.count - l.i

@@ -1,5 +1,5 @@
 -- `select::put_select` meets its contract.
-use Rattle.std.proofs.Common.{List, ap, arith, get_or, length, refl, subst, sym, ℕ, ◌%◌, ◌<◌, ◌∙◌, ◌≡◌}
+use Rattle.std.proofs.Common.{List, ap, arith, get_or, length, subst, sym, ℕ, ◌%◌, ◌<◌, ◌∙◌, ◌≡◌}
 use Rattle.charset.specs.FdPlaces.{fd_of}
 use Rattle.charset.specs.FdWriter.{Pushed}
 use Rattle.charset.specs.FdWriterLaws.{push_begun, push-room, push-more, finish-room, push-finished}
@@ -38,16 +38,16 @@ new d =
 -- all glyphs were pushed
 all : (t : After-loop-i) → (Pushed t.args.out.now t.args.at (new_fds_by t.args.table.now (fds (view.up-At-loop-i _ _ _ _ _ t.before.before))) t.loop-i.out t.loop-i.w)
 all t =
-    select-pushed t.args.table.now (fds (view.up-At-loop-i _ _ _ _ _ t.before.before)) t.loop-i.i (omega (arith, many (view.up-At-loop-i _ _ _ _ _ t.before.before), t.loop-i-test.false)) t.loop-i.invariant.3
+    select-pushed t.args.table.now (fds (view.up-At-loop-i _ _ _ _ _ t.before.before)) t.loop-i.i (omega (arith, many (view.up-At-loop-i _ _ _ _ _ t.before.before), t.loop-i-test.false)) t.loop-i.invariant.1
 
 pub loop-i-init : goal.loop-i-init
 loop-i-init c =
     let a = c.args in
-    (omega arith, order-start _ _ _ _ c.requires.0, refl, push_begun a.out.now a.at (new_fds_by a.table.now (kept_fds a.font.now a.o.f a.words.now)) _ c.begin-w.ensures)
+    (order-start _ _ _ _ c.requires.0, push_begun a.out.now a.at (new_fds_by a.table.now (kept_fds a.font.now a.o.f a.words.now)) _ c.begin-w.ensures)
 
 pub hold-u-requires : goal.hold-u-requires
 hold-u-requires c =
-    order_asks _ _ _ _ c.requires.0 _ _ _ c.loop-i.invariant.1 c.loop-i-test.true
+    order_asks _ _ _ _ c.requires.0 _ _ _ c.loop-i.invariant.0 c.loop-i-test.true
 
 pub word_at-g-requires : goal.word_at-g-requires
 word_at-g-requires c =
@@ -59,21 +59,15 @@ new_fd-fd-requires c =
 
 pub push-w-requires : goal.push-w-requires
 push-w-requires c = (
-  select_counts c.args.table.now (fds (goal.at.push-w-requires c).At-loop-i) c.args.at c.loop-i.i c.loop-i.w (omega (arith, left (goal.at.push-w-requires c).In-loop-i)) (omega (arith, many (goal.at.push-w-requires c).At-loop-i, c.requires.0.few)) c.requires.2 c.loop-i.invariant.3.state,
-  push-room (new_fds_by c.args.table.now (fds (goal.at.push-w-requires c).At-loop-i)) c.loop-i.i c.new_fd-fd.result (few (goal.at.push-w-requires c).In-loop-i) (new (goal.at.push-w-requires c).After-new_fd-fd) c.loop-i.invariant.3 c.requires.3,
+  select_counts c.args.table.now (fds (goal.at.push-w-requires c).At-loop-i) c.args.at c.loop-i.i c.loop-i.w (omega (arith, left (goal.at.push-w-requires c).In-loop-i)) (omega (arith, many (goal.at.push-w-requires c).At-loop-i, c.requires.0.few)) c.requires.2 c.loop-i.invariant.1.state,
+  push-room (new_fds_by c.args.table.now (fds (goal.at.push-w-requires c).At-loop-i)) c.loop-i.i c.new_fd-fd.result (few (goal.at.push-w-requires c).In-loop-i) (new (goal.at.push-w-requires c).After-new_fd-fd) c.loop-i.invariant.1 c.requires.3,
 )
-
-pub overflow_add-i : goal.overflow_add-i
-overflow_add-i c =
-    omega (arith, c.loop-i-test.true, c.requires.0.few)
 
 pub loop-i-preserved : goal.loop-i-preserved
 loop-i-preserved c = (
-  omega (arith, c.loop-i-test.true),
-  loop_next _ _ _ _ _ _ _ _ c.loop-i.invariant.1 _ _ (omega (arith, c.loop-i-test.true, c.requires.0.many)) c.hold-u.auto.window
+  loop_next _ _ _ _ _ _ _ _ c.loop-i.invariant.0 _ _ (omega (arith, c.loop-i-test.true, c.requires.0.many)) c.hold-u.auto.window
       c.hold-u.ensures.0 c.hold-u.ensures.1 c.hold-u.ensures.2 c.hold-u.ensures.3,
-  c.push-w.auto.out ∙ c.loop-i.invariant.2,
-  push-more (new_fds_by c.args.table.now (fds (goal.at.loop-i-preserved c).At-loop-i)) c.loop-i.i c.new_fd-fd.result (few (goal.at.loop-i-preserved c).In-loop-i) (new (goal.at.loop-i-preserved c).After-new_fd-fd) c.loop-i.invariant.3 c.requires.3 c.push-w.ensures.0 c.push-w.ensures.1,
+  push-more (new_fds_by c.args.table.now (fds (goal.at.loop-i-preserved c).At-loop-i)) c.loop-i.i c.new_fd-fd.result (few (goal.at.loop-i-preserved c).In-loop-i) (new (goal.at.loop-i-preserved c).After-new_fd-fd) c.loop-i.invariant.1 c.requires.3 c.push-w.ensures.0 c.push-w.ensures.1,
 )
 
 pub finish-requires : goal.finish-requires
@@ -82,5 +76,5 @@ finish-requires c = finish-room (new_fds_by c.args.table.now (fds (goal.at.finis
 pub returns : goal.returns
 returns c = (
   push-finished (new_fds_by c.args.table.now (fds (goal.at.returns c).At-loop-i)) (all (goal.at.returns c).After-loop-i) c.requires.3 c.finish.ensures,
-  order_end _ _ _ _ c.requires.0 _ _ _ c.loop-i.invariant.1,
+  order_end _ _ _ _ c.requires.0 _ _ _ c.loop-i.invariant.0,
 )

@@ -1,5 +1,5 @@
 -- The invariant: the window comes to place i, and the FDs of i glyphs were pushed.
-use Rattle.std.proofs.Common.{length, take, ◌-◌, ◌≡◌, ◌≤◌}
+use Rattle.std.proofs.Common.{take}
 use Rattle.charset.specs.FdWriter.{Pushed}
 use Rattle.order_window.specs.Window.{Looping}
 use Rattle.glyph_tables.specs.Tables.{kept_fds, new_fds_by}
@@ -7,8 +7,5 @@ use Rattle.glyph_tables.proofs.select.put_select.Given as goal
 
 abbrev pub invariant-loop-i : goal.invariant-loop-i
 invariant-loop-i l =
-    (l.i ≤ l.count) × Looping l.font l.f l.words l.initial.window l.initial.u l.window l.u l.i × (length l.out ≡ length l.initial.out)
+    Looping l.font l.f l.words l.initial.window l.initial.u l.window l.u l.i
     × Pushed l.initial.out l.at (take l.i (new_fds_by l.table (kept_fds l.font l.f l.words))) l.out l.w
-
-abbrev pub decreases-loop-i : goal.decreases-loop-i
-decreases-loop-i l = l.count - l.i

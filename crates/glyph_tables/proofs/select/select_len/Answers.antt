@@ -22,7 +22,7 @@ many l = kept_fds_many _ _ _ _ l.requires.0
 counts : (l : At-loop-i) → CanCount l.loop-i.w
 counts l =
     let p = l.requires.0 in
-    select_counts l.args.table.now (fds l) 0 l.loop-i.i l.loop-i.w (omega (arith, l.loop-i.invariant.0, many l)) (omega (arith, many l, p.few)) (omega arith) l.loop-i.invariant.2
+    select_counts l.args.table.now (fds l) 0 l.loop-i.i l.loop-i.w (omega (arith, l.loop-i.auto.i-end, many l)) (omega (arith, many l, p.few)) (omega arith) l.loop-i.invariant.1
 
 -- the FD of the glyph that was read
 fd : (w : After-word_at-g) → (fd_of w.args.font.now w.args.o.f.select (w.word_at-g.result % 65536) ≡ get_or (fds (view.up-At-loop-i _ _ _ _ _ w.before.before.before.before.before.before.before)) w.loop-i.i 0)
@@ -30,11 +30,11 @@ fd w =
     read-fd _ _ _ _ w.requires.0 _ _ _ _ w.hold-u.ensures.0 w.hold-u.ensures.1 w.hold-u.ensures.2 w.loop-i-test.true w.word_at-g.ensures.0
 
 pub loop-i-init : goal.loop-i-init
-loop-i-init c = (omega arith, order-start _ _ _ _ c.requires.0, c.begin-w.ensures)
+loop-i-init c = (order-start _ _ _ _ c.requires.0, c.begin-w.ensures)
 
 pub hold-u-requires : goal.hold-u-requires
 hold-u-requires c =
-    order_asks _ _ _ _ c.requires.0 _ _ _ c.loop-i.invariant.1 c.loop-i-test.true
+    order_asks _ _ _ _ c.requires.0 _ _ _ c.loop-i.invariant.0 c.loop-i-test.true
 
 pub word_at-g-requires : goal.word_at-g-requires
 word_at-g-requires c =
@@ -47,19 +47,14 @@ new_fd-fd-requires c =
 pub count_push-w-requires : goal.count_push-w-requires
 count_push-w-requires c = counts (goal.at.count_push-w-requires c).At-loop-i
 
-pub overflow_add-i : goal.overflow_add-i
-overflow_add-i c =
-    omega (arith, c.loop-i-test.true, c.requires.0.few)
-
 pub loop-i-preserved : goal.loop-i-preserved
 loop-i-preserved c =
     let table = c.args.table.now in
     let more : c.loop-i.i < length (fds (goal.at.loop-i-preserved c).At-loop-i) = omega (arith, c.loop-i-test.true, many (goal.at.loop-i-preserved c).At-loop-i) in (
-      omega (arith, c.loop-i-test.true),
-      loop_next _ _ _ _ _ _ _ _ c.loop-i.invariant.1 _ _ (omega (arith, c.loop-i-test.true, c.requires.0.many)) c.hold-u.auto.window
+      loop_next _ _ _ _ _ _ _ _ c.loop-i.invariant.0 _ _ (omega (arith, c.loop-i-test.true, c.requires.0.many)) c.hold-u.auto.window
           c.hold-u.ensures.0 c.hold-u.ensures.1 c.hold-u.ensures.2 c.hold-u.ensures.3,
       count-more 0 (new_fds_by table (fds (goal.at.loop-i-preserved c).At-loop-i)) _ _ _ _ (omega (arith, more, select-count table (fds (goal.at.loop-i-preserved c).At-loop-i)))
-          (c.new_fd-fd.ensures ∙ ap (new_fd_by table) (fd (goal.at.loop-i-preserved c).After-word_at-g) ∙ select-at table (fds (goal.at.loop-i-preserved c).At-loop-i) c.loop-i.i more) c.loop-i.invariant.2 c.count_push-w.ensures,
+          (c.new_fd-fd.ensures ∙ ap (new_fd_by table) (fd (goal.at.loop-i-preserved c).After-word_at-g) ∙ select-at table (fds (goal.at.loop-i-preserved c).At-loop-i) c.loop-i.i more) c.loop-i.invariant.1 c.count_push-w.ensures,
     )
 
 pub fd_select_len-requires : goal.fd_select_len-requires
@@ -67,6 +62,6 @@ fd_select_len-requires c = counts (goal.at.fd_select_len-requires c).At-loop-i
 
 pub returns : goal.returns
 returns c = (
-  select-measured c.args.table.now (fds (goal.at.returns c).At-loop-i) c.loop-i.i c.loop-i.w _ (omega (arith, many (goal.at.returns c).At-loop-i, c.loop-i-test.false)) c.loop-i.invariant.2 c.fd_select_len.ensures,
-  order_end _ _ _ _ c.requires.0 _ _ _ c.loop-i.invariant.1,
+  select-measured c.args.table.now (fds (goal.at.returns c).At-loop-i) c.loop-i.i c.loop-i.w _ (omega (arith, many (goal.at.returns c).At-loop-i, c.loop-i-test.false)) c.loop-i.invariant.1 c.fd_select_len.ensures,
+  order_end _ _ _ _ c.requires.0 _ _ _ c.loop-i.invariant.0,
 )

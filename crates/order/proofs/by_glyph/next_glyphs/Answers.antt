@@ -1,18 +1,18 @@
 -- `by_glyph::next_glyphs` meets its contract.
-use Rattle.std.proofs.Common.{List, arith, length, length-set, refl, subst, sym, ℕ, ◌+◌, ◌<◌, ◌∙◌}
+use Rattle.std.proofs.Common.{List, arith, length, refl, subst, sym, ℕ, ◌+◌, ◌<◌, ◌∙◌}
 use Rattle.bits.specs.Bits.{bit_in}
 use Rattle.charset.specs.CharsetPlaces.{ids_of, charset_start}
 use Rattle.find.specs.FindLaws.{ids_ahead, ids-ahead, Passing, passing_ready, passing_id, passing-next}
 use Rattle.order.specs.Walks.{many_in}
 use Rattle.order.specs.WalkLaws.{Taking, take-start, take-taken, take-passed, order-few, next_glyph, glyphs_fit, all_looked}
 use Rattle.order.proofs.by_glyph.next_glyphs.Goals as goal
-use Rattle.order.proofs.by_glyph.next_glyphs.Goals.{After-has_bit, At-loop-g}
+use Rattle.order.proofs.by_glyph.next_glyphs.Goals.{After-has_bit, At-loop-g, then-has_bit, else-has_bit}
 
 -- where the loop stands
 stood : (l : At-loop-g) → Passing l.args.font.now (charset_start l.args.f.charset) (many_in l.args.f) l.loop-g.u l.loop-g.g
     × Taking (ids_ahead l.args.font.now (charset_start l.args.f.charset) (many_in l.args.f)) (bit_in l.args.words.now 0) (many_in l.args.f) l.args.w.at
     l.args.window.now l.loop-g.window l.loop-g.k l.loop-g.g
-stood l = l.loop-g.invariant.4 (charset_start l.args.f.charset) (l.requires.3.by-glyph l.requires.5).passing
+stood l = l.loop-g.invariant.1 (charset_start l.args.f.charset) (l.requires.3.by-glyph l.requires.5).passing
 
 -- by the ids as the contract names them
 taken_as : (l : At-loop-g)
@@ -35,11 +35,11 @@ more : (t : After-has_bit) → t.loop-g.g < many_in t.args.f
 more t = t.loop-g-test.true
 
 room : (t : After-has_bit) → t.loop-g.k < length t.args.window.now
-room t = omega (arith, t.if-k-m.false, t.loop-g.invariant.0, t.loop-g.invariant.1)
+room t = omega (arith, t.if-k-m.false, t.loop-g.invariant.0)
 
 pub loop-g-init : goal.loop-g-init
 loop-g-init c =
-    (refl, omega arith, (c.requires.3.by-glyph c.requires.5).passing.within, refl, λ v p. (p, take-start _ _ _ _ _))
+    (omega arith, λ v p. (p, take-start _ _ _ _ _))
 
 pub overflow_add-result : goal.overflow_add-result
 overflow_add-result c = omega (arith, sum_fits (goal.at.overflow_add-result c).At-loop-g)
@@ -52,39 +52,32 @@ returns-then-k-m c =
 pub next_id-s-requires : goal.next_id-s-requires
 next_id-s-requires c = passing_ready _ _ _ _ _ (stood (goal.at.next_id-s-requires c).At-loop-g).0 c.loop-g-test.true
 
-pub overflow_cast-window : goal.overflow_cast-window
-overflow_cast-window c =
-    omega (arith, c.next_id-s.ensures.1, more (goal.at.overflow_cast-window c).After-has_bit, c.requires.0.ids.few)
-
-pub loop-g-preserved-then-has_bit : goal.loop-g-preserved-then-has_bit
-loop-g-preserved-then-has_bit c = (
-  c.loop-g.invariant.0,
-  omega (arith, room (goal.at.loop-g-preserved-then-has_bit c).After-has_bit, c.loop-g.invariant.0),
-  omega (arith, more (goal.at.loop-g-preserved-then-has_bit c).After-has_bit),
-  simp length-set c.loop-g.invariant.3,
-  λ v p. let q = c.loop-g.invariant.4 v p in
-      let e = passing_id _ v _ c.loop-g.u _ q.0 (more (goal.at.loop-g-preserved-then-has_bit c).After-has_bit) _ c.next_id-s.ensures.0 in (
-        passing-next _ v _ c.loop-g.u _ q.0 (more (goal.at.loop-g-preserved-then-has_bit c).After-has_bit) _ c.next_id-s.ensures.0,
-        take-taken _ _ _ _ _ _ _ _ q.1 (more (goal.at.loop-g-preserved-then-has_bit c).After-has_bit) (sym c.has_bit.ensures ∙ c.if-has_bit.true) (room (goal.at.loop-g-preserved-then-has_bit c).After-has_bit) _ e,
-      ),
-)
-
-pub loop-g-preserved : goal.loop-g-preserved
-loop-g-preserved c = (
-  c.loop-g.invariant.0,
-  c.loop-g.invariant.1,
-  omega (arith, more (goal.at.loop-g-preserved c).After-has_bit),
-  c.loop-g.invariant.3,
-  λ v p. let q = c.loop-g.invariant.4 v p in (
-    passing-next _ v _ c.loop-g.u _ q.0 (more (goal.at.loop-g-preserved c).After-has_bit) _ c.next_id-s.ensures.0,
-    take-passed _ _ _ _ _ _ _ _ q.1 (more (goal.at.loop-g-preserved c).After-has_bit) (sym c.has_bit.ensures ∙ c.if-has_bit.false),
-  ),
-)
-
 pub overflow_add-result-2 : goal.overflow_add-result-2
 overflow_add-result-2 c = omega (arith, sum_fits (goal.at.overflow_add-result-2 c).At-loop-g)
 
+pub loop-g-preserved : goal.loop-g-preserved
+loop-g-preserved c =
+    let t = (goal.at.loop-g-preserved c).After-has_bit in
+    elim c.if-has_bit.branch [
+      | then-has_bit w ↦ rw (w.window-is, w.k-is) (
+        omega (arith, room t),
+        λ v p. let q = c.loop-g.invariant.1 v p in
+            let e = passing_id _ v _ c.loop-g.u _ q.0 (more t) _ c.next_id-s.ensures.0 in (
+              passing-next _ v _ c.loop-g.u _ q.0 (more t) _ c.next_id-s.ensures.0,
+              take-taken _ _ _ _ _ _ _ _ q.1 (more t) (sym c.has_bit.ensures ∙ w.if-has_bit.true) (room t) _ e,
+            ),
+      )
+      | else-has_bit w ↦ rw (w.window-is, w.k-is) (
+        c.loop-g.invariant.0,
+        λ v p. let q = c.loop-g.invariant.1 v p in (
+          passing-next _ v _ c.loop-g.u _ q.0 (more t) _ c.next_id-s.ensures.0,
+          take-passed _ _ _ _ _ _ _ _ q.1 (more t) (sym c.has_bit.ensures ∙ w.if-has_bit.false),
+        ),
+      )
+    ]
+
 pub returns : goal.returns
 returns c =
+    let s = stood (goal.at.returns c).At-loop-g in
     next_glyph c.args.font.now c.args.f c.args.words.now c.args.w c.requires.3 c.requires.5 _ _ _ _ (taken_as (goal.at.returns c).At-loop-g)
-    (all_looked c.args.font.now c.args.f c.args.words.now c.args.w c.requires.3 c.requires.5 _ _ _ _ (taken_as (goal.at.returns c).At-loop-g) c.loop-g-test.false c.requires.4) _ refl refl refl (stood (goal.at.returns c).At-loop-g).0
+    (all_looked c.args.font.now c.args.f c.args.words.now c.args.w c.requires.3 c.requires.5 _ _ _ _ (taken_as (goal.at.returns c).At-loop-g) c.loop-g-test.false c.requires.4) _ refl (omega (arith, s.0.within)) refl s.0

@@ -1,5 +1,5 @@
 -- The invariant: the cursor stands before glyph g, and the k words in the window with the glyphs that are left are those that were left at first; of whatever charset the cursor stood in.
-use Rattle.std.proofs.Common.{length, ◌-◌, ◌≡◌, ◌≤◌}
+use Rattle.std.proofs.Common.{length, ◌≤◌}
 use Rattle.bits.specs.Bits.{bit_in}
 use Rattle.charset.specs.declared.CharsetCursor.{CharsetCursor}
 use Rattle.find.specs.FindLaws.{ids_ahead, Passing}
@@ -8,8 +8,5 @@ use Rattle.order.proofs.by_glyph.next_glyphs.Given as goal
 
 abbrev pub invariant-loop-g : goal.invariant-loop-g
 invariant-loop-g l =
-    (l.m ≡ length l.initial.window) × (l.k ≤ l.m) × (l.g ≤ l.n) × (length l.window ≡ length l.initial.window)
-    × ((v : CharsetCursor) → Passing l.font v l.n l.initial.u l.initial.g → Passing l.font v l.n l.u l.g × Taking (ids_ahead l.font v l.n) (bit_in l.words 0) l.n l.initial.g l.initial.window l.window l.k l.g)
-
-abbrev pub decreases-loop-g : goal.decreases-loop-g
-decreases-loop-g l = l.n - l.g
+    (l.k ≤ length l.initial.window)
+    × ((v : CharsetCursor) → Passing l.font v l.n l.initial.u l.fn.w.at → Passing l.font v l.n l.u l.g × Taking (ids_ahead l.font v l.n) (bit_in l.words 0) l.n l.fn.w.at l.initial.window l.window l.k l.g)

@@ -6,7 +6,7 @@ use Rattle.order.specs.Order.{kept_in, rises_from, ids_for}
 use Rattle.order.specs.RiseLaws.{rise-start, rise_done, rise-passed, rise_stops, rise-on}
 use Rattle.order.proofs.by_glyph.rises.Goals as goal
 use Rattle.order.proofs.by_glyph.rises.Lts.View as view
-use Rattle.order.proofs.by_glyph.rises.Goals.{After-has_bit, At-loop-g}
+use Rattle.order.proofs.by_glyph.rises.Goals.{After-has_bit, At-loop-g, then-has_bit+else-id-low, else-has_bit}
 
 abbrev ids : At-loop-g → List ℕ
 ids l = ids_ahead l.args.font.now l.charset_start-u.result l.args.n
@@ -37,16 +37,15 @@ returns-then-id-low c =
     as-told (goal.at.returns-then-id-low c).At-loop-g _
     (rise_stops _ _ _ _ _ c.loop-g.invariant.1 c.loop-g-test.true (sym c.has_bit.ensures ∙ c.if-has_bit.true) _ (id_is (goal.at.returns-then-id-low c).After-has_bit) c.if-id-low.true)
 
-pub loop-g-preserved-then-has_bit : goal.loop-g-preserved-then-has_bit
-loop-g-preserved-then-has_bit c = (
-  passed (goal.at.loop-g-preserved-then-has_bit c).After-has_bit,
-  rise-on _ _ _ _ _ c.loop-g.invariant.1 c.loop-g-test.true (sym c.has_bit.ensures ∙ c.if-has_bit.true) _ (id_is (goal.at.loop-g-preserved-then-has_bit c).After-has_bit) c.if-id-low.false
-      c.next_id-s.ensures.1,
-)
-
 pub loop-g-preserved : goal.loop-g-preserved
-loop-g-preserved c =
-    (passed (goal.at.loop-g-preserved c).After-has_bit, rise-passed _ _ _ _ _ c.loop-g.invariant.1 c.loop-g-test.true (sym c.has_bit.ensures ∙ c.if-has_bit.false))
+loop-g-preserved c = (
+  passed (goal.at.loop-g-preserved c).After-has_bit,
+  elim c.if-has_bit.branch [
+    | then-has_bit+else-id-low w ↦ rw w.low-is (rise-on _ _ _ _ _ c.loop-g.invariant.1 c.loop-g-test.true (sym c.has_bit.ensures ∙ w.if-has_bit.true) _ (id_is (goal.at.loop-g-preserved c).After-has_bit) w.if-id-low.false
+        c.next_id-s.ensures.1)
+    | else-has_bit w ↦ rw w.low-is (rise-passed _ _ _ _ _ c.loop-g.invariant.1 c.loop-g-test.true (sym c.has_bit.ensures ∙ w.if-has_bit.false))
+  ],
+)
 
 pub returns : goal.returns
 returns c = as-told (goal.at.returns c).At-loop-g _ (rise_done _ _ _ _ _ c.loop-g.invariant.1 c.loop-g-test.false)

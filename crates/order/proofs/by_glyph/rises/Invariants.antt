@@ -1,5 +1,4 @@
 -- The invariant: the cursor stands before glyph g, and the ids that are left rise from `low` on exactly where all do.
-use Rattle.std.proofs.Common.{◌-◌}
 use Rattle.bits.specs.Bits.{bit_in}
 use Rattle.find.specs.FindLaws.{ids_ahead, Passing}
 use Rattle.order.specs.RiseLaws.{Rising}
@@ -7,6 +6,3 @@ use Rattle.order.proofs.by_glyph.rises.Given as goal
 
 abbrev pub invariant-loop-g : goal.invariant-loop-g
 invariant-loop-g l = Passing l.font l.initial.u l.n l.u l.g × Rising (ids_ahead l.font l.initial.u l.n) (bit_in l.words 0) l.n l.low l.g
-
-abbrev pub decreases-loop-g : goal.decreases-loop-g
-decreases-loop-g l = l.n - l.g

@@ -5,10 +5,7 @@ use Rattle.reach.specs.MaskLaws.{other_here, other_on, other_end}
 use Rattle.reach.proofs.masks.other_len.Goals as goal
 
 pub loop-i-init : goal.loop-i-init
-loop-i-init c = (refl, refl)
-
-pub row_at-requires : goal.row_at-requires
-row_at-requires c = omega arith
+loop-i-init c = refl
 
 pub clashes-requires : goal.clashes-requires
 clashes-requires c = c.row_at.ensures.1
@@ -18,17 +15,17 @@ returns-then-clashes c =
     let l = c.loop-i in
     let a = c.args in
     let e = sym (ap (clashes a.key a.len) c.row_at.ensures.0) ∙ sym c.clashes.ensures ∙ c.if-clashes.true in
-    other_here a.rows.now l.i (omega arith) a.key a.len e ∙ l.invariant.1
+    other_here a.rows.now l.i (omega arith) a.key a.len e ∙ l.invariant
 
 pub loop-i-preserved : goal.loop-i-preserved
 loop-i-preserved c =
     let l = c.loop-i in
     let a = c.args in
     let e = sym (ap (clashes a.key a.len) c.row_at.ensures.0) ∙ sym c.clashes.ensures ∙ c.if-clashes.false in
-    (l.invariant.0, other_on a.rows.now l.i (omega arith) a.key a.len e ∙ l.invariant.1)
+    other_on a.rows.now l.i (omega arith) a.key a.len e ∙ l.invariant
 
 pub returns : goal.returns
 returns c =
     let l = c.loop-i in
     let a = c.args in
-    other_end a.rows.now l.i (omega arith) a.key a.len ∙ l.invariant.1
+    other_end a.rows.now l.i (omega arith) a.key a.len ∙ l.invariant

@@ -30,13 +30,7 @@ pub first_at-i-requires : goal.first_at-i-requires
 first_at-i-requires c = c.requires.0
 
 pub loop-i-init : goal.loop-i-init
-loop-i-init c = (refl, neighbours_start _ _ _ _ refl c.first_at-i.ensures)
-
-pub overflow_add-i : goal.overflow_add-i
-overflow_add-i c = omega (arith, c.loop-i.invariant.1.within)
-
-pub row_at-r-requires : goal.row_at-r-requires
-row_at-r-requires c = omega arith
+loop-i-init c = neighbours_start _ _ _ _ refl c.first_at-i.ensures
 
 pub body_of-requires : goal.body_of-requires
 body_of-requires c = c.row_at-r.ensures.1
@@ -44,10 +38,7 @@ body_of-requires c = c.row_at-r.ensures.1
 pub returns-then-body_of-body : goal.returns-then-body_of-body
 returns-then-body_of-body c =
     let e = c.body_of.ensures.0 ∙ ap body_of_lem c.row_at-r.ensures.0 in
-    neighbours_off _ (bytes (goal.at.returns-then-body_of-body c).At-loop-i) c.requires.0 _ _ c.loop-i.invariant.1 (omega arith) (λ z. c.if-body_of-body.true (e ∙ z))
-
-pub row_at-requires : goal.row_at-requires
-row_at-requires c = omega arith
+    neighbours_off _ (bytes (goal.at.returns-then-body_of-body c).At-loop-i) c.requires.0 _ _ c.loop-i.invariant (omega arith) (λ z. c.if-body_of-body.true (e ∙ z))
 
 pub key_of-requires : goal.key_of-requires
 key_of-requires c = c.row_at-r.ensures.1
@@ -57,12 +48,12 @@ clashes-requires c = c.row_at.ensures.1
 
 pub returns-then-clashes : goal.returns-then-clashes
 returns-then-clashes c =
-    neighbours_clash _ (bytes (goal.at.returns-then-clashes c).At-loop-i) c.requires.0 _ _ c.loop-i.invariant.1 (omega arith) (own (goal.at.returns-then-clashes c).Else-body_of-body) (told (goal.at.returns-then-clashes c).After-clashes ∙ c.if-clashes.true)
+    neighbours_clash _ (bytes (goal.at.returns-then-clashes c).At-loop-i) c.requires.0 _ _ c.loop-i.invariant (omega arith) (own (goal.at.returns-then-clashes c).Else-body_of-body) (told (goal.at.returns-then-clashes c).After-clashes ∙ c.if-clashes.true)
 
 pub loop-i-preserved : goal.loop-i-preserved
 loop-i-preserved c =
-    (c.loop-i.invariant.0, neighbours_on _ (bytes (goal.at.loop-i-preserved c).At-loop-i) c.requires.0 _ _ c.loop-i.invariant.1 (omega arith) (own (goal.at.loop-i-preserved c).Else-body_of-body) (told (goal.at.loop-i-preserved c).After-clashes ∙ c.if-clashes.false))
+    neighbours_on _ (bytes (goal.at.loop-i-preserved c).At-loop-i) c.requires.0 _ _ c.loop-i.invariant (omega arith) (own (goal.at.loop-i-preserved c).Else-body_of-body) (told (goal.at.loop-i-preserved c).After-clashes ∙ c.if-clashes.false)
 
 pub returns : goal.returns
 returns c =
-    neighbours_done _ (bytes (goal.at.returns c).At-loop-i) c.requires.0 _ _ c.loop-i.invariant.1 (omega arith)
+    neighbours_done _ (bytes (goal.at.returns c).At-loop-i) c.requires.0 _ _ c.loop-i.invariant (omega arith)

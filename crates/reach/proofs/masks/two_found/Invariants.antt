@@ -1,11 +1,7 @@
 -- The invariant: the rows that are left give what all give, and none is below the body.
-use Rattle.std.proofs.Common.{length, ◌-◌, ◌/◌, ◌≡◌}
 use Rattle.reach.specs.TwoLaws.{Neighbours}
 use Rattle.reach.proofs.masks.two_found.Given as goal
 
 abbrev pub invariant-loop-i : goal.invariant-loop-i
 invariant-loop-i l =
-    (l.n ≡ length l.rows / 10) × Neighbours l.rows l.body l.i
-
-abbrev pub decreases-loop-i : goal.decreases-loop-i
-decreases-loop-i l = l.n - l.i
+    Neighbours l.rows l.body l.i

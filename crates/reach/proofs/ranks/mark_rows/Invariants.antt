@@ -1,11 +1,7 @@
 -- The invariant: the first i rows have set their bits.
-use Rattle.std.proofs.Common.{length, ◌-◌, ◌/◌, ◌≡◌}
 use Rattle.reach.specs.MarkLaws.{Marking}
 use Rattle.reach.proofs.ranks.mark_rows.Given as goal
 
 abbrev pub invariant-loop-i : goal.invariant-loop-i
 invariant-loop-i l =
-    (l.n ≡ length l.rows / 10) × Marking l.rows l.kind l.fd l.count l.initial.held l.held l.past l.i
-
-abbrev pub decreases-loop-i : goal.decreases-loop-i
-decreases-loop-i l = l.n - l.i
+    Marking l.rows l.kind l.fd l.count l.initial.held l.held l.past l.i

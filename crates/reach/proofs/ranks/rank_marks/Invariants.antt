@@ -1,11 +1,7 @@
--- The invariant: the first i words are ranks.
-use Rattle.std.proofs.Common.{length, ◌-◌, ◌≡◌}
+-- The invariant: the words passed are ranks.
 use Rattle.reach.specs.MarkLaws.{Ranking}
 use Rattle.reach.proofs.ranks.rank_marks.Given as goal
 
-abbrev pub invariant-loop-i : goal.invariant-loop-i
-invariant-loop-i l =
-    (l.n ≡ length l.initial.marks) × Ranking l.initial.marks l.marks l.reached l.i
-
-abbrev pub decreases-loop-i : goal.decreases-loop-i
-decreases-loop-i l = l.n - l.i
+abbrev pub invariant-loop-mark : goal.invariant-loop-mark
+invariant-loop-mark l =
+    Ranking l.initial.marks l.marks l.reached l.mark-index

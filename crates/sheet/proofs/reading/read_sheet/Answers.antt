@@ -4,17 +4,17 @@ use Rattle.sheet.specs.PartsLaws.{four-told, short-told, reads-parts, reads_not,
 use Rattle.sheet.proofs.reading.read_sheet.Goals as goal
 
 pub is_sheet-requires : goal.is_sheet-requires
-is_sheet-requires c = four-told _ _ _ _ _ _ c.first_lines.ensures c.in-Lines.is
+is_sheet-requires c = four-told _ _ _ _ _ _ c.first_lines.ensures c.in-Some.is
 
 pub put_parts-requires : goal.put_parts-requires
 put_parts-requires c = let p = c.requires in
-    (four-told _ _ _ _ _ _ c.first_lines.ensures c.in-Lines.is, sym c.is_sheet.ensures ∙ c.if-is_sheet.true, p.0, p.1, p.2, p.3)
+    (four-told _ _ _ _ _ _ c.first_lines.ensures c.in-Some.is, sym c.is_sheet.ensures ∙ c.if-is_sheet.true, p.0, p.1, p.2, p.3)
 
 pub returns-then-is_sheet : goal.returns-then-is_sheet
-returns-then-is_sheet c = reads-parts _ _ _ _ _ (four-told _ _ _ _ _ _ c.first_lines.ensures c.in-Lines.is) _ _ _ _ _ (sym c.is_sheet.ensures ∙ c.if-is_sheet.true) c.put_parts.ensures
+returns-then-is_sheet c = reads-parts _ _ _ _ _ (four-told _ _ _ _ _ _ c.first_lines.ensures c.in-Some.is) _ _ _ _ _ (sym c.is_sheet.ensures ∙ c.if-is_sheet.true) c.put_parts.ensures
 
 pub returns-else-is_sheet : goal.returns-else-is_sheet
-returns-else-is_sheet c = reads_not _ _ _ _ _ (four-told _ _ _ _ _ _ c.first_lines.ensures c.in-Lines.is) _ _ _ _ (sym c.is_sheet.ensures ∙ c.if-is_sheet.false)
+returns-else-is_sheet c = reads_not _ _ _ _ _ (four-told _ _ _ _ _ _ c.first_lines.ensures c.in-Some.is) _ _ _ _ (sym c.is_sheet.ensures ∙ c.if-is_sheet.false)
 
-pub returns-in-Short : goal.returns-in-Short
-returns-in-Short c = reads_other _ _ _ _ _ (short-told _ _ c.first_lines.ensures c.in-Short.is)
+pub returns-in-None : goal.returns-in-None
+returns-in-None c = reads_other _ _ _ _ _ (short-told _ _ c.first_lines.ensures c.in-None.is)

@@ -1,22 +1,18 @@
 -- `left::bytes_left` meets its contract.
-use Rattle.std.proofs.Common.{arith, refl, rules, sym, ◌∙◌}
+use Rattle.std.proofs.Common.{ap, sym, ◌∙◌}
+use Rattle.std.proofs.lemmas.List.{take_rest}
+use Rattle.subset_cases.specs.Left.{bytes_left_lem}
 use Rattle.subset_cases.specs.LeftLaws.{bytes_end, bytes_other, bytes_next}
 use Rattle.subset_cases.proofs.left.bytes_left.Goals as goal
 
-pub loop-i-init : goal.loop-i-init
-loop-i-init c = (refl, search rules, refl)
+pub loop-b-init : goal.loop-b-init
+loop-b-init c = ap bytes_left_lem (take_rest c.args.found.now c.args.at)
 
-pub returns-then-found-i : goal.returns-then-found-i
-returns-then-found-i c =
-    let a = c.args in
-    sym (sym c.loop-i.invariant.2 ∙ bytes_other a.found.now c.loop-i.i (omega arith) c.if-found-i.true)
+pub returns-then-b : goal.returns-then-b
+returns-then-b c = sym (sym c.loop-b.invariant ∙ bytes_other _ c.loop-b.b-index c.loop-b-test.true c.if-b.true)
 
-pub loop-i-preserved : goal.loop-i-preserved
-loop-i-preserved c =
-    let a = c.args in
-    (refl, omega arith, sym (bytes_next a.found.now c.loop-i.i (omega arith) c.if-found-i.false) ∙ c.loop-i.invariant.2)
+pub loop-b-preserved : goal.loop-b-preserved
+loop-b-preserved c = sym (bytes_next _ c.loop-b.b-index c.loop-b-test.true c.if-b.false) ∙ c.loop-b.invariant
 
 pub returns : goal.returns
-returns c =
-    let a = c.args in
-    sym (sym c.loop-i.invariant.2 ∙ bytes_end a.found.now c.loop-i.i (omega arith))
+returns c = sym (sym c.loop-b.invariant ∙ bytes_end _ c.loop-b.b-index c.loop-b-test.false)

@@ -1,7 +1,7 @@
--- `glyph_entries::places::index_of` meets its contract: each kind has its INDEX.
+-- `font::index_in` meets its contract: each kind has its INDEX.
 use Rattle.std.proofs.Common.{ap, sym}
 use Rattle.cff.specs.Reads.{index_in_lem}
-use Rattle.glyph_entries.proofs.places.index_of.Goals as goal
+use Rattle.cff.proofs.font.index_in.Goals as goal
 
 pub returns-in-Charstring : goal.returns-in-Charstring
 returns-in-Charstring c = sym (ap (λ k. index_in_lem k c.args.f) c.in-Charstring.is)
