@@ -35,7 +35,7 @@ def point_1():
         if refused or (len(variants) == 2 and len(bare) == 1):
             yield f"{path}: enum {name}"
     for _, path, text in sources():
-        for m in re.finditer(r"Refusal::[A-Z_]+|(?:Refused|Bad)\([0-9]+\)", text):
+        for m in re.finditer(r"Refusal::[A-Z][A-Z_]+\b|(?:Refused|Bad)\([0-9]+\)", text):
             yield f"{path}: {m.group(0)}"
         for m in re.finditer(r"\b(?:way|traced|kind|flag|mode|how): (?:u8|usize)", text):
             yield f"{path}: {m.group(0)}"

@@ -1,7 +1,7 @@
 -- What the checker promises (document 02, Wish 6), whatever the font, the keep list and the record are: it accepts a record exactly where the three
 -- conditions hold; a subset from an accepted record, cut with flag 1, holds every kept glyph; what was traced with flag 1 is accepted; and with a second
 -- length for a mask that is met a subset call that is not refused answers with stubs.
-use Rattle.std.specs.Prelude.{ℕ, ◌≤◌, ◌<◌, ◌≡◌, refl, Bool, false, List, [], ◌∷◌, ◌⊎◌, ltb, eqb, length, get_or, None, Option, Some}
+use Rattle.std.specs.Prelude.{ℕ, ◌≤◌, ◌<◌, ◌≡◌, refl, Bool, false, List, [], ◌∷◌, ◌⊎◌, ltb, eqb, length, get_or, None, Option, Some, Result, Ok, Err}
 use Rattle.std.proofs.Common.{sym, ◌∙◌, subst, inr, ⊎_elim, arith, ltb-true, lt-ltb, eqb-true}
 use Rattle.std.proofs.Math.Path.{ap}
 use Rattle.std.proofs.Math.Bool.{true}
@@ -14,7 +14,7 @@ use Rattle.prune.specs.Bodies.{All}
 use Rattle.prune.specs.StepLaws.{zero_one}
 use Rattle.record.specs.Record.{rows_of, row_fine_lem, record_fine, lists}
 use Rattle.dict.specs.Lookup.{cid_keyed}
-use Rattle.cff.specs.Font.{Got, refused as refusedFont, got, Program, read_font}
+use Rattle.cff.specs.Font.{Program, read_font}
 use Rattle.cff.specs.Find.{work_size}
 use Rattle.cff.specs.ReadingRefusals.{reading-refusal}
 use Rattle.subset.specs.Kept.{is_in, kept_of, written_order, fds_of, used_fds, locals_of}
@@ -36,6 +36,11 @@ use Rattle.accepted.specs.Accepted.{each_row, lists_met, number_is, accepted_by,
 use Rattle.accepted.specs.RowsLaws.{each_at, each_from, record-row, local_row, global_row}
 use Rattle.accepted.proofs.EnteredLaws.{Runs, Known, enters_local, enters_global, masks_in, met-known}
 use Rattle.accepted.specs.StubLaws.{two-listed, Rewritten, two-stubbed, cut-way}
+use Rattle.refusal.specs.Refusal.{number_of}
+use Rattle.refusal.specs.declared.Refusal.{Refusal}
+use Rattle.refusal.specs.declared.Refusal.TheVariants.{NoSuchNumber, NotFound, BadRecord, NotAccepted}
+use Rattle.subset.specs.declared.Way.{Way}
+use Rattle.subset.specs.declared.Way.TheVariants.{Stubbed}
 
 -- ---- the conditions
 
@@ -164,35 +169,40 @@ module _ (p : Program) (keep rec : List ℕ) (good : GoodProgram p) where
 -- ---- the answer
 
 module _ (p : Program) (keep rec : List ℕ) where
+  -- the answer to a call in form
+  abbrev decided : Result Unit Refusal
+  decided = pick (accepted_by p keep rec) (Ok tt) (Err NotAccepted)
+
   -- from an answer that is neither 6, 7 nor 8
-  in_form : (n : ℕ) → (n ≡ 6 → ⊥) → (n ≡ 7 → ⊥) → (n ≡ 8 → ⊥) → check_program p keep rec ≡ n → InForm p keep rec × (pick (accepted_by p keep rec) 0 14 ≡ n)
-  in_form n six seven eight e = by-below (all_below (length p.charstrings) keep) refl e
+  in_form : (r : Result Unit Refusal) → (r ≡ Err NoSuchNumber → ⊥) → (r ≡ Err NotFound → ⊥) → (r ≡ Err BadRecord → ⊥) → check_program p keep rec ≡ r
+      → InForm p keep rec × (decided ≡ r)
+  in_form r six seven eight e = by-below (all_below (length p.charstrings) keep) refl e
     where
       by_fine : all_below (length p.charstrings) keep ≡ true → all_found_lem p (kept_of (length p.charstrings) keep) ≡ true → (t : Bool) → record_fine (cid_keyed p.top) rec 1 ≡ t
-          → pick t (pick (accepted_by p keep rec) 0 14) 8 ≡ n → InForm p keep rec × (pick (accepted_by p keep rec) 0 14 ≡ n)
-      by_fine b f true r h = (record { below = b; found = f; fine = r }, h)
-      by_fine b f false r h = absurd (eight (sym h))
+          → pick t decided (Err BadRecord) ≡ r → InForm p keep rec × (decided ≡ r)
+      by_fine b f true k h = (record { below = b; found = f; fine = k }, h)
+      by_fine b f false k h = absurd (eight (sym h))
 
       by-found : all_below (length p.charstrings) keep ≡ true → (t : Bool) → all_found_lem p (kept_of (length p.charstrings) keep) ≡ t
-          → pick t (pick (record_fine (cid_keyed p.top) rec 1) (pick (accepted_by p keep rec) 0 14) 8) 7 ≡ n → InForm p keep rec × (pick (accepted_by p keep rec) 0 14 ≡ n)
+          → pick t (pick (record_fine (cid_keyed p.top) rec 1) decided (Err BadRecord)) (Err NotFound) ≡ r → InForm p keep rec × (decided ≡ r)
       by-found b true f h = by_fine b f (record_fine (cid_keyed p.top) rec 1) refl h
       by-found b false f h = absurd (seven (sym h))
 
       by-below : (t : Bool) → all_below (length p.charstrings) keep ≡ t
-          → pick t (pick (all_found_lem p (kept_of (length p.charstrings) keep)) (pick (record_fine (cid_keyed p.top) rec 1) (pick (accepted_by p keep rec) 0 14) 8) 7) 6 ≡ n
-          → InForm p keep rec × (pick (accepted_by p keep rec) 0 14 ≡ n)
+          → pick t (pick (all_found_lem p (kept_of (length p.charstrings) keep)) (pick (record_fine (cid_keyed p.top) rec 1) decided (Err BadRecord)) (Err NotFound)) (Err NoSuchNumber) ≡ r
+          → InForm p keep rec × (decided ≡ r)
       by-below true b h = by-found b (all_found_lem p (kept_of (length p.charstrings) keep)) refl h
       by-below false b h = absurd (six (sym h))
 
-  formed : InForm p keep rec → check_program p keep rec ≡ pick (accepted_by p keep rec) 0 14
+  formed : InForm p keep rec → check_program p keep rec ≡ decided
   formed f = rw (f.below, f.found, f.fine)
 
-  was_true : (t : Bool) → ◌≡◌ {A = ℕ} (pick t 0 14) 0 → t ≡ true
+  was_true : (t : Bool) → ◌≡◌ {A = Result Unit Refusal} (pick t (Ok tt) (Err NotAccepted)) (Ok tt) → t ≡ true
   was_true true e = refl
-  was_true false e = absurd (omega (arith, e))
+  was_true false e = absurd (zero_one cc)
 
-  was_false : (t : Bool) → ◌≡◌ {A = ℕ} (pick t 0 14) 14 → t ≡ false
-  was_false true e = absurd (omega (arith, e))
+  was_false : (t : Bool) → ◌≡◌ {A = Result Unit Refusal} (pick t (Ok tt) (Err NotAccepted)) (Err NotAccepted) → t ≡ false
+  was_false true e = absurd (zero_one cc)
   was_false false e = refl
 
 -- ---- rows that are met
@@ -240,7 +250,7 @@ trace_tests : (p : Program) (keep : List ℕ) (room flag : ℕ) (rec : List ℕ)
 trace_tests p keep room flag rec e = by (all_below (length p.charstrings) keep) refl (all_found_lem p (kept_of (length p.charstrings) keep)) refl e
   where
     by : (t : Bool) → all_below (length p.charstrings) keep ≡ t → (u : Bool) → all_found_lem p (kept_of (length p.charstrings) keep) ≡ u
-        → pick t (pick u (answered room (kept_rows p keep)) (refused 7)) (refused 6) ≡ traced flag rec
+        → pick t (pick u (answered room (kept_rows p keep)) (refused NotFound)) (refused NoSuchNumber) ≡ traced flag rec
         → (all_below (length p.charstrings) keep ≡ true) × (all_found_lem p (kept_of (length p.charstrings) keep) ≡ true)
     by true b true f h = (b, f)
     by true b false f h = absurd (zero_one cc)
@@ -248,59 +258,59 @@ trace_tests p keep room flag rec e = by (all_below (length p.charstrings) keep) 
 
 -- ---- the theorems
 
--- 0 and 14 are no refusals of reading: where they are answered the font was read
-pub answer-reads : (font keep rec : List ℕ) → (check_of font keep rec ≡ 0) ⊎ (check_of font keep rec ≡ 14) → (p : Program) × (read_font font ≡ got p)
+-- 14 is no refusal of reading: where the record is accepted or not the font was read
+pub answer-reads : (font keep rec : List ℕ) → (check_of font keep rec ≡ Ok tt) ⊎ (check_of font keep rec ≡ Err NotAccepted) → (p : Program) × (read_font font ≡ Ok p)
 unfolding check_of
 answer-reads font keep rec = go (read_font font) refl
   where
-    go : (x : Got Program) → read_font font ≡ x → (check_read x keep rec ≡ 0) ⊎ (check_read x keep rec ≡ 14) → (p : Program) × (read_font font ≡ got p)
-    go (refusedFont n) h e =
+    go : (x : Result Program Refusal) → read_font font ≡ x → (check_read x keep rec ≡ Ok tt) ⊎ (check_read x keep rec ≡ Err NotAccepted) → (p : Program) × (read_font font ≡ Ok p)
+    go (Err n) h e =
         let r = reading-refusal font n h in
-        absurd (⊎_elim (λ z. omega (arith, z, r.least)) (λ z. let s : n ≡ 15 = r.only (omega (arith, z)) in omega (arith, z, s)) e)
-    go (got p) h e = (p, h)
+        absurd (⊎_elim (λ z. zero_one cc) (λ z. let i : n ≡ NotAccepted = cc in let k : number_of n ≡ 14 = ap number_of i in omega (arith, k, r.only (omega (arith, k)))) e)
+    go (Ok p) h e = (p, h)
 
-module _ (font keep rec : List ℕ) (octets : Octets font) (p : Program) (is : read_font font ≡ got p) where
+module _ (font keep rec : List ℕ) (octets : Octets font) (p : Program) (is : read_font font ≡ Ok p) where
   answer_is : check_of font keep rec ≡ check_program p keep rec
   unfolding check_of
-  answer_is = ap (λ (g : Got Program). check_read g keep rec) is
+  answer_is = ap (λ (g : Result Program Refusal). check_read g keep rec) is
 
   trace_is : (room : ℕ) → trace_program p keep room ≡ trace_of font keep room
   unfolding trace_of
-  trace_is room = ap (λ (g : Got Program). trace_read g keep room) (sym is)
+  trace_is room = ap (λ (g : Result Program Refusal). trace_read g keep room) (sym is)
 
   cut_is : (cid ask : Bool) (name : List ℕ) (words lent : ℕ) → cut_program work_size cid ask p name keep rec 1 words lent ≡ cut_of cid ask font name keep rec 1 words lent
   unfolding cut_with
-  cut_is cid ask name words lent = ap (λ (g : Got Program). cut_read work_size cid ask g name keep rec 1 words lent) (sym is)
+  cut_is cid ask name words lent = ap (λ (g : Result Program Refusal). cut_read work_size cid ask g name keep rec 1 words lent) (sym is)
 
   good : GoodProgram p
   good = font-good font p octets is
 
-  -- 0 EXACTLY where the call is in form and the three conditions hold
-  pub accepted-only : check_of font keep rec ≡ 0 → InForm p keep rec × Accepted p keep rec
+  -- ACCEPTED EXACTLY where the call is in form and the three conditions hold
+  pub accepted-only : check_of font keep rec ≡ Ok tt → InForm p keep rec × Accepted p keep rec
   accepted-only e =
-      let f = in_form p keep rec 0 (λ d. omega (arith, d)) (λ d. omega (arith, d)) (λ d. omega (arith, d)) (sym answer_is ∙ e) in
+      let f = in_form p keep rec (Ok tt) (λ d. zero_one cc) (λ d. zero_one cc) (λ d. zero_one cc) (sym answer_is ∙ e) in
       (f.0, accepted-holds p keep rec good (was_true p keep rec (accepted_by p keep rec) f.1))
 
-  pub accepted_whenever : InForm p keep rec → Accepted p keep rec → check_of font keep rec ≡ 0
+  pub accepted_whenever : InForm p keep rec → Accepted p keep rec → check_of font keep rec ≡ Ok tt
   accepted_whenever f a =
-      answer_is ∙ formed p keep rec f ∙ ap (λ (t : Bool). pick t 0 14) (accepted_true p keep rec good f.fine a)
+      answer_is ∙ formed p keep rec f ∙ ap (λ (t : Bool). pick t (Ok tt) (Err NotAccepted)) (accepted_true p keep rec good f.fine a)
 
   -- and 14 exactly where it is in form and one of them does not
-  pub refused_only : check_of font keep rec ≡ 14 → InForm p keep rec × (Accepted p keep rec → ⊥)
+  pub refused_only : check_of font keep rec ≡ Err NotAccepted → InForm p keep rec × (Accepted p keep rec → ⊥)
   refused_only e =
-      let f = in_form p keep rec 14 (λ d. omega (arith, d)) (λ d. omega (arith, d)) (λ d. omega (arith, d)) (sym answer_is ∙ e) in
+      let f = in_form p keep rec (Err NotAccepted) (λ d. zero_one cc) (λ d. zero_one cc) (λ d. zero_one cc) (sym answer_is ∙ e) in
       (f.0, λ a. zero_one (clash (accepted_true p keep rec good f.0.fine a) (was_false p keep rec (accepted_by p keep rec) f.1)))
     where
       clash : {t : Bool} → t ≡ true → t ≡ false → ◌≡◌ {A = ℕ} 0 1
       clash a b = cc
 
-  pub refused_whenever : InForm p keep rec → (Accepted p keep rec → ⊥) → check_of font keep rec ≡ 14
+  pub refused_whenever : InForm p keep rec → (Accepted p keep rec → ⊥) → check_of font keep rec ≡ Err NotAccepted
   refused_whenever f n =
-      answer_is ∙ formed p keep rec f ∙ ap (λ (t : Bool). pick t 0 14) (not_true (accepted_by p keep rec) (λ t. n (accepted-holds p keep rec good t)))
+      answer_is ∙ formed p keep rec f ∙ ap (λ (t : Bool). pick t (Ok tt) (Err NotAccepted)) (not_true (accepted_by p keep rec) (λ t. n (accepted-holds p keep rec good t)))
 
   -- A SUBSET from an accepted record, cut with flag 1 and not refused, holds every kept glyph
-  pub accepted-held : check_of font keep rec ≡ 0 → Octets rec
-      → (cid ask : Bool) (name : List ℕ) (words lent way : ℕ) (bs : List ℕ) → cut_of cid ask font name keep rec 1 words lent ≡ subset way bs
+  pub accepted-held : check_of font keep rec ≡ Ok tt → Octets rec
+      → (cid ask : Bool) (name : List ℕ) (words lent : ℕ) (way : Way) (bs : List ℕ) → cut_of cid ask font name keep rec 1 words lent ≡ subset way bs
       → (g : ℕ) → IsKept p keep g → (ts : List Tok) × (met : List Row) × (unfolded p g ≡ plain ts met) × Holds p g ts bs
   accepted-held e bytes cid ask name words lent way bs c g k =
       let a = (accepted-only e).1 in
@@ -314,7 +324,7 @@ module _ (font keep rec : List ℕ) (octets : Octets font) (p : Program) (is : r
   kept-known g ts met u = met-known p.globals (locals_of p (get_or p.fds g 0)) (get_or p.fds g 0) g (get_or p.charstrings g []) ts met u
 
   -- THE TRACER PASSES: what was traced with flag 1 is accepted
-  pub trace_accepted : (room : ℕ) → trace_of font keep room ≡ traced 1 rec → check_of font keep rec ≡ 0
+  pub trace_accepted : (room : ℕ) → trace_of font keep room ≡ traced 1 rec → check_of font keep rec ≡ Ok tt
   trace_accepted room e =
       accepted_whenever
       (record { below = tests.0; found = tests.1; fine = trace_fine font keep room octets p is 1 rec e })
@@ -335,10 +345,10 @@ module _ (font keep rec : List ℕ) (octets : Octets font) (p : Program) (is : r
       global_met i m = known_global p (get_or p.fds m.0 0) m.0 m.2.met i (kept-known m.0 m.2.tokens m.2.met m.2.plainly (entered (global i)) m.2.has)
 
   -- A SECOND LENGTH for a mask that a kept glyph meets: a subset call with the accepted record and flag 1 that is not refused answers way 1
-  pub second-length_stubs : check_of font keep rec ≡ 0
+  pub second-length_stubs : check_of font keep rec ≡ Ok tt
       → (g : ℕ) → IsKept p keep g → (ts : List Tok) (met : List Row) → unfolded p g ≡ plain ts met
       → (site : Site) (offset len other : ℕ) → Has Row (masked site offset len) met → lists (rows_of rec) (masked site offset other) ≡ true → (len ≡ other → ⊥)
-      → (cid ask : Bool) (name : List ℕ) (words lent way : ℕ) (bs : List ℕ) → cut_of cid ask font name keep rec 1 words lent ≡ subset way bs → way ≡ 1
+      → (cid ask : Bool) (name : List ℕ) (words lent : ℕ) (way : Way) (bs : List ℕ) → cut_of cid ask font name keep rec 1 words lent ≡ subset way bs → way ≡ Stubbed
   second-length_stubs e g k ts met u site offset len other h o differ cid ask name words lent way bs c =
       let rows = rows_of rec in
       let all = (accepted-only e).1.listed g k ts met u in

@@ -24,6 +24,10 @@ use Rattle.subset.specs.Codes.{Coded, coded_if, pair_count}
 use Rattle.subset.specs.Subset.{subset_bytes}
 use Rattle.subset.specs.Cut.{Outcome, refused, subset, all_found_lem, has_ros_lem, same_bool_lem, own_of, written, unsupported_in, cut_program}
 use Rattle.faithful.specs.RecordLaws.{given-listed}
+use Rattle.refusal.specs.declared.Refusal.{Refusal}
+use Rattle.refusal.specs.declared.Refusal.TheVariants.{Malformed, Unsupported, TooLong, NoSuchNumber, NotFound, BadRecord, Work, Subset, Output, StringId, Pairs}
+use Rattle.subset.specs.declared.Way.{Way}
+use Rattle.subset.specs.declared.Way.TheVariants.{Stubbed}
 
 -- two lengths that are listed for one mask
 pub two-listed : (rows : List Row) (site : Site) (offset a b : ℕ) → lists rows (masked site offset a) ≡ true → lists rows (masked site offset b) ≡ true
@@ -104,20 +108,20 @@ module _ (rows : List Row) where
     renumbered-fails (global k) h e =
         ap (λ (m : Option (List (List ℕ))). three m locals_part glyphs_part) (subrs-fail (global_set rows) (calls_across p rows used) global p.globals k h.0 h.1 e)
 
-    pub two-stubbed : (site : Site) → Rewritten site → two_lengths_lem rows site ≡ true → (pruned p rows used order 1).way ≡ 1
+    pub two-stubbed : (site : Site) → Rewritten site → two_lengths_lem rows site ≡ true → (pruned p rows used order 1).way ≡ Stubbed
     unfolding pruned
     two-stubbed site h e = ap (λ (m : Option Bodies). (or_stubbed m (stubbed p rows used order)).way) (renumbered-fails site h e)
 
 -- ---- the way of an outcome
 
 -- a subset has this way
-abbrev HasWay : ℕ → Outcome → Type 0
-HasWay w o = (way : ℕ) (bs : List ℕ) → o ≡ subset way bs → way ≡ w
+abbrev HasWay : Way → Outcome → Type 0
+HasWay w o = (way : Way) (bs : List ℕ) → o ≡ subset way bs → way ≡ w
 
-no_way : (w n : ℕ) → HasWay w (refused n)
-no_way w n way bs e = absurd (zero_one cc)
+no_way : (w : Way) (e : Refusal) → HasWay w (refused e)
+no_way w e way bs h = absurd (zero_one cc)
 
-its-way : (w : ℕ) (bs : List ℕ) → HasWay w (subset w bs)
+its-way : (w : Way) (bs : List ℕ) → HasWay w (subset w bs)
 its-way w bs way bytes e = cc
 
 module _ (ask : Bool) (p : Program) (name keep rec : List ℕ) (flag lent : ℕ) where
@@ -138,28 +142,28 @@ module _ (ask : Bool) (p : Program) (name keep rec : List ℕ) (flag lent : ℕ)
 
   written-way : HasWay cut.way (written p coded name kept order lent cut)
   written-way =
-      let last = pick (ltb lent (length bytes)) (refused 11) (subset cut.way bytes) in
-      let sized = pick (ltb 67108864 (length bytes)) (refused 10) last in
-      pick_ind (HasWay cut.way) (ltb 64609 (length (own_of p order))) (refused 12) (pick (ltb 255 (pair_count coded)) (refused 13) sized) (λ t. no_way cut.way 12)
-      (λ t. pick_ind (HasWay cut.way) (ltb 255 (pair_count coded)) (refused 13) sized (λ s. no_way cut.way 13)
-      (λ s. pick_ind (HasWay cut.way) (ltb 67108864 (length bytes)) (refused 10) last (λ u. no_way cut.way 10)
-      (λ u. pick_ind (HasWay cut.way) (ltb lent (length bytes)) (refused 11) (subset cut.way bytes) (λ v. no_way cut.way 11)
+      let last = pick (ltb lent (length bytes)) (refused Output) (subset cut.way bytes) in
+      let sized = pick (ltb 67108864 (length bytes)) (refused Subset) last in
+      pick_ind (HasWay cut.way) (ltb 64609 (length (own_of p order))) (refused StringId) (pick (ltb 255 (pair_count coded)) (refused Pairs) sized) (λ t. no_way cut.way StringId)
+      (λ t. pick_ind (HasWay cut.way) (ltb 255 (pair_count coded)) (refused Pairs) sized (λ s. no_way cut.way Pairs)
+      (λ s. pick_ind (HasWay cut.way) (ltb 67108864 (length bytes)) (refused Subset) last (λ u. no_way cut.way Subset)
+      (λ u. pick_ind (HasWay cut.way) (ltb lent (length bytes)) (refused Output) (subset cut.way bytes) (λ v. no_way cut.way Output)
       (λ v. its-way cut.way bytes))))
 
   -- a call that is not refused answers the way of its bodies
   pub cut-way : (cid : Bool) (words : ℕ) → HasWay cut.way (cut_program work_size cid ask p name keep rec flag words lent)
   cut-way cid words =
-      pick_ind (HasWay cut.way) (same_bool_lem cid (cid_keyed p.top)) _ (refused 3)
-      (λ k. pick_ind (HasWay cut.way) (unsupported_in ask p) (refused 3) _ (λ t. no_way cut.way 3)
-      (λ q. pick_ind (HasWay cut.way) (pick cid (has_ros_lem (ros_in p.top)) true) _ (refused 2)
-      (λ ros. pick_ind (HasWay cut.way) (ltb 65535 (length name)) (refused 4) _ (λ t. no_way cut.way 4)
-      (λ n. pick_ind (HasWay cut.way) (all_below (length p.charstrings) keep) _ (refused 6)
-      (λ b. pick_ind (HasWay cut.way) (all_found_lem p kept) _ (refused 7)
-      (λ found. pick_ind (HasWay cut.way) (record_fine cid rec flag) _ (refused 8)
-      (λ r. pick_ind (HasWay cut.way) (ltb words (work_size p)) (refused 9) _ (λ t. no_way cut.way 9)
+      pick_ind (HasWay cut.way) (same_bool_lem cid (cid_keyed p.top)) _ (refused Unsupported)
+      (λ k. pick_ind (HasWay cut.way) (unsupported_in ask p) (refused Unsupported) _ (λ t. no_way cut.way Unsupported)
+      (λ q. pick_ind (HasWay cut.way) (pick cid (has_ros_lem (ros_in p.top)) true) _ (refused Malformed)
+      (λ ros. pick_ind (HasWay cut.way) (ltb 65535 (length name)) (refused TooLong) _ (λ t. no_way cut.way TooLong)
+      (λ n. pick_ind (HasWay cut.way) (all_below (length p.charstrings) keep) _ (refused NoSuchNumber)
+      (λ b. pick_ind (HasWay cut.way) (all_found_lem p kept) _ (refused NotFound)
+      (λ found. pick_ind (HasWay cut.way) (record_fine cid rec flag) _ (refused BadRecord)
+      (λ r. pick_ind (HasWay cut.way) (ltb words (work_size p)) (refused Work) _ (λ t. no_way cut.way Work)
       (λ w. written-way))
-      (λ t. no_way cut.way 8))
-      (λ t. no_way cut.way 7))
-      (λ t. no_way cut.way 6)))
-      (λ t. no_way cut.way 2)))
-      (λ t. no_way cut.way 3)
+      (λ t. no_way cut.way BadRecord))
+      (λ t. no_way cut.way NotFound))
+      (λ t. no_way cut.way NoSuchNumber)))
+      (λ t. no_way cut.way Malformed)))
+      (λ t. no_way cut.way Unsupported)

@@ -16,6 +16,7 @@ use Rattle.subset.specs.KeptListLaws.{those_in, sorted_in}
 use Rattle.subset.specs.Pruned.{Bodies, each, rank, reached, local_set, global_set, renumbered_body, renumbered_subrs, stubbed_from, mapped, calls_in, calls_across, renumbered, charstrings_of, stubbed, copied, Pruned, or_stubbed, pruned}
 use Rattle.subset.proofs.AlikeLaws.{each-alike, mapped-alike, stubbed-alike, renumbered-alike}
 use Rattle.alike.specs.Alike.{SameFor, Alike}
+use Rattle.subset.specs.declared.Way.TheVariants.{Copied}
 
 -- the calls of a glyph or a local subroutine, by how many local and how many global subroutines the font has
 abbrev global_by : List Row → ℕ → ℤ → Option ℤ
@@ -30,7 +31,7 @@ across_by rows globals b z = pick (eqb b 10) None (global_by rows globals z)
 
 -- bodies that were copied
 abbrev copied_as : List (List ℕ) → List (List (List ℕ)) → List (List ℕ) → Pruned
-copied_as gs ls cs = record { way = 2; bodies = record { globals = gs; locals = ls; charstrings = cs } }
+copied_as gs ls cs = record { way = Copied; bodies = record { globals = gs; locals = ls; charstrings = cs } }
 
 -- bodies that are the same wherever they are asked, all being asked
 all_same : (xs ys : List (List ℕ)) → SameFor (λ k. true) xs ys → xs ≡ ys

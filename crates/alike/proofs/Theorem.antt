@@ -1,13 +1,13 @@
 -- Unused letters leave no trace, proved (document 02, Wish 8): no test of a call and no part of a subset asks for an unkept charstring or for a body that the
 -- record does not list, and none asks where a part stood.
-use Rattle.std.specs.Prelude.{ℕ, ◌≡◌, refl, Bool, true, false, List, ltb, length, Option}
+use Rattle.std.specs.Prelude.{ℕ, ◌≡◌, refl, Bool, true, false, List, ltb, length, Option, Result}
 use Rattle.std.proofs.Common.{sym, ap, ◌∙◌}
 use Rattle.octets.specs.Pick.{pick}
 use Rattle.octets.specs.Lists.{all_below}
 use Rattle.dict.specs.Lookup.{ros_in, cid_keyed}
 use Rattle.dict.specs.declared.RosEntry.{RosEntry}
 use Rattle.record.specs.Record.{rows_of, record_fine}
-use Rattle.cff.specs.Font.{Got, Program}
+use Rattle.cff.specs.Font.{Program}
 use Rattle.subset.specs.Kept.{kept_of, written_order, used_fds}
 use Rattle.subset.specs.Pruned.{Pruned, local_set, pruned}
 use Rattle.subset.specs.Codes.{Coded, coded_if, pair_count}
@@ -18,30 +18,33 @@ use Rattle.alike.specs.CountsLaws.{alike_counts}
 use Rattle.alike.proofs.TopLaws.{keyed-same, ros-same, unsupported-same, own_same, order_alike, used-same, found-same, coded-same}
 use Rattle.alike.proofs.PartsLaws.{bytes_same}
 use Rattle.alike.proofs.BodiesLaws.{pruned-same, copied-same}
+use Rattle.refusal.specs.declared.Refusal.{Refusal}
+use Rattle.refusal.specs.declared.Refusal.TheVariants.{Malformed, Unsupported, TooLong, NoSuchNumber, NotFound, BadRecord, Work, Subset, Output, StringId, Pairs}
+use Rattle.subset.specs.declared.Way.{Way}
 
 -- ---- the outcome by what its tests ask
 
 -- from 9 passed on
-abbrev written_by : ℕ → ℕ → ℕ → List ℕ → ℕ → Outcome
+abbrev written_by : ℕ → ℕ → ℕ → List ℕ → Way → Outcome
 written_by own pairs room bytes way =
-    pick (ltb 64609 own) (refused 12)
-    (pick (ltb 255 pairs) (refused 13)
-    (pick (ltb 67108864 (length bytes)) (refused 10)
-    (pick (ltb room (length bytes)) (refused 11)
+    pick (ltb 64609 own) (refused StringId)
+    (pick (ltb 255 pairs) (refused Pairs)
+    (pick (ltb 67108864 (length bytes)) (refused Subset)
+    (pick (ltb room (length bytes)) (refused Output)
     (subset way bytes))))
 
 -- the tests before, and what comes behind them
 abbrev tested : Bool → Bool → Bool → Bool → Bool → Bool → Bool → Bool → Outcome → Outcome
 tested keyed unsupported ros long below found fine few behind =
     pick keyed
-    (pick unsupported (refused 3)
+    (pick unsupported (refused Unsupported)
     (pick ros
-    (pick long (refused 4)
+    (pick long (refused TooLong)
     (pick below
     (pick found
     (pick fine
-    (pick few (refused 9) behind)
-    (refused 8)) (refused 7)) (refused 6))) (refused 2))) (refused 3)
+    (pick few (refused Work) behind)
+    (refused BadRecord)) (refused NotFound)) (refused NoSuchNumber))) (refused Malformed))) (refused Unsupported)
 
 module _ {keep : List ℕ} {global : ℕ → Bool} {local : ℕ → ℕ → Bool} {p q : Program} (a : Alike keep global local p q) where
   abbrev kept : List ℕ
@@ -102,8 +105,8 @@ reads-alike : (size : Program → ℕ) (p q : Program) (keep rec : List ℕ) (fl
     → SameReply size p q keep rec flag
 unfolding cut_with
 reads-alike size p q keep rec flag same cid ask font font' name words room e f =
-    ap (λ (g : Got Program). cut_read size cid ask g name keep rec flag words room) e
-    ∙ (same cid ask name words room ∙ sym (ap (λ (g : Got Program). cut_read size cid ask g name keep rec flag words room) f))
+    ap (λ (g : Result Program Refusal). cut_read size cid ask g name keep rec flag words room) e
+    ∙ (same cid ask name words room ∙ sym (ap (λ (g : Result Program Refusal). cut_read size cid ask g name keep rec flag words room) f))
 
 -- THE THEOREM, for flag 1
 pub no_trace : (size : Program → ℕ) → CountsAlone size → NoTrace size

@@ -19,8 +19,6 @@ use Rattle.strings.specs.Strings.{string_text}
 use Rattle.charset.specs.Codes.{Naming, by_number, by_string}
 use Rattle.find.specs.Find.{glyph_with_id, glyph_with_text}
 use Rattle.cff.specs.Font.{Coding, standard, expert, custom, Program}
-use Rattle.cff.specs.Find.{found_as_lem}
-use Rattle.cff.specs.declared.FoundAs.TheVariants.{Absent as NotFound}
 use Rattle.subset.specs.Kept.{is_in, those, sorted_by, written_order, fds_of, used_fds}
 use Rattle.subset.specs.Texts.{Named, named_by, named_entries, texts_of, name_of, names_of, own_strings_lem, new_id}
 use Rattle.subset.specs.Codes.{code_of, glyph_by, or_else, last_named, Pair, pair_of, pairs_from, Coded, none, pairs, coded_by_lem, coded_if}
@@ -64,8 +62,8 @@ apart-both false t e = (refl, e)
 -- whether finding gives a glyph, by the keying, the strings and the ids
 abbrev found_by : ℕ → Bool → List (List ℕ) → List ℕ → Bool
 found_by g cid strings ids =
-    pick cid (is_glyph g (pick cid (found_as_lem (glyph_with_id (get_or ids g 0) 0 ids)) NotFound))
-    (is_glyph g (pick cid NotFound (found_as_lem (glyph_with_text strings (string_text strings (get_or ids g 0)) 0 ids))))
+    pick cid (is_glyph g (pick cid (glyph_with_id (get_or ids g 0) 0 ids) None))
+    (is_glyph g (pick cid None (glyph_with_text strings (string_text strings (get_or ids g 0)) 0 ids)))
 
 module _ {keep : List ℕ} {global : ℕ → Bool} {local : ℕ → ℕ → Bool} {p q : Program} (a : Alike keep global local p q) where
   -- ---- the top DICT

@@ -2,18 +2,19 @@
 -- bodies of subroutines absent from the record, give the same reply to a subset call with flag 1; with flag 0 so do fonts that also have all
 -- subroutine bodies equal, those of unused FDs aside. What the fonts hold is what reading gives, so they may place their parts differently, bare
 -- or in an OpenType file. Proved in Theorem.
-use Rattle.std.specs.Prelude.{ℕ, ◌<◌, ◌≡◌, Bool, true, false, List, [], ◌∷◌, length, get_or}
+use Rattle.std.specs.Prelude.{ℕ, ◌<◌, ◌≡◌, Bool, true, false, List, [], ◌∷◌, length, get_or, Result, Ok}
 use Rattle.octets.specs.Pick.{pick}
 use Rattle.dict.specs.Op.{private, subrs}
 use Rattle.dict.specs.Dict.{Entry}
 use Rattle.dict_write.specs.Written.{without}
 use Rattle.record.specs.Record.{rows_of}
-use Rattle.cff.specs.Font.{got, Private, Program, read_font, charset, encoding, char_strings, fd_array, fd_select_lem}
+use Rattle.cff.specs.Font.{Private, Program, read_font, charset, encoding, char_strings, fd_array, fd_select_lem}
 use Rattle.subset.specs.Kept.{is_in, keeps, kept_of, used_fds, private_of, locals_of}
 use Rattle.subset.specs.Pruned.{local_set, global_set}
 use Rattle.subset.specs.Cut.{cut_with}
 use Rattle.outcome.specs.Entry.{CutsWith}
-use Rattle.outcome.specs.declared.Answer.{Answer}
+use Rattle.outcome.specs.declared.Subsetted.{Subsetted}
+use Rattle.refusal.specs.declared.Refusal.{Refusal}
 
 -- ---- equal in all they hold
 
@@ -76,10 +77,10 @@ CountsAlone size = (p q : Program) → SameCounts p q → size p ≡ size q
 
 -- ---- the statements
 
--- the same reply, a refusal's number or way and bytes, for fonts that are read as these programs, whatever else is asked and lent
+-- the same reply, a refusal or the way and the bytes, for fonts that are read as these programs, whatever else is asked and lent
 abbrev pub SameReply : (Program → ℕ) → Program → Program → List ℕ → List ℕ → ℕ → Type 0
 SameReply size p q keep rec flag =
-    (cid ask : Bool) (font font' name : List ℕ) (words room : ℕ) → read_font font ≡ got p → read_font font' ≡ got q
+    (cid ask : Bool) (font font' name : List ℕ) (words room : ℕ) → read_font font ≡ Ok p → read_font font' ≡ Ok q
     → cut_with size cid ask font name keep rec flag words room ≡ cut_with size cid ask font' name keep rec flag words room
 
 -- with flag 1, and every flag but 0: above 1 both calls are refused
@@ -93,6 +94,6 @@ NoTraceCopied size = (p q : Program) (keep rec : List ℕ) → AllAlike keep p q
 -- two calls that ask for so many words, by their contracts: the same answer, output and work words, where the lent memory was the same before
 abbrev pub SameCalls : (Program → ℕ) → Program → Program → List ℕ → List ℕ → ℕ → Type 0
 SameCalls size p q keep rec flag =
-    (cid ask : Bool) (font font' name work out work₁ out₁ work₂ out₂ : List ℕ) (r s : Answer) → read_font font ≡ got p → read_font font' ≡ got q
+    (cid ask : Bool) (font font' name work out work₁ out₁ work₂ out₂ : List ℕ) (r s : Result Subsetted Refusal) → read_font font ≡ Ok p → read_font font' ≡ Ok q
     → CutsWith size cid ask font name keep rec flag work out work₁ out₁ r → CutsWith size cid ask font' name keep rec flag work out work₂ out₂ s
     → (r ≡ s) × (out₁ ≡ out₂) × (work₁ ≡ work₂)

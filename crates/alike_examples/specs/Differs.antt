@@ -1,6 +1,6 @@
 -- The bodies that the record lists are asked: fonts that differ in a byte of one, 0x8d and 0x8e, have other subsets, computed. So the moved font, whose reply is
 -- the first one's, has not the second one's, whatever stands in its other bodies.
-use Rattle.std.specs.Prelude.{ℕ, ◌≡◌, refl, true, false, List, [], ◌∷◌, get_or}
+use Rattle.std.specs.Prelude.{ℕ, ◌≡◌, refl, true, false, List, [], ◌∷◌, get_or, Result}
 use Rattle.std.proofs.Common.{sym, ap, ◌∙◌, arith}
 use Rattle.octets.specs.Octets.{be, num_at, bytes_of}
 use Rattle.octets.specs.Lists.{all_below, joined}
@@ -22,7 +22,7 @@ use Rattle.find.specs.Find.{glyph_with_text}
 use Rattle.unfold.specs.Unfold.{Row, local, global, entered}
 use Rattle.record.specs.Record.{rows_from, rows_of, rows_fine_lem, record_fine, lists, given_in, disagrees, two_lengths_lem}
 use Rattle.prune.specs.Renumber.{renumber, renumber_charstring}
-use Rattle.cff.specs.Font.{Got, Program}
+use Rattle.cff.specs.Font.{Program}
 use Rattle.cff.specs.Find.{work_size, locals_words}
 use Rattle.bits.specs.Bits.{count_below}
 use Rattle.subset.specs.Kept.{is_in, those, fds_of}
@@ -34,6 +34,8 @@ use Rattle.subset.specs.Cut.{Outcome, refused, subset, all_found_lem, written, c
 use Rattle.subset.specs.ReachedLaws.{numbers_below, lists-past, count_past}
 use Rattle.alike_examples.specs.Fonts.{bare, bare_program, bare-reads, moved, reach, keep, cut}
 use Rattle.alike_examples.specs.Same.{same_reply}
+use Rattle.refusal.specs.declared.Refusal.{Refusal}
+use Rattle.subset.specs.declared.Way.TheVariants.{Renumbered}
 
 -- ---- the record
 
@@ -78,7 +80,7 @@ globals-one = refl
 abbrev bodies : ℕ → Pruned
 bodies x =
     record {
-      way = 0;
+      way = Renumbered;
       bodies =
           record {
             globals = (0x8d ∷ 0x16 ∷ 0x0b ∷ []) ∷ [];
@@ -112,7 +114,7 @@ cut-written : (x : ℕ) → cut (bare x) reach 1 ≡ written_of x (pruned_of x (
 unfolding
     cut_with all_below all_found_lem glyph_with_text string_text standard_string standard_strings codes same_text_lem standard_names is_in those fds_of last_of last_from trunc_of locals_words
     normal stripped zeros zeros_of
-cut-written x = ap (λ (g : Got Program). cut_read work_size false false g (0x4e ∷ []) keep reach 1 8192 32768) (bare-reads x) ∙ rw fine_reach
+cut-written x = ap (λ (g : Result Program Refusal). cut_read work_size false false g (0x4e ∷ []) keep reach 1 8192 32768) (bare-reads x) ∙ rw fine_reach
 
 -- the subset
 abbrev pub bytes_for : ℕ → List ℕ
@@ -134,21 +136,21 @@ bytes_for x =
     -- Private DICT and local subroutines
     ∷ 0x8d ∷ 0x14 ∷ 0x1d ∷ 0x00 ∷ 0x00 ∷ 0x00 ∷ 0x08 ∷ 0x13 ∷ 0x00 ∷ 0x01 ∷ 0x01 ∷ 0x01 ∷ 0x04 ∷ x ∷ 0x16 ∷ 0x0b ∷ []
 
-written-bytes : (x : ℕ) → written_of x (bodies x) ≡ subset 0 (bytes_for x)
+written-bytes : (x : ℕ) → written_of x (bodies x) ≡ subset Renumbered (bytes_for x)
 unfolding
     subset_bytes subset_by_name new_ids copied_bytes named_bytes names_of texts_of named_entries new_id place_in own_strings_lem has_text string_text standard_string standard_strings sid_of
     sid_in codes same_text_lem standard_names charset_bytes id_bytes op_bytes_lem operands_bytes entry_bytes entries_bytes offset_entry copied_entry private_entry without last_of last_from trunc_of normal
     stripped zeros zeros_of int5_bytes number_bytes int_bytes index_bytes items_bytes head_bytes table_bytes ends size_for joined total bytes_of num_at be
 written-bytes x = refl
 
-replies : (x : ℕ) → pruned_of x rows ≡ bodies x → cut (bare x) reach 1 ≡ subset 0 (bytes_for x)
+replies : (x : ℕ) → pruned_of x rows ≡ bodies x → cut (bare x) reach 1 ≡ subset Renumbered (bytes_for x)
 replies x e = cut-written x ∙ ap (λ (rs : List Row). written_of x (pruned_of x rs)) reach-rows ∙ ap (written_of x) e ∙ written-bytes x
 
 -- the two replies
-pub reply_8d : cut (bare 0x8d) reach 1 ≡ subset 0 (bytes_for 0x8d)
+pub reply_8d : cut (bare 0x8d) reach 1 ≡ subset Renumbered (bytes_for 0x8d)
 reply_8d = replies 0x8d bodies_8d
 
-pub reply_8e : cut (bare 0x8e) reach 1 ≡ subset 0 (bytes_for 0x8e)
+pub reply_8e : cut (bare 0x8e) reach 1 ≡ subset Renumbered (bytes_for 0x8e)
 reply_8e = replies 0x8e bodies_8e
 
 -- they differ in a byte of the local subroutine
@@ -160,5 +162,5 @@ pub listed-differs : cut (bare 0x8d) reach 1 ≡ cut (bare 0x8e) reach 1 → ⊥
 listed-differs e = let z : ◌≡◌ {A = ℕ} 0x8d 0x8e = ap byte_of (sym reply_8d ∙ (e ∙ reply_8e)) in omega arith
 
 -- by the theorem: the reply for the moved font, none of which was computed
-pub moved_reply : (u : ℕ) → cut (moved u) reach 1 ≡ subset 0 (bytes_for 0x8d)
+pub moved_reply : (u : ℕ) → cut (moved u) reach 1 ≡ subset Renumbered (bytes_for 0x8d)
 moved_reply u = sym (same_reply u) ∙ reply_8d

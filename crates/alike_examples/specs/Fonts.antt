@@ -1,7 +1,7 @@
 -- Two families of fonts with the same three glyphs, of which 1 is kept: it calls the second global and the second local subroutine, which the record lists.
 -- In the first, bare, x is a byte of the listed local subroutine. In the second, an OpenType file, the parts stand in another order with gaps, the DICTs' entries
 -- too, glyph 2 has another charstring, longer by a byte, and the bodies that the record does not list are the byte u.
-use Rattle.std.specs.Prelude.{ℕ, ◌≡◌, refl, false, List, [], ◌∷◌}
+use Rattle.std.specs.Prelude.{ℕ, ◌≡◌, refl, false, List, [], ◌∷◌, Ok}
 use Rattle.octets.specs.Octets.{be, num_at}
 use Rattle.index.specs.Index.{offsets, run_of, judged, data_at, table_at, index_at, pieces, items_of, told, read_index}
 use Rattle.decimal.specs.Decimal.{zeros_of, zeros, stripped, normal, whole}
@@ -13,7 +13,7 @@ use Rattle.dict.specs.Lookup.{last_from, last_of}
 use Rattle.charset.specs.Listed.{list_of}
 use Rattle.charset.specs.Charset.{ids_from, charset_at}
 use Rattle.opentype.specs.Opentype.{row_from_lem, place_of}
-use Rattle.cff.specs.Font.{got, standard, Program, charset, char_strings, read_table, read_font, set_at, fonts_at, font_at, name_parts, ids_at, private_at, private_data, locals_at, coding_at, encoding_got}
+use Rattle.cff.specs.Font.{standard, Program, charset, char_strings, read_table, read_font, set_at, fonts_at, font_at, name_parts, ids_at, private_at, private_data, locals_at, coding_at, encoding_got}
 use Rattle.subset.specs.Cut.{Outcome, cut_of}
 
 abbrev pub bare : ℕ → List ℕ
@@ -60,7 +60,7 @@ bare_program x =
       coding = standard;
     }
 
-pub bare-reads : (x : ℕ) → read_font (bare x) ≡ got (bare_program x)
+pub bare-reads : (x : ℕ) → read_font (bare x) ≡ Ok (bare_program x)
 unfolding
     read_font read_table place_of row_from_lem set_at fonts_at font_at name_parts ids_at private_at private_data locals_at coding_at encoding_got read_index told items_of pieces index_at table_at data_at judged run_of
     offsets num_at be dict_of gathered readings_at readings_from entry_at entry_from token_at operator_at number_at real_at normal stripped zeros zeros_of trunc_of last_of last_from list_of ids_from
@@ -120,7 +120,7 @@ moved_program u =
       coding = standard;
     }
 
-pub moved-reads : (u : ℕ) → read_font (moved u) ≡ got (moved_program u)
+pub moved-reads : (u : ℕ) → read_font (moved u) ≡ Ok (moved_program u)
 unfolding
     read_font read_table place_of row_from_lem set_at fonts_at font_at name_parts ids_at private_at private_data locals_at coding_at encoding_got read_index told items_of pieces index_at table_at data_at judged run_of
     offsets num_at be dict_of gathered readings_at readings_from entry_at entry_from token_at operator_at number_at real_at normal stripped zeros zeros_of trunc_of last_of last_from list_of ids_from

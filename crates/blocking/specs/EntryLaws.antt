@@ -1,11 +1,11 @@
 -- Laws of the entry: a refusal before the work words are used leaves all as it was; behind it the first W words and the record slice end as zeros. How many
 -- words are lent beyond W does not matter.
-use Rattle.std.specs.Prelude.{ℕ, ◌+◌, ◌-◌, ◌*◌, ◌≤◌, ◌<◌, ◌≡◌, Bool, true, ltb, eqb, length, take, replicate, None, Option, Some}
+use Rattle.std.specs.Prelude.{ℕ, ◌+◌, ◌-◌, ◌*◌, ◌≤◌, ◌≡◌, Bool, true, ltb, length, take, replicate, None, Option, Some, Result, Ok, Err}
 use Rattle.std.proofs.Math.Path.{refl, sym, ap}
 use Rattle.std.proofs.Common.{◌∙◌, subst, arith, length-take-le}
 use Rattle.std.proofs.Math.Bool.{false}
 use mathlib.Core.List.{List, ◌++◌}
-use borrow.Author.Tests.{le-ltb, ltb-false, eq-eqb, ne_eqb}
+use borrow.Author.Tests.{le-ltb, ltb-false}
 use Rattle.std.proofs.Math.ListN.{drop}
 use Rattle.octets.specs.Pick.{pick, pick_ind}
 use Rattle.bits.specs.Bits.{words_for}
@@ -15,7 +15,7 @@ use Rattle.unfold.specs.Unfold.{Row}
 use Rattle.prune.specs.StepLaws.{zero_one}
 use Rattle.record.specs.Record.{rows_of, record_fine}
 use Rattle.dict.specs.Lookup.{ros_in, cid_keyed}
-use Rattle.cff.specs.Font.{Got, refused as refusedFont, Program, read_font}
+use Rattle.cff.specs.Font.{Program, read_font}
 use Rattle.cff.specs.Find.{work_size}
 use Rattle.cff.specs.Reads.{program_of}
 use Rattle.cff.specs.File.{InFile}
@@ -25,21 +25,23 @@ use Rattle.subset.specs.KeptListLaws.{those-same}
 use Rattle.subset.specs.Pruned.{pruned}
 use Rattle.subset.specs.Codes.{coded_if}
 use Rattle.subset.specs.Subset.{subset_bytes}
-use Rattle.subset.specs.Cut.{Outcome, refused, subset, all_found_lem, has_ros_lem, same_bool_lem, unsupported_in, own_of, zeros}
-use Rattle.outcome.specs.Entry.{answer_of, refusal_of, cut_behind}
-use Rattle.outcome.specs.declared.Answer.{Answer}
-use Rattle.outcome.specs.declared.Answer.TheVariants.{Refused as RefusedAnswer, Subset}
+use Rattle.subset.specs.Cut.{Outcome, refused, subset, all_found_lem, has_ros_lem, unsupported_in, own_of, zeros}
+use Rattle.outcome.specs.Entry.{answer_of, cut_behind}
 use Rattle.early_refusals.specs.RefusalLaws.{work_is}
-use Rattle.write.specs.EntryLaws.{program-cut, zeros_are}
+use Rattle.write.specs.EntryLaws.{unless_refused, program-cut, zeros_are}
 use Rattle.traced.specs.Traced.{Traced, refused as refusedTrace, traced, record_of, met_all, answered, trace_program, trace_read, trace_of}
 use Rattle.traced.proofs.Theorem.{trace_fine}
 use Rattle.culprit.specs.Culprit.{cut_traced, traced_cut, without, has_way, is_culprit, first_of, least_culprit, answer_by, culprit_in, culprit_read, culprit_of, passes_nine, uses_read, uses_lent, words_in, Blocks}
 use Rattle.culprit.proofs.Theorem.{not_six, is_least, other_way, has-way}
-use Rattle.culprit.specs.declared.Culprit.{Culprit}
-use Rattle.culprit.specs.declared.Culprit.TheVariants.{Refused, None as NoCulprit}
 use Rattle.early_traced.specs.Early.{refused_or, early_of}
 use Rattle.blocking.specs.Search.{CanCut}
-use Rattle.blocking.specs.CutLaws.{trace_passes, cut-behind}
+use Rattle.blocking.specs.CutLaws.{trace_passes, nine-left, cut-behind}
+use Rattle.outcome.specs.declared.Subsetted.{Subsetted}
+use Rattle.refusal.specs.declared.Refusal.{Refusal}
+use Rattle.refusal.specs.declared.Refusal.TheVariants.{Malformed, Unsupported, TooLong, NoSuchNumber, NotFound, Work, Subset, Output, StringId, Pairs}
+use Rattle.subset.specs.Way.{is_stubbed}
+use Rattle.subset.specs.declared.Way.{Way}
+use Rattle.subset.specs.declared.Way.TheVariants.{Renumbered, Stubbed, Copied}
 
 -- ---- words beyond W
 
@@ -47,7 +49,7 @@ module _ (p : Program) (name : List ℕ) (w₁ w₂ lent : ℕ) (h₁ : work_siz
   pub cut-words : (keep : List ℕ) → traced_cut p name keep w₁ lent ≡ traced_cut p name keep w₂ lent
   unfolding traced_cut
   cut-words keep =
-      ap (λ (o : Outcome). pick (unsupported_in false p) (refused 3) (pick (pick (cid_keyed p.top) (has_ros_lem (ros_in p.top)) true) (pick (ltb 65535 (length name)) (refused 4) o) (refused 2)))
+      ap (λ (o : Outcome). pick (unsupported_in false p) (refused Unsupported) (pick (pick (cid_keyed p.top) (has_ros_lem (ros_in p.top)) true) (pick (ltb 65535 (length name)) (refused TooLong) o) (refused Malformed)))
       (by (trace_program p keep lent))
     where
       by : (t : Traced) → cut_traced p name keep w₁ t ≡ cut_traced p name keep w₂ t
@@ -63,86 +65,87 @@ module _ (p : Program) (name : List ℕ) (w₁ w₂ lent : ℕ) (h₁ : work_siz
       ap (λ (o : Outcome). answer_by o (least_culprit p name keep w₁ lent)) (cut-words keep)
       ∙ ap (λ (l : List ℕ). answer_by (traced_cut p name keep w₂ lent) (first_of l))
       (those-same (is_culprit p name keep w₁ lent) (is_culprit p name keep w₂ lent) (length p.charstrings - 1) 1
-      (λ g h. ap (λ (o : Outcome). pick (is_in g keep) (has_way 0 o) false) (cut-words (without g keep))))
+      (λ g h. ap (λ (o : Outcome). pick (is_in g keep) (has_way Renumbered o) false) (cut-words (without g keep))))
 
 -- ---- the early refusals
 
+-- a refusal that is another one
+other : (m n : Refusal) → passes_nine (refused m) ≡ false → ◌≡◌ {A = Result Unit Refusal} (Err m) (Err n) → (refused m ≡ refused n) × (passes_nine (refused n) ≡ false)
+other m n h e = let z : m ≡ n = cc in (ap refused z, ap (λ (k : Refusal). passes_nine (refused k)) (sym z) ∙ h)
+
 -- those of a trace
-trace_low : (p : Program) (keep : List ℕ) (lent n : ℕ) → trace_program p keep lent ≡ refusedTrace n → (0 < n) × (passes_nine (refused n) ≡ false)
+trace_low : (p : Program) (keep : List ℕ) (lent : ℕ) (n : Refusal) → trace_program p keep lent ≡ refusedTrace n → passes_nine (refused n) ≡ false
 trace_low p keep lent n e =
     by (all_below (length p.charstrings) keep) (all_found_lem p (kept_of (length p.charstrings) keep)) (met_all p (kept_of (length p.charstrings) keep)) e
   where
-    low : (m : ℕ) → m ≡ n → (0 < m) × (passes_nine (refused m) ≡ false) → (0 < n) × (passes_nine (refused n) ≡ false)
-    low m q h = subst (λ (k : ℕ). (0 < k) × (passes_nine (refused k) ≡ false)) q h
+    low : (m : Refusal) → passes_nine (refused m) ≡ false → refusedTrace m ≡ refusedTrace n → passes_nine (refused n) ≡ false
+    low m h q = let z : m ≡ n = cc in ap (λ (k : Refusal). passes_nine (refused k)) (sym z) ∙ h
 
-    by : (d f : Bool) (m : Option (List Row)) → pick d (pick f (answered lent m) (refusedTrace 7)) (refusedTrace 6) ≡ refusedTrace n → (0 < n) × (passes_nine (refused n) ≡ false)
-    by false f m h = let z : 6 ≡ n = cc in low 6 z (omega arith, refl)
-    by true false m h = let z : 7 ≡ n = cc in low 7 z (omega arith, refl)
+    by : (d f : Bool) (m : Option (List Row)) → pick d (pick f (answered lent m) (refusedTrace NotFound)) (refusedTrace NoSuchNumber) ≡ refusedTrace n → passes_nine (refused n) ≡ false
+    by false f m h = low NoSuchNumber refl h
+    by true false m h = low NotFound refl h
     by true true None h = absurd (zero_one cc)
     by true true (Some rows) h =
-        pick_ind (λ t. t ≡ refusedTrace n → (0 < n) × (passes_nine (refused n) ≡ false)) (ltb lent (length (record_of rows))) (refusedTrace 11) (traced 1 (record_of rows))
-        (λ q k. let z : 11 ≡ n = cc in low 11 z (omega arith, refl))
+        pick_ind (λ t. t ≡ refusedTrace n → passes_nine (refused n) ≡ false) (ltb lent (length (record_of rows))) (refusedTrace Output) (traced 1 (record_of rows))
+        (λ q k. low Output refl k)
         (λ q k. absurd (zero_one cc))
         h
 
 module _ (p : Program) (name keep : List ℕ) (words lent : ℕ)
     (fine : (flag : ℕ) (rec : List ℕ) → trace_program p keep lent ≡ traced flag rec → record_fine (cid_keyed p.top) rec flag ≡ true) where
-  abbrev early : ℕ
+  abbrev early : Result Unit Refusal
   early = early_of p (length name) keep words lent
 
   abbrev ros : Bool
   ros = pick (cid_keyed p.top) (has_ros_lem (ros_in p.top)) true
 
-  -- by what the trace says
-  by_tests : (s b c : Bool) (m : ℕ) (o : Outcome) → (s ≡ false → b ≡ true → c ≡ false → 0 < m → (o ≡ refused m) × (passes_nine (refused m) ≡ false))
-      → 0 < pick s 3 (pick b (pick c 4 m) 2)
-      → (pick s (refused 3) (pick b (pick c (refused 4) o) (refused 2)) ≡ refused (pick s 3 (pick b (pick c 4 m) 2)))
-      × (passes_nine (refused (pick s 3 (pick b (pick c 4 m) 2))) ≡ false)
-  by_tests true b c m o f h = (refl, refl)
-  by_tests false false c m o f h = (refl, refl)
-  by_tests false true true m o f h = (refl, refl)
-  by_tests false true false m o f h = f refl refl refl h
+  -- 9, or none
+  abbrev last : Result Unit Refusal
+  last = pick (ltb words (work_size p)) (Err Work) (Ok tt)
 
-  nine : (s b c : Bool) (d f g : Bool) (w : Bool) (o : Outcome) → s ≡ false → b ≡ true → c ≡ false → d ≡ true → f ≡ true → g ≡ true → 0 < pick w 9 0
-      → (pick (eqb (pick (same_bool_lem (cid_keyed p.top) (cid_keyed p.top)) (pick s 3 (pick b (pick c 4 (pick d (pick f (pick g (pick w 9 0) 8) 7) 6)) 2)) 3) 0) o
-      (refused (pick (same_bool_lem (cid_keyed p.top) (cid_keyed p.top)) (pick s 3 (pick b (pick c 4 (pick d (pick f (pick g (pick w 9 0) 8) 7) 6)) 2)) 3))
-      ≡ refused (pick w 9 0)) × (passes_nine (refused (pick w 9 0)) ≡ false)
-  nine s b c d f g false o x₁ x₂ x₃ x₄ x₅ x₆ h = absurd (omega arith)
-  nine s b c d f g true o x₁ x₂ x₃ x₄ x₅ x₆ h = (rw (x₁, x₂, x₃, x₄, x₅, x₆) (keyed (cid_keyed p.top)), refl)
-    where
-      keyed : (a : Bool) → pick (eqb (pick (same_bool_lem a a) 9 3) 0) o (refused (pick (same_bool_lem a a) 9 3)) ≡ refused 9
-      keyed true = refl
-      keyed false = refl
+  -- by what the trace says
+  by_tests : (s b c : Bool) (r : Result Unit Refusal) (o : Outcome) (n : Refusal)
+      → (s ≡ false → b ≡ true → c ≡ false → r ≡ Err n → (o ≡ refused n) × (passes_nine (refused n) ≡ false))
+      → pick s (Err Unsupported) (pick b (pick c (Err TooLong) r) (Err Malformed)) ≡ Err n
+      → (pick s (refused Unsupported) (pick b (pick c (refused TooLong) o) (refused Malformed)) ≡ refused n) × (passes_nine (refused n) ≡ false)
+  by_tests true b c r o n f h = other Unsupported n refl h
+  by_tests false false c r o n f h = other Malformed n refl h
+  by_tests false true true r o n f h = other TooLong n refl h
+  by_tests false true false r o n f h = f refl refl refl h
+
+  nine_low : (w : Bool) (n : Refusal) → ◌≡◌ {A = Result Unit Refusal} (pick w (Err Work) (Ok tt)) (Err n) → passes_nine (refused n) ≡ false
+  nine_low true n h = (other Work n refl h).1
+  nine_low false n h = absurd (zero_one cc)
 
   by_trace : (t : Traced) → trace_program p keep lent ≡ t → unsupported_in false p ≡ false → ros ≡ true → ltb 65535 (length name) ≡ false
-      → 0 < refused_or t (pick (ltb words (work_size p)) 9 0)
-      → (cut_traced p name keep words t ≡ refused (refused_or t (pick (ltb words (work_size p)) 9 0))) × (passes_nine (refused (refused_or t (pick (ltb words (work_size p)) 9 0))) ≡ false)
-  unfolding refusal_of
-  by_trace (refusedTrace n) e x y z h = (refl, (trace_low p keep lent n e).1)
-  by_trace (traced flag rec) e x y z h =
-      let q = trace_passes p keep lent flag rec e in
-      let a = program-cut work_size (cid_keyed p.top) false p name keep rec flag words 67108864 in
-      let k = nine (unsupported_in false p) ros (ltb 65535 (length name)) _ _ _ (ltb words (work_size p)) (cut_behind false p name keep rec flag 67108864) x y z q.below q.found (fine flag rec e) h in
-      (a ∙ k.0, k.1)
+      → (n : Refusal) → refused_or t last ≡ Err n → (cut_traced p name keep words t ≡ refused n) × (passes_nine (refused n) ≡ false)
+  by_trace (refusedTrace m) e x y z n h = other m n (trace_low p keep lent m e) h
+  by_trace (traced flag rec) e x y z n h = (
+    program-cut work_size (cid_keyed p.top) false p name keep rec flag words 67108864
+        ∙ ap (λ (r : Result Unit Refusal). unless_refused r (cut_behind false p name keep rec flag 67108864))
+        (nine-left p (length name) keep rec flag words lent x y z (trace_passes p keep lent flag rec e) (fine flag rec e) ∙ h),
+    nine_low (ltb words (work_size p)) n h,
+  )
 
   -- refused, with nothing used
-  pub early-refuses : 0 < early → (traced_cut p name keep words lent ≡ refused early) × (passes_nine (refused early) ≡ false)
+  pub early-refuses : (n : Refusal) → early ≡ Err n → (traced_cut p name keep words lent ≡ refused n) × (passes_nine (refused n) ≡ false)
   unfolding early_of traced_cut
-  early-refuses h =
-      by_tests (unsupported_in false p) ros (ltb 65535 (length name)) (refused_or (trace_program p keep lent) (pick (ltb words (work_size p)) 9 0))
-      (cut_traced p name keep words (trace_program p keep lent)) (λ x y z l. by_trace (trace_program p keep lent) refl x y z l) h
+  early-refuses n h =
+      by_tests (unsupported_in false p) ros (ltb 65535 (length name)) (refused_or (trace_program p keep lent) last) (cut_traced p name keep words (trace_program p keep lent)) n
+      (λ x y z e. by_trace (trace_program p keep lent) refl x y z n e) h
 
   -- not refused: the tests are passed, and the trace is not refused
-  module _ (z : early ≡ 0) where
-    zero_tests : (s b c : Bool) (m : ℕ) → ◌≡◌ {A = ℕ} (pick s 3 (pick b (pick c 4 m) 2)) 0 → (s ≡ false) × (b ≡ true) × (c ≡ false) × (m ≡ 0)
-    zero_tests true b c m e = absurd (zero_one (omega arith))
-    zero_tests false false c m e = absurd (zero_one (omega arith))
-    zero_tests false true true m e = absurd (zero_one (omega arith))
-    zero_tests false true false m e = (refl, refl, refl, e)
+  module _ (passed : early ≡ Ok tt) where
+    passed_tests : (s b c : Bool) (r : Result Unit Refusal) → pick s (Err Unsupported) (pick b (pick c (Err TooLong) r) (Err Malformed)) ≡ Ok tt
+        → (s ≡ false) × (b ≡ true) × (c ≡ false) × (r ≡ Ok tt)
+    passed_tests true b c r e = absurd (zero_one cc)
+    passed_tests false false c r e = absurd (zero_one cc)
+    passed_tests false true true r e = absurd (zero_one cc)
+    passed_tests false true false r e = (refl, refl, refl, e)
 
-    tests : (unsupported_in false p ≡ false) × (ros ≡ true) × (ltb 65535 (length name) ≡ false) × (refused_or (trace_program p keep lent) (pick (ltb words (work_size p)) 9 0) ≡ 0)
+    tests : (unsupported_in false p ≡ false) × (ros ≡ true) × (ltb 65535 (length name) ≡ false) × (refused_or (trace_program p keep lent) last ≡ Ok tt)
     unfolding early_of
-    tests = zero_tests (unsupported_in false p) ros (ltb 65535 (length name)) (refused_or (trace_program p keep lent) (pick (ltb words (work_size p)) 9 0)) z
+    tests = passed_tests (unsupported_in false p) ros (ltb 65535 (length name)) (refused_or (trace_program p keep lent) last) passed
 
     -- what the trace hands on
     record Told : Type 0 where
@@ -154,12 +157,12 @@ module _ (p : Program) (name keep : List ℕ) (words lent : ℕ)
     told : Told
     told = by (trace_program p keep lent) refl tests.3
       where
-        few : (w : Bool) → ltb words (work_size p) ≡ w → ◌≡◌ {A = ℕ} (pick w 9 0) 0 → work_size p ≤ words
-        few true q e = absurd (zero_one (omega arith))
+        few : (w : Bool) → ltb words (work_size p) ≡ w → ◌≡◌ {A = Result Unit Refusal} (pick w (Err Work) (Ok tt)) (Ok tt) → work_size p ≤ words
+        few true q e = absurd (zero_one cc)
         few false q e = ltb-false words (work_size p) q
 
-        by : (t : Traced) → trace_program p keep lent ≡ t → refused_or t (pick (ltb words (work_size p)) 9 0) ≡ 0 → Told
-        by (refusedTrace n) q e = absurd (zero_one (omega (arith, (trace_low p keep lent n q).0)))
+        by : (t : Traced) → trace_program p keep lent ≡ t → refused_or t last ≡ Ok tt → Told
+        by (refusedTrace n) q e = absurd (zero_one cc)
         by (traced flag rec) q e = record { flag = flag; rec = rec; is = q; enough = few (ltb words (work_size p)) refl e }
 
     pub early_can : CanCut p (length name) words
@@ -176,45 +179,58 @@ module _ (p : Program) (name keep : List ℕ) (words lent : ℕ)
         ap passes_nine (cut-behind p name keep words lent early_can t.flag t.rec t.is (fine t.flag t.rec t.is))
         ∙ past (ltb 64609 (length (own_of p order))) (ltb 67108864 (length bytes)) q.way bytes
       where
-        past : (a b : Bool) (way : ℕ) (bs : List ℕ)
-            → passes_nine (pick a (refused 12) (pick (ltb 255 0) (refused 13) (pick b (refused 10) (pick b (refused 11) (subset way bs))))) ≡ true
+        past : (a b : Bool) (way : Way) (bs : List ℕ)
+            → passes_nine (pick a (refused StringId) (pick (ltb 255 0) (refused Pairs) (pick b (refused Subset) (pick b (refused Output) (subset way bs))))) ≡ true
         past true b way bs = refl
         past false true way bs = refl
         past false false way bs = refl
 
 -- ---- the answer by the outcome of the whole list
 
+-- a subset has its own way
+own-way : (w : Way) (bs : List ℕ) → has_way w (subset w bs) ≡ true
+own-way Renumbered bs = refl
+own-way Stubbed bs = refl
+own-way Copied bs = refl
+
+is-stubbed : (w : Way) → is_stubbed w ≡ true → w ≡ Stubbed
+is-stubbed Renumbered e = absurd (zero_one cc)
+is-stubbed Stubbed e = refl
+is-stubbed Copied e = absurd (zero_one cc)
+
 module _ (p : Program) (name keep : List ℕ) (words lent : ℕ) where
   -- refused
-  pub answers_refused : (n : ℕ) (a : Answer) → a ≡ answer_of (traced_cut p name keep words lent) → a ≡ RefusedAnswer n → Refused n ≡ culprit_in p name keep words lent
+  pub answers_refused : (n : Refusal) (a : Result Subsetted Refusal) → a ≡ answer_of (traced_cut p name keep words lent) → a ≡ Err n → Err n ≡ culprit_in p name keep words lent
   unfolding culprit_in
   answers_refused n a h e = by (traced_cut p name keep words lent) (sym e ∙ h)
     where
-      by : (o : Outcome) → RefusedAnswer n ≡ answer_of o → Refused n ≡ answer_by o (least_culprit p name keep words lent)
-      by (refused m) q = let z : n ≡ m = cc in ap Refused z
+      by : (o : Outcome) → Err n ≡ answer_of o → Err n ≡ answer_by o (least_culprit p name keep words lent)
+      by (refused m) q = let z : n ≡ m = cc in ap Err z
       by (subset way bs) q = absurd (zero_one cc)
 
-  module _ (way len : ℕ) (a : Answer) (h : a ≡ answer_of (traced_cut p name keep words lent)) (e : a ≡ Subset way len) where
-    has : has_way way (traced_cut p name keep words lent) ≡ true
+  module _ (c : Subsetted) (a : Result Subsetted Refusal) (h : a ≡ answer_of (traced_cut p name keep words lent)) (e : a ≡ Ok c) where
+    has : has_way c.way (traced_cut p name keep words lent) ≡ true
     has = by (traced_cut p name keep words lent) (sym e ∙ h)
       where
-        by : (o : Outcome) → Subset way len ≡ answer_of o → has_way way o ≡ true
+        by : (o : Outcome) → Ok c ≡ answer_of o → has_way c.way o ≡ true
         by (refused m) q = absurd (zero_one cc)
-        by (subset w bs) q = let z : way ≡ w = cc in eq-eqb w way (sym z)
+        by (subset w bs) q =
+            let z : c ≡ record { way = w; len = length bs } = cc in
+            subst (λ (v : Way). has_way c.way (subset v bs) ≡ true) (ap (λ (x : Subsetted). x.way) z) (own-way c.way bs)
 
     -- stubbed
     pub stubbed-below : all_below (length p.charstrings) keep ≡ true
-    stubbed-below = not_six p name keep words lent way has
+    stubbed-below = not_six p name keep words lent c.way has
 
-    pub answers_least : way ≡ 1 → (r : Culprit) → r ≡ least_culprit p name keep words lent → r ≡ culprit_in p name keep words lent
+    pub answers_least : is_stubbed c.way ≡ true → (r : Option ℕ) → r ≡ least_culprit p name keep words lent → Ok r ≡ culprit_in p name keep words lent
     unfolding least_culprit
-    answers_least one r q = q ∙ sym (is_least p name keep words lent (subst (λ (w : ℕ). has_way w (traced_cut p name keep words lent) ≡ true) one has))
+    answers_least one r q = ap Ok q ∙ sym (is_least p name keep words lent (subst (λ (w : Way). has_way w (traced_cut p name keep words lent) ≡ true) (is-stubbed c.way one) has))
 
     -- another way
-    pub answers_none : (way ≡ 1 → ⊥) → NoCulprit ≡ culprit_in p name keep words lent
+    pub answers_none : is_stubbed c.way ≡ false → Ok None ≡ culprit_in p name keep words lent
     answers_none n =
-        let w = has-way way (traced_cut p name keep words lent) has in
-        sym (other_way p name keep words lent way w.0 w.1 (ne_eqb way 1 n))
+        let w = has-way c.way (traced_cut p name keep words lent) has in
+        sym (other_way p name keep words lent c.way w.0 w.1 n)
 
 -- ---- the entry
 
@@ -223,12 +239,12 @@ module _ (font name keep work slice : List ℕ) where
   lent = length slice
 
   -- a font that is not read
-  pub unread_blocks : (n : ℕ) → read_font font ≡ refusedFont n → Blocks font name keep work slice work slice (Refused n)
+  pub unread_blocks : (n : Refusal) → read_font font ≡ Err n → Blocks font name keep work slice work slice (Err n)
   unfolding culprit_of uses_lent
   unread_blocks n e =
-      let u : uses_lent font name keep (length work) lent ≡ false = ap (λ (g : Got Program). uses_read g name keep (length work) lent) e in
+      let u : uses_lent font name keep (length work) lent ≡ false = ap (λ (g : Result Program Refusal). uses_read g name keep (length work) lent) e in
       record {
-        answers = sym (ap (λ (g : Got Program). culprit_read g name keep (length work) lent) e);
+        answers = sym (ap (λ (g : Result Program Refusal). culprit_read g name keep (length work) lent) e);
         words = sym (ap (λ (t : Bool). pick t (zeros (words_in (read_font font)) ++ drop (words_in (read_font font)) work) work) u);
         bytes = sym (ap (λ (t : Bool). pick t (zeros lent) slice) u);
       }
@@ -239,33 +255,32 @@ module _ (font name keep work slice : List ℕ) where
 
     fine : (flag : ℕ) (rec : List ℕ) → trace_program p keep lent ≡ traced flag rec → record_fine (cid_keyed p.top) rec flag ≡ true
     unfolding trace_of
-    fine flag rec e = trace_fine font keep lent octets p held.is flag rec (ap (λ (g : Got Program). trace_read g keep lent) held.is ∙ e)
+    fine flag rec e = trace_fine font keep lent octets p held.is flag rec (ap (λ (g : Result Program Refusal). trace_read g keep lent) held.is ∙ e)
 
     answer_is : culprit_of font name keep (length work) lent ≡ culprit_in p name keep (length work) lent
     unfolding culprit_of
-    answer_is = ap (λ (g : Got Program). culprit_read g name keep (length work) lent) held.is
+    answer_is = ap (λ (g : Result Program Refusal). culprit_read g name keep (length work) lent) held.is
 
     use_is : uses_lent font name keep (length work) lent ≡ passes_nine (traced_cut p name keep (length work) lent)
     unfolding uses_lent
-    use_is = ap (λ (g : Got Program). uses_read g name keep (length work) lent) held.is
+    use_is = ap (λ (g : Result Program Refusal). uses_read g name keep (length work) lent) held.is
 
-    module _ (n : ℕ) (number : n ≡ early_of p (length name) keep (length work) lent) where
+    module _ (r : Result Unit Refusal) (asked : r ≡ early_of p (length name) keep (length work) lent) where
       -- refused before the words are used
-      pub early_blocks : 0 < n → Blocks font name keep work slice work slice (Refused n)
+      pub early_blocks : (n : Refusal) → r ≡ Err n → Blocks font name keep work slice work slice (Err n)
       unfolding culprit_in
-      early_blocks h =
-          let r = early-refuses p name keep (length work) lent fine (subst (λ (k : ℕ). 0 < k) number h) in
-          let o : traced_cut p name keep (length work) lent ≡ refused n = r.0 ∙ ap refused (sym number) in
-          let u : uses_lent font name keep (length work) lent ≡ false = use_is ∙ ap passes_nine r.0 ∙ r.1 in
+      early_blocks n h =
+          let x = early-refuses p name keep (length work) lent fine n (sym asked ∙ h) in
+          let u : uses_lent font name keep (length work) lent ≡ false = use_is ∙ ap passes_nine x.0 ∙ x.1 in
           record {
-            answers = sym (answer_is ∙ ap (λ (x : Outcome). answer_by x (least_culprit p name keep (length work) lent)) o);
+            answers = sym (answer_is ∙ ap (λ (o : Outcome). answer_by o (least_culprit p name keep (length work) lent)) x.0);
             words = sym (ap (λ (t : Bool). pick t (zeros (words_in (read_font font)) ++ drop (words_in (read_font font)) work) work) u);
             bytes = sym (ap (λ (t : Bool). pick t (zeros lent) slice) u);
           }
 
-      module _ (l : n ≤ 0) where
-        not_early : early_of p (length name) keep (length work) lent ≡ 0
-        not_early = let z : n ≡ 0 = omega arith in sym number ∙ z
+      module _ (passed : r ≡ Ok tt) where
+        not_early : early_of p (length name) keep (length work) lent ≡ Ok tt
+        not_early = sym asked ∙ passed
 
         all_can : CanCut p (length name) (length work)
         all_can = early_can p name keep (length work) lent fine not_early
@@ -286,15 +301,15 @@ module _ (font name keep work slice : List ℕ) where
           words_can = record { supported = all_can.supported; ros = all_can.ros; named = all_can.named; room = omega (arith, wide, words-taken) }
 
           -- answered by them, which are then cleared, as the slice is
-          pub late_blocks : (r : Culprit) (used cleared left bytes : List ℕ) → r ≡ culprit_in p name keep (length (take w work)) lent → length used ≡ length (take w work)
+          pub late_blocks : (x : Result (Option ℕ) Refusal) (used cleared left bytes : List ℕ) → x ≡ culprit_in p name keep (length (take w work)) lent → length used ≡ length (take w work)
               → cleared ≡ replicate (length used) 0 → length left ≡ lent → bytes ≡ replicate (length left) 0
-              → Blocks font name keep work slice (cleared ++ drop w work) bytes r
-          late_blocks r used cleared left bytes a m c k d =
+              → Blocks font name keep work slice (cleared ++ drop w work) bytes x
+          late_blocks x used cleared left bytes a m c k d =
               let u : uses_lent font name keep (length work) lent ≡ true = use_is ∙ early-passes p name keep (length work) lent fine not_early in
               record {
                 answers = a ∙ culprit_words p name (length (take w work)) (length work) lent (omega (arith, wide, words-taken)) all_can.room keep ∙ sym answer_is;
                 words =
-                    ap (λ (x : List ℕ). x ++ drop w work) (c ∙ ap (λ (j : ℕ). replicate j 0) (m ∙ sym words-taken) ∙ zeros_are w)
+                    ap (λ (l : List ℕ). l ++ drop w work) (c ∙ ap (λ (j : ℕ). replicate j 0) (m ∙ sym words-taken) ∙ zeros_are w)
                     ∙ ap (λ (j : ℕ). zeros j ++ drop j work) (wide ∙ sym (ap words_in held.is))
                     ∙ sym (ap (λ (t : Bool). pick t (zeros (words_in (read_font font)) ++ drop (words_in (read_font font)) work) work) u);
                 bytes =

@@ -1,6 +1,6 @@
 -- Laws of the search: a keep list with each glyph at its own place keeps the same glyphs, and a 0 at a glyph's place leaves it out; the first that
 -- passes, place by place.
-use Rattle.std.specs.Prelude.{ℕ, zero, suc, ◌+◌, ◌-◌, ◌≤◌, ◌<◌, ◌≡◌, Bool, ◌⊎◌, ltb, eqb, length, take, set, replicate}
+use Rattle.std.specs.Prelude.{ℕ, zero, suc, ◌+◌, ◌-◌, ◌≤◌, ◌<◌, ◌≡◌, Bool, ◌⊎◌, ltb, eqb, length, take, set, replicate, Option, Some, None}
 use Rattle.std.proofs.Math.Path.{refl, sym, ap}
 use Rattle.std.proofs.Common.{◌∙◌, inl, inr, ⊎_elim, add-one, eqb-true, eq-eqb, ne_eqb, ltb-true, get_or-set_same, get_or-set_other}
 use Rattle.std.proofs.Math.Bool.{true, false}
@@ -21,10 +21,9 @@ use Rattle.subset.specs.Kept.{is_in, those, keeps}
 use Rattle.subset.specs.KeptListLaws.{in_at, in_place}
 use Rattle.culprit.specs.Culprit.{traced_cut, without, has_way, is_culprit, first_of, least_culprit}
 use Rattle.culprit.proofs.CulpritLaws.{in_without, cut_keeps, first_is, first-none, none_first}
-use Rattle.culprit.specs.declared.Culprit.{Culprit}
-use Rattle.culprit.specs.declared.Culprit.TheVariants.{None, Glyph}
 use Rattle.failing.specs.Failing.{Only}
 use Rattle.blocking.specs.Search.{spread, frees}
+use Rattle.subset.specs.declared.Way.TheVariants.{Renumbered}
 
 -- ---- each glyph at its own place
 
@@ -123,10 +122,10 @@ module _ (keep : List ℕ) (n : ℕ) (below : all_below n keep ≡ true) where
     pub freed_is : (p : Program) (name : List ℕ) (words lent : ℕ) → 0 < length p.charstrings → frees p name own words lent g ≡ is_culprit p name keep words lent g
     unfolding frees is_culprit
     freed_is p name words lent there =
-        ap (λ (k : ℕ). pick (eqb k 0) false (has_way 0 (traced_cut p name (set own g 0) words lent))) (own_at g)
+        ap (λ (k : ℕ). pick (eqb k 0) false (has_way Renumbered (traced_cut p name (set own g 0) words lent))) (own_at g)
         ∙ ap (λ (o : Bool). pick (eqb (pick (is_in g keep) g 0) 0) false o)
-        (ap (has_way 0) (cut_keeps p name (set own g 0) (without g keep) words lent there left-keeps))
-        ∙ by (is_in g keep) (has_way 0 (traced_cut p name (without g keep) words lent))
+        (ap (has_way Renumbered) (cut_keeps p name (set own g 0) (without g keep) words lent there left-keeps))
+        ∙ by (is_in g keep) (has_way Renumbered (traced_cut p name (without g keep) words lent))
       where
         by : (t b : Bool) → pick (eqb (pick t g 0) 0) false b ≡ pick t b false
         by true b = ap (λ (u : Bool). pick u false b) (ne_eqb g 0 (λ e. omega arith))
@@ -152,31 +151,31 @@ module _ (test : ℕ → Bool) (m g : ℕ) (others : (h : ℕ) → (g ≡ h → 
       by h true q = ap test (sym (eqb-true g h q)) ∙ e
       by h false q = others h (eqb-false g h q)
 
-  first_present : test g ≡ true → 1 ≤ g → g < 1 + m → Glyph g ≡ first_of (those test m 1)
+  first_present : test g ≡ true → 1 ≤ g → g < 1 + m → Some g ≡ first_of (those test m 1)
   first_present e l k = by (those test m 1) refl
     where
-      by : (gs : List ℕ) → those test m 1 ≡ gs → Glyph g ≡ first_of (those test m 1)
+      by : (gs : List ℕ) → those test m 1 ≡ gs → Some g ≡ first_of (those test m 1)
       by [] z = absurd (zero_one (let n : true ≡ false = sym e ∙ first-none test m 1 (ap first_of z) g l k in cc))
       by (x ∷ gs) z =
           let i = first_is test m 1 x (ap first_of z) in
           same x (eqb g x) refl i.2 ∙ sym (ap first_of z)
         where
-          same : (y : ℕ) (t : Bool) → eqb g y ≡ t → test y ≡ true → Glyph g ≡ Glyph y
-          same y true q f = ap Glyph (eqb-true g y q)
+          same : (y : ℕ) (t : Bool) → eqb g y ≡ t → test y ≡ true → Some g ≡ Some y
+          same y true q f = ap Some (eqb-true g y q)
           same y false q f = absurd (zero_one (let n : true ≡ false = sym f ∙ others y (eqb-false g y q) in cc))
 
-  pub first_alone : (t : Bool) → (1 ≤ g → t ≡ test g) → (g ≡ 0 → t ≡ false) → g < 1 + m → pick t (Glyph g) None ≡ first_of (those test m 1)
+  pub first_alone : (t : Bool) → (1 ≤ g → t ≡ test g) → (g ≡ 0 → t ≡ false) → g < 1 + m → pick t (Some g) None ≡ first_of (those test m 1)
   first_alone t some first k = by (dec_le 1 g)
     where
-      at : (u : Bool) → test g ≡ u → 1 ≤ g → pick u (Glyph g) None ≡ first_of (those test m 1)
+      at : (u : Bool) → test g ≡ u → 1 ≤ g → pick u (Some g) None ≡ first_of (those test m 1)
       at true e l = first_present e l k
       at false e l = first_absent e
 
-      by : Dec (1 ≤ g) → pick t (Glyph g) None ≡ first_of (those test m 1)
-      by (yes l) = ap (λ (u : Bool). pick u (Glyph g) None) (some l) ∙ at (test g) refl l
+      by : Dec (1 ≤ g) → pick t (Some g) None ≡ first_of (those test m 1)
+      by (yes l) = ap (λ (u : Bool). pick u (Some g) None) (some l) ∙ at (test g) refl l
       by (no l) =
           let z : g ≡ 0 = omega arith in
-          ap (λ (u : Bool). pick u (Glyph g) None) (first z) ∙ sym (none_first test m 1 (λ h a b. others h (λ e. omega arith)))
+          ap (λ (u : Bool). pick u (Some g) None) (first z) ∙ sym (none_first test m 1 (λ h a b. others h (λ e. omega arith)))
 
 -- ---- place by place
 
@@ -184,32 +183,32 @@ module _ (test : ℕ → Bool) (m g : ℕ) (others : (h : ℕ) → (g ≡ h → 
 module _ (p : Program) (name list : List ℕ) (words lent g : ℕ) where
   pub free_zero : get_or list g 0 ≡ 0 → frees p name list words lent g ≡ false
   unfolding frees
-  free_zero e = ap (λ (k : ℕ). pick (eqb k 0) false (has_way 0 (traced_cut p name (set list g 0) words lent))) e
+  free_zero e = ap (λ (k : ℕ). pick (eqb k 0) false (has_way Renumbered (traced_cut p name (set list g 0) words lent))) e
 
-  pub free_not : false ≡ has_way 0 (traced_cut p name (set list g 0) words lent) → frees p name list words lent g ≡ false
+  pub free_not : false ≡ has_way Renumbered (traced_cut p name (set list g 0) words lent) → frees p name list words lent g ≡ false
   unfolding frees
   free_not e = ap (λ (t : Bool). pick (eqb (get_or list g 0) 0) false t) (sym e) ∙ pick_same (eqb (get_or list g 0) 0) false
 
-  pub free_is : (get_or list g 0 ≡ 0 → ⊥) → true ≡ has_way 0 (traced_cut p name (set list g 0) words lent) → frees p name list words lent g ≡ true
+  pub free_is : (get_or list g 0 ≡ 0 → ⊥) → true ≡ has_way Renumbered (traced_cut p name (set list g 0) words lent) → frees p name list words lent g ≡ true
   unfolding frees
   free_is n e =
-      ap (λ (t : Bool). pick t false (has_way 0 (traced_cut p name (set list g 0) words lent))) (ne_eqb (get_or list g 0) 0 n) ∙ sym e
+      ap (λ (t : Bool). pick t false (has_way Renumbered (traced_cut p name (set list g 0) words lent))) (ne_eqb (get_or list g 0) 0 n) ∙ sym e
 
   -- the answer where it is tried alone
-  pub alone-none : frees p name list words lent g ≡ false → None ≡ pick (frees p name list words lent g) (Glyph g) None
-  alone-none e = sym (ap (λ (t : Bool). pick t (Glyph g) None) e)
+  pub alone-none : frees p name list words lent g ≡ false → None ≡ pick (frees p name list words lent g) (Some g) None
+  alone-none e = sym (ap (λ (t : Bool). pick t (Some g) None) e)
 
-  pub alone_freed : frees p name list words lent g ≡ true → Glyph g ≡ pick (frees p name list words lent g) (Glyph g) None
-  alone_freed e = sym (ap (λ (t : Bool). pick t (Glyph g) None) e)
+  pub alone_freed : frees p name list words lent g ≡ true → Some g ≡ pick (frees p name list words lent g) (Some g) None
+  alone_freed e = sym (ap (λ (t : Bool). pick t (Some g) None) e)
 
 -- over the list and the room of the start
-pub tried_as : (p : Program) (name list old : List ℕ) (w w₀ t t₀ g : ℕ) (r : Bool) → list ≡ old → w ≡ w₀ → t ≡ t₀ → r ≡ has_way 0 (traced_cut p name (set list g 0) w t)
-    → r ≡ has_way 0 (traced_cut p name (set old g 0) w₀ t₀)
+pub tried_as : (p : Program) (name list old : List ℕ) (w w₀ t t₀ g : ℕ) (r : Bool) → list ≡ old → w ≡ w₀ → t ≡ t₀ → r ≡ has_way Renumbered (traced_cut p name (set list g 0) w t)
+    → r ≡ has_way Renumbered (traced_cut p name (set old g 0) w₀ t₀)
 tried_as p name list old w w₀ t t₀ g r a b c e =
-    e ∙ ap (λ (l : List ℕ). has_way 0 (traced_cut p name (set l g 0) w t)) a ∙ ap (λ (k : ℕ). has_way 0 (traced_cut p name (set old g 0) k t)) b
-    ∙ ap (λ (k : ℕ). has_way 0 (traced_cut p name (set old g 0) w₀ k)) c
+    e ∙ ap (λ (l : List ℕ). has_way Renumbered (traced_cut p name (set l g 0) w t)) a ∙ ap (λ (k : ℕ). has_way Renumbered (traced_cut p name (set old g 0) k t)) b
+    ∙ ap (λ (k : ℕ). has_way Renumbered (traced_cut p name (set old g 0) w₀ k)) c
 
-pub least_as : (p : Program) (name keep : List ℕ) (w w₀ t t₀ : ℕ) (r : Culprit) → w ≡ w₀ → t ≡ t₀ → r ≡ least_culprit p name keep w t → r ≡ least_culprit p name keep w₀ t₀
+pub least_as : (p : Program) (name keep : List ℕ) (w w₀ t t₀ : ℕ) (r : Option ℕ) → w ≡ w₀ → t ≡ t₀ → r ≡ least_culprit p name keep w t → r ≡ least_culprit p name keep w₀ t₀
 least_as p name keep w w₀ t t₀ r b c e = e ∙ ap (λ (k : ℕ). least_culprit p name keep k t) b ∙ ap (λ (k : ℕ). least_culprit p name keep w₀ k) c
 
 -- what is left to search from g on gives what the whole search does
@@ -231,7 +230,7 @@ module _ (test : ℕ → Bool) (n : ℕ) where
     search_next h e = record { above = omega (arith, s.above); left = s.left ∙ ap (λ (m : ℕ). first_of (those test m g)) (more h) ∙ rw e }
 
     -- one that passes
-    pub search_found : g < n → test g ≡ true → Glyph g ≡ first_of (those test (n - 1) 1)
+    pub search_found : g < n → test g ≡ true → Some g ≡ first_of (those test (n - 1) 1)
     unfolding those
     search_found h e = sym (s.left ∙ ap (λ (m : ℕ). first_of (those test m g)) (more h) ∙ rw e)
 
@@ -310,22 +309,22 @@ module _ (p : Program) (keep : List ℕ) (n : ℕ) (many : n ≡ length p.charst
     spread-few = omega (arith, spread_long, few)
 
     -- by the one that alone can be the culprit
-    pub alone-found : (name : List ℕ) (words lent g : ℕ) → Only p keep g → g < n → (r : Culprit) → r ≡ pick (frees p name list words lent g) (Glyph g) None
+    pub alone-found : (name : List ℕ) (words lent g : ℕ) → Only p keep g → g < n → (r : Option ℕ) → r ≡ pick (frees p name list words lent g) (Some g) None
         → r ≡ least_culprit p name keep words lent
     unfolding least_culprit frees
     alone-found name words lent g only h r q =
-        q ∙ ap (λ (l : List ℕ). pick (frees p name l words lent g) (Glyph g) None) spread-own
+        q ∙ ap (λ (l : List ℕ). pick (frees p name l words lent g) (Some g) None) spread-own
         ∙ first_alone (is_culprit p name keep words lent) (length p.charstrings - 1) g (λ x. only.others (omega (arith, few)) name words lent x)
         (frees p name (own keep n same-below) words lent g)
         (λ l. freed_is keep n same-below g h l p name words lent (omega (arith, some, many)))
-        (λ z. ap (λ (k : ℕ). pick (eqb k 0) false (has_way 0 (traced_cut p name (set (own keep n same-below) g 0) words lent))) (own_at keep n same-below g ∙ at_zero (is_in g keep) z))
+        (λ z. ap (λ (k : ℕ). pick (eqb k 0) false (has_way Renumbered (traced_cut p name (set (own keep n same-below) g 0) words lent))) (own_at keep n same-below g ∙ at_zero (is_in g keep) z))
         (omega (arith, h, many))
       where
         at_zero : (t : Bool) → g ≡ 0 → pick t g 0 ≡ 0
         at_zero true z = z
         at_zero false z = refl
 
-    pub least-found : (name : List ℕ) (words lent : ℕ) (r : Culprit) → r ≡ first_of (those (frees p name list words lent) (length list - 1) 1)
+    pub least-found : (name : List ℕ) (words lent : ℕ) (r : Option ℕ) → r ≡ first_of (those (frees p name list words lent) (length list - 1) 1)
         → r ≡ least_culprit p name keep words lent
     least-found name words lent r q =
         q ∙ ap (λ (l : List ℕ). first_of (those (frees p name l words lent) (length l - 1) 1)) spread-own ∙ least_is keep n same-below p name words lent many some

@@ -2,7 +2,7 @@
 // kept glyph. The list without a glyph has a 0 in its place, since glyph 0 is always kept.
 #![tactic(auto)]
 
-ghost use Rattle.std.specs.Prelude.{◌≡◌, true, ◌-◌, ◌≤◌, ◌<◌, length, set, replicate};
+ghost use Rattle.std.specs.Prelude.{◌≡◌, true, ◌-◌, ◌≤◌, ◌<◌, length, set, replicate, None, Some};
 ghost use Rattle.octets.specs.Pick.{pick};
 ghost use Rattle.octets.specs.Lists.{all_below};
 ghost use Rattle.cff.specs.Find.{work_size};
@@ -11,15 +11,14 @@ ghost use Rattle.cff.specs.File.{HasFont, table_in};
 ghost use Rattle.subset.specs.Kept.{those};
 ghost use Rattle.traced.specs.Traced.{trace_program, traced};
 ghost use Rattle.outcome.specs.Entry.{answer_of};
+ghost use Rattle.subset.specs.declared.Way.TheVariants.{Renumbered};
 ghost use Rattle.culprit.specs.Culprit.{traced_cut, has_way, first_of, least_culprit, culprit_in, Blocks};
-ghost use Rattle.culprit.specs.declared.Culprit.TheVariants.{None, Glyph};
 ghost use Rattle.failing.specs.Failing.{Recorded, Only};
-ghost use Rattle.blocking.specs.Search.{CanCut, spread, way_of, frees, Tried};
+ghost use Rattle.blocking.specs.Search.{CanCut, spread, renumbered_in, frees, Tried};
 
-use cff::font::{Font, FontRead};
-use culprit::Culprit;
-use outcome::Answer;
-use traced::TracedAs;
+use cff::font::Font;
+use outcome::Subsetted;
+use refusal::Refusal;
 
 // The cut of a list with what was traced, measured.
 fn measure_traced(
@@ -31,13 +30,13 @@ fn measure_traced(
     flag: u8,
     words: &mut [u32],
     lent: usize,
-) -> Answer
+) -> Result<Subsetted, Refusal>
     requires { (HasFont font.now f) × (CanCut (program_of (table_in font.now f) f) (length name.now) (length words.old))
         × (trace_program (program_of (table_in font.now f) f) keep.now lent ≡ traced flag rows.now) }
     ensures { result ≡ answer_of (traced_cut (program_of (table_in font.now f) f) name.now keep.now (length words.old) lent) }
 {
     let table = cff::set::table(font, f);
-    measure::measure(f.cid, table, f, name, keep, rows, flag, words)
+    measure::measure(f.cid, table, f, name, keep, rows, flag == 1, words)
 }
 
 // A list traced, and its cut measured with what was traced: the way, or the refusal.
@@ -48,26 +47,22 @@ fn try_list(
     keep: &[u16],
     words: &mut [u32],
     slice: &mut [u8],
-) -> Answer
+) -> Result<Subsetted, Refusal>
     requires { (HasFont font.now f) × (CanCut (program_of (table_in font.now f) f) (length name.now) (length words.old)) }
     ensures { result ≡ answer_of (traced_cut (program_of (table_in font.now f) f) name.now keep.now (length words.old) (length slice.old)) }
 {
     let lent = slice.len();
-    match tracer::trace_font(font, f, keep, &mut *slice) {
-        TracedAs::Refused(n) => Answer::Refused(n),
-        TracedAs::Record { flag, len } => {
-            measure_traced(font, f, name, keep, &slice[..len], flag, words, lent)
-        }
-    }
+    let r = tracer::trace_font(font, f, keep, &mut *slice)?;
+    measure_traced(font, f, name, keep, &slice[..r.len], r.flag, words, lent)
 }
 
-// Whether an answer has way 0.
-fn is_renumbered(a: Answer) -> bool
-    ensures { result ≡ way_of 0 a }
+// Whether an answer is that of a renumbered subset.
+fn is_renumbered(a: Result<Subsetted, Refusal>) -> bool
+    ensures { result ≡ renumbered_in a }
 {
     match a {
-        Answer::Refused(_) => false,
-        Answer::Subset { way, len: _ } => way == 0,
+        Err(_) => false,
+        Ok(c) => c.way.is_renumbered(),
     }
 }
 
@@ -82,7 +77,7 @@ fn is_freed(
     slice: &mut [u8],
 ) -> bool
     requires { (HasFont font.now f) × (CanCut (program_of (table_in font.now f) f) (length name.now) (length words.old)) × (g < length list.old) }
-    ensures { Tried (has_way 0 (traced_cut (program_of (table_in font.now f) f) name.now (set list.old g 0) (length words.old) (length slice.old)))
+    ensures { Tried (has_way Renumbered (traced_cut (program_of (table_in font.now f) f) name.now (set list.old g 0) (length words.old) (length slice.old)))
         list.old list.new result }
 {
     let kept = list[g];
@@ -100,17 +95,17 @@ fn first_freed(
     list: &mut [u16],
     words: &mut [u32],
     slice: &mut [u8],
-) -> Culprit
+) -> Option<u16>
     requires { (HasFont font.now f) × (CanCut (program_of (table_in font.now f) f) (length name.now) (length words.old)) × (length list.old < 65536) }
     ensures { result ≡ first_of (those (frees (program_of (table_in font.now f) f) name.now list.old (length words.old) (length slice.old))
         (length list.old - 1) 1) }
 {
     for g in 1..list.len() {
         if list[g] != 0 && is_freed(font, f, name, &mut *list, g, &mut *words, &mut *slice) {
-            return Culprit::Glyph(g as u16);
+            return Some(g as u16);
         }
     }
-    Culprit::None
+    None
 }
 
 // The same where no glyph but g can be the first.
@@ -122,20 +117,20 @@ fn one_freed(
     g: usize,
     words: &mut [u32],
     slice: &mut [u8],
-) -> Culprit
+) -> Option<u16>
     requires { (HasFont font.now f) × (CanCut (program_of (table_in font.now f) f) (length name.now) (length words.old)) × (g < length list.old)
         × (length list.old < 65536) }
     ensures { result ≡ pick (frees (program_of (table_in font.now f) f) name.now list.old (length words.old) (length slice.old) g)
-        (Glyph g) None }
+        (Some g) None }
 {
     let kept = list[g];
     if kept == 0 {
-        return Culprit::None;
+        return None;
     }
     if is_freed(font, f, name, list, g, words, slice) {
-        return Culprit::Glyph(g as u16);
+        return Some(g as u16);
     }
-    Culprit::None
+    None
 }
 
 // The kept glyph that alone can be the culprit by what was traced, or 65536.
@@ -155,10 +150,10 @@ fn candidate(font: &[u8], f: Font, keep: &[u16], words: &mut [u32], slice: &mut 
     ensures { Only (program_of (table_in font.now f) f) keep.now result }
 {
     match tracer::trace_font(font, f, keep, &mut *slice) {
-        TracedAs::Refused(_) => 65536,
-        TracedAs::Record { flag, len } => {
-            if flag == 1 {
-                return only_traced(font, f, keep, &slice[..len], words);
+        Err(_) => 65536,
+        Ok(r) => {
+            if r.flag == 1 {
+                return only_traced(font, f, keep, &slice[..r.len], words);
             }
             65536
         }
@@ -185,7 +180,7 @@ fn search_places(
     all: &mut [u16],
     words: &mut [u32],
     slice: &mut [u8],
-) -> Culprit
+) -> Option<u16>
     requires { (HasFont font.now f) × (CanCut (program_of (table_in font.now f) f) (length name.now) (length words.old))
         × (all_below (length (program_of (table_in font.now f) f).charstrings) keep.now ≡ true) × (all.old ≡ replicate 65536 0)
         × (Only (program_of (table_in font.now f) f) keep.now only) }
@@ -209,7 +204,7 @@ fn least_culprit(
     keep: &[u16],
     words: &mut [u32],
     slice: &mut [u8],
-) -> Culprit
+) -> Option<u16>
     requires { (HasFont font.now f) × (CanCut (program_of (table_in font.now f) f) (length name.now) (length words.old))
         × (all_below (length (program_of (table_in font.now f) f).charstrings) keep.now ≡ true) }
     ensures { result ≡ least_culprit (program_of (table_in font.now f) f) name.now keep.now (length words.old) (length slice.old) }
@@ -227,19 +222,15 @@ fn culprit_in(
     keep: &[u16],
     words: &mut [u32],
     slice: &mut [u8],
-) -> Culprit
+) -> Result<Option<u16>, Refusal>
     requires { (HasFont font.now f) × (CanCut (program_of (table_in font.now f) f) (length name.now) (length words.old)) }
     ensures { result ≡ culprit_in (program_of (table_in font.now f) f) name.now keep.now (length words.old) (length slice.old) }
 {
-    match try_list(font, f, name, keep, &mut *words, &mut *slice) {
-        Answer::Refused(n) => Culprit::Refused(n),
-        Answer::Subset { way, len: _ } => {
-            if way == 1 {
-                return least_culprit(font, f, name, keep, words, slice);
-            }
-            Culprit::None
-        }
+    let c = try_list(font, f, name, keep, &mut *words, &mut *slice)?;
+    if c.way.is_stubbed() {
+        return Ok(least_culprit(font, f, name, keep, words, slice));
     }
+    Ok(None)
 }
 
 // The answer for a font that was read in a file.
@@ -250,14 +241,11 @@ fn culprit_font(
     keep: &[u16],
     work: &mut [u32],
     slice: &mut [u8],
-) -> Culprit
+) -> Result<Option<u16>, Refusal>
     requires { HasFont font.now f }
     ensures { Blocks font.now name.now keep.now work.old slice.old work.new slice.new result }
 {
-    let n = early_traced::refusal(font, f, name.len(), keep, work.len(), &*slice);
-    if 0 < n {
-        return Culprit::Refused(n);
-    }
+    early_traced::refusal(font, f, name.len(), keep, work.len(), &*slice)?;
     let w = cff::font::work_size(f);
     let words = &mut work[..w];
     let r = culprit_in(font, f, name, keep, &mut *words, &mut *slice);
@@ -274,11 +262,9 @@ pub fn blocking_glyph(
     keep: &[u16],
     work: &mut [u32],
     slice: &mut [u8],
-) -> Culprit
+) -> Result<Option<u16>, Refusal>
     ensures { Blocks font.now name.now keep.now work.old slice.old work.new slice.new result }
 {
-    match cff::set::read_font(font) {
-        FontRead::Refused(n) => Culprit::Refused(n),
-        FontRead::Found(f) => culprit_font(font, f, name, keep, work, slice),
-    }
+    let f = cff::set::read_font(font)?;
+    culprit_font(font, f, name, keep, work, slice)
 }

@@ -1,6 +1,6 @@
 -- Laws of one body, by the cases in which the code takes it: the way, and whether a subroutine is reached.
 use Rattle.std.specs.Prelude.{ℕ, ◌+◌, ◌*◌, ◌≤◌, ◌<◌, ◌≡◌, Bool, true, false, not, List, [], ◌∷◌, length, get_or, None, Option, Some}
-use Rattle.std.proofs.Common.{sym, ap, ◌∙◌, subst, arith, lt-ltb, eq-eqb, ne_eqb}
+use Rattle.std.proofs.Common.{sym, ap, ◌∙◌, subst, arith, lt-ltb}
 use Rattle.octets.specs.Pick.{pick}
 use Rattle.octets.specs.Octets.{Octets, bytes_of, Wrote}
 use Rattle.octets.specs.PutLaws.{wrote_as}
@@ -24,6 +24,8 @@ use Rattle.bodies.specs.SizesLaws.{renumbered-short, at_most_more}
 use Rattle.bodies.specs.SubrsLaws.{new-body_is}
 use Rattle.bodies.specs.declared.subrs.Subrs.{Subrs}
 use Rattle.bodies.specs.declared.subrs.Subrs.TheVariants.{Global, Local}
+use Rattle.subset.specs.Way.{is_renumbered, is_stubbed, not_both}
+use Rattle.subset.specs.declared.Way.{Way}
 
 -- ---- a body by the way
 
@@ -31,33 +33,33 @@ holds_yes : (m : Option (List ℕ)) → holds m ≡ true → is_yes m ≡ true
 holds_yes None e = e
 holds_yes (Some bs) e = e
 
-module _ (way : ℕ) (rows : List Row) (calls : Calls) (site : Site) (s : List ℕ) where
-  by-renumbered : way ≡ 0 → renumbered_body rows calls site s ≡ body_by way rows calls site s
-  by-renumbered e = ap (λ (b : Bool). pick b (renumbered_body rows calls site s) (Some s)) (sym (eq-eqb way 0 e))
+module _ (way : Way) (rows : List Row) (calls : Calls) (site : Site) (s : List ℕ) where
+  by-renumbered : is_renumbered way ≡ true → renumbered_body rows calls site s ≡ body_by way rows calls site s
+  by-renumbered e = ap (λ (b : Bool). pick b (renumbered_body rows calls site s) (Some s)) (sym e)
 
-  by-copied : (way ≡ 0 → ⊥) → Some s ≡ body_by way rows calls site s
-  by-copied e = ap (λ (b : Bool). pick b (renumbered_body rows calls site s) (Some s)) (sym (ne_eqb way 0 e))
+  by-copied : is_renumbered way ≡ false → Some s ≡ body_by way rows calls site s
+  by-copied e = ap (λ (b : Bool). pick b (renumbered_body rows calls site s) (Some s)) (sym e)
 
-  pub new-renumbered : way ≡ 0 → body_of_lem (renumbered_body rows calls site s) ≡ new_body way rows calls site s
+  pub new-renumbered : is_renumbered way ≡ true → body_of_lem (renumbered_body rows calls site s) ≡ new_body way rows calls site s
   new-renumbered e = ap body_of_lem (by-renumbered e) ∙ sym (new-body_is way rows calls site s)
 
-  pub new-copied : (way ≡ 0 → ⊥) → s ≡ new_body way rows calls site s
+  pub new-copied : is_renumbered way ≡ false → s ≡ new_body way rows calls site s
   new-copied e = ap body_of_lem (by-copied e) ∙ sym (new-body_is way rows calls site s)
 
-  pub copied_len : (way ≡ 0 → ⊥) → (Some (length s) ≡ sized_of (body_by way rows calls site s)) × (length s ≤ 5 * length s)
+  pub copied_len : is_renumbered way ≡ false → (Some (length s) ≡ sized_of (body_by way rows calls site s)) × (length s ≤ 5 * length s)
   copied_len e = (ap sized_of (by-copied e), omega arith)
 
-  pub renumbered-room : way ≡ 0 → (at n : ℕ) → holds (body_by way rows calls site s) ≡ true → at + length (new_body way rows calls site s) ≤ n
+  pub renumbered-room : is_renumbered way ≡ true → (at n : ℕ) → holds (body_by way rows calls site s) ≡ true → at + length (new_body way rows calls site s) ≤ n
       → (is_yes (renumbered_body rows calls site s) ≡ true) × (at + length (body_of_lem (renumbered_body rows calls site s)) ≤ n)
   renumbered-room e at n h k = (
     holds_yes (renumbered_body rows calls site s) (ap holds (by-renumbered e) ∙ h),
     subst (λ (l : List ℕ). at + length l ≤ n) (sym (new-renumbered e)) k,
   )
 
-  pub copied-room : (way ≡ 0 → ⊥) → (at n : ℕ) → at + length (new_body way rows calls site s) ≤ n → at + length s ≤ n
+  pub copied-room : is_renumbered way ≡ false → (at n : ℕ) → at + length (new_body way rows calls site s) ≤ n → at + length s ≤ n
   copied-room e at n k = subst (λ (l : List ℕ). at + length l ≤ n) (sym (new-copied e)) k
 
-pub renumbered_len : (way : ℕ) (rows : List Row) (ws : List ℕ) (locals globals : Ranks) (site : Site) (s : List ℕ) → Octets s → Ranked ws locals → Ranked ws globals → way ≡ 0
+pub renumbered_len : (way : Way) (rows : List Row) (ws : List ℕ) (locals globals : Ranks) (site : Site) (s : List ℕ) → Octets s → Ranked ws locals → Ranked ws globals → is_renumbered way ≡ true
     → (r : Option ℕ) → r ≡ sized_of (renumbered_body rows (calls_by ws locals globals) site s)
     → (r ≡ sized_of (body_by way rows (calls_by ws locals globals) site s)) × AtMost (5 * length s) r
 renumbered_len way rows ws locals globals site s b l g e r h = (
@@ -70,27 +72,27 @@ renumbered_len way rows ws locals globals site s b l g e r h = (
 pub bit-reached : (ws : List ℕ) (own : Ranks) (k : ℕ) → k < own.count → (t : Bool) → t ≡ bit_in ws own.at k → t ≡ reached_in ws own k
 bit-reached ws own k h t e = e ∙ sym (rw (lt-ltb k own.count h))
 
-module _ (way : ℕ) (set : ℕ → Bool) (k : ℕ) where
-  pub kept-reached : way ≡ 0 → (t : Bool) → t ≡ set k → t ≡ is_kept way set k
-  kept-reached e t h = h ∙ ap (λ (b : Bool). pick b (set k) true) (sym (eq-eqb way 0 e))
+module _ (way : Way) (set : ℕ → Bool) (k : ℕ) where
+  pub kept-reached : is_renumbered way ≡ true → (t : Bool) → t ≡ set k → t ≡ is_kept way set k
+  kept-reached e t h = h ∙ ap (λ (b : Bool). pick b (set k) true) (sym e)
 
-  pub kept_any : (way ≡ 0 → ⊥) → true ≡ is_kept way set k
-  kept_any e = ap (λ (b : Bool). pick b (set k) true) (sym (ne_eqb way 0 e))
+  pub kept_any : is_renumbered way ≡ false → true ≡ is_kept way set k
+  kept_any e = ap (λ (b : Bool). pick b (set k) true) (sym e)
 
-  pub stub_unreached : way ≡ 1 → (t : Bool) → t ≡ set k → not t ≡ is_stub way set k
-  stub_unreached e t h = ap not h ∙ ap (λ (b : Bool). pick b (not (set k)) false) (sym (eq-eqb way 1 e))
+  pub stub_unreached : is_stubbed way ≡ true → (t : Bool) → t ≡ set k → not t ≡ is_stub way set k
+  stub_unreached e t h = ap not h ∙ ap (λ (b : Bool). pick b (not (set k)) false) (sym e)
 
-  pub stub_none : (way ≡ 1 → ⊥) → false ≡ is_stub way set k
-  stub_none e = ap (λ (b : Bool). pick b (not (set k)) false) (sym (ne_eqb way 1 e))
+  pub stub_none : is_stubbed way ≡ false → false ≡ is_stub way set k
+  stub_none e = ap (λ (b : Bool). pick b (not (set k)) false) (sym e)
 
-  pub stub_zero : way ≡ 0 → is_stub way set k ≡ false
-  stub_zero e = sym (stub_none (λ h. omega (arith, h, e)))
+  pub stub_zero : is_renumbered way ≡ true → is_stub way set k ≡ false
+  stub_zero e = sym (stub_none (not_both way e))
 
-pub count-reached : (way reached count : ℕ) → way ≡ 0 → reached ≡ kept_count way reached count
-count-reached way reached count e = ap (λ (b : Bool). pick b reached count) (sym (eq-eqb way 0 e))
+pub count-reached : (way : Way) (reached count : ℕ) → is_renumbered way ≡ true → reached ≡ kept_count way reached count
+count-reached way reached count e = ap (λ (b : Bool). pick b reached count) (sym e)
 
-pub count-any : (way reached count : ℕ) → (way ≡ 0 → ⊥) → count ≡ kept_count way reached count
-count-any way reached count e = ap (λ (b : Bool). pick b reached count) (sym (ne_eqb way 0 e))
+pub count-any : (way : Way) (reached count : ℕ) → is_renumbered way ≡ false → count ≡ kept_count way reached count
+count-any way reached count e = ap (λ (b : Bool). pick b reached count) (sym e)
 
 -- ---- an item
 
@@ -114,7 +116,7 @@ item-bound b ix g l k h s e r m = let n = ap length e in at_most_more (5 * lengt
 
 -- ---- a subroutine
 
-module _ (way : ℕ) (rows : List Row) (set : ℕ → Bool) (calls : Calls) (of : Subrs) (subrs : List (List ℕ)) (k : ℕ) where
+module _ (way : Way) (rows : List Row) (set : ℕ → Bool) (calls : Calls) (of : Subrs) (subrs : List (List ℕ)) (k : ℕ) where
   stub_is : is_stub way set k ≡ true → Some (11 ∷ []) ≡ subr_by way rows set calls (site_in of) subrs k
   stub_is e = ap (λ (b : Bool). pick b (Some (11 ∷ [])) (body_by way rows calls (site_in of k) (get_or subrs k []))) (sym e)
 

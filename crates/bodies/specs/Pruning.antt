@@ -6,6 +6,8 @@ use Rattle.cff.specs.Font.{Program}
 use Rattle.subset.specs.Kept.{locals_of}
 use Rattle.subset.specs.Pruned.{Bodies, mapped, local_set, global_set, renumbered_body, renumbered_subrs, calls_in, calls_across, renumbered}
 use Rattle.bodies.specs.Ways.{holds, new_body, new_subrs}
+use Rattle.subset.specs.declared.Way.TheVariants.{Renumbered, Stubbed, Copied}
+use Rattle.subset.specs.declared.Way.{Way}
 
 -- each of a list holds
 unfoldable pub all_hold : {A : Type 0} → (ℕ → Option A) → List ℕ → Bool
@@ -24,7 +26,7 @@ module _ (p : Program) (rows : List Row) where
   renumbered_glyph g = renumbered_body rows (calls_in p rows (get_or p.fds g 0)) (glyph g) (get_or p.charstrings g [])
 
   -- the bodies by the way
-  unfoldable pub bodies_by : ℕ → List ℕ → List ℕ → Bodies
+  unfoldable pub bodies_by : Way → List ℕ → List ℕ → Bodies
   bodies_by way used order =
       record {
         globals = new_subrs way rows (global_set rows) (calls_across p rows used) global p.globals;
@@ -37,5 +39,5 @@ module _ (p : Program) (rows : List Row) where
   renumbers used order = holds (renumbered p rows used order)
 
   -- the way: by the flag, and whether the renumbering fails
-  abbrev pub way_of : List ℕ → List ℕ → ℕ → ℕ
-  way_of used order flag = pick (eqb flag 0) 2 (pick (renumbers used order) 0 1)
+  abbrev pub way_of : List ℕ → List ℕ → ℕ → Way
+  way_of used order flag = pick (eqb flag 0) Copied (pick (renumbers used order) Renumbered Stubbed)

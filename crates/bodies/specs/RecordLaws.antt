@@ -1,7 +1,7 @@
 -- The words that ranking leaves say what the record has reached (document 01, 'Reach record'): the subroutines by the words are the subroutines
 -- by the record, of the globals and of the locals of an FD.
 use Rattle.std.specs.Prelude.{ℕ, suc, ◌+◌, ◌≤◌, ◌<◌, ◌≡◌, refl, Bool, true, false, List, [], ◌∷◌, eqb, ℤ, length, take, drop, get_or, None, Some}
-use Rattle.std.proofs.Common.{sym, ap, ◌∙◌, arith, lt-ltb, eqb-true}
+use Rattle.std.proofs.Common.{sym, ap, ◌∙◌, arith, lt-ltb}
 use Rattle.std.proofs.Math.Decide.{dec_le}
 use Rattle.octets.specs.Pick.{pick}
 use Rattle.unfold.specs.Unfold.{Row, Site}
@@ -16,6 +16,8 @@ use Rattle.renumber.specs.declared.Ranks.{Ranks}
 use Rattle.bodies.specs.Ways.{subrs_by, reached_in}
 use Rattle.bodies.specs.SubrsLaws.{reached-none}
 use Rattle.bodies.specs.WaysLaws.{subrs-by-alike}
+use Rattle.subset.specs.Way.{is_renumbered, is_stubbed}
+use Rattle.subset.specs.declared.Way.{Way}
 
 -- ---- what is reached
 
@@ -58,14 +60,14 @@ stubbed-alike set set' k (s ∷ l) same =
     (stubbed-alike set set' (k + 1) l (λ i h. let q : k + 1 + i ≡ k + suc i = omega arith in ap set q ∙ same (suc i) (omega arith) ∙ ap set' (sym q)))
 
 -- by the way: renumbering asks that sets and calls are the same for every number, the other ways only below the count
-pub subrs-record : (way : ℕ) (rows : List Row) (set set' : ℕ → Bool) (calls calls' : Calls) (site : ℕ → Site) (subrs : List (List ℕ))
-    → ((k : ℕ) → k < length subrs → set k ≡ set' k) → (way ≡ 0 → ((k : ℕ) → set k ≡ set' k) × ((b : ℕ) (z : ℤ) → calls b z ≡ calls' b z))
+pub subrs-record : (way : Way) (rows : List Row) (set set' : ℕ → Bool) (calls calls' : Calls) (site : ℕ → Site) (subrs : List (List ℕ))
+    → ((k : ℕ) → k < length subrs → set k ≡ set' k) → (is_renumbered way ≡ true → ((k : ℕ) → set k ≡ set' k) × ((b : ℕ) (z : ℤ) → calls b z ≡ calls' b z))
     → subrs_by way rows set calls site subrs ≡ subrs_by way rows set' calls' site subrs
-subrs-record way rows set set' calls calls' site subrs below all = go (eqb way 0) refl
+subrs-record way rows set set' calls calls' site subrs below all = go (is_renumbered way) refl
   where
-    go : (t : Bool) → eqb way 0 ≡ t → subrs_by way rows set calls site subrs ≡ subrs_by way rows set' calls' site subrs
-    go true e = let q = all (eqb-true way 0 e) in subrs-by-alike way rows set set' calls calls' site subrs q.0 q.1
+    go : (t : Bool) → is_renumbered way ≡ t → subrs_by way rows set calls site subrs ≡ subrs_by way rows set' calls' site subrs
+    go true e = let q = all e in subrs-by-alike way rows set set' calls calls' site subrs q.0 q.1
     go false e =
         let f : stubbed_from set 0 subrs ≡ stubbed_from set' 0 subrs
         = stubbed-alike set set' 0 subrs (λ i h. let z : 0 + i ≡ i = omega arith in ap set z ∙ below i h ∙ ap set' (sym z)) in
-        rw e (ap (λ (l : List (List ℕ)). Some (pick (eqb way 1) l subrs)) f)
+        rw e (ap (λ (l : List (List ℕ)). Some (pick (is_stubbed way) l subrs)) f)

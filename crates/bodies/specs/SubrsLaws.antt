@@ -6,8 +6,7 @@ use Rattle.std.proofs.Math.Path.{ap}
 use Rattle.std.proofs.Math.Bool.{true, false}
 use mathlib.Core.List.{List, [], ◌∷◌}
 use native.Mathlib.Omega.{arith}
-use borrow.Author.Tests.{le-ltb, eqb-true, eq-eqb, ne_eqb}
-use Rattle.std.proofs.Math.Dec.{eqb}
+use borrow.Author.Tests.{le-ltb, eq-eqb}
 use Rattle.std.proofs.Math.ListN.{get_or}
 use Rattle.octets.specs.Pick.{pick}
 use Rattle.octets.specs.Steps.{and}
@@ -26,6 +25,9 @@ use Rattle.renumber.specs.declared.Ranks.{Ranks}
 use Rattle.bodies.specs.Ways.{many_of, holds, new_body, body_by, new_subrs, subrs_by, subr_by, reached_in, is_kept, kept_count, every, SubrsIn}
 use Rattle.bodies.specs.WritingLaws.{count-every, items_many}
 use Rattle.bodies.specs.declared.subrs.Subrs.{Subrs}
+use Rattle.subset.specs.Way.{is_renumbered, is_stubbed, not_both}
+use Rattle.subset.specs.declared.Way.{Way}
+use Rattle.subset.specs.declared.Way.{Way}
 
 -- ---- what is reached
 
@@ -71,15 +73,15 @@ stub_one false s = refl
 
 -- ---- by the way
 
-module _ (way : ℕ) (rows : List Row) (set : ℕ → Bool) (calls : Calls) (site : ℕ → Site) (subrs : List (List ℕ)) where
+module _ (way : Way) (rows : List Row) (set : ℕ → Bool) (calls : Calls) (site : ℕ → Site) (subrs : List (List ℕ)) where
   -- the subroutines are those that are written, each by its number
   pub subrs-each : reached set ≡ count_below set (length subrs)
       → subrs_by way rows set calls site subrs ≡ each (subr_by way rows set calls site subrs) (those (is_kept way set) (length subrs) 0)
   unfolding renumbered_subrs stubbed_from
-  subrs-each e = go (eqb way 0) (eqb way 1) apart
+  subrs-each e = go (is_renumbered way) (is_stubbed way) apart
     where
-      apart : eqb way 0 ≡ true → eqb way 1 ≡ false
-      apart h = ne_eqb way 1 (λ q. let z = eqb-true way 0 h in zero_one (sym z ∙ q))
+      apart : is_renumbered way ≡ true → is_stubbed way ≡ false
+      apart = not_both way
 
       go : (t u : Bool) → (t ≡ true → u ≡ false)
           → pick t (renumbered_subrs rows set calls site subrs) (Some (pick u (stubbed_from set 0 subrs) subrs))
@@ -98,24 +100,24 @@ module _ (way : ℕ) (rows : List Row) (set : ℕ → Bool) (calls : Calls) (sit
 
   -- the subroutines, of which none fails
   pub new-subrs_is : new_subrs way rows set calls site subrs ≡ many_of (subrs_by way rows set calls site subrs)
-  new-subrs_is = go (eqb way 0)
+  new-subrs_is = go (is_renumbered way)
     where
-      go : (t : Bool) → pick t (many_of (renumbered_subrs rows set calls site subrs)) (pick (eqb way 1) (stubbed_from set 0 subrs) subrs)
-          ≡ many_of (pick t (renumbered_subrs rows set calls site subrs) (Some (pick (eqb way 1) (stubbed_from set 0 subrs) subrs)))
+      go : (t : Bool) → pick t (many_of (renumbered_subrs rows set calls site subrs)) (pick (is_stubbed way) (stubbed_from set 0 subrs) subrs)
+          ≡ many_of (pick t (renumbered_subrs rows set calls site subrs) (Some (pick (is_stubbed way) (stubbed_from set 0 subrs) subrs)))
       go true = refl
       go false = refl
 
 -- a body, where it does not fail
-pub new-body_is : (way : ℕ) (rows : List Row) (calls : Calls) (site : Site) (s : List ℕ) → new_body way rows calls site s ≡ body_of_lem (body_by way rows calls site s)
-new-body_is way rows calls site s = go (eqb way 0)
+pub new-body_is : (way : Way) (rows : List Row) (calls : Calls) (site : Site) (s : List ℕ) → new_body way rows calls site s ≡ body_of_lem (body_by way rows calls site s)
+new-body_is way rows calls site s = go (is_renumbered way)
   where
     go : (t : Bool) → pick t (body_of_lem (renumbered_body rows calls site s)) s ≡ body_of_lem (pick t (renumbered_body rows calls site s) (Some s))
     go true = refl
     go false = refl
 
 -- how many are written
-pub kept_many : (way : ℕ) (set : ℕ → Bool) (n : ℕ) → kept_count way (count_below set n) n ≡ count_below (is_kept way set) n
-kept_many way set n = go (eqb way 0)
+pub kept_many : (way : Way) (set : ℕ → Bool) (n : ℕ) → kept_count way (count_below set n) n ≡ count_below (is_kept way set) n
+kept_many way set n = go (is_renumbered way)
   where
     go : (t : Bool) → pick t (count_below set n) n ≡ count_below (λ k. pick t (set k) true) n
     go true = refl
@@ -123,7 +125,7 @@ kept_many way set n = go (eqb way 0)
 
 -- ---- of an INDEX
 
-module _ (way : ℕ) (b ws : List ℕ) (ix : Index) (own locals globals : Ranks) (rows : List Row) (rising : Bool) (of : Subrs)
+module _ (way : Way) (b ws : List ℕ) (ix : Index) (own locals globals : Ranks) (rows : List Row) (rising : Bool) (of : Subrs)
     (w : SubrsIn b ws ix own locals globals rows rising of) (calls : Calls) (site : ℕ → Site) where
   count_is : reached (reached_in ws own) ≡ count_below (reached_in ws own) (length (items_of b ix))
   count_is =

@@ -1,6 +1,6 @@
--- The charstrings and subroutines of a subset, by the way (document 01, 'Corners in write.rs'): 0 renumbered, 1 stubbed, 2 copied; the new
+-- The charstrings and subroutines of a subset, by the way (document 01, 'Corners in write.rs'): renumbered, stubbed or copied; the new
 -- numbers of subroutines stand in the work words.
-use Rattle.std.specs.Prelude.{ℕ, ◌+◌, ◌≤◌, ◌<◌, ◌≡◌, Bool, true, false, not, List, [], ◌∷◌, eqb, length, get_or, None, Option, Some}
+use Rattle.std.specs.Prelude.{ℕ, ◌+◌, ◌≤◌, ◌<◌, ◌≡◌, Bool, true, false, not, List, [], ◌∷◌, length, get_or, None, Option, Some}
 use Rattle.octets.specs.Pick.{pick}
 use Rattle.bits.specs.Bits.{words_for, bit_in, below}
 use Rattle.index.specs.Good.{Good}
@@ -16,6 +16,8 @@ use Rattle.renumber.specs.Turn.{body_of_lem}
 use Rattle.renumber.specs.declared.Ranks.{Ranks}
 use Rattle.bodies.specs.declared.subrs.Subrs.{Subrs}
 use Rattle.bodies.specs.declared.subrs.Subrs.TheVariants.{Global, Local}
+use Rattle.subset.specs.Way.{is_renumbered, is_stubbed}
+use Rattle.subset.specs.declared.Way.{Way}
 
 -- the bodies of some, whether there are any, and how many bytes they have together
 abbrev pub many_of : Option (List (List ℕ)) → List (List ℕ)
@@ -41,20 +43,20 @@ pub record Room (bodies : Option (List (List ℕ))) (sum at room : ℕ) : Type 0
 -- ---- subroutines
 
 -- a charstring or subroutine by the way; the same, or that its renumbering fails
-abbrev pub new_body : ℕ → List Row → Calls → Site → List ℕ → List ℕ
-new_body way rows calls site s = pick (eqb way 0) (body_of_lem (renumbered_body rows calls site s)) s
+abbrev pub new_body : Way → List Row → Calls → Site → List ℕ → List ℕ
+new_body way rows calls site s = pick (is_renumbered way) (body_of_lem (renumbered_body rows calls site s)) s
 
-abbrev pub body_by : ℕ → List Row → Calls → Site → List ℕ → Option (List ℕ)
-body_by way rows calls site s = pick (eqb way 0) (renumbered_body rows calls site s) (Some s)
+abbrev pub body_by : Way → List Row → Calls → Site → List ℕ → Option (List ℕ)
+body_by way rows calls site s = pick (is_renumbered way) (renumbered_body rows calls site s) (Some s)
 
 -- the subroutines of an INDEX by the way, of which the set is reached; the same, or that their renumbering fails
-abbrev pub new_subrs : ℕ → List Row → (ℕ → Bool) → Calls → (ℕ → Site) → List (List ℕ) → List (List ℕ)
+abbrev pub new_subrs : Way → List Row → (ℕ → Bool) → Calls → (ℕ → Site) → List (List ℕ) → List (List ℕ)
 new_subrs way rows set calls site subrs =
-    pick (eqb way 0) (many_of (renumbered_subrs rows set calls site subrs)) (pick (eqb way 1) (stubbed_from set 0 subrs) subrs)
+    pick (is_renumbered way) (many_of (renumbered_subrs rows set calls site subrs)) (pick (is_stubbed way) (stubbed_from set 0 subrs) subrs)
 
-abbrev pub subrs_by : ℕ → List Row → (ℕ → Bool) → Calls → (ℕ → Site) → List (List ℕ) → Option (List (List ℕ))
+abbrev pub subrs_by : Way → List Row → (ℕ → Bool) → Calls → (ℕ → Site) → List (List ℕ) → Option (List (List ℕ))
 subrs_by way rows set calls site subrs =
-    pick (eqb way 0) (renumbered_subrs rows set calls site subrs) (Some (pick (eqb way 1) (stubbed_from set 0 subrs) subrs))
+    pick (is_renumbered way) (renumbered_subrs rows set calls site subrs) (Some (pick (is_stubbed way) (stubbed_from set 0 subrs) subrs))
 
 -- what the bits in the words say is reached
 abbrev pub reached_in : List ℕ → Ranks → ℕ → Bool
@@ -71,20 +73,20 @@ SubrsFit Global = Unit
 SubrsFit (Local fd) = fd < 256
 
 -- which subroutines are written: all, or those reached
-abbrev pub is_kept : ℕ → (ℕ → Bool) → ℕ → Bool
-is_kept way set k = pick (eqb way 0) (set k) true
+abbrev pub is_kept : Way → (ℕ → Bool) → ℕ → Bool
+is_kept way set k = pick (is_renumbered way) (set k) true
 
 -- which of them stand as a return
-abbrev pub is_stub : ℕ → (ℕ → Bool) → ℕ → Bool
-is_stub way set k = pick (eqb way 1) (not (set k)) false
+abbrev pub is_stub : Way → (ℕ → Bool) → ℕ → Bool
+is_stub way set k = pick (is_stubbed way) (not (set k)) false
 
 -- a subroutine as it is written
-abbrev pub subr_by : ℕ → List Row → (ℕ → Bool) → Calls → (ℕ → Site) → List (List ℕ) → ℕ → Option (List ℕ)
+abbrev pub subr_by : Way → List Row → (ℕ → Bool) → Calls → (ℕ → Site) → List (List ℕ) → ℕ → Option (List ℕ)
 subr_by way rows set calls site subrs k = pick (is_stub way set k) (Some (11 ∷ [])) (body_by way rows calls (site k) (get_or subrs k []))
 
 -- how many are written
-abbrev pub kept_count : ℕ → ℕ → ℕ → ℕ
-kept_count way reached count = pick (eqb way 0) reached count
+abbrev pub kept_count : Way → ℕ → ℕ → ℕ
+kept_count way reached count = pick (is_renumbered way) reached count
 
 -- what the subroutines ask: an INDEX of the font, ranks in the words, rows in order where that is said
 pub record SubrsIn (b ws : List ℕ) (ix : Index) (own locals globals : Ranks) (rows : List Row) (rising : Bool) (of : Subrs) : Type 0 where

@@ -15,10 +15,12 @@ use Rattle.faithful.specs.RenumberedLaws.{renews}
 use Rattle.renumber.specs.Turn.{body_of_lem}
 use Rattle.bodies.specs.Ways.{many_of, holds, new_subrs, subrs_by}
 use Rattle.bodies.specs.Pruning.{all_hold, renumbered_globals, renumbered_locals, renumbered_glyph, bodies_by, renumbers, way_of}
+use Rattle.subset.specs.declared.Way.{Way}
+use Rattle.subset.specs.declared.Way.TheVariants.{Renumbered, Stubbed, Copied}
 
 -- ---- sets and calls that are the same for every number
 
-pub new-subrs-alike : (way : ℕ) (rows : List Row) (set set' : ℕ → Bool) (calls calls' : Calls) (site : ℕ → Site) (subrs : List (List ℕ))
+pub new-subrs-alike : (way : Way) (rows : List Row) (set set' : ℕ → Bool) (calls calls' : Calls) (site : ℕ → Site) (subrs : List (List ℕ))
     → ((k : ℕ) → set k ≡ set' k) → ((b : ℕ) (z : ℤ) → calls b z ≡ calls' b z)
     → new_subrs way rows set calls site subrs ≡ new_subrs way rows set' calls' site subrs
 new-subrs-alike way rows set set' calls calls' site subrs same alike =
@@ -27,7 +29,7 @@ new-subrs-alike way rows set set' calls calls' site subrs same alike =
     ap (λ (s : ℕ → Bool). new_subrs way rows s calls site subrs) e ∙ ap (λ (c : Calls). new_subrs way rows set' c site subrs) f
 
 -- the same, or that their renumbering fails
-pub subrs-by-alike : (way : ℕ) (rows : List Row) (set set' : ℕ → Bool) (calls calls' : Calls) (site : ℕ → Site) (subrs : List (List ℕ))
+pub subrs-by-alike : (way : Way) (rows : List Row) (set set' : ℕ → Bool) (calls calls' : Calls) (site : ℕ → Site) (subrs : List (List ℕ))
     → ((k : ℕ) → set k ≡ set' k) → ((b : ℕ) (z : ℤ) → calls b z ≡ calls' b z)
     → subrs_by way rows set calls site subrs ≡ subrs_by way rows set' calls' site subrs
 subrs-by-alike way rows set set' calls calls' site subrs same alike =
@@ -87,19 +89,19 @@ bodies-same a b e f g =
 
 module _ (p : Program) (rows : List Row) (used order : List ℕ) where
   -- copied, stubbed and renumbered
-  copied-by : copied p used order ≡ bodies_by p rows 2 used order
+  copied-by : copied p used order ≡ bodies_by p rows Copied used order
   unfolding copied bodies_by
   copied-by = refl
 
-  stubbed-by : stubbed p rows used order ≡ bodies_by p rows 1 used order
+  stubbed-by : stubbed p rows used order ≡ bodies_by p rows Stubbed used order
   unfolding stubbed bodies_by
   stubbed-by = refl
 
-  renumbered-by : (b : Bodies) → renumbered p rows used order ≡ Some b → b ≡ bodies_by p rows 0 used order
+  renumbered-by : (b : Bodies) → renumbered p rows used order ≡ Some b → b ≡ bodies_by p rows Renumbered used order
   unfolding bodies_by
   renumbered-by b e =
       let r = renews p rows used order b e in
-      bodies-same b (bodies_by p rows 0 used order) (sym (ap many_of r.globals))
+      bodies-same b (bodies_by p rows Renumbered used order) (sym (ap many_of r.globals))
       (sym (each-parts (renumbered_locals p rows) many_of (λ a. refl) used b.locals r.locals))
       (sym (each-parts (renumbered_glyph p rows) body_of_lem (λ a. refl) order b.charstrings r.charstrings))
 
@@ -110,11 +112,11 @@ module _ (p : Program) (rows : List Row) (used order : List ℕ) where
   pruned-by flag = go (eqb flag 0) (renumbered p rows used order) refl
     where
       go : (t : Bool) (m : Option Bodies) → renumbered p rows used order ≡ m
-          → pick t (record { way = 2; bodies = copied p used order }) (or_stubbed m (stubbed p rows used order))
-          ≡ record { way = pick t 2 (pick (holds m) 0 1); bodies = bodies_by p rows (pick t 2 (pick (holds m) 0 1)) used order }
-      go true m e = ap (λ (b : Bodies). record { way = 2; bodies = b }) copied-by
-      go false None e = ap (λ (b : Bodies). record { way = 1; bodies = b }) stubbed-by
-      go false (Some b) e = ap (λ (x : Bodies). record { way = 0; bodies = x }) (renumbered-by b e)
+          → pick t (record { way = Copied; bodies = copied p used order }) (or_stubbed m (stubbed p rows used order))
+          ≡ record { way = pick t Copied (pick (holds m) Renumbered Stubbed); bodies = bodies_by p rows (pick t Copied (pick (holds m) Renumbered Stubbed)) used order }
+      go true m e = ap (λ (b : Bodies). record { way = Copied; bodies = b }) copied-by
+      go false None e = ap (λ (b : Bodies). record { way = Stubbed; bodies = b }) stubbed-by
+      go false (Some b) e = ap (λ (x : Bodies). record { way = Renumbered; bodies = x }) (renumbered-by b e)
 
   -- the renumbering of a font holds where that of the globals, of the locals of each FD in use, and of each glyph does
   pub renumbers-parts : renumbers p rows used order

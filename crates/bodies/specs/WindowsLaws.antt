@@ -1,5 +1,5 @@
 -- A body by a window of the record that has its rows is the body by the whole record.
-use Rattle.std.specs.Prelude.{ℕ, ◌+◌, ◌≤◌, ◌<◌, ◌≡◌, refl, Bool, true, false, List, [], ◌∷◌, eqb, length, take, get_or, Option, Some}
+use Rattle.std.specs.Prelude.{ℕ, ◌+◌, ◌≤◌, ◌<◌, ◌≡◌, refl, Bool, true, false, List, [], ◌∷◌, length, take, get_or, Option, Some}
 use Rattle.std.proofs.Common.{sym, ap, ◌∙◌, subst, arith}
 use Rattle.std.proofs.lemmas.Bool.{false≢true}
 use Rattle.octets.specs.Pick.{pick}
@@ -27,11 +27,13 @@ use Rattle.bodies.specs.Windows.{source_in_order, kind_of, fd_of, Lent}
 use Rattle.bodies.specs.declared.subrs.Source.{Source}
 use Rattle.bodies.specs.declared.subrs.Subrs.{Subrs}
 use Rattle.bodies.specs.declared.subrs.Subrs.TheVariants.{Global, Local}
+use Rattle.subset.specs.Way.{is_renumbered}
+use Rattle.subset.specs.declared.Way.{Way}
 
 -- a body by records that list the same rows of its masks
-pub by-same : (way : ℕ) (rows rows' : List Row) (calls : Calls) (site : Site) (s : List ℕ) → SameMasks rows rows' site
+pub by-same : (way : Way) (rows rows' : List Row) (calls : Calls) (site : Site) (s : List ℕ) → SameMasks rows rows' site
     → body_by way rows calls site s ≡ body_by way rows' calls site s
-by-same way rows rows' calls site s same = ap (λ (m : Option (List ℕ)). pick (eqb way 0) m (Some s)) (same_body rows rows' site same calls s)
+by-same way rows rows' calls site s same = ap (λ (m : Option (List ℕ)). pick (is_renumbered way) m (Some s)) (same_body rows rows' site same calls s)
 
 -- room stays
 pub lent_same : {keys bytes : List ℕ} → Lent keys bytes → (keys' bytes' : List ℕ) → length keys' ≡ length keys → length bytes' ≡ length bytes → Lent keys' bytes'

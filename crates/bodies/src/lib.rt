@@ -1,4 +1,4 @@
-// Charstrings and subroutines of a subset, by the way: 0 renumbered, 1 stubbed, 2 copied (document 01, 'Corners in write.rs'); and the INDEXes of subroutines.
+// Charstrings and subroutines of a subset, by the way, renumbered, stubbed or copied (document 01, 'Corners in write.rs'); and the INDEXes of subroutines.
 // Each is measured first, then written item by item.
 #![tactic(auto)]
 
@@ -15,11 +15,12 @@ ghost use Rattle.bodies.specs.Sizes.{AtMost};
 
 use reach::Site;
 use renumber::Ranks;
+use subset::Way;
 
 // How bodies are written: the way, the bits of the globals, and whether the rows rise.
 #[derive(Clone, Copy)]
 pub struct Manner {
-    pub way: u8,
+    pub way: Way,
     pub globals: Ranks,
     pub rising: bool,
 }
@@ -46,7 +47,7 @@ pub fn ranks_in(table: &[usize], fd: usize) -> Ranks
 
 // How long a charstring or subroutine is, by the way; or that its renumbering fails.
 pub fn body_len(
-    way: u8,
+    way: Way,
     code: &[u8],
     words: &[u32],
     locals: Ranks,
@@ -59,7 +60,7 @@ pub fn body_len(
     ensures { (result ≡ sized_of (body_by way (rows_of rows.now) (calls_by words.now locals globals) (site_of site) code.now))
         × (AtMost (5 * length code.now) result) }
 {
-    if way == 0 {
+    if way.is_renumbered() {
         return renumbered::renumbered_len(code, words, locals, globals, rows, rising, site);
     }
     Some(code.len())
@@ -67,7 +68,7 @@ pub fn body_len(
 
 // A charstring or subroutine by the way, from `at` on; the place after it.
 pub fn put_body(
-    way: u8,
+    way: Way,
     code: &[u8],
     words: &[u32],
     locals: Ranks,
@@ -84,7 +85,7 @@ pub fn put_body(
     ensures { Wrote out.old at
         (new_body way (rows_of rows.now) (calls_by words.now locals globals) (site_of site) code.now) out.new result }
 {
-    if way == 0 {
+    if way.is_renumbered() {
         return renumbered::put_renumbered(
             code, words, locals, globals, rows, rising, site, out, at,
         );

@@ -17,6 +17,7 @@ use index::Index;
 use mask_rows::Window;
 use reach::Site;
 use renumber::Ranks;
+use subset::Way;
 
 // The subroutines of an INDEX: the globals, or the locals of an FD.
 // (It stays an enum: they are two kinds, and an Option is no plainer, since None would not say that the globals are meant.)
@@ -29,7 +30,7 @@ pub enum Subrs {
 // Subroutines, and how they are written: the way, their INDEX, their bits, the bits of those that they call, and whether the rows rise.
 #[derive(Clone, Copy)]
 pub struct Source {
-    pub way: u8,
+    pub way: Way,
     pub of: Subrs,
     pub ix: Index,
     pub own: Ranks,
@@ -50,22 +51,22 @@ fn is_reached(words: &[u32], own: Ranks, k: usize) -> bool
 }
 
 // Whether a subroutine is written.
-fn is_kept(way: u8, words: &[u32], own: Ranks, k: usize) -> bool
+fn is_kept(way: Way, words: &[u32], own: Ranks, k: usize) -> bool
     requires { own.at + words_for own.count ≤ length words.now }
     ensures { result ≡ is_kept way (reached_in words.now own) k }
 {
-    if way == 0 {
+    if way.is_renumbered() {
         return is_reached(words, own, k);
     }
     true
 }
 
 // Whether a subroutine stands as a return.
-fn is_stub(way: u8, words: &[u32], own: Ranks, k: usize) -> bool
+fn is_stub(way: Way, words: &[u32], own: Ranks, k: usize) -> bool
     requires { own.at + words_for own.count ≤ length words.now }
     ensures { result ≡ is_stub way (reached_in words.now own) k }
 {
-    if way == 1 {
+    if way.is_stubbed() {
         return !is_reached(words, own, k);
     }
     false
@@ -168,7 +169,7 @@ fn long_written(
     requires { (Sourced from (rows_of rows.now) words.now font.now) × (k < from.ix.count) × (Lent keys.old bytes.old) }
     ensures { (result ≡ sized_of (subr_from from (rows_of rows.now) words.now font.now k)) × (AtMost 335544320 result) }
 {
-    if from.way == 0 {
+    if from.way.is_renumbered() {
         let of = from.of;
         let site = site_in(of, k);
         let code = index::item(font, from.ix, k);
@@ -292,7 +293,7 @@ pub fn subrs_total(from: Source, font: &[u8], words: &[u32], rows: &[u8]) -> Opt
     if from.rising {
         return total_directly(from, font, words, rows);
     }
-    if from.way == 0 {
+    if from.way.is_renumbered() {
         return total_by_windows(from, font, words, rows);
     }
     total_directly(from, font, words, rows)
@@ -335,10 +336,10 @@ fn put_subr(
 }
 
 // The number of subroutines that are written.
-pub fn kept_count(way: u8, reached: usize, count: usize) -> usize
+pub fn kept_count(way: Way, reached: usize, count: usize) -> usize
     ensures { result ≡ kept_count way reached count }
 {
-    if way == 0 {
+    if way.is_renumbered() {
         return reached;
     }
     count
@@ -362,7 +363,7 @@ fn put_long(
     ensures { Wrote out.old at
         (body_of_lem (subr_from from (rows_of rows.now) words.now font.now k)) out.new result }
 {
-    if from.way == 0 {
+    if from.way.is_renumbered() {
         let of = from.of;
         let site = site_in(of, k);
         let code = index::item(font, from.ix, k);
@@ -545,7 +546,7 @@ pub fn put_subrs(
     if from.rising {
         return put_directly(from, font, words, rows, total, out, at);
     }
-    if from.way == 0 {
+    if from.way.is_renumbered() {
         return put_by_windows(from, font, words, rows, total, out, at);
     }
     put_directly(from, font, words, rows, total, out, at)

@@ -1,6 +1,6 @@
 -- The kept glyphs of a CID-keyed subset and their FDs, from the order to the plan (document 01, 'Layout'): what each step asks, and what is ready
 -- when the plan is made.
-use Rattle.std.specs.Prelude.{ℕ, suc, ◌≤◌, ◌<◌, ◌≡◌, refl, Bool, true, false, not, eqb, length, get_or, replicate}
+use Rattle.std.specs.Prelude.{ℕ, suc, ◌≤◌, ◌<◌, ◌≡◌, refl, Bool, true, false, not, eqb, length, get_or, replicate, Result}
 use Rattle.std.proofs.Math.Path.{sym, ap, subst, fun_ext}
 use Rattle.std.proofs.Common.{◌∙◌, arith}
 use mathlib.Core.List.{List, [], ◌∷◌}
@@ -45,7 +45,8 @@ use Rattle.outcome.specs.Entry.{cut_behind, Cut}
 use Rattle.own_strings.specs.declared.Own.{Own}
 use Rattle.cid_parts.specs.Cid.{sized, StringsReady, CidReady, cid_bytes}
 use Rattle.cid_parts.specs.CidPlacesLaws.{cut-sized}
-use Rattle.outcome.specs.declared.Answer.{Answer}
+use Rattle.outcome.specs.declared.Subsetted.{Subsetted}
+use Rattle.refusal.specs.declared.Refusal.{Refusal}
 
 -- an FD for each glyph
 fds_length : (p : Program) (gs : List ℕ) → length (fds_of p gs) ≡ length gs
@@ -127,7 +128,7 @@ module _ (b : List ℕ) (o : Order) (held : FontHeld b o.f) (ws : List ℕ) wher
       -- the outcome of the cut is that of the subset from its plan
       pub cut-planned : (name : List ℕ) (room flag : ℕ) → cid_keyed p.top ≡ true → length (own_by_cid p) ≤ 64609
           → record { way = r.how.way; bodies = bodies_for b rows used new r } ≡ pruned p rows (fds_in used) order flag
-          → {out out' : List ℕ} {a : Answer} → Cut (sized r.how.way (cid_bytes b rows used new r name) room) out out' a
+          → {out out' : List ℕ} {a : Result Subsetted Refusal} → Cut (sized r.how.way (cid_bytes b rows used new r name) room) out out' a
           → Cut (written p none name kept order room (pruned p rows (used_fds p kept) order flag)) out out' a
       unfolding cid_bytes
       cut-planned name room flag keyed few plans {out} {out'} {a} x =
@@ -184,7 +185,7 @@ module _ (b rec name : List ℕ) (flag : ℕ) where
 
   -- the cut of the gathered glyphs is written as the cut
   pub gathered_is : (f : Font) (keep : List ℕ) (o : Order) {ws window : List ℕ} → Ordered b ws window o → o.f ≡ f → kept_in (many_in f) ws ≡ kept_of (many_in f) keep
-      → {out out' : List ℕ} {a : Answer} → Cut (cut_ordered o ws (length out)) out out' a → Cut (cut_behind false (program_of b f) name keep rec flag (length out)) out out' a
+      → {out out' : List ℕ} {a : Result Subsetted Refusal} → Cut (cut_ordered o ws (length out)) out out' a → Cut (cut_behind false (program_of b f) name keep rec flag (length out)) out out' a
   gathered_is f keep o {ws} {window} ordered same is {out} {out'} {a} x = subst (λ (z : Outcome). Cut z out out' a) (gathered-cut f keep o ws same is (length out)) x
 
 -- ---- what is ready for an order is ready for the plan's

@@ -8,16 +8,17 @@ ghost use Rattle.order_window.specs.Window.{Ordered};
 ghost use Rattle.fds.specs.Locals.{fds_in};
 ghost use Rattle.parts.specs.Ready.{FontHeld, Summed};
 ghost use Rattle.outcome.specs.Entry.{cut_behind, Cut, Passed};
+ghost use Rattle.subset.specs.Flag.{flag_of};
 ghost use Rattle.by_cid.specs.CidKeptLaws.{CidOrdered, cut_ordered};
 ghost use Rattle.cid_parts.specs.Cid.{sized, StringsReady, CidReady, cid_bytes};
 
 use cff::font::Font;
 use cid_parts::{PlacedCut, places_cid, put_parts};
 use order_window::Order;
-use outcome::{Answer, Prepared};
+use outcome::{Prepared, Subsetted};
 use refusal::Refusal;
 
-// The subset from its plan: measured, and then in the front of the output, or refusal 10 or 11.
+// The subset from its plan: measured, and then in the front of the output, if it is not too long for a subset or for the output.
 fn cut_planned(
     cut: Prepared,
     font: &[u8],
@@ -30,7 +31,7 @@ fn cut_planned(
     totals: &[usize],
     rows: &[u8],
     out: &mut [u8],
-) -> Answer
+) -> Result<Subsetted, Refusal>
     requires { (CidReady font.now (rows_of rows.now) used.now words.now cut.plan table.now)
         × (Summed font.now (rows_of rows.now) used.now words.now cut.plan table.now totals.now)
         × (StringsReady (program_of font.now cut.plan.order.f) slots.now cut.own) × (length name.now ≤ 65535) × (cut.count ≡ length (fds_in used.now))
@@ -53,35 +54,35 @@ fn cut_planned(
     );
     let end = at.end;
     if octets::LONGEST < end {
-        return Answer::Refused(Refusal::SUBSET);
+        return Err(Refusal::Subset);
     }
     if out.len() < end {
-        return Answer::Refused(Refusal::OUTPUT);
+        return Err(Refusal::Output);
     }
     let c = PlacedCut { cut, at };
     put_parts(
         c, font, name, slots, used, words, window, table, totals, rows, out,
     );
-    Answer::Subset {
+    Ok(Subsetted {
         way: how.way,
         len: end,
-    }
+    })
 }
 
-// The subset of the kept glyphs in the front of the output, or refusal 10 or 11; refusal 12 cannot be, since a CID-keyed subset has at most 8 own
-// strings.
+// The subset of the kept glyphs in the front of the output, if it is not too long; its string ids cannot be refused, since a CID-keyed subset has at
+// most 8 own strings.
 fn cut_ordered(
     o: Order,
     font: &[u8],
     name: &[u8],
     rows: &[u8],
-    traced: u8,
+    traced: bool,
     words: &mut [u32],
     window: &mut [u32],
     out: &mut [u8],
-) -> Answer
+) -> Result<Subsetted, Refusal>
     requires { (CidOrdered font.now o words.old window.old) × (length name.now ≤ 65535) }
-    ensures { Cut (cut_ordered font.now rows.now name.now traced o words.old (length out.old))
+    ensures { Cut (cut_ordered font.now rows.now name.now (flag_of traced) o words.old (length out.old))
         out.old out.new result }
 {
     let mut slots = [0usize; 16];
@@ -107,20 +108,20 @@ fn cut_ordered(
     )
 }
 
-// The subset in the front of the output, or refusal 10 or 11. The work words are used.
+// The subset in the front of the output, if it is not too long. The work words are used.
 pub fn cut_cid(
     font: &[u8],
     f: Font,
     name: &[u8],
     keep: &[u16],
     rows: &[u8],
-    traced: u8,
+    traced: bool,
     words: &mut [u32],
     out: &mut [u8],
-) -> Answer
+) -> Result<Subsetted, Refusal>
     requires { (FontHeld font.now f)
-        × (Passed true false (program_of font.now f) (length name.now) keep.now rows.now traced (length words.old)) }
-    ensures { Cut (cut_behind false (program_of font.now f) name.now keep.now rows.now traced (length out.old))
+        × (Passed true false (program_of font.now f) (length name.now) keep.now rows.now (flag_of traced) (length words.old)) }
+    ensures { Cut (cut_behind false (program_of font.now f) name.now keep.now rows.now (flag_of traced) (length out.old))
         out.old out.new result }
 {
     let mut window = [0u32; 4096];

@@ -1,6 +1,6 @@
 -- Laws of the kept glyphs of a name-keyed cut: what each step asks of them, the codes behind the slots, and that the cut of the glyphs that were gathered
 -- is the cut.
-use Rattle.std.specs.Prelude.{ℕ, zero, suc, ◌+◌, ◌≤◌, ◌<◌, ◌≡◌, refl, Bool, false, List, [], ◌∷◌, ◌++◌, eqb, length, take, drop, get_or, set}
+use Rattle.std.specs.Prelude.{ℕ, zero, suc, ◌+◌, ◌≤◌, ◌<◌, ◌≡◌, refl, Bool, false, List, [], ◌∷◌, ◌++◌, length, take, drop, get_or, set, Result, Err}
 use Rattle.std.proofs.Common.{sym, ap, ◌∙◌, subst, arith, length-set, length-take-le, take_all, take-take}
 use Rattle.std.proofs.Math.ListN.{get_or-append}
 use Rattle.std.proofs.Math.Seq.{take-append_seam, drop-append_seam}
@@ -15,7 +15,7 @@ use Rattle.index.specs.IndexLaws.{items-length}
 use Rattle.subset.specs.Kept.{kept_of, sorted_by, written_order, used_fds, keeps}
 use Rattle.subset.specs.Texts.{own_strings_lem}
 use Rattle.subset.specs.Pruned.{pruned}
-use Rattle.subset.specs.Codes.{Pair, Coded, none, predefined, pairs, coded_if}
+use Rattle.subset.specs.Codes.{Pair, Coded, pairs, coded_if}
 use Rattle.subset.specs.Subset.{own_by_name}
 use Rattle.subset.specs.Cut.{Outcome, own_of, all_found_lem, written}
 use Rattle.faithful.specs.UsedLaws.{used-one}
@@ -38,12 +38,14 @@ use Rattle.outcome.specs.OutcomeLaws.{cut-strings, cut-pairs}
 use Rattle.outcome.specs.Entry.{cut_behind, Cut, Passed}
 use Rattle.named_parts.specs.Named.{coded_for, named_outcome, NamedStrings, NamedCodes, NamedCut}
 use Rattle.named_parts.specs.NamedPutLaws.{can_rename}
-use Rattle.encoding.specs.Encoded.{pair_in, pairs_in, Encodes, CanRename}
+use Rattle.encoding.specs.Encoded.{pairs_of, pair_in, pairs_in, coded_in, Encodes, CanRename}
 use Rattle.encoding.specs.EncodedLaws.{encodes_self}
 use Rattle.encoding.specs.declared.Encoding.{Encoding}
-use Rattle.outcome.specs.declared.Answer.{Answer}
-use Rattle.outcome.specs.declared.Answer.TheVariants.{Refused}
 use Rattle.by_name.specs.NamedLaws.{named-strings}
+use Rattle.outcome.specs.declared.Subsetted.{Subsetted}
+use Rattle.refusal.specs.declared.Refusal.{Refusal}
+use Rattle.refusal.specs.declared.Refusal.TheVariants.{StringId, Pairs}
+use Rattle.encoding.specs.declared.Encoding.TheVariants.{Absent, Expert, Pairs as SomePairs}
 
 -- ---- codes behind the slots
 
@@ -62,13 +64,12 @@ pairs-front table rest (suc n) code h =
     ∙ ap (λ (l : List Pair). pair_in code (get_or table code 0) ++ l) (pairs-front table rest n (code + 1) (omega arith))
 
 encodes-front : (coded : Coded) (table rest : List ℕ) (e : Encoding) → 256 ≤ length table → Encodes coded table e → Encodes coded (table ++ rest) e
-encodes-front coded table rest e long h =
-    record {
-      is = ap (λ (l : List Pair). pick (eqb e.kind 0) none (pick (eqb e.kind 1) predefined (pairs l))) (pairs-front table rest 256 0 long) ∙ h.is;
-      kind-small = h.kind-small;
-      many = h.many;
-      small = h.small;
-    }
+encodes-front coded table rest e long h = record { is = front e ∙ h.is; many = h.many; small = h.small }
+  where
+    front : (x : Encoding) → coded_in x (table ++ rest) ≡ coded_in x table
+    front Absent = refl
+    front Expert = refl
+    front (SomePairs n) = ap pairs (pairs-front table rest 256 0 long)
 
 -- so many of its codes were put there
 pub record Putting (old table new : List ℕ) (code : ℕ) : Type 0 where
@@ -155,7 +156,7 @@ module _ (ask : Bool) (b rec name : List ℕ) (flag : ℕ) (o : Order) (ws windo
     counted = ap (λ (x : Own). x.count) measured.is ∙ sym (ap length (named-strings p h.keyed order))
 
     -- too many own strings
-    pub named_refused : (out : List ℕ) → 64609 < own.count → Cut (cut_ordered ask b rec name flag o ws (length out)) out out (Refused 12)
+    pub named_refused : (out : List ℕ) → 64609 < own.count → Cut (cut_ordered ask b rec name flag o ws (length out)) out out (Err StringId)
     named_refused out l =
         cut-strings p coded name order order (length out) (pruned p (rows_of rec) (0 ∷ []) order flag) out (subst (λ (m : ℕ). 64609 < m) counted l)
 
@@ -165,12 +166,12 @@ module _ (ask : Bool) (b rec name : List ℕ) (flag : ℕ) (o : Order) (ws windo
 
     module _ (few : own.count ≤ 64609) (slots₂ : List ℕ) (e : Encoding) (behind : CodesBehind coded slots slots₂ e) (wide : length slots ≡ 272) where
       -- too many pairs
-      pub pairs_refused : (out : List ℕ) → 255 < e.pairs → Cut (cut_ordered ask b rec name flag o ws (length out)) out out (Refused 13)
+      pub pairs_refused : (out : List ℕ) → 255 < pairs_of e → Cut (cut_ordered ask b rec name flag o ws (length out)) out out (Err Pairs)
       pairs_refused out l =
           cut-pairs p coded name order order (length out) (pruned p (rows_of rec) (0 ∷ []) order flag) out (omega (arith, few, counted))
           (omega (arith, l, behind.is.many))
 
-      module _ (fit : e.pairs ≤ 255) where
+      module _ (fit : pairs_of e ≤ 255) where
         pub prepared_asked : {window₂ : List ℕ} → Ordered b ws window₂ o → NamedCut b o ws window₂ × NamedStrings p order slots₂ own (length name) × NamedCodes e slots₂
         prepared_asked ordered₂ = (
           record { read = h.read; keyed = h.keyed; ordered = ordered₂; apart = h.apart; room = h.room },
@@ -187,7 +188,7 @@ module _ (ask : Bool) (b rec name : List ℕ) (flag : ℕ) (o : Order) (ws windo
           },
         )
 
-        pub named-cut : (out out' : List ℕ) (a : Answer)
+        pub named-cut : (out out' : List ℕ) (a : Result Subsetted Refusal)
             → Cut (named_outcome p (coded_for e slots₂) name order (length out) (pruned p (rows_of rec) (0 ∷ []) order flag)) out out' a
             → Cut (cut_ordered ask b rec name flag o ws (length out)) out out' a
         named-cut out out' a c =
@@ -246,6 +247,6 @@ module _ (ask : Bool) (b rec name : List ℕ) (flag : ℕ) (f : Font) (read : Fo
         ∙ ap (λ (fs : List ℕ). written program (coded_if ask program kept (own_of program kept)) name kept kept room (pruned program (rows_of rec) fs kept flag)) (sym one-used)
         ∙ ap (λ (l : List ℕ). written program (coded_if ask program kept (own_of program l)) name kept l room (pruned program (rows_of rec) (used_fds program kept) l flag)) (sym as_kept)
 
-    pub gathered-cut : (out out' : List ℕ) (a : Answer) → Cut (cut_ordered ask b rec name flag o ws (length out)) out out' a
+    pub gathered-cut : (out out' : List ℕ) (a : Result Subsetted Refusal) → Cut (cut_ordered ask b rec name flag o ws (length out)) out out' a
         → Cut (cut_behind ask program name keep rec flag (length out)) out out' a
     gathered-cut out out' a c = subst (λ (x : Outcome). Cut x out out' a) (gathered_is (length out)) c

@@ -1,5 +1,5 @@
 -- Laws of a planned cut of a name-keyed font: its outcome by the tests of the code.
-use Rattle.std.specs.Prelude.{ℕ, ◌≤◌, ◌<◌, ◌≡◌, refl, Bool, false, List, length}
+use Rattle.std.specs.Prelude.{ℕ, ◌≤◌, ◌<◌, ◌≡◌, refl, Bool, false, List, length, Err}
 use Rattle.std.proofs.Common.{sym, ◌∙◌, subst, arith}
 use Rattle.std.proofs.Math.Path.{ap}
 use Rattle.octets.specs.Pick.{pick}
@@ -19,11 +19,11 @@ use Rattle.parts.specs.Ready.{bodies_for}
 use Rattle.parts.specs.declared.Planned.{Planned}
 use Rattle.outcome.specs.Layout.{named-length}
 use Rattle.outcome.specs.OutcomeLaws.{cut_long, cut-room, cut-written}
-use Rattle.outcome.specs.Entry.{Cut}
+use Rattle.outcome.specs.Entry.{Cut, a_cut}
 use Rattle.named_parts.specs.Named.{coded_for, named_outcome, NamedPlan, NamedStrings, NamedCodes, PlacedNamed}
 use Rattle.encoding.specs.declared.Encoding.{Encoding}
 use Rattle.front.specs.declared.NamedPlaces.{NamedPlaces}
-use Rattle.outcome.specs.declared.Answer.TheVariants.{Refused, Subset}
+use Rattle.refusal.specs.declared.Refusal.TheVariants.{Subset, Output}
 
 -- ---- name-keyed
 
@@ -69,19 +69,19 @@ module _ (b : List ℕ) (rows : List Row) (used ws : List ℕ) (r : Planned) (ta
   pairs = omega (arith, coding.is.many, coding.few)
 
   -- too long, and too little room
-  pub planned_long : 67108864 < at.end → Cut (named_outcome p coded name order (length out) q) out out (Refused 10)
+  pub planned_long : 67108864 < at.end → Cut (named_outcome p coded name order (length out) q) out out (Err Subset)
   planned_long h = cut_long p coded name order order (length out) q out few pairs (subst (λ (m : ℕ). 67108864 < m) long h)
 
   module _ (short : at.end ≤ 67108864) where
     small : length (subset_bytes p coded name order order bodies) ≤ 67108864
     small = subst (λ (m : ℕ). m ≤ 67108864) long short
 
-    pub planned-room : length out < at.end → Cut (named_outcome p coded name order (length out) q) out out (Refused 11)
+    pub planned-room : length out < at.end → Cut (named_outcome p coded name order (length out) q) out out (Err Output)
     planned-room h = cut-room p coded name order order (length out) q out few pairs small (subst (λ (m : ℕ). length out < m) long h)
 
     -- written
     pub planned-written : at.end ≤ length out → (out' : List ℕ) (z : ℕ) → Wrote out 0 (subset_by_name p coded name order bodies) out' z
-        → Cut (named_outcome p coded name order (length out) q) out out' (Subset r.how.way at.end)
+        → Cut (named_outcome p coded name order (length out) q) out out' (a_cut r.how.way at.end)
     planned-written h out' z w =
         cut-written p coded name order order (length out) q out few pairs small (subst (λ (m : ℕ). m ≤ length out) long h) r.how.way at.end out' refl long
         (w.is ∙ ap (put out 0) (sym bytes))

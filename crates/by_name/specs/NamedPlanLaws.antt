@@ -1,5 +1,5 @@
 -- Laws of the planning of a name-keyed cut: FD 0 alone is in use, what planning asks, and what it leaves.
-use Rattle.std.specs.Prelude.{ℕ, zero, suc, ◌≤◌, ◌<◌, ◌≡◌, refl, true, false, not, List, [], ◌∷◌, eqb, length, get_or, replicate}
+use Rattle.std.specs.Prelude.{ℕ, zero, suc, ◌≤◌, ◌<◌, ◌≡◌, refl, true, false, not, List, [], ◌∷◌, eqb, length, get_or, replicate, Result}
 use Rattle.std.proofs.Common.{sym, ap, ◌∙◌, subst, ⊎_elim, arith}
 use Rattle.octets.specs.ListLaws.{zeros-at}
 use Rattle.unfold.specs.Unfold.{Row}
@@ -27,7 +27,8 @@ use Rattle.parts.specs.declared.Planned.{Planned}
 use Rattle.subset.specs.Codes.{Coded}
 use Rattle.outcome.specs.Entry.{Cut}
 use Rattle.named_parts.specs.Named.{named_outcome, NamedPlan, NamedStrings, NamedCut, first_fd}
-use Rattle.outcome.specs.declared.Answer.{Answer}
+use Rattle.outcome.specs.declared.Subsetted.{Subsetted}
+use Rattle.refusal.specs.declared.Refusal.{Refusal}
 
 -- ---- FD 0 alone
 
@@ -110,7 +111,7 @@ module _ (b : List ℕ) (o : Order) (ws window : List ℕ) (h : NamedCut b o ws 
         (subst (λ (l : List ℕ). NamedStrings p l slots own m) (sym stays) s)
 
     pub prepared_cut : (rows : List Row) (traced : ℕ) → record { way = r.how.way; bodies = bodies_for b rows used ws' r } ≡ pruned p rows (fds_in used) order traced
-        → (coded : Coded) (name out out' : List ℕ) (a : Answer)
+        → (coded : Coded) (name out out' : List ℕ) (a : Result Subsetted Refusal)
         → Cut (named_outcome (program_of b r.order.f) coded name (glyphs_of b r.order.f ws') (length out) (record { way = r.how.way; bodies = bodies_for b rows used ws' r }))
         out out' a
         → Cut (named_outcome p coded name order (length out) (pruned p rows (0 ∷ []) order traced)) out out' a

@@ -5,6 +5,7 @@ ghost use Rattle.std.specs.Prelude.{false, [], ◌∷◌, ◌≤◌, ◌≡◌, 
 ghost use Rattle.record.specs.Record.{rows_of};
 ghost use Rattle.cff.specs.Reads.{program_of};
 ghost use Rattle.subset.specs.Codes.{coded_if};
+ghost use Rattle.subset.specs.Flag.{flag_of};
 ghost use Rattle.subset.specs.Subset.{own_by_name};
 ghost use Rattle.subset.specs.Pruned.{pruned};
 ghost use Rattle.order_window.specs.Window.{glyphs_of, Ordered};
@@ -18,7 +19,7 @@ use cff::font::Font;
 use encoding::{Encoding, encode};
 use named_parts::{CodedCut, PlacedCut, places_named, put_named};
 use order_window::Order;
-use outcome::{Answer, Prepared};
+use outcome::{Prepared, Subsetted};
 use own_strings::Own;
 use parts::plan_all;
 use refusal::Refusal;
@@ -30,7 +31,7 @@ pub struct Names {
     pub encoding: Encoding,
 }
 
-// The subset by the plan, or refusal 10 or 11.
+// The subset by the plan, if it is not too long for a subset or for the output.
 fn cut_planned(
     c: CodedCut,
     font: &[u8],
@@ -43,7 +44,7 @@ fn cut_planned(
     totals: &[usize],
     rows: &[u8],
     out: &mut [u8],
-) -> Answer
+) -> Result<Subsetted, Refusal>
     requires { (NamedPlan font.now (rows_of rows.now) used.now words.now c.cut.plan table.now totals.now)
         × (NamedStrings (program_of font.now c.cut.plan.order.f) (glyphs_of font.now c.cut.plan.order.f words.now) slots.now c.cut.own (length name.now))
         × (NamedCodes c.encoding slots.now) × (Ordered font.now words.now window.old c.cut.plan.order) }
@@ -58,22 +59,22 @@ fn cut_planned(
     let at = places_named(c, font, name, slots, used, words, table, totals, rows);
     let end = at.end;
     if octets::LONGEST < end {
-        return Answer::Refused(Refusal::SUBSET);
+        return Err(Refusal::Subset);
     }
     if out.len() < end {
-        return Answer::Refused(Refusal::OUTPUT);
+        return Err(Refusal::Output);
     }
     let placed = PlacedCut { cut, encoding, at };
     put_named(
         placed, font, name, slots, used, words, window, table, totals, rows, out,
     );
-    Answer::Subset {
+    Ok(Subsetted {
         way: how.way,
         len: end,
-    }
+    })
 }
 
-// The subset of the kept glyphs, whose strings and encoding are prepared, or refusal 10 or 11. FD 0 is in use.
+// The subset of the kept glyphs, whose strings and encoding are prepared, if it is not too long. FD 0 is in use.
 fn cut_prepared(
     font: &[u8],
     o: Order,
@@ -81,17 +82,17 @@ fn cut_prepared(
     slots: &[usize],
     names: Names,
     rows: &[u8],
-    traced: u8,
+    traced: bool,
     words: &mut [u32],
     window: &mut [u32],
     out: &mut [u8],
-) -> Answer
+) -> Result<Subsetted, Refusal>
     requires { (NamedCut font.now o words.old window.old)
         × (NamedStrings (program_of font.now o.f) (glyphs_of font.now o.f words.old) slots.now names.own (length name.now))
         × (NamedCodes names.encoding slots.now) }
     ensures { Cut (named_outcome (program_of font.now o.f) (coded_for names.encoding slots.now) name.now
         (glyphs_of font.now o.f words.old) (length out.old)
-        (pruned (program_of font.now o.f) (rows_of rows.now) (0 ∷ []) (glyphs_of font.now o.f words.old) traced))
+        (pruned (program_of font.now o.f) (rows_of rows.now) (0 ∷ []) (glyphs_of font.now o.f words.old) (flag_of traced)))
         out.old out.new result }
 {
     let mut used = [0u32; 256];
@@ -144,30 +145,30 @@ pub fn encode_behind(
     encoding
 }
 
-// The subset of the kept glyphs in the front of the output, with its encoding where it is asked for, or refusal 12, 13, 10 or 11.
+// The subset of the kept glyphs in the front of the output, with its encoding where it is asked for; or refused: a string id, pairs, too long.
 fn cut_ordered(
     o: Order,
     font: &[u8],
     ask: bool,
     name: &[u8],
     rows: &[u8],
-    traced: u8,
+    traced: bool,
     words: &mut [u32],
     window: &mut [u32],
     out: &mut [u8],
-) -> Answer
+) -> Result<Subsetted, Refusal>
     requires { (NamedCut font.now o words.old window.old) × (length name.now ≤ 65535) }
-    ensures { Cut (cut_ordered ask font.now rows.now name.now traced o words.old (length out.old))
+    ensures { Cut (cut_ordered ask font.now rows.now name.now (flag_of traced) o words.old (length out.old))
         out.old out.new result }
 {
     let mut slots = [0usize; 272];
     let own = front::prepare_named(font, o, &mut slots, &*words, &mut *window);
     if 64609 < own.count {
-        return Answer::Refused(Refusal::STRING_ID);
+        return Err(Refusal::StringId);
     }
     let encoding = encode_behind(font, o, ask, &*words, &mut *window, &mut slots);
-    if 255 < encoding.pairs {
-        return Answer::Refused(Refusal::PAIRS);
+    if 255 < encoding.pairs() {
+        return Err(Refusal::Pairs);
     }
     let names = Names { own, encoding };
     cut_prepared(
@@ -175,7 +176,7 @@ fn cut_ordered(
     )
 }
 
-// The subset in the front of the output, with its encoding where it is asked for, or refusal 12, 13, 10 or 11. The work words are used.
+// The subset in the front of the output, with its encoding where it is asked for; or refused as above. The work words are used.
 pub fn cut_named(
     font: &[u8],
     f: Font,
@@ -183,13 +184,13 @@ pub fn cut_named(
     name: &[u8],
     keep: &[u16],
     rows: &[u8],
-    traced: u8,
+    traced: bool,
     words: &mut [u32],
     out: &mut [u8],
-) -> Answer
+) -> Result<Subsetted, Refusal>
     requires { (FontHeld font.now f)
-        × (Passed false ask (program_of font.now f) (length name.now) keep.now rows.now traced (length words.old)) }
-    ensures { Cut (cut_behind ask (program_of font.now f) name.now keep.now rows.now traced (length out.old))
+        × (Passed false ask (program_of font.now f) (length name.now) keep.now rows.now (flag_of traced) (length words.old)) }
+    ensures { Cut (cut_behind ask (program_of font.now f) name.now keep.now rows.now (flag_of traced) (length out.old))
         out.old out.new result }
 {
     let mut window = [0u32; 4096];

@@ -1,24 +1,26 @@
 -- What the entries of subsetting for C answer (document 01, 'Entries and their refusals'), and what they leave in all that is lent: the
 -- outcome of the call says it, with no room where fewer than two words are lent for the answer.
-use Rattle.std.specs.Prelude.{ℕ, ◌≡◌, Bool, List, [], ◌∷◌, ltb, length}
+use Rattle.std.specs.Prelude.{ℕ, ◌≡◌, Bool, List, [], ◌∷◌, ltb, length, Result, Ok, Err}
 use Rattle.octets.specs.Pick.{pick}
+use Rattle.refusal.specs.Refusal.{number_of}
+use Rattle.refusal.specs.declared.Refusal.{Refusal}
 use Rattle.cff.specs.Font.{Program, read_font}
 use Rattle.subset.specs.Cut.{Outcome, cut_with, leaves_out, leaves_work}
 use Rattle.faithful.specs.Faithful.{Faithful}
 use Rattle.faithful.specs.Codes.{KeepsCodes}
 use Rattle.outcome.specs.Entry.{answer_of, work_in}
-use Rattle.outcome.specs.declared.Answer.{Answer as CutAnswer}
-use Rattle.outcome.specs.declared.Answer.TheVariants.{Refused, Subset}
+use Rattle.outcome.specs.declared.Subsetted.{Subsetted}
 use Rattle.capi.specs.Capi.{Answer, refused, given, Answers}
+use Rattle.subset.specs.Way.{way_number}
 
 -- the room for a subset, by the words that are lent for its answer: so 11, the last refusal, stands for too few of them too
 abbrev pub room_for : ℕ → ℕ → ℕ
 room_for words room = pick (ltb words 2) 0 room
 
 -- the two words of a subset: the way and its length
-abbrev pub cut_answer : CutAnswer → Answer
-cut_answer (Refused n) = refused n
-cut_answer (Subset way len) = given (way ∷ len ∷ [])
+abbrev pub cut_answer : Result Subsetted Refusal → Answer
+cut_answer (Err n) = refused (number_of n)
+cut_answer (Ok c) = given (way_number c.way ∷ c.len ∷ [])
 
 module _ (size : Program → ℕ) (cid ask : Bool) (font name keep rec : List ℕ) (flag : ℕ) (work out answer : List ℕ) where
   -- the outcome of a call that asks for so many words, to which this is lent

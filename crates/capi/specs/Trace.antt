@@ -1,16 +1,17 @@
 -- What the tracer for C answers (document 02, Wish 1), and what it leaves in all that is lent: the outcome of the call says it, with no room for the record
 -- where fewer than two words are lent for the answer.
-use Rattle.std.specs.Prelude.{ℕ, ◌≡◌, List, [], ◌∷◌, length}
+use Rattle.std.specs.Prelude.{ℕ, ◌≡◌, List, [], ◌∷◌, length, Result, Ok, Err}
+use Rattle.refusal.specs.Refusal.{number_of}
+use Rattle.refusal.specs.declared.Refusal.{Refusal}
 use Rattle.traced.specs.Traced.{Traced, trace_of, traced_as, leaves_record}
-use Rattle.traced.specs.declared.TracedAs.{TracedAs}
-use Rattle.traced.specs.declared.TracedAs.TheVariants.{Refused, Record}
+use Rattle.traced.specs.declared.Recorded.{Recorded}
 use Rattle.capi.specs.Capi.{Answer, refused, given, Answers}
 use Rattle.capi.specs.Subset.{room_for}
 
 -- the two words of a record: the flag and its length
-abbrev pub traced_answer : TracedAs → Answer
-traced_answer (Refused n) = refused n
-traced_answer (Record flag len) = given (flag ∷ len ∷ [])
+abbrev pub traced_answer : Result Recorded Refusal → Answer
+traced_answer (Err n) = refused (number_of n)
+traced_answer (Ok t) = given (t.flag ∷ t.len ∷ [])
 
 module _ (font keep out answer : List ℕ) where
   -- the outcome of a call to which this is lent

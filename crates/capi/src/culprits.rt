@@ -4,16 +4,16 @@ ghost use Rattle.capi.specs.Capi.{Answers};
 ghost use Rattle.capi.specs.Blocking.{culprit_answer, AnswersBlocking};
 
 use crate::put_word;
-use culprit::Culprit;
+use refusal::Refusal;
 
 // Writes the glyph, or that there is none, to the lent words.
-fn put_culprit(c: Culprit, answer: &mut [u64]) -> u8
+fn put_culprit(c: Result<Option<u16>, Refusal>, answer: &mut [u64]) -> u8
     ensures { Answers (culprit_answer c) answer.old answer.new result }
 {
     match c {
-        Culprit::Refused(n) => n,
-        Culprit::None => put_word(65536, answer),
-        Culprit::Glyph(g) => put_word(g as u64, answer),
+        Err(e) => e.number(),
+        Ok(None) => put_word(65536, answer),
+        Ok(Some(g)) => put_word(g as u64, answer),
     }
 }
 

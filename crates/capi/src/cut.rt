@@ -6,7 +6,7 @@ ghost use Rattle.small.specs.Small.{small_size};
 ghost use Rattle.capi.specs.Capi.{given, Answers};
 ghost use Rattle.capi.specs.Subset.{room_for, cut_answer, AnswersCut};
 
-use outcome::Answer;
+use outcome::Subsetted;
 use refusal::Refusal;
 
 // The room for a subset: none where fewer than two words are lent for its answer.
@@ -24,7 +24,7 @@ pub fn put_two(first: u64, second: u64, answer: &mut [u64]) -> u8
     ensures { Answers (given (first ∷ second ∷ [])) answer.old answer.new result }
 {
     if answer.len() < 2 {
-        return Refusal::OUTPUT;
+        return Refusal::Output.number();
     }
     answer[0] = first;
     answer[1] = second;
@@ -32,12 +32,12 @@ pub fn put_two(first: u64, second: u64, answer: &mut [u64]) -> u8
 }
 
 // Writes the way and the length of a subset to the lent words.
-fn put_cut(cut: Answer, answer: &mut [u64]) -> u8
+fn put_cut(cut: Result<Subsetted, Refusal>, answer: &mut [u64]) -> u8
     ensures { Answers (cut_answer cut) answer.old answer.new result }
 {
     match cut {
-        Answer::Refused(n) => n,
-        Answer::Subset { way, len } => put_two(way as u64, len as u64, answer),
+        Err(e) => e.number(),
+        Ok(c) => put_two(c.way.number() as u64, c.len as u64, answer),
     }
 }
 

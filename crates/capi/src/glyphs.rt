@@ -6,18 +6,17 @@ ghost use Rattle.cff_entries.specs.Kinds.{kind_of};
 ghost use Rattle.glyph_entries.specs.Glyph.{glyph_of, Tells};
 ghost use Rattle.find_many.specs.Many.{names_found, cids_found, Finds};
 ghost use Rattle.glyph_entries.specs.Place.{Shows};
-ghost use Rattle.capi.specs.Capi.{lookup_refusal};
+ghost use Rattle.capi.specs.Capi.{ForC, lookup_refusal};
 
-use cff::ReadAs;
-use refusal::Refusal;
+use refusal::number_or_0;
 
 // The name of a glyph, copied to the start of the lent bytes, and four words: 1 for a CID-keyed font and 0 for a name-keyed one, the glyph's CID or
 // string id, its FD, and the length of its name.
 #[unsafe(no_mangle)]
 pub extern "C" fn cff_glyph(font: &[u8], glyph: u64, name: &mut [u8], answer: &mut [u64]) -> u8
-    ensures { Tells (glyph_of (read_font font.now) glyph) name.old name.new answer.old answer.new result }
+    ensures { ForC (Tells (glyph_of (read_font font.now) glyph) name.old name.new answer.old answer.new) result }
 {
-    glyph_entries::glyph(font, glyph as usize, name, answer)
+    number_or_0(glyph_entries::glyph(font, glyph as usize, name, answer))
 }
 
 // Finds the glyph of each name, 65536 where it is absent. The names stand one behind the other; their lengths are lent beside them.
@@ -28,36 +27,29 @@ pub extern "C" fn cff_find_names(
     lengths: &[u32],
     glyphs: &mut [u32],
 ) -> u8
-    ensures { Finds (names_found (read_font font.now) names.now lengths.now) glyphs.old glyphs.new result }
+    ensures { ForC (Finds (names_found (read_font font.now) names.now lengths.now) glyphs.old glyphs.new) result }
 {
-    find_many::names::find_names(font, names, lengths, glyphs)
+    number_or_0(find_many::names::find_names(font, names, lengths, glyphs))
 }
 
 // Finds the glyph of each CID, 65536 where it is absent.
 #[unsafe(no_mangle)]
 pub extern "C" fn cff_find_cids(font: &[u8], cids: &[u16], glyphs: &mut [u32]) -> u8
-    ensures { Finds (cids_found (read_font font.now) cids.now) glyphs.old glyphs.new result }
+    ensures { ForC (Finds (cids_found (read_font font.now) cids.now) glyphs.old glyphs.new) result }
 {
-    find_many::cids::find_cids(font, cids, glyphs)
+    number_or_0(find_many::cids::find_cids(font, cids, glyphs))
 }
 
 // Where an item stands in the caller's bytes: two words, its place and its length. The refusals are those of `cff_item_refusal`, then 11.
 #[unsafe(no_mangle)]
 pub extern "C" fn cff_item_place(font: &[u8], kind: u8, number: u64, answer: &mut [u64]) -> u8
-    ensures { Shows font.now (lookup_refusal (read_font font.now) kind number) (item_of (read_font font.now) (kind_of kind) number)
-        answer.old answer.new result }
+    ensures { ForC (Shows font.now (lookup_refusal (read_font font.now) kind number) (item_of (read_font font.now) (kind_of kind) number)
+        answer.old answer.new) result }
 {
     if kind < 3 {
-        return glyph_entries::places::item_place(
-            font,
-            cff_entries::kind_of(kind),
-            number as usize,
-            answer,
-        );
+        let kind = cff_entries::kind_of(kind);
+        let n = number as usize;
+        return number_or_0(glyph_entries::places::item_place(font, kind, n, answer));
     }
-    let read = cff_entries::read(font);
-    match read {
-        ReadAs::Refused(n) => n,
-        ReadAs::Font(_) => Refusal::NO_SUCH_NUMBER,
-    }
+    number_or_0(crate::lookup(font, kind, number))
 }

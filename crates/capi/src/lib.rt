@@ -13,28 +13,34 @@ pub mod trace;
 ghost use Rattle.std.specs.Prelude.{◌≡◌, [], ◌∷◌};
 ghost use Rattle.cff.specs.Font.{read_font};
 ghost use Rattle.cff.specs.Find.{read_as, name_as, cid_as};
-ghost use Rattle.capi.specs.Capi.{count_words, given, read_answer, found_answer, Answers, lookup_refusal, item_answer, AnswersItem};
+ghost use Rattle.refusal.specs.Refusal.{number_or_0};
+ghost use Rattle.capi.specs.Capi.{given, read_answer, found_answer, Answers, lookup_refusal, item_answer, AnswersItem};
 
-use cff::{Counts, FoundAs, ReadAs};
+use cff::Counts;
 use refusal::Refusal;
 
 // What finding answers for a glyph that is absent: past every glyph's number.
 const ABSENT: u64 = 65536;
 
-// Writes the counts of a font to the lent words.
-fn put_counts(c: Counts, answer: &mut [u64]) -> u8
-    ensures { Answers (given (count_words c)) answer.old answer.new result }
+// Writes the counts of a font that was read to the lent words.
+fn put_counts(read: Result<Counts, Refusal>, answer: &mut [u64]) -> u8
+    ensures { Answers (read_answer read) answer.old answer.new result }
 {
-    if answer.len() < 5 {
-        return Refusal::OUTPUT;
+    match read {
+        Err(e) => e.number(),
+        Ok(c) => {
+            if answer.len() < 5 {
+                return Refusal::Output.number();
+            }
+            let k = cff_entries::keying(c.cid);
+            answer[0] = c.glyphs as u64;
+            answer[1] = c.globals as u64;
+            answer[2] = c.strings as u64;
+            answer[3] = k;
+            answer[4] = c.work as u64;
+            0
+        }
     }
-    let k = cff_entries::keying(c.cid);
-    answer[0] = c.glyphs as u64;
-    answer[1] = c.globals as u64;
-    answer[2] = c.strings as u64;
-    answer[3] = k;
-    answer[4] = c.work as u64;
-    0
 }
 
 // Writes one number to the lent words.
@@ -42,7 +48,7 @@ pub fn put_word(w: u64, answer: &mut [u64]) -> u8
     ensures { Answers (given (w ∷ [])) answer.old answer.new result }
 {
     if answer.len() < 1 {
-        return Refusal::OUTPUT;
+        return Refusal::Output.number();
     }
     answer[0] = w;
     0
@@ -53,21 +59,17 @@ pub fn put_word(w: u64, answer: &mut [u64]) -> u8
 pub extern "C" fn cff_read(font: &[u8], answer: &mut [u64]) -> u8
     ensures { Answers (read_answer (read_as (read_font font.now))) answer.old answer.new result }
 {
-    let read = cff_entries::read(font);
-    match read {
-        ReadAs::Refused(n) => n,
-        ReadAs::Font(c) => put_counts(c, answer),
-    }
+    put_counts(cff_entries::read(font), answer)
 }
 
 // Writes the glyph that was found to the lent words.
-fn put_found(found: FoundAs, answer: &mut [u64]) -> u8
+fn put_found(found: Result<Option<usize>, Refusal>, answer: &mut [u64]) -> u8
     ensures { Answers (found_answer found) answer.old answer.new result }
 {
     match found {
-        FoundAs::Refused(n) => n,
-        FoundAs::Absent => put_word(ABSENT, answer),
-        FoundAs::Glyph(g) => put_word(g as u64, answer),
+        Err(e) => e.number(),
+        Ok(None) => put_word(ABSENT, answer),
+        Ok(Some(g)) => put_word(g as u64, answer),
     }
 }
 
@@ -87,19 +89,23 @@ pub extern "C" fn cff_find_cid(font: &[u8], cid: u16, answer: &mut [u64]) -> u8
     put_found(cff_entries::find_cid(font, cid as usize), answer)
 }
 
-// The refusal of a lookup of an item, or 0: reading's, then 6 where the kind has no such number, or the number of the kind is above 2.
-#[unsafe(no_mangle)]
-pub extern "C" fn cff_item_refusal(font: &[u8], kind: u8, number: u64) -> u8
+// The refusal of a lookup of an item, if it is refused: reading's, then that of no such number of the kind, or of a kind above 2.
+fn lookup(font: &[u8], kind: u8, number: u64) -> Result<(), Refusal>
     ensures { result ≡ lookup_refusal (read_font font.now) kind number }
 {
     if kind < 3 {
         return cff_entries::item_refusal(font, cff_entries::kind_of(kind), number as usize);
     }
-    let read = cff_entries::read(font);
-    match read {
-        ReadAs::Refused(n) => n,
-        ReadAs::Font(_) => Refusal::NO_SUCH_NUMBER,
-    }
+    cff_entries::read(font)?;
+    Err(Refusal::NoSuchNumber)
+}
+
+// The refusal of a lookup of an item, or 0: reading's, then 6 where the kind has no such number, or the number of the kind is above 2.
+#[unsafe(no_mangle)]
+pub extern "C" fn cff_item_refusal(font: &[u8], kind: u8, number: u64) -> u8
+    ensures { result ≡ number_or_0 (lookup_refusal (read_font font.now) kind number) }
+{
+    refusal::number_or_0(lookup(font, kind, number))
 }
 
 // An item, copied to the start of the lent bytes; its length goes to the lent words.
@@ -114,16 +120,15 @@ pub extern "C" fn cff_item(
     ensures { AnswersItem (item_answer (read_font font.now) kind number)
         out.old out.new size.old size.new result }
 {
-    let n = cff_item_refusal(font, kind, number);
-    if 0 < n {
-        return n;
+    if let Err(e) = lookup(font, kind, number) {
+        return e.number();
     }
     let item = cff_entries::item(font, cff_entries::kind_of(kind), number as usize);
     if out.len() < item.len() {
-        return Refusal::OUTPUT;
+        return Refusal::Output.number();
     }
     if size.len() < 1 {
-        return Refusal::OUTPUT;
+        return Refusal::Output.number();
     }
     let end = octets::put_bytes(out, 0, item);
     size[0] = end as u64;

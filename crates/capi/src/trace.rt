@@ -4,15 +4,16 @@ ghost use Rattle.capi.specs.Capi.{Answers};
 ghost use Rattle.capi.specs.Trace.{traced_answer, AnswersTrace};
 
 use crate::cut::{put_two, room_for};
-use traced::TracedAs;
+use refusal::Refusal;
+use traced::Recorded;
 
 // Writes the flag and the length of a record to the lent words.
-fn put_traced(t: TracedAs, answer: &mut [u64]) -> u8
+fn put_traced(t: Result<Recorded, Refusal>, answer: &mut [u64]) -> u8
     ensures { Answers (traced_answer t) answer.old answer.new result }
 {
     match t {
-        TracedAs::Refused(n) => n,
-        TracedAs::Record { flag, len } => put_two(flag as u64, len as u64, answer),
+        Err(e) => e.number(),
+        Ok(t) => put_two(t.flag as u64, t.len as u64, answer),
     }
 }
 

@@ -33,7 +33,7 @@ fn put_tally(agreed: usize, failed: usize, out: &mut [u8], at: usize) -> usize
     put_count(b" failed ", failed, out, p)
 }
 
-// A row: its letter, its counts and a line feed.
+// A row: its letter, its counts and a line feed. The kind is that letter, as the lines have it.
 fn put_row(kind: u8, agreed: usize, failed: usize, out: &mut [u8], at: usize) -> usize
     requires { at + 68 ≤ length out.old }
     ensures { Wrote out.old at (row_bytes kind agreed failed) out.new result }

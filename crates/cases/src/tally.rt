@@ -3,7 +3,7 @@ ghost use Rattle.std.specs.Prelude.{◌+◌, ◌*◌, ◌≤◌, ◌≡◌, leng
 ghost use Rattle.octets.specs.Lists.{before};
 ghost use Rattle.cases.specs.Tally.{is_one_of, counted, earlier, Below};
 
-// Whether a kind is one of the letters.
+// Whether a kind is one of the letters. A kind is the letter of a line, which may be any.
 pub fn is_one_of(letters: &[u8], kind: u8) -> bool
     ensures { result ≡ is_one_of letters.now kind }
 {

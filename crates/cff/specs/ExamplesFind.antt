@@ -1,5 +1,5 @@
 -- Worked examples, computed: a small CID-keyed font, and finding by CID and by name.
-use Rattle.std.specs.Prelude.{ℕ, ◌≡◌, refl, true, List, [], ◌∷◌, ◌++◌}
+use Rattle.std.specs.Prelude.{ℕ, ◌≡◌, refl, true, List, [], ◌∷◌, ◌++◌, Ok, Some, None}
 use Rattle.octets.specs.Octets.{be, num_at}
 use Rattle.octets.specs.Lists.{all_below}
 use Rattle.index.specs.Index.{offsets, run_of, judged, data_at, table_at, index_at, pieces, items_of, told, read_index}
@@ -19,8 +19,6 @@ use Rattle.opentype.specs.Opentype.{place_of}
 use Rattle.cff.specs.Font.{locals_at, private_data, private_at, privates_at, ids_at, fds_at, coding_at, encoding_got, cid_parts, name_parts, font_at, fonts_at, set_at, read_table, read_font}
 use Rattle.cff.specs.Examples.{sheet}
 use Rattle.cff.specs.Find.{locals_words, read_as, name_as, cid_as}
-use Rattle.cff.specs.declared.ReadAs.TheVariants.{Font}
-use Rattle.cff.specs.declared.FoundAs.TheVariants.{Absent, Glyph}
 
 -- the name space
 abbrev space : List ℕ
@@ -43,7 +41,7 @@ cid_font =
     ((0x8d ∷ 0x13 ∷ []) ++
     (0x00 ∷ 0x01 ∷ 0x01 ∷ 0x01 ∷ 0x02 ∷ 0x0b ∷ []))))))))))
 
-cid_read : read_as (read_font cid_font) ≡ Font (record { glyphs = 2; globals = 0; strings = 0; cid = true; work = 5 })
+cid_read : read_as (read_font cid_font) ≡ Ok (record { glyphs = 2; globals = 0; strings = 0; cid = true; work = 5 })
 unfolding
     read_font read_table place_of set_at fonts_at font_at cid_parts privates_at private_at private_data locals_at fds_at fd_select_at all_below ids_at charset_at ids_from read_index told index_at table_at
     data_at run_of judged offsets pieces items_of num_at be dict_of gathered readings_at readings_from entry_at entry_from token_at operator_at number_at real_at normal zeros
@@ -51,21 +49,21 @@ unfolding
 cid_read = refl
 
 -- CID 5 is glyph 1, and no glyph has CID 1; no glyph of a CID-keyed font has a name
-cid_5 : cid_as (read_font cid_font) 5 ≡ Glyph 1
+cid_5 : cid_as (read_font cid_font) 5 ≡ Ok (Some 1)
 unfolding
     read_font read_table place_of set_at fonts_at font_at cid_parts privates_at private_at private_data locals_at fds_at fd_select_at all_below ids_at charset_at ids_from read_index told index_at table_at
     data_at run_of judged offsets pieces items_of num_at be dict_of gathered readings_at readings_from entry_at entry_from token_at operator_at number_at real_at normal zeros
     zeros_of stripped last_of last_from trunc_of list_of glyph_with_id
 cid_5 = refl
 
-cid_1 : cid_as (read_font cid_font) 1 ≡ Absent
+cid_1 : cid_as (read_font cid_font) 1 ≡ Ok None
 unfolding
     read_font read_table place_of set_at fonts_at font_at cid_parts privates_at private_at private_data locals_at fds_at fd_select_at all_below ids_at charset_at ids_from read_index told index_at table_at
     data_at run_of judged offsets pieces items_of num_at be dict_of gathered readings_at readings_from entry_at entry_from token_at operator_at number_at real_at normal zeros
     zeros_of stripped last_of last_from trunc_of list_of glyph_with_id
 cid_1 = refl
 
-cid_no_name : name_as (read_font cid_font) space ≡ Absent
+cid_no_name : name_as (read_font cid_font) space ≡ Ok None
 unfolding
     read_font read_table place_of set_at fonts_at font_at cid_parts privates_at private_at private_data locals_at fds_at fd_select_at all_below ids_at charset_at ids_from read_index told index_at table_at
     data_at run_of judged offsets pieces items_of num_at be dict_of gathered readings_at readings_from entry_at entry_from token_at operator_at number_at real_at normal zeros
@@ -73,21 +71,21 @@ unfolding
 cid_no_name = refl
 
 -- the font of document 01's sheet has the glyphs.notdef and space, none of the name A, and no CIDs
-sheet-space : name_as (read_font sheet) space ≡ Glyph 1
+sheet-space : name_as (read_font sheet) space ≡ Ok (Some 1)
 unfolding
     read_font read_table place_of set_at fonts_at font_at name_parts private_at ids_at coding_at encoding_got read_index told index_at table_at data_at run_of judged offsets pieces items_of num_at be dict_of
     gathered readings_at readings_from entry_at entry_from token_at operator_at number_at real_at normal zeros zeros_of stripped last_of last_from trunc_of list_of
     glyph_with_text string_text standard_string standard_strings standard_names codes same_text_lem
 sheet-space = refl
 
-sheet_A : name_as (read_font sheet) (0x41 ∷ []) ≡ Absent
+sheet_A : name_as (read_font sheet) (0x41 ∷ []) ≡ Ok None
 unfolding
     read_font read_table place_of set_at fonts_at font_at name_parts private_at ids_at coding_at encoding_got read_index told index_at table_at data_at run_of judged offsets pieces items_of num_at be dict_of
     gathered readings_at readings_from entry_at entry_from token_at operator_at number_at real_at normal zeros zeros_of stripped last_of last_from trunc_of list_of
     glyph_with_text string_text standard_string standard_strings standard_names codes same_text_lem
 sheet_A = refl
 
-sheet_no_cid : cid_as (read_font sheet) 1 ≡ Absent
+sheet_no_cid : cid_as (read_font sheet) 1 ≡ Ok None
 unfolding
     read_font read_table place_of set_at fonts_at font_at name_parts private_at ids_at coding_at encoding_got read_index told index_at table_at data_at run_of judged offsets pieces items_of num_at be dict_of
     gathered readings_at readings_from entry_at entry_from token_at operator_at number_at real_at normal zeros zeros_of stripped last_of last_from trunc_of list_of

@@ -1,6 +1,6 @@
 -- Worked examples, computed: the refusals of reading that Examples does not have (2, 4, 5), 6 of an item, a set of two fonts, a name and a CID that
 -- two glyphs have, the empty name, and an FD past the FD array. Each font is built as document 01's.
-use Rattle.std.specs.Prelude.{ℕ, ◌<◌, ◌≡◌, refl, false, List, [], ◌∷◌, length}
+use Rattle.std.specs.Prelude.{ℕ, ◌<◌, ◌≡◌, refl, false, List, [], ◌∷◌, length, Result, Ok, Err, Some}
 use Rattle.std.proofs.Common.{sym, ap, ◌∙◌, arith}
 use Rattle.octets.specs.Octets.{be, num_at}
 use Rattle.octets.specs.Lists.{all_below}
@@ -22,13 +22,13 @@ use Rattle.opentype.specs.Opentype.{place_of}
 use Rattle.cff.specs.Font.{locals_at, private_data, private_at, privates_at, ids_at, fds_at, coding_at, encoding_got, cid_parts, name_parts, font_at, fonts_at, set_at, read_table, read_at, read_font}
 use Rattle.cff.specs.Find.{locals_words, read_as, name_as, cid_as, item_refusal_lem, item_of}
 use Rattle.opentype.specs.OpentypeLaws.{file_long}
-use Rattle.opentype.specs.declared.Place.{Place}
 use Rattle.cff.specs.SetLaws.{font_other}
 use Rattle.cff.specs.FileLaws.{bare}
 use Rattle.cff.specs.Examples.{sheet}
-use Rattle.cff.specs.declared.ReadAs.TheVariants.{Refused, Font}
-use Rattle.cff.specs.declared.FoundAs.TheVariants.{Glyph}
 use Rattle.cff.specs.declared.ItemKind.TheVariants.{Charstring, Global, Text}
+use Rattle.opentype.specs.declared.TableAt.{TableAt}
+use Rattle.refusal.specs.declared.Refusal.{Refusal}
+use Rattle.refusal.specs.declared.Refusal.TheVariants.{Malformed, Unsupported, TooLong, Real, NoSuchNumber}
 
 -- ---- 2: malformed
 
@@ -38,7 +38,7 @@ offset0 =
     0x01 ∷ 0x00 ∷ 0x04 ∷ 0x01 ∷ 0x00 ∷ 0x01 ∷ 0x01 ∷ 0x01 ∷ 0x02 ∷ 0x58 ∷ 0x00 ∷ 0x01 ∷ 0x01 ∷ 0x01 ∷ 0x03 ∷ 0xa0 ∷ 0x11 ∷ 0x00 ∷ 0x00 ∷ 0x00 ∷ 0x00 ∷ 0x00 ∷ 0x02 ∷ 0x01
     ∷ 0x00 ∷ 0x02 ∷ 0x03 ∷ 0x0e ∷ 0x0e ∷ []
 
-offset_0 : read_as (read_font offset0) ≡ Refused 2
+offset_0 : read_as (read_font offset0) ≡ Err Malformed
 unfolding
     read_font read_table place_of set_at fonts_at font_at name_parts private_at ids_at charset_at ids_from coding_at encoding_got read_index told index_at table_at data_at run_of judged offsets pieces items_of num_at
     be dict_of gathered readings_at readings_from entry_at entry_from token_at operator_at number_at real_at nibbles text_of exp_digits exponent mantissa form_of value_of normal
@@ -50,7 +50,7 @@ abbrev no_charstrings : List ℕ
 no_charstrings =
     0x01 ∷ 0x00 ∷ 0x04 ∷ 0x01 ∷ 0x00 ∷ 0x01 ∷ 0x01 ∷ 0x01 ∷ 0x02 ∷ 0x58 ∷ 0x00 ∷ 0x01 ∷ 0x01 ∷ 0x01 ∷ 0x01 ∷ 0x00 ∷ 0x00 ∷ 0x00 ∷ 0x00 ∷ []
 
-no-charstrings : read_as (read_font no_charstrings) ≡ Refused 2
+no-charstrings : read_as (read_font no_charstrings) ≡ Err Malformed
 unfolding
     read_font read_table place_of set_at fonts_at font_at name_parts private_at ids_at charset_at ids_from coding_at encoding_got read_index told index_at table_at data_at run_of judged offsets pieces items_of num_at
     be dict_of gathered readings_at readings_from entry_at entry_from token_at operator_at number_at real_at nibbles text_of exp_digits exponent mantissa form_of value_of normal
@@ -59,11 +59,11 @@ no-charstrings = refl
 
 -- ---- 4: above 67,108,864 bytes, and not at it
 
-too_long : (b : List ℕ) → 67108864 < length b → read_as (read_font b) ≡ Refused 4
+too_long : (b : List ℕ) → 67108864 < length b → read_as (read_font b) ≡ Err TooLong
 unfolding read_font
-too_long b h = ap (λ (x : Place). read_as (read_at b x)) (sym (file_long b h))
+too_long b h = ap (λ (x : Result TableAt Refusal). read_as (read_at b x)) (sym (file_long b h))
 
-longest : (rest : List ℕ) → length (2 ∷ 0 ∷ 4 ∷ 1 ∷ rest) ≡ 67108864 → read_as (read_font (2 ∷ 0 ∷ 4 ∷ 1 ∷ rest)) ≡ Refused 3
+longest : (rest : List ℕ) → length (2 ∷ 0 ∷ 4 ∷ 1 ∷ rest) ≡ 67108864 → read_as (read_font (2 ∷ 0 ∷ 4 ∷ 1 ∷ rest)) ≡ Err Unsupported
 unfolding num_at be
 longest rest h =
     let b : List ℕ = 2 ∷ 0 ∷ 4 ∷ 1 ∷ rest in
@@ -76,7 +76,7 @@ digits16 =
     0x01 ∷ 0x00 ∷ 0x04 ∷ 0x01 ∷ 0x00 ∷ 0x01 ∷ 0x01 ∷ 0x01 ∷ 0x02 ∷ 0x58 ∷ 0x00 ∷ 0x01 ∷ 0x01 ∷ 0x01 ∷ 0x0e ∷ 0x1e ∷ 0x12 ∷ 0x34 ∷ 0x56 ∷ 0x78 ∷ 0x90 ∷ 0x12 ∷ 0x34 ∷ 0x56
     ∷ 0xff ∷ 0x0d ∷ 0xab ∷ 0x11 ∷ 0x00 ∷ 0x00 ∷ 0x00 ∷ 0x00 ∷ 0x00 ∷ 0x01 ∷ 0x01 ∷ 0x01 ∷ 0x02 ∷ 0x0e ∷ []
 
-digits_16 : read_as (read_font digits16) ≡ Refused 5
+digits_16 : read_as (read_font digits16) ≡ Err Real
 unfolding
     read_font read_table place_of set_at fonts_at font_at name_parts private_at ids_at charset_at ids_from coding_at encoding_got read_index told index_at table_at data_at run_of judged offsets pieces items_of num_at
     be dict_of gathered readings_at readings_from entry_at entry_from token_at operator_at number_at real_at nibbles text_of exp_digits exponent mantissa form_of value_of normal
@@ -88,7 +88,7 @@ digits15 =
     0x01 ∷ 0x00 ∷ 0x04 ∷ 0x01 ∷ 0x00 ∷ 0x01 ∷ 0x01 ∷ 0x01 ∷ 0x02 ∷ 0x58 ∷ 0x00 ∷ 0x01 ∷ 0x01 ∷ 0x01 ∷ 0x0d ∷ 0x1e ∷ 0x12 ∷ 0x34 ∷ 0x56 ∷ 0x78 ∷ 0x90 ∷ 0x12 ∷ 0x34 ∷ 0x5f
     ∷ 0x0d ∷ 0xaa ∷ 0x11 ∷ 0x00 ∷ 0x00 ∷ 0x00 ∷ 0x00 ∷ 0x00 ∷ 0x01 ∷ 0x01 ∷ 0x01 ∷ 0x02 ∷ 0x0e ∷ []
 
-digits_15 : read_as (read_font digits15) ≡ Font (record { glyphs = 1; globals = 0; strings = 0; cid = false; work = 2 })
+digits_15 : read_as (read_font digits15) ≡ Ok (record { glyphs = 1; globals = 0; strings = 0; cid = false; work = 2 })
 unfolding
     read_font read_table place_of set_at fonts_at font_at name_parts private_at ids_at charset_at ids_from coding_at encoding_got read_index told index_at table_at data_at run_of judged offsets pieces items_of num_at
     be dict_of gathered readings_at readings_from entry_at entry_from token_at operator_at number_at real_at nibbles text_of exp_digits exponent mantissa form_of value_of normal
@@ -97,28 +97,28 @@ digits_15 = refl
 
 -- ---- 6: an item that is not there; the part is empty
 
-no_glyph_2 : item_refusal_lem (read_font sheet) Charstring 2 ≡ 6
+no_glyph_2 : item_refusal_lem (read_font sheet) Charstring 2 ≡ Err NoSuchNumber
 unfolding
     read_font read_table place_of set_at fonts_at font_at name_parts private_at ids_at charset_at ids_from coding_at encoding_got read_index told index_at table_at data_at run_of judged offsets pieces items_of num_at
     be dict_of gathered readings_at readings_from entry_at entry_from token_at operator_at number_at real_at nibbles text_of exp_digits exponent mantissa form_of value_of normal
     zeros zeros_of stripped last_of last_from trunc_of list_of locals_words
 no_glyph_2 = refl
 
-no_global_0 : item_refusal_lem (read_font sheet) Global 0 ≡ 6
+no_global_0 : item_refusal_lem (read_font sheet) Global 0 ≡ Err NoSuchNumber
 unfolding
     read_font read_table place_of set_at fonts_at font_at name_parts private_at ids_at charset_at ids_from coding_at encoding_got read_index told index_at table_at data_at run_of judged offsets pieces items_of num_at
     be dict_of gathered readings_at readings_from entry_at entry_from token_at operator_at number_at real_at nibbles text_of exp_digits exponent mantissa form_of value_of normal
     zeros zeros_of stripped last_of last_from trunc_of list_of locals_words
 no_global_0 = refl
 
-no_string_0 : item_refusal_lem (read_font sheet) Text 0 ≡ 6
+no_string_0 : item_refusal_lem (read_font sheet) Text 0 ≡ Err NoSuchNumber
 unfolding
     read_font read_table place_of set_at fonts_at font_at name_parts private_at ids_at charset_at ids_from coding_at encoding_got read_index told index_at table_at data_at run_of judged offsets pieces items_of num_at
     be dict_of gathered readings_at readings_from entry_at entry_from token_at operator_at number_at real_at nibbles text_of exp_digits exponent mantissa form_of value_of normal
     zeros zeros_of stripped last_of last_from trunc_of list_of locals_words
 no_string_0 = refl
 
-glyph_1_there : item_refusal_lem (read_font sheet) Charstring 1 ≡ 0
+glyph_1_there : item_refusal_lem (read_font sheet) Charstring 1 ≡ Ok tt
 unfolding
     read_font read_table place_of set_at fonts_at font_at name_parts private_at ids_at charset_at ids_from coding_at encoding_got read_index told index_at table_at data_at run_of judged offsets pieces items_of num_at
     be dict_of gathered readings_at readings_from entry_at entry_from token_at operator_at number_at real_at nibbles text_of exp_digits exponent mantissa form_of value_of normal
@@ -140,7 +140,7 @@ two_fonts =
     0x01 ∷ 0x00 ∷ 0x04 ∷ 0x01 ∷ 0x00 ∷ 0x02 ∷ 0x01 ∷ 0x01 ∷ 0x02 ∷ 0x03 ∷ 0x58 ∷ 0x59 ∷ 0x00 ∷ 0x02 ∷ 0x01 ∷ 0x01 ∷ 0x03 ∷ 0x05 ∷ 0xa5 ∷ 0x11 ∷ 0xab ∷ 0x11 ∷ 0x00 ∷ 0x00
     ∷ 0x00 ∷ 0x00 ∷ 0x00 ∷ 0x01 ∷ 0x01 ∷ 0x01 ∷ 0x02 ∷ 0x0e ∷ 0x00 ∷ 0x02 ∷ 0x01 ∷ 0x01 ∷ 0x02 ∷ 0x03 ∷ 0x0e ∷ 0x0e ∷ []
 
-two-fonts : read_as (read_font two_fonts) ≡ Font (record { glyphs = 1; globals = 0; strings = 0; cid = false; work = 2 })
+two-fonts : read_as (read_font two_fonts) ≡ Ok (record { glyphs = 1; globals = 0; strings = 0; cid = false; work = 2 })
 unfolding
     read_font read_table place_of set_at fonts_at font_at name_parts private_at ids_at charset_at ids_from coding_at encoding_got read_index told index_at table_at data_at run_of judged offsets pieces items_of num_at
     be dict_of gathered readings_at readings_from entry_at entry_from token_at operator_at number_at real_at nibbles text_of exp_digits exponent mantissa form_of value_of normal
@@ -153,7 +153,7 @@ second_bad =
     0x01 ∷ 0x00 ∷ 0x04 ∷ 0x01 ∷ 0x00 ∷ 0x02 ∷ 0x01 ∷ 0x01 ∷ 0x02 ∷ 0x03 ∷ 0x58 ∷ 0x59 ∷ 0x00 ∷ 0x02 ∷ 0x01 ∷ 0x01 ∷ 0x03 ∷ 0x05 ∷ 0xa5 ∷ 0x11 ∷ 0x8b ∷ 0x0f ∷ 0x00 ∷ 0x00
     ∷ 0x00 ∷ 0x00 ∷ 0x00 ∷ 0x01 ∷ 0x01 ∷ 0x01 ∷ 0x02 ∷ 0x0e ∷ 0x00 ∷ 0x02 ∷ 0x01 ∷ 0x01 ∷ 0x02 ∷ 0x03 ∷ 0x0e ∷ 0x0e ∷ []
 
-second-bad : read_as (read_font second_bad) ≡ Refused 2
+second-bad : read_as (read_font second_bad) ≡ Err Malformed
 unfolding
     read_font read_table place_of set_at fonts_at font_at name_parts private_at ids_at charset_at ids_from coding_at encoding_got read_index told index_at table_at data_at run_of judged offsets pieces items_of num_at
     be dict_of gathered readings_at readings_from entry_at entry_from token_at operator_at number_at real_at nibbles text_of exp_digits exponent mantissa form_of value_of normal
@@ -166,7 +166,7 @@ unequal_counts =
     0x01 ∷ 0x00 ∷ 0x04 ∷ 0x01 ∷ 0x00 ∷ 0x01 ∷ 0x01 ∷ 0x01 ∷ 0x02 ∷ 0x58 ∷ 0x00 ∷ 0x02 ∷ 0x01 ∷ 0x01 ∷ 0x03 ∷ 0x05 ∷ 0xa3 ∷ 0x11 ∷ 0xa3 ∷ 0x11 ∷ 0x00 ∷ 0x00 ∷ 0x00 ∷ 0x00
     ∷ 0x00 ∷ 0x01 ∷ 0x01 ∷ 0x01 ∷ 0x02 ∷ 0x0e ∷ []
 
-unequal-counts : read_as (read_font unequal_counts) ≡ Refused 2
+unequal-counts : read_as (read_font unequal_counts) ≡ Err Malformed
 unfolding
     read_font read_table place_of set_at fonts_at font_at name_parts private_at ids_at charset_at ids_from coding_at encoding_got read_index told index_at table_at data_at run_of judged offsets pieces items_of num_at
     be dict_of gathered readings_at readings_from entry_at entry_from token_at operator_at number_at real_at nibbles text_of exp_digits exponent mantissa form_of value_of normal
@@ -181,7 +181,7 @@ repeated_name =
     0x01 ∷ 0x00 ∷ 0x04 ∷ 0x01 ∷ 0x00 ∷ 0x01 ∷ 0x01 ∷ 0x01 ∷ 0x02 ∷ 0x58 ∷ 0x00 ∷ 0x01 ∷ 0x01 ∷ 0x01 ∷ 0x05 ∷ 0xa2 ∷ 0x0f ∷ 0xa7 ∷ 0x11 ∷ 0x00 ∷ 0x00 ∷ 0x00 ∷ 0x00 ∷ 0x00
     ∷ 0x00 ∷ 0x01 ∷ 0x00 ∷ 0x01 ∷ 0x00 ∷ 0x03 ∷ 0x01 ∷ 0x01 ∷ 0x02 ∷ 0x03 ∷ 0x04 ∷ 0x0e ∷ 0x0e ∷ 0x0e ∷ []
 
-first-of_a_name : name_as (read_font repeated_name) (0x73 ∷ 0x70 ∷ 0x61 ∷ 0x63 ∷ 0x65 ∷ []) ≡ Glyph 1
+first-of_a_name : name_as (read_font repeated_name) (0x73 ∷ 0x70 ∷ 0x61 ∷ 0x63 ∷ 0x65 ∷ []) ≡ Ok (Some 1)
 unfolding
     read_font read_table place_of set_at fonts_at font_at name_parts private_at ids_at charset_at ids_from coding_at encoding_got read_index told index_at table_at data_at run_of judged offsets pieces items_of num_at
     be dict_of gathered readings_at readings_from entry_at entry_from token_at operator_at number_at real_at nibbles text_of exp_digits exponent mantissa form_of value_of normal
@@ -195,7 +195,7 @@ empty_name_lem =
     0x01 ∷ 0x00 ∷ 0x04 ∷ 0x01 ∷ 0x00 ∷ 0x01 ∷ 0x01 ∷ 0x01 ∷ 0x02 ∷ 0x58 ∷ 0x00 ∷ 0x01 ∷ 0x01 ∷ 0x01 ∷ 0x05 ∷ 0xa2 ∷ 0x0f ∷ 0xa5 ∷ 0x11 ∷ 0x00 ∷ 0x00 ∷ 0x00 ∷ 0x00 ∷ 0x00
     ∷ 0x01 ∷ 0x87 ∷ 0x00 ∷ 0x02 ∷ 0x01 ∷ 0x01 ∷ 0x02 ∷ 0x03 ∷ 0x0e ∷ 0x0e ∷ []
 
-empty_name : name_as (read_font empty_name_lem) [] ≡ Glyph 1
+empty_name : name_as (read_font empty_name_lem) [] ≡ Ok (Some 1)
 unfolding
     read_font read_table place_of set_at fonts_at font_at name_parts private_at ids_at charset_at ids_from coding_at encoding_got read_index told index_at table_at data_at run_of judged offsets pieces items_of num_at
     be dict_of gathered readings_at readings_from entry_at entry_from token_at operator_at number_at real_at nibbles text_of exp_digits exponent mantissa form_of value_of normal
@@ -210,7 +210,7 @@ repeated_cid =
     ∷ 0xc0 ∷ 0x0c ∷ 0x24 ∷ 0xb2 ∷ 0x0c ∷ 0x25 ∷ 0x00 ∷ 0x00 ∷ 0x00 ∷ 0x00 ∷ 0x00 ∷ 0x00 ∷ 0x05 ∷ 0x00 ∷ 0x05 ∷ 0x00 ∷ 0x00 ∷ 0x00 ∷ 0x00 ∷ 0x00 ∷ 0x03 ∷ 0x01 ∷ 0x01 ∷ 0x02
     ∷ 0x03 ∷ 0x04 ∷ 0x0e ∷ 0x0e ∷ 0x0e ∷ 0x00 ∷ 0x01 ∷ 0x01 ∷ 0x01 ∷ 0x04 ∷ 0x8d ∷ 0xc8 ∷ 0x12 ∷ 0x8d ∷ 0x13 ∷ 0x00 ∷ 0x01 ∷ 0x01 ∷ 0x01 ∷ 0x02 ∷ 0x0b ∷ []
 
-first-of_a_cid : cid_as (read_font repeated_cid) 5 ≡ Glyph 1
+first-of_a_cid : cid_as (read_font repeated_cid) 5 ≡ Ok (Some 1)
 unfolding
     read_font read_table place_of set_at fonts_at font_at cid_parts privates_at private_at private_data locals_at fds_at fd_select_at all_below ids_at charset_at ids_from read_index told index_at table_at
     data_at run_of judged offsets pieces items_of num_at be dict_of gathered readings_at readings_from entry_at entry_from token_at operator_at number_at real_at normal zeros
@@ -225,7 +225,7 @@ fd_past =
     ∷ 0xbb ∷ 0x0c ∷ 0x24 ∷ 0xb0 ∷ 0x0c ∷ 0x25 ∷ 0x00 ∷ 0x00 ∷ 0x00 ∷ 0x00 ∷ 0x00 ∷ 0x00 ∷ 0x05 ∷ 0x00 ∷ 0x00 ∷ 0x01 ∷ 0x00 ∷ 0x02 ∷ 0x01 ∷ 0x01 ∷ 0x02 ∷ 0x03 ∷ 0x0e ∷ 0x0e
     ∷ 0x00 ∷ 0x01 ∷ 0x01 ∷ 0x01 ∷ 0x04 ∷ 0x8d ∷ 0xc3 ∷ 0x12 ∷ 0x8d ∷ 0x13 ∷ 0x00 ∷ 0x01 ∷ 0x01 ∷ 0x01 ∷ 0x02 ∷ 0x0b ∷ []
 
-fd-past : read_as (read_font fd_past) ≡ Refused 2
+fd-past : read_as (read_font fd_past) ≡ Err Malformed
 unfolding
     read_font read_table place_of set_at fonts_at font_at cid_parts privates_at private_at private_data locals_at fds_at fd_select_at all_below ids_at charset_at ids_from read_index told index_at table_at
     data_at run_of judged offsets pieces items_of num_at be dict_of gathered readings_at readings_from entry_at entry_from token_at operator_at number_at real_at normal zeros

@@ -1,31 +1,29 @@
 -- Laws of a font in a file: one for each way out of reading, and what a font that was read says of its file.
-use Rattle.std.specs.Prelude.{ℕ, ◌+◌, ◌≤◌, ◌≡◌, refl, List, length, drop}
+use Rattle.std.specs.Prelude.{ℕ, ◌+◌, ◌≤◌, ◌≡◌, refl, List, length, drop, Result, Ok, Err}
 use Rattle.std.proofs.Common.{sym, ◌∙◌, subst, arith, length-drop, length-take-le}
 use Rattle.std.proofs.Math.Path.{ap}
 use Rattle.std.proofs.Math.Seq.{take-length}
 use Rattle.octets.specs.Lists.{part_of}
 use Rattle.octets.specs.Octets.{Octets, num_at}
 use Rattle.index.proofs.FoundLaws.{part_octets}
-use Rattle.opentype.specs.Opentype.{otto, place_of}
+use Rattle.opentype.specs.Opentype.{otto, place_of, table_lying}
 use Rattle.opentype.specs.OpentypeLaws as place
-use Rattle.opentype.specs.declared.Place.{Place}
-use Rattle.opentype.specs.declared.Place.TheVariants.{Refused as RefusedPlace, Table}
-use Rattle.cff.specs.Font.{got, Program, read_table, read_at, read_font}
+use Rattle.cff.specs.Font.{Program, read_table, read_at, read_font}
 use Rattle.cff.specs.Reads.{program_of, GoodFont, ReadsFont}
 use Rattle.cff.specs.ReadsLaws.{no}
 use Rattle.cff.specs.File.{table_in, InFile, HasFont, ReadsFile}
 use Rattle.cff.specs.declared.font.Font.{Font}
-use Rattle.cff.specs.declared.font.FontRead.{FontRead}
-use Rattle.cff.specs.declared.font.FontRead.TheVariants.{Refused as RefusedFont, Found as FoundFont}
+use Rattle.opentype.specs.declared.TableAt.{TableAt}
+use Rattle.refusal.specs.declared.Refusal.{Refusal}
 
 -- ---- reading
 
-module _ (file : List ℕ) (x : Place) (e : x ≡ place_of file) where
-  pub no_place : (n : ℕ) → x ≡ RefusedPlace n → ReadsFile file (RefusedFont n)
+module _ (file : List ℕ) (x : Result TableAt Refusal) (e : x ≡ place_of file) where
+  pub no_place : (n : Refusal) → x ≡ Err n → ReadsFile file (Err n)
   unfolding read_font
   no_place n q = ap (read_at file) (sym e ∙ q)
 
-  module _ (start len : ℕ) (q : x ≡ Table start len) where
+  module _ (start len : ℕ) (q : x ≡ table_lying start len) where
     pub table_there : start + len ≤ length file
     table_there = (place.found-fits file start len (sym e ∙ q)).0
 
@@ -33,23 +31,23 @@ module _ (file : List ℕ) (x : Place) (e : x ≡ place_of file) where
     unfolding read_font
     table-read = ap (read_at file) (sym e ∙ q)
 
-    module _ (b : List ℕ) (same : b ≡ part_of file start len) (r : FontRead) (reads : ReadsFont b (read_table b) r) where
-      pub table_refused : (n : ℕ) → r ≡ RefusedFont n → ReadsFile file (RefusedFont n)
+    module _ (b : List ℕ) (same : b ≡ part_of file start len) (r : Result Font Refusal) (reads : ReadsFont b (read_table b) r) where
+      pub table_refused : (n : Refusal) → r ≡ Err n → ReadsFile file (Err n)
       table_refused n i = table-read ∙ ap read_table (sym same) ∙ subst (ReadsFont b (read_table b)) i reads
 
       -- the font that was read, once its start and length are set
-      module _ (f : Font) (i : r ≡ FoundFont f) (g : Font) (s : start ≡ g.start) (l : len ≡ g.len) where
+      module _ (f : Font) (i : r ≡ Ok f) (g : Font) (s : start ≡ g.start) (l : len ≡ g.len) where
         placed : b ≡ table_in file g
         placed = same ∙ ap (λ (k : ℕ). part_of file k len) s ∙ ap (part_of file g.start) l
 
-        pub table-found : (GoodFont b f → GoodFont b g) → program_of b f ≡ program_of b g → ReadsFile file (FoundFont g)
+        pub table-found : (GoodFont b f → GoodFont b g) → program_of b f ≡ program_of b g → ReadsFile file (Ok g)
         table-found good p =
             let h = subst (ReadsFont b (read_table b)) i reads in
             record {
-              place = sym e ∙ q ∙ ap (λ (k : ℕ). Table k len) s ∙ ap (Table g.start) l;
+              place = sym e ∙ q ∙ ap (λ (k : ℕ). table_lying k len) s ∙ ap (table_lying g.start) l;
               bytes = refl;
               good = subst (λ (t : List ℕ). GoodFont t g) placed (good h.0);
-              is = table-read ∙ ap read_table (sym same) ∙ h.1 ∙ ap got p ∙ ap (λ (t : List ℕ). got (program_of t g)) placed;
+              is = table-read ∙ ap read_table (sym same) ∙ h.1 ∙ ap Ok p ∙ ap (λ (t : List ℕ). Ok (program_of t g)) placed;
             }
 
 -- ---- a font in a file
@@ -85,15 +83,15 @@ pub record Within (file : List ℕ) (p : Program) : Type 0 where
   pub start : ℕ
   pub len : ℕ
   pub fits : (start + len ≤ length file) × (length file ≤ 67108864)
-  pub is : read_table (part_of file start len) ≡ got p
+  pub is : read_table (part_of file start len) ≡ Ok p
 
-pub read-within : (file : List ℕ) (p : Program) → read_font file ≡ got p → Within file p
+pub read-within : (file : List ℕ) (p : Program) → read_font file ≡ Ok p → Within file p
 unfolding read_font
 read-within file p = go (place_of file) (place.place-fits file)
   where
-    go : (x : Place) → place.Fits file x → read_at file x ≡ got p → Within file p
-    go (RefusedPlace n) f e = absurd (no cc)
-    go (Table start len) f e = record { start = start; len = len; fits = f; is = e }
+    go : (x : Result TableAt Refusal) → place.Fits file x → read_at file x ≡ Ok p → Within file p
+    go (Err n) f e = absurd (no cc)
+    go (Ok t) f e = record { start = t.start; len = t.len; fits = f; is = e }
 
 -- the table's bytes
 module _ (file : List ℕ) (p : Program) (w : Within file p) where

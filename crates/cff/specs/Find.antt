@@ -1,17 +1,15 @@
 -- What is asked of a program (document 01, 'Entries and their refusals'): counts, the glyph of a name or a CID, an INDEX item.
-use Rattle.std.specs.Prelude.{ℕ, ◌+◌, ◌*◌, List, [], ◌∷◌, ltb, length, get_or, None, Option, Some}
+use Rattle.std.specs.Prelude.{ℕ, ◌+◌, ◌*◌, List, [], ◌∷◌, ltb, length, get_or, None, Option, Result, Ok, Err}
 use Rattle.octets.specs.Pick.{pick}
 use Rattle.bits.specs.Bits.{words_for}
 use Rattle.find.specs.Find.{glyph_with_id, glyph_with_text}
 use Rattle.dict.specs.Lookup.{cid_keyed}
-use Rattle.cff.specs.Font.{Got, refused, got, Private, Program}
+use Rattle.cff.specs.Font.{Private, Program}
 use Rattle.cff.specs.declared.Counts.{Counts}
-use Rattle.cff.specs.declared.ReadAs.{ReadAs}
-use Rattle.cff.specs.declared.ReadAs.TheVariants.{Refused as RefusedRead, Font}
 use Rattle.cff.specs.declared.ItemKind.{ItemKind}
 use Rattle.cff.specs.declared.ItemKind.TheVariants.{Charstring, Global, Text}
-use Rattle.cff.specs.declared.FoundAs.{FoundAs}
-use Rattle.cff.specs.declared.FoundAs.TheVariants.{Refused as RefusedFind, Absent, Glyph}
+use Rattle.refusal.specs.declared.Refusal.{Refusal}
+use Rattle.refusal.specs.declared.Refusal.TheVariants.{NoSuchNumber}
 
 -- the local subroutines of all FDs
 unfoldable pub locals_total : List Private → ℕ
@@ -38,29 +36,25 @@ counts_of p =
     }
 
 -- the answer of reading
-abbrev pub read_as : Got Program → ReadAs
-read_as (refused n) = RefusedRead n
-read_as (got p) = Font (counts_of p)
-
--- a glyph that was looked for
-abbrev pub found_as_lem : Option ℕ → FoundAs
-found_as_lem None = Absent
-found_as_lem (Some g) = Glyph g
+abbrev pub read_as : Result Program Refusal → Result Counts Refusal
+read_as (Err n) = Err n
+read_as (Ok p) = Ok (counts_of p)
 
 -- by name in a name-keyed font, by CID in a CID-keyed one; absent with the other keying
-abbrev pub find_name : Program → List ℕ → FoundAs
-find_name p name = pick (cid_keyed p.top) Absent (found_as_lem (glyph_with_text p.strings name 0 p.ids))
+abbrev pub find_name : Program → List ℕ → Option ℕ
+find_name p name = pick (cid_keyed p.top) None (glyph_with_text p.strings name 0 p.ids)
 
-abbrev pub find_cid : Program → ℕ → FoundAs
-find_cid p cid = pick (cid_keyed p.top) (found_as_lem (glyph_with_id cid 0 p.ids)) Absent
+abbrev pub find_cid : Program → ℕ → Option ℕ
+find_cid p cid = pick (cid_keyed p.top) (glyph_with_id cid 0 p.ids) None
 
-abbrev pub name_as : Got Program → List ℕ → FoundAs
-name_as (refused n) name = RefusedFind n
-name_as (got p) name = find_name p name
+-- the answer of finding
+abbrev pub name_as : Result Program Refusal → List ℕ → Result (Option ℕ) Refusal
+name_as (Err n) name = Err n
+name_as (Ok p) name = Ok (find_name p name)
 
-abbrev pub cid_as : Got Program → ℕ → FoundAs
-cid_as (refused n) cid = RefusedFind n
-cid_as (got p) cid = find_cid p cid
+abbrev pub cid_as : Result Program Refusal → ℕ → Result (Option ℕ) Refusal
+cid_as (Err n) cid = Err n
+cid_as (Ok p) cid = Ok (find_cid p cid)
 
 -- the items of a kind
 abbrev pub items_in : ItemKind → Program → List (List ℕ)
@@ -68,11 +62,11 @@ items_in Charstring p = p.charstrings
 items_in Global p = p.globals
 items_in Text p = p.strings
 
--- the number of a refused lookup, or 0: reading's, then 6 where there is no such item; and the item, empty where refused
-abbrev pub item_refusal_lem : Got Program → ItemKind → ℕ → ℕ
-item_refusal_lem (refused n) kind k = n
-item_refusal_lem (got p) kind k = pick (ltb k (length (items_in kind p))) 0 6
+-- the refusal of a lookup, if it is refused: reading's, then 6 where there is no such item; and the item, empty where refused
+abbrev pub item_refusal_lem : Result Program Refusal → ItemKind → ℕ → Result Unit Refusal
+item_refusal_lem (Err n) kind k = Err n
+item_refusal_lem (Ok p) kind k = pick (ltb k (length (items_in kind p))) (Ok tt) (Err NoSuchNumber)
 
-abbrev pub item_of : Got Program → ItemKind → ℕ → List ℕ
-item_of (refused n) kind k = []
-item_of (got p) kind k = get_or (items_in kind p) k []
+abbrev pub item_of : Result Program Refusal → ItemKind → ℕ → List ℕ
+item_of (Err n) kind k = []
+item_of (Ok p) kind k = get_or (items_in kind p) k []

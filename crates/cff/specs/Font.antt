@@ -1,26 +1,23 @@
--- Reading a font (TN5176; the Rust's parse_fonts, from_top, private_of and PrivateDict::parse): from its bytes to a refusal number or a
+-- Reading a font (TN5176; the Rust's parse_fonts, from_top, private_of and PrivateDict::parse): from its bytes to a refusal or a
 -- program, in exactly the Rust's order of steps. 4 above 67,108,864 bytes comes first, then where the font stands in the file (document 02, Wish 9);
 -- 5 stands where a real is met.
-use Rattle.std.specs.Prelude.{ℕ, ◌+◌, List, [], ◌∷◌, ltb, eqb, length, take, drop, get_or}
+use Rattle.std.specs.Prelude.{ℕ, ◌+◌, List, [], ◌∷◌, ltb, eqb, length, take, drop, get_or, Result, Ok, Err, Option, Some, None}
 use Rattle.octets.specs.Pick.{pick}
 use Rattle.octets.specs.Lists.{all_below, part_of}
 use Rattle.index.specs.Index.{Read, refused as refusedIndex, found, read_index}
-use Rattle.dict.specs.Dict.{Entry, Dict, refused as refusedDict, entries, dict_of}
+use Rattle.dict.specs.Dict.{Entry, dict_of}
 use Rattle.dict.specs.Op.{esc, subrs}
 use Rattle.dict.specs.Lookup.{offset_in, private_in, cid_keyed, charstring_type_in}
-use Rattle.dict.specs.declared.OffsetIn.{OffsetIn}
-use Rattle.dict.specs.declared.OffsetIn.TheVariants.{Refused as RefusedOffset, At, Absent as NoOffset}
-use Rattle.dict.specs.declared.PrivateIn.{PrivateIn}
-use Rattle.dict.specs.declared.PrivateIn.TheVariants.{Refused as RefusedPrivate, Private as PrivateEntry, Absent as NoPrivate}
 use Rattle.dict.specs.Places.{entries_of}
-use Rattle.charset.specs.Listed.{Listed, refused as refusedList, listed}
 use Rattle.charset.specs.Charset.{charset_at, iso_adobe}
 use Rattle.charset.specs.FdSelect.{fd_select_at, no_fds}
 use Rattle.charset.specs.Encoding.{encoding_at}
 use Rattle.charset.specs.Codes.{Naming, namings_at}
 use Rattle.opentype.specs.Opentype.{place_of}
-use Rattle.opentype.specs.declared.Place.{Place}
-use Rattle.opentype.specs.declared.Place.TheVariants.{Refused as RefusedPlace, Table}
+use Rattle.opentype.specs.declared.TableAt.{TableAt}
+use Rattle.dict.specs.declared.PrivateEntry.{PrivateEntry}
+use Rattle.refusal.specs.declared.Refusal.{Refusal}
+use Rattle.refusal.specs.declared.Refusal.TheVariants.{Truncated, Malformed, Unsupported}
 
 -- the operators of the offsets that reading follows
 abbrev pub charset : ℕ
@@ -38,15 +35,10 @@ fd_array = esc 36
 abbrev pub fd_select_lem : ℕ
 fd_select_lem = esc 37
 
--- a step of reading: its refusal, or what it found
-pub data Got (A : Type 0) : Type 0 where
-  refused : ℕ → Got A
-  got : A → Got A
-
 -- one step and then the next
-abbrev pub then : {A B : Type 0} → Got A → (A → Got B) → Got B
-then (refused n) f = refused n
-then (got a) f = f a
+abbrev pub then : {A B : Type 0} → Result A Refusal → (A → Result B Refusal) → Result B Refusal
+then (Err n) f = Err n
+then (Ok a) f = f a
 
 -- a Private DICT: its entries, and the local subroutines
 pub record Private : Type 0 where
@@ -86,63 +78,55 @@ pub record Program : Type 0 where
 
 -- ---- the parts' answers as steps
 
-abbrev pub index_got : Read → Got (List (List ℕ))
-index_got (refusedIndex n) = refused n
-index_got (found items end) = got items
+abbrev pub index_got : Read → Result (List (List ℕ)) Refusal
+index_got (refusedIndex n) = Err n
+index_got (found items end) = Ok items
 
-abbrev pub dict_got : Dict → Got (List Entry)
-dict_got (refusedDict n) = refused n
-dict_got (entries es) = got es
-
-abbrev pub list_got : Listed → Got (List ℕ)
-list_got (refusedList n) = refused n
-list_got (listed l) = got l
-
--- a refusal's number, or 0
-abbrev pub unless : ℕ → Got Unit
-unless n = pick (eqb n 0) (got tt) (refused n)
+-- what must not be none: malformed where it is
+abbrev pub not_none : ℕ → Result Unit Refusal
+not_none n = pick (eqb n 0) (Err Malformed) (Ok tt)
 
 -- an offset that must be there: malformed without it
-abbrev pub needed : OffsetIn → Got ℕ
-needed NoOffset = refused 2
-needed (RefusedOffset n) = refused n
-needed (At v) = got v
+abbrev pub needed : Result (Option ℕ) Refusal → Result ℕ Refusal
+needed (Ok None) = Err Malformed
+needed (Err n) = Err n
+needed (Ok (Some v)) = Ok v
 
 -- an offset that is 0 where it is absent
-abbrev pub or_zero : OffsetIn → Got ℕ
-or_zero NoOffset = got 0
-or_zero (RefusedOffset n) = refused n
-or_zero (At v) = got v
+abbrev pub or_zero : Result (Option ℕ) Refusal → Result ℕ Refusal
+or_zero (Ok None) = Ok 0
+or_zero (Err n) = Err n
+or_zero (Ok (Some v)) = Ok v
 
 -- ---- Private DICTs
 
 -- the local subroutines: Subrs is counted from the Private DICT
-unfoldable pub locals_at : List ℕ → ℕ → OffsetIn → Got (List (List ℕ))
-locals_at b offset NoOffset = got []
-locals_at b offset (RefusedOffset n) = refused n
-locals_at b offset (At relative) = index_got (read_index b (offset + relative))
+unfoldable pub locals_at : List ℕ → ℕ → Result (Option ℕ) Refusal → Result (List (List ℕ)) Refusal
+locals_at b offset (Ok None) = Ok []
+locals_at b offset (Err n) = Err n
+locals_at b offset (Ok (Some relative)) = index_got (read_index b (offset + relative))
 
 -- the Private DICT of a size at an offset
-unfoldable pub private_data : List ℕ → ℕ → ℕ → Got Private
+unfoldable pub private_data : List ℕ → ℕ → ℕ → Result Private Refusal
 private_data b size offset =
-    pick (ltb (length b) (offset + size)) (refused 1)
-    (then (dict_got (dict_of (take size (drop offset b)))) (λ es.
+    pick (ltb (length b) (offset + size)) (Err Truncated)
+    (then (dict_of (take size (drop offset b))) (λ es.
     then (locals_at b offset (offset_in subrs es)) (λ subrs.
-    got (record { entries = es; locals = subrs }))))
+    Ok (record { entries = es; locals = subrs }))))
 
 -- the Private DICT that a DICT names; empty where it names none
-unfoldable pub private_at : List ℕ → PrivateIn → Got Private
-private_at b NoPrivate = got empty_private
-private_at b (RefusedPrivate n) = refused n
-private_at b (PrivateEntry size offset) = private_data b size offset
+unfoldable pub private_at : List ℕ → Result (Option PrivateEntry) Refusal → Result Private Refusal
+private_at b (Ok None) = Ok empty_private
+private_at b (Err n) = Err n
+private_at b (Ok (Some q)) = private_data b q.size q.offset
 
 -- those of the FDs, one after the other
-unfoldable pub privates_at : List ℕ → List (List ℕ) → Got (List Private)
-privates_at b [] = got []
+unfoldable pub privates_at : List ℕ → List (List ℕ) → Result (List Private) Refusal
+privates_at b [] = Ok []
 privates_at b (d ∷ ds) =
-    then (dict_got (dict_of d)) (λ es.
+    then (dict_of d) (λ es.
     then (private_at b (private_in es)) (λ p.
-    then (privates_at b ds) (λ ps. got (p ∷ ps))))
+    then (privates_at b ds) (λ ps. Ok (p ∷ ps))))
 
 -- the entries of the Font DICTs
 unfoldable pub dicts_at : List (List ℕ) → List (List Entry)
@@ -152,51 +136,51 @@ dicts_at (d ∷ ds) = entries_of d ∷ dicts_at ds
 -- ---- a font of the set
 
 -- the ids of n glyphs: the charset at an offset, of which 0 is ISOAdobe and 1 and 2, the expert ones, are unsupported
-unfoldable pub ids_at : List ℕ → ℕ → ℕ → Got (List ℕ)
-ids_at b n v = pick (eqb v 0) (got (iso_adobe n)) (pick (ltb v 3) (refused 3) (list_got (charset_at b v n)))
+unfoldable pub ids_at : List ℕ → ℕ → ℕ → Result (List ℕ) Refusal
+ids_at b n v = pick (eqb v 0) (Ok (iso_adobe n)) (pick (ltb v 3) (Err Unsupported) (charset_at b v n))
 
 -- the FDs of n glyphs: FDSelect, where it is there
-unfoldable pub fds_at : List ℕ → ℕ → OffsetIn → Got (List ℕ)
-fds_at b n NoOffset = got (no_fds n)
-fds_at b n (RefusedOffset e) = refused e
-fds_at b n (At v) = list_got (fd_select_at b v n)
+unfoldable pub fds_at : List ℕ → ℕ → Result (Option ℕ) Refusal → Result (List ℕ) Refusal
+fds_at b n (Ok None) = Ok (no_fds n)
+fds_at b n (Err e) = Err e
+fds_at b n (Ok (Some v)) = fd_select_at b v n
 
 -- the encoding at an offset: 0 is the standard one and 1 the expert one (document 02, Wish 4), which have no checks
 unfoldable pub coding_at : List ℕ → ℕ → Coding
 coding_at b v = pick (eqb v 0) standard (pick (eqb v 1) expert (custom (namings_at b v)))
 
-abbrev pub coding_refusal : List ℕ → ℕ → ℕ
-coding_refusal b v = pick (ltb v 2) 0 (encoding_at b v)
+abbrev pub coding_refusal : List ℕ → ℕ → Result Unit Refusal
+coding_refusal b v = pick (ltb v 2) (Ok tt) (encoding_at b v)
 
-unfoldable pub encoding_got : List ℕ → ℕ → Got Coding
-encoding_got b v = then (unless (coding_refusal b v)) (λ u. got (coding_at b v))
+unfoldable pub encoding_got : List ℕ → ℕ → Result Coding Refusal
+encoding_got b v = then (coding_refusal b v) (λ u. Ok (coding_at b v))
 
 -- what a CID-keyed font adds: the Private DICTs of its FDs, which must be there, and FDs that exist
-unfoldable pub cid_parts : List ℕ → List Entry → ℕ → Got Added
+unfoldable pub cid_parts : List ℕ → List Entry → ℕ → Result Added Refusal
 cid_parts b es n =
     then (then (needed (offset_in fd_array es)) (λ at. index_got (read_index b at))) (λ dicts.
     then (privates_at b dicts) (λ ps.
-    then (unless (pick (eqb (length ps) 0) 2 0)) (λ u.
+    then {A = Unit} (not_none (length ps)) (λ u.
     then (fds_at b n (offset_in fd_select_lem es)) (λ l.
-    pick (all_below (length ps) l) (got (record { privates = ps; fds = l; dicts = dicts_at dicts; coding = standard })) (refused 2)))))
+    pick (all_below (length ps) l) (Ok (record { privates = ps; fds = l; dicts = dicts_at dicts; coding = standard })) (Err Malformed)))))
 
 -- what a name-keyed font adds: its Private DICT, and its encoding
-unfoldable pub name_parts : List ℕ → List Entry → ℕ → Got Added
+unfoldable pub name_parts : List ℕ → List Entry → ℕ → Result Added Refusal
 name_parts b es n =
     then (private_at b (private_in es)) (λ p.
     then (then (or_zero (offset_in encoding es)) (encoding_got b)) (λ coding.
-    got (record { privates = p ∷ []; fds = no_fds n; dicts = []; coding = coding })))
+    Ok (record { privates = p ∷ []; fds = no_fds n; dicts = []; coding = coding })))
 
 -- a font by the bytes of its top DICT
-unfoldable pub font_at : List ℕ → List (List ℕ) → List (List ℕ) → List ℕ → Got Program
+unfoldable pub font_at : List ℕ → List (List ℕ) → List (List ℕ) → List ℕ → Result Program Refusal
 font_at b strings globals top =
-    then (dict_got (dict_of top)) (λ es.
-    then (unless (charstring_type_in es)) (λ u.
+    then (dict_of top) (λ es.
+    then (charstring_type_in es) (λ u.
     then (then (needed (offset_in char_strings es)) (λ at. index_got (read_index b at))) (λ charstrings.
-    then (unless (pick (eqb (length charstrings) 0) 2 0)) (λ u.
+    then {A = Unit} (not_none (length charstrings)) (λ u.
     then (then (or_zero (offset_in charset es)) (ids_at b (length charstrings))) (λ ids.
     then (pick (cid_keyed es) (cid_parts b es (length charstrings)) (name_parts b es (length charstrings))) (λ added.
-    got (record {
+    Ok (record {
       top = es;
       strings = strings;
       globals = globals;
@@ -209,40 +193,40 @@ font_at b strings globals top =
     })))))))
 
 -- every font of the set
-unfoldable pub fonts_at : List ℕ → List (List ℕ) → List (List ℕ) → List (List ℕ) → Got (List Program)
-fonts_at b strings globals [] = got []
-fonts_at b strings globals (t ∷ ts) = then (font_at b strings globals t) (λ p. then (fonts_at b strings globals ts) (λ ps. got (p ∷ ps)))
+unfoldable pub fonts_at : List ℕ → List (List ℕ) → List (List ℕ) → List (List ℕ) → Result (List Program) Refusal
+fonts_at b strings globals [] = Ok []
+fonts_at b strings globals (t ∷ ts) = then (font_at b strings globals t) (λ p. then (fonts_at b strings globals ts) (λ ps. Ok (p ∷ ps)))
 
 -- the first of them is used; a set of none is malformed
-abbrev pub first_of : List Program → Got Program
-first_of [] = refused 2
-first_of (p ∷ ps) = got p
+abbrev pub first_of : List Program → Result Program Refusal
+first_of [] = Err Malformed
+first_of (p ∷ ps) = Ok p
 
 -- ---- the whole
 
 -- an INDEX, and what stands after it
-abbrev pub index_then : {B : Type 0} → Read → (List (List ℕ) → ℕ → Got B) → Got B
-index_then (refusedIndex n) f = refused n
+abbrev pub index_then : {B : Type 0} → Read → (List (List ℕ) → ℕ → Result B Refusal) → Result B Refusal
+index_then (refusedIndex n) f = Err n
 index_then (found items end) f = f items end
 
 -- from the end of the header: names, top DICTs, strings and global subroutines
-unfoldable pub set_at : List ℕ → ℕ → Got Program
+unfoldable pub set_at : List ℕ → ℕ → Result Program Refusal
 set_at b at =
     index_then (read_index b at) (λ names at₁.
     index_then (read_index b at₁) (λ tops at₂.
     index_then (read_index b at₂) (λ strings at₃.
     index_then (read_index b at₃) (λ globals at₄.
-    pick (eqb (length names) (length tops)) (then (fonts_at b strings globals tops) first_of) (refused 2)))))
+    pick (eqb (length names) (length tops)) (then (fonts_at b strings globals tops) first_of) (Err Malformed)))))
 
 -- a table. The header: four bytes, major version 1, its size in the third
-unfoldable pub read_table : List ℕ → Got Program
-read_table b = pick (ltb (length b) 4) (refused 1) (pick (eqb (get_or b 0 0) 1) (set_at b (get_or b 2 0)) (refused 3))
+unfoldable pub read_table : List ℕ → Result Program Refusal
+read_table b = pick (ltb (length b) 4) (Err Truncated) (pick (eqb (get_or b 0 0) 1) (set_at b (get_or b 2 0)) (Err Unsupported))
 
 -- the font at a place of a file (document 02, Wish 9): all its places count from the table's start
-abbrev pub read_at : List ℕ → Place → Got Program
-read_at file (RefusedPlace n) = refused n
-read_at file (Table start len) = read_table (part_of file start len)
+abbrev pub read_at : List ℕ → Result TableAt Refusal → Result Program Refusal
+read_at file (Err n) = Err n
+read_at file (Ok t) = read_table (part_of file t.start t.len)
 
 -- the font of a file
-unfoldable pub read_font : List ℕ → Got Program
+unfoldable pub read_font : List ℕ → Result Program Refusal
 read_font file = read_at file (place_of file)

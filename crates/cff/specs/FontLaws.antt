@@ -1,5 +1,5 @@
 -- Laws of reading a font of a set: one for each way out of the functions that read it.
-use Rattle.std.specs.Prelude.{ℕ, suc, ◌≤◌, ◌<◌, ◌≡◌, refl, Bool, false, eqb}
+use Rattle.std.specs.Prelude.{ℕ, suc, ◌≤◌, ◌<◌, ◌≡◌, refl, Bool, false, eqb, Result, Ok, Err, Option, Some, None, unwrap_or}
 use Rattle.std.proofs.Math.Path.{sym, ap, subst}
 use Rattle.std.proofs.Common.{◌∙◌, arith}
 use Rattle.std.proofs.Math.Bool.{true}
@@ -13,14 +13,9 @@ use Rattle.octets.specs.Lists.{all_below}
 use Rattle.index.specs.Index.{empty_at, index_at, items_of, read_index}
 use Rattle.index.specs.IndexLaws.{items-length}
 use Rattle.index.specs.declared.Index.{Index}
-use Rattle.index.specs.declared.IndexAt.{IndexAt}
-use Rattle.index.specs.declared.IndexAt.TheVariants.{Refused as RefusedIndex, Found as FoundIndex}
 use Rattle.dict.specs.Dict.{Entry, dict_of}
 use Rattle.dict.specs.Lookup.{offset_in, private_in, cid_keyed, charstring_type_in}
 use Rattle.dict.specs.Places.{refusal_of, entries_of, Good as GoodDict}
-use Rattle.dict.specs.declared.OffsetIn.{OffsetIn}
-use Rattle.dict.specs.declared.OffsetIn.TheVariants.{Refused as RefusedOffset, At, Absent as NoOffset}
-use Rattle.charset.specs.Listed.{Listed, refused as refusedList, listed}
 use Rattle.charset.specs.Charset.{charset_at}
 use Rattle.charset.specs.CharsetPlaces.{table_at, predefined, charset_answer}
 use Rattle.charset.specs.CharsetFound.{found-good as charset-good, found-ids, predefined-ids, predefined-good}
@@ -29,175 +24,155 @@ use Rattle.charset.specs.FdPlaces.{no_select, select_at, select_answer, fds_of, 
 use Rattle.charset.specs.FdFound.{found-good as Select-Good, found_fds, no_select-good, no_select_fds}
 use Rattle.charset.specs.Encoding.{encoding_at}
 use Rattle.charset.specs.declared.Charset.{Charset}
-use Rattle.charset.specs.declared.CharsetAt.{CharsetAt}
-use Rattle.charset.specs.declared.CharsetAt.TheVariants.{Refused as RefusedCharset, Found as FoundCharset}
 use Rattle.charset.specs.declared.fd_select.FdSelect.{FdSelect}
-use Rattle.charset.specs.declared.fd_select.FdSelectAt.{FdSelectAt}
-use Rattle.charset.specs.declared.fd_select.FdSelectAt.TheVariants.{Refused as RefusedSelect, Found as FoundSelect}
-use Rattle.cff.specs.Font.{charset, encoding, char_strings, fd_array, fd_select_lem, Got, refused, got, then, standard, Coding, Private, Added, Program, index_got, list_got, unless, needed, or_zero, private_at, privates_at, dicts_at, ids_at, fds_at, coding_at, encoding_got, cid_parts, name_parts, font_at}
+use Rattle.cff.specs.Font.{charset, encoding, char_strings, fd_array, fd_select_lem, then, standard, Coding, Private, Added, Program, index_got, needed, or_zero, private_at, privates_at, dicts_at, ids_at, fds_at, coding_at, encoding_got, cid_parts, name_parts, font_at}
 use Rattle.cff.specs.Find.{locals_words}
 use Rattle.cff.specs.Reads.{Holds, ReadsItems, private_of, GoodPrivate, no_private, ReadsPrivate, fd_private, ReadsLocals, named_index, named_ids, named_encoding, ReadsIds, ReadsCoding, ReadsFds, or_none, privates_of, ReadsParts, parts_by, HasDicts, HasLocals, top_of, font_of, HasTop, HasGlyphs, ReadsFont}
-use Rattle.cff.specs.ReadsLaws.{no, reads-index, none-held, dict_refused, dict-good, dict-entries, empty-dict, then_refused, then-got, privates-split}
+use Rattle.cff.specs.ReadsLaws.{no, reads-index, none-held, dict_refused, dict-entries, empty-dict, then_refused, then-got, privates-split}
 use Rattle.cff.specs.declared.private.PrivateAt.{PrivateAt}
-use Rattle.cff.specs.declared.private.PrivateRead.{PrivateRead}
-use Rattle.cff.specs.declared.private.PrivateRead.TheVariants.{Refused as RefusedPrivate, Found as FoundPrivate}
-use Rattle.cff.specs.declared.private.LocalsRead.{LocalsRead}
-use Rattle.cff.specs.declared.private.LocalsRead.TheVariants.{Refused as RefusedLocals, Total}
-use Rattle.cff.specs.declared.font.EncodingAt.{EncodingAt}
-use Rattle.cff.specs.declared.font.EncodingAt.TheVariants.{Refused as RefusedEncoding, Found as FoundEncoding}
 use Rattle.cff.specs.declared.font.Parts.{Parts}
-use Rattle.cff.specs.declared.font.PartsRead.{PartsRead}
-use Rattle.cff.specs.declared.font.PartsRead.TheVariants.{Refused as RefusedParts, Found as FoundParts}
-use Rattle.cff.specs.declared.font.Font.{Font}
-use Rattle.cff.specs.declared.font.FontRead.{FontRead}
-use Rattle.cff.specs.declared.font.FontRead.TheVariants.{Refused as RefusedFont, Found as FoundFont}
+use Rattle.refusal.specs.declared.Refusal.{Refusal}
+use Rattle.refusal.specs.declared.Refusal.TheVariants.{Malformed, Unsupported}
+
+-- an offset that is 0 where it is absent
+or_zero_is : (o : Option ℕ) → or_zero (Ok o) ≡ Ok (unwrap_or o 0)
+or_zero_is None = refl
+or_zero_is (Some v) = refl
 
 -- ---- an INDEX that an operator names
 
-module _ (b : List ℕ) (es : List Entry) (op : ℕ) (r : OffsetIn) (e : r ≡ offset_in op es) where
-  named_as : (o : OffsetIn) → r ≡ o → named_index b es op ≡ then (needed o) (λ at. index_got (read_index b at))
+module _ (b : List ℕ) (es : List Entry) (op : ℕ) (r : Result (Option ℕ) Refusal) (e : r ≡ offset_in op es) where
+  named_as : (o : Result (Option ℕ) Refusal) → r ≡ o → named_index b es op ≡ then (needed o) (λ at. index_got (read_index b at))
   named_as o q = ap (λ x. then (needed x) (λ at. index_got (read_index b at))) (sym e ∙ q)
 
-  pub named-absent : r ≡ NoOffset → ReadsItems b (named_index b es op) (RefusedIndex 2)
-  named-absent q = named_as NoOffset q
+  pub named-absent : r ≡ Ok None → ReadsItems b (named_index b es op) (Err Malformed)
+  named-absent q = named_as (Ok None) q
 
-  pub named_refused : (n : ℕ) → r ≡ RefusedOffset n → ReadsItems b (named_index b es op) (RefusedIndex n)
-  named_refused n q = named_as (RefusedOffset n) q
+  pub named_refused : (n : Refusal) → r ≡ Err n → ReadsItems b (named_index b es op) (Err n)
+  named_refused n q = named_as (Err n) q
 
-  pub named-read : Octets b → (v : ℕ) → r ≡ At v → (x : IndexAt) → x ≡ index_at b v → ReadsItems b (named_index b es op) x
-  named-read o v q x i = subst (λ g. ReadsItems b g x) (sym (named_as (At v) q)) (reads-index b v x o i)
+  pub named-read : Octets b → (v : ℕ) → r ≡ Ok (Some v) → (x : Result Index Refusal) → x ≡ index_at b v → ReadsItems b (named_index b es op) x
+  named-read o v q x i = subst (λ g. ReadsItems b g x) (sym (named_as (Ok (Some v)) q)) (reads-index b v x o i)
 
 -- ---- ids
 
-charset_refused : (c : Charset) (l : Listed) (e : ℕ) → RefusedCharset e ≡ charset_answer c l → l ≡ refusedList e
-charset_refused c (refusedList n) e h = cc
-charset_refused c (listed l) e h = absurd (no cc)
+charset_refused : (c : Charset) (l : Result (List ℕ) Refusal) (e : Refusal) → Err e ≡ charset_answer c l → l ≡ Err e
+charset_refused c (Err n) e h = cc
+charset_refused c (Ok l) e h = absurd (no cc)
 
-ids-told : (b : List ℕ) (v n : ℕ) → n < 65536 → (r : CharsetAt) → r ≡ charset_answer (table_at b v) (charset_at b v n) → ReadsIds b n (list_got (charset_at b v n)) r
-ids-told b v n few (RefusedCharset e) h = ap list_got (charset_refused (table_at b v) (charset_at b v n) e h)
-ids-told b v n few (FoundCharset c) h = (charset-good b v n c few (sym h), ap list_got (found-ids b v n c few (sym h)))
+ids-told : (b : List ℕ) (v n : ℕ) → n < 65536 → (r : Result Charset Refusal) → r ≡ charset_answer (table_at b v) (charset_at b v n) → ReadsIds b n (charset_at b v n) r
+ids-told b v n few (Err e) h = charset_refused (table_at b v) (charset_at b v n) e h
+ids-told b v n few (Ok c) h = (charset-good b v n c few (sym h), found-ids b v n c few (sym h))
 
 module _ (b : List ℕ) (n v : ℕ) (few : n < 65536) where
-  pub ids-own : v ≡ 0 → (c : Charset) → c ≡ predefined → ReadsIds b n (ids_at b n v) (FoundCharset c)
+  pub ids-own : v ≡ 0 → (c : Charset) → c ≡ predefined → ReadsIds b n (ids_at b n v) (Ok c)
   unfolding ids_at
   ids-own q c i =
-      subst (λ x. ReadsIds b n (ids_at b n v) (FoundCharset x)) (sym i)
-      (predefined-good b n few, rw (eq-eqb v 0 q) (ap got (sym (predefined-ids b n few))))
+      subst (λ x. ReadsIds b n (ids_at b n v) (Ok x)) (sym i)
+      (predefined-good b n few, rw (eq-eqb v 0 q) (ap Ok (sym (predefined-ids b n few))))
 
-  pub ids_expert : (v ≡ 0 → ⊥) → v < 3 → ReadsIds b n (ids_at b n v) (RefusedCharset 3)
+  pub ids_expert : (v ≡ 0 → ⊥) → v < 3 → ReadsIds b n (ids_at b n v) (Err Unsupported)
   unfolding ids_at
   ids_expert q h = rw (ne_eqb v 0 q, lt-ltb v 3 h)
 
-  pub ids-read : (v ≡ 0 → ⊥) → 3 ≤ v → (r : CharsetAt) → r ≡ charset_answer (table_at b v) (charset_at b v n) → ReadsIds b n (ids_at b n v) r
+  pub ids-read : (v ≡ 0 → ⊥) → 3 ≤ v → (r : Result Charset Refusal) → r ≡ charset_answer (table_at b v) (charset_at b v n) → ReadsIds b n (ids_at b n v) r
   unfolding ids_at
   ids-read q h r i = rw (ne_eqb v 0 q, le-ltb v 3 h) (ids-told b v n few r i)
 
-module _ (b : List ℕ) (es : List Entry) (n : ℕ) (r : OffsetIn) (e : r ≡ offset_in charset es) where
-  ids_as : (o : OffsetIn) → r ≡ o → named_ids b es n ≡ then (or_zero o) (ids_at b n)
+module _ (b : List ℕ) (es : List Entry) (n : ℕ) (r : Result (Option ℕ) Refusal) (e : r ≡ offset_in charset es) where
+  ids_as : (o : Result (Option ℕ) Refusal) → r ≡ o → named_ids b es n ≡ then (or_zero o) (ids_at b n)
   ids_as o q = ap (λ x. then (or_zero x) (ids_at b n)) (sym e ∙ q)
 
-  pub named-ids-absent : r ≡ NoOffset → (x : CharsetAt) → ReadsIds b n (ids_at b n 0) x → ReadsIds b n (named_ids b es n) x
-  named-ids-absent q x h = subst (λ g. ReadsIds b n g x) (sym (ids_as NoOffset q)) h
+  pub named-ids_refused : (m : Refusal) → r ≡ Err m → ReadsIds b n (named_ids b es n) (Err m)
+  named-ids_refused m q = ids_as (Err m) q
 
-  pub named-ids_refused : (m : ℕ) → r ≡ RefusedOffset m → ReadsIds b n (named_ids b es n) (RefusedCharset m)
-  named-ids_refused m q = ids_as (RefusedOffset m) q
-
-  pub named-ids-read : (v : ℕ) → r ≡ At v → (x : CharsetAt) → ReadsIds b n (ids_at b n v) x → ReadsIds b n (named_ids b es n) x
-  named-ids-read v q x h = subst (λ g. ReadsIds b n g x) (sym (ids_as (At v) q)) h
+  pub named-ids-read : (o : Option ℕ) → r ≡ Ok o → (x : Result Charset Refusal) → ReadsIds b n (ids_at b n (unwrap_or o 0)) x → ReadsIds b n (named_ids b es n) x
+  named-ids-read o q x h = subst (λ g. ReadsIds b n g x) (sym (ids_as (Ok o) q ∙ ap (λ y. then y (ids_at b n)) (or_zero_is o))) h
 
 -- ---- FDs
 
-select_refused : (s : FdSelect) (l : Listed) (e : ℕ) → RefusedSelect e ≡ select_answer s l → l ≡ refusedList e
-select_refused s (refusedList n) e h = cc
-select_refused s (listed l) e h = absurd (no cc)
+select_refused : (s : FdSelect) (l : Result (List ℕ) Refusal) (e : Refusal) → Err e ≡ select_answer s l → l ≡ Err e
+select_refused s (Err n) e h = cc
+select_refused s (Ok l) e h = absurd (no cc)
 
-fds_told : (b : List ℕ) (v n : ℕ) (r : FdSelectAt) → r ≡ select_answer (select_at b v n) (fd_select_at b v n) → ReadsFds b n (list_got (fd_select_at b v n)) r
-fds_told b v n (RefusedSelect e) h = ap list_got (select_refused (select_at b v n) (fd_select_at b v n) e h)
-fds_told b v n (FoundSelect s) h = (Select-Good b v n s (sym h), ap list_got (found_fds b v n s (sym h)))
+fds_told : (b : List ℕ) (v n : ℕ) (r : Result FdSelect Refusal) → r ≡ select_answer (select_at b v n) (fd_select_at b v n) → ReadsFds b n (fd_select_at b v n) r
+fds_told b v n (Err e) h = select_refused (select_at b v n) (fd_select_at b v n) e h
+fds_told b v n (Ok s) h = (Select-Good b v n s (sym h), found_fds b v n s (sym h))
 
-module _ (b : List ℕ) (n : ℕ) (s r : OffsetIn) (e : r ≡ s) where
-  pub fds_none : r ≡ NoOffset → (x : FdSelect) → x ≡ no_select → ReadsFds b n (fds_at b n s) (FoundSelect x)
+module _ (b : List ℕ) (n : ℕ) (s r : Result (Option ℕ) Refusal) (e : r ≡ s) where
+  pub fds_none : r ≡ Ok None → (x : FdSelect) → x ≡ no_select → ReadsFds b n (fds_at b n s) (Ok x)
   unfolding fds_at
   fds_none q x i =
-      subst (λ y. ReadsFds b n (fds_at b n s) (FoundSelect y)) (sym i)
-      (no_select-good b, ap (fds_at b n) (sym e ∙ q) ∙ ap got (sym (no_select_fds b n)))
+      subst (λ y. ReadsFds b n (fds_at b n s) (Ok y)) (sym i)
+      (no_select-good b, ap (fds_at b n) (sym e ∙ q) ∙ ap Ok (sym (no_select_fds b n)))
 
-  pub fds_refused : (m : ℕ) → r ≡ RefusedOffset m → ReadsFds b n (fds_at b n s) (RefusedSelect m)
+  pub fds_refused : (m : Refusal) → r ≡ Err m → ReadsFds b n (fds_at b n s) (Err m)
   unfolding fds_at
   fds_refused m q = ap (fds_at b n) (sym e ∙ q)
 
-  pub fds_read : (v : ℕ) → r ≡ At v → (x : FdSelectAt) → x ≡ select_answer (select_at b v n) (fd_select_at b v n) → ReadsFds b n (fds_at b n s) x
+  pub fds_read : (v : ℕ) → r ≡ Ok (Some v) → (x : Result FdSelect Refusal) → x ≡ select_answer (select_at b v n) (fd_select_at b v n) → ReadsFds b n (fds_at b n s) x
   unfolding fds_at
   fds_read v q x i = subst (λ g. ReadsFds b n g x) (sym (ap (fds_at b n) (sym e ∙ q))) (fds_told b v n x i)
 
 -- ---- the encoding
 
-pub unless_refused : (n : ℕ) → 0 < n → unless n ≡ refused n
-unless_refused n h = let k = ne_eqb n 0 (λ q. no (omega arith)) in rw k
-
-pub unless-passed : (n : ℕ) → n ≤ 0 → unless n ≡ got tt
-unless-passed n h = let k = eq-eqb n 0 (omega arith) in rw k
-
 module _ (b : List ℕ) (v : ℕ) where
-  pub encoding-predefined : v < 2 → ReadsCoding b (encoding_got b v) (FoundEncoding v)
+  pub encoding-predefined : v < 2 → ReadsCoding b (encoding_got b v) (Ok v)
   unfolding encoding_got
   encoding-predefined h = let k = lt-ltb v 2 h in (rw k, rw k)
 
-  pub encoding_refused : 2 ≤ v → (n : ℕ) → n ≡ encoding_at b v → 0 < n → ReadsCoding b (encoding_got b v) (RefusedEncoding n)
+  pub encoding_refused : 2 ≤ v → (n : Refusal) → encoding_at b v ≡ Err n → ReadsCoding b (encoding_got b v) (Err n)
   unfolding encoding_got
-  encoding_refused h n i p = rw (le-ltb v 2 h, ← i) (then_refused _ _ n (unless_refused n p))
+  encoding_refused h n e = rw (le-ltb v 2 h) (then_refused _ _ n e)
 
-  pub encoding-checked : 2 ≤ v → (n : ℕ) → n ≡ encoding_at b v → n ≤ 0 → ReadsCoding b (encoding_got b v) (FoundEncoding v)
+  pub encoding-checked : 2 ≤ v → encoding_at b v ≡ Ok tt → ReadsCoding b (encoding_got b v) (Ok v)
   unfolding encoding_got
-  encoding-checked h n i p = let k = le-ltb v 2 h in (rw k (omega (arith, i)), rw (k, ← i) (then-got _ _ tt (unless-passed n p)))
+  encoding-checked h e = let k = le-ltb v 2 h in (rw k e, rw k (then-got _ _ tt e))
 
-module _ (b : List ℕ) (es : List Entry) (r : OffsetIn) (e : r ≡ offset_in encoding es) where
-  encoding_as : (o : OffsetIn) → r ≡ o → named_encoding b es ≡ then (or_zero o) (encoding_got b)
+module _ (b : List ℕ) (es : List Entry) (r : Result (Option ℕ) Refusal) (e : r ≡ offset_in encoding es) where
+  encoding_as : (o : Result (Option ℕ) Refusal) → r ≡ o → named_encoding b es ≡ then (or_zero o) (encoding_got b)
   encoding_as o q = ap (λ x. then (or_zero x) (encoding_got b)) (sym e ∙ q)
 
-  pub named-encoding-absent : r ≡ NoOffset → (x : EncodingAt) → ReadsCoding b (encoding_got b 0) x → ReadsCoding b (named_encoding b es) x
-  named-encoding-absent q x h = subst (λ g. ReadsCoding b g x) (sym (encoding_as NoOffset q)) h
+  pub named-encoding_refused : (n : Refusal) → r ≡ Err n → ReadsCoding b (named_encoding b es) (Err n)
+  named-encoding_refused n q = encoding_as (Err n) q
 
-  pub named-encoding_refused : (n : ℕ) → r ≡ RefusedOffset n → ReadsCoding b (named_encoding b es) (RefusedEncoding n)
-  named-encoding_refused n q = encoding_as (RefusedOffset n) q
-
-  pub named-encoding-read : (v : ℕ) → r ≡ At v → (x : EncodingAt) → ReadsCoding b (encoding_got b v) x → ReadsCoding b (named_encoding b es) x
-  named-encoding-read v q x h = subst (λ g. ReadsCoding b g x) (sym (encoding_as (At v) q)) h
+  pub named-encoding-read : (o : Option ℕ) → r ≡ Ok o → (x : Result ℕ Refusal) → ReadsCoding b (encoding_got b (unwrap_or o 0)) x → ReadsCoding b (named_encoding b es) x
+  named-encoding-read o q x h = subst (λ g. ReadsCoding b g x) (sym (encoding_as (Ok o) q ∙ ap (λ y. then y (encoding_got b)) (or_zero_is o))) h
 
 -- ---- the parts of a CID-keyed font
 
 -- there is a Private DICT for each FD
-cons_length : (g : Got Private) (h : Got (List Private)) (ps : List Private) (m : ℕ) → ((qs : List Private) → h ≡ got qs → length qs ≡ m)
-    → then g (λ p. then h (λ qs. got (p ∷ qs))) ≡ got ps → length ps ≡ suc m
-cons_length (refused n) h ps m k e = absurd (no cc)
-cons_length (got p) (refused n) ps m k e = absurd (no cc)
-cons_length (got p) (got qs) ps m k e = let i : p ∷ qs ≡ ps = cc in sym (ap length i) ∙ ap suc (k qs refl)
+cons_length : (g : Result Private Refusal) (h : Result (List Private) Refusal) (ps : List Private) (m : ℕ) → ((qs : List Private) → h ≡ Ok qs → length qs ≡ m)
+    → then g (λ p. then h (λ qs. Ok (p ∷ qs))) ≡ Ok ps → length ps ≡ suc m
+cons_length (Err n) h ps m k e = absurd (no cc)
+cons_length (Ok p) (Err n) ps m k e = absurd (no cc)
+cons_length (Ok p) (Ok qs) ps m k e = let i : p ∷ qs ≡ ps = cc in sym (ap length i) ∙ ap suc (k qs refl)
 
-pub privates-length : (b : List ℕ) (items : List (List ℕ)) (ps : List Private) → privates_at b items ≡ got ps → length ps ≡ length items
+pub privates-length : (b : List ℕ) (items : List (List ℕ)) (ps : List Private) → privates_at b items ≡ Ok ps → length ps ≡ length items
 unfolding privates_at
 privates-length b [] ps e = let i : [] ≡ ps = cc in sym (ap length i)
 privates-length b (d ∷ ds) ps e =
     cons_length (fd_private b d) (privates_at b ds) ps (length ds) (privates-length b ds) (sym (privates-split b d ds) ∙ e)
 
 module _ (b : List ℕ) (es : List Entry) (n : ℕ) where
-  pub cid_unread : (r : IndexAt) → ReadsItems b (named_index b es fd_array) r → (e : ℕ) → r ≡ RefusedIndex e → ReadsParts b true n (cid_parts b es n) (RefusedParts e)
+  pub cid_unread : (r : Result Index Refusal) → ReadsItems b (named_index b es fd_array) r → (e : Refusal) → r ≡ Err e → ReadsParts b true n (cid_parts b es n) (Err e)
   unfolding cid_parts
   cid_unread r reads e q = then_refused _ _ e (subst (ReadsItems b (named_index b es fd_array)) q reads)
 
-  pub has-dicts : (r : IndexAt) → ReadsItems b (named_index b es fd_array) r → (dicts : Index) → r ≡ FoundIndex dicts → HasDicts b es dicts
+  pub has-dicts : (r : Result Index Refusal) → ReadsItems b (named_index b es fd_array) r → (dicts : Index) → r ≡ Ok dicts → HasDicts b es dicts
   has-dicts r reads dicts q = let h = subst (ReadsItems b (named_index b es fd_array)) q reads in record { held = h.0; is = h.1 }
 
   module _ (dicts : Index) (d : HasDicts b es dicts) where
-    pub cid_bad : (r : LocalsRead) → ReadsLocals (privates_at b (items_of b dicts)) r → (e : ℕ) → r ≡ RefusedLocals e
-        → ReadsParts b true n (cid_parts b es n) (RefusedParts e)
+    pub cid_bad : (r : Result ℕ Refusal) → ReadsLocals (privates_at b (items_of b dicts)) r → (e : Refusal) → r ≡ Err e
+        → ReadsParts b true n (cid_parts b es n) (Err e)
     unfolding cid_parts
     cid_bad r reads e q = then-got _ _ (items_of b dicts) d.is ∙ then_refused _ _ e (subst (ReadsLocals (privates_at b (items_of b dicts))) q reads)
 
-    module _ (r : LocalsRead) (reads : ReadsLocals (privates_at b (items_of b dicts)) r) (total : ℕ) (q : r ≡ Total total) where
-      h : ReadsLocals (privates_at b (items_of b dicts)) (Total total)
+    module _ (r : Result ℕ Refusal) (reads : ReadsLocals (privates_at b (items_of b dicts)) r) (total : ℕ) (q : r ≡ Ok total) where
+      h : ReadsLocals (privates_at b (items_of b dicts)) (Ok total)
       h = subst (ReadsLocals (privates_at b (items_of b dicts))) q reads
 
-      pub cid_empty : dicts.count ≡ 0 → ReadsParts b true n (cid_parts b es n) (RefusedParts 2)
+      pub cid_empty : dicts.count ≡ 0 → ReadsParts b true n (cid_parts b es n) (Err Malformed)
       unfolding cid_parts
       cid_empty z =
           let l : length h.0 ≡ 0 = privates-length b (items_of b dicts) h.0 h.2 ∙ items-length b dicts ∙ z in
@@ -216,40 +191,40 @@ module _ (b : List ℕ) (es : List Entry) (n : ℕ) where
     added fds = added_by l.read.0 fds
 
     -- the FDSelect decides
-    cid_steps : cid_parts b es n ≡ then (fds_at b n (offset_in fd_select_lem es)) (λ fds. pick (all_below dicts.count fds) (got (added fds)) (refused 2))
+    cid_steps : cid_parts b es n ≡ then (fds_at b n (offset_in fd_select_lem es)) (λ fds. pick (all_below dicts.count fds) (Ok (added fds)) (Err Malformed))
     unfolding cid_parts
     cid_steps =
         let m : length l.read.0 ≡ dicts.count = privates-length b (items_of b dicts) l.read.0 l.read.2 ∙ items-length b dicts in
         let k = ne_eqb (length l.read.0) 0 (λ z. l.some (sym m ∙ z)) in
         then-got _ _ (items_of b dicts) l.array.is ∙ then-got _ _ l.read.0 l.read.2
-        ∙ rw k (ap (λ c. then (fds_at b n (offset_in fd_select_lem es)) (λ fds. pick (all_below c fds) (got (added fds)) (refused 2))) m)
+        ∙ rw k (ap (λ c. then (fds_at b n (offset_in fd_select_lem es)) (λ fds. pick (all_below c fds) (Ok (added fds)) (Err Malformed))) m)
 
-    module _ (r : FdSelectAt) (reads : ReadsFds b n (fds_at b n (offset_in fd_select_lem es)) r) where
-      pub cid_unselected : (e : ℕ) → r ≡ RefusedSelect e → ReadsParts b true n (cid_parts b es n) (RefusedParts e)
+    module _ (r : Result FdSelect Refusal) (reads : ReadsFds b n (fds_at b n (offset_in fd_select_lem es)) r) where
+      pub cid_unselected : (e : Refusal) → r ≡ Err e → ReadsParts b true n (cid_parts b es n) (Err e)
       cid_unselected e q = cid_steps ∙ then_refused _ _ e (subst (ReadsFds b n (fds_at b n (offset_in fd_select_lem es))) q reads)
 
-      module _ (s : FdSelect) (q : r ≡ FoundSelect s) where
-        selected : ReadsFds b n (fds_at b n (offset_in fd_select_lem es)) (FoundSelect s)
+      module _ (s : FdSelect) (q : r ≡ Ok s) where
+        selected : ReadsFds b n (fds_at b n (offset_in fd_select_lem es)) (Ok s)
         selected = subst (ReadsFds b n (fds_at b n (offset_in fd_select_lem es))) q reads
 
         pub cid_selected : GoodSelect b s
         cid_selected = selected.0
 
         module _ (t : Bool) (below : t ≡ all_below dicts.count (fds_of b s n)) where
-          pub cid_past : t ≡ false → ReadsParts b true n (cid_parts b es n) (RefusedParts 2)
+          pub cid_past : t ≡ false → ReadsParts b true n (cid_parts b es n) (Err Malformed)
           cid_past f =
               cid_steps ∙ then-got _ _ (fds_of b s n) selected.1
-              ∙ ap (λ x. pick x (got (added (fds_of b s n))) (refused 2)) (sym below ∙ f)
+              ∙ ap (λ x. pick x (Ok (added (fds_of b s n))) (Err Malformed)) (sym below ∙ f)
 
           pub cid-found : t ≡ true → 2 ≤ length b → (p : PrivateAt) → p ≡ no_private
-              → ReadsParts b true n (cid_parts b es n) (FoundParts (record { dicts = dicts; private = p; select = s; encoding = 0; words = total }))
+              → ReadsParts b true n (cid_parts b es n) (Ok (record { dicts = dicts; private = p; select = s; encoding = 0; words = total }))
           unfolding coding_at
           cid-found f w p i =
               let u : privates_of b true dicts p ≡ l.read.0 = ap or_none l.read.2 in (
                 record {
                   dicts = l.array.held;
                   private = subst (GoodPrivate b) (sym i) (record { within = omega arith; dict = empty-dict; locals = none-held b w });
-                  read = λ z. l.read.2 ∙ ap got (sym u);
+                  read = λ z. l.read.2 ∙ ap Ok (sym u);
                   select = selected.0;
                   below = λ z. sym below ∙ f;
                   coded = refl;
@@ -257,8 +232,8 @@ module _ (b : List ℕ) (es : List Entry) (n : ℕ) where
                   few = l.read.3;
                 },
                 cid_steps ∙ then-got _ _ (fds_of b s n) selected.1
-                    ∙ ap (λ x. pick x (got (added (fds_of b s n))) (refused 2)) (sym below ∙ f)
-                    ∙ ap (λ (x : List Private). got (added_by x (fds_of b s n))) (sym u),
+                    ∙ ap (λ x. pick x (Ok (added (fds_of b s n))) (Err Malformed)) (sym below ∙ f)
+                    ∙ ap (λ (x : List Private). Ok (added_by x (fds_of b s n))) (sym u),
               )
 
 -- ---- the parts of a name-keyed font
@@ -270,21 +245,21 @@ added_one p fds coding = record { privates = p ∷ []; fds = fds; dicts = []; co
 not_both : false ≡ true → ⊥
 not_both z = no cc
 
-module _ (b : List ℕ) (es : List Entry) (n : ℕ) (r : PrivateRead) (reads : ReadsPrivate b (private_at b (private_in es)) r) where
-  pub name-unread : (e : ℕ) → r ≡ RefusedPrivate e → ReadsParts b false n (name_parts b es n) (RefusedParts e)
+module _ (b : List ℕ) (es : List Entry) (n : ℕ) (r : Result PrivateAt Refusal) (reads : ReadsPrivate b (private_at b (private_in es)) r) where
+  pub name-unread : (e : Refusal) → r ≡ Err e → ReadsParts b false n (name_parts b es n) (Err e)
   unfolding name_parts
   name-unread e q = then_refused _ _ e (subst (ReadsPrivate b (private_at b (private_in es))) q reads)
 
-  module _ (p : PrivateAt) (q : r ≡ FoundPrivate p) (x : EncodingAt) (coded : ReadsCoding b (named_encoding b es) x) where
-    found : ReadsPrivate b (private_at b (private_in es)) (FoundPrivate p)
+  module _ (p : PrivateAt) (q : r ≡ Ok p) (x : Result ℕ Refusal) (coded : ReadsCoding b (named_encoding b es) x) where
+    found : ReadsPrivate b (private_at b (private_in es)) (Ok p)
     found = subst (ReadsPrivate b (private_at b (private_in es))) q reads
 
-    pub name_unencoded : (e : ℕ) → x ≡ RefusedEncoding e → ReadsParts b false n (name_parts b es n) (RefusedParts e)
+    pub name_unencoded : (e : Refusal) → x ≡ Err e → ReadsParts b false n (name_parts b es n) (Err e)
     unfolding name_parts
     name_unencoded e i = then-got _ _ (private_of b p) found.1 ∙ then_refused _ _ e (subst (ReadsCoding b (named_encoding b es)) i coded)
 
-    pub name-found : (v : ℕ) → x ≡ FoundEncoding v → 2 ≤ length b → (ix : Index) → ix ≡ empty_at 0 → (s : FdSelect) → s ≡ no_select → (t : ℕ) → t ≡ words_for p.locals.count
-        → ReadsParts b false n (name_parts b es n) (FoundParts (record { dicts = ix; private = p; select = s; encoding = v; words = t }))
+    pub name-found : (v : ℕ) → x ≡ Ok v → 2 ≤ length b → (ix : Index) → ix ≡ empty_at 0 → (s : FdSelect) → s ≡ no_select → (t : ℕ) → t ≡ words_for p.locals.count
+        → ReadsParts b false n (name_parts b es n) (Ok (record { dicts = ix; private = p; select = s; encoding = v; words = t }))
     unfolding name_parts locals_words
     name-found v k w ix i s j t h =
         let g = subst (ReadsCoding b (named_encoding b es)) k coded in (
@@ -299,11 +274,11 @@ module _ (b : List ℕ) (es : List Entry) (n : ℕ) (r : PrivateRead) (reads : R
             few = let k = found.0.locals.few in omega (arith, h);
           },
           then-got _ _ (private_of b p) found.1 ∙ then-got _ _ (coding_at b v) g.1
-              ∙ ap (λ (l : List ℕ). got (added_one (private_of b p) l (coding_at b v))) (sym (no_select_fds b n) ∙ ap (λ x. fds_of b x n) (sym j)),
+              ∙ ap (λ (l : List ℕ). Ok (added_one (private_of b p) l (coding_at b v))) (sym (no_select_fds b n) ∙ ap (λ x. fds_of b x n) (sym j)),
         )
 
 -- by the keying
-module _ (b : List ℕ) (es : List Entry) (n : ℕ) (x : PartsRead) (cid : Bool) where
+module _ (b : List ℕ) (es : List Entry) (n : ℕ) (x : Result Parts Refusal) (cid : Bool) where
   pub by-cid : cid ≡ true → ReadsParts b true n (cid_parts b es n) x → ReadsParts b cid n (parts_by cid b es n) x
   by-cid q h = subst (λ t. ReadsParts b t n (parts_by t b es n) x) (sym q) h
 
@@ -314,12 +289,12 @@ module _ (b : List ℕ) (es : List Entry) (n : ℕ) (x : PartsRead) (cid : Bool)
 
 module _ (b : List ℕ) (top end : ℕ) (strings globals : Index) where
   -- from the charstrings on, of n glyphs
-  abbrev glyph_steps : Index → ℕ → Got Program
+  abbrev glyph_steps : Index → ℕ → Result Program Refusal
   glyph_steps charstrings n =
-      then (unless (pick (eqb n 0) 2 0)) (λ u.
+      then {A = Unit} (pick (eqb n 0) (Err Malformed) (Ok tt)) (λ u.
       then (named_ids b (entries_of (top_of b top end)) n) (λ ids.
       then (parts_by (cid_keyed (entries_of (top_of b top end))) b (entries_of (top_of b top end)) n) (λ added.
-      got (record {
+      Ok (record {
         top = entries_of (top_of b top end);
         strings = items_of b strings;
         globals = items_of b globals;
@@ -331,46 +306,43 @@ module _ (b : List ℕ) (top end : ℕ) (strings globals : Index) where
         coding = added.coding;
       }))))
 
-  module _ (n : ℕ) (checked : n ≡ refusal_of (dict_of (top_of b top end))) where
-    pub top_refused : 0 < n → ReadsFont b (font_of b strings globals top end) (RefusedFont n)
+  pub top_refused : (n : Refusal) → refusal_of (dict_of (top_of b top end)) ≡ Some n → ReadsFont b (font_of b strings globals top end) (Err n)
+  unfolding font_at
+  top_refused n e = then_refused _ _ n (dict_refused (top_of b top end) n e)
+
+  module _ (good : GoodDict (top_of b top end)) where
+    pub top_typed : (n : Refusal) → charstring_type_in (entries_of (top_of b top end)) ≡ Err n → ReadsFont b (font_of b strings globals top end) (Err n)
     unfolding font_at
-    top_refused h = then_refused _ _ n (dict_refused (top_of b top end) n h checked)
+    top_typed n e = then-got _ _ _ (dict-entries (top_of b top end) good) ∙ then_refused _ _ n e
 
-    module _ (z : n ≤ 0) (t : ℕ) (typed : t ≡ charstring_type_in (entries_of (top_of b top end))) where
-      good : GoodDict (top_of b top end)
-      good = dict-good (top_of b top end) n z checked
-
-      pub top_typed : 0 < t → ReadsFont b (font_of b strings globals top end) (RefusedFont t)
+    module _ (y : charstring_type_in (entries_of (top_of b top end)) ≡ Ok tt)
+        (r : Result Index Refusal) (reads : ReadsItems b (named_index b (entries_of (top_of b top end)) char_strings) r) where
+      pub top-unread : (e : Refusal) → r ≡ Err e → ReadsFont b (font_of b strings globals top end) (Err e)
       unfolding font_at
-      top_typed h = then-got _ _ _ (dict-entries (top_of b top end) good) ∙ then_refused _ _ t (ap unless (sym typed) ∙ unless_refused t h)
+      top-unread e q =
+          then-got _ _ _ (dict-entries (top_of b top end) good) ∙ then-got _ _ tt y
+          ∙ then_refused _ _ e (subst (ReadsItems b (named_index b (entries_of (top_of b top end)) char_strings)) q reads)
 
-      module _ (y : t ≤ 0) (r : IndexAt) (reads : ReadsItems b (named_index b (entries_of (top_of b top end)) char_strings) r) where
-        pub top-unread : (e : ℕ) → r ≡ RefusedIndex e → ReadsFont b (font_of b strings globals top end) (RefusedFont e)
-        unfolding font_at
-        top-unread e q =
-            then-got _ _ _ (dict-entries (top_of b top end) good) ∙ then-got _ _ tt (ap unless (sym typed) ∙ unless-passed t y)
-            ∙ then_refused _ _ e (subst (ReadsItems b (named_index b (entries_of (top_of b top end)) char_strings)) q reads)
-
-        pub has-glyphs : (ix : Index) → r ≡ FoundIndex ix → HasGlyphs b top end ix
-        has-glyphs ix q =
-            let h = subst (ReadsItems b (named_index b (entries_of (top_of b top end)) char_strings)) q reads in
-            record { dict = good; plain = omega arith; held = h.0; is = h.1 }
+      pub has-glyphs : (ix : Index) → r ≡ Ok ix → HasGlyphs b top end ix
+      has-glyphs ix q =
+          let h = subst (ReadsItems b (named_index b (entries_of (top_of b top end)) char_strings)) q reads in
+          record { dict = good; plain = y; held = h.0; is = h.1 }
 
   module _ (charstrings : Index) (h : HasGlyphs b top end charstrings) where
     steps : font_of b strings globals top end ≡ glyph_steps charstrings charstrings.count
     unfolding font_at
     steps =
-        then-got _ _ _ (dict-entries (top_of b top end) h.dict) ∙ then-got _ _ tt (ap unless h.plain) ∙ then-got _ _ (items_of b charstrings) h.is
+        then-got _ _ _ (dict-entries (top_of b top end) h.dict) ∙ then-got _ _ tt h.plain ∙ then-got _ _ (items_of b charstrings) h.is
         ∙ ap (glyph_steps charstrings) (items-length b charstrings)
 
-    pub no_glyphs : charstrings.count ≡ 0 → ReadsFont b (font_of b strings globals top end) (RefusedFont 2)
+    pub no_glyphs : charstrings.count ≡ 0 → ReadsFont b (font_of b strings globals top end) (Err Malformed)
     no_glyphs z = steps ∙ ap (glyph_steps charstrings) z
 
-    module _ (some : charstrings.count ≡ 0 → ⊥) (r : CharsetAt) (reads : ReadsIds b charstrings.count (named_ids b (entries_of (top_of b top end)) charstrings.count) r) where
+    module _ (some : charstrings.count ≡ 0 → ⊥) (r : Result Charset Refusal) (reads : ReadsIds b charstrings.count (named_ids b (entries_of (top_of b top end)) charstrings.count) r) where
       begun : glyph_steps charstrings charstrings.count
           ≡ then (named_ids b (entries_of (top_of b top end)) charstrings.count) (λ ids.
           then (parts_by (cid_keyed (entries_of (top_of b top end))) b (entries_of (top_of b top end)) charstrings.count) (λ added.
-          got (record {
+          Ok (record {
             top = entries_of (top_of b top end);
             strings = items_of b strings;
             globals = items_of b globals;
@@ -383,26 +355,26 @@ module _ (b : List ℕ) (top end : ℕ) (strings globals : Index) where
           })))
       begun = let k = ne_eqb charstrings.count 0 some in rw k
 
-      pub ids-bad : (e : ℕ) → r ≡ RefusedCharset e → ReadsFont b (font_of b strings globals top end) (RefusedFont e)
+      pub ids-bad : (e : Refusal) → r ≡ Err e → ReadsFont b (font_of b strings globals top end) (Err e)
       ids-bad e q = steps ∙ begun ∙ then_refused _ _ e (subst (ReadsIds b charstrings.count (named_ids b (entries_of (top_of b top end)) charstrings.count)) q reads)
 
-      module _ (c : Charset) (q : r ≡ FoundCharset c) (cid : Bool) (keyed : cid ≡ cid_keyed (entries_of (top_of b top end)))
-          (x : PartsRead) (parts : ReadsParts b cid charstrings.count (parts_by cid b (entries_of (top_of b top end)) charstrings.count) x) where
-        ids : ReadsIds b charstrings.count (named_ids b (entries_of (top_of b top end)) charstrings.count) (FoundCharset c)
+      module _ (c : Charset) (q : r ≡ Ok c) (cid : Bool) (keyed : cid ≡ cid_keyed (entries_of (top_of b top end)))
+          (x : Result Parts Refusal) (parts : ReadsParts b cid charstrings.count (parts_by cid b (entries_of (top_of b top end)) charstrings.count) x) where
+        ids : ReadsIds b charstrings.count (named_ids b (entries_of (top_of b top end)) charstrings.count) (Ok c)
         ids = subst (ReadsIds b charstrings.count (named_ids b (entries_of (top_of b top end)) charstrings.count)) q reads
 
         by-keying : parts_by (cid_keyed (entries_of (top_of b top end))) b (entries_of (top_of b top end)) charstrings.count
             ≡ parts_by cid b (entries_of (top_of b top end)) charstrings.count
         by-keying = ap (λ t. parts_by t b (entries_of (top_of b top end)) charstrings.count) (sym keyed)
 
-        pub parts-bad : (e : ℕ) → x ≡ RefusedParts e → ReadsFont b (font_of b strings globals top end) (RefusedFont e)
+        pub parts-bad : (e : Refusal) → x ≡ Err e → ReadsFont b (font_of b strings globals top end) (Err e)
         parts-bad e i =
             steps ∙ begun ∙ then-got _ _ _ ids.1
             ∙ then_refused _ _ e (by-keying ∙ subst (ReadsParts b cid charstrings.count (parts_by cid b (entries_of (top_of b top end)) charstrings.count)) i parts)
 
-        pub font-found : HasTop b top end strings globals → (p : Parts) → x ≡ FoundParts p
+        pub font-found : HasTop b top end strings globals → (p : Parts) → x ≡ Ok p
             → ReadsFont b (font_of b strings globals top end)
-            (FoundFont (record {
+            (Ok (record {
               start = 0;
               len = length b;
               cid = cid;

@@ -1,5 +1,5 @@
 -- Laws of reading a set of fonts, and of what is asked of the one that is used.
-use Rattle.std.specs.Prelude.{ℕ, ◌+◌, ◌*◌, ◌≤◌, ◌<◌, ◌≡◌, refl, true, false, eqb, length, drop, get_or, Option}
+use Rattle.std.specs.Prelude.{ℕ, ◌+◌, ◌*◌, ◌≤◌, ◌<◌, ◌≡◌, refl, true, false, eqb, length, drop, get_or, Option, Result, Ok, Err, None}
 use Rattle.std.proofs.Common.{sym, ◌∙◌, add-one, arith, drop-cons}
 use Rattle.std.proofs.Math.Path.{ap, subst}
 use mathlib.Core.List.{List, [], ◌∷◌}
@@ -13,23 +13,19 @@ use Rattle.index.specs.Good.{Good, offset_of}
 use Rattle.index.specs.IndexLaws.{items-length, item-within, item-part}
 use Rattle.index.proofs.FoundLaws.{found-good, found-count, read_found, read_refused}
 use Rattle.index.specs.declared.Index.{Index}
-use Rattle.index.specs.declared.IndexAt.{IndexAt}
-use Rattle.index.specs.declared.IndexAt.TheVariants.{Refused as RefusedIndex, Found as FoundIndex}
 use Rattle.charset.specs.CharsetPlaces.{ids_of}
 use Rattle.find.specs.Find.{glyph_with_id, glyph_with_text}
-use Rattle.cff.specs.Font.{Got, refused, got, then, Program, fonts_at, first_of, index_then, set_at, read_table, read_font}
-use Rattle.cff.specs.Find.{counts_of, found_as_lem, find_name, find_cid, items_in, item_refusal_lem, item_of}
+use Rattle.cff.specs.Font.{then, Program, fonts_at, first_of, index_then, set_at, read_table, read_font}
+use Rattle.cff.specs.Find.{counts_of, find_name, find_cid, items_in, item_refusal_lem, item_of}
 use Rattle.cff.specs.Reads.{Holds, font_of, program_of, HasTop, GoodFont, ReadsFont, index_in_lem, HasSet, font_with, fonts_of, behind_tops}
 use Rattle.cff.specs.File.{InFile, HasFont, ReadsFile}
 use Rattle.cff.specs.ReadsLaws.{drop-over, then_refused, then-got}
 use Rattle.cff.specs.declared.Counts.{Counts}
-use Rattle.cff.specs.declared.FoundAs.{FoundAs}
-use Rattle.cff.specs.declared.FoundAs.TheVariants.{Absent}
 use Rattle.cff.specs.declared.ItemKind.{ItemKind}
 use Rattle.cff.specs.declared.ItemKind.TheVariants.{Charstring, Global, Text}
 use Rattle.cff.specs.declared.font.Font.{Font}
-use Rattle.cff.specs.declared.font.FontRead.{FontRead}
-use Rattle.cff.specs.declared.font.FontRead.TheVariants.{Refused as RefusedFont, Found as FoundFont}
+use Rattle.refusal.specs.declared.Refusal.{Refusal}
+use Rattle.refusal.specs.declared.Refusal.TheVariants.{Truncated, Malformed, Unsupported, NoSuchNumber}
 
 -- ---- one font of the set
 
@@ -40,20 +36,20 @@ module _ (b : List ℕ) (tops strings globals : Index) (s : HasSet b tops string
       let w = item-within b tops s.tops_held.good k h in
       record { rises = omega arith; within = omega arith; some = s.some; strings-held = s.strings-held; globals-held = s.globals-held }
 
-  pub set-font : (x y : ℕ) → x ≡ offset_of b tops k → y ≡ offset_of b tops (k + 1) → (r : FontRead) → ReadsFont b (font_of b strings globals (tops.base + x) (tops.base + y)) r
+  pub set-font : (x y : ℕ) → x ≡ offset_of b tops k → y ≡ offset_of b tops (k + 1) → (r : Result Font Refusal) → ReadsFont b (font_of b strings globals (tops.base + x) (tops.base + y)) r
       → ReadsFont b (font_with b strings globals (get_or (items_of b tops) k [])) r
   set-font x y i j r reads =
       subst (λ d. ReadsFont b (font_with b strings globals d) r) (item-part b tops s.tops_held.good k h x y i j) reads
 
 -- ---- all of them
 
-first-kept : (g : Got (List Program)) (p : Program) → then (then g (λ ps. got (p ∷ ps))) first_of ≡ then g (λ ps. got p)
-first-kept (refused n) p = refl
-first-kept (got ps) p = refl
+first-kept : (g : Result (List Program) Refusal) (p : Program) → then (then g (λ ps. Ok (p ∷ ps))) first_of ≡ then g (λ ps. Ok p)
+first-kept (Err n) p = refl
+first-kept (Ok ps) p = refl
 
-other_read : (g : Got (List Program)) (p q : Program) → then (then g (λ ps. got (p ∷ ps))) (λ ps. got q) ≡ then g (λ ps. got q)
-other_read (refused n) p q = refl
-other_read (got ps) p q = refl
+other_read : (g : Result (List Program) Refusal) (p q : Program) → then (then g (λ ps. Ok (p ∷ ps))) (λ ps. Ok q) ≡ then g (λ ps. Ok q)
+other_read (Err n) p q = refl
+other_read (Ok ps) p q = refl
 
 split_at : (items : List (List ℕ)) (k : ℕ) → k < length items → drop k items ≡ get_or items k [] ∷ drop (k + 1) items
 split_at items k h = drop-cons items k [] h ∙ rw add-one
@@ -63,20 +59,20 @@ pub record Reading (b : List ℕ) (strings globals : Index) (items : List (List 
   pub within : k ≤ length items
   pub good : GoodFont b first
   pub rest : fonts_of b strings globals items
-      ≡ then (fonts_at b (items_of b strings) (items_of b globals) (drop k items)) (λ ps. got (program_of b first))
+      ≡ then (fonts_at b (items_of b strings) (items_of b globals) (drop k items)) (λ ps. Ok (program_of b first))
 
 module _ (b : List ℕ) (strings globals : Index) (items : List (List ℕ)) where
-  fonts_on : (d : List ℕ) (ds : List (List ℕ)) (p : Program) → font_with b strings globals d ≡ got p
-      → fonts_at b (items_of b strings) (items_of b globals) (d ∷ ds) ≡ then (fonts_at b (items_of b strings) (items_of b globals) ds) (λ ps. got (p ∷ ps))
+  fonts_on : (d : List ℕ) (ds : List (List ℕ)) (p : Program) → font_with b strings globals d ≡ Ok p
+      → fonts_at b (items_of b strings) (items_of b globals) (d ∷ ds) ≡ then (fonts_at b (items_of b strings) (items_of b globals) ds) (λ ps. Ok (p ∷ ps))
   unfolding fonts_at
   fonts_on d ds p e = then-got _ _ p e
 
-  fonts_off : (d : List ℕ) (ds : List (List ℕ)) (n : ℕ) → font_with b strings globals d ≡ refused n
-      → fonts_at b (items_of b strings) (items_of b globals) (d ∷ ds) ≡ refused n
+  fonts_off : (d : List ℕ) (ds : List (List ℕ)) (n : Refusal) → font_with b strings globals d ≡ Err n
+      → fonts_at b (items_of b strings) (items_of b globals) (d ∷ ds) ≡ Err n
   unfolding fonts_at
   fonts_off d ds n e = then_refused _ _ n e
 
-  pub reading-none : length items ≡ 0 → ReadsFont b (fonts_of b strings globals items) (RefusedFont 2)
+  pub reading-none : length items ≡ 0 → ReadsFont b (fonts_of b strings globals items) (Err Malformed)
   unfolding fonts_at
   reading-none z =
       let e : items ≡ [] = drop-over 0 items (omega arith) in
@@ -86,13 +82,11 @@ module _ (b : List ℕ) (strings globals : Index) (items : List (List ℕ)) wher
     first-split : items ≡ get_or items 0 [] ∷ drop 1 items
     first-split = split_at items 0 some
 
-    pub reading-first-bad : (r : FontRead) → ReadsFont b (font_with b strings globals (get_or items 0 [])) r → (n : ℕ) → r ≡ RefusedFont n
-        → ReadsFont b (fonts_of b strings globals items) (RefusedFont n)
-    reading-first-bad r reads n q =
-        ap (fonts_of b strings globals) first-split
-        ∙ then_refused _ _ n (fonts_off (get_or items 0 []) (drop 1 items) n (subst (ReadsFont b (font_with b strings globals (get_or items 0 []))) q reads))
+    pub reading-first-bad : (n : Refusal) → ReadsFont b (font_with b strings globals (get_or items 0 [])) (Err n) → ReadsFont b (fonts_of b strings globals items) (Err n)
+    reading-first-bad n reads =
+        ap (fonts_of b strings globals) first-split ∙ then_refused _ _ n (fonts_off (get_or items 0 []) (drop 1 items) n reads)
 
-    pub reading-start : (f : Font) → ReadsFont b (font_with b strings globals (get_or items 0 [])) (FoundFont f) → Reading b strings globals items f 1
+    pub reading-start : (f : Font) → ReadsFont b (font_with b strings globals (get_or items 0 [])) (Ok f) → Reading b strings globals items f 1
     reading-start f reads =
         record {
           within = omega arith;
@@ -104,101 +98,100 @@ module _ (b : List ℕ) (strings globals : Index) (items : List (List ℕ)) wher
         }
 
   module _ (f : Font) (k : ℕ) (a : Reading b strings globals items f k) where
-    module _ (h : k < length items) (r : FontRead) (reads : ReadsFont b (font_with b strings globals (get_or items k [])) r) where
+    module _ (h : k < length items) where
       onward : fonts_of b strings globals items
-          ≡ then (fonts_at b (items_of b strings) (items_of b globals) (get_or items k [] ∷ drop (k + 1) items)) (λ ps. got (program_of b f))
-      onward = a.rest ∙ ap (λ l. then (fonts_at b (items_of b strings) (items_of b globals) l) (λ ps. got (program_of b f))) (split_at items k h)
+          ≡ then (fonts_at b (items_of b strings) (items_of b globals) (get_or items k [] ∷ drop (k + 1) items)) (λ ps. Ok (program_of b f))
+      onward = a.rest ∙ ap (λ l. then (fonts_at b (items_of b strings) (items_of b globals) l) (λ ps. Ok (program_of b f))) (split_at items k h)
 
-      pub reading_refused : (n : ℕ) → r ≡ RefusedFont n → ReadsFont b (fonts_of b strings globals items) (RefusedFont n)
-      reading_refused n q =
-          onward ∙ then_refused _ _ n (fonts_off (get_or items k []) (drop (k + 1) items) n (subst (ReadsFont b (font_with b strings globals (get_or items k []))) q reads))
+      pub reading_refused : (n : Refusal) → ReadsFont b (font_with b strings globals (get_or items k [])) (Err n) → ReadsFont b (fonts_of b strings globals items) (Err n)
+      reading_refused n reads = onward ∙ then_refused _ _ n (fonts_off (get_or items k []) (drop (k + 1) items) n reads)
 
-      pub reading-more : (g : Font) → r ≡ FoundFont g → Reading b strings globals items f (k + 1)
-      reading-more g q =
-          let e = subst (ReadsFont b (font_with b strings globals (get_or items k []))) q reads in
+      pub reading-more : (g : Font) → ReadsFont b (font_with b strings globals (get_or items k [])) (Ok g) → Reading b strings globals items f (k + 1)
+      reading-more g reads =
           record {
             within = omega arith;
             good = a.good;
             rest =
                 onward
-                ∙ ap (λ x. then x (λ ps. got (program_of b f))) (fonts_on (get_or items k []) (drop (k + 1) items) (program_of b g) e.1)
+                ∙ ap (λ x. then x (λ ps. Ok (program_of b f))) (fonts_on (get_or items k []) (drop (k + 1) items) (program_of b g) reads.1)
                 ∙ other_read (fonts_at b (items_of b strings) (items_of b globals) (drop (k + 1) items)) (program_of b g) (program_of b f);
           }
 
-    pub reading-over : length items ≤ k → ReadsFont b (fonts_of b strings globals items) (FoundFont f)
+    pub reading-over : length items ≤ k → ReadsFont b (fonts_of b strings globals items) (Ok f)
     unfolding fonts_at
     reading-over h =
-        (a.good, a.rest ∙ ap (λ l. then (fonts_at b (items_of b strings) (items_of b globals) l) (λ ps. got (program_of b f))) (drop-over k items h))
+        (a.good, a.rest ∙ ap (λ l. then (fonts_at b (items_of b strings) (items_of b globals) l) (λ ps. Ok (program_of b f))) (drop-over k items h))
 
 -- ---- the INDEXes of the set
 
-module _ (b : List ℕ) (at : ℕ) (x : IndexAt) (e : x ≡ index_at b at) where
-  pub index-bad : {B : Type 0} (f : List (List ℕ) → ℕ → Got B) (n : ℕ) → x ≡ RefusedIndex n → index_then (read_index b at) f ≡ refused n
-  index-bad f n q = ap (λ r. index_then r f) (read_refused b at n (sym e ∙ q))
+module _ (b : List ℕ) (at : ℕ) where
+  index-bad : {B : Type 0} (f : List (List ℕ) → ℕ → Result B Refusal) (n : Refusal) → Err n ≡ index_at b at → index_then (read_index b at) f ≡ Err n
+  index-bad f n e = ap (λ r. index_then r f) (read_refused b at n (sym e))
 
-  pub index_on : {B : Type 0} (f : List (List ℕ) → ℕ → Got B) (ix : Index) → x ≡ FoundIndex ix → index_then (read_index b at) f ≡ f (items_of b ix) ix.end
-  index_on f ix q = ap (λ r. index_then r f) (read_found b at ix (sym e ∙ q))
+  index_on : {B : Type 0} (f : List (List ℕ) → ℕ → Result B Refusal) (ix : Index) → Ok ix ≡ index_at b at → index_then (read_index b at) f ≡ f (items_of b ix) ix.end
+  index_on f ix e = ap (λ r. index_then r f) (read_found b at ix (sym e))
 
-  pub index-held : Octets b → (ix : Index) → x ≡ FoundIndex ix → Holds b ix
-  index-held o ix q = record { good = found-good b at ix (sym e ∙ q); few = found-count b at ix o (sym e ∙ q) }
+  pub index-held : Octets b → (ix : Index) → Ok ix ≡ index_at b at → Holds b ix
+  index-held o ix e = record { good = found-good b at ix (sym e); few = found-count b at ix o (sym e) }
 
-module _ (b : List ℕ) (names : ℕ) (tops : Index) (x : IndexAt) (i : x ≡ index_at b tops.end) where
-  pub strings-bad : (n : ℕ) → x ≡ RefusedIndex n → ReadsFont b (behind_tops b names (items_of b tops) tops.end) (RefusedFont n)
-  strings-bad n q = index-bad b tops.end x i _ n q
+module _ (b : List ℕ) (names : ℕ) (tops : Index) where
+  pub strings-bad : (n : Refusal) → Err n ≡ index_at b tops.end → ReadsFont b (behind_tops b names (items_of b tops) tops.end) (Err n)
+  strings-bad n e = index-bad b tops.end _ n e
 
-  module _ (strings : Index) (q : x ≡ FoundIndex strings) (y : IndexAt) (j : y ≡ index_at b strings.end) where
-    pub globals-bad : (n : ℕ) → y ≡ RefusedIndex n → ReadsFont b (behind_tops b names (items_of b tops) tops.end) (RefusedFont n)
-    globals-bad n p = index_on b tops.end x i _ strings q ∙ index-bad b strings.end y j _ n p
+  module _ (strings : Index) (e : Ok strings ≡ index_at b tops.end) where
+    pub globals-bad : (n : Refusal) → Err n ≡ index_at b strings.end → ReadsFont b (behind_tops b names (items_of b tops) tops.end) (Err n)
+    globals-bad n i = index_on b tops.end _ strings e ∙ index-bad b strings.end _ n i
 
-    module _ (globals : Index) (p : y ≡ FoundIndex globals) where
-      decided : behind_tops b names (items_of b tops) tops.end ≡ pick (eqb names (length (items_of b tops))) (fonts_of b strings globals (items_of b tops)) (refused 2)
-      decided = index_on b tops.end x i _ strings q ∙ index_on b strings.end y j _ globals p
+    module _ (globals : Index) (i : Ok globals ≡ index_at b strings.end) where
+      decided : behind_tops b names (items_of b tops) tops.end ≡ pick (eqb names (length (items_of b tops))) (fonts_of b strings globals (items_of b tops)) (Err Malformed)
+      decided = index_on b tops.end _ strings e ∙ index_on b strings.end _ globals i
 
       pub has-set : Octets b → 2 ≤ length b → Holds b tops → HasSet b tops strings globals
       has-set o some held =
-          record { some = some; tops_held = held; strings-held = index-held b tops.end x i o strings q; globals-held = index-held b strings.end y j o globals p }
+          record { some = some; tops_held = held; strings-held = index-held b tops.end o strings e; globals-held = index-held b strings.end o globals i }
 
-      pub counts_same : names ≡ tops.count → (r : FontRead) → ReadsFont b (fonts_of b strings globals (items_of b tops)) r
+      pub counts_same : names ≡ tops.count → (r : Result Font Refusal) → ReadsFont b (fonts_of b strings globals (items_of b tops)) r
           → ReadsFont b (behind_tops b names (items_of b tops) tops.end) r
       counts_same z r reads =
           let k = eq-eqb names (length (items_of b tops)) (z ∙ sym (items-length b tops)) in
-          subst (λ g. ReadsFont b g r) (sym (decided ∙ ap (λ t. pick t (fonts_of b strings globals (items_of b tops)) (refused 2)) k)) reads
+          subst (λ g. ReadsFont b g r) (sym (decided ∙ ap (λ t. pick t (fonts_of b strings globals (items_of b tops)) (Err Malformed)) k)) reads
 
-      pub counts_differ : (names ≡ tops.count → ⊥) → ReadsFont b (behind_tops b names (items_of b tops) tops.end) (RefusedFont 2)
+      pub counts_differ : (names ≡ tops.count → ⊥) → ReadsFont b (behind_tops b names (items_of b tops) tops.end) (Err Malformed)
       counts_differ z =
           let k = ne_eqb names (length (items_of b tops)) (λ e. z (e ∙ items-length b tops)) in
-          decided ∙ ap (λ t. pick t (fonts_of b strings globals (items_of b tops)) (refused 2)) k
+          decided ∙ ap (λ t. pick t (fonts_of b strings globals (items_of b tops)) (Err Malformed)) k
 
-module _ (b : List ℕ) (at : ℕ) (x : IndexAt) (i : x ≡ index_at b at) where
-  pub names-bad : (n : ℕ) → x ≡ RefusedIndex n → ReadsFont b (set_at b at) (RefusedFont n)
+module _ (b : List ℕ) (at : ℕ) where
+  pub names-bad : (n : Refusal) → Err n ≡ index_at b at → ReadsFont b (set_at b at) (Err n)
   unfolding set_at
-  names-bad n q = index-bad b at x i _ n q
+  names-bad n e = index-bad b at _ n e
 
-  module _ (names : Index) (q : x ≡ FoundIndex names) (y : IndexAt) (j : y ≡ index_at b names.end) where
-    pub tops_bad : (n : ℕ) → y ≡ RefusedIndex n → ReadsFont b (set_at b at) (RefusedFont n)
+  module _ (names : Index) (e : Ok names ≡ index_at b at) where
+    pub tops_bad : (n : Refusal) → Err n ≡ index_at b names.end → ReadsFont b (set_at b at) (Err n)
     unfolding set_at
-    tops_bad n p = index_on b at x i _ names q ∙ index-bad b names.end y j _ n p
+    tops_bad n i = index_on b at _ names e ∙ index-bad b names.end _ n i
 
-    pub tops_read : (tops : Index) → y ≡ FoundIndex tops → (r : FontRead) → ReadsFont b (behind_tops b names.count (items_of b tops) tops.end) r → ReadsFont b (set_at b at) r
+    pub tops_read : (tops : Index) → Ok tops ≡ index_at b names.end → (r : Result Font Refusal) → ReadsFont b (behind_tops b names.count (items_of b tops) tops.end) r
+        → ReadsFont b (set_at b at) r
     unfolding set_at
-    tops_read tops p r reads =
+    tops_read tops i r reads =
         subst (λ g. ReadsFont b g r)
-        (sym (index_on b at x i _ names q ∙ index_on b names.end y j _ tops p ∙ ap (λ n. behind_tops b n (items_of b tops) tops.end) (items-length b names)))
+        (sym (index_on b at _ names e ∙ index_on b names.end _ tops i ∙ ap (λ n. behind_tops b n (items_of b tops) tops.end) (items-length b names)))
         reads
 
 -- ---- the header
 
 module _ (b : List ℕ) where
-  pub font-short : length b < 4 → ReadsFont b (read_table b) (RefusedFont 1)
+  pub font-short : length b < 4 → ReadsFont b (read_table b) (Err Truncated)
   unfolding read_table
   font-short k = rw (lt-ltb (length b) 4 k)
 
   module _ (k : 4 ≤ length b) (major : ℕ) (m : major ≡ get_or b 0 0) where
-    pub font_other : (major ≡ 1 → ⊥) → ReadsFont b (read_table b) (RefusedFont 3)
+    pub font_other : (major ≡ 1 → ⊥) → ReadsFont b (read_table b) (Err Unsupported)
     unfolding read_table
     font_other z = rw (le-ltb (length b) 4 k, ne_eqb (get_or b 0 0) 1 (λ e. z (m ∙ e)))
 
-    pub font-set : major ≡ 1 → (at : ℕ) → at ≡ get_or b 2 0 → (r : FontRead) → ReadsFont b (set_at b at) r → ReadsFont b (read_table b) r
+    pub font-set : major ≡ 1 → (at : ℕ) → at ≡ get_or b 2 0 → (r : Result Font Refusal) → ReadsFont b (set_at b at) r → ReadsFont b (read_table b) r
     unfolding read_table
     font-set z at i r reads = rw (le-ltb (length b) 4 k, eq-eqb (get_or b 0 0) 1 (sym m ∙ z)) (subst (λ n. ReadsFont b (set_at b n) r) i reads)
 
@@ -221,14 +214,14 @@ items_are b f Charstring = refl
 items_are b f Global = refl
 items_are b f Text = refl
 
-module _ (file : List ℕ) (r : FontRead) (reads : ReadsFile file r) where
-  pub refused_as : (n : ℕ) → r ≡ RefusedFont n → read_font file ≡ refused n
+module _ (file : List ℕ) (r : Result Font Refusal) (reads : ReadsFile file r) where
+  pub refused_as : (n : Refusal) → r ≡ Err n → read_font file ≡ Err n
   refused_as n q = subst (ReadsFile file) q reads
 
-  pub item_refused : (n : ℕ) → r ≡ RefusedFont n → (kind : ItemKind) (k : ℕ) → [] ≡ item_of (read_font file) kind k
+  pub item_refused : (n : Refusal) → r ≡ Err n → (kind : ItemKind) (k : ℕ) → [] ≡ item_of (read_font file) kind k
   item_refused n q kind k = sym (ap (λ g. item_of g kind k) (refused_as n q))
 
-  pub found-font : (f : Font) → r ≡ FoundFont f → HasFont file f
+  pub found-font : (f : Font) → r ≡ Ok f → HasFont file f
   found-font f q = subst (ReadsFile file) q reads
 
 -- its items, where b are the bytes of its table
@@ -249,31 +242,33 @@ module _ (file : List ℕ) (f : Font) (b : List ℕ) (found : InFile file f b) (
   item-none k h =
       sym (ap (λ g. item_of g kind k) found.is ∙ get_or-eq_default (items_in kind (program_of b f)) [] (omega (arith, many)))
 
-  pub refusal-none : (k : ℕ) → k < ix.count → 0 ≡ item_refusal_lem (read_font file) kind k
+  pub refusal-none : (k : ℕ) → k < ix.count → Ok tt ≡ item_refusal_lem (read_font file) kind k
   refusal-none k h =
-      sym (ap (λ g. item_refusal_lem g kind k) found.is ∙ ap (λ t. pick t 0 6) (lt-ltb k (length (items_in kind (program_of b f))) (omega (arith, many))))
+      let s = lt-ltb k (length (items_in kind (program_of b f))) (omega (arith, many)) in
+      sym (ap (λ g. item_refusal_lem g kind k) found.is ∙ rw s)
 
-  pub refusal_six : (k : ℕ) → ix.count ≤ k → 6 ≡ item_refusal_lem (read_font file) kind k
+  pub refusal_six : (k : ℕ) → ix.count ≤ k → Err NoSuchNumber ≡ item_refusal_lem (read_font file) kind k
   refusal_six k h =
-      sym (ap (λ g. item_refusal_lem g kind k) found.is ∙ ap (λ t. pick t 0 6) (le-ltb k (length (items_in kind (program_of b f))) (omega (arith, many))))
+      let s = le-ltb k (length (items_in kind (program_of b f))) (omega (arith, many)) in
+      sym (ap (λ g. item_refusal_lem g kind k) found.is ∙ rw s)
 
 -- ---- finding
 
 module _ (b : List ℕ) (f : Font) (g : GoodFont b f) where
-  pub name-keyed : f.cid ≡ true → (name : List ℕ) → Absent ≡ find_name (program_of b f) name
-  name-keyed q name = sym (ap (λ t. pick t Absent (found_as_lem (glyph_with_text (items_of b f.strings) name 0 (ids_of b f.charset f.charstrings.count)))) (sym g.cid ∙ q))
+  pub name-keyed : f.cid ≡ true → (name : List ℕ) → None ≡ find_name (program_of b f) name
+  name-keyed q name = sym (ap (λ t. pick t None (glyph_with_text (items_of b f.strings) name 0 (ids_of b f.charset f.charstrings.count))) (sym g.cid ∙ q))
 
   pub name_looked : f.cid ≡ false → (name : List ℕ) (r : Option ℕ) → r ≡ glyph_with_text (items_of b f.strings) name 0 (ids_of b f.charset f.charstrings.count)
-      → (x : FoundAs) → found_as_lem r ≡ x → x ≡ find_name (program_of b f) name
+      → (x : Option ℕ) → r ≡ x → x ≡ find_name (program_of b f) name
   name_looked q name r e x i =
-      sym i ∙ ap found_as_lem e
-      ∙ sym (ap (λ t. pick t Absent (found_as_lem (glyph_with_text (items_of b f.strings) name 0 (ids_of b f.charset f.charstrings.count)))) (sym g.cid ∙ q))
+      sym i ∙ e
+      ∙ sym (ap (λ t. pick t None (glyph_with_text (items_of b f.strings) name 0 (ids_of b f.charset f.charstrings.count))) (sym g.cid ∙ q))
 
-  pub cid_other : f.cid ≡ false → (cid : ℕ) → Absent ≡ find_cid (program_of b f) cid
-  cid_other q cid = sym (ap (λ t. pick t (found_as_lem (glyph_with_id cid 0 (ids_of b f.charset f.charstrings.count))) Absent) (sym g.cid ∙ q))
+  pub cid_other : f.cid ≡ false → (cid : ℕ) → None ≡ find_cid (program_of b f) cid
+  cid_other q cid = sym (ap (λ t. pick t (glyph_with_id cid 0 (ids_of b f.charset f.charstrings.count)) None) (sym g.cid ∙ q))
 
   pub cid_looked : f.cid ≡ true → (cid : ℕ) (r : Option ℕ) → r ≡ glyph_with_id cid 0 (ids_of b f.charset f.charstrings.count)
-      → (x : FoundAs) → found_as_lem r ≡ x → x ≡ find_cid (program_of b f) cid
+      → (x : Option ℕ) → r ≡ x → x ≡ find_cid (program_of b f) cid
   cid_looked q cid r e x i =
-      sym i ∙ ap found_as_lem e
-      ∙ sym (ap (λ t. pick t (found_as_lem (glyph_with_id cid 0 (ids_of b f.charset f.charstrings.count))) Absent) (sym g.cid ∙ q))
+      sym i ∙ e
+      ∙ sym (ap (λ t. pick t (glyph_with_id cid 0 (ids_of b f.charset f.charstrings.count)) None) (sym g.cid ∙ q))

@@ -15,21 +15,6 @@ pub struct Counts {
     pub work: usize,
 }
 
-// The answer of reading.
-#[derive(Clone, Copy)]
-pub enum ReadAs {
-    Refused(u8),
-    Font(Counts),
-}
-
-// The answer of finding.
-#[derive(Clone, Copy)]
-pub enum FoundAs {
-    Refused(u8),
-    Absent,
-    Glyph(usize),
-}
-
 // The INDEXes that items are asked of.
 #[derive(Clone, Copy)]
 pub enum ItemKind {

@@ -9,8 +9,8 @@ ghost use Rattle.cff.specs.Font.{locals_at, private_data, private_at, privates_a
 ghost use Rattle.cff.specs.Reads.{Holds, ReadsItems, no_private, ReadsPrivate, Recalls, Remembers, free_after, fd_private, ReadsNext, ReadsLocals};
 
 use dict::op::Op;
-use dict::{OffsetIn, Places, PrivateIn};
-use index::{Index, IndexAt};
+use dict::{Places, PrivateEntry};
+use index::Index;
 use refusal::Refusal;
 
 // A Private DICT in a font: where it starts, its bytes, and its local subroutines.
@@ -21,13 +21,6 @@ pub struct PrivateAt {
     pub locals: Index,
 }
 
-// What reading a Private DICT finds: a refusal, or the Private DICT.
-#[derive(Clone, Copy)]
-pub enum PrivateRead {
-    Refused(u8),
-    Found(PrivateAt),
-}
-
 // A Private DICT that was read, by its size and offset: how many words a bit for each of its local subroutines takes, and the place where it is remembered.
 #[derive(Clone, Copy)]
 pub struct SeenPrivate {
@@ -35,20 +28,6 @@ pub struct SeenPrivate {
     pub offset: usize,
     pub words: usize,
     pub place: usize,
-}
-
-// What reading the Private DICT of the next FD finds: a refusal, or that Private DICT.
-#[derive(Clone, Copy)]
-pub enum NextPrivate {
-    Refused(u8),
-    Read(SeenPrivate),
-}
-
-// What reading the Private DICTs of all FDs finds: a refusal, or how many words the bits of their local subroutines take together, each rounded up.
-#[derive(Clone, Copy)]
-pub enum LocalsRead {
-    Refused(u8),
-    Total(usize),
 }
 
 // An INDEX of no item.
@@ -76,62 +55,51 @@ pub fn no_private() -> PrivateAt
 }
 
 // The local subroutines of the Private DICT at an offset, whose bytes are d.
-fn locals_at(font: &[u8], offset: usize, d: &[u8], p: Places) -> IndexAt
+fn locals_at(font: &[u8], offset: usize, d: &[u8], p: Places) -> Result<Index, Refusal>
     requires { (2 ≤ length font.now) × (offset ≤ 4294967296) × Placed d.now p }
     ensures { ReadsItems font.now (locals_at font.now offset (offset_in subrs (entries_of d.now))) result }
 {
-    let subrs = dict::offset(d, p, Op::SUBRS);
-    match subrs {
-        OffsetIn::Absent => IndexAt::Found(no_items()),
-        OffsetIn::Refused(n) => IndexAt::Refused(n),
-        OffsetIn::At(relative) => index::read_index(font, offset + relative),
+    match dict::offset(d, p, Op::SUBRS)? {
+        None => Ok(no_items()),
+        Some(relative) => index::read_index(font, offset + relative),
     }
 }
 
 // The Private DICT of a size at an offset.
-fn private_data(font: &[u8], size: usize, offset: usize) -> PrivateRead
+fn private_data(font: &[u8], size: usize, offset: usize) -> Result<PrivateAt, Refusal>
     requires { (2 ≤ length font.now) × (size ≤ 4294967296) × (offset ≤ 4294967296) }
     ensures { ReadsPrivate font.now (private_data font.now size offset) result }
 {
     let end = offset + size;
     if font.len() < end {
-        return PrivateRead::Refused(Refusal::TRUNCATED);
+        return Err(Refusal::Truncated);
     }
     let d = &font[offset..end];
-    let p = dict::read_dict(d);
-    let n = p.refusal;
-    if 0 < n {
-        return PrivateRead::Refused(n);
-    }
-    let subrs = locals_at(font, offset, d, p);
-    match subrs {
-        IndexAt::Refused(e) => PrivateRead::Refused(e),
-        IndexAt::Found(locals) => PrivateRead::Found(PrivateAt {
-            start: offset,
-            size,
-            locals,
-        }),
-    }
+    let p = dict::read_dict(d)?;
+    let locals = locals_at(font, offset, d, p)?;
+    Ok(PrivateAt {
+        start: offset,
+        size,
+        locals,
+    })
 }
 
 // The Private DICT that a DICT names; an empty one where it names none.
-pub fn private_at(font: &[u8], d: &[u8]) -> PrivateRead
+pub fn private_at(font: &[u8], d: &[u8]) -> Result<PrivateAt, Refusal>
     requires { 2 ≤ length font.now }
     ensures { ReadsPrivate font.now (private_at font.now (private_in (entries_of d.now))) result }
 {
-    named_private(font, d, dict::nowhere(0))
+    named_private(font, d, dict::nowhere())
 }
 
 // The same, of a DICT whose entries stand at these places.
-pub fn named_private(font: &[u8], d: &[u8], p: Places) -> PrivateRead
+pub fn named_private(font: &[u8], d: &[u8], p: Places) -> Result<PrivateAt, Refusal>
     requires { (2 ≤ length font.now) × Placed d.now p }
     ensures { ReadsPrivate font.now (private_at font.now (private_in (entries_of d.now))) result }
 {
-    let named = dict::private_of(d, p);
-    match named {
-        PrivateIn::Absent => PrivateRead::Found(no_private()),
-        PrivateIn::Refused(n) => PrivateRead::Refused(n),
-        PrivateIn::Private { size, offset } => private_data(font, size, offset),
+    match dict::private_of(d, p)? {
+        None => Ok(no_private()),
+        Some(PrivateEntry { size, offset }) => private_data(font, size, offset),
     }
 }
 
@@ -161,24 +129,19 @@ fn free_after(free: usize, place: usize) -> usize
 }
 
 // The Private DICT of a size at an offset, read for its refusal and the words of its local subroutines.
-fn locals_of(font: &[u8], size: usize, offset: usize, free: usize) -> NextPrivate
+fn locals_of(font: &[u8], size: usize, offset: usize, free: usize) -> Result<SeenPrivate, Refusal>
     requires { (2 ≤ length font.now) × (size ≤ 4294967296) × (offset ≤ 4294967296) × (free < 128) }
     ensures { ReadsNext font.now (private_data font.now size offset) result }
 {
-    let read = private_data(font, size, offset);
-    match read {
-        PrivateRead::Refused(n) => NextPrivate::Refused(n),
-        PrivateRead::Found(q) => {
-            let locals = q.locals;
-            let words = bits::words_for(locals.count);
-            NextPrivate::Read(SeenPrivate {
-                size,
-                offset,
-                words,
-                place: free,
-            })
-        }
-    }
+    let q = private_data(font, size, offset)?;
+    let locals = q.locals;
+    let words = bits::words_for(locals.count);
+    Ok(SeenPrivate {
+        size,
+        offset,
+        words,
+        place: free,
+    })
 }
 
 // The same, as it is remembered; where it is not, it is read.
@@ -190,14 +153,14 @@ fn seen_private(
     offsets: &[usize; 128],
     words: &[usize; 128],
     free: usize,
-) -> NextPrivate
+) -> Result<SeenPrivate, Refusal>
     requires { (2 ≤ length font.now) × (size ≤ 4294967296) × (offset ≤ 4294967296) × Remembers font.now sizes.now offsets.now words.now × (free < 128) }
     ensures { ReadsNext font.now (private_data font.now size offset) result }
 {
     let place = recall(sizes, offsets, size, offset);
     if place < 128 {
         let known = words[place];
-        return NextPrivate::Read(SeenPrivate {
+        return Ok(SeenPrivate {
             size,
             offset,
             words: known,
@@ -216,17 +179,15 @@ fn next_private(
     offsets: &[usize; 128],
     words: &[usize; 128],
     free: usize,
-) -> NextPrivate
+) -> Result<SeenPrivate, Refusal>
     requires { (2 ≤ length font.now) × Remembers font.now sizes.now offsets.now words.now × (free < 128) × Placed d.now p }
     ensures { ReadsNext font.now (private_at font.now (private_in (entries_of d.now))) result }
 {
-    let named = dict::private_of(d, p);
-    match named {
-        PrivateIn::Absent => seen_private(font, 0, 0, sizes, offsets, words, free),
-        PrivateIn::Refused(n) => NextPrivate::Refused(n),
-        PrivateIn::Private { size, offset } => {
-            seen_private(font, size, offset, sizes, offsets, words, free)
-        }
+    match dict::private_of(d, p)? {
+        None => seen_private(font, 0, 0, sizes, offsets, words, free),
+        Some(PrivateEntry { size, offset }) => seen_private(
+            font, size, offset, sizes, offsets, words, free,
+        ),
     }
 }
 
@@ -238,21 +199,17 @@ fn fd_private(
     offsets: &[usize; 128],
     words: &[usize; 128],
     free: usize,
-) -> NextPrivate
+) -> Result<SeenPrivate, Refusal>
     requires { (2 ≤ length font.now) × Remembers font.now sizes.now offsets.now words.now × (free < 128) }
     ensures { ReadsNext font.now (fd_private font.now d.now) result }
 {
-    let p = dict::read_dict(d);
-    let n = p.refusal;
-    if 0 < n {
-        return NextPrivate::Refused(n);
-    }
+    let p = dict::read_dict(d)?;
     next_private(font, d, p, sizes, offsets, words, free)
 }
 
-// The Private DICTs of the FDs, whose DICTs are the items of an INDEX: one after the other. The last 128 that were read are remembered, by size and
-// offset, so that FDs that share a few are read in one pass.
-pub fn read_privates(font: &[u8], dicts: Index) -> LocalsRead
+// The Private DICTs of the FDs, whose DICTs are the items of an INDEX: one after the other, for how many words the bits of their local subroutines take
+// together, each rounded up. The last 128 that were read are remembered, by size and offset, so that FDs that share a few are read in one pass.
+pub fn read_privates(font: &[u8], dicts: Index) -> Result<usize, Refusal>
     requires { (2 ≤ length font.now) × Holds font.now dicts }
     ensures { ReadsLocals (privates_at font.now (items_of font.now dicts)) result }
 {
@@ -263,20 +220,13 @@ pub fn read_privates(font: &[u8], dicts: Index) -> LocalsRead
     let mut total: usize = 0;
     for k in 0..dicts.count {
         let d = index::item(font, dicts, k);
-        let next = fd_private(font, d, &sizes, &offsets, &words, free);
-        match next {
-            NextPrivate::Refused(e) => {
-                return LocalsRead::Refused(e);
-            }
-            NextPrivate::Read(l) => {
-                let place = l.place;
-                sizes[place] = l.size;
-                offsets[place] = l.offset;
-                words[place] = l.words;
-                free = free_after(free, place);
-                total += l.words;
-            }
-        }
+        let l = fd_private(font, d, &sizes, &offsets, &words, free)?;
+        let place = l.place;
+        sizes[place] = l.size;
+        offsets[place] = l.offset;
+        words[place] = l.words;
+        free = free_after(free, place);
+        total += l.words;
     }
-    LocalsRead::Total(total)
+    Ok(total)
 }

@@ -1,14 +1,12 @@
 -- The answers of stored cases R, N, C and I (tools/compare/README.md, 'Stored cases'), over what reading, finding and items are.
-use Rattle.std.specs.Prelude.{ℕ, ◌+◌, List, [], ◌∷◌, ◌++◌, ltb, eqb, length, take, drop, get_or, None, Option, Some}
+use Rattle.std.specs.Prelude.{ℕ, ◌+◌, List, [], ◌∷◌, ◌++◌, ltb, eqb, length, take, drop, get_or, None, Option, Some, Result, Ok, Err}
 use Rattle.octets.specs.Pick.{pick}
 use Rattle.octets.specs.Octets.{num_at, bytes_of}
+use Rattle.refusal.specs.Refusal.{number_of}
+use Rattle.refusal.specs.declared.Refusal.{Refusal}
 use Rattle.cff.specs.Font.{read_font}
 use Rattle.cff.specs.Find.{read_as, name_as, cid_as, item_refusal_lem, item_of}
 use Rattle.cff.specs.declared.Counts.{Counts}
-use Rattle.cff.specs.declared.ReadAs.{ReadAs}
-use Rattle.cff.specs.declared.ReadAs.TheVariants.{Refused as RefusedRead, Font}
-use Rattle.cff.specs.declared.FoundAs.{FoundAs}
-use Rattle.cff.specs.declared.FoundAs.TheVariants.{Refused as RefusedFind, Absent, Glyph}
 use Rattle.cff.specs.declared.ItemKind.{ItemKind}
 use Rattle.cff_entries.specs.Kinds.{kind_of}
 
@@ -21,15 +19,15 @@ unfoldable pub font_bytes : Counts → List ℕ
 font_bytes c = (0 ∷ sizes_bytes c) ++ bytes_of 1 (pick c.cid 1 0) ++ bytes_of 8 c.work
 
 -- the answer of reading
-abbrev pub read_bytes : ReadAs → List ℕ
-read_bytes (RefusedRead n) = n ∷ []
-read_bytes (Font c) = font_bytes c
+abbrev pub read_bytes : Result Counts Refusal → List ℕ
+read_bytes (Err n) = number_of n ∷ []
+read_bytes (Ok c) = font_bytes c
 
 -- the answer of finding: no refusal, then 1 and the glyph, or 0 and 0
-abbrev pub found_bytes : FoundAs → List ℕ
-found_bytes (RefusedFind n) = n ∷ []
-found_bytes Absent = bytes_of 4 0
-found_bytes (Glyph g) = 0 ∷ 1 ∷ bytes_of 2 g
+abbrev pub found_bytes : Result (Option ℕ) Refusal → List ℕ
+found_bytes (Err n) = number_of n ∷ []
+found_bytes (Ok None) = bytes_of 4 0
+found_bytes (Ok (Some g)) = 0 ∷ 1 ∷ bytes_of 2 g
 
 -- kind R: nothing more is asked
 unfoldable pub read_answer : List ℕ → List ℕ → Option (List ℕ)
@@ -44,10 +42,12 @@ unfoldable pub cid_answer : List ℕ → List ℕ → Option (List ℕ)
 cid_answer font asked = pick (eqb (length asked) 2) (Some (found_bytes (cid_as (read_font font) (num_at asked 0 2)))) None
 
 -- the refusal of a lookup, or no refusal and the item, of at most 4,095 bytes
+abbrev pub item_bytes : Result Unit Refusal → List ℕ → Option (List ℕ)
+item_bytes (Err n) bs = Some (number_of n ∷ [])
+item_bytes (Ok u) bs = pick (ltb 4095 (length bs)) None (Some (0 ∷ bs))
+
 unfoldable pub item_of_kind : List ℕ → ItemKind → ℕ → Option (List ℕ)
-item_of_kind font kind number =
-    pick (ltb 0 (item_refusal_lem (read_font font) kind number)) (Some (item_refusal_lem (read_font font) kind number ∷ []))
-    (pick (ltb 4095 (length (item_of (read_font font) kind number))) None (Some (0 ∷ item_of (read_font font) kind number)))
+item_of_kind font kind number = item_bytes (item_refusal_lem (read_font font) kind number) (item_of (read_font font) kind number)
 
 -- kind I: a kind and a number
 unfoldable pub item_answer : List ℕ → List ℕ → Option (List ℕ)

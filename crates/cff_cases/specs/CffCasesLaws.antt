@@ -1,5 +1,5 @@
 -- Laws of the answers to stored cases, by the code's ways out.
-use Rattle.std.specs.Prelude.{ℕ, ◌+◌, ◌-◌, ◌≤◌, ◌<◌, ◌≡◌, get_or, None, Some}
+use Rattle.std.specs.Prelude.{ℕ, ◌+◌, ◌-◌, ◌≤◌, ◌<◌, ◌≡◌, refl, get_or, None, Option, Some, Result, Ok, Err}
 use Rattle.std.proofs.Math.Path.{sym, ap}
 use Rattle.std.proofs.Common.{◌∙◌, length-append, take_all}
 use mathlib.Core.List.{List, [], ◌∷◌}
@@ -8,14 +8,14 @@ use Rattle.std.proofs.Math.ListN.{length, take, drop, length-drop}
 use borrow.Author.Tests.{eq-eqb, ne_eqb, lt-ltb, le-ltb}
 use Rattle.octets.specs.Octets.{num_at}
 use Rattle.octets.specs.OctetsLaws.{length-bytes}
+use Rattle.refusal.specs.Refusal.{number_of}
+use Rattle.refusal.specs.declared.Refusal.{Refusal}
 use Rattle.cff.specs.Font.{read_font}
 use Rattle.cff.specs.Find.{read_as, cid_as, item_refusal_lem, item_of}
 use Rattle.cff.specs.declared.Counts.{Counts}
-use Rattle.cff.specs.declared.ReadAs.{ReadAs}
-use Rattle.cff.specs.declared.FoundAs.{FoundAs}
 use Rattle.cff.specs.declared.ItemKind.{ItemKind}
 use Rattle.cff_entries.specs.Kinds.{kind_of}
-use Rattle.cff_cases.specs.CffCases.{sizes_bytes, read_bytes, found_bytes, read_answer, cid_answer, item_of_kind, item_answer, asked_answer, cff_answer}
+use Rattle.cff_cases.specs.CffCases.{sizes_bytes, read_bytes, found_bytes, read_answer, cid_answer, item_bytes, item_of_kind, item_answer, asked_answer, cff_answer}
 
 -- the three sizes have twelve bytes
 pub sizes_length : (c : Counts) → length (sizes_bytes c) ≡ 12
@@ -29,9 +29,9 @@ module _ (font asked : List ℕ) where
   unfolding read_answer
   read_more h = rw (lt-ltb 0 (length asked) h)
 
-  pub read_found : length asked ≤ 0 → (r : ReadAs) → r ≡ read_as (read_font font) → read_answer font asked ≡ Some (read_bytes r)
+  pub read_found : length asked ≤ 0 → (r : Result Counts Refusal) → r ≡ read_as (read_font font) → read_answer font asked ≡ Some (read_bytes r)
   unfolding read_answer
-  read_found h r e = rw (le-ltb 0 (length asked) h) (ap (λ (x : ReadAs). Some (read_bytes x)) (sym e))
+  read_found h r e = rw (le-ltb 0 (length asked) h) (ap (λ (x : Result Counts Refusal). Some (read_bytes x)) (sym e))
 
   -- ---- kind C
 
@@ -39,12 +39,12 @@ module _ (font asked : List ℕ) where
   unfolding cid_answer
   cid_size h = rw (ne_eqb (length asked) 2 h)
 
-  pub cid-found : length asked ≡ 2 → (n : ℕ) → n ≡ num_at asked 0 2 → (r : FoundAs) → r ≡ cid_as (read_font font) n
+  pub cid-found : length asked ≡ 2 → (n : ℕ) → n ≡ num_at asked 0 2 → (r : Result (Option ℕ) Refusal) → r ≡ cid_as (read_font font) n
       → cid_answer font asked ≡ Some (found_bytes r)
   unfolding cid_answer
   cid-found h n k r e =
       rw (eq-eqb (length asked) 2 h)
-      (ap (λ (m : ℕ). Some (found_bytes (cid_as (read_font font) m))) (sym k) ∙ ap (λ (x : FoundAs). Some (found_bytes x)) (sym e))
+      (ap (λ (m : ℕ). Some (found_bytes (cid_as (read_font font) m))) (sym k) ∙ ap (λ (x : Result (Option ℕ) Refusal). Some (found_bytes x)) (sym e))
 
   -- ---- kind I
 
@@ -72,28 +72,22 @@ module _ (font asked : List ℕ) where
 
 -- ---- an item of a kind
 
-module _ (font : List ℕ) (kind : ItemKind) (number n : ℕ) (e : n ≡ item_refusal_lem (read_font font) kind number) where
-  pub of-kind_refused : 0 < n → item_of_kind font kind number ≡ Some (n ∷ [])
+module _ (font : List ℕ) (kind : ItemKind) (number : ℕ) where
+  of-kind : (r : Result Unit Refusal) → r ≡ item_refusal_lem (read_font font) kind number → (bs : List ℕ) → bs ≡ item_of (read_font font) kind number
+      → item_of_kind font kind number ≡ item_bytes r bs
   unfolding item_of_kind
-  of-kind_refused h =
-      let k : 0 < item_refusal_lem (read_font font) kind number = omega (arith, e) in
-      rw (lt-ltb 0 (item_refusal_lem (read_font font) kind number) k) (ap (λ (m : ℕ). Some (m ∷ [])) (sym e))
+  of-kind r e bs f =
+      ap (λ (x : Result Unit Refusal). item_bytes x (item_of (read_font font) kind number)) (sym e) ∙ ap (item_bytes r) (sym f)
 
-  module _ (h : n ≤ 0) (bs : List ℕ) (f : bs ≡ item_of (read_font font) kind number) where
+  pub of-kind_refused : (n : Refusal) → Err n ≡ item_refusal_lem (read_font font) kind number → (k : ℕ) → k ≡ number_of n → item_of_kind font kind number ≡ Some (k ∷ [])
+  of-kind_refused n e k f = of-kind (Err n) e (item_of (read_font font) kind number) refl ∙ ap (λ (m : ℕ). Some (m ∷ [])) (sym f)
+
+  module _ (u : Unit {0}) (e : Ok u ≡ item_refusal_lem (read_font font) kind number) (bs : List ℕ) (f : bs ≡ item_of (read_font font) kind number) where
     pub of-kind_long : 4095 < length bs → item_of_kind font kind number ≡ None
-    unfolding item_of_kind
-    of-kind_long l =
-        let k : item_refusal_lem (read_font font) kind number ≤ 0 = omega (arith, e) in
-        let m : 4095 < length (item_of (read_font font) kind number) = omega (arith, ap length f) in
-        rw (le-ltb 0 (item_refusal_lem (read_font font) kind number) k, lt-ltb 4095 (length (item_of (read_font font) kind number)) m)
+    of-kind_long l = of-kind (Ok u) e bs f ∙ rw (lt-ltb 4095 (length bs) l)
 
     pub of-kind-found : length bs ≤ 4095 → item_of_kind font kind number ≡ Some (0 ∷ bs)
-    unfolding item_of_kind
-    of-kind-found l =
-        let k : item_refusal_lem (read_font font) kind number ≤ 0 = omega (arith, e) in
-        let m : length (item_of (read_font font) kind number) ≤ 4095 = omega (arith, ap length f) in
-        rw (le-ltb 0 (item_refusal_lem (read_font font) kind number) k, le-ltb 4095 (length (item_of (read_font font) kind number)) m)
-        (ap (λ (x : List ℕ). Some (0 ∷ x)) (sym f))
+    of-kind-found l = of-kind (Ok u) e bs f ∙ rw (le-ltb 4095 (length bs) l)
 
 -- ---- an input
 

@@ -7,8 +7,9 @@ ghost use Rattle.octets.specs.Octets.{Wrote};
 ghost use Rattle.cases.specs.Answers.{Gives};
 ghost use Rattle.cff_cases.specs.CffCases.{sizes_bytes, font_bytes, read_bytes, found_bytes, read_answer, name_answer, cid_answer, item_of_kind, item_answer, asked_answer, cff_answer};
 
-use cff::{Counts, FoundAs, ItemKind, ReadAs};
+use cff::{Counts, ItemKind};
 use octets::{put_byte, put_num};
+use refusal::Refusal;
 
 // Glyphs, global subroutines and strings, four bytes each.
 fn put_sizes(c: Counts, out: &mut [u8], at: usize) -> usize
@@ -32,25 +33,25 @@ fn put_font(c: Counts, out: &mut [u8]) -> usize
 }
 
 // What reading answers.
-fn put_read(read: ReadAs, out: &mut [u8]) -> usize
+fn put_read(read: Result<Counts, Refusal>, out: &mut [u8]) -> usize
     requires { 4096 ≤ length out.old }
     ensures { Wrote out.old 0 (read_bytes read) out.new result }
 {
     match read {
-        ReadAs::Refused(n) => put_byte(out, 0, n),
-        ReadAs::Font(c) => put_font(c, out),
+        Err(e) => put_byte(out, 0, e.number()),
+        Ok(c) => put_font(c, out),
     }
 }
 
 // What finding answers.
-fn put_found(found: FoundAs, out: &mut [u8]) -> usize
+fn put_found(found: Result<Option<usize>, Refusal>, out: &mut [u8]) -> usize
     requires { 4096 ≤ length out.old }
     ensures { Wrote out.old 0 (found_bytes found) out.new result }
 {
     match found {
-        FoundAs::Refused(n) => put_byte(out, 0, n),
-        FoundAs::Absent => put_num(out, 0, 0, 4),
-        FoundAs::Glyph(g) => {
+        Err(e) => put_byte(out, 0, e.number()),
+        Ok(None) => put_num(out, 0, 0, 4),
+        Ok(Some(g)) => {
             let p = octets::put_pair(out, 0, 0, 1);
             put_num(out, p, g, 2)
         }
@@ -93,9 +94,8 @@ fn answer_item_of(font: &[u8], kind: ItemKind, number: usize, out: &mut [u8]) ->
     requires { 4096 ≤ length out.old }
     ensures { Gives (item_of_kind font.now kind number) out.new result }
 {
-    let n = cff_entries::item_refusal(font, kind, number);
-    if 0 < n {
-        return Some(put_byte(out, 0, n));
+    if let Err(e) = cff_entries::item_refusal(font, kind, number) {
+        return Some(put_byte(out, 0, e.number()));
     }
     let item = cff_entries::item(font, kind, number);
     if 4095 < item.len() {
@@ -135,7 +135,8 @@ fn answer_asked(kind: u8, font: &[u8], asked: &[u8], out: &mut [u8]) -> Option<u
     }
 }
 
-// The answer to an input, by its kind's letter: how many bytes of it stand at the start of out; None outside the kind's domain.
+// The answer to an input, by its kind's letter: how many bytes of it stand at the start of out; None outside the kind's domain. The kind stays
+// the letter that the line has, which may be any.
 pub fn answer(kind: u8, input: &[u8], out: &mut [u8]) -> Option<usize>
     requires { 4096 ≤ length out.old }
     ensures { Gives (cff_answer kind input.now) out.new result }

@@ -11,35 +11,30 @@ ghost use Rattle.cff.specs.Reads.{program_of, GoodFont};
 ghost use Rattle.cff.specs.Place.{LiesIn};
 ghost use Rattle.cff_entries.specs.Kinds.{kind_of};
 
-use cff::font::{Font, FontRead};
-use cff::{Counts, FoundAs, ItemKind, ReadAs};
+use cff::font::Font;
+use cff::{Counts, ItemKind};
 use refusal::Refusal;
 
 // Reads a font: its counts, its keying and W, or the refusal.
-pub fn read(font: &[u8]) -> ReadAs
+pub fn read(font: &[u8]) -> Result<Counts, Refusal>
     ensures { result ≡ read_as (read_font font.now) }
 {
-    let found = cff::set::read_font(font);
-    match found {
-        FontRead::Refused(n) => ReadAs::Refused(n),
-        FontRead::Found(f) => {
-            let charstrings = f.charstrings;
-            let globals = f.globals;
-            let strings = f.strings;
-            let work = cff::font::work_size(f);
-            ReadAs::Font(Counts {
-                glyphs: charstrings.count,
-                globals: globals.count,
-                strings: strings.count,
-                cid: f.cid,
-                work,
-            })
-        }
-    }
+    let f = cff::set::read_font(font)?;
+    let charstrings = f.charstrings;
+    let globals = f.globals;
+    let strings = f.strings;
+    let work = cff::font::work_size(f);
+    Ok(Counts {
+        glyphs: charstrings.count,
+        globals: globals.count,
+        strings: strings.count,
+        cid: f.cid,
+        work,
+    })
 }
 
 // The glyph of a name in a font that was read; no glyph of a CID-keyed font has one.
-fn name_in(font: &[u8], f: Font, name: &[u8]) -> FoundAs
+fn name_in(font: &[u8], f: Font, name: &[u8]) -> Option<usize>
     requires { GoodFont font.now f }
     ensures { result ≡ find_name (program_of font.now f) name.now }
 {
@@ -48,24 +43,20 @@ fn name_in(font: &[u8], f: Font, name: &[u8]) -> FoundAs
     let texts = f.strings;
     let cid = f.cid;
     if cid {
-        return FoundAs::Absent;
+        return None;
     }
-    let found = find::find_text(
+    find::find_text(
         font,
         charset,
         charstrings.count,
         texts,
         name,
         strings::sid_of(name),
-    );
-    match found {
-        None => FoundAs::Absent,
-        Some(g) => FoundAs::Glyph(g),
-    }
+    )
 }
 
 // The glyph of a CID in a font that was read; no glyph of a name-keyed font has one.
-fn cid_in(font: &[u8], f: Font, cid: usize) -> FoundAs
+fn cid_in(font: &[u8], f: Font, cid: usize) -> Option<usize>
     requires { GoodFont font.now f }
     ensures { result ≡ find_cid (program_of font.now f) cid }
 {
@@ -73,35 +64,25 @@ fn cid_in(font: &[u8], f: Font, cid: usize) -> FoundAs
     let charstrings = f.charstrings;
     let keyed = f.cid;
     if keyed {
-        let found = find::find_id(font, charset, charstrings.count, cid);
-        return match found {
-            None => FoundAs::Absent,
-            Some(g) => FoundAs::Glyph(g),
-        };
+        return find::find_id(font, charset, charstrings.count, cid);
     }
-    FoundAs::Absent
+    None
 }
 
 // Finds the glyph of a name, or the refusal of the font.
-pub fn find_name(font: &[u8], name: &[u8]) -> FoundAs
+pub fn find_name(font: &[u8], name: &[u8]) -> Result<Option<usize>, Refusal>
     ensures { result ≡ name_as (read_font font.now) name.now }
 {
-    let read = cff::set::read_font(font);
-    match read {
-        FontRead::Refused(n) => FoundAs::Refused(n),
-        FontRead::Found(f) => name_in(cff::set::table(font, f), f, name),
-    }
+    let f = cff::set::read_font(font)?;
+    Ok(name_in(cff::set::table(font, f), f, name))
 }
 
 // Finds the glyph of a CID, or the refusal of the font.
-pub fn find_cid(font: &[u8], cid: usize) -> FoundAs
+pub fn find_cid(font: &[u8], cid: usize) -> Result<Option<usize>, Refusal>
     ensures { result ≡ cid_as (read_font font.now) cid }
 {
-    let read = cff::set::read_font(font);
-    match read {
-        FontRead::Refused(n) => FoundAs::Refused(n),
-        FontRead::Found(f) => cid_in(cff::set::table(font, f), f, cid),
-    }
+    let f = cff::set::read_font(font)?;
+    Ok(cid_in(cff::set::table(font, f), f, cid))
 }
 
 // An item of an INDEX: the part of the caller's bytes itself, empty where the lookup is refused.
@@ -111,8 +92,8 @@ pub fn item(font: &[u8], kind: ItemKind, number: usize) -> &[u8]
 {
     let read = cff::set::read_font(font);
     match read {
-        FontRead::Refused(_) => &font[0..0],
-        FontRead::Found(f) => {
+        Err(_) => &font[0..0],
+        Ok(f) => {
             let ix = cff::font::index_in(f, kind);
             if number < ix.count {
                 return index::item(cff::set::table(font, f), ix, number);
@@ -122,21 +103,16 @@ pub fn item(font: &[u8], kind: ItemKind, number: usize) -> &[u8]
     }
 }
 
-// The refusal of a lookup of an item, or 0: reading's, then 6 where there is no such number.
-pub fn item_refusal(font: &[u8], kind: ItemKind, number: usize) -> u8
+// The refusal of a lookup of an item, if it is refused: reading's, then where there is no such number.
+pub fn item_refusal(font: &[u8], kind: ItemKind, number: usize) -> Result<(), Refusal>
     ensures { result ≡ item_refusal_lem (read_font font.now) kind number }
 {
-    let read = cff::set::read_font(font);
-    match read {
-        FontRead::Refused(n) => n,
-        FontRead::Found(f) => {
-            let ix = cff::font::index_in(f, kind);
-            if number < ix.count {
-                return 0;
-            }
-            Refusal::NO_SUCH_NUMBER
-        }
+    let f = cff::set::read_font(font)?;
+    let ix = cff::font::index_in(f, kind);
+    if number < ix.count {
+        return Ok(());
     }
+    Err(Refusal::NoSuchNumber)
 }
 
 // The kind of items of a number below 3.

@@ -1,14 +1,13 @@
 -- A charset (TN5176, section 13) in place, as the code holds it: by its ranges, and by a cursor that goes from glyph to glyph.
-use Rattle.std.specs.Prelude.{ℕ, ◌+◌, ◌-◌, ◌≤◌, ◌<◌, ◌≡◌, List, length, drop, get_or, eqb}
+use Rattle.std.specs.Prelude.{ℕ, ◌+◌, ◌-◌, ◌≤◌, ◌<◌, ◌≡◌, List, length, drop, get_or, eqb, Result, Ok, Err}
 use Rattle.octets.specs.Pick.{pick}
 use Rattle.octets.specs.Octets.{num_at}
-use Rattle.charset.specs.Listed.{Listed, refused, listed, numbers_of}
+use Rattle.charset.specs.Listed.{numbers_of}
 use Rattle.charset.specs.Charset.{ids_from}
 use Rattle.charset.specs.declared.Charset.{Charset}
-use Rattle.charset.specs.declared.CharsetAt.{CharsetAt}
-use Rattle.charset.specs.declared.CharsetAt.TheVariants.{Refused, Found}
 use Rattle.charset.specs.declared.CharsetCursor.{CharsetCursor}
 use Rattle.charset.specs.declared.IdStep.{IdStep}
+use Rattle.refusal.specs.declared.Refusal.{Refusal}
 
 -- the charset by the table at a place: glyph 0 has no entry
 abbrev pub table_at : List ℕ → ℕ → Charset
@@ -26,12 +25,12 @@ ids_of b c n = numbers_of (ids_from c.width n 0 c.own (drop c.at b))
 pub record GoodCharset (b : List ℕ) (c : Charset) (n : ℕ) : Type 0 where
   pub narrow : c.width ≤ 2
   pub few : n < 65536
-  pub sound : ids_from c.width n 0 c.own (drop c.at b) ≡ listed (ids_of b c n)
+  pub sound : ids_from c.width n 0 c.own (drop c.at b) ≡ Ok (ids_of b c n)
 
 -- what reading answers: the charset where the ids are not refused
-abbrev pub charset_answer : Charset → Listed → CharsetAt
-charset_answer c (refused e) = Refused e
-charset_answer c (listed l) = Found c
+abbrev pub charset_answer : Charset → Result (List ℕ) Refusal → Result Charset Refusal
+charset_answer c (Err e) = Err e
+charset_answer c (Ok l) = Ok c
 
 -- ---- glyph after glyph
 
@@ -52,7 +51,7 @@ next_id b u =
 -- a cursor that stands before glyphs with these ids
 pub record StandsId (b : List ℕ) (u : CharsetCursor) (ids : List ℕ) : Type 0 where
   pub narrow : u.width ≤ 2
-  pub gives : ids_from u.width (length ids) u.id u.left (drop u.at b) ≡ listed ids
+  pub gives : ids_from u.width (length ids) u.id u.left (drop u.at b) ≡ Ok ids
 
 -- what the next step asks: a range, where none is under way
 pub record ReadyId (b : List ℕ) (u : CharsetCursor) : Type 0 where

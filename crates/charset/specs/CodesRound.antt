@@ -1,6 +1,6 @@
 -- An encoding of supplements alone that was written reads back: format 0 without codes of its own, a count, and a code and the two bytes of a
 -- string id for each. Stated over any list whose elements have a code and an id.
-use Rattle.std.specs.Prelude.{ℕ, ◌+◌, ◌*◌, ◌≤◌, ◌<◌, ◌≡◌, take}
+use Rattle.std.specs.Prelude.{ℕ, ◌+◌, ◌*◌, ◌≤◌, ◌<◌, ◌≡◌, take, Ok}
 use Rattle.std.proofs.Math.Path.{refl, sym, ap}
 use Rattle.std.proofs.Common.{◌∙◌, arith, drop-drop}
 use Rattle.std.proofs.Math.Bool.{false}
@@ -45,7 +45,7 @@ module _ {A : Type 0} (code id : A → ℕ) where
 
   module _ (b : List ℕ) (at : ℕ) (xs : List A) (post : List ℕ) (lies : drop at b ≡ (0x80 ∷ 0x00 ∷ length xs ∷ supplement_bytes code id xs) ++ post) where
     -- it passes the checks
-    pub encoding-passes : encoding_at b at ≡ 0
+    pub encoding-passes : encoding_at b at ≡ Ok tt
     unfolding encoding_at
     encoding-passes =
         let l : length xs * 3 ≤ length (supplement_bytes code id xs ++ post) = rw length-append (omega (arith, supplements-length xs)) in

@@ -1,5 +1,5 @@
 -- Laws of a cursor through an FDSelect: it begins before glyph 0, and each step gives the next glyph's FD.
-use Rattle.std.specs.Prelude.{ℕ, zero, suc, ◌+◌, ◌-◌, ◌≤◌, ◌<◌, ◌≡◌, refl, List, length, drop, get_or, ltb}
+use Rattle.std.specs.Prelude.{ℕ, zero, suc, ◌+◌, ◌-◌, ◌≤◌, ◌<◌, ◌≡◌, refl, List, length, drop, get_or, ltb, Ok}
 use Rattle.std.proofs.Common.{sym, ◌∙◌, subst, not-suc-le-zero, sub-one, arith, lt-ltb, le-ltb, ltb-true, ltb-false}
 use Rattle.std.proofs.Math.Path.{ap}
 use Rattle.octets.specs.Pick.{pick, pick_ind}
@@ -71,7 +71,7 @@ module _ (b : List ℕ) (u v : FdCursor) (e : v ≡ into_range_lem b u.count u) 
 record Keeps (b : List ℕ) (u v : FdCursor) : Type 0 where
   place : v.gid ≡ u.gid
   narrow : v.wide ≤ 2
-  sound : ranges_refusal v.wide v.count v.end (drop v.at b) ≡ 0
+  sound : ranges_refusal v.wide v.count v.end (drop v.at b) ≡ Ok tt
   rest : (i : ℕ) → u.gid ≤ i → fd_from b v i ≡ fd_from b u i
   arrived : (v.end ≤ v.gid) → v.count ≡ 0
 
@@ -90,7 +90,7 @@ keeps-next : (b : List ℕ) (u v : FdCursor) → 0 < u.count → u.end ≤ u.gid
 keeps-next b u v some h k =
     record { place = k.place; narrow = k.narrow; sound = k.sound; rest = λ i z. k.rest i z ∙ next-same b u some h i z; arrived = k.arrived }
 
-keeps : (b : List ℕ) (m : ℕ) (u : FdCursor) → m ≡ u.count → u.wide ≤ 2 → ranges_refusal u.wide u.count u.end (drop u.at b) ≡ 0
+keeps : (b : List ℕ) (m : ℕ) (u : FdCursor) → m ≡ u.count → u.wide ≤ 2 → ranges_refusal u.wide u.count u.end (drop u.at b) ≡ Ok tt
     → Keeps b u (into_range_lem b m u)
 unfolding into_range_lem
 keeps b zero u e n s = record { place = refl; narrow = n; sound = s; rest = λ i h. refl; arrived = λ h. sym e }

@@ -1,14 +1,13 @@
 -- An FDSelect (TN5176, section 19) in place, as the code holds it: by its ranges, and by a cursor that goes from glyph to glyph.
-use Rattle.std.specs.Prelude.{ℕ, zero, suc, ◌+◌, ◌-◌, ◌≤◌, ◌<◌, ◌≡◌, List, drop, get_or, ltb, eqb}
+use Rattle.std.specs.Prelude.{ℕ, zero, suc, ◌+◌, ◌-◌, ◌≤◌, ◌<◌, ◌≡◌, List, drop, get_or, ltb, eqb, Result, Ok, Err}
 use Rattle.octets.specs.Pick.{pick}
 use Rattle.octets.specs.Octets.{num_at}
-use Rattle.charset.specs.Listed.{Listed, refused, listed, list_of}
+use Rattle.charset.specs.Listed.{list_of}
 use Rattle.charset.specs.FdSelect.{range_end, fd_in, ranges_refusal}
 use Rattle.charset.specs.declared.fd_select.FdSelect.{FdSelect}
-use Rattle.charset.specs.declared.fd_select.FdSelectAt.{FdSelectAt}
-use Rattle.charset.specs.declared.fd_select.FdSelectAt.TheVariants.{Refused, Found}
 use Rattle.charset.specs.declared.fd_select.FdCursor.{FdCursor}
 use Rattle.charset.specs.declared.fd_select.FdStep.{FdStep}
+use Rattle.refusal.specs.declared.Refusal.{Refusal}
 
 -- no FDSelect: no range, so that each glyph has FD 0
 abbrev pub no_select : FdSelect
@@ -27,14 +26,14 @@ abbrev pub select_at : List ℕ → ℕ → ℕ → FdSelect
 select_at b at n = pick (eqb (get_or b at 0) 0) (each_at_lem n (at + 1)) (ranges_at b (at + 1))
 
 -- what reading answers: the FDSelect where the FDs are not refused
-abbrev pub select_answer : FdSelect → Listed → FdSelectAt
-select_answer s (refused e) = Refused e
-select_answer s (listed l) = Found s
+abbrev pub select_answer : FdSelect → Result (List ℕ) Refusal → Result FdSelect Refusal
+select_answer s (Err e) = Err e
+select_answer s (Ok l) = Ok s
 
 -- the same by the refusal of the ranges
-abbrev pub ranges_answer : FdSelect → ℕ → FdSelectAt
-ranges_answer s zero = Found s
-ranges_answer s (suc e) = Refused (suc e)
+abbrev pub ranges_answer : FdSelect → Result Unit Refusal → Result FdSelect Refusal
+ranges_answer s (Ok u) = Ok s
+ranges_answer s (Err e) = Err e
 
 -- the FD of a glyph
 unfoldable pub fd_of : List ℕ → FdSelect → ℕ → ℕ
@@ -48,7 +47,7 @@ fds_of b s n = list_of (fd_of b s) 0 n
 pub record GoodSelect (b : List ℕ) (s : FdSelect) : Type 0 where
   pub narrow : s.wide ≤ 2
   pub even : s.wide ≡ 1 → ⊥
-  pub sound : ranges_refusal s.wide s.count s.first (drop s.at b) ≡ 0
+  pub sound : ranges_refusal s.wide s.count s.first (drop s.at b) ≡ Ok tt
 
 -- ---- glyph after glyph
 
@@ -93,11 +92,11 @@ fd_from b u g = pick (ltb g u.end) u.fd (fd_in u.wide u.count u.end (drop u.at b
 pub record ReadyFd (b : List ℕ) (u : FdCursor) : Type 0 where
   pub narrow : u.wide ≤ 2
   pub low : u.gid < 65536
-  pub sound : ranges_refusal u.wide u.count u.end (drop u.at b) ≡ 0
+  pub sound : ranges_refusal u.wide u.count u.end (drop u.at b) ≡ Ok tt
 
 -- a cursor that stands before glyph g of an FDSelect
 pub record StandsFd (b : List ℕ) (s : FdSelect) (g : ℕ) (u : FdCursor) : Type 0 where
   pub place : u.gid ≡ g
   pub narrow : u.wide ≤ 2
-  pub sound : ranges_refusal u.wide u.count u.end (drop u.at b) ≡ 0
+  pub sound : ranges_refusal u.wide u.count u.end (drop u.at b) ≡ Ok tt
   pub rest : (i : ℕ) → g ≤ i → fd_from b u i ≡ fd_of b s i

@@ -1,5 +1,5 @@
 -- Laws of the search by halves through the ranges of an FDSelect of format 3, whose ends never fall, and of format 0's direct way.
-use Rattle.std.specs.Prelude.{ℕ, zero, suc, ◌+◌, ◌-◌, ◌*◌, ◌≤◌, ◌<◌, ◌≡◌, refl, List, length, drop, get_or}
+use Rattle.std.specs.Prelude.{ℕ, zero, suc, ◌+◌, ◌-◌, ◌*◌, ◌≤◌, ◌<◌, ◌≡◌, refl, List, length, drop, get_or, Ok}
 use Rattle.std.proofs.Math.Path.{sym, ap}
 use Rattle.std.proofs.Common.{◌∙◌, subst, add-zero, sub-one, arith}
 use Rattle.octets.specs.Octets.{num_at}
@@ -17,7 +17,7 @@ module _ (b : List ℕ) where
   first_end : (p f : ℕ) → range_end 2 f (drop p b) ≡ end_at b p 0
   first_end p f = let e : p + 1 ≡ p + 3 * 0 + 1 = omega arith in sym (end_two b p f) ∙ ap (λ (i : ℕ). num_at b i 2) e
 
-  behind-first : (p k f : ℕ) → 0 < k → ranges_refusal 2 k f (drop p b) ≡ 0 → ranges_refusal 2 (k - 1) (end_at b p 0) (drop (p + 3) b) ≡ 0
+  behind-first : (p k f : ℕ) → 0 < k → ranges_refusal 2 k f (drop p b) ≡ Ok tt → ranges_refusal 2 (k - 1) (end_at b p 0) (drop (p + 3) b) ≡ Ok tt
   behind-first p k f some h =
       let a : p + 1 + 2 ≡ p + 3 = omega arith in
       rw (first_end p f, a) at (ranges-rise b p 2 k f some h).rest
@@ -25,11 +25,11 @@ module _ (b : List ℕ) where
   next_end : (p j : ℕ) → end_at b (p + 3) j ≡ end_at b p (suc j)
   next_end p j = let e : p + 3 + 3 * j + 1 ≡ p + 3 * suc j + 1 = omega arith in ap (λ (i : ℕ). num_at b i 2) e
 
-  ends_there : (p k f j : ℕ) → ranges_refusal 2 k f (drop p b) ≡ 0 → j < k → p + 3 * j + 3 ≤ length b
+  ends_there : (p k f j : ℕ) → ranges_refusal 2 k f (drop p b) ≡ Ok tt → j < k → p + 3 * j + 3 ≤ length b
   ends_there p k f zero h m = omega (arith, (ranges-rise b p 2 k f m h).there)
   ends_there p k f (suc j) h m = omega (arith, ends_there (p + 3) (k - 1) (end_at b p 0) j (behind-first p k f (omega arith) h) (omega arith))
 
-  ends_above : (p k f j : ℕ) → ranges_refusal 2 k f (drop p b) ≡ 0 → j < k → f ≤ end_at b p j
+  ends_above : (p k f j : ℕ) → ranges_refusal 2 k f (drop p b) ≡ Ok tt → j < k → f ≤ end_at b p j
   ends_above p k f zero h m = omega (arith, (ranges-rise b p 2 k f m h).rises, first_end p f)
   ends_above p k f (suc j) h m =
       omega (
@@ -41,9 +41,9 @@ module _ (b : List ℕ) where
       )
 
   -- a glyph behind the first j + 1 of them
-  pass : (p k f g j : ℕ) → ranges_refusal 2 k f (drop p b) ≡ 0 → j < k → f ≤ g → end_at b p j ≤ g
+  pass : (p k f g j : ℕ) → ranges_refusal 2 k f (drop p b) ≡ Ok tt → j < k → f ≤ g → end_at b p j ≤ g
       → (fd_in 2 (k - (j + 1)) (end_at b p j) (drop (p + 3 * (j + 1)) b) g ≡ fd_in 2 k f (drop p b) g)
-      × (ranges_refusal 2 (k - (j + 1)) (end_at b p j) (drop (p + 3 * (j + 1)) b) ≡ 0)
+      × (ranges_refusal 2 (k - (j + 1)) (end_at b p j) (drop (p + 3 * (j + 1)) b) ≡ Ok tt)
   pass p k f g zero h m n e =
       let z = first_end p f in
       let a : p + 1 + 2 ≡ p + 3 = omega arith in
@@ -72,10 +72,10 @@ pub record Searches (b : List ℕ) (at count first gid low high : ℕ) : Type 0 
   pub start : ℕ
   pub started : start ≤ gid
   pub same : fd_in 2 (count - low) start (drop (at + 3 * low) b) gid ≡ fd_in 2 count first (drop at b) gid
-  pub sound : ranges_refusal 2 (count - low) start (drop (at + 3 * low) b) ≡ 0
+  pub sound : ranges_refusal 2 (count - low) start (drop (at + 3 * low) b) ≡ Ok tt
   pub above : high < count → gid < end_at b at high
 
-pub search_start : (b : List ℕ) (at count first gid : ℕ) → first ≤ gid → ranges_refusal 2 count first (drop at b) ≡ 0
+pub search_start : (b : List ℕ) (at count first gid : ℕ) → first ≤ gid → ranges_refusal 2 count first (drop at b) ≡ Ok tt
     → Searches b at count first gid 0 count
 search_start b at count first gid h s =
     let c : count - 0 ≡ count = omega arith in
@@ -145,7 +145,7 @@ module _ (b : List ℕ) (at count first gid low high : ℕ) (s : Searches b at c
 -- ---- by the kind of the FDSelect
 
 -- format 0: each range is one glyph
-pub each_at : (b : List ℕ) (q k first j : ℕ) → j < k → ranges_refusal 0 k first (drop q b) ≡ 0
+pub each_at : (b : List ℕ) (q k first j : ℕ) → j < k → ranges_refusal 0 k first (drop q b) ≡ Ok tt
     → (q + j < length b) × (get_or b (q + j) 0 ≡ fd_in 0 k first (drop q b) (first + j))
 each_at b q k first zero m h =
     let e = end_one 0 first (drop q b) refl in
@@ -182,16 +182,16 @@ module _ (b : List ℕ) (s : FdSelect) (gid : ℕ) where
       two : s.wide ≡ 2
       two = omega (arith, good.narrow, good.even)
 
-      pub ranges_sound : ranges_refusal 2 s.count s.first (drop s.at b) ≡ 0
-      ranges_sound = subst (λ (w : ℕ). ranges_refusal w s.count s.first (drop s.at b) ≡ 0) two good.sound
+      pub ranges_sound : ranges_refusal 2 s.count s.first (drop s.at b) ≡ Ok tt
+      ranges_sound = subst (λ (w : ℕ). ranges_refusal w s.count s.first (drop s.at b) ≡ Ok tt) two good.sound
 
       pub ranges-fd : fd_in 2 s.count s.first (drop s.at b) gid ≡ fd_of b s gid
       unfolding fd_of
       ranges-fd = ap (λ (w : ℕ). fd_in w s.count s.first (drop s.at b) gid) (sym two)
 
     module _ (each : s.wide ≡ 0) where
-      sound : ranges_refusal 0 s.count s.first (drop s.at b) ≡ 0
-      sound = subst (λ (w : ℕ). ranges_refusal w s.count s.first (drop s.at b) ≡ 0) each good.sound
+      sound : ranges_refusal 0 s.count s.first (drop s.at b) ≡ Ok tt
+      sound = subst (λ (w : ℕ). ranges_refusal w s.count s.first (drop s.at b) ≡ Ok tt) each good.sound
 
       e : s.first + (gid - s.first) ≡ gid
       e = omega arith

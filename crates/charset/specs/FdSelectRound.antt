@@ -1,6 +1,6 @@
 -- An FDSelect that was written reads back.
 use Prim.Native.Nat.{ℕ, zero, suc, ◌+◌, ◌≤◌, ◌<◌}
-use Rattle.std.specs.Prelude.{◌≡◌, refl, Bool, true, false, take, get_or, ltb, eqb}
+use Rattle.std.specs.Prelude.{◌≡◌, refl, Bool, true, false, take, get_or, ltb, eqb, Ok}
 use Rattle.std.proofs.Math.Path.{sym, ap}
 use Rattle.std.proofs.Common.{◌∙◌, not-suc-le-zero, add-zero, arith, lt-ltb, le-ltb, eqb-true, ext_get_or, drop-drop}
 use mathlib.Core.List.{List, [], ◌∷◌, ◌++◌, append_assoc}
@@ -8,7 +8,7 @@ use Rattle.std.proofs.Math.ListN.{length, drop, length-append}
 use Rattle.octets.specs.Pick.{pick, pick_ind}
 use Rattle.octets.specs.Octets.{be, bytes_of, Octets}
 use Rattle.octets.specs.OctetsLaws.{length-bytes, be-front, drop-front}
-use Rattle.charset.specs.Listed.{listed, list_of}
+use Rattle.charset.specs.Listed.{list_of}
 use Rattle.charset.specs.ListedLaws.{list_length, list_at}
 use Rattle.charset.specs.FdSelect.{range_end, fd_in, ranges_refusal, range_fds, fd_select_at}
 use Rattle.charset.specs.FdSelectBytes.{changes, fd_ranges, entry_bytes, fd_select_bytes}
@@ -23,7 +23,7 @@ behind rs n post = entry_bytes rs ++ (bytes_of 2 n ++ post)
 record Back (last g : ℕ) (fds : List ℕ) (count : ℕ) (bs : List ℕ) : Type 0 where
   long : 2 ≤ length bs
   later : g ≤ be 0 (take 2 bs)
-  sound : ranges_refusal 2 count (be 0 (take 2 bs)) (drop 2 bs) ≡ 0
+  sound : ranges_refusal 2 count (be 0 (take 2 bs)) (drop 2 bs) ≡ Ok tt
   each : (i : ℕ) → i < length fds → pick (ltb (g + i) (be 0 (take 2 bs))) last (fd_in 2 count (be 0 (take 2 bs)) (drop 2 bs) (g + i)) ≡ get_or fds i 0
 
 -- no glyph left
@@ -99,7 +99,7 @@ module _ (fds : List ℕ) (small : Octets fds) (count : ℕ) (bs : List ℕ) (k 
       (λ i z. let m : i < length fds = omega arith in
       list_at f 0 (length fds) i m ∙ not_before (ltb (0 + i) (be 0 (take 2 bs))) (f (0 + i)) (get_or fds i 0) (small i) (k.each i m))
 
-  fds_back : count < 65536 → range_fds (length fds) (bytes_of 2 count ++ bs) ≡ listed fds
+  fds_back : count < 65536 → range_fds (length fds) (bytes_of 2 count ++ bs) ≡ Ok fds
   unfolding range_fds
   fds_back h =
       let l : List ℕ = bytes_of 2 count ++ bs in
@@ -107,10 +107,10 @@ module _ (fds : List ℕ) (small : Octets fds) (count : ℕ) (bs : List ℕ) (k 
       let f : be 0 (take 2 l) ≡ count = be-front 2 count bs h in
       let d : drop 2 l ≡ bs = drop-front 2 count bs in
       let e : drop 4 l ≡ drop 2 bs = sym (drop-drop 2 2 l) ∙ ap (drop 2) d in
-      simp (le-ltb (length l) 4 n, f, d, e, k.sound) (ap listed fds_are)
+      simp (le-ltb (length l) 4 n, f, d, e, k.sound) (ap Ok fds_are)
 
 pub select-round : (b : List ℕ) (at : ℕ) (fds post : List ℕ) → drop at b ≡ fd_select_bytes fds ++ post → length fds < 65536 → Octets fds
-    → fd_select_at b at (length fds) ≡ listed fds
+    → fd_select_at b at (length fds) ≡ Ok fds
 unfolding fd_select_at fd_select_bytes
 select-round b at fds post lies h small =
     let e : 0 + length fds ≡ length fds = omega arith in

@@ -1,20 +1,16 @@
 -- What reading a table with a number for each glyph (TN5176, sections 13 and 19) gives, and lists by their places.
-use Rattle.std.specs.Prelude.{ℕ, zero, suc, ◌+◌, List, [], ◌∷◌}
-
--- the refusal, 1 truncated or 2 malformed, or the number of each glyph
-pub data Listed : Type 0 where
-  refused : ℕ → Listed
-  listed : List ℕ → Listed
+use Rattle.std.specs.Prelude.{ℕ, zero, suc, ◌+◌, List, [], ◌∷◌, Result, Ok, Err}
+use Rattle.refusal.specs.declared.Refusal.{Refusal}
 
 -- a number in front of those that follow
-abbrev pub onward : ℕ → Listed → Listed
-onward x (refused e) = refused e
-onward x (listed l) = listed (x ∷ l)
+abbrev pub onward : ℕ → Result (List ℕ) Refusal → Result (List ℕ) Refusal
+onward x (Err e) = Err e
+onward x (Ok l) = Ok (x ∷ l)
 
 -- the numbers that were read, and none where reading was refused
-abbrev pub numbers_of : Listed → List ℕ
-numbers_of (refused e) = []
-numbers_of (listed l) = l
+abbrev pub numbers_of : Result (List ℕ) Refusal → List ℕ
+numbers_of (Err e) = []
+numbers_of (Ok l) = l
 
 -- f of each of the n numbers from s on
 unfoldable pub list_of : (ℕ → ℕ) → ℕ → ℕ → List ℕ

@@ -4,35 +4,35 @@ ghost use Rattle.charset.specs.Encoding.{encoding_at};
 
 use refusal::Refusal;
 
-// The refusal of the encoding at a place: 1 truncated, 2 malformed, 0 none.
-pub fn check_encoding(font: &[u8], at: usize) -> u8
+// Whether the encoding at a place is refused, and as what.
+pub fn check_encoding(font: &[u8], at: usize) -> Result<(), Refusal>
     ensures { result ≡ encoding_at font.now at }
 {
     let len = font.len();
     if len <= at {
-        return Refusal::TRUNCATED;
+        return Err(Refusal::Truncated);
     }
     let format = octets::u8_at(font, at);
     let kind = format % 128;
     if 1 < kind {
-        return Refusal::MALFORMED;
+        return Err(Refusal::Malformed);
     }
     let codes = at + 1;
     if len <= codes {
-        return Refusal::TRUNCATED;
+        return Err(Refusal::Truncated);
     }
     let sups = codes + 1 + octets::u8_at(font, codes) * (kind + 1);
     if len < sups {
-        return Refusal::TRUNCATED;
+        return Err(Refusal::Truncated);
     }
     if format / 128 == 0 {
-        return 0;
+        return Ok(());
     }
     if len <= sups {
-        return Refusal::TRUNCATED;
+        return Err(Refusal::Truncated);
     }
     if len < sups + 1 + octets::u8_at(font, sups) * 3 {
-        return Refusal::TRUNCATED;
+        return Err(Refusal::Truncated);
     }
-    0
+    Ok(())
 }

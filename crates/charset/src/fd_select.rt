@@ -1,5 +1,5 @@
 // The font dictionary of each glyph of a CID font: FDSelect, read in place.
-ghost use Rattle.std.specs.Prelude.{◌≡◌, ◌+◌, ◌*◌, ◌≤◌, ◌<◌, length, drop};
+ghost use Rattle.std.specs.Prelude.{◌≡◌, ◌+◌, ◌*◌, ◌≤◌, ◌<◌, length, drop, Ok};
 ghost use Rattle.octets.specs.Lists.{all_below};
 ghost use Rattle.charset.specs.FdSelect.{range_end, fd_in, ranges_refusal, range_fds, fd_select_at};
 ghost use Rattle.charset.specs.FdPlaces.{no_select, ranges_at, select_at, select_answer, ranges_answer, fd_of, fds_of, GoodSelect, select_start, into_range_lem, next_fd, ReadyFd};
@@ -14,13 +14,6 @@ pub struct FdSelect {
     pub first: usize,
     pub wide: usize,
     pub at: usize,
-}
-
-// What reading an FDSelect finds: a refusal, 1 truncated or 2 malformed, or the FDSelect.
-#[derive(Clone, Copy)]
-pub enum FdSelectAt {
-    Refused(u8),
-    Found(FdSelect),
 }
 
 // A place before a glyph: the FD of the range under way, where that range ends, and the ranges behind it.
@@ -65,7 +58,7 @@ fn range_end(font: &[u8], at: usize, wide: usize, first: usize) -> usize
 }
 
 // Checks the ranges of format 3: each is there, and none ends before it starts.
-fn check_ends(font: &[u8], s: FdSelect) -> FdSelectAt
+fn check_ends(font: &[u8], s: FdSelect) -> Result<FdSelect, Refusal>
     requires { s.at ≤ length font.now }
     ensures { result ≡ ranges_answer s (ranges_refusal 2 s.count s.first (drop s.at font.now)) }
 {
@@ -73,24 +66,24 @@ fn check_ends(font: &[u8], s: FdSelect) -> FdSelectAt
     for i in 0..s.count {
         let at = s.at + 3 * i;
         if font.len() - at < 3 {
-            return FdSelectAt::Refused(Refusal::TRUNCATED);
+            return Err(Refusal::Truncated);
         }
         let end = octets::u16_at(font, at + 1);
         if end < first {
-            return FdSelectAt::Refused(Refusal::MALFORMED);
+            return Err(Refusal::Malformed);
         }
         first = end;
     }
-    FdSelectAt::Found(s)
+    Ok(s)
 }
 
 // The FDSelect of format 3 whose count of ranges stands at a place.
-fn read_ranges(font: &[u8], at: usize, n: usize) -> FdSelectAt
+fn read_ranges(font: &[u8], at: usize, n: usize) -> Result<FdSelect, Refusal>
     requires { at ≤ length font.now }
     ensures { result ≡ select_answer (ranges_at font.now at) (range_fds n (drop at font.now)) }
 {
     if font.len() - at < 4 {
-        return FdSelectAt::Refused(Refusal::TRUNCATED);
+        return Err(Refusal::Truncated);
     }
     let count = octets::u16_at(font, at);
     let first = octets::u16_at(font, at + 2);
@@ -106,21 +99,21 @@ fn read_ranges(font: &[u8], at: usize, n: usize) -> FdSelectAt
 }
 
 // The FDSelect of a font of n glyphs, at a place.
-pub fn read_fd_select(font: &[u8], at: usize, n: usize) -> FdSelectAt
+pub fn read_fd_select(font: &[u8], at: usize, n: usize) -> Result<FdSelect, Refusal>
     requires { n < 65536 }
     ensures { result ≡ select_answer (select_at font.now at n) (fd_select_at font.now at n) }
 {
     let len = font.len();
     if len <= at {
-        return FdSelectAt::Refused(Refusal::TRUNCATED);
+        return Err(Refusal::Truncated);
     }
     let format = octets::u8_at(font, at);
     let behind = at + 1;
     if format == 0 {
         if len - behind < n {
-            return FdSelectAt::Refused(Refusal::TRUNCATED);
+            return Err(Refusal::Truncated);
         }
-        return FdSelectAt::Found(FdSelect {
+        return Ok(FdSelect {
             count: n,
             first: 0,
             wide: 0,
@@ -130,7 +123,7 @@ pub fn read_fd_select(font: &[u8], at: usize, n: usize) -> FdSelectAt
     if format == 3 {
         return read_ranges(font, behind, n);
     }
-    FdSelectAt::Refused(Refusal::MALFORMED)
+    Err(Refusal::Malformed)
 }
 
 // Where an FDSelect begins: before glyph 0.
@@ -225,7 +218,7 @@ pub fn fds_below(font: &[u8], s: FdSelect, n: usize, count: usize) -> bool
 
 // The FD of a glyph that the first range does not start behind, by format 3: the ranges are searched by halves.
 fn fd_in_ranges(font: &[u8], at: usize, count: usize, first: usize, gid: usize) -> u8
-    requires { (first ≤ gid) × (ranges_refusal 2 count first (drop at font.now) ≡ 0) }
+    requires { (first ≤ gid) × (ranges_refusal 2 count first (drop at font.now) ≡ Ok tt) }
     ensures { result ≡ fd_in 2 count first (drop at font.now) gid }
 {
     let mut low = 0;

@@ -34,7 +34,7 @@ pub fn count_push(w: FdSelectWriter, fd: u8) -> FdSelectWriter
     ensures { result ≡ pushed w fd }
 {
     let glyphs = w.glyphs + 1;
-    let last = octets::wide(fd);
+    let last = usize::from(fd);
     if last == w.last {
         return FdSelectWriter {
             start: w.start,
@@ -59,7 +59,7 @@ pub fn push(out: &mut [u8], w: FdSelectWriter, fd: u8) -> FdSelectWriter
     ensures { (result ≡ pushed w fd) × Wrote out.old w.next (pushed_bytes w fd) out.new result.next }
 {
     let r = count_push(w, fd);
-    let last = octets::wide(fd);
+    let last = usize::from(fd);
     if last == w.last {
         return r;
     }

@@ -6,8 +6,8 @@ pub mod encoding;
 pub mod fd_select;
 pub mod fd_writer;
 
-ghost use Rattle.std.specs.Prelude.{◌≡◌, ◌+◌, ◌≤◌, ◌<◌, length, drop, get_or};
-ghost use Rattle.charset.specs.Listed.{listed, numbers_of};
+ghost use Rattle.std.specs.Prelude.{◌≡◌, ◌+◌, ◌≤◌, ◌<◌, length, drop, get_or, Ok};
+ghost use Rattle.charset.specs.Listed.{numbers_of};
 ghost use Rattle.charset.specs.Charset.{ids_from, charset_at};
 ghost use Rattle.charset.specs.CharsetPlaces.{table_at, predefined, ids_of, GoodCharset, charset_answer, charset_start, next_id, ReadyId};
 
@@ -20,13 +20,6 @@ pub struct Charset {
     pub own: usize,
     pub width: usize,
     pub at: usize,
-}
-
-// What reading a charset finds: a refusal, 1 truncated or 2 malformed, or the charset.
-#[derive(Clone, Copy)]
-pub enum CharsetAt {
-    Refused(u8),
-    Found(Charset),
 }
 
 // A place between two glyphs: the range under way, with its next id and how many ids are left in it, and where the next range stands.
@@ -57,7 +50,7 @@ pub fn predefined() -> Charset
 }
 
 // Checks the ranges of a charset for count glyphs: each range is there, and no id of them is above 65535.
-fn check_ranges(font: &[u8], c: Charset, count: usize) -> CharsetAt
+fn check_ranges(font: &[u8], c: Charset, count: usize) -> Result<Charset, Refusal>
     requires { (c.width ≤ 2) × (count < 65536) × (c.at ≤ length font.now) }
     ensures { result ≡ charset_answer c (ids_from c.width count 0 0 (drop c.at font.now)) }
 {
@@ -67,37 +60,37 @@ fn check_ranges(font: &[u8], c: Charset, count: usize) -> CharsetAt
     let mut k = count;
     while 0 < k {
         if len - q < 2 + width {
-            return CharsetAt::Refused(Refusal::TRUNCATED);
+            return Err(Refusal::Truncated);
         }
         let first = octets::u16_at(font, q);
         let left = octets::num_at(font, q + 2, width);
         if k <= left {
             if 65536 < first + k {
-                return CharsetAt::Refused(Refusal::MALFORMED);
+                return Err(Refusal::Malformed);
             }
-            return CharsetAt::Found(c);
+            return Ok(c);
         }
         if 65535 < first + left {
-            return CharsetAt::Refused(Refusal::MALFORMED);
+            return Err(Refusal::Malformed);
         }
         q = q + 2 + width;
         k = k - 1 - left;
     }
-    CharsetAt::Found(c)
+    Ok(c)
 }
 
 // The charset of a font of n glyphs, at a place.
-pub fn read_charset(font: &[u8], at: usize, n: usize) -> CharsetAt
+pub fn read_charset(font: &[u8], at: usize, n: usize) -> Result<Charset, Refusal>
     requires { (0 < n) × (n < 65536) }
     ensures { result ≡ charset_answer (table_at font.now at) (charset_at font.now at n) }
 {
     let len = font.len();
     if len <= at {
-        return CharsetAt::Refused(Refusal::TRUNCATED);
+        return Err(Refusal::Truncated);
     }
     let format = octets::u8_at(font, at);
     if 2 < format {
-        return CharsetAt::Refused(Refusal::MALFORMED);
+        return Err(Refusal::Malformed);
     }
     let ranges = at + 1;
     let c = Charset {
@@ -107,9 +100,9 @@ pub fn read_charset(font: &[u8], at: usize, n: usize) -> CharsetAt
     };
     if format == 0 {
         if (len - ranges) / 2 < n - 1 {
-            return CharsetAt::Refused(Refusal::TRUNCATED);
+            return Err(Refusal::Truncated);
         }
-        return CharsetAt::Found(c);
+        return Ok(c);
     }
     check_ranges(font, c, n - 1)
 }
@@ -162,7 +155,7 @@ pub fn next_id(font: &[u8], u: CharsetCursor) -> IdStep
 // The id of the g-th glyph of the ranges from a place on, of which n have ids.
 fn id_in_ranges(font: &[u8], at: usize, width: usize, n: usize, g: usize) -> usize
     requires { (width ≤ 2) × (n < 65536) × (g < n)
-        × (ids_from width n 0 0 (drop at font.now) ≡ listed (numbers_of (ids_from width n 0 0 (drop at font.now)))) }
+        × (ids_from width n 0 0 (drop at font.now) ≡ Ok (numbers_of (ids_from width n 0 0 (drop at font.now)))) }
     ensures { (result ≡ get_or (numbers_of (ids_from width n 0 0 (drop at font.now))) g 0) × (result < 65536) }
 {
     let mut q = at;

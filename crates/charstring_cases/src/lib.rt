@@ -187,7 +187,7 @@ fn answer_stream(tokens: bool, input: &[u8], out: &mut [u8]) -> Option<usize>
     if n == 0 {
         return None;
     }
-    let count = octets::wide(input[0]);
+    let count = usize::from(input[0]);
     if 16 < count {
         return None;
     }
@@ -203,7 +203,8 @@ fn answer_stream(tokens: bool, input: &[u8], out: &mut [u8]) -> Option<usize>
     Some(put_stream(tokens, &input[at..], &pairs[..k], out))
 }
 
-// The answer to an input, by its kind's letter: how many bytes of it stand at the start of out; None outside the kind's domain.
+// The answer to an input, by its kind's letter: how many bytes of it stand at the start of out; None outside the kind's domain. The kind stays
+// the letter that the line has, which may be any.
 pub fn answer(kind: u8, input: &[u8], out: &mut [u8]) -> Option<usize>
     requires { 4096 ≤ length out.old }
     ensures { Gives (answer_to kind input.now) out.new result }

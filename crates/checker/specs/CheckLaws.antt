@@ -1,5 +1,5 @@
 -- Laws of the answer: what the marked glyphs meet, the conditions, and the refusals in their order.
-use Rattle.std.specs.Prelude.{ℕ, ◌≡◌, refl, Bool, true, false, not, length, None, Option, Some}
+use Rattle.std.specs.Prelude.{ℕ, ◌≡◌, refl, Bool, true, false, not, length, None, Option, Some, Result, Ok, Err}
 use Rattle.std.proofs.Math.Path.{sym, ap}
 use Rattle.std.proofs.Common.{◌∙◌, subst}
 use mathlib.Core.List.{List}
@@ -12,7 +12,7 @@ use Rattle.prune.specs.Bodies.{All, empty as no_row}
 use Rattle.prune.specs.StepLaws.{zero_one}
 use Rattle.record.specs.Record.{rows_of, record_fine}
 use Rattle.dict.specs.Lookup.{cid_keyed}
-use Rattle.cff.specs.Font.{Got, refused, Program, read_font}
+use Rattle.cff.specs.Font.{Program, read_font}
 use Rattle.cff.specs.Reads.{program_of}
 use Rattle.cff.specs.File.{InFile}
 use Rattle.cff.specs.FileLaws.{table-short}
@@ -32,6 +32,8 @@ use Rattle.accepted.specs.Accepted.{each_row, lists_met, number_is, accepted_by,
 use Rattle.checker.specs.Checking.{Asks}
 use Rattle.checker.specs.AskLaws.{asks_filled}
 use Rattle.checker.specs.KeyLaws.{keys-listed}
+use Rattle.refusal.specs.declared.Refusal.{Refusal}
+use Rattle.refusal.specs.declared.Refusal.TheVariants.{NoSuchNumber, NotFound, BadRecord, NotAccepted}
 
 -- ---- the marked glyphs
 
@@ -97,9 +99,9 @@ was_true true e = refl
 was_true false e = absurd (zero_one cc)
 
 -- a font that is refused
-pub check-unread : (font keep rec : List ℕ) (n : ℕ) → read_font font ≡ refused n → n ≡ check_of font keep rec
+pub check-unread : (font keep rec : List ℕ) (n : Refusal) → read_font font ≡ Err n → Err n ≡ check_of font keep rec
 unfolding check_of
-check-unread font keep rec n e = sym (ap (λ (g : Got Program). check_read g keep rec) e)
+check-unread font keep rec n e = sym (ap (λ (g : Result Program Refusal). check_read g keep rec) e)
 
 module _ (file : List ℕ) (f : Font) (b : List ℕ) (octets : Octets file) (held : InFile file f b) (keep rec : List ℕ) where
   abbrev p : Program
@@ -121,45 +123,49 @@ module _ (file : List ℕ) (f : Font) (b : List ℕ) (octets : Octets file) (hel
       by None e = no_row
       by (Some rows) e = kept-fits file keep 0 octets p held.is rows (ap (λ (n : ℕ). met_all p (kept_of n keep)) many ∙ e)
 
+  -- the answer to a call in form
+  abbrev decided : Result Unit Refusal
+  decided = pick (accepted_by p keep rec) (Ok tt) (Err NotAccepted)
+
   tested : check_of file keep rec
-      ≡ pick (all_below count keep) (pick (all_found_lem p (kept_of count keep)) (pick (record_fine f.cid rec 1) (pick (accepted_by p keep rec) 0 14) 8) 7) 6
+      ≡ pick (all_below count keep) (pick (all_found_lem p (kept_of count keep)) (pick (record_fine f.cid rec 1) decided (Err BadRecord)) (Err NotFound)) (Err NoSuchNumber)
   unfolding check_of
   tested =
-      ap (λ (g : Got Program). check_read g keep rec) held.is
-      ∙ ap (λ (n : ℕ). pick (all_below n keep) (pick (all_found_lem p (kept_of n keep)) (pick (record_fine (cid_keyed p.top) rec 1) (pick (accepted_by p keep rec) 0 14) 8) 7) 6) many
-      ∙ ap (λ (c : Bool). pick (all_below count keep) (pick (all_found_lem p (kept_of count keep)) (pick (record_fine c rec 1) (pick (accepted_by p keep rec) 0 14) 8) 7) 6) (sym held.good.cid)
+      ap (λ (g : Result Program Refusal). check_read g keep rec) held.is
+      ∙ ap (λ (n : ℕ). pick (all_below n keep) (pick (all_found_lem p (kept_of n keep)) (pick (record_fine (cid_keyed p.top) rec 1) decided (Err BadRecord)) (Err NotFound)) (Err NoSuchNumber)) many
+      ∙ ap (λ (c : Bool). pick (all_below count keep) (pick (all_found_lem p (kept_of count keep)) (pick (record_fine c rec 1) decided (Err BadRecord)) (Err NotFound)) (Err NoSuchNumber)) (sym held.good.cid)
 
   module _ (r₁ : Bool) (e₁ : r₁ ≡ all_below count keep) where
-    one : (t : Bool) → r₁ ≡ t → check_of file keep rec ≡ pick t (pick (all_found_lem p (kept_of count keep)) (pick (record_fine f.cid rec 1) (pick (accepted_by p keep rec) 0 14) 8) 7) 6
-    one t h = tested ∙ ap (λ (u : Bool). pick u (pick (all_found_lem p (kept_of count keep)) (pick (record_fine f.cid rec 1) (pick (accepted_by p keep rec) 0 14) 8) 7) 6) (sym e₁ ∙ h)
+    one : (t : Bool) → r₁ ≡ t → check_of file keep rec ≡ pick t (pick (all_found_lem p (kept_of count keep)) (pick (record_fine f.cid rec 1) decided (Err BadRecord)) (Err NotFound)) (Err NoSuchNumber)
+    one t h = tested ∙ ap (λ (u : Bool). pick u (pick (all_found_lem p (kept_of count keep)) (pick (record_fine f.cid rec 1) decided (Err BadRecord)) (Err NotFound)) (Err NoSuchNumber)) (sym e₁ ∙ h)
 
     -- 6
-    pub check-number : not r₁ ≡ true → 6 ≡ check_of file keep rec
+    pub check-number : not r₁ ≡ true → Err NoSuchNumber ≡ check_of file keep rec
     check-number t = sym (one false (was_false r₁ t))
 
     pub check-below : not r₁ ≡ false → all_below count keep ≡ true
     check-below t = sym e₁ ∙ was_true r₁ t
 
     module _ (t₁ : not r₁ ≡ false) (r₂ : Bool) (e₂ : r₂ ≡ all_found_lem p (kept_of count keep)) where
-      two : (t : Bool) → r₂ ≡ t → check_of file keep rec ≡ pick t (pick (record_fine f.cid rec 1) (pick (accepted_by p keep rec) 0 14) 8) 7
-      two t h = one true (was_true r₁ t₁) ∙ ap (λ (u : Bool). pick u (pick (record_fine f.cid rec 1) (pick (accepted_by p keep rec) 0 14) 8) 7) (sym e₂ ∙ h)
+      two : (t : Bool) → r₂ ≡ t → check_of file keep rec ≡ pick t (pick (record_fine f.cid rec 1) decided (Err BadRecord)) (Err NotFound)
+      two t h = one true (was_true r₁ t₁) ∙ ap (λ (u : Bool). pick u (pick (record_fine f.cid rec 1) decided (Err BadRecord)) (Err NotFound)) (sym e₂ ∙ h)
 
       -- 7
-      pub check-found : not r₂ ≡ true → 7 ≡ check_of file keep rec
+      pub check-found : not r₂ ≡ true → Err NotFound ≡ check_of file keep rec
       check-found t = sym (two false (was_false r₂ t))
 
       module _ (t₂ : not r₂ ≡ false) (r₃ : Bool) (e₃ : r₃ ≡ record_fine f.cid rec 1) where
-        three : (t : Bool) → r₃ ≡ t → check_of file keep rec ≡ pick t (pick (accepted_by p keep rec) 0 14) 8
-        three t h = two true (was_true r₂ t₂) ∙ ap (λ (u : Bool). pick u (pick (accepted_by p keep rec) 0 14) 8) (sym e₃ ∙ h)
+        three : (t : Bool) → r₃ ≡ t → check_of file keep rec ≡ pick t decided (Err BadRecord)
+        three t h = two true (was_true r₂ t₂) ∙ ap (λ (u : Bool). pick u decided (Err BadRecord)) (sym e₃ ∙ h)
 
         -- 8
-        pub check_form : not r₃ ≡ true → 8 ≡ check_of file keep rec
+        pub check_form : not r₃ ≡ true → Err BadRecord ≡ check_of file keep rec
         check_form t = sym (three false (was_false r₃ t))
 
         module _ (t₃ : not r₃ ≡ false) (r₄ : Bool) (e₄ : r₄ ≡ accepted_by p keep rec) where
-          -- 14, and 0
-          pub check_refused : not r₄ ≡ true → 14 ≡ check_of file keep rec
-          check_refused t = sym (three true (was_true r₃ t₃) ∙ ap (λ (u : Bool). pick u 0 14) (sym e₄ ∙ was_false r₄ t))
+          -- 14, and accepted
+          pub check_refused : not r₄ ≡ true → Err NotAccepted ≡ check_of file keep rec
+          check_refused t = sym (three true (was_true r₃ t₃) ∙ ap (λ (u : Bool). pick u (Ok tt) (Err NotAccepted)) (sym e₄ ∙ was_false r₄ t))
 
-          pub check-accepted : not r₄ ≡ false → 0 ≡ check_of file keep rec
-          check-accepted t = sym (three true (was_true r₃ t₃) ∙ ap (λ (u : Bool). pick u 0 14) (sym e₄ ∙ was_true r₄ t))
+          pub check-accepted : not r₄ ≡ false → Ok tt ≡ check_of file keep rec
+          check-accepted t = sym (three true (was_true r₃ t₃) ∙ ap (λ (u : Bool). pick u (Ok tt) (Err NotAccepted)) (sym e₄ ∙ was_true r₄ t))

@@ -16,7 +16,7 @@ ghost use Rattle.listed.specs.Listed.{row_keys, all_in};
 ghost use Rattle.accepted.specs.Accepted.{lists_met, accepted_by, check_of};
 ghost use Rattle.checker.specs.Checking.{Asks};
 
-use cff::font::{Font, FontRead};
+use cff::font::Font;
 use interpret::Range;
 use refusal::Refusal;
 
@@ -77,7 +77,7 @@ fn accepts(font: &[u8], f: Font, keep: &[u16], rows: &[u8]) -> bool
 }
 
 // The answer for a font that was read in a file, by the bytes of its table.
-fn check_font(font: &[u8], f: Font, keep: &[u16], rows: &[u8]) -> u8
+fn check_font(font: &[u8], f: Font, keep: &[u16], rows: &[u8]) -> Result<(), Refusal>
     requires { HasFont font.now f }
     ensures { result ≡ check_of font.now keep.now rows.now }
 {
@@ -85,26 +85,24 @@ fn check_font(font: &[u8], f: Font, keep: &[u16], rows: &[u8]) -> u8
     let charstrings = f.charstrings;
     let cid = f.cid;
     if !kept::keep_below(keep, charstrings.count) {
-        return Refusal::NO_SUCH_NUMBER;
+        return Err(Refusal::NoSuchNumber);
     }
     if !found::all_found(table, f, keep) {
-        return Refusal::NOT_FOUND;
+        return Err(Refusal::NotFound);
     }
     if !reach::check_record(cid, rows, 1) {
-        return Refusal::RECORD;
+        return Err(Refusal::BadRecord);
     }
     if !accepts(table, f, keep, rows) {
-        return Refusal::NOT_ACCEPTED;
+        return Err(Refusal::NotAccepted);
     }
-    0
+    Ok(())
 }
 
-// Checks a reach record for glyph 0 and the glyphs of the keep list: 0 where it is accepted, else the refusal.
-pub fn check(font: &[u8], keep: &[u16], rows: &[u8]) -> u8
+// Checks a reach record for glyph 0 and the glyphs of the keep list: nothing where it is accepted, else the refusal.
+pub fn check(font: &[u8], keep: &[u16], rows: &[u8]) -> Result<(), Refusal>
     ensures { result ≡ check_of font.now keep.now rows.now }
 {
-    match cff::set::read_font(font) {
-        FontRead::Refused(n) => n,
-        FontRead::Found(f) => check_font(font, f, keep, rows),
-    }
+    let f = cff::set::read_font(font)?;
+    check_font(font, f, keep, rows)
 }

@@ -22,12 +22,14 @@ use Rattle.parts.specs.Ready.{bodies_for, Ready}
 use Rattle.parts.specs.declared.Planned.{Planned}
 use Rattle.outcome.specs.Layout.{cid_charset, cid_select, cid_glyphs, cid_dicts, cid_privates, cid_end, cid_top}
 use Rattle.front.specs.declared.CidPlaces.{CidPlaces}
+use Rattle.refusal.specs.declared.Refusal.TheVariants.{Subset, Output}
+use Rattle.subset.specs.declared.Way.{Way}
 
 -- ---- outcome
 
 -- a subset by its length: refusals 10 and 11, or the way and the bytes
-abbrev pub sized : ℕ → List ℕ → ℕ → Outcome
-sized way bs room = pick (ltb 67108864 (length bs)) (refused 10) (pick (ltb room (length bs)) (refused 11) (subset way bs))
+abbrev pub sized : Way → List ℕ → ℕ → Outcome
+sized way bs room = pick (ltb 67108864 (length bs)) (refused Subset) (pick (ltb room (length bs)) (refused Output) (subset way bs))
 
 -- ---- strings
 

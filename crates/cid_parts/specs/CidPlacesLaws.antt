@@ -1,6 +1,6 @@
 -- The parts of a CID-keyed subset measured (document 01, 'Layout'): what their measures ask, that the places are the subset's, and the outcome
 -- by its length.
-use Rattle.std.specs.Prelude.{ℕ, suc, ◌+◌, ◌*◌, ◌≤◌, ◌<◌, ◌≡◌, refl, Bool, true, false, ltb, take, replicate}
+use Rattle.std.specs.Prelude.{ℕ, suc, ◌+◌, ◌*◌, ◌≤◌, ◌<◌, ◌≡◌, refl, Bool, true, false, ltb, take, replicate, Result, Err}
 use Rattle.std.proofs.Math.Path.{sym, ap, subst}
 use Rattle.std.proofs.Common.{◌∙◌, arith, lt-ltb, le-ltb}
 use mathlib.Core.List.{List, [], ◌∷◌}
@@ -37,14 +37,16 @@ use Rattle.front.specs.ByCidLaws.{cid_front-sum}
 use Rattle.front.specs.PrepareLaws.{has-strings, cid_own, slots-bound}
 use Rattle.parts.specs.Ready.{FontHeld, Summed}
 use Rattle.parts.specs.declared.Planned.{Planned}
-use Rattle.outcome.specs.Entry.{Cut}
+use Rattle.outcome.specs.Entry.{Cut, a_cut}
 use Rattle.outcome.specs.Layout.{cid_privates, cid_length}
 use Rattle.parts.specs.CodeLaws.{globals_long, glyphs_long}
 use Rattle.parts.specs.PrivateLaws.{all-parts, dicts-placed, dicts_are, dicts-length}
 use Rattle.cid_parts.specs.Cid.{sized, StringsReady, places_of, places_by, PartsSmall, written_in, bodies_in, CidReady, DictsReady, PrivatesEnd, cid_bytes, cid_places, tail_bytes}
-use Rattle.outcome.specs.declared.Answer.{Answer}
-use Rattle.outcome.specs.declared.Answer.TheVariants.{Refused, Subset}
 use Rattle.front.specs.declared.CidPlaces.{CidPlaces}
+use Rattle.outcome.specs.declared.Subsetted.{Subsetted}
+use Rattle.refusal.specs.declared.Refusal.{Refusal}
+use Rattle.refusal.specs.declared.Refusal.TheVariants.{Subset, Output, StringId}
+use Rattle.subset.specs.declared.Way.{Way}
 
 -- ---- glyphs
 
@@ -200,34 +202,34 @@ module _ (b : List ℕ) (rows : List Row) (used ws : List ℕ) (r : Planned) (ta
 
 -- ---- the outcome
 
-module _ (way : ℕ) (bs out : List ℕ) where
+module _ (way : Way) (bs out : List ℕ) where
   abbrev chosen : Bool → Bool → Outcome
-  chosen a b = pick a (refused 10) (pick b (refused 11) (subset way bs))
+  chosen a b = pick a (refused Subset) (pick b (refused Output) (subset way bs))
 
   by_tests : (a b : Bool) → ltb 67108864 (length bs) ≡ a → ltb (length out) (length bs) ≡ b → sized way bs (length out) ≡ chosen a b
   by_tests a b x y = rw (x, y)
 
-  cut_as : (o : Outcome) → sized way bs (length out) ≡ o → (out' : List ℕ) (r : Answer) → Cut o out out' r → Cut (sized way bs (length out)) out out' r
+  cut_as : (o : Outcome) → sized way bs (length out) ≡ o → (out' : List ℕ) (r : Result Subsetted Refusal) → Cut o out out' r → Cut (sized way bs (length out)) out out' r
   cut_as o e out' r k = subst (λ (x : Outcome). Cut x out out' r) (sym e) k
 
   -- so long in all
   module _ (end : ℕ) (is : length bs ≡ end) where
     -- too long
-    pub sized_long : 67108864 < end → Cut (sized way bs (length out)) out out (Refused 10)
+    pub sized_long : 67108864 < end → Cut (sized way bs (length out)) out out (Err Subset)
     sized_long h =
-        cut_as (refused 10) (by_tests true _ (lt-ltb 67108864 (length bs) (omega (arith, is))) refl) out (Refused 10) (record { answers = refl; output = refl })
+        cut_as (refused Subset) (by_tests true _ (lt-ltb 67108864 (length bs) (omega (arith, is))) refl) out (Err Subset) (record { answers = refl; output = refl })
 
     -- too little room
-    pub sized-room : end ≤ 67108864 → length out < end → Cut (sized way bs (length out)) out out (Refused 11)
+    pub sized-room : end ≤ 67108864 → length out < end → Cut (sized way bs (length out)) out out (Err Output)
     sized-room l h =
-        cut_as (refused 11) (by_tests false true (le-ltb 67108864 (length bs) (omega (arith, is))) (lt-ltb (length out) (length bs) (omega (arith, is)))) out (Refused 11)
+        cut_as (refused Output) (by_tests false true (le-ltb 67108864 (length bs) (omega (arith, is))) (lt-ltb (length out) (length bs) (omega (arith, is)))) out (Err Output)
         (record { answers = refl; output = refl })
 
     -- written
-    pub sized-written : end ≤ 67108864 → end ≤ length out → {out' : List ℕ} {q : ℕ} → Wrote out 0 bs out' q → Cut (sized way bs (length out)) out out' (Subset way end)
+    pub sized-written : end ≤ 67108864 → end ≤ length out → {out' : List ℕ} {q : ℕ} → Wrote out 0 bs out' q → Cut (sized way bs (length out)) out out' (a_cut way end)
     sized-written l h {out'} w =
-        cut_as (subset way bs) (by_tests false false (le-ltb 67108864 (length bs) (omega (arith, is))) (le-ltb (length out) (length bs) (omega (arith, is)))) out' (Subset way end)
-        (record { answers = ap (Subset way) (sym is); output = w.is })
+        cut_as (subset way bs) (by_tests false false (le-ltb 67108864 (length bs) (omega (arith, is))) (le-ltb (length out) (length bs) (omega (arith, is)))) out' (a_cut way end)
+        (record { answers = ap (a_cut way) (sym is); output = w.is })
 
 -- the outcome of the cut of a CID-keyed font is that of its subset, own strings being few
 pub cut-sized : (p : Program) (name kept order : List ℕ) (room : ℕ) (q : Pruned) → true ≡ cid_keyed p.top → length (own_by_cid p) ≤ 64609
@@ -238,5 +240,5 @@ cut-sized p name kept order room q keyed few =
     = ap (λ (t : Bool). ltb 64609 (length (pick t (own_by_cid p) (own_by_name p order)))) (sym keyed) ∙ le-ltb 64609 (length (own_by_cid p)) few in
     let bs : subset_bytes p none name kept order q.bodies ≡ subset_by_cid p name (used_fds p kept) order q.bodies
     = ap (λ (t : Bool). pick t (subset_by_cid p name (used_fds p kept) order q.bodies) (subset_by_name p none name order q.bodies)) (sym keyed) in
-    ap (λ (t : Bool). pick t (refused 12) (sized q.way (subset_bytes p none name kept order q.bodies) room)) own
+    ap (λ (t : Bool). pick t (refused StringId) (sized q.way (subset_bytes p none name kept order q.bodies) room)) own
     ∙ ap (λ (l : List ℕ). sized q.way l room) bs

@@ -1,5 +1,5 @@
 -- Laws of the loops that fill the table: what is left to store gives, from what is stored, what all of it gives from the beginning.
-use Rattle.std.specs.Prelude.{ℕ, ◌+◌, ◌-◌, ◌*◌, ◌/◌, ◌%◌, ◌≤◌, ◌<◌, ◌≡◌, Bool, false, ltb, eqb, take, drop, get_or, None, Some}
+use Rattle.std.specs.Prelude.{ℕ, ◌+◌, ◌-◌, ◌*◌, ◌/◌, ◌%◌, ◌≤◌, ◌<◌, ◌≡◌, Bool, false, ltb, eqb, take, drop, get_or, None, Some, Ok}
 use Rattle.std.proofs.Math.Path.{refl, sym, ap}
 use Rattle.std.proofs.Common.{◌∙◌, eq-eqb, ne_eqb, le-ltb, get_or-drop, drop-drop}
 use mathlib.Core.List.{List, [], ◌∷◌, ◌++◌}
@@ -165,7 +165,7 @@ module _ {n : ℕ} {old new : List ℕ} (xs ys : List Naming) (kind : ℕ) where
 pub coded-good : (b : List ℕ) (f : Font) → GoodFont b f → 2 ≤ f.encoding → GoodEncoding b f.encoding
 coded-good b f g h =
     let l : ltb f.encoding 2 ≡ false = le-ltb f.encoding 2 h in
-    encoding-good b f.encoding (sym (ap (λ (t : Bool). pick t 0 (encoding_at b f.encoding)) l) ∙ g.parts.coded)
+    encoding-good b f.encoding (sym (ap (λ (t : Bool). pick t (Ok tt) (encoding_at b f.encoding)) l) ∙ g.parts.coded)
 
 module _ (p : Program) (b : List ℕ) (at n format count : ℕ) (many : length p.charstrings ≡ n) (is-format : format ≡ get_or b at 0) (is-count : count ≡ get_or b (at + 1) 0)
     (old mid : List ℕ)

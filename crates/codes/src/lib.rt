@@ -60,7 +60,7 @@ fn fill_ranges(font: &[u8], at: usize, count: usize, n: usize, table: &mut [usiz
     }
 }
 
-// The codes or ranges of a format.
+// The codes or ranges of a format. The kind, 0 or 1, is a number, for an entry has so many bytes and one more.
 fn fill_first(font: &[u8], at: usize, kind: usize, count: usize, n: usize, table: &mut [usize])
     requires { (256 ≤ length table.old) × (kind ≤ 1) × (at + count * (kind + 1) ≤ length font.now) × (count < 256) }
     ensures { Fills n table.old

@@ -1,6 +1,6 @@
 -- Laws of a traced cut: it depends on the keep list by the glyphs that are kept; a list without a glyph; the first of a search.
 use Prim.Native.Nat.{ℕ, zero, suc, ◌+◌, ◌≤◌, ◌<◌}
-use Rattle.std.specs.Prelude.{◌≡◌, Bool, true, List, [], ◌∷◌, ltb, eqb, length}
+use Rattle.std.specs.Prelude.{◌≡◌, Bool, true, List, [], ◌∷◌, ltb, eqb, length, Some, None}
 use Rattle.std.proofs.Math.Path.{refl, ap}
 use Rattle.std.proofs.Common.{sym, ◌∙◌, eqb-true, ne_eqb}
 use Rattle.std.proofs.Math.Bool.{false}
@@ -16,7 +16,7 @@ use Rattle.subset.specs.Cut.{Outcome, refused, all_found_lem, has_ros_lem, unsup
 use Rattle.traced.specs.Traced.{Traced, refused as refusedTrace, traced, met_all, answered, trace_program}
 use Rattle.traced.proofs.MetLaws.{kept_same, below_as}
 use Rattle.culprit.specs.Culprit.{cut_traced, traced_cut, without, first_of}
-use Rattle.culprit.specs.declared.Culprit.TheVariants.{None, Glyph}
+use Rattle.refusal.specs.declared.Refusal.TheVariants.{Malformed, Unsupported, TooLong, NoSuchNumber, NotFound}
 
 -- ---- a list without a glyph
 
@@ -67,8 +67,8 @@ module _ (p : Program) (name keep keep' : List ℕ) (words lent : ℕ) (some : 0
 
   trace_same : trace_program p keep lent ≡ trace_program p keep' lent
   trace_same =
-      ap (λ (t : Bool). pick t (pick (all_found_lem p (kept_of n keep)) (answered lent (met_all p (kept_of n keep))) (refusedTrace 7)) (refusedTrace 6)) below
-      ∙ ap (λ (l : List ℕ). pick (all_below n keep') (pick (all_found_lem p l) (answered lent (met_all p l)) (refusedTrace 7)) (refusedTrace 6)) kept
+      ap (λ (t : Bool). pick t (pick (all_found_lem p (kept_of n keep)) (answered lent (met_all p (kept_of n keep))) (refusedTrace NotFound)) (refusedTrace NoSuchNumber)) below
+      ∙ ap (λ (l : List ℕ). pick (all_below n keep') (pick (all_found_lem p l) (answered lent (met_all p l)) (refusedTrace NotFound)) (refusedTrace NoSuchNumber)) kept
 
   cut-same : (t : Traced) → cut_traced p name keep words t ≡ cut_traced p name keep' words t
   cut-same (refusedTrace m) = refl
@@ -77,7 +77,7 @@ module _ (p : Program) (name keep keep' : List ℕ) (words lent : ℕ) (some : 0
   pub cut_keeps : traced_cut p name keep words lent ≡ traced_cut p name keep' words lent
   unfolding traced_cut
   cut_keeps =
-      ap (λ (o : Outcome). pick (unsupported_in false p) (refused 3) (pick (pick (cid_keyed p.top) (has_ros_lem (ros_in p.top)) true) (pick (ltb 65535 (length name)) (refused 4) o) (refused 2)))
+      ap (λ (o : Outcome). pick (unsupported_in false p) (refused Unsupported) (pick (pick (cid_keyed p.top) (has_ros_lem (ros_in p.top)) true) (pick (ltb 65535 (length name)) (refused TooLong) o) (refused Malformed)))
       (cut-same (trace_program p keep lent) ∙ ap (cut_traced p name keep' words) trace_same)
 
 -- ---- the first that passes
@@ -92,11 +92,11 @@ module _ (test : ℕ → Bool) where
       at false q = let d = eqb-false g h q in f (omega arith)
 
   -- it passes, and none before it does
-  pub first_is : (n g k : ℕ) → first_of (those test n g) ≡ Glyph k → (g ≤ k) × (k < g + n) × (test k ≡ true) × ((h : ℕ) → g ≤ h → h < k → test h ≡ false)
+  pub first_is : (n g k : ℕ) → first_of (those test n g) ≡ Some k → (g ≤ k) × (k < g + n) × (test k ≡ true) × ((h : ℕ) → g ≤ h → h < k → test h ≡ false)
   unfolding those
   first_is zero g k e = absurd (zero_one cc)
   first_is (suc n) g k e =
-      pick_ind (λ l. first_of l ≡ Glyph k → (g ≤ k) × (k < g + suc n) × (test k ≡ true) × ((h : ℕ) → g ≤ h → h < k → test h ≡ false))
+      pick_ind (λ l. first_of l ≡ Some k → (g ≤ k) × (k < g + suc n) × (test k ≡ true) × ((h : ℕ) → g ≤ h → h < k → test h ≡ false))
       (test g) (g ∷ those test n (g + 1)) (those test n (g + 1))
       (λ a f. let z : g ≡ k = cc in (omega arith, omega arith, ap test (sym z) ∙ a, λ h l m. absurd (omega arith)))
       (λ a f. let r = first_is n (g + 1) k f in (omega arith, omega arith, r.2, λ h l m. from_next g h l a (λ b. r.3 h b m)))

@@ -1,6 +1,6 @@
 -- Worked examples, computed: a font of five glyphs, of which 2 and 3 have dead code that calls a subroutine that is not there, so that they cannot be
 -- renumbered, and 4 is not plain.
-use Rattle.std.specs.Prelude.{ℕ, ◌≡◌, refl, true, false, List, [], ◌∷◌}
+use Rattle.std.specs.Prelude.{ℕ, ◌≡◌, refl, true, false, List, [], ◌∷◌, Ok, Some, None}
 use Rattle.std.proofs.Common.{◌∙◌, arith}
 use Rattle.octets.specs.Octets.{be, num_at, bytes_of}
 use Rattle.octets.specs.Lists.{all_below, joined}
@@ -36,7 +36,7 @@ use Rattle.row_window.specs.Window.{placed, gathered}
 use Rattle.traced.specs.Traced.{met_all, tens_bytes, record_of}
 use Rattle.culprit.specs.Culprit.{traced_cut, without, has_way, is_culprit, culprit_in}
 use Rattle.culprit.proofs.Theorem.{Least, blocking_least, is_least, blocking_none, other_way, has-way}
-use Rattle.culprit.specs.declared.Culprit.TheVariants.{None, Glyph}
+use Rattle.subset.specs.declared.Way.TheVariants.{Renumbered, Stubbed, Copied}
 
 abbrev small : Program
 small =
@@ -67,7 +67,7 @@ none_below = refl
 -- ---- ways
 
 -- glyph 1 alone is renumbered
-way_0 : has_way 0 (traced_cut small name (1 ∷ []) 8192 0) ≡ true
+way_0 : has_way Renumbered (traced_cut small name (1 ∷ []) 8192 0) ≡ true
 unfolding
     traced_cut met_all record_of tens_bytes gathered placed unfold_glyph run_body walk step_at operator_at leave but target_of t2.number_at t2.rounded t2.keep24 bytes_of num_at be all_below
     all_found_lem glyph_with_text string_text standard_string standard_strings codes same_text_lem standard_names is_in those fds_of last_of last_from normal stripped zeros zeros_of trunc_of locals_words
@@ -78,7 +78,7 @@ unfolding
 way_0 = simp (none-reached, none_below)
 
 -- a list with glyph 2 is stubbed
-way_1 : has_way 1 (traced_cut small name (1 ∷ 2 ∷ []) 8192 0) ≡ true
+way_1 : has_way Stubbed (traced_cut small name (1 ∷ 2 ∷ []) 8192 0) ≡ true
 unfolding
     traced_cut met_all record_of tens_bytes gathered placed unfold_glyph run_body walk step_at operator_at leave but target_of t2.number_at t2.rounded t2.keep24 bytes_of num_at be all_below
     all_found_lem glyph_with_text string_text standard_string standard_strings codes same_text_lem standard_names is_in those fds_of last_of last_from normal stripped zeros zeros_of trunc_of locals_words
@@ -88,7 +88,7 @@ unfolding
     int5_bytes number_bytes int_bytes index_bytes items_bytes head_bytes table_bytes ends size_for joined total
 way_1 = simp (none-reached, none_below)
 
-alone_1 : has_way 0 (traced_cut small name (2 ∷ []) 8192 0) ≡ false
+alone_1 : has_way Renumbered (traced_cut small name (2 ∷ []) 8192 0) ≡ false
 unfolding
     traced_cut met_all record_of tens_bytes gathered placed unfold_glyph run_body walk step_at operator_at leave but target_of t2.number_at t2.rounded t2.keep24 bytes_of num_at be all_below
     all_found_lem glyph_with_text string_text standard_string standard_strings codes same_text_lem standard_names is_in those fds_of last_of last_from normal stripped zeros zeros_of trunc_of locals_words
@@ -99,7 +99,7 @@ unfolding
 alone_1 = simp (none-reached, none_below)
 
 -- one with glyph 4 is copied
-way_2 : has_way 2 (traced_cut small name (1 ∷ 2 ∷ 4 ∷ []) 8192 0) ≡ true
+way_2 : has_way Copied (traced_cut small name (1 ∷ 2 ∷ 4 ∷ []) 8192 0) ≡ true
 unfolding
     traced_cut met_all record_of tens_bytes gathered placed unfold_glyph run_body walk step_at operator_at leave but target_of t2.number_at t2.rounded t2.keep24 bytes_of num_at be all_below
     all_found_lem glyph_with_text string_text standard_string standard_strings codes same_text_lem standard_names is_in those fds_of last_of last_from normal stripped zeros zeros_of trunc_of locals_words
@@ -110,7 +110,7 @@ unfolding
 way_2 = refl
 
 -- with glyphs 2 and 3, and without any one
-both_1 : has_way 1 (traced_cut small name (1 ∷ 2 ∷ 3 ∷ []) 8192 0) ≡ true
+both_1 : has_way Stubbed (traced_cut small name (1 ∷ 2 ∷ 3 ∷ []) 8192 0) ≡ true
 unfolding
     traced_cut met_all record_of tens_bytes gathered placed unfold_glyph run_body walk step_at operator_at leave but target_of t2.number_at t2.rounded t2.keep24 bytes_of num_at be all_below
     all_found_lem glyph_with_text string_text standard_string standard_strings codes same_text_lem standard_names is_in those fds_of last_of last_from normal stripped zeros zeros_of trunc_of locals_words
@@ -120,7 +120,7 @@ unfolding
     int5_bytes number_bytes int_bytes index_bytes items_bytes head_bytes table_bytes ends size_for joined total
 both_1 = simp (none-reached, none_below)
 
-without_1 : has_way 0 (traced_cut small name (2 ∷ 3 ∷ []) 8192 0) ≡ false
+without_1 : has_way Renumbered (traced_cut small name (2 ∷ 3 ∷ []) 8192 0) ≡ false
 unfolding
     traced_cut met_all record_of tens_bytes gathered placed unfold_glyph run_body walk step_at operator_at leave but target_of t2.number_at t2.rounded t2.keep24 bytes_of num_at be all_below
     all_found_lem glyph_with_text string_text standard_string standard_strings codes same_text_lem standard_names is_in those fds_of last_of last_from normal stripped zeros zeros_of trunc_of locals_words
@@ -130,7 +130,7 @@ unfolding
     int5_bytes number_bytes int_bytes index_bytes items_bytes head_bytes table_bytes ends size_for joined total
 without_1 = simp (none-reached, none_below)
 
-without_2 : has_way 0 (traced_cut small name (1 ∷ 3 ∷ []) 8192 0) ≡ false
+without_2 : has_way Renumbered (traced_cut small name (1 ∷ 3 ∷ []) 8192 0) ≡ false
 unfolding
     traced_cut met_all record_of tens_bytes gathered placed unfold_glyph run_body walk step_at operator_at leave but target_of t2.number_at t2.rounded t2.keep24 bytes_of num_at be all_below
     all_found_lem glyph_with_text string_text standard_string standard_strings codes same_text_lem standard_names is_in those fds_of last_of last_from normal stripped zeros zeros_of trunc_of locals_words
@@ -140,7 +140,7 @@ unfolding
     int5_bytes number_bytes int_bytes index_bytes items_bytes head_bytes table_bytes ends size_for joined total
 without_2 = simp (none-reached, none_below)
 
-without_3 : has_way 0 (traced_cut small name (1 ∷ 2 ∷ []) 8192 0) ≡ false
+without_3 : has_way Renumbered (traced_cut small name (1 ∷ 2 ∷ []) 8192 0) ≡ false
 unfolding
     traced_cut met_all record_of tens_bytes gathered placed unfold_glyph run_body walk step_at operator_at leave but target_of t2.number_at t2.rounded t2.keep24 bytes_of num_at be all_below
     all_found_lem glyph_with_text string_text standard_string standard_strings codes same_text_lem standard_names is_in those fds_of last_of last_from normal stripped zeros zeros_of trunc_of locals_words
@@ -152,7 +152,7 @@ without_3 = simp (none-reached, none_below)
 
 -- ---- one culprit
 
-culprit : culprit_in small name (1 ∷ 2 ∷ []) 8192 0 ≡ Glyph 2
+culprit : culprit_in small name (1 ∷ 2 ∷ []) 8192 0 ≡ Ok (Some 2)
 unfolding those is_culprit is_in without
 culprit = is_least small name (1 ∷ 2 ∷ []) 8192 0 way_1 ∙ rw (alone_1, way_0)
 
@@ -161,18 +161,18 @@ least = blocking_least small name (1 ∷ 2 ∷ []) 8192 0 2 culprit
 
 -- ---- two: none
 
-no_culprit : culprit_in small name (1 ∷ 2 ∷ 3 ∷ []) 8192 0 ≡ None
+no_culprit : culprit_in small name (1 ∷ 2 ∷ 3 ∷ []) 8192 0 ≡ Ok None
 unfolding those is_culprit is_in without
 no_culprit = is_least small name (1 ∷ 2 ∷ 3 ∷ []) 8192 0 both_1 ∙ rw (without_1, without_2, without_3)
 
-not_the_first : has_way 0 (traced_cut small name (1 ∷ 3 ∷ []) 8192 0) ≡ false
+not_the_first : has_way Renumbered (traced_cut small name (1 ∷ 3 ∷ []) 8192 0) ≡ false
 unfolding is_in without
 not_the_first = blocking_none small name (1 ∷ 2 ∷ 3 ∷ []) 8192 0 both_1 no_culprit 2 (omega arith) refl
 
 -- ---- another way: none
 
-renumbered-none : culprit_in small name (1 ∷ []) 8192 0 ≡ None
-renumbered-none = let w = has-way 0 (traced_cut small name (1 ∷ []) 8192 0) way_0 in other_way small name (1 ∷ []) 8192 0 0 w.0 w.1 refl
+renumbered-none : culprit_in small name (1 ∷ []) 8192 0 ≡ Ok None
+renumbered-none = let w = has-way Renumbered (traced_cut small name (1 ∷ []) 8192 0) way_0 in other_way small name (1 ∷ []) 8192 0 Renumbered w.0 w.1 refl
 
-copied_none : culprit_in small name (1 ∷ 2 ∷ 4 ∷ []) 8192 0 ≡ None
-copied_none = let w = has-way 2 (traced_cut small name (1 ∷ 2 ∷ 4 ∷ []) 8192 0) way_2 in other_way small name (1 ∷ 2 ∷ 4 ∷ []) 8192 0 2 w.0 w.1 refl
+copied_none : culprit_in small name (1 ∷ 2 ∷ 4 ∷ []) 8192 0 ≡ Ok None
+copied_none = let w = has-way Copied (traced_cut small name (1 ∷ 2 ∷ 4 ∷ []) 8192 0) way_2 in other_way small name (1 ∷ 2 ∷ 4 ∷ []) 8192 0 Copied w.0 w.1 refl

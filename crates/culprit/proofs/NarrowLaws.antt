@@ -2,7 +2,7 @@
 -- glyph does not run are the same. So a body that fails, and that the glyph does not run, fails without it.
 use Rattle.std.specs.Prelude.{ℕ, ◌<◌, ◌≡◌, Bool, ltb, eqb, length, get_or, None, Option, Some}
 use Rattle.std.proofs.Math.Path.{refl}
-use Rattle.std.proofs.Common.{sym, ap, ◌∙◌, subst, ⊎_elim, arith, eqb-true, ne_eqb}
+use Rattle.std.proofs.Common.{sym, ap, ◌∙◌, subst, ⊎_elim, arith, ne_eqb}
 use Rattle.std.proofs.Math.Bool.{true, false}
 use mathlib.Core.List.{List, [], ◌∷◌}
 use Rattle.octets.specs.Pick.{pick, pick_ind}
@@ -37,6 +37,10 @@ use Rattle.culprit.specs.Culprit.{cut_traced, traced_cut, without, has_way, is_c
 use Rattle.culprit.proofs.CulpritLaws.{in_without}
 use Rattle.culprit.specs.FewerLaws.{Fails, calls_fewer, Fewer, body_fewer}
 use Rattle.culprit.specs.NarrowLaws.{fd_at, code_at, body_at}
+use Rattle.refusal.specs.declared.Refusal.{Refusal}
+use Rattle.refusal.specs.declared.Refusal.TheVariants.{Malformed, Unsupported, TooLong, NoSuchNumber, NotFound, BadRecord, Work, Subset, Output, StringId, Pairs}
+use Rattle.subset.specs.Way.{is_renumbered}
+use Rattle.subset.specs.declared.Way.TheVariants.{Renumbered}
 
 -- ---- way 0
 
@@ -49,36 +53,36 @@ module _ (p : Program) (name keep rec : List ℕ) (flag words : ℕ) where
 
   -- an outcome that has way 0 was pruned so
   abbrev Way : Outcome → Type 0
-  Way o = has_way 0 o ≡ true → cut.way ≡ 0
+  Way o = has_way Renumbered o ≡ true → is_renumbered cut.way ≡ true
 
-  refuses : (n : ℕ) → Way (refused n)
+  refuses : (n : Refusal) → Way (refused n)
   refuses n e = absurd (zero_one cc)
 
   written-way : (coded : Coded) → Way (written p coded name kept (written_order p kept) 67108864 cut)
   written-way coded =
       let bytes = subset_bytes p coded name kept (written_order p kept) cut.bodies in
-      let last = pick (ltb 67108864 (length bytes)) (refused 11) (subset cut.way bytes) in
-      let sized = pick (ltb 67108864 (length bytes)) (refused 10) last in
-      pick_ind Way (ltb 64609 (length (own_of p (written_order p kept)))) (refused 12) (pick (ltb 255 (pair_count coded)) (refused 13) sized) (λ t. refuses 12)
-      (λ own. pick_ind Way (ltb 255 (pair_count coded)) (refused 13) sized (λ t. refuses 13)
-      (λ codes. pick_ind Way (ltb 67108864 (length bytes)) (refused 10) last (λ t. refuses 10)
-      (λ size. pick_ind Way (ltb 67108864 (length bytes)) (refused 11) (subset cut.way bytes) (λ t. refuses 11) (λ fits e. eqb-true cut.way 0 e))))
+      let last = pick (ltb 67108864 (length bytes)) (refused Output) (subset cut.way bytes) in
+      let sized = pick (ltb 67108864 (length bytes)) (refused Subset) last in
+      pick_ind Way (ltb 64609 (length (own_of p (written_order p kept)))) (refused StringId) (pick (ltb 255 (pair_count coded)) (refused Pairs) sized) (λ t. refuses StringId)
+      (λ own. pick_ind Way (ltb 255 (pair_count coded)) (refused Pairs) sized (λ t. refuses Pairs)
+      (λ codes. pick_ind Way (ltb 67108864 (length bytes)) (refused Subset) last (λ t. refuses Subset)
+      (λ size. pick_ind Way (ltb 67108864 (length bytes)) (refused Output) (subset cut.way bytes) (λ t. refuses Output) (λ fits e. e))))
 
   cut-way : Way (cut_traced p name keep words (traced flag rec))
   cut-way =
-      pick_ind Way (same_bool_lem (cid_keyed p.top) (cid_keyed p.top)) _ (refused 3)
-      (λ k. pick_ind Way (unsupported_in false p) (refused 3) _ (λ t. refuses 3)
-      (λ q. pick_ind Way (pick (cid_keyed p.top) (has_ros_lem (ros_in p.top)) true) _ (refused 2)
-      (λ ros. pick_ind Way (ltb 65535 (length name)) (refused 4) _ (λ t. refuses 4)
-      (λ n. pick_ind Way (all_below (length p.charstrings) keep) _ (refused 6)
-      (λ b. pick_ind Way (all_found_lem p kept) _ (refused 7)
-      (λ found. pick_ind Way (record_fine (cid_keyed p.top) rec flag) _ (refused 8)
-      (λ r. pick_ind Way (ltb words (work_size p)) (refused 9) _ (λ t. refuses 9) (λ w. written-way (coded_if false p kept (own_of p (written_order p kept)))))
-      (λ t. refuses 8))
-      (λ t. refuses 7))
-      (λ t. refuses 6)))
-      (λ t. refuses 2)))
-      (λ t. refuses 3)
+      pick_ind Way (same_bool_lem (cid_keyed p.top) (cid_keyed p.top)) _ (refused Unsupported)
+      (λ k. pick_ind Way (unsupported_in false p) (refused Unsupported) _ (λ t. refuses Unsupported)
+      (λ q. pick_ind Way (pick (cid_keyed p.top) (has_ros_lem (ros_in p.top)) true) _ (refused Malformed)
+      (λ ros. pick_ind Way (ltb 65535 (length name)) (refused TooLong) _ (λ t. refuses TooLong)
+      (λ n. pick_ind Way (all_below (length p.charstrings) keep) _ (refused NoSuchNumber)
+      (λ b. pick_ind Way (all_found_lem p kept) _ (refused NotFound)
+      (λ found. pick_ind Way (record_fine (cid_keyed p.top) rec flag) _ (refused BadRecord)
+      (λ r. pick_ind Way (ltb words (work_size p)) (refused Work) _ (λ t. refuses Work) (λ w. written-way (coded_if false p kept (own_of p (written_order p kept)))))
+      (λ t. refuses BadRecord))
+      (λ t. refuses NotFound))
+      (λ t. refuses NoSuchNumber)))
+      (λ t. refuses Malformed)))
+      (λ t. refuses Unsupported)
 
 -- a list that has way 0 has plain glyphs alone, and their renumbering does not fail
 pub record Renumbers (p : Program) (keep : List ℕ) : Type 0 where
@@ -88,39 +92,39 @@ pub record Renumbers (p : Program) (keep : List ℕ) : Type 0 where
   pub is : renumbered p (rows_of (record_of rows)) (used_fds p (kept_of (length p.charstrings) keep)) (written_order p (kept_of (length p.charstrings) keep)) ≡ Some bodies
 
 module _ (p : Program) (name keep : List ℕ) (words lent : ℕ) where
-  by-bodies : (rows : List Row) → kept_rows p keep ≡ Some rows → (cut p name keep (record_of rows) 1 words).way ≡ 0 → Renumbers p keep
+  by-bodies : (rows : List Row) → kept_rows p keep ≡ Some rows → is_renumbered (cut p name keep (record_of rows) 1 words).way ≡ true → Renumbers p keep
   unfolding pruned
   by-bodies rows m e =
       by (renumbered p (rows_of (record_of rows)) (used_fds p (kept_of (length p.charstrings) keep)) (written_order p (kept_of (length p.charstrings) keep))) refl e
     where
       by : (b : Option Bodies) → renumbered p (rows_of (record_of rows)) (used_fds p (kept_of (length p.charstrings) keep)) (written_order p (kept_of (length p.charstrings) keep)) ≡ b
-          → (or_stubbed b (stubbed p (rows_of (record_of rows)) (used_fds p (kept_of (length p.charstrings) keep)) (written_order p (kept_of (length p.charstrings) keep)))).way ≡ 0 → Renumbers p keep
-      by None q h = absurd (zero_one (sym h))
+          → is_renumbered (or_stubbed b (stubbed p (rows_of (record_of rows)) (used_fds p (kept_of (length p.charstrings) keep)) (written_order p (kept_of (length p.charstrings) keep)))).way ≡ true → Renumbers p keep
+      by None q h = absurd (zero_one cc)
       by (Some b) q h = record { rows = rows; met = m; bodies = b; is = q }
 
-  by_rows : (m : Option (List Row)) → kept_rows p keep ≡ m → has_way 0 (cut_traced p name keep words (answered lent m)) ≡ true → Renumbers p keep
+  by_rows : (m : Option (List Row)) → kept_rows p keep ≡ m → has_way Renumbered (cut_traced p name keep words (answered lent m)) ≡ true → Renumbers p keep
   unfolding pruned
-  by_rows None q e = absurd (zero_one (let two : 2 ≡ 0 = cut-way p name keep [] 0 words e in omega arith))
+  by_rows None q e = absurd (zero_one (let two : false ≡ true = cut-way p name keep [] 0 words e in cc))
   by_rows (Some rows) q e = by (ltb lent (length (record_of rows))) e
     where
-      by : (t : Bool) → has_way 0 (cut_traced p name keep words (pick t (refusedTrace 11) (traced 1 (record_of rows)))) ≡ true → Renumbers p keep
+      by : (t : Bool) → has_way Renumbered (cut_traced p name keep words (pick t (refusedTrace Output) (traced 1 (record_of rows)))) ≡ true → Renumbers p keep
       by true h = absurd (zero_one cc)
       by false h = by-bodies rows q (cut-way p name keep (record_of rows) 1 words h)
 
-  by_trace : (b f : Bool) → has_way 0 (cut_traced p name keep words (pick b (pick f (answered lent (kept_rows p keep)) (refusedTrace 7)) (refusedTrace 6))) ≡ true → Renumbers p keep
+  by_trace : (b f : Bool) → has_way Renumbered (cut_traced p name keep words (pick b (pick f (answered lent (kept_rows p keep)) (refusedTrace NotFound)) (refusedTrace NoSuchNumber))) ≡ true → Renumbers p keep
   by_trace true true e = by_rows (kept_rows p keep) refl e
   by_trace true false e = absurd (zero_one cc)
   by_trace false f e = absurd (zero_one cc)
 
   abbrev Zero : Outcome → Type 0
-  Zero o = has_way 0 o ≡ true → Renumbers p keep
+  Zero o = has_way Renumbered o ≡ true → Renumbers p keep
 
-  pub way_0 : has_way 0 (traced_cut p name keep words lent) ≡ true → Renumbers p keep
+  pub way_0 : has_way Renumbered (traced_cut p name keep words lent) ≡ true → Renumbers p keep
   unfolding traced_cut
   way_0 =
-      pick_ind Zero (unsupported_in false p) (refused 3) _ (λ t e. absurd (zero_one cc))
-      (λ q. pick_ind Zero (pick (cid_keyed p.top) (has_ros_lem (ros_in p.top)) true) _ (refused 2)
-      (λ ros. pick_ind Zero (ltb 65535 (length name)) (refused 4) _ (λ t e. absurd (zero_one cc))
+      pick_ind Zero (unsupported_in false p) (refused Unsupported) _ (λ t e. absurd (zero_one cc))
+      (λ q. pick_ind Zero (pick (cid_keyed p.top) (has_ros_lem (ros_in p.top)) true) _ (refused Malformed)
+      (λ ros. pick_ind Zero (ltb 65535 (length name)) (refused TooLong) _ (λ t e. absurd (zero_one cc))
       (λ n. by_trace (all_below (length p.charstrings) keep) (all_found_lem p (kept_of (length p.charstrings) keep))))
       (λ t e. absurd (zero_one cc)))
 
@@ -301,8 +305,8 @@ module _ (p : Program) (there : FdsThere p) (name keep : List ℕ) (words lent :
       → Runs p (rows_of (record_of rows)) x site → (g : ℕ) → (x ≡ g → ⊥) → is_culprit p name keep words lent g ≡ false
   unfolding is_culprit
   one_culprit site bad x kept runs g other =
-      not_true (pick (is_in g keep) (has_way 0 (traced_cut p name (without g keep) words lent)) false)
-      (λ e. let w = way_0 p name (without g keep) words lent (both_hold (is_in g keep) (has_way 0 (traced_cut p name (without g keep) words lent)) e).1 in
+      not_true (pick (is_in g keep) (has_way Renumbered (traced_cut p name (without g keep) words lent)) false)
+      (λ e. let w = way_0 p name (without g keep) words lent (both_hold (is_in g keep) (has_way Renumbered (traced_cut p name (without g keep) words lent)) e).1 in
       let was = rows_of (record_of rows) in
       let now = rows_of (record_of w.rows) in
       let gs = left p keep g in

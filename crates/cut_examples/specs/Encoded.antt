@@ -1,6 +1,6 @@
 -- The codes of a subset (document 02, Wish 4), each a whole call on a font of three glyphs that keeps glyph 1, and what the theorem then says of the
 -- subset's codes: of a font with its own encoding, one with the Expert Encoding and one with the standard one.
-use Rattle.std.specs.Prelude.{ℕ, ◌≡◌, refl, true, false, List, [], ◌∷◌}
+use Rattle.std.specs.Prelude.{ℕ, ◌≡◌, refl, true, false, List, [], ◌∷◌, Result, Ok}
 use Rattle.std.proofs.Common.{ap, ◌∙◌, subst, arith}
 use Rattle.octets.specs.Octets.{be, num_at, bytes_of}
 use Rattle.octets.specs.Lists.{all_below, joined}
@@ -32,7 +32,7 @@ use Rattle.record.specs.Record.{rows_from, rows_of, rows_fine_lem, record_fine, 
 use Rattle.opentype.specs.Opentype.{place_of}
 use Rattle.cff.specs.Font as font
 use Rattle.cff.specs.Find.{work_size}
-use Rattle.cff.specs.Font.{got, Program}
+use Rattle.cff.specs.Font.{Program}
 use Rattle.cff.specs.Find as cfffind
 use Rattle.subset.specs.Kept.{is_in, those, kept_of, fds_of}
 use Rattle.bits.specs.Bits.{count_below}
@@ -44,6 +44,9 @@ use Rattle.subset.specs.Cut.{refused, subset, all_found_lem, cut_read, cut_with,
 use Rattle.faithful.specs.Codes.{KeepsCodes}
 use Rattle.faithful.proofs.Theorem.{codes-back}
 use Rattle.faithful.proofs.Examples.{octets_of, none_octets}
+use Rattle.refusal.specs.declared.Refusal.{Refusal}
+use Rattle.refusal.specs.declared.Refusal.TheVariants.{Unsupported}
+use Rattle.subset.specs.declared.Way.TheVariants.{Renumbered}
 
 -- ---- its own encoding: code 65 names A; 66 Qx, and then A by a supplement, whose string id 34 is the standard one; 67 Qx, which is not kept
 
@@ -85,7 +88,7 @@ custom_program =
       coding = font.custom (by_number 65 1 ∷ by_number 66 2 ∷ by_string 66 34 ∷ by_string 67 392 ∷ []);
     }
 
-pub custom_reads : font.read_font custom_font ≡ got custom_program
+pub custom_reads : font.read_font custom_font ≡ Ok custom_program
 unfolding
     font.read_font font.read_table place_of font.set_at font.fonts_at font.font_at font.name_parts font.private_at font.ids_at font.coding_at font.encoding_got read_index told items_of pieces index_at table_at
     data_at judged run_of offsets num_at be dec.number_at dec.real_at dict.dict_of dict.gathered dict.readings_at dict.readings_from dict.entry_at dict.entry_from dict.operator_at
@@ -111,7 +114,7 @@ custom_subset =
     -- charstrings
     ∷ 0x00 ∷ 0x02 ∷ 0x01 ∷ 0x01 ∷ 0x02 ∷ 0x03 ∷ 0x0e ∷ 0x0e ∷ []
 
-custom_written : cut_read work_size false true (got custom_program) (0x4e ∷ []) (1 ∷ []) [] 1 8192 32768 ≡ subset 0 custom_subset
+custom_written : cut_read work_size false true (Ok custom_program) (0x4e ∷ []) (1 ∷ []) [] 1 8192 32768 ≡ subset Renumbered custom_subset
 unfolding
     all_below all_found_lem subset_bytes subset_by_name new_ids named_bytes copied_bytes names_of texts_of named_entries new_id place_in own_strings_lem has_text pruned renumbered renumbered_subrs
     renumbered_body each count_below those is_in fds_of record_fine rows_fine_lem rows_of rows_from lists given_in two_lengths_lem disagrees renumber_charstring renumber glyph_with_text
@@ -120,9 +123,9 @@ unfolding
     t2.number_at t2e.number_bytes t2e.integer_bytes t2e.fixed_bytes tok.tokens_of tok.tokens_from tok.token_at decw.int5_bytes cfffind.locals_words coded_by_lem pairs_from last_named pair_bytes
 custom_written = refl
 
-pub custom_cut : cut_of false true custom_font (0x4e ∷ []) (1 ∷ []) [] 1 8192 32768 ≡ subset 0 custom_subset
+pub custom_cut : cut_of false true custom_font (0x4e ∷ []) (1 ∷ []) [] 1 8192 32768 ≡ subset Renumbered custom_subset
 unfolding cut_with
-custom_cut = ap (λ (g : font.Got Program). cut_read work_size false true g (0x4e ∷ []) (1 ∷ []) [] 1 8192 32768) custom_reads ∙ custom_written
+custom_cut = ap (λ (g : Result Program Refusal). cut_read work_size false true g (0x4e ∷ []) (1 ∷ []) [] 1 8192 32768) custom_reads ∙ custom_written
 
 -- the codes in the font, where their glyphs are kept
 custom_65 : kept_meant custom_program (kept_of 3 (1 ∷ [])) (glyph_of custom_program custom_program.coding 65) ≡ named (0x41 ∷ [])
@@ -146,12 +149,12 @@ custom_keyed : cid_keyed custom_program.top ≡ false
 unfolding last_of last_from
 custom_keyed = refl
 
-custom_codes : (q : Program) × (font.read_font custom_subset ≡ got q)
+custom_codes : (q : Program) × (font.read_font custom_subset ≡ Ok q)
     × (meant q (glyph_of q q.coding 65) ≡ named (0x41 ∷ []))
     × (meant q (glyph_of q q.coding 66) ≡ named (0x41 ∷ []))
     × (meant q (glyph_of q q.coding 67) ≡ nothing)
 custom_codes =
-    let keeps : KeepsCodes true custom_font (1 ∷ []) (subset 0 custom_subset)
+    let keeps : KeepsCodes true custom_font (1 ∷ []) (subset Renumbered custom_subset)
     = subst (KeepsCodes true custom_font (1 ∷ [])) custom_cut
     (codes-back work_size false true custom_font (0x4e ∷ []) (1 ∷ []) [] 1 8192 32768 (octets_of custom_font custom_octets) none_octets) in
     let k = keeps refl custom_program custom_reads custom_keyed in
@@ -193,7 +196,7 @@ expert_program =
       coding = font.expert;
     }
 
-expert_reads : font.read_font expert_font ≡ got expert_program
+expert_reads : font.read_font expert_font ≡ Ok expert_program
 unfolding
     font.read_font font.read_table place_of font.set_at font.fonts_at font.font_at font.name_parts font.private_at font.ids_at font.coding_at font.encoding_got read_index told items_of pieces index_at table_at
     data_at judged run_of offsets num_at be dec.number_at dec.real_at dict.dict_of dict.gathered dict.readings_at dict.readings_from dict.entry_at dict.entry_from dict.operator_at
@@ -217,7 +220,7 @@ expert_subset =
     -- charstrings
     ∷ 0x00 ∷ 0x02 ∷ 0x01 ∷ 0x01 ∷ 0x02 ∷ 0x03 ∷ 0x0e ∷ 0x0e ∷ []
 
-expert_written : cut_read work_size false true (got expert_program) (0x4e ∷ []) (1 ∷ []) [] 1 8192 32768 ≡ subset 0 expert_subset
+expert_written : cut_read work_size false true (Ok expert_program) (0x4e ∷ []) (1 ∷ []) [] 1 8192 32768 ≡ subset Renumbered expert_subset
 unfolding
     all_below all_found_lem subset_bytes subset_by_name new_ids named_bytes copied_bytes names_of texts_of named_entries new_id place_in own_strings_lem has_text pruned renumbered renumbered_subrs
     renumbered_body each count_below those is_in fds_of record_fine rows_fine_lem rows_of rows_from lists given_in two_lengths_lem disagrees renumber_charstring renumber glyph_with_text
@@ -226,9 +229,9 @@ unfolding
     t2.number_at t2e.number_bytes t2e.integer_bytes t2e.fixed_bytes tok.tokens_of tok.tokens_from tok.token_at decw.int5_bytes cfffind.locals_words coded_by_lem
 expert_written = refl
 
-expert_cut : cut_of false true expert_font (0x4e ∷ []) (1 ∷ []) [] 1 8192 32768 ≡ subset 0 expert_subset
+expert_cut : cut_of false true expert_font (0x4e ∷ []) (1 ∷ []) [] 1 8192 32768 ≡ subset Renumbered expert_subset
 unfolding cut_with
-expert_cut = ap (λ (g : font.Got Program). cut_read work_size false true g (0x4e ∷ []) (1 ∷ []) [] 1 8192 32768) expert_reads ∙ expert_written
+expert_cut = ap (λ (g : Result Program Refusal). cut_read work_size false true g (0x4e ∷ []) (1 ∷ []) [] 1 8192 32768) expert_reads ∙ expert_written
 
 -- the codes in the font, where their glyphs are kept
 expert_32 : kept_meant expert_program (kept_of 3 (1 ∷ [])) (glyph_of expert_program expert_program.coding 32) ≡ named (0x73 ∷ 0x70 ∷ 0x61 ∷ 0x63 ∷ 0x65 ∷ [])
@@ -252,21 +255,21 @@ expert_keyed : cid_keyed expert_program.top ≡ false
 unfolding last_of last_from
 expert_keyed = refl
 
-expert_codes : (q : Program) × (font.read_font expert_subset ≡ got q)
+expert_codes : (q : Program) × (font.read_font expert_subset ≡ Ok q)
     × (meant q (glyph_of q q.coding 32) ≡ named (0x73 ∷ 0x70 ∷ 0x61 ∷ 0x63 ∷ 0x65 ∷ []))
     × (meant q (glyph_of q q.coding 44) ≡ nothing)
     × (meant q (glyph_of q q.coding 0) ≡ named (0x2e ∷ 0x6e ∷ 0x6f ∷ 0x74 ∷ 0x64 ∷ 0x65 ∷ 0x66 ∷ []))
 expert_codes =
-    let keeps : KeepsCodes true expert_font (1 ∷ []) (subset 0 expert_subset)
+    let keeps : KeepsCodes true expert_font (1 ∷ []) (subset Renumbered expert_subset)
     = subst (KeepsCodes true expert_font (1 ∷ [])) expert_cut
     (codes-back work_size false true expert_font (0x4e ∷ []) (1 ∷ []) [] 1 8192 32768 (octets_of expert_font expert_octets) none_octets) in
     let k = keeps refl expert_program expert_reads expert_keyed in
     (k.0, k.1, k.2.codes 32 (omega arith) ∙ expert_32, k.2.codes 44 (omega arith) ∙ expert_44, k.2.codes 0 (omega arith) ∙ expert_0)
 
 -- where it is not asked for, such a font is refused
-expert_unasked : cut_of false false expert_font (0x4e ∷ []) (1 ∷ []) [] 1 8192 32768 ≡ refused 3
+expert_unasked : cut_of false false expert_font (0x4e ∷ []) (1 ∷ []) [] 1 8192 32768 ≡ refused Unsupported
 unfolding cut_with last_of last_from
-expert_unasked = ap (λ (g : font.Got Program). cut_read work_size false false g (0x4e ∷ []) (1 ∷ []) [] 1 8192 32768) expert_reads
+expert_unasked = ap (λ (g : Result Program Refusal). cut_read work_size false false g (0x4e ∷ []) (1 ∷ []) [] 1 8192 32768) expert_reads
 
 -- ---- the standard encoding, which the subset has without an entry
 
@@ -303,7 +306,7 @@ standard_program =
       coding = font.standard;
     }
 
-standard-reads : font.read_font standard_font ≡ got standard_program
+standard-reads : font.read_font standard_font ≡ Ok standard_program
 unfolding
     font.read_font font.read_table place_of font.set_at font.fonts_at font.font_at font.name_parts font.private_at font.ids_at font.coding_at font.encoding_got read_index told items_of pieces index_at table_at
     data_at judged run_of offsets num_at be dec.number_at dec.real_at dict.dict_of dict.gathered dict.readings_at dict.readings_from dict.entry_at dict.entry_from dict.operator_at
@@ -327,7 +330,7 @@ standard_subset =
     -- charstrings
     ∷ 0x00 ∷ 0x02 ∷ 0x01 ∷ 0x01 ∷ 0x02 ∷ 0x03 ∷ 0x0e ∷ 0x0e ∷ []
 
-standard-written : cut_read work_size false true (got standard_program) (0x4e ∷ []) (1 ∷ []) [] 1 8192 32768 ≡ subset 0 standard_subset
+standard-written : cut_read work_size false true (Ok standard_program) (0x4e ∷ []) (1 ∷ []) [] 1 8192 32768 ≡ subset Renumbered standard_subset
 unfolding
     all_below all_found_lem subset_bytes subset_by_name new_ids named_bytes copied_bytes names_of texts_of named_entries new_id place_in own_strings_lem has_text pruned renumbered renumbered_subrs
     renumbered_body each count_below those is_in fds_of record_fine rows_fine_lem rows_of rows_from lists given_in two_lengths_lem disagrees renumber_charstring renumber glyph_with_text
@@ -336,9 +339,9 @@ unfolding
     t2.number_at t2e.number_bytes t2e.integer_bytes t2e.fixed_bytes tok.tokens_of tok.tokens_from tok.token_at decw.int5_bytes cfffind.locals_words coded_by_lem
 standard-written = refl
 
-standard-cut : cut_of false true standard_font (0x4e ∷ []) (1 ∷ []) [] 1 8192 32768 ≡ subset 0 standard_subset
+standard-cut : cut_of false true standard_font (0x4e ∷ []) (1 ∷ []) [] 1 8192 32768 ≡ subset Renumbered standard_subset
 unfolding cut_with
-standard-cut = ap (λ (g : font.Got Program). cut_read work_size false true g (0x4e ∷ []) (1 ∷ []) [] 1 8192 32768) standard-reads ∙ standard-written
+standard-cut = ap (λ (g : Result Program Refusal). cut_read work_size false true g (0x4e ∷ []) (1 ∷ []) [] 1 8192 32768) standard-reads ∙ standard-written
 
 -- the codes in the font, where their glyphs are kept
 standard_32 : kept_meant standard_program (kept_of 3 (1 ∷ [])) (glyph_of standard_program standard_program.coding 32) ≡ named (0x73 ∷ 0x70 ∷ 0x61 ∷ 0x63 ∷ 0x65 ∷ [])
@@ -362,12 +365,12 @@ standard-keyed : cid_keyed standard_program.top ≡ false
 unfolding last_of last_from
 standard-keyed = refl
 
-standard-codes : (q : Program) × (font.read_font standard_subset ≡ got q)
+standard-codes : (q : Program) × (font.read_font standard_subset ≡ Ok q)
     × (meant q (glyph_of q q.coding 32) ≡ named (0x73 ∷ 0x70 ∷ 0x61 ∷ 0x63 ∷ 0x65 ∷ []))
     × (meant q (glyph_of q q.coding 44) ≡ nothing)
     × (meant q (glyph_of q q.coding 0) ≡ named (0x2e ∷ 0x6e ∷ 0x6f ∷ 0x74 ∷ 0x64 ∷ 0x65 ∷ 0x66 ∷ []))
 standard-codes =
-    let keeps : KeepsCodes true standard_font (1 ∷ []) (subset 0 standard_subset)
+    let keeps : KeepsCodes true standard_font (1 ∷ []) (subset Renumbered standard_subset)
     = subst (KeepsCodes true standard_font (1 ∷ [])) standard-cut
     (codes-back work_size false true standard_font (0x4e ∷ []) (1 ∷ []) [] 1 8192 32768 (octets_of standard_font standard_octets) none_octets) in
     let k = keeps refl standard_program standard-reads standard-keyed in

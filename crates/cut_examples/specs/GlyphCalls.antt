@@ -1,5 +1,5 @@
 -- Worked examples, computed: glyphs of document 01's sheet and of a small CID-keyed font, and many names and CIDs.
-use Rattle.std.specs.Prelude.{ℕ, ◌≡◌, refl, List, [], ◌∷◌, ◌++◌}
+use Rattle.std.specs.Prelude.{ℕ, ◌≡◌, refl, List, [], ◌∷◌, ◌++◌, Err}
 use Rattle.octets.specs.Octets.{be, num_at, put}
 use Rattle.octets.specs.Lists.{all_below, sum_of}
 use Rattle.index.specs.Index.{offsets, run_of, judged, data_at, table_at, index_at, pieces, items_of, told as toldIndex, read_index}
@@ -18,8 +18,9 @@ use Rattle.find.specs.Find.{glyph_with_id, glyph_with_text}
 use Rattle.opentype.specs.Opentype.{place_of}
 use Rattle.cff.specs.Font.{locals_at, private_data, private_at, privates_at, ids_at, fds_at, coding_at, encoding_got, cid_parts, name_parts, font_at, fonts_at, set_at, read_table, read_font}
 use Rattle.cff.specs.Examples.{sheet}
-use Rattle.glyph_entries.specs.Glyph.{refused, told, glyph_in, glyph_of, within, number_of, leaves_name}
+use Rattle.glyph_entries.specs.Glyph.{refused, told, glyph_in, glyph_of, within, result_of, leaves_name}
 use Rattle.find_many.specs.Many.{refused as refusedMany, found, names_by, names_in, names_found, cids_found}
+use Rattle.refusal.specs.declared.Refusal.TheVariants.{Truncated, NoSuchNumber, Output}
 
 -- the name space
 abbrev space : List ℕ
@@ -50,7 +51,7 @@ unfolding
 sheet-space = refl
 
 -- there is no glyph 2
-sheet-past : glyph_of (read_font sheet) 2 ≡ refused 6
+sheet-past : glyph_of (read_font sheet) 2 ≡ refused NoSuchNumber
 unfolding
     read_font read_table place_of set_at fonts_at font_at name_parts private_at ids_at coding_at encoding_got read_index toldIndex index_at table_at data_at run_of judged offsets pieces items_of
     num_at be dict_of gathered readings_at readings_from entry_at entry_from token_at operator_at number_at real_at normal zeros zeros_of stripped last_of last_from trunc_of list_of glyph_in
@@ -69,7 +70,7 @@ space-written : leaves_name (within (told space (0 ∷ 1 ∷ 0 ∷ 5 ∷ [])) 6 
 unfolding put
 space-written = refl
 
-space_refused : number_of (within (told space (0 ∷ 1 ∷ 0 ∷ 5 ∷ [])) 4 4) ≡ 11
+space_refused : result_of (within (told space (0 ∷ 1 ∷ 0 ∷ 5 ∷ [])) 4 4) ≡ Err Output
 space_refused = refl
 
 -- ---- many
@@ -83,7 +84,7 @@ unfolding
 two-names = refl
 
 -- a name of six bytes does not stand in five
-long_name : names_found (read_font sheet) space (6 ∷ []) ≡ refusedMany 1
+long_name : names_found (read_font sheet) space (6 ∷ []) ≡ refusedMany Truncated
 unfolding
     read_font read_table place_of set_at fonts_at font_at name_parts private_at ids_at coding_at encoding_got read_index toldIndex index_at table_at data_at run_of judged offsets pieces items_of
     num_at be dict_of gathered readings_at readings_from entry_at entry_from token_at operator_at number_at real_at normal zeros zeros_of stripped last_of last_from trunc_of list_of sum_of

@@ -1,14 +1,14 @@
 -- Worked examples, computed: TN5176's own, document 01's ('Corners in write.rs', 'Entries and their refusals'), and each point on which
 -- the text of a real could be read in two ways.
-use Rattle.std.specs.Prelude.{ℕ, ◌≡◌, refl, Bool, true, false, List, [], ◌∷◌, ◌++◌, replicate, None, Some}
+use Rattle.std.specs.Prelude.{ℕ, ◌≡◌, refl, Bool, true, false, List, [], ◌∷◌, ◌++◌, replicate, None, Some, Ok, Err}
 use Rattle.octets.specs.Octets.{be, num_at, bytes_of}
 use Rattle.decimal.specs.declared.Decimal.{Decimal}
-use Rattle.decimal.specs.declared.OffsetOf.TheVariants.{Refused, Offset}
 use Rattle.decimal.specs.Decimal.{nought, zeros_of, zeros, stripped, normal}
 use Rattle.decimal.specs.Real.{nibbles, text_of, exp_digits, exponent, mantissa, form_of, value_of}
 use Rattle.decimal.specs.Number.{Number, refused, not_number, number, real_at, number_at}
 use Rattle.decimal.specs.Values.{trunc_of, clamped, i32_of, id_of, offset_of, is_two}
 use Rattle.decimal.specs.Written.{int5_bytes, int_bytes, digits_of, width_in, width_of, bare_text, real_text, packed, real_bytes, number_bytes}
+use Rattle.refusal.specs.declared.Refusal.TheVariants.{Truncated, Malformed, Real}
 
 -- a decimal, its sign first
 abbrev dec : Bool → ℕ → ℕ → ℕ → Decimal
@@ -41,10 +41,10 @@ note_integers = (refl, refl, refl, refl, refl, refl, refl, refl, refl)
 
 -- what is cut off is truncated; an operator, 22 to 27, 31 and 255 are no numbers
 no_integers :
-    (at-start (0x1c ∷ 0x00 ∷ []) ≡ refused 1)
-    × (at-start (0x1d ∷ 0x00 ∷ 0x00 ∷ 0x00 ∷ []) ≡ refused 1)
-    × (at-start (0xf7 ∷ []) ≡ refused 1)
-    × (at-start (0xfb ∷ []) ≡ refused 1)
+    (at-start (0x1c ∷ 0x00 ∷ []) ≡ refused Truncated)
+    × (at-start (0x1d ∷ 0x00 ∷ 0x00 ∷ 0x00 ∷ []) ≡ refused Truncated)
+    × (at-start (0xf7 ∷ []) ≡ refused Truncated)
+    × (at-start (0xfb ∷ []) ≡ refused Truncated)
     × (at-start (0x00 ∷ []) ≡ not_number)
     × (at-start (0x16 ∷ []) ≡ not_number)
     × (at-start (0x1f ∷ []) ≡ not_number)
@@ -60,10 +60,10 @@ points :
     × (at-start (0x1e ∷ 0xff ∷ []) ≡ number nought 2)
     × (at-start (0x1e ∷ 0xe0 ∷ 0xff ∷ []) ≡ number nought 3)
     × (at-start (0x1e ∷ 0xea ∷ 0x0f ∷ []) ≡ number nought 3)
-    × (at-start (0x1e ∷ 0xaf ∷ []) ≡ refused 2)
-    × (at-start (0x1e ∷ 0xef ∷ []) ≡ refused 2)
-    × (at-start (0x1e ∷ 0x5a ∷ 0xa5 ∷ 0xff ∷ []) ≡ refused 2)
-    × (at-start (0x1e ∷ 0x5e ∷ 0xff ∷ []) ≡ refused 2)
+    × (at-start (0x1e ∷ 0xaf ∷ []) ≡ refused Malformed)
+    × (at-start (0x1e ∷ 0xef ∷ []) ≡ refused Malformed)
+    × (at-start (0x1e ∷ 0x5a ∷ 0xa5 ∷ 0xff ∷ []) ≡ refused Malformed)
+    × (at-start (0x1e ∷ 0x5e ∷ 0xff ∷ []) ≡ refused Malformed)
 unfolding be num_at zeros_of zeros stripped normal nibbles text_of exp_digits exponent mantissa form_of value_of real_at number_at
 points = (refl, refl, refl, refl, refl, refl, refl, refl, refl, refl)
 
@@ -73,24 +73,24 @@ exponents :
     × (at-start (0x1e ∷ 0x1c ∷ 0x2f ∷ []) ≡ number (dec false 1 0 2) 3)
     × (at-start (0x1e ∷ 0x1b ∷ 0xe2 ∷ 0xff ∷ []) ≡ number (dec false 1 0 2) 4)
     × (at-start (0x1e ∷ 0x5a ∷ 0xb2 ∷ 0xff ∷ []) ≡ number (dec false 5 2 0) 4)
-    × (at-start (0x1e ∷ 0x1c ∷ 0xe2 ∷ 0xff ∷ []) ≡ refused 2)
-    × (at-start (0x1e ∷ 0xb5 ∷ 0xff ∷ []) ≡ refused 2)
-    × (at-start (0x1e ∷ 0xc5 ∷ 0xff ∷ []) ≡ refused 2)
-    × (at-start (0x1e ∷ 0xab ∷ 0x5f ∷ []) ≡ refused 2)
-    × (at-start (0x1e ∷ 0x1b ∷ 0xff ∷ []) ≡ refused 2)
-    × (at-start (0x1e ∷ 0x1c ∷ 0xff ∷ []) ≡ refused 2)
-    × (at-start (0x1e ∷ 0x1b ∷ 0xef ∷ []) ≡ refused 2)
-    × (at-start (0x1e ∷ 0x1b ∷ 0x2a ∷ 0xff ∷ []) ≡ refused 2)
+    × (at-start (0x1e ∷ 0x1c ∷ 0xe2 ∷ 0xff ∷ []) ≡ refused Malformed)
+    × (at-start (0x1e ∷ 0xb5 ∷ 0xff ∷ []) ≡ refused Malformed)
+    × (at-start (0x1e ∷ 0xc5 ∷ 0xff ∷ []) ≡ refused Malformed)
+    × (at-start (0x1e ∷ 0xab ∷ 0x5f ∷ []) ≡ refused Malformed)
+    × (at-start (0x1e ∷ 0x1b ∷ 0xff ∷ []) ≡ refused Malformed)
+    × (at-start (0x1e ∷ 0x1c ∷ 0xff ∷ []) ≡ refused Malformed)
+    × (at-start (0x1e ∷ 0x1b ∷ 0xef ∷ []) ≡ refused Malformed)
+    × (at-start (0x1e ∷ 0x1b ∷ 0x2a ∷ 0xff ∷ []) ≡ refused Malformed)
 unfolding be num_at zeros_of zeros stripped normal nibbles text_of exp_digits exponent mantissa form_of value_of real_at number_at
 exponents = (refl, refl, refl, refl, refl, refl, refl, refl, refl, refl, refl, refl)
 
 -- `d` is malformed at once, even where the bytes then end; else the end must come; the nibble after the end does not matter
 ends :
-    (at-start (0x1e ∷ 0x1d ∷ []) ≡ refused 2)
-    × (at-start (0x1e ∷ 0xd1 ∷ []) ≡ refused 2)
-    × (at-start (0x1e ∷ []) ≡ refused 1)
-    × (at-start (0x1e ∷ 0x12 ∷ []) ≡ refused 1)
-    × (at-start (0x1e ∷ 0xaa ∷ []) ≡ refused 1)
+    (at-start (0x1e ∷ 0x1d ∷ []) ≡ refused Malformed)
+    × (at-start (0x1e ∷ 0xd1 ∷ []) ≡ refused Malformed)
+    × (at-start (0x1e ∷ []) ≡ refused Truncated)
+    × (at-start (0x1e ∷ 0x12 ∷ []) ≡ refused Truncated)
+    × (at-start (0x1e ∷ 0xaa ∷ []) ≡ refused Truncated)
     × (at-start (0x1e ∷ 0xf0 ∷ []) ≡ number nought 2)
     × (at-start (0x1e ∷ 0x1f ∷ []) ≡ number (dec false 1 0 0) 2)
     × (at-start (0x1e ∷ 0x12 ∷ 0xfd ∷ []) ≡ number (dec false 12 0 0) 3)
@@ -100,13 +100,13 @@ ends = (refl, refl, refl, refl, refl, refl, refl, refl)
 -- 15 digits pass and 16 do not, zeros at either end dropped; powers of ten from -30 to 30; zero passes with any exponent
 limits :
     (at-start (0x1e ∷ 0x12 ∷ 0x34 ∷ 0x56 ∷ 0x78 ∷ 0x90 ∷ 0x12 ∷ 0x34 ∷ 0x5f ∷ []) ≡ number (dec false 123456789012345 0 0) 9)
-    × (at-start (0x1e ∷ 0x12 ∷ 0x34 ∷ 0x56 ∷ 0x78 ∷ 0x90 ∷ 0x12 ∷ 0x34 ∷ 0x56 ∷ 0xff ∷ []) ≡ refused 5)
+    × (at-start (0x1e ∷ 0x12 ∷ 0x34 ∷ 0x56 ∷ 0x78 ∷ 0x90 ∷ 0x12 ∷ 0x34 ∷ 0x56 ∷ 0xff ∷ []) ≡ refused Real)
     × (at-start (0x1e ∷ 0x00 ∷ 0x12 ∷ 0x34 ∷ 0x56 ∷ 0x78 ∷ 0x90 ∷ 0x12 ∷ 0x34 ∷ 0x50 ∷ 0x0f ∷ []) ≡ number (dec false 123456789012345 2 0) 11)
     × (at-start (0x1e ∷ 0x1b ∷ 0x30 ∷ 0xff ∷ []) ≡ number (dec false 1 30 0) 4)
-    × (at-start (0x1e ∷ 0x1b ∷ 0x31 ∷ 0xff ∷ []) ≡ refused 5)
-    × (at-start (0x1e ∷ 0x10 ∷ 0xb3 ∷ 0x0f ∷ []) ≡ refused 5)
+    × (at-start (0x1e ∷ 0x1b ∷ 0x31 ∷ 0xff ∷ []) ≡ refused Real)
+    × (at-start (0x1e ∷ 0x10 ∷ 0xb3 ∷ 0x0f ∷ []) ≡ refused Real)
     × (at-start (0x1e ∷ 0x1c ∷ 0x30 ∷ 0xff ∷ []) ≡ number (dec false 1 0 30) 4)
-    × (at-start (0x1e ∷ 0x1c ∷ 0x31 ∷ 0xff ∷ []) ≡ refused 5)
+    × (at-start (0x1e ∷ 0x1c ∷ 0x31 ∷ 0xff ∷ []) ≡ refused Real)
     × (at-start (0x1e ∷ 0x10 ∷ 0xc3 ∷ 0x1f ∷ []) ≡ number (dec false 1 0 30) 4)
     × (at-start (0x1e ∷ 0x0b ∷ 0x99 ∷ 0x99 ∷ 0x99 ∷ 0xff ∷ []) ≡ number nought 6)
     × (at-start (0x1e ∷ 0x0c ∷ 0x99 ∷ 0x99 ∷ 0x99 ∷ 0x99 ∷ 0xff ∷ []) ≡ number nought 7)
@@ -117,10 +117,10 @@ limits = (refl, refl, refl, refl, refl, refl, refl, refl, refl, refl, refl)
 lengths :
     (at-start (0x1e ∷ (replicate 31 0x00 ++ (0x0f ∷ []))) ≡ number nought 33)
     × (at-start (0x1e ∷ (replicate 31 0x00 ++ (0x1f ∷ []))) ≡ number (dec false 1 0 0) 33)
-    × (at-start (0x1e ∷ (replicate 32 0x00 ++ (0xff ∷ []))) ≡ refused 5)
-    × (at-start (0x1e ∷ (replicate 32 0x00 ++ (0x0f ∷ []))) ≡ refused 5)
-    × (at-start (0x1e ∷ (replicate 32 0x00 ++ (0xef ∷ []))) ≡ refused 2)
-    × (at-start (0x1e ∷ (replicate 40 0x00 ++ (0xd0 ∷ []))) ≡ refused 2)
+    × (at-start (0x1e ∷ (replicate 32 0x00 ++ (0xff ∷ []))) ≡ refused Real)
+    × (at-start (0x1e ∷ (replicate 32 0x00 ++ (0x0f ∷ []))) ≡ refused Real)
+    × (at-start (0x1e ∷ (replicate 32 0x00 ++ (0xef ∷ []))) ≡ refused Malformed)
+    × (at-start (0x1e ∷ (replicate 40 0x00 ++ (0xd0 ∷ []))) ≡ refused Malformed)
 unfolding be num_at zeros_of zeros stripped normal nibbles text_of exp_digits exponent mantissa form_of value_of real_at number_at
 lengths = (refl, refl, refl, refl, refl, refl)
 
@@ -165,10 +165,10 @@ values :
     × (i32_of (dec true 5 0 1) ≡ record { neg = false; size = 0 })
     × (i32_of (dec true 1 30 0) ≡ record { neg = true; size = 2147483648 })
     × (i32_of (dec false 1 30 0) ≡ record { neg = false; size = 2147483647 })
-    × (offset_of (dec false 15 0 1) ≡ Refused 2)
-    × (offset_of (dec true 1 0 0) ≡ Refused 2)
-    × (offset_of nought ≡ Offset 0)
-    × (offset_of (dec false 1 30 0) ≡ Offset 4294967296)
+    × (offset_of (dec false 15 0 1) ≡ Err Malformed)
+    × (offset_of (dec true 1 0 0) ≡ Err Malformed)
+    × (offset_of nought ≡ Ok 0)
+    × (offset_of (dec false 1 30 0) ≡ Ok 4294967296)
     × (is_two (dec false 2 0 0) ≡ true)
     × (is_two (dec true 2 0 0) ≡ false)
     × (is_two (dec false 2 1 0) ≡ false)

@@ -1,51 +1,39 @@
 -- `number_at` by its cases: what the first byte and the bytes left say.
-use Rattle.std.specs.Prelude.{ℕ, ◌+◌, ◌-◌, ◌*◌, ◌≤◌, ◌<◌, ◌≡◌, Bool, true, false, List, ltb, length, get_or}
+use Rattle.std.specs.Prelude.{ℕ, ◌+◌, ◌-◌, ◌*◌, ◌≤◌, ◌<◌, ◌≡◌, Bool, true, false, List, ltb, length, get_or, Result, Ok, Err, Option, None}
 use Rattle.std.proofs.Common.{sym, ap, ◌∙◌, arith}
 use borrow.Author.Tests.{lt-ltb, le-ltb, eq-eqb, ne_eqb}
 use Rattle.octets.specs.Pick.{pick}
 use Rattle.octets.specs.Octets.{num_at}
-use Rattle.decimal.specs.declared.NumberAt.{NumberAt}
-use Rattle.decimal.specs.declared.NumberAt.TheVariants.{Refused, NotNumber, Num}
 use Rattle.decimal.specs.Decimal.{normal}
-use Rattle.decimal.specs.Number.{Number, refused, not_number, number, integer_at, twos_at, pair_at, real_at, number_at, answer_of}
+use Rattle.decimal.specs.Number.{Number, refused, not_number, number, integer_at, twos_at, pair_at, real_at, number_at, a_number, answer_of}
+use Rattle.decimal.specs.declared.NumberAt.{NumberAt}
+use Rattle.refusal.specs.declared.Refusal.{Refusal}
+use Rattle.refusal.specs.declared.Refusal.TheVariants.{Truncated}
 
 module _ (b : List ℕ) (at : ℕ) where
-  pub integer-cut : (width : ℕ) (s : Bool) (n : ℕ) → length b < at + width → integer_at b at width s n ≡ refused 1
+  pub integer-cut : (width : ℕ) (s : Bool) (n : ℕ) → length b < at + width → integer_at b at width s n ≡ refused Truncated
   integer-cut width s n h = rw (lt-ltb (length b) (at + width) h)
 
   pub integer-got : (width : ℕ) (s : Bool) (n : ℕ) → at + width ≤ length b → integer_at b at width s n ≡ number (normal s n 0 0) (at + width)
   integer-got width s n h = rw (le-ltb (length b) (at + width) h)
 
-  twos_cut : (width half v : ℕ) → length b < at + width → twos_at b at width half v ≡ refused 1
+  twos_cut : (width half v : ℕ) → length b < at + width → twos_at b at width half v ≡ refused Truncated
   twos_cut width half v h = both (ltb v half) (integer-cut width false v h) (integer-cut width true (half * 2 - v) h)
     where
-      both : (t : Bool) {x y : Number} → x ≡ refused 1 → y ≡ refused 1 → pick t x y ≡ refused 1
+      both : (t : Bool) {x y : Number} → x ≡ refused Truncated → y ≡ refused Truncated → pick t x y ≡ refused Truncated
       both true e f = e
       both false e f = f
 
-  twos_got : (width half v next : ℕ) (r : NumberAt) → at + width ≤ length b
-      → r ≡ pick (ltb v half) (Num (normal false v 0 0) (at + width)) (Num (normal true (half * 2 - v) 0 0) (at + width))
+  twos_got : (width half v next : ℕ) (r : Result (Option NumberAt) Refusal) → at + width ≤ length b
+      → r ≡ pick (ltb v half) (a_number (normal false v 0 0) (at + width)) (a_number (normal true (half * 2 - v) 0 0) (at + width))
       → r ≡ answer_of (twos_at b at width half v)
   twos_got width half v next r h e = e ∙ both (ltb v half) (integer-got width false v h) (integer-got width true (half * 2 - v) h)
     where
-      both : (t : Bool) {x y : Number} {d e : _} {n : ℕ} → x ≡ number d n → y ≡ number e n → pick t (Num d n) (Num e n) ≡ answer_of (pick t x y)
+      both : (t : Bool) {x y : Number} {d e : _} {n : ℕ} → x ≡ number d n → y ≡ number e n → pick t (a_number d n) (a_number e n) ≡ answer_of (pick t x y)
       both true e f = ap answer_of (sym e)
       both false e f = ap answer_of (sym f)
 
   -- ---- two bytes
-  pub pair-cut : (v : ℕ) → length b - at < 2 → at < length b → Refused 1 ≡ answer_of (pair_at b at v)
-  pair-cut v h k = both (ltb v 251) (integer-cut 2 false _ (omega arith)) (integer-cut 2 true _ (omega arith))
-    where
-      both : (t : Bool) {x y : Number} → x ≡ refused 1 → y ≡ refused 1 → Refused 1 ≡ answer_of (pick t x y)
-      both true e f = ap answer_of (sym e)
-      both false e f = ap answer_of (sym f)
-
-  pub pair-up : (v w : ℕ) (r : NumberAt) → w ≡ get_or b (at + 1) 0 → 2 ≤ length b - at → v < 251 → r ≡ Num (normal false ((v - 247) * 256 + w + 108) 0 0) (at + 2) → r ≡ answer_of (pair_at b at v)
-  pair-up v w r e h k q = q ∙ rw (lt-ltb v 251 k, integer-got 2 false ((v - 247) * 256 + get_or b (at + 1) 0 + 108) (omega arith), e)
-
-  pub pair-down : (v w : ℕ) (r : NumberAt) → w ≡ get_or b (at + 1) 0 → 2 ≤ length b - at → 251 ≤ v → r ≡ Num (normal true ((v - 251) * 256 + w + 108) 0 0) (at + 2) → r ≡ answer_of (pair_at b at v)
-  pair-down v w r e h k q = q ∙ rw (le-ltb v 251 k, integer-got 2 true ((v - 251) * 256 + get_or b (at + 1) 0 + 108) (omega arith), e)
-
   -- ---- by the first byte
   pub form_28 : get_or b at 0 ≡ 28 → number_at b at ≡ twos_at b at 3 32768 (num_at b (at + 1) 2)
   unfolding number_at
@@ -94,41 +82,34 @@ module _ (b : List ℕ) (at : ℕ) where
 
   -- ---- the answers
   module _ (v : ℕ) (e : v ≡ get_or b at 0) (i : at < length b) where
-    pub cut_28 : v ≡ 28 → length b - at < 3 → Refused 1 ≡ answer_of (number_at b at)
+    pub cut_28 : v ≡ 28 → length b - at < 3 → Err Truncated ≡ answer_of (number_at b at)
     cut_28 h k = sym (ap answer_of (form_28 (omega arith) ∙ twos_cut 3 32768 (num_at b (at + 1) 2) (omega arith)))
 
-    pub got_28 : (u : ℕ) (r : NumberAt) → v ≡ 28 → 3 ≤ length b - at → u ≡ num_at b (at + 1) 2
-        → r ≡ pick (ltb u 32768) (Num (normal false u 0 0) (at + 3)) (Num (normal true (65536 - u) 0 0) (at + 3)) → r ≡ answer_of (number_at b at)
+    pub got_28 : (u : ℕ) (r : Result (Option NumberAt) Refusal) → v ≡ 28 → 3 ≤ length b - at → u ≡ num_at b (at + 1) 2
+        → r ≡ pick (ltb u 32768) (a_number (normal false u 0 0) (at + 3)) (a_number (normal true (65536 - u) 0 0) (at + 3)) → r ≡ answer_of (number_at b at)
     got_28 u r h k f q = twos_got 3 32768 u 0 r (omega arith) q ∙ rw (f, form_28 (omega arith))
 
-    pub cut_29 : v ≡ 29 → length b - at < 5 → Refused 1 ≡ answer_of (number_at b at)
+    pub cut_29 : v ≡ 29 → length b - at < 5 → Err Truncated ≡ answer_of (number_at b at)
     cut_29 h k = sym (ap answer_of (form_29 (omega arith) ∙ twos_cut 5 2147483648 (num_at b (at + 1) 4) (omega arith)))
 
-    pub got_29 : (u : ℕ) (r : NumberAt) → v ≡ 29 → 5 ≤ length b - at → u ≡ num_at b (at + 1) 4
-        → r ≡ pick (ltb u 2147483648) (Num (normal false u 0 0) (at + 5)) (Num (normal true (4294967296 - u) 0 0) (at + 5)) → r ≡ answer_of (number_at b at)
+    pub got_29 : (u : ℕ) (r : Result (Option NumberAt) Refusal) → v ≡ 29 → 5 ≤ length b - at → u ≡ num_at b (at + 1) 4
+        → r ≡ pick (ltb u 2147483648) (a_number (normal false u 0 0) (at + 5)) (a_number (normal true (4294967296 - u) 0 0) (at + 5)) → r ≡ answer_of (number_at b at)
     got_29 u r h k f q = twos_got 5 2147483648 u 0 r (omega arith) q ∙ rw (f, form_29 (omega arith))
 
-    pub got_30 : (r : NumberAt) → v ≡ 30 → r ≡ answer_of (real_at b at) → r ≡ answer_of (number_at b at)
+    pub got_30 : (r : Result (Option NumberAt) Refusal) → v ≡ 30 → r ≡ answer_of (real_at b at) → r ≡ answer_of (number_at b at)
     got_30 r h q = q ∙ rw (form_30 (omega arith))
 
-    pub got-none : (v ≡ 28 → ⊥) → (v ≡ 29 → ⊥) → (v ≡ 30 → ⊥) → v < 32 → NotNumber ≡ answer_of (number_at b at)
+    pub got-none : (v ≡ 28 → ⊥) → (v ≡ 29 → ⊥) → (v ≡ 30 → ⊥) → v < 32 → Ok None ≡ answer_of (number_at b at)
     got-none p q r h = rw (form_none (λ z. p (e ∙ z)) (λ z. q (e ∙ z)) (λ z. r (e ∙ z)) (omega arith))
 
-    pub got-below : (r : NumberAt) → 32 ≤ v → v < 139 → r ≡ Num (normal true (139 - v) 0 0) (at + 1) → r ≡ answer_of (number_at b at)
+    pub got-below : (r : Result (Option NumberAt) Refusal) → 32 ≤ v → v < 139 → r ≡ a_number (normal true (139 - v) 0 0) (at + 1) → r ≡ answer_of (number_at b at)
     got-below r h k q = q ∙ rw (form_below (omega arith) (omega arith), integer-got 1 true (139 - get_or b at 0) (omega arith), e)
 
-    pub got-above : (r : NumberAt) → 139 ≤ v → v < 247 → r ≡ Num (normal false (v - 139) 0 0) (at + 1) → r ≡ answer_of (number_at b at)
+    pub got-above : (r : Result (Option NumberAt) Refusal) → 139 ≤ v → v < 247 → r ≡ a_number (normal false (v - 139) 0 0) (at + 1) → r ≡ answer_of (number_at b at)
     got-above r h k q = q ∙ rw (form_above (omega arith) (omega arith), integer-got 1 false (get_or b at 0 - 139) (omega arith), e)
 
-    pub got-pair : (r : NumberAt) → 247 ≤ v → v < 255 → r ≡ answer_of (pair_at b at v) → r ≡ answer_of (number_at b at)
+    pub got-pair : (r : Result (Option NumberAt) Refusal) → 247 ≤ v → v < 255 → r ≡ answer_of (pair_at b at v) → r ≡ answer_of (number_at b at)
     got-pair r h k q = q ∙ rw (form_pair (omega arith) (omega arith), e)
 
-    pub got-high : 255 ≤ v → NotNumber ≡ answer_of (number_at b at)
+    pub got-high : 255 ≤ v → Ok None ≡ answer_of (number_at b at)
     got-high h = rw (form_high (omega arith))
-
--- the two halves of two's complement
-pub twos_low : (v half next : ℕ) (r : NumberAt) → v < half → r ≡ Num (normal false v 0 0) next → r ≡ pick (ltb v half) (Num (normal false v 0 0) next) (Num (normal true (half * 2 - v) 0 0) next)
-twos_low v half next r h e = rw (lt-ltb v half h) e
-
-pub twos_high : (v half next : ℕ) (r : NumberAt) → half ≤ v → r ≡ Num (normal true (half * 2 - v) 0 0) next → r ≡ pick (ltb v half) (Num (normal false v 0 0) next) (Num (normal true (half * 2 - v) 0 0) next)
-twos_high v half next r h e = rw (le-ltb v half h) e

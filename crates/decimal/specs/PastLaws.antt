@@ -1,54 +1,28 @@
 -- Where a number ends: by its first byte alone, a real aside.
-use Rattle.std.specs.Prelude.{ℕ, ◌+◌, ◌-◌, ◌*◌, ◌≤◌, ◌<◌, ◌≡◌, refl, Bool, true, false, List, ltb, length, get_or}
-use Rattle.std.proofs.Common.{sym, ap, ◌∙◌, arith, ltb-true, ltb-false, lt-ltb, le-ltb}
+use Rattle.std.specs.Prelude.{ℕ, ◌+◌, ◌-◌, ◌*◌, ◌≤◌, ◌<◌, ◌≡◌, refl, Bool, true, false, List, ltb, length, get_or, Result, Ok, Err, Option, Some, None}
+use Rattle.std.proofs.Common.{sym, ap, ◌∙◌, arith, ltb-true, ltb-false, le-ltb}
 use Rattle.octets.specs.Pick.{pick}
 use Rattle.octets.specs.Octets.{num_at}
-use Rattle.decimal.specs.declared.Decimal.{Decimal}
-use Rattle.decimal.specs.declared.NumberAt.{NumberAt}
-use Rattle.decimal.specs.declared.NumberAt.TheVariants.{Refused, NotNumber, Num}
-use Rattle.decimal.specs.declared.PastAt.{PastAt}
-use Rattle.decimal.specs.declared.PastAt.TheVariants.{Refused as RefusedPast, NotNumber as NoNumber, Past}
 use Rattle.decimal.specs.Decimal.{normal}
-use Rattle.decimal.specs.Number.{Number, refused, not_number, number, integer_at, twos_at, pair_at, real_at, number_at, answer_of, past_of, past_width}
+use Rattle.decimal.specs.Number.{Number, refused, number, integer_at, twos_at, pair_at, real_at, number_at, past_of, past_width}
 use Rattle.decimal.specs.NumberLaws.{form_28, form_29, form_30, form_none, form_below, form_above, form_pair, form_high}
-
-no : ◌≡◌ {A = ℕ} 0 1 → ⊥
-no h = omega arith
-
--- ---- the answer with the value, taken apart
-
-pub past_refused : (q : Number) (r : NumberAt) (n : ℕ) → r ≡ answer_of q → r ≡ Refused n → RefusedPast n ≡ past_of q
-past_refused (refused m) r n e f = let k : m ≡ n = cc in ap RefusedPast (sym k)
-past_refused not_number r n e f = absurd (no cc)
-past_refused (number d m) r n e f = absurd (no cc)
-
-pub past-none : (q : Number) (r : NumberAt) → r ≡ answer_of q → r ≡ NotNumber → NoNumber ≡ past_of q
-past-none (refused m) r e f = absurd (no cc)
-past-none not_number r e f = refl
-past-none (number d m) r e f = absurd (no cc)
-
-pub past-num : (q : Number) (r : NumberAt) (d : Decimal) (next : ℕ) → r ≡ answer_of q → r ≡ Num d next → Past next ≡ past_of q
-past-num (refused m) r d next e f = absurd (no cc)
-past-num not_number r d next e f = absurd (no cc)
-past-num (number x m) r d next e f = let k : m ≡ next = cc in ap Past (sym k)
+use Rattle.refusal.specs.declared.Refusal.{Refusal}
+use Rattle.refusal.specs.declared.Refusal.TheVariants.{Truncated}
 
 -- ---- so many bytes
 
-both : (t : Bool) (x y : Number) (r : PastAt) → past_of x ≡ r → past_of y ≡ r → past_of (pick t x y) ≡ r
+both : (t : Bool) (x y : Number) (r : Result (Option ℕ) Refusal) → past_of x ≡ r → past_of y ≡ r → past_of (pick t x y) ≡ r
 both true x y r e f = e
 both false x y r e f = f
 
 module _ (b : List ℕ) (at : ℕ) where
-  pub width_cut : (width : ℕ) → at < length b → length b - at < width → RefusedPast 1 ≡ past_width b at width
-  width_cut width h k = rw (lt-ltb (length b) (at + width) (omega arith))
-
-  pub width_got : (width : ℕ) → at < length b → width ≤ length b - at → Past (at + width) ≡ past_width b at width
+  pub width_got : (width : ℕ) → at < length b → width ≤ length b - at → Ok (Some (at + width)) ≡ past_width b at width
   width_got width h k = rw (le-ltb (length b) (at + width) (omega arith))
 
   integer-past : (width : ℕ) (s : Bool) (n : ℕ) → past_of (integer_at b at width s n) ≡ past_width b at width
   integer-past width s n = go (ltb (length b) (at + width))
     where
-      go : (t : Bool) → past_of (pick t (refused 1) (number (normal s n 0 0) (at + width))) ≡ pick t (RefusedPast 1) (Past (at + width))
+      go : (t : Bool) → past_of (pick t (refused Truncated) (number (normal s n 0 0) (at + width))) ≡ pick t (Err Truncated) (Ok (Some (at + width)))
       go true = refl
       go false = refl
 
@@ -72,26 +46,26 @@ module _ (b : List ℕ) (at : ℕ) where
 
   -- ---- by the first byte
   module _ (v : ℕ) (e : v ≡ get_or b at 0) where
-    pub past_28 : (r : PastAt) → v ≡ 28 → r ≡ past_width b at 3 → r ≡ past_of (number_at b at)
+    pub past_28 : (r : Result (Option ℕ) Refusal) → v ≡ 28 → r ≡ past_width b at 3 → r ≡ past_of (number_at b at)
     past_28 r h q = q ∙ sym (ap past_of (form_28 b at (omega arith)) ∙ twos_past 3 32768 (num_at b (at + 1) 2))
 
-    pub past_29 : (r : PastAt) → v ≡ 29 → r ≡ past_width b at 5 → r ≡ past_of (number_at b at)
+    pub past_29 : (r : Result (Option ℕ) Refusal) → v ≡ 29 → r ≡ past_width b at 5 → r ≡ past_of (number_at b at)
     past_29 r h q = q ∙ sym (ap past_of (form_29 b at (omega arith)) ∙ twos_past 5 2147483648 (num_at b (at + 1) 4))
 
-    pub past_30 : (r : PastAt) → v ≡ 30 → r ≡ past_of (real_at b at) → r ≡ past_of (number_at b at)
+    pub past_30 : (r : Result (Option ℕ) Refusal) → v ≡ 30 → r ≡ past_of (real_at b at) → r ≡ past_of (number_at b at)
     past_30 r h q = q ∙ sym (ap past_of (form_30 b at (omega arith)))
 
-    pub past-low : v < 28 → NoNumber ≡ past_of (number_at b at)
+    pub past-low : v < 28 → Ok None ≡ past_of (number_at b at)
     past-low h = sym (ap past_of (form_none b at (λ z. omega arith) (λ z. omega arith) (λ z. omega arith) (omega arith)))
 
-    pub past_31 : v < 32 → (v ≡ 28 → ⊥) → (v ≡ 29 → ⊥) → (v ≡ 30 → ⊥) → NoNumber ≡ past_of (number_at b at)
+    pub past_31 : v < 32 → (v ≡ 28 → ⊥) → (v ≡ 29 → ⊥) → (v ≡ 30 → ⊥) → Ok None ≡ past_of (number_at b at)
     past_31 h p q r = sym (ap past_of (form_none b at (λ z. p (e ∙ z)) (λ z. q (e ∙ z)) (λ z. r (e ∙ z)) (omega arith)))
 
-    pub past_one : at < length b → 32 ≤ v → v < 247 → Past (at + 1) ≡ past_of (number_at b at)
+    pub past_one : at < length b → 32 ≤ v → v < 247 → Ok (Some (at + 1)) ≡ past_of (number_at b at)
     past_one i h k = width_got 1 i (omega arith) ∙ sym (one-past i (omega arith) (omega arith))
 
-    pub past-pair : (r : PastAt) → 247 ≤ v → v < 255 → r ≡ past_width b at 2 → r ≡ past_of (number_at b at)
+    pub past-pair : (r : Result (Option ℕ) Refusal) → 247 ≤ v → v < 255 → r ≡ past_width b at 2 → r ≡ past_of (number_at b at)
     past-pair r h k q = q ∙ sym (ap past_of (form_pair b at (omega arith) (omega arith)) ∙ pair-past (get_or b at 0))
 
-    pub past-high : 255 ≤ v → NoNumber ≡ past_of (number_at b at)
+    pub past-high : 255 ≤ v → Ok None ≡ past_of (number_at b at)
     past-high h = sym (ap past_of (form_high b at (omega arith)))

@@ -1,10 +1,12 @@
 -- A real operand of a DICT: TN5176, section 4, table 5. After the byte 30 stand nibbles: 0 to 9 digits, a the point, b an E, c an E and
 -- a minus, e a minus, f the end; d is not used. It is well formed when Rust's f64 parse takes its text (document 01, 'Entries and
 -- their refusals'), and then within the limits of refusal 5, or refused.
-use Rattle.std.specs.Prelude.{ℕ, ◌+◌, ◌*◌, ◌/◌, ◌%◌, ◌^◌, Bool, true, false, List, [], ◌∷◌, ltb, leb, eqb}
+use Rattle.std.specs.Prelude.{ℕ, ◌+◌, ◌*◌, ◌/◌, ◌%◌, ◌^◌, Bool, true, false, List, [], ◌∷◌, ltb, leb, eqb, Result, Ok, Err}
 use Rattle.octets.specs.Pick.{pick}
 use Rattle.decimal.specs.declared.Decimal.{Decimal}
 use Rattle.decimal.specs.Decimal.{normal}
+use Rattle.refusal.specs.declared.Refusal.{Refusal}
+use Rattle.refusal.specs.declared.Refusal.TheVariants.{Malformed, Real}
 
 -- the nibbles of bytes
 unfoldable pub nibbles : List ℕ → List ℕ
@@ -63,21 +65,16 @@ unfolding mantissa
 form_of [] = form false 0 0 false 0
 form_of (x ∷ xs) = pick (eqb x 14) (mantissa true false false 0 0 xs) (mantissa false false false 0 0 (x ∷ xs))
 
--- a text's number, or its refusal
-pub data Value : Type 0 where
-  refused : ℕ → Value
-  value : Decimal → Value
-
 -- at most 15 digits, and a power of ten from -30 to 30; zero has no digit and no power
-abbrev pub limited : Decimal → Value
+abbrev pub limited : Decimal → Result Decimal Refusal
 limited d =
-    pick (leb (10 ^ 15) d.digits) (refused 5)
-    (pick (ltb 30 d.up) (refused 5)
-    (pick (ltb 30 d.down) (refused 5) (value d)))
+    pick (leb (10 ^ 15) d.digits) (Err Real)
+    (pick (ltb 30 d.up) (Err Real)
+    (pick (ltb 30 d.down) (Err Real) (Ok d)))
 
--- a text of so many nibbles, its end counted: 2 malformed, 5 past a limit
-unfoldable pub value_of : ℕ → Form → Value
+-- a text of so many nibbles, its end counted: malformed, or past a limit
+unfoldable pub value_of : ℕ → Form → Result Decimal Refusal
 unfolding normal
-value_of count bad = refused 2
+value_of count bad = Err Malformed
 value_of count (form s n f es e) =
-    pick (ltb 64 count) (refused 5) (limited (normal s n (pick es 0 e) (pick es (f + e) f)))
+    pick (ltb 64 count) (Err Real) (limited (normal s n (pick es 0 e) (pick es (f + e) f)))

@@ -1,40 +1,28 @@
 -- Laws of reals: the limits of refusal 5 by what the code holds, and a text read to its end.
 use Prim.Native.Nat.{ℕ, ◌+◌, ◌-◌, ◌/◌, ◌^◌, ◌≤◌, ◌<◌, min}
-use Rattle.std.specs.Prelude.{◌≡◌, ◌⊎◌, Bool, ltb, leb}
+use Rattle.std.specs.Prelude.{◌≡◌, ◌⊎◌, Bool, ltb, leb, Result, Ok, Err, Option}
 use Rattle.std.proofs.Math.Path.{refl}
-use Rattle.std.proofs.Common.{sym, ap, ◌∙◌, subst, inl, inr, eq-zero-or-pos, lt_irrefl, arith, lt-ltb, le-ltb, le-leb}
+use Rattle.std.proofs.Common.{sym, ap, ◌∙◌, inl, inr, eq-zero-or-pos, lt_irrefl, arith, lt-ltb, le-ltb, le-leb}
 use Rattle.std.proofs.Math.Bool.{true, false}
-use Rattle.std.proofs.lemmas.Bool.{false≢true, lt-leb}
+use Rattle.std.proofs.lemmas.Bool.{false≢true}
 use Rattle.std.proofs.Math.Decide.{dec_le}
 use Rattle.octets.specs.Pick.{pick}
 use Rattle.decimal.specs.declared.Decimal.{Decimal}
-use Rattle.decimal.specs.declared.NumberAt.{NumberAt}
-use Rattle.decimal.specs.declared.NumberAt.TheVariants.{Refused, Num}
 use Rattle.decimal.specs.declared.Held.{Held}
 use Rattle.decimal.specs.declared.Stage.{Stage}
-use Rattle.decimal.specs.declared.Stage.TheVariants.{Start, Mantissa, Exponent, Power, Malformed}
+use Rattle.decimal.specs.declared.Stage.TheVariants.{Start, Mantissa, Exponent, Power, Malformed as Spoilt}
 use Rattle.decimal.specs.Decimal.{nought, zeros, stripped, scaled, normal}
 use Rattle.decimal.specs.DecimalLaws.{zeros-nought, stripped-nought, stripped_pos, normal-nought, normal_pos}
-use Rattle.decimal.specs.Real.{bad, form, exp_digits, exponent, mantissa, form_of, Value, refused as refusedText, value, limited, value_of}
-use Rattle.decimal.specs.Number.{placed, answer_of}
-use Rattle.decimal.specs.Stage.{begun, in_mantissa, after_e, in_exponent, spoilt, held_of, Few, Finished, Ended, Stopped}
+use Rattle.decimal.specs.Real.{bad, form, exp_digits, exponent, mantissa, form_of, limited, value_of}
+use Rattle.decimal.specs.Number.{placed, a_number, answer_of}
+use Rattle.decimal.specs.Stage.{begun, in_mantissa, after_e, in_exponent, spoilt, held_of, Few, Finished, Ended}
+use Rattle.decimal.specs.declared.NumberAt.{NumberAt}
+use Rattle.refusal.specs.declared.Refusal.{Refusal}
+use Rattle.refusal.specs.declared.Refusal.TheVariants.{Malformed, Real}
 
 -- ---- the limits
 
-module _ (s : Bool) (m a b next : ℕ) (few : m < 10 ^ 15) where
-  pub limited-high : b ≤ a → 30 < a - b → Refused 5 ≡ answer_of (placed next (limited (scaled s m a b)))
-  limited-high h k = rw (lt-leb (10 ^ 15) m few, lt-ltb 30 (a - b) k)
-
-  pub limited-up : b ≤ a → a - b ≤ 30 → Num (record { neg = s; digits = m; up = a - b; down = 0 }) next ≡ answer_of (placed next (limited (scaled s m a b)))
-  limited-up h k = let o : b - a ≡ 0 = omega arith in rw (lt-leb (10 ^ 15) m few, le-ltb 30 (a - b) k, o)
-
-  pub limited-low : a < b → 30 < b - a → Refused 5 ≡ answer_of (placed next (limited (scaled s m a b)))
-  limited-low h k = let o : a - b ≡ 0 = omega arith in rw (lt-leb (10 ^ 15) m few, o, lt-ltb 30 (b - a) k)
-
-  pub limited-down : a < b → b - a ≤ 30 → Num (record { neg = s; digits = m; up = 0; down = b - a }) next ≡ answer_of (placed next (limited (scaled s m a b)))
-  limited-down h k = let o : a - b ≡ 0 = omega arith in rw (lt-leb (10 ^ 15) m few, o, le-ltb 30 (b - a) k)
-
-choice : (t u v : Bool) (d : Decimal) → (u ≡ true) ⊎ (v ≡ true) → pick t (refusedText 5) (pick u (refusedText 5) (pick v (refusedText 5) (value d))) ≡ refusedText 5
+choice : (t u v : Bool) (d : Decimal) → (u ≡ true) ⊎ (v ≡ true) → pick t (Err Real) (pick u (Err Real) (pick v (Err Real) (Ok d))) ≡ Err Real
 choice true u v d h = refl
 choice false true v d h = refl
 choice false false true d h = refl
@@ -42,10 +30,10 @@ choice false false false d (inl h) = absurd (false≢true h)
 choice false false false d (inr h) = absurd (false≢true h)
 
 -- a power past a limit, whatever the digits
-past-high : (s : Bool) (m a b : ℕ) → b + 30 < a → limited (scaled s m a b) ≡ refusedText 5
+past-high : (s : Bool) (m a b : ℕ) → b + 30 < a → limited (scaled s m a b) ≡ Err Real
 past-high s m a b h = choice (leb (10 ^ 15) m) (ltb 30 (a - b)) (ltb 30 (b - a)) (scaled s m a b) (inl (lt-ltb 30 (a - b) (omega arith)))
 
-past-low : (s : Bool) (m a b : ℕ) → a + 30 < b → limited (scaled s m a b) ≡ refusedText 5
+past-low : (s : Bool) (m a b : ℕ) → a + 30 < b → limited (scaled s m a b) ≡ Err Real
 past-low s m a b h = choice (leb (10 ^ 15) m) (ltb 30 (a - b)) (ltb 30 (b - a)) (scaled s m a b) (inr (lt-ltb 30 (b - a) (omega arith)))
 
 -- an exponent that stopped at 1000 is past the limits, as it is
@@ -78,7 +66,7 @@ module _ (h : Held) (es : Bool) (exp bytes next : ℕ) (s : Bool) (n f e k : ℕ
   beh : h.behind ≡ min f 1000
   beh = ap (λ (o : Held). o.behind) eh
 
-  pub finished_long : 32 < bytes → Refused 5 ≡ answer_of (placed next (value_of (k + 1) (form s n f es e)))
+  pub finished_long : 32 < bytes → Err Real ≡ answer_of (placed next (value_of (k + 1) (form s n f es e)))
   unfolding value_of
   finished_long o = rw (lt-ltb 64 (k + 1) (omega arith))
 
@@ -86,10 +74,10 @@ module _ (h : Held) (es : Bool) (exp bytes next : ℕ) (s : Bool) (n f e k : ℕ
   unfolding value_of
   short o = rw (le-ltb 64 (k + 1) (omega arith))
 
-  pub finished-nought : bytes ≤ 32 → h.digits ≡ 0 → Num nought next ≡ answer_of (placed next (value_of (k + 1) (form s n f es e)))
+  pub finished-nought : bytes ≤ 32 → h.digits ≡ 0 → a_number nought next ≡ answer_of (placed next (value_of (k + 1) (form s n f es e)))
   finished-nought o z = go (eq-zero-or-pos n)
     where
-      go : (n ≡ 0) ⊎ (0 < n) → Num nought next ≡ answer_of (placed next (value_of (k + 1) (form s n f es e)))
+      go : (n ≡ 0) ⊎ (0 < n) → a_number nought next ≡ answer_of (placed next (value_of (k + 1) (form s n f es e)))
       go (inl q) = rw (short o, q, normal-nought s (pick es 0 e) (pick es (f + e) f))
       go (inr q) = absurd (lt_irrefl 0 (omega (arith, stripped_pos n q, dig)))
 
@@ -104,10 +92,10 @@ module _ (h : Held) (es : Bool) (exp bytes next : ℕ) (s : Bool) (n f e k : ℕ
   whole-text : bytes ≤ 32 → (h.digits ≡ 0 → ⊥) → value_of (k + 1) (form s n f es e) ≡ limited (scaled s (stripped n) (pick es 0 e + zeros n) (pick es (f + e) f))
   whole-text o z = short o ∙ ap limited (normal_pos s n (pick es 0 e) (pick es (f + e) f) (positive z))
 
-  pub finished_many : bytes ≤ 32 → (h.digits ≡ 0 → ⊥) → 10 ^ 15 ≤ h.digits → Refused 5 ≡ answer_of (placed next (value_of (k + 1) (form s n f es e)))
+  pub finished_many : bytes ≤ 32 → (h.digits ≡ 0 → ⊥) → 10 ^ 15 ≤ h.digits → Err Real ≡ answer_of (placed next (value_of (k + 1) (form s n f es e)))
   finished_many o z m = rw (whole-text o z, le-leb (10 ^ 15) (stripped n) (omega (arith, dig)))
 
-  module _ (o : bytes ≤ 32) (z : h.digits ≡ 0 → ⊥) (m : h.digits < 10 ^ 15) (r : NumberAt) where
+  module _ (o : bytes ≤ 32) (z : h.digits ≡ 0 → ⊥) (m : h.digits < 10 ^ 15) (r : Result (Option NumberAt) Refusal) where
     same_digits : h.digits ≡ stripped n
     same_digits = omega (arith, dig)
 
@@ -127,7 +115,7 @@ module _ (h : Held) (es : Bool) (exp bytes next : ℕ) (s : Bool) (n f e k : ℕ
         rw (same_digits, same-zeros, same-behind, same_sign) (down-same s (stripped n) f (zeros n) e exp l ee) in
         let v : value_of (k + 1) (form s n f es e) ≡ limited (scaled s (stripped n) (0 + zeros n) (f + e)) =
         whole-text o z ∙ ap (λ (y : Bool). limited (scaled s (stripped n) (pick y 0 e + zeros n) (pick y (f + e) f))) t in
-        q ∙ ap (λ (y : Value). answer_of (placed next y)) (w ∙ sym v)
+        q ∙ ap (λ (y : Result Decimal Refusal). answer_of (placed next y)) (w ∙ sym v)
 
     pub finished-up : es ≡ false → r ≡ answer_of (placed next (limited (scaled h.neg h.digits (exp + h.zeros) h.behind))) → r ≡ answer_of (placed next (value_of (k + 1) (form s n f es e)))
     finished-up t q =
@@ -136,14 +124,14 @@ module _ (h : Held) (es : Bool) (exp bytes next : ℕ) (s : Bool) (n f e k : ℕ
         rw (same_digits, same-zeros, same-behind, same_sign) (up_same s (stripped n) f (zeros n) e exp l ee) in
         let v : value_of (k + 1) (form s n f es e) ≡ limited (scaled s (stripped n) (e + zeros n) f) =
         whole-text o z ∙ ap (λ (y : Bool). limited (scaled s (stripped n) (pick y 0 e + zeros n) (pick y (f + e) f))) t in
-        q ∙ ap (λ (y : Value). answer_of (placed next y)) (w ∙ sym v)
+        q ∙ ap (λ (y : Result Decimal Refusal). answer_of (placed next y)) (w ∙ sym v)
 
 -- ---- a text at its end, by the stage that the code found
 
 never : ◌≡◌ {A = ℕ} 0 1 → ⊥
 never h = omega arith
 
-malformed : (next k : ℕ) → Refused 2 ≡ answer_of (placed next (value_of k bad))
+malformed : (next k : ℕ) → Err Malformed ≡ answer_of (placed next (value_of k bad))
 unfolding value_of
 malformed next k = refl
 
@@ -151,7 +139,7 @@ none-few : (k : ℕ) → Few 0 0 k
 none-few k = (omega (arith, zeros-nought), omega arith)
 
 module _ (st : Stage) (bytes next : ℕ) where
-  pub ended_start : (held : Held) (r : NumberAt) → st ≡ Start → held ≡ held_of false 0 0 → Finished bytes next held false 0 r → Ended st bytes next r
+  pub ended_start : (held : Held) (r : Result (Option NumberAt) Refusal) → st ≡ Start → held ≡ held_of false 0 0 → Finished bytes next held false 0 r → Ended st bytes next r
   unfolding form_of
   ended_start held r e q t begun k h c b = t false 0 0 0 k q refl (none-few k) b
   ended_start held r e q t (in_mantissa s any point n f) k h c b = absurd (never cc)
@@ -160,7 +148,7 @@ module _ (st : Stage) (bytes next : ℕ) where
   ended_start held r e q t spoilt k h c b = absurd (never cc)
 
   module _ (any point : Bool) (held : Held) (e : st ≡ Mantissa any point held) where
-    pub ended_mantissa : (r : NumberAt) → any ≡ true → Finished bytes next held false 0 r → Ended st bytes next r
+    pub ended_mantissa : (r : Result (Option NumberAt) Refusal) → any ≡ true → Finished bytes next held false 0 r → Ended st bytes next r
     unfolding mantissa
     ended_mantissa r a t begun k h c b = absurd (never cc)
     ended_mantissa r a t (in_mantissa s any' point' n f) k h c b =
@@ -171,7 +159,7 @@ module _ (st : Stage) (bytes next : ℕ) where
     ended_mantissa r a t (in_exponent s n f es any' q) k h c b = absurd (never cc)
     ended_mantissa r a t spoilt k h c b = absurd (never cc)
 
-    pub ended_bare : any ≡ false → Ended st bytes next (Refused 2)
+    pub ended_bare : any ≡ false → Ended st bytes next (Err Malformed)
     unfolding mantissa
     ended_bare a begun k h c b = absurd (never cc)
     ended_bare a (in_mantissa s any' point' n f) k h c b = let p : any' ≡ false = cc in rw p (malformed next (k + 1))
@@ -179,7 +167,7 @@ module _ (st : Stage) (bytes next : ℕ) where
     ended_bare a (in_exponent s n f es any' q) k h c b = absurd (never cc)
     ended_bare a spoilt k h c b = absurd (never cc)
 
-  pub ended_exponent : (held : Held) → st ≡ Exponent held → Ended st bytes next (Refused 2)
+  pub ended_exponent : (held : Held) → st ≡ Exponent held → Ended st bytes next (Err Malformed)
   unfolding exponent
   ended_exponent held e begun k h c b = absurd (never cc)
   ended_exponent held e (in_mantissa s any point n f) k h c b = absurd (never cc)
@@ -188,7 +176,7 @@ module _ (st : Stage) (bytes next : ℕ) where
   ended_exponent held e spoilt k h c b = absurd (never cc)
 
   module _ (held : Held) (eneg any : Bool) (exp : ℕ) (e : st ≡ Power held eneg any exp) where
-    pub ended_power : (r : NumberAt) → any ≡ true → Finished bytes next held eneg exp r → Ended st bytes next r
+    pub ended_power : (r : Result (Option NumberAt) Refusal) → any ≡ true → Finished bytes next held eneg exp r → Ended st bytes next r
     unfolding exp_digits
     ended_power r a t begun k h c b = absurd (never cc)
     ended_power r a t (in_mantissa s any' point n f) k h c b = absurd (never cc)
@@ -201,7 +189,7 @@ module _ (st : Stage) (bytes next : ℕ) where
         rw (p, u) (t s n f q k v w c b)
     ended_power r a t spoilt k h c b = absurd (never cc)
 
-    pub ended_e : any ≡ false → Ended st bytes next (Refused 2)
+    pub ended_e : any ≡ false → Ended st bytes next (Err Malformed)
     unfolding exp_digits
     ended_e a begun k h c b = absurd (never cc)
     ended_e a (in_mantissa s any' point n f) k h c b = absurd (never cc)
@@ -209,16 +197,9 @@ module _ (st : Stage) (bytes next : ℕ) where
     ended_e a (in_exponent s n f es any' q) k h c b = let p : any' ≡ false = cc in rw p (malformed next (k + 1))
     ended_e a spoilt k h c b = absurd (never cc)
 
-  pub ended_malformed : st ≡ Malformed → Ended st bytes next (Refused 2)
+  pub ended_malformed : st ≡ Spoilt → Ended st bytes next (Err Malformed)
   ended_malformed e begun k h c b = absurd (never cc)
   ended_malformed e (in_mantissa s any point n f) k h c b = absurd (never cc)
   ended_malformed e (after_e s n f) k h c b = absurd (never cc)
   ended_malformed e (in_exponent s n f es any q) k h c b = absurd (never cc)
   ended_malformed e spoilt k h c b = malformed next (k + 1)
-
--- the counts of a stage, by its variant
-pub stopped_as : (st : Stage) (u : Stage) → st ≡ u → Stopped st → Stopped u
-stopped_as st u e h = subst Stopped e h
-
-pub held_stopped : (h : Held) (s : Bool) (n f : ℕ) → h ≡ held_of s n f → (h.zeros ≤ 1000) × (h.behind ≤ 1000)
-held_stopped h s n f e = (omega (arith, ap (λ (o : Held). o.zeros) e), omega (arith, ap (λ (o : Held). o.behind) e))

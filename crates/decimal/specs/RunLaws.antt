@@ -1,9 +1,7 @@
 -- Laws of a real that is read nibble by nibble: what is left gives what the whole gave.
-use Rattle.std.specs.Prelude.{ℕ, suc, ◌+◌, ◌-◌, ◌*◌, ◌/◌, ◌%◌, ◌≤◌, ◌<◌, ◌≡◌, refl, ◌⊎◌, Bool, true, false, List, [], ◌∷◌, ltb, eqb, length, drop, get_or}
+use Rattle.std.specs.Prelude.{ℕ, suc, ◌+◌, ◌-◌, ◌*◌, ◌/◌, ◌%◌, ◌≤◌, ◌<◌, ◌≡◌, refl, ◌⊎◌, Bool, true, false, List, [], ◌∷◌, ltb, eqb, length, drop, get_or, Result, Err, Option}
 use Rattle.std.proofs.Common.{sym, ap, ◌∙◌, subst, inl, inr, eq-zero-or-pos, zero-add, add-one, arith, drop_of_length-le, drop-cons, ltb-true, eq-eqb, ne_eqb}
 use Rattle.octets.specs.Pick.{pick, pick_ind}
-use Rattle.decimal.specs.declared.NumberAt.{NumberAt}
-use Rattle.decimal.specs.declared.NumberAt.TheVariants.{Refused}
 use Rattle.decimal.specs.declared.Stage.{Stage}
 use Rattle.decimal.specs.declared.Stage.TheVariants.{Start}
 use Rattle.decimal.specs.Decimal.{zeros}
@@ -11,6 +9,9 @@ use Rattle.decimal.specs.DecimalLaws.{zeros_ten, zeros-digit, zeros-nought}
 use Rattle.decimal.specs.Real.{nibbles, Text, cut, wrong, text, before, text_of, exp_digits, exponent, mantissa, form_of, value_of}
 use Rattle.decimal.specs.Number.{placed, real_of, real_at, answer_of}
 use Rattle.decimal.specs.Stage.{Exact, begun, in_mantissa, after_e, in_exponent, spoilt, mantissa_step, exponent_step, step_of, form_from, real_from, stage_of, Few, Counted, Ended, Going, Running, Stopped}
+use Rattle.decimal.specs.declared.NumberAt.{NumberAt}
+use Rattle.refusal.specs.declared.Refusal.{Refusal}
+use Rattle.refusal.specs.declared.Refusal.TheVariants.{Truncated, Malformed}
 
 -- ---- a nibble more of the grammar
 
@@ -105,7 +106,7 @@ unfolding text_of
 text-more x xs e f = rw (ne_eqb x 15 e, ne_eqb x 13 f)
 
 module _ (b : List ℕ) (at : ℕ) (st : Stage) (k x : ℕ) (xs : List ℕ) (going : Going b at st k (x ∷ xs)) where
-  going_end : x ≡ 15 → (bytes next : ℕ) (r : NumberAt) → bytes ≡ k / 2 + 1 → next ≡ at + 1 + (k / 2 + 1) → Ended st bytes next r → r ≡ answer_of (real_at b at)
+  going_end : x ≡ 15 → (bytes next : ℕ) (r : Result (Option NumberAt) Refusal) → bytes ≡ k / 2 + 1 → next ≡ at + 1 + (k / 2 + 1) → Ended st bytes next r → r ≡ answer_of (real_at b at)
   going_end e bytes next r h j t =
       let g = going.exact in
       let n : next ≡ at + 1 + ((k + 0) / 2 + 1) = omega arith in
@@ -115,7 +116,7 @@ module _ (b : List ℕ) (at : ℕ) (st : Stage) (k x : ℕ) (xs : List ℕ) (goi
       ∙ ap (λ (q : ℕ). answer_of (placed (at + 1 + ((k + 0) / 2 + 1)) (value_of q (form_from g [])))) (sym m)
       ∙ ap (λ (q : Text). answer_of (real_from g k (at + 1) q)) (sym (text_end x xs e)) ∙ ap answer_of going.rest
 
-  going_wrong : x ≡ 13 → Refused 2 ≡ answer_of (real_at b at)
+  going_wrong : x ≡ 13 → Err Malformed ≡ answer_of (real_at b at)
   going_wrong e = ap (λ (q : Text). answer_of (real_from going.exact k (at + 1) q)) (sym (text_wrong x xs e)) ∙ ap answer_of going.rest
 
   going_on : (x ≡ 15 → ⊥) → (x ≡ 13 → ⊥) → (st' : Stage) → ((g : Exact) → st ≡ stage_of g → st' ≡ stage_of (step_of g x)) → Going b at st' (k + 1) xs
@@ -129,7 +130,7 @@ module _ (b : List ℕ) (at : ℕ) (st : Stage) (k x : ℕ) (xs : List ℕ) (goi
             ∙ ap (real_from going.exact k (at + 1)) (sym (text-more x xs e f)) ∙ going.rest;
       }
 
-going-cut : (b : List ℕ) (at : ℕ) (st : Stage) (k : ℕ) → Going b at st k [] → Refused 1 ≡ answer_of (real_at b at)
+going-cut : (b : List ℕ) (at : ℕ) (st : Stage) (k : ℕ) → Going b at st k [] → Err Truncated ≡ answer_of (real_at b at)
 unfolding text_of
 going-cut b at st k going = ap answer_of going.rest
 
@@ -152,7 +153,7 @@ unfolding nibbles
 no_nibbles b p h = rw (drop_of_length-le b h)
 
 module _ (b : List ℕ) (at p : ℕ) (st : Stage) (run : Running b at st p) where
-  pub running_over : length b ≤ p → Refused 1 ≡ answer_of (real_at b at)
+  pub running_over : length b ≤ p → Err Truncated ≡ answer_of (real_at b at)
   running_over h = going-cut b at st (2 * (p - (at + 1))) (subst (Going b at st (2 * (p - (at + 1)))) (no_nibbles b p h) run.going)
 
   pub running_stopped : Stopped st
@@ -162,12 +163,12 @@ module _ (b : List ℕ) (at p : ℕ) (st : Stage) (run : Running b at st p) wher
     byte : Going b at st (2 * (p - (at + 1))) (v / 16 ∷ v % 16 ∷ nibbles (drop (p + 1) b))
     byte = rw e (subst (Going b at st (2 * (p - (at + 1)))) (next-nibbles b p h) run.going)
 
-    pub high_end : v / 16 ≡ 15 → (r : NumberAt) → Ended st (p - at) (p + 1) r → r ≡ answer_of (real_at b at)
+    pub high_end : v / 16 ≡ 15 → (r : Result (Option NumberAt) Refusal) → Ended st (p - at) (p + 1) r → r ≡ answer_of (real_at b at)
     high_end q r t =
         let l = run.after in
         going_end b at st (2 * (p - (at + 1))) (v / 16) (v % 16 ∷ nibbles (drop (p + 1) b)) byte q (p - at) (p + 1) r (omega arith) (omega arith) t
 
-    pub high_wrong : v / 16 ≡ 13 → Refused 2 ≡ answer_of (real_at b at)
+    pub high_wrong : v / 16 ≡ 13 → Err Malformed ≡ answer_of (real_at b at)
     high_wrong q = going_wrong b at st (2 * (p - (at + 1))) (v / 16) (v % 16 ∷ nibbles (drop (p + 1) b)) byte q
 
     module _ (f : v / 16 ≡ 15 → ⊥) (w : v / 16 ≡ 13 → ⊥) (st' : Stage) (t : (g : Exact) → st ≡ stage_of g → st' ≡ stage_of (step_of g (v / 16))) where
@@ -177,12 +178,12 @@ module _ (b : List ℕ) (at p : ℕ) (st : Stage) (run : Running b at st p) wher
       pub low_stopped : Stopped st'
       low_stopped = subst Stopped (sym half.held) (stops half.exact)
 
-      pub low_end : v % 16 ≡ 15 → (r : NumberAt) → Ended st' (p - at) (p + 1) r → r ≡ answer_of (real_at b at)
+      pub low_end : v % 16 ≡ 15 → (r : Result (Option NumberAt) Refusal) → Ended st' (p - at) (p + 1) r → r ≡ answer_of (real_at b at)
       low_end q r u =
           let l = run.after in
           going_end b at st' (2 * (p - (at + 1)) + 1) (v % 16) (nibbles (drop (p + 1) b)) half q (p - at) (p + 1) r (omega arith) (omega arith) u
 
-      pub low_wrong : v % 16 ≡ 13 → Refused 2 ≡ answer_of (real_at b at)
+      pub low_wrong : v % 16 ≡ 13 → Err Malformed ≡ answer_of (real_at b at)
       low_wrong q = going_wrong b at st' (2 * (p - (at + 1)) + 1) (v % 16) (nibbles (drop (p + 1) b)) half q
 
       pub running_on : (v % 16 ≡ 15 → ⊥) → (v % 16 ≡ 13 → ⊥) → (st'' : Stage) → ((g : Exact) → st' ≡ stage_of g → st'' ≡ stage_of (step_of g (v % 16))) → Running b at st'' (p + 1)

@@ -1,14 +1,16 @@
 -- The grammar of Real.antt (TN5176, section 4, table 5) run nibble by nibble: how far a text was read, exactly, and as much of it as the code holds, whose numbers
 -- stop at a bound past every limit of refusal 5.
-use Rattle.std.specs.Prelude.{ℕ, ◌+◌, ◌-◌, ◌*◌, ◌/◌, ◌^◌, ◌≤◌, ◌<◌, min, ◌≡◌, Bool, true, false, List, [], ltb, eqb, length, drop}
+use Rattle.std.specs.Prelude.{ℕ, ◌+◌, ◌-◌, ◌*◌, ◌/◌, ◌^◌, ◌≤◌, ◌<◌, min, ◌≡◌, Bool, true, false, List, [], ltb, eqb, length, drop, Result, Option}
 use Rattle.octets.specs.Pick.{pick}
-use Rattle.decimal.specs.declared.NumberAt.{NumberAt}
 use Rattle.decimal.specs.declared.Held.{Held}
 use Rattle.decimal.specs.declared.Stage.{Stage}
-use Rattle.decimal.specs.declared.Stage.TheVariants.{Start, Mantissa, Exponent, Power, Malformed}
+use Rattle.decimal.specs.declared.Stage.TheVariants.{Start, Mantissa, Exponent, Power, Malformed as Spoilt}
 use Rattle.decimal.specs.Decimal.{zeros, stripped}
 use Rattle.decimal.specs.Real.{nibbles, Text, cut, wrong, text, Form, bad, form, mantissa, exponent, exp_digits, text_of, form_of, value_of}
 use Rattle.decimal.specs.Number.{Number, refused, placed, real_at, answer_of}
+use Rattle.decimal.specs.declared.NumberAt.{NumberAt}
+use Rattle.refusal.specs.declared.Refusal.{Refusal}
+use Rattle.refusal.specs.declared.Refusal.TheVariants.{Truncated, Malformed}
 
 -- nothing read; within a mantissa; just after an E; within an exponent's digits; malformed. The numbers are those of `mantissa`,
 -- `exponent` and `exp_digits`.
@@ -49,8 +51,8 @@ form_from spoilt xs = bad
 
 -- what the real is that starts at p, by the text that is left after k nibbles
 abbrev pub real_from : Exact → ℕ → ℕ → Text → Number
-real_from g k p cut = refused 1
-real_from g k p wrong = refused 2
+real_from g k p cut = refused Truncated
+real_from g k p wrong = refused Malformed
 real_from g k p (text ns) = placed (p + ((k + length ns) / 2 + 1)) (value_of (k + length ns + 1) (form_from g ns))
 
 -- the digits as the code holds them: without the zeros at their end, and stopped at 16 digits; counts stop at 1000
@@ -63,7 +65,7 @@ stage_of begun = Start
 stage_of (in_mantissa s any point n f) = Mantissa any point (held_of s n f)
 stage_of (after_e s n f) = Exponent (held_of s n f)
 stage_of (in_exponent s n f es any e) = Power (held_of s n f) es any (min e 1000)
-stage_of spoilt = Malformed
+stage_of spoilt = Spoilt
 
 -- no more digits behind the point, and no more zeros at the end, than nibbles were read
 abbrev pub Few : ℕ → ℕ → ℕ → Type 0
@@ -78,13 +80,13 @@ Counted (in_exponent s n f es any e) k = Few n f k
 Counted spoilt k = Unit
 
 -- r answers a well formed text of so many bytes, by what is held of it
-abbrev pub Finished : ℕ → ℕ → Held → Bool → ℕ → NumberAt → Type 0
+abbrev pub Finished : ℕ → ℕ → Held → Bool → ℕ → Result (Option NumberAt) Refusal → Type 0
 Finished bytes next h es exp r =
     (s : Bool) (n f e k : ℕ) → h ≡ held_of s n f → exp ≡ min e 1000 → Few n f k → bytes ≡ k / 2 + 1
     → r ≡ answer_of (placed next (value_of (k + 1) (form s n f es e)))
 
 -- r answers a text of so many bytes that has ended, by its stage
-abbrev pub Ended : Stage → ℕ → ℕ → NumberAt → Type 0
+abbrev pub Ended : Stage → ℕ → ℕ → Result (Option NumberAt) Refusal → Type 0
 Ended st bytes next r =
     (g : Exact) (k : ℕ) → st ≡ stage_of g → Counted g k → bytes ≡ k / 2 + 1
     → r ≡ answer_of (placed next (value_of (k + 1) (form_from g [])))
@@ -108,4 +110,4 @@ Stopped Start = Unit
 Stopped (Mantissa any point h) = (h.zeros ≤ 1000) × (h.behind ≤ 1000)
 Stopped (Exponent h) = Unit
 Stopped (Power h eneg any exp) = (h.zeros ≤ 1000) × (h.behind ≤ 1000) × (exp ≤ 1000)
-Stopped Malformed = Unit
+Stopped Spoilt = Unit

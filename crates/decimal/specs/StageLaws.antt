@@ -1,12 +1,12 @@
 -- Laws of the stages: what the code holds follows what was read, nibble by nibble.
 use Rattle.std.specs.Prelude.{ℕ, zero, suc, ◌+◌, ◌-◌, ◌*◌, ◌%◌, ◌^◌, ◌≤◌, ◌<◌, min, ◌≡◌, refl, ◌⊎◌, Bool, true, false}
-use Rattle.std.proofs.Common.{sym, ap, ◌∙◌, inl, inr, pow-suc, mul_assoc, mul-one, zero-mul, le-mul_of_pos_right, mul-le-mul_right, eq-zero-or-pos, lt_irrefl, not-suc-le-zero, sub-one, arith, lit<, lt-ltb, le-ltb, eq-eqb, ne_eqb}
+use Rattle.std.proofs.Common.{sym, ap, ◌∙◌, inl, inr, pow-suc, mul_assoc, mul-one, zero-mul, le-mul_of_pos_right, mul-le-mul_right, eq-zero-or-pos, lt_irrefl, not-suc-le-zero, sub-one, arith, lit<, lt-ltb, ne_eqb}
 use Rattle.std.proofs.Math.Nat.{pow-succ', pow-le-pow_right}
 use Rattle.std.proofs.Math.Decide.{dec_le}
 use Rattle.octets.specs.Pick.{pick}
 use Rattle.decimal.specs.declared.Held.{Held}
 use Rattle.decimal.specs.declared.Stage.{Stage}
-use Rattle.decimal.specs.declared.Stage.TheVariants.{Start, Mantissa, Exponent, Power, Malformed}
+use Rattle.decimal.specs.declared.Stage.TheVariants.{Mantissa, Exponent}
 use Rattle.decimal.specs.Decimal.{zeros, stripped}
 use Rattle.decimal.specs.DecimalLaws.{ten_pos, zeros_ten, zeros-digit, zeros-nought, stripped_ten, stripped-digit, stripped-nought, stripped-exact, stripped_pos}
 use Rattle.decimal.specs.Stage.{Exact, begun, in_mantissa, after_e, in_exponent, spoilt, mantissa_step, exponent_step, step_of, held_of, stage_of}
@@ -26,19 +26,7 @@ scaled_done n (suc i) m cap e h k = absurd (not-suc-le-zero h)
 
 -- ---- one count more
 
-pub counted_yes : (counts : Bool) (n r : ℕ) → counts ≡ true → r ≡ min (n + 1) 1000 → r ≡ pick counts (min (n + 1) 1000) n
-counted_yes counts n r e h = rw e h
-
 -- ---- one digit more of an exponent
-
-pub exponent-digit : (held : Held) (es : Bool) (exp x r : ℕ) → x < 10 → r ≡ min (exp * 10 + x) 1000
-    → (s : Bool) (n f e : ℕ) → held ≡ held_of s n f → exp ≡ min e 1000 → Power held es true r ≡ stage_of (exponent_step s n f es e x)
-exponent-digit held es exp x r h k s n f e a b =
-    let q : r ≡ min (e * 10 + x) 1000 = omega arith in
-    rw (lt-ltb x 10 h, a, q)
-
-pub exponent_other : (es : Bool) (exp x : ℕ) → 10 ≤ x → (s : Bool) (n f e : ℕ) → Malformed ≡ stage_of (exponent_step s n f es e x)
-exponent_other es exp x h s n f e = rw (le-ltb x 10 h)
 
 -- ---- one digit more of a mantissa
 
@@ -146,69 +134,12 @@ module _ (any point : Bool) (held : Held) (x : ℕ) (s : Bool) (n f : ℕ) (e : 
   pub mantissa-digit : (more : Held) → x < 10 → more ≡ held_of s (n * 10 + x) (pick point (f + 1) f) → Mantissa true point more ≡ stage_of (mantissa_step s any point n f x)
   mantissa-digit more h k = rw (lt-ltb x 10 h, k)
 
-  pub second-point : 10 ≤ x → x ≡ 10 → point ≡ true → Malformed ≡ stage_of (mantissa_step s any point n f x)
-  second-point h k p = rw (le-ltb x 10 h, eq-eqb x 10 k, p)
-
-  pub first-point : 10 ≤ x → x ≡ 10 → point ≡ false → Mantissa any true held ≡ stage_of (mantissa_step s any point n f x)
-  first-point h k p = rw (le-ltb x 10 h, eq-eqb x 10 k, p, e)
-
-  pub e_after : 10 ≤ x → (x ≡ 10 → ⊥) → x ≡ 11 → any ≡ true → Exponent held ≡ stage_of (mantissa_step s any point n f x)
-  e_after h k l p = rw (le-ltb x 10 h, ne_eqb x 10 k, eq-eqb x 11 l, p, e)
-
-  pub e_first : 10 ≤ x → (x ≡ 10 → ⊥) → x ≡ 11 → any ≡ false → Malformed ≡ stage_of (mantissa_step s any point n f x)
-  e_first h k l p = rw (le-ltb x 10 h, ne_eqb x 10 k, eq-eqb x 11 l, p)
-
-  pub e_minus-after : 10 ≤ x → (x ≡ 10 → ⊥) → (x ≡ 11 → ⊥) → x ≡ 12 → any ≡ true → Power held true false 0 ≡ stage_of (mantissa_step s any point n f x)
-  e_minus-after h k l m p = rw (le-ltb x 10 h, ne_eqb x 10 k, ne_eqb x 11 l, eq-eqb x 12 m, p, e)
-
-  pub e_minus-first : 10 ≤ x → (x ≡ 10 → ⊥) → (x ≡ 11 → ⊥) → x ≡ 12 → any ≡ false → Malformed ≡ stage_of (mantissa_step s any point n f x)
-  e_minus-first h k l m p = rw (le-ltb x 10 h, ne_eqb x 10 k, ne_eqb x 11 l, eq-eqb x 12 m, p)
-
-  pub minus-within : 10 ≤ x → (x ≡ 10 → ⊥) → (x ≡ 11 → ⊥) → (x ≡ 12 → ⊥) → Malformed ≡ stage_of (mantissa_step s any point n f x)
-  minus-within h k l m = rw (le-ltb x 10 h, ne_eqb x 10 k, ne_eqb x 11 l, ne_eqb x 12 m)
-
 -- ---- a nibble, by the stage that the code found
 
 never : ◌≡◌ {A = ℕ} 0 1 → ⊥
 never h = omega arith
 
 module _ (st : Stage) (x : ℕ) where
-  pub start-minus : (held : Held) → st ≡ Start → x ≡ 14 → held ≡ held_of true 0 0 → (g : Exact) → st ≡ stage_of g → Mantissa false false held ≡ stage_of (step_of g x)
-  start-minus held e h q begun k = rw (eq-eqb x 14 h) (ap (Mantissa false false) q)
-  start-minus held e h q (in_mantissa s any point n f) k = absurd (never cc)
-  start-minus held e h q (after_e s n f) k = absurd (never cc)
-  start-minus held e h q (in_exponent s n f es any p) k = absurd (never cc)
-  start-minus held e h q spoilt k = absurd (never cc)
-
-  pub start_other : (held : Held) (r : Stage) → st ≡ Start → (x ≡ 14 → ⊥) → held ≡ held_of false 0 0
-      → ((s : Bool) (n f : ℕ) → held ≡ held_of s n f → r ≡ stage_of (mantissa_step s false false n f x))
-      → (g : Exact) → st ≡ stage_of g → r ≡ stage_of (step_of g x)
-  start_other held r e h q t begun k = rw (ne_eqb x 14 h) (t false 0 0 q)
-  start_other held r e h q t (in_mantissa s any point n f) k = absurd (never cc)
-  start_other held r e h q t (after_e s n f) k = absurd (never cc)
-  start_other held r e h q t (in_exponent s n f es any p) k = absurd (never cc)
-  start_other held r e h q t spoilt k = absurd (never cc)
-
-  pub step-mantissa : (any point : Bool) (held : Held) (r : Stage) → st ≡ Mantissa any point held
-      → ((s : Bool) (n f : ℕ) → held ≡ held_of s n f → r ≡ stage_of (mantissa_step s any point n f x))
-      → (g : Exact) → st ≡ stage_of g → r ≡ stage_of (step_of g x)
-  step-mantissa any point held r e t begun k = absurd (never cc)
-  step-mantissa any point held r e t (in_mantissa s any' point' n f) k =
-      let p : any' ≡ any = cc in
-      let q : point' ≡ point = cc in
-      let a : held ≡ held_of s n f = cc in
-      rw (p, q) (t s n f a)
-  step-mantissa any point held r e t (after_e s n f) k = absurd (never cc)
-  step-mantissa any point held r e t (in_exponent s n f es any' q) k = absurd (never cc)
-  step-mantissa any point held r e t spoilt k = absurd (never cc)
-
-  pub exponent-minus : (held : Held) → st ≡ Exponent held → x ≡ 14 → (g : Exact) → st ≡ stage_of g → Power held true false 0 ≡ stage_of (step_of g x)
-  exponent-minus held e h begun k = absurd (never cc)
-  exponent-minus held e h (in_mantissa s any point n f) k = absurd (never cc)
-  exponent-minus held e h (after_e s n f) k = let p : held ≡ held_of s n f = cc in rw (eq-eqb x 14 h, p)
-  exponent-minus held e h (in_exponent s n f es any q) k = absurd (never cc)
-  exponent-minus held e h spoilt k = absurd (never cc)
-
   pub exponent-plus : (held : Held) (r : Stage) → st ≡ Exponent held → (x ≡ 14 → ⊥)
       → ((s : Bool) (n f e : ℕ) → held ≡ held_of s n f → 0 ≡ min e 1000 → r ≡ stage_of (exponent_step s n f false e x))
       → (g : Exact) → st ≡ stage_of g → r ≡ stage_of (step_of g x)
@@ -217,19 +148,3 @@ module _ (st : Stage) (x : ℕ) where
   exponent-plus held r e h t (after_e s n f) k = let p : held ≡ held_of s n f = cc in rw (ne_eqb x 14 h) (t s n f 0 p refl)
   exponent-plus held r e h t (in_exponent s n f es any q) k = absurd (never cc)
   exponent-plus held r e h t spoilt k = absurd (never cc)
-
-  pub step-power : (held : Held) (eneg any : Bool) (exp : ℕ) (r : Stage) → st ≡ Power held eneg any exp
-      → ((s : Bool) (n f e : ℕ) → held ≡ held_of s n f → exp ≡ min e 1000 → r ≡ stage_of (exponent_step s n f eneg e x))
-      → (g : Exact) → st ≡ stage_of g → r ≡ stage_of (step_of g x)
-  step-power held eneg any exp r e t begun k = absurd (never cc)
-  step-power held eneg any exp r e t (in_mantissa s any' point n f) k = absurd (never cc)
-  step-power held eneg any exp r e t (after_e s n f) k = absurd (never cc)
-  step-power held eneg any exp r e t (in_exponent s n f es any' q) k = let p : es ≡ eneg = cc in let a : held ≡ held_of s n f = cc in let b : exp ≡ min q 1000 = cc in rw p (t s n f q a b)
-  step-power held eneg any exp r e t spoilt k = absurd (never cc)
-
-  pub step-malformed : st ≡ Malformed → (g : Exact) → st ≡ stage_of g → Malformed ≡ stage_of (step_of g x)
-  step-malformed e begun k = absurd (never cc)
-  step-malformed e (in_mantissa s any point n f) k = absurd (never cc)
-  step-malformed e (after_e s n f) k = absurd (never cc)
-  step-malformed e (in_exponent s n f es any q) k = absurd (never cc)
-  step-malformed e spoilt k = refl

@@ -1,5 +1,5 @@
 -- A number that was read: it is normalised and within the limits, and it stands within the bytes.
-use Rattle.std.specs.Prelude.{ℕ, ◌+◌, ◌-◌, ◌*◌, ◌/◌, ◌^◌, ◌≤◌, ◌<◌, ◌≡◌, refl, ◌⊎◌, Bool, List, [], ◌∷◌, ltb, leb, eqb, length, drop}
+use Rattle.std.specs.Prelude.{ℕ, ◌+◌, ◌-◌, ◌*◌, ◌/◌, ◌^◌, ◌≤◌, ◌<◌, ◌≡◌, refl, ◌⊎◌, Bool, List, [], ◌∷◌, ltb, leb, eqb, length, drop, Some, Result, Ok, Err}
 use Rattle.std.proofs.Common.{sym, ap, ◌∙◌, subst, inl, inr, eq-zero-or-pos, arith}
 use Rattle.std.proofs.Math.Bool.{true, false}
 use Rattle.std.proofs.Math.ListN.{get_or, length-drop}
@@ -8,11 +8,13 @@ use Rattle.octets.specs.Pick.{pick, pick_ind}
 use Rattle.octets.specs.Octets.{Octets, num_at}
 use Rattle.octets.specs.OctetsLaws.{num-two, num-four}
 use Rattle.decimal.specs.declared.Decimal.{Decimal}
-use Rattle.decimal.specs.declared.NumberAt.TheVariants.{Num}
+use Rattle.decimal.specs.declared.NumberAt.{NumberAt}
 use Rattle.decimal.specs.Decimal.{nought, zeros, stripped, scaled, normal, Normal}
 use Rattle.decimal.specs.DecimalLaws.{stripped-le, zeros-below, normal-nought, normal_pos, normal-again}
-use Rattle.decimal.specs.Real.{nibbles, Text, cut, wrong, text, before, text_of, Form, bad, form, form_of, Value, refused as refusedText, value, limited, value_of}
+use Rattle.decimal.specs.Real.{nibbles, Text, cut, wrong, text, before, text_of, Form, bad, form, form_of, limited, value_of}
 use Rattle.decimal.specs.Number.{Number, refused, not_number, number, integer_at, twos_at, pair_at, placed, real_of, real_at, number_at, answer_of, Taken}
+use Rattle.refusal.specs.declared.Refusal.{Refusal}
+use Rattle.refusal.specs.declared.Refusal.TheVariants.{Truncated, Real}
 
 -- ---- within the limits
 
@@ -34,7 +36,7 @@ whole-normal s n h = go (eq-zero-or-pos n)
         let z : zeros n < 15 = zeros-below n 15 p h in
         bounded (scaled s (stripped n) (0 + zeros n) 0) (normal_pos s n 0 0 p) (omega (arith, stripped-le n), omega arith, omega arith)
 
-limits : (t u v : Bool) (d c : Decimal) → pick t (refusedText 5) (pick u (refusedText 5) (pick v (refusedText 5) (value d))) ≡ value c
+limits : (t u v : Bool) (d c : Decimal) → pick t (Err Real) (pick u (Err Real) (pick v (Err Real) (Ok d))) ≡ Ok c
     → (t ≡ false) × (u ≡ false) × (v ≡ false) × (d ≡ c)
 limits true u v d c e = absurd (no cc)
 limits false true v d c e = absurd (no cc)
@@ -42,7 +44,7 @@ limits false false true d c e = absurd (no cc)
 limits false false false d c e = (refl, refl, refl, cc)
 
 -- a real that was read
-text-normal : (count : ℕ) (f : Form) (d : Decimal) → value_of count f ≡ value d → Normal d
+text-normal : (count : ℕ) (f : Form) (d : Decimal) → value_of count f ≡ Ok d → Normal d
 unfolding value_of
 text-normal count bad d e = absurd (no cc)
 text-normal count (form s n f es e) d q = go (ltb 64 count) q
@@ -50,7 +52,7 @@ text-normal count (form s n f es e) d q = go (ltb 64 count) q
     c : Decimal
     c = normal s n (pick es 0 e) (pick es (f + e) f)
 
-    go : (t : Bool) → pick t (refusedText 5) (limited c) ≡ value d → Normal d
+    go : (t : Bool) → pick t (Err Real) (limited c) ≡ Ok d → Normal d
     go true w = absurd (no cc)
     go false w =
         let l = limits (leb (10 ^ 15) c.digits) (ltb 30 c.up) (ltb 30 c.down) c d w in
@@ -93,13 +95,13 @@ module _ (b : List ℕ) (at : ℕ) where
   integer_sound : (width : ℕ) (s : Bool) (n : ℕ) → 0 < width → (at + width ≤ length b → n < 10 ^ 15) → Sound (integer_at b at width s n)
   unfolding Sound
   integer_sound width s n h k =
-      pick_ind Sound (ltb (length b) (at + width)) (refused 1) (number (normal s n 0 0) (at + width)) (λ t. tt)
+      pick_ind Sound (ltb (length b) (at + width)) (refused Truncated) (number (normal s n 0 0) (at + width)) (λ t. tt)
       (λ t. let w = ltb-false (length b) (at + width) t in record { normal = whole-normal s n (k w); past = omega arith; within = w })
 
-  placed_sound : (next : ℕ) (v : Value) → at < next → next ≤ length b → ((d : Decimal) → v ≡ value d → Normal d) → Sound (placed next v)
+  placed_sound : (next : ℕ) (v : Result Decimal Refusal) → at < next → next ≤ length b → ((d : Decimal) → v ≡ Ok d → Normal d) → Sound (placed next v)
   unfolding Sound
-  placed_sound next (refusedText n) h k f = tt
-  placed_sound next (value d) h k f = record { normal = f d refl; past = h; within = k }
+  placed_sound next (Err n) h k f = tt
+  placed_sound next (Ok d) h k f = record { normal = f d refl; past = h; within = k }
 
   real_sound : (t : Text) → text_of (nibbles (drop (at + 1) b)) ≡ t → Sound (real_of (at + 1) t)
   unfolding Sound
@@ -142,7 +144,9 @@ unfolding Sound
 number-taken b at d next o i e = subst (Sound b at) e (number_sound b at o i)
 
 -- the same, by the code's answer
-pub answer-number : (q : Number) (d : Decimal) (next : ℕ) → Num d next ≡ answer_of q → q ≡ number d next
-answer-number (refused n) d next e = absurd (no cc)
-answer-number not_number d next e = absurd (no cc)
-answer-number (number c n) d next e = cc
+pub answer-number : (q : Number) (t : NumberAt) → Ok (Some t) ≡ answer_of q → q ≡ number t.value t.next
+answer-number (refused n) t e = absurd (no cc)
+answer-number not_number t e = absurd (no cc)
+answer-number (number d next) t e =
+    let k : record { value = d; next = next } ≡ t = cc in
+    ap (λ (u : NumberAt). number u.value u.next) k

@@ -1,10 +1,10 @@
 -- What a DICT's number is taken for (document 01, 'Corners in mod.rs'): fractions are dropped towards zero, as the Rust's casts do.
-use Rattle.std.specs.Prelude.{ℕ, ◌*◌, ◌/◌, ◌^◌, min, Bool, false, ltb, eqb, None, Option, Some}
+use Rattle.std.specs.Prelude.{ℕ, ◌*◌, ◌/◌, ◌^◌, min, Bool, false, ltb, eqb, None, Option, Some, Result, Ok, Err}
 use Rattle.octets.specs.Pick.{pick}
 use Rattle.decimal.specs.declared.Decimal.{Decimal}
 use Rattle.decimal.specs.declared.Signed.{Signed}
-use Rattle.decimal.specs.declared.OffsetOf.{OffsetOf}
-use Rattle.decimal.specs.declared.OffsetOf.TheVariants.{Refused, Offset}
+use Rattle.refusal.specs.declared.Refusal.{Refusal}
+use Rattle.refusal.specs.declared.Refusal.TheVariants.{Malformed}
 
 -- the size with the fraction dropped
 unfoldable pub trunc_of : Decimal → ℕ
@@ -25,8 +25,8 @@ abbrev pub id_of : Decimal → Option ℕ
 id_of d = pick (eqb (trunc_of d) 0) (Some 0) (pick d.neg None (pick (ltb (trunc_of d) 65536) (Some (trunc_of d)) None))
 
 -- an offset: whole and not negative, or malformed; one of 4294967296 or more stands for all that are past every font
-abbrev pub offset_of : Decimal → OffsetOf
-offset_of d = pick d.neg (Refused 2) (pick (eqb d.down 0) (Offset (min (trunc_of d) 4294967296)) (Refused 2))
+abbrev pub offset_of : Decimal → Result ℕ Refusal
+offset_of d = pick d.neg (Err Malformed) (pick (eqb d.down 0) (Ok (min (trunc_of d) 4294967296)) (Err Malformed))
 
 -- exactly 2
 abbrev pub is_two : Decimal → Bool

@@ -7,11 +7,9 @@ pub mod real;
 ghost use Rattle.std.specs.Prelude.{◌≡◌, true, false, ◌+◌, ◌-◌, ◌*◌, ◌/◌, ◌^◌, ◌≤◌, ◌<◌, min, ltb, length, get_or};
 ghost use Rattle.octets.specs.Pick.{pick};
 ghost use Rattle.decimal.specs.Decimal.{normal, Normal};
-ghost use Rattle.decimal.specs.Number.{pair_at, real_at, number_at, answer_of, past_width, past_of};
+ghost use Rattle.decimal.specs.Number.{pair_at, real_at, number_at, a_number, answer_of, past_width, past_of};
 ghost use Rattle.decimal.specs.Values.{trunc_of, clamped, i32_of, id_of, offset_of, is_two};
-ghost use Rattle.decimal.specs.declared.NumberAt.TheVariants.{Num};
 
-use octets::wide;
 use refusal::Refusal;
 
 // ± digits × 10 ^ up / 10 ^ down; normalised, so that two equal numbers are one value.
@@ -23,20 +21,11 @@ pub struct Decimal {
     pub down: usize,
 }
 
-// What stands at a position of a DICT: a refusal's number, no number, or a number and the position after it.
+// A number that was read, and the position after it.
 #[derive(Clone, Copy)]
-pub enum NumberAt {
-    Refused(u8),
-    NotNumber,
-    Num { value: Decimal, next: usize },
-}
-
-// Where the number at a position of a DICT ends: a refusal's number, no number, or the position after it.
-#[derive(Clone, Copy)]
-pub enum PastAt {
-    Refused(u8),
-    NotNumber,
-    Past(usize),
+pub struct NumberAt {
+    pub value: Decimal,
+    pub next: usize,
 }
 
 // A number cut to 32 bits: its sign and its size.
@@ -44,13 +33,6 @@ pub enum PastAt {
 pub struct Signed {
     pub neg: bool,
     pub size: usize,
-}
-
-// An offset, or the refusal's number.
-#[derive(Clone, Copy)]
-pub enum OffsetOf {
-    Refused(u8),
-    Offset(usize),
 }
 
 // The digits of a real so far: without the zeros at their end, how many zeros that were, and how many digits stand behind the point.
@@ -132,17 +114,17 @@ pub fn whole(neg: bool, n: usize) -> Decimal
 }
 
 // The integer with the sign and the size, and the position after it.
-fn integer(neg: bool, size: usize, next: usize) -> NumberAt
-    ensures { result ≡ Num (normal neg size 0 0) next }
+fn integer(neg: bool, size: usize, next: usize) -> Result<Option<NumberAt>, Refusal>
+    ensures { result ≡ a_number (normal neg size 0 0) next }
 {
     let value = whole(neg, size);
-    NumberAt::Num { value, next }
+    Ok(Some(NumberAt { value, next }))
 }
 
 // The integer with the bits v in two's complement, half being the least that is negative.
-fn twos(v: usize, half: usize, next: usize) -> NumberAt
+fn twos(v: usize, half: usize, next: usize) -> Result<Option<NumberAt>, Refusal>
     requires { (half ≤ 2147483648) × (v < half * 2) }
-    ensures { result ≡ pick (ltb v half) (Num (normal false v 0 0) next) (Num (normal true (half * 2 - v) 0 0) next) }
+    ensures { result ≡ pick (ltb v half) (a_number (normal false v 0 0) next) (a_number (normal true (half * 2 - v) 0 0) next) }
 {
     if v < half {
         return integer(false, v, next);
@@ -151,36 +133,36 @@ fn twos(v: usize, half: usize, next: usize) -> NumberAt
 }
 
 // The integer of two bytes whose first, 247 to 254, is v.
-fn pair(d: &[u8], at: usize, v: usize) -> NumberAt
+fn pair(d: &[u8], at: usize, v: usize) -> Result<Option<NumberAt>, Refusal>
     requires { (at < length d.now) × (247 ≤ v) × (v < 255) }
     ensures { result ≡ answer_of (pair_at d.now at v) }
 {
     if d.len() - at < 2 {
-        return NumberAt::Refused(Refusal::TRUNCATED);
+        return Err(Refusal::Truncated);
     }
-    let w = wide(d[at + 1]);
+    let w = usize::from(d[at + 1]);
     if v < 251 {
         return integer(false, (v - 247) * 256 + w + 108, at + 2);
     }
     integer(true, (v - 251) * 256 + w + 108, at + 2)
 }
 
-// The number at a position of a DICT, as in the Rust's `Dict::parse`.
-pub fn number_at(d: &[u8], at: usize) -> NumberAt
+// The number at a position of a DICT, where one stands there, as in the Rust's `Dict::parse`.
+pub fn number_at(d: &[u8], at: usize) -> Result<Option<NumberAt>, Refusal>
     requires { at < length d.now }
     ensures { result ≡ answer_of (number_at d.now at) }
 {
     let left = d.len() - at;
-    let v = wide(d[at]);
+    let v = usize::from(d[at]);
     if v == 28 {
         if left < 3 {
-            return NumberAt::Refused(Refusal::TRUNCATED);
+            return Err(Refusal::Truncated);
         }
         return twos(octets::u16_at(d, at + 1), 32768, at + 3);
     }
     if v == 29 {
         if left < 5 {
-            return NumberAt::Refused(Refusal::TRUNCATED);
+            return Err(Refusal::Truncated);
         }
         return twos(octets::u32_at(d, at + 1), 2147483648, at + 5);
     }
@@ -188,7 +170,7 @@ pub fn number_at(d: &[u8], at: usize) -> NumberAt
         return real::parse_real(d, at);
     }
     if v < 32 {
-        return NumberAt::NotNumber;
+        return Ok(None);
     }
     if v < 139 {
         return integer(true, 139 - v, at + 1);
@@ -199,39 +181,38 @@ pub fn number_at(d: &[u8], at: usize) -> NumberAt
     if v < 255 {
         return pair(d, at, v);
     }
-    NumberAt::NotNumber
+    Ok(None)
 }
 
 // The position after so many bytes, where they are there.
-fn past_bytes(d: &[u8], at: usize, width: usize) -> PastAt
+fn past_bytes(d: &[u8], at: usize, width: usize) -> Result<Option<usize>, Refusal>
     requires { (at < length d.now) × (width ≤ 5) }
     ensures { result ≡ past_width d.now at width }
 {
     if d.len() - at < width {
-        return PastAt::Refused(Refusal::TRUNCATED);
+        return Err(Refusal::Truncated);
     }
-    PastAt::Past(at + width)
+    Ok(Some(at + width))
 }
 
 // The position after a real: its text is read whole, for it may be refused.
-fn past_real(d: &[u8], at: usize) -> PastAt
+fn past_real(d: &[u8], at: usize) -> Result<Option<usize>, Refusal>
     requires { at < length d.now }
     ensures { result ≡ past_of (real_at d.now at) }
 {
-    match real::parse_real(d, at) {
-        NumberAt::Refused(n) => PastAt::Refused(n),
-        NumberAt::NotNumber => PastAt::NotNumber,
-        NumberAt::Num { value: _, next } => PastAt::Past(next),
+    match real::parse_real(d, at)? {
+        None => Ok(None),
+        Some(number) => Ok(Some(number.next)),
     }
 }
 
 // The position after the number whose first byte, below 32, is v.
-fn past_prefixed(d: &[u8], at: usize, v: usize) -> PastAt
+fn past_prefixed(d: &[u8], at: usize, v: usize) -> Result<Option<usize>, Refusal>
     requires { (at < length d.now) × (v ≡ get_or d.now at 0) × (v < 32) }
     ensures { result ≡ past_of (number_at d.now at) }
 {
     if v < 28 {
-        return PastAt::NotNumber;
+        return Ok(None);
     }
     if v == 28 {
         return past_bytes(d, at, 3);
@@ -242,25 +223,25 @@ fn past_prefixed(d: &[u8], at: usize, v: usize) -> PastAt
     if v == 30 {
         return past_real(d, at);
     }
-    PastAt::NotNumber
+    Ok(None)
 }
 
 // Where the number at a position ends: `number_at` without its value, for those who only pass it.
-pub fn past_number(d: &[u8], at: usize) -> PastAt
+pub fn past_number(d: &[u8], at: usize) -> Result<Option<usize>, Refusal>
     requires { at < length d.now }
     ensures { result ≡ past_of (number_at d.now at) }
 {
-    let v = wide(d[at]);
+    let v = usize::from(d[at]);
     if v < 32 {
         return past_prefixed(d, at, v);
     }
     if v < 247 {
-        return PastAt::Past(at + 1);
+        return Ok(Some(at + 1));
     }
     if v < 255 {
         return past_bytes(d, at, 2);
     }
-    PastAt::NotNumber
+    Ok(None)
 }
 
 // m / 10 ^ k.
@@ -378,20 +359,20 @@ pub fn id_of(d: Decimal) -> Option<usize>
 }
 
 // The Rust's `Dict::offset`: whole and not negative, or malformed.
-pub fn offset_of(d: Decimal) -> OffsetOf
+pub fn offset_of(d: Decimal) -> Result<usize, Refusal>
     requires { Normal d }
     ensures { result ≡ offset_of d }
 {
     let neg = d.neg;
     let down = d.down;
     if neg {
-        return OffsetOf::Refused(Refusal::MALFORMED);
+        return Err(Refusal::Malformed);
     }
     if down == 0 {
         let n = trunc(d);
-        return OffsetOf::Offset(n);
+        return Ok(n);
     }
-    OffsetOf::Refused(Refusal::MALFORMED)
+    Err(Refusal::Malformed)
 }
 
 // Exactly 2: the charstring type that is supported.

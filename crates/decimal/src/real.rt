@@ -195,42 +195,50 @@ fn step(stage: Stage, x: usize) -> Stage
 }
 
 // ± digits × 10 ^ up / 10 ^ down, with the position after it; refusal 5 past its powers of ten.
-fn limited(neg: bool, digits: usize, up: usize, down: usize, next: usize) -> NumberAt
+fn limited(
+    neg: bool,
+    digits: usize,
+    up: usize,
+    down: usize,
+    next: usize,
+) -> Result<Option<NumberAt>, Refusal>
     requires { digits < 10 ^ 15 }
     ensures { result ≡ answer_of (placed next (limited (scaled neg digits up down))) }
 {
     if down <= up {
         let over = up - down;
         if 30 < over {
-            return NumberAt::Refused(Refusal::REAL);
+            return Err(Refusal::Real);
         }
-        return NumberAt::Num {
-            value: Decimal {
-                neg,
-                digits,
-                up: over,
-                down: 0,
-            },
-            next,
+        let value = Decimal {
+            neg,
+            digits,
+            up: over,
+            down: 0,
         };
+        return Ok(Some(NumberAt { value, next }));
     }
     let under = down - up;
     if 30 < under {
-        return NumberAt::Refused(Refusal::REAL);
+        return Err(Refusal::Real);
     }
-    NumberAt::Num {
-        value: Decimal {
-            neg,
-            digits,
-            up: 0,
-            down: under,
-        },
-        next,
-    }
+    let value = Decimal {
+        neg,
+        digits,
+        up: 0,
+        down: under,
+    };
+    Ok(Some(NumberAt { value, next }))
 }
 
 // A well formed text of so many bytes: 64 nibbles with the end are 32 bytes.
-fn finished(held: Held, eneg: bool, exp: usize, bytes: usize, next: usize) -> NumberAt
+fn finished(
+    held: Held,
+    eneg: bool,
+    exp: usize,
+    bytes: usize,
+    next: usize,
+) -> Result<Option<NumberAt>, Refusal>
     requires { (held.zeros ≤ 1000) × (held.behind ≤ 1000) × (exp ≤ 1000) }
     ensures { Finished bytes next held eneg exp result }
 {
@@ -239,21 +247,19 @@ fn finished(held: Held, eneg: bool, exp: usize, bytes: usize, next: usize) -> Nu
     let zeros = held.zeros;
     let behind = held.behind;
     if 32 < bytes {
-        return NumberAt::Refused(Refusal::REAL);
+        return Err(Refusal::Real);
     }
     if digits == 0 {
-        return NumberAt::Num {
-            value: Decimal {
-                neg: false,
-                digits: 0,
-                up: 0,
-                down: 0,
-            },
-            next,
+        let value = Decimal {
+            neg: false,
+            digits: 0,
+            up: 0,
+            down: 0,
         };
+        return Ok(Some(NumberAt { value, next }));
     }
     if TOO_MANY <= digits {
-        return NumberAt::Refused(Refusal::REAL);
+        return Err(Refusal::Real);
     }
     if eneg {
         return limited(neg, digits, zeros, behind + exp, next);
@@ -262,7 +268,7 @@ fn finished(held: Held, eneg: bool, exp: usize, bytes: usize, next: usize) -> Nu
 }
 
 // A text that has ended: malformed where the grammar wants more.
-fn ended(stage: Stage, bytes: usize, next: usize) -> NumberAt
+fn ended(stage: Stage, bytes: usize, next: usize) -> Result<Option<NumberAt>, Refusal>
     requires { Stopped stage }
     ensures { Ended stage bytes next result }
 {
@@ -276,9 +282,9 @@ fn ended(stage: Stage, bytes: usize, next: usize) -> NumberAt
             if any {
                 return finished(held, false, 0, bytes, next);
             }
-            NumberAt::Refused(Refusal::MALFORMED)
+            Err(Refusal::Malformed)
         }
-        Stage::Exponent { held: _ } => NumberAt::Refused(Refusal::MALFORMED),
+        Stage::Exponent { held: _ } => Err(Refusal::Malformed),
         Stage::Power {
             held,
             eneg,
@@ -288,14 +294,14 @@ fn ended(stage: Stage, bytes: usize, next: usize) -> NumberAt
             if any {
                 return finished(held, eneg, exp, bytes, next);
             }
-            NumberAt::Refused(Refusal::MALFORMED)
+            Err(Refusal::Malformed)
         }
-        Stage::Malformed => NumberAt::Refused(Refusal::MALFORMED),
+        Stage::Malformed => Err(Refusal::Malformed),
     }
 }
 
 // The Rust's `parse_real`: the real whose first byte, 30, stands at `at`.
-pub fn parse_real(d: &[u8], at: usize) -> NumberAt
+pub fn parse_real(d: &[u8], at: usize) -> Result<Option<NumberAt>, Refusal>
     requires { at < length d.now }
     ensures { result ≡ answer_of (real_at d.now at) }
 {
@@ -307,7 +313,7 @@ pub fn parse_real(d: &[u8], at: usize) -> NumberAt
             return ended(stage, p - at, p + 1);
         }
         if high == 13 {
-            return NumberAt::Refused(Refusal::MALFORMED);
+            return Err(Refusal::Malformed);
         }
         stage = step(stage, high);
         let low = b % 16;
@@ -315,9 +321,9 @@ pub fn parse_real(d: &[u8], at: usize) -> NumberAt
             return ended(stage, p - at, p + 1);
         }
         if low == 13 {
-            return NumberAt::Refused(Refusal::MALFORMED);
+            return Err(Refusal::Malformed);
         }
         stage = step(stage, low);
     }
-    NumberAt::Refused(Refusal::TRUNCATED)
+    Err(Refusal::Truncated)
 }

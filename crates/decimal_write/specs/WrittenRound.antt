@@ -1,5 +1,5 @@
 -- A number that was written reads back, whatever follows it: as an integer, or as a real whose text is the number.
-use Rattle.std.specs.Prelude.{ℕ, zero, suc, ◌+◌, ◌-◌, ◌*◌, ◌/◌, ◌%◌, ◌^◌, ◌≤◌, ◌<◌, ◌≡◌, refl, ◌⊎◌, Bool, true, ltb, eqb, length, drop, get_or}
+use Rattle.std.specs.Prelude.{ℕ, zero, suc, ◌+◌, ◌-◌, ◌*◌, ◌/◌, ◌%◌, ◌^◌, ◌≤◌, ◌<◌, ◌≡◌, refl, ◌⊎◌, Bool, true, ltb, eqb, length, drop, get_or, Ok, Err}
 use Rattle.std.proofs.Common.{sym, ap, ◌∙◌, subst, inl, inr, pow-suc, mod-lt, mod-eq_of_lt, div-add-mod', eq-zero-or-pos, mul_assoc, div-le_self, zero-mul, zero-add, not-suc-le-zero, pos_of_ne-zero, arith, lit<, length-append, lt-ltb, le-ltb, eq-eqb, ne_eqb}
 use Rattle.std.proofs.Math.Bool.{false}
 use mathlib.Core.List.{List, [], ◌∷◌, ◌++◌, append_assoc, append-nil}
@@ -12,7 +12,7 @@ use Rattle.octets.specs.ListLaws.{lies_first}
 use Rattle.decimal.specs.declared.Decimal.{Decimal}
 use Rattle.decimal.specs.Decimal.{normal, Normal}
 use Rattle.decimal.specs.DecimalLaws.{ten_pos, normal-nought, nought_is, normal-last, one_power, whole_done}
-use Rattle.decimal.specs.Real.{nibbles, text, before, text_of, Form, form, mantissa, form_of, refused as refusedText, value, limited, value_of}
+use Rattle.decimal.specs.Real.{nibbles, text, before, text_of, Form, form, mantissa, form_of, limited, value_of}
 use Rattle.decimal.specs.Number.{number, placed, real_of, real_at}
 use Rattle.decimal.specs.NumberLaws.{form_30}
 use Rattle.decimal.specs.RunLaws.{text_end, text-more}
@@ -22,6 +22,7 @@ use Rattle.decimal.specs.Written.{int_bytes, digits_of, width_of, bare_text, rea
 use Rattle.decimal_write.specs.TextLaws.{width_pos, width_within, width_below, length_digits, digit_at, whole_width, with-point, text-neg, text_pos, length-whole-neg, length-whole_pos, length-part-neg, length-part_pos, length-real}
 use Rattle.decimal_write.specs.WrittenLaws.{number_int, number_big, number-part}
 use Rattle.decimal_write.specs.IntRound.{next, Reads, reads_int}
+use Rattle.refusal.specs.declared.Refusal.TheVariants.{Real}
 
 -- an integer is what its size and sign say
 whole_back : (d : Decimal) → Normal d → d.down ≡ 0 → normal d.neg (trunc_of d) 0 0 ≡ d
@@ -188,11 +189,11 @@ form_text d t h = go d.neg refl
 
 -- ---- reals: the limits
 
-limited-normal : (d : Decimal) → Normal d → limited d ≡ value d
+limited-normal : (d : Decimal) → Normal d → limited d ≡ Ok d
 limited-normal d h =
-    ap (λ (t : Bool). pick t (refusedText 5) (pick (ltb 30 d.up) (refusedText 5) (pick (ltb 30 d.down) (refusedText 5) (value d)))) (lt-leb (10 ^ 15) d.digits h.few)
-    ∙ ap (λ (t : Bool). pick t (refusedText 5) (pick (ltb 30 d.down) (refusedText 5) (value d))) (le-ltb 30 d.up h.high)
-    ∙ ap (λ (t : Bool). pick t (refusedText 5) (value d)) (le-ltb 30 d.down h.low)
+    ap (λ (t : Bool). pick t (Err Real) (pick (ltb 30 d.up) (Err Real) (pick (ltb 30 d.down) (Err Real) (Ok d)))) (lt-leb (10 ^ 15) d.digits h.few)
+    ∙ ap (λ (t : Bool). pick t (Err Real) (pick (ltb 30 d.down) (Err Real) (Ok d))) (le-ltb 30 d.up h.high)
+    ∙ ap (λ (t : Bool). pick t (Err Real) (Ok d)) (le-ltb 30 d.down h.low)
 
 -- at most 63 nibbles before the end
 text-short : (d : Decimal) → Normal d → length (real_text d) ≤ 63
@@ -211,18 +212,18 @@ text-short d h = go (eq-zero-or-pos d.down) d.neg refl
     go (inr p) true s = omega (arith, length-part-neg d (width_of (trunc_of d)) refl (λ e. omega arith) s, part p, h.low)
     go (inr p) false s = omega (arith, length-part_pos d (width_of (trunc_of d)) refl (λ e. omega arith) s, part p, h.low)
 
-value-text : (d : Decimal) → Normal d → value_of (length (real_text d) + 1) (form_of (real_text d)) ≡ value d
+value-text : (d : Decimal) → Normal d → value_of (length (real_text d) + 1) (form_of (real_text d)) ≡ Ok d
 unfolding value_of
 value-text d h = go (ℕ_discrete d.down 0)
   where
     l : ltb 64 (length (real_text d) + 1) ≡ false
     l = le-ltb 64 (length (real_text d) + 1) (omega (arith, text-short d h))
 
-    as_form : (n f : ℕ) → form_of (real_text d) ≡ form d.neg n f false 0 → normal d.neg n 0 f ≡ d → value_of (length (real_text d) + 1) (form_of (real_text d)) ≡ value d
+    as_form : (n f : ℕ) → form_of (real_text d) ≡ form d.neg n f false 0 → normal d.neg n 0 f ≡ d → value_of (length (real_text d) + 1) (form_of (real_text d)) ≡ Ok d
     as_form n f e q =
-        ap (value_of (length (real_text d) + 1)) e ∙ ap (λ (t : Bool). pick t (refusedText 5) (limited (normal d.neg n 0 f))) l ∙ ap limited q ∙ limited-normal d h
+        ap (value_of (length (real_text d) + 1)) e ∙ ap (λ (t : Bool). pick t (Err Real) (limited (normal d.neg n 0 f))) l ∙ ap limited q ∙ limited-normal d h
 
-    go : Dec (d.down ≡ 0) → value_of (length (real_text d) + 1) (form_of (real_text d)) ≡ value d
+    go : Dec (d.down ≡ 0) → value_of (length (real_text d) + 1) (form_of (real_text d)) ≡ Ok d
     go (yes e) = as_form (trunc_of d) 0 (form_text d (form d.neg (trunc_of d) 0 false 0) (λ s o. bare-whole d s e ∙ ap (λ (x : Bool). form x (trunc_of d) 0 false 0) o)) (whole_back d h e)
     go (no e) =
         as_form d.digits d.down (form_text d (form d.neg d.digits d.down false 0) (λ s o. bare-part d s h e ∙ ap (λ (x : Bool). form x d.digits d.down false 0) o))

@@ -1,6 +1,6 @@
 -- Laws of looking an entry up: the place that was found holds the operands of the last entry, and what one, two or three operands say.
 use Prim.Native.Nat.{ℕ, zero, suc, ◌+◌, ◌-◌, ◌≤◌, ◌<◌}
-use Rattle.std.specs.Prelude.{◌≡◌, Bool, true, false, not, ltb, eqb, length, get_or, None, Option, Some}
+use Rattle.std.specs.Prelude.{◌≡◌, Bool, true, false, ltb, eqb, length, get_or, None, Option, Some, Result, Ok, Err}
 use Rattle.std.proofs.Math.Path.{refl}
 use Rattle.std.proofs.Common.{sym, ap, ◌∙◌, subst, not-suc-le-zero, add-one, arith, ltb-true, ltb-false}
 use mathlib.Core.List.{List, [], ◌∷◌}
@@ -8,39 +8,29 @@ use Rattle.std.proofs.Math.ListN.{get_or-eq_default}
 use Rattle.octets.specs.Pick.{pick, pick_ind}
 use Rattle.octets.specs.Octets.{Octets}
 use Rattle.decimal.specs.declared.Decimal.{Decimal}
-use Rattle.decimal.specs.declared.NumberAt.{NumberAt}
-use Rattle.decimal.specs.declared.NumberAt.TheVariants.{Refused as RefusedAt, NotNumber, Num}
-use Rattle.decimal.specs.declared.OffsetOf.{OffsetOf}
-use Rattle.decimal.specs.declared.OffsetOf.TheVariants.{Refused as RefusedOffset, Offset}
 use Rattle.decimal.specs.Decimal.{nought, Normal}
 use Rattle.decimal.specs.DecimalLaws.{normal-nought}
-use Rattle.decimal.specs.TakenLaws.{whole-normal, number-taken}
-use Rattle.decimal.specs.Values.{trunc_of, clamped, id_of, offset_of, is_two}
+use Rattle.decimal.specs.TakenLaws.{whole-normal, number-taken, answer-number}
+use Rattle.decimal.specs.Values.{trunc_of}
 use Rattle.decimal.specs.Number.{Number, refused as refusedNumber, not_number, number, number_at, answer_of}
 use Rattle.decimal.specs.NumberLaws.{form_none}
-use Rattle.dict.specs.Dict.{Entry, Reading, stopped, got, entry_at, followed, readings_from, readings_at, entries, before, gathered, dict_of}
-use Rattle.dict.specs.Lookup.{Operands, absent, operands, last_from, last_of, only, one_of, offset_told, offset_as, offset_in, private_as, private_in, id_as, id_in, is_there, ros_as, ros_in, count_as, cid_count_in, stroked_as, stroked_in, type_as, charstring_type_in}
-use Rattle.dict.specs.Op.{private, paint_type, charstring_type, ros, cid_count}
+use Rattle.dict.specs.Dict.{Entry, Reading, stopped, got, entry_at, followed, readings_from, readings_at, before, gathered, dict_of}
+use Rattle.dict.specs.Lookup.{Operands, absent, operands, last_from, last_of, only, one_of, private_as, private_in, id_as, is_there, ros_as, ros_in}
+use Rattle.dict.specs.Op.{private, ros}
 use Rattle.dict.specs.Proper.{AllNormal}
 use Rattle.dict.specs.Places.{refusal_of, listed, entries_of, Good, last_place, place_of, or_none, operands_at, found_at}
 use Rattle.dict.specs.TokenLaws.{Further, further}
 use Rattle.dict.proofs.WalkLaws.{before-refusal}
 use Rattle.dict.specs.EntryLaws.{Entered, entered}
 use Rattle.dict.specs.declared.OperandsAt.{OperandsAt}
-use Rattle.dict.specs.declared.OffsetIn.TheVariants.{Refused as RefusedIn, At, Absent as NoOffset}
-use Rattle.dict.specs.declared.PrivateIn.{PrivateIn}
-use Rattle.dict.specs.declared.PrivateIn.TheVariants.{Refused as RefusedPrivate, Absent as NoPrivate}
 use Rattle.dict.specs.declared.RosEntry.{RosEntry}
+use Rattle.dict.specs.declared.PrivateEntry.{PrivateEntry}
+use Rattle.decimal.specs.declared.NumberAt.{NumberAt}
+use Rattle.refusal.specs.declared.Refusal.{Refusal}
+use Rattle.refusal.specs.declared.Refusal.TheVariants.{Malformed}
 
 no : ◌≡◌ {A = ℕ} 0 1 → ⊥
 no h = omega arith
-
--- ---- a number's answer, taken apart
-
-num_is : (q : Number) (d : Decimal) (next : ℕ) → answer_of q ≡ Num d next → q ≡ number d next
-num_is (refusedNumber m) d next e = absurd (no cc)
-num_is not_number d next e = absurd (no cc)
-num_is (number x m) d next e = let k : x ≡ d = cc in let l : m ≡ next = cc in rw (k, l)
 
 pub number_out : (b : List ℕ) (at : ℕ) → length b ≤ at → number_at b at ≡ not_number
 number_out b at h =
@@ -54,26 +44,23 @@ module _ (b : List ℕ) (at : ℕ) where
   unfolding operands_at
   operands_next n next d e = rw e
 
-  none_told : (n : ℕ) (q : Number) → number_at b at ≡ q → ((d : Decimal) (next : ℕ) → answer_of q ≡ Num d next → ⊥) → operands_at n b at ≡ []
+  none_told : (n : ℕ) (q : Number) → number_at b at ≡ q → ((t : NumberAt) → answer_of q ≡ Ok (Some t) → ⊥) → operands_at n b at ≡ []
   unfolding operands_at
   none_told zero q e f = refl
   none_told (suc n) (refusedNumber m) e f = rw e
   none_told (suc n) not_number e f = rw e
-  none_told (suc n) (number d next) e f = absurd (f d next refl)
+  none_told (suc n) (number d next) e f = absurd (f (record { value = d; next = next }) refl)
 
   -- no number there: no operand
-  pub operands_none : (n : ℕ) (r : NumberAt) → r ≡ answer_of (number_at b at) → ((d : Decimal) (next : ℕ) → r ≡ Num d next → ⊥) → operands_at n b at ≡ []
-  operands_none n r e f = none_told n (number_at b at) refl (λ d next g. f d next (e ∙ g))
+  pub operands_none : (n : ℕ) (r : Result (Option NumberAt) Refusal) → r ≡ answer_of (number_at b at) → ((t : NumberAt) → r ≡ Ok (Some t) → ⊥) → operands_at n b at ≡ []
+  operands_none n r e f = none_told n (number_at b at) refl (λ t g. f t (e ∙ g))
 
   pub operands_out : (n : ℕ) → length b ≤ at → operands_at n b at ≡ []
-  operands_out n h = none_told n not_number (number_out b at h) (λ d next g. no cc)
+  operands_out n h = none_told n not_number (number_out b at h) (λ t g. no cc)
 
 -- ---- skipping to the k-th operand: what is left of the way leads to it
 pub record Skipping (b : List ℕ) (start k at left : ℕ) : Type 0 where
   pub rest : get_or (operands_at (left + 1) b at) left nought ≡ get_or (operands_at (k + 1) b start) k nought
-
-pub skipping_start : (b : List ℕ) (start k : ℕ) → Skipping b start k start k
-skipping_start b start k = record { rest = refl }
 
 module _ (b : List ℕ) (start k at left : ℕ) (w : Skipping b start k at left) where
   nothing : operands_at (left + 1) b at ≡ [] → nought ≡ get_or (operands_at (k + 1) b start) k nought
@@ -82,43 +69,43 @@ module _ (b : List ℕ) (start k at left : ℕ) (w : Skipping b start k at left)
   pub skipping_over : length b ≤ at → nought ≡ get_or (operands_at (k + 1) b start) k nought
   skipping_over h = nothing (operands_out b at (left + 1) h)
 
-  module _ (r : NumberAt) (e : r ≡ answer_of (number_at b at)) where
-    pub skipping_refused : (n : ℕ) → r ≡ RefusedAt n → nought ≡ get_or (operands_at (k + 1) b start) k nought
-    skipping_refused n f = nothing (operands_none b at (left + 1) r e (λ d next g. no cc))
+  module _ (r : Result (Option NumberAt) Refusal) (e : r ≡ answer_of (number_at b at)) where
+    pub skipping_refused : (n : Refusal) → r ≡ Err n → nought ≡ get_or (operands_at (k + 1) b start) k nought
+    skipping_refused n f = nothing (operands_none b at (left + 1) r e (λ t g. no cc))
 
-    pub skipping_none : r ≡ NotNumber → nought ≡ get_or (operands_at (k + 1) b start) k nought
-    skipping_none f = nothing (operands_none b at (left + 1) r e (λ d next g. no cc))
+    pub skipping_none : r ≡ Ok None → nought ≡ get_or (operands_at (k + 1) b start) k nought
+    skipping_none f = nothing (operands_none b at (left + 1) r e (λ t g. no cc))
 
-    module _ (d : Decimal) (next : ℕ) (f : r ≡ Num d next) where
-      pub skipping_further : at < length b → (at < next) × (next ≤ length b)
-      skipping_further h = subst (Further b at) (num_is (number_at b at) d next (sym e ∙ f)) (further b at h)
+    module _ (t : NumberAt) (f : r ≡ Ok (Some t)) where
+      pub skipping_further : at < length b → (at < t.next) × (t.next ≤ length b)
+      skipping_further h = subst (Further b at) (answer-number (number_at b at) t (sym f ∙ e)) (further b at h)
 
-      this : operands_at (left + 1) b at ≡ d ∷ operands_at left b next
-      this = ap (λ (n : ℕ). operands_at n b at) (add-one left) ∙ operands_next b at left next d (num_is (number_at b at) d next (sym e ∙ f))
+      this : operands_at (left + 1) b at ≡ t.value ∷ operands_at left b t.next
+      this = ap (λ (n : ℕ). operands_at n b at) (add-one left) ∙ operands_next b at left t.next t.value (answer-number (number_at b at) t (sym f ∙ e))
 
-      pub skipping_here : left ≡ 0 → d ≡ get_or (operands_at (k + 1) b start) k nought
-      skipping_here z = sym (ap (λ (n : ℕ). get_or (d ∷ operands_at left b next) n nought) z) ∙ sym (ap (λ (l : List Decimal). get_or l left nought) this) ∙ w.rest
+      pub skipping_here : left ≡ 0 → t.value ≡ get_or (operands_at (k + 1) b start) k nought
+      skipping_here z = sym (ap (λ (n : ℕ). get_or (t.value ∷ operands_at left b t.next) n nought) z) ∙ sym (ap (λ (l : List Decimal). get_or l left nought) this) ∙ w.rest
 
-      second : (n : ℕ) → left ≡ suc n → get_or (operands_at left b next) n nought ≡ get_or (operands_at (k + 1) b start) k nought
-      second n z = sym (ap (λ (m : ℕ). get_or (d ∷ operands_at left b next) m nought) z) ∙ sym (ap (λ (l : List Decimal). get_or l left nought) this) ∙ w.rest
+      second : (n : ℕ) → left ≡ suc n → get_or (operands_at left b t.next) n nought ≡ get_or (operands_at (k + 1) b start) k nought
+      second n z = sym (ap (λ (m : ℕ). get_or (t.value ∷ operands_at left b t.next) m nought) z) ∙ sym (ap (λ (l : List Decimal). get_or l left nought) this) ∙ w.rest
 
-      pub skipping_turn : (left ≡ 0 → ⊥) → Skipping b start k next (left - 1)
+      pub skipping_turn : (left ≡ 0 → ⊥) → Skipping b start k t.next (left - 1)
       skipping_turn z =
           let p : left ≡ suc (left - 1) = omega arith in
           let q : left - 1 + 1 ≡ left = omega arith in
-          record { rest = ap (λ (m : ℕ). get_or (operands_at m b next) (left - 1) nought) q ∙ second (left - 1) p }
+          record { rest = ap (λ (m : ℕ). get_or (operands_at m b t.next) (left - 1) nought) q ∙ second (left - 1) p }
 
 -- ---- what was read stands where it was read
 
 unfoldable pub Chain : List ℕ → ℕ → List Reading → Type 0
 Chain b at [] = Unit
-Chain b at (stopped n ∷ rs) = 0 < n
+Chain b at (stopped n ∷ rs) = Unit
 Chain b at (got op ds end next ∷ rs) = (operands_at (length ds) b at ≡ ds) × Chain b next rs
 
 module _ (b : List ℕ) where
   followed-chain : (at : ℕ) (r : Reading) → Entered b at r → (f : ℕ → List Reading) → ((next : ℕ) → Chain b next (f next)) → Chain b at (followed r f)
   unfolding Chain
-  followed-chain at (stopped n) p f h = p
+  followed-chain at (stopped n) p f h = tt
   followed-chain at (got op ds end next) p f h = (p.here, h next)
 
   from-chain : (k at : ℕ) → Chain b at (readings_from k b at)
@@ -279,26 +266,8 @@ module _ (b : List ℕ) (o : Octets b) where
   pub one-normal : (op : ℕ) (r : Option Decimal) (v : Decimal) → r ≡ one_of op (entries_of b) → r ≡ Some v → Normal v
   one-normal op r v e f = only-normal (place_of op b) (last_of op (entries_of b)) (place-matches b op) v (sym e ∙ f)
 
--- ---- what the one operand says
+-- ---- a string id has 16 bits
 
-module _ (es : List Entry) (op : ℕ) (r : Option Decimal) (e : r ≡ one_of op es) where
-  pub offset-absent : r ≡ None → NoOffset ≡ offset_in op es
-  offset-absent f = ap offset_as (sym f ∙ e)
-
-  module _ (v : Decimal) (f : r ≡ Some v) (q : OffsetOf) (g : q ≡ offset_of v) where
-    pub offset_refused : (n : ℕ) → q ≡ RefusedOffset n → RefusedIn n ≡ offset_in op es
-    offset_refused n h = ap offset_told (sym h ∙ g) ∙ ap offset_as (sym f ∙ e)
-
-    pub offset_at : (at : ℕ) → q ≡ Offset at → At at ≡ offset_in op es
-    offset_at at h = ap offset_told (sym h ∙ g) ∙ ap offset_as (sym f ∙ e)
-
-  pub id_absent : r ≡ None → None ≡ id_in op es
-  id_absent f = ap id_as (sym f ∙ e)
-
-  pub id_is : (v : Decimal) (q : Option ℕ) → r ≡ Some v → q ≡ id_of v → q ≡ id_in op es
-  id_is v q f g = g ∙ ap id_as (sym f ∙ e)
-
--- a string id has 16 bits
 low_id : (t s u : Bool) (m sid : ℕ) → ltb m 65536 ≡ u → pick t (Some 0) (pick s None (pick u (Some m) None)) ≡ Some sid → sid < 65536
 low_id true s u m sid h e = let z : 0 ≡ sid = cc in omega arith
 low_id false true u m sid h e = absurd (no cc)
@@ -309,32 +278,6 @@ pub id_low : (o : Option Decimal) (sid : ℕ) → id_as o ≡ Some sid → sid <
 id_low None sid e = absurd (no cc)
 id_low (Some d) sid e = low_id (eqb (trunc_of d) 0) d.neg (ltb (trunc_of d) 65536) (trunc_of d) sid refl e
 
-module _ (es : List Entry) (r : Option Decimal) where
-  pub count-absent : r ≡ one_of cid_count es → r ≡ None → 8720 ≡ cid_count_in es
-  count-absent e f = ap count_as (sym f ∙ e)
-
-  pub count_is : (v : Decimal) (n : ℕ) → r ≡ one_of cid_count es → r ≡ Some v → n ≡ clamped 4294967295 v → n ≡ cid_count_in es
-  count_is v n e f g = g ∙ ap count_as (sym f ∙ e)
-
-  pub type_absent : r ≡ one_of charstring_type es → r ≡ None → 0 ≡ charstring_type_in es
-  type_absent e f = ap type_as (sym f ∙ e)
-
-  module _ (v : Decimal) (t : Bool) (e : r ≡ one_of charstring_type es) (f : r ≡ Some v) (g : t ≡ is_two v) where
-    pub type_two : t ≡ true → 0 ≡ charstring_type_in es
-    type_two h = ap (λ (x : Bool). pick x 0 3) (sym h ∙ g) ∙ ap type_as (sym f ∙ e)
-
-    pub type_other : t ≡ false → 3 ≡ charstring_type_in es
-    type_other h = ap (λ (x : Bool). pick x 0 3) (sym h ∙ g) ∙ ap type_as (sym f ∙ e)
-
--- ---- PaintType
-
-module _ (es : List Entry) (r : Option Decimal) (e : r ≡ one_of paint_type es) where
-  pub stroked_absent : r ≡ None → false ≡ stroked_in es
-  stroked_absent f = ap stroked_as (sym f ∙ e)
-
-  pub stroked_number : (v : Decimal) → r ≡ Some v → not (eqb v.digits 0) ≡ stroked_in es
-  stroked_number v f = ap stroked_as (sym f ∙ e)
-
 -- ---- two operands, and three
 
 private-two : (ds : List Decimal) → length ds ≡ 2 → private_as (operands (get_or ds 0 nought ∷ get_or ds 1 nought ∷ [])) ≡ private_as (operands ds)
@@ -343,7 +286,7 @@ private-two (s ∷ []) e = absurd (no (omega arith))
 private-two (s ∷ o ∷ []) e = refl
 private-two (s ∷ o ∷ d ∷ ds) e = absurd (no (omega arith))
 
-private_other : (ds : List Decimal) → (length ds ≡ 2 → ⊥) → RefusedPrivate 2 ≡ private_as (operands ds)
+private_other : (ds : List Decimal) → (length ds ≡ 2 → ⊥) → Err Malformed ≡ private_as (operands ds)
 private_other [] n = refl
 private_other (s ∷ []) n = refl
 private_other (s ∷ o ∷ []) n = absurd (n refl)
@@ -365,17 +308,17 @@ ros_other (r ∷ o ∷ s ∷ d ∷ ds) n = refl
 
 module _ (b : List ℕ) (r : Option OperandsAt) where
   module _ (e : r ≡ place_of private b) where
-    pub private-absent : r ≡ None → NoPrivate ≡ private_in (entries_of b)
+    pub private-absent : r ≡ None → Ok None ≡ private_in (entries_of b)
     private-absent q = sym (ap private_as (none_last b private r e q))
 
     module _ (start count : ℕ) (q : r ≡ found_at start count) where
-      pub private_wrong : (count ≡ 2 → ⊥) → RefusedPrivate 2 ≡ private_in (entries_of b)
+      pub private_wrong : (count ≡ 2 → ⊥) → Err Malformed ≡ private_in (entries_of b)
       private_wrong n =
           let l = found-last b private r e start count q in
           private_other l.numbers (λ z. n (l.held.counted ∙ z)) ∙ sym (ap private_as l.last)
 
       pub private_is : count ≡ 2 → (s o : Decimal) → s ≡ get_or (operands_at 1 b start) 0 nought → o ≡ get_or (operands_at 2 b start) 1 nought
-          → (x : PrivateIn) → x ≡ private_as (operands (s ∷ o ∷ [])) → x ≡ private_in (entries_of b)
+          → (x : Result (Option PrivateEntry) Refusal) → x ≡ private_as (operands (s ∷ o ∷ [])) → x ≡ private_in (entries_of b)
       private_is n s o f g x h =
           let l = found-last b private r e start count q in
           let u = last_operand b private start count l 0 s (omega arith) f in
@@ -406,17 +349,17 @@ module _ (b : List ℕ) (r : Option OperandsAt) where
 
 -- ---- a DICT that is not refused holds the entries that were read
 
-gathered-listed : (b : List ℕ) (at : ℕ) (rs : List Reading) → Chain b at rs → refusal_of (gathered rs) ≡ 0 → gathered rs ≡ entries (listed rs)
+gathered-listed : (b : List ℕ) (at : ℕ) (rs : List Reading) → Chain b at rs → refusal_of (gathered rs) ≡ None → gathered rs ≡ Ok (listed rs)
 unfolding Chain gathered listed
 gathered-listed b at [] c e = refl
-gathered-listed b at (stopped n ∷ rs) c e = absurd (no (omega arith))
+gathered-listed b at (stopped n ∷ rs) c e = absurd (no cc)
 gathered-listed b at (got op ds end next ∷ rs) c e =
     ap (before (record { op = op; operands = ds }))
     (gathered-listed b next rs c.1 (sym (before-refusal (record { op = op; operands = ds }) (gathered rs)) ∙ e))
 
-pub good-entries : (b : List ℕ) → Good b → dict_of b ≡ entries (entries_of b)
+pub good-entries : (b : List ℕ) → Good b → dict_of b ≡ Ok (entries_of b)
 unfolding dict_of
 good-entries b g = gathered-listed b 0 (readings_at b 0) (chain b 0) g.accepted
 
-pub entries_are : (b : List ℕ) (es : List Entry) → dict_of b ≡ entries es → entries_of b ≡ es
+pub entries_are : (b : List ℕ) (es : List Entry) → dict_of b ≡ Ok es → entries_of b ≡ es
 entries_are b es e = let g = good-entries b (record { accepted = ap refusal_of e }) in cc

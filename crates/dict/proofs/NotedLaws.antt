@@ -1,20 +1,19 @@
 -- Laws of noting where entries stand: a slot is its operator's own, and each turn of the pass notes one entry.
-use Prim.Native.Nat.{ℕ, zero, suc, ◌+◌, ◌-◌, ◌≤◌, ◌<◌}
-use Rattle.std.specs.Prelude.{◌≡◌, refl, Bool, true, false, List, [], ◌∷◌, ltb, eqb, length, get_or, set, replicate, None, Option}
+use Prim.Native.Nat.{ℕ, zero, suc, ◌+◌, ◌≤◌, ◌<◌}
+use Rattle.std.specs.Prelude.{◌≡◌, refl, Bool, true, false, List, [], ◌∷◌, ltb, eqb, length, get_or, set, replicate, Result, Ok, Err}
 use Rattle.std.proofs.Common.{sym, ap, ◌∙◌, subst, add-one, arith, length-set, get_or-set_same, get_or-set_other, ltb-true, eqb-true, ne_eqb}
 use Rattle.std.proofs.lemmas.List.{length-replicate, get_or-replicate}
 use Rattle.std.proofs.lemmas.Bool.{eqb-false}
 use Rattle.octets.specs.Pick.{pick, pick_ind}
 use Rattle.decimal.specs.declared.Decimal.{Decimal}
 use Rattle.dict.specs.Dict.{Token, bad, operand, operator, token_at, Reading, stopped, got, after, onward, entry_from, entry_at}
-use Rattle.dict.specs.Places.{entry_told, place_of, found_at}
+use Rattle.dict.specs.Places.{entry_told}
 use Rattle.dict.specs.Noted.{asked, slot_of, found_of, Placed, ReadsDict}
 use Rattle.dict.specs.TokenLaws.{Passes, token-passes}
 use Rattle.dict.proofs.WalkLaws.{answered, Checking, checking_start, checking_end, checking_refused, checking_turn, Finding, finding_start, finding_end, finding_here, finding_on}
-use Rattle.dict.specs.declared.EntryAt.{EntryAt}
-use Rattle.dict.specs.declared.EntryAt.TheVariants.{Refused as RefusedEntry, Entry as EntryFound}
-use Rattle.dict.specs.declared.OperandsAt.{OperandsAt}
 use Rattle.dict.specs.declared.Places.{Places}
+use Rattle.dict.specs.declared.EntryAt.{EntryAt}
+use Rattle.refusal.specs.declared.Refusal.{Refusal}
 
 no : ◌≡◌ {A = ℕ} 0 1 → ⊥
 no h = omega arith
@@ -120,59 +119,40 @@ pub nowhere_placed : (b : List ℕ) (p : Places) → p.noted ≡ false → Place
 nowhere_placed b p e = record { notes = λ t. absurd (no (let f : true ≡ false = sym t ∙ e in cc)) }
 
 module _ (t : Bool) (b : List ℕ) (at : ℕ) (starts counts : List ℕ) (w : Noting t b at starts counts) where
-  pub noting_end : length b ≤ at → ReadsDict b (record { refusal = 0; noted = true; subsetting = t; starts = starts; counts = counts })
-  noting_end h =
-      record {
-        refused = checking_end b at w.checking h;
-        placed = record { notes = λ e. record { each = λ op l. finding_end b op at _ (w.each op l) h } };
-      }
+  pub noting_end : length b ≤ at → ReadsDict b (Ok (record { noted = true; subsetting = t; starts = starts; counts = counts }))
+  noting_end h = (sym (checking_end b at w.checking h), record { notes = λ e. record { each = λ op l. finding_end b op at _ (w.each op l) h } })
 
-  module _ (h : at < length b) (r : EntryAt) (e : r ≡ entry_told 0 (entry_at b at)) where
-    pub noting_refused : (n : ℕ) → r ≡ RefusedEntry n → (p : Places) → p.refusal ≡ n → p.noted ≡ false → ReadsDict b p
-    noting_refused n f p i j =
-        record { refused = i ∙ checking_refused b at w.checking h r e n f; placed = nowhere_placed b p j }
+  module _ (h : at < length b) (r : Result EntryAt Refusal) (e : r ≡ entry_told 0 (entry_at b at)) where
+    pub noting_refused : (n : Refusal) → r ≡ Err n → ReadsDict b (Err n)
+    noting_refused n f = sym (checking_refused b at w.checking h r e n f)
 
-    module _ (o end count next : ℕ) (f : r ≡ EntryFound o end count next) where
-      pub noting_few : count < length b
+    module _ (entry : EntryAt) (f : r ≡ Ok entry) where
+      pub noting_few : entry.count < length b
       noting_few =
-          let a = answered b at h r e o end count next f in
+          let a = answered b at h r e entry f in
           let k = subst (Brief at) a.entry (entry_brief b at) in
           omega (arith, k, a.counted, a.stands.inside)
 
-      pub noting_turn : (s : ℕ) → s ≡ slot_of (asked t) o → Noting t b next (set starts s at) (set counts s (count + 1))
+      pub noting_turn : (s : ℕ) → s ≡ slot_of (asked t) entry.op → Noting t b entry.next (set starts s at) (set counts s (entry.count + 1))
       noting_turn s q =
           record {
-            checking = checking_turn b at w.checking h r e o end count next f;
+            checking = checking_turn b at w.checking h r e entry f;
             starts_long = length-set starts s at ∙ w.starts_long;
-            counts_long = length-set counts s (count + 1) ∙ w.counts_long;
+            counts_long = length-set counts s (entry.count + 1) ∙ w.counts_long;
             each = λ op l. go op l (eqb s (slot_of (asked t) op)) refl;
           }
         where
           low : s < 16
-          low = slot-few t o s q
+          low = slot-few t entry.op s q
 
           go : (op : ℕ) → slot_of (asked t) op < length (asked t) → (u : Bool) → eqb s (slot_of (asked t) op) ≡ u
-              → Finding b op next (found_of (get_or (set starts s at) (slot_of (asked t) op) 0) (get_or (set counts s (count + 1)) (slot_of (asked t) op) 0))
+              → Finding b op entry.next (found_of (get_or (set starts s at) (slot_of (asked t) op) 0) (get_or (set counts s (entry.count + 1)) (slot_of (asked t) op) 0))
           go op l true e' =
               let i : s ≡ slot_of (asked t) op = eqb-true s (slot_of (asked t) op) e' in
-              subst (λ (j : ℕ). Finding b op next (found_of (get_or (set starts s at) j 0) (get_or (set counts s (count + 1)) j 0))) i
-              (rw (get_or-set_same starts s at 0 (omega (arith, low, w.starts_long)), get_or-set_same counts s (count + 1) 0 (omega (arith, low, w.counts_long)), add-one count)
-              (finding_here b op at _ (w.each op l) h r e o end count next f (slot_same (asked t) o op (sym q ∙ i) l)))
+              subst (λ (j : ℕ). Finding b op entry.next (found_of (get_or (set starts s at) j 0) (get_or (set counts s (entry.count + 1)) j 0))) i
+              (rw (get_or-set_same starts s at 0 (omega (arith, low, w.starts_long)), get_or-set_same counts s (entry.count + 1) 0 (omega (arith, low, w.counts_long)), add-one entry.count)
+              (finding_here b op at _ (w.each op l) h r e entry f (slot_same (asked t) entry.op op (sym q ∙ i) l)))
           go op l false e' =
               let i : slot_of (asked t) op ≡ s → ⊥ = λ z. eqb-false s (slot_of (asked t) op) e' (sym z) in
-              rw (get_or-set_other starts s (slot_of (asked t) op) at 0 i, get_or-set_other counts s (slot_of (asked t) op) (count + 1) 0 i)
-              (finding_on b op at _ (w.each op l) h r e o end count next f (λ z. i (sym (ap (slot_of (asked t)) z) ∙ sym q)))
-
--- ---- what a slot says
-
-pub found_none : (start count : ℕ) → count ≡ 0 → None ≡ found_of start count
-found_none start count e = sym (ap (found_of start) e)
-
-pub found_some : (start count : ℕ) → (count ≡ 0 → ⊥) → found_at start (count - 1) ≡ found_of start count
-found_some start zero n = absurd (n refl)
-found_some start (suc k) n = let e : suc k - 1 ≡ k = omega arith in ap (λ (m : ℕ). found_at start m) e
-
-pub place-noted : (b : List ℕ) (p : Places) → Placed b p → p.noted ≡ true → (op s : ℕ) → s ≡ slot_of (asked p.subsetting) op → (m : ℕ) → m ≡ length (asked p.subsetting) → s < m → (r : Option OperandsAt)
-    → r ≡ found_of (get_or p.starts s 0) (get_or p.counts s 0) → r ≡ place_of op b
-place-noted b p w t op s q m g l r e =
-    e ∙ ap (λ (j : ℕ). found_of (get_or p.starts j 0) (get_or p.counts j 0)) q ∙ (w.notes t).each op (omega (arith, q, g, l))
+              rw (get_or-set_other starts s (slot_of (asked t) op) at 0 i, get_or-set_other counts s (slot_of (asked t) op) (entry.count + 1) 0 i)
+              (finding_on b op at _ (w.each op l) h r e entry f (λ z. i (sym (ap (slot_of (asked t)) z) ∙ sym q)))

@@ -1,13 +1,13 @@
 -- What was read is proper: operators that there are, and numbers within the limits.
 use Prim.Native.Nat.{ℕ, zero, suc}
-use Rattle.std.specs.Prelude.{◌≡◌, true, ltb, length}
+use Rattle.std.specs.Prelude.{◌≡◌, true, ltb, length, Ok}
 use Rattle.std.proofs.Math.Path.{refl, subst}
 use mathlib.Core.List.{List, [], ◌∷◌}
 use Rattle.octets.specs.Pick.{pick_ind}
 use Rattle.octets.specs.Octets.{Octets}
 use Rattle.decimal.specs.declared.Decimal.{Decimal}
 use Rattle.dict.specs.Op.{is_operator}
-use Rattle.dict.specs.Dict.{Entry, entries, Token, bad, operand, operator, token_at, Reading, stopped, got, after, onward, entry_from, entry_at, followed, readings_from, readings_at, dict_of}
+use Rattle.dict.specs.Dict.{Entry, Token, bad, operand, operator, token_at, Reading, stopped, got, after, onward, entry_from, entry_at, followed, readings_from, readings_at, dict_of}
 use Rattle.dict.specs.Places.{listed, entries_of}
 use Rattle.dict.specs.Proper.{AllNormal, AllProper}
 use Rattle.dict.specs.TokenLaws.{operator_is}
@@ -63,5 +63,5 @@ module _ (b : List ℕ) (o : Octets b) where
   entries_proper = listed_proper (readings_at b 0) 0 (chain b 0) (all_named (length b) 0)
 
   -- the entries of a DICT that is not refused
-  pub dict_proper : (es : List Entry) → dict_of b ≡ entries es → AllProper es
+  pub dict_proper : (es : List Entry) → dict_of b ≡ Ok es → AllProper es
   dict_proper es e = subst AllProper (entries_are b es e) entries_proper

@@ -1,24 +1,21 @@
 -- A DICT of TN5176, section 4: entries one after the other, each the operands, which are numbers, and then their operator. It is refused
--- where the Rust's Dict::parse first fails: 1 truncated, 2 malformed, 5 a real past the limits of document 01.
-use Rattle.std.specs.Prelude.{ℕ, zero, suc, ◌+◌, List, [], ◌∷◌, length, get_or, ltb, eqb}
+-- where the Rust's Dict::parse first fails: truncated, malformed, or a real past the limits of document 01.
+use Rattle.std.specs.Prelude.{ℕ, zero, suc, ◌+◌, List, [], ◌∷◌, length, get_or, ltb, eqb, Result, Ok, Err}
 use Rattle.octets.specs.Pick.{pick}
 use Rattle.decimal.specs.declared.Decimal.{Decimal}
 use Rattle.decimal.specs.Number.{Number, refused as refusedNumber, not_number, number, number_at}
 use Rattle.dict.specs.Op.{esc}
+use Rattle.refusal.specs.declared.Refusal.{Refusal}
+use Rattle.refusal.specs.declared.Refusal.TheVariants.{Truncated, Malformed}
 
 -- an operator and its operands, in order
 pub record Entry : Type 0 where
   pub op : ℕ
   pub operands : List Decimal
 
--- a DICT's entries, in order, or its refusal
-pub data Dict : Type 0 where
-  refused : ℕ → Dict
-  entries : List Entry → Dict
-
 -- what stands at a position: a refusal; or an operand or an operator, with the position after it
 pub data Token : Type 0 where
-  bad : ℕ → Token
+  bad : Refusal → Token
   operand : Decimal → ℕ → Token
   operator : ℕ → ℕ → Token
 
@@ -26,8 +23,8 @@ pub data Token : Type 0 where
 unfoldable pub operator_at : List ℕ → ℕ → Token
 operator_at b at =
     pick (eqb (get_or b at 0) 12)
-    (pick (ltb (length b) (at + 2)) (bad 1) (operator (esc (get_or b (at + 1) 0)) (at + 2)))
-    (pick (ltb (get_or b at 0) 22) (operator (get_or b at 0) (at + 1)) (bad 2))
+    (pick (ltb (length b) (at + 2)) (bad Truncated) (operator (esc (get_or b (at + 1) 0)) (at + 2)))
+    (pick (ltb (get_or b at 0) 22) (operator (get_or b at 0) (at + 1)) (bad Malformed))
 
 abbrev pub token_of : List ℕ → ℕ → Number → Token
 token_of b at (refusedNumber n) = bad n
@@ -39,7 +36,7 @@ token_at b at = token_of b at (number_at b at)
 
 -- an entry read from a position on: a refusal; or its operator, its operands, where the operator stands, and the position after it
 pub data Reading : Type 0 where
-  stopped : ℕ → Reading
+  stopped : Refusal → Reading
   got : ℕ → List Decimal → ℕ → ℕ → Reading
 
 -- an operand before those of an entry
@@ -55,8 +52,8 @@ onward at (operator op next) rest = got op [] at next
 
 -- an entry of at most k tokens; operands that no operator follows are malformed
 unfoldable pub entry_from : ℕ → List ℕ → ℕ → Reading
-entry_from zero b at = stopped 2
-entry_from (suc k) b at = let more = onward at (token_at b at) (entry_from k b) in pick (ltb at (length b)) more (stopped 2)
+entry_from zero b at = stopped Malformed
+entry_from (suc k) b at = let more = onward at (token_at b at) (entry_from k b) in pick (ltb at (length b)) more (stopped Malformed)
 
 -- the entry at a position: each token has a byte, so that there are no more tokens than bytes
 unfoldable pub entry_at : List ℕ → ℕ → Reading
@@ -77,16 +74,16 @@ unfoldable pub readings_at : List ℕ → ℕ → List Reading
 readings_at b at = readings_from (length b) b at
 
 -- an entry before those of a DICT
-abbrev pub before : Entry → Dict → Dict
-before e (refused n) = refused n
-before e (entries es) = entries (e ∷ es)
+abbrev pub before : Entry → Result (List Entry) Refusal → Result (List Entry) Refusal
+before e (Err n) = Err n
+before e (Ok es) = Ok (e ∷ es)
 
 -- one refusal, and the DICT is refused
-unfoldable pub gathered : List Reading → Dict
-gathered [] = entries []
-gathered (stopped n ∷ rs) = refused n
+unfoldable pub gathered : List Reading → Result (List Entry) Refusal
+gathered [] = Ok []
+gathered (stopped n ∷ rs) = Err n
 gathered (got op ds end next ∷ rs) = before (record { op = op; operands = ds }) (gathered rs)
 
 -- the DICT of these bytes
-unfoldable pub dict_of : List ℕ → Dict
+unfoldable pub dict_of : List ℕ → Result (List Entry) Refusal
 dict_of b = gathered (readings_at b 0)

@@ -10,6 +10,7 @@ use Rattle.decimal.specs.Number.{number, number_at}
 use Rattle.dict.specs.Dict.{Token, bad, operand, operator, token_at, Reading, stopped, got, after, onward, entry_from, entry_at, followed, readings_from, readings_at}
 use Rattle.dict.specs.Places.{operands_at}
 use Rattle.dict.specs.TokenLaws.{Passes, token-passes}
+use Rattle.refusal.specs.declared.Refusal.TheVariants.{Malformed}
 
 -- ---- an entry: enough tokens are enough
 
@@ -20,7 +21,7 @@ onward-same b at (operand d next) p f g h = ap (after d) (h next p.1 p.2)
 onward-same b at (operator op next) p f g h = refl
 
 module _ (b : List ℕ) where
-  entry-over : (k at : ℕ) → length b ≤ at → entry_from k b at ≡ stopped 2
+  entry-over : (k at : ℕ) → length b ≤ at → entry_from k b at ≡ stopped Malformed
   unfolding entry_from
   entry-over zero at h = refl
   entry-over (suc k) at h = rw (le-ltb at (length b) h)
@@ -46,10 +47,11 @@ module _ (b : List ℕ) where
   unfolding entry_at
   entry_is at h = entry_enough (length b) (suc (length b)) at (omega arith) (omega arith) ∙ entry-turn (length b) at h
 
-  pub entry-ends : (at : ℕ) → length b ≤ at → entry_at b at ≡ stopped 2
+  pub entry-ends : (at : ℕ) → length b ≤ at → entry_at b at ≡ stopped Malformed
   unfolding entry_at
   entry-ends at h = entry-over (length b) at h
-  -- ---- what an entry is: its operands stand from there on, it ends further on, and a refusal is not 0
+
+-- ---- what an entry is: its operands stand from there on, and it ends further on
 
 pub record Stands (b : List ℕ) (at : ℕ) (ds : List Decimal) (next : ℕ) : Type 0 where
   pub here : operands_at (length ds) b at ≡ ds
@@ -57,7 +59,7 @@ pub record Stands (b : List ℕ) (at : ℕ) (ds : List Decimal) (next : ℕ) : T
   pub inside : next ≤ length b
 
 abbrev pub Entered : List ℕ → ℕ → Reading → Type 0
-Entered b at (stopped n) = 0 < n
+Entered b at (stopped n) = Unit
 Entered b at (got op ds end next) = Stands b at ds next
 
 module _ (b : List ℕ) where
@@ -66,7 +68,7 @@ module _ (b : List ℕ) where
   operands_more n at next d e = rw e
 
   after-entered : (at next : ℕ) (d : Decimal) → number_at b at ≡ number d next → at < next → (r : Reading) → Entered b next r → Entered b at (after d r)
-  after-entered at next d e l (stopped n) h = h
+  after-entered at next d e l (stopped n) h = tt
   after-entered at next d e l (got op ds end last) h =
       record {
         here = operands_more (length ds) at next d e ∙ ap (λ (l : List Decimal). d ∷ l) h.here;
@@ -76,17 +78,17 @@ module _ (b : List ℕ) where
 
   onward-entered : (at : ℕ) (t : Token) → Passes b at t → (f : ℕ → Reading) → ((next : ℕ) → Entered b next (f next)) → Entered b at (onward at t f)
   unfolding operands_at
-  onward-entered at (bad n) p f h = p
+  onward-entered at (bad n) p f h = tt
   onward-entered at (operand d next) p f h = after-entered at next d p.0 p.1 (f next) (h next)
   onward-entered at (operator op next) p f h = record { here = refl; further = p.0; inside = p.1 }
 
   pub from-entered : (k at : ℕ) → Entered b at (entry_from k b at)
   unfolding entry_from
-  from-entered zero at = omega arith
+  from-entered zero at = tt
   from-entered (suc k) at =
       pick_ind (Entered b at) (ltb at (length b)) _ _
       (λ e. onward-entered at (token_at b at) (token-passes b at (ltb-true at (length b) e)) (entry_from k b) (from-entered k))
-      (λ e. omega arith)
+      (λ e. tt)
 
   pub entered : (at : ℕ) → Entered b at (entry_at b at)
   unfolding entry_at

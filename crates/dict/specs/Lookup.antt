@@ -1,19 +1,16 @@
 -- What a DICT's entries say (document 01, 'Corners in mod.rs'; the Rust's get, number, offset, private_of, top_string, ros, cid_count): the last
 -- entry of an operator counts, and an entry with other than one operand is absent where one number is wanted.
-use Rattle.std.specs.Prelude.{ℕ, min, Bool, true, false, not, List, [], ◌∷◌, eqb, None, Option, Some}
+use Rattle.std.specs.Prelude.{ℕ, min, Bool, true, false, not, List, [], ◌∷◌, eqb, None, Option, Some, Result, Ok, Err}
 use Rattle.octets.specs.Pick.{pick}
 use Rattle.decimal.specs.declared.Decimal.{Decimal}
-use Rattle.decimal.specs.declared.OffsetOf.{OffsetOf}
 use Rattle.decimal.specs.declared.Signed.{Signed}
-use Rattle.decimal.specs.declared.OffsetOf.TheVariants.{Refused as RefusedOffset, Offset}
 use Rattle.decimal.specs.Values.{trunc_of, clamped, i32_of, id_of, offset_of, is_two}
 use Rattle.dict.specs.Op.{private, paint_type, charstring_type, ros, cid_count}
 use Rattle.dict.specs.Dict.{Entry}
-use Rattle.dict.specs.declared.OffsetIn.{OffsetIn}
-use Rattle.dict.specs.declared.OffsetIn.TheVariants.{Refused, At, Absent as NoOffset}
-use Rattle.dict.specs.declared.PrivateIn.{PrivateIn}
-use Rattle.dict.specs.declared.PrivateIn.TheVariants.{Refused as RefusedPrivate, Private, Absent as NoPrivate}
 use Rattle.dict.specs.declared.RosEntry.{RosEntry}
+use Rattle.dict.specs.declared.PrivateEntry.{PrivateEntry}
+use Rattle.refusal.specs.declared.Refusal.{Refusal}
+use Rattle.refusal.specs.declared.Refusal.TheVariants.{Malformed, Unsupported}
 
 -- an entry's operands, or that there is no such entry
 pub data Operands : Type 0 where
@@ -40,29 +37,33 @@ abbrev pub one_of : ℕ → List Entry → Option Decimal
 one_of op es = only (last_of op es)
 
 -- an offset is whole and not negative, or malformed
-abbrev pub offset_told : OffsetOf → OffsetIn
-offset_told (RefusedOffset n) = Refused n
-offset_told (Offset v) = At v
+abbrev pub offset_told : Result ℕ Refusal → Result (Option ℕ) Refusal
+offset_told (Err n) = Err n
+offset_told (Ok v) = Ok (Some v)
 
-abbrev pub offset_as : Option Decimal → OffsetIn
-offset_as None = NoOffset
+abbrev pub offset_as : Option Decimal → Result (Option ℕ) Refusal
+offset_as None = Ok None
 offset_as (Some d) = offset_told (offset_of d)
 
-abbrev pub offset_in : ℕ → List Entry → OffsetIn
+abbrev pub offset_in : ℕ → List Entry → Result (Option ℕ) Refusal
 offset_in op es = offset_as (one_of op es)
+
+-- a Private entry
+abbrev pub private_there : ℕ → ℕ → Result (Option PrivateEntry) Refusal
+private_there size offset = Ok (Some (record { size = size; offset = offset }))
 
 -- Private: a size and an offset, neither negative, or malformed; then their fractions are dropped. 4294967296 stands for all that are
 -- past every font
-abbrev pub private_as : Operands → PrivateIn
-private_as absent = NoPrivate
-private_as (operands []) = RefusedPrivate 2
-private_as (operands (s ∷ [])) = RefusedPrivate 2
+abbrev pub private_as : Operands → Result (Option PrivateEntry) Refusal
+private_as absent = Ok None
+private_as (operands []) = Err Malformed
+private_as (operands (s ∷ [])) = Err Malformed
 private_as (operands (s ∷ o ∷ [])) =
-    pick s.neg (RefusedPrivate 2)
-    (pick o.neg (RefusedPrivate 2) (Private (min (trunc_of s) 4294967296) (min (trunc_of o) 4294967296)))
-private_as (operands (s ∷ o ∷ d ∷ ds)) = RefusedPrivate 2
+    pick s.neg (Err Malformed)
+    (pick o.neg (Err Malformed) (private_there (min (trunc_of s) 4294967296) (min (trunc_of o) 4294967296)))
+private_as (operands (s ∷ o ∷ d ∷ ds)) = Err Malformed
 
-abbrev pub private_in : List Entry → PrivateIn
+abbrev pub private_in : List Entry → Result (Option PrivateEntry) Refusal
 private_in es = private_as (last_of private es)
 
 -- a string id: absent too where the number is none
@@ -112,10 +113,10 @@ stroked_as (Some d) = not (eqb d.digits 0)
 abbrev pub stroked_in : List Entry → Bool
 stroked_in es = stroked_as (one_of paint_type es)
 
--- CharstringType: 0, or the refusal where it is a number other than 2
-abbrev pub type_as : Option Decimal → ℕ
-type_as None = 0
-type_as (Some d) = pick (is_two d) 0 3
+-- CharstringType: refused where it is a number other than 2
+abbrev pub type_as : Option Decimal → Result Unit Refusal
+type_as None = Ok tt
+type_as (Some d) = pick (is_two d) (Ok tt) (Err Unsupported)
 
-abbrev pub charstring_type_in : List Entry → ℕ
+abbrev pub charstring_type_in : List Entry → Result Unit Refusal
 charstring_type_in es = type_as (one_of charstring_type es)

@@ -1,30 +1,34 @@
 -- The code's answers for what the definitions of a DICT (TN5176, section 4) say: it holds positions and counts where they hold operands.
-use Rattle.std.specs.Prelude.{ℕ, zero, suc, ◌+◌, ◌≡◌, List, [], ◌∷◌, length, eqb, None, Option, Some}
+use Rattle.std.specs.Prelude.{ℕ, zero, suc, ◌+◌, ◌≡◌, List, [], ◌∷◌, length, eqb, None, Option, Some, Result, Ok, Err}
 use Rattle.octets.specs.Pick.{pick}
 use Rattle.decimal.specs.declared.Decimal.{Decimal}
 use Rattle.decimal.specs.Number.{Number, refused as refusedNumber, not_number, number, number_at}
-use Rattle.dict.specs.Dict.{Entry, Dict, refused, entries, Token, bad, operand, operator, Reading, stopped, got, readings_at, dict_of}
-use Rattle.dict.specs.declared.TokenAt.{TokenAt}
-use Rattle.dict.specs.declared.TokenAt.TheVariants.{Refused, Operand, Operator}
-use Rattle.dict.specs.declared.EntryAt.{EntryAt}
-use Rattle.dict.specs.declared.EntryAt.TheVariants.{Refused as RefusedEntry, Entry as EntryFound}
+use Rattle.dict.specs.Dict.{Entry, Token, bad, operand, operator, Reading, stopped, got, readings_at, dict_of}
+use Rattle.dict.specs.declared.TokenAt.TheVariants.{Operand, Operator}
 use Rattle.dict.specs.declared.OperandsAt.{OperandsAt}
+use Rattle.dict.specs.declared.EntryAt.{EntryAt}
+use Rattle.dict.specs.declared.TokenAt.{TokenAt}
+use Rattle.refusal.specs.declared.Refusal.{Refusal}
 
 -- the code's token
-abbrev pub token_told : Token → TokenAt
-token_told (bad n) = Refused n
-token_told (operand d next) = Operand next
-token_told (operator op next) = Operator op next
+abbrev pub token_told : Token → Result TokenAt Refusal
+token_told (bad n) = Err n
+token_told (operand d next) = Ok (Operand next)
+token_told (operator op next) = Ok (Operator op next)
+
+-- an entry that was read: its operator, where that stands, how many operands are before it, and the position after it
+abbrev pub entry_there : ℕ → ℕ → ℕ → ℕ → Result EntryAt Refusal
+entry_there op end count next = Ok (record { op = op; end = end; count = count; next = next })
 
 -- the code's entry, n operands having been read before
-abbrev pub entry_told : ℕ → Reading → EntryAt
-entry_told n (stopped m) = RefusedEntry m
-entry_told n (got op ds end next) = EntryFound op end (n + length ds) next
+abbrev pub entry_told : ℕ → Reading → Result EntryAt Refusal
+entry_told n (stopped m) = Err m
+entry_told n (got op ds end next) = entry_there op end (n + length ds) next
 
--- the refusal of a DICT, or 0
-abbrev pub refusal_of : Dict → ℕ
-refusal_of (refused n) = n
-refusal_of (entries es) = 0
+-- the refusal of a DICT, if it is refused
+abbrev pub refusal_of : Result (List Entry) Refusal → Option Refusal
+refusal_of (Err n) = Some n
+refusal_of (Ok es) = None
 
 -- the entries that were read: all of the DICT's, where it is not refused
 unfoldable pub listed : List Reading → List Entry
@@ -37,7 +41,7 @@ entries_of b = listed (readings_at b 0)
 
 -- a DICT that is not refused
 pub record Good (b : List ℕ) : Type 0 where
-  pub accepted : refusal_of (dict_of b) ≡ 0
+  pub accepted : refusal_of (dict_of b) ≡ None
 
 -- so many operands from a position on
 abbrev pub found_at : ℕ → ℕ → Option OperandsAt

@@ -1,29 +1,28 @@
--- Laws of what stands at a position of a DICT: a number or an operator ends further on, within the bytes, and a refusal is not 0.
-use Rattle.std.specs.Prelude.{ℕ, ◌+◌, ◌-◌, ◌*◌, ◌/◌, ◌^◌, ◌≤◌, ◌<◌, ◌≡◌, Bool, List, [], ◌∷◌, ltb, leb, eqb, length, drop}
+-- Laws of what stands at a position of a DICT: a number or an operator ends further on, within the bytes.
+use Rattle.std.specs.Prelude.{ℕ, ◌+◌, ◌-◌, ◌*◌, ◌/◌, ◌≤◌, ◌<◌, ◌≡◌, Bool, List, [], ◌∷◌, ltb, eqb, length, drop, Result, Ok, Err, Option, Some, None}
 use Rattle.std.proofs.Math.Path.{refl}
 use Rattle.std.proofs.Common.{sym, ap, ◌∙◌, subst, length-drop}
 use Rattle.std.proofs.Math.Bool.{true, false}
 use native.Mathlib.Omega.{arith}
 use Rattle.std.proofs.Math.ListN.{get_or}
 use borrow.Author.Tests.{ltb-true, ltb-false, eqb-false, lt-ltb, le-ltb, eq-eqb, ne_eqb}
-use Rattle.octets.specs.Pick.{pick, pick_ind}
+use Rattle.octets.specs.Pick.{pick_ind}
 use Rattle.octets.specs.Octets.{Octets, num_at}
 use Rattle.decimal.specs.declared.Decimal.{Decimal}
-use Rattle.decimal.specs.Decimal.{normal}
-use Rattle.decimal.specs.Real.{nibbles, Text, cut, wrong, text, before, text_of, Form, bad as badForm, form, form_of, Value, refused as refusedText, value, value_of}
+use Rattle.decimal.specs.Real.{nibbles, Text, cut, wrong, text, before, text_of, form_of, value_of}
 use Rattle.decimal.specs.Number.{Number, refused as refusedNumber, not_number, number, integer_at, twos_at, pair_at, placed, real_of, real_at, number_at, past_of}
 use Rattle.dict.specs.Op.{esc, is_operator}
 use Rattle.dict.specs.Dict.{Token, bad, operand, operator, operator_at, token_of, token_at}
 use Rattle.dict.specs.Places.{token_told}
-use Rattle.decimal.specs.declared.PastAt.{PastAt}
-use Rattle.decimal.specs.declared.PastAt.TheVariants.{Refused as RefusedPast, NotNumber as NoNumber, Past}
 use Rattle.decimal.specs.TakenLaws.{length-nibbles}
+use Rattle.dict.specs.declared.TokenAt.TheVariants.{Operand, Operator}
 use Rattle.dict.specs.declared.TokenAt.{TokenAt}
-use Rattle.dict.specs.declared.TokenAt.TheVariants.{Refused, Operand, Operator}
+use Rattle.refusal.specs.declared.Refusal.{Refusal}
+use Rattle.refusal.specs.declared.Refusal.TheVariants.{Truncated, Malformed}
 
 -- what holds of a number at a position
 abbrev pub Further : List ℕ → ℕ → Number → Type 0
-Further b at (refusedNumber n) = 0 < n
+Further b at (refusedNumber n) = Unit
 Further b at not_number = Unit
 Further b at (number d next) = (at < next) × (next ≤ length b)
 
@@ -45,36 +44,21 @@ text_shorter (x ∷ xs) =
     pick_ind (Shorter (x ∷ xs)) (eqb x 15) _ _ (λ e. omega arith)
     (λ e. pick_ind (Shorter (x ∷ xs)) (eqb x 13) _ _ (λ f. tt) (λ f. one_more x xs (text_of xs) (text_shorter xs)))
 
--- a refusal of a real's text is not 0
-abbrev Told : Value → Type 0
-Told (refusedText n) = 0 < n
-Told (value d) = Unit
-
-value-told : (count : ℕ) (f : Form) → Told (value_of count f)
-unfolding value_of
-value-told count badForm = omega arith
-value-told count (form s n f es e) =
-    let d = normal s n (pick es 0 e) (pick es (f + e) f) in
-    pick_ind Told (ltb 64 count) _ _ (λ p. omega arith)
-    (λ p. pick_ind Told (leb (10 ^ 15) d.digits) _ _ (λ q. omega arith)
-    (λ q. pick_ind Told (ltb 30 d.up) _ _ (λ r. omega arith)
-    (λ r. pick_ind Told (ltb 30 d.down) _ _ (λ u. omega arith) (λ u. tt))))
-
 module _ (b : List ℕ) (at : ℕ) (h : at < length b) where
-  placed_further : (next : ℕ) (v : Value) → Told v → at < next → next ≤ length b → Further b at (placed next v)
-  placed_further next (refusedText n) t k l = t
-  placed_further next (value d) t k l = (k, l)
+  placed_further : (next : ℕ) (v : Result Decimal Refusal) → at < next → next ≤ length b → Further b at (placed next v)
+  placed_further next (Err n) k l = tt
+  placed_further next (Ok d) k l = (k, l)
 
   real_further : (t : Text) → Shorter (nibbles (drop (at + 1) b)) t → Further b at (real_of (at + 1) t)
-  real_further cut s = omega arith
-  real_further wrong s = omega arith
+  real_further cut s = tt
+  real_further wrong s = tt
   real_further (text ns) s =
       let n : length (nibbles (drop (at + 1) b)) ≡ 2 * (length b - (at + 1)) = length-nibbles (drop (at + 1) b) ∙ rw length-drop in
-      placed_further (at + 1 + (length ns / 2 + 1)) (value_of (length ns + 1) (form_of ns)) (value-told (length ns + 1) (form_of ns)) (omega arith) (omega arith)
+      placed_further (at + 1 + (length ns / 2 + 1)) (value_of (length ns + 1) (form_of ns)) (omega arith) (omega arith)
 
   integer_further : (width : ℕ) (s : Bool) (n : ℕ) → 0 < width → Further b at (integer_at b at width s n)
   integer_further width s n p =
-      pick_ind (Further b at) (ltb (length b) (at + width)) _ _ (λ e. omega arith)
+      pick_ind (Further b at) (ltb (length b) (at + width)) _ _ (λ e. tt)
       (λ e. let l = ltb-false (length b) (at + width) e in (omega arith, omega arith))
 
   twos_further : (width half v : ℕ) → 0 < width → Further b at (twos_at b at width half v)
@@ -99,9 +83,9 @@ module _ (b : List ℕ) (at : ℕ) (h : at < length b) where
       (λ j. pick_ind P (ltb v 247) _ _ (λ k. integer_further 1 false (v - 139) (omega arith))
       (λ k. pick_ind P (ltb v 255) _ _ (λ l. pair_further v) (λ l. tt)))))))
 
--- what holds of a token at a position: an operand is a number, both end further on, and a refusal is not 0
+-- what holds of a token at a position: an operand is a number, and both end further on
 abbrev pub Passes : List ℕ → ℕ → Token → Type 0
-Passes b at (bad n) = 0 < n
+Passes b at (bad n) = Unit
 Passes b at (operand d next) = (number_at b at ≡ number d next) × (at < next) × (next ≤ length b)
 Passes b at (operator op next) = (at < next) × (next ≤ length b)
 
@@ -110,12 +94,12 @@ module _ (b : List ℕ) (at : ℕ) (h : at < length b) where
   unfolding operator_at
   operator-passes =
       pick_ind (Passes b at) (eqb (get_or b at 0) 12) _ _
-      (λ e. pick_ind (Passes b at) (ltb (length b) (at + 2)) _ _ (λ f. omega arith)
+      (λ e. pick_ind (Passes b at) (ltb (length b) (at + 2)) _ _ (λ f. tt)
       (λ f. let l = ltb-false (length b) (at + 2) f in (omega arith, omega arith)))
-      (λ e. pick_ind (Passes b at) (ltb (get_or b at 0) 22) _ _ (λ f. (omega arith, omega arith)) (λ f. omega arith))
+      (λ e. pick_ind (Passes b at) (ltb (get_or b at 0) 22) _ _ (λ f. (omega arith, omega arith)) (λ f. tt))
 
   number-passes : (q : Number) → number_at b at ≡ q → Further b at q → Passes b at (token_of b at q)
-  number-passes (refusedNumber n) e f = f
+  number-passes (refusedNumber n) e f = tt
   number-passes not_number e f = operator-passes
   number-passes (number d next) e f = (e, f.0, f.1)
 
@@ -159,49 +143,49 @@ module _ (b : List ℕ) (at : ℕ) (o : Octets b) where
 -- ---- the code's answers
 
 module _ (b : List ℕ) (at : ℕ) (h : at < length b) (v : ℕ) (e : v ≡ get_or b at 0) where
-  pub operator-cut : v ≡ 12 → length b - at < 2 → Refused 1 ≡ token_told (operator_at b at)
+  pub operator-cut : v ≡ 12 → length b - at < 2 → Err Truncated ≡ token_told (operator_at b at)
   unfolding operator_at
   operator-cut f k = rw (← e, eq-eqb v 12 f, lt-ltb (length b) (at + 2) (omega arith))
 
-  pub operator-escape : v ≡ 12 → 2 ≤ length b - at → (w : ℕ) → w ≡ get_or b (at + 1) 0 → Operator (3072 + w) (at + 2) ≡ token_told (operator_at b at)
+  pub operator-escape : v ≡ 12 → 2 ≤ length b - at → (w : ℕ) → w ≡ get_or b (at + 1) 0 → Ok (Operator (3072 + w) (at + 2)) ≡ token_told (operator_at b at)
   unfolding operator_at
   operator-escape f k w g = rw (← e, ← g, eq-eqb v 12 f, le-ltb (length b) (at + 2) (omega arith))
 
-  pub operator-byte : (v ≡ 12 → ⊥) → v < 22 → Operator v (at + 1) ≡ token_told (operator_at b at)
+  pub operator-byte : (v ≡ 12 → ⊥) → v < 22 → Ok (Operator v (at + 1)) ≡ token_told (operator_at b at)
   unfolding operator_at
   operator-byte f k = rw (← e, ne_eqb v 12 f, lt-ltb v 22 k)
 
-  pub operator-none : (v ≡ 12 → ⊥) → 22 ≤ v → Refused 2 ≡ token_told (operator_at b at)
+  pub operator-none : (v ≡ 12 → ⊥) → 22 ≤ v → Err Malformed ≡ token_told (operator_at b at)
   unfolding operator_at
   operator-none f k = rw (← e, ne_eqb v 12 f, le-ltb v 22 k)
 
 no : ◌≡◌ {A = ℕ} 0 1 → ⊥
 no h = omega arith
 
-told_refused : (b : List ℕ) (at : ℕ) (q : Number) (n : ℕ) → past_of q ≡ RefusedPast n → Refused n ≡ token_told (token_of b at q)
-told_refused b at (refusedNumber m) n e = let k : m ≡ n = cc in ap Refused (sym k)
+told_refused : (b : List ℕ) (at : ℕ) (q : Number) (n : Refusal) → past_of q ≡ Err n → Err n ≡ token_told (token_of b at q)
+told_refused b at (refusedNumber m) n e = let k : m ≡ n = cc in ap Err (sym k)
 told_refused b at not_number n e = absurd (no cc)
 told_refused b at (number d m) n e = absurd (no cc)
 
-told_operand : (b : List ℕ) (at : ℕ) (q : Number) (next : ℕ) → past_of q ≡ Past next → Operand next ≡ token_told (token_of b at q)
+told_operand : (b : List ℕ) (at : ℕ) (q : Number) (next : ℕ) → past_of q ≡ Ok (Some next) → Ok (Operand next) ≡ token_told (token_of b at q)
 told_operand b at (refusedNumber m) next e = absurd (no cc)
 told_operand b at not_number next e = absurd (no cc)
-told_operand b at (number d m) next e = let k : m ≡ next = cc in ap Operand (sym k)
+told_operand b at (number d m) next e = let k : m ≡ next = cc in ap (λ (n : ℕ). Ok (Operand n)) (sym k)
 
-told-operator : (b : List ℕ) (at : ℕ) (q : Number) → past_of q ≡ NoNumber → token_told (operator_at b at) ≡ token_told (token_of b at q)
+told-operator : (b : List ℕ) (at : ℕ) (q : Number) → past_of q ≡ Ok None → token_told (operator_at b at) ≡ token_told (token_of b at q)
 told-operator b at (refusedNumber m) e = absurd (no cc)
 told-operator b at not_number e = refl
 told-operator b at (number x m) e = absurd (no cc)
 
-module _ (b : List ℕ) (at : ℕ) (q : PastAt) (e : q ≡ past_of (number_at b at)) where
-  pub token_refused : (n : ℕ) → q ≡ RefusedPast n → Refused n ≡ token_told (token_at b at)
+module _ (b : List ℕ) (at : ℕ) (q : Result (Option ℕ) Refusal) (e : q ≡ past_of (number_at b at)) where
+  pub token_refused : (n : Refusal) → q ≡ Err n → Err n ≡ token_told (token_at b at)
   unfolding token_at
   token_refused n f = told_refused b at (number_at b at) n (sym e ∙ f)
 
-  pub token_operand : (next : ℕ) → q ≡ Past next → Operand next ≡ token_told (token_at b at)
+  pub token_operand : (next : ℕ) → q ≡ Ok (Some next) → Ok (Operand next) ≡ token_told (token_at b at)
   unfolding token_at
   token_operand next f = told_operand b at (number_at b at) next (sym e ∙ f)
 
-  pub token-operator : (r : TokenAt) → q ≡ NoNumber → r ≡ token_told (operator_at b at) → r ≡ token_told (token_at b at)
+  pub token-operator : (r : Result TokenAt Refusal) → q ≡ Ok None → r ≡ token_told (operator_at b at) → r ≡ token_told (token_at b at)
   unfolding token_at
   token-operator r f g = g ∙ told-operator b at (number_at b at) (sym e ∙ f)

@@ -13,31 +13,25 @@ ghost use Rattle.dict.specs.Noted.{found_of, Placed, ReadsDict};
 
 use crate::op::{Op, slot, slots};
 use decimal::{
-    Decimal, NumberAt, OffsetOf, PastAt, Signed, id_of, is_two, number_at, offset_of, past_number,
-    to_i32, to_u16, to_u32, trunc,
+    Decimal, Signed, id_of, is_two, number_at, offset_of, past_number, to_i32, to_u16, to_u32,
+    trunc,
 };
-use octets::wide;
 use refusal::Refusal;
 
-// What stands at a position of a DICT: a refusal's number, an operand, or an operator, with the position after it.
+// What stands at a position of a DICT: an operand or an operator, with the position after it.
 #[derive(Clone, Copy)]
 pub enum TokenAt {
-    Refused(u8),
     Operand(usize),
     Operator { op: usize, next: usize },
 }
 
-// The entry at a position: a refusal's number; or its operator, where that stands, how many operands are before it, and the position
-// after it.
+// The entry at a position: its operator, where that stands, how many operands are before it, and the position after it.
 #[derive(Clone, Copy)]
-pub enum EntryAt {
-    Refused(u8),
-    Entry {
-        op: usize,
-        end: usize,
-        count: usize,
-        next: usize,
-    },
+pub struct EntryAt {
+    pub op: usize,
+    pub end: usize,
+    pub count: usize,
+    pub next: usize,
 }
 
 // Where the operands of the last entry of an operator stand, and how many they are.
@@ -48,31 +42,20 @@ pub struct OperandsAt {
 }
 
 // Where the last entries that reading asks for stand, or those that subsetting asks for, each in the slot of its operator, with one more than its operands
-// are: 0 where there is no such entry. The slot behind is for all other operators. Where nothing was noted, an entry is found by a pass of its own. And the
-// DICT's refusal, or 0.
+// are: 0 where there is no such entry. The slot behind is for all other operators. Where nothing was noted, an entry is found by a pass of its own.
 #[derive(Clone, Copy)]
 pub struct Places {
-    pub refusal: u8,
     pub noted: bool,
     pub subsetting: bool,
     pub starts: [usize; 16],
     pub counts: [usize; 16],
 }
 
-// An entry that is an offset: not there, a refusal's number, or the offset.
+// A Private entry: how long the Private DICT is, and where it is.
 #[derive(Clone, Copy)]
-pub enum OffsetIn {
-    Absent,
-    Refused(u8),
-    At(usize),
-}
-
-// A Private entry: not there, a refusal's number, or where the Private DICT is.
-#[derive(Clone, Copy)]
-pub enum PrivateIn {
-    Absent,
-    Refused(u8),
-    Private { size: usize, offset: usize },
+pub struct PrivateEntry {
+    pub size: usize,
+    pub offset: usize,
 }
 
 // A ROS entry: two string ids and a number.
@@ -92,117 +75,104 @@ const NOUGHT: Decimal = Decimal {
 };
 
 // The operator at a position: 12 with the byte after it, else 0 to 21.
-fn operator_at(d: &[u8], at: usize) -> TokenAt
+fn operator_at(d: &[u8], at: usize) -> Result<TokenAt, Refusal>
     requires { at < length d.now }
     ensures { result ≡ token_told (operator_at d.now at) }
 {
-    let v = wide(d[at]);
+    let v = usize::from(d[at]);
     if v == 12 {
         if d.len() - at < 2 {
-            return TokenAt::Refused(Refusal::TRUNCATED);
+            return Err(Refusal::Truncated);
         }
-        let e = wide(d[at + 1]);
-        return TokenAt::Operator {
+        let e = usize::from(d[at + 1]);
+        return Ok(TokenAt::Operator {
             op: Op::ESCAPE + e,
             next: at + 2,
-        };
+        });
     }
     if v < 22 {
-        return TokenAt::Operator {
+        return Ok(TokenAt::Operator {
             op: v,
             next: at + 1,
-        };
+        });
     }
-    TokenAt::Refused(Refusal::MALFORMED)
+    Err(Refusal::Malformed)
 }
 
 // What stands at a position; an operand's value is not read.
-fn token_at(d: &[u8], at: usize) -> TokenAt
+fn token_at(d: &[u8], at: usize) -> Result<TokenAt, Refusal>
     requires { at < length d.now }
     ensures { result ≡ token_told (token_at d.now at) }
 {
-    match past_number(d, at) {
-        PastAt::Refused(n) => TokenAt::Refused(n),
-        PastAt::Past(next) => TokenAt::Operand(next),
-        PastAt::NotNumber => operator_at(d, at),
+    match past_number(d, at)? {
+        Some(next) => Ok(TokenAt::Operand(next)),
+        None => operator_at(d, at),
     }
 }
 
 // The entry at a position.
-pub fn read_entry(d: &[u8], start: usize) -> EntryAt
+pub fn read_entry(d: &[u8], start: usize) -> Result<EntryAt, Refusal>
     requires { start < length d.now }
     ensures { result ≡ entry_told 0 (entry_at d.now start) }
 {
     let mut at = start;
     let mut count: usize = 0;
     while at < d.len() {
-        match token_at(d, at) {
+        match token_at(d, at)? {
             TokenAt::Operand(next) => {
                 count += 1;
                 at = next;
             }
             TokenAt::Operator { op, next } => {
-                return EntryAt::Entry {
+                return Ok(EntryAt {
                     op,
                     end: at,
                     count,
                     next,
-                };
-            }
-            TokenAt::Refused(n) => {
-                return EntryAt::Refused(n);
+                });
             }
         }
     }
-    EntryAt::Refused(Refusal::MALFORMED)
+    Err(Refusal::Malformed)
 }
 
-// A DICT read in one pass: its refusal, and where there is none, where the last entries stand that reading asks for.
-pub fn read_dict(d: &[u8]) -> Places
+// A DICT read in one pass: its refusal, or where the last entries stand that reading asks for.
+pub fn read_dict(d: &[u8]) -> Result<Places, Refusal>
     ensures { ReadsDict d.now result }
 {
     note_entries(d, false)
 }
 
-// The same, with the entries of a top DICT that subsetting asks for.
+// Where the entries of a top DICT stand that subsetting asks for: nothing is noted of a DICT that is refused.
 pub fn read_top(d: &[u8]) -> Places
-    ensures { ReadsDict d.now result }
+    ensures { Placed d.now result }
 {
-    note_entries(d, true)
+    match note_entries(d, true) {
+        Ok(places) => places,
+        Err(_) => nowhere(),
+    }
 }
 
 // The one pass of both.
-fn note_entries(d: &[u8], subsetting: bool) -> Places
+fn note_entries(d: &[u8], subsetting: bool) -> Result<Places, Refusal>
     ensures { ReadsDict d.now result }
 {
     let mut starts = [0usize; 16];
     let mut counts = [0usize; 16];
     let mut at: usize = 0;
     while at < d.len() {
-        match read_entry(d, at) {
-            EntryAt::Entry {
-                op,
-                end: _,
-                count,
-                next,
-            } => {
-                let j = slot(subsetting, op);
-                starts[j] = at;
-                counts[j] = count + 1;
-                at = next;
-            }
-            EntryAt::Refused(n) => {
-                return nowhere(n);
-            }
-        }
+        let entry = read_entry(d, at)?;
+        let j = slot(subsetting, entry.op);
+        starts[j] = at;
+        counts[j] = entry.count + 1;
+        at = entry.next;
     }
-    Places {
-        refusal: 0,
+    Ok(Places {
         noted: true,
         subsetting,
         starts,
         counts,
-    }
+    })
 }
 
 // Where the last entry of an operator stands: one pass.
@@ -213,18 +183,16 @@ fn find_entry(d: &[u8], op: usize) -> Option<OperandsAt>
     let mut at: usize = 0;
     while at < d.len() {
         match read_entry(d, at) {
-            EntryAt::Entry {
-                op: o,
-                end: _,
-                count,
-                next,
-            } => {
-                if o == op {
-                    found = Some(OperandsAt { start: at, count });
+            Ok(entry) => {
+                if entry.op == op {
+                    found = Some(OperandsAt {
+                        start: at,
+                        count: entry.count,
+                    });
                 }
-                at = next;
+                at = entry.next;
             }
-            EntryAt::Refused(_) => {
+            Err(_) => {
                 return found;
             }
         }
@@ -232,12 +200,11 @@ fn find_entry(d: &[u8], op: usize) -> Option<OperandsAt>
     found
 }
 
-// Nothing noted of a DICT with this refusal.
-pub fn nowhere(refusal: u8) -> Places
-    ensures { (result.refusal ≡ refusal) × (result.noted ≡ false) }
+// Nothing noted.
+pub fn nowhere() -> Places
+    ensures { result.noted ≡ false }
 {
     Places {
-        refusal,
         noted: false,
         subsetting: false,
         starts: [0usize; 16],
@@ -284,17 +251,17 @@ pub fn operand(d: &[u8], start: usize, k: usize) -> Decimal
     let mut left = k;
     while at < d.len() {
         match number_at(d, at) {
-            NumberAt::Num { value, next } => {
+            Ok(Some(number)) => {
                 if left == 0 {
-                    return value;
+                    return number.value;
                 }
                 left -= 1;
-                at = next;
+                at = number.next;
             }
-            NumberAt::NotNumber => {
+            Ok(None) => {
                 return NOUGHT;
             }
-            NumberAt::Refused(_) => {
+            Err(_) => {
                 return NOUGHT;
             }
         }
@@ -329,17 +296,17 @@ pub fn is_cid_keyed(d: &[u8], p: Places) -> bool
     }
 }
 
-// The offset that an entry holds.
-pub fn offset(d: &[u8], p: Places, op: usize) -> OffsetIn
+// The offset that an entry holds, if it is there.
+pub fn offset(d: &[u8], p: Places, op: usize) -> Result<Option<usize>, Refusal>
     requires { Placed d.now p }
     ensures { result ≡ offset_in op (entries_of d.now) }
 {
     match number(d, p, op) {
-        None => OffsetIn::Absent,
-        Some(v) => match offset_of(v) {
-            OffsetOf::Refused(n) => OffsetIn::Refused(n),
-            OffsetOf::Offset(at) => OffsetIn::At(at),
-        },
+        None => Ok(None),
+        Some(v) => {
+            let at = offset_of(v)?;
+            Ok(Some(at))
+        }
     }
 }
 
@@ -376,53 +343,53 @@ pub fn is_stroked(d: &[u8], p: Places) -> bool
     }
 }
 
-// The refusal of a CharstringType other than 2, or 0.
-pub fn charstring_type(d: &[u8], p: Places) -> u8
+// A CharstringType other than 2 is refused.
+pub fn charstring_type(d: &[u8], p: Places) -> Result<(), Refusal>
     requires { Placed d.now p }
     ensures { result ≡ charstring_type_in (entries_of d.now) }
 {
     match number(d, p, Op::CHARSTRING_TYPE) {
-        None => 0,
+        None => Ok(()),
         Some(v) => {
             if is_two(v) {
-                return 0;
+                return Ok(());
             }
-            Refusal::UNSUPPORTED
+            Err(Refusal::Unsupported)
         }
     }
 }
 
 // The size and the offset of a Private entry: the signs are tested first, then the fractions dropped.
-fn private_at(size: Decimal, offset: Decimal) -> PrivateIn
+fn private_at(size: Decimal, offset: Decimal) -> Result<Option<PrivateEntry>, Refusal>
     requires { (Normal size) × (Normal offset) }
     ensures { result ≡ private_as (operands (size ∷ offset ∷ [])) }
 {
     let s = size.neg;
     let o = offset.neg;
     if s {
-        return PrivateIn::Refused(Refusal::MALFORMED);
+        return Err(Refusal::Malformed);
     }
     if o {
-        return PrivateIn::Refused(Refusal::MALFORMED);
+        return Err(Refusal::Malformed);
     }
-    PrivateIn::Private {
+    Ok(Some(PrivateEntry {
         size: trunc(size),
         offset: trunc(offset),
-    }
+    }))
 }
 
-// Where the Private DICT is, as the Rust's private_of takes it.
-pub fn private_of(d: &[u8], p: Places) -> PrivateIn
+// Where the Private DICT is, if there is an entry for it, as the Rust's private_of takes it.
+pub fn private_of(d: &[u8], p: Places) -> Result<Option<PrivateEntry>, Refusal>
     requires { Placed d.now p }
     ensures { result ≡ private_in (entries_of d.now) }
 {
     match place(d, p, Op::PRIVATE) {
-        None => PrivateIn::Absent,
+        None => Ok(None),
         Some(OperandsAt { start, count }) => {
             if count == 2 {
                 return private_at(operand(d, start, 0), operand(d, start, 1));
             }
-            PrivateIn::Refused(Refusal::MALFORMED)
+            Err(Refusal::Malformed)
         }
     }
 }

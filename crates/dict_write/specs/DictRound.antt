@@ -1,5 +1,5 @@
 -- A DICT that was written reads back: token by token, entry by entry, whatever form its numbers were written in.
-use Rattle.std.specs.Prelude.{ℕ, suc, ◌+◌, ◌-◌, ◌<◌, ◌≡◌, ◌⊎◌, Bool, ltb, get_or}
+use Rattle.std.specs.Prelude.{ℕ, suc, ◌+◌, ◌-◌, ◌<◌, ◌≡◌, ◌⊎◌, Bool, ltb, get_or, Ok}
 use Rattle.std.proofs.Math.Path.{refl, sym, ap}
 use Rattle.std.proofs.Common.{◌∙◌, subst, inl, inr, add-zero, arith, length-drop, get_or-drop, drop-drop, drop_at}
 use Rattle.std.proofs.Math.Bool.{true, false}
@@ -15,7 +15,7 @@ use Rattle.decimal.specs.Decimal.{whole}
 use Rattle.decimal_write.specs.IntRound.{Reads, reads_int5}
 use Rattle.decimal_write.specs.WrittenRound.{reads-number}
 use Rattle.dict.specs.Op.{is_operator, private}
-use Rattle.dict.specs.Dict.{Entry, entries, Token, operand, operator, operator_at, token_of, token_at, Reading, got, after, onward, entry_at, followed, readings_at, before, gathered, dict_of}
+use Rattle.dict.specs.Dict.{Entry, Token, operator, operator_at, token_of, token_at, Reading, got, after, onward, entry_at, followed, readings_at, before, gathered, dict_of}
 use Rattle.dict.specs.Proper.{AllNormal}
 use Rattle.dict.specs.EntryLaws.{entry_is, readings_are, readings_end}
 use Rattle.dict_write.specs.Written.{op_bytes_lem, operands_bytes, entry_bytes, offset_entry, private_entry}
@@ -165,7 +165,7 @@ module _ (b : List ℕ) (post : List ℕ) where
       (read-offset private from refl f.1 (at + length (int5_bytes false size)) (behind b at (int5_bytes false size) (offset_entry private from ++ post) l)))
 
 module _ (b : List ℕ) where
-  pub parts_from : (ps : List Part) → AllFit ps → (at : ℕ) → drop at b ≡ parts_bytes ps → gathered (readings_at b at) ≡ entries (parts_entries ps)
+  pub parts_from : (ps : List Part) → AllFit ps → (at : ℕ) → drop at b ≡ parts_bytes ps → gathered (readings_at b at) ≡ Ok (parts_entries ps)
   unfolding AllFit parts_bytes parts_entries gathered
   parts_from [] f at lies =
       let k : length b - at ≡ 0 = sym (length-drop at b) ∙ ap length lies in
@@ -176,6 +176,6 @@ module _ (b : List ℕ) where
       ∙ ap (before (part_entry p)) (parts_from ps f.1 (at + length (part_bytes p)) (behind b at (part_bytes p) (parts_bytes ps) lies))
 
 -- a DICT that was written part by part reads back
-pub parts-read : (ps : List Part) → AllFit ps → dict_of (parts_bytes ps) ≡ entries (parts_entries ps)
+pub parts-read : (ps : List Part) → AllFit ps → dict_of (parts_bytes ps) ≡ Ok (parts_entries ps)
 unfolding dict_of
 parts-read ps f = parts_from (parts_bytes ps) ps f 0 refl

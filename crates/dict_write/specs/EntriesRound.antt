@@ -1,11 +1,11 @@
 -- Entries that were written read back: those of any list, those of a DICT, and a Private DICT that was copied.
-use Rattle.std.specs.Prelude.{ℕ, ◌<◌, ◌≡◌, refl, true, List, [], ◌∷◌, ◌++◌, eqb}
+use Rattle.std.specs.Prelude.{ℕ, ◌<◌, ◌≡◌, refl, true, List, [], ◌∷◌, ◌++◌, eqb, Ok}
 use Rattle.std.proofs.Common.{sym, ap, ◌∙◌, append_assoc, append-nil}
 use Rattle.octets.specs.Pick.{pick_ind}
 use Rattle.octets.specs.Octets.{Octets}
 use Rattle.decimal.specs.Decimal.{whole}
 use Rattle.dict.specs.Op.{is_operator, subrs}
-use Rattle.dict.specs.Dict.{Entry, entries, dict_of}
+use Rattle.dict.specs.Dict.{Entry, dict_of}
 use Rattle.dict.specs.Places.{entries_of}
 use Rattle.dict.specs.Proper.{AllProper}
 use Rattle.dict.proofs.ProperLaws.{entries_proper}
@@ -53,12 +53,12 @@ plains_fit (e ∷ es) h = (h.0, plains_fit es h.1)
 
 -- ---- what was written reads back
 
-pub entries-read : (es : List Entry) → AllProper es → dict_of (entries_bytes es) ≡ entries es
-entries-read es h = ap dict_of (sym (plains-bytes es)) ∙ parts-read (plains es) (plains_fit es h) ∙ ap entries (plains-entries es)
+pub entries-read : (es : List Entry) → AllProper es → dict_of (entries_bytes es) ≡ Ok es
+entries-read es h = ap dict_of (sym (plains-bytes es)) ∙ parts-read (plains es) (plains_fit es h) ∙ ap Ok (plains-entries es)
 
 -- entries, and an offset behind them
 pub offset_read : (es : List Entry) (op value : ℕ) → AllProper es → is_operator op ≡ true → value < 2147483648
-    → dict_of (entries_bytes es ++ offset_entry op value) ≡ entries (es ++ (record { op = op; operands = whole value ∷ [] } ∷ []))
+    → dict_of (entries_bytes es ++ offset_entry op value) ≡ Ok (es ++ (record { op = op; operands = whole value ∷ [] } ∷ []))
 unfolding parts_bytes parts_entries AllFit
 offset_read es op value h o v =
     let last = offset op value ∷ [] in
@@ -66,7 +66,7 @@ offset_read es op value h o v =
     = parts-append (plains es) last ∙ ap (λ (l : List ℕ). l ++ parts_bytes last) (plains-bytes es) ∙ ap (λ (l : List ℕ). entries_bytes es ++ l) (append-nil (offset_entry op value)) in
     let en : parts_entries (plains es ++ last) ≡ es ++ (record { op = op; operands = whole value ∷ [] } ∷ [])
     = entries-append (plains es) last ∙ ap (λ (l : List Entry). l ++ parts_entries last) (plains-entries es) in
-    ap dict_of (sym bs) ∙ parts-read (plains es ++ last) (fit_append (plains es) last (plains_fit es h) ((o, v), tt)) ∙ ap entries en
+    ap dict_of (sym bs) ∙ parts-read (plains es ++ last) (fit_append (plains es) last (plains_fit es h) ((o, v), tt)) ∙ ap Ok en
 
 -- ---- a Private DICT
 
@@ -77,10 +77,10 @@ without_proper op (e ∷ es) h =
     pick_ind AllProper (eqb e.op op) _ _ (λ t. without_proper op es h.1) (λ t. (h.0, without_proper op es h.1))
 
 module _ (b : List ℕ) (o : Octets b) where
-  pub private-read : dict_of (private_bytes (entries_of b)) ≡ entries (without subrs (entries_of b))
+  pub private-read : dict_of (private_bytes (entries_of b)) ≡ Ok (without subrs (entries_of b))
   private-read = entries-read (without subrs (entries_of b)) (without_proper subrs (entries_of b) (entries_proper b o))
 
   -- with the offset of its subroutines
   pub private-subrs-read : (value : ℕ) → value < 2147483648
-      → dict_of (private_bytes (entries_of b) ++ offset_entry subrs value) ≡ entries (without subrs (entries_of b) ++ (record { op = subrs; operands = whole value ∷ [] } ∷ []))
+      → dict_of (private_bytes (entries_of b) ++ offset_entry subrs value) ≡ Ok (without subrs (entries_of b) ++ (record { op = subrs; operands = whole value ∷ [] } ∷ []))
   private-subrs-read value v = offset_read (without subrs (entries_of b)) subrs value (without_proper subrs (entries_of b) (entries_proper b o)) refl v

@@ -1,5 +1,5 @@
 -- Laws of copying an entry: its operands walked where they stand, each measured or written.
-use Rattle.std.specs.Prelude.{ℕ, suc, ◌+◌, ◌-◌, ◌≤◌, ◌<◌, ◌≡◌, refl}
+use Rattle.std.specs.Prelude.{ℕ, suc, ◌+◌, ◌-◌, ◌≤◌, ◌<◌, ◌≡◌, refl, Result, Ok, Err, Option, Some, None}
 use Rattle.std.proofs.Common.{sym, ◌∙◌, arith}
 use Rattle.std.proofs.Math.Path.{ap}
 use mathlib.Core.List.{List, [], ◌∷◌, ◌++◌, append_assoc, append-nil}
@@ -7,14 +7,14 @@ use Rattle.std.proofs.Math.ListN.{length, length-append}
 use Rattle.octets.specs.Octets.{Octets, Wrote}
 use Rattle.octets.specs.PutLaws.{wrote_none, wrote_then, wrote_as, wrote-length}
 use Rattle.decimal.specs.declared.Decimal.{Decimal}
-use Rattle.decimal.specs.declared.NumberAt.{NumberAt}
-use Rattle.decimal.specs.declared.NumberAt.TheVariants.{Refused, NotNumber, Num}
 use Rattle.decimal.specs.Number.{number, number_at, answer_of, Taken}
 use Rattle.decimal.specs.TakenLaws.{number-taken, answer-number}
 use Rattle.decimal.specs.Written.{number_bytes}
 use Rattle.dict.specs.Places.{operands_at}
 use Rattle.dict.proofs.LookupLaws.{operands_next, operands_none}
 use Rattle.dict_write.specs.Written.{operands_bytes}
+use Rattle.decimal.specs.declared.NumberAt.{NumberAt}
+use Rattle.refusal.specs.declared.Refusal.{Refusal}
 
 no : ◌≡◌ {A = ℕ} 0 1 → ⊥
 no h = omega arith
@@ -34,24 +34,24 @@ pub none_left : (b : List ℕ) (at left : ℕ) → left ≤ 0 → operands_at le
 unfolding operands_at
 none_left b at left h = let e : left ≡ 0 = omega arith in ap (λ (n : ℕ). operands_at n b at) e
 
-module _ (b : List ℕ) (at left : ℕ) (r : NumberAt) (e : r ≡ answer_of (number_at b at)) where
-  pub none_refused : (n : ℕ) → r ≡ Refused n → operands_at left b at ≡ []
-  none_refused n f = operands_none b at left r e (λ d next g. no cc)
+module _ (b : List ℕ) (at left : ℕ) (r : Result (Option NumberAt) Refusal) (e : r ≡ answer_of (number_at b at)) where
+  pub none_refused : (n : Refusal) → r ≡ Err n → operands_at left b at ≡ []
+  none_refused n f = operands_none b at left r e (λ t g. no cc)
 
-  pub none_number : r ≡ NotNumber → operands_at left b at ≡ []
-  none_number f = operands_none b at left r e (λ d next g. no cc)
+  pub none_number : r ≡ Ok None → operands_at left b at ≡ []
+  none_number f = operands_none b at left r e (λ t g. no cc)
 
-  module _ (v : Decimal) (next : ℕ) (f : r ≡ Num v next) where
-    here : number_at b at ≡ number v next
-    here = answer-number (number_at b at) v next (sym f ∙ e)
+  module _ (t : NumberAt) (f : r ≡ Ok (Some t)) where
+    here : number_at b at ≡ number t.value t.next
+    here = answer-number (number_at b at) t (sym f ∙ e)
 
-    pub operand_taken : Octets b → at < length b → Taken b at v next
-    operand_taken o h = number-taken b at v next o h here
+    pub operand_taken : Octets b → at < length b → Taken b at t.value t.next
+    operand_taken o h = number-taken b at t.value t.next o h here
 
-    pub operand_first : 0 < left → operands_at left b at ≡ v ∷ operands_at (left - 1) b next
+    pub operand_first : 0 < left → operands_at left b at ≡ t.value ∷ operands_at (left - 1) b t.next
     operand_first h =
         let p : left ≡ suc (left - 1) = omega arith in
-        ap (λ (n : ℕ). operands_at n b at) p ∙ operands_next b at (left - 1) next v here
+        ap (λ (n : ℕ). operands_at n b at) p ∙ operands_next b at (left - 1) t.next t.value here
 
 -- ---- measuring: the length so far and that of what is left make that of all
 pub record Measuring (b : List ℕ) (start count at left len : ℕ) : Type 0 where

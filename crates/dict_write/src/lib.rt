@@ -10,10 +10,10 @@ ghost use Rattle.dict.specs.Places.{entries_of, operands_at};
 ghost use Rattle.dict.specs.Noted.{Placed};
 ghost use Rattle.dict_write.specs.Written.{op_bytes_lem, operands_bytes, entry_bytes, offset_entry, private_entry, copied_entry, private_bytes};
 
-use decimal::{NumberAt, number_at};
+use decimal::number_at;
 use decimal_write::{number_len, put_int5, put_number};
 use dict::op::Op;
-use dict::{EntryAt, OperandsAt, Places, place, read_entry};
+use dict::{OperandsAt, Places, place, read_entry};
 
 // How many bytes an operator takes: one, or two for an escape.
 pub fn op_len(op: usize) -> usize
@@ -45,14 +45,14 @@ fn operands_len(d: &[u8], start: usize, count: usize) -> usize
             return len;
         }
         match number_at(d, at) {
-            NumberAt::Num { value, next } => {
-                len += number_len(value);
-                at = next;
+            Ok(Some(number)) => {
+                len += number_len(number.value);
+                at = number.next;
             }
-            NumberAt::NotNumber => {
+            Ok(None) => {
                 return len;
             }
-            NumberAt::Refused(_) => {
+            Err(_) => {
                 return len;
             }
         }
@@ -72,14 +72,14 @@ fn put_operands(d: &[u8], start: usize, count: usize, out: &mut [u8], to: usize)
             return p;
         }
         match number_at(d, at) {
-            NumberAt::Num { value, next } => {
-                p = put_number(value, &mut *out, p);
-                at = next;
+            Ok(Some(number)) => {
+                p = put_number(number.value, &mut *out, p);
+                at = number.next;
             }
-            NumberAt::NotNumber => {
+            Ok(None) => {
                 return p;
             }
-            NumberAt::Refused(_) => {
+            Err(_) => {
                 return p;
             }
         }
@@ -160,18 +160,13 @@ pub fn private_len(d: &[u8]) -> usize
     let mut len: usize = 0;
     while at < d.len() {
         match read_entry(d, at) {
-            EntryAt::Entry {
-                op,
-                end: _,
-                count,
-                next,
-            } => {
-                if op != Op::SUBRS {
-                    len += entry_len(d, at, count, op);
+            Ok(entry) => {
+                if entry.op != Op::SUBRS {
+                    len += entry_len(d, at, entry.count, entry.op);
                 }
-                at = next;
+                at = entry.next;
             }
-            EntryAt::Refused(_) => {
+            Err(_) => {
                 return len;
             }
         }
@@ -188,18 +183,13 @@ pub fn put_private(d: &[u8], out: &mut [u8], to: usize) -> usize
     let mut p = to;
     while at < d.len() {
         match read_entry(d, at) {
-            EntryAt::Entry {
-                op,
-                end: _,
-                count,
-                next,
-            } => {
-                if op != Op::SUBRS {
-                    p = put_entry(d, at, count, op, &mut *out, p);
+            Ok(entry) => {
+                if entry.op != Op::SUBRS {
+                    p = put_entry(d, at, entry.count, entry.op, &mut *out, p);
                 }
-                at = next;
+                at = entry.next;
             }
-            EntryAt::Refused(_) => {
+            Err(_) => {
                 return p;
             }
         }

@@ -1,5 +1,5 @@
--- The refusal of a call before the work words are used, test by test: what each test of the code answered, and the number that it gives.
-use Rattle.std.specs.Prelude.{ℕ, zero, suc, ◌+◌, ◌*◌, ◌≤◌, ◌<◌, ◌≡◌, refl, Bool, true, not, List, eqb, length}
+-- The refusal of a call before the work words are used, test by test: what each test of the code answered, and what it gives.
+use Rattle.std.specs.Prelude.{ℕ, zero, suc, ◌+◌, ◌*◌, ◌≤◌, ◌<◌, ◌≡◌, refl, Bool, true, not, List, eqb, length, Result, Ok, Err}
 use Rattle.std.proofs.Math.Path.{sym}
 use Rattle.std.proofs.Common.{ap, ◌∙◌, subst, arith}
 use Rattle.std.proofs.Math.Bool.{false}
@@ -22,6 +22,8 @@ use Rattle.subset.specs.Kept.{kept_of}
 use Rattle.subset.specs.Cut.{all_found_lem, has_ros_lem, same_bool_lem, is_expert, unsupported_in}
 use Rattle.small.specs.Small.{small_size}
 use Rattle.outcome.specs.Entry.{size_of, refusal_of}
+use Rattle.refusal.specs.declared.Refusal.{Refusal}
+use Rattle.refusal.specs.declared.Refusal.TheVariants.{Malformed, Unsupported, TooLong, NoSuchNumber, NotFound, BadRecord, Work}
 
 -- a font's counts
 module _ (b : List ℕ) (f : Font) (good : GoodFont b f) where
@@ -55,16 +57,10 @@ was_true true e = refl
 was_true false e = absurd (zero_one cc)
 
 -- the first two tests are one in the code: s, the keying is the one that is asked for, and not t, the font is stroked
-pub fit_keyed : (s t r q : Bool) → r ≡ s → r ≡ true → q ≡ t → not q ≡ pick s (not t) false
-fit_keyed s t r q e h i = ap (λ (x : Bool). pick x (not q) false) (sym h ∙ e) ∙ ap (λ (x : Bool). pick s (not x) false) i
-
-pub fit_other : (s x r : Bool) → r ≡ s → r ≡ false → false ≡ pick s x false
-fit_other s x r e h = ap (λ (b : Bool). pick b x false) (sym h ∙ e)
-
-unfit : (s t : Bool) (n : ℕ) → pick s (not t) false ≡ false → 3 ≡ pick s (pick t 3 n) 3
-unfit true true n e = refl
-unfit true false n e = absurd (zero_one cc)
-unfit false t n e = refl
+unfit : (s t : Bool) (r : Result Unit Refusal) → pick s (not t) false ≡ false → Err Unsupported ≡ pick s (pick t (Err Unsupported) r) (Err Unsupported)
+unfit true true r e = refl
+unfit true false r e = absurd (zero_one cc)
+unfit false t r e = refl
 
 fit : (s t : Bool) → pick s (not t) false ≡ true → (s ≡ true) × (t ≡ false)
 fit true true e = absurd (zero_one cc)
@@ -87,22 +83,12 @@ expert_is b (suc (suc v)) =
 pub unsupported_is : (b : List ℕ) (f : Font) (ask : Bool) → unsupported_in ask (program_of b f) ≡ unsupported_at ask f.encoding (program_of b f).top
 unsupported_is b f ask = ap (λ (t : Bool). pick (stroked_in (program_of b f).top) true (pick ask false t)) (expert_is b f.encoding)
 
--- what the code says of it, test by test
-pub stroked_first : (s t r : Bool) → r ≡ s → r ≡ true → true ≡ pick s true t
-stroked_first s t r e h = ap (λ (x : Bool). pick x true t) (sym h ∙ e)
-
-pub asked-next : (s ask t r : Bool) → r ≡ s → r ≡ false → ask ≡ true → false ≡ pick s true (pick ask false t)
-asked-next s ask t r e h a = ap (λ (x : Bool). pick x true (pick true false t)) (sym h ∙ e) ∙ ap (λ (x : Bool). pick s true (pick x false t)) (sym a)
-
-pub expert_last : (s ask t r : Bool) → r ≡ s → r ≡ false → ask ≡ false → t ≡ pick s true (pick ask false t)
-expert_last s ask t r e h a = ap (λ (x : Bool). pick x true (pick false false t)) (sym h ∙ e) ∙ ap (λ (x : Bool). pick s true (pick x false t)) (sym a)
-
 module _ (b : List ℕ) (f : Font) (good : GoodFont b f) (small cid ask : Bool) (name : ℕ) (keep rec : List ℕ) (flag words : ℕ) where
   abbrev p : Program
   p = program_of b f
 
-  abbrev numbered : ℕ
-  numbered = refusal_of (size_of small) cid ask p name keep rec flag words
+  abbrev early : Result Unit Refusal
+  early = refusal_of (size_of small) cid ask p name keep rec flag words
 
   module _ (r₁ : Bool) (e₁ : r₁ ≡ pick (same_bool_lem cid f.cid) (not (unsupported_at ask f.encoding p.top)) false) where
     same : (t : Bool) → r₁ ≡ t → pick (same_bool_lem cid (cid_keyed p.top)) (not (unsupported_in ask p)) false ≡ t
@@ -110,7 +96,7 @@ module _ (b : List ℕ) (f : Font) (good : GoodFont b f) (small cid ask : Bool) 
         ap (λ (k : Bool). pick (same_bool_lem cid k) (not (unsupported_in ask p)) false) (sym good.cid)
         ∙ ap (λ (u : Bool). pick (same_bool_lem cid f.cid) (not u) false) (unsupported_is b f ask) ∙ sym e₁ ∙ h
 
-    pub read_unfit : not r₁ ≡ true → 3 ≡ numbered
+    pub read_unfit : not r₁ ≡ true → Err Unsupported ≡ early
     unfolding refusal_of
     read_unfit t = unfit (same_bool_lem cid (cid_keyed p.top)) (unsupported_in ask p) _ (same false (was_false r₁ t))
 
@@ -124,7 +110,7 @@ module _ (b : List ℕ) (f : Font) (good : GoodFont b f) (small cid ask : Bool) 
       s : unsupported_in ask p ≡ false
       s = both.1
 
-      pub read-ros : not r₂ ≡ true → 2 ≡ numbered
+      pub read-ros : not r₂ ≡ true → Err Malformed ≡ early
       unfolding refusal_of
       read-ros t = rw (a, s, sym e₂ ∙ was_false r₂ t)
 
@@ -132,7 +118,7 @@ module _ (b : List ℕ) (f : Font) (good : GoodFont b f) (small cid ask : Bool) 
         c : pick cid (has_ros_lem (ros_in p.top)) true ≡ true
         c = sym e₂ ∙ was_true r₂ t₂
 
-        pub read_name : 65535 < name → 4 ≡ numbered
+        pub read_name : 65535 < name → Err TooLong ≡ early
         unfolding refusal_of
         read_name h = rw (a, s, c, lt-ltb 65535 name h)
 
@@ -140,13 +126,9 @@ module _ (b : List ℕ) (f : Font) (good : GoodFont b f) (small cid ask : Bool) 
           below : (t : Bool) → r₄ ≡ t → all_below (length p.charstrings) keep ≡ t
           below t h = ap (λ (n : ℕ). all_below n keep) (glyphs_are b f good) ∙ sym e₄ ∙ h
 
-          pub read_number : not r₄ ≡ true → 6 ≡ numbered
+          pub read_number : not r₄ ≡ true → Err NoSuchNumber ≡ early
           unfolding refusal_of
           read_number t = rw (a, s, c, le-ltb 65535 name t₃, below false (was_false r₄ t))
-
-          -- what finding asks
-          pub read_below : not r₄ ≡ false → all_below f.charstrings.count keep ≡ true
-          read_below t = sym e₄ ∙ was_true r₄ t
 
           module _ (t₄ : not r₄ ≡ false) (r₅ : Bool) (e₅ : r₅ ≡ all_found_lem p (kept_of f.charstrings.count keep)) where
             d : all_below (length p.charstrings) keep ≡ true
@@ -155,7 +137,7 @@ module _ (b : List ℕ) (f : Font) (good : GoodFont b f) (small cid ask : Bool) 
             found : (t : Bool) → r₅ ≡ t → all_found_lem p (kept_of (length p.charstrings) keep) ≡ t
             found t h = ap (λ (n : ℕ). all_found_lem p (kept_of n keep)) (glyphs_are b f good) ∙ sym e₅ ∙ h
 
-            pub read_found : not r₅ ≡ true → 7 ≡ numbered
+            pub read_found : not r₅ ≡ true → Err NotFound ≡ early
             unfolding refusal_of
             read_found t = rw (a, s, c, le-ltb 65535 name t₃, d, found false (was_false r₅ t))
 
@@ -163,7 +145,7 @@ module _ (b : List ℕ) (f : Font) (good : GoodFont b f) (small cid ask : Bool) 
               e : all_found_lem p (kept_of (length p.charstrings) keep) ≡ true
               e = found true (was_true r₅ t₅)
 
-              pub read-record : not r₆ ≡ true → 8 ≡ numbered
+              pub read-record : not r₆ ≡ true → Err BadRecord ≡ early
               unfolding refusal_of
               read-record t = rw (a, s, c, le-ltb 65535 name t₃, d, e, sym e₆ ∙ was_false r₆ t)
 
@@ -171,10 +153,10 @@ module _ (b : List ℕ) (f : Font) (good : GoodFont b f) (small cid ask : Bool) 
                 g : record_fine cid rec flag ≡ true
                 g = sym e₆ ∙ was_true r₆ t₆
 
-                pub read-work : words < w → 9 ≡ numbered
+                pub read-work : words < w → Err Work ≡ early
                 unfolding refusal_of
                 read-work h = rw (a, s, c, le-ltb 65535 name t₃, d, e, g, lt-ltb words (size_of small p) (subst (λ (n : ℕ). words < n) size h))
 
-                pub read-passed : w ≤ words → 0 ≡ numbered
+                pub read-passed : w ≤ words → Ok tt ≡ early
                 unfolding refusal_of
                 read-passed h = rw (a, s, c, le-ltb 65535 name t₃, d, e, g, le-ltb words (size_of small p) (subst (λ (n : ℕ). n ≤ words) size h))

@@ -26,16 +26,6 @@ fn has_ros(d: &[u8], p: Places) -> bool
     }
 }
 
-// Whether two keyings are the same.
-fn same_keying(a: bool, b: bool) -> bool
-    ensures { result ≡ same_bool_lem a b }
-{
-    if a {
-        return b;
-    }
-    !b
-}
-
 // Whether a font is stroked, or has an Expert encoding, offset 1, that is not asked for.
 fn is_unsupported(ask: bool, encoding: usize, d: &[u8], p: Places) -> bool
     requires { Placed d.now p }
@@ -55,7 +45,7 @@ fn is_fit(cid: bool, ask: bool, keyed: bool, encoding: usize, d: &[u8], p: Place
     requires { Placed d.now p }
     ensures { result ≡ pick (same_bool_lem cid keyed) (not (unsupported_at ask encoding (entries_of d.now))) false }
 {
-    if same_keying(cid, keyed) {
+    if cid == keyed {
         return !is_unsupported(ask, encoding, d, p);
     }
     false
@@ -85,7 +75,7 @@ pub fn size_of(small: bool, font: &[u8], f: Font) -> usize
     cff::font::work_size(f)
 }
 
-// The refusal of a font that was read, before the work words are used, or 0.
+// The refusal of a font that was read, before the work words are used. The flag, traced, is any byte: refusal 8 judges it.
 pub fn refusal(
     small: bool,
     cid: bool,
@@ -97,7 +87,7 @@ pub fn refusal(
     rows: &[u8],
     traced: u8,
     words: usize,
-) -> u8
+) -> Result<(), Refusal>
     requires { GoodFont font.now f }
     ensures { result ≡ refusal_of (size_of small) cid ask (program_of font.now f) name keep.now rows.now traced words }
 {
@@ -107,25 +97,25 @@ pub fn refusal(
     let d = &font[top..end];
     let p = dict::read_top(d);
     if !is_fit(cid, ask, f.cid, f.encoding, d, p) {
-        return Refusal::UNSUPPORTED;
+        return Err(Refusal::Unsupported);
     }
     if !ros_fine(cid, d, p) {
-        return Refusal::MALFORMED;
+        return Err(Refusal::Malformed);
     }
     if 65535 < name {
-        return Refusal::TOO_LONG;
+        return Err(Refusal::TooLong);
     }
     if !kept::keep_below(keep, charstrings.count) {
-        return Refusal::NO_SUCH_NUMBER;
+        return Err(Refusal::NoSuchNumber);
     }
     if !found::all_found(font, f, keep) {
-        return Refusal::NOT_FOUND;
+        return Err(Refusal::NotFound);
     }
     if !reach::check_record(cid, rows, traced) {
-        return Refusal::RECORD;
+        return Err(Refusal::BadRecord);
     }
     if words < size_of(small, font, f) {
-        return Refusal::WORK;
+        return Err(Refusal::Work);
     }
-    0
+    Ok(())
 }

@@ -1,5 +1,5 @@
 -- Laws of the refusals of a traced cut before the work words are used: the code's tests are the definition's.
-use Rattle.std.specs.Prelude.{ℕ, ◌≤◌, ◌<◌, ◌+◌, ◌*◌, ◌≡◌, refl, Bool, true, not, List, [], ltb, length, take, None, Option, Some}
+use Rattle.std.specs.Prelude.{ℕ, ◌≤◌, ◌<◌, ◌+◌, ◌*◌, ◌≡◌, refl, Bool, true, not, List, [], ltb, length, take, None, Option, Some, Result, Ok, Err}
 use Rattle.std.proofs.Common.{sym, ◌∙◌, subst, arith}
 use Rattle.std.proofs.Math.Path.{ap}
 use Rattle.std.proofs.Math.Bool.{false}
@@ -11,7 +11,7 @@ use Rattle.prune.specs.StepLaws.{zero_one}
 use Rattle.index.specs.IndexLaws.{items-length}
 use Rattle.record.specs.Record.{rows_from, rows_of, rows_fine_lem, record_fine}
 use Rattle.dict.specs.Lookup.{ros_in, cid_keyed}
-use Rattle.cff.specs.Font.{Got, Program}
+use Rattle.cff.specs.Font.{Program}
 use Rattle.cff.specs.Find.{work_size}
 use Rattle.cff.specs.Reads.{program_of}
 use Rattle.cff.specs.File.{InFile, table_in}
@@ -23,26 +23,31 @@ use Rattle.outcome.specs.Entry.{refusal_of}
 use Rattle.early_refusals.specs.RefusalLaws.{work_is}
 use Rattle.traced.specs.Traced.{Traced, refused, traced, record_of, met_all, answered, trace_program, trace_read, trace_of}
 use Rattle.early_traced.specs.Early.{fits_in, refused_or, early_of}
+use Rattle.refusal.specs.declared.Refusal.{Refusal}
+use Rattle.refusal.specs.declared.Refusal.TheVariants.{Malformed, Unsupported, TooLong, NoSuchNumber, NotFound, Work, Output}
 
 -- ---- by the tests
 
--- 3, 2, 4, 6 and 7 come first in both
-first : (s b c d e : Bool) (t : Traced) (m : ℕ) → 0 < pick s 3 (pick b (pick c 4 (pick d (pick e 0 7) 6)) 2)
-    → pick s 3 (pick b (pick c 4 (pick d (pick e 0 7) 6)) 2) ≡ pick s 3 (pick b (pick c 4 (refused_or (pick d (pick e t (refused 7)) (refused 6)) m)) 2)
-first true b c d e t m h = refl
-first false false c d e t m h = refl
-first false true true d e t m h = refl
-first false true false false e t m h = refl
-first false true false true false t m h = refl
-first false true false true true t m h = absurd (omega arith)
+-- 3, 2, 4, 6 and 7, by what their tests say
+abbrev own : Bool → Bool → Bool → Bool → Bool → Result Unit Refusal
+own s b c d e = pick s (Err Unsupported) (pick b (pick c (Err TooLong) (pick d (pick e (Ok tt) (Err NotFound)) (Err NoSuchNumber))) (Err Malformed))
 
-passes : (s b c d e : Bool) → ◌≡◌ {A = ℕ} (pick s 3 (pick b (pick c 4 (pick d (pick e 0 7) 6)) 2)) 0
-    → (s ≡ false) × (b ≡ true) × (c ≡ false) × (d ≡ true) × (e ≡ true)
-passes true b c d e h = absurd (zero_one (omega arith))
-passes false false c d e h = absurd (zero_one (omega arith))
-passes false true true d e h = absurd (zero_one (omega arith))
-passes false true false false e h = absurd (zero_one (omega arith))
-passes false true false true false h = absurd (zero_one (omega arith))
+-- they come first in both
+first : (s b c d e : Bool) (t : Traced) (r : Result Unit Refusal) (n : Refusal) → own s b c d e ≡ Err n
+    → Err n ≡ pick s (Err Unsupported) (pick b (pick c (Err TooLong) (refused_or (pick d (pick e t (refused NotFound)) (refused NoSuchNumber)) r)) (Err Malformed))
+first true b c d e t r n h = sym h
+first false false c d e t r n h = sym h
+first false true true d e t r n h = sym h
+first false true false false e t r n h = sym h
+first false true false true false t r n h = sym h
+first false true false true true t r n h = absurd (zero_one cc)
+
+passes : (s b c d e : Bool) → own s b c d e ≡ Ok tt → (s ≡ false) × (b ≡ true) × (c ≡ false) × (d ≡ true) × (e ≡ true)
+passes true b c d e h = absurd (zero_one cc)
+passes false false c d e h = absurd (zero_one cc)
+passes false true true d e h = absurd (zero_one cc)
+passes false true false false e h = absurd (zero_one cc)
+passes false true false true false h = absurd (zero_one cc)
 passes false true false true true h = (refl, refl, refl, refl, refl)
 
 -- an empty record and flag 1 are of the right form
@@ -50,22 +55,23 @@ none_fine : (cid : Bool) → record_fine cid [] 1 ≡ true
 unfolding record_fine rows_of rows_from rows_fine_lem
 none_fine cid = refl
 
-same_self : (a : Bool) → same_bool_lem a a ≡ true
+-- a keying is itself
+pub same_self : (a : Bool) → same_bool_lem a a ≡ true
 same_self true = refl
 same_self false = refl
 
 -- a trace behind 6 and 7 is refused with 11 alone
-only_eleven : (lent : ℕ) (m : Option (List Row)) (w : ℕ) → fits_in (answered lent m) ≡ false → refused_or (answered lent m) w ≡ 11
-only_eleven lent None w e = absurd (zero_one cc)
-only_eleven lent (Some rows) w e = by (ltb lent (length (record_of rows))) e
+only_eleven : (lent : ℕ) (m : Option (List Row)) (r : Result Unit Refusal) → fits_in (answered lent m) ≡ false → refused_or (answered lent m) r ≡ Err Output
+only_eleven lent None r e = absurd (zero_one cc)
+only_eleven lent (Some rows) r e = by (ltb lent (length (record_of rows))) e
   where
-    by : (t : Bool) → fits_in (pick t (refused 11) (traced 1 (record_of rows))) ≡ false → refused_or (pick t (refused 11) (traced 1 (record_of rows))) w ≡ 11
+    by : (t : Bool) → fits_in (pick t (refused Output) (traced 1 (record_of rows))) ≡ false → refused_or (pick t (refused Output) (traced 1 (record_of rows))) r ≡ Err Output
     by true q = refl
     by false q = absurd (zero_one cc)
 
-eleven : (m : Traced) (w : ℕ) → fits_in m ≡ true → refused_or m w ≡ w
-eleven (refused n) w e = absurd (zero_one cc)
-eleven (traced flag rec) w e = refl
+eleven : (m : Traced) (r : Result Unit Refusal) → fits_in m ≡ true → refused_or m r ≡ r
+eleven (refused n) r e = absurd (zero_one cc)
+eleven (traced flag rec) r e = refl
 
 module _ (p : Program) (name : ℕ) (keep : List ℕ) (words lent : ℕ) where
   abbrev n : ℕ
@@ -77,23 +83,24 @@ module _ (p : Program) (name : ℕ) (keep : List ℕ) (words lent : ℕ) where
   abbrev ros : Bool
   ros = pick (cid_keyed p.top) (has_ros_lem (ros_in p.top)) true
 
-  abbrev first_of_them : ℕ
-  first_of_them = pick (unsupported_in false p) 3 (pick ros (pick (ltb 65535 name) 4 (pick (all_below n keep) (pick (all_found_lem p kept) 0 7) 6)) 2)
+  abbrev first_of_them : Result Unit Refusal
+  first_of_them = own (unsupported_in false p) ros (ltb 65535 name) (all_below n keep) (all_found_lem p kept)
+
+  -- 9, or none
+  abbrev last : Result Unit Refusal
+  last = pick (ltb words (work_size p)) (Err Work) (Ok tt)
 
   -- the subset call's, with an empty record and words enough
   asked-first : refusal_of work_size (cid_keyed p.top) false p name keep [] 1 (work_size p) ≡ first_of_them
   unfolding refusal_of
   asked-first = rw (same_self (cid_keyed p.top), none_fine (cid_keyed p.top), le-ltb (work_size p) (work_size p) (omega arith))
 
-  pub early-first : 0 < refusal_of work_size (cid_keyed p.top) false p name keep [] 1 (work_size p)
-      → refusal_of work_size (cid_keyed p.top) false p name keep [] 1 (work_size p) ≡ early_of p name keep words lent
+  pub early-first : (e : Refusal) → refusal_of work_size (cid_keyed p.top) false p name keep [] 1 (work_size p) ≡ Err e → Err e ≡ early_of p name keep words lent
   unfolding early_of
-  early-first h =
-      asked-first
-      ∙ first (unsupported_in false p) ros (ltb 65535 name) (all_below n keep) (all_found_lem p kept) (answered lent (met_all p kept)) (pick (ltb words (work_size p)) 9 0)
-      (subst (λ (k : ℕ). 0 < k) asked-first h)
+  early-first e h =
+      first (unsupported_in false p) ros (ltb 65535 name) (all_below n keep) (all_found_lem p kept) (answered lent (met_all p kept)) last e (sym asked-first ∙ h)
 
-  module _ (not_refused : refusal_of work_size (cid_keyed p.top) false p name keep [] 1 (work_size p) ≡ 0) where
+  module _ (not_refused : refusal_of work_size (cid_keyed p.top) false p name keep [] 1 (work_size p) ≡ Ok tt) where
     tests : (unsupported_in false p ≡ false) × (ros ≡ true) × (ltb 65535 name ≡ false) × (all_below n keep ≡ true) × (all_found_lem p kept ≡ true)
     tests = passes (unsupported_in false p) ros (ltb 65535 name) (all_below n keep) (all_found_lem p kept) (sym asked-first ∙ not_refused)
 
@@ -103,26 +110,26 @@ module _ (p : Program) (name : ℕ) (keep : List ℕ) (words lent : ℕ) where
     trace_is : trace_program p keep lent ≡ answered lent (met_all p kept)
     trace_is = rw (tests.3, tests.4)
 
-    left : early_of p name keep words lent ≡ refused_or (trace_program p keep lent) (pick (ltb words (work_size p)) 9 0)
+    left : early_of p name keep words lent ≡ refused_or (trace_program p keep lent) last
     unfolding early_of
     left = rw (tests.0, tests.1, tests.2)
 
     -- too long
-    pub early_long : fits_in (trace_program p keep lent) ≡ false → 11 ≡ early_of p name keep words lent
+    pub early_long : fits_in (trace_program p keep lent) ≡ false → Err Output ≡ early_of p name keep words lent
     early_long e =
-        sym (left ∙ ap (λ (t : Traced). refused_or t (pick (ltb words (work_size p)) 9 0)) trace_is
-        ∙ only_eleven lent (met_all p kept) (pick (ltb words (work_size p)) 9 0) (ap fits_in (sym trace_is) ∙ e))
+        sym (left ∙ ap (λ (t : Traced). refused_or t last) trace_is
+        ∙ only_eleven lent (met_all p kept) last (ap fits_in (sym trace_is) ∙ e))
 
     -- room enough
     module _ (e : fits_in (trace_program p keep lent) ≡ true) where
-      behind : early_of p name keep words lent ≡ pick (ltb words (work_size p)) 9 0
-      behind = left ∙ eleven (trace_program p keep lent) (pick (ltb words (work_size p)) 9 0) e
+      behind : early_of p name keep words lent ≡ last
+      behind = left ∙ eleven (trace_program p keep lent) last e
 
-      pub early-words : words < work_size p → 9 ≡ early_of p name keep words lent
-      early-words h = sym (behind ∙ ap (λ (t : Bool). pick t 9 0) (lt-ltb words (work_size p) h))
+      pub early-words : words < work_size p → Err Work ≡ early_of p name keep words lent
+      early-words h = sym (behind ∙ ap (λ (t : Bool). pick t (Err Work) (Ok tt)) (lt-ltb words (work_size p) h))
 
-      pub early-none : work_size p ≤ words → 0 ≡ early_of p name keep words lent
-      early-none h = sym (behind ∙ ap (λ (t : Bool). pick t 9 0) (le-ltb words (work_size p) h))
+      pub early-none : work_size p ≤ words → Ok tt ≡ early_of p name keep words lent
+      early-none h = sym (behind ∙ ap (λ (t : Bool). pick t (Err Work) (Ok tt)) (le-ltb words (work_size p) h))
 
 -- ---- a font in a file
 
@@ -138,23 +145,23 @@ module _ (file : List ℕ) (f : Font) (b : List ℕ) (held : InFile file f b) wh
 
   trace-of : (keep : List ℕ) (lent : ℕ) → trace_of file keep lent ≡ trace_program q keep lent
   unfolding trace_of
-  trace-of keep lent = ap (λ (g : Got Program). trace_read g keep lent) held.is
+  trace-of keep lent = ap (λ (g : Result Program Refusal). trace_read g keep lent) held.is
 
-  module _ (name : ℕ) (keep : List ℕ) (words lent w n : ℕ) (size : w ≡ 2 * f.charstrings.count + words_for f.globals.count + f.words)
-      (is : n ≡ refusal_of work_size f.cid false q name keep (take 0 b) 1 w) where
+  module _ (name : ℕ) (keep : List ℕ) (words lent w : ℕ) (r : Result Unit Refusal) (size : w ≡ 2 * f.charstrings.count + words_for f.globals.count + f.words)
+      (is : r ≡ refusal_of work_size f.cid false q name keep (take 0 b) 1 w) where
     wide : w ≡ work_size q
     wide = size ∙ work_is b f held.good
 
-    number : n ≡ refusal_of work_size (cid_keyed q.top) false q name keep [] 1 (work_size q)
-    number = is ∙ ap (λ (c : Bool). refusal_of work_size c false q name keep [] 1 w) keyed ∙ ap (refusal_of work_size (cid_keyed q.top) false q name keep [] 1) wide
+    asked : r ≡ refusal_of work_size (cid_keyed q.top) false q name keep [] 1 (work_size q)
+    asked = is ∙ ap (λ (c : Bool). refusal_of work_size c false q name keep [] 1 w) keyed ∙ ap (refusal_of work_size (cid_keyed q.top) false q name keep [] 1) wide
 
     -- refused by the subset call's own
-    pub own-refusal : 0 < n → n ≡ early_of q name keep words lent
-    own-refusal h = number ∙ early-first q name keep words lent (subst (λ (k : ℕ). 0 < k) number h)
+    pub own-refusal : (e : Refusal) → r ≡ Err e → Err e ≡ early_of q name keep words lent
+    own-refusal e h = early-first q name keep words lent e (sym asked ∙ h)
 
-    module _ (l : n ≤ 0) where
-      not_refused : refusal_of work_size (cid_keyed q.top) false q name keep [] 1 (work_size q) ≡ 0
-      not_refused = let z : n ≡ 0 = omega arith in sym number ∙ z
+    module _ (passed : r ≡ Ok tt) where
+      not_refused : refusal_of work_size (cid_keyed q.top) false q name keep [] 1 (work_size q) ≡ Ok tt
+      not_refused = sym asked ∙ passed
 
       -- what the trace asks
       pub traced-asked : (all_below f.charstrings.count keep ≡ true) × (all_found_lem q (kept_of f.charstrings.count keep) ≡ true)
@@ -162,34 +169,34 @@ module _ (file : List ℕ) (f : Font) (b : List ℕ) (held : InFile file f b) wh
           let h = keep-passes q name keep words lent not_refused in
           (ap (λ (m : ℕ). all_below m keep) (sym many) ∙ h.0, ap (λ (m : ℕ). all_found_lem q (kept_of m keep)) (sym many) ∙ h.1)
 
-      module _ (r : Bool) (fits : r ≡ fits_in (trace_of file keep lent)) where
-        pub long_refusal : not r ≡ true → 11 ≡ early_of q name keep words lent
-        long_refusal t = early_long q name keep words lent not_refused (ap fits_in (sym (trace-of keep lent)) ∙ sym fits ∙ was_false r t)
+      module _ (t : Bool) (fits : t ≡ fits_in (trace_of file keep lent)) where
+        pub long_refusal : not t ≡ true → Err Output ≡ early_of q name keep words lent
+        long_refusal h = early_long q name keep words lent not_refused (ap fits_in (sym (trace-of keep lent)) ∙ sym fits ∙ was_false t h)
           where
             was_false : (r : Bool) → not r ≡ true → r ≡ false
             was_false true e = absurd (zero_one cc)
             was_false false e = refl
 
-        module _ (t : not r ≡ false) where
+        module _ (room : not t ≡ false) where
           has_room : fits_in (trace_program q keep lent) ≡ true
-          has_room = ap fits_in (sym (trace-of keep lent)) ∙ sym fits ∙ was_true r t
+          has_room = ap fits_in (sym (trace-of keep lent)) ∙ sym fits ∙ was_true t room
             where
               was_true : (r : Bool) → not r ≡ false → r ≡ true
               was_true true e = refl
               was_true false e = absurd (zero_one cc)
 
-          pub words-refusal : words < w → 9 ≡ early_of q name keep words lent
+          pub words-refusal : words < w → Err Work ≡ early_of q name keep words lent
           words-refusal h = early-words q name keep words lent not_refused has_room (subst (λ (k : ℕ). words < k) wide h)
 
-          pub no_refusal : w ≤ words → 0 ≡ early_of q name keep words lent
+          pub no_refusal : w ≤ words → Ok tt ≡ early_of q name keep words lent
           no_refusal h = early-none q name keep words lent not_refused has_room (subst (λ (k : ℕ). k ≤ words) wide h)
 
 -- ---- by the bytes of the table
 
 module _ (file : List ℕ) (f : Font) (b : List ℕ) (held : InFile file f b) where
-  pub early-table : (n name : ℕ) (keep : List ℕ) (words lent : ℕ) → n ≡ early_of (program_of b f) name keep words lent
-      → n ≡ early_of (program_of (table_in file f) f) name keep words lent
-  early-table n name keep words lent e = subst (λ (l : List ℕ). n ≡ early_of (program_of l f) name keep words lent) held.bytes e
+  pub early-table : (r : Result Unit Refusal) (name : ℕ) (keep : List ℕ) (words lent : ℕ) → r ≡ early_of (program_of b f) name keep words lent
+      → r ≡ early_of (program_of (table_in file f) f) name keep words lent
+  early-table r name keep words lent e = subst (λ (l : List ℕ). r ≡ early_of (program_of l f) name keep words lent) held.bytes e
 
   pub found-table : (kept : List ℕ) → all_found_lem (program_of b f) kept ≡ true → all_found_lem (program_of (table_in file f) f) kept ≡ true
   found-table kept e = subst (λ (l : List ℕ). all_found_lem (program_of l f) kept ≡ true) held.bytes e

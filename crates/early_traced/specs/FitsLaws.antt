@@ -1,5 +1,5 @@
 -- Laws of counting the rows of a record: it has room where the tracer would not refuse it with 11.
-use Rattle.std.specs.Prelude.{ℕ, ◌/◌, ◌≤◌, ◌<◌, ◌≡◌, refl, Bool, true, false, List, [], length}
+use Rattle.std.specs.Prelude.{ℕ, ◌/◌, ◌≤◌, ◌<◌, ◌≡◌, refl, Bool, true, false, List, [], length, Err}
 use Rattle.std.proofs.Common.{sym, ◌∙◌, arith}
 use Rattle.octets.specs.Octets.{Octets, put}
 use Rattle.octets.specs.Lists.{all_below}
@@ -11,26 +11,26 @@ use Rattle.subset.specs.Kept.{keeps, kept_of}
 use Rattle.subset.specs.Cut.{all_found_lem}
 use Rattle.kept.specs.Packed.{Marks}
 use Rattle.row_window.specs.Key.{keys_bytes}
-use Rattle.traced.specs.Traced.{Traced, refused, traced, answered, trace_of, traced_as, leaves_record}
-use Rattle.traced.specs.declared.TracedAs.{TracedAs}
-use Rattle.traced.specs.declared.TracedAs.TheVariants.{Refused, Record}
+use Rattle.traced.specs.Traced.{Traced, refused, traced, answered, trace_of, traced_as, leaves_record, a_record}
 use Rattle.tracer.specs.Tracing.{met_in, RowsFit, Plainly, keys_in, sorted_in, Shown, Counted, Answers}
 use Rattle.tracer.specs.AnswerLaws.{answer_long, answer-written, font-held, kept-rows, marked-rows, kept-answered, trace_done}
 use Rattle.tracer.specs.WindowsLaws.{shows-count}
 use Rattle.early_traced.specs.Early.{fits_in}
+use Rattle.refusal.specs.declared.Refusal.{Refusal}
+use Rattle.refusal.specs.declared.Refusal.TheVariants.{Output}
 
 -- ---- by the answer of a trace
 
-is_refused : (t : Traced) (n : ℕ) → Refused n ≡ traced_as t → fits_in t ≡ false
+is_refused : (t : Traced) (n : Refusal) → Err n ≡ traced_as t → fits_in t ≡ false
 is_refused (refused m) n e = refl
 is_refused (traced flag rec) n e = absurd (zero_one cc)
 
-is_record : (t : Traced) (flag len : ℕ) → Record flag len ≡ traced_as t → fits_in t ≡ true
+is_record : (t : Traced) (flag len : ℕ) → a_record flag len ≡ traced_as t → fits_in t ≡ true
 is_record (refused m) flag len e = absurd (zero_one cc)
 is_record (traced f rec) flag len e = refl
 
 -- a glyph that is not plain
-pub fits_broken : (t : Traced) (out out' : List ℕ) (flag len : ℕ) → Answers t out out' (Record flag len) → true ≡ fits_in t
+pub fits_broken : (t : Traced) (out out' : List ℕ) (flag len : ℕ) → Answers t out out' (a_record flag len) → true ≡ fits_in t
 fits_broken t out out' flag len a = sym (is_record t flag len a.answers)
 
 fits_as : (t u : Traced) → traced_as t ≡ traced_as u → fits_in t ≡ fits_in u
@@ -62,7 +62,7 @@ module _ (b : List ℕ) (f : Font) (marks : List ℕ) (p : Plainly b f marks) (o
 
   -- too many rows
   pub fits_not : (n : ℕ) → n ≤ length (sorted_in b f marks) → length out / 10 < n → false ≡ fits_in all
-  fits_not n l h = sym (is_refused all 11 (answer_long b f marks p out (length out / 10) refl n l h).answers)
+  fits_not n l h = sym (is_refused all Output (answer_long b f marks p out (length out / 10) refl n l h).answers)
 
   -- few enough
   pub fits_all : length (sorted_in b f marks) ≤ length out / 10 → true ≡ fits_in all

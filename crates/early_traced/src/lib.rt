@@ -73,22 +73,26 @@ fn record_fits(font: &[u8], f: Font, keep: &[u16], lent: &[u8]) -> bool
     fits_marked(table, f, &marks, lent)
 }
 
-// The refusal, or 0.
-pub fn refusal(font: &[u8], f: Font, name: usize, keep: &[u16], words: usize, lent: &[u8]) -> u8
+// The refusal, where there is one.
+pub fn refusal(
+    font: &[u8],
+    f: Font,
+    name: usize,
+    keep: &[u16],
+    words: usize,
+    lent: &[u8],
+) -> Result<(), Refusal>
     requires { HasFont font.now f }
     ensures { result ≡ early_of (program_of (table_in font.now f) f) name keep.now words (length lent.now) }
 {
     let table = cff::set::table(font, f);
     let w = cff::font::work_size(f);
-    let n = early_refusals::refusal(false, f.cid, false, table, f, name, keep, &table[..0], 1, w);
-    if 0 < n {
-        return n;
-    }
+    early_refusals::refusal(false, f.cid, false, table, f, name, keep, &table[..0], 1, w)?;
     if !record_fits(font, f, keep, lent) {
-        return Refusal::OUTPUT;
+        return Err(Refusal::Output);
     }
     if words < w {
-        return Refusal::WORK;
+        return Err(Refusal::Work);
     }
-    0
+    Ok(())
 }

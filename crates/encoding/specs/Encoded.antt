@@ -1,5 +1,5 @@
 -- The encoding of a subset as the code holds it (document 02, Wish 4): a table of 256 places, which hold 0 for a code without a pair, else the new
--- id of the code's glyph + 1; and a kind, since a subset may have no encoding or the Expert one.
+-- id of the code's glyph + 1, where the subset has pairs.
 use Rattle.std.specs.Prelude.{ℕ, zero, suc, ◌+◌, ◌*◌, ◌-◌, ◌≤◌, ◌<◌, ◌≡◌, false, List, [], ◌∷◌, ◌++◌, eqb, take, get_or}
 use Rattle.octets.specs.Pick.{pick}
 use Rattle.cff.specs.Font.{Program}
@@ -13,6 +13,7 @@ use Rattle.own_strings.specs.Slots.{slots_of}
 use Rattle.own_strings.specs.Ready.{HasStrings, SlotsGiven}
 use Rattle.name_strings.specs.Names.{NamesApart}
 use Rattle.encoding.specs.declared.Encoding.{Encoding}
+use Rattle.encoding.specs.declared.Encoding.TheVariants.{Absent, Expert, Pairs}
 
 -- ---- pairs
 
@@ -25,22 +26,32 @@ unfoldable pub pairs_in : List ℕ → ℕ → ℕ → List Pair
 pairs_in table zero code = []
 pairs_in table (suc n) code = pair_in code (get_or table code 0) ++ pairs_in table n (code + 1)
 
--- what a subset has: kind 0 no encoding, 1 the Expert one, 2 the pairs of the table
-abbrev pub coded_in : ℕ → List ℕ → Coded
-coded_in kind table = pick (eqb kind 0) none (pick (eqb kind 1) predefined (pairs (pairs_in table 256 0)))
+-- what a subset has: no encoding, the Expert one, or the pairs of the table; and how many pairs
+abbrev pub coded_in : Encoding → List ℕ → Coded
+coded_in Absent table = none
+coded_in Expert table = predefined
+coded_in (Pairs n) table = pairs (pairs_in table 256 0)
+
+abbrev pub pairs_of : Encoding → ℕ
+pairs_of Absent = 0
+pairs_of Expert = 0
+pairs_of (Pairs n) = n
 
 pub record Encodes (coded : Coded) (table : List ℕ) (e : Encoding) : Type 0 where
-  pub is : coded_in e.kind table ≡ coded
-  pub kind-small : e.kind ≤ 2
-  pub many : e.pairs ≡ pair_count coded
-  pub small : e.pairs ≤ 256
+  pub is : coded_in e table ≡ coded
+  pub many : pairs_of e ≡ pair_count coded
+  pub small : pairs_of e ≤ 256
 
 -- how many bytes it has, and its offset where they stand at a place
 abbrev pub encoding_len : Encoding → ℕ
-encoding_len e = pick (eqb e.kind 2) (3 + 3 * e.pairs) 0
+encoding_len Absent = 0
+encoding_len Expert = 0
+encoding_len (Pairs n) = 3 + 3 * n
 
 abbrev pub offset_for : Encoding → ℕ → ℕ
-offset_for e at = pick (eqb e.kind 0) 0 (pick (eqb e.kind 1) 1 at)
+offset_for Absent at = 0
+offset_for Expert at = 1
+offset_for (Pairs n) at = at
 
 -- ---- new ids
 

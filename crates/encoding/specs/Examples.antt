@@ -5,6 +5,7 @@ use Rattle.cff.specs.Font.{Program}
 use Rattle.subset.specs.Texts.{name_of, new_id}
 use Rattle.subset.specs.Codes.{pairs, pair_bytes, encoding_bytes, coded_bytes}
 use Rattle.encoding.specs.Encoded.{pairs_in, coded_in, held_after}
+use Rattle.encoding.specs.declared.Encoding.TheVariants.{Absent, Expert}
 
 -- codes 0 and 3 have pairs: glyph 0 is .notdef, whose id is 0; code 1 has none
 some_pairs : pairs_in (1 ∷ 0 ∷ 0 ∷ 392 ∷ []) 4 0 ≡ record { code = 0; id = 0 } ∷ record { code = 3; id = 391 } ∷ []
@@ -21,7 +22,7 @@ no_pairs : coded_bytes (pairs (pairs_in [] 4 0)) ≡ 0x80 ∷ 0x00 ∷ 0x00 ∷ 
 unfolding pairs_in pair_bytes
 no_pairs = refl
 
-no_bytes : coded_bytes (coded_in 0 []) ++ coded_bytes (coded_in 1 []) ≡ []
+no_bytes : coded_bytes (coded_in Absent []) ++ coded_bytes (coded_in Expert []) ≡ []
 no_bytes = refl
 
 -- glyphs 0, 2 and 5 are kept: a code of glyph 2 gets the new id of its name, plus 1, and one of glyph 3, or of none, stays without

@@ -1,7 +1,7 @@
 -- Laws of writing: one pair, the pairs that are left, and the whole encoding.
-use Rattle.std.specs.Prelude.{ℕ, zero, suc, ◌+◌, ◌-◌, ◌≤◌, ◌<◌, ◌≡◌, refl, Bool, false, eqb, get_or}
+use Rattle.std.specs.Prelude.{ℕ, suc, ◌+◌, ◌-◌, ◌≤◌, ◌<◌, ◌≡◌, refl, Bool, false, eqb, get_or}
 use Rattle.std.proofs.Math.Path.{sym, ap}
-use Rattle.std.proofs.Common.{◌∙◌, arith, eq-eqb, ne_eqb, length-append}
+use Rattle.std.proofs.Common.{◌∙◌, subst, arith, eq-eqb, ne_eqb, length-append}
 use mathlib.Core.List.{List, [], ◌∷◌, ◌++◌, append-nil}
 use Rattle.std.proofs.Math.ListN.{length}
 use Rattle.octets.specs.Pick.{pick}
@@ -9,9 +9,10 @@ use Rattle.octets.specs.Octets.{bytes_of, put, Wrote}
 use Rattle.octets.specs.OctetsLaws.{length-bytes}
 use Rattle.octets.specs.PutLaws.{put_nil, put-put, wrote_none, wrote_then, wrote_as, wrote-length}
 use Rattle.subset.specs.Codes.{pair_count, pair_bytes, coded_bytes}
-use Rattle.encoding.specs.Encoded.{pair_in, pairs_in, coded_in, Encodes}
+use Rattle.encoding.specs.Encoded.{pairs_of, pair_in, pairs_in, coded_in, Encodes}
 use Rattle.encoding.specs.PairLaws.{pair-bytes-append, pairs-more, pairs-none}
 use Rattle.encoding.specs.declared.Encoding.{Encoding}
+use Rattle.encoding.specs.declared.Encoding.TheVariants.{Absent, Expert, Pairs}
 
 -- ---- one pair
 
@@ -87,41 +88,37 @@ module _ (table old : List ℕ) (at : ℕ) (out : List ℕ) (p c : ℕ) (room : 
 
 -- ---- the whole
 
-predefined-bytes : (table : List ℕ) (kind : ℕ) → kind < 2 → coded_bytes (coded_in kind table) ≡ []
-predefined-bytes table zero h = refl
-predefined-bytes table (suc zero) h = refl
-predefined-bytes table (suc (suc k)) h = absurd (omega arith)
+module _ (out : List ℕ) (at : ℕ) (table : List ℕ) (e : Encoding) where
+  pub absent-wrote : e ≡ Absent → Wrote out at (coded_bytes (coded_in e table)) out at
+  absent-wrote is = wrote_as (wrote_none out at) (sym (ap (λ (x : Encoding). coded_bytes (coded_in x table)) is))
 
-pub predefined-wrote : (out : List ℕ) (at : ℕ) (table : List ℕ) (kind : ℕ) → kind < 2 → Wrote out at (coded_bytes (coded_in kind table)) out at
-predefined-wrote out at table kind h = wrote_as (wrote_none out at) (sym (predefined-bytes table kind h))
+  pub expert-wrote : e ≡ Expert → Wrote out at (coded_bytes (coded_in e table)) out at
+  expert-wrote is = wrote_as (wrote_none out at) (sym (ap (λ (x : Encoding). coded_bytes (coded_in x table)) is))
 
-module _ (out : List ℕ) (at : ℕ) (table : List ℕ) (e : Encoding) (s : Encodes (coded_in e.kind table) table e) (some : 2 ≤ e.kind)
-    (room : at + length (coded_bytes (coded_in e.kind table)) ≤ length out) where
+module _ (out : List ℕ) (at : ℕ) (table : List ℕ) (e : Encoding) (s : Encodes (coded_in e table) table e) (n : ℕ) (is : e ≡ Pairs n)
+    (room : at + length (coded_bytes (coded_in e table)) ≤ length out) where
   abbrev rest : List ℕ
   rest = pair_bytes (pairs_in table 256 0)
 
-  kind-two : e.kind ≡ 2
-  kind-two = omega (arith, s.kind-small)
+  counted : n ≡ length (pairs_in table 256 0)
+  counted = subst (λ (x : Encoding). pairs_of x ≡ pair_count (coded_in x table)) is s.many
 
-  counted : e.pairs ≡ length (pairs_in table 256 0)
-  counted = s.many ∙ ap (λ (k : ℕ). pair_count (coded_in k table)) kind-two
-
-  all-bytes : coded_bytes (coded_in e.kind table) ≡ ((0x80 ∷ 0x00 ∷ []) ++ (e.pairs ∷ [])) ++ rest
-  all-bytes = ap (λ (k : ℕ). coded_bytes (coded_in k table)) kind-two ∙ ap (λ (n : ℕ). 0x80 ∷ 0x00 ∷ n ∷ rest) (sym counted)
+  all-bytes : coded_bytes (coded_in e table) ≡ ((0x80 ∷ 0x00 ∷ []) ++ (n ∷ [])) ++ rest
+  all-bytes = ap (λ (x : Encoding). coded_bytes (coded_in x table)) is ∙ ap (λ (m : ℕ). 0x80 ∷ 0x00 ∷ m ∷ rest) (sym counted)
 
   pub whole_room : at + 3 + length rest ≤ length out
   whole_room =
-      let l : length (coded_bytes (coded_in e.kind table)) ≡ suc (suc (suc (length rest))) = ap length all-bytes in
+      let l : length (coded_bytes (coded_in e table)) ≡ suc (suc (suc (length rest))) = ap length all-bytes in
       omega arith
 
   pub count_room : {mid : List ℕ} {p : ℕ} → Wrote out at (0x80 ∷ 0x00 ∷ []) mid p → p < length mid
   count_room w = omega (arith, w.behind, wrote-length w (omega (arith, whole_room)), whole_room)
 
-  module _ {mid mid2 : List ℕ} {p q : ℕ} (v : Wrote out at (0x80 ∷ 0x00 ∷ []) mid p) (w : Wrote mid p (e.pairs ∷ []) mid2 q) where
+  module _ {mid mid2 : List ℕ} {p q : ℕ} (v : Wrote out at (0x80 ∷ 0x00 ∷ []) mid p) (w : Wrote mid p (n ∷ []) mid2 q) where
     pub pairs-room : q + length rest ≤ length mid2
     pairs-room =
         let a = count_room v in
         omega (arith, v.behind, w.behind, wrote-length v (omega (arith, whole_room)), wrote-length w (omega arith), whole_room)
 
-    pub whole-wrote : {new : List ℕ} {r : ℕ} → Wrote mid2 q rest new r → Wrote out at (coded_bytes (coded_in e.kind table)) new r
+    pub whole-wrote : {new : List ℕ} {r : ℕ} → Wrote mid2 q rest new r → Wrote out at (coded_bytes (coded_in e table)) new r
     whole-wrote u = wrote_as (wrote_then (omega (arith, whole_room)) (wrote_then (omega (arith, whole_room)) v w) u) (sym all-bytes)

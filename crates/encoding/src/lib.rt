@@ -9,15 +9,29 @@ ghost use Rattle.octets.specs.Octets.{Wrote};
 ghost use Rattle.cff.specs.Reads.{program_of};
 ghost use Rattle.subset.specs.Codes.{coded_by_lem, coded_if, coded_bytes, pair_bytes};
 ghost use Rattle.order_window.specs.Window.{glyphs_of, Ordered};
-ghost use Rattle.encoding.specs.Encoded.{pair_in, pairs_in, coded_in, Encodes, encoding_len, offset_for, kept_own, CanRename, Emptied, Puts, Renames};
+ghost use Rattle.encoding.specs.Encoded.{pairs_of, pair_in, pairs_in, coded_in, Encodes, encoding_len, offset_for, kept_own, CanRename, Emptied, Puts, Renames};
 
 use order_window::Order;
 
-// What a subset has: kind 0 no encoding, 1 the Expert one, 2 the pairs of a table; and how many pairs.
+// What a subset has: no encoding, the Expert one, or so many pairs of a table.
 #[derive(Clone, Copy)]
-pub struct Encoding {
-    pub kind: usize,
-    pub pairs: usize,
+pub enum Encoding {
+    Absent,
+    Expert,
+    Pairs(usize),
+}
+
+impl Encoding {
+    // How many pairs it has.
+    pub fn pairs(self) -> usize
+        ensures { result ≡ pairs_of self }
+    {
+        match self {
+            Encoding::Absent => 0,
+            Encoding::Expert => 0,
+            Encoding::Pairs(n) => n,
+        }
+    }
 }
 
 // Empties the places of all codes; the highest glyph + 1 that a code has, or 0.
@@ -109,14 +123,16 @@ fn encode_asked(
 {
     let f = o.f;
     let at = f.encoding;
-    if at < 2 {
-        return Encoding { kind: at, pairs: 0 };
+    if at == 0 {
+        return Encoding::Absent;
+    }
+    if at == 1 {
+        return Encoding::Expert;
     }
     let mut named = [0usize; 256];
     codes::fill(font, f, &mut named);
     rename(font, o, words, window, slots, &named, &mut *table);
-    let pairs = pair_count(&*table);
-    Encoding { kind: 2, pairs }
+    Encoding::Pairs(pair_count(&*table))
 }
 
 // The encoding of the subset of a name-keyed font, where it is asked for: of the kept glyphs by the new ids of their names, the slots holding the strings
@@ -140,34 +156,30 @@ pub fn encode(
     if ask {
         return encode_asked(font, o, words, window, slots, table);
     }
-    Encoding { kind: 0, pairs: 0 }
+    Encoding::Absent
 }
 
 // How many bytes it has.
 pub fn encoding_len(e: Encoding) -> usize
-    requires { e.pairs ≤ 256 }
+    requires { pairs_of e ≤ 256 }
     ensures { (result ≡ encoding_len e) × (result ≤ 771) }
 {
-    let kind = e.kind;
-    let pairs = e.pairs;
-    if kind == 2 {
-        return 3 + 3 * pairs;
+    match e {
+        Encoding::Absent => 0,
+        Encoding::Expert => 0,
+        Encoding::Pairs(n) => 3 + 3 * n,
     }
-    0
 }
 
 // Its offset, its bytes standing at a place.
 pub fn encoding_at(e: Encoding, at: usize) -> usize
     ensures { result ≡ offset_for e at }
 {
-    let kind = e.kind;
-    if kind == 0 {
-        return 0;
+    match e {
+        Encoding::Absent => 0,
+        Encoding::Expert => 1,
+        Encoding::Pairs(_) => at,
     }
-    if kind == 1 {
-        return 1;
-    }
-    at
 }
 
 // Writes the pair of a code, if there is one, by what the table holds of it; returns the place after it.
@@ -196,16 +208,17 @@ fn put_pairs(table: &[usize], out: &mut [u8], at: usize) -> usize
 
 // Writes the encoding at a place; returns the place after it. Nothing is written for the predefined ones.
 pub fn put_encoding(e: Encoding, table: &[usize], out: &mut [u8], at: usize) -> usize
-    requires { Encodes (coded_in e.kind table.now) table.now e × (e.pairs ≤ 255) × (256 ≤ length table.now)
-        × (at + length (coded_bytes (coded_in e.kind table.now)) ≤ length out.old) }
-    ensures { Wrote out.old at (coded_bytes (coded_in e.kind table.now)) out.new result }
+    requires { Encodes (coded_in e table.now) table.now e × (pairs_of e ≤ 255) × (256 ≤ length table.now)
+        × (at + length (coded_bytes (coded_in e table.now)) ≤ length out.old) }
+    ensures { Wrote out.old at (coded_bytes (coded_in e table.now)) out.new result }
 {
-    let kind = e.kind;
-    let pairs = e.pairs;
-    if kind < 2 {
-        return at;
+    match e {
+        Encoding::Absent => at,
+        Encoding::Expert => at,
+        Encoding::Pairs(n) => {
+            let p = octets::put_pair(out, at, 0x80, 0);
+            let q = octets::put_byte(out, p, n as u8);
+            put_pairs(table, out, q)
+        }
     }
-    let p = octets::put_pair(out, at, 0x80, 0);
-    let q = octets::put_byte(out, p, pairs as u8);
-    put_pairs(table, out, q)
 }

@@ -1,7 +1,7 @@
 -- Demand 3 used: what the theorem gives for glyph 1 of document 01's font, for glyphs of a CID-keyed font with a mask in a subroutine, cut
 -- in each of the three ways, and a record that lists the mask with another length alone, for which it gives nothing; and what the codes of the
 -- first font's subset mean (document 02, Wish 4), of which cut_examples has more.
-use Rattle.std.specs.Prelude.{ℕ, zero, suc, ◌<◌, ◌≡◌, refl, true, false, List, [], ◌∷◌, ◌++◌, ltb, pos, length, take}
+use Rattle.std.specs.Prelude.{ℕ, zero, suc, ◌≡◌, refl, true, false, List, [], ◌∷◌, ◌++◌, ltb, pos, length, take, Result, Ok, Some}
 use Rattle.std.proofs.Common.{sym, ap, ◌∙◌, subst, inl, inr, arith, ltb-true}
 use Rattle.std.proofs.lemmas.Bool.{false≢true}
 use Rattle.octets.specs.Octets.{Octets, be, num_at}
@@ -26,9 +26,8 @@ use Rattle.strings.specs.Text.{codes, same_text_lem}
 use Rattle.strings.specs.Strings.{string_text, standard_string, standard_strings}
 use Rattle.find.specs.Find.{glyph_with_text}
 use Rattle.opentype.specs.Opentype.{place_of}
-use Rattle.cff.specs.Font.{Got, got, standard, Program, empty_private, char_strings, read_table, read_font, set_at, fonts_at, font_at, name_parts, private_at, ids_at, coding_at, encoding_got}
+use Rattle.cff.specs.Font.{standard, Program, empty_private, char_strings, read_table, read_font, set_at, fonts_at, font_at, name_parts, private_at, ids_at, coding_at, encoding_got}
 use Rattle.cff.specs.Find.{work_size}
-use Rattle.cff.specs.declared.FoundAs.TheVariants.{Glyph as TheGlyph}
 use Rattle.subset.specs.Kept.{is_in, those, fds_of, kept_of, used_fds}
 use Rattle.subset.specs.Codes.{glyph_of, coded_by_lem, nothing, named, meant, kept_meant}
 use Rattle.subset.specs.Subset.{matrix_of}
@@ -42,6 +41,8 @@ use Rattle.faithful.specs.Codes.{KeepsCodes}
 use Rattle.faithful.proofs.AskedExample.{asked-kept}
 use Rattle.faithful.proofs.UnlistedExample.{met_3, unlisted_3}
 use Rattle.faithful.proofs.Theorem.{faithful, matrix_back, codes-back}
+use Rattle.refusal.specs.declared.Refusal.{Refusal}
+use Rattle.subset.specs.declared.Way.TheVariants.{Renumbered}
 
 -- a list of numbers below 256
 pub octets_of : (b : List ℕ) → all_below 256 b ≡ true → Octets b
@@ -67,7 +68,7 @@ sheet_program =
       coding = standard;
     }
 
-sheet-reads : read_font sheet ≡ got sheet_program
+sheet-reads : read_font sheet ≡ Ok sheet_program
 unfolding
     read_font read_table place_of set_at fonts_at font_at name_parts private_at ids_at coding_at encoding_got read_index told index_at table_at data_at run_of judged offsets pieces items_of num_at be dict_of
     gathered readings_at readings_from entry_at entry_from token_at operator_at number_at real_at normal zeros zeros_of stripped last_of last_from trunc_of list_of
@@ -89,7 +90,7 @@ sheet_unfolds = refl
 pub none_octets : Octets []
 none_octets i = omega arith
 
-sheet_faithful : Faithful sheet (1 ∷ []) [] 1 (subset 0 sheet_subset)
+sheet_faithful : Faithful sheet (1 ∷ []) [] 1 (subset Renumbered sheet_subset)
 sheet_faithful =
     subst (λ (o : Outcome). Faithful sheet (1 ∷ []) [] 1 o) the_sheet
     (faithful work_size false false sheet (0x41 ∷ []) (1 ∷ []) [] 1 8192 32768 (octets_of sheet sheet_octets) none_octets)
@@ -100,11 +101,11 @@ sheet-held =
     sheet_faithful sheet_program sheet-reads 1 (asked-kept sheet_program (1 ∷ []) 1 (omega arith) asked_1) (op 14 ∷ []) [] sheet_unfolds (inr empty)
 
 -- its encoding asked for, which is the standard one: the same subset, in which code 32 is space and code 33, exclam, has no glyph
-sheet-asked : cut_of false true sheet (0x41 ∷ []) (1 ∷ []) [] 1 8192 32768 ≡ subset 0 sheet_subset
+sheet-asked : cut_of false true sheet (0x41 ∷ []) (1 ∷ []) [] 1 8192 32768 ≡ subset Renumbered sheet_subset
 unfolding cut_with coded_by_lem
 sheet-asked =
-    ap (λ (g : Got Program). cut_read work_size false true g (0x41 ∷ []) (1 ∷ []) [] 1 8192 32768) sheet-reads
-    ∙ sym (ap (λ (g : Got Program). cut_read work_size false false g (0x41 ∷ []) (1 ∷ []) [] 1 8192 32768) sheet-reads) ∙ the_sheet
+    ap (λ (g : Result Program Refusal). cut_read work_size false true g (0x41 ∷ []) (1 ∷ []) [] 1 8192 32768) sheet-reads
+    ∙ sym (ap (λ (g : Result Program Refusal). cut_read work_size false false g (0x41 ∷ []) (1 ∷ []) [] 1 8192 32768) sheet-reads) ∙ the_sheet
 
 sheet-named : cid_keyed sheet_program.top ≡ false
 unfolding last_of last_from
@@ -118,11 +119,11 @@ code_33 : kept_meant sheet_program (kept_of 2 (1 ∷ [])) (glyph_of sheet_progra
 unfolding glyph_of standard_encoding glyph_with_text string_text standard_string standard_strings standard_names same_text_lem codes those is_in
 code_33 = refl
 
-sheet-codes : (q : Program) × (read_font sheet_subset ≡ got q)
+sheet-codes : (q : Program) × (read_font sheet_subset ≡ Ok q)
     × (meant q (glyph_of q q.coding 32) ≡ named (0x73 ∷ 0x70 ∷ 0x61 ∷ 0x63 ∷ 0x65 ∷ []))
     × (meant q (glyph_of q q.coding 33) ≡ nothing)
 sheet-codes =
-    let keeps : KeepsCodes true sheet (1 ∷ []) (subset 0 sheet_subset)
+    let keeps : KeepsCodes true sheet (1 ∷ []) (subset Renumbered sheet_subset)
     = subst (KeepsCodes true sheet (1 ∷ [])) sheet-asked
     (codes-back work_size false true sheet (0x41 ∷ []) (1 ∷ []) [] 1 8192 32768 (octets_of sheet sheet_octets) none_octets) in
     let k = keeps refl sheet_program sheet-reads sheet-named in
@@ -236,6 +237,6 @@ second-fd : matrix_of font-scaled.program 1 ≡ absent
 unfolding is_in those fds_of last_of last_from
 second-fd = font-scaled.fds 1 (omega arith)
 
-glyph_1 : (new : ℕ) × (found_for cid_program 1 renumbered_bytes ≡ TheGlyph new) × (matrix_for font-scaled.program new ≡ absent)
+glyph_1 : (new : ℕ) × (found_for cid_program 1 renumbered_bytes ≡ Ok (Some new)) × (matrix_for font-scaled.program new ≡ absent)
 unfolding last_of last_from
 glyph_1 = font-scaled.glyphs 1 kept_1

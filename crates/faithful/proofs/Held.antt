@@ -1,7 +1,7 @@
 -- Demand 3 (document 01, 'Plain glyphs') for a font that was read and a subset that is written: the subset reads back, finding gives each kept glyph, and it unfolds to what
 -- it did. The parts: a font that was read (GoodLaws), glyphs kept and found (KeptLaws, FoundLaws, UsedLaws), bodies (PrunedLaws), bytes that read
 -- back (ByName, ByCid).
-use Rattle.std.specs.Prelude.{ℕ, ◌<◌, ◌≤◌, ◌≡◌, false, List, [], get_or}
+use Rattle.std.specs.Prelude.{ℕ, ◌<◌, ◌≤◌, ◌≡◌, false, List, [], get_or, Result, Ok, Some, None}
 use Rattle.std.proofs.Math.Path.{refl, subst}
 use Rattle.std.proofs.Common.{sym, ap, ◌∙◌, arith}
 use Rattle.std.proofs.Math.Bool.{Bool, true}
@@ -13,9 +13,8 @@ use Rattle.record.specs.Record.{rows_of}
 use Rattle.dict.specs.Lookup.{Operands, cid_keyed, ros_in}
 use Rattle.charset.specs.ListedLaws.{list_at}
 use Rattle.charset.specs.FdSelect.{no_fds}
-use Rattle.cff.specs.Font.{Got, got, Coding, standard, Program, coding_at, read_font}
-use Rattle.cff.specs.Find.{found_as_lem, name_as, cid_as}
-use Rattle.cff.specs.declared.FoundAs.TheVariants.{Glyph as TheGlyph, Absent}
+use Rattle.cff.specs.Font.{Coding, standard, Program, coding_at, read_font}
+use Rattle.cff.specs.Find.{name_as, cid_as}
 use Rattle.find.specs.Find.{glyph_with_id, glyph_with_text}
 use Rattle.subset.specs.Kept.{is_in, kept_of, locals_of, sorted_by, written_order, used_fds, new_fd}
 use Rattle.subset.specs.Texts.{name_of, names_of}
@@ -36,6 +35,7 @@ use Rattle.faithful.specs.ByName.{codes_written, codes-read, by_name}
 use Rattle.faithful.specs.Codes.{CodesKept}
 use Rattle.faithful.specs.CodesLaws.{coding_of, SmallIds, coded-by-small, codes-meant}
 use Rattle.faithful.specs.ByCid.{by-cid}
+use Rattle.refusal.specs.declared.Refusal.{Refusal}
 
 -- ---- numbers of the glyphs kept
 
@@ -124,18 +124,18 @@ module _ (p : Program) (keep rec : List ℕ) (flag : ℕ) (good : GoodProgram p)
           new = i;
           found =
               ap (λ (t : Bool). pick t (cid_as (read_font by_name_lem) (get_or p.ids (get_or kept i 0) 0)) (name_as (read_font by_name_lem) text)) named
-              ∙ ap (λ (q : Got Program). name_as q text) r.reads
-              ∙ ap (λ (t : Bool). pick t Absent (found_as_lem (glyph_with_text r.program.strings text 0 r.program.ids))) r.keying
-              ∙ ap (λ (l : List (List ℕ)). found_as_lem (glyph_with_text l text 0 r.program.ids)) r.strings
-              ∙ ap (λ (l : List ℕ). found_as_lem (glyph_with_text (own_by_name p kept) text 0 l)) r.ids
-              ∙ found_name p (length p.charstrings) keep named found i h;
+              ∙ ap (λ (q : Result Program Refusal). name_as q text) r.reads
+              ∙ ap (λ (t : Bool). Ok (pick t None (glyph_with_text r.program.strings text 0 r.program.ids))) r.keying
+              ∙ ap (λ (l : List (List ℕ)). Ok (glyph_with_text l text 0 r.program.ids)) r.strings
+              ∙ ap (λ (l : List ℕ). Ok (glyph_with_text (own_by_name p kept) text 0 l)) r.ids
+              ∙ ap Ok (found_name p (length p.charstrings) keep named found i h);
           met = u.0;
           unfolds = u.1;
         }
 
     -- Wish 4: what the codes mean
     name-codes : length by_name_lem ≤ 67108864 → coded ≡ coded_by_lem p kept (own_by_name p kept) p.coding
-        → (q : Program) × (read_font by_name_lem ≡ got q) × CodesKept p keep q
+        → (q : Program) × (read_font by_name_lem ≡ Ok q) × CodesKept p keep q
     name-codes size is =
         let r = name-reads size in
         let small : SmallIds coded = subst SmallIds (sym is) (coded-by-small p kept (own_by_name p kept) strings p.coding) in
@@ -170,15 +170,15 @@ module _ (p : Program) (keep rec : List ℕ) (flag : ℕ) (good : GoodProgram p)
         (new_fds_there p kept good sorted sorted-inside (all-below (length p.charstrings) keep sorted sorted-inside)) (new_fds_fit p kept good sorted sorted-inside (all-below (length p.charstrings) keep sorted sorted-inside)) strings size
 
     -- what finding gives for the CID of the i-th glyph
-    cid_given : (size : length of_cid ≤ 67108864) (i : ℕ) → i < length sorted → found_for p (get_or sorted i 0) of_cid ≡ TheGlyph i
+    cid_given : (size : length of_cid ≤ 67108864) (i : ℕ) → i < length sorted → found_for p (get_or sorted i 0) of_cid ≡ Ok (Some i)
     cid_given size i h =
         let r = cid_reads size in
         let id = get_or p.ids (get_or sorted i 0) 0 in
         ap (λ (t : Bool). pick t (cid_as (read_font of_cid) id) (name_as (read_font of_cid) (name_of p (get_or sorted i 0)))) keyed
-        ∙ ap (λ (q : Got Program). cid_as q id) r.reads
-        ∙ ap (λ (t : Bool). pick t (found_as_lem (glyph_with_id id 0 r.program.ids)) Absent) r.keying
-        ∙ ap (λ (l : List ℕ). found_as_lem (glyph_with_id id 0 l)) r.ids
-        ∙ found_cid p (length p.charstrings) keep keyed found i h
+        ∙ ap (λ (q : Result Program Refusal). cid_as q id) r.reads
+        ∙ ap (λ (t : Bool). Ok (pick t (glyph_with_id id 0 r.program.ids) None)) r.keying
+        ∙ ap (λ (l : List ℕ). Ok (glyph_with_id id 0 l)) r.ids
+        ∙ ap Ok (found_cid p (length p.charstrings) keep keyed found i h)
 
     cid_held : (size : length of_cid ≤ 67108864) (i : ℕ) → i < length sorted → (ts : List Tok) (met : List Row) → unfolded p (get_or sorted i 0) ≡ plain ts met → Recorded rec flag met
         → Holds p (get_or sorted i 0) ts of_cid
@@ -219,7 +219,7 @@ module _ (p : Program) (keep rec : List ℕ) (flag : ℕ) (good : GoodProgram p)
           reads = (cid_reads size).reads;
           fds = fd_matrix size;
           glyphs = λ g k. let at = sorted-has g k in
-              subst (λ (h : ℕ). (new : ℕ) × (found_for p h of_cid ≡ TheGlyph new) × (matrix_for (cid_reads size).program new ≡ matrix_for p h)) at.2
+              subst (λ (h : ℕ). (new : ℕ) × (found_for p h of_cid ≡ Ok (Some new)) × (matrix_for (cid_reads size).program new ≡ matrix_for p h)) at.2
               (at.0, cid_given size at.0 at.1, glyph_matrix size at.0 at.1);
         }
 
@@ -275,7 +275,7 @@ module _ (p : Program) (keep rec : List ℕ) (flag : ℕ) (good : GoodProgram p)
   pub codes-kept : (ask : Bool) (name : List ℕ) → ask ≡ true → cid_keyed p.top ≡ false → all_found_lem p kept ≡ true
       → length (own_of p (written_order p kept)) ≤ 64609
       → length (subset_bytes p (coded_if ask p kept (own_of p (written_order p kept))) name kept (written_order p kept) (pruned p (rows_of rec) used (written_order p kept) flag).bodies) ≤ 67108864
-      → (q : Program) × (read_font (subset_bytes p (coded_if ask p kept (own_of p (written_order p kept))) name kept (written_order p kept) (pruned p (rows_of rec) used (written_order p kept) flag).bodies) ≡ got q) × CodesKept p keep q
+      → (q : Program) × (read_font (subset_bytes p (coded_if ask p kept (own_of p (written_order p kept))) name kept (written_order p kept) (pruned p (rows_of rec) used (written_order p kept) flag).bodies) ≡ Ok q) × CodesKept p keep q
   unfolding subset_bytes
   codes-kept ask name asked named =
       subst (λ (t : Bool). Kept t (cid_keyed p.top)) (sym asked)
@@ -285,4 +285,4 @@ module _ (p : Program) (keep rec : List ℕ) (flag : ℕ) (good : GoodProgram p)
       Kept t cid =
           all_found_lem p kept ≡ true → length (pick cid (own_by_cid p) (own_by_name p (order_by cid))) ≤ 64609
           → length (bytes_by cid (coded_if t p kept (pick cid (own_by_cid p) (own_by_name p (order_by cid)))) name) ≤ 67108864
-          → (q : Program) × (read_font (bytes_by cid (coded_if t p kept (pick cid (own_by_cid p) (own_by_name p (order_by cid)))) name) ≡ got q) × CodesKept p keep q
+          → (q : Program) × (read_font (bytes_by cid (coded_if t p kept (pick cid (own_by_cid p) (own_by_name p (order_by cid)))) name) ≡ Ok q) × CodesKept p keep q

@@ -24,6 +24,7 @@ use Rattle.faithful.specs.UsedLaws.{used-has, new-fd-at}
 use Rattle.faithful.specs.RecordLaws.{number-below}
 use Rattle.faithful.specs.RenumberedLaws.{subrs-few, Renews, renews}
 use Rattle.faithful.specs.RenumberedGlyphLaws.{IsListed, renumbered_glyph}
+use Rattle.subset.specs.declared.Way.TheVariants.{Copied}
 
 -- ---- the three ways
 
@@ -33,7 +34,7 @@ pruned_ways : (p : Program) (rows : List Row) (used order : List ℕ) (flag : �
     → P (pruned p rows used order flag).bodies
 unfolding pruned
 pruned_ways p rows used order flag P copies stubs renewed =
-    pick_ind (λ (q : Pruned). P q.bodies) (eqb flag 0) (record { way = 2; bodies = copied p used order }) (or_stubbed (renumbered p rows used order) (stubbed p rows used order))
+    pick_ind (λ (q : Pruned). P q.bodies) (eqb flag 0) (record { way = Copied; bodies = copied p used order }) (or_stubbed (renumbered p rows used order) (stubbed p rows used order))
     (λ t. copies (eqb-true flag 0 t)) (λ t. go (eqb-false flag 0 t) (renumbered p rows used order) refl)
   where
     go : (flag ≡ 0 → ⊥) → (m : Option Bodies) → renumbered p rows used order ≡ m → P (or_stubbed m (stubbed p rows used order)).bodies

@@ -1,5 +1,5 @@
 -- Demand 3 (document 01, 'Plain glyphs') as a theorem: whatever the font, the new name, the keep list, the record and the flag are, the outcome of a call is faithful.
-use Rattle.std.specs.Prelude.{ℕ, ◌≤◌, ◌≡◌, refl, Bool, true, false, List, ltb, length}
+use Rattle.std.specs.Prelude.{ℕ, ◌≤◌, ◌≡◌, refl, Bool, true, false, List, ltb, length, Result, Ok, Err}
 use Rattle.std.proofs.Common.{sym, ◌∙◌, subst, ltb-false}
 use Rattle.octets.specs.Pick.{pick, pick_ind}
 use Rattle.octets.specs.Octets.{Octets}
@@ -8,7 +8,7 @@ use Rattle.unfold.specs.Unfold.{plain}
 use Rattle.prune.specs.StepLaws.{zero_one}
 use Rattle.record.specs.Record.{rows_of, record_fine}
 use Rattle.dict.specs.Lookup.{cid_keyed, ros_in}
-use Rattle.cff.specs.Font.{Got, refused as refusedFont, got, Program, read_font}
+use Rattle.cff.specs.Font.{Program, read_font}
 use Rattle.subset.specs.Kept.{written_order, used_fds}
 use Rattle.subset.specs.Pruned.{Pruned, pruned}
 use Rattle.subset.specs.Codes.{Coded, coded_if, pair_count}
@@ -21,6 +21,9 @@ use Rattle.faithful.specs.GoodLaws.{font-good}
 use Rattle.faithful.specs.Matrices.{KeepsMatrices, Scaled}
 use Rattle.faithful.specs.Codes.{CodesKept, KeepsCodes}
 use Rattle.faithful.proofs.Held.{kept_in, glyph_held, matrices_kept, codes-kept}
+use Rattle.refusal.specs.declared.Refusal.{Refusal}
+use Rattle.refusal.specs.declared.Refusal.TheVariants.{Malformed, Unsupported, TooLong, NoSuchNumber, NotFound, BadRecord, Work, Subset, Output, StringId, Pairs}
+use Rattle.subset.specs.declared.Way.{Way}
 
 -- two that are the same
 pub same_bool : (a b : Bool) → same_bool_lem a b ≡ true → a ≡ b
@@ -29,7 +32,7 @@ same_bool false true e = absurd (zero_one cc)
 same_bool false false e = refl
 
 -- what holds of a refusal, and of a subset that is within its limits, holds of the outcome
-module _ (ask : Bool) (name keep rec : List ℕ) (flag room : ℕ) (p : Program) (Meets : Outcome → Type 0) (refuses : (n : ℕ) → Meets (refused n)) where
+module _ (ask : Bool) (name keep rec : List ℕ) (flag room : ℕ) (p : Program) (Meets : Outcome → Type 0) (refuses : (n : Refusal) → Meets (refused n)) where
   -- the order, what becomes of the bodies, the encoding, and the subset
   abbrev order : List ℕ
   order = written_order p (kept_in p keep)
@@ -46,35 +49,35 @@ module _ (ask : Bool) (name keep rec : List ℕ) (flag room : ℕ) (p : Program)
   abbrev Keyed : Type 0
   Keyed = pick (cid_keyed p.top) (has_ros_lem (ros_in p.top)) true ≡ true
 
-  module _ (meets : (way : ℕ) → Keyed → all_found_lem p (kept_in p keep) ≡ true → length (own_of p order) ≤ 64609 → length bytes ≤ 67108864 → Meets (subset way bytes)) where
+  module _ (meets : (way : Way) → Keyed → all_found_lem p (kept_in p keep) ≡ true → length (own_of p order) ≤ 64609 → length bytes ≤ 67108864 → Meets (subset way bytes)) where
     written-meets : Keyed → all_found_lem p (kept_in p keep) ≡ true → Meets (written p coded name (kept_in p keep) order room cut)
     written-meets ros found =
-        let last = pick (ltb room (length bytes)) (refused 11) (subset cut.way bytes) in
-        let sized = pick (ltb 67108864 (length bytes)) (refused 10) last in
-        pick_ind Meets (ltb 64609 (length (own_of p order))) (refused 12) (pick (ltb 255 (pair_count coded)) (refused 13) sized) (λ t. refuses 12)
-        (λ own. pick_ind Meets (ltb 255 (pair_count coded)) (refused 13) sized (λ t. refuses 13)
-        (λ codes. pick_ind Meets (ltb 67108864 (length bytes)) (refused 10) last (λ t. refuses 10)
-        (λ size. pick_ind Meets (ltb room (length bytes)) (refused 11) (subset cut.way bytes) (λ t. refuses 11)
+        let last = pick (ltb room (length bytes)) (refused Output) (subset cut.way bytes) in
+        let sized = pick (ltb 67108864 (length bytes)) (refused Subset) last in
+        pick_ind Meets (ltb 64609 (length (own_of p order))) (refused StringId) (pick (ltb 255 (pair_count coded)) (refused Pairs) sized) (λ t. refuses StringId)
+        (λ own. pick_ind Meets (ltb 255 (pair_count coded)) (refused Pairs) sized (λ t. refuses Pairs)
+        (λ codes. pick_ind Meets (ltb 67108864 (length bytes)) (refused Subset) last (λ t. refuses Subset)
+        (λ size. pick_ind Meets (ltb room (length bytes)) (refused Output) (subset cut.way bytes) (λ t. refuses Output)
         (λ fits. meets cut.way ros found (ltb-false 64609 (length (own_of p order)) own) (ltb-false 67108864 (length bytes) size)))))
 
     program-meets : (need : Program → ℕ) (cid : Bool) (words : ℕ) → Meets (cut_program need cid ask p name keep rec flag words room)
     program-meets need cid words =
-        pick_ind Meets (same_bool_lem cid (cid_keyed p.top)) _ (refused 3)
-        (λ k. pick_ind Meets (unsupported_in ask p) (refused 3) _ (λ t. refuses 3)
-        (λ s. pick_ind Meets (pick cid (has_ros_lem (ros_in p.top)) true) _ (refused 2)
-        (λ ros. pick_ind Meets (ltb 65535 (length name)) (refused 4) _ (λ t. refuses 4)
-        (λ n. pick_ind Meets (all_below (length p.charstrings) keep) _ (refused 6)
-        (λ b. pick_ind Meets (all_found_lem p (kept_in p keep)) _ (refused 7)
-        (λ found. pick_ind Meets (record_fine cid rec flag) _ (refused 8)
-        (λ r. pick_ind Meets (ltb words (need p)) (refused 9) _ (λ t. refuses 9)
+        pick_ind Meets (same_bool_lem cid (cid_keyed p.top)) _ (refused Unsupported)
+        (λ k. pick_ind Meets (unsupported_in ask p) (refused Unsupported) _ (λ t. refuses Unsupported)
+        (λ s. pick_ind Meets (pick cid (has_ros_lem (ros_in p.top)) true) _ (refused Malformed)
+        (λ ros. pick_ind Meets (ltb 65535 (length name)) (refused TooLong) _ (λ t. refuses TooLong)
+        (λ n. pick_ind Meets (all_below (length p.charstrings) keep) _ (refused NoSuchNumber)
+        (λ b. pick_ind Meets (all_found_lem p (kept_in p keep)) _ (refused NotFound)
+        (λ found. pick_ind Meets (record_fine cid rec flag) _ (refused BadRecord)
+        (λ r. pick_ind Meets (ltb words (need p)) (refused Work) _ (λ t. refuses Work)
         (λ w. written-meets (subst (λ (c : Bool). pick c (has_ros_lem (ros_in p.top)) true ≡ true) (same_bool cid (cid_keyed p.top) k) ros) found))
-        (λ t. refuses 8))
-        (λ t. refuses 7))
-        (λ t. refuses 6)))
-        (λ t. refuses 2)))
-        (λ t. refuses 3)
+        (λ t. refuses BadRecord))
+        (λ t. refuses NotFound))
+        (λ t. refuses NoSuchNumber)))
+        (λ t. refuses Malformed)))
+        (λ t. refuses Unsupported)
 
-module _ (ask : Bool) (font name keep rec : List ℕ) (flag room : ℕ) (octets : Octets rec) (p : Program) (good : GoodProgram p) (is : read_font font ≡ got p) where
+module _ (ask : Bool) (font name keep rec : List ℕ) (flag room : ℕ) (octets : Octets rec) (p : Program) (good : GoodProgram p) (is : read_font font ≡ Ok p) where
   -- demand 3 and Wish 2, of a font that was read
   program_faithful : (need : Program → ℕ) (cid : Bool) (words : ℕ) → Faithful font keep rec flag (cut_program need cid ask p name keep rec flag words room)
   program_faithful =
@@ -96,7 +99,7 @@ module _ (ask : Bool) (font name keep rec : List ℕ) (flag room : ℕ) (octets 
       program-meets ask name keep rec flag room p (KeepsCodes ask font keep) (λ n. tt)
       (λ way ros found strings size asked q e named.
       subst (λ (x : Program). cid_keyed x.top ≡ false
-      → (r : Program) × (read_font (bytes ask name keep rec flag room p (KeepsCodes ask font keep) (λ n. tt)) ≡ got r) × CodesKept x keep r)
+      → (r : Program) × (read_font (bytes ask name keep rec flag room p (KeepsCodes ask font keep) (λ n. tt)) ≡ Ok r) × CodesKept x keep r)
       (got_same p q (sym is ∙ e)) (λ k. codes-kept p keep rec flag good octets ask name asked k found strings size) named)
 
 -- THE THEOREM: demand 3, whatever the font, the new name, the keep list, the record and the flag are, and however many work words a call asks for
@@ -105,18 +108,18 @@ pub faithful : (need : Program → ℕ) (cid ask : Bool) (font name keep rec : L
 unfolding cut_with
 faithful need cid ask font name keep rec flag words room bytes octets = go (read_font font) refl
   where
-    go : (x : Got Program) → read_font font ≡ x → Faithful font keep rec flag (cut_read need cid ask x name keep rec flag words room)
-    go (refusedFont n) e = tt
-    go (got p) e = program_faithful ask font name keep rec flag room octets p (font-good font p bytes e) e need cid words
+    go : (x : Result Program Refusal) → read_font font ≡ x → Faithful font keep rec flag (cut_read need cid ask x name keep rec flag words room)
+    go (Err n) e = tt
+    go (Ok p) e = program_faithful ask font name keep rec flag room octets p (font-good font p bytes e) e need cid words
 
 -- Wish 2: each FD of a subset has the FontMatrix that it had
 pub matrix_back : (need : Program → ℕ) (cid ask : Bool) (font name keep rec : List ℕ) (flag words room : ℕ) → Octets font → Octets rec → Scaled font keep (cut_with need cid ask font name keep rec flag words room)
 unfolding cut_with
 matrix_back need cid ask font name keep rec flag words room bytes octets = go (read_font font) refl
   where
-    go : (x : Got Program) → read_font font ≡ x → Scaled font keep (cut_read need cid ask x name keep rec flag words room)
-    go (refusedFont n) e = tt
-    go (got p) e = program-scaled ask font name keep rec flag room octets p (font-good font p bytes e) e need cid words
+    go : (x : Result Program Refusal) → read_font font ≡ x → Scaled font keep (cut_read need cid ask x name keep rec flag words room)
+    go (Err n) e = tt
+    go (Ok p) e = program-scaled ask font name keep rec flag room octets p (font-good font p bytes e) e need cid words
 
 -- Wish 4: where the encoding was asked for, each code whose glyph is kept has in the subset the glyph of the same name, and no other code any
 pub codes-back : (need : Program → ℕ) (cid ask : Bool) (font name keep rec : List ℕ) (flag words room : ℕ) → Octets font → Octets rec
@@ -124,6 +127,6 @@ pub codes-back : (need : Program → ℕ) (cid ask : Bool) (font name keep rec :
 unfolding cut_with
 codes-back need cid ask font name keep rec flag words room bytes octets = go (read_font font) refl
   where
-    go : (x : Got Program) → read_font font ≡ x → KeepsCodes ask font keep (cut_read need cid ask x name keep rec flag words room)
-    go (refusedFont n) e = tt
-    go (got p) e = program-coded ask font name keep rec flag room octets p (font-good font p bytes e) e need cid words
+    go : (x : Result Program Refusal) → read_font font ≡ x → KeepsCodes ask font keep (cut_read need cid ask x name keep rec flag words room)
+    go (Err n) e = tt
+    go (Ok p) e = program-coded ask font name keep rec flag room octets p (font-good font p bytes e) e need cid words

@@ -1,6 +1,6 @@
 -- A CID-keyed subset reads back (document 01, 'Layout'): as a CID-keyed font with its strings, CIDs, FDs and bodies.
 use Prim.Native.Nat.{ℕ, zero, suc, ◌+◌, ◌*◌, ◌≤◌, ◌<◌}
-use Rattle.std.specs.Prelude.{◌≡◌, refl, Bool, true, get_or}
+use Rattle.std.specs.Prelude.{◌≡◌, refl, Bool, true, get_or, Ok}
 use Rattle.std.proofs.Common.{sym, ◌∙◌, arith, length-append}
 use Rattle.std.proofs.Math.Path.{ap, subst}
 use mathlib.Core.List.{List, [], ◌∷◌, ◌++◌, append-nil}
@@ -11,17 +11,16 @@ use Rattle.octets.specs.Octets.{Octets}
 use Rattle.index.specs.Index.{found, read_index}
 use Rattle.index.specs.Write.{total, size_for, index_bytes, index_len_lem}
 use Rattle.index.specs.WriteLaws.{length-index}
-use Rattle.dict.specs.Dict.{Entry, entries, dict_of}
+use Rattle.dict.specs.Dict.{Entry, dict_of}
 use Rattle.dict.specs.Lookup.{absent, last_of, ros_in}
 use Rattle.dict.specs.Op.{font_matrix}
 use Rattle.dict_write.specs.Written.{copied_entry, private_entry}
 use Rattle.dict_write.specs.WriteLaws.{private-length}
-use Rattle.charset.specs.Listed.{listed}
 use Rattle.charset.specs.CharsetBytes.{Ids, charset_bytes}
 use Rattle.charset.specs.FdSelect.{fd_select_at}
 use Rattle.charset.specs.FdSelectBytes.{fd_select_bytes}
 use Rattle.charset.specs.FdSelectRound.{select-round}
-use Rattle.cff.specs.Font.{got, Private, standard, Program, privates_at, dicts_at, ids_at, cid_parts, name_parts, font_at, read_font, empty_private}
+use Rattle.cff.specs.Font.{Private, standard, Program, privates_at, dicts_at, ids_at, cid_parts, name_parts, font_at, read_font, empty_private}
 use Rattle.subset.specs.Kept.{private_of}
 use Rattle.subset.specs.Pruned.{Bodies}
 use Rattle.subset.specs.Subset.{private_dict, private_part, private_parts, matrix_of, font_dicts, own_by_cid, top_by_cid, cids_of, new_fds, subset_by_cid}
@@ -154,19 +153,19 @@ module _ (p : Program) (used order : List ℕ) (b : Bodies) (at₁ : ℕ) where
       array_read : read_index bs array_place ≡ found dicts_written (array_place + length (index_bytes dicts_written))
       array_read = index_back bs array_place dicts_written _ (omega (arith, dicts-count p privates_place used b.locals fitting.fds)) short array_lies
 
-      select_read : fd_select_at bs select_place (length b.charstrings) ≡ listed (new_fds p used order)
+      select_read : fd_select_at bs select_place (length b.charstrings) ≡ Ok (new_fds p used order)
       select_read =
           let n : length b.charstrings ≡ length (new_fds p used order) = fitting.glyphs ∙ sym (fds_length p used order) in
           ap (fd_select_at bs select_place) n ∙ select-round bs select_place (new_fds p used order) _ select_lies (omega (arith, fds_length p used order)) small
 
-      ids-read : 3 ≤ at₁ → 0 < length order → get_or (cids_of p order) 0 0 ≡ 0 → ids_at bs (length b.charstrings) at₁ ≡ got (cids_of p order)
+      ids-read : 3 ≤ at₁ → 0 < length order → get_or (cids_of p order) 0 0 ≡ 0 → ids_at bs (length b.charstrings) at₁ ≡ Ok (cids_of p order)
       ids-read far some first =
           let n : length b.charstrings ≡ length (cids_of p order) = fitting.glyphs ∙ sym (cids-length p order) in
           ap (λ (k : ℕ). ids_at bs k at₁) n
           ∙ ids-back bs at₁ (cids_of p order) _ far charset-lies (omega (arith, cids-length p order)) first (cids-small p good.ids order)
 
       -- and the Private DICTs
-      private-dicts : (ps : List Private) × (privates_at bs dicts_written ≡ got ps) × (length ps ≡ length used)
+      private-dicts : (ps : List Private) × (privates_at bs dicts_written ≡ Ok ps) × (length ps ≡ length used)
           × ((k : ℕ) → k < length used → (get_or ps k empty_private).locals ≡ get_or b.locals k [])
           × ((k : ℕ) → last_of font_matrix (get_or (dicts_at dicts_written) k []) ≡ get_or (matrices_of p used) k absent)
       private-dicts = privates-back bs privates_place p used b.locals [] good fitting.fds fitting.locals short privates-within privates_lie
@@ -177,12 +176,12 @@ module _ (p : Program) (used order : List ℕ) (b : Bodies) (at₁ : ℕ) where
           font_of (own_by_cid p) b.globals es b.charstrings (cids_of p order)
           (record { privates = private-dicts.0; fds = new_fds p used order; dicts = dicts_at dicts_written; coding = standard })
 
-      font-read : (top : List ℕ) (es : List Entry) → dict_of top ≡ entries es → CidTop es at₁ select_place glyphs_place array_place
-          → 3 ≤ at₁ → 0 < length order → get_or (cids_of p order) 0 0 ≡ 0 → font_at bs (own_by_cid p) b.globals top ≡ got (font_read es)
+      font-read : (top : List ℕ) (es : List Entry) → dict_of top ≡ Ok es → CidTop es at₁ select_place glyphs_place array_place
+          → 3 ≤ at₁ → 0 < length order → get_or (cids_of p order) 0 0 ≡ 0 → font_at bs (own_by_cid p) b.globals top ≡ Ok (font_read es)
       font-read top es dict t far some first =
           let ps = private-dicts.0 in
           let n = private-dicts.2 in
-          let q : cid_parts bs es (length b.charstrings) ≡ got (record { privates = ps; fds = new_fds p used order; dicts = dicts_at dicts_written; coding = standard })
+          let q : cid_parts bs es (length b.charstrings) ≡ Ok (record { privates = ps; fds = new_fds p used order; dicts = dicts_at dicts_written; coding = standard })
           = cid_parts-back bs es (length b.charstrings) array_place select_place _ dicts_written ps (new_fds p used order) t.fd_array_at t.fd_select_at array_read
           private-dicts.1 (omega arith) select_read (ap (λ (k : ℕ). all_below k (new_fds p used order)) n ∙ below) in
           font-back bs (own_by_cid p) b.globals top es b.charstrings (cids_of p order) _ dict t.charstring_type_none at₁ glyphs_place _
@@ -221,7 +220,7 @@ module _ (p : Program) (name used order : List ℕ) (b : Bodies) where
 
   -- it is read as the font that its top DICT gives
   subset-back : length (own_by_cid p) < 65536 → length b.globals < 65536 → length (subset_by_cid p name used order b) ≤ 67108864 → (font : Program)
-      → font_at (subset_by_cid p name used order b) (own_by_cid p) b.globals top_written ≡ got font → read_font (subset_by_cid p name used order b) ≡ got font
+      → font_at (subset_by_cid p name used order b) (own_by_cid p) b.globals top_written ≡ Ok font → read_font (subset_by_cid p name used order b) ≡ Ok font
   unfolding subset_by_cid
   subset-back manyStrings manyGlobals short font e =
       set_back size_written name top_written (own_by_cid p) b.globals (behind_globals p used order b charset_place) (size_small (privates_place p used order b charset_place + length (private_parts p used b.locals))) manyStrings manyGlobals short font e

@@ -1,6 +1,6 @@
 -- A name-keyed subset reads back (document 01, 'Layout'; document 02, Wish 4): the font with the strings, ids, encoding and bodies that were written.
 use Prim.Native.Nat.{ℕ, zero, suc, ◌+◌, ◌≤◌, ◌<◌}
-use Rattle.std.specs.Prelude.{◌≡◌, refl, Bool, false, ltb, eqb, get_or}
+use Rattle.std.specs.Prelude.{◌≡◌, refl, Bool, false, ltb, eqb, get_or, Result, Ok}
 use Rattle.std.proofs.Common.{sym, ◌∙◌, arith, ne_eqb, lit<, length-append}
 use Rattle.std.proofs.Math.Path.{ap, subst}
 use mathlib.Core.List.{List, [], ◌∷◌, ◌++◌, append-nil}
@@ -9,15 +9,14 @@ use Rattle.octets.specs.Pick.{pick, pick_ind}
 use Rattle.octets.specs.Octets.{bytes_of}
 use Rattle.index.specs.Index.{found, read_index}
 use Rattle.index.specs.Write.{size_for, index_bytes}
-use Rattle.charset.specs.Charset.{charset_at}
 use Rattle.charset.specs.CharsetBytes.{Ids, charset_bytes}
 use Rattle.charset.specs.FdSelect.{no_fds}
 use Rattle.charset.specs.Encoding.{encoding_at}
 use Rattle.charset.specs.Codes.{namings_at}
 use Rattle.charset.specs.CodesRound.{supplement_bytes, encoding-passes, encoding-back}
 use Rattle.dict.specs.Lookup.{last_from, last_of}
-use Rattle.dict.specs.Dict.{Entry, entries, dict_of}
-use Rattle.cff.specs.Font.{got, Coding, standard, expert, custom, coding_refusal, Private, Program, private_data, private_at, ids_at, coding_at, encoding_got, cid_parts, name_parts, font_at, read_font, empty_private}
+use Rattle.dict.specs.Dict.{Entry, dict_of}
+use Rattle.cff.specs.Font.{Coding, standard, expert, custom, coding_refusal, Private, Program, private_data, private_at, ids_at, coding_at, encoding_got, cid_parts, name_parts, font_at, read_font, empty_private}
 use Rattle.cff.specs.ReadsLaws.{no}
 use Rattle.subset.specs.Kept.{private_of}
 use Rattle.subset.specs.Texts.{names_of}
@@ -33,6 +32,7 @@ use Rattle.faithful.specs.TopFitLaws.{new-below}
 use Rattle.faithful.specs.TopLaws.{NameTop, name-top-back, name-top-length, single-length}
 use Rattle.faithful.specs.SetBack.{set_bytes, rest_at, rest_lies, rest-within, size_small, set_back}
 use Rattle.faithful.specs.FontBack.{ids-back, font_of, font-back}
+use Rattle.refusal.specs.declared.Refusal.{Refusal}
 
 -- ---- the ids of the names
 
@@ -56,11 +56,11 @@ pairs_lie : (bs : List ℕ) (at : ℕ) (ps : List Pair) (post : List ℕ) → dr
 pairs_lie bs at ps post lies = lies ∙ ap (λ (l : List ℕ). (0x80 ∷ 0x00 ∷ length ps ∷ l) ++ post) (pairs-supplied ps)
 
 -- so that the encoding behind the charset passes its checks; the two predefined ones have none
-coded-pass : (bs : List ℕ) (at : ℕ) (coded : Coded) (post : List ℕ) → drop at bs ≡ coded_bytes coded ++ post → coding_refusal bs (coded_at coded at) ≡ 0
+coded-pass : (bs : List ℕ) (at : ℕ) (coded : Coded) (post : List ℕ) → drop at bs ≡ coded_bytes coded ++ post → coding_refusal bs (coded_at coded at) ≡ Ok tt
 coded-pass bs at none post lies = refl
 coded-pass bs at predefined post lies = refl
 coded-pass bs at (pairs ps) post lies =
-    pick_ind (λ (n : ℕ). n ≡ 0) (ltb at 2) 0 (encoding_at bs at) (λ t. refl) (λ t. encoding-passes (λ q. q.code) (λ q. q.id) bs at ps post (pairs_lie bs at ps post lies))
+    pick_ind (λ (r : Result Unit Refusal). r ≡ Ok tt) (ltb at 2) (Ok tt) (encoding_at bs at) (λ t. refl) (λ t. encoding-passes (λ q. q.code) (λ q. q.id) bs at ps post (pairs_lie bs at ps post lies))
 
 -- and is read as it was written
 coded-back : (bs : List ℕ) (at : ℕ) (coded : Coded) (post : List ℕ) → 2 ≤ at → drop at bs ≡ coded_bytes coded ++ post → SmallIds coded
@@ -88,8 +88,8 @@ coded_there (pairs ps) at h = ne_eqb at 0 (λ e. omega arith)
 -- ---- the one Private DICT
 
 -- what a name-keyed font adds: that Private DICT, and the encoding
-name-parts-back : (bs : List ℕ) (es : List Entry) (n at₁ v at₂ size at₃ : ℕ) (q : Private) → NameTop es at₁ v at₂ size at₃ → private_data bs size at₃ ≡ got q
-    → coding_refusal bs v ≡ 0 → name_parts bs es n ≡ got (record { privates = q ∷ []; fds = no_fds n; dicts = []; coding = coding_at bs v })
+name-parts-back : (bs : List ℕ) (es : List Entry) (n at₁ v at₂ size at₃ : ℕ) (q : Private) → NameTop es at₁ v at₂ size at₃ → private_data bs size at₃ ≡ Ok q
+    → coding_refusal bs v ≡ Ok tt → name_parts bs es n ≡ Ok (record { privates = q ∷ []; fds = no_fds n; dicts = []; coding = coding_at bs v })
 unfolding name_parts private_at encoding_got
 name-parts-back bs es n at₁ v at₂ size at₃ q t d c = rw (t.private_at, d, t.encoding_at, c)
 
@@ -155,7 +155,7 @@ module _ (p : Program) (coded : Coded) (order : List ℕ) (b : Bodies) (at₁ : 
     module _ (good : GoodProgram p) (fit : Fitting (length order) (0 ∷ []) b) (short : length bs ≤ 67108864)
         (some : 0 < length order) (count : length order < 65536) (first : get_or ids 0 0 ≡ 0) (few : length (own_by_name p order) ≤ 64609) where
       -- the charset, the charstrings and Private read back
-      ids-read : 3 ≤ at₁ → ids_at bs (length b.charstrings) at₁ ≡ got ids
+      ids-read : 3 ≤ at₁ → ids_at bs (length b.charstrings) at₁ ≡ Ok ids
       ids-read far =
           let n : length ids ≡ length order = ids-length (own_by_name p order) (names_of p order) ∙ names-length p order in
           ap (λ (k : ℕ). ids_at bs k at₁) (fit.glyphs ∙ sym n) ∙ ids-back bs at₁ ids _ far lies₁ (omega arith) first (ids-small (own_by_name p order) (names_of p order) few)
@@ -163,7 +163,7 @@ module _ (p : Program) (coded : Coded) (order : List ℕ) (b : Bodies) (at₁ : 
       glyphs-read : read_index bs glyphs_place ≡ found b.charstrings private_place
       glyphs-read = index_back bs glyphs_place b.charstrings part (omega (arith, fit.glyphs)) short lies₂
 
-      private-read : (es : List Entry) × (private_data bs (length dict) private_place ≡ got (record { entries = es; locals = one_local_lem b }))
+      private-read : (es : List Entry) × (private_data bs (length dict) private_place ≡ Ok (record { entries = es; locals = one_local_lem b }))
       private-read = private-back bs private_place (private_of p 0) (one_local_lem b) [] (good.privates 0) (fit.locals 0) short within₃ lies₃
 
       -- the font that is read, by the entries of its top DICT
@@ -173,8 +173,8 @@ module _ (p : Program) (coded : Coded) (order : List ℕ) (b : Bodies) (at₁ : 
           (record { privates = record { entries = private-read.0; locals = one_local_lem b } ∷ []; fds = no_fds (length b.charstrings); dicts = []; coding = coding_at bs codes_at })
 
       -- it is what its top DICT gives
-      font-read : (top : List ℕ) (es : List Entry) → dict_of top ≡ entries es → NameTop es at₁ codes_at glyphs_place (length dict) private_place → 3 ≤ at₁
-          → font_at bs (own_by_name p order) b.globals top ≡ got (font_read es)
+      font-read : (top : List ℕ) (es : List Entry) → dict_of top ≡ Ok es → NameTop es at₁ codes_at glyphs_place (length dict) private_place → 3 ≤ at₁
+          → font_at bs (own_by_name p order) b.globals top ≡ Ok (font_read es)
       font-read top es d t far =
           let n = length b.charstrings in
           font-back bs (own_by_name p order) b.globals top es b.charstrings ids _ d t.charstring_type_none at₁ glyphs_place private_place t.charset_at t.char_strings_at
@@ -223,8 +223,8 @@ module _ (p : Program) (coded : Coded) (name order : List ℕ) (b : Bodies) wher
 
   -- it is read as the font that its top DICT gives
   subset-back : length (own_by_name p order) < 65536 → length b.globals < 65536 → length (subset_by_name p coded name order b) ≤ 67108864 → (font : Program)
-      → font_at (subset_by_name p coded name order b) (own_by_name p order) b.globals top_written ≡ got font
-      → read_font (subset_by_name p coded name order b) ≡ got font
+      → font_at (subset_by_name p coded name order b) (own_by_name p order) b.globals top_written ≡ Ok font
+      → read_font (subset_by_name p coded name order b) ≡ Ok font
   unfolding subset_by_name
   subset-back fewStrings few_globals short font e =
       set_back size_written name top_written (own_by_name p order) b.globals (behind_globals p coded order b charset_place) (size_small (private_place p coded order b charset_place + length (part p coded order b charset_place))) fewStrings few_globals short font e

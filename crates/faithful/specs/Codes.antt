@@ -1,8 +1,8 @@
 -- The codes of a name-keyed font (document 02, Wish 4): reading the subset gives each code whose glyph is kept the glyph of the same name, and no
 -- other code any.
-use Rattle.std.specs.Prelude.{ℕ, ◌<◌, ◌≡◌, Bool, true, false, List, length}
+use Rattle.std.specs.Prelude.{ℕ, ◌<◌, ◌≡◌, Bool, true, false, List, length, Ok}
 use Rattle.dict.specs.Lookup.{cid_keyed}
-use Rattle.cff.specs.Font.{got, Program, read_font}
+use Rattle.cff.specs.Font.{Program, read_font}
 use Rattle.subset.specs.Kept.{kept_of}
 use Rattle.subset.specs.Codes.{glyph_of, meant, kept_meant}
 use Rattle.subset.specs.Cut.{Outcome, refused, subset}
@@ -16,4 +16,4 @@ pub record CodesKept (p : Program) (keep : List ℕ) (q : Program) : Type 0 wher
 abbrev pub KeepsCodes : Bool → List ℕ → List ℕ → Outcome → Type 0
 KeepsCodes ask font keep (refused n) = Unit
 KeepsCodes ask font keep (subset way bs) =
-    ask ≡ true → (p : Program) → read_font font ≡ got p → cid_keyed p.top ≡ false → (q : Program) × (read_font bs ≡ got q) × CodesKept p keep q
+    ask ≡ true → (p : Program) → read_font font ≡ Ok p → cid_keyed p.top ≡ false → (q : Program) × (read_font bs ≡ Ok q) × CodesKept p keep q

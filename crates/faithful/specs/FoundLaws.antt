@@ -11,9 +11,7 @@ use Rattle.strings.specs.Strings.{string_text}
 use Rattle.find.specs.Find.{glyph_with_id, glyph_with_text}
 use Rattle.dict.specs.Lookup.{cid_keyed}
 use Rattle.cff.specs.Font.{Program}
-use Rattle.cff.specs.Find.{found_as_lem, find_name, find_cid}
-use Rattle.cff.specs.declared.FoundAs.{FoundAs}
-use Rattle.cff.specs.declared.FoundAs.TheVariants.{Refused, Absent, Glyph}
+use Rattle.cff.specs.Find.{find_name, find_cid}
 use Rattle.subset.specs.Kept.{is_in, kept_of, sorted_by}
 use Rattle.subset.specs.Texts.{new_id, texts_of, name_of, names_of}
 use Rattle.subset.specs.Subset.{named, own_by_name, new_ids, cids_of}
@@ -25,10 +23,9 @@ use Rattle.subset.proofs.TextsLaws.{has_right, new-text, names-has, ids-length, 
 -- ---- refusal 7 passed
 
 -- what finding gives where it is glyph g
-is-glyph : (g : ℕ) (r : FoundAs) → is_glyph g r ≡ true → r ≡ Glyph g
-is-glyph g (Refused n) e = absurd (zero_one cc)
-is-glyph g Absent e = absurd (zero_one cc)
-is-glyph g (Glyph h) e = ap Glyph (eqb-true h g e)
+is-glyph : (g : ℕ) (r : Option ℕ) → is_glyph g r ≡ true → r ≡ Some g
+is-glyph g None e = absurd (zero_one cc)
+is-glyph g (Some h) e = ap Some (eqb-true h g e)
 
 -- each kept glyph passes the test
 all_found : (p : Program) (kept : List ℕ) (g : ℕ) → all_found_lem p kept ≡ true → is_in g kept ≡ true → is_found p g ≡ true
@@ -42,13 +39,13 @@ all_found p (x ∷ kept) g a h =
 
 module _ (p : Program) (kept : List ℕ) (all : all_found_lem p kept ≡ true) where
   -- finding its own name in the font gives a kept glyph
-  name-found : cid_keyed p.top ≡ false → (g : ℕ) → is_in g kept ≡ true → find_name p (name_of p g) ≡ Glyph g
+  name-found : cid_keyed p.top ≡ false → (g : ℕ) → is_in g kept ≡ true → find_name p (name_of p g) ≡ Some g
   name-found k g h =
       is-glyph g (find_name p (name_of p g))
       (ap (λ t. pick t (is_glyph g (find_cid p (get_or p.ids g 0))) (is_glyph g (find_name p (name_of p g)))) (sym k) ∙ all_found p kept g all h)
 
   -- finding its own CID gives it
-  cid-found : cid_keyed p.top ≡ true → (g : ℕ) → is_in g kept ≡ true → find_cid p (get_or p.ids g 0) ≡ Glyph g
+  cid-found : cid_keyed p.top ≡ true → (g : ℕ) → is_in g kept ≡ true → find_cid p (get_or p.ids g 0) ≡ Some g
   cid-found k g h =
       is-glyph g (find_cid p (get_or p.ids g 0))
       (ap (λ t. pick t (is_glyph g (find_cid p (get_or p.ids g 0))) (is_glyph g (find_name p (name_of p g)))) (sym k) ∙ all_found p kept g all h)
@@ -56,12 +53,12 @@ module _ (p : Program) (kept : List ℕ) (all : all_found_lem p kept ≡ true) w
   -- kept glyphs of one name are one glyph
   pub names-differ : cid_keyed p.top ≡ false → (g h : ℕ) → is_in g kept ≡ true → is_in h kept ≡ true → name_of p g ≡ name_of p h → g ≡ h
   names-differ k g h a b e =
-      let s : Glyph g ≡ Glyph h = sym (name-found k g a) ∙ ap (find_name p) e ∙ name-found k h b in cc
+      let s : Some g ≡ Some h = sym (name-found k g a) ∙ ap (find_name p) e ∙ name-found k h b in cc
 
   -- kept glyphs of one CID are one glyph
   pub cids-differ : cid_keyed p.top ≡ true → (g h : ℕ) → is_in g kept ≡ true → is_in h kept ≡ true → get_or p.ids g 0 ≡ get_or p.ids h 0 → g ≡ h
   cids-differ k g h a b e =
-      let s : Glyph g ≡ Glyph h = sym (cid-found k g a) ∙ ap (find_cid p) e ∙ cid-found k h b in cc
+      let s : Some g ≡ Some h = sym (cid-found k g a) ∙ ap (find_cid p) e ∙ cid-found k h b in cc
 
 -- ---- the first glyph of a distinct list that has an id or a name
 
@@ -125,11 +122,6 @@ new_id_at p own [] i h = absurd (not-suc-le-zero h)
 new_id_at p own (x ∷ xs) zero h = refl
 new_id_at p own (x ∷ xs) (suc i) h = new_id_at p own xs i (le_of_suc-le-suc h)
 
--- what was found
-found_as : (f : Option ℕ) (g : ℕ) → found_as_lem f ≡ Glyph g → f ≡ Some g
-found_as None g e = absurd (zero_one cc)
-found_as (Some h) g e = cc
-
 module _ (p : Program) (n : ℕ) (keep : List ℕ) (keyed : cid_keyed p.top ≡ false) (all : all_found_lem p (kept_of n keep) ≡ true) where
   abbrev kept : List ℕ
   kept = kept_of n keep
@@ -150,13 +142,11 @@ module _ (p : Program) (n : ℕ) (keep : List ℕ) (keyed : cid_keyed p.top ≡ 
 
   -- finding its own name in the font gives a kept glyph
   pub text-found : (g : ℕ) → is_in g kept ≡ true → glyph_with_text p.strings (name_of p g) 0 p.ids ≡ Some g
-  text-found g h =
-      let f = glyph_with_text p.strings (name_of p g) 0 p.ids in
-      found_as f g (ap (λ (t : Bool). pick t Absent (found_as_lem f)) (sym keyed) ∙ name-found p kept all keyed g h)
+  text-found g h = ap (λ (t : Bool). pick t None (glyph_with_text p.strings (name_of p g) 0 p.ids)) (sym keyed) ∙ name-found p kept all keyed g h
 
   -- the name of the i-th kept glyph gives glyph i in the subset
-  text-new : (i : ℕ) → i < length kept → glyph_with_text own (name_of p (get_or kept i 0)) 0 ids ≡ Some i
-  text-new i h =
+  pub found_name : (i : ℕ) → i < length kept → glyph_with_text own (name_of p (get_or kept i 0)) 0 ids ≡ Some i
+  found_name i h =
       let z : 0 + i ≡ i = omega arith in
       with-text p own kept 0 i (kept-distinct n keep) (names-differ p kept all keyed) new-names h ∙ ap Some z
 
@@ -168,7 +158,7 @@ module _ (p : Program) (n : ℕ) (keep : List ℕ) (keyed : cid_keyed p.top ≡ 
       let at = in_place kept g h in
       let z : r.0 ≡ get_or kept at.0 0 = omega (arith, r.1, at.2) in
       let name : name_of p (get_or kept at.0 0) ≡ t = ap (name_of p) (sym z) ∙ r.3 in
-      (at.0, ap (λ (x : List ℕ). glyph_with_text own x 0 ids) (sym name) ∙ text-new at.0 at.1)
+      (at.0, ap (λ (x : List ℕ). glyph_with_text own x 0 ids) (sym name) ∙ found_name at.0 at.1)
 
   -- and a text that is found there has a kept glyph, whose name is the new one's: a text whose glyph is not kept is no kept glyph's name
   pub there_kept : (t : List ℕ) (i : ℕ) → glyph_with_text own t 0 ids ≡ Some i
@@ -181,19 +171,14 @@ module _ (p : Program) (n : ℕ) (keep : List ℕ) (keyed : cid_keyed p.top ≡ 
       let name : name_of p (get_or kept i 0) ≡ t = sym (new-name-at i l) ∙ ap (λ (j : ℕ). string_text own (get_or ids j 0)) (sym z) ∙ r.3 in
       (l, ap (λ (x : List ℕ). glyph_with_text p.strings x 0 p.ids) (sym name) ∙ text-found (get_or kept i 0) (in_at kept i l))
 
-  -- ---- finding in the subset
-
-  pub found_name : (i : ℕ) → i < length kept → found_as_lem (glyph_with_text own (name_of p (get_or kept i 0)) 0 ids) ≡ Glyph i
-  found_name i h = ap found_as_lem (text-new i h)
-
 -- the CID of the i-th glyph that is written gives glyph i
 pub found_cid : (p : Program) (n : ℕ) (keep : List ℕ) → cid_keyed p.top ≡ true → all_found_lem p (kept_of n keep) ≡ true
     → (i : ℕ) → i < length (sorted_by (λ g. get_or p.ids g 0) (kept_of n keep))
-    → found_as_lem (glyph_with_id (get_or p.ids (get_or (sorted_by (λ g. get_or p.ids g 0) (kept_of n keep)) i 0) 0) 0
-    (cids_of p (sorted_by (λ g. get_or p.ids g 0) (kept_of n keep)))) ≡ Glyph i
+    → glyph_with_id (get_or p.ids (get_or (sorted_by (λ g. get_or p.ids g 0) (kept_of n keep)) i 0) 0) 0
+    (cids_of p (sorted_by (λ g. get_or p.ids g 0) (kept_of n keep))) ≡ Some i
 found_cid p n keep k all i h =
     let kept = kept_of n keep in
     let key : ℕ → ℕ = λ g. get_or p.ids g 0 in
     let z : 0 + i ≡ i = omega arith in
-    ap found_as_lem (with_id p (sorted_by key kept) 0 i (sorted-distinct key kept (kept-distinct n keep))
-    (λ g h a b e. cids-differ p kept all k g h (sym (sorted_in key kept g) ∙ a) (sym (sorted_in key kept h) ∙ b) e) h ∙ ap Some z)
+    with_id p (sorted_by key kept) 0 i (sorted-distinct key kept (kept-distinct n keep))
+    (λ g h a b e. cids-differ p kept all k g h (sym (sorted_in key kept g) ∙ a) (sym (sorted_in key kept h) ∙ b) e) h ∙ ap Some z

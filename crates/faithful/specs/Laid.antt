@@ -1,11 +1,11 @@
 -- What the theorem of demand 3 (document 01, 'Plain glyphs') is put together from: what is true of every font that is read, bodies that a subset can hold, and a subset that reads back.
-use Rattle.std.specs.Prelude.{ℕ, ◌<◌, ◌≡◌, Bool, true, false, List, [], ◌∷◌, length, get_or}
+use Rattle.std.specs.Prelude.{ℕ, ◌<◌, ◌≡◌, Bool, true, false, List, [], ◌∷◌, length, get_or, Ok}
 use Rattle.octets.specs.Octets.{Octets}
 use Rattle.octets.specs.Lists.{all_below}
 use Rattle.dict.specs.Lookup.{Operands, absent, cid_keyed}
 use Rattle.dict.specs.Proper.{AllProper}
 use Rattle.charset.specs.CharsetBytes.{Ids}
-use Rattle.cff.specs.Font.{got, Coding, Program, read_font}
+use Rattle.cff.specs.Font.{Coding, Program, read_font}
 use Rattle.subset.specs.Kept.{private_of, locals_of}
 use Rattle.subset.specs.Pruned.{Bodies}
 use Rattle.subset.specs.Subset.{matrix_of}
@@ -47,7 +47,7 @@ matrices_of p (f ∷ fs) = matrix_of p f ∷ matrices_of p fs
 -- bytes that read back as a font of the same keying with these strings, ids, FDs, matrices by FD, encoding, and bodies
 pub record ReadsAs (cid : Bool) (own : List (List ℕ)) (new_ids new_fds : List ℕ) (matrices : List Operands) (coding : Coding) (b : Bodies) (bs : List ℕ) : Type 0 where
   pub program : Program
-  pub reads : read_font bs ≡ got program
+  pub reads : read_font bs ≡ Ok program
   pub keying : cid_keyed program.top ≡ cid
   pub strings : program.strings ≡ own
   pub globals : program.globals ≡ b.globals

@@ -1,6 +1,6 @@
 -- A font set of one font that was written (document 01, 'Layout'): header, names, top DICT, strings, globals and the rest. It is read as the
 -- font that its top DICT gives.
-use Rattle.std.specs.Prelude.{ℕ, ◌+◌, ◌≤◌, ◌<◌, ◌≡◌, refl, Bool, List, [], ◌∷◌, ◌++◌, ltb, length, drop}
+use Rattle.std.specs.Prelude.{ℕ, ◌+◌, ◌≤◌, ◌<◌, ◌≡◌, refl, Bool, List, [], ◌∷◌, ◌++◌, ltb, length, drop, Result, Ok, Err}
 use Rattle.std.proofs.Math.Path.{ap}
 use Rattle.std.proofs.Common.{◌∙◌, le-ltb, length-append}
 use native.Mathlib.Omega.{arith}
@@ -8,12 +8,14 @@ use Rattle.octets.specs.Pick.{pick, pick_ind}
 use Rattle.octets.specs.Octets.{be, num_at}
 use Rattle.index.specs.Index.{Read, found}
 use Rattle.index.specs.Write.{size_for, index_bytes}
-use Rattle.cff.specs.Font.{Got, refused, got, then, Program, font_at, fonts_at, first_of, index_then, set_at, read_table, read_font}
+use Rattle.cff.specs.Font.{then, Program, font_at, fonts_at, first_of, index_then, set_at, read_table, read_font}
 use Rattle.cff.specs.FileLaws.{bare}
 use Rattle.faithful.specs.LiesLaws.{lies_behind, index_back}
+use Rattle.refusal.specs.declared.Refusal.{Refusal}
+use Rattle.refusal.specs.declared.Refusal.TheVariants.{Truncated}
 
 -- an INDEX that is found, and what stands after it
-pub read-then : {B : Type 0} {r : Read} {items : List (List ℕ)} {end : ℕ} (f : List (List ℕ) → ℕ → Got B) → r ≡ found items end → index_then r f ≡ f items end
+pub read-then : {B : Type 0} {r : Read} {items : List (List ℕ)} {end : ℕ} (f : List (List ℕ) → ℕ → Result B Refusal) → r ≡ found items end → index_then r f ≡ f items end
 read-then f e = ap (λ (x : Read). index_then x f) e
 
 -- a font set of one font
@@ -87,10 +89,10 @@ module _ (offSize : ℕ) (name top : List ℕ) (own globals : List (List ℕ)) (
     set-bare = bare bs short (λ e. omega (arith, begins, e, small))
 
     -- it is read as its one font
-    pub set_back : (p : Program) → font_at bs own globals top ≡ got p → read_font bs ≡ got p
+    pub set_back : (p : Program) → font_at bs own globals top ≡ Ok p → read_font bs ≡ Ok p
     unfolding read_table fonts_at
     set_back p e =
         set-bare
-        ∙ ap (λ (t : Bool). pick t (refused 1) (set_at bs 4)) (le-ltb (length bs) 4 (omega arith))
+        ∙ ap (λ (t : Bool). pick t (Err Truncated) (set_at bs 4)) (le-ltb (length bs) 4 (omega arith))
         ∙ set-read
-        ∙ ap (λ (g : Got Program). then (then g (λ p. then (fonts_at bs own globals []) (λ ps. got (p ∷ ps)))) first_of) e
+        ∙ ap (λ (g : Result Program Refusal). then (then g (λ p. then (fonts_at bs own globals []) (λ ps. Ok (p ∷ ps)))) first_of) e

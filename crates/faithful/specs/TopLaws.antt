@@ -1,6 +1,6 @@
 -- The top DICT of a subset reads back (document 01, 'Layout'): what reading a font looks up in it, and that its length does not depend on its
 -- offsets, which have the five-byte form.
-use Rattle.std.specs.Prelude.{ℕ, ◌+◌, ◌≤◌, ◌<◌, ◌≡◌, Bool, eqb, length, None, Option, Some}
+use Rattle.std.specs.Prelude.{ℕ, ◌+◌, ◌≤◌, ◌<◌, ◌≡◌, Bool, eqb, length, None, Option, Some, Ok}
 use Rattle.std.proofs.Math.Path.{refl, ap}
 use Rattle.std.proofs.Common.{sym, ◌∙◌, arith, eqb-true, length-append}
 use Rattle.std.proofs.Math.Bool.{true, false}
@@ -11,17 +11,15 @@ use Rattle.index.specs.Write.{total, index_len_lem, index_bytes}
 use Rattle.index.specs.WriteLaws.{length-index}
 use Rattle.decimal.specs.Decimal.{whole}
 use Rattle.dict.specs.Op.{private, charstring_type, ros, cid_count, copied_top_entries, copied_top_strings}
-use Rattle.dict.specs.Dict.{Entry, entries, dict_of}
-use Rattle.dict.specs.Lookup.{Operands, absent, operands, last_from, last_of, only, offset_told, offset_as, offset_in, private_as, private_in, id_in, is_there, cid_keyed, ros_in, cid_count_in, type_as, charstring_type_in}
-use Rattle.dict.specs.declared.OffsetIn.TheVariants.{At}
-use Rattle.dict.specs.declared.PrivateIn.TheVariants.{Private as PrivateEntry}
+use Rattle.dict.specs.Dict.{Entry, dict_of}
+use Rattle.dict.specs.Lookup.{Operands, absent, operands, last_from, last_of, only, offset_told, offset_as, offset_in, private_as, private_in, id_in, is_there, cid_keyed, ros_in, cid_count_in, type_as, charstring_type_in, private_there}
 use Rattle.dict.specs.declared.RosEntry.{RosEntry}
 use Rattle.dict_write.specs.Written.{op_bytes_lem, offset_entry}
 use Rattle.dict_write.specs.WriteLaws.{offset-length, private-length}
 use Rattle.dict_write.specs.Parts.{Part, plain, offset, private_part, parts_entries}
 use Rattle.dict_write.specs.DictRound.{parts-read}
 use Rattle.cff.specs.ReadsLaws.{no}
-use Rattle.cff.specs.Font.{got, or_zero, Program, charset, encoding, char_strings, fd_array, fd_select_lem}
+use Rattle.cff.specs.Font.{or_zero, Program, charset, encoding, char_strings, fd_array, fd_select_lem}
 use Rattle.subset.specs.Kept.{is_in}
 use Rattle.subset.specs.Cut.{has_ros_lem}
 use Rattle.subset.specs.Texts.{Named, named_by, named_entries}
@@ -102,32 +100,32 @@ shared-leave op o rest p own h k =
 -- that is not there being at 0
 pub record NameTop (es : List Entry) (at₁ v at₂ size at₃ : ℕ) : Type 0 where
   pub keying : cid_keyed es ≡ false
-  pub charstring_type_none : charstring_type_in es ≡ 0
-  pub charset_at : offset_in charset es ≡ At at₁
-  pub encoding_at : or_zero (offset_in encoding es) ≡ got v
-  pub char_strings_at : offset_in char_strings es ≡ At at₂
-  pub private_at : private_in es ≡ PrivateEntry size at₃
+  pub charstring_type_none : charstring_type_in es ≡ Ok tt
+  pub charset_at : offset_in charset es ≡ Ok (Some at₁)
+  pub encoding_at : or_zero (offset_in encoding es) ≡ Ok v
+  pub char_strings_at : offset_in char_strings es ≡ Ok (Some at₂)
+  pub private_at : private_in es ≡ private_there size at₃
 
 -- of a CID-keyed subset: ROS, no CharstringType; the charset, FDSelect, the charstrings and the FD INDEX where they are said to be
 pub record CidTop (es : List Entry) (at₁ at₂ at₃ at₄ : ℕ) : Type 0 where
   pub keying : cid_keyed es ≡ true
-  pub charstring_type_none : charstring_type_in es ≡ 0
-  pub charset_at : offset_in charset es ≡ At at₁
-  pub fd_select_at : offset_in fd_select_lem es ≡ At at₂
-  pub char_strings_at : offset_in char_strings es ≡ At at₃
-  pub fd_array_at : offset_in fd_array es ≡ At at₄
+  pub charstring_type_none : charstring_type_in es ≡ Ok tt
+  pub charset_at : offset_in charset es ≡ Ok (Some at₁)
+  pub fd_select_at : offset_in fd_select_lem es ≡ Ok (Some at₂)
+  pub char_strings_at : offset_in char_strings es ≡ Ok (Some at₃)
+  pub fd_array_at : offset_in fd_array es ≡ Ok (Some at₄)
 
 -- an offset that was written in the five-byte form
-at_offset : (op v : ℕ) (es : List Entry) → v < 2147483648 → last_of op es ≡ operands (whole v ∷ []) → offset_in op es ≡ At v
+at_offset : (op v : ℕ) (es : List Entry) → v < 2147483648 → last_of op es ≡ operands (whole v ∷ []) → offset_in op es ≡ Ok (Some v)
 at_offset op v es h e = ap (λ (o : Operands). offset_as (only o)) e ∙ ap offset_told (offset-whole v h)
 
 -- the encoding's offset, which is 0 where its entry is not there, in front of parts that have none
 encoding-offset : (v : ℕ) (rest : List Part) (es : List Entry) → v < 2147483648 → (t : Bool) → eqb v 0 ≡ t
     → ((o : Operands) → last_from encoding o (parts_entries rest) ≡ o)
     → last_of encoding es ≡ last_from encoding absent (parts_entries (pick t [] (offset encoding v ∷ []) ++ rest))
-    → or_zero (offset_in encoding es) ≡ got v
+    → or_zero (offset_in encoding es) ≡ Ok v
 unfolding parts_entries last_from
-encoding-offset v rest es h true e k l = ap (λ (x : Operands). or_zero (offset_as (only x))) (l ∙ k absent) ∙ ap got (sym (eqb-true v 0 e))
+encoding-offset v rest es h true e k l = ap (λ (x : Operands). or_zero (offset_as (only x))) (l ∙ k absent) ∙ ap Ok (sym (eqb-true v 0 e))
 encoding-offset v rest es h false e k l = ap or_zero (at_offset encoding v es h (l ∙ k (operands (whole v ∷ []))))
 
 module _ (p : Program) (own : List (List ℕ)) (at₁ v at₂ size at₃ : ℕ)
@@ -205,7 +203,7 @@ module _ (p : Program) (own : List (List ℕ)) (there : has_ros_lem (ros_in p.to
 -- of a name-keyed subset
 pub name-top-back : (p : Program) (own : List (List ℕ)) (at₁ v at₂ size at₃ : ℕ) → GoodProgram p → length own ≤ 64609
     → at₁ < 2147483648 → v < 2147483648 → at₂ < 2147483648 → size < 2147483648 → at₃ < 2147483648
-    → (es : List Entry) × (dict_of (top_by_name p own at₁ v at₂ size at₃) ≡ entries es) × NameTop es at₁ v at₂ size at₃
+    → (es : List Entry) × (dict_of (top_by_name p own at₁ v at₂ size at₃) ≡ Ok es) × NameTop es at₁ v at₂ size at₃
 name-top-back p own at₁ v at₂ size at₃ good few h₁ hᵥ h₂ h h₃ = (
   name_entries p own at₁ v at₂ size at₃ h₁ hᵥ h₂ h h₃,
   ap dict_of (sym (name-bytes p own at₁ v at₂ size at₃))
@@ -216,7 +214,7 @@ name-top-back p own at₁ v at₂ size at₃ good few h₁ hᵥ h₂ h h₃ = (
 -- of a CID-keyed subset
 pub cid_top-back : (p : Program) (own : List (List ℕ)) (at₁ at₂ at₃ at₄ : ℕ) → GoodProgram p → has_ros_lem (ros_in p.top) ≡ true → length own ≤ 64609
     → at₁ < 2147483648 → at₂ < 2147483648 → at₃ < 2147483648 → at₄ < 2147483648
-    → (es : List Entry) × (dict_of (top_by_cid p own at₁ at₂ at₃ at₄) ≡ entries es) × CidTop es at₁ at₂ at₃ at₄
+    → (es : List Entry) × (dict_of (top_by_cid p own at₁ at₂ at₃ at₄) ≡ Ok es) × CidTop es at₁ at₂ at₃ at₄
 cid_top-back p own at₁ at₂ at₃ at₄ good there few h₁ h₂ h₃ h₄ = (
   cid_entries p own there at₁ at₂ at₃ at₄ h₁ h₂ h₃ h₄,
   ap dict_of (sym (cid_bytes p own at₁ at₂ at₃ at₄)) ∙ parts-read (cid_top_parts p own at₁ at₂ at₃ at₄) (cid_fit p own good few at₁ at₂ at₃ at₄ h₁ h₂ h₃ h₄),

@@ -1,6 +1,6 @@
 -- A whole number that was written is taken for itself, as an offset, a size or an id; and the last entry of an operator in entries that stand
 -- one behind the other (document 01, 'Corners in mod.rs').
-use Rattle.std.specs.Prelude.{ℕ, ◌+◌, ◌-◌, ◌*◌, ◌^◌, ◌<◌, min, ◌≡◌, refl, ◌⊎◌, Bool, false, List, [], ◌∷◌, ◌++◌, eqb}
+use Rattle.std.specs.Prelude.{ℕ, ◌+◌, ◌-◌, ◌*◌, ◌^◌, ◌<◌, min, ◌≡◌, refl, ◌⊎◌, Bool, false, List, [], ◌∷◌, ◌++◌, eqb, Ok, Err}
 use Rattle.std.proofs.Common.{sym, ap, ◌∙◌, subst, inl, inr, eq-zero-or-pos, arith, eq-eqb}
 use Rattle.octets.specs.Pick.{pick, pick_ind}
 use Rattle.decimal.specs.declared.Decimal.{Decimal}
@@ -8,11 +8,10 @@ use Rattle.decimal.specs.Decimal.{nought, zeros, stripped, scaled, whole}
 use Rattle.decimal.specs.DecimalLaws.{normal-nought, normal_pos, stripped-exact}
 use Rattle.decimal.specs.Values.{trunc_of, offset_of}
 use Rattle.decimal.specs.ValuesLaws.{trunc-whole}
-use Rattle.decimal.specs.declared.OffsetOf.TheVariants.{Refused, Offset}
 use Rattle.dict.specs.Dict.{Entry}
-use Rattle.dict.specs.Lookup.{Operands, operands, last_from, private_as}
-use Rattle.dict.specs.declared.PrivateIn.TheVariants.{Refused as RefusedPrivate, Private}
+use Rattle.dict.specs.Lookup.{Operands, operands, last_from, private_as, private_there}
 use Rattle.dict_write.specs.Written.{without}
+use Rattle.refusal.specs.declared.Refusal.TheVariants.{Malformed}
 
 -- ---- a whole number
 
@@ -42,24 +41,24 @@ whole_is v = go (eq-zero-or-pos v)
     go (inr p) = subst (IsWhole v) (sym (normal_pos false v 0 0 p)) (scaled-whole v)
 
 -- it is the offset
-pub offset-whole : (v : ℕ) → v < 2147483648 → offset_of (whole v) ≡ Offset v
+pub offset-whole : (v : ℕ) → v < 2147483648 → offset_of (whole v) ≡ Ok v
 offset-whole v h =
     let w = whole_is v in
     let m : min (trunc_of (whole v)) 4294967296 ≡ v = ap (λ (n : ℕ). min n 4294967296) w.size ∙ omega arith in
-    ap (λ (t : Bool). pick t (Refused 2) (pick (eqb (whole v).down 0) (Offset (min (trunc_of (whole v)) 4294967296)) (Refused 2))) w.plus
-    ∙ ap (λ (t : Bool). pick t (Offset (min (trunc_of (whole v)) 4294967296)) (Refused 2)) (eq-eqb (whole v).down 0 w.unbroken)
-    ∙ ap Offset m
+    ap (λ (t : Bool). pick t (Err Malformed) (pick (eqb (whole v).down 0) (Ok (min (trunc_of (whole v)) 4294967296)) (Err Malformed))) w.plus
+    ∙ ap (λ (t : Bool). pick t (Ok (min (trunc_of (whole v)) 4294967296)) (Err Malformed)) (eq-eqb (whole v).down 0 w.unbroken)
+    ∙ ap Ok m
 
 -- a size and an offset are those of a Private DICT
-pub private-whole : (size at : ℕ) → size < 2147483648 → at < 2147483648 → private_as (operands (whole size ∷ whole at ∷ [])) ≡ Private size at
+pub private-whole : (size at : ℕ) → size < 2147483648 → at < 2147483648 → private_as (operands (whole size ∷ whole at ∷ [])) ≡ private_there size at
 private-whole size at h k =
     let v = whole_is size in
     let w = whole_is at in
     let m : min (trunc_of (whole size)) 4294967296 ≡ size = ap (λ (n : ℕ). min n 4294967296) v.size ∙ omega arith in
     let n : min (trunc_of (whole at)) 4294967296 ≡ at = ap (λ (n : ℕ). min n 4294967296) w.size ∙ omega arith in
-    ap (λ (t : Bool). pick t (RefusedPrivate 2) (pick (whole at).neg (RefusedPrivate 2) (Private (min (trunc_of (whole size)) 4294967296) (min (trunc_of (whole at)) 4294967296)))) v.plus
-    ∙ ap (λ (t : Bool). pick t (RefusedPrivate 2) (Private (min (trunc_of (whole size)) 4294967296) (min (trunc_of (whole at)) 4294967296))) w.plus
-    ∙ ap (λ (s : ℕ). Private s (min (trunc_of (whole at)) 4294967296)) m ∙ ap (Private size) n
+    ap (λ (t : Bool). pick t (Err Malformed) (pick (whole at).neg (Err Malformed) (private_there (min (trunc_of (whole size)) 4294967296) (min (trunc_of (whole at)) 4294967296)))) v.plus
+    ∙ ap (λ (t : Bool). pick t (Err Malformed) (private_there (min (trunc_of (whole size)) 4294967296) (min (trunc_of (whole at)) 4294967296))) w.plus
+    ∙ ap (λ (s : ℕ). private_there s (min (trunc_of (whole at)) 4294967296)) m ∙ ap (private_there size) n
 
 -- ---- the last entry of an operator
 

@@ -11,8 +11,9 @@ use Rattle.renumber.specs.declared.Ranks.{Ranks}
 use Rattle.bodies.specs.Ways.{new_subrs, subrs_by, reached_in, ranks_in}
 use Rattle.bodies.specs.Pruning.{all_hold}
 use Rattle.fds.specs.Locals.{in_use_lem, fds_in, UsedOf}
+use Rattle.subset.specs.declared.Way.{Way}
 
-module _ (way : ℕ) (p : Program) (rows : List Row) (ws : List ℕ) (own globals : Ranks) where
+module _ (way : Way) (p : Program) (rows : List Row) (ws : List ℕ) (own globals : Ranks) where
   -- the local subroutines of an FD with these ranks by the way, or that their renumbering fails; the same where it does not
   abbrev pub locals_with : ℕ → Option (List (List ℕ))
   locals_with f = subrs_by way rows (reached_in ws own) (calls_by ws own globals) (local f) (locals_of p f)
@@ -30,7 +31,7 @@ pub record FdIn (b : List ℕ) (p : Program) (ws : List ℕ) (own globals : Rank
   pub global_ranks : Ranked ws globals
   pub order : rising ≡ true → rises rows ≡ true
 
-module _ (way : ℕ) (p : Program) (rows : List Row) (ws table : List ℕ) (globals : Ranks) where
+module _ (way : Way) (p : Program) (rows : List Row) (ws table : List ℕ) (globals : Ranks) where
   -- those of an FD by the tables
   abbrev pub locals_by : ℕ → Option (List (List ℕ))
   locals_by f = locals_with way p rows ws (ranks_in table f) globals f

@@ -27,6 +27,7 @@ use Rattle.fds.specs.Locals.{in_use_lem, used_below}
 use Rattle.fds.specs.UsedLaws.{used-next, unused_next, both-last, one_last, unused_apart}
 use Rattle.fds.specs.LocalsLaws.{locals-count}
 use Rattle.fds.specs.NewLocals.{locals_with, FdIn, locals_by, new_locals, MeasuresLocals, LocalsIn}
+use Rattle.subset.specs.declared.Way.{Way}
 
 -- ---- some that hold
 
@@ -66,7 +67,7 @@ module _ {A : Type 0} (f : ℕ → Option A) where
 
 -- ---- one FD
 
-module _ (way : ℕ) (b : List ℕ) (p : Program) (rows : List Row) (ws : List ℕ) (own globals : Ranks) (rising : Bool) (f : ℕ)
+module _ (way : Way) (b : List ℕ) (p : Program) (rows : List Row) (ws : List ℕ) (own globals : Ranks) (rising : Bool) (f : ℕ)
     (w : FdIn b p ws own globals rows rising f) (q : PrivateAt) (g : GoodPrivate b q × (reads.private_of b q ≡ private_of p f)) where
   -- the INDEX of the Private DICT holds its local subroutines
   pub subrs_in : SubrsIn b ws q.locals own own globals rows rising (Local f)
@@ -110,7 +111,7 @@ module _ (b : List ℕ) (p : Program) (used ws table : List ℕ) (globals : Rank
         order = w.order;
       })
 
-module _ (way : ℕ) (p : Program) (rows : List Row) (ws table : List ℕ) (globals : Ranks) (used : List ℕ) where
+module _ (way : Way) (p : Program) (rows : List Row) (ws table : List ℕ) (globals : Ranks) (used : List ℕ) where
   -- the new local subroutines of the FDs in use below fd are measured, and none of these FDs fails
   pub record Summing (totals : List ℕ) (fd : ℕ) : Type 0 where
     pub hold : all_hold (locals_by way p rows ws table globals) (used_below used fd) ≡ true

@@ -13,12 +13,13 @@ use Rattle.bodies.specs.Ways.{holds, reached_in, ranks_in}
 use Rattle.bodies.specs.Pruning.{all_hold}
 use Rattle.fds.specs.Locals.{in_use_lem, fds_in}
 use Rattle.fds.specs.NewLocals.{locals_with, new_with, locals_by, new_locals}
+use Rattle.subset.specs.declared.Way.{Way}
 
 -- the ranks tell how many are reached
 abbrev pub Counted : List ℕ → Ranks → Type 0
 Counted ws own = own.reached ≡ count_below (reached_in ws own) own.count
 
-module _ (way : ℕ) (p : Program) (rows : List Row) (ws : List ℕ) where
+module _ (way : Way) (p : Program) (rows : List Row) (ws : List ℕ) where
   -- the part of an FD with these ranks
   abbrev pub part_with : Ranks → Ranks → ℕ → List ℕ
   part_with own globals f = private_part (private_of p f) (new_with way p rows ws own globals f)

@@ -32,6 +32,7 @@ use Rattle.fds.specs.UsedLaws.{used-next, unused_next}
 use Rattle.fds.specs.NewLocals.{new_with, FdIn, locals_by, new_locals}
 use Rattle.fds.specs.NewLocalsLaws.{subrs_in, items_are, hold_fails}
 use Rattle.fds.specs.NewParts.{part_with, PartRoom, parts_for, PartsRoom}
+use Rattle.subset.specs.declared.Way.{Way}
 
 -- ---- the bytes of a part
 
@@ -58,7 +59,7 @@ module _ (x : Private) (ls : List (List ℕ)) (left : ℕ) (many : left ≡ leng
 
 -- ---- one FD
 
-module _ (way : ℕ) (b : List ℕ) (p : Program) (rows : List Row) (ws : List ℕ) (own globals : Ranks) (rising : Bool) (f : ℕ)
+module _ (way : Way) (b : List ℕ) (p : Program) (rows : List Row) (ws : List ℕ) (own globals : Ranks) (rising : Bool) (f : ℕ)
     (w : FdIn b p ws own globals rows rising f) (q : PrivateAt) (g : GoodPrivate b q × (reads.private_of b q ≡ private_of p f))
     (sum at room : ℕ) (r : PartRoom way p rows ws own globals sum at room f) where
   abbrev new : List (List ℕ)
@@ -138,7 +139,7 @@ module _ (p : Program) (new : ℕ → List (List ℕ)) where
       ap (λ (l : List ℕ). private_part (private_of p x) (new x) ++ l) (parts_last fs f)
       ∙ sym (append_assoc (private_part (private_of p x) (new x)) (private_parts p fs (mapped new fs)) (private_part (private_of p f) (new f)))
 
-module _ (way : ℕ) (p : Program) (rows : List Row) (ws table : List ℕ) (globals : Ranks) (used : List ℕ) where
+module _ (way : Way) (p : Program) (rows : List Row) (ws table : List ℕ) (globals : Ranks) (used : List ℕ) where
   abbrev before : ℕ → List ℕ
   before n = parts_for way p rows ws table globals (used_below used n)
 

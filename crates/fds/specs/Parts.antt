@@ -11,10 +11,12 @@ use Rattle.subset.specs.Pruned.{mapped}
 use Rattle.private_dicts.specs.Privates.{private_dict_by}
 use Rattle.fds.specs.Locals.{in_use_lem, fds_in}
 use Rattle.fds.specs.declared.parts.Part.{Part}
+use Rattle.subset.specs.Way.{is_renumbered}
+use Rattle.subset.specs.declared.Way.{Way}
 
 -- how many new local subroutines an FD has: those reached where they are renumbered, else all
-abbrev pub left_in : ℕ → List ℕ → ℕ → ℕ
-left_in way table f = pick (eqb way 0) (get_or table (512 + f) 0) (get_or table (256 + f) 0)
+abbrev pub left_in : Way → List ℕ → ℕ → ℕ
+left_in way table f = pick (is_renumbered way) (get_or table (512 + f) 0) (get_or table (256 + f) 0)
 
 -- how long the INDEX of so many local subroutines is that have t bytes together; none is written where there are none
 unfoldable pub subrs_len : ℕ → ℕ → ℕ
@@ -27,7 +29,7 @@ dict_len p left f = length (private_dict_by (private_of p f).entries left)
 abbrev pub part_by : Program → ℕ → ℕ → ℕ → Part
 part_by p left t f = record { size = dict_len p left f; len = dict_len p left f + subrs_len left t }
 
-module _ (p : Program) (way : ℕ) (table totals : List ℕ) where
+module _ (p : Program) (way : Way) (table totals : List ℕ) where
   -- by the tables
   abbrev pub part_at : ℕ → Part
   part_at f = part_by p (left_in way table f) (get_or totals f 0) f

@@ -31,14 +31,16 @@ use Rattle.fds.specs.Locals.{in_use_lem, used_below, fds_in}
 use Rattle.fds.specs.UsedLaws.{used-next, unused_next}
 use Rattle.fds.specs.Parts.{left_in, subrs_len, dict_len, part_by, part_at, SizesParts}
 use Rattle.fds.specs.declared.parts.Part.{Part}
+use Rattle.subset.specs.Way.{is_renumbered}
+use Rattle.subset.specs.declared.Way.{Way}
 
 -- ---- how many new local subroutines
 
-pub renumbered-left : (way : ℕ) (table : List ℕ) (f : ℕ) → way ≡ 0 → get_or table (512 + f) 0 ≡ left_in way table f
-renumbered-left way table f e = sym (ap (λ (t : Bool). pick t (get_or table (512 + f) 0) (get_or table (256 + f) 0)) (eq-eqb way 0 e))
+pub renumbered-left : (way : Way) (table : List ℕ) (f : ℕ) → is_renumbered way ≡ true → get_or table (512 + f) 0 ≡ left_in way table f
+renumbered-left way table f e = sym (ap (λ (t : Bool). pick t (get_or table (512 + f) 0) (get_or table (256 + f) 0)) e)
 
-pub all_left : (way : ℕ) (table : List ℕ) (f : ℕ) → (way ≡ 0 → ⊥) → get_or table (256 + f) 0 ≡ left_in way table f
-all_left way table f h = sym (ap (λ (t : Bool). pick t (get_or table (512 + f) 0) (get_or table (256 + f) 0)) (ne_eqb way 0 h))
+pub all_left : (way : Way) (table : List ℕ) (f : ℕ) → is_renumbered way ≡ false → get_or table (256 + f) 0 ≡ left_in way table f
+all_left way table f h = sym (ap (λ (t : Bool). pick t (get_or table (512 + f) 0) (get_or table (256 + f) 0)) h)
 
 -- ---- the INDEX of local subroutines
 
@@ -107,7 +109,7 @@ sum-last (y ∷ l) x = omega (arith, sum-last l x)
 pub used-count : (used : List ℕ) (n : ℕ) → length (used_below used n) ≤ n
 used-count used n = those-count (in_use_lem used) n 0
 
-module _ (p : Program) (way : ℕ) (table totals used oldSizes oldLens : List ℕ) where
+module _ (p : Program) (way : Way) (table totals used oldSizes oldLens : List ℕ) where
   abbrev size_at : ℕ → ℕ
   size_at f = (part_at p way table totals f).size
 
@@ -219,7 +221,7 @@ module _ (p : Program) (new : ℕ → List (List ℕ)) where
       ∙ ap (λ (n : ℕ). length (private_part (private_of p f) (new f)) + n) (parts_together fs)
 
   -- where the tables tell how many new local subroutines an FD has, and how many bytes
-  module _ (way : ℕ) (table totals used : List ℕ)
+  module _ (way : Way) (table totals used : List ℕ)
       (many : (f : ℕ) → f < 256 → in_use_lem used f ≡ true → left_in way table f ≡ length (new f))
       (bytes : (f : ℕ) → f < 256 → in_use_lem used f ≡ true → get_or totals f 0 ≡ total (new f)) where
     pub sizes_are : mapped (λ f. (part_at p way table totals f).size) (fds_in used) ≡ sizes_of p (fds_in used) (mapped new (fds_in used))

@@ -6,6 +6,7 @@ ghost use Rattle.fds.specs.Locals.{fds_in, UsedOf};
 ghost use Rattle.fds.specs.Parts.{left_in, subrs_len, dict_len, part_by, PartsFit, SizesParts};
 
 use cff::font::Font;
+use subset::Way;
 
 // The size of a Private DICT, and the length of the part that it and its local subroutines make.
 #[derive(Clone, Copy)]
@@ -30,11 +31,11 @@ pub fn list_used(used: &[u32], fds: &mut [usize]) -> usize
 }
 
 // How many new local subroutines an FD has, by the way.
-fn left_in(way: u8, table: &[usize], fd: usize) -> usize
+fn left_in(way: Way, table: &[usize], fd: usize) -> usize
     requires { 512 + fd < length table.now }
     ensures { result ≡ left_in way table.now fd }
 {
-    if way == 0 {
+    if way.is_renumbered() {
         return table[512 + fd];
     }
     table[256 + fd]
@@ -73,7 +74,7 @@ fn part_of(font: &[u8], f: Font, fd: usize, left: usize, total: usize) -> Part
 
 // The sizes of the Private DICTs and the lengths of their parts, by new number; all parts together.
 pub fn part_sizes(
-    way: u8,
+    way: Way,
     font: &[u8],
     f: Font,
     used: &[u32],

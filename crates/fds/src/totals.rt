@@ -10,10 +10,11 @@ use bodies::ranks_in;
 use bodies::subrs::{Source, Subrs};
 use cff::font::Font;
 use renumber::Ranks;
+use subset::Way;
 
 // The bytes of the new local subroutines of an FD, by the way; or that their renumbering fails.
 fn locals_total(
-    way: u8,
+    way: Way,
     font: &[u8],
     f: Font,
     fd: usize,
@@ -44,7 +45,7 @@ fn locals_total(
 
 // The bytes of the new local subroutines of each FD in use, by the way; false where their renumbering fails.
 pub fn measure_locals(
-    way: u8,
+    way: Way,
     font: &[u8],
     f: Font,
     used: &[u32],

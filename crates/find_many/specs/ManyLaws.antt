@@ -1,11 +1,11 @@
 -- Laws of the glyphs of many names and CIDs: by the code's ways out, one name or CID more, and a glyph's CID met.
-use Rattle.std.specs.Prelude.{ℕ, ◌+◌, ◌-◌, ◌≤◌, ◌<◌, ◌≡◌, refl, Bool, true, false, not, ltb, eqb, length, take, get_or, set, replicate, Option, Some}
+use Rattle.std.specs.Prelude.{ℕ, ◌+◌, ◌-◌, ◌≤◌, ◌<◌, ◌≡◌, refl, Bool, true, false, not, ltb, eqb, length, take, get_or, set, replicate, Option, Some, Result, Ok, Err}
 use Rattle.std.proofs.Math.Path.{sym, ap}
 use Rattle.std.proofs.Common.{◌∙◌, subst, add-one, arith, lt-ltb, le-ltb, ltb-true, ltb-false, eq-eqb, ne_eqb, eqb-true, drop_of_length-le, drop-cons, drop-drop, get_or-set_same, get_or-set_other}
 use mathlib.Core.List.{List, [], ◌∷◌, map}
 use Rattle.std.proofs.lemmas.Bool.{eqb-false}
 use Rattle.std.proofs.Math.ListN.{drop}
-use Rattle.std.proofs.lemmas.List.{length-map, length-replicate, get_or-replicate}
+use Rattle.std.proofs.lemmas.List.{length-replicate, get_or-replicate}
 use Rattle.octets.specs.Pick.{pick, pick_ind}
 use Rattle.octets.specs.Lists.{sum_of}
 use Rattle.octets.specs.Octets.{put}
@@ -17,30 +17,28 @@ use Rattle.charset.specs.CharsetPlaces.{ids_of}
 use Rattle.charset.specs.CharsetFound.{good_length}
 use Rattle.find.specs.Find.{glyph_with_id, glyph_with_text}
 use Rattle.find.specs.FindLaws.{id_here, id_later, id_nowhere}
-use Rattle.cff.specs.Font.{Got, Program, read_font}
-use Rattle.cff.specs.Find.{found_as_lem}
-use Rattle.cff.specs.File.{InFile}
 use Rattle.cff.specs.Reads.{program_of, GoodFont}
-use Rattle.cff.specs.SetLaws.{cid_other, cid_looked}
 use Rattle.cff.specs.declared.font.Font.{Font}
-use Rattle.find_many.specs.Many.{Glyphs, refused, found, number_for, of_name, of_cid, names_by, names_in, cids_found, Finds, Slots, none}
+use Rattle.find_many.specs.Many.{Glyphs, refused, found, number_for, of_name, names_by, names_in, Finds, Slots, none}
+use Rattle.refusal.specs.declared.Refusal.{Refusal}
+use Rattle.refusal.specs.declared.Refusal.TheVariants.{Truncated, Output}
 
 -- ---- by the ways out
 
 module _ (old : List ℕ) where
   -- a refusal writes nothing
-  pub finds_refused : (n : ℕ) → Finds (refused n) old old n
-  finds_refused n = record { number = refl; glyphs = refl }
+  pub finds_refused : (n : Refusal) → Finds (refused n) old old (Err n)
+  finds_refused n = record { result = refl; glyphs = refl }
 
   -- too few words are lent
-  pub finds-full : (gs : List ℕ) → length old < length gs → Finds (found gs) old old 11
-  finds-full gs h = let t = lt-ltb (length old) (length gs) h in record { number = rw t; glyphs = rw t }
+  pub finds-full : (gs : List ℕ) → length old < length gs → Finds (found gs) old old (Err Output)
+  finds-full gs h = let t = lt-ltb (length old) (length gs) h in record { result = rw t; glyphs = rw t }
 
   -- the glyphs stand in front
-  pub finds-found : (gs new : List ℕ) → length gs ≤ length old → new ≡ put old 0 gs → Finds (found gs) old new 0
-  finds-found gs new h e = let t = le-ltb (length old) (length gs) h in record { number = rw t; glyphs = rw t e }
+  pub finds-found : (gs new : List ℕ) → length gs ≤ length old → new ≡ put old 0 gs → Finds (found gs) old new (Ok tt)
+  finds-found gs new h e = let t = le-ltb (length old) (length gs) h in record { result = rw t; glyphs = rw t e }
 
-pub finds_as : {f g : Glyphs} {old new : List ℕ} {r : ℕ} → Finds f old new r → g ≡ f → Finds g old new r
+pub finds_as : {f g : Glyphs} {old new : List ℕ} {r : Result Unit Refusal} → Finds f old new r → g ≡ f → Finds g old new r
 finds_as {f} {g} {old} {new} {r} h e = subst (λ (x : Glyphs). Finds x old new r) (sym e) h
 
 -- ---- one more of a list
@@ -126,17 +124,17 @@ module _ (b : List ℕ) (f : Font) (bytes lens old : List ℕ) where
 
   names_fit : ltb (length bytes) (sum_of lens) ≡ false → names_in (program_of b f) bytes lens ≡ found gs
   unfolding names_in
-  names_fit t = ap (λ (x : Bool). pick x (refused 1) (found gs)) t
+  names_fit t = ap (λ (x : Bool). pick x (refused Truncated) (found gs)) t
 
-  pub names_long : ltb (length bytes) (sum_of lens) ≡ true → Finds (names_in (program_of b f) bytes lens) old old 1
+  pub names_long : ltb (length bytes) (sum_of lens) ≡ true → Finds (names_in (program_of b f) bytes lens) old old (Err Truncated)
   unfolding names_in
-  names_long t = finds_as (finds_refused old 1) (ap (λ (x : Bool). pick x (refused 1) (found gs)) t)
+  names_long t = finds_as (finds_refused old Truncated) (ap (λ (x : Bool). pick x (refused Truncated) (found gs)) t)
 
-  pub names-full : ltb (length bytes) (sum_of lens) ≡ false → length old < length lens → Finds (names_in (program_of b f) bytes lens) old old 11
+  pub names-full : ltb (length bytes) (sum_of lens) ≡ false → length old < length lens → Finds (names_in (program_of b f) bytes lens) old old (Err Output)
   names-full t h = finds_as (finds-full old gs (omega (arith, names-length (of_name (program_of b f)) lens bytes))) (names_fit t)
 
   pub names-put : ltb (length bytes) (sum_of lens) ≡ false → length lens ≤ length old → (new : List ℕ) → new ≡ put old 0 gs
-      → Finds (names_in (program_of b f) bytes lens) old new 0
+      → Finds (names_in (program_of b f) bytes lens) old new (Ok tt)
   names-put t h new e = finds_as (finds-found old gs new (omega (arith, names-length (of_name (program_of b f)) lens bytes)) e) (names_fit t)
 
 -- ---- CIDs
@@ -152,19 +150,6 @@ cids-turn number slots cids i s h small words k =
 pub cids_end : (number : ℕ → ℕ) (cids : List ℕ) (i : ℕ) → length cids ≤ i → (words : List ℕ) → words ≡ put words i (map number (drop i cids))
 cids_end number cids i h words = sym (ap (λ (y : List ℕ). put words i (map number y)) (drop_of_length-le cids h) ∙ put_nil words i)
 
--- by the room: too few words, or found
-module _ (file : List ℕ) (f : Font) (b : List ℕ) (read : InFile file f b) (cids old : List ℕ) where
-  cids_are : cids_found (read_font file) cids ≡ found (map (of_cid (program_of b f)) cids)
-  cids_are = ap (λ (x : Got Program). cids_found x cids) read.is
-
-  pub cids-full : length old < length cids → Finds (cids_found (read_font file) cids) old old 11
-  cids-full h = finds_as (finds-full old (map (of_cid (program_of b f)) cids) (omega (arith, length-map cids (of_cid (program_of b f))))) cids_are
-
-  pub cids-put : length cids ≤ length old → (slots new : List ℕ) → Slots (of_cid (program_of b f)) slots
-      → ((number : ℕ → ℕ) → Slots number slots → new ≡ put old 0 (map number cids)) → Finds (cids_found (read_font file) cids) old new 0
-  cids-put h slots new s e =
-      finds_as (finds-found old (map (of_cid (program_of b f)) cids) new (omega (arith, length-map cids (of_cid (program_of b f)))) (e (of_cid (program_of b f)) s)) cids_are
-
 -- ---- a slot for each CID
 
 -- what a slot gives where the glyphs behind give so much
@@ -172,7 +157,7 @@ abbrev settle : ℕ → ℕ → ℕ
 settle s later = pick (eqb s 65536) later s
 
 abbrev first_of : List ℕ → ℕ → ℕ → ℕ
-first_of ids g id = number_for (found_as_lem (glyph_with_id id g (drop g ids)))
+first_of ids g id = number_for (glyph_with_id id g (drop g ids))
 
 -- before glyph g: a slot that has a glyph has the first, and another waits for those that are left
 pub record Settled (ids : List ℕ) (g : ℕ) (slots : List ℕ) : Type 0 where
@@ -190,10 +175,10 @@ settled-start ids slots s = record { is = λ id h. settle-none (get_or slots id 
 module _ (ids slots : List ℕ) (g : ℕ) (s : Settled ids g slots) (h : g < length ids) (id₀ : ℕ) (e : id₀ ≡ get_or ids g 0) where
   -- of another id nothing was met
   later : (id : ℕ) → (id ≡ id₀ → ⊥) → first_of ids g id ≡ first_of ids (g + 1) id
-  later id k = ap (λ (x : Option ℕ). number_for (found_as_lem x)) (id_later ids g h id (λ z. k (sym z ∙ sym e)))
+  later id k = ap number_for (id_later ids g h id (λ z. k (sym z ∙ sym e)))
 
   here : (id : ℕ) → id ≡ id₀ → first_of ids g id ≡ g
-  here id k = ap (λ (x : Option ℕ). number_for (found_as_lem x)) (id_here ids g h id (sym e ∙ sym k))
+  here id k = ap number_for (id_here ids g h id (sym e ∙ sym k))
 
   -- the first of its id goes to the slot
   new_by : g < 65536 → id₀ < length slots → get_or slots id₀ 0 ≡ 65536 → (id : ℕ) → id < 65536 → (t : Bool) → eqb id id₀ ≡ t
@@ -230,24 +215,15 @@ settle_end s false e = refl
 
 -- all glyphs were passed
 pub settled-all : (ids slots : List ℕ) (g : ℕ) → length ids ≤ g → Settled ids g slots → length slots ≡ 65536
-    → Slots (λ id. number_for (found_as_lem (glyph_with_id id 0 ids))) slots
+    → Slots (λ id. number_for (glyph_with_id id 0 ids)) slots
 settled-all ids slots g h s size =
     record {
       size = size;
       is =
           λ id k.
           settle_end (get_or slots id 0) (eqb (get_or slots id 0) 65536) refl
-          ∙ ap (settle (get_or slots id 0)) (sym (ap (λ (x : Option ℕ). number_for (found_as_lem x)) (id_nowhere id g ids h))) ∙ s.is id k;
+          ∙ ap (settle (get_or slots id 0)) (sym (ap number_for (id_nowhere id g ids h))) ∙ s.is id k;
     }
-
--- by the keying
-module _ (b : List ℕ) (f : Font) (good : GoodFont b f) (slots : List ℕ) where
-  pub slots_cid : f.cid ≡ true → Slots (λ id. number_for (found_as_lem (glyph_with_id id 0 (ids_of b f.charset f.charstrings.count)))) slots
-      → Slots (of_cid (program_of b f)) slots
-  slots_cid c s = record { size = s.size; is = λ id h. s.is id h ∙ ap number_for (cid_looked b f good c id _ refl _ refl) }
-
-  pub slots-name : f.cid ≡ false → Slots none slots → Slots (of_cid (program_of b f)) slots
-  slots-name c s = record { size = s.size; is = λ id h. s.is id h ∙ ap number_for (cid_other b f good c id) }
 
 pub slots-start : (slots : List ℕ) → slots ≡ replicate 65536 65536 → Slots none slots
 slots-start slots e =

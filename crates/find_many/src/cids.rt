@@ -4,18 +4,17 @@ ghost use Rattle.octets.specs.Octets.{put};
 ghost use Rattle.charset.specs.CharsetPlaces.{ids_of, GoodCharset};
 ghost use Rattle.find.specs.Find.{glyph_with_id};
 ghost use Rattle.cff.specs.Font.{read_font};
-ghost use Rattle.cff.specs.Find.{found_as_lem};
 ghost use Rattle.cff.specs.Reads.{program_of, GoodFont};
 ghost use Rattle.find_many.specs.Many.{number_for, of_cid, cids_found, Finds, Slots, none};
 
-use cff::font::{Font, FontRead};
+use cff::font::Font;
 use charset::Charset;
 use refusal::Refusal;
 
 // Puts the first of n glyphs with each id into the slot of the id.
 fn fill(font: &[u8], c: Charset, n: usize, slots: &mut [u32])
     requires { (GoodCharset font.now c n) × Slots none slots.old }
-    ensures { Slots (λ id. number_for (found_as_lem (glyph_with_id id 0 (ids_of font.now c n)))) slots.new }
+    ensures { Slots (λ id. number_for (glyph_with_id id 0 (ids_of font.now c n))) slots.new }
 {
     let mut u = charset::charset_start(c);
     for g in 0..n {
@@ -53,22 +52,17 @@ fn put_cids(slots: &[u32], cids: &[u16], glyphs: &mut [u32])
     }
 }
 
-// The glyph of each CID, 65536 where it is absent, in the front of the lent words; or the refusal: reading's, 11 for too few words.
+// The glyph of each CID, 65536 where it is absent, in the front of the lent words; or the refusal: reading's, that of too few words.
 // A slot for each CID: 256 KiB.
-pub fn find_cids(font: &[u8], cids: &[u16], glyphs: &mut [u32]) -> u8
+pub fn find_cids(font: &[u8], cids: &[u16], glyphs: &mut [u32]) -> Result<(), Refusal>
     ensures { Finds (cids_found (read_font font.now) cids.now) glyphs.old glyphs.new result }
 {
-    let read = cff::set::read_font(font);
-    match read {
-        FontRead::Refused(n) => n,
-        FontRead::Found(f) => {
-            if glyphs.len() < cids.len() {
-                return Refusal::OUTPUT;
-            }
-            let mut slots = [65536u32; 65536];
-            slots_in(cff::set::table(font, f), f, &mut slots);
-            put_cids(&slots, cids, glyphs);
-            0
-        }
+    let f = cff::set::read_font(font)?;
+    if glyphs.len() < cids.len() {
+        return Err(Refusal::Output);
     }
+    let mut slots = [65536u32; 65536];
+    slots_in(cff::set::table(font, f), f, &mut slots);
+    put_cids(&slots, cids, glyphs);
+    Ok(())
 }

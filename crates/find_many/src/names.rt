@@ -6,7 +6,7 @@ ghost use Rattle.cff.specs.Font.{read_font};
 ghost use Rattle.cff.specs.Reads.{program_of, GoodFont};
 ghost use Rattle.find_many.specs.Many.{of_name, names_by, names_in, names_found, Finds};
 
-use cff::font::{Font, FontRead};
+use cff::font::Font;
 use refusal::Refusal;
 
 // The glyph of a name in a font that was read, 65536 where it is absent; no glyph of a CID-keyed font has a name.
@@ -59,28 +59,36 @@ fn put_names(font: &[u8], f: Font, names: &[u8], lens: &[u32], glyphs: &mut [u32
 }
 
 // The glyphs of the names in a font that was read.
-fn names_in(font: &[u8], f: Font, names: &[u8], lens: &[u32], glyphs: &mut [u32]) -> u8
+fn names_in(
+    font: &[u8],
+    f: Font,
+    names: &[u8],
+    lens: &[u32],
+    glyphs: &mut [u32],
+) -> Result<(), Refusal>
     requires { GoodFont font.now f }
     ensures { Finds (names_in (program_of font.now f) names.now lens.now) glyphs.old glyphs.new result }
 {
     if fit(names.len(), lens) {
         if glyphs.len() < lens.len() {
-            return Refusal::OUTPUT;
+            return Err(Refusal::Output);
         }
         put_names(font, f, names, lens, glyphs);
-        return 0;
+        return Ok(());
     }
-    Refusal::TRUNCATED
+    Err(Refusal::Truncated)
 }
 
-// The glyph of each name, 65536 where it is absent, in the front of the lent words; or the refusal: reading's, 1 for lengths that are more
-// together than the names have bytes, 11 for too few words.
-pub fn find_names(font: &[u8], names: &[u8], lens: &[u32], glyphs: &mut [u32]) -> u8
+// The glyph of each name, 65536 where it is absent, in the front of the lent words; or the refusal: reading's, that of lengths that are more
+// together than the names have bytes, that of too few words.
+pub fn find_names(
+    font: &[u8],
+    names: &[u8],
+    lens: &[u32],
+    glyphs: &mut [u32],
+) -> Result<(), Refusal>
     ensures { Finds (names_found (read_font font.now) names.now lens.now) glyphs.old glyphs.new result }
 {
-    let read = cff::set::read_font(font);
-    match read {
-        FontRead::Refused(n) => n,
-        FontRead::Found(f) => names_in(cff::set::table(font, f), f, names, lens, glyphs),
-    }
+    let f = cff::set::read_font(font)?;
+    names_in(cff::set::table(font, f), f, names, lens, glyphs)
 }

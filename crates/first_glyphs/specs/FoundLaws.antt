@@ -7,7 +7,6 @@ use Rattle.octets.specs.Pick.{pick, pick_ind}
 use Rattle.prune.specs.StepLaws.{zero_one}
 use Rattle.strings.specs.Strings.{string_text}
 use Rattle.find.specs.Find.{glyph_with_id}
-use Rattle.cff.specs.Find.{found_as_lem}
 use Rattle.subset.specs.Kept.{those}
 use Rattle.subset.specs.Cut.{is_glyph}
 use Rattle.kept.specs.Packed.{all_of, cid_found, text_found, name_found}
@@ -47,8 +46,8 @@ module _ (test t : ℕ → Bool) (n : ℕ) where
 
 -- ---- a glyph that was looked for
 
-pub glyph_as : (g : ℕ) (x y : Option ℕ) → x ≡ y → is_glyph g (found_as_lem x) ≡ is_glyph g (found_as_lem y)
-glyph_as g x y e = ap (λ (z : Option ℕ). is_glyph g (found_as_lem z)) e
+pub glyph_as : (g : ℕ) (x y : Option ℕ) → x ≡ y → is_glyph g x ≡ is_glyph g y
+glyph_as g x y e = ap (λ (z : Option ℕ). is_glyph g z) e
 
 -- by the text of its id
 pub name_by : (strings : List (List ℕ)) (ids : List ℕ) (g id : ℕ) (name : List ℕ) (r : Bool) → id ≡ get_or ids g 0 → name ≡ string_text strings id

@@ -1,11 +1,13 @@
 -- Stored cases of a DICT and of a number written into one (tools/oracle/README.md, 'format', kinds d and w), from the definitions that
 -- dict's and decimal_write's functions meet.
-use Rattle.std.specs.Prelude.{ℕ, ◌+◌, ◌*◌, ◌%◌, Bool, true, false, List, [], ◌∷◌, ◌++◌, ltb, leb, eqb, length, get_or, None, Option, Some}
+use Rattle.std.specs.Prelude.{ℕ, ◌+◌, ◌*◌, ◌%◌, Bool, true, false, List, [], ◌∷◌, ◌++◌, ltb, leb, eqb, length, get_or, None, Option, Some, Result, Ok, Err}
 use Rattle.octets.specs.Pick.{pick}
 use Rattle.octets.specs.Octets.{num_at, bytes_of}
 use Rattle.decimal.specs.declared.Decimal.{Decimal}
 use Rattle.decimal.specs.Written.{number_bytes}
-use Rattle.dict.specs.Dict.{Entry, Dict, refused, entries, dict_of}
+use Rattle.dict.specs.Dict.{Entry, dict_of}
+use Rattle.refusal.specs.declared.Refusal.{Refusal}
+use Rattle.refusal.specs.Refusal.{number_of}
 
 -- a decimal: its sign, its digits, and its powers of ten up and down
 unfoldable pub decimal_bytes : Decimal → List ℕ
@@ -23,10 +25,10 @@ unfoldable pub entries_bytes : List Entry → List ℕ
 entries_bytes [] = []
 entries_bytes (e ∷ es) = entry_bytes e.op (length e.operands) e.operands ++ entries_bytes es
 
--- the refusal; or 0, the entries before, and those of the DICT
-abbrev pub behind : List ℕ → Dict → List ℕ
-behind front (refused n) = n ∷ []
-behind front (entries es) = 0 ∷ (front ++ entries_bytes es)
+-- the refusal's number; or 0, the entries before, and those of the DICT
+abbrev pub behind : List ℕ → Result (List Entry) Refusal → List ℕ
+behind front (Err n) = number_of n ∷ []
+behind front (Ok es) = 0 ∷ (front ++ entries_bytes es)
 
 -- kind d: a DICT of up to 100 bytes
 unfoldable pub dict_answer : List ℕ → Option (List ℕ)

@@ -1,6 +1,6 @@
 -- Laws of the answers of a DICT: operands one after the other, entries one after the other, and the code's ways out.
 use Prim.Native.Nat.{ℕ, zero, suc, ◌+◌, ◌*◌, ◌≤◌, ◌<◌}
-use Rattle.std.specs.Prelude.{◌≡◌, refl, ltb, length, None, Some}
+use Rattle.std.specs.Prelude.{◌≡◌, refl, ltb, length, None, Some, Result, Ok, Err}
 use Rattle.std.proofs.Math.Path.{sym, ap, subst}
 use Rattle.std.proofs.Common.{◌∙◌, length-append, lt-ltb, le-ltb, ltb-true}
 use mathlib.Core.List.{List, [], ◌∷◌, ◌++◌, append_assoc, append-nil}
@@ -11,16 +11,17 @@ use Rattle.octets.specs.OctetsLaws.{length-bytes}
 use Rattle.octets.specs.PutLaws.{wrote_then, wrote_as}
 use Rattle.decimal.specs.declared.Decimal.{Decimal}
 use Rattle.decimal.specs.Number.{Number, refused as refusedNumber, not_number, number, number_at}
-use Rattle.dict.specs.Dict.{Entry, Dict, refused, entries, Token, bad, operand, operator, token_at, Reading, stopped, got, after, onward, entry_from, entry_at, readings_at, before, gathered, dict_of}
+use Rattle.dict.specs.Dict.{Entry, Token, bad, operand, operator, token_at, Reading, stopped, got, after, onward, entry_from, entry_at, readings_at, before, gathered, dict_of}
 use Rattle.dict.specs.Places.{entry_told, or_none, operands_at}
 use Rattle.dict.specs.TokenLaws.{Passes, token-passes}
 use Rattle.dict.specs.EntryLaws.{readings_end}
 use Rattle.dict.proofs.WalkLaws.{Answered, answered, left_stopped, left-entry}
-use Rattle.dict.specs.declared.EntryAt.{EntryAt}
-use Rattle.dict.specs.declared.EntryAt.TheVariants.{Refused, Entry as EntryFound}
 use Rattle.cases.specs.Answers.{Starts}
 use Rattle.cases.specs.AnswersLaws.{starts-wrote, starts_as}
 use Rattle.format_cases.specs.Dicts.{decimal_bytes, operands_bytes, entry_bytes, entries_bytes, behind, dict_answer}
+use Rattle.dict.specs.declared.EntryAt.{EntryAt}
+use Rattle.refusal.specs.declared.Refusal.{Refusal}
+use Rattle.refusal.specs.Refusal.{number_of}
 
 -- ---- operands
 
@@ -62,26 +63,26 @@ entry_length op n ds = rw (length-append, length-append) (omega (arith, length-b
 
 -- each operand and the operator has a byte
 abbrev Spans : ℕ → Reading → Type 0
-Spans at (stopped n) = 0 ≤ n
+Spans at (stopped n) = Unit
 Spans at (got op ds end next) = at + length ds < next
 
 module _ (b : List ℕ) where
   after_spans : (at next : ℕ) (d : Decimal) → at < next → (r : Reading) → Spans next r → Spans at (after d r)
-  after_spans at next d l (stopped n) h = h
+  after_spans at next d l (stopped n) h = tt
   after_spans at next d l (got op ds end last) h = omega arith
 
   onward_spans : (at : ℕ) (t : Token) → Passes b at t → (f : ℕ → Reading) → ((next : ℕ) → Spans next (f next)) → Spans at (onward at t f)
-  onward_spans at (bad n) p f h = omega arith
+  onward_spans at (bad n) p f h = tt
   onward_spans at (operand d next) p f h = after_spans at next d p.1 (f next) (h next)
   onward_spans at (operator op next) p f h = omega (arith, p.0)
 
   from_spans : (k at : ℕ) → Spans at (entry_from k b at)
   unfolding entry_from
-  from_spans zero at = omega arith
+  from_spans zero at = tt
   from_spans (suc k) at =
       pick_ind (Spans at) (ltb at (length b)) _ _
       (λ e. onward_spans at (token_at b at) (token-passes b at (ltb-true at (length b) e)) (entry_from k b) (from_spans k))
-      (λ e. omega arith)
+      (λ e. tt)
 
   entry_spans : (at op : ℕ) (ds : List Decimal) (end next : ℕ) → entry_at b at ≡ got op ds end next → at + length ds < next
   unfolding entry_at
@@ -89,10 +90,10 @@ module _ (b : List ℕ) where
 
 -- ---- entries one after the other
 
-behind_more : (front : List ℕ) (e : Entry) (d : Dict) → behind front (before e d) ≡ behind (front ++ entry_bytes e.op (length e.operands) e.operands) d
+behind_more : (front : List ℕ) (e : Entry) (d : Result (List Entry) Refusal) → behind front (before e d) ≡ behind (front ++ entry_bytes e.op (length e.operands) e.operands) d
 unfolding entries_bytes
-behind_more front e (refused n) = refl
-behind_more front e (entries es) =
+behind_more front e (Err n) = refl
+behind_more front e (Ok es) =
     ap (λ (l : List ℕ). 0 ∷ l) (sym (append_assoc front (entry_bytes e.op (length e.operands) e.operands) (entries_bytes es)))
 
 -- what is known with the entries before a position written
@@ -114,46 +115,46 @@ module _ (b : List ℕ) (at : ℕ) (new : List ℕ) (p : ℕ) (w : Listing b at 
   pub listing_end : length b ≤ at → Starts (behind [] (dict_of b)) new p
   unfolding gathered entries_bytes
   listing_end h =
-      let e : behind w.done (entries []) ≡ behind [] (dict_of b)
+      let e : behind w.done (Ok []) ≡ behind [] (dict_of b)
       = ap (λ (l : List Reading). behind w.done (gathered l)) (sym (readings_end b at h)) ∙ w.rest in
       starts_as (starts-wrote w.wrote) (ap (λ (l : List ℕ). 0 ∷ l) (sym (append-nil w.done)) ∙ e)
 
-  module _ (h : at < length b) (r : EntryAt) (e : r ≡ entry_told 0 (entry_at b at)) where
-    pub listing_refused : (n : ℕ) → r ≡ Refused n → n ∷ [] ≡ behind [] (dict_of b)
+  module _ (h : at < length b) (r : Result EntryAt Refusal) (e : r ≡ entry_told 0 (entry_at b at)) where
+    pub listing_refused : (n : Refusal) → r ≡ Err n → number_of n ∷ [] ≡ behind [] (dict_of b)
     unfolding gathered
     listing_refused n f = ap (λ (l : List Reading). behind w.done (gathered l)) (sym (left_stopped b at h r e n f)) ∙ w.rest
 
-    module _ (op end count next : ℕ) (f : r ≡ EntryFound op end count next) where
-      placed : Answered b at op end count next
-      placed = answered b at h r e op end count next f
+    module _ (t : EntryAt) (f : r ≡ Ok t) where
+      placed : Answered b at t
+      placed = answered b at h r e t f
 
-      listing_spans : at + count < next
-      listing_spans = omega (arith, entry_spans b at op placed.operands end next placed.entry, placed.counted)
+      listing_spans : at + t.count < t.next
+      listing_spans = omega (arith, entry_spans b at t.op placed.operands t.end t.next placed.entry, placed.counted)
 
       -- room for an entry, in the answer to a DICT of up to 100 bytes
-      pub listing-room : p + (3 + 11 * count) ≤ 1 + 11 * length b
+      pub listing-room : p + (3 + 11 * t.count) ≤ 1 + 11 * length b
       listing-room = omega (arith, listing_spans, w.room, placed.stands.inside)
 
-      pub listing_further : (at < next) × (next ≤ length b)
+      pub listing_further : (at < t.next) × (t.next ≤ length b)
       listing_further = (placed.stands.further, placed.stands.inside)
 
-      entry_is : entry_bytes op count (operands_at count b at) ≡ entry_bytes op (length placed.operands) placed.operands
+      entry_is : entry_bytes t.op t.count (operands_at t.count b at) ≡ entry_bytes t.op (length placed.operands) placed.operands
       entry_is =
-          ap (λ (ds : List Decimal). entry_bytes op count ds) (ap (λ (n : ℕ). operands_at n b at) placed.counted ∙ placed.stands.here)
-          ∙ ap (λ (n : ℕ). entry_bytes op n placed.operands) placed.counted
+          ap (λ (ds : List Decimal). entry_bytes t.op t.count ds) (ap (λ (n : ℕ). operands_at n b at) placed.counted ∙ placed.stands.here)
+          ∙ ap (λ (n : ℕ). entry_bytes t.op n placed.operands) placed.counted
 
-      pub listing-turn : (newer : List ℕ) (q : ℕ) → Wrote new p (entry_bytes op count (operands_at count b at)) newer q → Listing b next newer q
+      pub listing-turn : (newer : List ℕ) (q : ℕ) → Wrote new p (entry_bytes t.op t.count (operands_at t.count b at)) newer q → Listing b t.next newer q
       unfolding gathered
       listing-turn newer q x =
           let y = wrote_as x entry_is in
           record {
             old = w.old;
-            done = w.done ++ entry_bytes op (length placed.operands) placed.operands;
+            done = w.done ++ entry_bytes t.op (length placed.operands) placed.operands;
             inside = placed.stands.inside;
-            rest = sym (behind_more w.done (record { op = op; operands = placed.operands }) (gathered (readings_at b next)))
-                ∙ sym (ap (λ (l : List Reading). behind w.done (gathered l)) (left-entry b at h r e op end count next placed)) ∙ w.rest;
+            rest = sym (behind_more w.done (record { op = t.op; operands = placed.operands }) (gathered (readings_at b t.next)))
+                ∙ sym (ap (λ (l : List Reading). behind w.done (gathered l)) (left-entry b at h r e t placed)) ∙ w.rest;
             wrote = wrote_then (omega arith) w.wrote y;
-            room = omega (arith, y.behind, entry_length op (length placed.operands) placed.operands, placed.counted, listing_spans, w.room);
+            room = omega (arith, y.behind, entry_length t.op (length placed.operands) placed.operands, placed.counted, listing_spans, w.room);
           }
 
 -- ---- the ways out

@@ -1,17 +1,18 @@
 -- Stored cases of a charset and of an FDSelect (tools/oracle/README.md, 'format', kinds c and s), from the definitions that charset's
 -- functions meet.
-use Rattle.std.specs.Prelude.{ℕ, List, [], ◌∷◌, ltb, eqb, length, drop, None, Option, Some}
+use Rattle.std.specs.Prelude.{ℕ, List, [], ◌∷◌, ltb, eqb, length, drop, None, Option, Some, Result, Ok, Err}
 use Rattle.octets.specs.Pick.{pick}
 use Rattle.octets.specs.Octets.{num_at}
 use Rattle.index.specs.Write.{table_bytes}
-use Rattle.charset.specs.Listed.{Listed, refused, listed}
 use Rattle.charset.specs.Charset.{charset_at}
 use Rattle.charset.specs.FdSelect.{fd_select_at}
+use Rattle.refusal.specs.declared.Refusal.{Refusal}
+use Rattle.refusal.specs.Refusal.{number_of}
 
--- the refusal, or 0 and the number of each glyph; none for more than 2,000 glyphs, whose answer has no room
-abbrev pub listed_answer : ℕ → Listed → Option (List ℕ)
-listed_answer w (refused e) = Some (e ∷ [])
-listed_answer w (listed l) = pick (ltb 2000 (length l)) None (Some (0 ∷ table_bytes w l))
+-- the refusal's number, or 0 and the number of each glyph; none for more than 2,000 glyphs, whose answer has no room
+abbrev pub listed_answer : ℕ → Result (List ℕ) Refusal → Option (List ℕ)
+listed_answer w (Err e) = Some (number_of e ∷ [])
+listed_answer w (Ok l) = pick (ltb 2000 (length l)) None (Some (0 ∷ table_bytes w l))
 
 -- kind c: a position, how many glyphs, at least one, and a font; an id is two bytes
 unfoldable pub charset_answer : List ℕ → Option (List ℕ)

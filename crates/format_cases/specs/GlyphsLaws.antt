@@ -1,5 +1,5 @@
 -- Laws of the answers of a charset and of an FDSelect: one number after the other, and the code's ways out.
-use Rattle.std.specs.Prelude.{ℕ, ◌+◌, ◌≤◌, ◌<◌, ◌≡◌, List, [], ◌∷◌, ◌++◌, length, get_or, None, Some}
+use Rattle.std.specs.Prelude.{ℕ, ◌+◌, ◌≤◌, ◌<◌, ◌≡◌, List, [], ◌∷◌, ◌++◌, length, get_or, None, Some, Result, Ok, Err}
 use Rattle.std.proofs.Common.{sym, ◌∙◌, arith, add-one, drop-cons}
 use Rattle.std.proofs.Math.Path.{ap}
 use Rattle.std.proofs.Math.ListN.{drop}
@@ -7,10 +7,11 @@ use Rattle.std.proofs.Math.Seq.{drop-length}
 use borrow.Author.Tests.{lt-ltb, le-ltb, eq-eqb, ne_eqb}
 use Rattle.octets.specs.Octets.{num_at, bytes_of}
 use Rattle.index.specs.Write.{table_bytes}
-use Rattle.charset.specs.Listed.{Listed, refused, listed}
 use Rattle.charset.specs.Charset.{charset_at}
 use Rattle.charset.specs.FdSelect.{fd_select_at}
 use Rattle.format_cases.specs.Glyphs.{listed_answer, charset_answer, fd_select_answer}
+use Rattle.refusal.specs.declared.Refusal.{Refusal}
+use Rattle.refusal.specs.Refusal.{number_of}
 
 module _ (w : ℕ) where
   -- the numbers from the k-th on
@@ -24,10 +25,10 @@ module _ (w : ℕ) where
 
   -- ---- the ways out
 
-  pub listed_refused : (q : Listed) (e : ℕ) → q ≡ refused e → listed_answer w q ≡ Some (e ∷ [])
+  pub listed_refused : (q : Result (List ℕ) Refusal) (e : Refusal) → q ≡ Err e → listed_answer w q ≡ Some (number_of e ∷ [])
   listed_refused q e f = ap (listed_answer w) f
 
-  module _ (q : Listed) (l : List ℕ) (f : q ≡ listed l) (n : ℕ) (m : length l ≡ n) where
+  module _ (q : Result (List ℕ) Refusal) (l : List ℕ) (f : q ≡ Ok l) (n : ℕ) (m : length l ≡ n) where
     pub listed_many : 2000 < n → listed_answer w q ≡ None
     listed_many h = let k : 2000 < length l = omega arith in ap (listed_answer w) f ∙ rw (lt-ltb 2000 (length l) k)
 

@@ -1,6 +1,6 @@
 -- Laws of the answers of an INDEX, by the code's ways out.
 use Prim.Native.Nat.{ℕ, zero, suc, ◌+◌, ◌-◌, ◌*◌, ◌≤◌, ◌<◌}
-use Rattle.std.specs.Prelude.{◌≡◌, List, [], ◌∷◌, ◌++◌, length, take, drop, None, Some}
+use Rattle.std.specs.Prelude.{◌≡◌, List, [], ◌∷◌, ◌++◌, length, take, drop, None, Some, Result, Ok, Err}
 use Rattle.std.proofs.Math.Path.{refl, ap}
 use Rattle.std.proofs.Common.{sym, ◌∙◌, length-drop, take_all, lt-ltb, le-ltb}
 use native.Mathlib.Omega.{arith}
@@ -10,9 +10,9 @@ use Rattle.octets.specs.OctetsLaws.{length-bytes}
 use Rattle.index.specs.Index.{index_at}
 use Rattle.index.specs.Good.{offset_of}
 use Rattle.index.specs.declared.Index.{Index}
-use Rattle.index.specs.declared.IndexAt.{IndexAt}
-use Rattle.index.specs.declared.IndexAt.TheVariants.{Refused, Found}
 use Rattle.format_cases.specs.Indexes.{item_bytes, items_bytes, head_bytes, index_found, index_answer}
+use Rattle.refusal.specs.declared.Refusal.{Refusal}
+use Rattle.refusal.specs.Refusal.{number_of}
 
 module _ (b : List ℕ) (ix : Index) where
   pub item-length : (k : ℕ) → length (item_bytes b ix k) ≡ 6
@@ -44,14 +44,14 @@ head-length ix = rw length-append (omega (arith, length-bytes 4 ix.end, length-b
 
 -- ---- the ways out
 
-module _ (b : List ℕ) (q r : IndexAt) (e : r ≡ q) where
-  pub found_refused : (n : ℕ) → r ≡ Refused n → index_found b q ≡ Some (n ∷ [])
+module _ (b : List ℕ) (q r : Result Index Refusal) (e : r ≡ q) where
+  pub found_refused : (n : Refusal) → r ≡ Err n → index_found b q ≡ Some (number_of n ∷ [])
   found_refused n f = ap (index_found b) (sym e ∙ f)
 
-  pub found_many : (ix : Index) → r ≡ Found ix → 600 < ix.count → index_found b q ≡ None
+  pub found_many : (ix : Index) → r ≡ Ok ix → 600 < ix.count → index_found b q ≡ None
   found_many ix f h = ap (index_found b) (sym e ∙ f) ∙ rw (lt-ltb 600 ix.count h)
 
-  pub found-index : (ix : Index) → r ≡ Found ix → ix.count ≤ 600 → index_found b q ≡ Some (head_bytes ix ++ items_bytes b ix 0 ix.count)
+  pub found-index : (ix : Index) → r ≡ Ok ix → ix.count ≤ 600 → index_found b q ≡ Some (head_bytes ix ++ items_bytes b ix 0 ix.count)
   found-index ix f h = ap (index_found b) (sym e ∙ f) ∙ rw (le-ltb 600 ix.count h)
 
 -- the font behind the fields of an input, as it is lent

@@ -6,9 +6,8 @@ ghost use Rattle.dict.specs.Places.{operands_at};
 ghost use Rattle.cases.specs.Answers.{Starts, Gives};
 ghost use Rattle.format_cases.specs.Dicts.{decimal_bytes, operands_bytes, entry_bytes, behind, dict_answer, decimal_at, is_decimal, number_answer};
 
-use decimal::{Decimal, NumberAt, number_at};
-use dict::EntryAt;
-use octets::{put_byte, put_num, wide};
+use decimal::{Decimal, number_at};
+use octets::{put_byte, put_num};
 
 // Two numbers of one byte each.
 fn put_powers(up: usize, down: usize, out: &mut [u8], at: usize) -> usize
@@ -41,12 +40,12 @@ fn put_operands(d: &[u8], start: usize, count: usize, out: &mut [u8], to: usize)
             return p;
         }
         match number_at(d, at) {
-            NumberAt::Num { value, next } => {
-                p = put_decimal(value, out, p);
-                at = next;
+            Ok(Some(number)) => {
+                p = put_decimal(number.value, out, p);
+                at = number.next;
             }
-            NumberAt::NotNumber => return p,
-            NumberAt::Refused(_) => return p,
+            Ok(None) => return p,
+            Err(_) => return p,
         }
     }
     p
@@ -62,7 +61,7 @@ fn put_entry(d: &[u8], start: usize, count: usize, op: usize, out: &mut [u8], to
     put_operands(d, start, count, out, q)
 }
 
-// The entries of a DICT, after 0; or its refusal.
+// The entries of a DICT, after 0; or its refusal's number.
 fn put_dict(d: &[u8], out: &mut [u8]) -> usize
     requires { (length d.now ≤ 100) × (4096 ≤ length out.old) }
     ensures { Starts (behind [] (dict_of d.now)) out.new result }
@@ -71,17 +70,12 @@ fn put_dict(d: &[u8], out: &mut [u8]) -> usize
     let mut at = 0;
     while at < d.len() {
         match dict::read_entry(d, at) {
-            EntryAt::Entry {
-                op,
-                end: _,
-                count,
-                next,
-            } => {
-                p = put_entry(d, at, count, op, &mut *out, p);
-                at = next;
+            Ok(entry) => {
+                p = put_entry(d, at, entry.count, entry.op, &mut *out, p);
+                at = entry.next;
             }
-            EntryAt::Refused(n) => {
-                return put_byte(out, 0, n);
+            Err(refusal) => {
+                return put_byte(out, 0, refusal.number());
             }
         }
     }
@@ -109,8 +103,8 @@ fn decimal_at(s: &[u8]) -> Decimal
     Decimal {
         neg: s[0] == 1,
         digits: high * 4294967296 + low,
-        up: wide(s[9]),
-        down: wide(s[10]),
+        up: usize::from(s[9]),
+        down: usize::from(s[10]),
     }
 }
 

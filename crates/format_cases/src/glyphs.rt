@@ -9,8 +9,8 @@ ghost use Rattle.cases.specs.Answers.{Gives};
 ghost use Rattle.format_cases.specs.Glyphs.{listed_answer, charset_answer, fd_select_answer};
 ghost use Rattle.index.specs.Write.{table_bytes};
 
-use charset::fd_select::{FdSelect, FdSelectAt};
-use charset::{Charset, CharsetAt};
+use charset::Charset;
+use charset::fd_select::FdSelect;
 use octets::{put_byte, put_num};
 
 // The id of each of n glyphs.
@@ -34,8 +34,8 @@ fn charset_in(font: &[u8], at: usize, n: usize, out: &mut [u8]) -> Option<usize>
     ensures { Gives (listed_answer 2 (charset_at font.now at n)) out.new result }
 {
     match charset::read_charset(font, at, n) {
-        CharsetAt::Refused(e) => Some(put_byte(out, 0, e)),
-        CharsetAt::Found(c) => {
+        Err(refusal) => Some(put_byte(out, 0, refusal.number())),
+        Ok(c) => {
             if 2000 < n {
                 return None;
             }
@@ -82,8 +82,8 @@ fn fd_select_in(font: &[u8], at: usize, n: usize, out: &mut [u8]) -> Option<usiz
     ensures { Gives (listed_answer 1 (fd_select_at font.now at n)) out.new result }
 {
     match charset::fd_select::read_fd_select(font, at, n) {
-        FdSelectAt::Refused(e) => Some(put_byte(out, 0, e)),
-        FdSelectAt::Found(s) => {
+        Err(refusal) => Some(put_byte(out, 0, refusal.number())),
+        Ok(s) => {
             if 2000 < n {
                 return None;
             }

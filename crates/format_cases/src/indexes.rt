@@ -6,7 +6,7 @@ ghost use Rattle.index.specs.Good.{Good};
 ghost use Rattle.cases.specs.Answers.{Gives};
 ghost use Rattle.format_cases.specs.Indexes.{item_bytes, items_bytes, head_bytes, index_found, index_answer};
 
-use index::{Index, IndexAt};
+use index::Index;
 use octets::{put_byte, put_num};
 
 // The k-th item: where it starts in the font, and its length.
@@ -48,8 +48,8 @@ fn index_in(font: &[u8], at: usize, out: &mut [u8]) -> Option<usize>
     ensures { Gives (index_found font.now (index_at font.now at)) out.new result }
 {
     match index::read_index(font, at) {
-        IndexAt::Refused(e) => Some(put_byte(out, 0, e)),
-        IndexAt::Found(ix) => {
+        Err(refusal) => Some(put_byte(out, 0, refusal.number())),
+        Ok(ix) => {
             if 600 < ix.count {
                 return None;
             }

@@ -10,7 +10,8 @@ ghost use Rattle.std.specs.Prelude.{◌≤◌, length};
 ghost use Rattle.cases.specs.Answers.{Gives};
 ghost use Rattle.format_cases.specs.Answers.{answer_to};
 
-// The answer to an input, by its kind's letter: how many bytes of it stand at the start of out; None outside the kind's domain.
+// The answer to an input, by its kind's letter: how many bytes of it stand at the start of out; None outside the kind's domain. The kind stays
+// the letter that the line has, which may be any.
 pub fn answer(kind: u8, input: &[u8], out: &mut [u8]) -> Option<usize>
     requires { 4096 ≤ length out.old }
     ensures { Gives (answer_to kind input.now) out.new result }

@@ -14,7 +14,6 @@ ghost use Rattle.index.specs.Index.{items_of};
 ghost use Rattle.index.specs.Good.{Good};
 ghost use Rattle.charset.specs.CharsetPlaces.{ids_of, GoodCharset};
 ghost use Rattle.cff.specs.Reads.{program_of, GoodFont};
-ghost use Rattle.cff.specs.Find.{found_as_lem};
 ghost use Rattle.subset.specs.Kept.{kept_of, those};
 ghost use Rattle.subset.specs.Cut.{all_found_lem, is_glyph};
 ghost use Rattle.kept.specs.Packed.{all_of, text_found, name_found};
@@ -40,7 +39,7 @@ pub enum Told {
 
 // Whether finding gave glyph g.
 fn is_glyph(found: Option<usize>, g: usize) -> bool
-    ensures { result ≡ is_glyph g (found_as_lem found) }
+    ensures { result ≡ is_glyph g found }
 {
     found == Some(g)
 }

@@ -11,9 +11,10 @@ use Rattle.order_window.specs.Window.{glyphs_of}
 use Rattle.order_window.specs.declared.Order.{Order}
 use Rattle.bodies.specs.Ways.{body_by, ranks_in}
 use Rattle.bodies.specs.declared.Manner.{Manner}
+use Rattle.subset.specs.declared.Way.{Way}
 
 -- a glyph's charstring by the way, or that its renumbering fails; fds has the FD of each glyph
-module _ (way : ℕ) (rows : List Row) (fds ws table : List ℕ) (globals : Ranks) (items : List (List ℕ)) where
+module _ (way : Way) (rows : List Row) (fds ws table : List ℕ) (globals : Ranks) (items : List (List ℕ)) where
   abbrev pub charstring_of : ℕ → Option (List ℕ)
   charstring_of g = body_by way rows (calls_by ws (ranks_in table (get_or fds g 0)) globals) (glyph g) (get_or items g [])
 

@@ -24,6 +24,7 @@ use Rattle.glyph_bodies.specs.Glyphs.{GlyphIn, charstring_for, in_order}
 use Rattle.glyph_bodies.specs.GlyphsLaws.{charstring-len, charstring_room, charstring_wrote}
 use Rattle.glyph_bodies.specs.declared.glyphs.Glyph.{Glyph}
 use Rattle.glyph_bodies.specs.declared.glyphs.Source.{Source}
+use Rattle.subset.specs.Way.{is_renumbered}
 
 module _ (rec bytes : List ℕ) (w : Window) (covers : Covers rec bytes 2 0 w) {b ws table : List ℕ} {from : Source} {g : Glyph} (a : GlyphIn b ws table from g (rows_of rec))
     (from' : Source) (e : from' ≡ in_order from) where
@@ -85,7 +86,7 @@ module _ {b ws table : List ℕ} {from : Source} {g : Glyph} {rows : List Row} (
   lends_glyph l =
       record { body = omega (arith, a.inside, a.few); few = omega (arith, a.inside, a.few); some = l.some; most = l.most; room = l.room }
 
-  module _ (way : from.how.way ≡ 0) (locals : Ranks) (el : locals ≡ ranks_in table g.fd) (s : List ℕ) (es : s ≡ get_or (items_of b from.ix) g.number []) where
+  module _ (way : is_renumbered from.how.way ≡ true) (locals : Ranks) (el : locals ≡ ranks_in table g.fd) (s : List ℕ) (es : s ≡ get_or (items_of b from.ix) g.number []) where
     pub long-len : Octets b → (r : Option ℕ) → r ≡ sized_of (renumbered_body rows (calls_by ws locals from.how.globals) (glyph g.number) s)
         → (r ≡ sized_of (charstring_for from g rows ws table b)) × AtMost 335544320 r
     long-len octets r h =

@@ -100,7 +100,7 @@ fn long_len(
     ensures { (result ≡ sized_of (charstring_for from glyph (rows_of rows.now) words.now table.now font.now)) × (AtMost 335544320 result) }
 {
     let how = from.how;
-    if how.way == 0 {
+    if how.way.is_renumbered() {
         let number = glyph.number;
         let locals = bodies::ranks_in(table, glyph.fd);
         let code = index::item(font, from.ix, number);
@@ -206,7 +206,7 @@ fn put_long(
     ensures { Wrote out.old at (body_of_lem (charstring_for from glyph (rows_of rows.now) words.now table.now font.now)) out.new result }
 {
     let how = from.how;
-    if how.way == 0 {
+    if how.way.is_renumbered() {
         let number = glyph.number;
         let locals = bodies::ranks_in(table, glyph.fd);
         let code = index::item(font, from.ix, number);

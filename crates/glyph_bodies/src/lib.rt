@@ -112,7 +112,7 @@ pub fn charstrings_total(
     if how.rising {
         return total_directly(how, o, font, words, window, table, rows);
     }
-    if how.way == 0 {
+    if how.way.is_renumbered() {
         return total_by_windows(how, o, font, words, window, table, rows);
     }
     total_directly(how, o, font, words, window, table, rows)
@@ -223,7 +223,7 @@ pub fn put_charstrings(
     if how.rising {
         return put_directly(how, o, font, words, window, table, rows, total, out, at);
     }
-    if how.way == 0 {
+    if how.way.is_renumbered() {
         return put_by_windows(how, o, font, words, window, table, rows, total, out, at);
     }
     put_directly(how, o, font, words, window, table, rows, total, out, at)

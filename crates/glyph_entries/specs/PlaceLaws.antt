@@ -1,6 +1,6 @@
 -- Laws of where an item stands: one for each way out of a lookup, and a part of a part.
-use Rattle.std.specs.Prelude.{ℕ, zero, suc, ◌+◌, ◌≤◌, ◌<◌, ◌≡◌, refl, List, [], ◌∷◌, length, take, drop, get_or, set}
-use Rattle.std.proofs.Common.{sym, ap, ◌∙◌, subst, arith, lt-ltb, le-ltb, eq-eqb, ne_eqb, length-drop, length-take-le, drop-drop, take-take}
+use Rattle.std.specs.Prelude.{ℕ, zero, suc, ◌+◌, ◌≤◌, ◌<◌, ◌≡◌, refl, List, [], ◌∷◌, length, take, drop, get_or, set, Result, Ok, Err}
+use Rattle.std.proofs.Common.{sym, ap, ◌∙◌, subst, arith, lt-ltb, le-ltb, length-drop, length-take-le, drop-drop, take-take}
 use Rattle.octets.specs.Octets.{put}
 use Rattle.octets.specs.PutLaws.{put_two}
 use Rattle.index.specs.Index.{items_of}
@@ -8,44 +8,38 @@ use Rattle.index.specs.Good.{Good, offset_of}
 use Rattle.index.specs.IndexLaws.{item-within, item_is, item_long}
 use Rattle.index.specs.declared.Index.{Index}
 use Rattle.opentype.specs.OpentypeLaws.{found-fits}
-use Rattle.cff.specs.Font.{Got, refused, Program, read_font}
+use Rattle.cff.specs.Font.{read_font}
 use Rattle.cff.specs.Find.{item_refusal_lem, item_of}
 use Rattle.cff.specs.Reads.{index_in_lem}
-use Rattle.cff.specs.ReadingRefusals.{reading-refusal}
 use Rattle.cff.specs.SetLaws.{items-good, item-found, refusal-none, refusal_six}
 use Rattle.cff.specs.File.{InFile}
 use Rattle.cff.specs.declared.ItemKind.{ItemKind}
 use Rattle.cff.specs.declared.font.Font.{Font}
-use Rattle.glyph_entries.specs.Place.{Stands, Shows}
+use Rattle.glyph_entries.specs.Place.{result_of, Stands, Shows}
+use Rattle.refusal.specs.declared.Refusal.{Refusal}
+use Rattle.refusal.specs.declared.Refusal.TheVariants.{NoSuchNumber, Output}
 
 -- ---- by the ways out
 
-module _ (file item answer : List ℕ) (refusal : ℕ) where
+module _ (file item answer : List ℕ) (lookup : Result Unit Refusal) where
   -- a refused lookup
-  pub shows_refused : (n : ℕ) → 0 < n → n ≡ refusal → Shows file refusal item answer answer n
-  shows_refused n h e =
-      let k : refusal ≡ 0 → ⊥ = λ z. omega (arith, e, z) in
-      let l : n ≡ 0 → ⊥ = λ z. omega (arith, z) in
-      let t = ne_eqb refusal 0 k in
-      let u = ne_eqb n 0 l in
-      record { number = rw t e; place = 0; stands = λ z. absurd (l z); words = rw u }
+  pub shows_refused : (n : Refusal) → Err n ≡ lookup → Shows file lookup item answer answer (Err n)
+  shows_refused n e = record { result = ap (λ (r : Result Unit Refusal). result_of r (length answer)) e; place = 0; stands = λ z. absurd cc; words = refl }
 
-  module _ (e : 0 ≡ refusal) where
+  module _ (e : Ok tt ≡ lookup) where
     -- too few words
-    pub shows-full : length answer < 2 → Shows file refusal item answer answer 11
+    pub shows-full : length answer < 2 → Shows file lookup item answer answer (Err Output)
     shows-full h =
-        let t = eq-eqb refusal 0 (sym e) in
         let u = lt-ltb (length answer) 2 h in
-        record { number = rw (t, u); place = 0; stands = λ z. absurd (omega (arith, z)); words = refl }
+        record { result = rw (← e, u); place = 0; stands = λ z. absurd cc; words = refl }
 
     -- the place and the length stand in front
     pub shows-shown : 2 ≤ length answer → (place len : ℕ) → Stands file item place → len ≡ length item
-        → Shows file refusal item answer (set (set answer 0 place) 1 len) 0
+        → Shows file lookup item answer (set (set answer 0 place) 1 len) (Ok tt)
     shows-shown h place len s i =
-        let t = eq-eqb refusal 0 (sym e) in
         let u = le-ltb (length answer) 2 h in
         record {
-          number = rw (t, u);
+          result = rw (← e, u);
           place = place;
           stands = λ z. s;
           words = put_two answer place len h ∙ ap (λ (x : ℕ). put answer 0 (place ∷ x ∷ [])) i;
@@ -93,22 +87,16 @@ module _ (file : List ℕ) (f : Font) (b : List ℕ) (read : InFile file f b) (i
 
 -- the lookup in a font that was read
 module _ (file : List ℕ) (f : Font) (b : List ℕ) (read : InFile file f b) (kind : ItemKind) (ix : Index) (i : ix ≡ index_in_lem kind f) (k : ℕ) (answer : List ℕ) where
-  pub place_none : ix.count ≤ k → Shows file (item_refusal_lem (read_font file) kind k) (item_of (read_font file) kind k) answer answer 6
-  place_none h = shows_refused file (item_of (read_font file) kind k) answer (item_refusal_lem (read_font file) kind k) 6 (omega arith) (refusal_six file f b read kind ix i k h)
+  pub place_none : ix.count ≤ k → Shows file (item_refusal_lem (read_font file) kind k) (item_of (read_font file) kind k) answer answer (Err NoSuchNumber)
+  place_none h = shows_refused file (item_of (read_font file) kind k) answer (item_refusal_lem (read_font file) kind k) NoSuchNumber (refusal_six file f b read kind ix i k h)
 
-  pub place-full : k < ix.count → length answer < 2 → Shows file (item_refusal_lem (read_font file) kind k) (item_of (read_font file) kind k) answer answer 11
+  pub place-full : k < ix.count → length answer < 2 → Shows file (item_refusal_lem (read_font file) kind k) (item_of (read_font file) kind k) answer answer (Err Output)
   place-full h l =
       shows-full file (item_of (read_font file) kind k) answer (item_refusal_lem (read_font file) kind k) (refusal-none file f b read kind ix i k h) l
 
   pub place-shown : k < ix.count → 2 ≤ length answer → (at : ℕ) → at ≡ offset_of b ix k → (item : List ℕ) → item ≡ get_or (items_of b ix) k []
-      → Shows file (item_refusal_lem (read_font file) kind k) (item_of (read_font file) kind k) answer (set (set answer 0 (f.start + (ix.base + at))) 1 (length item)) 0
+      → Shows file (item_refusal_lem (read_font file) kind k) (item_of (read_font file) kind k) answer (set (set answer 0 (f.start + (ix.base + at))) 1 (length item)) (Ok tt)
   place-shown h l at e item z =
       let j = item-found file f b read kind ix i k (get_or (items_of b ix) k []) refl in
       shows-shown file (item_of (read_font file) kind k) answer (item_refusal_lem (read_font file) kind k) (refusal-none file f b read kind ix i k h) l (f.start + (ix.base + at)) (length item)
       (subst (λ (x : List ℕ). Stands file x (f.start + (ix.base + at))) j (item_stands file f b read ix (items-good file f b read kind ix i) k h at e)) (ap length (z ∙ j))
-
-pub place_refused : (file : List ℕ) (n : ℕ) → read_font file ≡ refused n → (kind : ItemKind) (k : ℕ) (answer : List ℕ)
-    → Shows file (item_refusal_lem (read_font file) kind k) (item_of (read_font file) kind k) answer answer n
-place_refused file n e kind k answer =
-    shows_refused file (item_of (read_font file) kind k) answer (item_refusal_lem (read_font file) kind k) n (reading-refusal file n e).least
-    (sym (ap (λ (g : Got Program). item_refusal_lem g kind k) e))

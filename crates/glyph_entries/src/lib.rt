@@ -9,31 +9,44 @@ ghost use Rattle.cff.specs.Font.{read_font};
 ghost use Rattle.cff.specs.Reads.{program_of, GoodFont};
 ghost use Rattle.glyph_entries.specs.Glyph.{told, glyph_in, glyph_of, Tells};
 
-use cff::font::{Font, FontRead};
+use cff::font::Font;
 use refusal::Refusal;
 
 // Writes a name to the lent bytes, and what else is told of a glyph to the lent words.
-fn give(keying: u64, id: usize, fd: u8, text: &[u8], name: &mut [u8], answer: &mut [u64]) -> u8
+fn give(
+    keying: u64,
+    id: usize,
+    fd: u8,
+    text: &[u8],
+    name: &mut [u8],
+    answer: &mut [u64],
+) -> Result<(), Refusal>
     ensures { Tells (told text.now (keying ∷ id ∷ fd ∷ length text.now ∷ []))
         name.old name.new answer.old answer.new result }
 {
     if name.len() < text.len() {
-        return Refusal::OUTPUT;
+        return Err(Refusal::Output);
     }
     if answer.len() < 4 {
-        return Refusal::OUTPUT;
+        return Err(Refusal::Output);
     }
     let end = octets::put_bytes(name, 0, text);
     answer[0] = keying;
     answer[1] = id as u64;
     answer[2] = fd as u64;
     answer[3] = end as u64;
-    0
+    Ok(())
 }
 
 // A glyph of a font that was read: its name, where the font is name-keyed, and four words: 1 for a CID-keyed font, its CID or string id, its FD
 // and the length of its name.
-fn glyph_in(font: &[u8], f: Font, g: usize, name: &mut [u8], answer: &mut [u64]) -> u8
+fn glyph_in(
+    font: &[u8],
+    f: Font,
+    g: usize,
+    name: &mut [u8],
+    answer: &mut [u64],
+) -> Result<(), Refusal>
     requires { GoodFont font.now f }
     ensures { Tells (glyph_in (program_of font.now f) g) name.old name.new answer.old answer.new result }
 {
@@ -44,7 +57,7 @@ fn glyph_in(font: &[u8], f: Font, g: usize, name: &mut [u8], answer: &mut [u64])
     let cid = f.cid;
     let n = charstrings.count;
     if n <= g {
-        return Refusal::NO_SUCH_NUMBER;
+        return Err(Refusal::NoSuchNumber);
     }
     let id = charset::id_of(font, charset, n, g);
     let fd = charset::fd_select::fd_of(font, select, g);
@@ -57,13 +70,10 @@ fn glyph_in(font: &[u8], f: Font, g: usize, name: &mut [u8], answer: &mut [u64])
     give(0, id, fd, text, name, answer)
 }
 
-// What is told of a glyph, or the refusal: reading's, 6 for a number past the font's glyphs, 11 for too few bytes or words.
-pub fn glyph(font: &[u8], number: usize, name: &mut [u8], answer: &mut [u64]) -> u8
+// What is told of a glyph, or the refusal: reading's, that of a number past the font's glyphs, that of too few bytes or words.
+pub fn glyph(font: &[u8], number: usize, name: &mut [u8], answer: &mut [u64]) -> Result<(), Refusal>
     ensures { Tells (glyph_of (read_font font.now) number) name.old name.new answer.old answer.new result }
 {
-    let read = cff::set::read_font(font);
-    match read {
-        FontRead::Refused(n) => n,
-        FontRead::Found(f) => glyph_in(cff::set::table(font, f), f, number, name, answer),
-    }
+    let f = cff::set::read_font(font)?;
+    glyph_in(cff::set::table(font, f), f, number, name, answer)
 }

@@ -15,7 +15,7 @@ fn new_fd(font: &[u8], select: FdSelect, g: usize, table: &[u32]) -> u8
     ensures { result ≡ new_fd_by table.now (fd_of font.now select g) }
 {
     let fd = charset::fd_select::fd_of(font, select, g) as usize;
-    let rank = octets::words::wide(table[fd]);
+    let rank = table[fd];
     (rank - 1) as u8
 }
 

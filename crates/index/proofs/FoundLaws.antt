@@ -1,5 +1,5 @@
 -- What holds of an INDEX that was read: its items can be had, and lie one behind the other within the bytes.
-use Rattle.std.specs.Prelude.{ℕ, suc, ◌+◌, ◌-◌, ◌*◌, ◌≤◌, ◌<◌, ◌≡◌, refl, List, [], ◌∷◌, Bool, true, false, eqb, ltb, length, take, drop, get_or}
+use Rattle.std.specs.Prelude.{ℕ, suc, ◌+◌, ◌-◌, ◌*◌, ◌≤◌, ◌<◌, ◌≡◌, refl, List, [], ◌∷◌, Bool, true, false, eqb, ltb, length, take, drop, get_or, Result, Ok, Err}
 use Rattle.std.proofs.Common.{sym, ap, ◌∙◌, subst, add-mul, add-zero, zero-mul, arith, ltb-true, ltb-false, lit<, lit≤, length-take, length-drop, get_or-take, get_or-drop, length-take-le}
 use Rattle.std.proofs.lemmas.Bool.{eqb-false}
 use Rattle.std.proofs.Math.ListN.{get_or-eq_default}
@@ -11,10 +11,7 @@ use Rattle.index.specs.Good.{Good, offset_of}
 use Rattle.index.specs.IndexLaws.{first_good, run-passes, run-rises, run-last, last_within, offsets-length, offsets-first, offsets-at, items-length, item_is}
 use Rattle.index.specs.Write.{total}
 use Rattle.index.specs.declared.Index.{Index}
-use Rattle.index.specs.declared.IndexAt.{IndexAt}
-use Rattle.index.specs.declared.IndexAt.TheVariants.{Refused, Found}
-use Rattle.index.specs.declared.Run.{Run}
-use Rattle.index.specs.declared.Run.TheVariants.{Bad, Last}
+use Rattle.refusal.specs.declared.Refusal.{Refusal}
 
 -- a part of bytes has bytes
 pub part_octets : (b : List ℕ) (n p : ℕ) → Octets b → Octets (take n (drop p b))
@@ -30,29 +27,29 @@ part_octets b n p o i = by-test (ltb i n) refl
 -- ---- the two levels
 
 -- what a reader gets, by what the code found
-pub read_found : (b : List ℕ) (at : ℕ) (ix : Index) → index_at b at ≡ Found ix → read_index b at ≡ found (items_of b ix) ix.end
+pub read_found : (b : List ℕ) (at : ℕ) (ix : Index) → index_at b at ≡ Ok ix → read_index b at ≡ found (items_of b ix) ix.end
 unfolding read_index told
 read_found b at ix h = rw h
 
-pub read_refused : (b : List ℕ) (at e : ℕ) → index_at b at ≡ Refused e → read_index b at ≡ refused e
+pub read_refused : (b : List ℕ) (at : ℕ) (e : Refusal) → index_at b at ≡ Err e → read_index b at ≡ refused e
 unfolding read_index told
 read_refused b at e h = rw h
 
 -- ---- past the tests
 
-refused_found : (x : ℕ) (ix : Index) → Refused x ≡ Found ix → ⊥
+refused_found : (x : Refusal) (ix : Index) → Err x ≡ Ok ix → ⊥
 refused_found x ix h = let z : ◌≡◌ {A = ℕ} 0 1 = cc in omega arith
 
 -- past a test that refuses
-past : (t : Bool) (x : ℕ) (ix : Index) (r : IndexAt) → pick t (Refused x) r ≡ Found ix → (t ≡ false) × (r ≡ Found ix)
+past : (t : Bool) (x : Refusal) (ix : Index) (r : Result Index Refusal) → pick t (Err x) r ≡ Ok ix → (t ≡ false) × (r ≡ Ok ix)
 past true x ix r h = absurd (refused_found x ix h)
 past false x ix r h = (refl, h)
 
-judged-found : (count size table base : ℕ) (run : Run) (ix : Index) → judged count size table base run ≡ Found ix
-    → (l : ℕ) × (run ≡ Last l) × (◌≡◌ {A = Index} (record { count = count; size = size; table = table; base = base; end = base + l }) ix)
+judged-found : (count size table base : ℕ) (run : Result ℕ Refusal) (ix : Index) → judged count size table base run ≡ Ok ix
+    → (l : ℕ) × (run ≡ Ok l) × (◌≡◌ {A = Index} (record { count = count; size = size; table = table; base = base; end = base + l }) ix)
 unfolding judged
-judged-found count size table base (Bad e) ix h = absurd (refused_found e ix h)
-judged-found count size table base (Last e) ix h = (e, refl, cc)
+judged-found count size table base (Err e) ix h = absurd (refused_found e ix h)
+judged-found count size table base (Ok l) ix h = (l, refl, cc)
 
 -- what the tests of an INDEX with items leave
 record Table (b : List ℕ) (table count size : ℕ) (ix : Index) : Type 0 where
@@ -61,16 +58,16 @@ record Table (b : List ℕ) (table count size : ℕ) (ix : Index) : Type 0 where
   fits : table + (count + 1) * size ≤ length b
   starts : first_bad (first_of b table size) ≡ false
   last : ℕ
-  run : run_of (length b - (table + (count + 1) * size - 1)) (first_of b table size) (ends_of b table size count) ≡ Last last
+  run : run_of (length b - (table + (count + 1) * size - 1)) (first_of b table size) (ends_of b table size count) ≡ Ok last
   is : ◌≡◌ {A = Index} (record { count = count; size = size; table = table; base = table + (count + 1) * size - 1; end = table + (count + 1) * size - 1 + last }) ix
 
-table_tests : (b : List ℕ) (table count size : ℕ) (ix : Index) → table_at b table count size ≡ Found ix → Table b table count size ix
+table_tests : (b : List ℕ) (table count size : ℕ) (ix : Index) → table_at b table count size ≡ Ok ix → Table b table count size ix
 unfolding table_at data_at
 table_tests b table count size ix h =
-    let p = past (ltb size 1) 2 ix _ h in
-    let q = past (ltb 4 size) 2 ix _ p.1 in
-    let r = past (ltb (length b) (table + (count + 1) * size)) 1 ix _ q.1 in
-    let s = past (first_bad (first_of b table size)) 2 ix _ r.1 in
+    let p = past (ltb size 1) _ ix _ h in
+    let q = past (ltb 4 size) _ ix _ p.1 in
+    let r = past (ltb (length b) (table + (count + 1) * size)) _ ix _ q.1 in
+    let s = past (first_bad (first_of b table size)) _ ix _ r.1 in
     let j = judged-found count size table _ _ ix s.1 in
     record {
       low = ltb-false size 1 p.0;
@@ -87,18 +84,18 @@ data Either (b : List ℕ) (at : ℕ) (ix : Index) : Type 0 where
   none : at + 2 ≤ length b → empty_at at ≡ ix → Either b at ix
   some : 0 < num_at b at 2 → Table b (at + 3) (num_at b at 2) (get_or b (at + 2) 0) ix → Either b at ix
 
-choice : (b : List ℕ) (at : ℕ) (t : Bool) (r : IndexAt) (ix : Index) → at + 2 ≤ length b → pick t (Found (empty_at at)) r ≡ Found ix
-    → (t ≡ false → r ≡ Found ix → Either b at ix) → Either b at ix
+choice : (b : List ℕ) (at : ℕ) (t : Bool) (r : Result Index Refusal) (ix : Index) → at + 2 ≤ length b → pick t (Ok (empty_at at)) r ≡ Ok ix
+    → (t ≡ false → r ≡ Ok ix → Either b at ix) → Either b at ix
 choice b at true r ix n h k = none n (cc)
 choice b at false r ix n h k = k refl h
 
-index_tests : (b : List ℕ) (at : ℕ) (ix : Index) → index_at b at ≡ Found ix → Either b at ix
+index_tests : (b : List ℕ) (at : ℕ) (ix : Index) → index_at b at ≡ Ok ix → Either b at ix
 unfolding index_at
 index_tests b at ix h =
-    let p = past (ltb (length b) (at + 2)) 1 ix _ h in
+    let p = past (ltb (length b) (at + 2)) _ ix _ h in
     choice b at (eqb (num_at b at 2) 0) _ ix (ltb-false (length b) (at + 2) p.0) p.1
     (λ e k. some (let n = eqb-false (num_at b at 2) 0 e in omega arith)
-    (table_tests b (at + 3) (num_at b at 2) (get_or b (at + 2) 0) ix (past (ltb (length b) (at + 3)) 1 ix _ k).1))
+    (table_tests b (at + 3) (num_at b at 2) (get_or b (at + 2) 0) ix (past (ltb (length b) (at + 3)) _ ix _ k).1))
 
 -- ---- good
 
@@ -131,7 +128,7 @@ table-good b table count size ix n t =
     })
 
 -- the items of an INDEX that was found can be had
-pub found-good : (b : List ℕ) (at : ℕ) (ix : Index) → index_at b at ≡ Found ix → Good b ix
+pub found-good : (b : List ℕ) (at : ℕ) (ix : Index) → index_at b at ≡ Ok ix → Good b ix
 found-good b at ix h = good (index_tests b at ix h)
   where
     good : Either b at ix → Good b ix
@@ -139,7 +136,7 @@ found-good b at ix h = good (index_tests b at ix h)
     good (some n t) = table-good b (at + 3) (num_at b at 2) (get_or b (at + 2) 0) ix n t
 
 -- its end is past its count, and within the bytes
-pub found_end : (b : List ℕ) (at : ℕ) (ix : Index) → index_at b at ≡ Found ix → (at + 2 ≤ ix.end) × (ix.end ≤ length b)
+pub found_end : (b : List ℕ) (at : ℕ) (ix : Index) → index_at b at ≡ Ok ix → (at + 2 ≤ ix.end) × (ix.end ≤ length b)
 found_end b at ix h = (after (index_tests b at ix h), (found-good b at ix h).lies.within)
   where
     after : Either b at ix → at + 2 ≤ ix.end
@@ -147,7 +144,7 @@ found_end b at ix h = (after (index_tests b at ix h), (found-good b at ix h).lie
     after (some n t) = subst (λ (i : Index). at + 2 ≤ i.end) t.is (omega arith)
 
 -- its count has two bytes
-pub found-count : (b : List ℕ) (at : ℕ) (ix : Index) → Octets b → index_at b at ≡ Found ix → ix.count < 65536
+pub found-count : (b : List ℕ) (at : ℕ) (ix : Index) → Octets b → index_at b at ≡ Ok ix → ix.count < 65536
 found-count b at ix o h = small (index_tests b at ix h)
   where
     small : Either b at ix → ix.count < 65536
@@ -159,7 +156,7 @@ found-count b at ix o h = small (index_tests b at ix h)
 -- ---- items
 
 -- the pieces of a run that passes have no more bytes together than the room behind the first offset
-pieces-total : (d : List ℕ) (room s : ℕ) (es : List ℕ) (l : ℕ) → run_of room s es ≡ Last l → total (pieces d s es) ≤ room - s
+pieces-total : (d : List ℕ) (room s : ℕ) (es : List ℕ) (l : ℕ) → run_of room s es ≡ Ok l → total (pieces d s es) ≤ room - s
 unfolding pieces total
 pieces-total d room s [] l h = omega arith
 pieces-total d room s (e ∷ es) l h =
@@ -173,7 +170,7 @@ unfolding items_of
 items-total b ix g = omega (arith, pieces-total (drop ix.base b) _ _ _ g.last g.run)
 
 -- they have as many bytes together as the last offset is behind the first
-pieces_long : (d : List ℕ) (s : ℕ) (es : List ℕ) (l : ℕ) → run_of (length d) s es ≡ Last l → total (pieces d s es) ≡ get_or (s ∷ es) (length es) 0 - s
+pieces_long : (d : List ℕ) (s : ℕ) (es : List ℕ) (l : ℕ) → run_of (length d) s es ≡ Ok l → total (pieces d s es) ≡ get_or (s ∷ es) (length es) 0 - s
 unfolding pieces total
 pieces_long d s [] l h = omega arith
 pieces_long d s (e ∷ es) l h =
@@ -193,7 +190,7 @@ last_is b ix = rw offsets-first (offsets-at (suc ix.count) ix.size ix.table b ix
 pub items_long : (b : List ℕ) (ix : Index) → Good b ix → total (items_of b ix) ≡ offset_of b ix ix.count - offset_of b ix 0
 unfolding items_of
 items_long b ix g =
-    let r = subst (λ (n : ℕ). run_of n (first_of b ix.table ix.size) (ends_of b ix.table ix.size ix.count) ≡ Last g.last) (sym (length-drop ix.base b)) g.run in
+    let r = subst (λ (n : ℕ). run_of n (first_of b ix.table ix.size) (ends_of b ix.table ix.size ix.count) ≡ Ok g.last) (sym (length-drop ix.base b)) g.run in
     pieces_long (drop ix.base b) _ (ends_of b ix.table ix.size ix.count) g.last r
     ∙ rw (offsets-length, last_is b ix) (ap (λ (n : ℕ). offset_of b ix ix.count - n) (first_is b ix))
 
@@ -212,14 +209,14 @@ item_octets b ix g k h o i =
 -- ---- what a reader gets
 
 -- it is what the code found
-told-found : (b : List ℕ) (r : IndexAt) (items : List (List ℕ)) (end : ℕ) → told b r ≡ found items end
-    → (ix : Index) × (r ≡ Found ix) × (items_of b ix ≡ items) × (ix.end ≡ end)
+told-found : (b : List ℕ) (r : Result Index Refusal) (items : List (List ℕ)) (end : ℕ) → told b r ≡ found items end
+    → (ix : Index) × (r ≡ Ok ix) × (items_of b ix ≡ items) × (ix.end ≡ end)
 unfolding told
-told-found b (Refused e) items end h = absurd (let z : ◌≡◌ {A = ℕ} 0 1 = cc in omega arith)
-told-found b (Found ix) items end h = (ix, refl, cc, cc)
+told-found b (Err e) items end h = absurd (let z : ◌≡◌ {A = ℕ} 0 1 = cc in omega arith)
+told-found b (Ok ix) items end h = (ix, refl, cc, cc)
 
 pub found-read : (b : List ℕ) (at : ℕ) (items : List (List ℕ)) (end : ℕ) → read_index b at ≡ found items end
-    → (ix : Index) × (index_at b at ≡ Found ix) × (items_of b ix ≡ items) × (ix.end ≡ end)
+    → (ix : Index) × (index_at b at ≡ Ok ix) × (items_of b ix ≡ items) × (ix.end ≡ end)
 unfolding read_index
 found-read b at items end h = told-found b (index_at b at) items end h
 

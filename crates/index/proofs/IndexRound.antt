@@ -1,5 +1,5 @@
 -- An INDEX that was written reads back, wherever it stands: where its parts are, its items, and the place after it.
-use Rattle.std.specs.Prelude.{ℕ, suc, ◌+◌, ◌-◌, ◌*◌, ◌^◌, ◌≤◌, ◌<◌, ◌≡◌, take, get_or}
+use Rattle.std.specs.Prelude.{ℕ, suc, ◌+◌, ◌-◌, ◌*◌, ◌^◌, ◌≤◌, ◌<◌, ◌≡◌, take, get_or, Ok}
 use Rattle.std.proofs.Math.Path.{refl, sym, ap}
 use Rattle.std.proofs.Common.{◌∙◌, add-mul, add-zero, le-ltb, length-append, length-drop, take_at, drop_at, drop-drop, get_or-drop}
 use mathlib.Core.List.{List, [], ◌∷◌, ◌++◌, append_assoc}
@@ -17,8 +17,6 @@ use Rattle.index.specs.IndexLaws.{run_none, run_on, table-judged, index-table}
 use Rattle.index.proofs.FoundLaws.{found-good, read_found}
 use Rattle.index.specs.Write.{total, ends, table_bytes, items_bytes, size_of, index_bytes, parts_at, index_for_lem, layout}
 use Rattle.index.specs.WriteLaws.{size_low, size-high, size_holds, length-ends, length-join, length-table, head-some, index-none, length-index, for_some, for_end}
-use Rattle.index.specs.declared.IndexAt.TheVariants.{Found}
-use Rattle.index.specs.declared.Run.TheVariants.{Last}
 
 -- ---- the offsets
 
@@ -34,14 +32,14 @@ offsets-ends size s (x ∷ xs) rest h =
     (ap (λ (l : List ℕ). (s + length x) ∷ l) (offsets-ends size (s + length x) xs rest m))
 
 -- they are a run that passes
-run_ends : (room s : ℕ) (items : List (List ℕ)) → s + total items ≤ room → run_of room s (ends s items) ≡ Last (s + total items)
+run_ends : (room s : ℕ) (items : List (List ℕ)) → s + total items ≤ room → run_of room s (ends s items) ≡ Ok (s + total items)
 unfolding ends total
-run_ends room s [] h = run_none room s ∙ ap Last (sym (add-zero s))
+run_ends room s [] h = run_none room s ∙ ap Ok (sym (add-zero s))
 run_ends room s (x ∷ xs) h =
     let i : s ≤ s + length x = omega arith in
     let k : s + length x ≤ room = omega arith in
     let m : s + length x + total xs ≡ s + (length x + total xs) = omega arith in
-    run_on room s (s + length x) (ends (s + length x) xs) i k ∙ run_ends room (s + length x) xs (omega arith) ∙ ap Last m
+    run_on room s (s + length x) (ends (s + length x) xs) i k ∙ run_ends room (s + length x) xs (omega arith) ∙ ap Ok m
 
 -- and the items are what lies between them
 pieces-ends : (d post : List ℕ) (s : ℕ) (items : List (List ℕ)) → drop s d ≡ joined items ++ post → pieces d s (ends s items) ≡ items
@@ -91,16 +89,16 @@ module _ (b : List ℕ) (table size : ℕ) (items : List (List ℕ)) (post : Lis
   some : 1 ≤ (length items + 1) * size
   some = omega (arith, add-mul (length items) 1 size)
 
-  table-found : table_at b table (length items) size ≡ Found (parts_at table (length items) size (total items))
+  table-found : table_at b table (length items) size ≡ Ok (parts_at table (length items) size (total items))
   unfolding judged
   table-found =
       let base = table + (length items + 1) * size - 1 in
       let room : 1 + total items ≤ length b - base = omega (arith, long, some, fits) in
       let e : base + (1 + total items) ≡ table + (length items + 1) * size + total items = omega (arith, some) in
-      let r : Last (1 + total items) ≡ run_of (length b - base) 1 (ends_of b table size (length items))
+      let r : Ok (1 + total items) ≡ run_of (length b - base) 1 (ends_of b table size (length items))
       = sym (run_ends (length b - base) 1 items room) ∙ ap (run_of (length b - base) 1) (sym ends_read) in
-      table-judged b table (length items) size 1 (Last (1 + total items)) low high fits (sym first_lies) refl r
-      ∙ ap (λ (n : ℕ). Found (record { count = length items; size = size; table = table; base = base; end = n })) e
+      table-judged b table (length items) size 1 (Ok (1 + total items)) low high fits (sym first_lies) refl r
+      ∙ ap (λ (n : ℕ). Ok (record { count = length items; size = size; table = table; base = base; end = n })) e
 
   table-items : items_of b (parts_at table (length items) size (total items)) ≡ items
   unfolding items_of
@@ -148,12 +146,12 @@ module _ (b : List ℕ) (at : ℕ) (x : List ℕ) (xs : List (List ℕ)) (post :
   holds : 1 + total items < 256 ^ size
   holds = let h = size_holds (total items + 1) (omega arith) in omega (arith, h)
 
-  index-some : index_at b at ≡ Found (layout at items)
+  index-some : index_at b at ≡ Ok (layout at items)
   index-some =
       let three : at + 3 ≤ length b = omega (arith, far) in
       sym (index-table b at (length items) size three (sym count_lies) none (sym size_lies))
       ∙ table-found b (at + 3) size items post (size_low (total items + 1)) (size-high (total items + 1)) holds table_lies
-      ∙ ap Found (sym (for_some at (length items) (total items) none))
+      ∙ ap Ok (sym (for_some at (length items) (total items) none))
 
   items-some : items_of b (layout at items) ≡ items
   items-some =
@@ -162,7 +160,7 @@ module _ (b : List ℕ) (at : ℕ) (x : List ℕ) (xs : List (List ℕ)) (post :
 
 -- an INDEX of no item at a place of b
 module _ (b : List ℕ) (at : ℕ) (post : List ℕ) (lies : drop at b ≡ index_bytes [] ++ post) where
-  index-empty : index_at b at ≡ Found (layout at [])
+  index-empty : index_at b at ≡ Ok (layout at [])
   unfolding index_at index_for_lem num_at be bytes_of
   index-empty =
       let e : drop at b ≡ bytes_of 2 0 ++ post = lies ∙ ap (λ (l : List ℕ). l ++ post) index-none in
@@ -176,7 +174,7 @@ module _ (b : List ℕ) (at : ℕ) (post : List ℕ) (lies : drop at b ≡ index
 
 -- an INDEX that stands at a place is found there, its parts where the layout has them
 pub index-written : (b : List ℕ) (at : ℕ) (items : List (List ℕ)) (post : List ℕ) → length items < 65536 → total items < 4294967295
-    → drop at b ≡ index_bytes items ++ post → index_at b at ≡ Found (layout at items)
+    → drop at b ≡ index_bytes items ++ post → index_at b at ≡ Ok (layout at items)
 index-written b at [] post few small lies = index-empty b at post lies
 index-written b at (x ∷ xs) post few small lies = index-some b at x xs post few small lies
 

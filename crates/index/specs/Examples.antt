@@ -1,10 +1,10 @@
 -- Worked examples, computed.
-use Rattle.std.specs.Prelude.{◌≡◌, refl, ℕ, List, [], ◌∷◌}
+use Rattle.std.specs.Prelude.{◌≡◌, refl, ℕ, List, [], ◌∷◌, Ok}
 use Rattle.octets.specs.Octets.{be, num_at, bytes_of, put}
 use Rattle.octets.specs.Lists.{joined}
 use Rattle.index.specs.Index.{offsets, run_of, judged, data_at, table_at, index_at, pieces, items_of, refused, found, told, read_index}
 use Rattle.index.specs.Write.{total, size_for, ends, table_bytes, head_bytes, items_bytes, index_bytes, index_len_lem, index_for_lem}
-use Rattle.index.specs.declared.IndexAt.TheVariants.{Found}
+use Rattle.refusal.specs.declared.Refusal.TheVariants.{Truncated, Malformed}
 
 -- ---- read
 
@@ -29,32 +29,32 @@ unfolding be num_at offsets run_of judged data_at table_at index_at pieces items
 empty-item = refl
 
 -- offsets that start above 1 are malformed
-starts-above-one : read_index (0x00 ∷ 0x01 ∷ 0x01 ∷ 0x03 ∷ 0x04 ∷ 0x41 ∷ 0x42 ∷ 0x43 ∷ 0x44 ∷ []) 0 ≡ refused 2
+starts-above-one : read_index (0x00 ∷ 0x01 ∷ 0x01 ∷ 0x03 ∷ 0x04 ∷ 0x41 ∷ 0x42 ∷ 0x43 ∷ 0x44 ∷ []) 0 ≡ refused Malformed
 unfolding be num_at offsets run_of judged data_at table_at index_at pieces items_of told read_index
 starts-above-one = refl
 
 -- before the pairs are looked at: here the first one's end is past the font
-starts-at-two : read_index (0x00 ∷ 0x01 ∷ 0x01 ∷ 0x02 ∷ 0x09 ∷ 0x41 ∷ []) 0 ≡ refused 2
+starts-at-two : read_index (0x00 ∷ 0x01 ∷ 0x01 ∷ 0x02 ∷ 0x09 ∷ 0x41 ∷ []) 0 ≡ refused Malformed
 unfolding be num_at offsets run_of judged data_at table_at index_at pieces items_of told read_index
 starts-at-two = refl
 
 -- so are offsets that start at 0
-starts-at-zero : read_index (0x00 ∷ 0x01 ∷ 0x01 ∷ 0x00 ∷ 0x09 ∷ 0x41 ∷ []) 0 ≡ refused 2
+starts-at-zero : read_index (0x00 ∷ 0x01 ∷ 0x01 ∷ 0x00 ∷ 0x09 ∷ 0x41 ∷ []) 0 ≡ refused Malformed
 unfolding be num_at offsets run_of judged data_at table_at index_at pieces items_of told read_index
 starts-at-zero = refl
 
 -- the first offset is read in all its bytes
-starts-at_257 : read_index (0x00 ∷ 0x01 ∷ 0x02 ∷ 0x01 ∷ 0x01 ∷ 0x01 ∷ 0x02 ∷ 0x41 ∷ []) 0 ≡ refused 2
+starts-at_257 : read_index (0x00 ∷ 0x01 ∷ 0x02 ∷ 0x01 ∷ 0x01 ∷ 0x01 ∷ 0x02 ∷ 0x41 ∷ []) 0 ≡ refused Malformed
 unfolding be num_at offsets run_of judged data_at table_at index_at pieces items_of told read_index
 starts-at_257 = refl
 
 -- a falling pair is malformed
-falls : read_index (0x00 ∷ 0x02 ∷ 0x01 ∷ 0x01 ∷ 0x03 ∷ 0x02 ∷ 0x41 ∷ 0x42 ∷ []) 0 ≡ refused 2
+falls : read_index (0x00 ∷ 0x02 ∷ 0x01 ∷ 0x01 ∷ 0x03 ∷ 0x02 ∷ 0x41 ∷ 0x42 ∷ []) 0 ≡ refused Malformed
 unfolding be num_at offsets run_of judged data_at table_at index_at pieces items_of told read_index
 falls = refl
 
 -- an item past the end is truncated
-past_the_end : read_index (0x00 ∷ 0x01 ∷ 0x01 ∷ 0x01 ∷ 0x03 ∷ 0x41 ∷ []) 0 ≡ refused 1
+past_the_end : read_index (0x00 ∷ 0x01 ∷ 0x01 ∷ 0x01 ∷ 0x03 ∷ 0x41 ∷ []) 0 ≡ refused Truncated
 unfolding be num_at offsets run_of judged data_at table_at index_at pieces items_of told read_index
 past_the_end = refl
 
@@ -64,34 +64,34 @@ unfolding be num_at offsets run_of judged data_at table_at index_at pieces items
 at_the_end = refl
 
 -- the first bad pair decides: past the end, and then falling
-pairs_in_order : read_index (0x00 ∷ 0x02 ∷ 0x01 ∷ 0x01 ∷ 0x09 ∷ 0x08 ∷ 0x41 ∷ []) 0 ≡ refused 1
+pairs_in_order : read_index (0x00 ∷ 0x02 ∷ 0x01 ∷ 0x01 ∷ 0x09 ∷ 0x08 ∷ 0x41 ∷ []) 0 ≡ refused Truncated
 unfolding be num_at offsets run_of judged data_at table_at index_at pieces items_of told read_index
 pairs_in_order = refl
 
 -- truncated in the count, the offset size and the offsets
-no_count : read_index (0x00 ∷ []) 0 ≡ refused 1
+no_count : read_index (0x00 ∷ []) 0 ≡ refused Truncated
 unfolding be num_at offsets run_of judged data_at table_at index_at pieces items_of told read_index
 no_count = refl
 
-far_away : read_index (0x00 ∷ 0x00 ∷ []) 7 ≡ refused 1
+far_away : read_index (0x00 ∷ 0x00 ∷ []) 7 ≡ refused Truncated
 unfolding be num_at offsets run_of judged data_at table_at index_at pieces items_of told read_index
 far_away = refl
 
-no_size : read_index (0x00 ∷ 0x01 ∷ []) 0 ≡ refused 1
+no_size : read_index (0x00 ∷ 0x01 ∷ []) 0 ≡ refused Truncated
 unfolding be num_at offsets run_of judged data_at table_at index_at pieces items_of told read_index
 no_size = refl
 
 -- all offsets are read before the first is judged
-no_offsets : read_index (0x00 ∷ 0x02 ∷ 0x01 ∷ 0x02 ∷ 0x01 ∷ []) 0 ≡ refused 1
+no_offsets : read_index (0x00 ∷ 0x02 ∷ 0x01 ∷ 0x02 ∷ 0x01 ∷ []) 0 ≡ refused Truncated
 unfolding be num_at offsets run_of judged data_at table_at index_at pieces items_of told read_index
 no_offsets = refl
 
 -- an offset size of 0 or 5 is malformed, also where the offsets are not there
-size-zero : read_index (0x00 ∷ 0x01 ∷ 0x00 ∷ []) 0 ≡ refused 2
+size-zero : read_index (0x00 ∷ 0x01 ∷ 0x00 ∷ []) 0 ≡ refused Malformed
 unfolding be num_at offsets run_of judged data_at table_at index_at pieces items_of told read_index
 size-zero = refl
 
-size_five : read_index (0x00 ∷ 0x01 ∷ 0x05 ∷ []) 0 ≡ refused 2
+size_five : read_index (0x00 ∷ 0x01 ∷ 0x05 ∷ []) 0 ≡ refused Malformed
 unfolding be num_at offsets run_of judged data_at table_at index_at pieces items_of told read_index
 size_five = refl
 
@@ -132,7 +132,7 @@ unfolding index_len_lem size_for
 large_data = refl
 
 -- what index_for has for an INDEX is what reading it finds
-laid_out : index_at (0 ∷ 3 ∷ 1 ∷ 1 ∷ 3 ∷ 3 ∷ 4 ∷ 1 ∷ 2 ∷ 3 ∷ []) 0 ≡ Found (index_for_lem 0 3 3)
+laid_out : index_at (0 ∷ 3 ∷ 1 ∷ 1 ∷ 3 ∷ 3 ∷ 4 ∷ 1 ∷ 2 ∷ 3 ∷ []) 0 ≡ Ok (index_for_lem 0 3 3)
 unfolding be num_at offsets run_of judged data_at table_at index_at size_for index_for_lem
 laid_out = refl
 

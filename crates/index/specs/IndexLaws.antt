@@ -1,5 +1,5 @@
 -- Laws of reading an INDEX: one turn of each recursion, as the code takes it, and the items by their offsets.
-use Rattle.std.specs.Prelude.{ℕ, zero, suc, ◌+◌, ◌-◌, ◌*◌, ◌≤◌, ◌<◌, ◌≡◌, refl, List, [], ◌∷◌, Bool, true, false, not, ltb, eqb, length, take, drop, get_or}
+use Rattle.std.specs.Prelude.{ℕ, zero, suc, ◌+◌, ◌-◌, ◌*◌, ◌≤◌, ◌<◌, ◌≡◌, refl, List, [], ◌∷◌, Bool, true, false, not, ltb, eqb, length, take, drop, get_or, Result, Ok, Err}
 use Rattle.std.proofs.Common.{sym, ap, ◌∙◌, true≢false, suc-mul, not-suc-le-zero, mul-le-mul, mul-le-mul_right, add-mul, zero-mul, add-zero, sub-one, arith, length-drop, drop-drop, length-take-le}
 use borrow.Author.Tests.{lt-ltb, le-ltb, eq-eqb, ne_eqb, eqb-true, ltb-false}
 use Rattle.octets.specs.Pick.{pick}
@@ -7,8 +7,8 @@ use Rattle.octets.specs.Octets.{be, num_at}
 use Rattle.index.specs.Index.{offsets, first_of, ends_of, first_bad, run_of, judged, data_at, table_at, index_at, pieces, items_of}
 use Rattle.index.specs.Good.{Lies, Good, offset_of}
 use Rattle.index.specs.declared.Index.{Index}
-use Rattle.index.specs.declared.Run.{Run}
-use Rattle.index.specs.declared.Run.TheVariants.{Bad, Last}
+use Rattle.refusal.specs.declared.Refusal.{Refusal}
+use Rattle.refusal.specs.declared.Refusal.TheVariants.{Truncated, Malformed}
 
 -- ---- offsets
 
@@ -69,16 +69,16 @@ first_fine first h = ap not (eq-eqb first 1 h)
 
 -- ---- a run
 
-pub run_none : (room s : ℕ) → run_of room s [] ≡ Last s
+pub run_none : (room s : ℕ) → run_of room s [] ≡ Ok s
 unfolding run_of
 run_none room s = refl
 
 module _ (room s e : ℕ) (es : List ℕ) where
-  pub run_falls : e < s → run_of room s (e ∷ es) ≡ Bad 2
+  pub run_falls : e < s → run_of room s (e ∷ es) ≡ Err Malformed
   unfolding run_of
   run_falls h = simp (lt-ltb _ _ h)
 
-  pub run_past : s ≤ e → room < e → run_of room s (e ∷ es) ≡ Bad 1
+  pub run_past : s ≤ e → room < e → run_of room s (e ∷ es) ≡ Err Truncated
   unfolding run_of
   run_past h k = simp (le-ltb _ _ h, lt-ltb _ _ k)
 
@@ -87,8 +87,8 @@ module _ (room s e : ℕ) (es : List ℕ) where
   run_on h k = simp (le-ltb _ _ h, le-ltb _ _ k)
 
 -- a turn over the left offsets at p, of which the first is e: what they give is what the whole run gave, r
-module _ (b : List ℕ) (room s p size left : ℕ) {r : Run} (whole : run_of room s (offsets left size (drop p b)) ≡ r) where
-  pub turn_end : left ≤ 0 → Last s ≡ r
+module _ (b : List ℕ) (room s p size left : ℕ) {r : Result ℕ Refusal} (whole : run_of room s (offsets left size (drop p b)) ≡ r) where
+  pub turn_end : left ≤ 0 → Ok s ≡ r
   turn_end h =
       let e : left ≡ 0 = omega arith in
       sym (run_none room s) ∙ sym (ap (run_of room s) (ap (λ (n : ℕ). offsets n size (drop p b)) e ∙ offsets-none size (drop p b))) ∙ whole
@@ -99,19 +99,19 @@ module _ (b : List ℕ) (room s p size left : ℕ) {r : Run} (whole : run_of roo
         ap (λ (n : ℕ). run_of room s (n ∷ offsets (left - 1) size (drop (p + size) b))) read
         ∙ sym (ap (run_of room s) (offsets-more left size p b some)) ∙ whole
 
-    pub turn_falls : e < s → Bad 2 ≡ r
+    pub turn_falls : e < s → Err Malformed ≡ r
     turn_falls h = sym (run_falls room s e _ h) ∙ split
 
-    pub turn-past : s ≤ e → room < e → Bad 1 ≡ r
+    pub turn-past : s ≤ e → room < e → Err Truncated ≡ r
     turn-past h k = sym (run_past room s e _ h k) ∙ split
 
     pub turn_on : s ≤ e → e ≤ room → run_of room e (offsets (left - 1) size (drop (p + size) b)) ≡ r
     turn_on h k = sym (run_on room s e _ h k) ∙ split
 
-bad_last : (x l : ℕ) → Bad x ≡ Last l → ⊥
+bad_last : (x : Refusal) (l : ℕ) → Err x ≡ Ok l → ⊥
 bad_last x l h = let z : ◌≡◌ {A = ℕ} 0 1 = cc in omega arith
 
-passed : (t : Bool) (x l : ℕ) (r : Run) → pick t (Bad x) r ≡ Last l → (t ≡ false) × (r ≡ Last l)
+passed : (t : Bool) (x : Refusal) (l : ℕ) (r : Result ℕ Refusal) → pick t (Err x) r ≡ Ok l → (t ≡ false) × (r ≡ Ok l)
 passed true x l r h = absurd (bad_last x l h)
 passed false x l r h = (refl, h)
 
@@ -119,17 +119,17 @@ passed false x l r h = (refl, h)
 pub record Passes (room s e : ℕ) (es : List ℕ) (l : ℕ) : Type 0 where
   pub rises : s ≤ e
   pub within : e ≤ room
-  pub rest : run_of room e es ≡ Last l
+  pub rest : run_of room e es ≡ Ok l
 
-pub run-passes : (room s e : ℕ) (es : List ℕ) (l : ℕ) → run_of room s (e ∷ es) ≡ Last l → Passes room s e es l
+pub run-passes : (room s e : ℕ) (es : List ℕ) (l : ℕ) → run_of room s (e ∷ es) ≡ Ok l → Passes room s e es l
 unfolding run_of
 run-passes room s e es l h =
-    let q = passed (ltb e s) 2 l _ h in
-    let r = passed (ltb room e) 1 l _ q.1 in
+    let q = passed (ltb e s) _ l _ h in
+    let r = passed (ltb room e) _ l _ q.1 in
     record { rises = ltb-false _ _ q.0; within = ltb-false _ _ r.0; rest = r.1 }
 
 -- the last offset of a run that passes is within the room, and not before the first
-pub run-within : (room s : ℕ) (es : List ℕ) (l : ℕ) → 0 < length es → run_of room s es ≡ Last l → l ≤ room
+pub run-within : (room s : ℕ) (es : List ℕ) (l : ℕ) → 0 < length es → run_of room s es ≡ Ok l → l ≤ room
 unfolding run_of
 run-within room s [] l n h = absurd (not-suc-le-zero n)
 run-within room s (e ∷ []) l n h =
@@ -138,30 +138,30 @@ run-within room s (e ∷ []) l n h =
     omega (arith, p.within)
 run-within room s (e ∷ f ∷ es) l n h = run-within room e (f ∷ es) l (omega arith) (run-passes room s e (f ∷ es) l h).rest
 
-pub last_within : (room s count size : ℕ) (bs : List ℕ) (l : ℕ) → 0 < count → run_of room s (offsets count size bs) ≡ Last l → l ≤ room
+pub last_within : (room s count size : ℕ) (bs : List ℕ) (l : ℕ) → 0 < count → run_of room s (offsets count size bs) ≡ Ok l → l ≤ room
 last_within room s count size bs l some h =
     let n : 0 < length (offsets count size bs) = rw offsets-length some in
     run-within room s (offsets count size bs) l n h
 
-pub run-rises : (room s : ℕ) (es : List ℕ) (l : ℕ) → run_of room s es ≡ Last l → s ≤ l
+pub run-rises : (room s : ℕ) (es : List ℕ) (l : ℕ) → run_of room s es ≡ Ok l → s ≤ l
 unfolding run_of
 run-rises room s [] l h = let z : s ≡ l = cc in omega arith
 run-rises room s (e ∷ es) l h = let p = run-passes room s e es l h in omega (arith, p.rises, run-rises room e es l p.rest)
 
-pub run-last : (room s : ℕ) (es : List ℕ) (l : ℕ) → run_of room s es ≡ Last l → get_or (s ∷ es) (length es) 0 ≡ l
+pub run-last : (room s : ℕ) (es : List ℕ) (l : ℕ) → run_of room s es ≡ Ok l → get_or (s ∷ es) (length es) 0 ≡ l
 unfolding run_of
 run-last room s [] l h = cc
 run-last room s (e ∷ es) l h = run-last room e es l (run-passes room s e es l h).rest
 
 -- a pair of a run that passes
-pub run-pair : (room s : ℕ) (es : List ℕ) (l : ℕ) → run_of room s es ≡ Last l → (k : ℕ) → k < length es
+pub run-pair : (room s : ℕ) (es : List ℕ) (l : ℕ) → run_of room s es ≡ Ok l → (k : ℕ) → k < length es
     → (get_or (s ∷ es) k 0 ≤ get_or es k 0) × (get_or es k 0 ≤ room)
 run-pair room s [] l h k n = absurd (not-suc-le-zero n)
 run-pair room s (e ∷ es) l h zero n = let p = run-passes room s e es l h in (p.rises, p.within)
 run-pair room s (e ∷ es) l h (suc k) n = run-pair room e es l (run-passes room s e es l h).rest k (omega arith)
 
 -- past the tests of a table the run decides
-pub table-judged : (b : List ℕ) (table count size first : ℕ) (run : Run)
+pub table-judged : (b : List ℕ) (table count size first : ℕ) (run : Result ℕ Refusal)
     → 1 ≤ size → size ≤ 4 → table + (count + 1) * size ≤ length b → first ≡ first_of b table size → first_bad first ≡ false
     → run ≡ run_of (length b - (table + (count + 1) * size - 1)) first (ends_of b table size count)
     → table_at b table count size ≡ judged count size table (table + (count + 1) * size - 1) run

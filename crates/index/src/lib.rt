@@ -22,22 +22,15 @@ pub struct Index {
     pub end: usize,
 }
 
-// What reading an INDEX finds: a refusal, 1 truncated or 2 malformed; or the INDEX.
-#[derive(Clone, Copy)]
-pub enum IndexAt {
-    Refused(u8),
-    Found(Index),
-}
-
-// A run of offsets: the refusal of its first bad pair, or its last offset. No Result, since `run_of` of specs/ gives it.
-#[derive(Clone, Copy)]
-pub enum Run {
-    Bad(u8),
-    Last(usize),
-}
-
-// Judges the pairs of a run of offsets, whose first is start and whose count others stand at place.
-fn judge(font: &[u8], start: usize, place: usize, size: usize, count: usize, room: usize) -> Run
+// The last of a run of offsets, whose first is start and whose count others stand at place; or the refusal of its first bad pair.
+fn judge(
+    font: &[u8],
+    start: usize,
+    place: usize,
+    size: usize,
+    count: usize,
+    room: usize,
+) -> Result<usize, Refusal>
     requires { (size ≤ 4) × (place + count * size ≤ length font.now) }
     ensures { result ≡ run_of room start (offsets count size (drop place font.now)) }
 {
@@ -45,48 +38,45 @@ fn judge(font: &[u8], start: usize, place: usize, size: usize, count: usize, roo
     for i in 0..count {
         let end = octets::num_at(font, place + i * size, size);
         if end < last {
-            return Run::Bad(2);
+            return Err(Refusal::Malformed);
         }
         if room < end {
-            return Run::Bad(1);
+            return Err(Refusal::Truncated);
         }
         last = end;
     }
-    Run::Last(last)
+    Ok(last)
 }
 
 // The INDEX whose offsets stand at table.
-fn table_at(font: &[u8], table: usize, count: usize, size: usize) -> IndexAt
+fn table_at(font: &[u8], table: usize, count: usize, size: usize) -> Result<Index, Refusal>
     requires { (0 < count) × (count < 65536) × (table ≤ length font.now) }
     ensures { result ≡ table_at font.now table count size }
 {
     if size < 1 {
-        return IndexAt::Refused(Refusal::MALFORMED);
+        return Err(Refusal::Malformed);
     }
     if 4 < size {
-        return IndexAt::Refused(Refusal::MALFORMED);
+        return Err(Refusal::Malformed);
     }
     let n = font.len();
     let past = table + (count + 1) * size;
     if n < past {
-        return IndexAt::Refused(Refusal::TRUNCATED);
+        return Err(Refusal::Truncated);
     }
     let first = octets::num_at(font, table, size);
     if first != 1 {
-        return IndexAt::Refused(Refusal::MALFORMED);
+        return Err(Refusal::Malformed);
     }
     let base = past - 1;
-    let run = judge(font, first, table + size, size, count, n - base);
-    match run {
-        Run::Bad(e) => IndexAt::Refused(e),
-        Run::Last(last) => IndexAt::Found(Index {
-            count,
-            size,
-            table,
-            base,
-            end: base + last,
-        }),
-    }
+    let last = judge(font, first, table + size, size, count, n - base)?;
+    Ok(Index {
+        count,
+        size,
+        table,
+        base,
+        end: base + last,
+    })
 }
 
 // An INDEX of no item at a place: its count alone.
@@ -104,22 +94,22 @@ fn empty_at(at: usize) -> Index
 }
 
 // The INDEX at a place of a font, any place.
-pub fn read_index(font: &[u8], at: usize) -> IndexAt
+pub fn read_index(font: &[u8], at: usize) -> Result<Index, Refusal>
     ensures { result ≡ index_at font.now at }
 {
     let n = font.len();
     if n < 2 {
-        return IndexAt::Refused(Refusal::TRUNCATED);
+        return Err(Refusal::Truncated);
     }
     if n - 2 < at {
-        return IndexAt::Refused(Refusal::TRUNCATED);
+        return Err(Refusal::Truncated);
     }
     let count = octets::u16_at(font, at);
     if count == 0 {
-        return IndexAt::Found(empty_at(at));
+        return Ok(empty_at(at));
     }
     if n - 2 == at {
-        return IndexAt::Refused(Refusal::TRUNCATED);
+        return Err(Refusal::Truncated);
     }
     let size = octets::u8_at(font, at + 2);
     table_at(font, at + 3, count, size)

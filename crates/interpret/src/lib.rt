@@ -46,7 +46,7 @@ pub enum Ran {
     Ended(usize),
 }
 
-// A row as one number.
+// A row as one number, of which the kind, a number too, is the highest part.
 fn row_key(kind: usize, fd: usize, number: usize, offset: usize, len: usize) -> u64
     requires { (kind ≤ 4) × (fd < 256) × (number < 65536) × (offset < 4294967296) × (len < 16) }
     ensures { result ≡ key_of_lem kind fd number offset len }

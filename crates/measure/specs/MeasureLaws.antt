@@ -1,5 +1,5 @@
 -- Laws of the measuring functions: the length that was measured decides, and the plan's bodies are the subset's.
-use Rattle.std.specs.Prelude.{ℕ, ◌+◌, ◌≤◌, ◌<◌, ◌≡◌, refl, false, List, [], ◌∷◌, length}
+use Rattle.std.specs.Prelude.{ℕ, ◌+◌, ◌≤◌, ◌<◌, ◌≡◌, refl, false, List, [], ◌∷◌, length, Result, Err}
 use Rattle.std.proofs.Common.{ap, ◌∙◌}
 use Rattle.octets.specs.Octets.{put}
 use Rattle.unfold.specs.Unfold.{Row}
@@ -20,9 +20,7 @@ use Rattle.fds.specs.Locals.{fds_in}
 use Rattle.front.specs.Front.{SlotsReady, Measured}
 use Rattle.parts.specs.Ready.{FontHeld, bodies_for}
 use Rattle.parts.specs.declared.Planned.{Planned}
-use Rattle.outcome.specs.Entry.{answer_of, cut_behind, Passed}
-use Rattle.outcome.specs.declared.Answer.{Answer}
-use Rattle.outcome.specs.declared.Answer.TheVariants.{Refused, Subset}
+use Rattle.outcome.specs.Entry.{a_cut, answer_of, cut_behind, Passed}
 use Rattle.named_parts.specs.Named.{coded_for, named_outcome, NamedPlan, NamedStrings, NamedCodes, NamedCut, PlacedNamed}
 use Rattle.encoding.specs.declared.Encoding.{Encoding}
 use Rattle.front.specs.declared.NamedPlaces.{NamedPlaces}
@@ -33,6 +31,11 @@ use Rattle.by_cid.specs.CidKeptLaws.{cut_ordered as cidOrdered, gathered-cut}
 use Rattle.cid_parts.specs.Cid.{sized}
 use Rattle.cid_parts.specs.CidPlacesLaws.{sized_long, sized-written}
 use Rattle.measure.specs.RoomLaws.{lent, lent-room, as_measured, named-cut-of, ordered-measured}
+use Rattle.outcome.specs.declared.Subsetted.{Subsetted}
+use Rattle.refusal.specs.declared.Refusal.{Refusal}
+use Rattle.refusal.specs.declared.Refusal.TheVariants.{Subset}
+use Rattle.subset.specs.declared.Way.{Way}
+use Rattle.encoding.specs.Encoded.{pairs_of}
 
 -- ---- name-keyed
 
@@ -45,17 +48,17 @@ module _ (b : List ℕ) (rows : List Row) (used ws : List ℕ) (r : Planned) (ta
 
   -- too long
   pub named_long : 67108864 < at.end
-      → Refused 10 ≡ answer_of (named_outcome (program_of b r.order.f) (coded_for e slots) name (glyphs_of b r.order.f ws) 67108864 q)
+      → Err Subset ≡ answer_of (named_outcome (program_of b r.order.f) (coded_for e slots) name (glyphs_of b r.order.f ws) 67108864 q)
   named_long h =
-      as_measured (λ (m : ℕ). named_outcome (program_of b r.order.f) (coded_for e slots) name (glyphs_of b r.order.f ws) m q) lent (Refused 10)
+      as_measured (λ (m : ℕ). named_outcome (program_of b r.order.f) (coded_for e slots) name (glyphs_of b r.order.f ws) m q) lent (Err Subset)
       (planned_long b rows used ws r table totals g name slots own t e coding at placed lent h)
 
   -- measured
   pub named-fits : at.end ≤ 67108864
-      → Subset r.how.way at.end ≡ answer_of (named_outcome (program_of b r.order.f) (coded_for e slots) name (glyphs_of b r.order.f ws) 67108864 q)
+      → a_cut r.how.way at.end ≡ answer_of (named_outcome (program_of b r.order.f) (coded_for e slots) name (glyphs_of b r.order.f ws) 67108864 q)
   named-fits h =
       let bs = subset_by_name (program_of b r.order.f) (coded_for e slots) name (glyphs_of b r.order.f ws) (bodies_for b rows used ws r) in
-      as_measured (λ (m : ℕ). named_outcome (program_of b r.order.f) (coded_for e slots) name (glyphs_of b r.order.f ws) m q) (put lent 0 bs) (Subset r.how.way at.end)
+      as_measured (λ (m : ℕ). named_outcome (program_of b r.order.f) (coded_for e slots) name (glyphs_of b r.order.f ws) m q) (put lent 0 bs) (a_cut r.how.way at.end)
       (planned-written b rows used ws r table totals g name slots own t e coding at placed lent h (lent-room at.end h) (put lent 0 bs) (0 + length bs)
       (record { is = refl; behind = refl }))
 
@@ -64,7 +67,7 @@ module _ (b : List ℕ) (o : Order) (ws window : List ℕ) (h : NamedCut b o ws 
   -- from the plan
   pub prepared_measured : (rows : List Row) (traced : ℕ)
       → record { way = r.how.way; bodies = bodies_for b rows used ws' r } ≡ pruned (program_of b o.f) rows (fds_in used) (glyphs_of b o.f ws) traced
-      → (coded : Coded) (name : List ℕ) (a : Answer)
+      → (coded : Coded) (name : List ℕ) (a : Result Subsetted Refusal)
       → a
       ≡ answer_of (named_outcome (program_of b r.order.f) coded name (glyphs_of b r.order.f ws') 67108864
       (record { way = r.how.way; bodies = bodies_for b rows used ws' r }))
@@ -83,9 +86,9 @@ module _ (b rec name : List ℕ) (flag : ℕ) (o : Order) (ws window : List ℕ)
 
   module _ (own : Own) (slots window₁ : List ℕ) (counted : Measured (own_by_name p order) own) (ready : SlotsReady p false slots) (ordered : Ordered b ws window₁ o)
       (few : own.count ≤ 64609) (slots₂ : List ℕ) (e : Encoding) (behind : CodesBehind (coded_if false p order (own_by_name p order)) slots slots₂ e) (wide : length slots ≡ 272)
-      (fit : e.pairs ≤ 255) where
+      (fit : pairs_of e ≤ 255) where
     -- from what is prepared
-    pub named-measured : (a : Answer) → a ≡ answer_of (named_outcome p (coded_for e slots₂) name order 67108864 (pruned p (rows_of rec) (0 ∷ []) order flag))
+    pub named-measured : (a : Result Subsetted Refusal) → a ≡ answer_of (named_outcome p (coded_for e slots₂) name order 67108864 (pruned p (rows_of rec) (0 ∷ []) order flag))
         → a ≡ answer_of (cut_ordered false b rec name flag o ws 67108864)
     named-measured a x =
         ordered-measured b rec name flag o ws _ a
@@ -95,26 +98,26 @@ module _ (b rec name : List ℕ) (flag : ℕ) (o : Order) (ws window : List ℕ)
 -- the measure of the glyphs that were gathered is the measure
 pub named-gathered : (b rec name : List ℕ) (flag : ℕ) (f : Font) (read : FontHeld b f) (keep old : List ℕ)
     (passed : Passed false false (program_of b f) (length name) keep rec flag (length old)) (o : Order) (ws window : List ℕ) → Ordered b ws window o → o.f ≡ f
-    → kept_in (many_in f) ws ≡ kept_of (many_in f) keep → (a : Answer) → a ≡ answer_of (cut_ordered false b rec name flag o ws 67108864)
+    → kept_in (many_in f) ws ≡ kept_of (many_in f) keep → (a : Result Subsetted Refusal) → a ≡ answer_of (cut_ordered false b rec name flag o ws 67108864)
     → a ≡ answer_of (cut_behind false (program_of b f) name keep rec flag 67108864)
 named-gathered b rec name flag f read keep old passed o ws window ordered same is a x =
     x ∙ ap answer_of (gathered_is false b rec name flag f read keep old passed o ws window ordered same is 67108864)
 
 -- ---- CID-keyed
 
-module _ (way : ℕ) (bs : List ℕ) (end : ℕ) (is : length bs ≡ end) where
+module _ (way : Way) (bs : List ℕ) (end : ℕ) (is : length bs ≡ end) where
   -- too long
-  pub cid_long : 67108864 < end → Refused 10 ≡ answer_of (sized way bs 67108864)
-  cid_long h = as_measured (λ (m : ℕ). sized way bs m) lent (Refused 10) (sized_long way bs lent end is h)
+  pub cid_long : 67108864 < end → Err Subset ≡ answer_of (sized way bs 67108864)
+  cid_long h = as_measured (λ (m : ℕ). sized way bs m) lent (Err Subset) (sized_long way bs lent end is h)
 
   -- measured
-  pub cid_fits : end ≤ 67108864 → Subset way end ≡ answer_of (sized way bs 67108864)
+  pub cid_fits : end ≤ 67108864 → a_cut way end ≡ answer_of (sized way bs 67108864)
   cid_fits h =
-      as_measured (λ (m : ℕ). sized way bs m) (put lent 0 bs) (Subset way end)
+      as_measured (λ (m : ℕ). sized way bs m) (put lent 0 bs) (a_cut way end)
       (sized-written way bs lent end is h (lent-room end h) {q = 0 + length bs} (record { is = refl; behind = refl }))
 
 -- the measure of the glyphs that were gathered is the measure
 pub gathered-measured : (b rec name : List ℕ) (flag : ℕ) (f : Font) (keep : List ℕ) (o : Order) {ws window : List ℕ} → Ordered b ws window o → o.f ≡ f
-    → kept_in (many_in f) ws ≡ kept_of (many_in f) keep → {a : Answer} → a ≡ answer_of (cidOrdered b rec name flag o ws 67108864)
+    → kept_in (many_in f) ws ≡ kept_of (many_in f) keep → {a : Result Subsetted Refusal} → a ≡ answer_of (cidOrdered b rec name flag o ws 67108864)
     → a ≡ answer_of (cut_behind false (program_of b f) name keep rec flag 67108864)
 gathered-measured b rec name flag f keep o {ws} {window} ordered same is {a} x = x ∙ ap answer_of (gathered-cut b rec name flag f keep o ws same is 67108864)

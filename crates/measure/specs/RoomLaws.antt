@@ -1,16 +1,17 @@
 -- Laws of a cut that is measured: its answer is that of a cut into an output of 67,108,864 bytes, whatever that holds.
-use Rattle.std.specs.Prelude.{ℕ, ◌≤◌, ◌≡◌, refl, Bool, false, List, length}
+use Rattle.std.specs.Prelude.{ℕ, ◌≤◌, ◌≡◌, refl, Bool, false, List, length, Result}
 use Rattle.std.proofs.Common.{sym, ap, ◌∙◌, subst}
 use Rattle.cff.specs.Font.{Program}
 use Rattle.subset.specs.Codes.{Coded}
 use Rattle.subset.specs.Pruned.{Pruned}
 use Rattle.subset.specs.Cut.{Outcome, leaves_out}
 use Rattle.outcome.specs.Entry.{answer_of, Cut, Passed}
-use Rattle.outcome.specs.declared.Answer.{Answer}
 use Rattle.named_parts.specs.Named.{named_outcome}
 use Rattle.order_window.specs.declared.Order.{Order}
 use Rattle.by_name.specs.NamedKeptLaws.{cut_ordered}
 use Rattle.measure.specs.Room.{of_length}
+use Rattle.outcome.specs.declared.Subsetted.{Subsetted}
+use Rattle.refusal.specs.declared.Refusal.{Refusal}
 
 -- such an output
 pub lent : List ℕ
@@ -24,19 +25,19 @@ pub lent-room : (n : ℕ) → n ≤ 67108864 → n ≤ length lent
 lent-room n h = subst (λ (m : ℕ). n ≤ m) (sym lent_long) h
 
 -- from a cut into it to what is measured, and back
-pub as_measured : (o : ℕ → Outcome) (out' : List ℕ) (a : Answer) → Cut (o (length lent)) lent out' a → a ≡ answer_of (o 67108864)
+pub as_measured : (o : ℕ → Outcome) (out' : List ℕ) (a : Result Subsetted Refusal) → Cut (o (length lent)) lent out' a → a ≡ answer_of (o 67108864)
 as_measured o out' a c = c.answers ∙ ap (λ (n : ℕ). answer_of (o n)) lent_long
 
-pub as_cut : (o : ℕ → Outcome) (a : Answer) → a ≡ answer_of (o 67108864) → Cut (o (length lent)) lent (leaves_out (o (length lent)) lent) a
+pub as_cut : (o : ℕ → Outcome) (a : Result Subsetted Refusal) → a ≡ answer_of (o 67108864) → Cut (o (length lent)) lent (leaves_out (o (length lent)) lent) a
 as_cut o a e = record { answers = e ∙ sym (ap (λ (n : ℕ). answer_of (o n)) lent_long); output = refl }
 
 -- the cut of the kept glyphs of a name-keyed font
-pub ordered-measured : (b rec name : List ℕ) (flag : ℕ) (o : Order) (ws out' : List ℕ) (a : Answer) → Cut (cut_ordered false b rec name flag o ws (length lent)) lent out' a
+pub ordered-measured : (b rec name : List ℕ) (flag : ℕ) (o : Order) (ws out' : List ℕ) (a : Result Subsetted Refusal) → Cut (cut_ordered false b rec name flag o ws (length lent)) lent out' a
     → a ≡ answer_of (cut_ordered false b rec name flag o ws 67108864)
 ordered-measured b rec name flag o ws out' a c = as_measured (λ (m : ℕ). cut_ordered false b rec name flag o ws m) out' a c
 
 -- and by what they are written from
-pub named-cut-of : (p : Program) (coded : Coded) (name order : List ℕ) (q : Pruned) (a : Answer) → a ≡ answer_of (named_outcome p coded name order 67108864 q)
+pub named-cut-of : (p : Program) (coded : Coded) (name order : List ℕ) (q : Pruned) (a : Result Subsetted Refusal) → a ≡ answer_of (named_outcome p coded name order 67108864 q)
     → Cut (named_outcome p coded name order (length lent) q) lent (leaves_out (named_outcome p coded name order (length lent) q) lent) a
 named-cut-of p coded name order q a e = as_cut (λ (m : ℕ). named_outcome p coded name order m q) a e
 

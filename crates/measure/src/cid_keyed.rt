@@ -7,15 +7,16 @@ ghost use Rattle.by_cid.specs.CidKeptLaws.{CidOrdered, cut_ordered};
 ghost use Rattle.fds.specs.Locals.{fds_in};
 ghost use Rattle.parts.specs.Ready.{FontHeld, Summed};
 ghost use Rattle.outcome.specs.Entry.{answer_of, cut_behind, Passed};
+ghost use Rattle.subset.specs.Flag.{flag_of};
 ghost use Rattle.cid_parts.specs.Cid.{sized, StringsReady, CidReady, cid_bytes};
 
 use cff::font::Font;
 use cid_parts::places_cid;
 use order_window::Order;
-use outcome::{Answer, Prepared};
+use outcome::{Prepared, Subsetted};
 use refusal::Refusal;
 
-// The way and the length of the subset by the plan, or refusal 10.
+// The way and the length of the subset by the plan, if it is not too long.
 fn measure_planned(
     cut: Prepared,
     font: &[u8],
@@ -27,7 +28,7 @@ fn measure_planned(
     table: &[usize],
     totals: &[usize],
     rows: &[u8],
-) -> Answer
+) -> Result<Subsetted, Refusal>
     requires { (CidReady font.now (rows_of rows.now) used.now words.now cut.plan table.now)
         × (Summed font.now (rows_of rows.now) used.now words.now cut.plan table.now totals.now)
         × (StringsReady (program_of font.now cut.plan.order.f) slots.now cut.own) × (length name.now ≤ 65535) × (cut.count ≡ length (fds_in used.now))
@@ -41,26 +42,26 @@ fn measure_planned(
     );
     let end = at.end;
     if octets::LONGEST < end {
-        return Answer::Refused(Refusal::SUBSET);
+        return Err(Refusal::Subset);
     }
-    Answer::Subset {
+    Ok(Subsetted {
         way: how.way,
         len: end,
-    }
+    })
 }
 
-// The way and the length of the subset of the kept glyphs, or refusal 10.
+// The way and the length of the subset of the kept glyphs, if it is not too long.
 fn measure_ordered(
     o: Order,
     font: &[u8],
     name: &[u8],
     rows: &[u8],
-    traced: u8,
+    traced: bool,
     words: &mut [u32],
     window: &mut [u32],
-) -> Answer
+) -> Result<Subsetted, Refusal>
     requires { (CidOrdered font.now o words.old window.old) × (length name.now ≤ 65535) }
-    ensures { result ≡ answer_of (cut_ordered font.now rows.now name.now traced o words.old 67108864) }
+    ensures { result ≡ answer_of (cut_ordered font.now rows.now name.now (flag_of traced) o words.old 67108864) }
 {
     let mut slots = [0usize; 16];
     let own = front::prepare_cid(font, o.f, &mut slots);
@@ -85,19 +86,19 @@ fn measure_ordered(
     )
 }
 
-// The way and the length of the subset, or refusal 10.
+// The way and the length of the subset, if it is not too long.
 pub fn measure_cid(
     font: &[u8],
     f: Font,
     name: &[u8],
     keep: &[u16],
     rows: &[u8],
-    traced: u8,
+    traced: bool,
     words: &mut [u32],
-) -> Answer
+) -> Result<Subsetted, Refusal>
     requires { (FontHeld font.now f)
-        × (Passed true false (program_of font.now f) (length name.now) keep.now rows.now traced (length words.old)) }
-    ensures { result ≡ answer_of (cut_behind false (program_of font.now f) name.now keep.now rows.now traced 67108864) }
+        × (Passed true false (program_of font.now f) (length name.now) keep.now rows.now (flag_of traced) (length words.old)) }
+    ensures { result ≡ answer_of (cut_behind false (program_of font.now f) name.now keep.now rows.now (flag_of traced) 67108864) }
 {
     let mut window = [0u32; 4096];
     let o = order_window::gather(font, f, keep, &mut *words, &mut window);

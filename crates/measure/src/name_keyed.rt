@@ -3,6 +3,7 @@ ghost use Rattle.std.specs.Prelude.{false, [], ◌∷◌, ◌≡◌, ◌≤◌, 
 ghost use Rattle.record.specs.Record.{rows_of};
 ghost use Rattle.cff.specs.Reads.{program_of};
 ghost use Rattle.subset.specs.Pruned.{pruned};
+ghost use Rattle.subset.specs.Flag.{flag_of};
 ghost use Rattle.order_window.specs.Window.{glyphs_of};
 ghost use Rattle.parts.specs.Ready.{FontHeld, bodies_for};
 ghost use Rattle.outcome.specs.Entry.{answer_of, cut_behind, Passed};
@@ -13,11 +14,11 @@ use by_name::{Names, encode_behind};
 use cff::font::Font;
 use named_parts::{CodedCut, places_named};
 use order_window::Order;
-use outcome::{Answer, Prepared};
+use outcome::{Prepared, Subsetted};
 use parts::plan_all;
 use refusal::Refusal;
 
-// The way and the length of the subset by the plan, or refusal 10.
+// The way and the length of the subset by the plan, if it is not too long.
 fn measure_planned(
     c: CodedCut,
     font: &[u8],
@@ -28,7 +29,7 @@ fn measure_planned(
     table: &[usize],
     totals: &[usize],
     rows: &[u8],
-) -> Answer
+) -> Result<Subsetted, Refusal>
     requires { (NamedPlan font.now (rows_of rows.now) used.now words.now c.cut.plan table.now totals.now)
         × (NamedStrings (program_of font.now c.cut.plan.order.f) (glyphs_of font.now c.cut.plan.order.f words.now) slots.now c.cut.own (length name.now))
         × (NamedCodes c.encoding slots.now) }
@@ -40,15 +41,15 @@ fn measure_planned(
     let at = places_named(c, font, name, slots, used, words, table, totals, rows);
     let end = at.end;
     if octets::LONGEST < end {
-        return Answer::Refused(Refusal::SUBSET);
+        return Err(Refusal::Subset);
     }
-    Answer::Subset {
+    Ok(Subsetted {
         way: how.way,
         len: end,
-    }
+    })
 }
 
-// The way and the length of the subset of the kept glyphs, whose strings and encoding are prepared, or refusal 10. FD 0 is in use.
+// The way and the length of the subset of the kept glyphs, whose strings and encoding are prepared, if it is not too long. FD 0 is in use.
 fn measure_prepared(
     font: &[u8],
     o: Order,
@@ -56,16 +57,16 @@ fn measure_prepared(
     slots: &[usize],
     names: Names,
     rows: &[u8],
-    traced: u8,
+    traced: bool,
     words: &mut [u32],
     window: &mut [u32],
-) -> Answer
+) -> Result<Subsetted, Refusal>
     requires { (NamedCut font.now o words.old window.old)
         × (NamedStrings (program_of font.now o.f) (glyphs_of font.now o.f words.old) slots.now names.own (length name.now))
         × (NamedCodes names.encoding slots.now) }
     ensures { result ≡ answer_of (named_outcome (program_of font.now o.f) (coded_for names.encoding slots.now) name.now
         (glyphs_of font.now o.f words.old) 67108864
-        (pruned (program_of font.now o.f) (rows_of rows.now) (0 ∷ []) (glyphs_of font.now o.f words.old) traced)) }
+        (pruned (program_of font.now o.f) (rows_of rows.now) (0 ∷ []) (glyphs_of font.now o.f words.old) (flag_of traced))) }
 {
     let mut used = [0u32; 256];
     used[0] = 1;
@@ -93,45 +94,46 @@ fn measure_prepared(
     measure_planned(c, font, name, slots, &used, &*words, &table, &totals, rows)
 }
 
-// The way and the length of the subset of the kept glyphs, or refusal 12 or 10; 13 cannot be, since no encoding is asked for.
+// The way and the length of the subset of the kept glyphs; or refused: a string id, or too long. Its pairs cannot be too many, since no encoding is
+// asked for.
 fn measure_ordered(
     o: Order,
     font: &[u8],
     name: &[u8],
     rows: &[u8],
-    traced: u8,
+    traced: bool,
     words: &mut [u32],
     window: &mut [u32],
-) -> Answer
+) -> Result<Subsetted, Refusal>
     requires { (NamedCut font.now o words.old window.old) × (length name.now ≤ 65535) }
-    ensures { result ≡ answer_of (cut_ordered false font.now rows.now name.now traced o words.old 67108864) }
+    ensures { result ≡ answer_of (cut_ordered false font.now rows.now name.now (flag_of traced) o words.old 67108864) }
 {
     let mut slots = [0usize; 272];
     let own = front::prepare_named(font, o, &mut slots, &*words, &mut *window);
     if 64609 < own.count {
-        return Answer::Refused(Refusal::STRING_ID);
+        return Err(Refusal::StringId);
     }
     let encoding = encode_behind(font, o, false, &*words, &mut *window, &mut slots);
-    if 255 < encoding.pairs {
-        return Answer::Refused(Refusal::PAIRS);
+    if 255 < encoding.pairs() {
+        return Err(Refusal::Pairs);
     }
     let names = Names { own, encoding };
     measure_prepared(font, o, name, &slots, names, rows, traced, words, window)
 }
 
-// The way and the length of the subset, or refusal 12 or 10.
+// The way and the length of the subset; or refused: a string id, or too long.
 pub fn measure_named(
     font: &[u8],
     f: Font,
     name: &[u8],
     keep: &[u16],
     rows: &[u8],
-    traced: u8,
+    traced: bool,
     words: &mut [u32],
-) -> Answer
+) -> Result<Subsetted, Refusal>
     requires { (FontHeld font.now f)
-        × (Passed false false (program_of font.now f) (length name.now) keep.now rows.now traced (length words.old)) }
-    ensures { result ≡ answer_of (cut_behind false (program_of font.now f) name.now keep.now rows.now traced 67108864) }
+        × (Passed false false (program_of font.now f) (length name.now) keep.now rows.now (flag_of traced) (length words.old)) }
+    ensures { result ≡ answer_of (cut_behind false (program_of font.now f) name.now keep.now rows.now (flag_of traced) 67108864) }
 {
     let mut window = [0u32; 4096];
     let o = order_window::gather(font, f, keep, &mut *words, &mut window);

@@ -23,12 +23,12 @@ use Rattle.parts.specs.Ready.{FontHeld, Ready, Summed}
 use Rattle.parts.specs.declared.Planned.{Planned}
 use Rattle.outcome.specs.Layout.{named_charset, named_codes, named_charstrings, named_private, named_end}
 use Rattle.front.specs.declared.NamedPlaces.{NamedPlaces}
-use Rattle.encoding.specs.Encoded.{coded_in, Encodes}
+use Rattle.encoding.specs.Encoded.{pairs_of, coded_in, Encodes}
 use Rattle.encoding.specs.declared.Encoding.{Encoding}
 
 -- the encoding of a subset, whose codes stand behind the sixteen slots
 abbrev pub coded_for : Encoding → List ℕ → Coded
-coded_for e slots = coded_in e.kind (drop 16 slots)
+coded_for e slots = coded_in e (drop 16 slots)
 
 -- charset and encoding of the kept glyphs
 abbrev pub named_tables : Program → List ℕ → Coded → List ℕ
@@ -65,7 +65,7 @@ pub record NamedStrings (p : Program) (order slots : List ℕ) (own : Own) (name
 -- its encoding: there are not too many pairs
 pub record NamedCodes (e : Encoding) (slots : List ℕ) : Type 0 where
   pub is : Encodes (coded_for e slots) (drop 16 slots) e
-  pub few : e.pairs ≤ 255
+  pub few : pairs_of e ≤ 255
   pub long : 272 ≤ length slots
 
 -- the places of the parts, and the size of the Private DICT

@@ -44,9 +44,10 @@ use Rattle.parts.specs.PrivateLaws.{all-parts, sizes_held, privates-asked, priva
 use Rattle.outcome.specs.Layout.{front_len, named_charset, named_codes, named_charstrings, named_private, named_end, named_top, named-parts, named-length}
 use Rattle.named_parts.specs.Named.{coded_for, named_tables, named_glyphs, NamedPlan, NamedStrings, NamedCodes, PlacedNamed}
 use Rattle.front.specs.declared.NamedPlaces.{NamedPlaces}
-use Rattle.encoding.specs.Encoded.{coded_in, Encodes, encoding_len, offset_for, CanRename}
+use Rattle.encoding.specs.Encoded.{pairs_of, coded_in, Encodes, encoding_len, offset_for, CanRename}
 use Rattle.encoding.specs.EncodedLaws.{encodes-length, encodes-offset}
 use Rattle.encoding.specs.declared.Encoding.{Encoding}
+use Rattle.subset.specs.declared.Way.{Way}
 
 -- slots that are ready, and names that differ, are what new ids ask
 pub can_rename : (b : List ℕ) (f : Font) (ws slots : List ℕ) → SmallFont b f → SlotsReady (program_of b f) false slots → NamesApart b f ws → CanRename b f ws slots
@@ -84,18 +85,18 @@ module _ (b : List ℕ) (o : Order) (e : Encoding) (slots ws window : List ℕ) 
 
     -- what writing the encoding asks, of the codes behind the slots
     module _ (table : List ℕ) (is : table ≡ drop 16 slots) where
-      codes_are : coded_in e.kind table ≡ coded_for e slots
-      codes_are = ap (coded_in e.kind) is
+      codes_are : coded_in e table ≡ coded_for e slots
+      codes_are = ap (coded_in e) is
 
-      pub codes-asked : Encodes (coded_in e.kind table) table e × (e.pairs ≤ 255) × (256 ≤ length table) × (q + length (coded_bytes (coded_in e.kind table)) ≤ length mid)
+      pub codes-asked : Encodes (coded_in e table) table e × (pairs_of e ≤ 255) × (256 ≤ length table) × (q + length (coded_bytes (coded_in e table)) ≤ length mid)
       codes-asked = (
-        subst (λ (l : List ℕ). Encodes (coded_in e.kind l) l e) (sym is) coding.is,
+        subst (λ (l : List ℕ). Encodes (coded_in e l) l e) (sym is) coding.is,
         coding.few,
         omega (arith, ap length is, length-drop 16 slots, coding.long),
         omega (arith, ap (λ (c : Coded). length (coded_bytes c)) codes_are, coded-room),
       )
 
-      pub tables_wrote : {new : List ℕ} {q2 : ℕ} → Wrote mid q (coded_bytes (coded_in e.kind table)) new q2
+      pub tables_wrote : {new : List ℕ} {q2 : ℕ} → Wrote mid q (coded_bytes (coded_in e table)) new q2
           → Wrote out at (named_tables (program_of b o.f) (glyphs_of b o.f ws) (coded_for e slots)) new q2
       tables_wrote v = writing-last room charset-put (wrote_as v (ap coded_bytes codes_are))
 
@@ -120,12 +121,12 @@ only-size p h fs sizes e t =
     sym (get_or-take 1 sizes 0 0 o) ∙ ap (λ (l : List ℕ). get_or l 0 0) u
     ∙ ap (λ (l : List ℕ). length (private_dict (private_of p 0) (get_or (mapped h l) 0 []))) (sym e)
 
-bodies-part : (p : Program) (rows : List Row) (way : ℕ) (fs order : List ℕ) → fs ≡ 0 ∷ []
+bodies-part : (p : Program) (rows : List Row) (way : Way) (fs order : List ℕ) → fs ≡ 0 ∷ []
     → private_parts p fs (bodies_by p rows way fs order).locals ≡ private_part (private_of p 0) (one_local_lem (bodies_by p rows way fs order))
 unfolding bodies_by
 bodies-part p rows way fs order e = only_part p _ fs e
 
-bodies-size : (p : Program) (rows : List Row) (way : ℕ) (fs order sizes : List ℕ) → fs ≡ 0 ∷ []
+bodies-size : (p : Program) (rows : List Row) (way : Way) (fs order sizes : List ℕ) → fs ≡ 0 ∷ []
     → take (length fs) sizes ≡ sizes_of p fs (bodies_by p rows way fs order).locals
     → get_or sizes 0 0 ≡ length (private_dict (private_of p 0) (one_local_lem (bodies_by p rows way fs order)))
 unfolding bodies_by

@@ -2,27 +2,18 @@
 // A reader here requires that its bytes are there: the caller tests first, since a refusal has its place in the caller's order.
 #![tactic(auto)]
 
-pub mod words;
-
 ghost use Rattle.std.specs.Prelude.{◌≡◌, [], ◌∷◌, ◌+◌, ◌≤◌, ◌<◌, ◌^◌, length, get_or};
 ghost use Rattle.octets.specs.Octets.{num_at, bytes_of, Wrote};
 
 // The longest file that is read and the longest subset that is written, in bytes (document 01, 'Entries and their refusals').
 pub const LONGEST: usize = 67108864;
 
-// A byte as a wider number.
-pub fn wide(x: u8) -> usize
-    ensures { (result ≡ x) × (result < 256) }
-{
-    x as usize
-}
-
 // The byte at p.
 pub fn u8_at(s: &[u8], p: usize) -> usize
     requires { p < length s.now }
     ensures { (result ≡ get_or s.now p 0) × (result < 256) }
 {
-    wide(s[p])
+    usize::from(s[p])
 }
 
 // The big-endian number in the two bytes from p on.
@@ -30,7 +21,7 @@ pub fn u16_at(s: &[u8], p: usize) -> usize
     requires { p + 2 ≤ length s.now }
     ensures { (result ≡ num_at s.now p 2) × (result < 65536) }
 {
-    wide(s[p]) * 256 + wide(s[p + 1])
+    usize::from(s[p]) * 256 + usize::from(s[p + 1])
 }
 
 // The big-endian number in the four bytes from p on.
@@ -38,7 +29,8 @@ pub fn u32_at(s: &[u8], p: usize) -> usize
     requires { p + 4 ≤ length s.now }
     ensures { (result ≡ num_at s.now p 4) × (result < 4294967296) }
 {
-    ((wide(s[p]) * 256 + wide(s[p + 1])) * 256 + wide(s[p + 2])) * 256 + wide(s[p + 3])
+    ((usize::from(s[p]) * 256 + usize::from(s[p + 1])) * 256 + usize::from(s[p + 2])) * 256
+        + usize::from(s[p + 3])
 }
 
 // The big-endian number in the three bytes from p on.
@@ -46,7 +38,7 @@ fn u24_at(s: &[u8], p: usize) -> usize
     requires { p + 3 ≤ length s.now }
     ensures { (result ≡ num_at s.now p 3) × (result < 16777216) }
 {
-    (wide(s[p]) * 256 + wide(s[p + 1])) * 256 + wide(s[p + 2])
+    (usize::from(s[p]) * 256 + usize::from(s[p + 1])) * 256 + usize::from(s[p + 2])
 }
 
 // The big-endian number in the n bytes from p on, n up to 4. Offsets are read by it one after the other, so it has no loop.

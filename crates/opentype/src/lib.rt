@@ -13,26 +13,26 @@ const OTTO: usize = 0x4f54544f;
 
 const CFF_TAG: usize = 0x43464620;
 
-// Where the font stands in a file: a refusal, or the start and the length of its table.
+// Where the font stands in a file: the start and the length of its table.
 #[derive(Clone, Copy)]
-pub enum Place {
-    Refused(u8),
-    Table { start: usize, len: usize },
+pub struct TableAt {
+    pub start: usize,
+    pub len: usize,
 }
 
 // The table of a row.
-fn table_of(file: &[u8], start: usize, len: usize) -> Place
+fn table_of(file: &[u8], start: usize, len: usize) -> Result<TableAt, Refusal>
     requires { (start < 4294967296) × (len < 4294967296) }
     ensures { result ≡ table_of file.now start len }
 {
     if file.len() < start + len {
-        return Place::Refused(Refusal::TRUNCATED);
+        return Err(Refusal::Truncated);
     }
-    Place::Table { start, len }
+    Ok(TableAt { start, len })
 }
 
 // The first of n rows, from a place on, that is tagged `CFF `.
-fn row_from(file: &[u8], n: usize, from: usize) -> Place
+fn row_from(file: &[u8], n: usize, from: usize) -> Result<TableAt, Refusal>
     requires { (n < 65536) × (from + 16 * n ≤ length file.now) }
     ensures { result ≡ row_from_lem file.now n from }
 {
@@ -46,29 +46,29 @@ fn row_from(file: &[u8], n: usize, from: usize) -> Place
             );
         }
     }
-    Place::Refused(Refusal::NO_TABLE)
+    Err(Refusal::NoTable)
 }
 
 // Where the font stands in a file.
-pub fn place_of(file: &[u8]) -> Place
+pub fn place_of(file: &[u8]) -> Result<TableAt, Refusal>
     ensures { result ≡ place_of file.now }
 {
     let n = file.len();
     if octets::LONGEST < n {
-        return Place::Refused(Refusal::TOO_LONG);
+        return Err(Refusal::TooLong);
     }
     if n < 4 {
-        return Place::Table { start: 0, len: n };
+        return Ok(TableAt { start: 0, len: n });
     }
     if octets::u32_at(file, 0) != OTTO {
-        return Place::Table { start: 0, len: n };
+        return Ok(TableAt { start: 0, len: n });
     }
     if n < 12 {
-        return Place::Refused(Refusal::TRUNCATED);
+        return Err(Refusal::Truncated);
     }
     let count = octets::u16_at(file, 4);
     if n < 12 + 16 * count {
-        return Place::Refused(Refusal::TRUNCATED);
+        return Err(Refusal::Truncated);
     }
     row_from(file, count, 12)
 }

@@ -111,5 +111,5 @@ pub fn word_at(window: &[u32], h: Held, i: usize) -> usize
     ensures { (result ≡ get_or window.now (i - h.from) 0) × (result < 4294967296) }
 {
     let from = h.from;
-    octets::words::wide(window[i - from])
+    window[i - from] as usize
 }

@@ -4,12 +4,13 @@
 
 use own_strings::Own;
 use parts::Planned;
+use subset::Way;
 
-// The answer of a cut: the refusal, or the way (0 renumbered, 1 stubbed, 2 copied) and the length of the subset.
+// What a cut answers that is not refused: the way and the length of the subset.
 #[derive(Clone, Copy)]
-pub enum Answer {
-    Refused(u8),
-    Subset { way: u8, len: usize },
+pub struct Subsetted {
+    pub way: Way,
+    pub len: usize,
 }
 
 // What is prepared of a cut: the plan of its bodies, its own strings, and how many FDs are in use.

@@ -1,6 +1,6 @@
 -- The INDEXes of global subroutines and of charstrings as the plan left them: their lengths, what their writers ask, and that what is written
 -- is the subset's.
-use Rattle.std.specs.Prelude.{ℕ, ◌+◌, ◌≤◌, ◌≡◌, true, List, [], eqb, length, get_or, Option}
+use Rattle.std.specs.Prelude.{ℕ, ◌+◌, ◌≤◌, ◌≡◌, true, List, [], length, get_or, Option}
 use Rattle.std.proofs.Math.Path.{sym, ap}
 use Rattle.std.proofs.Common.{◌∙◌, subst, arith}
 use Rattle.octets.specs.Pick.{pick_ind}
@@ -32,6 +32,8 @@ use Rattle.plan.specs.StandsLaws.{stands_reached}
 use Rattle.plan.specs.WayLaws.{new-globals, new-glyphs}
 use Rattle.parts.specs.Ready.{bodies_for, Ready}
 use Rattle.parts.specs.declared.Planned.{Planned}
+use Rattle.subset.specs.Way.{is_renumbered}
+use Rattle.subset.specs.declared.Way.{Way}
 
 -- room for the INDEX of bodies that do not fail, where its length is small
 room_for : (bodies : Option (List (List ℕ))) (new : List (List ℕ)) (sum at room : ℕ) → holds bodies ≡ true → many_of bodies ≡ new → sum ≡ total new
@@ -55,7 +57,7 @@ module _ (b : List ℕ) (rows : List Row) (used ws table : List ℕ) (r : Planne
   abbrev p : Program
   p = program_of b r.order.f
 
-  abbrev way : ℕ
+  abbrev way : Way
   way = r.how.way
 
   abbrev own : Ranks
@@ -84,7 +86,7 @@ module _ (b : List ℕ) (rows : List Row) (used ws table : List ℕ) (r : Planne
   pub globals-few : kept_count r.how.way r.how.globals.reached r.how.globals.count ≤ 65535
   globals-few =
       let s = ready.asked.subrs.global_ranks in
-      pick_ind (λ (n : ℕ). n ≤ 65535) (eqb way 0) own.reached own.count (λ e. omega (arith, s.few_reached)) (λ e. omega (arith, s.few))
+      pick_ind (λ (n : ℕ). n ≤ 65535) (is_renumbered way) own.reached own.count (λ e. omega (arith, s.few_reached)) (λ e. omega (arith, s.few))
 
   many_are : many_of the_globals ≡ (bodies_for b rows used ws r).globals
   many_are =

@@ -1,6 +1,6 @@
 -- What planning leaves: the words of the glyphs as they were, the way and the bodies those of the subset, and all bodies measured.
 use Prim.Native.Nat.{ℕ, ◌+◌, ◌≤◌}
-use Rattle.std.specs.Prelude.{◌≡◌, refl, Bool, false, eqb, take, get_or, None, Option, Some}
+use Rattle.std.specs.Prelude.{◌≡◌, refl, Bool, false, take, get_or, None, Option, Some}
 use Rattle.std.proofs.Math.Path.{sym, ap, fun_ext}
 use Rattle.std.proofs.Common.{◌∙◌, subst, arith}
 use Rattle.std.proofs.Math.Bool.{true}
@@ -40,14 +40,18 @@ use Rattle.plan.specs.declared.RankedAll.{RankedAll}
 use Rattle.plan.specs.declared.Plan.{Plan}
 use Rattle.parts.specs.Ready.{PlanIn, bodies_for, Ready, Summed}
 use Rattle.parts.specs.declared.Planned.{Planned}
+use Rattle.subset.specs.Way.{is_renumbered}
+use Rattle.subset.specs.declared.Way.{Way}
+use Rattle.subset.specs.declared.Way.TheVariants.{Renumbered, Stubbed, Copied}
+use Rattle.subset.specs.Flag.{flag_of}
 
 -- ---- words, ways and bodies
 
 -- bodies are renumbered only where each number has a subroutine
-zero-way : (t u v : Bool) → ◌≡◌ {A = ℕ} (pick t 2 (pick u (pick v 0 1) 1)) 0 → u ≡ true
-zero-way true u v e = absurd (let y : ⊥ = omega (arith, e) in y)
-zero-way false true v e = refl
-zero-way false false v e = absurd (let y : ⊥ = omega (arith, e) in y)
+zero-way : (t u v : Bool) → is_renumbered (pick t (pick u (pick v Renumbered Stubbed) Stubbed) Copied) ≡ true → u ≡ true
+zero-way false u v e = absurd (zero_one cc)
+zero-way true true v e = refl
+zero-way true false v e = absurd (zero_one cc)
 
 -- where all parts hold, the last one does
 last-holds : (t u v : Bool) → pick t (pick u v false) false ≡ true → v ≡ true
@@ -98,30 +102,30 @@ module _ (b : List ℕ) (o : Order) (used old window : List ℕ) (h : PlanIn b o
 
     module _ (rising : Bool) (sorted : rising ≡ rises rows) (table_long : 1280 ≤ length table) where
       -- how bodies are written by a way
-      abbrev by : ℕ → Manner
+      abbrev by : Way → Manner
       by way = record { way = way; globals = ranked.globals; rising = rising }
 
       -- what measuring asks
-      pub plan_asked : (way : ℕ) → MeasureIn b o used ws (by way) table rows
+      pub plan_asked : (way : Way) → MeasureIn b o used ws (by way) table rows
       plan_asked way =
           measure_in b o h.read.font h.read.program rows used ws ranked.globals table s.ranked way rising within many
           h.read.size h.used_long table_long h.fds (λ e. sym sorted ∙ e)
 
       -- ---- what is found and measured
 
-      module _ (traced first : ℕ) (tried : first ≡ first_way traced ranked.all) (totals : List ℕ) (r : Plan)
+      module _ (traced : Bool) (first : Way) (tried : first ≡ first_way traced ranked.all) (totals : List ℕ) (r : Plan)
           (t : Plans p rows ws used table ranked.globals (glyphs_of b o.f ws) first totals r) where
         abbrev planned : Planned
         planned = record { order = o; how = by r.way; globals_total = r.globals_total; glyphs_total = r.glyphs_total }
 
         -- the way that is found
-        found : r.way ≡ way_by traced ranked.all (all_made 0 p rows ws used table ranked.globals (glyphs_of b o.f ws))
+        found : r.way ≡ way_by traced ranked.all (all_made Renumbered p rows ws used table ranked.globals (glyphs_of b o.f ws))
         found = t.is ∙ way-found p rows ws used table ranked.globals (glyphs_of b o.f ws) traced ranked.all first tried
 
-        numbered : r.way ≡ 0 → every_numbered p rows (fds_in used) ≡ true
+        numbered : is_renumbered r.way ≡ true → every_numbered p rows (fds_in used) ≡ true
         numbered e =
             sym s.told
-            ∙ zero-way (eqb traced 0) ranked.all (all_made 0 p rows ws used table ranked.globals (glyphs_of b o.f ws)) (sym found ∙ e)
+            ∙ zero-way traced ranked.all (all_made Renumbered p rows ws used table ranked.globals (glyphs_of b o.f ws)) (ap is_renumbered (sym found) ∙ e)
 
         made : all_made r.way p rows ws used table ranked.globals (glyphs_of b o.f ws) ≡ true
         made = sym t.sizes.told
@@ -163,20 +167,20 @@ module _ (b : List ℕ) (o : Order) (used old window : List ℕ) (h : PlanIn b o
         plan_summed long = record { long = long; sums = t.sizes.of_locals refl; few = t.sizes.few_locals refl }
 
         -- the way and the bodies are the subset's
-        plan_pruned : record { way = r.way; bodies = bodies_for b rows used ws planned } ≡ pruned p rows (fds_in used) (glyphs_of b o.f old) traced
+        plan_pruned : record { way = r.way; bodies = bodies_for b rows used ws planned } ≡ pruned p rows (fds_in used) (glyphs_of b o.f old) (flag_of traced)
         plan_pruned =
             let order = glyphs_of b o.f ws in
-            let by = pruned-by p rows (fds_in used) order traced in
-            let e : r.way ≡ way_of p rows (fds_in used) order traced
+            let by = pruned-by p rows (fds_in used) order (flag_of traced) in
+            let e : r.way ≡ way_of p rows (fds_in used) order (flag_of traced)
             = found
             ∙ way_is p h.read.program rows narrow used ws ranked.globals table s.ranked order within traced ranked.all s.told
             ∙ ap (λ (q : Pruned). q.way) by in
-            ap (λ (w : ℕ). record { way = w; bodies = bodies_by p rows w (fds_in used) order }) e
-            ∙ sym by ∙ ap (λ (l : List ℕ). pruned p rows (fds_in used) l traced) (sym order_stays)
+            ap (λ (w : Way). record { way = w; bodies = bodies_by p rows w (fds_in used) order }) e
+            ∙ sym by ∙ ap (λ (l : List ℕ). pruned p rows (fds_in used) l (flag_of traced)) (sym order_stays)
 
         -- what the code returns
         pub returns_planned : 256 ≤ length totals → (last : List ℕ) → Ordered b ws last o
             → Ready b rows used ws planned table × Summed b rows used ws planned table totals × Ordered b ws last o × (planned.order ≡ o)
             × (glyphs_of b o.f ws ≡ glyphs_of b o.f old)
-            × (record { way = r.way; bodies = bodies_for b rows used ws planned } ≡ pruned p rows (fds_in used) (glyphs_of b o.f old) traced)
+            × (record { way = r.way; bodies = bodies_for b rows used ws planned } ≡ pruned p rows (fds_in used) (glyphs_of b o.f old) (flag_of traced))
         returns_planned long last ordered = (plan_ready, plan_summed long, ordered, refl, sym order_stays, plan_pruned)

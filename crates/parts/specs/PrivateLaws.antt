@@ -40,6 +40,7 @@ use Rattle.plan.specs.StandsLaws.{stands_reached}
 use Rattle.plan.specs.WayLaws.{new-locals}
 use Rattle.parts.specs.Ready.{bodies_for, Ready, Summed}
 use Rattle.parts.specs.declared.Planned.{Planned}
+use Rattle.subset.specs.Way.{is_renumbered}
 
 -- ---- tables
 
@@ -150,7 +151,7 @@ module _ (b : List ℕ) (rows : List Row) (used ws table : List ℕ) (r : Planne
   parts_fit d h u =
       let k = ready.asked.locals.ranks d h u in
       record {
-        few = pick_ind (λ (n : ℕ). n < 65536) (eqb r.how.way 0) (get_or table (512 + d) 0) (get_or table (256 + d) 0) (λ t. k.few_reached) (λ t. k.few);
+        few = pick_ind (λ (n : ℕ). n < 65536) (is_renumbered r.how.way) (get_or table (512 + d) 0) (get_or table (256 + d) 0) (λ t. k.few_reached) (λ t. k.few);
         short = omega (arith, summed.few d h u);
       }
 

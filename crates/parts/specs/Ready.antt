@@ -16,6 +16,7 @@ use Rattle.fds.specs.NewLocals.{new_locals}
 use Rattle.plan.specs.Ranked.{AllRanked, every_numbered}
 use Rattle.plan.specs.Sizes.{FdsUsed, all_made, MeasureIn, Narrow}
 use Rattle.parts.specs.declared.Planned.{Planned}
+use Rattle.subset.specs.Way.{is_renumbered}
 
 -- a font that was read
 pub record FontHeld (b : List ℕ) (f : Font) : Type 0 where
@@ -46,7 +47,7 @@ module _ (b : List ℕ) (rows : List Row) (used ws : List ℕ) (r : Planned) whe
     pub few : r.order.count < 65536
     pub within : FdsUsed (program_of b r.order.f) used (glyphs_of b r.order.f ws)
     pub ranked : AllRanked (program_of b r.order.f) rows used ws r.how.globals table
-    pub numbered : r.how.way ≡ 0 → every_numbered (program_of b r.order.f) rows (fds_in used) ≡ true
+    pub numbered : is_renumbered r.how.way ≡ true → every_numbered (program_of b r.order.f) rows (fds_in used) ≡ true
     pub made : all_made r.how.way (program_of b r.order.f) rows ws used table r.how.globals (glyphs_of b r.order.f ws) ≡ true
     pub globals_total_lem : r.globals_total ≡ total bodies_for.globals
     pub glyphs_total_lem : r.glyphs_total ≡ total bodies_for.charstrings

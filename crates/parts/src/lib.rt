@@ -8,6 +8,7 @@ ghost use Rattle.index.specs.Write.{index_bytes, index_len_lem};
 ghost use Rattle.record.specs.Record.{rows_of};
 ghost use Rattle.cff.specs.Reads.{program_of};
 ghost use Rattle.subset.specs.Pruned.{pruned};
+ghost use Rattle.subset.specs.Flag.{flag_of};
 ghost use Rattle.bodies.specs.Ways.{kept_count};
 ghost use Rattle.fds.specs.Locals.{fds_in};
 ghost use Rattle.order_window.specs.Window.{glyphs_of, Ordered};
@@ -32,7 +33,7 @@ pub fn plan_all(
     o: Order,
     font: &[u8],
     rows: &[u8],
-    traced: u8,
+    traced: bool,
     used: &[u32],
     words: &mut [u32],
     window: &mut [u32],
@@ -46,7 +47,7 @@ pub fn plan_all(
         × (Ordered font.now words.new window.new o) × (result.order ≡ o)
         × (glyphs_of font.now o.f words.new ≡ glyphs_of font.now o.f words.old)
         × (record { way = result.how.way; bodies = bodies_for font.now (rows_of rows.now) used.now words.new result }
-        ≡ pruned (program_of font.now o.f) (rows_of rows.now) (fds_in used.now) (glyphs_of font.now o.f words.old) traced) }
+        ≡ pruned (program_of font.now o.f) (rows_of rows.now) (fds_in used.now) (glyphs_of font.now o.f words.old) (flag_of traced)) }
 {
     let f = o.f;
     let ranked = plan::rank_all(font, f, rows, used, &mut *words, &mut *table);

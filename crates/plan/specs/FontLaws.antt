@@ -25,6 +25,8 @@ use Rattle.plan.specs.Ranked.{AllRanked, globals_numbered, every_numbered}
 use Rattle.plan.specs.Sizes.{no_ranks, across_by, FdsUsed, globals_by, glyphs_by, Narrow}
 use Rattle.plan.specs.StandsLaws.{stands_reached, stands_holds, stands_all}
 use Rattle.plan.specs.SameLaws.{body_same, subrs-same, each-alike}
+use Rattle.subset.specs.Way.{is_renumbered}
+use Rattle.subset.specs.declared.Way.{Way}
 
 -- rows of bytes have numbers of two bytes
 pub narrow_rows : (b : List ℕ) → Octets b → Narrow (rows_of b)
@@ -48,24 +50,24 @@ fds_at p (g ∷ order) zero h = refl
 fds_at p (g ∷ order) (suc i) h = fds_at p order i (omega arith)
 
 module _ (p : Program) (good : GoodProgram p) (rows : List Row) (narrow : Narrow rows) (used ws : List ℕ) (globals : Ranks) (table : List ℕ)
-    (h : AllRanked p rows used ws globals table) (way : ℕ) (all : way ≡ 0 → every_numbered p rows (fds_in used) ≡ true) where
-  globals-all : way ≡ 0 → reached (global_set rows) ≡ count_below (global_set rows) (length p.globals)
+    (h : AllRanked p rows used ws globals table) (way : Way) (all : is_renumbered way ≡ true → every_numbered p rows (fds_in used) ≡ true) where
+  globals-all : is_renumbered way ≡ true → reached (global_set rows) ≡ count_below (global_set rows) (length p.globals)
   globals-all z = eqb-true _ _ (both_hold (globals_numbered p rows) (all_numbered p rows (fds_in used)) (all z)).0
 
-  globals_hold : way ≡ 0 → HoldsRanks ws globals (global_set rows)
+  globals_hold : is_renumbered way ≡ true → HoldsRanks ws globals (global_set rows)
   globals_hold z = stands_holds ws globals (global_set rows) (length p.globals) h.global_ranks good.globals.count (globals-all z) narrow.globals
 
   module _ (f : ℕ) (k : f < 256) (u : in_use_lem used f ≡ true) where
-    locals-all : way ≡ 0 → reached (local_set rows f) ≡ count_below (local_set rows f) (length (locals_of p f))
+    locals-all : is_renumbered way ≡ true → reached (local_set rows f) ≡ count_below (local_set rows f) (length (locals_of p f))
     locals-all z =
         eqb-true _ _ (numbered_of p rows (fds_in used) f (both_hold (globals_numbered p rows) (all_numbered p rows (fds_in used)) (all z)).1
         (those-has (in_use_lem used) 256 0 f (omega arith) (omega arith) u))
 
-    locals_hold : way ≡ 0 → HoldsRanks ws (ranks_in table f) (local_set rows f)
+    locals_hold : is_renumbered way ≡ true → HoldsRanks ws (ranks_in table f) (local_set rows f)
     locals_hold z =
         stands_holds ws (ranks_in table f) (local_set rows f) (length (locals_of p f)) (h.local_ranks f k u) (good.locals f).count (locals-all z) (narrow.locals f)
 
-    calls_same : way ≡ 0 → calls_by ws (ranks_in table f) globals ≡ calls_in p rows f
+    calls_same : is_renumbered way ≡ true → calls_by ws (ranks_in table f) globals ≡ calls_in p rows f
     calls_same z =
         fun_ext (λ b. fun_ext (λ y.
         calls-in p rows ws (ranks_in table f) globals (globals_hold z) h.global_ranks.many f (locals_hold z) (h.local_ranks f k u).many b y))
@@ -81,7 +83,7 @@ module _ (p : Program) (good : GoodProgram p) (rows : List Row) (narrow : Narrow
           calls_same z,
         ))
 
-  across-same : way ≡ 0 → (fs : List ℕ) → fds_in used ≡ fs → calls_by ws (across_by table fs) globals ≡ calls_across p rows fs
+  across-same : is_renumbered way ≡ true → (fs : List ℕ) → fds_in used ≡ fs → calls_by ws (across_by table fs) globals ≡ calls_across p rows fs
   across-same z [] e = fun_ext (λ b. fun_ext (λ y. calls-across-none p rows ws no_ranks globals (globals_hold z) h.global_ranks.many refl b y))
   across-same z (f ∷ []) e =
       let m : is_in f (fds_in used) ≡ true = subst (λ (l : List ℕ). is_in f l ≡ true) (sym e) (in_head f f [] refl) in

@@ -19,6 +19,7 @@ use Rattle.fds.specs.Locals.{in_use_lem, fds_in, UsedOf}
 use Rattle.plan.specs.Ranked.{AllRanked}
 use Rattle.plan.specs.Sizes.{no_ranks, across_by, FdsUsed, MeasureIn}
 use Rattle.plan.specs.StandsLaws.{stands_ranked}
+use Rattle.subset.specs.declared.Way.{Way}
 
 -- no bits are counted
 none-ranked : (ws : List ℕ) → Ranked ws no_ranks
@@ -43,7 +44,7 @@ module _ (b : List ℕ) (o : Order) (font : GoodFont b o.f) (good : GoodProgram 
       local_ranked x k t.2
   across-ranked (x ∷ y ∷ fs) e = none-ranked ws
 
-  pub measure_in : (way : ℕ) (rising : Bool) → FdsUsed (program_of b o.f) used (glyphs_of b o.f ws) → o.count ≡ length (glyphs_of b o.f ws)
+  pub measure_in : (way : Way) (rising : Bool) → FdsUsed (program_of b o.f) used (glyphs_of b o.f ws) → o.count ≡ length (glyphs_of b o.f ws)
       → length b ≤ 67108864 → 256 ≤ length used → 1280 ≤ length table → UsedOf (length (program_of b o.f).privates) used → (rising ≡ true → rises rows ≡ true)
       → MeasureIn b o used ws (record { way = way; globals = globals; rising = rising }) table rows
   measure_in way rising within many size u a fds sorted =

@@ -19,6 +19,7 @@ use Rattle.bodies.specs.declared.Manner.{Manner}
 use Rattle.order_window.specs.declared.Order.{Order}
 use Rattle.plan.specs.Sizes.{across_by, globals_by, glyphs_by, all_made, MeasuresAll, MeasureIn, by_way_lem}
 use Rattle.plan.specs.declared.sizes.Measures.{Measures}
+use Rattle.subset.specs.declared.Way.{Way}
 
 -- what was measured, by its parts
 abbrev pub measures : Bool → ℕ → ℕ → Measures
@@ -38,7 +39,7 @@ every true true v a b e = e
 every true false v a b e = absurd (zero_one cc)
 every false u v a b e = absurd (zero_one cc)
 
-module _ (way : ℕ) (p : Program) (rows : List Row) (ws used table : List ℕ) (globals : Ranks) (order : List ℕ) where
+module _ (way : Way) (p : Program) (rows : List Row) (ws used table : List ℕ) (globals : Ranks) (order : List ℕ) where
   -- the globals as they were measured, their calls by the ranks across
   pub globals-measured : (calls : Ranks) → calls ≡ across_by table (fds_in used) → (m : Option ℕ)
       → m ≡ measured_of (subrs_by way rows (reached_in ws globals) (calls_by ws calls globals) (site_in Global) p.globals)
@@ -46,7 +47,7 @@ module _ (way : ℕ) (p : Program) (rows : List Row) (ws used table : List ℕ) 
   globals-measured calls across m is =
       is ∙ ap (λ (q : Ranks). measured_of (subrs_by way rows (reached_in ws globals) (calls_by ws q globals) (site_in Global) p.globals)) across
 
-module _ (way : ℕ) (p : Program) (rows : List Row) (ws used table : List ℕ) (globals : Ranks) (order totals : List ℕ) where
+module _ (way : Way) (p : Program) (rows : List Row) (ws used table : List ℕ) (globals : Ranks) (order totals : List ℕ) where
   -- the globals and the charstrings by the way; whether the locals of no FD fail
   abbrev the_globals : Option (List (List ℕ))
   the_globals = globals_by way p rows ws used table globals order
@@ -123,7 +124,7 @@ module _ (way : ℕ) (p : Program) (rows : List Row) (ws used table : List ℕ) 
         returns_all few short g c e u v = all-measured t ls g c (sym is ∙ e) u (sym ds ∙ v) (subst Bounded e few) (subst Bounded v short)
 
 -- what measuring asks does not name the way
-pub by_way : (way : ℕ) (b : List ℕ) (o : Order) (used ws : List ℕ) (how : Manner) (table : List ℕ) (rows : List Row)
+pub by_way : (way : Way) (b : List ℕ) (o : Order) (used ws : List ℕ) (how : Manner) (table : List ℕ) (rows : List Row)
     → MeasureIn b o used ws how table rows → MeasureIn b o used ws (by_way_lem way how) table rows
 by_way way b o used ws how table rows h =
     let g = h.glyphs in

@@ -1,6 +1,6 @@
 -- Laws of the plan: the way by what was measured; where nothing is renumbered, no part fails.
-use Rattle.std.specs.Prelude.{ℕ, ◌≡◌, refl, Bool, true, false, eqb, List, [], ◌∷◌, Option}
-use Rattle.std.proofs.Common.{sym, ap, ◌∙◌, subst, eq-eqb, ne_eqb}
+use Rattle.std.specs.Prelude.{ℕ, ◌≡◌, refl, Bool, true, false, List, [], ◌∷◌, Option}
+use Rattle.std.proofs.Common.{sym, ap, ◌∙◌, subst}
 use Rattle.octets.specs.Pick.{pick}
 use Rattle.unfold.specs.Unfold.{Row}
 use Rattle.cff.specs.Font.{Program}
@@ -15,6 +15,8 @@ use Rattle.plan.specs.Sizes.{first_way, way_by, glyphs_by, all_made, MeasuresAll
 use Rattle.plan.specs.declared.sizes.Measures.{Measures}
 use Rattle.plan.specs.declared.Plan.{Plan}
 use Rattle.plan.specs.MeasureLaws.{measures}
+use Rattle.subset.specs.declared.Way.{Way}
+use Rattle.subset.specs.declared.Way.TheVariants.{Renumbered, Stubbed, Copied}
 
 -- all of a list hold where each does
 hold_all : {A : Type 0} (f : ℕ → Option A) → ((x : ℕ) → holds (f x) ≡ true) → (fs : List ℕ) → all_hold f fs ≡ true
@@ -22,41 +24,41 @@ unfolding all_hold
 hold_all f h [] = refl
 hold_all f h (x ∷ fs) = ap (λ (t : Bool). pick t (all_hold f fs) false) (h x) ∙ hold_all f h fs
 
-abbrev planned : ℕ → ℕ → ℕ → Plan
+abbrev planned : Way → ℕ → ℕ → Plan
 planned w g c = record { way = w; globals_total = g; glyphs_total = c }
 
 -- the way that is tried first, by the tests of the code
-module _ (traced : ℕ) (all : Bool) where
-  pub first-copied : traced ≡ 0 → 2 ≡ first_way traced all
-  first-copied e = sym (ap (λ (t : Bool). pick t 2 (pick all 0 1)) (eq-eqb traced 0 e))
+module _ (traced all : Bool) where
+  pub first-copied : traced ≡ false → Copied ≡ first_way traced all
+  first-copied e = sym (ap (λ (t : Bool). pick t (pick all Renumbered Stubbed) Copied) e)
 
-  pub first-renumbered : (traced ≡ 0 → ⊥) → all ≡ true → 0 ≡ first_way traced all
-  first-renumbered n a = sym (ap (λ (t : Bool). pick t 2 (pick all 0 1)) (ne_eqb traced 0 n) ∙ ap (λ (t : Bool). pick t 0 1) a)
+  pub first-renumbered : traced ≡ true → all ≡ true → Renumbered ≡ first_way traced all
+  first-renumbered e a = sym (ap (λ (t : Bool). pick t (pick all Renumbered Stubbed) Copied) e ∙ ap (λ (t : Bool). pick t Renumbered Stubbed) a)
 
-  pub first-stubbed : (traced ≡ 0 → ⊥) → all ≡ false → 1 ≡ first_way traced all
-  first-stubbed n a = sym (ap (λ (t : Bool). pick t 2 (pick all 0 1)) (ne_eqb traced 0 n) ∙ ap (λ (t : Bool). pick t 0 1) a)
+  pub first-stubbed : traced ≡ true → all ≡ false → Stubbed ≡ first_way traced all
+  first-stubbed e a = sym (ap (λ (t : Bool). pick t (pick all Renumbered Stubbed) Copied) e ∙ ap (λ (t : Bool). pick t Renumbered Stubbed) a)
 
 module _ (p : Program) (rows : List Row) (ws used table : List ℕ) (globals : Ranks) (order : List ℕ) where
-  abbrev Sized : ℕ → List ℕ → Measures → Type 0
+  abbrev Sized : Way → List ℕ → Measures → Type 0
   Sized way totals m = MeasuresAll way p rows ws used table globals order totals m
 
   -- the other ways hold
-  stubs_made : all_made 1 p rows ws used table globals order ≡ true
+  stubs_made : all_made Stubbed p rows ws used table globals order ≡ true
   stubs_made =
-      ap (λ (t : Bool). pick t (holds (glyphs_by 1 p rows ws used table globals order)) false)
-      (hold_all (locals_by 1 p rows ws table globals) (λ f. refl) (fds_in used))
-      ∙ holds-each (charstring_of 1 rows p.fds ws table globals p.charstrings) order
-      ∙ hold_all (charstring_of 1 rows p.fds ws table globals p.charstrings) (λ g. refl) order
+      ap (λ (t : Bool). pick t (holds (glyphs_by Stubbed p rows ws used table globals order)) false)
+      (hold_all (locals_by Stubbed p rows ws table globals) (λ f. refl) (fds_in used))
+      ∙ holds-each (charstring_of Stubbed rows p.fds ws table globals p.charstrings) order
+      ∙ hold_all (charstring_of Stubbed rows p.fds ws table globals p.charstrings) (λ g. refl) order
 
-  copies-made : all_made 2 p rows ws used table globals order ≡ true
+  copies-made : all_made Copied p rows ws used table globals order ≡ true
   copies-made =
-      ap (λ (t : Bool). pick t (holds (glyphs_by 2 p rows ws used table globals order)) false)
-      (hold_all (locals_by 2 p rows ws table globals) (λ f. refl) (fds_in used))
-      ∙ holds-each (charstring_of 2 rows p.fds ws table globals p.charstrings) order
-      ∙ hold_all (charstring_of 2 rows p.fds ws table globals p.charstrings) (λ g. refl) order
+      ap (λ (t : Bool). pick t (holds (glyphs_by Copied p rows ws used table globals order)) false)
+      (hold_all (locals_by Copied p rows ws table globals) (λ f. refl) (fds_in used))
+      ∙ holds-each (charstring_of Copied rows p.fds ws table globals p.charstrings) order
+      ∙ hold_all (charstring_of Copied rows p.fds ws table globals p.charstrings) (λ g. refl) order
 
   -- a measure that holds
-  held : (way : ℕ) (totals : List ℕ) (m : Measures) → m.all ≡ true → Sized way totals m → Sized way totals (measures true m.globals m.glyphs)
+  held : (way : Way) (totals : List ℕ) (m : Measures) → m.all ≡ true → Sized way totals m → Sized way totals (measures true m.globals m.glyphs)
   held way totals m e s =
       record {
         told = sym e ∙ s.told;
@@ -68,21 +70,21 @@ module _ (p : Program) (rows : List Row) (ws used table : List ℕ) (globals : R
         few_glyphs = s.few_glyphs;
       }
 
-  abbrev made : ℕ → Bool
+  abbrev made : Way → Bool
   made way = all_made way p rows ws used table globals order
 
   -- the way that is tried first, or stubbed where a part fails by it
-  first_or_stubbed : (t u : Bool) → ◌≡◌ {A = ℕ} (pick (made (pick t 2 (pick u 0 1))) (pick t 2 (pick u 0 1)) 1) (pick t 2 (pick u (pick (made 0) 0 1) 1))
-  first_or_stubbed true u = ap (λ (b : Bool). pick b 2 1) copies-made
-  first_or_stubbed false true = refl
-  first_or_stubbed false false = ap (λ (b : Bool). pick b 1 1) stubs_made
+  first_or_stubbed : (t u : Bool) → pick (made (pick t (pick u Renumbered Stubbed) Copied)) (pick t (pick u Renumbered Stubbed) Copied) Stubbed ≡ pick t (pick u (pick (made Renumbered) Renumbered Stubbed) Stubbed) Copied
+  first_or_stubbed false u = ap (λ (b : Bool). pick b Copied Stubbed) copies-made
+  first_or_stubbed true true = refl
+  first_or_stubbed true false = ap (λ (b : Bool). pick b Stubbed Stubbed) stubs_made
 
   -- the way that is found by the one that is tried first
-  pub way-found : (traced : ℕ) (all : Bool) (way : ℕ) → way ≡ first_way traced all → pick (made way) way 1 ≡ way_by traced all (made 0)
-  way-found traced all way first = ap (λ (w : ℕ). pick (made w) w 1) first ∙ first_or_stubbed (eqb traced 0) all
+  pub way-found : (traced all : Bool) (way : Way) → way ≡ first_way traced all → pick (made way) way Stubbed ≡ way_by traced all (made Renumbered)
+  way-found traced all way first = ap (λ (w : Way). pick (made w) w Stubbed) first ∙ first_or_stubbed traced all
 
   -- what the code returns
-  module _ (way : ℕ) where
+  module _ (way : Way) where
     abbrev Whole : List ℕ → Plan → Type 0
     Whole totals r = Plans p rows ws used table globals order way totals r
 
@@ -92,16 +94,16 @@ module _ (p : Program) (rows : List Row) (ws used table : List ℕ) (globals : R
     returns_first totals m s e r is =
         subst (Whole totals) (sym is)
         (record {
-          is = sym (ap (λ (b : Bool). pick b way 1) (sym s.told ∙ e));
+          is = sym (ap (λ (b : Bool). pick b way Stubbed) (sym s.told ∙ e));
           sizes = held way totals m e s;
         })
 
     -- a part fails by it
-    pub returns_stubbed : (mid : List ℕ) (f : Measures) → Sized way mid f → f.all ≡ false → (totals : List ℕ) (m : Measures) → Sized 1 totals m
-        → (r : Plan) → r ≡ planned 1 m.globals m.glyphs → Whole totals r
+    pub returns_stubbed : (mid : List ℕ) (f : Measures) → Sized way mid f → f.all ≡ false → (totals : List ℕ) (m : Measures) → Sized Stubbed totals m
+        → (r : Plan) → r ≡ planned Stubbed m.globals m.glyphs → Whole totals r
     returns_stubbed mid f z e totals m s r is =
         subst (Whole totals) (sym is)
         (record {
-          is = sym (ap (λ (b : Bool). pick b way 1) (sym z.told ∙ e));
-          sizes = held 1 totals m (s.told ∙ stubs_made) s;
+          is = sym (ap (λ (b : Bool). pick b way Stubbed) (sym z.told ∙ e));
+          sizes = held Stubbed totals m (s.told ∙ stubs_made) s;
         })

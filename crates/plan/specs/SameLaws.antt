@@ -1,6 +1,6 @@
 -- What the work words and the tables give by the way is what crates/subset defines: subroutines, charstrings, and where renumbering fails.
-use Rattle.std.specs.Prelude.{ℕ, suc, ◌+◌, ◌<◌, ◌≡◌, refl, Bool, true, false, List, [], ◌∷◌, eqb, length, get_or, Option, Some}
-use Rattle.std.proofs.Common.{sym, ap, ◌∙◌, arith, eqb-true}
+use Rattle.std.specs.Prelude.{ℕ, suc, ◌+◌, ◌<◌, ◌≡◌, refl, Bool, true, false, List, [], ◌∷◌, length, get_or, Option, Some}
+use Rattle.std.proofs.Common.{sym, ap, ◌∙◌, arith}
 use Rattle.octets.specs.Pick.{pick}
 use Rattle.octets.specs.Steps.{and}
 use Rattle.unfold.specs.Unfold.{Row, Site}
@@ -11,13 +11,15 @@ use Rattle.subset.specs.KeptListLaws.{in_head, in_more}
 use Rattle.bodies.specs.Ways.{holds, body_by, subrs_by}
 use Rattle.bodies.specs.Pruning.{all_hold}
 use Rattle.bodies.specs.RecordLaws.{stubbed-alike}
+use Rattle.subset.specs.Way.{is_renumbered, is_stubbed}
+use Rattle.subset.specs.declared.Way.{Way}
 
 -- ---- by the way
 
 -- the same calls make the same body where it is renumbered
-pub body_same : (way : ℕ) (rows : List Row) (calls calls' : Calls) (site : Site) (s : List ℕ) → (way ≡ 0 → calls ≡ calls')
+pub body_same : (way : Way) (rows : List Row) (calls calls' : Calls) (site : Site) (s : List ℕ) → (is_renumbered way ≡ true → calls ≡ calls')
     → body_by way rows calls site s ≡ body_by way rows calls' site s
-body_same way rows calls calls' site s same = go (eqb way 0) (λ e. same (eqb-true way 0 e))
+body_same way rows calls calls' site s same = go (is_renumbered way) (λ e. same e)
   where
     go : (t : Bool) → (t ≡ true → calls ≡ calls')
         → pick t (renumbered_body rows calls site s) (Some s) ≡ pick t (renumbered_body rows calls' site s) (Some s)
@@ -25,10 +27,10 @@ body_same way rows calls calls' site s same = go (eqb way 0) (λ e. same (eqb-tr
     go false h = refl
 
 -- subroutines are the same where the sets agree on them; where they are renumbered, on all numbers
-pub subrs-same : (way : ℕ) (rows : List Row) (set set' : ℕ → Bool) (calls calls' : Calls) (site : ℕ → Site) (subrs : List (List ℕ))
-    → ((i : ℕ) → i < length subrs → set i ≡ set' i) → (way ≡ 0 → (set ≡ set') × (calls ≡ calls'))
+pub subrs-same : (way : Way) (rows : List Row) (set set' : ℕ → Bool) (calls calls' : Calls) (site : ℕ → Site) (subrs : List (List ℕ))
+    → ((i : ℕ) → i < length subrs → set i ≡ set' i) → (is_renumbered way ≡ true → (set ≡ set') × (calls ≡ calls'))
     → subrs_by way rows set calls site subrs ≡ subrs_by way rows set' calls' site subrs
-subrs-same way rows set set' calls calls' site subrs near same = go (eqb way 0) (eqb way 1) (λ e. same (eqb-true way 0 e))
+subrs-same way rows set set' calls calls' site subrs near same = go (is_renumbered way) (is_stubbed way) (λ e. same e)
   where
     go : (t u : Bool) → (t ≡ true → (set ≡ set') × (calls ≡ calls'))
         → pick t (renumbered_subrs rows set calls site subrs) (Some (pick u (stubbed_from set 0 subrs) subrs))

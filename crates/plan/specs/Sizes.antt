@@ -1,5 +1,5 @@
 -- The sizes of all bodies by the way (document 01, 'Corners in write.rs'), over what the work words and the tables hold.
-use Rattle.std.specs.Prelude.{ℕ, ◌≤◌, ◌<◌, ◌≡◌, Bool, true, false, List, [], ◌∷◌, eqb, length, get_or, Option}
+use Rattle.std.specs.Prelude.{ℕ, ◌≤◌, ◌<◌, ◌≡◌, Bool, true, false, List, [], ◌∷◌, length, get_or, Option}
 use Rattle.octets.specs.Pick.{pick}
 use Rattle.index.specs.Write.{total}
 use Rattle.unfold.specs.Unfold.{Row, global}
@@ -18,6 +18,8 @@ use Rattle.fds.specs.Locals.{in_use_lem, fds_in}
 use Rattle.fds.specs.NewLocals.{locals_by, new_locals, LocalsIn}
 use Rattle.plan.specs.declared.sizes.Measures.{Measures}
 use Rattle.plan.specs.declared.Plan.{Plan}
+use Rattle.subset.specs.declared.Way.{Way}
+use Rattle.subset.specs.declared.Way.TheVariants.{Renumbered, Stubbed, Copied}
 
 -- no bits
 abbrev pub no_ranks : Ranks
@@ -39,7 +41,7 @@ last_of (f ∷ g ∷ fs) = last_of (g ∷ fs)
 abbrev pub FdsUsed : Program → List ℕ → List ℕ → Type 0
 FdsUsed p used order = (i : ℕ) → i < length order → in_use_lem used (get_or p.fds (get_or order i 0) 0) ≡ true
 
-module _ (way : ℕ) (p : Program) (rows : List Row) (ws used table : List ℕ) (globals : Ranks) (order : List ℕ) where
+module _ (way : Way) (p : Program) (rows : List Row) (ws used table : List ℕ) (globals : Ranks) (order : List ℕ) where
   -- the globals by the way, and the charstrings, or that their renumbering fails
   abbrev pub globals_by : Option (List (List ℕ))
   globals_by = subrs_by way rows (reached_in ws globals) (calls_by ws (across_by table (fds_in used)) globals) global p.globals
@@ -62,17 +64,17 @@ module _ (way : ℕ) (p : Program) (rows : List Row) (ws used table : List ℕ) 
     pub few_glyphs : r.glyphs ≤ 21989897011200
 
 -- the way that is found: by the flag, by whether each number has a subroutine, and by whether no part fails
-abbrev pub way_by : ℕ → Bool → Bool → ℕ
-way_by traced all made = pick (eqb traced 0) 2 (pick all (pick made 0 1) 1)
+abbrev pub way_by : Bool → Bool → Bool → Way
+way_by traced all made = pick traced (pick all (pick made Renumbered Stubbed) Stubbed) Copied
 
 -- the way that is tried first
-abbrev pub first_way : ℕ → Bool → ℕ
-first_way traced all = pick (eqb traced 0) 2 (pick all 0 1)
+abbrev pub first_way : Bool → Bool → Way
+first_way traced all = pick traced (pick all Renumbered Stubbed) Copied
 
--- a plan: the way, which is the one that is tried first or, where a part fails by it, 1; and the bytes of all bodies by it
+-- a plan: the way, which is the one that is tried first or, where a part fails by it, stubbed; and the bytes of all bodies by it
 module _ (p : Program) (rows : List Row) (ws used table : List ℕ) (globals : Ranks) (order : List ℕ) where
-  pub record Plans (first : ℕ) (totals : List ℕ) (r : Plan) : Type 0 where
-    pub is : r.way ≡ pick (all_made first p rows ws used table globals order) first 1
+  pub record Plans (first : Way) (totals : List ℕ) (r : Plan) : Type 0 where
+    pub is : r.way ≡ pick (all_made first p rows ws used table globals order) first Stubbed
     pub sizes : MeasuresAll r.way p rows ws used table globals order totals
         (record { all = true; globals = r.globals_total; glyphs = r.glyphs_total })
 
@@ -84,7 +86,7 @@ pub record MeasureIn (b : List ℕ) (o : Order) (used ws : List ℕ) (how : Mann
   pub glyphs : CharstringsIn b ws table o how rows
 
 -- how bodies are written by another way
-abbrev pub by_way_lem : ℕ → Manner → Manner
+abbrev pub by_way_lem : Way → Manner → Manner
 by_way_lem way how = record { way = way; globals = how.globals; rising = how.rising }
 
 -- a row's number has two bytes

@@ -1,6 +1,6 @@
 -- Which way it is: no part fails exactly where the font can be renumbered, and a number without a subroutine fails it; and the bodies by
 -- the way are those of the subset.
-use Rattle.std.specs.Prelude.{ℕ, ◌<◌, ◌≡◌, refl, Bool, true, false, List, [], ◌∷◌, eqb, length, get_or, None, Option}
+use Rattle.std.specs.Prelude.{ℕ, ◌<◌, ◌≡◌, refl, Bool, true, false, List, [], ◌∷◌, length, get_or, None, Option}
 use Rattle.std.proofs.Math.Path.{sym, ap}
 use Rattle.std.proofs.Common.{◌∙◌, arith}
 use Rattle.octets.specs.Pick.{pick}
@@ -23,6 +23,10 @@ use Rattle.plan.specs.Ranked.{AllRanked, globals_numbered, every_numbered}
 use Rattle.plan.specs.Sizes.{FdsUsed, globals_by, glyphs_by, all_made, way_by, Narrow}
 use Rattle.plan.specs.SameLaws.{hold_same}
 use Rattle.plan.specs.FontLaws.{locals_same, globals-same, glyphs-same}
+use Rattle.subset.specs.Way.{is_renumbered}
+use Rattle.subset.specs.declared.Way.{Way}
+use Rattle.subset.specs.declared.Way.TheVariants.{Renumbered, Stubbed}
+use Rattle.subset.specs.Flag.{flag_of}
 
 -- ---- a number without a subroutine
 
@@ -63,19 +67,19 @@ module _ (p : Program) (good : GoodProgram p) (rows : List Row) (narrow : Narrow
   in_use f m = let t = those_in (in_use_lem used) 256 0 f m in let b : f < 256 = omega (arith, t.1) in (b, t.2)
 
   -- no part fails where the font can be renumbered
-  pub made-renumbers : every_numbered p rows (fds_in used) ≡ true → all_made 0 p rows ws used table globals order ≡ renumbers p rows (fds_in used) order
+  pub made-renumbers : every_numbered p rows (fds_in used) ≡ true → all_made Renumbered p rows ws used table globals order ≡ renumbers p rows (fds_in used) order
   made-renumbers all =
-      let gs = globals-same p good rows narrow used ws globals table h 0 (λ z. all) order in
-      let cs = glyphs-same p good rows narrow used ws globals table h 0 (λ z. all) order within in
-      let ls = hold_same (locals_by 0 p rows ws table globals) (renumbered_locals p rows) (fds_in used)
-      (λ f m. locals_same p good rows narrow used ws globals table h 0 (λ z. all) f (in_use f m).0 (in_use f m).1) in
-      ap (λ (m : Option (List (List ℕ))). pick (holds m) (pick (all_hold (locals_by 0 p rows ws table globals) (fds_in used)) (holds (glyphs_by 0 p rows ws used table globals order)) false) false) gs
-      ∙ ap (λ (b : Bool). pick (holds (renumbered_globals p rows (fds_in used))) (pick b (holds (glyphs_by 0 p rows ws used table globals order)) false) false) ls
+      let gs = globals-same p good rows narrow used ws globals table h Renumbered (λ z. all) order in
+      let cs = glyphs-same p good rows narrow used ws globals table h Renumbered (λ z. all) order within in
+      let ls = hold_same (locals_by Renumbered p rows ws table globals) (renumbered_locals p rows) (fds_in used)
+      (λ f m. locals_same p good rows narrow used ws globals table h Renumbered (λ z. all) f (in_use f m).0 (in_use f m).1) in
+      ap (λ (m : Option (List (List ℕ))). pick (holds m) (pick (all_hold (locals_by Renumbered p rows ws table globals) (fds_in used)) (holds (glyphs_by Renumbered p rows ws used table globals order)) false) false) gs
+      ∙ ap (λ (b : Bool). pick (holds (renumbered_globals p rows (fds_in used))) (pick b (holds (glyphs_by Renumbered p rows ws used table globals order)) false) false) ls
       ∙ ap (λ (b : Bool). pick (holds (renumbered_globals p rows (fds_in used))) (pick (all_hold (renumbered_locals p rows) (fds_in used)) b false) false)
       (ap holds cs ∙ holds-each (renumbered_glyph p rows) order)
       ∙ sym (renumbers-parts p rows (fds_in used) order)
 
-  module _ (way : ℕ) (all : way ≡ 0 → every_numbered p rows (fds_in used) ≡ true) where
+  module _ (way : Way) (all : is_renumbered way ≡ true → every_numbered p rows (fds_in used) ≡ true) where
     -- the globals of the subset, by the way
     pub new-globals : many_of (globals_by way p rows ws used table globals order) ≡ (bodies_by p rows way (fds_in used) order).globals
     unfolding bodies_by
@@ -97,14 +101,15 @@ module _ (p : Program) (good : GoodProgram p) (rows : List Row) (narrow : Narrow
     new-glyphs = glyphs-same p good rows narrow used ws globals table h way all order within
 
   -- the way that is found is that of the subset
-  pub way_is : (traced : ℕ) (all : Bool) → all ≡ every_numbered p rows (fds_in used)
-      → way_by traced all (all_made 0 p rows ws used table globals order) ≡ (pruned p rows (fds_in used) order traced).way
-  way_is traced all e =
-      ap (λ (n : ℕ). pick (eqb traced 0) 2 n)
-      (ap (λ (t : Bool). pick t (pick (all_made 0 p rows ws used table globals order) 0 1) 1) e ∙ go (every_numbered p rows (fds_in used)) refl)
-      ∙ sym (ap (λ (q : Pruned). q.way) (pruned-by p rows (fds_in used) order traced))
+  pub way_is : (traced all : Bool) → all ≡ every_numbered p rows (fds_in used)
+      → way_by traced all (all_made Renumbered p rows ws used table globals order) ≡ (pruned p rows (fds_in used) order (flag_of traced)).way
+  way_is false all e = sym (ap (λ (q : Pruned). q.way) (pruned-by p rows (fds_in used) order 0))
+  way_is true all e =
+      ap (λ (t : Bool). pick t (pick (all_made Renumbered p rows ws used table globals order) Renumbered Stubbed) Stubbed) e
+      ∙ go (every_numbered p rows (fds_in used)) refl
+      ∙ sym (ap (λ (q : Pruned). q.way) (pruned-by p rows (fds_in used) order 1))
     where
       go : (t : Bool) → every_numbered p rows (fds_in used) ≡ t
-          → ◌≡◌ {A = ℕ} (pick t (pick (all_made 0 p rows ws used table globals order) 0 1) 1) (pick (renumbers p rows (fds_in used) order) 0 1)
-      go true n = ap (λ (b : Bool). pick b 0 1) (made-renumbers n)
-      go false n = sym (ap (λ (b : Bool). pick b 0 1) (unnumbered_fails p rows (fds_in used) order n))
+          → pick t (pick (all_made Renumbered p rows ws used table globals order) Renumbered Stubbed) Stubbed ≡ pick (renumbers p rows (fds_in used) order) Renumbered Stubbed
+      go true n = ap (λ (b : Bool). pick b Renumbered Stubbed) (made-renumbers n)
+      go false n = sym (ap (λ (b : Bool). pick b Renumbered Stubbed) (unnumbered_fails p rows (fds_in used) order n))

@@ -19,6 +19,7 @@ use bodies::Manner;
 use cff::font::Font;
 use order_window::Order;
 use renumber::Ranks;
+use subset::Way;
 
 // Where the bits of the globals stand; whether the record has no number without a subroutine.
 #[derive(Clone, Copy)]
@@ -61,16 +62,16 @@ pub fn rank_all(
     RankedAll { globals, all }
 }
 
-// The way (0 renumbered, 1 stubbed, 2 copied), and the bytes of the globals and of the charstrings.
+// The way, and the bytes of the globals and of the charstrings.
 #[derive(Clone, Copy)]
 pub struct Plan {
-    pub way: u8,
+    pub way: Way,
     pub globals_total: usize,
     pub glyphs_total: usize,
 }
 
 // The plan by a way and what was measured by it.
-fn planned(way: u8, m: Measures) -> Plan
+fn planned(way: Way, m: Measures) -> Plan
     ensures { result ≡ record { way = way; globals_total = m.globals; glyphs_total = m.glyphs } }
 {
     Plan {
@@ -81,16 +82,16 @@ fn planned(way: u8, m: Measures) -> Plan
 }
 
 // The way that is tried first: copied by the flag; else renumbered where each number has a subroutine; else stubbed.
-pub fn first_way(traced: u8, all: bool) -> u8
+pub fn first_way(traced: bool, all: bool) -> Way
     ensures { result ≡ first_way traced all }
 {
-    if traced == 0 {
-        return 2;
+    if !traced {
+        return Way::Copied;
     }
     if all {
-        return 0;
+        return Way::Renumbered;
     }
-    1
+    Way::Stubbed
 }
 
 // Finds the way, the first of which is given, and measures all bodies by it: those of the locals of each FD in use in a table.
@@ -128,10 +129,10 @@ pub fn plan_bodies(
     }
     let globals = how.globals;
     let stubbed = Manner {
-        way: 1,
+        way: Way::Stubbed,
         globals,
         rising: how.rising,
     };
     let s = measure(stubbed, o, font, used, words, window, table, rows, totals);
-    planned(1, s)
+    planned(Way::Stubbed, s)
 }

@@ -1,14 +1,14 @@
 -- The Private DICTs and the Font DICTs of a subset over what the code holds (document 01, 'Layout'; crates/subset, private_dict and font_dicts):
 -- the entries of a Private DICT with the count of the local subroutines that are left; the sizes of the Private DICTs and the lengths of the
 -- parts that hold them.
-use Rattle.std.specs.Prelude.{ℕ, ◌+◌, ◌≤◌, ◌<◌, ◌≡◌, List, [], ◌∷◌, ◌++◌, eqb, length, take, get_or}
+use Rattle.std.specs.Prelude.{ℕ, ◌+◌, ◌≤◌, ◌<◌, ◌≡◌, List, [], ◌∷◌, ◌++◌, eqb, length, take, get_or, Ok}
 use Rattle.octets.specs.Pick.{pick}
 use Rattle.octets.specs.Lists.{sum_of}
 use Rattle.index.specs.Write.{total}
 use Rattle.dict.specs.Op.{subrs, font_matrix}
 use Rattle.dict.specs.Dict.{Entry}
 use Rattle.dict_write.specs.Written.{copied_entry, offset_entry, private_entry, private_bytes}
-use Rattle.cff.specs.Font.{got, Private, Program}
+use Rattle.cff.specs.Font.{Private, Program}
 use Rattle.cff.specs.Reads.{fd_private}
 use Rattle.subset.specs.Kept.{private_of}
 use Rattle.subset.specs.Subset.{matrix_of, private_dict, private_part}
@@ -16,7 +16,7 @@ use Rattle.subset.specs.Subset.{matrix_of, private_dict, private_part}
 -- the Private DICT of the FD with these bytes was read
 pub record FdRead (b d : List ℕ) : Type 0 where
   pub private : Private
-  pub is : fd_private b d ≡ got private
+  pub is : fd_private b d ≡ Ok private
 
 -- Subrs, where local subroutines are left, behind a Private DICT of so many bytes
 unfoldable pub subrs_entry : ℕ → ℕ → List ℕ

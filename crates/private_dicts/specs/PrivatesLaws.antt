@@ -1,5 +1,5 @@
 -- Laws of the Private DICTs: the one of an FD is what reading got, and one that is written is that of the subset.
-use Rattle.std.specs.Prelude.{ℕ, zero, suc, ◌+◌, ◌-◌, ◌≤◌, ◌<◌, ◌≡◌, refl, Bool, true, false, length, take, drop, get_or}
+use Rattle.std.specs.Prelude.{ℕ, zero, suc, ◌+◌, ◌-◌, ◌≤◌, ◌<◌, ◌≡◌, refl, Bool, true, false, length, take, drop, get_or, Result, Ok, Err}
 use Rattle.std.proofs.Math.Path.{sym}
 use Rattle.std.proofs.Common.{ap, ◌∙◌, subst, true≢false, arith, eq-eqb, ne_eqb, length-take, length-drop}
 use mathlib.Core.List.{List, [], ◌∷◌, ◌++◌, append-nil}
@@ -13,24 +13,23 @@ use Rattle.octets.specs.ListLaws.{span}
 use Rattle.index.specs.Index.{items_of}
 use Rattle.index.specs.IndexLaws.{items-length}
 use Rattle.dict.specs.Op.{subrs}
-use Rattle.dict.specs.Dict.{Entry, Dict, refused as refusedDict, entries, dict_of}
+use Rattle.dict.specs.Dict.{Entry, dict_of}
 use Rattle.dict.specs.Lookup.{private_in}
 use Rattle.dict.proofs.LookupLaws.{entries_are}
 use Rattle.dict.specs.Places.{entries_of}
 use Rattle.dict_write.specs.Written.{offset_entry, private_bytes}
 use Rattle.dict_write.specs.WriteLaws.{subrs-length}
-use Rattle.cff.specs.Font.{Got, refused, got, then, Private, dict_got, private_at, privates_at, empty_private}
+use Rattle.cff.specs.Font.{then, Private, private_at, privates_at, empty_private}
 use Rattle.cff.specs.Reads.{fd_private, ReadsPrivate, GoodPrivate, GoodFont, privates_of, program_of}
 use Rattle.cff.specs.Reads as reads
 use Rattle.cff.specs.ReadsLaws.{privates-split}
 use Rattle.cff.specs.declared.font.Font.{Font}
 use Rattle.cff.specs.declared.private.PrivateAt.{PrivateAt}
-use Rattle.cff.specs.declared.private.PrivateRead.{PrivateRead}
-use Rattle.cff.specs.declared.private.PrivateRead.TheVariants.{Refused as RefusedPrivate, Found as FoundPrivate}
 use Rattle.cff.specs.FontLaws.{privates-length}
 use Rattle.subset.specs.Kept.{private_of}
 use Rattle.subset.specs.Subset.{private_dict}
 use Rattle.private_dicts.specs.Privates.{FdRead, subrs_entry, private_dict_by}
+use Rattle.refusal.specs.declared.Refusal.{Refusal}
 
 no : ◌≡◌ {A = ℕ} 0 1 → ⊥
 no h = omega arith
@@ -39,66 +38,66 @@ no h = omega arith
 
 -- all were read: one for each FD, each from its bytes
 module _ (b : List ℕ) where
-  one_at : (g : Got Private) (h : Got (List Private)) (ps : List Private) → then g (λ p. then h (λ qs. got (p ∷ qs))) ≡ got ps
-      → (g ≡ got (get_or ps 0 empty_private)) × (h ≡ got (drop 1 ps))
-  one_at (refused m) h ps e = absurd (no cc)
-  one_at (got p) (refused m) ps e = absurd (no cc)
-  one_at (got p) (got qs) ps e =
-      let i : p ∷ qs ≡ ps = cc in (ap (λ (l : List Private). got (get_or l 0 empty_private)) i, ap (λ (l : List Private). got (drop 1 l)) i)
+  one_at : (g : Result Private Refusal) (h : Result (List Private) Refusal) (ps : List Private) → then g (λ p. then h (λ qs. Ok (p ∷ qs))) ≡ Ok ps
+      → (g ≡ Ok (get_or ps 0 empty_private)) × (h ≡ Ok (drop 1 ps))
+  one_at (Err m) h ps e = absurd (no cc)
+  one_at (Ok p) (Err m) ps e = absurd (no cc)
+  one_at (Ok p) (Ok qs) ps e =
+      let i : p ∷ qs ≡ ps = cc in (ap (λ (l : List Private). Ok (get_or l 0 empty_private)) i, ap (λ (l : List Private). Ok (drop 1 l)) i)
 
   behind-first : (ps : List Private) (k : ℕ) → get_or (drop 1 ps) k empty_private ≡ get_or ps (suc k) empty_private
   behind-first [] k = refl
   behind-first (p ∷ ps) k = refl
 
-  pub private-read : (ds : List (List ℕ)) (ps : List Private) → privates_at b ds ≡ got ps → (k : ℕ) → k < length ds → fd_private b (get_or ds k []) ≡ got (get_or ps k empty_private)
+  pub private-read : (ds : List (List ℕ)) (ps : List Private) → privates_at b ds ≡ Ok ps → (k : ℕ) → k < length ds → fd_private b (get_or ds k []) ≡ Ok (get_or ps k empty_private)
   private-read [] ps e k h = absurd (no (omega arith))
   private-read (d ∷ ds) ps e zero h = (one_at (fd_private b d) (privates_at b ds) ps (sym (privates-split b d ds) ∙ e)).0
   private-read (d ∷ ds) ps e (suc k) h =
       private-read ds (drop 1 ps) (one_at (fd_private b d) (privates_at b ds) ps (sym (privates-split b d ds) ∙ e)).1 k (omega arith)
-      ∙ ap got (behind-first ps k)
+      ∙ ap Ok (behind-first ps k)
 
 -- what reading a DICT's Private gives where the DICT was read
-dict_there : (b d : List ℕ) (x : Dict) (p : Private) → dict_of d ≡ x → then (dict_got x) (λ es. private_at b (private_in es)) ≡ got p
-    → private_at b (private_in (entries_of d)) ≡ got p
-dict_there b d (refusedDict n) p e h = absurd (no cc)
-dict_there b d (entries es) p e h = ap (λ (l : List Entry). private_at b (private_in l)) (entries_are d es e) ∙ h
+dict_there : (b d : List ℕ) (x : Result (List Entry) Refusal) (p : Private) → dict_of d ≡ x → then x (λ es. private_at b (private_in es)) ≡ Ok p
+    → private_at b (private_in (entries_of d)) ≡ Ok p
+dict_there b d (Err n) p e h = absurd (no cc)
+dict_there b d (Ok es) p e h = ap (λ (l : List Entry). private_at b (private_in l)) (entries_are d es e) ∙ h
 
 module _ (b d : List ℕ) (f : FdRead b d) where
-  named : private_at b (private_in (entries_of d)) ≡ got f.private
+  named : private_at b (private_in (entries_of d)) ≡ Ok f.private
   named = dict_there b d (dict_of d) f.private refl f.is
 
-  module _ (r : PrivateRead) (h : ReadsPrivate b (private_at b (private_in (entries_of d))) r) where
+  module _ (r : Result PrivateAt Refusal) (h : ReadsPrivate b (private_at b (private_in (entries_of d))) r) where
     -- it is not refused
-    pub fd_not_refused : (n : ℕ) → r ≡ RefusedPrivate n → ⊥
+    pub fd_not_refused : (n : Refusal) → r ≡ Err n → ⊥
     fd_not_refused n e =
-        let g : private_at b (private_in (entries_of d)) ≡ refused n = subst (ReadsPrivate b (private_at b (private_in (entries_of d)))) e h in
-        let q : refused n ≡ got f.private = sym g ∙ named in
+        let g : private_at b (private_in (entries_of d)) ≡ Err n = subst (ReadsPrivate b (private_at b (private_in (entries_of d)))) e h in
+        let q : Err n ≡ Ok f.private = sym g ∙ named in
         no (let z : ◌≡◌ {A = ℕ} 0 1 = cc in z)
 
-    pub fd-found : (q : PrivateAt) → r ≡ FoundPrivate q → GoodPrivate b q × (got (reads.private_of b q) ≡ fd_private b d)
+    pub fd-found : (q : PrivateAt) → r ≡ Ok q → GoodPrivate b q × (Ok (reads.private_of b q) ≡ fd_private b d)
     fd-found q e =
         let g = subst (ReadsPrivate b (private_at b (private_in (entries_of d)))) e h in
         (g.0, sym g.1 ∙ named ∙ sym f.is)
 
-got_same : (p q : Private) → got p ≡ got q → p ≡ q
+got_same : (p q : Private) → ◌≡◌ {A = Result Private Refusal} (Ok p) (Ok q) → p ≡ q
 got_same p q e = cc
 
 module _ (b : List ℕ) (f : Font) (g : GoodFont b f) (fd : ℕ) (h : fd < length (program_of b f).privates) where
   -- in a CID-keyed font
   module _ (c : f.cid ≡ true) where
-    all_read : privates_at b (items_of b f.dicts) ≡ got (program_of b f).privates
+    all_read : privates_at b (items_of b f.dicts) ≡ Ok (program_of b f).privates
     all_read = g.parts.read c
 
     pub fd-within : fd < f.dicts.count
     fd-within = omega (arith, privates-length b (items_of b f.dicts) (program_of b f).privates all_read, items-length b f.dicts)
 
-    fd_is : fd_private b (get_or (items_of b f.dicts) fd []) ≡ got (private_of (program_of b f) fd)
+    fd_is : fd_private b (get_or (items_of b f.dicts) fd []) ≡ Ok (private_of (program_of b f) fd)
     fd_is = private-read b (items_of b f.dicts) (program_of b f).privates all_read fd (omega (arith, fd-within, items-length b f.dicts))
 
     pub fd-read : (d : List ℕ) → d ≡ get_or (items_of b f.dicts) fd [] → FdRead b d
     fd-read d e = record { private = private_of (program_of b f) fd; is = ap (fd_private b) e ∙ fd_is }
 
-    pub fd-answer : (d : List ℕ) → d ≡ get_or (items_of b f.dicts) fd [] → (q : PrivateAt) → GoodPrivate b q × (got (reads.private_of b q) ≡ fd_private b d)
+    pub fd-answer : (d : List ℕ) → d ≡ get_or (items_of b f.dicts) fd [] → (q : PrivateAt) → GoodPrivate b q × (Ok (reads.private_of b q) ≡ fd_private b d)
         → GoodPrivate b q × (reads.private_of b q ≡ private_of (program_of b f) fd)
     fd-answer d e q r = (r.0, got_same (reads.private_of b q) (private_of (program_of b f) fd) (r.1 ∙ ap (fd_private b) e ∙ fd_is))
 

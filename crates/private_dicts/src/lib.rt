@@ -1,13 +1,12 @@
 // The Private DICTs of a subset and the Font DICTs of a CID-keyed one, measured first and then written (the Rust's subset and subset_cid).
 #![tactic(auto)]
 
-ghost use Rattle.std.specs.Prelude.{◌≡◌, true, ◌++◌, ℕ, ◌+◌, ◌≤◌, ◌<◌, length, take, get_or};
+ghost use Rattle.std.specs.Prelude.{◌≡◌, true, ◌++◌, ℕ, ◌+◌, ◌≤◌, ◌<◌, length, take, get_or, Ok};
 ghost use Rattle.octets.specs.Octets.{Wrote};
 ghost use Rattle.dict.specs.Places.{entries_of};
 ghost use Rattle.dict.specs.Op.{font_matrix};
 ghost use Rattle.dict_write.specs.Written.{copied_entry, private_entry};
 ghost use Rattle.index.specs.Write.{total, index_bytes};
-ghost use Rattle.cff.specs.Font.{got};
 ghost use Rattle.cff.specs.Reads.{GoodPrivate, GoodFont, program_of, fd_private};
 ghost use Rattle.cff.specs.Reads as reads;
 ghost use Rattle.subset.specs.Kept.{private_of};
@@ -15,7 +14,7 @@ ghost use Rattle.subset.specs.Subset.{matrix_of};
 ghost use Rattle.private_dicts.specs.Privates.{FdRead, private_dict_by, matrices_by, font_dicts_by, Placed};
 
 use cff::font::Font;
-use cff::private::{PrivateAt, PrivateRead};
+use cff::private::PrivateAt;
 use dict::nowhere;
 use dict::op::Op;
 use dict_write::{
@@ -25,12 +24,12 @@ use dict_write::{
 // The Private DICT of the FD with bytes d, which was read before.
 fn read_fd(font: &[u8], d: &[u8]) -> PrivateAt
     requires { (2 ≤ length font.now) × (FdRead font.now d.now) }
-    ensures { GoodPrivate font.now result × (got (reads.private_of font.now result) ≡ fd_private font.now d.now) }
+    ensures { GoodPrivate font.now result × (Ok (reads.private_of font.now result) ≡ fd_private font.now d.now) }
 {
     let read = cff::private::private_at(font, d);
     match read {
-        PrivateRead::Refused(_) => cff::private::no_private(),
-        PrivateRead::Found(q) => q,
+        Err(_) => cff::private::no_private(),
+        Ok(q) => q,
     }
 }
 
@@ -102,7 +101,7 @@ fn matrix_len(font: &[u8], f: Font, fd: usize) -> usize
 {
     let dicts = f.dicts;
     let d = index::item(font, dicts, fd);
-    copied_len(d, nowhere(0), Op::FONT_MATRIX)
+    copied_len(d, nowhere(), Op::FONT_MATRIX)
 }
 
 // The length of the FontMatrix entries of the first so many FDs of a list.
@@ -134,7 +133,7 @@ fn put_font_dict(
 {
     let dicts = f.dicts;
     let d = index::item(font, dicts, fd);
-    let p = put_copied(d, nowhere(0), Op::FONT_MATRIX, &mut *out, at);
+    let p = put_copied(d, nowhere(), Op::FONT_MATRIX, &mut *out, at);
     put_private_entry(size, place, out, p)
 }
 

@@ -9,7 +9,7 @@ ghost use Rattle.std.specs.Prelude.{◌≡◌, ◌/◌, ◌<◌, length};
 ghost use Rattle.record.specs.Record.{takes_fd, row_fine_lem, rows_fine_lem, rows_of, record_fine};
 ghost use Rattle.reach.specs.Reach.{row_in, row_no, Fits, fd_fine, mask_fine};
 
-// A row of a record: its five numbers.
+// A row of a record: its five numbers. The kind is a number too: a record may have any, which refusal 8 judges, and rows are ordered by it.
 #[derive(Clone, Copy)]
 pub struct Row {
     pub kind: usize,
@@ -109,7 +109,7 @@ fn rows_fine(cid: bool, rows: &[u8]) -> bool
     true
 }
 
-// Whether record and flag are of the right form: refusal 8 where not.
+// Whether record and flag are of the right form: refusal 8 where not. The flag is any byte, for only here it is judged.
 pub fn check_record(cid: bool, rows: &[u8], flag: u8) -> bool
     ensures { result ≡ record_fine cid rows.now flag }
 {

@@ -38,7 +38,7 @@ pub fn rank_reached(
     rank_rows(rows, 0, fd, count, &mut words[at..end])
 }
 
-// The same for all of some words, and the rows of a kind and an FD.
+// The same for all of some words, and the rows of a kind and an FD. The kind is the number that the rows have.
 fn rank_rows(rows: &[u8], kind: usize, fd: usize, count: usize, held: &mut [u32]) -> Ranked
     requires { (count < 65536) × (length held.old ≡ words_for count) }
     ensures { (held.new ≡ bits_of (reached_in (rows_of rows.now) kind fd) count)

@@ -1,64 +1,35 @@
--- The refusal numbers of document 01, 'Entries and their refusals'. 1 to 3 are the Rust's FontError; the others were added.
-use Rattle.std.specs.Prelude.{ℕ, Bool, false, ltb, leb}
+-- The numbers of the refusals (document 01, 'Entries and their refusals'). 1 to 3 are the Rust's FontError; the others were added.
+use Rattle.std.specs.Prelude.{ℕ, Bool, false, ltb, leb, Result, Ok, Err}
 use Rattle.octets.specs.Pick.{pick}
+use Rattle.refusal.specs.declared.Refusal.{Refusal}
+use Rattle.refusal.specs.declared.Refusal.TheVariants.{Truncated, Malformed, Unsupported, TooLong, Real, NoSuchNumber, NotFound, BadRecord, Work, Subset, Output, StringId, Pairs, NotAccepted, NoTable}
 
-abbrev pub truncated : ℕ
-truncated = 1
+-- too long: a font above 67,108,864 bytes, or a new name above 65,535; a real: a well-formed one of more than 64 nibbles, 15 digits, or a power
+-- of ten outside -30 to 30; no such number: no glyph or item of it; not found: a kept glyph that finding would not give; a bad record: the reach
+-- record or the flag; work: fewer than W work words; subset: one above 67,108,864 bytes; output: a subset above it; a string id: a new one above
+-- 64,999; pairs: more than 255 (document 02, Wish 4); not accepted: a record right in form (document 02, Wish 6); no table `CFF ` (Wish 9)
+abbrev pub number_of : Refusal → ℕ
+number_of Truncated = 1
+number_of Malformed = 2
+number_of Unsupported = 3
+number_of TooLong = 4
+number_of Real = 5
+number_of NoSuchNumber = 6
+number_of NotFound = 7
+number_of BadRecord = 8
+number_of Work = 9
+number_of Subset = 10
+number_of Output = 11
+number_of StringId = 12
+number_of Pairs = 13
+number_of NotAccepted = 14
+number_of NoTable = 15
 
-abbrev pub malformed : ℕ
-malformed = 2
-
-abbrev pub unsupported : ℕ
-unsupported = 3
-
--- a font above 67,108,864 bytes, or a new name above 65,535
-abbrev pub too_long : ℕ
-too_long = 4
-
--- a well-formed real of more than 64 nibbles, 15 digits, or a power of ten outside -30 to 30
-abbrev pub real : ℕ
-real = 5
-
--- no glyph or item of that number
-abbrev pub no_such_number : ℕ
-no_such_number = 6
-
--- a kept glyph that finding would not give
-abbrev pub not_found : ℕ
-not_found = 7
-
--- the reach record or the flag
-abbrev pub bad_record : ℕ
-bad_record = 8
-
--- fewer than W work words
-abbrev pub work : ℕ
-work = 9
-
--- a subset above 67,108,864 bytes
-abbrev pub subset : ℕ
-subset = 10
-
--- a subset above the output
-abbrev pub output : ℕ
-output = 11
-
--- a new string id above 64,999
-abbrev pub string_id : ℕ
-string_id = 12
-
--- an encoding of more than 255 pairs (document 02, Wish 4)
-abbrev pub pairs : ℕ
-pairs = 13
-
--- a reach record right in form that is not accepted (document 02, Wish 6)
-abbrev pub not_accepted : ℕ
-not_accepted = 14
-
--- an OpenType file without a table `CFF ` (document 02, Wish 9)
-abbrev pub no_table : ℕ
-no_table = 15
+-- what a call answers for C that gives nothing but whether it is refused: 0 where it is not
+abbrev pub number_or_0 : Result Unit Refusal → ℕ
+number_or_0 (Err e) = number_of e
+number_or_0 (Ok u) = 0
 
 -- a number that a refused call can answer
 abbrev pub is_refusal : ℕ → Bool
-is_refusal n = pick (ltb n truncated) false (leb n no_table)
+is_refusal n = pick (ltb n 1) false (leb n 15)

@@ -73,7 +73,7 @@ fn three_len(code: &[u8], at: usize) -> usize
     if code.len() - at < 3 {
         return 0;
     }
-    let n = octets::wide(code[at + 1]) * 256 + octets::wide(code[at + 2]);
+    let n = usize::from(code[at + 1]) * 256 + usize::from(code[at + 2]);
     if is_three(n) {
         return 3;
     }
@@ -101,8 +101,8 @@ fn five_len(code: &[u8], at: usize) -> usize
     if code.len() - at < 5 {
         return 0;
     }
-    let high = octets::wide(code[at + 1]) * 256 + octets::wide(code[at + 2]);
-    let low = octets::wide(code[at + 3]) * 256 + octets::wide(code[at + 4]);
+    let high = usize::from(code[at + 1]) * 256 + usize::from(code[at + 2]);
+    let low = usize::from(code[at + 3]) * 256 + usize::from(code[at + 4]);
     if is_five(high, low) {
         return 5;
     }

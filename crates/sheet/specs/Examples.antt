@@ -1,10 +1,12 @@
 -- Worked examples, computed: document 01's input and its output, and inputs at the edges of the form.
 use Rattle.std.specs.Prelude.{ℕ, ◌≡◌, refl, List, [], ◌∷◌, None, Some}
 use Rattle.octets.specs.Octets.{bytes_of}
+use Rattle.refusal.specs.declared.Refusal.TheVariants.{Output}
 use Rattle.hexlines.specs.Hexlines.{hex_value_lem, is_hex_lem, spelt, digit_of, hex_text}
 use Rattle.cases.specs.Lines.{lines_of}
 use Rattle.subset.specs.Cut.{refused, subset}
 use Rattle.sheet.specs.Sheet.{hex_up_to, is_kept, hex_of, all_rows, filled, are_rows, row_bytes, pairs, is_sheet_lem, sheet_in, sheet_of, in_lines, printed, answer_to, cut_sheet}
+use Rattle.subset.specs.declared.Way.TheVariants.{Renumbered}
 
 -- document 01's font, input, subset and output
 abbrev the_font : List ℕ
@@ -60,12 +62,12 @@ unfolding sheet_of sheet_in is_sheet_lem hex_up_to is_kept hex_of are_rows all_r
 short_row = refl
 
 -- document 01's output is what is printed of its subset
-document-printed : printed (subset 0 the_subset) ≡ the_output
+document-printed : printed (subset Renumbered the_subset) ≡ the_output
 unfolding printed in_lines hex_text digit_of bytes_of
 document-printed = refl
 
 -- `ff0b`, refusal 11
-refusal-printed : printed (refused 11) ≡ 102 ∷ 102 ∷ 48 ∷ 98 ∷ 10 ∷ []
+refusal-printed : printed (refused Output) ≡ 102 ∷ 102 ∷ 48 ∷ 98 ∷ 10 ∷ []
 unfolding printed in_lines hex_text digit_of bytes_of
 refusal-printed = refl
 

@@ -5,8 +5,10 @@ use Rattle.std.proofs.Math.Seq.{drop-length}
 use Rattle.octets.specs.Pick.{pick}
 use Rattle.octets.specs.Octets.{bytes_of}
 use Rattle.hexlines.specs.Hexlines.{digit_of, hex_text}
-use Rattle.subset.specs.Cut.{refused, subset}
-use Rattle.sheet.specs.Sheet.{in_lines, printed}
+use Rattle.subset.specs.Cut.{subset}
+use Rattle.sheet.specs.Sheet.{in_lines, refusal_line, printed}
+use Rattle.subset.specs.declared.Way.{Way}
+use Rattle.subset.specs.Way.{way_number}
 
 -- ---- digits
 
@@ -32,14 +34,14 @@ unfolding hex_text bytes_of
 text-four v = refl
 
 -- the way, the length and a line feed
-unfoldable pub head_bytes : ℕ → ℕ → List ℕ
-head_bytes way n = hex_text (way ∷ bytes_of 4 n) ++ (10 ∷ [])
+unfoldable pub head_bytes : Way → ℕ → List ℕ
+head_bytes way n = hex_text (way_number way ∷ bytes_of 4 n) ++ (10 ∷ [])
 
-pub head-parts : (way n : ℕ) → hex_text (way ∷ []) ++ (hex_text (bytes_of 4 n) ++ (10 ∷ [])) ≡ head_bytes way n
+pub head-parts : (way : Way) (n : ℕ) → hex_text (way_number way ∷ []) ++ (hex_text (bytes_of 4 n) ++ (10 ∷ [])) ≡ head_bytes way n
 unfolding head_bytes hex_text bytes_of
 head-parts way n = refl
 
-pub head-length : (way n : ℕ) → length (head_bytes way n) ≡ 11
+pub head-length : (way : Way) (n : ℕ) → length (head_bytes way n) ≡ 11
 unfolding head_bytes hex_text bytes_of
 head-length way n = refl
 
@@ -55,7 +57,7 @@ pub two-length : (n : ℕ) → length (hex_text (bytes_of 2 n)) ≡ 4
 unfolding hex_text bytes_of
 two-length n = refl
 
-pub subset-parts : (way : ℕ) (bs : List ℕ) → head_bytes way (length bs) ++ in_lines 0 bs ≡ printed (subset way bs)
+pub subset-parts : (way : Way) (bs : List ℕ) → head_bytes way (length bs) ++ in_lines 0 bs ≡ printed (subset way bs)
 unfolding head_bytes hex_text bytes_of printed
 subset-parts way bs = refl
 
@@ -126,8 +128,8 @@ inner_length b col n = ap length (sym (cell_inner b col n))
 
 -- ---- a refusal
 
-pub refused_parts : (n : ℕ) → hex_text (255 ∷ []) ++ (hex_text (n ∷ []) ++ (10 ∷ [])) ≡ printed (refused n)
-unfolding printed hex_text
+pub refused_parts : (n : ℕ) → hex_text (255 ∷ []) ++ (hex_text (n ∷ []) ++ (10 ∷ [])) ≡ refusal_line n
+unfolding hex_text
 refused_parts n = refl
 
 -- ---- how long it is
@@ -145,12 +147,12 @@ lines-length (b ∷ bs) col =
     e
 
 -- a subset of 32,768 bytes is printed in up to 98,316
-pub printed-length : (way : ℕ) (bs : List ℕ) → length (printed (subset way bs)) ≤ 3 * length bs + 12
+pub printed-length : (way : Way) (bs : List ℕ) → length (printed (subset way bs)) ≤ 3 * length bs + 12
 printed-length way bs =
     let n = ap length (sym (subset-parts way bs)) ∙ length-append (head_bytes way (length bs)) (in_lines 0 bs) in
     omega (arith, n, head-length way (length bs), lines-length bs 0)
 
-pub subset-length : (way : ℕ) (bs : List ℕ) → length (printed (subset way bs)) ≡ 11 + length (in_lines 0 bs)
+pub subset-length : (way : Way) (bs : List ℕ) → length (printed (subset way bs)) ≡ 11 + length (in_lines 0 bs)
 subset-length way bs =
     let n = ap length (sym (subset-parts way bs)) ∙ length-append (head_bytes way (length bs)) (in_lines 0 bs) in
     omega (arith, n, head-length way (length bs))

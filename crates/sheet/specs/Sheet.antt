@@ -2,14 +2,17 @@
 -- Lines of lower-case hexadecimal: font (up to 16,384 bytes), new name (up to 256), kept numbers (4 digits each, up to 1,024), flag (2 digits), then
 -- one row a line (up to 512). The lines are known by their places: those of font, name and kept numbers may be empty, and only rows may be absent.
 -- An empty row adds nothing and does not count; any other has 20 digits. The last line feed may be missing.
-use Rattle.std.specs.Prelude.{ℕ, ◌+◌, ◌*◌, ◌%◌, Bool, true, false, List, [], ◌∷◌, ◌++◌, leb, eqb, length, get_or, None, Option, Some}
+use Rattle.std.specs.Prelude.{ℕ, ◌+◌, ◌*◌, ◌%◌, Bool, true, false, List, [], ◌∷◌, ◌++◌, leb, eqb, length, get_or, None, Option, Some, Result, Ok, Err}
 use Rattle.octets.specs.Pick.{pick}
 use Rattle.octets.specs.Octets.{bytes_of}
+use Rattle.refusal.specs.Refusal.{number_of}
+use Rattle.refusal.specs.declared.Refusal.{Refusal}
 use Rattle.hexlines.specs.Hexlines.{is_hex_lem, spelt, hex_text}
 use Rattle.cases.specs.Lines.{lines_of}
 use Rattle.dict.specs.Lookup.{cid_keyed}
-use Rattle.cff.specs.Font.{Got, refused as refusedFont, got, Program, read_font}
+use Rattle.cff.specs.Font.{Program, read_font}
 use Rattle.subset.specs.Cut.{Outcome, refused, subset, cut_of}
+use Rattle.subset.specs.Way.{way_number}
 
 -- ---- what is read
 
@@ -91,17 +94,21 @@ unfoldable pub in_lines : ℕ → List ℕ → List ℕ
 in_lines col [] = pick (eqb col 0) [] (10 ∷ [])
 in_lines col (b ∷ bs) = hex_text (b ∷ []) ++ pick (eqb col 15) (10 ∷ in_lines 0 bs) (in_lines (col + 1) bs)
 
+-- `ff` and the number of a refusal, or 0
+abbrev pub refusal_line : ℕ → List ℕ
+refusal_line n = hex_text (255 ∷ n ∷ []) ++ (10 ∷ [])
+
 -- a refusal: `ff` and the number; else the way (2 digits) and the length (8), then the bytes
 unfoldable pub printed : Outcome → List ℕ
-printed (refused n) = hex_text (255 ∷ n ∷ []) ++ (10 ∷ [])
-printed (subset way bs) = hex_text (way ∷ bytes_of 4 (length bs)) ++ (10 ∷ in_lines 0 bs)
+printed (refused n) = refusal_line (number_of n)
+printed (subset way bs) = hex_text (way_number way ∷ bytes_of 4 (length bs)) ++ (10 ∷ in_lines 0 bs)
 
 -- ---- the program
 
 -- the keying of a font; a font refused by reading counts as name-keyed
-abbrev pub keying : Got Program → Bool
-keying (refusedFont n) = false
-keying (got p) = cid_keyed p.top
+abbrev pub keying : Result Program Refusal → Bool
+keying (Err n) = false
+keying (Ok p) = cid_keyed p.top
 
 -- a sheet, cut by the keying of its font, with 8,192 work words and 32,768 output bytes lent
 unfoldable pub cut_of_sheet : Sheet → Outcome
@@ -109,7 +116,7 @@ cut_of_sheet s = cut_of (keying (read_font s.font)) false s.font s.name s.keep s
 
 -- `ff00` for other input
 unfoldable pub answer_to : Option Sheet → List ℕ
-answer_to None = printed (refused 0)
+answer_to None = refusal_line 0
 answer_to (Some s) = printed (cut_of_sheet s)
 
 -- what the program prints of what it reads

@@ -2,11 +2,12 @@
 ghost use Rattle.std.specs.Prelude.{◌≡◌, [], ◌∷◌, ◌+◌, ◌≤◌, ◌<◌, length};
 ghost use Rattle.octets.specs.Octets.{bytes_of, Wrote};
 ghost use Rattle.hexlines.specs.Hexlines.{digit_of, hex_text};
-ghost use Rattle.subset.specs.Cut.{refused, subset};
-ghost use Rattle.sheet.specs.Sheet.{in_lines, printed};
+ghost use Rattle.subset.specs.Cut.{subset};
+ghost use Rattle.sheet.specs.Sheet.{in_lines, refusal_line, printed};
 ghost use Rattle.sheet.specs.Printing.{head_bytes, cell_bytes, next_col};
 
 use octets::{put_byte, put_pair};
+use subset::Way;
 
 // The digit of a value below 16.
 fn digit(v: u8) -> u8
@@ -48,11 +49,11 @@ fn put_four(out: &mut [u8], at: usize, v: usize) -> usize
 }
 
 // Writes the first line of a subset: its way and its length.
-fn put_head(way: u8, n: usize, out: &mut [u8]) -> usize
+fn put_head(way: Way, n: usize, out: &mut [u8]) -> usize
     requires { 11 ≤ length out.old }
     ensures { Wrote out.old 0 (head_bytes way n) out.new result }
 {
-    let p = put_octet(out, 0, way);
+    let p = put_octet(out, 0, way.number());
     let q = put_four(out, p, n);
     put_byte(out, q, b'\n')
 }
@@ -97,10 +98,10 @@ fn put_lines(bytes: &[u8], out: &mut [u8], at: usize) -> usize
     put_byte(out, p, b'\n')
 }
 
-// Writes what is printed of a refusal, 0 for other input, to the start of out; returns its length.
+// Writes what is printed of the number of a refusal, 0 for other input, to the start of out; returns its length.
 pub fn put_refused(n: u8, out: &mut [u8]) -> usize
     requires { 5 ≤ length out.old }
-    ensures { Wrote out.old 0 (printed (refused n)) out.new result }
+    ensures { Wrote out.old 0 (refusal_line n) out.new result }
 {
     let p = put_octet(out, 0, 255);
     let q = put_octet(out, p, n);
@@ -108,7 +109,7 @@ pub fn put_refused(n: u8, out: &mut [u8]) -> usize
 }
 
 // Writes what is printed of a subset to the start of out; returns its length.
-pub fn put_subset(way: u8, bytes: &[u8], out: &mut [u8]) -> usize
+pub fn put_subset(way: Way, bytes: &[u8], out: &mut [u8]) -> usize
     requires { length (printed (subset way bytes.now)) ≤ length out.old }
     ensures { Wrote out.old 0 (printed (subset way bytes.now)) out.new result }
 {

@@ -17,7 +17,7 @@ pub struct LineEnds {
     pub flag: usize,
 }
 
-// How many bytes the font and the name of a sheet have, how many numbers are kept, how many bytes the record has, and the flag.
+// How many bytes the font and the name of a sheet have, how many numbers are kept, how many bytes the record has, and the flag, which may be any byte.
 #[derive(Clone, Copy)]
 pub struct Parts {
     pub font: usize,

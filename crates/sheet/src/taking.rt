@@ -2,7 +2,8 @@
 ghost use Rattle.std.specs.Prelude.{◌≡◌, List, ◌++◌, ℕ, ◌≤◌, length};
 ghost use Rattle.sheet.specs.Taking.{next_mode, ends_empty, kept_of, Held, Took};
 
-// What was taken: how many bytes are in the buffer, 48,135 for too many, and where the next one stands. Both are 0 at the start.
+// What was taken: how many bytes are in the buffer, 48,135 for too many, and where the next one stands. Both are 0 at the start. The mode is a
+// number, for it counts the lines of the head.
 #[derive(Clone, Copy)]
 pub struct Taken {
     pub len: usize,

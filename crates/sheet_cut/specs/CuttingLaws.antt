@@ -1,46 +1,51 @@
 -- Laws of cutting one sheet: the two calls together are one by the keying of the font, and what is printed of their answer is what the sheet asks for.
-use Rattle.std.specs.Prelude.{ℕ, ◌+◌, ◌*◌, ◌≤◌, Bool, true, false, List, take, drop, None, Option, Some}
+use Rattle.std.specs.Prelude.{ℕ, ◌+◌, ◌*◌, ◌≤◌, Bool, true, false, List, take, drop, None, Option, Some, Result, Ok, Err}
 use Rattle.std.proofs.Math.Path.{◌≡◌, refl, sym}
-use Rattle.std.proofs.Common.{ap, ◌∙◌, subst, arith, length-append, take-append-drop, length-take-le, ne_eqb}
+use Rattle.std.proofs.Common.{ap, ◌∙◌, subst, arith, length-append, take-append-drop, length-take-le}
 use Rattle.std.proofs.Math.ListN.{length}
 use Rattle.std.proofs.Math.Seq.{take-append_seam}
+use denote.Enum.Bare.{sameb}
 use Rattle.octets.specs.Pick.{pick}
 use Rattle.octets.specs.Octets.{put}
+use Rattle.refusal.specs.Refusal.{number_of}
+use Rattle.refusal.specs.contracts.Refusal.{the_type}
+use Rattle.refusal.specs.declared.Refusal.{Refusal}
+use Rattle.refusal.specs.declared.Refusal.TheVariants.{Unsupported}
 use Rattle.cff.specs.Font.{read_font}
 use Rattle.cff.specs.Find.{work_size}
 use Rattle.subset.specs.Cut.{Outcome, refused, subset, cut_of, leaves_out, leaves_work}
 use Rattle.faithful.specs.Faithful.{Faithful}
 use Rattle.faithful.specs.Codes.{KeepsCodes}
 use Rattle.outcome.specs.Entry.{answer_of, work_in, Cuts}
-use Rattle.outcome.specs.declared.Answer.{Answer}
-use Rattle.outcome.specs.declared.Answer.TheVariants.{Refused, Subset}
-use Rattle.sheet.specs.Sheet.{Sheet, keying, printed, cut_of_sheet, answer_to, sheet_of, cut_sheet}
+use Rattle.outcome.specs.declared.Subsetted.{Subsetted}
+use Rattle.sheet.specs.Sheet.{Sheet, keying, refusal_line, printed, cut_of_sheet, answer_to, sheet_of, cut_sheet}
 use Rattle.sheet.specs.Printing.{printed-length}
 use Rattle.sheet.specs.Reading.{Reads, parts}
 use Rattle.sheet.specs.Taking.{Took}
 use Rattle.sheet.specs.declared.reading.Parts.{Parts}
-use Rattle.sheet.specs.KeyingLaws.{unsupported, cut-by-keying}
+use Rattle.sheet.specs.KeyingLaws.{is_three, three, unsupported, cut-by-keying}
 use Rattle.sheet_cut.specs.Cutting.{length_in, outcome_in, Given, given}
 
 -- ---- what an answer tells of the outcome
 
-three : (o : Outcome) (n : ℕ) → Refused n ≡ answer_of o → n ≡ 3 → o ≡ refused 3
-three (refused k) n e h = let i : n ≡ k = cc in ap refused (sym i ∙ h)
-three (subset way bs) n e h = cc
+-- the test of the code
+pub three-tested : (n : Refusal) (t : Bool) → t ≡ sameb the_type n Unsupported → is_three n ≡ t
+three-tested Unsupported t e = sym e
+three-tested n t e = sym e
 
-not_three : (o : Outcome) (n : ℕ) → Refused n ≡ answer_of o → (n ≡ 3 → ⊥) → unsupported o ≡ false
-not_three (refused k) n e h = let i : n ≡ k = cc in ne_eqb k 3 (λ (j : k ≡ 3). h (i ∙ j))
-not_three (subset way bs) n e h = cc
+refused_other : (o : Outcome) (n : Refusal) (t : Bool) → Err n ≡ answer_of o → is_three n ≡ t → unsupported o ≡ t
+refused_other (refused k) n t e h = let i : k ≡ n = cc in ap is_three i ∙ h
+refused_other (subset way bs) n t e h = cc
 
-subset_other : (o : Outcome) (way len : ℕ) → Subset way len ≡ answer_of o → unsupported o ≡ false
-subset_other (refused k) way len e = cc
-subset_other (subset w bs) way len e = refl
+subset_other : (o : Outcome) (s : Subsetted) → Ok s ≡ answer_of o → unsupported o ≡ false
+subset_other (refused k) s e = cc
+subset_other (subset way bs) s e = refl
 
 -- ---- the two calls
 
 module _ (font name keep rec : List ℕ) (flag : ℕ) where
   -- the same outcome under another keying
-  cuts_as : (cid cid' : Bool) (work out work' out' : List ℕ) (r : Answer)
+  cuts_as : (cid cid' : Bool) (work out work' out' : List ℕ) (r : Result Subsetted Refusal)
       → cut_of cid false font name keep rec flag (length work) (length out) ≡ cut_of cid' false font name keep rec flag (length work) (length out)
       → Cuts cid false font name keep rec flag work out work' out' r → Cuts cid' false font name keep rec flag work out work' out' r
   cuts_as cid cid' work out work' out' r e c = record {
@@ -51,11 +56,11 @@ module _ (font name keep rec : List ℕ) (flag : ℕ) where
     codes = subst (λ (o : Outcome). KeepsCodes false font keep o) e c.codes;
   }
 
-  abbrev by_keying : List ℕ → List ℕ → List ℕ → List ℕ → Answer → Type 0
+  abbrev by_keying : List ℕ → List ℕ → List ℕ → List ℕ → Result Subsetted Refusal → Type 0
   by_keying work out work' out' r = Cuts (keying (read_font font)) false font name keep rec flag work out work' out' r
 
   -- the first call is not refused with 3
-  first_is : (work out work' out' : List ℕ) (r : Answer)
+  first_is : (work out work' out' : List ℕ) (r : Result Subsetted Refusal)
       → unsupported (cut_of false false font name keep rec flag (length work) (length out)) ≡ false
       → Cuts false false font name keep rec flag work out work' out' r → by_keying work out work' out' r
   first_is work out work' out' r e c =
@@ -65,25 +70,25 @@ module _ (font name keep rec : List ℕ) (flag : ℕ) where
       (sym (ap (λ (t : Bool). pick t (cut_of true false font name keep rec flag n m) (cut_of false false font name keep rec flag n m)) e)
       ∙ cut-by-keying name keep rec flag n m font) c
 
-  pub first_refused : (work out work' out' : List ℕ) (a : Answer) (n : ℕ) → Cuts false false font name keep rec flag work out work' out' a → a ≡ Refused n → (n ≡ 3 → ⊥)
-      → by_keying work out work' out' (Refused n)
+  pub first_refused : (work out work' out' : List ℕ) (a : Result Subsetted Refusal) (n : Refusal) → Cuts false false font name keep rec flag work out work' out' a → a ≡ Err n → is_three n ≡ false
+      → by_keying work out work' out' (Err n)
   first_refused work out work' out' a n c e h =
-      let d = subst (λ (x : Answer). Cuts false false font name keep rec flag work out work' out' x) e c in
-      first_is work out work' out' (Refused n) (not_three (cut_of false false font name keep rec flag (length work) (length out)) n d.answers h) d
+      let d = subst (λ (x : Result Subsetted Refusal). Cuts false false font name keep rec flag work out work' out' x) e c in
+      first_is work out work' out' (Err n) (refused_other (cut_of false false font name keep rec flag (length work) (length out)) n false d.answers h) d
 
-  pub first-subset : (work out work' out' : List ℕ) (a : Answer) (way len : ℕ) → Cuts false false font name keep rec flag work out work' out' a → a ≡ Subset way len
-      → by_keying work out work' out' (Subset way len)
-  first-subset work out work' out' a way len c e =
-      let d = subst (λ (x : Answer). Cuts false false font name keep rec flag work out work' out' x) e c in
-      first_is work out work' out' (Subset way len) (subset_other (cut_of false false font name keep rec flag (length work) (length out)) way len d.answers) d
+  pub first-subset : (work out work' out' : List ℕ) (a : Result Subsetted Refusal) (s : Subsetted) → Cuts false false font name keep rec flag work out work' out' a → a ≡ Ok s
+      → by_keying work out work' out' (Ok s)
+  first-subset work out work' out' a s c e =
+      let d = subst (λ (x : Result Subsetted Refusal). Cuts false false font name keep rec flag work out work' out' x) e c in
+      first_is work out work' out' (Ok s) (subset_other (cut_of false false font name keep rec flag (length work) (length out)) s d.answers) d
 
   -- the first call is refused with 3, and has left all as it was
-  pub second-cuts : (work out work₁ out₁ work' out' : List ℕ) (a r : Answer) (n : ℕ) → Cuts false false font name keep rec flag work out work₁ out₁ a → a ≡ Refused n
-      → n ≡ 3 → Cuts true false font name keep rec flag work₁ out₁ work' out' r → by_keying work out work' out' r
+  pub second-cuts : (work out work₁ out₁ work' out' : List ℕ) (a r : Result Subsetted Refusal) (n : Refusal) → Cuts false false font name keep rec flag work out work₁ out₁ a → a ≡ Err n
+      → is_three n ≡ true → Cuts true false font name keep rec flag work₁ out₁ work' out' r → by_keying work out work' out' r
   second-cuts work out work₁ out₁ work' out' a r n c e h s =
       let k = length work in
       let m = length out in
-      let o : cut_of false false font name keep rec flag k m ≡ refused 3 = three (cut_of false false font name keep rec flag k m) n (sym e ∙ c.answers) h in
+      let o : cut_of false false font name keep rec flag k m ≡ refused Unsupported = sym (three _ (refused_other (cut_of false false font name keep rec flag k m) n true (sym e ∙ c.answers) h)) in
       let w : work₁ ≡ work = c.words ∙ ap (λ (x : Outcome). leaves_work x (work_in work_size (read_font font)) work) o in
       let u : out₁ ≡ out = c.output ∙ ap (λ (x : Outcome). leaves_out x out) o in
       let t : Cuts true false font name keep rec flag work out₁ work' out' r = subst (λ (l : List ℕ). Cuts true false font name keep rec flag l out₁ work' out' r) w s in
@@ -94,21 +99,19 @@ module _ (font name keep rec : List ℕ) (flag : ℕ) where
 
 -- ---- what is printed of an answer
 
-pub refused_told : (a : Answer) (n : ℕ) (out : List ℕ) → a ≡ Refused n → printed (refused n) ≡ printed (outcome_in a out)
-refused_told a n out e = sym (ap (λ (x : Answer). printed (outcome_in x out)) e)
+pub refused_told : (a : Result Subsetted Refusal) (n : Refusal) (k : ℕ) (out : List ℕ) → a ≡ Err n → k ≡ number_of n → refusal_line k ≡ printed (outcome_in a out)
+unfolding printed
+refused_told a n k out e f = ap refusal_line f ∙ sym (ap (λ (x : Result Subsetted Refusal). printed (outcome_in x out)) e)
 
-pub subset-told : (a : Answer) (way len : ℕ) (out : List ℕ) → a ≡ Subset way len → printed (subset way (take len out)) ≡ printed (outcome_in a out)
-subset-told a way len out e = sym (ap (λ (x : Answer). printed (outcome_in x out)) e)
-
-pub subset-within : (a : Answer) (way len : ℕ) (out : List ℕ) → a ≡ Subset way len → length_in a ≤ length out → len ≤ length out
-subset-within a way len out e h = subst (λ (x : Answer). length_in x ≤ length out) e h
+pub subset-within : (a : Result Subsetted Refusal) (s : Subsetted) (out : List ℕ) → a ≡ Ok s → length_in a ≤ length out → s.len ≤ length out
+subset-within a s out e h = subst (λ (x : Result Subsetted Refusal). length_in x ≤ length out) e h
 
 -- room for three bytes for each of the output and 12 more is enough
-pub subset-room : (a : Answer) (way len : ℕ) (out : List ℕ) (room : ℕ) → a ≡ Subset way len → length_in a ≤ length out → 3 * length out + 12 ≤ room
-    → length (printed (subset way (take len out))) ≤ room
-subset-room a way len out room e h k =
-    let w = subset-within a way len out e h in
-    omega (arith, k, w, printed-length way (take len out), length-take-le len out w)
+pub subset-room : (a : Result Subsetted Refusal) (s : Subsetted) (out : List ℕ) (room : ℕ) → a ≡ Ok s → length_in a ≤ length out → 3 * length out + 12 ≤ room
+    → length (printed (subset s.way (take s.len out))) ≤ room
+subset-room a s out room e h k =
+    let w = subset-within a s out e h in
+    omega (arith, k, w, printed-length s.way (take s.len out), length-take-le s.len out w)
 
 -- ---- the answer and the output of a call
 
@@ -122,20 +125,20 @@ unfolding put
 answer-told (refused n) out = refl
 answer-told (subset way bs) out = ap (subset way) (take-append_seam bs (drop (0 + length bs) out))
 
-module _ (cid : Bool) (font name keep rec : List ℕ) (flag : ℕ) (work out work' out' : List ℕ) (r : Answer) (c : Cuts cid false font name keep rec flag work out work' out' r) where
+module _ (cid : Bool) (font name keep rec : List ℕ) (flag : ℕ) (work out work' out' : List ℕ) (r : Result Subsetted Refusal) (c : Cuts cid false font name keep rec flag work out work' out' r) where
   abbrev outcome : Outcome
   outcome = cut_of cid false font name keep rec flag (length work) (length out)
 
   -- the subset is within the output
   pub cuts-within : length_in r ≤ length out'
   cuts-within =
-      subst (λ (a : Answer). length_in a ≤ length out') (sym c.answers)
+      subst (λ (a : Result Subsetted Refusal). length_in a ≤ length out') (sym c.answers)
       (subst (λ (l : List ℕ). length_in (answer_of outcome) ≤ length l) (sym c.output) (answer-within outcome out))
 
   -- answer and output tell the outcome
   pub cuts-told : (n m : ℕ) → n ≡ length work → m ≡ length out → printed (outcome_in r out') ≡ printed (cut_of cid false font name keep rec flag n m)
   cuts-told n m e f =
-      ap (λ (a : Answer). printed (outcome_in a out')) c.answers
+      ap (λ (a : Result Subsetted Refusal). printed (outcome_in a out')) c.answers
       ∙ ap (λ (l : List ℕ). printed (outcome_in (answer_of outcome) l)) c.output
       ∙ ap printed (answer-told outcome out)
       ∙ ap (λ (i : ℕ). printed (cut_of cid false font name keep rec flag i (length out))) (sym e)
@@ -201,7 +204,7 @@ module _ (font name keep rec : List ℕ) (r : Option Parts) where
       (front_is m font s.font a h.font_is) (front_is n name s.name b h.name_is) (front_is k keep s.keep c h.keep_is)
       (front_is l rec s.rec d h.rec_is) f
 
-  read_other : (o : Option Sheet) → Reads o font name keep rec r → r ≡ None → printed (refused 0) ≡ answer_to o
+  read_other : (o : Option Sheet) → Reads o font name keep rec r → r ≡ None → refusal_line 0 ≡ answer_to o
   unfolding Reads answer_to
   read_other None h e = refl
   read_other (Some s) h e =
@@ -219,6 +222,6 @@ module _ (font name keep rec : List ℕ) (r : Option Parts) where
   unfolding cut_sheet
   taken-cut text m n k l flag h e = read-cut (sheet_of text) m n k l flag h e
 
-  pub other_cut : (text : List ℕ) → Reads (sheet_of text) font name keep rec r → r ≡ None → printed (refused 0) ≡ cut_sheet text
+  pub other_cut : (text : List ℕ) → Reads (sheet_of text) font name keep rec r → r ≡ None → refusal_line 0 ≡ cut_sheet text
   unfolding cut_sheet
   other_cut text h e = read_other (sheet_of text) h e

@@ -10,7 +10,8 @@ ghost use Rattle.sheet.specs.Sheet.{keying, printed, cut_sheet};
 ghost use Rattle.sheet.specs.Taking.{Took};
 ghost use Rattle.sheet_cut.specs.Cutting.{length_in, outcome_in, Given};
 
-use outcome::Answer;
+use outcome::Subsetted;
+use refusal::Refusal;
 use sheet::printing::{put_refused, put_subset};
 use write::{subset, subset_cid};
 
@@ -23,30 +24,30 @@ pub fn cut_by_keying(
     traced: u8,
     work: &mut [u32],
     out: &mut [u8],
-) -> Answer
+) -> Result<Subsetted, Refusal>
     ensures { Cuts (keying (read_font font.now)) false font.now name.now keep.now rows.now traced
         work.old out.old work.new out.new result }
 {
     let first = subset(font, name, keep, rows, traced, false, &mut *work, &mut *out);
     match first {
-        Answer::Refused(n) => {
-            if n == 3 {
+        Err(e) => {
+            if e == Refusal::Unsupported {
                 return subset_cid(font, name, keep, rows, traced, work, out);
             }
-            Answer::Refused(n)
+            Err(e)
         }
-        Answer::Subset { way, len } => Answer::Subset { way, len },
+        Ok(c) => Ok(c),
     }
 }
 
 // Writes what is printed of an answer, whose subset is in front of out, to the start of page; returns its length.
-fn put_answer(answer: Answer, out: &[u8], page: &mut [u8]) -> usize
+fn put_answer(answer: Result<Subsetted, Refusal>, out: &[u8], page: &mut [u8]) -> usize
     requires { (length_in answer ≤ length out.now) × (3 * length out.now + 12 ≤ length page.old) }
     ensures { Wrote page.old 0 (printed (outcome_in answer out.now)) page.new result }
 {
     match answer {
-        Answer::Refused(n) => put_refused(n, page),
-        Answer::Subset { way, len } => put_subset(way, &out[..len], page),
+        Err(e) => put_refused(e.number(), page),
+        Ok(c) => put_subset(c.way, &out[..c.len], page),
     }
 }
 

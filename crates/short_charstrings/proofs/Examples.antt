@@ -10,6 +10,7 @@ use Rattle.short_charstrings.specs.NextLaws.{never}
 use Rattle.short_charstrings.specs.AllShort.{Steps, Among, AllShort}
 use Rattle.short_charstrings.specs.AllShortLaws.{all_short, steps_end}
 use Rattle.short_charstrings.specs.Tokens.{EndsOnce, short-tokens}
+use Rattle.refusal.specs.declared.Refusal.TheVariants.{Malformed}
 
 -- endchar alone, behind one number, and behind an operator
 end_alone : is_short (0x0e ∷ []) ≡ true
@@ -89,7 +90,7 @@ first-of-three : next_of (0xf6 ∷ 0x0e ∷ []) ≡ next (0x01 ∷ 0x01 ∷ 0x0e
 unfolding next_of first_from_lem candidate place_of is_short ends all_below unfold_glyph run_body walk step_at operator_at leave but target_of number_at rounded keep24
 first-of-three = refl
 
-not_one : next_of (0x00 ∷ 0x0e ∷ []) ≡ refused 2
+not_one : next_of (0x00 ∷ 0x0e ∷ []) ≡ refused Malformed
 unfolding next_of first_from_lem candidate place_of is_short ends all_below unfold_glyph run_body walk step_at operator_at leave but target_of number_at rounded keep24
 not_one = refl
 

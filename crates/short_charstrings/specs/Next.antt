@@ -1,18 +1,16 @@
 -- The next short charstring (document 02, Wish 13: 'Given one of them, or nothing, the answer is the next, or that none is left. Bytes that are not
 -- such a charstring are refused with 2'), as the code finds it: what ends in endchar, tried one after the other. NextLaws `next_is` says what it is.
-use Rattle.std.specs.Prelude.{ℕ, zero, suc, ◌+◌, ◌-◌, ◌*◌, ◌/◌, ◌%◌, ◌<◌, ◌≡◌, Bool, true, false, List, [], ◌∷◌, ltb, eqb, length, get_or}
+use Rattle.std.specs.Prelude.{ℕ, zero, suc, ◌+◌, ◌-◌, ◌*◌, ◌/◌, ◌%◌, ◌<◌, ◌≡◌, Bool, true, false, List, [], ◌∷◌, ltb, length, get_or, Result, Ok, Err, Option, Some, None}
 use Rattle.octets.specs.Pick.{pick}
 use Rattle.octets.specs.Octets.{put}
 use Rattle.short_charstrings.specs.Short.{is_short, comes_before}
-use Rattle.short_charstrings.specs.declared.Place.{Place}
-use Rattle.short_charstrings.specs.declared.Place.TheVariants.{Refused as RefusedPlace, Behind, At}
-use Rattle.short_charstrings.specs.declared.NextAs.{NextAs}
-use Rattle.short_charstrings.specs.declared.NextAs.TheVariants.{Refused, NoneLeft, Next}
+use Rattle.refusal.specs.declared.Refusal.{Refusal}
+use Rattle.refusal.specs.declared.Refusal.TheVariants.{Malformed, Output}
 
 -- ---- what the answer is
 
 pub data Answer : Type 0 where
-  refused : ℕ → Answer
+  refused : Refusal → Answer
   none_left : Answer
   next : List ℕ → Answer
 
@@ -29,7 +27,7 @@ pub record Least (s t : List ℕ) : Type 0 where
 
 -- what document 02 asks of the answer
 abbrev pub IsNext : List ℕ → Answer → Type 0
-IsNext s (refused n) = (may_be_given s ≡ false) × (n ≡ 2)
+IsNext s (refused e) = (may_be_given s ≡ false) × (e ≡ Malformed)
 IsNext s none_left = (may_be_given s ≡ true) × ((u : List ℕ) → is_short u ≡ true → comes_before s u ≡ false)
 IsNext s (next t) = (may_be_given s ≡ true) × Least s t
 
@@ -74,55 +72,56 @@ answer_at nowhere = none_left
 answer_at (found k) = next (candidate k)
 
 unfoldable pub next_of : List ℕ → Answer
-next_of s = pick (may_be_given s) (answer_at (first_from_lem (candidates - start_of s) (start_of s))) (refused 2)
+next_of s = pick (may_be_given s) (answer_at (first_from_lem (candidates - start_of s) (start_of s))) (refused Malformed)
 
 -- ---- what the calls answer, and leave in what is lent
 
 -- the place of the next
-abbrev pub found_place : Found → Place
-found_place nowhere = Behind
-found_place (found k) = At k
+abbrev pub found_place : Found → Option ℕ
+found_place nowhere = None
+found_place (found k) = Some k
 
-unfoldable pub place_next : List ℕ → Place
-place_next s = pick (may_be_given s) (found_place (first_from_lem (candidates - start_of s) (start_of s))) (RefusedPlace 2)
+unfoldable pub place_next : List ℕ → Result (Option ℕ) Refusal
+place_next s = pick (may_be_given s) (Ok (found_place (first_from_lem (candidates - start_of s) (start_of s)))) (Err Malformed)
 
-abbrev pub PlaceFits : Place → Type 0
-PlaceFits (RefusedPlace n) = n ≡ 2
-PlaceFits Behind = Unit
-PlaceFits (At k) = k < candidates
+abbrev pub PlaceFits : Result (Option ℕ) Refusal → Type 0
+PlaceFits (Err e) = e ≡ Malformed
+PlaceFits (Ok None) = Unit
+PlaceFits (Ok (Some k)) = k < candidates
 
--- too little room is fewer bytes than the next has: 11
-abbrev pub answer_as : Answer → ℕ → NextAs
-answer_as (refused n) room = Refused n
-answer_as none_left room = NoneLeft
-answer_as (next t) room = pick (ltb room (length t)) (Refused 11) (Next (length t))
+-- too little room is fewer bytes than the next has
+abbrev pub answer_as : Answer → ℕ → Result (Option ℕ) Refusal
+answer_as (refused e) room = Err e
+answer_as none_left room = Ok None
+answer_as (next t) room = pick (ltb room (length t)) (Err Output) (Ok (Some (length t)))
 
 abbrev pub leaves : Answer → List ℕ → List ℕ
-leaves (refused n) out = out
+leaves (refused e) out = out
 leaves none_left out = out
 leaves (next t) out = pick (ltb (length out) (length t)) out (put out 0 t)
 
 -- a call's answer, and what was lent to it before and after
-pub record Answers (a : Answer) (out out' : List ℕ) (r : NextAs) : Type 0 where
+pub record Answers (a : Answer) (out out' : List ℕ) (r : Result (Option ℕ) Refusal) : Type 0 where
   pub answer : r ≡ answer_as a (length out)
   pub output : out' ≡ leaves a out
 
--- for C: the bytes and their count, 0 where none is left; 11 where there is no room for the bytes or for the count
+-- for C: the bytes and their count, 0 where none is left; refused where there is no room for the bytes or for the count
 abbrev pub bytes_of : Answer → List ℕ
-bytes_of (refused n) = []
+bytes_of (refused e) = []
 bytes_of none_left = []
 bytes_of (next t) = t
 
-abbrev pub number_for : Answer → ℕ → ℕ → ℕ
-number_for (refused n) bytes words = n
-number_for none_left bytes words = pick (ltb words 1) 11 0
-number_for (next t) bytes words = pick (ltb bytes (length t)) 11 (pick (ltb words 1) 11 0)
+abbrev pub gives_as : Answer → ℕ → ℕ → Result Unit Refusal
+gives_as (refused e) bytes words = Err e
+gives_as none_left bytes words = pick (ltb words 1) (Err Output) (Ok tt)
+gives_as (next t) bytes words = pick (ltb bytes (length t)) (Err Output) (pick (ltb words 1) (Err Output) (Ok tt))
 
--- a lent slice after the call: ws goes into its front where the number is 0
-abbrev pub written_if : ℕ → List ℕ → List ℕ → List ℕ
-written_if r old ws = pick (eqb r 0) (put old 0 ws) old
+-- a lent slice after the call: ws goes into its front where the call is not refused
+abbrev pub written_if : Result Unit Refusal → List ℕ → List ℕ → List ℕ
+written_if (Err e) old ws = old
+written_if (Ok u) old ws = put old 0 ws
 
-pub record Gives (a : Answer) (out out' size size' : List ℕ) (r : ℕ) : Type 0 where
-  pub number : r ≡ number_for a (length out) (length size)
+pub record Gives (a : Answer) (out out' size size' : List ℕ) (r : Result Unit Refusal) : Type 0 where
+  pub answer : r ≡ gives_as a (length out) (length size)
   pub bytes : out' ≡ written_if r out (bytes_of a)
   pub count : size' ≡ written_if r size (length (bytes_of a) ∷ [])

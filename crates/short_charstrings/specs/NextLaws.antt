@@ -7,6 +7,7 @@ use Rattle.octets.specs.PickLaws.{not_true}
 use Rattle.short_charstrings.specs.Short.{is_short, comes_before}
 use Rattle.short_charstrings.specs.Next.{refused, may_be_given, IsNext, candidates, candidate, place_of, Found, nowhere, found, first_from_lem, start_of, answer_at, next_of}
 use Rattle.short_charstrings.specs.OrderLaws.{Ending, ending, place-back, place-fits, before-place, before-nothing, candidate-ends}
+use Rattle.refusal.specs.declared.Refusal.TheVariants.{Malformed}
 
 pub never : true ≡ false → ⊥
 never e = let z : ◌≡◌ {A = ℕ} 1 0 = ap (λ (t : Bool). pick t 1 0) e in omega (arith, z)
@@ -107,7 +108,7 @@ pub next_is : (s : List ℕ) → IsNext s (next_of s)
 unfolding next_of
 next_is s = by (may_be_given s) refl
   where
-    by : (t : Bool) → may_be_given s ≡ t → IsNext s (pick t (answer_at (first_from_lem (candidates - start_of s) (start_of s))) (refused 2))
+    by : (t : Bool) → may_be_given s ≡ t → IsNext s (pick t (answer_at (first_from_lem (candidates - start_of s) (start_of s))) (refused Malformed))
     by true e =
         let f = start_fits s e in
         answered s e (first_from_lem (candidates - start_of s) (start_of s)) (finds (candidates - start_of s) (start_of s) (omega (arith, f)))

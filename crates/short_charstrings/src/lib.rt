@@ -2,7 +2,7 @@
 // What ends in endchar is counted upward, and each is run.
 #![tactic(auto)]
 
-ghost use Rattle.std.specs.Prelude.{◌≡◌, ◌-◌, ◌≤◌, ◌<◌, length};
+ghost use Rattle.std.specs.Prelude.{◌≡◌, ◌-◌, ◌≤◌, ◌<◌, length, Ok};
 ghost use Rattle.octets.specs.Octets.{Wrote};
 ghost use Rattle.short_charstrings.specs.Short.{ends, is_short};
 ghost use Rattle.short_charstrings.specs.Next.{candidate, candidates, place_of, first_from_lem, found_place, place_next, PlaceFits, next_of, Answers, Gives};
@@ -13,22 +13,6 @@ use refusal::Refusal;
 
 // All of 1 to 4 bytes that end in endchar.
 const CANDIDATES: usize = 16843009;
-
-// Where the next charstring stands among them: a refusal, behind all, or its place.
-#[derive(Clone, Copy)]
-pub enum Place {
-    Refused(u8),
-    Behind,
-    At(usize),
-}
-
-// What a call answers: a refusal, that none is left, or the length of the next charstring.
-#[derive(Clone, Copy)]
-pub enum NextAs {
-    Refused(u8),
-    NoneLeft,
-    Next(usize),
-}
 
 // Whether an endchar runs in a charstring that has no subroutines.
 fn ends(code: &[u8]) -> bool
@@ -140,73 +124,71 @@ fn place_of(code: &[u8]) -> usize
 }
 
 // The first short one from the k-th on, or that there is none.
-fn first_from(k: usize) -> Place
+fn first_from(k: usize) -> Option<usize>
     requires { k ≤ candidates }
-    ensures { (result ≡ found_place (first_from_lem (candidates - k) k)) × PlaceFits result }
+    ensures { (result ≡ found_place (first_from_lem (candidates - k) k)) × PlaceFits (Ok result) }
 {
     let mut code = [0u8; 4];
     for at in k..CANDIDATES {
         let n = put_candidate(&mut code, at);
         if is_short(&code[..n]) {
-            return Place::At(at);
+            return Some(at);
         }
     }
-    Place::Behind
+    None
 }
 
-// Where the next charstring stands: behind what is given, a short one or nothing.
-fn place_next(code: &[u8]) -> Place
+// Where the next charstring stands behind what is given, a short one or nothing; or that there is none.
+fn place_next(code: &[u8]) -> Result<Option<usize>, Refusal>
     ensures { (result ≡ place_next code.now) × PlaceFits result }
 {
     if code.len() < 1 {
-        return first_from(0);
+        return Ok(first_from(0));
     }
     if is_short(code) {
-        return first_from(place_of(code) + 1);
+        return Ok(first_from(place_of(code) + 1));
     }
-    Place::Refused(Refusal::MALFORMED)
+    Err(Refusal::Malformed)
 }
 
 // The next short charstring behind a short one, or behind nothing, written to the start of out: its length, or that none is left. What is not
-// one of them is refused with 2, and then less room than the next one has bytes with 11.
-pub fn next_charstring(code: &[u8], out: &mut [u8]) -> NextAs
+// one of them is refused as malformed, and then less room than the next one has bytes for the output.
+pub fn next_charstring(code: &[u8], out: &mut [u8]) -> Result<Option<usize>, Refusal>
     ensures { Answers (next_of code.now) out.old out.new result }
 {
-    match place_next(code) {
-        Place::Refused(n) => NextAs::Refused(n),
-        Place::Behind => NextAs::NoneLeft,
-        Place::At(k) => {
+    match place_next(code)? {
+        None => Ok(None),
+        Some(k) => {
             if out.len() < size_of(k) {
-                return NextAs::Refused(Refusal::OUTPUT);
+                return Err(Refusal::Output);
             }
-            NextAs::Next(put_candidate(out, k))
+            Ok(Some(put_candidate(out, k)))
         }
     }
 }
 
 // The same for C: the length goes to the lent words, 0 where none is left.
-pub fn give_next(code: &[u8], out: &mut [u8], size: &mut [u64]) -> u8
+pub fn give_next(code: &[u8], out: &mut [u8], size: &mut [u64]) -> Result<(), Refusal>
     ensures { Gives (next_of code.now) out.old out.new size.old size.new result }
 {
-    match place_next(code) {
-        Place::Refused(n) => n,
-        Place::Behind => {
+    match place_next(code)? {
+        None => {
             if size.len() < 1 {
-                return Refusal::OUTPUT;
+                return Err(Refusal::Output);
             }
             size[0] = 0;
-            0
+            Ok(())
         }
-        Place::At(k) => {
+        Some(k) => {
             if out.len() < size_of(k) {
-                return Refusal::OUTPUT;
+                return Err(Refusal::Output);
             }
             if size.len() < 1 {
-                return Refusal::OUTPUT;
+                return Err(Refusal::Output);
             }
             let n = put_candidate(out, k);
             size[0] = n as u64;
-            0
+            Ok(())
         }
     }
 }

@@ -1,5 +1,5 @@
 -- Laws of the walk: what is still to come, counted and hashed on from here, gives what all of them give.
-use Rattle.std.specs.Prelude.{ℕ, ◌+◌, ◌*◌, ◌≤◌, ◌<◌, ◌≡◌, refl, Bool, true, false, eqb, length, take, drop, get_or}
+use Rattle.std.specs.Prelude.{ℕ, ◌+◌, ◌*◌, ◌≤◌, ◌<◌, ◌≡◌, refl, Bool, true, false, eqb, length, take, drop, get_or, None, Option, Some, Result, Ok, Err}
 use Rattle.std.proofs.Common.{sym, ◌∙◌, subst, arith, add-one, le-ltb, eqb-true, length-set, drop-cons, get_or-set_same, get_or-set_other}
 use Rattle.std.proofs.Math.Path.{ap}
 use mathlib.Core.List.{List, []}
@@ -9,12 +9,12 @@ use Rattle.octets.specs.Pick.{pick}
 use Rattle.octets.specs.Octets.{put}
 use Rattle.octets.specs.ListLaws.{zeros-at}
 use Rattle.octets.specs.PutLaws.{take_put, put-length}
+use Rattle.refusal.specs.declared.Refusal.{Refusal}
+use Rattle.refusal.specs.declared.Refusal.TheVariants.{Output}
 use Rattle.short_charstrings.specs.Next.{Answer, none_left, next, candidates, start_of, next_of, answer_as, leaves, Answers}
 use Rattle.short_charstrings.specs.AnswerLaws.{short-size}
 use Rattle.short_charstrings.specs.AllShort.{Steps, done, step}
 use Rattle.short_charstrings.specs.AllShortLaws.{step-short, step-on, steps_end}
-use Rattle.short_charstrings.specs.declared.NextAs.{NextAs}
-use Rattle.short_charstrings.specs.declared.NextAs.TheVariants.{Refused, NoneLeft, Next}
 use Rattle.short_count.specs.Count.{fnv, fnv_over, fnv_all, one_more, tally, zeros, Walked}
 
 -- ---- the bytes of one
@@ -79,30 +79,30 @@ pub record On (c s : List ℕ) (h : ℕ) (out' : List ℕ) (k : ℕ) : Type 0 wh
   pub rises : start_of s < start_of (take k out')
 
 -- a call where there is room: none left, or the next
-module _ (c s : List ℕ) (h : ℕ) (g : Going c s h) (out out' : List ℕ) (room : length out ≡ 4) (r : NextAs) (a : Answers (next_of s) out out' r) where
-  abbrev answered : Answer → NextAs
+module _ (c s : List ℕ) (h : ℕ) (g : Going c s h) (out out' : List ℕ) (room : length out ≡ 4) (r : Result (Option ℕ) Refusal) (a : Answers (next_of s) out out' r) where
+  abbrev answered : Answer → Result (Option ℕ) Refusal
   answered b = answer_as b (length out)
 
   -- what each answer looks like
-  abbrev kind : NextAs → ℕ
-  kind (Refused n) = 0
-  kind NoneLeft = 1
-  kind (Next n) = 2
+  abbrev kind : Result (Option ℕ) Refusal → ℕ
+  kind (Err n) = 0
+  kind (Ok None) = 1
+  kind (Ok (Some n)) = 2
 
-  abbrev size_of : NextAs → ℕ
-  size_of (Refused n) = 0
-  size_of NoneLeft = 0
-  size_of (Next n) = n
+  abbrev size_of : Result (Option ℕ) Refusal → ℕ
+  size_of (Err n) = 0
+  size_of (Ok None) = 0
+  size_of (Ok (Some n)) = n
 
   said : (b : Answer) → next_of s ≡ b → r ≡ answered b
   said b e = a.answer ∙ ap answered e
 
-  said_next : (t : List ℕ) → next_of s ≡ next t → r ≡ Next (length t)
+  said_next : (t : List ℕ) → next_of s ≡ next t → r ≡ Ok (Some (length t))
   said_next t e =
       let k = short-size t (step-short s t e) in
-      said (next t) e ∙ ap (λ (q : Bool). pick q (Refused 11) (Next (length t))) (le-ltb (length out) (length t) (omega (arith, k, room)))
+      said (next t) e ∙ ap (λ (q : Bool). pick q (Err Output) (Ok (Some (length t)))) (le-ltb (length out) (length t) (omega (arith, k, room)))
 
-  pub walk_ends : (q : NextAs) → r ≡ q → kind q < 2 → Walked c h
+  pub walk_ends : (q : Result (Option ℕ) Refusal) → r ≡ q → kind q < 2 → Walked c h
   unfolding tally fnv_all
   walk_ends q f k = by g.steps g.counted g.hashed
     where
@@ -110,7 +110,7 @@ module _ (c s : List ℕ) (h : ℕ) (g : Going c s h) (out out' : List ℕ) (roo
       by (done e) x y = record { all = whole; steps = steps_end.1; counted = x; hashed = y }
       by (step t {ts} e o) x y = let z : kind q ≡ 2 = ap kind (sym f ∙ said_next t e) in absurd (omega (arith, z, k))
 
-  pub walk-on : (k : ℕ) → r ≡ Next k → On c s h out' k
+  pub walk-on : (k : ℕ) → r ≡ Ok (Some k) → On c s h out' k
   unfolding tally fnv_all
   walk-on k f = by g.steps g.counted g.hashed
     where
@@ -135,7 +135,7 @@ module _ (c s : List ℕ) (h : ℕ) (g : Going c s h) (out out' : List ℕ) (roo
           omega (arith, p, q, u, l)
 
       by : {us : List (List ℕ)} → Steps s us → tally c us ≡ tally zeros whole → fnv_all h us ≡ fnv_all 2166136261 whole → On c s h out' k
-      by (done e) x y = let z : kind (Next k) ≡ 1 = ap kind (sym f ∙ said none_left e) in absurd (omega (arith, z))
+      by (done e) x y = let z : kind (Ok (Some k)) ≡ 1 = ap kind (sym f ∙ said none_left e) in absurd (omega (arith, z))
       by (step t {ts} e o) x y =
           let i : k ≡ length t = ap size_of (sym f ∙ said_next t e) in
           let w = taken t e i in

@@ -5,7 +5,6 @@
 ghost use Rattle.std.specs.Prelude.{◌≡◌};
 ghost use Rattle.short_count.specs.Count.{fnv, fnv_over, zeros, Walked};
 
-use short_charstrings::NextAs;
 use std::io;
 
 // One byte more.
@@ -34,9 +33,9 @@ fn walk_all(counts: &mut [u64]) -> u32
     loop {
         let mut next = [0u8; 4];
         match short_charstrings::next_charstring(&code[..n], &mut next) {
-            NextAs::Refused(_) => return hash,
-            NextAs::NoneLeft => return hash,
-            NextAs::Next(k) => {
+            Err(_) => return hash,
+            Ok(None) => return hash,
+            Ok(Some(k)) => {
                 code = next;
                 n = k;
                 counts[0] += 1;

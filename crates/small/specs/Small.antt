@@ -1,8 +1,8 @@
 -- Big fonts on the small server (document 02, Wish 10): a subset call whose work slice is one bit per glyph, rounded up to words, beside the bits
 -- of Wish 7. Proved in Theorem.
-use Rattle.std.specs.Prelude.{ℕ, ◌+◌, ◌≤◌, ◌≡◌, Bool, List, length}
+use Rattle.std.specs.Prelude.{ℕ, ◌+◌, ◌≤◌, ◌≡◌, Bool, List, length, Ok}
 use Rattle.bits.specs.Bits.{words_for}
-use Rattle.cff.specs.Font.{got, Program, read_font}
+use Rattle.cff.specs.Font.{Program, read_font}
 use Rattle.cff.specs.Find.{locals_words, work_size}
 use Rattle.subset.specs.Cut.{Outcome, cut_of, cut_with}
 
@@ -16,7 +16,7 @@ cut_small cid ask font name keep rec flag words room = cut_with small_size cid a
 
 -- words that are enough for what a call asks for; a font that reading refuses asks for none
 abbrev pub Enough : (Program → ℕ) → List ℕ → ℕ → Type 0
-Enough size font words = (p : Program) → read_font font ≡ got p → size p ≤ words
+Enough size font words = (p : Program) → read_font font ≡ Ok p → size p ≤ words
 
 -- on every input, with work words lent to each that are enough for its own W, number, way, length and bytes are those of the larger call
 abbrev pub SameAsLarge : Type 0

@@ -12,14 +12,14 @@ use std::cmp::Ordering;
 
 pub mod table;
 
-// Whether two texts are equal.
+// Whether two texts are equal: `==`, by the definition that the callers' laws have of it.
 pub fn same_text(a: &[u8], b: &[u8]) -> bool
     ensures { result ≡ same_text_lem a.now b.now }
 {
     a == b
 }
 
-// How a stands to b in byte order; of two texts that go alike as far as the shorter goes, the shorter is less.
+// How a stands to b in byte order: `cmp`, by the definition that the callers' laws have of it. Of two texts that go alike as far as the shorter goes, the shorter is less.
 pub fn order_of(a: &[u8], b: &[u8]) -> Ordering
     ensures { result ≡ order_of a.now b.now }
 {

@@ -26,6 +26,8 @@ use Rattle.subset.specs.Subset.{named_bytes, copied_bytes, private_parts, font_d
 use Rattle.subset.specs.Cut.{Outcome, subset, all_found_lem, written, cut_read, cut_with, cut_of}
 use Rattle.subset.specs.CidFont.{cid_font, cid_program, reads, reach, reach-rows, wrong_reach, wrong-rows}
 use Rattle.subset.specs.BodiesExample.{used, order, renumbered_bodies, unrenumbered_bodies, bodies-renumbered, bodies-stubbed, bodies-copied}
+use Rattle.subset.specs.declared.Way.{Way}
+use Rattle.subset.specs.declared.Way.TheVariants.{Renumbered, Stubbed, Copied}
 
 -- the call, with a record and a flag
 abbrev pub cut : List ℕ → ℕ → Outcome
@@ -101,7 +103,7 @@ unfolding cut_with all_below all_found_lem glyph_with_id is_in those placed sort
 cut-written rec flag fine = ap (λ g. cut_read work_size true false g (0x41 ∷ []) (1 ∷ 3 ∷ 4 ∷ []) rec flag 8192 32768) reads ∙ rw fine
 
 -- what is written of the renumbered bodies
-written-renumbered : written_of (record { way = 0; bodies = renumbered_bodies }) ≡ subset 0 renumbered_bytes
+written-renumbered : written_of (record { way = Renumbered; bodies = renumbered_bodies }) ≡ subset Renumbered renumbered_bytes
 unfolding
     subset_bytes subset_by_cid new_fds cids_of font_dicts private_parts copied_bytes named_bytes texts_of named_entries new_id place_in own_strings_lem has_text is_in those fds_of new_fd
     string_text standard_string standard_strings sid_of sid_in codes same_text_lem standard_names charset_bytes id_bytes select.changes select.entry_bytes select.fd_select_bytes
@@ -110,7 +112,7 @@ unfolding
 written-renumbered = refl
 
 -- and of the others, whatever the way and the byte
-written_unrenumbered : (way unreached : ℕ) → written_of (record { way = way; bodies = unrenumbered_bodies unreached }) ≡ subset way (unrenumbered_bytes unreached)
+written_unrenumbered : (way : Way) (unreached : ℕ) → written_of (record { way = way; bodies = unrenumbered_bodies unreached }) ≡ subset way (unrenumbered_bytes unreached)
 unfolding
     subset_bytes subset_by_cid new_fds cids_of font_dicts private_parts copied_bytes named_bytes texts_of named_entries new_id place_in own_strings_lem has_text is_in those fds_of new_fd
     string_text standard_string standard_strings sid_of sid_in codes same_text_lem standard_names charset_bytes id_bytes select.changes select.entry_bytes select.fd_select_bytes
@@ -138,18 +140,18 @@ unfolding rows_of rows_from
 none_rows = refl
 
 -- the reached subroutines alone, with new numbers
-pub renumbers : cut reach 1 ≡ subset 0 renumbered_bytes
+pub renumbers : cut reach 1 ≡ subset Renumbered renumbered_bytes
 renumbers =
     cut-written reach 1 fine_reach ∙ ap (λ rs. written_of (pruned cid_program rs used order 1)) reach-rows ∙ ap (λ q. written_of q) bodies-renumbered ∙ written-renumbered
 
 -- a recorded number without a subroutine: each unreached subroutine is a return
-pub stubs : cut wrong_reach 1 ≡ subset 1 (unrenumbered_bytes 0x0b)
+pub stubs : cut wrong_reach 1 ≡ subset Stubbed (unrenumbered_bytes 0x0b)
 stubs =
     cut-written wrong_reach 1 fine_wrong ∙ ap (λ rs. written_of (pruned cid_program rs used order 1)) wrong-rows ∙ ap (λ q. written_of q) bodies-stubbed
-    ∙ written_unrenumbered 1 0x0b
+    ∙ written_unrenumbered Stubbed 0x0b
 
 -- glyphs that could not be traced: all as it was
-pub copies : cut [] 0 ≡ subset 2 (unrenumbered_bytes 0x0e)
+pub copies : cut [] 0 ≡ subset Copied (unrenumbered_bytes 0x0e)
 copies =
     cut-written [] 0 fine_none ∙ ap (λ rs. written_of (pruned cid_program rs used order 0)) none_rows ∙ ap (λ q. written_of q) bodies-copied
-    ∙ written_unrenumbered 2 0x0e
+    ∙ written_unrenumbered Copied 0x0e

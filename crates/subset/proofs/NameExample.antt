@@ -1,7 +1,7 @@
 -- A name-keyed font cut (document 01, 'Layout' and 'Corners in write.rs'), byte for byte: its three glyphs under the name N, way 0. The
 -- bytes expected are those of the Rust's subset. Of the font's two strings A is a standard one, id 34, and Qx names a glyph and is the
 -- FullName. Of four local subroutines the second and the fourth are reached, by glyphs 1 and 2; the fourth calls the second.
-use Rattle.std.specs.Prelude.{ℕ, ◌≡◌, refl, true, false, List, [], ◌∷◌}
+use Rattle.std.specs.Prelude.{ℕ, ◌≡◌, refl, true, false, List, [], ◌∷◌, Ok}
 use Rattle.std.proofs.Common.{ap, ◌∙◌, arith}
 use Rattle.octets.specs.Octets.{be, num_at, bytes_of}
 use Rattle.octets.specs.Lists.{all_below, joined}
@@ -30,7 +30,7 @@ use Rattle.unfold.specs.Unfold.{Row, local, entered}
 use Rattle.record.specs.Record.{rows_from, rows_of, rows_fine_lem, record_fine, lists, given_in, disagrees, two_lengths_lem}
 use Rattle.prune.specs.Renumber.{renumber, renumber_charstring}
 use Rattle.opentype.specs.Opentype.{place_of}
-use Rattle.cff.specs.Font.{got, standard, Program, charset, char_strings, read_table, read_font, set_at, fonts_at, font_at, name_parts, ids_at, private_at, private_data, locals_at, coding_at, encoding_got}
+use Rattle.cff.specs.Font.{standard, Program, charset, char_strings, read_table, read_font, set_at, fonts_at, font_at, name_parts, ids_at, private_at, private_data, locals_at, coding_at, encoding_got}
 use Rattle.cff.specs.Find.{work_size, locals_words}
 use Rattle.subset.specs.Kept.{is_in, those, fds_of}
 use Rattle.bits.specs.Bits.{count_below}
@@ -40,6 +40,7 @@ use Rattle.subset.specs.Codes.{none}
 use Rattle.subset.specs.Subset.{named_bytes, copied_bytes, new_ids, subset_by_name, subset_bytes}
 use Rattle.subset.specs.Cut.{Outcome, subset, all_found_lem, written, cut_read, cut_with, cut_of}
 use Rattle.subset.specs.ReachedLaws.{numbers_below, lists-past, count_past}
+use Rattle.subset.specs.declared.Way.TheVariants.{Renumbered}
 
 -- the font's bytes
 abbrev pub name_font : List ℕ
@@ -88,7 +89,7 @@ name_program =
     }
 
 -- and that reading gives it
-pub reads : read_font name_font ≡ got name_program
+pub reads : read_font name_font ≡ Ok name_program
 unfolding
     read_font read_table place_of set_at fonts_at font_at name_parts ids_at private_at private_data locals_at coding_at encoding_got read_index told items_of pieces index_at table_at data_at judged run_of offsets
     num_at be dict_of gathered readings_at readings_from entry_at entry_from token_at operator_at number_at real_at normal stripped zeros zeros_of trunc_of last_of last_from
@@ -151,7 +152,7 @@ renumbered_bodies =
     }
 
 -- way 0
-bodies-renumbered : pruned name_program reach_rows (0 ∷ []) (0 ∷ 1 ∷ 2 ∷ []) 1 ≡ record { way = 0; bodies = renumbered_bodies }
+bodies-renumbered : pruned name_program reach_rows (0 ∷ []) (0 ∷ 1 ∷ 2 ∷ []) 1 ≡ record { way = Renumbered; bodies = renumbered_bodies }
 unfolding
     pruned renumbered renumbered_subrs renumbered_body each those lists given_in two_lengths_lem disagrees renumber_charstring renumber encode t2.number_at t2.keep24
     t2.rounded t2e.number_bytes t2e.integer_bytes t2e.fixed_bytes tok.tokens_of tok.tokens_from tok.token_at bytes_of num_at be
@@ -197,7 +198,7 @@ renumbered_bytes =
     ∷ 0x8d ∷ 0x14 ∷ 0x1d ∷ 0x00 ∷ 0x00 ∷ 0x00 ∷ 0x08 ∷ 0x13 ∷ 0x00 ∷ 0x02 ∷ 0x01 ∷ 0x01 ∷ 0x04 ∷ 0x07 ∷ 0x8d ∷ 0x16 ∷ 0x0b ∷ 0x20 ∷ 0x0a ∷ 0x0b ∷ []
 
 -- what is written of the renumbered bodies
-written-renumbered : written_of (record { way = 0; bodies = renumbered_bodies }) ≡ subset 0 renumbered_bytes
+written-renumbered : written_of (record { way = Renumbered; bodies = renumbered_bodies }) ≡ subset Renumbered renumbered_bytes
 unfolding
     subset_bytes subset_by_name new_ids copied_bytes named_bytes names_of texts_of named_entries new_id place_in own_strings_lem has_text string_text standard_string standard_strings sid_of
     sid_in codes same_text_lem standard_names charset_bytes id_bytes op_bytes_lem operands_bytes entry_bytes entries_bytes offset_entry copied_entry private_entry without last_of last_from trunc_of normal
@@ -205,7 +206,7 @@ unfolding
 written-renumbered = refl
 
 -- the whole call
-pub renumbers : cut reach 1 ≡ subset 0 renumbered_bytes
+pub renumbers : cut reach 1 ≡ subset Renumbered renumbered_bytes
 renumbers =
     cut-written reach 1 fine_reach ∙ ap (λ rs. written_of (pruned name_program rs (0 ∷ []) (0 ∷ 1 ∷ 2 ∷ []) 1)) reach-rows ∙ ap (λ q. written_of q) bodies-renumbered
     ∙ written-renumbered

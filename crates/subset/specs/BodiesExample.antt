@@ -15,6 +15,7 @@ use Rattle.bits.specs.Bits.{count_below}
 use Rattle.subset.specs.Pruned.{Bodies, reached, global_set, local_set, each, renumbered_body, renumbered_subrs, stubbed_from, mapped, renumbered, stubbed, copied, pruned}
 use Rattle.subset.specs.ReachedLaws.{numbers_below, lists-past, count_past}
 use Rattle.subset.specs.CidFont.{cid_program, reach_rows, wrong_rows}
+use Rattle.subset.specs.declared.Way.TheVariants.{Renumbered, Stubbed, Copied}
 
 -- the FDs in use
 abbrev pub used : List ℕ
@@ -84,18 +85,18 @@ unrenumbered_bodies unreached =
     }
 
 -- way 0
-pub bodies-renumbered : pruned cid_program reach_rows used order 1 ≡ record { way = 0; bodies = renumbered_bodies }
+pub bodies-renumbered : pruned cid_program reach_rows used order 1 ≡ record { way = Renumbered; bodies = renumbered_bodies }
 unfolding
     pruned renumbered renumbered_subrs renumbered_body each those lists given_in two_lengths_lem disagrees renumber_charstring renumber encode number_at keep24 rounded
     number_bytes integer_bytes fixed_bytes tokens_of tokens_from token_at bytes_of num_at be
 bodies-renumbered = simp (few-reached, below_two, below_one)
 
 -- way 1, a return for each unreached subroutine
-pub bodies-stubbed : pruned cid_program wrong_rows used order 1 ≡ record { way = 1; bodies = unrenumbered_bodies 0x0b }
+pub bodies-stubbed : pruned cid_program wrong_rows used order 1 ≡ record { way = Stubbed; bodies = unrenumbered_bodies 0x0b }
 unfolding pruned renumbered renumbered_subrs stubbed stubbed_from mapped lists
 bodies-stubbed = simp (few_wrong, wrong_three, wrong_two)
 
 -- way 2, each as it was
-pub bodies-copied : pruned cid_program [] used order 0 ≡ record { way = 2; bodies = unrenumbered_bodies 0x0e }
+pub bodies-copied : pruned cid_program [] used order 0 ≡ record { way = Copied; bodies = unrenumbered_bodies 0x0e }
 unfolding pruned copied mapped
 bodies-copied = refl

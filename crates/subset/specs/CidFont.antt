@@ -1,7 +1,7 @@
 -- A CID-keyed font for worked examples, its bytes and what reading gives. It has three FDs, of which 0 and 2 have glyphs, and CIDs that do
 -- not rise with the glyphs. Glyphs 1 and 3 each declare a stem and call the second local subroutine of their FD. That of FD 2 holds a mask;
 -- that of FD 0 calls the second global one, which holds a mask. Glyph 2 calls the first local subroutine of FD 2.
-use Rattle.std.specs.Prelude.{ℕ, ◌≡◌, refl, List, [], ◌∷◌, ◌++◌}
+use Rattle.std.specs.Prelude.{ℕ, ◌≡◌, refl, List, [], ◌∷◌, ◌++◌, Ok}
 use Rattle.octets.specs.Octets.{be, num_at}
 use Rattle.octets.specs.Lists.{all_below}
 use Rattle.index.specs.Index.{offsets, run_of, judged, data_at, table_at, index_at, pieces, items_of, told, read_index}
@@ -18,7 +18,7 @@ use Rattle.charset.specs.FdSelect as select
 use Rattle.unfold.specs.Unfold.{Row, local, global, entered, masked}
 use Rattle.record.specs.Record.{rows_from, rows_of}
 use Rattle.opentype.specs.Opentype.{place_of}
-use Rattle.cff.specs.Font.{standard, got, Program, charset, char_strings, fd_array, fd_select_lem, read_table, read_font, set_at, fonts_at, font_at, cid_parts, fds_at, ids_at, dicts_at, privates_at, private_at, private_data, locals_at, empty_private}
+use Rattle.cff.specs.Font.{standard, Program, charset, char_strings, fd_array, fd_select_lem, read_table, read_font, set_at, fonts_at, font_at, cid_parts, fds_at, ids_at, dicts_at, privates_at, private_at, private_data, locals_at, empty_private}
 
 -- the font's bytes
 abbrev pub cid_font : List ℕ
@@ -90,7 +90,7 @@ cid_program =
     }
 
 -- and that reading gives it
-pub reads : read_font cid_font ≡ got cid_program
+pub reads : read_font cid_font ≡ Ok cid_program
 unfolding
     read_font read_table place_of set_at fonts_at font_at cid_parts fds_at ids_at privates_at private_at private_data locals_at read_index told items_of pieces index_at table_at data_at judged run_of
     offsets num_at be dict_of gathered readings_at readings_from entry_at entry_from token_at operator_at number_at real_at normal stripped zeros zeros_of trunc_of last_of

@@ -1,34 +1,35 @@
 -- The outcome of a subset call (document 01, 'Entries and their refusals'): the refusals in their order, or the way and the bytes; and what
 -- a call leaves in the output and in the work words.
-use Rattle.std.specs.Prelude.{ℕ, zero, suc, Bool, true, false, not, List, [], ◌∷◌, ◌++◌, ltb, eqb, length, drop, get_or, None, Option, Some}
+use Rattle.std.specs.Prelude.{ℕ, zero, suc, Bool, true, false, not, List, [], ◌∷◌, ◌++◌, ltb, eqb, length, drop, get_or, None, Option, Some, Result, Ok, Err}
 use Rattle.octets.specs.Pick.{pick}
 use Rattle.octets.specs.Octets.{put}
 use Rattle.octets.specs.Lists.{all_below}
 use Rattle.dict.specs.Lookup.{ros_in, cid_keyed, stroked_in}
 use Rattle.dict.specs.declared.RosEntry.{RosEntry}
 use Rattle.record.specs.Record.{rows_of, record_fine}
-use Rattle.cff.specs.Font.{Got, refused as refusedFont, got, Coding, standard, expert, custom, Program, read_font}
+use Rattle.cff.specs.Font.{Coding, standard, expert, custom, Program, read_font}
 use Rattle.cff.specs.Find.{work_size, find_name, find_cid}
-use Rattle.cff.specs.declared.FoundAs.{FoundAs}
-use Rattle.cff.specs.declared.FoundAs.TheVariants.{Refused, Absent, Glyph}
+use Rattle.subset.specs.declared.Way.{Way}
 use Rattle.subset.specs.Kept.{kept_of, written_order, used_fds}
 use Rattle.subset.specs.Texts.{name_of}
 use Rattle.subset.specs.Pruned.{Pruned, pruned}
 use Rattle.subset.specs.Codes.{Coded, coded_if, pair_count}
 use Rattle.subset.specs.Subset.{own_by_name, own_by_cid, subset_bytes}
+use Rattle.refusal.specs.Refusal.{number_of}
+use Rattle.refusal.specs.declared.Refusal.{Refusal}
+use Rattle.refusal.specs.declared.Refusal.TheVariants.{Malformed, Unsupported, TooLong, NoSuchNumber, NotFound, BadRecord, Work, Subset, Output, StringId, Pairs}
 
--- a refusal's number, or the way and the subset
+-- a refusal, or the way and the subset
 pub data Outcome : Type 0 where
-  refused : ℕ → Outcome
-  subset : ℕ → List ℕ → Outcome
+  refused : Refusal → Outcome
+  subset : Way → List ℕ → Outcome
 
 -- ---- tests
 
 -- finding gives glyph g
-abbrev pub is_glyph : ℕ → FoundAs → Bool
-is_glyph g (Refused n) = false
-is_glyph g Absent = false
-is_glyph g (Glyph h) = eqb h g
+abbrev pub is_glyph : ℕ → Option ℕ → Bool
+is_glyph g None = false
+is_glyph g (Some h) = eqb h g
 
 -- finding a glyph's own name or CID gives that glyph
 abbrev pub is_found : Program → ℕ → Bool
@@ -55,10 +56,10 @@ own_of p order = pick (cid_keyed p.top) (own_by_cid p) (own_by_name p order)
 -- from 9 passed on: 12 a string id above 64,999, 13 more than 255 pairs, 10 a subset above 67,108,864 bytes, 11 above the room
 abbrev pub written : Program → Coded → List ℕ → List ℕ → List ℕ → ℕ → Pruned → Outcome
 written p coded name kept order room q =
-    pick (ltb 64609 (length (own_of p order))) (refused 12)
-    (pick (ltb 255 (pair_count coded)) (refused 13)
-    (pick (ltb 67108864 (length (subset_bytes p coded name kept order q.bodies))) (refused 10)
-    (pick (ltb room (length (subset_bytes p coded name kept order q.bodies))) (refused 11)
+    pick (ltb 64609 (length (own_of p order))) (refused StringId)
+    (pick (ltb 255 (pair_count coded)) (refused Pairs)
+    (pick (ltb 67108864 (length (subset_bytes p coded name kept order q.bodies))) (refused Subset)
+    (pick (ltb room (length (subset_bytes p coded name kept order q.bodies))) (refused Output)
     (subset q.way (subset_bytes p coded name kept order q.bodies)))))
 
 -- the Expert encoding is unsupported where no encoding is asked for, as it is in the Rust; and a stroked font always
@@ -77,19 +78,19 @@ cut_program size cid ask p name keep rec flag words room =
     let kept = kept_of (length p.charstrings) keep in
     let order = written_order p kept in
     pick (same_bool_lem cid (cid_keyed p.top))
-    (pick (unsupported_in ask p) (refused 3)
+    (pick (unsupported_in ask p) (refused Unsupported)
     (pick (pick cid (has_ros_lem (ros_in p.top)) true)
-    (pick (ltb 65535 (length name)) (refused 4)
+    (pick (ltb 65535 (length name)) (refused TooLong)
     (pick (all_below (length p.charstrings) keep)
     (pick (all_found_lem p kept)
     (pick (record_fine cid rec flag)
-    (pick (ltb words (size p)) (refused 9)
+    (pick (ltb words (size p)) (refused Work)
     (written p (coded_if ask p kept (own_of p order)) name kept order room (pruned p (rows_of rec) (used_fds p kept) order flag)))
-    (refused 8)) (refused 7)) (refused 6))) (refused 2))) (refused 3)
+    (refused BadRecord)) (refused NotFound)) (refused NoSuchNumber))) (refused Malformed))) (refused Unsupported)
 
-abbrev pub cut_read : (Program → ℕ) → Bool → Bool → Got Program → List ℕ → List ℕ → List ℕ → ℕ → ℕ → ℕ → Outcome
-cut_read size cid ask (refusedFont n) name keep rec flag words room = refused n
-cut_read size cid ask (got p) name keep rec flag words room = cut_program size cid ask p name keep rec flag words room
+abbrev pub cut_read : (Program → ℕ) → Bool → Bool → Result Program Refusal → List ℕ → List ℕ → List ℕ → ℕ → ℕ → ℕ → Outcome
+cut_read size cid ask (Err n) name keep rec flag words room = refused n
+cut_read size cid ask (Ok p) name keep rec flag words room = cut_program size cid ask p name keep rec flag words room
 
 -- a call: how many work words it asks for, the keying asked for, whether the encoding is, the font, the new name, the kept numbers, the record,
 -- the flag, how many words and how much room are lent
@@ -113,7 +114,7 @@ zeros (suc n) = 0 ∷ zeros n
 
 -- the work words: the first W end as zeros from 9 passed on (refusals 10 to 13 and a subset; 14 and 15 are tested before), the others stay
 abbrev pub uses_work : Outcome → Bool
-uses_work (refused n) = pick (ltb 9 n) (ltb n 14) false
+uses_work (refused n) = pick (ltb 9 (number_of n)) (ltb (number_of n) 14) false
 uses_work (subset way bs) = true
 
 abbrev pub leaves_work : Outcome → ℕ → List ℕ → List ℕ

@@ -33,6 +33,7 @@ use Rattle.subset.specs.Pruned.{each, renumbered_body, renumbered_subrs, renumbe
 use Rattle.subset.specs.Texts.{has_text, own_strings_lem, place_in, new_id, named_entries, texts_of, names_of}
 use Rattle.subset.specs.Subset.{named_bytes, copied_bytes, new_ids, subset_by_name, subset_bytes}
 use Rattle.subset.specs.Cut.{subset, all_found_lem, cut_with, cut_of}
+use Rattle.subset.specs.declared.Way.TheVariants.{Renumbered}
 
 abbrev pub sheet : List ℕ
 sheet =
@@ -47,7 +48,7 @@ sheet_subset =
     ∷ 0x1d ∷ 0x00 ∷ 0x00 ∷ 0x00 ∷ 0x35 ∷ 0x12 ∷ 0x00 ∷ 0x00 ∷ 0x00 ∷ 0x00 ∷ 0x00 ∷ 0x00 ∷ 0x01 ∷ 0x00 ∷ 0x02 ∷ 0x01
     ∷ 0x01 ∷ 0x02 ∷ 0x03 ∷ 0x0e ∷ 0x0e ∷ []
 
-pub the_sheet : cut_of false false sheet (0x41 ∷ []) (1 ∷ []) [] 1 8192 32768 ≡ subset 0 sheet_subset
+pub the_sheet : cut_of false false sheet (0x41 ∷ []) (1 ∷ []) [] 1 8192 32768 ≡ subset Renumbered sheet_subset
 unfolding
     cut_with all_below all_found_lem subset_bytes subset_by_name new_ids named_bytes copied_bytes names_of texts_of named_entries new_id place_in own_strings_lem has_text pruned renumbered
     renumbered_subrs renumbered_body each count_below those is_in fds_of record_fine rows_fine_lem rows_of rows_from lists given_in two_lengths_lem disagrees renumber_charstring renumber

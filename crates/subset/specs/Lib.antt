@@ -1,4 +1,6 @@
 pub mod Kept
+pub mod Way
+pub mod Flag
 pub mod Pruned
 pub mod Texts
 pub mod Codes

@@ -10,6 +10,8 @@ use Rattle.prune.specs.Renumber.{operand_of, Calls, renumber_charstring}
 use Rattle.record.specs.Record.{lists, given_in, two_lengths_lem}
 use Rattle.cff.specs.Font.{Program}
 use Rattle.subset.specs.Kept.{those, locals_of}
+use Rattle.subset.specs.declared.Way.{Way}
+use Rattle.subset.specs.declared.Way.TheVariants.{Renumbered, Stubbed, Copied}
 
 -- the global subroutines, the local ones of each FD in use, and the charstrings as they are written
 pub record Bodies : Type 0 where
@@ -99,16 +101,16 @@ stubbed p rows used order =
 unfoldable pub copied : Program → List ℕ → List ℕ → Bodies
 copied p used order = record { globals = p.globals; locals = mapped (locals_of p) used; charstrings = charstrings_of p order }
 
--- ---- the way: 0 renumbered, 1 stubbed where that fails, 2 copied where the glyphs could not be traced
+-- ---- the way: renumbered, stubbed where that fails, copied where the glyphs could not be traced
 
 pub record Pruned : Type 0 where
-  pub way : ℕ
+  pub way : Way
   pub bodies : Bodies
 
 abbrev pub or_stubbed : Option Bodies → Bodies → Pruned
-or_stubbed None s = record { way = 1; bodies = s }
-or_stubbed (Some b) s = record { way = 0; bodies = b }
+or_stubbed None s = record { way = Stubbed; bodies = s }
+or_stubbed (Some b) s = record { way = Renumbered; bodies = b }
 
 unfoldable pub pruned : Program → List Row → List ℕ → List ℕ → ℕ → Pruned
 pruned p rows used order flag =
-    pick (eqb flag 0) (record { way = 2; bodies = copied p used order }) (or_stubbed (renumbered p rows used order) (stubbed p rows used order))
+    pick (eqb flag 0) (record { way = Copied; bodies = copied p used order }) (or_stubbed (renumbered p rows used order) (stubbed p rows used order))

@@ -21,7 +21,6 @@ use Rattle.dict.specs.Lookup.{last_from, last_of}
 use Rattle.dict_write.specs.Written.{copied_entry, op_bytes_lem, operands_bytes, entries_bytes, offset_entry, private_entry, without}
 use Rattle.charset.specs.Listed.{list_of}
 use Rattle.charset.specs.CharsetBytes.{id_bytes, charset_bytes}
-use Rattle.charset.specs.FdSelectBytes as select
 use Rattle.strings.specs.Table.{standard_names}
 use Rattle.strings.specs.Text.{codes, same_text_lem}
 use Rattle.strings.specs.Strings.{string_text, standard_string, standard_strings, sid_in, sid_of}
@@ -37,6 +36,8 @@ use Rattle.subset.specs.Pruned.{each, renumbered_body, renumbered_subrs, renumbe
 use Rattle.subset.specs.Texts.{has_text, own_strings_lem, place_in, new_id, named_entries, texts_of, names_of}
 use Rattle.subset.specs.Subset.{named_bytes, copied_bytes, new_ids, subset_by_name, subset_bytes}
 use Rattle.subset.specs.Cut.{Outcome, refused, subset, all_found_lem, cut_with, cut_of}
+use Rattle.refusal.specs.declared.Refusal.TheVariants.{Malformed, Unsupported}
+use Rattle.subset.specs.declared.Way.TheVariants.{Renumbered}
 
 -- ---- name-keyed
 
@@ -58,7 +59,7 @@ by_name_lem es = cut_of false false (name_font es) (0x41 ∷ []) [] [] 1 8192 32
 -- its subset, without either entry
 abbrev pub name_subset : Outcome
 name_subset =
-    subset 0
+    subset Renumbered
     (0x01 ∷ 0x00 ∷ 0x04 ∷ 0x01 ∷ 0x00 ∷ 0x01 ∷ 0x01 ∷ 0x01 ∷ 0x02 ∷ 0x41 ∷ 0x00 ∷ 0x01 ∷ 0x01 ∷ 0x01 ∷ 0x18 ∷ 0x1d
     ∷ 0x00 ∷ 0x00 ∷ 0x00 ∷ 0x2a ∷ 0x0f ∷ 0x1d ∷ 0x00 ∷ 0x00 ∷ 0x00 ∷ 0x2b ∷ 0x11 ∷ 0x1d ∷ 0x00 ∷ 0x00 ∷ 0x00 ∷ 0x00
     ∷ 0x1d ∷ 0x00 ∷ 0x00 ∷ 0x00 ∷ 0x30 ∷ 0x12 ∷ 0x00 ∷ 0x00 ∷ 0x00 ∷ 0x00 ∷ 0x00 ∷ 0x00 ∷ 0x01 ∷ 0x01 ∷ 0x01 ∷ 0x01
@@ -66,10 +67,10 @@ name_subset =
 
 -- PaintType 1, 0.5 and -1; the last of 0 and 1
 name_stroked :
-    (by_name_lem (0x8c ∷ 0x0c ∷ 0x05 ∷ []) ≡ refused 3)
-    × (by_name_lem (0x1e ∷ 0x0a ∷ 0x5f ∷ 0x0c ∷ 0x05 ∷ []) ≡ refused 3)
-    × (by_name_lem (0x8a ∷ 0x0c ∷ 0x05 ∷ []) ≡ refused 3)
-    × (by_name_lem (0x8b ∷ 0x0c ∷ 0x05 ∷ 0x8c ∷ 0x0c ∷ 0x05 ∷ []) ≡ refused 3)
+    (by_name_lem (0x8c ∷ 0x0c ∷ 0x05 ∷ []) ≡ refused Unsupported)
+    × (by_name_lem (0x1e ∷ 0x0a ∷ 0x5f ∷ 0x0c ∷ 0x05 ∷ []) ≡ refused Unsupported)
+    × (by_name_lem (0x8a ∷ 0x0c ∷ 0x05 ∷ []) ≡ refused Unsupported)
+    × (by_name_lem (0x8b ∷ 0x0c ∷ 0x05 ∷ 0x8c ∷ 0x0c ∷ 0x05 ∷ []) ≡ refused Unsupported)
 unfolding
     cut_with last_of last_from trunc_of normal stripped zeros zeros_of nibbles text_of exp_digits exponent mantissa form_of value_of read_index told items_of pieces index_at table_at
     data_at judged run_of offsets num_at be dec.number_at dec.real_at dict.dict_of dict.gathered dict.readings_at dict.readings_from dict.entry_at dict.entry_from
@@ -112,7 +113,7 @@ bad_ros es = cut_of true false (cid_font [] es) (0x41 ∷ []) [] [] 1 8192 32768
 -- its subset, without either entry
 abbrev pub cid_subset : Outcome
 cid_subset =
-    subset 0
+    subset Renumbered
     (0x01 ∷ 0x00 ∷ 0x04 ∷ 0x01 ∷ 0x00 ∷ 0x01 ∷ 0x01 ∷ 0x01 ∷ 0x02 ∷ 0x41 ∷ 0x00 ∷ 0x01 ∷ 0x01 ∷ 0x01 ∷ 0x25 ∷ 0x8b
     ∷ 0x8b ∷ 0x8b ∷ 0x0c ∷ 0x1e ∷ 0x1c ∷ 0x22 ∷ 0x10 ∷ 0x0c ∷ 0x22 ∷ 0x1d ∷ 0x00 ∷ 0x00 ∷ 0x00 ∷ 0x37 ∷ 0x0f ∷ 0x1d
     ∷ 0x00 ∷ 0x00 ∷ 0x00 ∷ 0x38 ∷ 0x0c ∷ 0x25 ∷ 0x1d ∷ 0x00 ∷ 0x00 ∷ 0x00 ∷ 0x40 ∷ 0x11 ∷ 0x1d ∷ 0x00 ∷ 0x00 ∷ 0x00
@@ -122,10 +123,10 @@ cid_subset =
 
 -- PaintType 1, also where the ROS is bad: 3 comes before 2. With PaintType 0, or of two operands, a bad ROS is 2
 cid_stroked :
-    (by_cid (0x8c ∷ 0x0c ∷ 0x05 ∷ []) ≡ refused 3)
-    × (bad_ros (0x8c ∷ 0x0c ∷ 0x05 ∷ []) ≡ refused 3)
-    × (bad_ros (0x8b ∷ 0x0c ∷ 0x05 ∷ []) ≡ refused 2)
-    × (bad_ros (0x8c ∷ 0x8c ∷ 0x0c ∷ 0x05 ∷ []) ≡ refused 2)
+    (by_cid (0x8c ∷ 0x0c ∷ 0x05 ∷ []) ≡ refused Unsupported)
+    × (bad_ros (0x8c ∷ 0x0c ∷ 0x05 ∷ []) ≡ refused Unsupported)
+    × (bad_ros (0x8b ∷ 0x0c ∷ 0x05 ∷ []) ≡ refused Malformed)
+    × (bad_ros (0x8c ∷ 0x8c ∷ 0x0c ∷ 0x05 ∷ []) ≡ refused Malformed)
 unfolding
     cut_with all_below last_of last_from trunc_of normal stripped zeros zeros_of read_index told items_of pieces index_at table_at data_at judged run_of offsets num_at be dec.number_at
     dec.real_at dict.dict_of dict.gathered dict.readings_at dict.readings_from dict.entry_at dict.entry_from dict.operator_at dict.token_at font.read_font font.read_table place_of font.set_at

@@ -1,2 +1,46 @@
-// The subset (write.rs): the definitions of specs/. The code is in `kept` to `write`.
+// The subset (write.rs): the definitions of specs/, and the way in which it has its bodies. The other code is in `kept` to `write`.
 #![tactic(auto)]
+
+ghost use Rattle.std.specs.Prelude.{◌≡◌};
+ghost use Rattle.subset.specs.Way.{is_renumbered, is_stubbed, way_number};
+
+// How a subset has its bodies: renumbered, stubbed where that fails, or copied where the glyphs could not be traced.
+#[derive(Clone, Copy, PartialEq, Eq)]
+pub enum Way {
+    Renumbered,
+    Stubbed,
+    Copied,
+}
+
+impl Way {
+    pub fn is_renumbered(self) -> bool
+        ensures { result ≡ is_renumbered self }
+    {
+        match self {
+            Way::Renumbered => true,
+            Way::Stubbed => false,
+            Way::Copied => false,
+        }
+    }
+
+    pub fn is_stubbed(self) -> bool
+        ensures { result ≡ is_stubbed self }
+    {
+        match self {
+            Way::Renumbered => false,
+            Way::Stubbed => true,
+            Way::Copied => false,
+        }
+    }
+
+    // Its number in an answer (document 01).
+    pub fn number(self) -> u8
+        ensures { result ≡ way_number self }
+    {
+        match self {
+            Way::Renumbered => 0,
+            Way::Stubbed => 1,
+            Way::Copied => 2,
+        }
+    }
+}

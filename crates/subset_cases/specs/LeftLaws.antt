@@ -1,5 +1,5 @@
 -- Laws of what a call leaves: by the turns of the tests, by the code's ways out, and that a call which keeps its contract is judged by its outcome.
-use Rattle.std.specs.Prelude.{ℕ, zero, suc, ◌+◌, ◌≤◌, ◌<◌, ◌≡◌, refl, Bool, true, false, List, [], ◌∷◌, ◌++◌, ltb, length, take, drop, get_or, replicate, None, Some}
+use Rattle.std.specs.Prelude.{ℕ, zero, suc, ◌+◌, ◌≤◌, ◌<◌, ◌≡◌, refl, Bool, true, false, List, [], ◌∷◌, ◌++◌, ltb, length, take, drop, get_or, replicate, None, Some, Result, Ok, Err}
 use Rattle.std.proofs.Math.Path.{sym, ap}
 use Rattle.std.proofs.Common.{◌∙◌, not-suc-le-zero, le_of_suc-le-suc, arith, length-append, drop_of_length-le, eq-eqb, ne_eqb, lt-ltb, le-ltb}
 use Rattle.std.proofs.lemmas.List.{length-replicate}
@@ -7,17 +7,18 @@ use Rattle.std.proofs.Math.Seq.{take-append_seam, drop-append_seam}
 use Rattle.octets.specs.Pick.{pick}
 use Rattle.octets.specs.Octets.{put}
 use Rattle.octets.specs.PutLaws.{put_is}
+use Rattle.refusal.specs.Refusal.{number_of}
+use Rattle.refusal.specs.declared.Refusal.{Refusal}
 use Rattle.kept.specs.MarkLaws.{ahead}
-use Rattle.cff.specs.Font.{Got, refused as refusedFont, got, Program, read_font}
+use Rattle.cff.specs.Font.{Program, read_font}
 use Rattle.cff.specs.Find.{read_as, work_size}
-use Rattle.cff.specs.declared.ReadAs.{ReadAs}
-use Rattle.cff.specs.declared.ReadAs.TheVariants.{Refused as RefusedRead, Font}
+use Rattle.cff.specs.declared.Counts.{Counts}
 use Rattle.subset.specs.Cut.{Outcome, refused, subset, cut_of, zeros, leaves_out, leaves_work}
-use Rattle.outcome.specs.Entry.{answer_of, work_in, Cuts}
-use Rattle.outcome.specs.declared.Answer.{Answer}
-use Rattle.outcome.specs.declared.Answer.TheVariants.{Refused, Subset}
+use Rattle.outcome.specs.Entry.{a_cut, answer_of, work_in, Cuts}
+use Rattle.outcome.specs.declared.Subsetted.{Subsetted}
 use Rattle.subset_cases.specs.Left.{lent_word, lent_byte, zeroed, words_left_lem, bytes_left_lem, refused_bytes, subset_bytes, answer_bytes, judged}
 use Rattle.subset_cases.specs.SubsetCases.{outcome_bytes}
+use Rattle.subset.specs.Way.{way_number}
 
 -- ---- the tests, turn by turn
 
@@ -57,18 +58,23 @@ module _ (found : List ℕ) (i : ℕ) where
 
 -- ---- the code's ways out
 
-pub zeroed-early : (n w : ℕ) → n < 10 → zeroed (Refused n) w ≡ 0
-zeroed-early n w h = let k : n ≤ 9 = omega arith in rw (le-ltb 9 n k)
+module _ (x : Refusal) (n : ℕ) (e : n ≡ number_of x) (w : ℕ) where
+  -- by the number
+  zeroed_by : zeroed (Err x) w ≡ pick (pick (ltb 9 n) (ltb n 14) false) w 0
+  zeroed_by = ap (λ (k : ℕ). pick (pick (ltb 9 k) (ltb k 14) false) w 0) (sym e)
 
-module _ (n w : ℕ) (h : 10 ≤ n) where
-  past_nine : ltb 9 n ≡ true
-  past_nine = lt-ltb 9 n (omega arith)
+  pub zeroed-early : n < 10 → zeroed (Err x) w ≡ 0
+  zeroed-early h = let k : n ≤ 9 = omega arith in zeroed_by ∙ rw (le-ltb 9 n k)
 
-  pub zeroed_late : n < 14 → zeroed (Refused n) w ≡ w
-  zeroed_late k = rw (past_nine, lt-ltb n 14 k)
+  module _ (h : 10 ≤ n) where
+    past_nine : ltb 9 n ≡ true
+    past_nine = lt-ltb 9 n (omega arith)
 
-  pub zeroed-before : 14 ≤ n → zeroed (Refused n) w ≡ 0
-  zeroed-before k = rw (past_nine, le-ltb n 14 k)
+    pub zeroed_late : n < 14 → zeroed (Err x) w ≡ w
+    zeroed_late k = zeroed_by ∙ rw (past_nine, lt-ltb n 14 k)
+
+    pub zeroed-before : 14 ≤ n → zeroed (Err x) w ≡ 0
+    zeroed-before k = zeroed_by ∙ rw (past_nine, le-ltb n 14 k)
 
 pub refused_kept : (n : ℕ) (out : List ℕ) → bytes_left_lem out ≡ true → refused_bytes n out ≡ Some (n ∷ [])
 unfolding refused_bytes
@@ -92,7 +98,7 @@ module _ (way len : ℕ) (out : List ℕ) where
     unfolding subset_bytes
     subset-changed e = rw (le-ltb (length out) len h, e)
 
-module _ (r : Answer) (w : ℕ) (work out : List ℕ) (k : ℕ) (z : k ≡ zeroed r w) where
+module _ (r : Result Subsetted Refusal) (w : ℕ) (work out : List ℕ) (k : ℕ) (z : k ≡ zeroed r w) where
   pub judged-kept : words_left_lem 0 k work ≡ true → judged r w work out ≡ answer_bytes r out
   unfolding judged
   judged-kept e = ap (λ (b : Bool). pick b (answer_bytes r out) None) (ap (λ (j : ℕ). words_left_lem 0 j work) (sym z) ∙ e)
@@ -102,13 +108,13 @@ module _ (r : Answer) (w : ℕ) (work out : List ℕ) (k : ℕ) (z : k ≡ zeroe
   judged-changed e = ap (λ (b : Bool). pick b (answer_bytes r out) None) (ap (λ (j : ℕ). words_left_lem 0 j work) (sym z) ∙ e)
 
 -- W by what reading answers
-abbrev pub work_read : ReadAs → ℕ
-work_read (RefusedRead n) = 0
-work_read (Font c) = c.work
+abbrev pub work_read : Result Counts Refusal → ℕ
+work_read (Err n) = 0
+work_read (Ok c) = c.work
 
-pub work-read : (g : Got Program) (r : ReadAs) → r ≡ read_as g → work_read r ≡ work_in work_size g
-work-read (refusedFont n) r e = ap work_read e
-work-read (got p) r e = ap work_read e
+pub work-read : (g : Result Program Refusal) (r : Result Counts Refusal) → r ≡ read_as g → work_read r ≡ work_in work_size g
+work-read (Err n) r e = ap work_read e
+work-read (Ok p) r e = ap work_read e
 
 -- ---- what is lent
 
@@ -169,14 +175,14 @@ put-lent way bs m =
 judged-outcome : (o : Outcome) (w n m : ℕ)
     → judged (answer_of o) w (leaves_work o w (replicate n lent_word)) (leaves_out o (replicate m lent_byte)) ≡ Some (outcome_bytes o)
 judged-outcome (refused x) w n m =
-    judged-kept (Refused x) w (leaves_work (refused x) w (replicate n lent_word)) (replicate m lent_byte) (zeroed (Refused x) w) refl (words-kept (pick (ltb 9 x) (ltb x 14) false) w n)
-    ∙ refused_kept x (replicate m lent_byte) (bytes-lent m 0)
+    judged-kept (Err x) w (leaves_work (refused x) w (replicate n lent_word)) (replicate m lent_byte) (zeroed (Err x) w) refl (words-kept (pick (ltb 9 (number_of x)) (ltb (number_of x) 14) false) w n)
+    ∙ refused_kept (number_of x) (replicate m lent_byte) (bytes-lent m 0)
 judged-outcome (subset way bs) w n m =
-    judged-kept (Subset way (length bs)) w (leaves_work (subset way bs) w (replicate n lent_word)) (put (replicate m lent_byte) 0 bs) w refl (words-kept true w n)
-    ∙ put-lent way bs m
+    judged-kept (a_cut way (length bs)) w (leaves_work (subset way bs) w (replicate n lent_word)) (put (replicate m lent_byte) 0 bs) w refl (words-kept true w n)
+    ∙ put-lent (way_number way) bs m
 
 -- the work words and the output being filled before the call, its answer is judged to be the outcome's
-pub judged-cuts : {cid : Bool} {font name keep rec : List ℕ} {flag : ℕ} {work out work' out' : List ℕ} {r : Answer}
+pub judged-cuts : {cid : Bool} {font name keep rec : List ℕ} {flag : ℕ} {work out work' out' : List ℕ} {r : Result Subsetted Refusal}
     → Cuts cid false font name keep rec flag work out work' out' r
     → work ≡ replicate (length work) lent_word → out ≡ replicate (length out) lent_byte
     → (w : ℕ) → w ≡ work_in work_size (read_font font)
@@ -184,7 +190,7 @@ pub judged-cuts : {cid : Bool} {font name keep rec : List ℕ} {flag : ℕ} {wor
 judged-cuts {cid} {font} {name} {keep} {rec} {flag} {work} {out} {work'} {out'} {r} c e f w g =
     let o = cut_of cid false font name keep rec flag (length work) (length out) in
     let v = work_in work_size (read_font font) in
-    ap (λ (a : Answer). judged a w work' out') c.answers
+    ap (λ (a : Result Subsetted Refusal). judged a w work' out') c.answers
     ∙ ap (λ (k : ℕ). judged (answer_of o) k work' out') g
     ∙ ap (λ (l : List ℕ). judged (answer_of o) v l out') (c.words ∙ ap (leaves_work o v) e)
     ∙ ap (judged (answer_of o) v (leaves_work o v (replicate (length work) lent_word))) (c.output ∙ ap (leaves_out o) f)

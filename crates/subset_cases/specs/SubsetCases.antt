@@ -2,13 +2,15 @@
 use Rattle.std.specs.Prelude.{ℕ, ◌+◌, ◌*◌, Bool, true, false, List, [], ◌∷◌, ltb, eqb, length, take, drop, get_or, None, Option, Some}
 use Rattle.octets.specs.Pick.{pick}
 use Rattle.octets.specs.Octets.{num_at}
+use Rattle.refusal.specs.Refusal.{number_of}
 use Rattle.sheet.specs.Sheet.{pairs}
 use Rattle.subset.specs.Cut.{Outcome, refused, subset, cut_of}
+use Rattle.subset.specs.Way.{way_number}
 
 -- the refusal; or none, the way and the subset
 abbrev pub outcome_bytes : Outcome → List ℕ
-outcome_bytes (refused n) = n ∷ []
-outcome_bytes (subset way bs) = 0 ∷ way ∷ bs
+outcome_bytes (refused n) = number_of n ∷ []
+outcome_bytes (subset way bs) = 0 ∷ way_number way ∷ bs
 
 -- the flag, how many words and bytes are lent, of each at most what there is here, and the record
 unfoldable pub lent_answer : Bool → List ℕ → List ℕ → List ℕ → List ℕ → Option (List ℕ)

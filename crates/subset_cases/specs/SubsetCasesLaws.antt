@@ -1,5 +1,5 @@
 -- Laws of the answers to stored cases of subsetting, by the code's ways out.
-use Rattle.std.specs.Prelude.{ℕ, ◌+◌, ◌-◌, ◌*◌, ◌≤◌, ◌<◌, ◌≡◌, Bool, drop, None, Some}
+use Rattle.std.specs.Prelude.{ℕ, ◌+◌, ◌-◌, ◌*◌, ◌≤◌, ◌<◌, ◌≡◌, Bool, drop, None, Some, Result}
 use Rattle.std.proofs.Math.Path.{sym, ap}
 use Rattle.std.proofs.Common.{◌∙◌, subst, length-take, length-drop, take_all}
 use Rattle.std.proofs.Math.Bool.{false}
@@ -8,16 +8,17 @@ use native.Mathlib.Omega.{arith}
 use Rattle.std.proofs.Math.ListN.{length, take, get_or}
 use borrow.Author.Tests.{ne_eqb, lt-ltb, le-ltb}
 use Rattle.octets.specs.Octets.{num_at, Wrote}
+use Rattle.refusal.specs.declared.Refusal.{Refusal}
 use Rattle.cases.specs.AnswersLaws.{wrote-front}
 use Rattle.sheet.specs.Sheet.{pairs}
 use Rattle.sheet.specs.ReadingLaws.{pairs-length}
 use Rattle.subset.specs.Cut.{cut_of}
 use Rattle.outcome.specs.Entry.{Cuts}
-use Rattle.outcome.specs.declared.Answer.{Answer}
+use Rattle.outcome.specs.declared.Subsetted.{Subsetted}
 use Rattle.subset_cases.specs.SubsetCases.{outcome_bytes, lent_answer, kept_answer, named_answer, asked_answer, subset_answer}
 
 -- a call of a keying
-pub cuts_as : {a b : Bool} {font name keep rec : List ℕ} {flag : ℕ} {work out work' out' : List ℕ} {r : Answer}
+pub cuts_as : {a b : Bool} {font name keep rec : List ℕ} {flag : ℕ} {work out work' out' : List ℕ} {r : Result Subsetted Refusal}
     → Cuts a false font name keep rec flag work out work' out' r → b ≡ a → Cuts b false font name keep rec flag work out work' out' r
 cuts_as {font = font} {name = name} {keep = keep} {rec = rec} {flag = flag} {work = work} {out = out} {work' = work'} {out' = out'} {r = r} c e =
     subst (λ (x : Bool). Cuts x false font name keep rec flag work out work' out' r) (sym e) c

@@ -5,7 +5,8 @@ ghost use Rattle.octets.specs.Pick.{pick};
 ghost use Rattle.cases.specs.Answers.{Gives};
 ghost use Rattle.subset_cases.specs.Left.{lent_word, zeroed, words_left_lem, bytes_left_lem, refused_bytes, subset_bytes, answer_bytes, judged};
 
-use outcome::Answer;
+use outcome::Subsetted;
+use refusal::Refusal;
 
 // What the i-th work word should be, the first k being zeros.
 fn word_at(i: usize, k: usize) -> u32
@@ -43,11 +44,12 @@ fn bytes_left(found: &[u8], at: usize) -> bool
 }
 
 // How many work words should be zeros after an answer: w from refusal 9 passed on (14 and 15 are tested before).
-fn zeroed(r: Answer, w: usize) -> usize
+fn zeroed(r: Result<Subsetted, Refusal>, w: usize) -> usize
     ensures { result ≡ zeroed r w }
 {
     match r {
-        Answer::Refused(n) => {
+        Err(e) => {
+            let n = e.number();
             if n < 10 {
                 return 0;
             }
@@ -56,11 +58,11 @@ fn zeroed(r: Answer, w: usize) -> usize
             }
             0
         }
-        Answer::Subset { way: _, len: _ } => w,
+        Ok(_) => w,
     }
 }
 
-// A refusal: all of the output is as it was lent.
+// The number of a refusal: all of the output is as it was lent.
 fn put_refused(n: u8, found: &[u8], out: &mut [u8]) -> Option<usize>
     requires { 4096 ≤ length out.old }
     ensures { Gives (refused_bytes n found.now) out.new result }
@@ -87,18 +89,24 @@ fn put_subset(way: u8, len: usize, found: &[u8], out: &mut [u8]) -> Option<usize
 }
 
 // What a call answered, with the output that it left.
-fn put_answer(r: Answer, found: &[u8], out: &mut [u8]) -> Option<usize>
+fn put_answer(r: Result<Subsetted, Refusal>, found: &[u8], out: &mut [u8]) -> Option<usize>
     requires { (length found.now ≤ 4094) × (4096 ≤ length out.old) }
     ensures { Gives (answer_bytes r found.now) out.new result }
 {
     match r {
-        Answer::Refused(n) => put_refused(n, found, out),
-        Answer::Subset { way, len } => put_subset(way, len, found, out),
+        Err(e) => put_refused(e.number(), found, out),
+        Ok(c) => put_subset(c.way.number(), c.len, found, out),
     }
 }
 
 // What a call answered, with the work words and the output that it left, W being w.
-pub fn judge(r: Answer, w: usize, work: &[u32], found: &[u8], out: &mut [u8]) -> Option<usize>
+pub fn judge(
+    r: Result<Subsetted, Refusal>,
+    w: usize,
+    work: &[u32],
+    found: &[u8],
+    out: &mut [u8],
+) -> Option<usize>
     requires { (length found.now ≤ 4094) × (4096 ≤ length out.old) }
     ensures { Gives (judged r w work.now found.now) out.new result }
 {

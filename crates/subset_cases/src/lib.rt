@@ -13,8 +13,8 @@ ghost use Rattle.outcome.specs.Entry.{work_in, Cuts};
 ghost use Rattle.subset_cases.specs.Left.{lent_word, lent_byte};
 ghost use Rattle.subset_cases.specs.SubsetCases.{outcome_bytes, lent_answer, kept_answer, named_answer, asked_answer, subset_answer};
 
-use cff::ReadAs;
-use outcome::Answer;
+use outcome::Subsetted;
+use refusal::Refusal;
 use write::{subset, subset_cid};
 
 // W of a font, 0 where reading refuses it.
@@ -22,8 +22,8 @@ fn work_of(font: &[u8]) -> usize
     ensures { result ≡ work_in work_size (read_font font.now) }
 {
     match cff_entries::read(font) {
-        ReadAs::Refused(_) => 0,
-        ReadAs::Font(c) => c.work,
+        Err(_) => 0,
+        Ok(c) => c.work,
     }
 }
 
@@ -37,7 +37,7 @@ fn cut(
     traced: u8,
     work: &mut [u32],
     out: &mut [u8],
-) -> Answer
+) -> Result<Subsetted, Refusal>
     ensures { Cuts cid false font.now name.now keep.now rows.now traced work.old out.old work.new out.new result }
 {
     if cid {
@@ -156,7 +156,8 @@ fn answer_asked(kind: u8, font: &[u8], asked: &[u8], out: &mut [u8]) -> Option<u
     }
 }
 
-// The answer to an input, by its kind's letter: how many bytes of it stand at the start of out; None outside the kind's domain.
+// The answer to an input, by its kind's letter: how many bytes of it stand at the start of out; None outside the kind's domain. The kind stays
+// the letter that the line has, which may be any.
 pub fn answer(kind: u8, input: &[u8], out: &mut [u8]) -> Option<usize>
     requires { 4096 ≤ length out.old }
     ensures { Gives (subset_answer kind input.now) out.new result }

@@ -1,6 +1,6 @@
 -- Refusal 8 (document 01, 'Entries and their refusals') stands for nothing but a record or a flag that is not of the right form.
 use Rattle.std.specs.Prelude.{ℕ, ◌≡◌, Bool, true, List, ltb, length}
-use Rattle.std.proofs.Common.{sym, ap, ◌∙◌, arith}
+use Rattle.std.proofs.Common.{sym, ap, ◌∙◌}
 use Rattle.std.proofs.lemmas.Bool.{false≢true}
 use Rattle.octets.specs.Pick.{pick, pick_ind}
 use Rattle.octets.specs.Lists.{all_below}
@@ -15,15 +15,14 @@ use Rattle.subset.specs.Codes.{Coded, coded_if, pair_count}
 use Rattle.subset.specs.Subset.{subset_bytes}
 use Rattle.subset.specs.Cut.{Outcome, refused, subset, all_found_lem, has_ros_lem, same_bool_lem, own_of, written, unsupported_in, cut_program}
 use Rattle.faithful.proofs.Theorem.{same_bool}
+use Rattle.refusal.specs.declared.Refusal.TheVariants.{Malformed, Unsupported, TooLong, NoSuchNumber, NotFound, BadRecord, Work, Subset, Output, StringId, Pairs}
+use Rattle.subset.specs.declared.Way.{Way}
 
 -- an outcome that is not refusal 8
 abbrev Other : Outcome → Type 0
-Other o = o ≡ refused 8 → ⊥
+Other o = o ≡ refused BadRecord → ⊥
 
-other : (n : ℕ) → (n ≡ 8 → ⊥) → Other (refused n)
-other n d e = d cc
-
-cut_other : (way : ℕ) (bs : List ℕ) → Other (subset way bs)
+cut_other : (way : Way) (bs : List ℕ) → Other (subset way bs)
 cut_other way bs e = zero_one cc
 
 module _ (ask : Bool) (p : Program) (name keep rec : List ℕ) (flag lent : ℕ) where
@@ -44,28 +43,28 @@ module _ (ask : Bool) (p : Program) (name keep rec : List ℕ) (flag lent : ℕ)
 
   written_other : Other (written p coded name kept order lent cut)
   written_other =
-      let last = pick (ltb lent (length bytes)) (refused 11) (subset cut.way bytes) in
-      let sized = pick (ltb 67108864 (length bytes)) (refused 10) last in
-      pick_ind Other (ltb 64609 (length (own_of p order))) (refused 12) (pick (ltb 255 (pair_count coded)) (refused 13) sized) (λ t. other 12 (λ d. omega (arith, d)))
-      (λ t. pick_ind Other (ltb 255 (pair_count coded)) (refused 13) sized (λ s. other 13 (λ d. omega (arith, d)))
-      (λ s. pick_ind Other (ltb 67108864 (length bytes)) (refused 10) last (λ u. other 10 (λ d. omega (arith, d)))
-      (λ u. pick_ind Other (ltb lent (length bytes)) (refused 11) (subset cut.way bytes) (λ v. other 11 (λ d. omega (arith, d)))
+      let last = pick (ltb lent (length bytes)) (refused Output) (subset cut.way bytes) in
+      let sized = pick (ltb 67108864 (length bytes)) (refused Subset) last in
+      pick_ind Other (ltb 64609 (length (own_of p order))) (refused StringId) (pick (ltb 255 (pair_count coded)) (refused Pairs) sized) (λ t e. zero_one cc)
+      (λ t. pick_ind Other (ltb 255 (pair_count coded)) (refused Pairs) sized (λ s e. zero_one cc)
+      (λ s. pick_ind Other (ltb 67108864 (length bytes)) (refused Subset) last (λ u e. zero_one cc)
+      (λ u. pick_ind Other (ltb lent (length bytes)) (refused Output) (subset cut.way bytes) (λ v e. zero_one cc)
       (λ v. cut_other cut.way bytes))))
 
   -- a call whose record and flag are of the right form for the font's keying
   pub not_eight : record_fine (cid_keyed p.top) rec flag ≡ true → (cid : Bool) (words : ℕ) → Other (cut_program work_size cid ask p name keep rec flag words lent)
   not_eight fine cid words =
-      pick_ind Other (same_bool_lem cid (cid_keyed p.top)) _ (refused 3)
-      (λ k. pick_ind Other (unsupported_in ask p) (refused 3) _ (λ t. other 3 (λ d. omega (arith, d)))
-      (λ q. pick_ind Other (pick cid (has_ros_lem (ros_in p.top)) true) _ (refused 2)
-      (λ ros. pick_ind Other (ltb 65535 (length name)) (refused 4) _ (λ t. other 4 (λ d. omega (arith, d)))
-      (λ n. pick_ind Other (all_below (length p.charstrings) keep) _ (refused 6)
-      (λ b. pick_ind Other (all_found_lem p kept) _ (refused 7)
-      (λ found. pick_ind Other (record_fine cid rec flag) _ (refused 8)
-      (λ r. pick_ind Other (ltb words (work_size p)) (refused 9) _ (λ t. other 9 (λ d. omega (arith, d)))
+      pick_ind Other (same_bool_lem cid (cid_keyed p.top)) _ (refused Unsupported)
+      (λ k. pick_ind Other (unsupported_in ask p) (refused Unsupported) _ (λ t e. zero_one cc)
+      (λ q. pick_ind Other (pick cid (has_ros_lem (ros_in p.top)) true) _ (refused Malformed)
+      (λ ros. pick_ind Other (ltb 65535 (length name)) (refused TooLong) _ (λ t e. zero_one cc)
+      (λ n. pick_ind Other (all_below (length p.charstrings) keep) _ (refused NoSuchNumber)
+      (λ b. pick_ind Other (all_found_lem p kept) _ (refused NotFound)
+      (λ found. pick_ind Other (record_fine cid rec flag) _ (refused BadRecord)
+      (λ r. pick_ind Other (ltb words (work_size p)) (refused Work) _ (λ t e. zero_one cc)
       (λ w. written_other))
       (λ t. absurd (false≢true (sym t ∙ ap (λ (c : Bool). record_fine c rec flag) (same_bool cid (cid_keyed p.top) k) ∙ fine))))
-      (λ t. other 7 (λ d. omega (arith, d))))
-      (λ t. other 6 (λ d. omega (arith, d)))))
-      (λ t. other 2 (λ d. omega (arith, d)))))
-      (λ t. other 3 (λ d. omega (arith, d)))
+      (λ t e. zero_one cc))
+      (λ t e. zero_one cc)))
+      (λ t e. zero_one cc)))
+      (λ t e. zero_one cc)

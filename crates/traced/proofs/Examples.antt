@@ -26,6 +26,7 @@ use Rattle.row_window.specs.Window.{placed, gathered, within}
 use Rattle.row_window.specs.Key.{key_of_lem}
 use Rattle.traced.specs.Parts.{masks_of}
 use Rattle.traced.specs.Traced.{met_all, tens_bytes, record_of, refused, traced, trace_program, trace_read, trace_of, leaves_record}
+use Rattle.refusal.specs.declared.Refusal.TheVariants.{NoSuchNumber, NotFound, Output}
 
 -- ---- a name-keyed font
 
@@ -75,7 +76,7 @@ unfolding
 glyph_zero = refl
 
 -- one byte too few
-too_long : trace_program small (1 ∷ []) 39 ≡ refused 11
+too_long : trace_program small (1 ∷ []) 39 ≡ refused Output
 unfolding
     met_all record_of tens_bytes gathered placed unfold_glyph run_body walk step_at operator_at leave but target_of t2.number_at t2.rounded t2.keep24 bytes_of be all_below
     all_found_lem glyph_with_text string_text standard_string standard_strings codes same_text_lem standard_names is_in those last_of last_from normal stripped zeros zeros_of trunc_of
@@ -89,14 +90,14 @@ unfolding
 not_plain = refl
 
 -- a number past the font comes first, then a glyph that finding would not give, both before the flag
-past-font : trace_program small (4 ∷ 2 ∷ 5 ∷ []) 40 ≡ refused 6
+past-font : trace_program small (4 ∷ 2 ∷ 5 ∷ []) 40 ≡ refused NoSuchNumber
 unfolding
     met_all record_of tens_bytes gathered placed unfold_glyph run_body walk step_at operator_at leave but target_of t2.number_at t2.rounded t2.keep24 bytes_of be all_below
     all_found_lem glyph_with_text string_text standard_string standard_strings codes same_text_lem standard_names is_in those last_of last_from normal stripped zeros zeros_of trunc_of
 past-font = refl
 
 -- finding gives glyph 1 for the name of glyph 4
-not_found : trace_program small (2 ∷ 4 ∷ []) 40 ≡ refused 7
+not_found : trace_program small (2 ∷ 4 ∷ []) 40 ≡ refused NotFound
 unfolding
     met_all record_of tens_bytes gathered placed unfold_glyph run_body walk step_at operator_at leave but target_of t2.number_at t2.rounded t2.keep24 bytes_of be all_below
     all_found_lem glyph_with_text string_text standard_string standard_strings codes same_text_lem standard_names is_in those last_of last_from normal stripped zeros zeros_of trunc_of
@@ -113,7 +114,7 @@ behind : leaves_record (traced 1 (7 ∷ 8 ∷ [])) (1 ∷ 2 ∷ 3 ∷ []) ≡ 7 
 unfolding put
 behind = refl
 
-untouched : leaves_record (refused 11) (1 ∷ 2 ∷ 3 ∷ []) ≡ 1 ∷ 2 ∷ 3 ∷ []
+untouched : leaves_record (refused Output) (1 ∷ 2 ∷ 3 ∷ []) ≡ 1 ∷ 2 ∷ 3 ∷ []
 untouched = refl
 
 -- ---- a CID-keyed font

@@ -1,6 +1,6 @@
 -- The theorems used (document 02, Wish 1): a name-keyed font traced, and then cut with what was traced. The record is that of the Rust's trace, the
 -- subset that of its `subset`; each premise is one that holds.
-use Rattle.std.specs.Prelude.{ℕ, zero, suc, ◌≡◌, refl, Bool, true, false, List, [], ◌∷◌, map, ltb, eqb, pos}
+use Rattle.std.specs.Prelude.{ℕ, zero, suc, ◌≡◌, refl, Bool, true, false, List, [], ◌∷◌, map, ltb, eqb, pos, Ok}
 use Rattle.std.proofs.Common.{sym, ap, ◌∙◌, inr, arith, ltb-true}
 use Rattle.octets.specs.Pick.{pick}
 use Rattle.octets.specs.Octets.{Octets, be, num_at, bytes_of}
@@ -22,7 +22,7 @@ use Rattle.unfold.specs.Unfold.{Tok, num, op, Row, not_plain_lem, plain, local, 
 use Rattle.prune.specs.Bodies.{All}
 use Rattle.record.specs.Record.{rows_from, rows_of, record_fine, lists}
 use Rattle.opentype.specs.Opentype.{place_of}
-use Rattle.cff.specs.Font.{got, standard, Program, char_strings, private_at, ids_at, coding_at, encoding_got, name_parts, font_at, fonts_at, set_at, read_table, read_font, empty_private}
+use Rattle.cff.specs.Font.{standard, Program, char_strings, private_at, ids_at, coding_at, encoding_got, name_parts, font_at, fonts_at, set_at, read_table, read_font, empty_private}
 use Rattle.subset.specs.Kept.{is_in, those, keeps}
 use Rattle.subset.specs.Cut.{all_found_lem}
 use Rattle.subset.proofs.NameExample.{name_font, name_program, reads, reach, renumbered_bytes, renumbers}
@@ -31,6 +31,7 @@ use Rattle.faithful.specs.Faithful.{unfolded, IsKept, Holds}
 use Rattle.traced.specs.Traced.{met_all, row_key, tens_bytes, record_of, traced, trace_program, trace_read, trace_of}
 use Rattle.traced.proofs.MetLaws.{Meets}
 use Rattle.traced.proofs.Theorem.{trace_flag, trace_lists, trace_met, trace_rises, trace_fine, trace_held, trace_keeps}
+use Rattle.subset.specs.declared.Way.TheVariants.{Renumbered}
 
 -- glyphs 1 and 2
 abbrev pub keep : List ℕ
@@ -91,7 +92,7 @@ fine = trace_fine name_font keep 20 bytes name_program reads 1 reach traces
 -- the subset cut with the record holds the glyph
 held : Holds name_program 2 tokens renumbered_bytes
 held =
-    trace_held name_font keep 20 bytes name_program reads 1 reach traces false false (0x4e ∷ []) 8192 32768 0 renumbered_bytes renumbers 2 kept tokens met unfolds
+    trace_held name_font keep 20 bytes name_program reads 1 reach traces false false (0x4e ∷ []) 8192 32768 Renumbered renumbered_bytes renumbers 2 kept tokens met unfolds
 
 -- the keep list in another order, with a repeat
 same : (g : ℕ) → keeps keep g ≡ keeps (2 ∷ 1 ∷ 2 ∷ []) g
@@ -130,7 +131,7 @@ bad_program =
       coding = standard;
     }
 
-bad-reads : read_font bad_font ≡ got bad_program
+bad-reads : read_font bad_font ≡ Ok bad_program
 unfolding
     read_font read_table place_of set_at fonts_at font_at name_parts ids_at private_at coding_at encoding_got read_index told index_at table_at data_at run_of judged offsets pieces items_of num_at be entries.dict_of
     entries.gathered entries.readings_at entries.readings_from entries.entry_at entries.entry_from entries.token_at entries.operator_at number_at real_at normal zeros zeros_of

@@ -1,6 +1,6 @@
 -- The three parts make up the record (document 02, Wish 1): a glyph meets masks of kind 2 in itself alone, so that these can be sorted glyph by glyph.
 use Prim.Native.Nat.{ℕ, zero, suc, ◌+◌, ◌≤◌, ◌<◌}
-use Rattle.std.specs.Prelude.{◌≡◌, refl, Bool, ◌⊎◌, ltb, eqb, length, get_or, Some}
+use Rattle.std.specs.Prelude.{◌≡◌, refl, Bool, ◌⊎◌, ltb, eqb, length, get_or, Some, Ok}
 use Rattle.std.proofs.Common.{sym, ◌∙◌, subst, inl, inr, ⊎_elim, arith, lt-ltb, le-ltb, ltb-true, ltb-false, eqb-true}
 use Rattle.std.proofs.Math.Path.{ap}
 use Rattle.std.proofs.Math.Bool.{true, false}
@@ -14,7 +14,7 @@ use Rattle.prune.specs.Bodies.{All, empty as nothing, one as listing}
 use Rattle.prune.specs.BelongsLaws.{Belongs, rows_belong}
 use Rattle.record.specs.Record.{row_fine_lem}
 use Rattle.dict.specs.Lookup.{cid_keyed}
-use Rattle.cff.specs.Font.{got, Program, read_font}
+use Rattle.cff.specs.Font.{Program, read_font}
 use Rattle.subset.specs.Kept.{those, keeps, kept_of, locals_of}
 use Rattle.subset.specs.KeptListLaws.{those_in}
 use Rattle.row_window.specs.Window.{gathered, in_range, within, Below, none, one}
@@ -166,7 +166,7 @@ fine_fd cid r k e = eqb-true r.fd 0 (by cid (subst (λ (n : ℕ). row_fine_lem c
     by true h = and_left (eqb r.fd 0) true h
     by false h = and_left (eqb r.fd 0) true h
 
-module _ (font keep : List ℕ) (octets : Octets font) (p : Program) (is : read_font font ≡ got p) where
+module _ (font keep : List ℕ) (octets : Octets font) (p : Program) (is : read_font font ≡ Ok p) where
   own_masks : (g : ℕ) → g < length p.charstrings → (ts : List Tok) (met : List Row) → unfolded p g ≡ plain ts met → (r : Row) → Has Row r met → MaskIn g (g + 1) r
   own_masks g h ts met e r i =
       let fd = get_or p.fds g 0 in

@@ -1,7 +1,7 @@
 -- What tracing promises (document 02, Wish 1), whatever the font and the keep list are: with flag 1 the record lists exactly what the kept glyphs
 -- meet, in rising byte order without repeats; flag 0 stands exactly where a kept glyph is not plain; no subset call refuses a traced record; and a
 -- subset cut by it holds every plain kept glyph (document 01's demand 3, with no word of a record).
-use Rattle.std.specs.Prelude.{ℕ, ◌%◌, ◌<◌, ◌≡◌, refl, Bool, true, false, ◌⊎◌, ltb, length, get_or, None, Option, Some}
+use Rattle.std.specs.Prelude.{ℕ, ◌%◌, ◌<◌, ◌≡◌, refl, Bool, true, false, ◌⊎◌, ltb, length, get_or, None, Option, Some, Result, Ok, Err}
 use Rattle.std.proofs.Common.{sym, ap, ◌∙◌, inl, inr, arith, eq-eqb}
 use Rattle.std.proofs.Math.Path.{subst}
 use mathlib.Core.List.{List, [], ◌∷◌, map}
@@ -15,7 +15,7 @@ use Rattle.prune.specs.Bodies.{All}
 use Rattle.prune.specs.StepLaws.{zero_one}
 use Rattle.record.specs.Record.{rows_from, rows_of, row_fine_lem, rows_fine_lem, record_fine, lists}
 use Rattle.dict.specs.Lookup.{cid_keyed}
-use Rattle.cff.specs.Font.{Got, refused as refusedFont, got, Program, read_font}
+use Rattle.cff.specs.Font.{Program, read_font}
 use Rattle.cff.specs.Find.{work_size}
 use Rattle.subset.specs.Kept.{keeps, kept_of, locals_of}
 use Rattle.subset.specs.Cut.{refused as refusedCut, subset, all_found_lem, cut_read, cut_with, cut_of}
@@ -34,6 +34,9 @@ use Rattle.traced.proofs.RunLaws.{Proper, FdFits, rows_proper}
 use Rattle.traced.proofs.EightLaws.{not_eight}
 use Rattle.traced.proofs.MetLaws.{Meets, met-within, met-from, met-fails, in_kept, kept_same, below_as}
 use Rattle.traced.specs.Theorem.{kept_rows}
+use Rattle.refusal.specs.declared.Refusal.{Refusal}
+use Rattle.refusal.specs.declared.Refusal.TheVariants.{NoSuchNumber, NotFound, BadRecord, Output}
+use Rattle.subset.specs.declared.Way.{Way}
 
 -- ---- a call that is not refused
 
@@ -56,7 +59,7 @@ Answered m flag rec = Without m flag rec ⊎ Recording m flag rec
 was_answered : (p : Program) (keep : List ℕ) (room flag : ℕ) (rec : List ℕ) → trace_program p keep room ≡ traced flag rec → Answered (kept_rows p keep) flag rec
 was_answered p keep room flag rec e = by-below (all_below (length p.charstrings) keep) e
   where
-    by-room : (rows : List Row) → kept_rows p keep ≡ Some rows → (t : Bool) → pick t (refused 11) (traced 1 (record_of rows)) ≡ traced flag rec
+    by-room : (rows : List Row) → kept_rows p keep ≡ Some rows → (t : Bool) → pick t (refused Output) (traced 1 (record_of rows)) ≡ traced flag rec
         → Answered (kept_rows p keep) flag rec
     by-room rows a true g = absurd (zero_one cc)
     by-room rows a false g =
@@ -71,11 +74,11 @@ was_answered p keep room flag rec e = by-below (all_below (length p.charstrings)
         inl (record { fails = a; zero_flag = sym n; empty = sym l })
     by_rows (Some rows) a h = by-room rows a (ltb room (length (record_of rows))) h
 
-    by-found : (t : Bool) → pick t (answered room (kept_rows p keep)) (refused 7) ≡ traced flag rec → Answered (kept_rows p keep) flag rec
+    by-found : (t : Bool) → pick t (answered room (kept_rows p keep)) (refused NotFound) ≡ traced flag rec → Answered (kept_rows p keep) flag rec
     by-found true h = by_rows (kept_rows p keep) refl h
     by-found false h = absurd (zero_one cc)
 
-    by-below : (t : Bool) → pick t (pick (all_found_lem p (kept_of (length p.charstrings) keep)) (answered room (kept_rows p keep)) (refused 7)) (refused 6) ≡ traced flag rec
+    by-below : (t : Bool) → pick t (pick (all_found_lem p (kept_of (length p.charstrings) keep)) (answered room (kept_rows p keep)) (refused NotFound)) (refused NoSuchNumber) ≡ traced flag rec
         → Answered (kept_rows p keep) flag rec
     by-below true h = by-found (all_found_lem p (kept_of (length p.charstrings) keep)) h
     by-below false h = absurd (zero_one cc)
@@ -83,7 +86,7 @@ was_answered p keep room flag rec e = by-below (all_below (length p.charstrings)
 -- ---- rows of a font
 
 -- the rows that a glyph of a font meets are proper
-pub glyph_proper : (font : List ℕ) → Octets font → (p : Program) → read_font font ≡ got p → (g : ℕ) → g < length p.charstrings → (ts : List Tok) (met : List Row)
+pub glyph_proper : (font : List ℕ) → Octets font → (p : Program) → read_font font ≡ Ok p → (g : ℕ) → g < length p.charstrings → (ts : List Tok) (met : List Row)
     → unfolded p g ≡ plain ts met → All (Proper (cid_keyed p.top)) met
 glyph_proper font octets p is g h ts met e =
     let good = font-good font p octets is in
@@ -108,10 +111,10 @@ record-fine cid rows fits f =
 
 -- ---- the theorems
 
-module _ (font keep : List ℕ) (room : ℕ) (octets : Octets font) (p : Program) (is : read_font font ≡ got p) where
+module _ (font keep : List ℕ) (room : ℕ) (octets : Octets font) (p : Program) (is : read_font font ≡ Ok p) where
   told : (flag : ℕ) (rec : List ℕ) → trace_of font keep room ≡ traced flag rec → Answered (kept_rows p keep) flag rec
   unfolding trace_of
-  told flag rec e = was_answered p keep room flag rec (ap (λ (g : Got Program). trace_read g keep room) (sym is) ∙ e)
+  told flag rec e = was_answered p keep room flag rec (ap (λ (g : Result Program Refusal). trace_read g keep room) (sym is) ∙ e)
 
   -- the rows that the kept glyphs meet are proper
   kept_proper : (rows : List Row) → kept_rows p keep ≡ Some rows → (r : Row) → Has Row r rows → Proper (cid_keyed p.top) r
@@ -192,14 +195,14 @@ module _ (font keep : List ℕ) (room : ℕ) (octets : Octets font) (p : Program
 
   -- so no subset call with what was traced is refused by 8
   pub trace_not_eight : (flag : ℕ) (rec : List ℕ) → trace_of font keep room ≡ traced flag rec → (cid ask : Bool) (name asked : List ℕ) (words lent : ℕ)
-      → cut_of cid ask font name asked rec flag words lent ≡ refusedCut 8 → ⊥
+      → cut_of cid ask font name asked rec flag words lent ≡ refusedCut BadRecord → ⊥
   unfolding cut_with
   trace_not_eight flag rec e cid ask name asked words lent c =
-      not_eight ask p name asked rec flag lent (trace_fine flag rec e) cid words (ap (λ (g : Got Program). cut_read work_size cid ask g name asked rec flag words lent) (sym is) ∙ c)
+      not_eight ask p name asked rec flag lent (trace_fine flag rec e) cid words (ap (λ (g : Result Program Refusal). cut_read work_size cid ask g name asked rec flag words lent) (sym is) ∙ c)
 
   -- THE THEOREM: what was traced and then cut with what was traced, not refused, holds every plain kept glyph
   pub trace_held : (flag : ℕ) (rec : List ℕ) → trace_of font keep room ≡ traced flag rec
-      → (cid ask : Bool) (name : List ℕ) (words lent way : ℕ) (bs : List ℕ) → cut_of cid ask font name keep rec flag words lent ≡ subset way bs
+      → (cid ask : Bool) (name : List ℕ) (words lent : ℕ) (way : Way) (bs : List ℕ) → cut_of cid ask font name keep rec flag words lent ≡ subset way bs
       → (g : ℕ) → IsKept p keep g → (ts : List Tok) (met : List Row) → unfolded p g ≡ plain ts met → Holds p g ts bs
   trace_held flag rec e cid ask name words lent way bs c g k ts met u =
       let f : Faithful font keep rec flag (subset way bs)
@@ -210,7 +213,7 @@ module _ (font keep : List ℕ) (room : ℕ) (octets : Octets font) (p : Program
 
   -- with flag 1 that is every kept glyph
   pub trace_all-held : (rec : List ℕ) → trace_of font keep room ≡ traced 1 rec
-      → (cid ask : Bool) (name : List ℕ) (words lent way : ℕ) (bs : List ℕ) → cut_of cid ask font name keep rec 1 words lent ≡ subset way bs
+      → (cid ask : Bool) (name : List ℕ) (words lent : ℕ) (way : Way) (bs : List ℕ) → cut_of cid ask font name keep rec 1 words lent ≡ subset way bs
       → (g : ℕ) → IsKept p keep g → (ts : List Tok) × (met : List Row) × (unfolded p g ≡ plain ts met) × Holds p g ts bs
   trace_all-held rec e cid ask name words lent way bs c g k =
       let a = trace_all rec e g k in
@@ -228,12 +231,12 @@ pub trace_keeps : (font keep keep' : List ℕ) (room : ℕ) → Octets font → 
 unfolding trace_of
 trace_keeps font keep keep' room octets same = go (read_font font) refl
   where
-    go : (x : Got Program) → read_font font ≡ x → trace_read x keep room ≡ trace_read x keep' room
-    go (refusedFont n) e = refl
-    go (got p) e =
+    go : (x : Result Program Refusal) → read_font font ≡ x → trace_read x keep room ≡ trace_read x keep' room
+    go (Err n) e = refl
+    go (Ok p) e =
         let n = length p.charstrings in
         let any = (font-good font p octets e).some in
         let b : all_below n keep ≡ all_below n keep'
         = same_tests (all_below n keep) (all_below n keep') (λ h. below_as keep' keep (λ g. sym (same g)) n any h) (λ h. below_as keep keep' same n any h) in
-        ap (λ (t : Bool). pick t (pick (all_found_lem p (kept_of n keep)) (answered room (met_all p (kept_of n keep))) (refused 7)) (refused 6)) b
-        ∙ ap (λ (l : List ℕ). pick (all_below n keep') (pick (all_found_lem p l) (answered room (met_all p l)) (refused 7)) (refused 6)) (kept_same keep keep' same n)
+        ap (λ (t : Bool). pick t (pick (all_found_lem p (kept_of n keep)) (answered room (met_all p (kept_of n keep))) (refused NotFound)) (refused NoSuchNumber)) b
+        ∙ ap (λ (l : List ℕ). pick (all_below n keep') (pick (all_found_lem p l) (answered room (met_all p l)) (refused NotFound)) (refused NoSuchNumber)) (kept_same keep keep' same n)

@@ -1,6 +1,6 @@
 -- What the functions of the tracer ask and leave (document 02, Wish 1): the rows that the marked glyphs meet, as keys, by windows of the least of
 -- them one behind the other; and the answer.
-use Rattle.std.specs.Prelude.{ℕ, ◌≤◌, ◌≡◌, List, [], ◌++◌, map, length, take, get_or, None, Option, Some}
+use Rattle.std.specs.Prelude.{ℕ, ◌≤◌, ◌≡◌, List, [], ◌++◌, map, length, take, get_or, None, Option, Some, Result}
 use Rattle.octets.specs.Pick.{pick}
 use Rattle.unfold.specs.Unfold.{Row}
 use Rattle.prune.specs.Bodies.{All}
@@ -16,7 +16,9 @@ use Rattle.interpret.specs.declared.Subrs.{Subrs}
 use Rattle.interpret.specs.declared.Range.{Range}
 use Rattle.traced.specs.Traced.{met_all, Traced, refused, answered, traced_as, leaves_record}
 use Rattle.traced.specs.RowLaws.{RowFits}
-use Rattle.traced.specs.declared.TracedAs.{TracedAs}
+use Rattle.traced.specs.declared.Recorded.{Recorded}
+use Rattle.refusal.specs.declared.Refusal.{Refusal}
+use Rattle.refusal.specs.declared.Refusal.TheVariants.{NotFound}
 
 -- every key is below this one
 abbrev pub top : ℕ
@@ -97,7 +99,7 @@ pub record Counted (all : List ℕ) (room r : ℕ) : Type 0 where
 -- ---- the answer
 
 -- an outcome answered, and what it leaves in the slice
-pub record Answers (t : Traced) (out out' : List ℕ) (r : TracedAs) : Type 0 where
+pub record Answers (t : Traced) (out out' : List ℕ) (r : Result Recorded Refusal) : Type 0 where
   pub answers : r ≡ traced_as t
   pub output : out' ≡ leaves_record t out
 
@@ -107,4 +109,4 @@ met_kept b f keep = met_all (program_of b f) (kept_of f.charstrings.count keep)
 
 -- the outcome behind refusal 6
 abbrev pub kept_answer : List ℕ → Font → List ℕ → ℕ → Traced
-kept_answer b f keep room = pick (all_found_lem (program_of b f) (kept_of f.charstrings.count keep)) (answered room (met_kept b f keep)) (refused 7)
+kept_answer b f keep room = pick (all_found_lem (program_of b f) (kept_of f.charstrings.count keep)) (answered room (met_kept b f keep)) (refused NotFound)

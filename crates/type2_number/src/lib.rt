@@ -8,8 +8,6 @@ ghost use Rattle.type2_number.specs.Number.{is_neg, mag, whole, fixed, sixteen, 
 ghost use Rattle.type2_number.specs.Encoding.{integer_bytes, fixed_bytes, encoded};
 ghost use Rattle.type2_number.specs.Floats.{float_of, scaled_of, HoldsReading, number_of};
 
-use octets::wide;
-
 // The f32 of the integer up - down.
 pub fn integer(up: usize, down: usize) -> f32
     requires { (up ≤ 65536) × (down ≤ 65536) }
@@ -39,7 +37,7 @@ fn fixed(high: usize, low: usize) -> f32
 fn sixteen(a: u8, b: u8) -> f32
     ensures { result ≡ float_of (rounded (sixteen (a * 256 + b))) }
 {
-    let n = wide(a) * 256 + wide(b);
+    let n = usize::from(a) * 256 + usize::from(b);
     if n < 32768 {
         integer(n, 0)
     } else {
@@ -51,7 +49,7 @@ fn sixteen(a: u8, b: u8) -> f32
 fn pair(a: u8, b: u8) -> usize
     ensures { (result ≡ a * 256 + b) × (result < 65536) }
 {
-    wide(a) * 256 + wide(b)
+    usize::from(a) * 256 + usize::from(b)
 }
 
 // What stands at a position: a number and the position after it, a number that the end cuts off, or an operator.
@@ -68,7 +66,7 @@ pub fn read_number(code: &[u8], at: usize) -> Number
     ensures { result ≡ number_of (number_at code.now at) }
 {
     let left = code.len() - at;
-    let v = wide(code[at]);
+    let v = usize::from(code[at]);
     if v < 32 {
         if v == 28 {
             if left < 3 {
@@ -91,7 +89,7 @@ pub fn read_number(code: &[u8], at: usize) -> Number
         if left < 2 {
             return Number::Cut;
         }
-        let w = wide(code[at + 1]);
+        let w = usize::from(code[at + 1]);
         if v < 251 {
             return Number::Num {
                 value: integer((v - 247) * 256 + w + 108, 0),

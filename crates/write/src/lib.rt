@@ -7,8 +7,9 @@ ghost use Rattle.cff.specs.File.{HasFont};
 ghost use Rattle.parts.specs.Ready.{FontHeld};
 ghost use Rattle.outcome.specs.Entry.{size_of, cut_behind, CutsWith, Cuts, CutsSmall, Cut, Passed};
 
-use cff::font::{Font, FontRead};
-use outcome::Answer;
+use cff::font::Font;
+use outcome::Subsetted;
+use refusal::Refusal;
 
 // Which call it is: of a CID-keyed font or not, with its encoding or not, and whether it is the small one (document 02, Wish 10).
 #[derive(Clone, Copy)]
@@ -18,7 +19,7 @@ pub struct Call {
     pub small: bool,
 }
 
-// The cut by the keying that is asked for.
+// The cut by the keying that is asked for. Up to here the flag is the byte that the caller gave.
 fn cut_glyphs(
     c: Call,
     font: &[u8],
@@ -29,7 +30,7 @@ fn cut_glyphs(
     traced: u8,
     words: &mut [u32],
     out: &mut [u8],
-) -> Answer
+) -> Result<Subsetted, Refusal>
     requires { (c.cid ≡ true → c.ask ≡ false) × (FontHeld font.now f)
         × (Passed c.cid c.ask (program_of font.now f) (length name.now) keep.now rows.now traced (length words.old)) }
     ensures { Cut (cut_behind c.ask (program_of font.now f) name.now keep.now rows.now traced (length out.old))
@@ -38,9 +39,9 @@ fn cut_glyphs(
     let cid = c.cid;
     let ask = c.ask;
     if cid {
-        return by_cid::cut_cid(font, f, name, keep, rows, traced, words, out);
+        return by_cid::cut_cid(font, f, name, keep, rows, traced == 1, words, out);
     }
-    by_name::cut_named(font, f, ask, name, keep, rows, traced, words, out)
+    by_name::cut_named(font, f, ask, name, keep, rows, traced == 1, words, out)
 }
 
 // The cut of a font that was read in a file, by the bytes of its table: refused before the work words are used, or with the first W of them, which end as zeros.
@@ -54,14 +55,14 @@ fn cut_font(
     traced: u8,
     work: &mut [u32],
     out: &mut [u8],
-) -> Answer
+) -> Result<Subsetted, Refusal>
     requires { (c.cid ≡ true → c.ask ≡ false) × HasFont font.now f }
     ensures { CutsWith (size_of c.small) c.cid c.ask font.now name.now keep.now rows.now traced work.old out.old
         work.new out.new result }
 {
     let table = cff::set::table(font, f);
     let small = c.small;
-    let n = early_refusals::refusal(
+    early_refusals::refusal(
         small,
         c.cid,
         c.ask,
@@ -72,10 +73,7 @@ fn cut_font(
         rows,
         traced,
         work.len(),
-    );
-    if 0 < n {
-        return Answer::Refused(n);
-    }
+    )?;
     let w = early_refusals::size_of(small, table, f);
     let words = &mut work[..w];
     let r = cut_glyphs(c, table, f, name, keep, rows, traced, &mut *words, out);
@@ -93,15 +91,13 @@ fn cut(
     traced: u8,
     work: &mut [u32],
     out: &mut [u8],
-) -> Answer
+) -> Result<Subsetted, Refusal>
     requires { c.cid ≡ true → c.ask ≡ false }
     ensures { CutsWith (size_of c.small) c.cid c.ask font.now name.now keep.now rows.now traced work.old out.old
         work.new out.new result }
 {
-    match cff::set::read_font(font) {
-        FontRead::Refused(n) => Answer::Refused(n),
-        FontRead::Found(f) => cut_font(c, font, f, name, keep, rows, traced, work, out),
-    }
+    let f = cff::set::read_font(font)?;
+    cut_font(c, font, f, name, keep, rows, traced, work, out)
 }
 
 // The subset of a name-keyed font: glyph 0 and the glyphs of the keep list; and where it is asked for, its encoding (document 02, Wish 4).
@@ -114,7 +110,7 @@ pub fn subset(
     encoding: bool,
     work: &mut [u32],
     out: &mut [u8],
-) -> Answer
+) -> Result<Subsetted, Refusal>
     ensures { Cuts false encoding font.now name.now keep.now rows.now traced work.old out.old
         work.new out.new result }
 {
@@ -135,7 +131,7 @@ pub fn subset_cid(
     traced: u8,
     work: &mut [u32],
     out: &mut [u8],
-) -> Answer
+) -> Result<Subsetted, Refusal>
     ensures { Cuts true false font.now name.now keep.now rows.now traced work.old out.old
         work.new out.new result }
 {
@@ -157,7 +153,7 @@ pub fn subset_small(
     encoding: bool,
     work: &mut [u32],
     out: &mut [u8],
-) -> Answer
+) -> Result<Subsetted, Refusal>
     ensures { CutsSmall false encoding font.now name.now keep.now rows.now traced work.old out.old
         work.new out.new result }
 {
@@ -178,7 +174,7 @@ pub fn subset_cid_small(
     traced: u8,
     work: &mut [u32],
     out: &mut [u8],
-) -> Answer
+) -> Result<Subsetted, Refusal>
     ensures { CutsSmall true false font.now name.now keep.now rows.now traced work.old out.old
         work.new out.new result }
 {

@@ -4,7 +4,7 @@ use lib.Seq.{set-get_or}
 use Rattle.cff.specs.Reads.{program_of}
 use Rattle.cff.specs.File.{table_in}
 use Rattle.culprit.specs.Culprit.{traced_cut}
-use Rattle.blocking.specs.Search.{way_of}
+use Rattle.blocking.specs.Search.{renumbered_in}
 use Rattle.blocking.specs.CutLaws.{way-of}
 use Rattle.blocking.proofs.is_freed.Goals as goal
 
@@ -14,7 +14,7 @@ returns c =
     let a = s.args in
     record {
       answers =
-          c.is_renumbered.ensures ∙ ap (way_of 0) c.try_list-a.ensures
-          ∙ way-of 0 (traced_cut (program_of (table_in a.font.now a.f) a.f) a.name.now (set a.list.now a.g 0) (length a.words.now) (length a.slice.now));
+          c.is_renumbered.ensures ∙ ap renumbered_in c.try_list-a.ensures
+          ∙ way-of (traced_cut (program_of (table_in a.font.now a.f) a.f) a.name.now (set a.list.now a.g 0) (length a.words.now) (length a.slice.now));
       stays = set-set a.list.now a.g 0 (get_or a.list.now a.g 0) ∙ set-get_or a.list.now a.g 0;
     }

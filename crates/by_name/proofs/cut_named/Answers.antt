@@ -1,4 +1,5 @@
 -- `by_name::cut_named` meets its contract: the glyphs that are gathered are the kept ones, and their cut is the cut.
+use Rattle.subset.specs.Flag.{flag_of}
 use Rattle.std.proofs.Common.{arith, replicate, ◌<◌}
 use Rattle.outcome.specs.BothLaws.{gather_asked}
 use Rattle.by_name.specs.NamedKeptLaws.{gathered-asked, gathered-cut}
@@ -12,7 +13,7 @@ gather-o-requires c =
 pub cut_ordered-requires : goal.cut_ordered-requires
 cut_ordered-requires c =
     let g = c.gather-o.ensures in (
-      gathered-asked c.args.ask _ c.args.rows.now c.args.name.now c.args.traced _ c.requires.0 c.args.keep.now c.args.words.now c.requires.1 c.gather-o.result _ _ g.0 g.1 g.2
+      gathered-asked c.args.ask _ c.args.rows.now c.args.name.now (flag_of c.args.traced) _ c.requires.0 c.args.keep.now c.args.words.now c.requires.1 c.gather-o.result _ _ g.0 g.1 g.2
           c.gather-o.auto.words,
       c.requires.1.named,
     )
@@ -20,5 +21,5 @@ cut_ordered-requires c =
 pub returns : goal.returns
 returns c =
     let g = c.gather-o.ensures in
-    gathered-cut c.args.ask _ c.args.rows.now c.args.name.now c.args.traced _ c.requires.0 c.args.keep.now c.args.words.now c.requires.1 c.gather-o.result _ _ g.0 g.1 g.2
+    gathered-cut c.args.ask _ c.args.rows.now c.args.name.now (flag_of c.args.traced) _ c.requires.0 c.args.keep.now c.args.words.now c.requires.1 c.gather-o.result _ _ g.0 g.1 g.2
     c.args.out.now _ _ c.cut_ordered.ensures

@@ -1,4 +1,5 @@
 -- `by_name::cut_prepared` meets its contract: FD 0 is in use, and the bodies that are planned for it are the subset's.
+use Rattle.subset.specs.Flag.{flag_of}
 use Rattle.std.proofs.Common.{arith, ◌≤◌}
 use Rattle.named_parts.specs.Named.{coded_for, first_fd}
 use Rattle.by_name.specs.NamedPlanLaws.{first-only, plan_in, prepared_ordered, prepared_plan, prepared_strings, prepared_cut}
@@ -22,5 +23,5 @@ cut_planned-requires c =
 pub returns : goal.returns
 returns c =
     let e = c.plan_all-plan.ensures in
-    prepared_cut _ _ _ _ c.requires.0 first_fd first-only _ _ c.plan_all-plan.result e.2 e.3 e.4 _ c.args.traced e.5 (coded_for c.args.names.encoding c.args.slots.now) c.args.name.now c.args.out.now _ _
+    prepared_cut _ _ _ _ c.requires.0 first_fd first-only _ _ c.plan_all-plan.result e.2 e.3 e.4 _ (flag_of c.args.traced) e.5 (coded_for c.args.names.encoding c.args.slots.now) c.args.name.now c.args.out.now _ _
     c.cut_planned.ensures

@@ -9,20 +9,20 @@ use Rattle.charstring_cases.proofs.answer_stream.Goals.{After-put_pairs-k}
 -- the pairs that were written can be lent
 written : (c : After-put_pairs-k) → (c.put_pairs-k.result ≤ length c.put_pairs-k.new.pairs) × (c.put_pairs-k.result ≡ length (take c.put_pairs-k.result c.put_pairs-k.new.pairs))
 written c =
-    let n = c.wide-count in
+    let n = c.from-count in
     wrote_counts c.put_pairs-k.ensures (let l = pairs-length c.args.input.now 1 (2 * n.result) in omega (arith, l, c.if-count-gt16.false))
 
 pub returns-then-n-eq0 : goal.returns-then-n-eq0
 returns-then-n-eq0 c = gives_none _ _ (stream_none c.args.tokens c.args.input.now c.if-n-eq0.true)
 
 pub returns-then-count-gt16 : goal.returns-then-count-gt16
-returns-then-count-gt16 c = let e = c.wide-count.ensures.0 in gives_none _ _ (stream_many c.args.tokens c.args.input.now c.if-n-eq0.false (omega (arith, e, c.if-count-gt16.true)))
+returns-then-count-gt16 c = let e = c.from-count.ensures in gives_none _ _ (stream_many c.args.tokens c.args.input.now c.if-n-eq0.false (omega (arith, e, c.if-count-gt16.true)))
 
 pub returns-then-n-at : goal.returns-then-n-at
-returns-then-n-at c = let e = c.wide-count.ensures.0 in gives_none _ _ (stream_short c.args.tokens c.args.input.now c.if-n-eq0.false (omega (arith, e, c.if-count-gt16.false)) (omega (arith, e, c.if-n-at.true)))
+returns-then-n-at c = let e = c.from-count.ensures in gives_none _ _ (stream_short c.args.tokens c.args.input.now c.if-n-eq0.false (omega (arith, e, c.if-count-gt16.false)) (omega (arith, e, c.if-n-at.true)))
 
 pub returns-then-n-at-gt60 : goal.returns-then-n-at-gt60
-returns-then-n-at-gt60 c = let e = c.wide-count.ensures.0 in gives_none _ _ (stream_long c.args.tokens c.args.input.now c.if-n-eq0.false (omega (arith, e, c.if-count-gt16.false)) (omega (arith, e, c.if-n-at.false)) (omega (arith, e, c.if-n-at-gt60.true)))
+returns-then-n-at-gt60 c = let e = c.from-count.ensures in gives_none _ _ (stream_long c.args.tokens c.args.input.now c.if-n-eq0.false (omega (arith, e, c.if-count-gt16.false)) (omega (arith, e, c.if-n-at.false)) (omega (arith, e, c.if-n-at-gt60.true)))
 
 pub slice_bounds-pairs-end : goal.slice_bounds-pairs-end
 slice_bounds-pairs-end c = (written (goal.at.slice_bounds-pairs-end c).After-put_pairs-k).0
@@ -32,7 +32,7 @@ slice_bounds-put_stream-end-2 c = (written (goal.at.slice_bounds-put_stream-end-
 
 pub returns : goal.returns
 returns c =
-    let e = c.wide-count.ensures.0 in
+    let e = c.from-count.ensures in
     gives_bytes _ _ _ _
     (stream_found c.args.tokens c.args.input.now c.if-n-eq0.false (omega (arith, e, c.if-count-gt16.false)) (omega (arith, e, c.if-n-at.false)) (omega (arith, e, c.if-n-at-gt60.false)))
     (starts_as c.put_stream.ensures (stream_parts c.args.tokens c.args.input.now _ _ _ _ e c.put_pairs-k.ensures))

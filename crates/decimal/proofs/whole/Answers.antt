@@ -1,13 +1,10 @@
 -- `decimal::whole` meets its contract.
-use Rattle.std.proofs.Common.{arith, mul-one}
+use Rattle.std.proofs.Common.{arith}
 use Rattle.decimal.specs.DecimalLaws.{whole-step, whole_done, whole-nought}
 use Rattle.decimal.proofs.whole.Goals as goal
 
 pub returns-then-n-eq0 : goal.returns-then-n-eq0
 returns-then-n-eq0 c = whole-nought _ _ c.if-n-eq0.true
-
-pub loop-digits-init : goal.loop-digits-init
-loop-digits-init c = (omega arith, omega arith, mul-one _)
 
 pub loop-digits-preserved : goal.loop-digits-preserved
 loop-digits-preserved c = let l = c.loop-digits in (omega arith, omega arith, whole-step l.digits l.up _ l.invariant.2 c.loop-digits-test.true)

@@ -11,16 +11,16 @@ pub returns-then-d-at : goal.returns-then-d-at
 returns-then-d-at c = copying_end _ _ _ _ _ _ _ _ _ c.loop.invariant (operands_out _ _ _ c.if-d-at.true)
 
 pub put_number-p-requires : goal.put_number-p-requires
-put_number-p-requires c = ((operand_taken _ _ (c.args.count - c.loop.counter) _ c.number_at.ensures _ _ c.in-Num.is (λ i. (c.type_inv.d i).fits) c.if-d-at.false).normal, copying_room _ _ _ _ _ _ _ _ _ c.loop.invariant _ _ (operand_first _ _ _ _ c.number_at.ensures _ _ c.in-Num.is (omega (arith, c.loop-test.true))) c.requires)
+put_number-p-requires c = ((operand_taken _ _ (c.args.count - c.loop.counter) _ c.number_at.ensures c.in-Ok-Some.number (cc) (λ i. (c.type_inv.d i).fits) c.if-d-at.false).normal, copying_room _ _ _ _ _ _ _ _ _ c.loop.invariant _ _ (operand_first _ _ _ _ c.number_at.ensures c.in-Ok-Some.number (cc) (omega (arith, c.loop-test.true))) c.requires)
 
 pub loop-preserved : goal.loop-preserved
-loop-preserved c = let e : c.args.count - (c.loop.counter + 1) ≡ c.args.count - c.loop.counter - 1 = omega arith in rw e (copying_turn _ _ _ _ _ _ _ _ _ c.loop.invariant _ _ (operand_first _ _ _ _ c.number_at.ensures _ _ c.in-Num.is (omega (arith, c.loop-test.true))) c.requires _ _ c.put_number-p.ensures)
+loop-preserved c = let e : c.args.count - (c.loop.counter + 1) ≡ c.args.count - c.loop.counter - 1 = omega arith in rw e (copying_turn _ _ _ _ _ _ _ _ _ c.loop.invariant _ _ (operand_first _ _ _ _ c.number_at.ensures c.in-Ok-Some.number (cc) (omega (arith, c.loop-test.true))) c.requires _ _ c.put_number-p.ensures)
 
-pub returns-in-NotNumber : goal.returns-in-NotNumber
-returns-in-NotNumber c = copying_end _ _ _ _ _ _ _ _ _ c.loop.invariant (none_number _ _ _ _ c.number_at.ensures c.in-NotNumber.is)
+pub returns-in-Ok-None : goal.returns-in-Ok-None
+returns-in-Ok-None c = copying_end _ _ _ _ _ _ _ _ _ c.loop.invariant (none_number _ _ _ _ c.number_at.ensures (cc))
 
-pub returns-in-Refused : goal.returns-in-Refused
-returns-in-Refused c = copying_end _ _ _ _ _ _ _ _ _ c.loop.invariant (none_refused _ _ _ _ c.number_at.ensures _ c.in-Refused.is)
+pub returns-in-Err : goal.returns-in-Err
+returns-in-Err c = copying_end _ _ _ _ _ _ _ _ _ c.loop.invariant (none_refused _ _ _ _ c.number_at.ensures _ c.in-Err.is)
 
 pub returns : goal.returns
 returns c = copying_end _ _ _ _ _ _ _ _ _ c.loop.invariant (none_left _ _ _ (omega (arith, c.loop-test.false)))

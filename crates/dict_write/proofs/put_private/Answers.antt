@@ -7,22 +7,22 @@ pub loop-at-init : goal.loop-at-init
 loop-at-init c = copying_start _ _ _
 
 pub put_entry-p-requires : goal.put_entry-p-requires
-put_entry-p-requires c = (entry-operator _ _ c.loop-at-test.true _ c.read_entry.ensures _ _ _ _ c.in-Entry.is (λ i. (c.type_inv.d i).fits), copying_room _ _ _ _ _ _ c.loop-at.invariant c.loop-at-test.true _ c.read_entry.ensures _ _ _ _ c.in-Entry.is c.if-op-ne-SUBRS.true c.requires)
+put_entry-p-requires c = (entry-operator _ _ c.loop-at-test.true _ c.read_entry.ensures _ c.in-Ok.is (λ i. (c.type_inv.d i).fits), copying_room _ _ _ _ _ _ c.loop-at.invariant c.loop-at-test.true _ c.read_entry.ensures _ c.in-Ok.is c.if-entry-ne-SUBRS.true c.requires)
 
-pub loop-at-smaller-then-op-ne-SUBRS : goal.loop-at-smaller-then-op-ne-SUBRS
-loop-at-smaller-then-op-ne-SUBRS c = let s = (entry-placed _ _ c.loop-at-test.true _ c.read_entry.ensures _ _ _ _ c.in-Entry.is).stands in omega (arith, s.further, s.inside)
+pub loop-at-smaller-then-entry-ne-SUBRS : goal.loop-at-smaller-then-entry-ne-SUBRS
+loop-at-smaller-then-entry-ne-SUBRS c = let s = (entry-placed _ _ c.loop-at-test.true _ c.read_entry.ensures _ c.in-Ok.is).stands in omega (arith, s.further, s.inside)
 
-pub loop-at-preserved-then-op-ne-SUBRS : goal.loop-at-preserved-then-op-ne-SUBRS
-loop-at-preserved-then-op-ne-SUBRS c = copying_turn _ _ _ _ _ _ c.loop-at.invariant c.loop-at-test.true _ c.read_entry.ensures _ _ _ _ c.in-Entry.is c.if-op-ne-SUBRS.true c.requires _ _ c.put_entry-p.ensures
+pub loop-at-preserved-then-entry-ne-SUBRS : goal.loop-at-preserved-then-entry-ne-SUBRS
+loop-at-preserved-then-entry-ne-SUBRS c = copying_turn _ _ _ _ _ _ c.loop-at.invariant c.loop-at-test.true _ c.read_entry.ensures _ c.in-Ok.is c.if-entry-ne-SUBRS.true c.requires _ _ c.put_entry-p.ensures
 
 pub loop-at-smaller : goal.loop-at-smaller
-loop-at-smaller c = let s = (entry-placed _ _ c.loop-at-test.true _ c.read_entry.ensures _ _ _ _ c.in-Entry.is).stands in omega (arith, s.further, s.inside)
+loop-at-smaller c = let s = (entry-placed _ _ c.loop-at-test.true _ c.read_entry.ensures _ c.in-Ok.is).stands in omega (arith, s.further, s.inside)
 
 pub loop-at-preserved : goal.loop-at-preserved
-loop-at-preserved c = copying_on _ _ _ _ _ _ c.loop-at.invariant c.loop-at-test.true _ c.read_entry.ensures _ _ _ _ c.in-Entry.is c.if-op-ne-SUBRS.false
+loop-at-preserved c = copying_on _ _ _ _ _ _ c.loop-at.invariant c.loop-at-test.true _ c.read_entry.ensures _ c.in-Ok.is c.if-entry-ne-SUBRS.false
 
-pub returns-in-Refused : goal.returns-in-Refused
-returns-in-Refused c = copying_end _ _ _ _ _ _ c.loop-at.invariant (copied_stopped _ _ c.loop-at-test.true _ c.read_entry.ensures _ c.in-Refused.is)
+pub returns-in-Err : goal.returns-in-Err
+returns-in-Err c = copying_end _ _ _ _ _ _ c.loop-at.invariant (copied_stopped _ _ c.loop-at-test.true _ c.read_entry.ensures _ c.in-Err.is)
 
 pub returns : goal.returns
 returns c = copying_end _ _ _ _ _ _ c.loop-at.invariant (copied_end _ _ c.loop-at-test.false)

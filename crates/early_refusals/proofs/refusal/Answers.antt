@@ -1,16 +1,10 @@
 -- `early_refusals::refusal` meets its contract: one law for each test, in document 01's order.
 use Rattle.std.proofs.lemmas.Bool.{not_from_false, not_from_true}
-use Rattle.early_refusals.specs.RefusalLaws.{read_unfit, read-ros, read_name, read_number, read_below, read_found, read-record, read-work, read-passed}
+use Rattle.early_refusals.specs.RefusalLaws.{read_unfit, read-ros, read_name, read_number, read_found, read-record, read-work, read-passed}
 use Rattle.early_refusals.proofs.refusal.Goals as goal
-
-pub is_fit-requires : goal.is_fit-requires
-is_fit-requires c = c.read_top-p.ensures.placed
 
 pub returns-then-not-is_fit : goal.returns-then-not-is_fit
 returns-then-not-is_fit c = read_unfit c.args.font.now c.args.f c.requires c.args.small c.args.cid c.args.ask c.args.name c.args.keep.now c.args.rows.now c.args.traced c.args.words _ c.is_fit.ensures (not_from_false _ c.if-not-is_fit.true)
-
-pub ros_fine-requires : goal.ros_fine-requires
-ros_fine-requires c = c.read_top-p.ensures.placed
 
 pub returns-then-not-ros_fine : goal.returns-then-not-ros_fine
 returns-then-not-ros_fine c = read-ros c.args.font.now c.args.f c.requires c.args.small c.args.cid c.args.ask c.args.name c.args.keep.now c.args.rows.now c.args.traced c.args.words _ c.is_fit.ensures (not_from_true _ c.if-not-is_fit.false) _ c.ros_fine.ensures (not_from_false _ c.if-not-ros_fine.true)
@@ -20,9 +14,6 @@ returns-then-name-gt65535 c = read_name c.args.font.now c.args.f c.requires c.ar
 
 pub returns-then-not-keep_below : goal.returns-then-not-keep_below
 returns-then-not-keep_below c = read_number c.args.font.now c.args.f c.requires c.args.small c.args.cid c.args.ask c.args.name c.args.keep.now c.args.rows.now c.args.traced c.args.words _ c.is_fit.ensures (not_from_true _ c.if-not-is_fit.false) _ c.ros_fine.ensures (not_from_true _ c.if-not-ros_fine.false) c.if-name-gt65535.false _ c.keep_below.ensures (not_from_false _ c.if-not-keep_below.true)
-
-pub all_found-requires : goal.all_found-requires
-all_found-requires c = (c.requires, read_below c.args.font.now c.args.f c.requires c.args.small c.args.cid c.args.ask c.args.name c.args.keep.now c.args.rows.now c.args.traced c.args.words _ c.is_fit.ensures (not_from_true _ c.if-not-is_fit.false) _ c.ros_fine.ensures (not_from_true _ c.if-not-ros_fine.false) c.if-name-gt65535.false _ c.keep_below.ensures (not_from_true _ c.if-not-keep_below.false))
 
 pub returns-then-not-all_found : goal.returns-then-not-all_found
 returns-then-not-all_found c = read_found c.args.font.now c.args.f c.requires c.args.small c.args.cid c.args.ask c.args.name c.args.keep.now c.args.rows.now c.args.traced c.args.words _ c.is_fit.ensures (not_from_true _ c.if-not-is_fit.false) _ c.ros_fine.ensures (not_from_true _ c.if-not-ros_fine.false) c.if-name-gt65535.false _ c.keep_below.ensures (not_from_true _ c.if-not-keep_below.false) _ c.all_found.ensures (not_from_false _ c.if-not-all_found.true)

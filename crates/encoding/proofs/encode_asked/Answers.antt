@@ -1,12 +1,14 @@
 -- `encode_asked` meets its contract: by the offset of the font's encoding; the table of glyphs begins empty.
-use Rattle.std.proofs.Common.{refl}
-use Rattle.encoding.specs.EncodedLaws.{encodes-predefined, encodes-pairs}
+use Rattle.std.proofs.Common.{arith, refl}
+use Rattle.encoding.specs.EncodedLaws.{encodes-standard, encodes-expert, encodes-pairs}
 use Rattle.encoding.proofs.encode_asked.Goals as goal
 
-pub returns-then-at-lt2 : goal.returns-then-at-lt2
-returns-then-at-lt2 c =
-    (encodes-predefined _ c.args.o.f.encoding c.if-at-lt2.true _ _ _ _, c.requires.0)
+pub returns-then-at-eq0 : goal.returns-then-at-eq0
+returns-then-at-eq0 c = (encodes-standard _ c.args.o.f.encoding _ _ _ _ c.if-at-eq0.true, c.requires.0)
+
+pub returns-then-at-eq1 : goal.returns-then-at-eq1
+returns-then-at-eq1 c = (encodes-expert _ c.args.o.f.encoding _ _ _ _ c.if-at-eq1.true, c.requires.0)
 
 pub returns : goal.returns
 returns c =
-    (encodes-pairs _ c.args.o.f _ _ c.if-at-lt2.false _ _ _ refl c.fill.ensures c.rename.ensures.0 _ c.pair_count-pairs.ensures, c.rename.ensures.1)
+    (encodes-pairs _ c.args.o.f _ _ (omega (arith, c.if-at-eq0.false, c.if-at-eq1.false)) _ _ _ refl c.fill.ensures c.rename.ensures.0 _ c.pair_count.ensures, c.rename.ensures.1)

@@ -10,12 +10,6 @@ use Rattle.glyph_entries.proofs.glyph_in.Goals as goal
 pub returns-then-n-g : goal.returns-then-n-g
 returns-then-n-g c = tells_as (tells_refused _ _ _) (glyph_none c.args.font.now c.args.f c.requires c.args.g c.if-n-g.true)
 
-pub id_of-id-requires : goal.id_of-id-requires
-id_of-id-requires c = (c.requires.ids, c.if-n-g.false)
-
-pub fd_of-fd-requires : goal.fd_of-fd-requires
-fd_of-fd-requires c = c.requires.parts.select
-
 pub returns-then-cid : goal.returns-then-cid
 returns-then-cid c =
     tells_as c.give.ensures (glyph_by_cid c.args.font.now c.args.f c.requires c.args.g c.if-n-g.false _ _ c.id_of-id.ensures.0 c.fd_of-fd.ensures c.if-cid.true _ refl)

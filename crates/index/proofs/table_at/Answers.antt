@@ -1,22 +1,18 @@
 -- `index::table_at` meets its contract: at each return the tests that led there say which case of `table_at` holds.
-use Rattle.std.proofs.Common.{ap, arith, le-ltb, lt-ltb, sym, ◌*◌, ◌+◌, ◌-◌, ◌∙◌, ◌≡◌, ◌≤◌}
+use Rattle.std.proofs.Common.{ap, arith, le-ltb, lt-ltb, sym, ◌*◌, ◌+◌, ◌-◌, ◌∙◌, ◌≡◌, Err}
 use Rattle.index.specs.Index.{judged, data_at, table_at}
-use Rattle.index.specs.IndexLaws.{last_within, table-judged, table-size, first-bad, first_fine}
+use Rattle.index.specs.IndexLaws.{last_within, table-judged, first-bad, first_fine}
 use Rattle.index.proofs.table_at.Goals as goal
-use Rattle.index.proofs.table_at.Goals.{After-judge-run, Else-size-gt4}
-
--- the table is small
-product : (c : Else-size-gt4) → (c.args.count + 1) * c.args.size ≤ 262144
-product c = table-size _ _ c.requires.1 c.if-size-gt4.false
+use Rattle.index.proofs.table_at.Goals.{After-judge}
 
 -- past the tests the run decides
-full : (c : After-judge-run)
+full : (c : After-judge)
     → (let a = c.args in
     let base = a.table + (a.count + 1) * a.size - 1 in
-    table_at a.font.now a.table a.count a.size ≡ judged a.count a.size a.table base c.judge-run.result)
+    table_at a.font.now a.table a.count a.size ≡ judged a.count a.size a.table base c.judge.result)
 full c =
     table-judged c.args.font.now c.args.table c.args.count c.args.size _ _ c.if-size-lt1.false
-    c.if-size-gt4.false c.if-n-past.false c.num_at-first.ensures.0 (first_fine _ c.if-first-ne1.false) c.judge-run.ensures
+    c.if-size-gt4.false c.if-n-past.false c.num_at-first.ensures.0 (first_fine _ c.if-first-ne1.false) c.judge.ensures
 
 pub returns-then-size-lt1 : goal.returns-then-size-lt1
 unfolding table_at
@@ -25,12 +21,6 @@ returns-then-size-lt1 c = simp (lt-ltb _ _ c.if-size-lt1.true)
 pub returns-then-size-gt4 : goal.returns-then-size-gt4
 unfolding table_at
 returns-then-size-gt4 c = simp (le-ltb _ _ c.if-size-lt1.false, lt-ltb _ _ c.if-size-gt4.true)
-
-pub overflow_mul-past : goal.overflow_mul-past
-overflow_mul-past c = omega (arith, product c)
-
-pub overflow_add-past-2 : goal.overflow_add-past-2
-overflow_add-past-2 c = omega (arith, product c)
 
 pub returns-then-n-past : goal.returns-then-n-past
 unfolding table_at data_at
@@ -48,12 +38,14 @@ returns-then-first-ne1 c =
 
 pub overflow_add-result : goal.overflow_add-result
 overflow_add-result c =
-    omega (arith, last_within _ _ c.args.count c.args.size _ _ c.requires.0 (sym c.judge-run.ensures ∙ c.in-Last.is))
+    omega (arith, last_within _ _ c.args.count c.args.size _ _ c.requires.0 (sym c.judge.ensures ∙ c.in_ok-last.was))
 
-pub returns-in-Bad : goal.returns-in-Bad
+pub returns-in_err-last : goal.returns-in_err-last
 unfolding judged
-returns-in-Bad c = sym (full (goal.at.returns-in-Bad c).After-judge-run ∙ ap (judged _ _ _ _) c.in-Bad.is)
+returns-in_err-last c =
+    let e : c.from_residual.result ≡ Err c.in_err-last.field-0.0 = grind arith in
+    e ∙ sym (full (goal.at.returns-in_err-last c).After-judge ∙ ap (judged _ _ _ _) c.in_err-last.was)
 
-pub returns-in-Last : goal.returns-in-Last
+pub returns : goal.returns
 unfolding judged
-returns-in-Last c = sym (full (goal.at.returns-in-Last c).After-judge-run ∙ ap (judged _ _ _ _) c.in-Last.is)
+returns c = sym (full (goal.at.returns c).After-judge ∙ ap (judged _ _ _ _) c.in_ok-last.was)

@@ -4,6 +4,7 @@ use Rattle.record.specs.Record.{rows_of}
 use Rattle.plan.specs.MeasureLaws.{by_way}
 use Rattle.plan.specs.PlanLaws.{returns_first, returns_stubbed}
 use Rattle.plan.proofs.plan_bodies.Goals as goal
+use Rattle.subset.specs.declared.Way.TheVariants.{Stubbed}
 
 pub returns-then-m : goal.returns-then-m
 returns-then-m c =
@@ -12,7 +13,7 @@ returns-then-m c =
 pub measure-s-requires : goal.measure-s-requires
 measure-s-requires c =
     let a = c.args in (
-      by_way 1 a.font.now a.o a.used.now a.words.now a.how a.table.now (rows_of a.rows.now) c.requires.0,
+      by_way Stubbed a.font.now a.o a.used.now a.words.now a.how a.table.now (rows_of a.rows.now) c.requires.0,
       c.measure-m.ensures.1,
       omega (arith, c.requires.2, c.measure-m.auto.sums),
     )

@@ -11,7 +11,7 @@ item-d-requires c = (c.requires.1.parts.dicts.good, fd-within _ _ c.requires.1 _
 
 pub copied_len-requires : goal.copied_len-requires
 copied_len-requires c =
-    (omega (arith, ap length c.item-d.ensures.0, item-short c.args.font.now c.args.f.dicts c.requires.1.parts.dicts.good c.args.fd (fd-within _ _ c.requires.1 _ c.requires.3 c.requires.2), c.requires.0), nowhere_placed _ _ c.nowhere.ensures.1)
+    (omega (arith, ap length c.item-d.ensures.0, item-short c.args.font.now c.args.f.dicts c.requires.1.parts.dicts.good c.args.fd (fd-within _ _ c.requires.1 _ c.requires.3 c.requires.2), c.requires.0), nowhere_placed _ _ c.nowhere.ensures)
 
 pub returns : goal.returns
 returns c =

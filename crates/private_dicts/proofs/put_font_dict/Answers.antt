@@ -12,7 +12,7 @@ item-d-requires c = (c.requires.0.parts.dicts.good, fd-within _ _ c.requires.0 _
 
 pub put_copied-p-requires : goal.put_copied-p-requires
 put_copied-p-requires c =
-    (refl, matrix_room _ _ c.requires.0 c.requires.1 _ c.requires.2 _ c.item-d.ensures.0 c.args.size c.args.place _ _ c.requires.5, nowhere_placed _ _ c.nowhere.ensures.1)
+    (refl, matrix_room _ _ c.requires.0 c.requires.1 _ c.requires.2 _ c.item-d.ensures.0 c.args.size c.args.place _ _ c.requires.5, nowhere_placed _ _ c.nowhere.ensures)
 
 pub put_private_entry-requires : goal.put_private_entry-requires
 put_private_entry-requires c =

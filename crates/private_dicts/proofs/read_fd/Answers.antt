@@ -2,8 +2,8 @@
 use Rattle.private_dicts.specs.PrivatesLaws.{fd_not_refused, fd-found}
 use Rattle.private_dicts.proofs.read_fd.Goals as goal
 
-pub returns-in-Refused : goal.returns-in-Refused
-returns-in-Refused c = absurd (fd_not_refused _ _ c.requires.1 _ c.private_at-read.ensures _ c.in-Refused.is)
+pub returns-in-Err : goal.returns-in-Err
+returns-in-Err c = absurd (fd_not_refused _ _ c.requires.1 _ c.private_at-read.ensures _ c.in-Err.is)
 
-pub returns-in-Found : goal.returns-in-Found
-returns-in-Found c = fd-found _ _ c.requires.1 _ c.private_at-read.ensures _ c.in-Found.is
+pub returns-in-Ok : goal.returns-in-Ok
+returns-in-Ok c = fd-found _ _ c.requires.1 _ c.private_at-read.ensures _ c.in-Ok.is

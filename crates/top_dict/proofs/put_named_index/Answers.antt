@@ -7,14 +7,11 @@ use Rattle.top_dict.specs.TopLaws.{named-measured}
 use Rattle.top_dict.specs.Top.{top_named}
 use Rattle.top_dict.proofs.put_named_index.Goals as goal
 
-pub placed_len-n-requires : goal.placed_len-n-requires
-placed_len-n-requires c = (c.requires.0, c.requires.1, c.read_top-places.ensures.placed)
-
 pub put_single_head-p-requires : goal.put_single_head-p-requires
 put_single_head-p-requires c = (subst (λ (n : ℕ). n < 4294967295) (sym c.placed_len-n.ensures.0) c.requires.4, split-room _ _ c.requires.5 (single-parts _ (top_named (entries_of c.args.d.now) c.args.slots.now c.args.at1 c.args.v c.args.at2 c.args.size c.args.at3) (c.placed_len-n.ensures.0 ∙ named-measured (entries_of c.args.d.now) c.args.slots.now c.args.at1 c.args.v c.args.at2 c.args.size c.args.at3)))
 
 pub put_top_named-requires : goal.put_top_named-requires
-put_top_named-requires c = (c.requires.1, c.requires.2, c.requires.3, writing-left c.requires.5 (writing-turn c.requires.5 (single-parts _ (top_named (entries_of c.args.d.now) c.args.slots.now c.args.at1 c.args.v c.args.at2 c.args.size c.args.at3) (c.placed_len-n.ensures.0 ∙ named-measured (entries_of c.args.d.now) c.args.slots.now c.args.at1 c.args.v c.args.at2 c.args.size c.args.at3)) (writing_start _ _ _) c.put_single_head-p.ensures), c.read_top-places.ensures.placed)
+put_top_named-requires c = (c.requires.1, c.requires.2, c.requires.3, writing-left c.requires.5 (writing-turn c.requires.5 (single-parts _ (top_named (entries_of c.args.d.now) c.args.slots.now c.args.at1 c.args.v c.args.at2 c.args.size c.args.at3) (c.placed_len-n.ensures.0 ∙ named-measured (entries_of c.args.d.now) c.args.slots.now c.args.at1 c.args.v c.args.at2 c.args.size c.args.at3)) (writing_start _ _ _) c.put_single_head-p.ensures), c.read_top-places.ensures)
 
 pub returns : goal.returns
 returns c = writing-last c.requires.5 (writing-turn c.requires.5 (single-parts _ (top_named (entries_of c.args.d.now) c.args.slots.now c.args.at1 c.args.v c.args.at2 c.args.size c.args.at3) (c.placed_len-n.ensures.0 ∙ named-measured (entries_of c.args.d.now) c.args.slots.now c.args.at1 c.args.v c.args.at2 c.args.size c.args.at3)) (writing_start _ _ _) c.put_single_head-p.ensures) c.put_top_named.ensures

@@ -9,7 +9,7 @@ pub returns-then-n-lt32768 : goal.returns-then-n-lt32768
 returns-then-n-lt32768 c =
     let a = c.args in
     let n : ℕ = a.a * 256 + a.b in
-    let e : c.wide.result * 256 + c.wide-2.result ≡ n = omega arith in
+    let e : c.from.result * 256 + c.from-2.result ≡ n = omega arith in
     let t : n < 32768 = omega arith in
     c.integer.ensures ∙ ap (λ (z : ℕ). float_of (rounded (whole z 0))) e ∙ ap (λ (b : Bool). float_of (rounded (whole n (pick b 0 65536)))) (sym (lt-ltb n 32768 t))
 
@@ -17,6 +17,6 @@ pub returns-else-n-lt32768 : goal.returns-else-n-lt32768
 returns-else-n-lt32768 c =
     let a = c.args in
     let n : ℕ = a.a * 256 + a.b in
-    let e : c.wide.result * 256 + c.wide-2.result ≡ n = omega arith in
+    let e : c.from.result * 256 + c.from-2.result ≡ n = omega arith in
     let t : 32768 ≤ n = omega arith in
     c.integer-else-n-lt32768.ensures ∙ ap (λ (z : ℕ). float_of (rounded (whole z 65536))) e ∙ ap (λ (b : Bool). float_of (rounded (whole n (pick b 0 65536)))) (sym (le-ltb n 32768 t))

@@ -1,11 +1,13 @@
 -- `write::cut` meets its contract: a font that is refused leaves all as it was, and one that is read is cut.
-use Rattle.cff.specs.SetLaws.{refused_as, found-font}
-use Rattle.outcome.specs.Entry.{size_of}
+use Rattle.cff.specs.SetLaws.{refused_as}
+use Rattle.outcome.specs.Entry.{size_of, CutsWith}
+use Rattle.refusal.specs.HandedOn.{handed_on}
 use Rattle.write.specs.EntryLaws.{unread-cuts}
 use Rattle.write.proofs.cut.Goals as goal
 
-pub cut_font-requires : goal.cut_font-requires
-cut_font-requires c = (c.requires, found-font c.args.font.now _ c.read_font.ensures _ c.in-Found.is)
-
-pub returns-in-Refused : goal.returns-in-Refused
-returns-in-Refused c = unread-cuts (size_of c.args.c.small) c.args.c.cid c.args.c.ask c.args.font.now c.args.name.now c.args.keep.now c.args.rows.now c.args.traced c.args.work.now c.args.out.now (λ i. (c.type_inv.font i).fits) (λ i. (c.type_inv.rows i).fits) _ (refused_as c.args.font.now _ c.read_font.ensures _ c.in-Refused.is)
+pub returns-in_err-f : goal.returns-in_err-f
+returns-in_err-f c =
+    let a = c.args in
+    handed_on _ _ (CutsWith (size_of a.c.small) a.c.cid a.c.ask a.font.now a.name.now a.keep.now a.rows.now a.traced a.work.now a.out.now a.work.now a.out.now) c.from_residual.ensures.1
+    (unread-cuts (size_of a.c.small) a.c.cid a.c.ask a.font.now a.name.now a.keep.now a.rows.now a.traced a.work.now a.out.now
+    (λ i. (c.type_inv.font i).fits) (λ i. (c.type_inv.rows i).fits) _ (refused_as a.font.now _ c.read_font.ensures _ c.in_err-f.was))

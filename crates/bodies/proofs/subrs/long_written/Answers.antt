@@ -1,5 +1,5 @@
 -- `bodies::subrs::long_written` meets its contract: where it is renumbered, by windows of its rows.
-use Rattle.std.proofs.Common.{Bool, arith, subst, sym, ℕ}
+use Rattle.std.proofs.Common.{Bool, arith, subst, sym, ℕ, ◌∙◌}
 use Rattle.octets.specs.Octets.{Octets}
 use Rattle.index.specs.Index.{items_of}
 use Rattle.index.proofs.FoundLaws.{item_octets}
@@ -26,13 +26,13 @@ renumbered_len-requires c = (
   lends_subr c.requires.2 c.site_in-site.result c.site_in-site.ensures.1 c.args.from.of c.args.k c.site_in-site.ensures.0 (omega (arith, c.requires.0.few, c.requires.1)),
 )
 
-pub returns-then-from-eq0 : goal.returns-then-from-eq0
-returns-then-from-eq0 c =
+pub returns-then-is_renumbered : goal.returns-then-is_renumbered
+returns-then-is_renumbered c =
     let code = c.item-code.result.now in
     let octets = subst Octets (sym c.item-code.ensures.0) (item_octets c.args.font.now c.args.from.ix c.requires.0.good c.args.k c.requires.1 (λ j. (c.type_inv.font j).fits)) in
     let q = renumbered_len c.args.from.way (rows_of c.args.rows.now) c.args.words.now c.args.from.locals c.args.from.globals (site_of c.site_in-site.result) code octets
-    c.requires.0.local_ranks c.requires.0.global_ranks c.if-from-eq0.true _ c.renumbered_len.ensures in (
-      subr_len c.args.from.way (rows_of c.args.rows.now) (R (goal.at.returns-then-from-eq0 c).Start) (C (goal.at.returns-then-from-eq0 c).Start) c.args.from.of (items_of c.args.font.now c.args.from.ix) c.args.k (site_of c.site_in-site.result) code
-          c.site_in-site.ensures.0 c.item-code.ensures.0 (stub_zero c.args.from.way (R (goal.at.returns-then-from-eq0 c).Start) c.args.k c.if-from-eq0.true) _ q.0,
+    c.requires.0.local_ranks c.requires.0.global_ranks (sym c.is_renumbered.ensures ∙ c.if-is_renumbered.true) _ c.renumbered_len.ensures in (
+      subr_len c.args.from.way (rows_of c.args.rows.now) (R (goal.at.returns-then-is_renumbered c).Start) (C (goal.at.returns-then-is_renumbered c).Start) c.args.from.of (items_of c.args.font.now c.args.from.ix) c.args.k (site_of c.site_in-site.result) code
+          c.site_in-site.ensures.0 c.item-code.ensures.0 (stub_zero c.args.from.way (R (goal.at.returns-then-is_renumbered c).Start) c.args.k (sym c.is_renumbered.ensures ∙ c.if-is_renumbered.true)) _ q.0,
       item-bound c.args.font.now c.args.from.ix c.requires.0.good c.requires.0.size c.args.k c.requires.1 code c.item-code.ensures.0 c.renumbered_len.result q.1,
     )

@@ -5,7 +5,7 @@ use Rattle.capi.specs.SubsetLaws.{answers_two}
 use Rattle.capi.proofs.cut.put_two.Goals as goal
 
 pub returns-then-answer-lt2 : goal.returns-then-answer-lt2
-returns-then-answer-lt2 c = answers_full _ _ c.if-answer-lt2.true
+returns-then-answer-lt2 c = answers_full _ _ _ c.number.ensures c.if-answer-lt2.true
 
 pub bounds-answer-1 : goal.bounds-answer-1
 bounds-answer-1 c = simp length-set (omega arith)

@@ -4,5 +4,5 @@ use Rattle.capi.specs.Trace.{traced_answer}
 use Rattle.capi.specs.CapiLaws.{answers_as}
 use Rattle.capi.proofs.trace.put_traced.Goals as goal
 
-pub returns-in-Record : goal.returns-in-Record
-returns-in-Record c = answers_as c.put_two.ensures (ap traced_answer c.in-Record.is)
+pub returns-in-Ok : goal.returns-in-Ok
+returns-in-Ok c = answers_as c.put_two.ensures (ap traced_answer c.in-Ok.is)

@@ -3,23 +3,24 @@
 use Rattle.std.proofs.Common.{arith, length, ◌<◌}
 use Rattle.index.specs.Index.{items_of}
 use Rattle.index.specs.IndexLaws.{items-length}
-use Rattle.cff.specs.ReadsLaws.{adding_start, adding_refused, adding_more, adding_over, seen-known, remembers_none, remembers_more}
+use Rattle.refusal.specs.HandedOn.{handed_on}
+use Rattle.cff.specs.Reads.{ReadsLocals}
+use Rattle.cff.specs.ReadsLaws.{adding_start, adding_refused, adding_more, adding_over, remembers_none, remembers_more}
 use Rattle.cff.proofs.private.read_privates.Goals as goal
 
 pub loop-k-init : goal.loop-k-init
 loop-k-init c = (adding_start _ _, remembers_none _, omega arith)
 
-pub returns-in-Refused : goal.returns-in-Refused
-returns-in-Refused c =
-    adding_refused _ _ _ _ c.loop-k.invariant.0 (omega (arith, c.loop-k-test.true, items-length c.args.font.now c.args.dicts)) _ c.item-d.ensures.0 _ c.fd_private-next.ensures _ c.in-Refused.is
+pub returns-in_err-l : goal.returns-in_err-l
+returns-in_err-l c = handed_on _ _ (ReadsLocals _) c.from_residual.ensures.1 (adding_refused _ _ _ _ c.loop-k.invariant.0 (omega (arith, c.loop-k-test.true, items-length c.args.font.now c.args.dicts)) _ c.item-d.ensures.0 _ c.in_err-l.ensures)
 
 pub loop-k-preserved : goal.loop-k-preserved
 loop-k-preserved c =
     let l = c.loop-k in
     let some : l.k < length (items_of c.args.font.now c.args.dicts) = omega (arith, c.loop-k-test.true, items-length c.args.font.now c.args.dicts) in
-    let m = adding_more _ _ _ _ l.invariant.0 some _ c.item-d.ensures.0 _ c.fd_private-next.ensures _ c.in-Read.is in
-    let k = seen-known _ _ _ _ l.invariant.0 some _ c.item-d.ensures.0 _ c.fd_private-next.ensures _ c.in-Read.is in
-    (m, remembers_more _ _ _ _ _ _ _ _ l.invariant.1 k.0 k.1, c.free_after-free.ensures.1)
+    let m = adding_more _ _ _ _ l.invariant.0 some _ c.item-d.ensures.0 _ c.in_ok-l.ensures in
+    let k = c.in_ok-l.ensures in
+    (m, remembers_more _ _ _ _ _ _ _ _ l.invariant.1 k.0 k.2, c.free_after-free.ensures.1)
 
 pub returns : goal.returns
 returns c =

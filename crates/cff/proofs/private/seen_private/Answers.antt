@@ -4,6 +4,3 @@ use Rattle.cff.proofs.private.seen_private.Goals as goal
 
 pub returns-then-place-lt128 : goal.returns-then-place-lt128
 returns-then-place-lt128 c = next-seen _ _ _ _ c.requires.3 _ _ _ c.recall-place.ensures c.if-place-lt128.true
-
-pub returns : goal.returns
-returns c = c.locals_of.ensures

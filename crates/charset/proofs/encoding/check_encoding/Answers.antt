@@ -1,5 +1,5 @@
 -- `charset::encoding::check_encoding` meets its contract: each test is one of `encoding_at`, in its order.
-use Rattle.std.proofs.Common.{arith, drop, ℕ, ◌%◌, ◌*◌, ◌+◌, ◌∙◌, ◌≡◌, ◌≤◌}
+use Rattle.std.proofs.Common.{arith, drop, ℕ, ◌%◌, ◌*◌, ◌+◌, ◌∙◌, ◌≡◌, ◌≤◌, Ok}
 use Rattle.charset.specs.Encoding.{entries, supplements, encoding_at}
 use Rattle.charset.specs.EncodingLaws.{no_count, entries_lost, entries-behind, encoding_lost, encoding_unknown, encoding-codes, no_supplements, some-supplements, codes-small}
 use Rattle.charset.proofs.encoding.check_encoding.Goals as goal
@@ -20,7 +20,7 @@ behind c =
     entries-behind _ _ _ _ (supplements c.u8_at-format.result) c.if-len-codes.false c.u8_at.ensures.0 c.if-len-sups.false ∙ codes (view.up-Else-kind-gt1 _ _ _ c.before.before.before.before)
 
 sups : (c : Else-format-eq0)
-    → (entries 3 (drop (P (view.up-Else-len-sups _ _ _ c.before.before)) c.args.font.now) (λ end. 0) ≡ encoding_at c.args.font.now c.args.at)
+    → (entries 3 (drop (P (view.up-Else-len-sups _ _ _ c.before.before)) c.args.font.now) (λ end. Ok tt) ≡ encoding_at c.args.font.now c.args.at)
 sups c = some-supplements _ (drop (P (view.up-Else-len-sups _ _ _ c.before.before)) c.args.font.now) c.if-format-eq0.false ∙ behind (view.up-Else-len-sups _ _ _ c.before.before)
 
 small : (c : After-u8_at) → c.u8_at.result * (c.u8_at-format.result % 128 + 1) ≤ 512
@@ -54,4 +54,4 @@ pub returns-then-len-sups-3 : goal.returns-then-len-sups-3
 returns-then-len-sups-3 c = entries_lost _ _ _ _ _ c.if-len-sups-2.false c.u8_at-2.ensures.0 c.if-len-sups-3.true ∙ sups (goal.at.returns-then-len-sups-3 c).Else-format-eq0
 
 pub returns : goal.returns
-returns c = entries-behind _ _ _ _ (λ end. 0) c.if-len-sups-2.false c.u8_at-2.ensures.0 c.if-len-sups-3.false ∙ sups (goal.at.returns c).Else-format-eq0
+returns c = entries-behind _ _ _ _ (λ end. Ok tt) c.if-len-sups-2.false c.u8_at-2.ensures.0 c.if-len-sups-3.false ∙ sups (goal.at.returns c).Else-format-eq0

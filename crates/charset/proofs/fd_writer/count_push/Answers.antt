@@ -4,8 +4,8 @@ use Rattle.charset.specs.FdWriterLaws.{same-state, new-state}
 use Rattle.charset.proofs.fd_writer.count_push.Goals as goal
 
 pub returns-then-last-w : goal.returns-then-last-w
-returns-then-last-w c = same-state _ _ (sym c.wide-last.ensures.0 ∙ c.if-last-w.true)
+returns-then-last-w c = same-state _ _ (sym c.from-last.ensures ∙ c.if-last-w.true)
 
 pub returns : goal.returns
 returns c =
-    new-state _ _ (λ e. c.if-last-w.false (c.wide-last.ensures.0 ∙ e)) _ c.wide-last.ensures.0
+    new-state _ _ (λ e. c.if-last-w.false (c.from-last.ensures ∙ e)) _ c.from-last.ensures

@@ -8,7 +8,7 @@ use Rattle.charset.proofs.fd_writer.push.Goals.{Else-last-w}
 
 -- the FD is another than the last, and its range takes three bytes
 new : (c : Else-last-w) → c.args.fd ≡ c.args.w.last → ⊥
-new c e = c.if-last-w.false (c.wide-last.ensures.0 ∙ e)
+new c e = c.if-last-w.false (c.from-last.ensures ∙ e)
 
 long : (c : Else-last-w) → (let a = c.args in length (pushed_bytes a.w a.fd) ≡ 3)
 long c = new-length _ _ (new c)
@@ -16,7 +16,7 @@ long c = new-length _ _ (new c)
 pub returns-then-last-w : goal.returns-then-last-w
 returns-then-last-w c =
     let e = c.count_push-r.ensures in
-    (e, same-wrote _ _ (sym c.wide-last.ensures.0 ∙ c.if-last-w.true) e)
+    (e, same-wrote _ _ (sym c.from-last.ensures ∙ c.if-last-w.true) e)
 
 pub put_num-p-requires : goal.put_num-p-requires
 put_num-p-requires c = omega (arith, long (goal.at.put_num-p-requires c).Else-last-w, c.requires.1)

@@ -1,19 +1,9 @@
 -- `decimal::real::ended` meets its contract: each arm of the match is a case of `form_from` with no nibble left.
-use Rattle.std.proofs.Common.{arith}
-use Rattle.decimal.specs.RealLaws.{ended_start, ended_mantissa, ended_bare, ended_exponent, ended_power, ended_e, ended_malformed, stopped_as, held_stopped}
+use Rattle.decimal.specs.RealLaws.{ended_start, ended_mantissa, ended_bare, ended_exponent, ended_power, ended_e, ended_malformed}
 use Rattle.decimal.proofs.real.ended.Goals as goal
-
-pub finished-requires : goal.finished-requires
-finished-requires c = let h = held_stopped _ _ 0 0 c.no_digits.ensures in (h.0, h.1, omega arith)
-
-pub finished-requires-then-any : goal.finished-requires-then-any
-finished-requires-then-any c = let h = stopped_as _ _ c.in-Mantissa.is c.requires in (h.0, h.1, omega arith)
 
 pub returns-then-any : goal.returns-then-any
 returns-then-any c = let a = c.args in ended_mantissa a.stage a.bytes a.next _ _ _ c.in-Mantissa.is _ c.if-any.true c.finished-then-any.ensures
-
-pub finished-requires-then-any-2 : goal.finished-requires-then-any-2
-finished-requires-then-any-2 c = stopped_as _ _ c.in-Power.is c.requires
 
 pub returns-then-any-2 : goal.returns-then-any-2
 returns-then-any-2 c = let a = c.args in ended_power a.stage a.bytes a.next _ _ _ _ c.in-Power.is _ c.if-any-2.true c.finished-then-any-2.ensures

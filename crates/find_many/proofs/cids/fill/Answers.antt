@@ -2,7 +2,6 @@
 use Rattle.std.proofs.Common.{List, arith, get_or, length, subst, ℕ, ◌<◌, ◌≡◌, ◌≤◌, ◌∙◌}
 use Rattle.find.specs.FindLaws.{ids_ahead, ids-ahead, passing-start, passing-inside, passing_ready, passing_id, passing-next}
 use Rattle.find.specs.Find.{glyph_with_id}
-use Rattle.cff.specs.Find.{found_as_lem}
 use Rattle.find_many.specs.Many.{number_for, Slots}
 use Rattle.find_many.specs.ManyLaws.{settled-start, settled-new, settled-met, settled-all}
 use Rattle.find_many.proofs.cids.fill.Goals as goal
@@ -35,6 +34,6 @@ pub returns : goal.returns
 returns c =
     let u = c.charset_start-u.result in
     let h : length (ids_ahead c.args.font.now u c.args.n) ≤ c.loop-g.g = omega (arith, c.loop-g.invariant.0.all, c.loop-g-test.false) in
-    subst (λ (x : List ℕ). Slots (λ id. number_for (found_as_lem (glyph_with_id id 0 x))) c.loop-g.slots)
+    subst (λ (x : List ℕ). Slots (λ id. number_for (glyph_with_id id 0 x)) c.loop-g.slots)
     (ids-ahead c.args.font.now c.args.c c.args.n u c.charset_start-u.ensures)
     (settled-all _ c.loop-g.slots c.loop-g.g h c.loop-g.invariant.2 c.loop-g.invariant.1)

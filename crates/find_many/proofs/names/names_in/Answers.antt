@@ -1,5 +1,5 @@
 -- `names::names_in` meets its contract: by the tests, in the order of the definition.
-use Rattle.std.proofs.Common.{false, length, ltb, ltb-false, sym, ◌∙◌, ◌≡◌}
+use Rattle.std.proofs.Common.{false, length, ltb, sym, ◌∙◌, ◌≡◌}
 use borrow.Author.Tests.{not-true, not-false}
 use Rattle.octets.specs.Lists.{sum_of}
 use Rattle.find_many.specs.ManyLaws.{names_long, names-full, names-put}
@@ -11,10 +11,6 @@ fits t = not-true _ (sym t.fit.ensures ∙ t.if-fit.true)
 
 pub returns-then-glyphs-lens : goal.returns-then-glyphs-lens
 returns-then-glyphs-lens c = let a = c.args in names-full a.font.now a.f a.names.now a.lens.now _ (fits (goal.at.returns-then-glyphs-lens c).Then-fit) c.if-glyphs-lens.true
-
-pub put_names-requires : goal.put_names-requires
-put_names-requires c =
-    (c.requires, ltb-false _ _ (fits (goal.at.put_names-requires c).Then-fit), c.if-glyphs-lens.false)
 
 pub returns-then-fit : goal.returns-then-fit
 returns-then-fit c =

@@ -3,4 +3,4 @@ use Rattle.format_cases.specs.DecimalsLaws.{decimal_is}
 use Rattle.format_cases.proofs.dicts.decimal_at.Goals as goal
 
 pub returns : goal.returns
-returns c = decimal_is c.args.s.now _ _ _ _ c.u32_at-high.ensures.0 c.u32_at-low.ensures.0 c.wide.ensures.0 c.wide-2.ensures.0
+returns c = decimal_is c.args.s.now _ _ _ _ c.u32_at-high.ensures.0 c.u32_at-low.ensures.0 c.from.ensures c.from-2.ensures

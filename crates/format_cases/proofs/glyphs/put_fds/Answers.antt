@@ -6,7 +6,7 @@ use Rattle.index.specs.Write.{table_bytes}
 use Rattle.index.specs.WriteLaws.{length-table}
 use Rattle.charset.specs.ListedLaws.{list_length}
 use Rattle.charset.specs.FdPlaces.{fd_of, fds_of, StandsFd}
-use Rattle.charset.specs.FdCursorLaws.{fd-start, fd_ready, fd-step, fd-next}
+use Rattle.charset.specs.FdCursorLaws.{fd-start, fd-step, fd-next}
 use Rattle.charset.specs.FdFound.{fd-at}
 use Rattle.charset.specs.declared.fd_select.FdCursor.{FdCursor}
 use Rattle.charset.specs.declared.fd_select.FdStep.{FdStep}
@@ -22,12 +22,6 @@ loop-init c =
       omega arith,
       writing_start _ _ _,
     )
-
-pub next_fd-step-requires : goal.next_fd-step-requires
-next_fd-step-requires c = fd_ready _ _ _ _ c.loop.invariant.0 (omega arith)
-
-pub put_num-p-requires : goal.put_num-p-requires
-put_num-p-requires c = let i = c.loop.invariant in omega (arith, i.1, i.2.size, c.requires.2, c.loop-test.true)
 
 pub loop-preserved : goal.loop-preserved
 loop-preserved c =

@@ -31,9 +31,6 @@ next_id-step-requires c =
     let h : l.counter < length ids = omega (arith, l.invariant.1, c.loop-test.true) in
     id_ready a.font.now l.u ids l.counter h l.invariant.0
 
-pub put_num-p-requires : goal.put_num-p-requires
-put_num-p-requires c = let i = c.loop.invariant in omega (arith, i.2, i.3.size, c.requires.1, c.loop-test.true)
-
 pub loop-preserved : goal.loop-preserved
 loop-preserved c =
     let l = c.loop in

@@ -1,4 +1,5 @@
 -- `measure::cid_keyed::measure_cid` meets its contract: the kept glyphs are gathered, and the measure of these is the measure.
+use Rattle.subset.specs.Flag.{flag_of}
 use Rattle.std.proofs.Common.{refl, replicate}
 use Rattle.outcome.specs.BothLaws.{gather_asked}
 use Rattle.by_cid.specs.CidKeptLaws.{window-room, gathered-asked}
@@ -13,7 +14,7 @@ gather-o-requires c =
 pub measure_ordered-requires : goal.measure_ordered-requires
 measure_ordered-requires c =
     let a = c.args in (
-      gathered-asked a.font.now a.rows.now a.name.now a.traced a.f c.requires.0 c.requires.1.keying _ c.gather-o.ensures.1 a.words.now _ _ c.requires.1.room
+      gathered-asked a.font.now a.rows.now a.name.now (flag_of a.traced) a.f c.requires.0 c.requires.1.keying _ c.gather-o.ensures.1 a.words.now _ _ c.requires.1.room
           c.gather-o.auto.words c.gather-o.ensures.0,
       c.requires.1.named,
     )
@@ -21,5 +22,5 @@ measure_ordered-requires c =
 pub returns : goal.returns
 returns c =
     let a = c.args in
-    gathered-measured a.font.now a.rows.now a.name.now a.traced a.f a.keep.now c.gather-o.result c.gather-o.ensures.0 c.gather-o.ensures.1 c.gather-o.ensures.2
+    gathered-measured a.font.now a.rows.now a.name.now (flag_of a.traced) a.f a.keep.now c.gather-o.result c.gather-o.ensures.0 c.gather-o.ensures.1 c.gather-o.ensures.2
     c.measure_ordered.ensures

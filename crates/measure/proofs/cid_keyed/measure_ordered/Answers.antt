@@ -1,4 +1,5 @@
 -- `measure::cid_keyed::measure_ordered` meets its contract: the strings and the bodies are prepared, and the subset is measured from its plan.
+use Rattle.subset.specs.Flag.{flag_of}
 use Rattle.std.proofs.Common.{[], refl, sym, ◌∙◌}
 use Rattle.record.specs.Record.{rows_of}
 use Rattle.cid_parts.specs.CidPlacesLaws.{strings_ready, own-few, table-room, ranks-room}
@@ -30,4 +31,4 @@ pub returns : goal.returns
 returns c =
     let a = c.args in
     let h = c.requires.0 in
-    (cut-planned a.font.now a.o h.read a.words.now _ _ (table-room _ refl) c.rank_fds-count.ensures.0 (rows_of a.rows.now) _ c.plan_all-plan.result c.plan_all-plan.ensures.3 c.plan_all-plan.ensures.4 a.name.now 67108864 a.traced h.keyed (own-few _ _ _ (strings_ready a.font.now a.o.f h.read _ _ c.prepare_cid-own.ensures.0 c.prepare_cid-own.ensures.1)) c.plan_all-plan.ensures.5 {out = []} (record { answers = c.measure_planned.ensures; output = refl })).answers
+    (cut-planned a.font.now a.o h.read a.words.now _ _ (table-room _ refl) c.rank_fds-count.ensures.0 (rows_of a.rows.now) _ c.plan_all-plan.result c.plan_all-plan.ensures.3 c.plan_all-plan.ensures.4 a.name.now 67108864 (flag_of a.traced) h.keyed (own-few _ _ _ (strings_ready a.font.now a.o.f h.read _ _ c.prepare_cid-own.ensures.0 c.prepare_cid-own.ensures.1)) c.plan_all-plan.ensures.5 {out = []} (record { answers = c.measure_planned.ensures; output = refl })).answers

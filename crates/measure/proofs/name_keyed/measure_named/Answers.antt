@@ -1,4 +1,5 @@
 -- `measure::name_keyed::measure_named` meets its contract: the glyphs that are gathered are the kept ones, and their measure is the measure.
+use Rattle.subset.specs.Flag.{flag_of}
 use Rattle.std.proofs.Common.{arith, false, replicate, ◌<◌}
 use Rattle.outcome.specs.BothLaws.{gather_asked}
 use Rattle.by_name.specs.NamedKeptLaws.{gathered-asked}
@@ -13,7 +14,7 @@ gather-o-requires c =
 pub measure_ordered-requires : goal.measure_ordered-requires
 measure_ordered-requires c =
     let g = c.gather-o.ensures in (
-      gathered-asked false _ c.args.rows.now c.args.name.now c.args.traced _ c.requires.0 c.args.keep.now c.args.words.now c.requires.1 c.gather-o.result _ _ g.0 g.1 g.2
+      gathered-asked false _ c.args.rows.now c.args.name.now (flag_of c.args.traced) _ c.requires.0 c.args.keep.now c.args.words.now c.requires.1 c.gather-o.result _ _ g.0 g.1 g.2
           c.gather-o.auto.words,
       c.requires.1.named,
     )
@@ -21,4 +22,4 @@ measure_ordered-requires c =
 pub returns : goal.returns
 returns c =
     let g = c.gather-o.ensures in
-    named-gathered _ c.args.rows.now c.args.name.now c.args.traced _ c.requires.0 c.args.keep.now c.args.words.now c.requires.1 c.gather-o.result _ _ g.0 g.1 g.2 _ c.measure_ordered.ensures
+    named-gathered _ c.args.rows.now c.args.name.now (flag_of c.args.traced) _ c.requires.0 c.args.keep.now c.args.words.now c.requires.1 c.gather-o.result _ _ g.0 g.1 g.2 _ c.measure_ordered.ensures

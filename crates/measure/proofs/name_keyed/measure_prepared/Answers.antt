@@ -1,4 +1,5 @@
 -- `measure::name_keyed::measure_prepared` meets its contract: FD 0 is in use, and the bodies that are planned for it are the subset's.
+use Rattle.subset.specs.Flag.{flag_of}
 use Rattle.std.proofs.Common.{arith, ◌≤◌}
 use Rattle.named_parts.specs.Named.{coded_for, first_fd}
 use Rattle.by_name.specs.NamedPlanLaws.{first-only, plan_in, prepared_plan, prepared_strings}
@@ -22,5 +23,5 @@ measure_planned-requires c =
 pub returns : goal.returns
 returns c =
     let e = c.plan_all-plan.ensures in
-    prepared_measured _ _ _ _ c.requires.0 first_fd first-only _ _ c.plan_all-plan.result e.2 e.3 e.4 _ c.args.traced e.5 (coded_for c.args.names.encoding c.args.slots.now) c.args.name.now _
+    prepared_measured _ _ _ _ c.requires.0 first_fd first-only _ _ c.plan_all-plan.result e.2 e.3 e.4 _ (flag_of c.args.traced) e.5 (coded_for c.args.names.encoding c.args.slots.now) c.args.name.now _
     c.measure_planned.ensures

@@ -1,6 +1,0 @@
--- `write::subset` meets its contract: the cut by this keying.
-use Rattle.prune.specs.StepLaws.{zero_one}
-use Rattle.write.proofs.subset.Goals as goal
-
-pub cut-requires : goal.cut-requires
-cut-requires c = λ e. absurd (zero_one cc)
