@@ -22,7 +22,7 @@ use Rattle.faithful.specs.Faithful.{Faithful}
 use Rattle.faithful.specs.Codes.{KeepsCodes}
 use Rattle.outcome.specs.Entry.{answer_of, work_in, CutsWith}
 use Rattle.outcome.specs.declared.Subsetted.{Subsetted}
-use Rattle.capi.specs.Capi.{Answer, refused, given, Answers}
+use Rattle.capi.specs.Capi.{given, Answers}
 use Rattle.capi.specs.CapiLaws.{number_least, number_most, answers_given}
 use Rattle.capi.specs.Subset.{room_for, cut_answer, outcome_for, AnswersCut}
 use Rattle.subset.specs.declared.Way.{Way}

@@ -3,11 +3,14 @@
 ghost use Rattle.std.specs.Prelude.{◌≡◌, true, false, not, eqb, [], ◌∷◌};
 ghost use Rattle.cff.specs.Find.{work_size};
 ghost use Rattle.small.specs.Small.{small_size};
+ghost use Rattle.outcome.specs.Entry.{size_of};
+ghost use Rattle.write.specs.Call.{is_cid, asks};
 ghost use Rattle.capi.specs.Capi.{given, Answers};
 ghost use Rattle.capi.specs.Subset.{room_for, cut_answer, AnswersCut};
 
 use outcome::Subsetted;
 use refusal::Refusal;
+use write::{Call, Keying};
 
 // The room for a subset: none where fewer than two words are lent for its answer.
 pub fn room_for(words: usize, room: usize) -> usize
@@ -41,6 +44,26 @@ fn put_cut(cut: Result<Subsetted, Refusal>, answer: &mut [u64]) -> u8
     }
 }
 
+// What each entry for C does, which says which call it is: the subset is cut in the room that the answer's words leave.
+fn answer_cut(
+    call: Call,
+    font: &[u8],
+    name: &[u8],
+    keep: &[u16],
+    rows: &[u8],
+    traced: u8,
+    work: &mut [u32],
+    out: &mut [u8],
+    answer: &mut [u64],
+) -> u8
+    ensures { AnswersCut (size_of call.small) (is_cid call.keying) (asks call.keying) font.now name.now keep.now rows.now traced
+        work.old out.old answer.old work.new out.new answer.new result }
+{
+    let room = room_for(answer.len(), out.len());
+    let cut = write::cut(call, font, name, keep, rows, traced, work, &mut out[..room]);
+    put_cut(cut, answer)
+}
+
 // The subset of a name-keyed font: glyph 0 and the glyphs of the keep list; with the font's encoding where `encoding` is not 0.
 #[unsafe(no_mangle)]
 pub extern "C" fn cff_subset(
@@ -57,19 +80,13 @@ pub extern "C" fn cff_subset(
     ensures { AnswersCut work_size false (not (eqb encoding 0)) font.now name.now keep.now rows.now traced
         work.old out.old answer.old work.new out.new answer.new result }
 {
-    let asked = encoding != 0;
-    let room = room_for(answer.len(), out.len());
-    let cut = write::subset(
-        font,
-        name,
-        keep,
-        rows,
-        traced,
-        asked,
-        work,
-        &mut out[..room],
-    );
-    put_cut(cut, answer)
+    let call = Call {
+        keying: Keying::Name {
+            encoding: encoding != 0,
+        },
+        small: false,
+    };
+    answer_cut(call, font, name, keep, rows, traced, work, out, answer)
 }
 
 // The subset of a CID-keyed font.
@@ -87,9 +104,11 @@ pub extern "C" fn cff_subset_cid(
     ensures { AnswersCut work_size true false font.now name.now keep.now rows.now traced
         work.old out.old answer.old work.new out.new answer.new result }
 {
-    let room = room_for(answer.len(), out.len());
-    let cut = write::subset_cid(font, name, keep, rows, traced, work, &mut out[..room]);
-    put_cut(cut, answer)
+    let call = Call {
+        keying: Keying::Cid,
+        small: false,
+    };
+    answer_cut(call, font, name, keep, rows, traced, work, out, answer)
 }
 
 // The subset of a name-keyed font with few work words: a bit for each glyph and each subroutine (document 02, Wish 10).
@@ -108,19 +127,13 @@ pub extern "C" fn cff_subset_small(
     ensures { AnswersCut small_size false (not (eqb encoding 0)) font.now name.now keep.now rows.now traced
         work.old out.old answer.old work.new out.new answer.new result }
 {
-    let asked = encoding != 0;
-    let room = room_for(answer.len(), out.len());
-    let cut = write::subset_small(
-        font,
-        name,
-        keep,
-        rows,
-        traced,
-        asked,
-        work,
-        &mut out[..room],
-    );
-    put_cut(cut, answer)
+    let call = Call {
+        keying: Keying::Name {
+            encoding: encoding != 0,
+        },
+        small: true,
+    };
+    answer_cut(call, font, name, keep, rows, traced, work, out, answer)
 }
 
 // The subset of a CID-keyed font with few work words.
@@ -138,7 +151,9 @@ pub extern "C" fn cff_subset_cid_small(
     ensures { AnswersCut small_size true false font.now name.now keep.now rows.now traced
         work.old out.old answer.old work.new out.new answer.new result }
 {
-    let room = room_for(answer.len(), out.len());
-    let cut = write::subset_cid_small(font, name, keep, rows, traced, work, &mut out[..room]);
-    put_cut(cut, answer)
+    let call = Call {
+        keying: Keying::Cid,
+        small: true,
+    };
+    answer_cut(call, font, name, keep, rows, traced, work, out, answer)
 }

@@ -7,7 +7,7 @@ use crate::cut::{put_two, room_for};
 use refusal::Refusal;
 use traced::Recorded;
 
-// Writes the flag and the length of a record to the lent words.
+// Writes the flag and the length of a record to the lent words. A trait for what has two words would be longer than this and `put_cut`.
 fn put_traced(t: Result<Recorded, Refusal>, answer: &mut [u64]) -> u8
     ensures { Answers (traced_answer t) answer.old answer.new result }
 {

@@ -13,7 +13,7 @@ ghost use Rattle.sheet_cut.specs.Cutting.{length_in, outcome_in, Given};
 use outcome::Subsetted;
 use refusal::Refusal;
 use sheet::printing::{put_refused, put_subset};
-use write::{subset, subset_cid};
+use write::{Call, Keying};
 
 // Cuts by the keying of the font: as name-keyed, and where that is refusal 3 as CID-keyed. Refusal 3 has left the words and the output as found.
 pub fn cut_by_keying(
@@ -28,11 +28,19 @@ pub fn cut_by_keying(
     ensures { Cuts (keying (read_font font.now)) false font.now name.now keep.now rows.now traced
         work.old out.old work.new out.new result }
 {
-    let first = subset(font, name, keep, rows, traced, false, &mut *work, &mut *out);
+    let named = Call {
+        keying: Keying::Name { encoding: false },
+        small: false,
+    };
+    let first = write::cut(named, font, name, keep, rows, traced, &mut *work, &mut *out);
     match first {
         Err(e) => {
             if e == Refusal::Unsupported {
-                return subset_cid(font, name, keep, rows, traced, work, out);
+                let keyed = Call {
+                    keying: Keying::Cid,
+                    small: false,
+                };
+                return write::cut(keyed, font, name, keep, rows, traced, work, out);
             }
             Err(e)
         }

@@ -15,7 +15,7 @@ ghost use Rattle.subset_cases.specs.SubsetCases.{outcome_bytes, lent_answer, kep
 
 use outcome::Subsetted;
 use refusal::Refusal;
-use write::{subset, subset_cid};
+use write::{Call, Keying};
 
 // W of a font, 0 where reading refuses it.
 fn work_of(font: &[u8]) -> usize
@@ -41,9 +41,17 @@ fn cut(
     ensures { Cuts cid false font.now name.now keep.now rows.now traced work.old out.old work.new out.new result }
 {
     if cid {
-        return subset_cid(font, name, keep, rows, traced, work, out);
+        let keyed = Call {
+            keying: Keying::Cid,
+            small: false,
+        };
+        return write::cut(keyed, font, name, keep, rows, traced, work, out);
     }
-    subset(font, name, keep, rows, traced, false, work, out)
+    let named = Call {
+        keying: Keying::Name { encoding: false },
+        small: false,
+    };
+    write::cut(named, font, name, keep, rows, traced, work, out)
 }
 
 // What a call answers and leaves, with work words and an output that were filled.

@@ -25,6 +25,8 @@ use Rattle.small.specs.Small.{small_size}
 use Rattle.small.specs.Theorem.{small-less}
 use Rattle.outcome.specs.Entry.{answer_of, size_of, work_in, CutsWith, refusal_of, cut_behind, Cut, Passed}
 use Rattle.outcome.specs.declared.Subsetted.{Subsetted}
+use Rattle.write.specs.declared.Keying.{Keying}
+use Rattle.write.specs.Call.{is_cid, asks}
 use Rattle.refusal.specs.declared.Refusal.{Refusal}
 use Rattle.refusal.specs.declared.Refusal.TheVariants.{Malformed, Unsupported, TooLong, NoSuchNumber, NotFound, BadRecord, Work, Subset, Output, StringId, Pairs}
 
@@ -260,16 +262,10 @@ module _ (small cid ask : Bool) (font : List ℕ) (f : Font) (b : List ℕ) (nam
           ∙ ap (λ (m : ℕ). zeros m ++ drop m work) wide)
 
 -- the keying that is asked for, when it was found
-pub passed-keyed : (cid ask t : Bool) (p : Program) (name : ℕ) (keep rec : List ℕ) (flag words : ℕ) → Passed cid ask p name keep rec flag words → cid ≡ t
-    → Passed t ask p name keep rec flag words
-passed-keyed cid ask t p name keep rec flag words h e = subst (λ (x : Bool). Passed x ask p name keep rec flag words) e h
+module _ (k j : Keying) (e : k ≡ j) (p : Program) where
+  pub passed_as : (name : ℕ) (keep rec : List ℕ) (flag words : ℕ) → Passed (is_cid k) (asks k) p name keep rec flag words → Passed (is_cid j) (asks j) p name keep rec flag words
+  passed_as name keep rec flag words h = subst (λ (x : Keying). Passed (is_cid x) (asks x) p name keep rec flag words) e h
 
--- a CID-keyed font, whose encoding is not asked for
-module _ (cid ask : Bool) (no : cid ≡ true → ask ≡ false) (is : cid ≡ true) (p : Program) where
-  pub passed_cid : (name : ℕ) (keep rec : List ℕ) (flag words : ℕ) → Passed cid ask p name keep rec flag words → Passed true false p name keep rec flag words
-  passed_cid name keep rec flag words h =
-      subst (λ (a : Bool). Passed true a p name keep rec flag words) (no is) (passed-keyed cid ask true p name keep rec flag words h is)
-
-  pub cut_as_cid : (name keep rec : List ℕ) (flag : ℕ) (out out' : List ℕ) (r : Result Subsetted Refusal) → Cut (cut_behind false p name keep rec flag (length out)) out out' r
-      → Cut (cut_behind ask p name keep rec flag (length out)) out out' r
-  cut_as_cid name keep rec flag out out' r c = subst (λ (a : Bool). Cut (cut_behind a p name keep rec flag (length out)) out out' r) (sym (no is)) c
+  pub cut_as : (name keep rec : List ℕ) (flag : ℕ) (out out' : List ℕ) (r : Result Subsetted Refusal) → Cut (cut_behind (asks j) p name keep rec flag (length out)) out out' r
+      → Cut (cut_behind (asks k) p name keep rec flag (length out)) out out' r
+  cut_as name keep rec flag out out' r c = subst (λ (x : Keying). Cut (cut_behind (asks x) p name keep rec flag (length out)) out out' r) (sym e) c
