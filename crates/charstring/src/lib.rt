@@ -55,10 +55,7 @@ pub struct Cursor {
 pub fn is_mask(op: u8) -> bool
     ensures { result ≡ is_mask op }
 {
-    if op == 19 {
-        return true;
-    }
-    op == 20
+    op == 19 || op == 20
 }
 
 // Whether the numbers before an operator are stems: hstem, vstem, hstemhm, vstemhm, and the masks.

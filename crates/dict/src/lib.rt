@@ -243,7 +243,8 @@ pub fn place(d: &[u8], p: Places, op: usize) -> Option<OperandsAt>
     find_entry(d, op)
 }
 
-// The k-th operand from a position on, the first being the 0th; zero where there are not so many.
+// The k-th operand from a position on, the first being the 0th; zero where there are not so many. How many are left is counted beside the cursor:
+// behind a `for` the operand that is asked for would be read by the same match once more.
 pub fn operand(d: &[u8], start: usize, k: usize) -> Decimal
     ensures { result ≡ get_or (operands_at (k + 1) d.now start) k nought }
 {

@@ -28,7 +28,8 @@ fn put_decimal(d: Decimal, out: &mut [u8], at: usize) -> usize
     put_powers(d.up, d.down, out, q)
 }
 
-// The operands that stand from a position on.
+// The operands that stand from a position on, as dict_write `put_operands` writes them in their shortest form. A trait for how a number is written, with its
+// law, would be longer than this.
 fn put_operands(d: &[u8], start: usize, count: usize, out: &mut [u8], to: usize) -> usize
     requires { to + 11 * count ≤ length out.old }
     ensures { Wrote out.old to (operands_bytes (operands_at count d.now start)) out.new result }

@@ -1,5 +1,5 @@
 -- Laws of a part: the rows of a body from an offset on, as many as a window holds, give what the whole record gives up to the last of their offsets.
-use Rattle.std.specs.Prelude.{ℕ, ◌+◌, ◌-◌, ◌*◌, ◌/◌, ◌%◌, ◌≤◌, ◌<◌, ◌≡◌, refl, Bool, true, false, List, [], ◌∷◌, ◌++◌, map, ltb, length, take, get_or}
+use Rattle.std.specs.Prelude.{ℕ, ◌+◌, ◌-◌, ◌*◌, ◌/◌, ◌%◌, ◌≤◌, ◌<◌, ◌≡◌, refl, Bool, true, false, List, [], ◌∷◌, ◌++◌, map, length, take, get_or}
 use Rattle.std.proofs.Common.{sym, ap, ◌∙◌, subst, arith, lt-ltb, le-ltb, length-take-le, get_or-take}
 use Rattle.std.proofs.lemmas.Bool.{false≢true}
 use Rattle.octets.specs.Pick.{pick}
@@ -9,22 +9,21 @@ use Rattle.octets.specs.PutLaws.{wrote-length}
 use Rattle.unfold.specs.Unfold.{Row, Site, masked}
 use Rattle.record.specs.Record.{rows_of, rows_from, lists, given_in, two_lengths_lem}
 use Rattle.subset.specs.Kept.{is_in}
-use Rattle.reach.specs.Reach.{Fits, SiteFits, site_of, rises}
+use Rattle.reach.specs.Reach.{SiteFits, site_of, rises}
 use Rattle.reach.specs.RowLaws.{all_fit}
 use Rattle.reach.specs.Cases.{by_order}
 use Rattle.reach.specs.declared.Site as code
 use Rattle.reach.specs.declared.Site.TheVariants.{Glyph, Local, Global}
-use Rattle.row_window.specs.Window.{gathered, within, Below, none, one, Gathers}
+use Rattle.row_window.specs.Window.{within, Below, none, one, Gathers}
 use Rattle.row_window.specs.MergeLaws.{gathers-few}
 use Rattle.row_window.specs.NextLaws.{window-whole, window-next, front-inside}
 use Rattle.mask_rows.specs.MaskRows.{no_key, keys_in, row_for, rows_bytes, room_in}
 use Rattle.mask_rows.specs.KeyLaws.{mask, in_both, keys_list, lists-none, rows-length, rows-rise}
 use Rattle.mask_rows.specs.FillLaws.{rows_fit, window-below, rows_written}
-use Rattle.mask_rows.specs.SameLaws.{either-right, given-alike, two_back}
+use Rattle.mask_rows.specs.SameLaws.{given-alike, two_back}
 use Rattle.long_bodies.specs.Offsets.{body_in, keys_to, end_of, Lent, Gives}
 use Rattle.long_bodies.specs.TwoLaws.{in_at, in_to, site_mask, listed}
 use Rattle.long_bodies.specs.declared.offsets.Body.{Body}
-use Rattle.long_bodies.specs.declared.offsets.Part.{Part}
 
 below_more : (a b : ℕ) → a ≤ b → (l : List ℕ) → Below a l → Below b l
 below_more a b h [] none = none

@@ -3,7 +3,7 @@
 use Prim.Native.Nat.{ℕ, zero, suc, ◌+◌, ◌-◌, ◌*◌, ◌/◌, ◌%◌, ◌≤◌, ◌<◌}
 use Rattle.std.specs.Prelude.{◌≡◌, refl, Bool, false, ltb, eqb, length, take}
 use Rattle.std.proofs.Math.Path.{sym, ap}
-use Rattle.std.proofs.Common.{◌∙◌, subst, not-suc-le-zero, le-ltb, eq-eqb, ne_eqb, eqb-true, ltb-true, ltb-false, take-append-drop, take-take, get_or-take}
+use Rattle.std.proofs.Common.{◌∙◌, subst, not-suc-le-zero, eq-eqb, ne_eqb, eqb-true, ltb-true, ltb-false, take-append-drop, take-take, get_or-take}
 use Rattle.std.proofs.Math.Bool.{true}
 use Rattle.std.proofs.lemmas.Bool.{false≢true}
 use mathlib.Core.List.{List, [], ◌∷◌, ◌++◌}
@@ -16,19 +16,19 @@ use Rattle.octets.specs.Octets.{Octets}
 use Rattle.unfold.specs.Unfold.{Row, Site, masked}
 use Rattle.record.specs.Record.{rows_of, lists, two_lengths_lem}
 use Rattle.subset.specs.Kept.{is_in}
-use Rattle.reach.specs.Reach.{Fits, SiteFits, site_of}
+use Rattle.reach.specs.Reach.{Fits, site_of}
 use Rattle.reach.specs.RowLaws.{all_fit}
 use Rattle.reach.specs.Cases.{by_number, by_order}
 use Rattle.reach.specs.declared.Site as code
 use Rattle.reach.specs.declared.Site.TheVariants.{Glyph, Local, Global}
-use Rattle.row_window.specs.Window.{gathered, within, Above, Rising, none, one, Gathers}
+use Rattle.row_window.specs.Window.{within, Above, Rising, none, one, Gathers}
 use Rattle.row_window.specs.WindowLaws.{above-less, rising-gathered}
 use Rattle.row_window.specs.MergeLaws.{gathers-few}
 use Rattle.row_window.specs.NextLaws.{window-whole, window-next, front-inside}
 use Rattle.mask_rows.specs.MaskRows.{keys_in, room_in}
 use Rattle.mask_rows.specs.KeyLaws.{mask, in_gathered, in_range, lists-key, lists-none}
 use Rattle.mask_rows.specs.SameLaws.{either_left, either-right, same_truth, two-found, two_back}
-use Rattle.long_bodies.specs.Offsets.{body_in, keys_to, keys_from, two_in_lem, Lent}
+use Rattle.long_bodies.specs.Offsets.{body_in, keys_to, keys_from, two_in_lem}
 use Rattle.long_bodies.specs.declared.offsets.Body.{Body}
 
 -- ---- which keys are among some

@@ -27,10 +27,7 @@ use renumbered::{held_len, put_held, put_run, put_sent, run_len, sent_len, turn_
 fn offset_at(at: usize) -> usize
     ensures { result ≡ at - 1 }
 {
-    if at == 0 {
-        return 0;
-    }
-    at - 1
+    at.saturating_sub(1)
 }
 
 // The length of a body renumbered, of one length at each offset; or that this fails.

@@ -7,7 +7,6 @@ use Rattle.reach.specs.Ranks.{reached_in, past_of}
 use Rattle.reach.specs.RowLaws.{all_fit}
 use Rattle.reach.specs.Cases.{by_number}
 use Rattle.reach.specs.CountLaws.{none-past, some-past}
-use Rattle.reach.specs.declared.ranks.Ranked as code
 
 -- a row's number has two bytes
 pub narrow_set : (b : List ℕ) → Octets b → (kind fd k : ℕ) → 65536 ≤ k → reached_in (rows_of b) kind fd k ≡ false

@@ -113,10 +113,7 @@ fn call(words: &[u32], q: Ranks, h: Option<f32>) -> Turn
 fn is_call(b: u8) -> bool
     ensures { result ≡ is_call b }
 {
-    if b == 10 {
-        return true;
-    }
-    b == 29
+    b == 10 || b == 29
 }
 
 // The subroutines of which a call calls one. (Calls of both kinds are taken in one place, which the compiler then puts into `turn_at`.)

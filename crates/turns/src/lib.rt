@@ -136,10 +136,7 @@ fn goes_on(at: usize, prev: usize, args: usize, stems: usize, spent: usize) -> T
 fn one_less(n: usize) -> usize
     ensures { result ≡ n - 1 }
 {
-    if n == 0 {
-        return 0;
-    }
-    n - 1
+    n.saturating_sub(1)
 }
 
 // A call of one of `count` subroutines, global or local; it takes its operand back.

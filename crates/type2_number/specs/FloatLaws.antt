@@ -1,5 +1,5 @@
 -- Laws of f32 arithmetic on counts of 65536ths.
-use Rattle.std.specs.Prelude.{◌≡◌, ℕ, zero, suc, ◌+◌, ◌-◌, ◌*◌, ◌/◌, ◌^◌, ◌≤◌, ◌<◌, Bool, true, false, not, cond, ltb, pos, neg_ℤ, Float}
+use Rattle.std.specs.Prelude.{◌≡◌, ℕ, zero, suc, ◌+◌, ◌-◌, ◌*◌, ◌^◌, ◌≤◌, ◌<◌, Bool, true, false, not, cond, ltb, pos, neg_ℤ, Float}
 use Rattle.std.proofs.Math.Path.{refl}
 use Rattle.std.proofs.Common.{sym, ap, ◌∙◌, mul-one, mul_comm, mul_assoc, mul_left_comm, mul_right_comm, mul-pos, zero-lt-suc, add-mul, lt_of_lt_of_le, mul-lt-mul_of_pos_right, lt_irrefl, arith, true≢false, lit<, lit≤, shl_lt, lt-ltb, le-ltb, le-leb}
 use Rattle.std.proofs.Math.Nat.{mul-sub}

@@ -1,11 +1,8 @@
 -- `bits::rank` meets its contract: whole words from where the sum ends, and one masked word.
 use Rattle.std.proofs.Common.{ap, arith, get_or, ◌%◌, ◌+◌, ◌/◌, ◌^◌, ◌∙◌, ◌≡◌}
 use lib.Count.{ones}
-use Rattle.bits.specs.BitsLaws.{mask_pos, masked_is, below-from}
+use Rattle.bits.specs.BitsLaws.{masked_is, below-from}
 use Rattle.bits.proofs.rank.Goals as goal
-
-pub overflow_sub-mask : goal.overflow_sub-mask
-overflow_sub-mask c = mask_pos (c.args.k % 32) (omega arith)
 
 pub returns : goal.returns
 returns c =

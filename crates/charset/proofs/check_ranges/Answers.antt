@@ -1,5 +1,5 @@
 -- `charset::check_ranges` meets its contract.
-use Rattle.std.proofs.Common.{arith, length, refl, rules, ◌+◌, ◌<◌, ◌∙◌, ◌≤◌}
+use Rattle.std.proofs.Common.{arith, length, ◌+◌, ◌<◌, ◌∙◌, ◌≤◌}
 use Rattle.charset.specs.CharsetLaws.{check_lost, check-last, check-last-past, check-past, check-on, check_done, left-small}
 use Rattle.charset.proofs.check_ranges.Goals as goal
 use Rattle.charset.proofs.check_ranges.Goals.{After-num_at-left}
@@ -12,9 +12,6 @@ there c = omega arith
 
 small : (c : After-num_at-left) → c.num_at-left.result < 65536
 small c = left-small _ _ c.num_at-left.ensures.1 c.requires.0
-
-pub loop-k-init : goal.loop-k-init
-loop-k-init c = (refl, refl, search rules, search rules, refl)
 
 pub returns-then-len-q : goal.returns-then-len-q
 returns-then-len-q c =

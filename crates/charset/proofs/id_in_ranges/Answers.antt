@@ -36,9 +36,6 @@ loop-left-preserved c =
 pub u16_at-requires : goal.u16_at-requires
 u16_at-requires c = omega (arith, reach_there _ _ _ _ _ _ _ _ c.loop-left.invariant c.requires.2)
 
-pub overflow_add-result : goal.overflow_add-result
-overflow_add-result c = omega (arith, c.loop-left.invariant.all)
-
 pub returns : goal.returns
 returns c =
     let l = c.loop-left in

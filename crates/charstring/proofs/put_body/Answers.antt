@@ -36,9 +36,6 @@ nextly c =
 pub loop-c-init : goal.loop-c-init
 loop-c-init c = (writing_start _ _ (λ i. (c.type_inv.code i).fits) _ _ _ c.start-c.ensures, refl)
 
-pub given_at-given-requires : goal.given_at-given-requires
-given_at-given-requires c = c.loop-c.invariant.0.walk.within.behind
-
 pub next_token-requires : goal.next_token-requires
 next_token-requires c = (c.loop-c.invariant.0.walk.within, going (goal.at.next_token-requires c).In-loop-c)
 

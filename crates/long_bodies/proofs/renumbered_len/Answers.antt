@@ -4,9 +4,6 @@ use Rattle.renumber.specs.BodyLaws.{two-fail, one-length}
 use Rattle.long_bodies.specs.PartLaws.{lent_same}
 use Rattle.long_bodies.proofs.renumbered_len.Goals as goal
 
-pub two_lengths-requires : goal.two_lengths-requires
-two_lengths-requires c = let l = c.requires.1 in (l.few, l.some, l.most)
-
 pub returns-then-two_lengths : goal.returns-then-two_lengths
 returns-then-two_lengths c = two-fail _ _ _ _ (sym c.two_lengths.ensures ∙ c.if-two_lengths.true)
 

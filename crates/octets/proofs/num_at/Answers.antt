@@ -3,15 +3,6 @@ use Rattle.std.proofs.Common.{arith, lit<, sym, ◌∙◌}
 use Rattle.octets.specs.OctetsLaws.{num-none, num-one, num_width}
 use Rattle.octets.proofs.num_at.Goals as goal
 
-pub returns-then-n-eq4 : goal.returns-then-n-eq4
-returns-then-n-eq4 c = num_width _ _ _ 4 _ c.if-n-eq4.true c.u32_at.ensures.0 c.u32_at.ensures.1
-
-pub returns-then-n-eq3 : goal.returns-then-n-eq3
-returns-then-n-eq3 c = num_width _ _ _ 3 _ c.if-n-eq3.true c.u24_at.ensures.0 c.u24_at.ensures.1
-
-pub returns-then-n-eq2 : goal.returns-then-n-eq2
-returns-then-n-eq2 c = num_width _ _ _ 2 _ c.if-n-eq2.true c.u16_at.ensures.0 c.u16_at.ensures.1
-
 pub returns-then-n-eq1 : goal.returns-then-n-eq1
 returns-then-n-eq1 c = num_width _ _ _ 1 _ c.if-n-eq1.true (c.u8_at.ensures.0 ∙ sym (num-one _ _ (omega arith))) c.u8_at.ensures.1
 

@@ -9,9 +9,6 @@ returns-then-x-lt391 c = count_low _ c.args.own _ _ c.if-x-lt391.true
 pub returns-then-id-count : goal.returns-then-id-count
 returns-then-id-count c = count_same _ c.args.own _ _ c.if-x-lt391.false c.if-id-count.true
 
-pub own_text-text-requires : goal.own_text-text-requires
-own_text-text-requires c = (c.requires.0.good, c.if-x-lt391.false)
-
 pub overflow_add-result-2 : goal.overflow_add-result-2
 overflow_add-result-2 c = omega (arith, c.requires.2, ap length c.own_text-text.ensures, text-short _ _ c.requires.0 c.args.x c.if-x-lt391.false)
 

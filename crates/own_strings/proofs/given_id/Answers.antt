@@ -1,5 +1,5 @@
 -- `own_strings::given_id` meets its contract: by the kind of string id, and by the first slot that has its text.
-use Rattle.std.proofs.Common.{arith, sym, ◌∙◌}
+use Rattle.std.proofs.Common.{arith}
 use Rattle.index.specs.Index.{items_of}
 use Rattle.own_strings.specs.TurnLaws.{given-none, given-low, given-standard, given-slot, given-next}
 use Rattle.own_strings.proofs.given_id.Goals as goal
@@ -9,9 +9,6 @@ returns-then-x-eq65536 c = given-none (items_of c.args.font.now c.args.strings) 
 
 pub returns-then-x-lt391 : goal.returns-then-x-lt391
 returns-then-x-lt391 c = given-low (items_of c.args.font.now c.args.strings) c.args.slots.now c.args.n c.args.count c.args.x c.if-x-eq65536.false c.if-x-lt391.true
-
-pub slot_with-j-requires : goal.slot_with-j-requires
-slot_with-j-requires c = (c.requires.0, sym c.sid_of.ensures ∙ c.in-None.is, omega (arith, c.requires.1, c.requires.2))
 
 pub returns-then-j-n : goal.returns-then-j-n
 returns-then-j-n c = given-slot _ _ c.args.n c.args.count c.args.x c.if-x-eq65536.false c.if-x-lt391.false _ c.own_text-text.ensures _ c.sid_of.ensures c.in-None.is (omega (arith, c.requires.1, c.requires.2)) _ c.slot_with-j.ensures c.if-j-n.true

@@ -1,22 +1,10 @@
 -- `private_dicts::dict_len` meets its contract: its bytes are a part of the font.
-use Rattle.std.proofs.Common.{List, ap, arith, length, ℕ, ◌+◌, ◌-◌, ◌∙◌}
+use Rattle.std.proofs.Common.{List, ap, length, ℕ, ◌+◌, ◌-◌, ◌∙◌}
 use Rattle.octets.specs.ListLaws.{span}
 use Rattle.dict.specs.Places.{entries_of}
 use Rattle.private_dicts.specs.PrivatesLaws.{part-few}
 use Rattle.private_dicts.specs.Privates.{private_dict_by}
 use Rattle.private_dicts.proofs.dict_len.Goals as goal
-
-pub overflow_add-end : goal.overflow_add-end
-overflow_add-end c = omega (arith, c.requires.0, c.requires.1.within)
-
-pub slice_bounds-d-count : goal.slice_bounds-d-count
-slice_bounds-d-count c = omega arith
-
-pub slice_bounds-d-start : goal.slice_bounds-d-start
-slice_bounds-d-start c = omega arith
-
-pub slice_bounds-d-end : goal.slice_bounds-d-end
-slice_bounds-d-end c = omega (arith, c.requires.1.within)
 
 pub bytes_len-requires : goal.bytes_len-requires
 bytes_len-requires c = part-few c.args.font.now c.args.q.start (c.args.q.start + c.args.q.size - c.args.q.start) _ c.requires.0

@@ -1,23 +1,11 @@
 -- `private_dicts::put_dict` meets its contract: its bytes are a part of the font.
-use Rattle.std.proofs.Common.{List, ap, arith, ℕ}
+use Rattle.std.proofs.Common.{List, ap, ℕ}
 use Rattle.octets.specs.PutLaws.{wrote_as}
 use Rattle.dict.specs.Places.{entries_of}
 use Rattle.private_dicts.specs.PrivatesLaws.{part-asked}
 use Rattle.private_dicts.specs.Privates.{private_dict_by}
 use Rattle.octets.specs.ListLaws.{span}
 use Rattle.private_dicts.proofs.put_dict.Goals as goal
-
-pub overflow_add-end : goal.overflow_add-end
-overflow_add-end c = omega (arith, c.requires.0, c.requires.1.within)
-
-pub slice_bounds-d-count : goal.slice_bounds-d-count
-slice_bounds-d-count c = omega arith
-
-pub slice_bounds-d-start : goal.slice_bounds-d-start
-slice_bounds-d-start c = omega arith
-
-pub slice_bounds-d-end : goal.slice_bounds-d-end
-slice_bounds-d-end c = omega (arith, c.requires.1.within)
 
 pub put_bytes-requires : goal.put_bytes-requires
 put_bytes-requires c = part-asked c.args.font.now c.args.q.start c.args.q.size _ _ _ c.requires.2 c.requires.3

@@ -46,17 +46,8 @@ heldly c = turning_held (calls_in (view.up-At-loop-locals _ _ _ _ _ c.before.bef
 pub loop-locals-init : goal.loop-locals-init
 loop-locals-init c = sizing_start _ (calls-read _ _ _ c.requires.local_ranks c.requires.global_ranks) _ _ (λ i. (c.type_inv.code i).fits) _ c.start-c.ensures
 
-pub run_at-run-requires : goal.run_at-run-requires
-run_at-run-requires c = c.loop-locals.invariant.turning.walk.within
-
-pub run_len-len-requires : goal.run_len-len-requires
-run_len-len-requires c = (c.loop-locals.invariant.turning.held, c.run_at-run.ensures.starts, omega (arith, c.run_at-run.ensures.ends, c.run_at-run.ensures.inside, c.requires.size))
-
 pub overflow_add-len : goal.overflow_add-len
 overflow_add-len c = let m = sizing_run (calls_in (goal.at.overflow_add-len c).At-loop-locals) (reads (goal.at.overflow_add-len c).At-loop-locals) (givenBy (goal.at.overflow_add-len c).At-loop-locals) c.args.code.now (bytes (goal.at.overflow_add-len c).At-loop-locals) _ _ c.run_at-run.ensures c.if-c-run.true _ _ c.loop-locals.invariant _ c.run_len-len.ensures _ refl in omega (arith, m.small, m.turning.walk.within.inside, c.requires.size)
-
-pub held_at-h-requires : goal.held_at-h-requires
-held_at-h-requires c = c.run_at-run.ensures.inside
 
 pub loop-locals-smaller-then-c-run : goal.loop-locals-smaller-then-c-run
 loop-locals-smaller-then-c-run c = run_shorter (calls_in (goal.at.loop-locals-smaller-then-c-run c).At-loop-locals) (reads (goal.at.loop-locals-smaller-then-c-run c).At-loop-locals) (givenBy (goal.at.loop-locals-smaller-then-c-run c).At-loop-locals) c.args.code.now (bytes (goal.at.loop-locals-smaller-then-c-run c).At-loop-locals) _ _ c.run_at-run.ensures c.if-c-run.true
@@ -81,9 +72,6 @@ loop-locals-preserved c = sizing_turn (calls_in (goal.at.loop-locals-preserved c
 
 pub returns-in-None : goal.returns-in-None
 returns-in-None c = sized_failed (calls_in (goal.at.returns-in-None c).At-loop-locals) (reads (goal.at.returns-in-None c).At-loop-locals) (givenBy (goal.at.returns-in-None c).At-loop-locals) c.args.code.now (bytes (goal.at.returns-in-None c).At-loop-locals) c.loop-locals.c _ _ c.loop-locals.invariant (going (goal.at.returns-in-None c).In-loop-locals) _ c.turn_at.ensures c.in-None.is
-
-pub held_len-requires : goal.held_len-requires
-held_len-requires c = c.loop-locals.invariant.turning.held
 
 pub overflow_add-result : goal.overflow_add-result
 overflow_add-result c = let m = sized-room (calls_in (goal.at.overflow_add-result c).At-loop-locals) (reads (goal.at.overflow_add-result c).At-loop-locals) (givenBy (goal.at.overflow_add-result c).At-loop-locals) c.args.code.now (bytes (goal.at.overflow_add-result c).At-loop-locals) c.loop-locals.c _ _ c.loop-locals.invariant in omega (arith, c.held_len.ensures, c.loop-locals.invariant.turning.walk.within.inside, c.requires.size)

@@ -47,14 +47,8 @@ heldly c = turning_held (calls_in (view.up-At-loop-locals _ _ _ _ _ c.before.bef
 pub loop-locals-init : goal.loop-locals-init
 loop-locals-init c = (putting_start _ (calls-read _ _ _ c.requires.0.local_ranks c.requires.0.global_ranks) _ _ (λ i. (c.type_inv.code i).fits) _ _ _ c.start-c.ensures, refl)
 
-pub run_at-run-requires : goal.run_at-run-requires
-run_at-run-requires c = c.loop-locals.invariant.0.turning.walk.within
-
 pub put_run-p-requires : goal.put_run-p-requires
 put_run-p-requires c = (c.loop-locals.invariant.0.turning.held, c.run_at-run.ensures.starts, omega (arith, c.run_at-run.ensures.ends, c.run_at-run.ensures.inside), putting_run-room (calls_in (goal.at.put_run-p-requires c).At-loop-locals) (reads (goal.at.put_run-p-requires c).At-loop-locals) (givenBy (goal.at.put_run-p-requires c).At-loop-locals) c.args.code.now (bytes (goal.at.put_run-p-requires c).At-loop-locals) _ _ c.run_at-run.ensures c.if-c-run.true _ _ _ (whole-body _ _ _ _ c.requires.1) c.requires.2 _ _ _ c.loop-locals.invariant.0)
-
-pub held_at-h-requires : goal.held_at-h-requires
-held_at-h-requires c = c.run_at-run.ensures.inside
 
 pub loop-locals-smaller-then-c-run : goal.loop-locals-smaller-then-c-run
 loop-locals-smaller-then-c-run c = run_shorter (calls_in (goal.at.loop-locals-smaller-then-c-run c).At-loop-locals) (reads (goal.at.loop-locals-smaller-then-c-run c).At-loop-locals) (givenBy (goal.at.loop-locals-smaller-then-c-run c).At-loop-locals) c.args.code.now (bytes (goal.at.loop-locals-smaller-then-c-run c).At-loop-locals) _ _ c.run_at-run.ensures c.if-c-run.true

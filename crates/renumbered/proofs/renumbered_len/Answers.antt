@@ -3,9 +3,6 @@ use Rattle.std.proofs.Common.{sym, ◌∙◌}
 use Rattle.renumber.specs.BodyLaws.{two-fail, one-length}
 use Rattle.renumbered.proofs.renumbered_len.Goals as goal
 
-pub two_lengths-requires : goal.two_lengths-requires
-two_lengths-requires c = let p = c.requires in (p.order, p.body)
-
 pub returns-then-two_lengths : goal.returns-then-two_lengths
 returns-then-two_lengths c = two-fail _ _ _ _ (sym c.two_lengths.ensures ∙ c.if-two_lengths.true)
 

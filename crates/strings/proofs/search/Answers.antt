@@ -25,12 +25,6 @@ said c =
 pub loop-low-init : goal.loop-low-init
 loop-low-init c = (search rules, search rules, narrowed_not _)
 
-pub overflow_add-middle : goal.overflow_add-middle
-overflow_add-middle c = omega arith
-
-pub offset_bounds-order-middle : goal.offset_bounds-order-middle
-offset_bounds-order-middle c = omega arith
-
 pub bounds-order-middle : goal.bounds-order-middle
 bounds-order-middle c = listed _ (order_is (goal.at.bounds-order-middle c).In-loop-low) (c.loop-low.low + (c.loop-low.high - c.loop-low.low) / 2) (middle-within (goal.at.bounds-order-middle c).In-loop-low)
 
@@ -43,18 +37,9 @@ pub returns-in-Equal : goal.returns-in-Equal
 returns-in-Equal c =
     searched_same _ (order_is (goal.at.returns-in-Equal c).In-loop-low) (c.loop-low.low + (c.loop-low.high - c.loop-low.low) / 2) (middle-within (goal.at.returns-in-Equal c).In-loop-low) _ (said (goal.at.returns-in-Equal c).After-order_of-found ∙ c.in-Equal.is)
 
-pub overflow_add-low : goal.overflow_add-low
-overflow_add-low c = omega arith
-
-pub loop-low-smaller-in-Less : goal.loop-low-smaller-in-Less
-loop-low-smaller-in-Less c = omega arith
-
 pub loop-low-preserved-in-Less : goal.loop-low-preserved-in-Less
 loop-low-preserved-in-Less c =
     (omega arith, omega arith, narrowed_up _ _ _ (c.loop-low.low + (c.loop-low.high - c.loop-low.low) / 2) c.loop-low.invariant.2 (middle-within (goal.at.loop-low-preserved-in-Less c).In-loop-low) (said (goal.at.loop-low-preserved-in-Less c).After-order_of-found ∙ c.in-Less.is))
-
-pub loop-low-smaller : goal.loop-low-smaller
-loop-low-smaller c = omega arith
 
 pub loop-low-preserved : goal.loop-low-preserved
 loop-low-preserved c =

@@ -6,18 +6,6 @@ use Rattle.strings.specs.Text.{codes}
 use Rattle.strings.specs.Strings.{standard_strings, standard_text}
 use Rattle.strings.proofs.sid_of.Goals as goal
 
-pub slice_bounds-search-end : goal.slice_bounds-search-end
-slice_bounds-search-end c = refl
-
-pub slice_bounds-search-end-2 : goal.slice_bounds-search-end-2
-slice_bounds-search-end-2 c = refl
-
-pub slice_bounds-search-end-3 : goal.slice_bounds-search-end-3
-slice_bounds-search-end-3 c = refl
-
 pub search-requires : goal.search-requires
 unfolding standard_names standard_offsets standard_order codes standard_strings joined standard_text
 search-requires c = (refl, refl, refl)
-
-pub returns : goal.returns
-returns c = c.search.ensures

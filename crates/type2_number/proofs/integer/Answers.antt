@@ -1,17 +1,8 @@
 -- `type2_number::integer` meets its contract: an integer of size up to 65536 is an f32 exactly.
-use Rattle.std.proofs.Common.{arith, le→leb, ◌*◌, ◌∙◌}
-use lib.Ieee.{in_float}
+use Rattle.std.proofs.Common.{arith, ◌*◌, ◌∙◌}
 use Rattle.type2_number.specs.Rounding.{stands}
 use Rattle.type2_number.specs.FloatLaws.{int_pos, int_neg}
 use Rattle.type2_number.proofs.integer.Goals as goal
-
-pub int_to_float-result : goal.int_to_float-result
-unfolding in_float
-int_to_float-result c = omega (arith, le→leb)
-
-pub int_to_float-result-else-down-up : goal.int_to_float-result-else-down-up
-unfolding in_float
-int_to_float-result-else-down-up c = omega (arith, le→leb)
 
 pub returns-then-down-up : goal.returns-then-down-up
 returns-then-down-up c =

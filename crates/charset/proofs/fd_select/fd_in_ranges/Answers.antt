@@ -19,9 +19,6 @@ found c = found_there _ _ _ _ _ _ _ c.loop-low.invariant c.loop-low-test.false c
 pub loop-low-init : goal.loop-low-init
 loop-low-init c = search_start _ _ _ _ _ c.requires.0 c.requires.1
 
-pub overflow_add-mid : goal.overflow_add-mid
-overflow_add-mid c = omega (arith, c.loop-low.invariant.most)
-
 pub overflow_mul-mid : goal.overflow_mul-mid
 overflow_mul-mid c = omega (arith, there c)
 
@@ -34,18 +31,12 @@ overflow_add-at-in-loop-low c = omega (arith, there c)
 pub u16_at-end-requires : goal.u16_at-end-requires
 u16_at-end-requires c = omega (arith, there c)
 
-pub loop-low-smaller-then-gid-end : goal.loop-low-smaller-then-gid-end
-loop-low-smaller-then-gid-end c = omega arith
-
 pub loop-low-preserved-then-gid-end : goal.loop-low-preserved-then-gid-end
 loop-low-preserved-then-gid-end c =
     search_left _ _ _ _ _ _ _ c.loop-low.invariant (middle (goal.at.loop-low-preserved-then-gid-end c).In-loop-low) (omega arith) (omega arith) _ c.u16_at-end.ensures.0 c.if-gid-end.true
 
 pub overflow_add-low : goal.overflow_add-low
 overflow_add-low c = omega (arith, there (goal.at.overflow_add-low c).In-loop-low)
-
-pub loop-low-smaller : goal.loop-low-smaller
-loop-low-smaller c = omega arith
 
 pub loop-low-preserved : goal.loop-low-preserved
 loop-low-preserved c =

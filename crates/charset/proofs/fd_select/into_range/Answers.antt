@@ -1,5 +1,5 @@
 -- `charset::fd_select::into_range` meets its contract.
-use Rattle.std.proofs.Common.{arith, length, refl, ◌+◌, ◌∙◌, ◌≤◌}
+use Rattle.std.proofs.Common.{arith, length, ◌+◌, ◌∙◌, ◌≤◌}
 use Rattle.charset.specs.FdCursorLaws.{into_here, into_last, entry_there, turn_ready, turn-same}
 use Rattle.charset.specs.declared.fd_select.FdCursor.{FdCursor}
 use Rattle.charset.proofs.fd_select.into_range.Goals as goal
@@ -14,9 +14,6 @@ here c =
 
 there : (c : In-loop-count) → (here c).at + 1 + (here c).wide ≤ length c.args.font.now
 there c = entry_there c.args.font.now (here c) c.loop-count.invariant.0 c.loop-count-test.true
-
-pub loop-count-init : goal.loop-count-init
-loop-count-init c = (c.requires, refl)
 
 pub returns-then-gid-end : goal.returns-then-gid-end
 returns-then-gid-end c =

@@ -17,18 +17,6 @@ here c = c.key_of-here.ensures ∙ ap key_of_lem c.row_at.ensures.0
 pub loop-low-init : goal.loop-low-init
 loop-low-init c = search_start _ _
 
-pub overflow_add-mid : goal.overflow_add-mid
-overflow_add-mid c = omega (arith, c.loop-low.invariant.most)
-
-pub row_at-requires : goal.row_at-requires
-row_at-requires c = omega (arith, c.loop-low.invariant.most)
-
-pub key_of-here-requires : goal.key_of-here-requires
-key_of-here-requires c = c.row_at.ensures.1
-
-pub overflow_add-low : goal.overflow_add-low
-overflow_add-low c = omega (arith, c.loop-low.invariant.most)
-
 pub loop-low-preserved-then-here-key : goal.loop-low-preserved-then-here-key
 loop-low-preserved-then-here-key c =
     search_right _ _ _ _ c.loop-low.invariant c.requires (middle (goal.at.loop-low-preserved-then-here-key c).In-loop-low) (omega arith) (omega arith) (omega (arith, here (goal.at.loop-low-preserved-then-here-key c).After-key_of-here))

@@ -3,9 +3,6 @@ use Rattle.std.proofs.Common.{refl}
 use Rattle.reach.specs.KeyLaws.{given-right}
 use Rattle.reach.proofs.masks.given.Goals as goal
 
-pub given_found-requires : goal.given_found-requires
-given_found-requires c = c.requires.0 c.if-rising.true
-
 pub returns-then-rising : goal.returns-then-rising
 returns-then-rising c =
     let p = c.requires in

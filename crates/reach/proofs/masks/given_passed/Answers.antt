@@ -11,9 +11,6 @@ use Rattle.reach.proofs.masks.given_passed.Goals as goal
 pub loop-i-init : goal.loop-i-init
 loop-i-init c = ap (len_at _) (rest_all _)
 
-pub key_of-requires : goal.key_of-requires
-key_of-requires c = c.row_at-r.ensures.1
-
 pub returns-then-key_of-key : goal.returns-then-key_of-key
 returns-then-key_of-key c =
     let l = c.loop-i in

@@ -1,14 +1,8 @@
 -- `reach::masks::other_len` meets its contract.
-use Rattle.std.proofs.Common.{ap, arith, refl, sym, ◌∙◌}
+use Rattle.std.proofs.Common.{ap, arith, sym, ◌∙◌}
 use Rattle.reach.specs.Masks.{clashes}
 use Rattle.reach.specs.MaskLaws.{other_here, other_on, other_end}
 use Rattle.reach.proofs.masks.other_len.Goals as goal
-
-pub loop-i-init : goal.loop-i-init
-loop-i-init c = refl
-
-pub clashes-requires : goal.clashes-requires
-clashes-requires c = c.row_at.ensures.1
 
 pub returns-then-clashes : goal.returns-then-clashes
 returns-then-clashes c =

@@ -8,9 +8,6 @@ use Rattle.reach.proofs.masks.rises.Goals as goal
 pub loop-i-init : goal.loop-i-init
 loop-i-init c = rises-start _
 
-pub key_of-key-requires : goal.key_of-key-requires
-key_of-key-requires c = c.row_at.ensures.1
-
 pub returns-then-key-last : goal.returns-then-key-last
 returns-then-key-last c =
     let l = c.loop-i in

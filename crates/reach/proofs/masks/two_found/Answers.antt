@@ -23,28 +23,13 @@ told : (c : After-clashes) → let b = c.args.rows.now in
 told c =
     clash_rows c.args.rows.now c.loop-i.i (row_in c.row_at-r.result) (row_in c.row_at.result) c.row_at-r.ensures.0 c.row_at.ensures.0 _ c.key_of.ensures _ c.clashes.ensures
 
-pub overflow_mul-body : goal.overflow_mul-body
-overflow_mul-body c = omega (arith, c.requires.1)
-
-pub first_at-i-requires : goal.first_at-i-requires
-first_at-i-requires c = c.requires.0
-
 pub loop-i-init : goal.loop-i-init
 loop-i-init c = neighbours_start _ _ _ _ refl c.first_at-i.ensures
-
-pub body_of-requires : goal.body_of-requires
-body_of-requires c = c.row_at-r.ensures.1
 
 pub returns-then-body_of-body : goal.returns-then-body_of-body
 returns-then-body_of-body c =
     let e = c.body_of.ensures.0 ∙ ap body_of_lem c.row_at-r.ensures.0 in
     neighbours_off _ (bytes (goal.at.returns-then-body_of-body c).At-loop-i) c.requires.0 _ _ c.loop-i.invariant (omega arith) (λ z. c.if-body_of-body.true (e ∙ z))
-
-pub key_of-requires : goal.key_of-requires
-key_of-requires c = c.row_at-r.ensures.1
-
-pub clashes-requires : goal.clashes-requires
-clashes-requires c = c.row_at.ensures.1
 
 pub returns-then-clashes : goal.returns-then-clashes
 returns-then-clashes c =

@@ -2,9 +2,6 @@
 use Rattle.reach.specs.KeyLaws.{two-right}
 use Rattle.reach.proofs.masks.two_lengths.Goals as goal
 
-pub two_found-requires : goal.two_found-requires
-two_found-requires c = (c.requires.0 c.if-rising.true, c.site_body-body.ensures.1)
-
 pub returns-then-rising : goal.returns-then-rising
 returns-then-rising c =
     two-right _ (λ i. (c.type_inv.rows i).fits) c.args.site _ c.requires.1 c.site_body-body.ensures.0 _ c.two_found.ensures

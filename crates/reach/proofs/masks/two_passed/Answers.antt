@@ -8,9 +8,6 @@ use Rattle.reach.proofs.masks.two_passed.Goals as goal
 pub loop-i-init : goal.loop-i-init
 loop-i-init c = ap (two_of _) (rest_all _)
 
-pub clash_at-requires : goal.clash_at-requires
-clash_at-requires c = omega arith
-
 pub returns-then-clash_at : goal.returns-then-clash_at
 returns-then-clash_at c =
     let l = c.loop-i in

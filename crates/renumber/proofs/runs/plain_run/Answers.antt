@@ -14,15 +14,6 @@ bytes c i = (c.type_inv.code i).fits
 pub loop-at-init : goal.loop-at-init
 loop-at-init c = running_start _ _ _ _ c.requires
 
-pub returns-then-n-eq0 : goal.returns-then-n-eq0
-returns-then-n-eq0 c = c.loop-at.invariant.run
-
-pub stems_after-stems-requires : goal.stems_after-stems-requires
-stems_after-stems-requires c = omega (arith, c.loop-at.invariant.within.counted, c.loop-at.invariant.within.inside)
-
-pub loop-at-smaller-then-is_operator : goal.loop-at-smaller-then-is_operator
-loop-at-smaller-then-is_operator c = omega arith
-
 pub loop-at-preserved-then-is_operator : goal.loop-at-preserved-then-is_operator
 loop-at-preserved-then-is_operator c = running_operator _ (bytes (goal.at.loop-at-preserved-then-is_operator c).At-loop-at) _ _ _ _ _ c.loop-at.invariant (omega arith) _ c.plain_len-n.ensures c.if-n-eq0.false (sym c.is_operator.ensures ∙ c.if-is_operator.true) _ c.stems_after-stems.ensures
 
@@ -38,11 +29,5 @@ overflow_add-at-in-loop-at c = let m = onward c in omega (arith, m.run.inside)
 pub overflow_add-args : goal.overflow_add-args
 overflow_add-args c = let m = onward c in omega (arith, m.run.inside, m.within.counted)
 
-pub loop-at-smaller : goal.loop-at-smaller
-loop-at-smaller c = let m = c.if-n-eq0.false in omega arith
-
 pub loop-at-preserved : goal.loop-at-preserved
 loop-at-preserved c = onward c
-
-pub returns : goal.returns
-returns c = c.loop-at.invariant.run

@@ -5,9 +5,6 @@ use Rattle.sheet.specs.Reading.{count_rows}
 use Rattle.sheet.specs.ReadingLaws.{count-rows, count_next, count_done}
 use Rattle.sheet.proofs.reading.are_rows.Goals as goal
 
-pub loop-p-init : goal.loop-p-init
-loop-p-init c = (refl, refl)
-
 pub loop-p-preserved : goal.loop-p-preserved
 loop-p-preserved c = let l = c.loop-p in
     let s = c.args.text.now in

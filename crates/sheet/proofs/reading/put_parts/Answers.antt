@@ -13,28 +13,16 @@ put_spelt-m-requires c = let u = up_to_fits 16384 0 c.args.a c.args.text.now (pa
     let l = c.requires.0 in
     (omega arith, omega (arith, l.first, l.second, l.third, l.within), u.0, omega (arith, u.1, c.requires.2))
 
-pub overflow_add-a : goal.overflow_add-a
-overflow_add-a c = let l = c.requires.0 in omega (arith, l.first, l.second, l.third, l.within)
-
 pub put_spelt-n-requires : goal.put_spelt-n-requires
 put_spelt-n-requires c = let l = c.requires.0 in
     let u = up_to_fits 256 (c.args.a + 1) c.args.b c.args.text.now (parts (goal.at.put_spelt-n-requires c).Start).name in
     (omega (arith, l.first), omega (arith, l.second, l.third, l.within), u.0, omega (arith, u.1, c.requires.3))
 
-pub overflow_add-b : goal.overflow_add-b
-overflow_add-b c = let l = c.requires.0 in omega (arith, l.first, l.second, l.third, l.within)
-
 pub put_kept-k-requires : goal.put_kept-k-requires
 put_kept-k-requires c = let l = c.requires.0 in (omega (arith, l.second), omega (arith, l.third, l.within), (parts (goal.at.put_kept-k-requires c).Start).keep, c.requires.4)
 
-pub overflow_add-c : goal.overflow_add-c
-overflow_add-c c = let l = c.requires.0 in omega (arith, l.first, l.second, l.third, l.within)
-
 pub flag_at-flag-requires : goal.flag_at-flag-requires
 flag_at-flag-requires c = (c.requires.0.within, (parts (goal.at.flag_at-flag-requires c).Start).flag)
-
-pub overflow_add-d : goal.overflow_add-d
-overflow_add-d c = let l = c.requires.0 in omega (arith, l.within)
 
 pub put_rows-l-requires : goal.put_rows-l-requires
 put_rows-l-requires c = ((parts (goal.at.put_rows-l-requires c).Start).rows, c.requires.5)
