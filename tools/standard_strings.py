@@ -46,8 +46,8 @@ def lines_of(words, between, width):
 
 
 def array(name, comment, numbers):
-    head = f"// {comment}\npub const {name}: [u16; {len(numbers)}] = [\n"
-    return head + "".join(f"    {n},\n" for n in numbers) + "];\n"
+    head = f"// {comment}\npub static {name}: [u16; {len(numbers)}] = [\n"
+    return head + "".join(f"    {line}\n" for line in lines_of([f"{n}," for n in numbers], " ", 95)) + "];\n"
 
 
 def code(names, offsets, order):
@@ -55,7 +55,7 @@ def code(names, offsets, order):
     return (
         "// The standard strings of TN5176, Appendix A, written by tools/standard_strings.py from the Rust's STANDARD_STRINGS.\n\n"
         "// All names, one behind the other.\n"
-        f'pub const STANDARD_TEXT: [u8; {offsets[-1]}] =\n    *b"{text}";\n\n'
+        f'pub static STANDARD_TEXT: [u8; {offsets[-1]}] =\n    *b"{text}";\n\n'
         + array("STANDARD_OFFSETS", "Where each name begins in the text, and where the last one ends.", offsets)
         + "\n"
         + array("STANDARD_ORDER", "The ids in the rising byte order of their names.", order)
@@ -71,9 +71,8 @@ def cons(name, kind, comment, words):
 def definitions(names, offsets, order):
     return (
         "-- The standard strings of TN5176, Appendix A, written by tools/standard_strings.py from the Rust's STANDARD_STRINGS.\n"
-        "use Prim.Native.Nat.{ℕ}\n"
-        "use Prim.Native.String.{String}\n"
-        "use mathlib.Core.List.{List, [], _∷_}\n\n"
+        "use Rattle.std.specs.Prelude.{ℕ, List, [], ◌∷◌}\n"
+        "use Prim.Native.String.{String}\n\n"
         + cons("standard_names", "String", "the names in the order of their ids, from 0 to 390", [f'"{n}"' for n in names])
         + "\n"
         + cons("standard_offsets", "ℕ", "where each name begins in the text of all names, and where the last one ends", [str(n) for n in offsets])

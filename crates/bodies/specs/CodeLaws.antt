@@ -9,22 +9,20 @@ use Rattle.index.specs.Good.{Good}
 use Rattle.index.specs.Index.{items_of}
 use Rattle.index.specs.IndexLaws.{item-short}
 use Rattle.index.specs.declared.Index.{Index}
-use Rattle.unfold.specs.Unfold.{Row, Site, local, global}
+use Rattle.unfold.specs.Unfold.{Row, Site}
 use Rattle.prune.specs.Renumber.{Calls}
 use Rattle.subset.specs.Pruned.{renumbered_body}
-use Rattle.reach.specs.Reach.{SiteFits}
 use Rattle.reach.specs.declared.Site as code
 use Rattle.renumber.specs.Ranks.{calls_by, Ranked}
 use Rattle.renumber.specs.OperandLaws.{calls-read}
 use Rattle.renumber.specs.Turn.{Inputs, sized_of, body_of_lem, is_yes}
 use Rattle.renumber.specs.declared.Ranks.{Ranks}
-use Rattle.bodies.specs.Ways.{holds, new_body, body_by, subr_by, reached_in, is_kept, is_stub, kept_count, site_in, SubrsFit, SubrsIn}
+use Rattle.bodies.specs.Ways.{holds, new_body, body_by, subr_by, reached_in, is_kept, is_stub, kept_count, site_in, SubrsIn}
 use Rattle.bodies.specs.Sizes.{AtMost, len_at}
 use Rattle.bodies.specs.SizesLaws.{renumbered-short, at_most_more}
 use Rattle.bodies.specs.SubrsLaws.{new-body_is}
 use Rattle.bodies.specs.declared.subrs.Subrs.{Subrs}
-use Rattle.bodies.specs.declared.subrs.Subrs.TheVariants.{Global, Local}
-use Rattle.subset.specs.Way.{is_renumbered, is_stubbed, not_both}
+use Rattle.subset.specs.Way.{is_renumbered, is_stubbed}
 use Rattle.subset.specs.declared.Way.{Way}
 
 -- ---- a body by the way
@@ -85,9 +83,6 @@ module _ (way : Way) (set : ℕ → Bool) (k : ℕ) where
   pub stub_none : is_stubbed way ≡ false → false ≡ is_stub way set k
   stub_none e = ap (λ (b : Bool). pick b (not (set k)) false) (sym e)
 
-  pub stub_zero : is_renumbered way ≡ true → is_stub way set k ≡ false
-  stub_zero e = sym (stub_none (not_both way e))
-
 pub count-reached : (way : Way) (reached count : ℕ) → is_renumbered way ≡ true → reached ≡ kept_count way reached count
 count-reached way reached count e = ap (λ (b : Bool). pick b reached count) (sym e)
 
@@ -98,14 +93,13 @@ count-any way reached count e = ap (λ (b : Bool). pick b reached count) (sym e)
 
 -- what renumbering an item asks
 pub item_inputs : {b ws : List ℕ} {ix : Index} {own locals globals : Ranks} {rows : List Row} {rising : Bool} {of : Subrs}
-    → SubrsIn b ws ix own locals globals rows rising of → (k : ℕ) → k < ix.count → (s : List ℕ) → s ≡ get_or (items_of b ix) k [] → (site : code.Site) → SiteFits site
+    → SubrsIn b ws ix own locals globals rows rising of → (k : ℕ) → k < ix.count → (s : List ℕ) → s ≡ get_or (items_of b ix) k [] → (site : code.Site)
     → Inputs s ws locals globals rows rising site
-item_inputs {b} {ws} {ix} w k h s e site f =
+item_inputs {b} {ws} {ix} w k h s e site =
     record {
       local_ranks = w.local_ranks;
       global_ranks = w.global_ranks;
       order = w.order;
-      body = f;
       size = let n = ap length e in omega (arith, item-short b ix w.good k h, w.size);
     }
 
@@ -157,11 +151,3 @@ len_kept test f k n e r h = (h.0 ∙ ap (λ (b : Bool). pick b (sized_of (f k)) 
 
 pub len_left : (test : ℕ → Bool) (f : ℕ → Option (List ℕ)) (k n : ℕ) → test k ≡ false → (Some 0 ≡ len_at test f k) × (0 ≤ n)
 len_left test f k n e = (ap (λ (b : Bool). pick b (sized_of (f k)) (Some 0)) (sym e), omega arith)
-
--- ---- the site of a subroutine
-
-pub site_global : (of : Subrs) (k : ℕ) → of ≡ Global → k < 65536 → (global k ≡ site_in of k) × (k < 65536)
-site_global of k e h = (ap (λ (x : Subrs). site_in x k) (sym e), h)
-
-pub site_local : (of : Subrs) (fd k : ℕ) → of ≡ Local fd → SubrsFit of → k < 65536 → (local fd k ≡ site_in of k) × ((fd < 256) × (k < 65536))
-site_local of fd k e f h = (ap (λ (x : Subrs). site_in x k) (sym e), (subst SubrsFit e f, h))

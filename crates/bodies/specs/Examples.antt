@@ -8,7 +8,7 @@ use Rattle.type2_number.specs.Encoding as t2e
 use Rattle.unfold.specs.Unfold.{glyph, local}
 use Rattle.prune.specs.Renumber.{renumber, renumber_charstring}
 use Rattle.record.specs.Record.{given_in, two_lengths_lem, disagrees}
-use Rattle.subset.specs.Pruned.{each, renumbered_body, stubbed_from}
+use Rattle.subset.specs.Pruned.{renumbered_body, stubbed_from}
 use Rattle.bits.specs.Bits.{count_below}
 use Rattle.renumber.specs.Ranks.{calls_by}
 use Rattle.renumber.specs.declared.Ranks.{Ranks}

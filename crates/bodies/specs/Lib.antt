@@ -11,3 +11,7 @@ pub mod CodeLaws
 pub mod RecordLaws
 pub mod Windows
 pub mod WindowsLaws
+pub mod Alone
+pub mod Written
+pub mod Measured
+pub mod WrittenLaws

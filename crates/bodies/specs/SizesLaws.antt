@@ -1,6 +1,6 @@
 -- Laws of measuring: a body renumbered is at most five times as long, and bodies are measured one after the other.
 use Prim.Native.Nat.{ℕ, zero, suc, ◌+◌, ◌-◌, ◌*◌, ◌≤◌, ◌<◌}
-use Rattle.std.specs.Prelude.{◌≡◌, refl, Bool, true, false, List, ◌∷◌, ℤ, None, Option, Some, Float}
+use Rattle.std.specs.Prelude.{◌≡◌, refl, Bool, true, false, List, ◌∷◌, ℤ, None, Option, Some}
 use Rattle.std.proofs.Common.{sym, ◌∙◌, subst, le_refl}
 use Rattle.std.proofs.Math.Path.{ap}
 use native.Mathlib.Omega.{arith}
@@ -36,8 +36,8 @@ module _ (calls : Calls) (reads : (b : ℕ) (z y : ℤ) → calls b z ≡ Some y
     Short = AtMost (5 * length s) (sized_of (renumber_charstring calls given s))
 
     -- one token on, if what follows is short
-    short-turn : (c : Cursor) (h : Option Float) (len : ℕ) → Sizing calls given s c h len
-        → ((d : Cursor) (g : Option Float) (n : ℕ) → fuel_of s d < fuel_of s c → Sizing calls given s d g n → Short) → Short
+    short-turn : (c : Cursor) (h : Option ℤ) (len : ℕ) → Sizing calls given s c h len
+        → ((d : Cursor) (g : Option ℤ) (n : ℕ) → fuel_of s d < fuel_of s c → Sizing calls given s d g n → Short) → Short
     short-turn c h len w on = go (more s c) refl
       where
         turned : more s c ≡ true → (r : Option Turned) → r ≡ turned_at calls h (step_of (token_at s (given_at given c) c)) → Short
@@ -52,7 +52,7 @@ module _ (calls : Calls) (reads : (b : ℕ) (z y : ℤ) → calls b z ≡ Some y
             let k : len + held_len_lem h ≤ 5 * length s = omega (arith, sized-room calls reads given s b c h len w, w.turning.walk.within.inside) in
             subst (AtMost (5 * length s)) (sized_end calls reads given s b c h len w m (held_len_lem h) refl) k
 
-    short-from : (fuel : ℕ) (c : Cursor) (h : Option Float) (len : ℕ) → fuel_of s c ≤ fuel → Sizing calls given s c h len → Short
+    short-from : (fuel : ℕ) (c : Cursor) (h : Option ℤ) (len : ℕ) → fuel_of s c ≤ fuel → Sizing calls given s c h len → Short
     short-from zero c h len k w = short-turn c h len w (λ d g n l x. absurd (zero_one (omega arith)))
     short-from (suc fuel) c h len k w = short-turn c h len w (λ d g n l x. short-from fuel d g n (omega arith) x)
 

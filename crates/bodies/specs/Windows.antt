@@ -1,6 +1,5 @@
 -- Subroutines by windows of a record that does not rise (document 01, 'Reach record': order and repeats are free).
-use Rattle.std.specs.Prelude.{ℕ, ◌*◌, ◌≤◌, ◌<◌, true, List, length}
-use Rattle.mask_rows.specs.MaskRows.{room_in}
+use Rattle.std.specs.Prelude.{ℕ, true}
 use Rattle.bodies.specs.declared.subrs.Source.{Source}
 use Rattle.bodies.specs.declared.subrs.Subrs.{Subrs}
 use Rattle.bodies.specs.declared.subrs.Subrs.TheVariants.{Global, Local}
@@ -18,9 +17,3 @@ kind_of (Local fd) = 3
 abbrev pub fd_of : Subrs → ℕ
 fd_of Global = 0
 fd_of (Local fd) = fd
-
--- room for a window: some keys, and as many rows
-pub record Lent (keys bytes : List ℕ) : Type 0 where
-  pub some : 1 < room_in keys
-  pub most : length keys ≤ 65536
-  pub room : 10 * room_in keys ≤ length bytes

@@ -9,7 +9,7 @@ use Rattle.index.specs.Index.{items_of}
 use Rattle.unfold.specs.Unfold.{Row, Site, masked}
 use Rattle.record.specs.Record.{rows_of}
 use Rattle.prune.specs.Renumber.{Calls}
-use Rattle.reach.specs.Reach.{SiteFits, site_of}
+use Rattle.reach.specs.Reach.{site_of}
 use Rattle.reach.specs.declared.Site as code
 use Rattle.renumber.specs.Turn.{Inputs, sized_of, body_of_lem}
 use Rattle.renumber.specs.Ranks.{calls_by}
@@ -18,12 +18,12 @@ use Rattle.mask_rows.specs.MaskRows.{SameMasks, Fillable, Covers, HasOrNone}
 use Rattle.mask_rows.specs.FillLaws.{covers-none}
 use Rattle.mask_rows.specs.SameLaws.{same_body}
 use Rattle.mask_rows.specs.declared.Window.{Window}
-use Rattle.long_bodies.specs.Offsets.{body_in, Lent as LentFor}
+use Rattle.long_bodies.specs.Offsets.{body_in, Sited}
 use Rattle.long_bodies.specs.TwoLaws.{site_mask}
 use Rattle.bodies.specs.Ways.{holds, body_by, reached_in, site_in, SubrsFit, is_stub}
 use Rattle.bodies.specs.Sources.{Sourced, kept_from, subr_from}
 use Rattle.bodies.specs.Sizes.{AtMost, len_at}
-use Rattle.bodies.specs.Windows.{source_in_order, kind_of, fd_of, Lent}
+use Rattle.bodies.specs.Windows.{source_in_order, kind_of, fd_of}
 use Rattle.bodies.specs.declared.subrs.Source.{Source}
 use Rattle.bodies.specs.declared.subrs.Subrs.{Subrs}
 use Rattle.bodies.specs.declared.subrs.Subrs.TheVariants.{Global, Local}
@@ -35,10 +35,6 @@ pub by-same : (way : Way) (rows rows' : List Row) (calls : Calls) (site : Site) 
     → body_by way rows calls site s ≡ body_by way rows' calls site s
 by-same way rows rows' calls site s same = ap (λ (m : Option (List ℕ)). pick (is_renumbered way) m (Some s)) (same_body rows rows' site same calls s)
 
--- room stays
-pub lent_same : {keys bytes : List ℕ} → Lent keys bytes → (keys' bytes' : List ℕ) → length keys' ≡ length keys → length bytes' ≡ length bytes → Lent keys' bytes'
-lent_same l keys' bytes' e f = record { some = omega (arith, l.some); most = omega (arith, l.most); room = omega (arith, l.room) }
-
 -- ---- subroutines
 
 -- the rows of masks of the k-th
@@ -48,37 +44,15 @@ same_site Global rec bytes w covers k from to = λ offset len. covers.same k fro
 same_site (Local fd) rec bytes w covers k from to = λ offset len. covers.same k from to offset len
 
 module _ (rec bytes : List ℕ) (w : Window) (source : Source) (covers : Covers rec bytes (kind_of source.of) (fd_of source.of) w) (ws b : List ℕ)
-    (asks : Sourced source (rows_of rec) ws b) where
-  abbrev part : List ℕ
-  part = take w.len bytes
-
-  -- the window's record is asked in the same way
-  window_sourced : Sourced (source_in_order source) (rows_of part) ws b
-  window_sourced =
-      record {
-        good = asks.good;
-        few = asks.few;
-        size = asks.size;
-        many = asks.many;
-        inside = asks.inside;
-        local_ranks = asks.local_ranks;
-        global_ranks = asks.global_ranks;
-        order = λ e. covers.rising;
-        fits = asks.fits;
-      }
-
+    (part : List ℕ) (shown : part ≡ take w.len bytes) where
   module _ (source' : Source) (e : source' ≡ source_in_order source) (k : ℕ) where
-    -- what is asked of the window's record
-    pub subr_asked : k < source.ix.count → Sourced source' (rows_of part) ws b × (k < source'.ix.count)
-    subr_asked h = subst (λ (x : Source). Sourced x (rows_of part) ws b × (k < x.ix.count)) (sym e) (window_sourced, h)
-
     module _ (from : w.from ≤ k) (to : k < w.end) where
       window_subr : subr_from source' (rows_of part) ws b k ≡ subr_from source (rows_of rec) ws b k
       window_subr =
           ap (λ (x : Source). subr_from x (rows_of part) ws b k) e
           ∙ ap (λ (m : Option (List ℕ)). pick (is_stub source.way (reached_in ws source.own) k) (Some (11 ∷ [])) m)
           (sym (by-same source.way (rows_of rec) (rows_of part) (calls_by ws source.locals source.globals) (site_in source.of k) (get_or (items_of b source.ix) k [])
-          (same_site source.of rec bytes w covers k from to)))
+          (subst (λ (l : List ℕ). SameMasks (rows_of rec) (rows_of l) (site_in source.of k)) (sym shown) (same_site source.of rec bytes w covers k from to))))
 
       kept_same : kept_from source' ws k ≡ kept_from source ws k
       kept_same = ap (λ (x : Source). kept_from x ws k) e
@@ -108,14 +82,12 @@ kind-small Global = omega arith
 kind-small (Local fd) = omega arith
 
 -- a subroutine's window can be filled
-pub fills_subr : (source : Source) {rows : List Row} {ws b keys bytes : List ℕ} → Sourced source rows ws b → Lent keys bytes → (k : ℕ) → k < source.ix.count
-    → Fillable keys bytes (kind_of source.of) (fd_of source.of) k
-fills_subr source a l k h =
-    record { kind_fits = kind-small source.of; fd_fits = fd-small source.of a.fits; few = omega (arith, a.few); some = l.some; most = l.most; room = l.room }
+pub fills_subr : (source : Source) {rows : List Row} {ws b : List ℕ} → Sourced source rows ws b → (k : ℕ) → k < source.ix.count → Fillable (kind_of source.of) (fd_of source.of) k
+fills_subr source a k h = record { kind_fits = kind-small source.of; fd_fits = fd-small source.of a.fits; few = omega (arith, a.few) }
 
 -- what a window of some subroutines has, by whose they are
-pub fills_global : {keys bytes : List ℕ} {of : Subrs} {k : ℕ} → of ≡ Global → Fillable keys bytes (kind_of of) (fd_of of) k → Fillable keys bytes 4 0 k
-fills_global {keys} {bytes} {of} {k} e p = subst (λ (x : Subrs). Fillable keys bytes (kind_of x) (fd_of x) k) e p
+pub fills_global : {of : Subrs} {k : ℕ} → of ≡ Global → Fillable (kind_of of) (fd_of of) k → Fillable 4 0 k
+fills_global {of} {k} e p = subst (λ (x : Subrs). Fillable (kind_of x) (fd_of x) k) e p
 
 pub covers_global : {rec bytes : List ℕ} {of : Subrs} {w : Window} → of ≡ Global → Covers rec bytes (kind_of of) (fd_of of) w → Covers rec bytes 4 0 w
 covers_global {rec} {bytes} {of} {w} e p = subst (λ (x : Subrs). Covers rec bytes (kind_of x) (fd_of x) w) e p
@@ -123,8 +95,8 @@ covers_global {rec} {bytes} {of} {w} e p = subst (λ (x : Subrs). Covers rec byt
 pub global_covers : {rec bytes : List ℕ} {of : Subrs} {w : Window} → of ≡ Global → Covers rec bytes 4 0 w → Covers rec bytes (kind_of of) (fd_of of) w
 global_covers {rec} {bytes} {of} {w} e p = subst (λ (x : Subrs). Covers rec bytes (kind_of x) (fd_of x) w) (sym e) p
 
-pub fills_local : {keys bytes : List ℕ} {of : Subrs} {fd k : ℕ} → of ≡ Local fd → Fillable keys bytes (kind_of of) (fd_of of) k → Fillable keys bytes 3 fd k
-fills_local {keys} {bytes} {of} {fd} {k} e p = subst (λ (x : Subrs). Fillable keys bytes (kind_of x) (fd_of x) k) e p
+pub fills_local : {of : Subrs} {fd k : ℕ} → of ≡ Local fd → Fillable (kind_of of) (fd_of of) k → Fillable 3 fd k
+fills_local {of} {fd} {k} e p = subst (λ (x : Subrs). Fillable (kind_of x) (fd_of x) k) e p
 
 pub covers_local : {rec bytes : List ℕ} {of : Subrs} {fd : ℕ} {w : Window} → of ≡ Local fd → Covers rec bytes (kind_of of) (fd_of of) w → Covers rec bytes 3 fd w
 covers_local {rec} {bytes} {of} {fd} {w} e p = subst (λ (x : Subrs). Covers rec bytes (kind_of x) (fd_of x) w) e p
@@ -141,7 +113,7 @@ covers-past {rec} {kind} {fd} {k} {w} none past bytes' = subst (λ (x : Window).
 -- rows in any order
 pub any_order : {s ws : List ℕ} {locals globals : Ranks} {rows : List Row} {rising : Bool} {site : code.Site} → Inputs s ws locals globals rows rising site
     → Inputs s ws locals globals rows false site
-any_order i = record { local_ranks = i.local_ranks; global_ranks = i.global_ranks; order = λ e. absurd (false≢true e); body = i.body; size = i.size }
+any_order i = record { local_ranks = i.local_ranks; global_ranks = i.global_ranks; order = λ e. absurd (false≢true e); size = i.size }
 
 site_number : (site : code.Site) (of : Subrs) (k : ℕ) → site_of site ≡ site_in of k → (body_in site).number ≡ k
 site_number site of k e = sym (ap (λ (r : Row). r.number) (site_mask site 0 0)) ∙ ap (λ (x : Site). (masked x 0 0).number) e ∙ own of
@@ -150,7 +122,6 @@ site_number site of k e = sym (ap (λ (r : Row). r.number) (site_mask site 0 0))
     own Global = refl
     own (Local fd) = refl
 
--- room for its rows
-pub lends_subr : {keys bytes : List ℕ} → Lent keys bytes → (site : code.Site) → SiteFits site → (of : Subrs) (k : ℕ) → site_of site ≡ site_in of k → k < 65535
-    → LentFor keys bytes site
-lends_subr l site f of k e h = record { body = f; few = omega (arith, site_number site of k e); some = l.some; most = l.most; room = l.room }
+-- its rows can be taken by windows
+pub sited_subr : (site : code.Site) (of : Subrs) (k : ℕ) → site_of site ≡ site_in of k → k < 65535 → Sited site
+sited_subr site of k e h = record { few = omega (arith, site_number site of k e) }

@@ -2,9 +2,11 @@
 // Each is measured first, then written item by item.
 #![tactic(auto)]
 
+pub mod measured;
+pub mod subroutines;
 pub mod subrs;
 
-ghost use Rattle.std.specs.Prelude.{◌≡◌, true, ◌+◌, ◌*◌, ◌≤◌, ◌<◌, length};
+ghost use Rattle.std.specs.Prelude.{◌≡◌, true, ◌+◌, ◌*◌, ◌≤◌, ◌<◌, false, length};
 ghost use Rattle.octets.specs.Octets.{Wrote};
 ghost use Rattle.record.specs.Record.{rows_of};
 ghost use Rattle.reach.specs.Reach.{site_of};
@@ -13,6 +15,8 @@ ghost use Rattle.renumber.specs.Turn.{Inputs, sized_of};
 ghost use Rattle.bodies.specs.Ways.{holds, new_body, body_by, ranks_in};
 ghost use Rattle.bodies.specs.Sizes.{AtMost};
 
+use long_bodies::long_site::LongSite;
+use mask_rows::lent::Lent;
 use reach::Site;
 use renumber::Ranks;
 use subset::Way;
@@ -66,6 +70,27 @@ pub fn body_len(
     Some(code.len())
 }
 
+// The same where it has more rows than a window holds.
+pub fn long_body_len(
+    way: Way,
+    code: &[u8],
+    words: &[u32],
+    locals: Ranks,
+    globals: Ranks,
+    rows: &[u8],
+    of: LongSite,
+    lent: &mut Lent<'_>,
+) -> Option<usize>
+    requires { Inputs code.now words.now locals globals (rows_of rows.now) false of.site }
+    ensures { (result ≡ sized_of (body_by way (rows_of rows.now) (calls_by words.now locals globals) (site_of of.site) code.now))
+        × (AtMost (5 * length code.now) result) }
+{
+    if way.is_renumbered() {
+        return long_bodies::renumbered_len(code, words, locals, globals, rows, of, lent);
+    }
+    Some(code.len())
+}
+
 // A charstring or subroutine by the way, from `at` on; the place after it.
 pub fn put_body(
     way: Way,
@@ -89,6 +114,31 @@ pub fn put_body(
         return renumbered::put_renumbered(
             code, words, locals, globals, rows, rising, site, out, at,
         );
+    }
+    octets::put_bytes(out, at, code)
+}
+
+// The same where it has more rows than a window holds.
+pub fn put_long_body(
+    way: Way,
+    code: &[u8],
+    words: &[u32],
+    locals: Ranks,
+    globals: Ranks,
+    rows: &[u8],
+    of: LongSite,
+    out: &mut [u8],
+    at: usize,
+    lent: &mut Lent<'_>,
+) -> usize
+    requires { (Inputs code.now words.now locals globals (rows_of rows.now) false of.site)
+        × (holds (body_by way (rows_of rows.now) (calls_by words.now locals globals) (site_of of.site) code.now) ≡ true)
+        × (at + length (new_body way (rows_of rows.now) (calls_by words.now locals globals) (site_of of.site) code.now) ≤ length out.old) }
+    ensures { Wrote out.old at
+        (new_body way (rows_of rows.now) (calls_by words.now locals globals) (site_of of.site) code.now) out.new result }
+{
+    if way.is_renumbered() {
+        return long_bodies::put_renumbered(code, words, locals, globals, rows, of, out, at, lent);
     }
     octets::put_bytes(out, at, code)
 }

@@ -3,18 +3,20 @@
 ghost use Rattle.std.specs.Prelude.{◌≡◌, true, ◌+◌, ◌≤◌, ◌<◌, length};
 ghost use Rattle.octets.specs.Octets.{Wrote};
 ghost use Rattle.index.specs.Write.{index_bytes};
-ghost use Rattle.record.specs.Record.{rows_of};
-ghost use Rattle.mask_rows.specs.MaskRows.{Fillable, Covers, HasOrNone};
-ghost use Rattle.bits.specs.Bits.{count_below, words_for};
-ghost use Rattle.reach.specs.Reach.{SiteFits, site_of};
+ghost use Rattle.mask_rows.specs.MaskRows.{HasOrNone};
+ghost use Rattle.reach.specs.Reach.{site_of};
 ghost use Rattle.renumber.specs.Turn.{sized_of, body_of_lem};
-ghost use Rattle.bodies.specs.Ways.{holds, measured_of, reached_in, site_in, SubrsFit, is_kept, is_stub, kept_count, Room};
-ghost use Rattle.bodies.specs.Sources.{Sourced, kept_from, subr_from, subrs_from, new_subrs_from};
+ghost use Rattle.bodies.specs.Ways.{holds, measured_of, reached_in, site_in, is_stub, kept_count};
 ghost use Rattle.bodies.specs.Sizes.{AtMost, Bounded, len_at};
-ghost use Rattle.bodies.specs.Windows.{source_in_order, kind_of, fd_of, Lent};
+ghost use Rattle.bodies.specs.Windows.{source_in_order};
+ghost use Rattle.bodies.specs.Written.{kept_of, subr_of, subrs_of, new_subrs_of, written, Shows};
 
+use crate::measured::Measured;
+use crate::subroutines::{Subr, Subroutines};
 use index::Index;
+use long_bodies::long_site::LongSite;
 use mask_rows::Window;
+use mask_rows::lent::Lent;
 use reach::Site;
 use renumber::Ranks;
 use subset::Way;
@@ -40,99 +42,92 @@ pub struct Source {
 }
 
 // Whether a subroutine is reached, by its bit.
-fn is_reached(words: &[u32], own: Ranks, k: usize) -> bool
-    requires { own.at + words_for own.count ≤ length words.now }
-    ensures { result ≡ reached_in words.now own k }
+fn is_reached(all: &Subroutines<'_>, k: usize) -> bool
+    ensures { result ≡ reached_in all.now.words.now all.now.from.own k }
 {
+    let own = all.from.own;
     if own.count <= k {
         return false;
     }
-    bits::has_bit(words, own.at, k)
+    bits::has_bit(all.words, own.at, k)
 }
 
 // Whether a subroutine is written.
-fn is_kept(way: Way, words: &[u32], own: Ranks, k: usize) -> bool
-    requires { own.at + words_for own.count ≤ length words.now }
-    ensures { result ≡ is_kept way (reached_in words.now own) k }
+fn is_kept(all: &Subroutines<'_>, k: usize) -> bool
+    ensures { result ≡ kept_of all.now k }
 {
-    if way.is_renumbered() {
-        return is_reached(words, own, k);
+    if all.from.way.is_renumbered() {
+        return is_reached(all, k);
     }
     true
 }
 
 // Whether a subroutine stands as a return.
-fn is_stub(way: Way, words: &[u32], own: Ranks, k: usize) -> bool
-    requires { own.at + words_for own.count ≤ length words.now }
-    ensures { result ≡ is_stub way (reached_in words.now own) k }
+fn is_stub(all: &Subroutines<'_>, k: usize) -> bool
+    ensures { result ≡ is_stub all.now.from.way (reached_in all.now.words.now all.now.from.own) k }
 {
-    if way.is_stubbed() {
-        return !is_reached(words, own, k);
+    if all.from.way.is_stubbed() {
+        return !is_reached(all, k);
     }
     false
 }
 
-// The k-th of some subroutines, as the record names it.
-fn site_in(of: Subrs, k: usize) -> Site
-    requires { (SubrsFit of) × (k < 65536) }
-    ensures { (site_of result ≡ site_in of k) × (SiteFits result) }
+// A subroutine as the record names it.
+fn site_for(one: &Subr<'_>) -> Site
+    ensures { site_of result ≡ site_in one.now.of.now.from.of one.now.k }
 {
+    let of = one.of.from.of;
     match of {
-        Subrs::Global => Site::Global(k),
-        Subrs::Local(fd) => Site::Local { fd, number: k },
+        Subrs::Global => Site::Global(one.k as u16),
+        Subrs::Local(fd) => Site::Local {
+            fd: fd as u8,
+            number: one.k as u16,
+        },
     }
 }
 
 // How long a subroutine is as it is written, or that its renumbering fails.
-fn written_len(from: Source, font: &[u8], words: &[u32], rows: &[u8], k: usize) -> Option<usize>
-    requires { (Sourced from (rows_of rows.now) words.now font.now) × (k < from.ix.count) }
-    ensures { (result ≡ sized_of (subr_from from (rows_of rows.now) words.now font.now k)) × (AtMost 335544320 result) }
+fn written_len(one: &Subr<'_>) -> Option<usize>
+    ensures { (result ≡ sized_of (written one.now)) × (AtMost 335544320 result) }
 {
-    if is_stub(from.way, words, from.own, k) {
+    let all = one.of;
+    if is_stub(all, one.k) {
         return Some(1);
     }
-    let of = from.of;
-    let site = site_in(of, k);
-    let code = index::item(font, from.ix, k);
+    let site = site_for(one);
+    let code = index::item(all.font, all.from.ix, one.k);
     crate::body_len(
-        from.way,
+        all.from.way,
         code,
-        words,
-        from.locals,
-        from.globals,
-        rows,
-        from.rising,
+        all.words,
+        all.from.locals,
+        all.from.globals,
+        all.rows,
+        all.from.rising,
         site,
     )
 }
 
 // The same, 0 for a subroutine that is not written.
-fn subr_len(from: Source, font: &[u8], words: &[u32], rows: &[u8], k: usize) -> Option<usize>
-    requires { (Sourced from (rows_of rows.now) words.now font.now) × (k < from.ix.count) }
-    ensures { (result ≡ len_at (kept_from from words.now) (subr_from from (rows_of rows.now) words.now font.now) k)
-        × (AtMost 335544320 result) }
+fn subr_len(one: &Subr<'_>) -> Option<usize>
+    ensures { (result ≡ len_at (kept_of one.now.of.now) (subr_of one.now.of.now) one.now.k) × (AtMost 335544320 result) }
 {
-    if is_kept(from.way, words, from.own, k) {
-        return written_len(from, font, words, rows, k);
+    if is_kept(one.of, one.k) {
+        return written_len(one);
     }
     Some(0)
 }
 
-// The window for the k-th of some subroutines.
-fn advance(
-    window: Window,
-    rows: &[u8],
-    of: Subrs,
-    k: usize,
-    keys: &mut [u64],
-    bytes: &mut [u8],
-) -> Window
-    requires { (Fillable keys.old bytes.old (kind_of of) (fd_of of) k) × (Covers rows.now bytes.old (kind_of of) (fd_of of) window) }
-    ensures { (Covers rows.now bytes.new (kind_of of) (fd_of of) result) × (HasOrNone k result) }
+// The window for a subroutine.
+fn advance(window: Window, one: &Subr<'_>, lent: &mut Lent<'_>) -> Window
+    requires { Shows one.now.of.now lent.old.bytes.now window }
+    ensures { (Shows one.now.of.now lent.new.bytes.now result) × (HasOrNone one.now.k result) }
 {
+    let rows = one.of.rows;
+    let of = one.of.from.of;
     match of {
-        Subrs::Global => mask_rows::advance(window, rows, 4, 0, k, keys, bytes),
-        Subrs::Local(fd) => mask_rows::advance(window, rows, 3, fd, k, keys, bytes),
+        Subrs::Global => mask_rows::advance(window, rows, 4, 0, one.k, lent),
+        Subrs::Local(fd) => mask_rows::advance(window, rows, 3, fd, one.k, lent),
     }
 }
 
@@ -157,128 +152,103 @@ fn in_order(from: Source) -> Source
 }
 
 // How long a subroutine is as it is written, or that its renumbering fails, where it has more rows than a window holds.
-fn long_written(
-    from: Source,
-    font: &[u8],
-    words: &[u32],
-    rows: &[u8],
-    k: usize,
-    keys: &mut [u64],
-    bytes: &mut [u8],
-) -> Option<usize>
-    requires { (Sourced from (rows_of rows.now) words.now font.now) × (k < from.ix.count) × (Lent keys.old bytes.old) }
-    ensures { (result ≡ sized_of (subr_from from (rows_of rows.now) words.now font.now k)) × (AtMost 335544320 result) }
+fn long_written(one: &Subr<'_>, lent: &mut Lent<'_>) -> Option<usize>
+    ensures { (result ≡ sized_of (written one.now)) × (AtMost 335544320 result) }
 {
-    if from.way.is_renumbered() {
-        let of = from.of;
-        let site = site_in(of, k);
-        let code = index::item(font, from.ix, k);
-        return long_bodies::renumbered_len(
-            code,
-            words,
-            from.locals,
-            from.globals,
-            rows,
-            site,
-            keys,
-            bytes,
-        );
+    let all = one.of;
+    if is_stub(all, one.k) {
+        return Some(1);
     }
-    written_len(from, font, words, rows, k)
+    let of = LongSite {
+        site: site_for(one),
+    };
+    let code = index::item(all.font, all.from.ix, one.k);
+    crate::long_body_len(
+        all.from.way,
+        code,
+        all.words,
+        all.from.locals,
+        all.from.globals,
+        all.rows,
+        of,
+        lent,
+    )
 }
 
 // The same, 0 for a subroutine that is not written.
-fn long_len(
-    from: Source,
-    font: &[u8],
-    words: &[u32],
-    rows: &[u8],
-    k: usize,
-    keys: &mut [u64],
-    bytes: &mut [u8],
-) -> Option<usize>
-    requires { (Sourced from (rows_of rows.now) words.now font.now) × (k < from.ix.count) × (Lent keys.old bytes.old) }
-    ensures { (result ≡ len_at (kept_from from words.now) (subr_from from (rows_of rows.now) words.now font.now) k)
-        × (AtMost 335544320 result) }
+fn long_len(one: &Subr<'_>, lent: &mut Lent<'_>) -> Option<usize>
+    ensures { (result ≡ len_at (kept_of one.now.of.now) (subr_of one.now.of.now) one.now.k) × (AtMost 335544320 result) }
 {
-    if is_kept(from.way, words, from.own, k) {
-        return long_written(from, font, words, rows, k, keys, bytes);
+    if is_kept(one.of, one.k) {
+        return long_written(one, lent);
     }
     Some(0)
 }
 
 // How long a subroutine is, by a window of the record where it has the rows of the subroutine; a longer one takes the window's place.
-fn windowed_len(
-    from: Source,
-    font: &[u8],
-    words: &[u32],
-    rows: &[u8],
-    window: Window,
-    k: usize,
-    keys: &mut [u64],
-    bytes: &mut [u8],
-) -> Option<usize>
-    requires { (Sourced from (rows_of rows.now) words.now font.now) × (k < from.ix.count) × (Covers rows.now bytes.old (kind_of from.of) (fd_of from.of) window)
-        × (HasOrNone k window) × (Lent keys.old bytes.old) }
-    ensures { (result ≡ len_at (kept_from from words.now) (subr_from from (rows_of rows.now) words.now font.now) k)
-        × (AtMost 335544320 result) × (Covers rows.now bytes.new (kind_of from.of) (fd_of from.of) window) }
+fn windowed_len(one: &Subr<'_>, window: Window, lent: &mut Lent<'_>) -> Option<usize>
+    requires { (Shows one.now.of.now lent.old.bytes.now window) × (HasOrNone one.now.k window) }
+    ensures { (result ≡ len_at (kept_of one.now.of.now) (subr_of one.now.of.now) one.now.k) × (AtMost 335544320 result)
+        × (Shows one.now.of.now lent.new.bytes.now window) }
 {
+    let k = one.k;
     if k < window.from {
-        return subr_len(from, font, words, rows, k);
+        return subr_len(one);
     }
     if k < window.end {
-        return subr_len(in_order(from), font, words, &bytes[..window.len], k);
+        let all = one.of;
+        let part = Subroutines {
+            from: in_order(all.from),
+            font: all.font,
+            words: all.words,
+            rows: lent.rows(window.len),
+        };
+        return subr_len(&Subr { of: &part, k });
     }
-    long_len(from, font, words, rows, k, keys, bytes)
+    long_len(one, lent)
 }
 
 // Their bytes together, by windows of a record that does not rise.
-fn windows_total(
-    from: Source,
-    font: &[u8],
-    words: &[u32],
-    rows: &[u8],
-    keys: &mut [u64],
-    bytes: &mut [u8],
-) -> Option<usize>
-    requires { (Sourced from (rows_of rows.now) words.now font.now) × (Lent keys.old bytes.old) }
-    ensures { (result ≡ measured_of (subrs_from from (rows_of rows.now) words.now font.now)) × (Bounded result) }
+fn windows_total(all: &Subroutines<'_>, lent: &mut Lent<'_>) -> Option<usize>
+    ensures { (result ≡ measured_of (subrs_of all.now)) × (Bounded result) }
 {
-    let of = from.of;
     let mut window = Window {
         from: 0,
         end: 0,
         len: 0,
     };
     let mut total: usize = 0;
-    for k in 0..from.ix.count {
-        window = advance(window, rows, of, k, &mut *keys, &mut *bytes);
-        let len = windowed_len(from, font, words, rows, window, k, &mut *keys, &mut *bytes)?;
+    for k in 0..all.from.ix.count {
+        let one = Subr { of: &*all, k };
+        window = advance(window, &one, &mut *lent);
+        let len = windowed_len(&one, window, &mut *lent)?;
         total += len;
     }
     Some(total)
 }
 
 // The same, with the window on the stack.
-fn total_by_windows(from: Source, font: &[u8], words: &[u32], rows: &[u8]) -> Option<usize>
-    requires { Sourced from (rows_of rows.now) words.now font.now }
-    ensures { (result ≡ measured_of (subrs_from from (rows_of rows.now) words.now font.now)) × (Bounded result) }
+fn total_by_windows(all: &Subroutines<'_>) -> Option<usize>
+    ensures { (result ≡ measured_of (subrs_of all.now)) × (Bounded result) }
 {
     let mut keys = [0u64; 9216];
     let mut bytes = [0u8; 81920];
-    windows_total(from, font, words, rows, &mut keys, &mut bytes)
+    let mut lent = Lent {
+        keys: &mut keys,
+        bytes: &mut bytes,
+    };
+    windows_total(all, &mut lent)
 }
 
 // The bytes of some subroutines together, by the way, each by the whole record; or that their renumbering fails. Which
 // are written is asked here: most are not where few glyphs are kept, and a call for each would be felt.
-fn total_directly(from: Source, font: &[u8], words: &[u32], rows: &[u8]) -> Option<usize>
-    requires { Sourced from (rows_of rows.now) words.now font.now }
-    ensures { (result ≡ measured_of (subrs_from from (rows_of rows.now) words.now font.now)) × (Bounded result) }
+fn total_directly(all: &Subroutines<'_>) -> Option<usize>
+    ensures { (result ≡ measured_of (subrs_of all.now)) × (Bounded result) }
 {
     let mut total: usize = 0;
-    for k in 0..from.ix.count {
-        if is_kept(from.way, words, from.own, k) {
-            let len = written_len(from, font, words, rows, k)?;
+    for k in 0..all.from.ix.count {
+        if is_kept(all, k) {
+            let len = written_len(&Subr { of: &*all, k })?;
             total += len;
         }
     }
@@ -286,49 +256,37 @@ fn total_directly(from: Source, font: &[u8], words: &[u32], rows: &[u8]) -> Opti
 }
 
 // The bytes of some subroutines together, by the way; or that their renumbering fails. Masks are asked for only where they are renumbered.
-pub fn subrs_total(from: Source, font: &[u8], words: &[u32], rows: &[u8]) -> Option<usize>
-    requires { Sourced from (rows_of rows.now) words.now font.now }
-    ensures { (result ≡ measured_of (subrs_from from (rows_of rows.now) words.now font.now)) × (Bounded result) }
+pub fn subrs_total(all: &Subroutines<'_>) -> Option<usize>
+    ensures { (result ≡ measured_of (subrs_of all.now)) × (Bounded result) }
 {
-    if from.rising {
-        return total_directly(from, font, words, rows);
+    if all.from.rising {
+        return total_directly(all);
     }
-    if from.way.is_renumbered() {
-        return total_by_windows(from, font, words, rows);
+    if all.from.way.is_renumbered() {
+        return total_by_windows(all);
     }
-    total_directly(from, font, words, rows)
+    total_directly(all)
 }
 
 // A subroutine as it is written, from `at` on; the place after it.
-fn put_subr(
-    from: Source,
-    font: &[u8],
-    words: &[u32],
-    rows: &[u8],
-    k: usize,
-    out: &mut [u8],
-    at: usize,
-) -> usize
-    requires { (Sourced from (rows_of rows.now) words.now font.now) × (k < from.ix.count)
-        × (holds (subr_from from (rows_of rows.now) words.now font.now k) ≡ true)
-        × (at + length (body_of_lem (subr_from from (rows_of rows.now) words.now font.now k)) ≤ length out.old) }
-    ensures { Wrote out.old at
-        (body_of_lem (subr_from from (rows_of rows.now) words.now font.now k)) out.new result }
+fn put_subr(one: &Subr<'_>, out: &mut [u8], at: usize) -> usize
+    requires { (holds (written one.now) ≡ true) × (at + length (body_of_lem (written one.now)) ≤ length out.old) }
+    ensures { Wrote out.old at (body_of_lem (written one.now)) out.new result }
 {
-    if is_stub(from.way, words, from.own, k) {
+    let all = one.of;
+    if is_stub(all, one.k) {
         return octets::put_num(out, at, 11, 1);
     }
-    let of = from.of;
-    let site = site_in(of, k);
-    let code = index::item(font, from.ix, k);
+    let site = site_for(one);
+    let code = index::item(all.font, all.from.ix, one.k);
     crate::put_body(
-        from.way,
+        all.from.way,
         code,
-        words,
-        from.locals,
-        from.globals,
-        rows,
-        from.rising,
+        all.words,
+        all.from.locals,
+        all.from.globals,
+        all.rows,
+        all.from.rising,
         site,
         out,
         at,
@@ -346,103 +304,71 @@ pub fn kept_count(way: Way, reached: usize, count: usize) -> usize
 }
 
 // The same where it has more rows than a window holds.
-fn put_long(
-    from: Source,
-    font: &[u8],
-    words: &[u32],
-    rows: &[u8],
-    k: usize,
-    out: &mut [u8],
-    at: usize,
-    keys: &mut [u64],
-    bytes: &mut [u8],
-) -> usize
-    requires { (Sourced from (rows_of rows.now) words.now font.now) × (k < from.ix.count) × (Lent keys.old bytes.old)
-        × (holds (subr_from from (rows_of rows.now) words.now font.now k) ≡ true)
-        × (at + length (body_of_lem (subr_from from (rows_of rows.now) words.now font.now k)) ≤ length out.old) }
-    ensures { Wrote out.old at
-        (body_of_lem (subr_from from (rows_of rows.now) words.now font.now k)) out.new result }
+fn put_long(one: &Subr<'_>, out: &mut [u8], at: usize, lent: &mut Lent<'_>) -> usize
+    requires { (holds (written one.now) ≡ true) × (at + length (body_of_lem (written one.now)) ≤ length out.old) }
+    ensures { Wrote out.old at (body_of_lem (written one.now)) out.new result }
 {
-    if from.way.is_renumbered() {
-        let of = from.of;
-        let site = site_in(of, k);
-        let code = index::item(font, from.ix, k);
-        return long_bodies::put_renumbered(
-            code,
-            words,
-            from.locals,
-            from.globals,
-            rows,
-            site,
-            out,
-            at,
-            keys,
-            bytes,
-        );
+    let all = one.of;
+    if is_stub(all, one.k) {
+        return octets::put_num(out, at, 11, 1);
     }
-    put_subr(from, font, words, rows, k, out, at)
+    let of = LongSite {
+        site: site_for(one),
+    };
+    let code = index::item(all.font, all.from.ix, one.k);
+    crate::put_long_body(
+        all.from.way,
+        code,
+        all.words,
+        all.from.locals,
+        all.from.globals,
+        all.rows,
+        of,
+        out,
+        at,
+        lent,
+    )
 }
 
 // The same by a window of the record, where it has the rows of the subroutine; a longer one takes the window's place.
 fn put_windowed(
-    from: Source,
-    font: &[u8],
-    words: &[u32],
-    rows: &[u8],
+    one: &Subr<'_>,
     window: Window,
-    k: usize,
     out: &mut [u8],
     at: usize,
-    keys: &mut [u64],
-    bytes: &mut [u8],
+    lent: &mut Lent<'_>,
 ) -> usize
-    requires { (Sourced from (rows_of rows.now) words.now font.now) × (k < from.ix.count) × (Covers rows.now bytes.old (kind_of from.of) (fd_of from.of) window)
-        × (HasOrNone k window) × (Lent keys.old bytes.old) × (holds (subr_from from (rows_of rows.now) words.now font.now k) ≡ true)
-        × (at + length (body_of_lem (subr_from from (rows_of rows.now) words.now font.now k)) ≤ length out.old) }
-    ensures { (Wrote out.old at
-        (body_of_lem (subr_from from (rows_of rows.now) words.now font.now k)) out.new result)
-        × (Covers rows.now bytes.new (kind_of from.of) (fd_of from.of) window) }
+    requires { (Shows one.now.of.now lent.old.bytes.now window) × (HasOrNone one.now.k window)
+        × (holds (written one.now) ≡ true) × (at + length (body_of_lem (written one.now)) ≤ length out.old) }
+    ensures { (Wrote out.old at (body_of_lem (written one.now)) out.new result) × (Shows one.now.of.now lent.new.bytes.now window) }
 {
+    let k = one.k;
     if k < window.from {
-        return put_subr(from, font, words, rows, k, out, at);
+        return put_subr(one, out, at);
     }
     if k < window.end {
-        return put_subr(
-            in_order(from),
-            font,
-            words,
-            &bytes[..window.len],
-            k,
-            out,
-            at,
-        );
+        let all = one.of;
+        let part = Subroutines {
+            from: in_order(all.from),
+            font: all.font,
+            words: all.words,
+            rows: lent.rows(window.len),
+        };
+        return put_subr(&Subr { of: &part, k }, out, at);
     }
-    put_long(from, font, words, rows, k, out, at, keys, bytes)
+    put_long(one, out, at, lent)
 }
 
 // Their INDEX, from `at` on, by windows of a record that does not rise; the place after it.
-fn put_windows(
-    from: Source,
-    font: &[u8],
-    words: &[u32],
-    rows: &[u8],
-    total: usize,
-    out: &mut [u8],
-    at: usize,
-    keys: &mut [u64],
-    bytes: &mut [u8],
-) -> usize
-    requires { (Sourced from (rows_of rows.now) words.now font.now)
-        × (from.own.reached ≡ count_below (reached_in words.now from.own) from.own.count)
-        × (Room (subrs_from from (rows_of rows.now) words.now font.now) total at (length out.old)) × (Lent keys.old bytes.old) }
-    ensures { Wrote out.old at
-        (index_bytes (new_subrs_from from (rows_of rows.now) words.now font.now)) out.new result }
+fn put_windows(m: &Measured<'_>, out: &mut [u8], at: usize, lent: &mut Lent<'_>) -> usize
+    requires { (at < 4294967296) × (at + length (index_bytes (new_subrs_of m.now.all)) ≤ length out.old) }
+    ensures { Wrote out.old at (index_bytes (new_subrs_of m.now.all)) out.new result }
 {
-    let n = from.ix.count;
-    let of = from.of;
-    let count = kept_count(from.way, from.own.reached, n);
-    let to = index::index_for(at, count, total);
-    index::put_head(out, at, count, total);
+    let all = &m.all;
+    let n = all.from.ix.count;
+    let count = kept_count(all.from.way, all.from.own.reached, n);
+    let to = index::index_for(at, count, m.total);
+    index::put_head(out, at, count, m.total);
     let mut window = Window {
         from: 0,
         end: 0,
@@ -451,20 +377,10 @@ fn put_windows(
     let mut p = to.base + 1;
     let mut put: usize = 0;
     for k in 0..n {
-        if is_kept(from.way, words, from.own, k) {
-            window = advance(window, rows, of, k, &mut *keys, &mut *bytes);
-            p = put_windowed(
-                from,
-                font,
-                words,
-                rows,
-                window,
-                k,
-                &mut *out,
-                p,
-                &mut *keys,
-                &mut *bytes,
-            );
+        if is_kept(all, k) {
+            let one = Subr { of: &*all, k };
+            window = advance(window, &one, &mut *lent);
+            p = put_windowed(&one, window, &mut *out, p, &mut *lent);
             index::put_end(out, to, put, p);
             put += 1;
         }
@@ -473,53 +389,34 @@ fn put_windows(
 }
 
 // The same, with the window on the stack.
-fn put_by_windows(
-    from: Source,
-    font: &[u8],
-    words: &[u32],
-    rows: &[u8],
-    total: usize,
-    out: &mut [u8],
-    at: usize,
-) -> usize
-    requires { (Sourced from (rows_of rows.now) words.now font.now)
-        × (from.own.reached ≡ count_below (reached_in words.now from.own) from.own.count)
-        × (Room (subrs_from from (rows_of rows.now) words.now font.now) total at (length out.old)) }
-    ensures { Wrote out.old at
-        (index_bytes (new_subrs_from from (rows_of rows.now) words.now font.now)) out.new result }
+fn put_by_windows(m: &Measured<'_>, out: &mut [u8], at: usize) -> usize
+    requires { (at < 4294967296) × (at + length (index_bytes (new_subrs_of m.now.all)) ≤ length out.old) }
+    ensures { Wrote out.old at (index_bytes (new_subrs_of m.now.all)) out.new result }
 {
     let mut keys = [0u64; 9216];
     let mut bytes = [0u8; 81920];
-    put_windows(
-        from, font, words, rows, total, out, at, &mut keys, &mut bytes,
-    )
+    let mut lent = Lent {
+        keys: &mut keys,
+        bytes: &mut bytes,
+    };
+    put_windows(m, out, at, &mut lent)
 }
 
 // Their INDEX, from `at` on, each by the whole record; the place after it.
-fn put_directly(
-    from: Source,
-    font: &[u8],
-    words: &[u32],
-    rows: &[u8],
-    total: usize,
-    out: &mut [u8],
-    at: usize,
-) -> usize
-    requires { (Sourced from (rows_of rows.now) words.now font.now)
-        × (from.own.reached ≡ count_below (reached_in words.now from.own) from.own.count)
-        × (Room (subrs_from from (rows_of rows.now) words.now font.now) total at (length out.old)) }
-    ensures { Wrote out.old at
-        (index_bytes (new_subrs_from from (rows_of rows.now) words.now font.now)) out.new result }
+fn put_directly(m: &Measured<'_>, out: &mut [u8], at: usize) -> usize
+    requires { (at < 4294967296) × (at + length (index_bytes (new_subrs_of m.now.all)) ≤ length out.old) }
+    ensures { Wrote out.old at (index_bytes (new_subrs_of m.now.all)) out.new result }
 {
-    let n = from.ix.count;
-    let count = kept_count(from.way, from.own.reached, n);
-    let to = index::index_for(at, count, total);
-    index::put_head(out, at, count, total);
+    let all = &m.all;
+    let n = all.from.ix.count;
+    let count = kept_count(all.from.way, all.from.own.reached, n);
+    let to = index::index_for(at, count, m.total);
+    index::put_head(out, at, count, m.total);
     let mut p = to.base + 1;
     let mut j: usize = 0;
     for k in 0..n {
-        if is_kept(from.way, words, from.own, k) {
-            p = put_subr(from, font, words, rows, k, &mut *out, p);
+        if is_kept(all, k) {
+            p = put_subr(&Subr { of: &*all, k }, &mut *out, p);
             index::put_end(out, to, j, p);
             j += 1;
         }
@@ -528,26 +425,15 @@ fn put_directly(
 }
 
 // Their INDEX, from `at` on; the place after it.
-pub fn put_subrs(
-    from: Source,
-    font: &[u8],
-    words: &[u32],
-    rows: &[u8],
-    total: usize,
-    out: &mut [u8],
-    at: usize,
-) -> usize
-    requires { (Sourced from (rows_of rows.now) words.now font.now)
-        × (from.own.reached ≡ count_below (reached_in words.now from.own) from.own.count)
-        × (Room (subrs_from from (rows_of rows.now) words.now font.now) total at (length out.old)) }
-    ensures { Wrote out.old at
-        (index_bytes (new_subrs_from from (rows_of rows.now) words.now font.now)) out.new result }
+pub fn put_subrs(m: &Measured<'_>, out: &mut [u8], at: usize) -> usize
+    requires { (at < 4294967296) × (at + length (index_bytes (new_subrs_of m.now.all)) ≤ length out.old) }
+    ensures { Wrote out.old at (index_bytes (new_subrs_of m.now.all)) out.new result }
 {
-    if from.rising {
-        return put_directly(from, font, words, rows, total, out, at);
+    if m.all.from.rising {
+        return put_directly(m, out, at);
     }
-    if from.way.is_renumbered() {
-        return put_by_windows(from, font, words, rows, total, out, at);
+    if m.all.from.way.is_renumbered() {
+        return put_by_windows(m, out, at);
     }
-    put_directly(from, font, words, rows, total, out, at)
+    put_directly(m, out, at)
 }

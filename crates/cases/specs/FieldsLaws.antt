@@ -2,7 +2,6 @@
 use Rattle.std.specs.Prelude.{ℕ, ◌+◌, ◌≤◌, ◌≡◌, refl, Bool, true, false, List, [], eqb, length, take, get_or, None, Option, Some}
 use Rattle.std.proofs.Common.{sym, ap, ◌∙◌, subst, arith, eq-eqb, ne_eqb}
 use Rattle.std.proofs.lemmas.Bool.{false≢true}
-use Rattle.std.proofs.Math.Seq.{slice, take-length}
 use Rattle.octets.specs.Pick.{pick}
 use Rattle.octets.specs.PutLaws.{wrote_none, wrote-length, take_put}
 use Rattle.hexlines.specs.Hexlines.{hex_bytes, room_for, Unhexes}
@@ -25,14 +24,14 @@ module _ (room : ℕ) (t : List ℕ) where
   unfolding field_bytes
   field-dash e = rw e
 
-  field-hex : is_dash t ≡ false → room_for room 0 (hex_bytes (slice 0 (length t) t)) ≡ field_bytes room t
+  field-hex : is_dash t ≡ false → room_for room 0 (hex_bytes t) ≡ field_bytes room t
   unfolding field_bytes
-  field-hex e = rw (e, take-length)
+  field-hex e = rw e
 
 pub read-dash : (t old : List ℕ) → is_dash t ≡ true → Unhexes (field_bytes (length old) t) old 0 old (Some 0)
 read-dash t old e = unhexes_done _ [] old old 0 0 (field-dash (length old) t e) (wrote_none old 0)
 
-pub read-hex : (t old new : List ℕ) (r : Option ℕ) → is_dash t ≡ false → Unhexes (room_for (length old) 0 (hex_bytes (slice 0 (length t) t))) old 0 new r
+pub read-hex : (t old new : List ℕ) (r : Option ℕ) → is_dash t ≡ false → Unhexes (room_for (length old) 0 (hex_bytes t)) old 0 new r
     → Unhexes (field_bytes (length old) t) old 0 new r
 read-hex t old new r e u = subst (λ (o : Option (List ℕ)). Unhexes o old 0 new r) (field-hex (length old) t e) u
 

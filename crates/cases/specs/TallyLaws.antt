@@ -8,7 +8,6 @@ use mathlib.Core.List.{List, [], ◌∷◌}
 use native.Mathlib.Omega.{arith}
 use Rattle.std.proofs.Math.Dec.{eqb}
 use Rattle.std.proofs.Math.ListN.{length, take, get_or, set, length-set, get_or-eq_default}
-use Rattle.std.proofs.Math.Seq.{slice, take-length}
 use Rattle.std.proofs.lemmas.Bool.{eqb-false}
 use Rattle.octets.specs.Pick.{pick, pick_ind}
 use Rattle.octets.specs.Lists.{before}
@@ -66,17 +65,13 @@ pub letter_none : (line : List ℕ) → length line ≡ 0 → 0 ≡ get_or line 
 letter_none line e = sym (get_or-eq_default line 0 (omega arith))
 
 -- a letter is one of those in front of whose end it is found
-pub one_found : (letters : List ℕ) (b r : ℕ) → r ≡ 0 + before b (slice 0 (length letters) letters) → ltb r (length letters) ≡ is_one_of letters b
+pub one_found : (letters : List ℕ) (b r : ℕ) → r ≡ before b letters → ltb r (length letters) ≡ is_one_of letters b
 unfolding is_one_of
-one_found letters b r e =
-    let z : 0 + before b (slice 0 (length letters) letters) ≡ before b (slice 0 (length letters) letters) = omega arith in
-    ap (λ (k : ℕ). ltb k (length letters)) (e ∙ z ∙ ap (before b) (take-length letters))
+one_found letters b r e = ap (λ (k : ℕ). ltb k (length letters)) e
 
--- the row of a letter, searched from the first kind on
-pub row-found : (kinds line : List ℕ) (b r : ℕ) → b ≡ get_or line 0 0 → r ≡ 0 + before b (slice 0 (length kinds) kinds) → r ≡ before (get_or line 0 0) kinds
-row-found kinds line b r e f =
-    let z : 0 + before b (slice 0 (length kinds) kinds) ≡ before b (slice 0 (length kinds) kinds) = omega arith in
-    f ∙ z ∙ ap (before b) (take-length kinds) ∙ ap (λ (x : ℕ). before x kinds) e
+-- the row of a letter
+pub row-found : (kinds line : List ℕ) (b r : ℕ) → b ≡ get_or line 0 0 → r ≡ before b kinds → r ≡ before (get_or line 0 0) kinds
+row-found kinds line b r e f = f ∙ ap (λ (x : ℕ). before x kinds) e
 
 -- counts that are all 0
 pub zeros-below : (k i : ℕ) → get_or (replicate k 0) i 0 < 1

@@ -1,8 +1,10 @@
 -- Writing piece by piece: writing what is left gives what writing all of it gives.
-use Rattle.std.specs.Prelude.{ℕ, ◌+◌, ◌≤◌, ◌≡◌, refl, List, [], ◌++◌, length}
-use Rattle.std.proofs.Common.{sym, ap, ◌∙◌, arith, length-append}
+use Rattle.std.specs.Prelude.{ℕ, ◌+◌, ◌-◌, ◌≤◌, ◌≡◌, refl, List, [], ◌++◌, length, take, drop}
+use Rattle.std.proofs.Common.{sym, ap, ◌∙◌, arith, length-append, length-drop, drop-drop, take_all}
+use Rattle.std.proofs.lemmas.Slice.{take-put_mid}
+use borrow.Rule.Slice.PartMut.{put_mid, same_len_mid}
 use Rattle.octets.specs.Octets.{put, Wrote}
-use Rattle.octets.specs.PutLaws.{put-put, wrote-length}
+use Rattle.octets.specs.PutLaws.{put-put, put-length, wrote-length}
 use Rattle.hexlines.specs.HexlinesLaws.{put_done}
 
 -- a part is written, and the rest is still to be
@@ -35,3 +37,34 @@ module _ {old : List ℕ} {at : ℕ} {all new : List ℕ} {p : ℕ} {left : List
           ends = omega (arith, n, x.behind, w.ends);
           puts = wrote_on rest (omega (arith, writing-room)) x ∙ ap (put new p) (sym e) ∙ w.puts;
         }
+
+-- ---- a part to its end
+
+module _ (old sub bs : List ℕ) (q k : ℕ) (room : q + length bs ≤ length old) (w : Wrote (take (length old - q) (drop q old)) 0 bs sub k) where
+  left : take (length old - q) (drop q old) ≡ drop q old
+  left = take_all (length old - q) (drop q old) (omega (arith, length-drop q old))
+
+  long : length (drop q old) ≡ length old - q
+  long = length-drop q old
+
+  held : sub ≡ put (drop q old) 0 bs
+  held = w.is ∙ ap (λ (l : List ℕ). put l 0 bs) left
+
+  size : length sub ≡ length old - q
+  size = ap length held ∙ put-length (drop q old) 0 bs (omega (arith, long)) ∙ long
+
+  all : put_mid q (length old - q) old sub ≡ take q old ++ sub
+  all =
+      let n : length (put_mid q (length old - q) old sub) ≡ length old = same_len_mid q (length old - q) old sub (size ∙ sym long ∙ ap length (sym left)) in
+      sym (take_all (length old) (put_mid q (length old - q) old sub) (omega (arith, n)))
+      ∙ take-put_mid q (length old - q) old sub (length old) (omega (arith, size)) (omega arith)
+
+  -- what was written to the start of what is left was written from there on
+  pub wrote_part : Wrote old q bs (put_mid q (length old - q) old sub) (q + k)
+  unfolding put
+  wrote_part =
+      let z : 0 + length bs ≡ length bs = omega arith in
+      record {
+        is = all ∙ ap (λ (l : List ℕ). take q old ++ l) (held ∙ ap (λ (l : List ℕ). bs ++ l) (ap (λ (n : ℕ). drop n (drop q old)) z ∙ drop-drop (length bs) q old));
+        behind = omega (arith, w.behind);
+      }

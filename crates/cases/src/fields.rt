@@ -16,7 +16,7 @@ pub fn read_field(text: &[u8], out: &mut [u8]) -> Option<usize>
     if is_dash(text) {
         return Some(0);
     }
-    hexlines::unhex(text, 0, text.len(), out, 0)
+    hexlines::unhex(text, out)
 }
 
 // Whether a field holds just these bytes.

@@ -7,8 +7,7 @@ ghost use Rattle.cases.specs.Tally.{is_one_of, counted, earlier, Below};
 pub fn is_one_of(letters: &[u8], kind: u8) -> bool
     ensures { result ≡ is_one_of letters.now kind }
 {
-    let n = letters.len();
-    hexlines::place_of(letters, 0, n, kind) < n
+    hexlines::place_of(letters, kind) < letters.len()
 }
 
 // The letter of a line, 0 for an empty one.
@@ -25,7 +24,7 @@ fn letter_of(line: &[u8]) -> u8
 fn row_of(kinds: &[u8], line: &[u8]) -> usize
     ensures { (result ≡ before (get_or line.now 0 0) kinds.now) × (result ≤ length kinds.now) }
 {
-    hexlines::place_of(kinds, 0, kinds.len(), letter_of(line))
+    hexlines::place_of(kinds, letter_of(line))
 }
 
 // Counts a line: in its row, agreed stands before failed.

@@ -1,5 +1,5 @@
 -- Laws of reading a font of a set: one for each way out of the functions that read it.
-use Rattle.std.specs.Prelude.{ℕ, suc, ◌≤◌, ◌<◌, ◌≡◌, refl, Bool, false, eqb, Result, Ok, Err, Option, Some, None, unwrap_or}
+use Rattle.std.specs.Prelude.{ℕ, suc, ◌≤◌, ◌<◌, ◌≡◌, refl, Bool, false, eqb, Result, Ok, Err, Option, Some, None, IfOk, unwrap_or}
 use Rattle.std.proofs.Math.Path.{sym, ap, subst}
 use Rattle.std.proofs.Common.{◌∙◌, arith}
 use Rattle.std.proofs.Math.Bool.{true}
@@ -8,7 +8,6 @@ use borrow.Author.Tests.{lt-ltb, le-ltb, eq-eqb, ne_eqb}
 use Rattle.std.proofs.Math.ListN.{length}
 use Rattle.octets.specs.Pick.{pick}
 use Rattle.bits.specs.Bits.{words_for}
-use Rattle.octets.specs.Octets.{Octets}
 use Rattle.octets.specs.Lists.{all_below}
 use Rattle.index.specs.Index.{empty_at, index_at, items_of, read_index}
 use Rattle.index.specs.IndexLaws.{items-length}
@@ -51,8 +50,8 @@ module _ (b : List ℕ) (es : List Entry) (op : ℕ) (r : Result (Option ℕ) Re
   pub named_refused : (n : Refusal) → r ≡ Err n → ReadsItems b (named_index b es op) (Err n)
   named_refused n q = named_as (Err n) q
 
-  pub named-read : Octets b → (v : ℕ) → r ≡ Ok (Some v) → (x : Result Index Refusal) → x ≡ index_at b v → ReadsItems b (named_index b es op) x
-  named-read o v q x i = subst (λ g. ReadsItems b g x) (sym (named_as (Ok (Some v)) q)) (reads-index b v x o i)
+  pub named-read : (v : ℕ) → r ≡ Ok (Some v) → (x : Result Index Refusal) → x ≡ index_at b v → IfOk x (Holds b) → ReadsItems b (named_index b es op) x
+  named-read v q x i h = subst (λ g. ReadsItems b g x) (sym (named_as (Ok (Some v)) q)) (reads-index b v x i h)
 
 -- ---- ids
 

@@ -3,6 +3,8 @@ pub mod Find
 pub mod Examples
 pub mod ExamplesFind
 pub mod Reads
+pub mod Alone
+pub mod Loaded
 pub mod ReadsLaws
 pub mod FontLaws
 pub mod File

@@ -1,5 +1,5 @@
 -- Laws of reading: one step's answer for the next, in place.
-use Rattle.std.specs.Prelude.{ℕ, zero, suc, ◌+◌, ◌*◌, ◌≤◌, ◌<◌, ◌≡◌, refl, Bool, true, false, ltb, eqb, length, get_or, set, replicate, None, Option, Some, Result, Ok, Err}
+use Rattle.std.specs.Prelude.{ℕ, zero, suc, ◌+◌, ◌*◌, ◌≤◌, ◌<◌, ◌≡◌, refl, Bool, true, false, ltb, eqb, length, get_or, set, replicate, None, Option, Some, Result, Ok, Err, IfOk}
 use Rattle.std.proofs.Common.{sym, ◌∙◌, add-one, lt-ltb, le-ltb, ltb-true, ltb-false, eqb-true, lit≤, lit<, length-set, drop-cons, get_or-set_same, get_or-set_other}
 use Rattle.std.proofs.Math.Path.{ap, subst}
 use mathlib.Core.List.{List, [], ◌∷◌}
@@ -39,14 +39,15 @@ drop-over (suc k) (x ∷ xs) h = drop-over k xs (omega arith)
 
 -- ---- an INDEX
 
--- the INDEX at a place, read
-reads-told : (b : List ℕ) (at : ℕ) → Octets b → (r : Result Index Refusal) → r ≡ index_at b at → ReadsItems b (index_got (read_index b at)) r
-reads-told b at o (Err n) e = ap index_got (read_refused b at n (sym e))
-reads-told b at o (Ok ix) e =
-    (record { good = found-good b at ix (sym e); few = found-count b at ix o (sym e) }, ap index_got (read_found b at ix (sym e)))
+-- the items of an INDEX that was read can be had
+pub index-held : (b : List ℕ) (at : ℕ) → Octets b → (r : Result Index Refusal) → r ≡ index_at b at → IfOk r (Holds b)
+index-held b at o (Err n) e = tt
+index-held b at o (Ok ix) e = record { good = found-good b at ix (sym e); few = found-count b at ix o (sym e) }
 
-pub reads-index : (b : List ℕ) (at : ℕ) (r : Result Index Refusal) → Octets b → r ≡ index_at b at → ReadsItems b (index_got (read_index b at)) r
-reads-index b at r o e = reads-told b at o r e
+-- the INDEX at a place, read
+pub reads-index : (b : List ℕ) (at : ℕ) (r : Result Index Refusal) → r ≡ index_at b at → IfOk r (Holds b) → ReadsItems b (index_got (read_index b at)) r
+reads-index b at (Err n) e h = ap index_got (read_refused b at n (sym e))
+reads-index b at (Ok ix) e h = (h, ap index_got (read_found b at ix (sym e)))
 
 -- an INDEX of no item
 pub none-held : (b : List ℕ) → 2 ≤ length b → Holds b (empty_at 0)
@@ -112,9 +113,9 @@ module _ (b : List ℕ) (offset : ℕ) (s r : Result (Option ℕ) Refusal) (e : 
       subst (λ x. ReadsItems b (locals_at b offset s) (Ok x)) (sym i)
       (none-held b h, ap (locals_at b offset) (sym e ∙ q) ∙ ap Ok (sym (none-items b)))
 
-  pub locals-read : Octets b → (v : ℕ) → r ≡ Ok (Some v) → (x : Result Index Refusal) → x ≡ index_at b (offset + v) → ReadsItems b (locals_at b offset s) x
+  pub locals-read : (v : ℕ) → r ≡ Ok (Some v) → (x : Result Index Refusal) → x ≡ index_at b (offset + v) → IfOk x (Holds b) → ReadsItems b (locals_at b offset s) x
   unfolding locals_at
-  locals-read o v q x i = subst (λ g. ReadsItems b g x) (sym (ap (locals_at b offset) (sym e ∙ q))) (reads-index b (offset + v) x o i)
+  locals-read v q x i h = subst (λ g. ReadsItems b g x) (sym (ap (locals_at b offset) (sym e ∙ q))) (reads-index b (offset + v) x i h)
 
 -- ---- a Private DICT
 

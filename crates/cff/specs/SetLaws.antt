@@ -7,11 +7,10 @@ use borrow.Author.Tests.{lt-ltb, le-ltb, eq-eqb, ne_eqb}
 use Rattle.std.proofs.Math.ListN.{get_or-eq_default}
 use Rattle.octets.specs.Pick.{pick}
 use Rattle.bits.specs.Bits.{words_for}
-use Rattle.octets.specs.Octets.{Octets}
 use Rattle.index.specs.Index.{index_at, items_of, read_index}
 use Rattle.index.specs.Good.{Good, offset_of}
 use Rattle.index.specs.IndexLaws.{items-length, item-within, item-part}
-use Rattle.index.proofs.FoundLaws.{found-good, found-count, read_found, read_refused}
+use Rattle.index.proofs.FoundLaws.{read_found, read_refused}
 use Rattle.index.specs.declared.Index.{Index}
 use Rattle.charset.specs.CharsetPlaces.{ids_of}
 use Rattle.find.specs.Find.{glyph_with_id, glyph_with_text}
@@ -131,9 +130,6 @@ module _ (b : List ℕ) (at : ℕ) where
   index_on : {B : Type 0} (f : List (List ℕ) → ℕ → Result B Refusal) (ix : Index) → Ok ix ≡ index_at b at → index_then (read_index b at) f ≡ f (items_of b ix) ix.end
   index_on f ix e = ap (λ r. index_then r f) (read_found b at ix (sym e))
 
-  pub index-held : Octets b → (ix : Index) → Ok ix ≡ index_at b at → Holds b ix
-  index-held o ix e = record { good = found-good b at ix (sym e); few = found-count b at ix o (sym e) }
-
 module _ (b : List ℕ) (names : ℕ) (tops : Index) where
   pub strings-bad : (n : Refusal) → Err n ≡ index_at b tops.end → ReadsFont b (behind_tops b names (items_of b tops) tops.end) (Err n)
   strings-bad n e = index-bad b tops.end _ n e
@@ -145,10 +141,6 @@ module _ (b : List ℕ) (names : ℕ) (tops : Index) where
     module _ (globals : Index) (i : Ok globals ≡ index_at b strings.end) where
       decided : behind_tops b names (items_of b tops) tops.end ≡ pick (eqb names (length (items_of b tops))) (fonts_of b strings globals (items_of b tops)) (Err Malformed)
       decided = index_on b tops.end _ strings e ∙ index_on b strings.end _ globals i
-
-      pub has-set : Octets b → 2 ≤ length b → Holds b tops → HasSet b tops strings globals
-      has-set o some held =
-          record { some = some; tops_held = held; strings-held = index-held b tops.end o strings e; globals-held = index-held b strings.end o globals i }
 
       pub counts_same : names ≡ tops.count → (r : Result Font Refusal) → ReadsFont b (fonts_of b strings globals (items_of b tops)) r
           → ReadsFont b (behind_tops b names (items_of b tops) tops.end) r

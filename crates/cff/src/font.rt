@@ -2,17 +2,17 @@
 ghost use Rattle.std.specs.Prelude.{◌≡◌, true, false, ◌+◌, ◌*◌, ◌≤◌, ◌<◌, length};
 ghost use Rattle.bits.specs.Bits.{words_for};
 ghost use Rattle.dict.specs.Lookup.{offset_in};
-ghost use Rattle.dict.specs.Places.{entries_of};
-ghost use Rattle.dict.specs.Noted.{Placed};
+ghost use Rattle.dict.specs.Held.{entries};
 ghost use Rattle.cff.specs.Font.{fd_select_lem, ids_at, fds_at, encoding_got, cid_parts, name_parts};
 ghost use Rattle.cff.specs.Reads.{ReadsItems, named_index, named_ids, named_encoding, ReadsIds, ReadsCoding, ReadsFds, ReadsParts, HasDicts, HasLocals, parts_by, HasTop, HasGlyphs, top_of, font_of, index_in_lem, ReadsFont};
 
 use crate::ItemKind;
 use crate::private::PrivateAt;
+use crate::table::Table;
 use charset::Charset;
 use charset::fd_select::FdSelect;
-use dict::Places;
 use dict::op::Op;
+use dict::placed::Dict;
 use index::Index;
 use refusal::Refusal;
 
@@ -57,14 +57,13 @@ pub fn index_in(f: Font, kind: ItemKind) -> Index
     }
 }
 
-// The INDEX that an operator of the DICT with bytes d names, which must be there.
-fn named_index(font: &[u8], d: &[u8], p: Places, op: usize) -> Result<Index, Refusal>
-    requires { Placed d.now p }
-    ensures { ReadsItems font.now (named_index font.now (entries_of d.now) op) result }
+// The INDEX that an operator of a DICT names, which must be there.
+fn named_index(font: &[u8], d: &Dict<'_>, op: usize) -> Result<Index, Refusal>
+    ensures { ReadsItems font.now (named_index font.now (entries d.now) op) result }
 {
-    match dict::offset(d, p, op)? {
+    match d.offset(op)? {
         None => Err(Refusal::Malformed),
-        Some(v) => index::read_index(font, v),
+        Some(v) => crate::private::items_at(font, v),
     }
 }
 
@@ -82,21 +81,21 @@ fn ids_at(font: &[u8], v: usize, n: usize) -> Result<Charset, Refusal>
     charset::read_charset(font, v, n)
 }
 
-// The ids of n glyphs of the font whose top DICT has the bytes d.
-fn read_ids(font: &[u8], d: &[u8], p: Places, n: usize) -> Result<Charset, Refusal>
-    requires { (0 < n) × (n < 65536) × Placed d.now p }
-    ensures { ReadsIds font.now n (named_ids font.now (entries_of d.now) n) result }
+// The ids of n glyphs of the font with the top DICT d.
+fn read_ids(font: &[u8], d: &Dict<'_>, n: usize) -> Result<Charset, Refusal>
+    requires { (0 < n) × (n < 65536) }
+    ensures { ReadsIds font.now n (named_ids font.now (entries d.now) n) result }
 {
-    let at = dict::offset(d, p, Op::CHARSET)?;
+    let at = d.offset(Op::CHARSET)?;
     ids_at(font, at.unwrap_or(0), n)
 }
 
-// The FDs of n glyphs of the font whose top DICT has the bytes d.
-fn read_fds(font: &[u8], d: &[u8], p: Places, n: usize) -> Result<FdSelect, Refusal>
-    requires { (n < 65536) × Placed d.now p }
-    ensures { ReadsFds font.now n (fds_at font.now n (offset_in fd_select_lem (entries_of d.now))) result }
+// The FDs of n glyphs of the font with the top DICT d.
+fn read_fds(font: &[u8], d: &Dict<'_>, n: usize) -> Result<FdSelect, Refusal>
+    requires { (n < 65536) }
+    ensures { ReadsFds font.now n (fds_at font.now n (offset_in fd_select_lem (entries d.now))) result }
 {
-    match dict::offset(d, p, Op::FD_SELECT)? {
+    match d.offset(Op::FD_SELECT)? {
         None => Ok(charset::fd_select::no_fd_select()),
         Some(v) => charset::fd_select::read_fd_select(font, v, n),
     }
@@ -113,29 +112,28 @@ fn encoding_at(font: &[u8], v: usize) -> Result<usize, Refusal>
     Ok(v)
 }
 
-// The encoding of the font whose top DICT has the bytes d.
-fn read_encoding(font: &[u8], d: &[u8], p: Places) -> Result<usize, Refusal>
-    requires { Placed d.now p }
-    ensures { ReadsCoding font.now (named_encoding font.now (entries_of d.now)) result }
+// The encoding of the font with the top DICT d.
+fn read_encoding(font: &[u8], d: &Dict<'_>) -> Result<usize, Refusal>
+    ensures { ReadsCoding font.now (named_encoding font.now (entries d.now)) result }
 {
-    let at = dict::offset(d, p, Op::ENCODING)?;
+    let at = d.offset(Op::ENCODING)?;
     encoding_at(font, at.unwrap_or(0))
 }
 
 // The parts of a CID-keyed font whose FD array and Private DICTs were read: its FDSelect, and that no FD is past the array.
 fn fd_parts(
-    font: &[u8],
-    d: &[u8],
-    p: Places,
+    font: &Table<'_>,
+    d: &Dict<'_>,
     n: usize,
     dicts: Index,
     total: usize,
 ) -> Result<Parts, Refusal>
-    requires { (2 ≤ length font.now) × (n < 65536) × HasLocals font.now (entries_of d.now) dicts total × Placed d.now p }
-    ensures { ReadsParts font.now true n (cid_parts font.now (entries_of d.now) n) result }
+    requires { (n < 65536) × HasLocals font.now (entries d.now) dicts total }
+    ensures { ReadsParts font.now true n (cid_parts font.now (entries d.now) n) result }
 {
-    let select = read_fds(font, d, p, n)?;
-    if charset::fd_select::fds_below(font, select, n, dicts.count) {
+    let bytes = font.bytes;
+    let select = read_fds(bytes, d, n)?;
+    if charset::fd_select::fds_below(bytes, select, n, dicts.count) {
         return Ok(Parts {
             dicts,
             private: crate::private::no_private(),
@@ -148,33 +146,32 @@ fn fd_parts(
 }
 
 // The parts of a CID-keyed font whose FD array was read.
-fn dict_parts(font: &[u8], d: &[u8], p: Places, n: usize, dicts: Index) -> Result<Parts, Refusal>
-    requires { (2 ≤ length font.now) × (n < 65536) × HasDicts font.now (entries_of d.now) dicts × Placed d.now p }
-    ensures { ReadsParts font.now true n (cid_parts font.now (entries_of d.now) n) result }
+fn dict_parts(font: &Table<'_>, d: &Dict<'_>, n: usize, dicts: Index) -> Result<Parts, Refusal>
+    requires { (n < 65536) × HasDicts font.now (entries d.now) dicts }
+    ensures { ReadsParts font.now true n (cid_parts font.now (entries d.now) n) result }
 {
     let total = crate::private::read_privates(font, dicts)?;
     if dicts.count == 0 {
         return Err(Refusal::Malformed);
     }
-    fd_parts(font, d, p, n, dicts, total)
+    fd_parts(font, d, n, dicts, total)
 }
 
-// The parts of the CID-keyed font whose top DICT has the bytes d.
-fn cid_parts(font: &[u8], d: &[u8], p: Places, n: usize) -> Result<Parts, Refusal>
-    requires { (2 ≤ length font.now) × (n < 65536) × Placed d.now p }
-    ensures { ReadsParts font.now true n (cid_parts font.now (entries_of d.now) n) result }
+// The parts of the CID-keyed font with the top DICT d.
+fn cid_parts(font: &Table<'_>, d: &Dict<'_>, n: usize) -> Result<Parts, Refusal>
+    requires { (n < 65536) }
+    ensures { ReadsParts font.now true n (cid_parts font.now (entries d.now) n) result }
 {
-    let dicts = named_index(font, d, p, Op::FD_ARRAY)?;
-    dict_parts(font, d, p, n, dicts)
+    let dicts = named_index(font.bytes, d, Op::FD_ARRAY)?;
+    dict_parts(font, d, n, dicts)
 }
 
-// The parts of the name-keyed font whose top DICT has the bytes d.
-fn name_parts(font: &[u8], d: &[u8], p: Places, n: usize) -> Result<Parts, Refusal>
-    requires { (2 ≤ length font.now) × Placed d.now p }
-    ensures { ReadsParts font.now false n (name_parts font.now (entries_of d.now) n) result }
+// The parts of the name-keyed font with the top DICT d.
+fn name_parts(font: &Table<'_>, d: &Dict<'_>, n: usize) -> Result<Parts, Refusal>
+    ensures { ReadsParts font.now false n (name_parts font.now (entries d.now) n) result }
 {
-    let private = crate::private::named_private(font, d, p)?;
-    let encoding = read_encoding(font, d, p)?;
+    let private = crate::private::named_private(font, d)?;
+    let encoding = read_encoding(font.bytes, d)?;
     let locals = private.locals;
     Ok(Parts {
         dicts: crate::private::no_items(),
@@ -186,37 +183,36 @@ fn name_parts(font: &[u8], d: &[u8], p: Places, n: usize) -> Result<Parts, Refus
 }
 
 // The parts of a font, by its keying.
-fn read_parts(font: &[u8], d: &[u8], p: Places, n: usize, cid: bool) -> Result<Parts, Refusal>
-    requires { (2 ≤ length font.now) × (n < 65536) × Placed d.now p }
-    ensures { ReadsParts font.now cid n (parts_by cid font.now (entries_of d.now) n) result }
+fn read_parts(font: &Table<'_>, d: &Dict<'_>, n: usize, cid: bool) -> Result<Parts, Refusal>
+    requires { (n < 65536) }
+    ensures { ReadsParts font.now cid n (parts_by cid font.now (entries d.now) n) result }
 {
     if cid {
-        return cid_parts(font, d, p, n);
+        return cid_parts(font, d, n);
     }
-    name_parts(font, d, p, n)
+    name_parts(font, d, n)
 }
 
-// The font whose top DICT lies from top to end, and whose charstrings were read.
+// The font whose top DICT lies from top to end and was read, as were its charstrings.
 fn glyphs_at(
     font: &[u8],
     top: usize,
     end: usize,
-    p: Places,
+    d: &Dict<'_>,
     strings: Index,
     globals: Index,
     charstrings: Index,
 ) -> Result<Font, Refusal>
-    requires { HasTop font.now top end strings globals × HasGlyphs font.now top end charstrings × Placed (top_of font.now top end) p }
+    requires { HasTop font.now top end strings globals × HasGlyphs font.now top end charstrings × (d.now.bytes.now ≡ top_of font.now top end) }
     ensures { ReadsFont font.now (font_of font.now strings globals top end) result }
 {
-    let d = &font[top..end];
     let n = charstrings.count;
     if n == 0 {
         return Err(Refusal::Malformed);
     }
-    let charset = read_ids(font, d, p, n)?;
-    let cid = dict::is_cid_keyed(d, p);
-    let parts = read_parts(font, d, p, n, cid)?;
+    let charset = read_ids(font, d, n)?;
+    let cid = d.is_cid_keyed();
+    let parts = read_parts(&Table { bytes: font }, d, n, cid)?;
     Ok(Font {
         start: 0,
         len: font.len(),
@@ -246,11 +242,10 @@ pub fn font_at(
     requires { HasTop font.now top end strings globals }
     ensures { ReadsFont font.now (font_of font.now strings globals top end) result }
 {
-    let d = &font[top..end];
-    let p = dict::read_dict(d)?;
-    dict::charstring_type(d, p)?;
-    let charstrings = named_index(font, d, p, Op::CHARSTRINGS)?;
-    glyphs_at(font, top, end, p, strings, globals, charstrings)
+    let d = dict::read_dict(&font[top..end])?;
+    d.charstring_type()?;
+    let charstrings = named_index(font, &d, Op::CHARSTRINGS)?;
+    glyphs_at(font, top, end, &d, strings, globals, charstrings)
 }
 
 // W of a font: 2 × glyphs, and the words of a bit for each global and each local subroutine.

@@ -2,8 +2,11 @@
 #![tactic(auto)]
 
 pub mod font;
+pub mod loaded;
 pub mod private;
+mod remembered;
 pub mod set;
+pub mod table;
 
 // What reading answers of a font: how many glyphs, global subroutines and strings, whether it is CID-keyed, and the work words a cut takes.
 #[derive(Clone, Copy)]

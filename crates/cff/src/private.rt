@@ -1,15 +1,18 @@
 // Private DICTs (TN5176, section 15) and their local subroutines (section 16), read in place: the Rust's private_of and PrivateDict::parse.
-ghost use Rattle.std.specs.Prelude.{◌≡◌, ◌+◌, ◌≤◌, ◌<◌, length};
-ghost use Rattle.index.specs.Index.{empty_at, items_of};
+ghost use Rattle.std.specs.Prelude.{◌≡◌, ◌≤◌, IfOk};
+ghost use Rattle.index.specs.Index.{empty_at, index_at, items_of};
 ghost use Rattle.dict.specs.Op.{subrs};
 ghost use Rattle.dict.specs.Lookup.{offset_in, private_in};
 ghost use Rattle.dict.specs.Places.{entries_of};
-ghost use Rattle.dict.specs.Noted.{Placed};
+ghost use Rattle.dict.specs.Held.{entries};
 ghost use Rattle.cff.specs.Font.{locals_at, private_data, private_at, privates_at};
-ghost use Rattle.cff.specs.Reads.{Holds, ReadsItems, no_private, ReadsPrivate, Recalls, Remembers, free_after, fd_private, ReadsNext, ReadsLocals};
+ghost use Rattle.cff.specs.Reads.{Holds, ReadsItems, no_private, ReadsPrivate, ReadsLocals};
 
+use crate::remembered::Remembered;
+use crate::table::Table;
+use dict::PrivateEntry;
 use dict::op::Op;
-use dict::{Places, PrivateEntry};
+use dict::placed::Dict;
 use index::Index;
 use refusal::Refusal;
 
@@ -54,29 +57,41 @@ pub fn no_private() -> PrivateAt
     }
 }
 
-// The local subroutines of the Private DICT at an offset, whose bytes are d.
-fn locals_at(font: &[u8], offset: usize, d: &[u8], p: Places) -> Result<Index, Refusal>
-    requires { (2 ≤ length font.now) × (offset ≤ 4294967296) × Placed d.now p }
-    ensures { ReadsItems font.now (locals_at font.now offset (offset_in subrs (entries_of d.now))) result }
+// The INDEX at a place of a font, any place: its items can be had.
+pub(crate) fn items_at(font: &[u8], at: usize) -> Result<Index, Refusal>
+    ensures { (result ≡ index_at font.now at) × (IfOk result (Holds font.now)) }
 {
-    match dict::offset(d, p, Op::SUBRS)? {
+    index::read_index(font, at)
+}
+
+// The local subroutines of the Private DICT d, which is at an offset.
+fn locals_at(font: &Table<'_>, offset: usize, d: &Dict<'_>) -> Result<Index, Refusal>
+    requires { offset ≤ 4294967296 }
+    ensures { ReadsItems font.now (locals_at font.now offset (offset_in subrs (entries d.now))) result }
+{
+    let bytes = font.bytes;
+    match d.offset(Op::SUBRS)? {
         None => Ok(no_items()),
-        Some(relative) => index::read_index(font, offset + relative),
+        Some(relative) => items_at(bytes, offset + relative),
     }
 }
 
 // The Private DICT of a size at an offset.
-fn private_data(font: &[u8], size: usize, offset: usize) -> Result<PrivateAt, Refusal>
-    requires { (2 ≤ length font.now) × (size ≤ 4294967296) × (offset ≤ 4294967296) }
+pub(crate) fn private_data(
+    font: &Table<'_>,
+    size: usize,
+    offset: usize,
+) -> Result<PrivateAt, Refusal>
+    requires { (size ≤ 4294967296) × (offset ≤ 4294967296) }
     ensures { ReadsPrivate font.now (private_data font.now size offset) result }
 {
+    let bytes = font.bytes;
     let end = offset + size;
-    if font.len() < end {
+    if bytes.len() < end {
         return Err(Refusal::Truncated);
     }
-    let d = &font[offset..end];
-    let p = dict::read_dict(d)?;
-    let locals = locals_at(font, offset, d, p)?;
+    let d = dict::read_dict(&bytes[offset..end])?;
+    let locals = locals_at(font, offset, &d)?;
     Ok(PrivateAt {
         start: offset,
         size,
@@ -85,147 +100,38 @@ fn private_data(font: &[u8], size: usize, offset: usize) -> Result<PrivateAt, Re
 }
 
 // The Private DICT that a DICT names; an empty one where it names none.
-pub fn private_at(font: &[u8], d: &[u8]) -> Result<PrivateAt, Refusal>
-    requires { 2 ≤ length font.now }
+pub fn private_at(font: &Table<'_>, d: &[u8]) -> Result<PrivateAt, Refusal>
     ensures { ReadsPrivate font.now (private_at font.now (private_in (entries_of d.now))) result }
 {
-    named_private(font, d, dict::nowhere())
+    named_private(font, &dict::nowhere(d))
 }
 
-// The same, of a DICT whose entries stand at these places.
-pub fn named_private(font: &[u8], d: &[u8], p: Places) -> Result<PrivateAt, Refusal>
-    requires { (2 ≤ length font.now) × Placed d.now p }
-    ensures { ReadsPrivate font.now (private_at font.now (private_in (entries_of d.now))) result }
+// The same, of a DICT that was read.
+pub fn named_private(font: &Table<'_>, d: &Dict<'_>) -> Result<PrivateAt, Refusal>
+    ensures { ReadsPrivate font.now (private_at font.now (private_in (entries d.now))) result }
 {
-    match dict::private_of(d, p)? {
-        None => Ok(no_private()),
+    match d.private_of()? {
+        // The empty one lies in every table.
+        None => {
+            let _ = &font.bytes;
+            Ok(no_private())
+        }
         Some(PrivateEntry { size, offset }) => private_data(font, size, offset),
     }
 }
 
-// The first place of the table that has a Private DICT of this size at this offset; 128 where none has.
-fn recall(sizes: &[usize; 128], offsets: &[usize; 128], size: usize, offset: usize) -> usize
-    ensures { Recalls sizes.now offsets.now size offset result }
-{
-    sizes
-        .iter()
-        .zip(offsets)
-        .position(|(s, o)| *s == size && *o == offset)
-        .unwrap_or(128)
-}
-
-// The place for the next Private DICT that is read, after one that is remembered at a place: those read first are forgotten first.
-fn free_after(free: usize, place: usize) -> usize
-    requires { free < 128 }
-    ensures { (result ≡ free_after free place) × (result < 128) }
-{
-    if place == free {
-        if free == 127 {
-            return 0;
-        }
-        return free + 1;
-    }
-    free
-}
-
-// The Private DICT of a size at an offset, read for its refusal and the words of its local subroutines.
-fn locals_of(font: &[u8], size: usize, offset: usize, free: usize) -> Result<SeenPrivate, Refusal>
-    requires { (2 ≤ length font.now) × (size ≤ 4294967296) × (offset ≤ 4294967296) × (free < 128) }
-    ensures { ReadsNext font.now (private_data font.now size offset) result }
-{
-    let q = private_data(font, size, offset)?;
-    let locals = q.locals;
-    let words = bits::words_for(locals.count);
-    Ok(SeenPrivate {
-        size,
-        offset,
-        words,
-        place: free,
-    })
-}
-
-// The same, as it is remembered; where it is not, it is read.
-fn seen_private(
-    font: &[u8],
-    size: usize,
-    offset: usize,
-    sizes: &[usize; 128],
-    offsets: &[usize; 128],
-    words: &[usize; 128],
-    free: usize,
-) -> Result<SeenPrivate, Refusal>
-    requires { (2 ≤ length font.now) × (size ≤ 4294967296) × (offset ≤ 4294967296) × Remembers font.now sizes.now offsets.now words.now × (free < 128) }
-    ensures { ReadsNext font.now (private_data font.now size offset) result }
-{
-    let place = recall(sizes, offsets, size, offset);
-    if place < 128 {
-        let known = words[place];
-        return Ok(SeenPrivate {
-            size,
-            offset,
-            words: known,
-            place,
-        });
-    }
-    locals_of(font, size, offset, free)
-}
-
-// The next FD's Private DICT, as the FD's bytes d name it; where they name none, it is one of no bytes at 0.
-fn next_private(
-    font: &[u8],
-    d: &[u8],
-    p: Places,
-    sizes: &[usize; 128],
-    offsets: &[usize; 128],
-    words: &[usize; 128],
-    free: usize,
-) -> Result<SeenPrivate, Refusal>
-    requires { (2 ≤ length font.now) × Remembers font.now sizes.now offsets.now words.now × (free < 128) × Placed d.now p }
-    ensures { ReadsNext font.now (private_at font.now (private_in (entries_of d.now))) result }
-{
-    match dict::private_of(d, p)? {
-        None => seen_private(font, 0, 0, sizes, offsets, words, free),
-        Some(PrivateEntry { size, offset }) => seen_private(
-            font, size, offset, sizes, offsets, words, free,
-        ),
-    }
-}
-
-// The Private DICT of the FD whose bytes are d.
-fn fd_private(
-    font: &[u8],
-    d: &[u8],
-    sizes: &[usize; 128],
-    offsets: &[usize; 128],
-    words: &[usize; 128],
-    free: usize,
-) -> Result<SeenPrivate, Refusal>
-    requires { (2 ≤ length font.now) × Remembers font.now sizes.now offsets.now words.now × (free < 128) }
-    ensures { ReadsNext font.now (fd_private font.now d.now) result }
-{
-    let p = dict::read_dict(d)?;
-    next_private(font, d, p, sizes, offsets, words, free)
-}
-
 // The Private DICTs of the FDs, whose DICTs are the items of an INDEX: one after the other, for how many words the bits of their local subroutines take
-// together, each rounded up. The last 128 that were read are remembered, by size and offset, so that FDs that share a few are read in one pass.
-pub fn read_privates(font: &[u8], dicts: Index) -> Result<usize, Refusal>
-    requires { (2 ≤ length font.now) × Holds font.now dicts }
+// together, each rounded up.
+pub fn read_privates(font: &Table<'_>, dicts: Index) -> Result<usize, Refusal>
+    requires { Holds font.now dicts }
     ensures { ReadsLocals (privates_at font.now (items_of font.now dicts)) result }
 {
-    let mut sizes = [0usize; 128];
-    let mut offsets = [0usize; 128];
-    let mut words = [0usize; 128];
-    let mut free: usize = 0;
+    let mut seen = Remembered::new(&*font);
     let mut total: usize = 0;
     for k in 0..dicts.count {
-        let d = index::item(font, dicts, k);
-        let l = fd_private(font, d, &sizes, &offsets, &words, free)?;
-        let place = l.place;
-        sizes[place] = l.size;
-        offsets[place] = l.offset;
-        words[place] = l.words;
-        free = free_after(free, place);
+        let d = index::item(font.bytes, dicts, k);
+        let l = seen.fd_private(d)?;
+        seen.note(l);
         total += l.words;
     }
     Ok(total)

@@ -5,8 +5,12 @@ ghost use Rattle.index.specs.Place.{StartsAt};
 ghost use Rattle.cff.specs.Font.{set_at, read_table};
 ghost use Rattle.cff.specs.Reads.{Holds, ReadsFont, HasSet, font_with, fonts_of, behind_tops};
 ghost use Rattle.cff.specs.File.{InFile, HasFont, ReadsFile};
+ghost use Rattle.cff.specs.Loaded.{Loads};
 
 use crate::font::Font;
+use crate::loaded::Loaded;
+use crate::private::items_at;
+use crate::table::Table;
 use index::Index;
 use opentype::TableAt;
 use refusal::Refusal;
@@ -59,25 +63,26 @@ fn read_set(font: &[u8], tops: Index, strings: Index, globals: Index) -> Result<
 }
 
 // The set whose names, of which there are so many, and top DICTs were read: its strings and global subroutines, then its fonts.
-fn behind_tops(font: &[u8], names: usize, tops: Index) -> Result<Font, Refusal>
-    requires { (2 ≤ length font.now) × Holds font.now tops }
+fn behind_tops(font: &Table<'_>, names: usize, tops: Index) -> Result<Font, Refusal>
+    requires { Holds font.now tops }
     ensures { ReadsFont font.now (behind_tops font.now names (items_of font.now tops) tops.end) result }
 {
-    let strings = index::read_index(font, tops.end)?;
-    let globals = index::read_index(font, strings.end)?;
+    let bytes = font.bytes;
+    let strings = items_at(bytes, tops.end)?;
+    let globals = items_at(bytes, strings.end)?;
     if names == tops.count {
-        return read_set(font, tops, strings, globals);
+        return read_set(bytes, tops, strings, globals);
     }
     Err(Refusal::Malformed)
 }
 
 // The set behind the header.
-fn set_at(font: &[u8], at: usize) -> Result<Font, Refusal>
-    requires { 2 ≤ length font.now }
+fn set_at(font: &Table<'_>, at: usize) -> Result<Font, Refusal>
     ensures { ReadsFont font.now (set_at font.now at) result }
 {
-    let names = index::read_index(font, at)?;
-    let tops = index::read_index(font, names.end)?;
+    let bytes = font.bytes;
+    let names = items_at(bytes, at)?;
+    let tops = items_at(bytes, names.end)?;
     behind_tops(font, names.count, tops)
 }
 
@@ -92,7 +97,7 @@ fn read_table(font: &[u8]) -> Result<Font, Refusal>
     let header = reader::read_header(font);
     let major = header.major;
     if major == 1 {
-        return set_at(font, header.size);
+        return set_at(&Table { bytes: font }, header.size);
     }
     Err(Refusal::Unsupported)
 }
@@ -114,4 +119,15 @@ pub fn table(file: &[u8], f: Font) -> &[u8]
     ensures { (InFile file.now f result.now) × (StartsAt result file.entry f.start) }
 {
     opentype::table(file, f.start, f.len)
+}
+
+// The font of a file with the bytes of its table; or the refusal.
+pub fn load(file: &[u8]) -> Result<Loaded<'_>, Refusal>
+    ensures { Loads file.now result }
+{
+    let f = read_font(file)?;
+    Ok(Loaded {
+        bytes: table(file, f),
+        f,
+    })
 }

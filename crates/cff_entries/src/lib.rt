@@ -7,11 +7,11 @@ ghost use Rattle.octets.specs.Pick.{pick};
 ghost use Rattle.opentype.specs.Opentype.{place_of};
 ghost use Rattle.cff.specs.Font.{read_font};
 ghost use Rattle.cff.specs.Find.{read_as, find_name, find_cid, name_as, cid_as, item_refusal_lem, item_of};
-ghost use Rattle.cff.specs.Reads.{program_of, GoodFont};
+ghost use Rattle.cff.specs.Loaded.{program};
 ghost use Rattle.cff.specs.Place.{LiesIn};
 ghost use Rattle.cff_entries.specs.Kinds.{kind_of};
 
-use cff::font::Font;
+use cff::loaded::Loaded;
 use cff::{Counts, ItemKind};
 use refusal::Refusal;
 
@@ -34,37 +34,22 @@ pub fn read(font: &[u8]) -> Result<Counts, Refusal>
 }
 
 // The glyph of a name in a font that was read; no glyph of a CID-keyed font has one.
-fn name_in(font: &[u8], f: Font, name: &[u8]) -> Option<usize>
-    requires { GoodFont font.now f }
-    ensures { result ≡ find_name (program_of font.now f) name.now }
+fn name_in(font: &Loaded<'_>, name: &[u8]) -> Option<usize>
+    ensures { result ≡ find_name (program font.now) name.now }
 {
-    let charset = f.charset;
-    let charstrings = f.charstrings;
-    let texts = f.strings;
-    let cid = f.cid;
-    if cid {
+    if font.f.cid {
         return None;
     }
-    find::find_text(
-        font,
-        charset,
-        charstrings.count,
-        texts,
-        name,
-        strings::sid_of(name),
-    )
+    let texts = font.strings();
+    find::find_text(&font.ids(), &texts, name, strings::sid_of(name))
 }
 
 // The glyph of a CID in a font that was read; no glyph of a name-keyed font has one.
-fn cid_in(font: &[u8], f: Font, cid: usize) -> Option<usize>
-    requires { GoodFont font.now f }
-    ensures { result ≡ find_cid (program_of font.now f) cid }
+fn cid_in(font: &Loaded<'_>, cid: usize) -> Option<usize>
+    ensures { result ≡ find_cid (program font.now) cid }
 {
-    let charset = f.charset;
-    let charstrings = f.charstrings;
-    let keyed = f.cid;
-    if keyed {
-        return find::find_id(font, charset, charstrings.count, cid);
+    if font.f.cid {
+        return find::find_id(&font.ids(), cid);
     }
     None
 }
@@ -73,16 +58,16 @@ fn cid_in(font: &[u8], f: Font, cid: usize) -> Option<usize>
 pub fn find_name(font: &[u8], name: &[u8]) -> Result<Option<usize>, Refusal>
     ensures { result ≡ name_as (read_font font.now) name.now }
 {
-    let f = cff::set::read_font(font)?;
-    Ok(name_in(cff::set::table(font, f), f, name))
+    let font = cff::set::load(font)?;
+    Ok(name_in(&font, name))
 }
 
 // Finds the glyph of a CID, or the refusal of the font.
 pub fn find_cid(font: &[u8], cid: usize) -> Result<Option<usize>, Refusal>
     ensures { result ≡ cid_as (read_font font.now) cid }
 {
-    let f = cff::set::read_font(font)?;
-    Ok(cid_in(cff::set::table(font, f), f, cid))
+    let font = cff::set::load(font)?;
+    Ok(cid_in(&font, cid))
 }
 
 // An item of an INDEX: the part of the caller's bytes itself, empty where the lookup is refused.

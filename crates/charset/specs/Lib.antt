@@ -30,3 +30,5 @@ pub mod CodesFound
 pub mod CodesRound
 pub mod CodesExamples
 pub mod Examples
+pub mod Alone
+pub mod Ids

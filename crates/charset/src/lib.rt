@@ -5,12 +5,15 @@
 pub mod encoding;
 pub mod fd_select;
 pub mod fd_writer;
+pub mod ids;
 
 ghost use Rattle.std.specs.Prelude.{◌≡◌, ◌+◌, ◌≤◌, ◌<◌, length, drop, get_or, Ok};
 ghost use Rattle.charset.specs.Listed.{numbers_of};
 ghost use Rattle.charset.specs.Charset.{ids_from, charset_at};
-ghost use Rattle.charset.specs.CharsetPlaces.{table_at, predefined, ids_of, GoodCharset, charset_answer, charset_start, next_id, ReadyId};
+ghost use Rattle.charset.specs.Ids.{ids};
+ghost use Rattle.charset.specs.CharsetPlaces.{table_at, predefined, charset_answer, charset_start, next_id, ReadyId};
 
+use ids::Ids;
 use refusal::Refusal;
 
 // A charset of a font: the first `own` glyphs have their own numbers as ids, glyph 0 alone where there is a table, all of them where the
@@ -50,14 +53,14 @@ pub fn predefined() -> Charset
 }
 
 // Checks the ranges of a charset for count glyphs: each range is there, and no id of them is above 65535.
-fn check_ranges(font: &[u8], c: Charset, count: usize) -> Result<Charset, Refusal>
-    requires { (c.width ≤ 2) × (count < 65536) × (c.at ≤ length font.now) }
+fn check_ranges(font: &[u8], c: Charset, count: u16) -> Result<Charset, Refusal>
+    requires { (c.width ≤ 2) × (c.at ≤ length font.now) }
     ensures { result ≡ charset_answer c (ids_from c.width count 0 0 (drop c.at font.now)) }
 {
     let len = font.len();
     let width = c.width;
     let mut q = c.at;
-    let mut k = count;
+    let mut k = count as usize;
     while 0 < k {
         if len - q < 2 + width {
             return Err(Refusal::Truncated);
@@ -104,7 +107,7 @@ pub fn read_charset(font: &[u8], at: usize, n: usize) -> Result<Charset, Refusal
         }
         return Ok(c);
     }
-    check_ranges(font, c, n - 1)
+    check_ranges(font, c, (n - 1) as u16)
 }
 
 // Where a charset begins: before glyph 0.
@@ -170,19 +173,19 @@ fn id_in_ranges(font: &[u8], at: usize, width: usize, n: usize, g: usize) -> usi
 }
 
 // The id of a glyph.
-pub fn id_of(font: &[u8], c: Charset, n: usize, gid: usize) -> usize
-    requires { (GoodCharset font.now c n) × (gid < n) }
-    ensures { (result ≡ get_or (ids_of font.now c n) gid 0) × (result < 65536) }
+pub fn id_of(glyphs: &Ids<'_>, gid: usize) -> usize
+    requires { gid < glyphs.now.n }
+    ensures { (result ≡ get_or (ids glyphs.now) gid 0) × (result < 65536) }
 {
-    let own = c.own;
-    let width = c.width;
-    let at = c.at;
+    let own = glyphs.charset.own;
+    let width = glyphs.charset.width;
+    let at = glyphs.charset.at;
     if gid < own {
         return gid;
     }
     let g = gid - own;
     if width == 0 {
-        return octets::u16_at(font, at + 2 * g);
+        return octets::u16_at(glyphs.bytes, at + 2 * g);
     }
-    id_in_ranges(font, at, width, n - own, g)
+    id_in_ranges(glyphs.bytes, at, width, glyphs.n - own, g)
 }

@@ -5,7 +5,8 @@ use Rattle.std.proofs.Math.Path.{ap}
 use Rattle.octets.specs.Pick.{pick}
 use Rattle.octets.specs.Octets.{Wrote}
 use Rattle.type2_number.specs.Number.{Read, cut, operator, number, number_at}
-use Rattle.type2_number.specs.Floats.{float_of, number_of}
+use Rattle.type2_number.specs.Floats.{float_of}
+use Rattle.type2_number.specs.Answers.{number_of}
 use Rattle.type2_number.specs.declared.Number.{Number}
 use Rattle.type2_number.specs.declared.Number.TheVariants.{Num as NumAt, Cut, Operator}
 use Rattle.charstring.specs.Token.{mask_len, mask_at, operator_at, plain_at, token_at, more}
@@ -45,10 +46,10 @@ module _ (s : List ℕ) (len : MaskLen) (c : Cursor) where
       ∙ ap (λ (d : Bool). step_of (pick d (mask_at s c (mask_len len c.stems)) (plain_at s c (number_at s c.at)))) (sym e)
 
   -- by the answer of reading a number there
-  num_case : (q : Read) (r : Number) (v : Float) (n : ℕ) → r ≡ number_of q → r ≡ NumAt v n → (z : ℤ) × (q ≡ number z n) × (v ≡ float_of z)
+  num_case : (q : Read) (r : Number) (v : ℤ) (n : ℕ) → r ≡ number_of q → r ≡ NumAt v n → q ≡ number v n
   num_case cut r v n e f = absurd (no cc)
   num_case operator r v n e f = absurd (no cc)
-  num_case (number z m) r v n e f = (z, cc, cc)
+  num_case (number z m) r v n e f = cc
 
   cut_case : (q : Read) (r : Number) → r ≡ number_of q → r ≡ Cut → q ≡ cut
   cut_case cut r e f = refl
@@ -61,11 +62,11 @@ module _ (s : List ℕ) (len : MaskLen) (c : Cursor) where
   operator_case (number z m) r e f = absurd (no cc)
 
   module _ (r : Number) (e : r ≡ number_of (number_at s c.at)) (d : c.due ≡ false) where
-    pub step-num : (v : Float) (n : ℕ) → r ≡ NumAt v n
-        → Some (Num v, record { at = n; args = c.args + 1; stems = c.stems; due = false }) ≡ step_of (token_at s len c)
-    step-num v n f =
-        let w = num_case (number_at s c.at) r v n e f in
-        ap (λ (x : Float). Some (Num x, record { at = n; args = c.args + 1; stems = c.stems; due = false })) w.2 ∙ plain (number w.0 n) d w.1
+    pub step-num : (v : ℤ) (n : ℕ) → r ≡ NumAt v n → (x : Float) → x ≡ float_of v
+        → Some (Num x, record { at = n; args = c.args + 1; stems = c.stems; due = false }) ≡ step_of (token_at s len c)
+    step-num v n f x g =
+        ap (λ (y : Float). Some (Num y, record { at = n; args = c.args + 1; stems = c.stems; due = false })) g
+        ∙ plain (number v n) d (num_case (number_at s c.at) r v n e f)
 
     pub step_cut : r ≡ Cut → None ≡ step_of (token_at s len c)
     step_cut f = plain cut d (cut_case (number_at s c.at) r e f)

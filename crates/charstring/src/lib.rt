@@ -2,6 +2,8 @@
 // A body is read one token at a time, in place; a cursor by value holds what the Rust's loop holds.
 #![tactic(auto)]
 
+pub mod place;
+
 ghost use Rattle.std.specs.Prelude.{◌≡◌, false, true, ◌+◌, ◌≤◌, ◌<◌, length, get_or};
 ghost use Rattle.octets.specs.Octets.{Wrote};
 ghost use Rattle.charstring.specs.Bias.{bias_of};
@@ -9,7 +11,7 @@ ghost use Rattle.charstring.specs.Token.{is_mask, is_stem, stems_after, mask_len
 ghost use Rattle.charstring.specs.Encode.{is_whole, body_bytes};
 ghost use Rattle.charstring.specs.Answers.{step_of, token_bytes, token_len_lem, Measurable, Writable, Within, given_at, measured_of, Recodes};
 
-use type2_number::{Number, number_len, put_number, read_number};
+use type2_number::{Number, Operand, number_len, put_number, read_number};
 
 // The number added to a call's operand, by the count of subroutines.
 pub fn bias(count: usize) -> usize
@@ -196,7 +198,7 @@ pub fn next_token(code: &[u8], c: Cursor, given: MaskLen) -> Option<(Token, Curs
     }
     match read_number(code, at) {
         Number::Num { value, next } => Some((
-            Token::Num(value),
+            Token::Num(value.float()),
             Cursor {
                 at: next,
                 args: c.args + 1,
@@ -215,7 +217,7 @@ pub fn token_len(t: Token) -> usize
     ensures { result ≡ token_len_lem t }
 {
     match t {
-        Token::Num(v) => number_len(v),
+        Token::Num(v) => number_len(Operand::of(v)),
         Token::Op(_) => 1,
         Token::Esc(_) => 2,
         Token::Mask { start: _, len } => len,
@@ -228,7 +230,7 @@ pub fn put_token(code: &[u8], t: Token, out: &mut [u8], to: usize) -> usize
     ensures { Wrote out.old to (token_bytes code.now t) out.new result }
 {
     match t {
-        Token::Num(v) => put_number(v, out, to),
+        Token::Num(v) => put_number(Operand::of(v), out, to),
         Token::Op(b) => octets::put_byte(out, to, b),
         Token::Esc(b) => octets::put_pair(out, to, 12, b),
         Token::Mask { start, len } => {

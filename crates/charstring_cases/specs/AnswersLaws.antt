@@ -1,15 +1,15 @@
 -- Laws of answers, by the code's ways out: the kinds of one number, and pairs.
-use Rattle.std.specs.Prelude.{ℕ, zero, suc, ◌+◌, ◌-◌, ◌*◌, ◌≤◌, ◌<◌, ◌≡◌, refl, Bool, List, [], ◌∷◌, ◌++◌, leb, eqb, Float, ℤ, length, take, drop, None, Some}
+use Rattle.std.specs.Prelude.{ℕ, zero, suc, ◌+◌, ◌-◌, ◌*◌, ◌≤◌, ◌<◌, ◌≡◌, refl, Bool, List, [], ◌∷◌, ◌++◌, leb, eqb, ℤ, length, take, drop, None, Some}
 use Rattle.std.proofs.Common.{sym, ap, ◌∙◌, subst, arith, length-append, length-drop, take_all}
 use Rattle.std.proofs.Math.ListN.{get_or}
 use borrow.Author.Tests.{eq-eqb, ne_eqb, lt-ltb, le-ltb, le-leb, lt-leb}
 use Rattle.octets.specs.Pick.{pick, pick_ind}
-use Rattle.octets.specs.Octets.{Octets, num_at, bytes_of, Wrote}
+use Rattle.octets.specs.Octets.{num_at, bytes_of, Wrote}
 use Rattle.octets.specs.OctetsLaws.{length-bytes}
 use Rattle.type2_number.specs.Number.{is_neg, mag, Read, cut, operator, number, number_at}
-use Rattle.type2_number.specs.Floats.{float_of, scaled_of, HoldsReading, number_of}
+use Rattle.type2_number.specs.Floats.{scaled_of}
+use Rattle.type2_number.specs.Answers.{number_of}
 use Rattle.type2_number.specs.Encoding.{integer_bytes, fixed_bytes}
-use Rattle.type2_number.specs.Readings.{ReadingRead, reading-at, back-reading, holds}
 use Rattle.type2_number.specs.declared.Number.{Number}
 use Rattle.type2_number.specs.declared.Number.TheVariants.{Num as NumAt, Cut, Operator}
 use Rattle.charstring.specs.Bias.{bias_of}
@@ -47,18 +47,12 @@ told-operator cut e = absurd (no cc)
 told-operator operator e = refl
 told-operator (number z n) e = absurd (no cc)
 
-told-holds : (q : Read) → ReadingRead q → (v : Float) (n : ℕ) → number_of q ≡ NumAt v n → HoldsReading v
-told-holds cut g v n e = absurd (no cc)
-told-holds operator g v n e = absurd (no cc)
-told-holds (number z m) g v n e = let f : float_of z ≡ v = cc in subst HoldsReading f (holds z g)
-
-told-number : (q : Read) → ReadingRead q → (v : Float) (n : ℕ) → number_of q ≡ NumAt v n → read_bytes q ≡ 2 ∷ (count_bytes (scaled_of v) ++ bytes_of 1 n)
-told-number cut g v n e = absurd (no cc)
-told-number operator g v n e = absurd (no cc)
-told-number (number z m) g v n e =
-    let f : float_of z ≡ v = cc in
+told-number : (q : Read) (v : ℤ) (n : ℕ) → number_of q ≡ NumAt v n → read_bytes q ≡ 2 ∷ (count_bytes v ++ bytes_of 1 n)
+told-number cut v n e = absurd (no cc)
+told-number operator v n e = absurd (no cc)
+told-number (number z m) v n e =
+    let f : z ≡ v = cc in
     let k : m ≡ n = cc in
-    let b : z ≡ scaled_of v = sym (back-reading z g) ∙ ap scaled_of f in
     cc
 
 module _ (s : List ℕ) where
@@ -77,11 +71,8 @@ module _ (s : List ℕ) where
     pub number-operator : r ≡ Operator → number_answer s ≡ Some (1 ∷ [])
     number-operator f = some_read ∙ ap Some (told-operator (number_at s 0) (sym e ∙ f))
 
-    pub number-holds : Octets s → (v : Float) (n : ℕ) → r ≡ NumAt v n → HoldsReading v
-    number-holds b v n f = told-holds (number_at s 0) (reading-at s 0 b) v n (sym e ∙ f)
-
-    pub number_read : Octets s → (v : Float) (n : ℕ) → r ≡ NumAt v n → number_answer s ≡ Some (2 ∷ (count_bytes (scaled_of v) ++ bytes_of 1 n))
-    number_read b v n f = some_read ∙ ap Some (told-number (number_at s 0) (reading-at s 0 b) v n (sym e ∙ f))
+    pub number_read : (v : ℤ) (n : ℕ) → r ≡ NumAt v n → number_answer s ≡ Some (2 ∷ (count_bytes v ++ bytes_of 1 n))
+    number_read v n f = some_read ∙ ap Some (told-number (number_at s 0) v n (sym e ∙ f))
 
 -- ---- kinds i, f and b
 

@@ -3,7 +3,6 @@
 
 ghost use Rattle.std.specs.Prelude.{◌+◌, ◌*◌, ◌≤◌, length};
 ghost use Rattle.octets.specs.Octets.{Wrote};
-ghost use Rattle.type2_number.specs.Floats.{scaled_of, HoldsReading};
 ghost use Rattle.charstring.specs.Token.{lookup, tokens_of};
 ghost use Rattle.charstring.specs.Answers.{Measurable};
 ghost use Rattle.charstring_cases.specs.Numbers.{count_bytes, number_answer, integer_answer, fixed_answer, bias_answer};
@@ -14,12 +13,12 @@ ghost use Rattle.charstring_cases.specs.Answers.{answer_to};
 use cases::sign_of;
 use charstring::{RecodeError, Token};
 use octets::{put_byte, put_num};
-use type2_number::Number;
+use type2_number::{Number, Operand};
 
 // A number of a case: its sign and its size, the count of 65536ths.
-fn put_count(v: f32, out: &mut [u8], at: usize) -> usize
-    requires { (HoldsReading v) × (at + 5 ≤ length out.old) }
-    ensures { Wrote out.old at (count_bytes (scaled_of v)) out.new result }
+fn put_count(v: Operand, out: &mut [u8], at: usize) -> usize
+    requires { at + 5 ≤ length out.old }
+    ensures { Wrote out.old at (count_bytes v) out.new result }
 {
     let s = type2_number::count_of(v);
     let p = put_byte(out, at, sign_of(s.neg));
@@ -103,7 +102,7 @@ fn put_token(t: Token, out: &mut [u8], at: usize) -> usize
     match t {
         Token::Num(v) => {
             let p = put_byte(out, at, 1);
-            put_count(v, out, p)
+            put_count(Operand::of(v), out, p)
         }
         Token::Op(b) => {
             let p = put_byte(out, at, 2);

@@ -55,8 +55,8 @@ module _ (ks rows : List ℕ) where
   ask_start h keys n a = record { asks = a; whole = ap (λ (l : List ℕ). all_in rows (gathered [] l)) (within_all top ks h) }
 
   module _ (keys : List ℕ) (n low : ℕ) (s : Asking keys n low) where
-    pub ask_fits : n ≤ 65536
-    ask_fits = omega (arith, s.asks.fits)
+    pub ask_fits : length (take n keys) ≤ 65536
+    ask_fits = omega (arith, s.asks.fits, length-take-le n keys s.asks.window.fits)
 
     -- one that is not full is the last
     pub ask_last : (n ≡ 64512 → ⊥) → all_in rows (take n keys) ≡ all_in rows (gathered [] ks)

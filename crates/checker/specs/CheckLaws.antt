@@ -1,32 +1,31 @@
 -- Laws of the answer: what the marked glyphs meet, the conditions, and the refusals in their order.
 use Rattle.std.specs.Prelude.{ℕ, ◌≡◌, refl, Bool, true, false, not, length, None, Option, Some, Result, Ok, Err}
 use Rattle.std.proofs.Math.Path.{sym, ap}
-use Rattle.std.proofs.Common.{◌∙◌, subst}
+use Rattle.std.proofs.Common.{◌∙◌}
 use mathlib.Core.List.{List}
 use Rattle.octets.specs.Pick.{pick}
 use Rattle.octets.specs.Octets.{Octets}
 use Rattle.octets.specs.Lists.{all_below}
 use Rattle.index.specs.IndexLaws.{items-length}
 use Rattle.unfold.specs.Unfold.{Row}
-use Rattle.prune.specs.Bodies.{All, empty as no_row}
 use Rattle.prune.specs.StepLaws.{zero_one}
 use Rattle.record.specs.Record.{rows_of, record_fine}
 use Rattle.dict.specs.Lookup.{cid_keyed}
 use Rattle.cff.specs.Font.{Program, read_font}
-use Rattle.cff.specs.Reads.{program_of}
+use Rattle.cff.specs.Reads.{program_of, GoodFont}
 use Rattle.cff.specs.File.{InFile}
-use Rattle.cff.specs.FileLaws.{table-short}
 use Rattle.cff.specs.declared.font.Font.{Font}
 use Rattle.subset.specs.Kept.{those, keeps, kept_of, used_fds}
 use Rattle.subset.specs.Cut.{all_found_lem}
 use Rattle.kept.specs.Packed.{Marks, marked}
 use Rattle.kept.specs.OrderLaws.{kept-marked}
-use Rattle.faithful.specs.GoodLaws.{font-good}
 use Rattle.traced.specs.Traced.{met_all}
-use Rattle.traced.specs.RowLaws.{RowFits}
-use Rattle.traced.proofs.Theorem.{kept-fits}
-use Rattle.tracer.specs.Tracing.{top, Held, met_in, or_none, RowsFit, Plainly, keys_in, sorted_in, Filling, Fills}
-use Rattle.tracer.specs.WindowsLaws.{refill-plain}
+use Rattle.tracer.specs.Held.{met_in, or_none}
+use Rattle.tracer.specs.Tracing.{top, met, keys_of, sorted, Filling, Fills}
+use Rattle.tracer.specs.WindowsLaws.{rows_fit, refill-plain}
+use Rattle.tracer.specs.AnswerLaws.{all_plain}
+use Rattle.tracer.specs.declared.marked.Marked.{Marked}
+use Rattle.tracer.specs.declared.marked.Plain.{Plain}
 use Rattle.listed.specs.Listed.{row_keys, all_in}
 use Rattle.accepted.specs.Accepted.{each_row, lists_met, number_is, accepted_by, check_read, check_of}
 use Rattle.checker.specs.Checking.{Asks}
@@ -37,40 +36,29 @@ use Rattle.refusal.specs.declared.Refusal.TheVariants.{NoSuchNumber, NotFound, B
 
 -- ---- the marked glyphs
 
-module _ (b : List ℕ) (f : Font) (marks : List ℕ) (fit : RowsFit (met_in b f marks)) (keys keys' : List ℕ) (a : Option ℕ)
-    (w : Fills (met_in b f marks) (record { low = 0; high = top }) keys keys' a) where
+module _ (m : Marked) (keys keys' : List ℕ) (a : Option ℕ) (w : Fills (met m) (record { low = 0; high = top }) keys keys' a) where
   -- one is not plain
-  pub met_broken : a ≡ None → (rec : List ℕ) → false ≡ lists_met (rows_of rec) (met_in b f marks)
-  met_broken e rec = by (met_in b f marks) w.says
+  pub met_broken : a ≡ None → (rec : List ℕ) → false ≡ lists_met (rows_of rec) (met m)
+  met_broken e rec = by (met m) w.says
     where
-      by : (m : Option (List Row)) → Filling m (record { low = 0; high = top }) keys keys' a → false ≡ lists_met (rows_of rec) m
+      by : (x : Option (List Row)) → Filling x (record { low = 0; high = top }) keys keys' a → false ≡ lists_met (rows_of rec) x
       by None x = refl
       by (Some rows) x = let k : None ≡ Some x.0 = sym e ∙ x.1 in absurd (zero_one cc)
 
   -- all are
   module _ (n : ℕ) (e : a ≡ Some n) where
-    pub met_plainly : Plainly b f marks
-    met_plainly = record { plain = by (met_in b f marks) w.says; fits = fit }
-      where
-        by : (m : Option (List Row)) → Filling m (record { low = 0; high = top }) keys keys' a → m ≡ Some (or_none m)
-        by None x = let k : Some n ≡ None = sym e ∙ x in absurd (zero_one cc)
-        by (Some rows) x = refl
+    abbrev all : Plain
+    all = record { marked = m; plain = all_plain m keys keys' a w n e }
 
-    pub met_asks : length keys ≡ 65536 → Asks (keys_in b f marks) keys' n 0
-    met_asks l = asks_filled (keys_in b f marks) keys keys' n 0 l (refill-plain b f marks met_plainly 0 keys keys' a w n e)
+    pub met_asks : length keys ≡ 65536 → Asks (keys_of all) keys' n 0
+    met_asks l = asks_filled (keys_of all) keys keys' n 0 l (refill-plain all 0 keys keys' a w n e)
 
-    pub met-listed : (rec : List ℕ) → Octets rec → (r : Bool) → r ≡ all_in (row_keys rec) (sorted_in b f marks) → r ≡ lists_met (rows_of rec) (met_in b f marks)
-    met-listed rec octets r h = h ∙ keys-listed rec octets (or_none (met_in b f marks)) fit.fits ∙ ap (lists_met (rows_of rec)) (sym met_plainly.plain)
+    pub met-listed : (rec : List ℕ) → Octets rec → (r : Bool) → r ≡ all_in (row_keys rec) (sorted all) → r ≡ lists_met (rows_of rec) (met m)
+    met-listed rec octets r h = h ∙ keys-listed rec octets (or_none (met m)) (rows_fit m) ∙ ap (lists_met (rows_of rec)) (sym all.plain.plain)
 
 -- ---- the conditions
 
-module _ (b : List ℕ) (f : Font) (held : Held b f) (keep : List ℕ) (old marks : List ℕ) (m : Marks f.charstrings.count (keeps keep) old marks) where
-  met-kept : met_all (program_of b f) (kept_of f.charstrings.count keep) ≡ met_in b f marks
-  met-kept = ap (met_all (program_of b f)) (sym (kept-marked b f held.font keep old marks m))
-
-  pub marked-fits : RowsFit (met_all (program_of b f) (kept_of f.charstrings.count keep)) → RowsFit (met_in b f marks)
-  marked-fits h = subst RowsFit met-kept h
-
+module _ (b : List ℕ) (f : Font) (good : GoodFont b f) (keep : List ℕ) (old marks : List ℕ) (m : Marks f.charstrings.count (keeps keep) old marks) where
   module _ (rec : List ℕ) (r : Bool) (e : r ≡ each_row (number_is (program_of b f) (used_fds (program_of b f) (those (marked marks) f.charstrings.count 0))) (rows_of rec)) where
     accepted_as : (t : Bool) → r ≡ t → accepted_by (program_of b f) keep rec ≡ pick t (lists_met (rows_of rec) (met_in b f marks)) false
     unfolding accepted_by
@@ -79,7 +67,7 @@ module _ (b : List ℕ) (f : Font) (held : Held b f) (keep : List ℕ) (old mark
         let n = items-length b f.charstrings in
         let many : kept_of (length p.charstrings) keep ≡ kept_of f.charstrings.count keep = ap (λ (k : ℕ). kept_of k keep) n in
         ap (λ (l : List ℕ). pick (each_row (number_is p (used_fds p l)) (rows_of rec)) (lists_met (rows_of rec) (met_all p l)) false)
-        (many ∙ sym (kept-marked b f held.font keep old marks m))
+        (many ∙ sym (kept-marked b f good keep old marks m))
         ∙ ap (λ (u : Bool). pick u (lists_met (rows_of rec) (met_in b f marks)) false) (sym e ∙ h)
 
     pub accepts_not : r ≡ false → false ≡ accepted_by (program_of b f) keep rec
@@ -103,7 +91,7 @@ pub check-unread : (font keep rec : List ℕ) (n : Refusal) → read_font font �
 unfolding check_of
 check-unread font keep rec n e = sym (ap (λ (g : Result Program Refusal). check_read g keep rec) e)
 
-module _ (file : List ℕ) (f : Font) (b : List ℕ) (octets : Octets file) (held : InFile file f b) (keep rec : List ℕ) where
+module _ (file : List ℕ) (f : Font) (b : List ℕ) (held : InFile file f b) (keep rec : List ℕ) where
   abbrev p : Program
   p = program_of b f
 
@@ -112,16 +100,6 @@ module _ (file : List ℕ) (f : Font) (b : List ℕ) (octets : Octets file) (hel
 
   many : length p.charstrings ≡ count
   many = items-length b f.charstrings
-
-  pub table-held : Held b f
-  table-held = record { font = held.good; size = table-short file f b held; program = font-good file p octets held.is }
-
-  pub table_fits : RowsFit (met_all p (kept_of count keep))
-  table_fits = record { fits = by (met_all p (kept_of count keep)) refl }
-    where
-      by : (x : Option (List Row)) → met_all p (kept_of count keep) ≡ x → All RowFits (or_none x)
-      by None e = no_row
-      by (Some rows) e = kept-fits file keep 0 octets p held.is rows (ap (λ (n : ℕ). met_all p (kept_of n keep)) many ∙ e)
 
   -- the answer to a call in form
   abbrev decided : Result Unit Refusal

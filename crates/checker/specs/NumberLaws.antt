@@ -14,9 +14,9 @@ use Rattle.index.specs.IndexLaws.{items-length}
 use Rattle.unfold.specs.Unfold.{Row}
 use Rattle.record.specs.Record.{rows_of}
 use Rattle.cff.specs.Font.{Program, Private}
-use Rattle.cff.specs.Reads.{program_of, GoodPrivate}
+use Rattle.cff.specs.Loaded.{program}
+use Rattle.cff.specs.Reads.{GoodPrivate}
 use Rattle.cff.specs.Reads as reads
-use Rattle.cff.specs.declared.font.Font.{Font}
 use Rattle.cff.specs.declared.private.PrivateAt.{PrivateAt}
 use Rattle.subset.specs.Kept.{is_in, those, fds_of, used_fds, private_of, locals_of}
 use Rattle.subset.specs.KeptListLaws.{those-has, those_in}
@@ -26,7 +26,9 @@ use Rattle.kept.specs.GatherLaws.{mark_is, mark_not, those-taken, those-passed, 
 use Rattle.reach.specs.Reach.{Fits, row_no, rest_of}
 use Rattle.reach.specs.RowLaws.{rest-none, rest-next, AllFit, all_fit}
 use Rattle.faithful.specs.UsedLaws.{uses, fd_there}
-use Rattle.tracer.specs.Tracing.{Held, fd_for}
+use Rattle.tracer.specs.Tracing.{fd_for, marked_in}
+use Rattle.tracer.specs.declared.traceable.Traceable.{Traceable}
+use Rattle.tracer.specs.declared.marked.Marked.{Marked}
 use Rattle.accepted.specs.Accepted.{each_row, number_is}
 use Rattle.accepted.proofs.Theorem.{fd-from}
 use Rattle.checker.specs.Checking.{number_fits, Unlimited, Known, Limited, limit_in, Limits}
@@ -59,19 +61,22 @@ locals_many b p fd q e = sym (items-length b q.locals) ∙ ap (λ (x : Private).
 
 -- ---- the FDs of the marked glyphs
 
-module _ (b : List ℕ) (f : Font) (marks : List ℕ) where
+module _ (m : Marked) where
   abbrev p : Program
-  p = program_of b f
+  p = program m.font.loaded
+
+  abbrev marks : List ℕ
+  marks = m.marks.now
 
   abbrev glyphs : ℕ
-  glyphs = f.charstrings.count
+  glyphs = m.font.loaded.f.charstrings.count
 
   -- the FDs of the marked glyphs from g on
   abbrev left_from : ℕ → List ℕ
   left_from g = fds_of p (those (marked marks) (glyphs - g) g)
 
   abbrev all_fds : List ℕ
-  all_fds = fds_of p (those (marked marks) glyphs 0)
+  all_fds = fds_of p (marked_in m)
 
   -- where the loop stands: the counts of the glyphs before g are put, and with those that are left they are all
   pub record Limiting (limits : List ℕ) (g : ℕ) : Type 0 where
@@ -109,16 +114,16 @@ module _ (b : List ℕ) (f : Font) (marks : List ℕ) where
                 ∙ s.left x l;
           }
 
-      pub limits-put : (get_or marks g 0 ≡ 0 → ⊥) → (limits' : List ℕ) → Limited p (fd_for b f g) limits limits' → Limiting limits' (g + 1)
+      pub limits-put : (get_or marks g 0 ≡ 0 → ⊥) → (limits' : List ℕ) → Limited p (fd_for m.font g) limits limits' → Limiting limits' (g + 1)
       unfolding fds_of is_in
       limits-put is limits' n =
           record {
             within = omega arith;
-            known = record { size = n.size ∙ s.known.size; own = λ x l o. own x l o (eqb (fd_for b f g) x) refl };
+            known = record { size = n.size ∙ s.known.size; own = λ x l o. own x l o (eqb (fd_for m.font g) x) refl };
             left = λ x l. turn x l;
           }
         where
-          own : (x : ℕ) → x < 256 → (get_or limits' x 0 ≡ 65536 → ⊥) → (t : Bool) → eqb (fd_for b f g) x ≡ t → get_or limits' x 0 ≡ length (locals_of p x)
+          own : (x : ℕ) → x < 256 → (get_or limits' x 0 ≡ 65536 → ⊥) → (t : Bool) → eqb (fd_for m.font g) x ≡ t → get_or limits' x 0 ≡ length (locals_of p x)
           own x l o true e = n.at x l ∙ ap (λ (t : Bool). pick t (length (locals_of p x)) (get_or limits x 0)) e
           own x l o false e =
               let same : get_or limits' x 0 ≡ get_or limits x 0 = n.at x l ∙ ap (λ (t : Bool). pick t (length (locals_of p x)) (get_or limits x 0)) e in
@@ -132,7 +137,7 @@ module _ (b : List ℕ) (f : Font) (marks : List ℕ) where
           turn : (x : ℕ) → x < 256 → pick (is_in x (left_from (g + 1))) (length (locals_of p x)) (get_or limits' x 0) ≡ limit_in p all_fds x
           turn x l =
               ap (pick (is_in x (left_from (g + 1))) (length (locals_of p x))) (n.at x l)
-              ∙ either (eqb (fd_for b f g) x) (is_in x (left_from (g + 1))) (length (locals_of p x)) (get_or limits x 0)
+              ∙ either (eqb (fd_for m.font g) x) (is_in x (left_from (g + 1))) (length (locals_of p x)) (get_or limits x 0)
               ∙ ap (λ (gs : List ℕ). pick (is_in x (fds_of p gs)) (length (locals_of p x)) (get_or limits x 0)) (sym (those-taken (marked marks) glyphs g h (mark_is marks g (omega (arith, is)))))
               ∙ s.left x l
 
@@ -166,42 +171,45 @@ each_same s t [] a f = refl
 each_same s t (r ∷ rows) a f =
     ap (λ (x : Bool). pick x (each_row s rows) false) (f r a.0) ∙ ap (λ (x : Bool). pick (t r) x false) (each_same s t rows a.1 f)
 
-module _ (b : List ℕ) (f : Font) (held : Held b f) (marks : List ℕ) (limits : List ℕ) (l : Limits (program_of b f) (all_fds b f marks) limits) where
+module _ (m : Marked) (limits : List ℕ) (l : Limits (program m.font.loaded) (all_fds m) limits) where
+  abbrev t : Traceable
+  t = m.font
+
   abbrev some : List ℕ
-  some = those (marked marks) f.charstrings.count 0
+  some = marked_in m
 
   -- the FDs of the marked glyphs are those in use
-  used-same : (x : ℕ) → is_in x (used_fds (program_of b f) some) ≡ is_in x (fds_of (program_of b f) some)
+  used-same : (x : ℕ) → is_in x (used_fds (program t.loaded) some) ≡ is_in x (fds_of (program t.loaded) some)
   used-same x =
-      same_truth (is_in x (used_fds (program_of b f) some)) (is_in x (fds_of (program_of b f) some))
-      (λ h. (those_in (uses (program_of b f) some) (length (program_of b f).privates) 0 x h).2)
-      (λ h. those-has (uses (program_of b f) some) (length (program_of b f).privates) 0 x (omega arith) (omega (arith, there h)) h)
+      same_truth (is_in x (used_fds (program t.loaded) some)) (is_in x (fds_of (program t.loaded) some))
+      (λ h. (those_in (uses (program t.loaded) some) (length (program t.loaded).privates) 0 x h).2)
+      (λ h. those-has (uses (program t.loaded) some) (length (program t.loaded).privates) 0 x (omega arith) (omega (arith, there h)) h)
     where
-      there : is_in x (fds_of (program_of b f) some) ≡ true → x < length (program_of b f).privates
+      there : is_in x (fds_of (program t.loaded) some) ≡ true → x < length (program t.loaded).privates
       there h =
-          let g = fd-from (program_of b f) some x h in
-          let n = those_in (marked marks) f.charstrings.count 0 g.0 g.1 in
-          subst (λ (k : ℕ). k < length (program_of b f).privates) g.2
-          (fd_there (program_of b f) g.0 held.program (omega (arith, n.1, items-length b f.charstrings)))
+          let g = fd-from (program t.loaded) some x h in
+          let n = those_in (marked m.marks.now) t.loaded.f.charstrings.count 0 g.0 g.1 in
+          subst (λ (k : ℕ). k < length (program t.loaded).privates) g.2
+          (fd_there (program t.loaded) g.0 t.held.program (omega (arith, n.1, items-length t.loaded.bytes.now t.loaded.f.charstrings)))
 
-  number_same : (globals : ℕ) → globals ≡ f.globals.count → (r : Row) → Fits r → number_fits globals limits r ≡ number_is (program_of b f) (used_fds (program_of b f) some) r
+  number_same : (globals : ℕ) → globals ≡ t.loaded.f.globals.count → (r : Row) → Fits r → number_fits globals limits r ≡ number_is (program t.loaded) (used_fds (program t.loaded) some) r
   number_same globals e r fits =
-      ap (λ (t : Bool). pick (eqb r.kind 0) t (pick (eqb r.kind 1) (ltb r.number globals) true)) of_local
-      ∙ ap (λ (n : ℕ). pick (eqb r.kind 0) (pick (is_in r.fd (used_fds (program_of b f) some)) (ltb r.number (length (locals_of (program_of b f) r.fd))) true) (pick (eqb r.kind 1) (ltb r.number n) true))
-      (e ∙ sym (items-length b f.globals))
+      ap (λ (u : Bool). pick (eqb r.kind 0) u (pick (eqb r.kind 1) (ltb r.number globals) true)) of_local
+      ∙ ap (λ (n : ℕ). pick (eqb r.kind 0) (pick (is_in r.fd (used_fds (program t.loaded) some)) (ltb r.number (length (locals_of (program t.loaded) r.fd))) true) (pick (eqb r.kind 1) (ltb r.number n) true))
+      (e ∙ sym (items-length t.loaded.bytes.now t.loaded.f.globals))
     where
       many : ℕ
-      many = length (locals_of (program_of b f) r.fd)
+      many = length (locals_of (program t.loaded) r.fd)
 
-      limited : (t : Bool) → ltb r.number (pick t many 65536) ≡ pick t (ltb r.number many) true
+      limited : (u : Bool) → ltb r.number (pick u many 65536) ≡ pick u (ltb r.number many) true
       limited true = refl
       limited false = lt-ltb r.number 65536 fits.number
 
-      of_local : ltb r.number (get_or limits r.fd 0) ≡ pick (is_in r.fd (used_fds (program_of b f) some)) (ltb r.number many) true
+      of_local : ltb r.number (get_or limits r.fd 0) ≡ pick (is_in r.fd (used_fds (program t.loaded) some)) (ltb r.number many) true
       of_local =
-          ap (ltb r.number) (l.at r.fd fits.fd) ∙ limited (is_in r.fd (fds_of (program_of b f) some))
-          ∙ ap (λ (t : Bool). pick t (ltb r.number many) true) (sym (used-same r.fd))
+          ap (ltb r.number) (l.at r.fd fits.fd) ∙ limited (is_in r.fd (fds_of (program t.loaded) some))
+          ∙ ap (λ (u : Bool). pick u (ltb r.number many) true) (sym (used-same r.fd))
 
-  pub numbers-same : (globals : ℕ) → globals ≡ f.globals.count → (rec : List ℕ) → Octets rec
-      → each_row (number_fits globals limits) (rows_of rec) ≡ each_row (number_is (program_of b f) (used_fds (program_of b f) some)) (rows_of rec)
-  numbers-same globals e rec o = each_same (number_fits globals limits) (number_is (program_of b f) (used_fds (program_of b f) some)) (rows_of rec) (all_fit rec o) (number_same globals e)
+  pub numbers-same : (globals : ℕ) → globals ≡ t.loaded.f.globals.count → (rec : List ℕ) → Octets rec
+      → each_row (number_fits globals limits) (rows_of rec) ≡ each_row (number_is (program t.loaded) (used_fds (program t.loaded) some)) (rows_of rec)
+  numbers-same globals e rec o = each_same (number_fits globals limits) (number_is (program t.loaded) (used_fds (program t.loaded) some)) (rows_of rec) (all_fit rec o) (number_same globals e)

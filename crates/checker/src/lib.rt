@@ -4,14 +4,12 @@
 
 pub mod numbers;
 
-ghost use Rattle.std.specs.Prelude.{◌≡◌, true, ◌≤◌, length};
+ghost use Rattle.std.specs.Prelude.{◌≡◌, true};
 ghost use Rattle.octets.specs.Lists.{all_below};
 ghost use Rattle.record.specs.Record.{rows_of};
 ghost use Rattle.cff.specs.File.{HasFont};
-ghost use Rattle.cff.specs.Reads.{program_of};
-ghost use Rattle.subset.specs.Kept.{kept_of};
-ghost use Rattle.traced.specs.Traced.{met_all};
-ghost use Rattle.tracer.specs.Tracing.{Held, met_in, RowsFit, Plainly, keys_in, sorted_in};
+ghost use Rattle.cff.specs.Loaded.{program};
+ghost use Rattle.tracer.specs.Tracing.{met, keys_of, sorted};
 ghost use Rattle.listed.specs.Listed.{row_keys, all_in};
 ghost use Rattle.accepted.specs.Accepted.{lists_met, accepted_by, check_of};
 ghost use Rattle.checker.specs.Checking.{Asks};
@@ -19,59 +17,60 @@ ghost use Rattle.checker.specs.Checking.{Asks};
 use cff::font::Font;
 use interpret::Range;
 use refusal::Refusal;
+use row_window::sorted::Sorted;
+use tracer::marked::{Marked, Plain};
+use tracer::traceable::Traceable;
 
-// Whether the record has all rows that the marked glyphs meet, by windows from the first on.
-fn windows_listed(
-    font: &[u8],
-    f: Font,
-    marks: &[u32],
-    keys: &mut [u64],
-    first: usize,
-    rows: &[u8],
-) -> bool
-    requires { (Held font.now f) × (f.charstrings.count ≤ length marks.now) × (Plainly font.now f marks.now)
-        × (Asks (keys_in font.now f marks.now) keys.old first 0) }
-    ensures { result ≡ all_in (row_keys rows.now) (sorted_in font.now f marks.now) }
+// Whether the record has all rows that plain glyphs meet, by windows from the first on.
+fn windows_listed(glyphs: &Plain<'_>, keys: &mut [u64], first: usize, rows: &[u8]) -> bool
+    requires { Asks (keys_of glyphs.now) keys.old first 0 }
+    ensures { result ≡ all_in (row_keys rows.now) (sorted glyphs.now) }
 {
     let mut n = first;
     let mut low: u64 = 0;
     while n == tracer::WINDOW {
-        if !listed::window_listed(keys, n, rows) {
+        let window = Sorted { keys: &keys[..n] };
+        if !listed::window_listed(&window, rows) {
             return false;
         }
         low = keys[tracer::WINDOW - 1] + 1;
-        n = tracer::refill(font, f, marks, low, &mut *keys);
+        n = tracer::refill(glyphs, low, &mut *keys);
     }
-    listed::window_listed(keys, n, rows)
+    let last = Sorted { keys: &keys[..n] };
+    listed::window_listed(&last, rows)
 }
 
 // Whether all marked glyphs are plain and the record lists what they meet.
-fn lists_met(font: &[u8], f: Font, marks: &[u32], rows: &[u8]) -> bool
-    requires { (Held font.now f) × (f.charstrings.count ≤ length marks.now) × (RowsFit (met_in font.now f marks.now)) }
-    ensures { result ≡ lists_met (rows_of rows.now) (met_in font.now f marks.now) }
+fn lists_met(glyphs: &Marked<'_>, rows: &[u8]) -> bool
+    ensures { result ≡ lists_met (rows_of rows.now) (met glyphs.now) }
 {
     let mut keys = [0u64; 65536];
     let all = Range {
         low: 0,
         high: tracer::TOP,
     };
-    match tracer::fill(font, f, marks, all, &mut keys) {
+    match tracer::fill(glyphs, all, &mut keys) {
         None => false,
-        Some(first) => windows_listed(font, f, marks, &mut keys, first, rows),
+        Some(first) => {
+            let plain = Plain { marked: *glyphs };
+            windows_listed(&plain, &mut keys, first, rows)
+        }
     }
 }
 
 // Whether the record is accepted: the numbers first, which cost one pass over the record.
-fn accepts(font: &[u8], f: Font, keep: &[u16], rows: &[u8]) -> bool
-    requires { (Held font.now f) × (all_below f.charstrings.count keep.now ≡ true)
-        × (RowsFit (met_all (program_of font.now f) (kept_of f.charstrings.count keep.now))) }
-    ensures { result ≡ accepted_by (program_of font.now f) keep.now rows.now }
+fn accepts(font: &Traceable<'_>, keep: &[u16], rows: &[u8]) -> bool
+    requires { all_below font.now.loaded.f.charstrings.count keep.now ≡ true }
+    ensures { result ≡ accepted_by (program font.now.loaded) keep.now rows.now }
 {
-    let charstrings = f.charstrings;
     let mut marks = [0u32; 65536];
-    kept::marks::mark(keep, &mut marks, charstrings.count);
-    if numbers::numbers_are(font, f, &marks, rows) {
-        return lists_met(font, f, &marks, rows);
+    kept::marks::mark(keep, &mut marks, font.loaded.f.charstrings.count);
+    let glyphs = Marked {
+        font: *font,
+        marks: &marks,
+    };
+    if numbers::numbers_are(&glyphs, rows) {
+        return lists_met(&glyphs, rows);
     }
     false
 }
@@ -81,19 +80,17 @@ fn check_font(font: &[u8], f: Font, keep: &[u16], rows: &[u8]) -> Result<(), Ref
     requires { HasFont font.now f }
     ensures { result ≡ check_of font.now keep.now rows.now }
 {
-    let table = cff::set::table(font, f);
-    let charstrings = f.charstrings;
-    let cid = f.cid;
-    if !kept::keep_below(keep, charstrings.count) {
+    let table = Traceable::in_file(font, f);
+    if !kept::keep_below(keep, table.loaded.f.charstrings.count) {
         return Err(Refusal::NoSuchNumber);
     }
-    if !found::all_found(table, f, keep) {
+    if !found::all_found(&table.loaded, keep) {
         return Err(Refusal::NotFound);
     }
-    if !reach::check_record(cid, rows, 1) {
+    if !reach::check_record(table.loaded.f.cid, rows, 1) {
         return Err(Refusal::BadRecord);
     }
-    if !accepts(table, f, keep, rows) {
+    if !accepts(&table, keep, rows) {
         return Err(Refusal::NotAccepted);
     }
     Ok(())

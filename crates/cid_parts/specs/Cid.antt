@@ -92,10 +92,9 @@ module _ (b : List ℕ) (rows : List Row) (used ws : List ℕ) (r : Planned) whe
     pub news : new_fds_by used (fds_of program_in written_in) ≡ new_fds program_in (fds_in used) written_in
 
   -- the tables of the Font DICTs, the first Private part standing at a place
-  pub record DictsReady (fds sizes lens : List ℕ) (count from : ℕ) : Type 0 where
-    pub cid : r.order.f.cid ≡ true
-    pub placed : Placed program_in fds sizes lens count from
-    pub are : font_dicts_by program_in fds sizes lens count from ≡ font_dicts program_in from (fds_in used) bodies_in.locals
+  pub record DictsReady (fds sizes lens : List ℕ) (from : ℕ) : Type 0 where
+    pub placed : Placed program_in fds sizes lens from
+    pub are : font_dicts_by program_in fds sizes lens from ≡ font_dicts program_in from (fds_in used) bodies_in.locals
 
   -- the Private parts from a place on are within what a subset may have
   abbrev pub PrivatesEnd : ℕ → Type 0

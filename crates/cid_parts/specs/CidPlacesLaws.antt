@@ -1,6 +1,6 @@
 -- The parts of a CID-keyed subset measured (document 01, 'Layout'): what their measures ask, that the places are the subset's, and the outcome
 -- by its length.
-use Rattle.std.specs.Prelude.{ℕ, suc, ◌+◌, ◌*◌, ◌≤◌, ◌<◌, ◌≡◌, refl, Bool, true, false, ltb, take, replicate, Result, Err}
+use Rattle.std.specs.Prelude.{ℕ, suc, ◌+◌, ◌*◌, ◌≤◌, ◌<◌, ◌≡◌, refl, Bool, true, false, ltb, replicate, Result, Err}
 use Rattle.std.proofs.Math.Path.{sym, ap, subst}
 use Rattle.std.proofs.Common.{◌∙◌, arith, lt-ltb, le-ltb}
 use mathlib.Core.List.{List, [], ◌∷◌}
@@ -28,7 +28,6 @@ use Rattle.subset.specs.Cut.{Outcome, refused, subset, own_of, written}
 use Rattle.glyph_tables.specs.Tables.{new_fd_by, new_fds_by}
 use Rattle.fds.specs.Locals.{in_use_lem, fds_in}
 use Rattle.fds.specs.Parts.{SizesParts}
-use Rattle.fds.specs.ListLaws.{Listed}
 use Rattle.private_dicts.specs.Privates.{matrices_by}
 use Rattle.bodies.specs.Ways.{kept_count}
 use Rattle.own_strings.specs.declared.Own.{Own}
@@ -106,9 +105,6 @@ own-few p slots own s = omega (arith, s.few, ap (λ (o : Own). o.count) s.measur
 pub table-room : (table : List ℕ) → table ≡ replicate 256 0 → 256 ≤ length table
 table-room table e = omega (arith, ap length e, length-replicate {A = ℕ} 256 0)
 
-pub ranks-room : (table : List ℕ) → table ≡ replicate 1280 0 → 1280 ≤ length table
-ranks-room table e = omega (arith, ap length e, length-replicate {A = ℕ} 1280 0)
-
 module _ (b : List ℕ) (rows : List Row) (used ws : List ℕ) (r : Planned) (table : List ℕ)
     (c : CidReady b rows used ws r table) where
   abbrev p : Program
@@ -119,10 +115,6 @@ module _ (b : List ℕ) (rows : List Row) (used ws : List ℕ) (r : Planned) (ta
 
   abbrev order : List ℕ
   order = written_in b rows used ws r
-
-  -- the font is CID-keyed
-  pub keyed : r.order.f.cid ≡ true
-  keyed = c.keyed
 
   cids_long : length (charset_bytes (cids_of p order)) ≡ charset_len k
   cids_long = charset-length (cids_of p order) ∙ ap charset_len (cids_many p order ∙ sym c.ready.many)
@@ -143,13 +135,13 @@ module _ (b : List ℕ) (rows : List Row) (used ws : List ℕ) (r : Planned) (ta
         cid_length p name (fds_in used) order (bodies_in b rows used ws r) (dicts (cid_privates p name (fds_in used) order (bodies_in b rows used ws r)) ∙ sym (dicts 0))
 
     module _ {oldSizes oldLens sizes lens : List ℕ} {all : ℕ} (s : SizesParts p r.how.way table totals used oldSizes oldLens sizes lens all)
-        (sized_long : 256 ≤ length oldSizes) (lens-long : 256 ≤ length oldLens) {fds : List ℕ} (listed : Listed used fds)
+        (sized_long : 256 ≤ length oldSizes) (lens-long : 256 ≤ length oldLens) {fds : List ℕ} (listed : fds ≡ fds_in used)
         (count : ℕ) (counted : count ≡ length (fds_in used)) where
       module _ (name slots : List ℕ) (own : Own) (strings : StringsReady p slots own) (front globals select glyphs matrices : ℕ)
           (front_is : front ≡ front_len true 0 p.top slots (length name) own)
           (globals-is : globals ≡ index_len_lem (kept_count r.how.way r.how.globals.reached r.how.globals.count) r.globals_total)
           (select-is : select ≡ length (fd_select_bytes (new_fds_by used (fds_of p order)))) (glyphs-is : glyphs ≡ index_len_lem k r.glyphs_total)
-          (matrices-are : (matrices ≡ total (matrices_by p (take count fds))) × (matrices ≤ 1792000000000)) where
+          (matrices-are : (matrices ≡ total (matrices_by p fds)) × (matrices ≤ 1792000000000)) where
         -- what the places ask
         pub places-asked : front ≤ 844424931000004 → globals ≤ 281474977000000 → glyphs ≤ 281474977000000 → PartsSmall front globals k select glyphs count matrices all
         places-asked f-small g-small h-small =
@@ -168,7 +160,7 @@ module _ (b : List ℕ) (rows : List Row) (used ws : List ℕ) (r : Planned) (ta
         matrices_long : index_len_lem count (matrices + 11 * count) ≡ index_len_lem (length (fds_in used)) (total (matrices_by p (fds_in used)) + 11 * length (fds_in used))
         matrices_long =
             let e : matrices ≡ total (matrices_by p (fds_in used))
-            = matrices-are.0 ∙ ap (λ (m : ℕ). total (matrices_by p (take m fds))) counted ∙ ap (λ (l : List ℕ). total (matrices_by p l)) listed.front in
+            = matrices-are.0 ∙ ap (λ (l : List ℕ). total (matrices_by p l)) listed in
             ap (λ (m : ℕ). index_len_lem m (matrices + 11 * m)) counted
             ∙ ap (λ (m : ℕ). index_len_lem (length (fds_in used)) (m + 11 * length (fds_in used))) e
 
@@ -187,18 +179,16 @@ module _ (b : List ℕ) (rows : List Row) (used ws : List ℕ) (r : Planned) (ta
 
       -- what the Font DICTs ask, where they are within what a subset may have
       pub dicts_ready : (from : ℕ) → PrivatesEnd b rows used ws r from → (at : ℕ) → at + length (tail_bytes b rows used ws r from) ≤ 67108864
-          → DictsReady b rows used ws r fds sizes lens count from
+          → DictsReady b rows used ws r fds sizes lens from
       unfolding tail_bytes
       dicts_ready from l at small =
           let locals = (bodies_in b rows used ws r).locals in
           let dicts = index_bytes (font_dicts p from (fds_in used) locals) in
-          subst (λ (m : ℕ). DictsReady b rows used ws r fds sizes lens m from) (sym counted)
-          (record {
-            cid = keyed;
+          record {
             placed = dicts-placed b rows used ws table r c.ready totals summed s sized_long lens-long listed from l
                 (omega (arith, small, length-append dicts (private_parts p (fds_in used) locals)));
             are = dicts_are b rows used ws table r c.ready totals summed s sized_long lens-long listed from;
-          })
+          }
 
 -- ---- the outcome
 

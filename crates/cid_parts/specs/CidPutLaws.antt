@@ -14,7 +14,7 @@ use Rattle.charset.specs.CharsetBytes.{charset_bytes}
 use Rattle.charset.specs.FdSelectBytes.{fd_select_bytes}
 use Rattle.dict_write.specs.WriteLaws.{room-first, room-then, wrote-both}
 use Rattle.cff.specs.Font.{Program}
-use Rattle.cff.specs.Reads.{program_of, GoodFont}
+use Rattle.cff.specs.Reads.{program_of}
 use Rattle.subset.specs.Kept.{fds_of}
 use Rattle.subset.specs.Pruned.{Bodies}
 use Rattle.subset.specs.Subset.{private_parts, font_dicts, own_by_cid, top_by_cid, cids_of, new_fds}
@@ -102,7 +102,7 @@ module _ (b : List ℕ) (rows : List Row) (used ws : List ℕ) (r : Planned) (ta
   -- ---- the FD INDEX and the Private parts
 
   module _ (ready : Ready b rows used ws r table) (totals : List ℕ) (summed : Summed b rows used ws r table totals)
-      (fds sizes lens : List ℕ) (count from : ℕ) (d : DictsReady b rows used ws r fds sizes lens count from) (at : ℕ) (out : List ℕ)
+      (fds sizes lens : List ℕ) (from : ℕ) (d : DictsReady b rows used ws r fds sizes lens from) (at : ℕ) (out : List ℕ)
       (small : at + length (tail_bytes b rows used ws r from) ≤ 67108864) (room : at + length (tail_bytes b rows used ws r from) ≤ length out) where
     abbrev dicts : List ℕ
     dicts = index_bytes (font_dicts p from (fds_in used) bodies.locals)
@@ -110,29 +110,25 @@ module _ (b : List ℕ) (rows : List Row) (used ws : List ℕ) (r : Planned) (ta
     abbrev privates : List ℕ
     privates = private_parts p (fds_in used) bodies.locals
 
-    pub dicts-put : (length b ≤ 67108864) × GoodFont b r.order.f × (r.order.f.cid ≡ true) × Placed p fds sizes lens count from × (at < 4294967296)
-        × (at + length (index_bytes (font_dicts_by p fds sizes lens count from)) ≤ length out)
+    pub dicts-put : Placed p fds sizes lens from × (at < 4294967296)
+        × (at + length (index_bytes (font_dicts_by p fds sizes lens from)) ≤ length out)
     unfolding tail_bytes
     dicts-put = (
-      ready.read.size,
-      ready.read.font,
-      d.cid,
       d.placed,
       omega (arith, small),
       subst (λ (l : List (List ℕ)). at + length (index_bytes l) ≤ length out) (sym d.are) (room-first (length out) at dicts privates room),
     )
 
-    module _ {mid : List ℕ} {q : ℕ} (w : Wrote out at (index_bytes (font_dicts_by p fds sizes lens count from)) mid q) where
+    module _ {mid : List ℕ} {q : ℕ} (w : Wrote out at (index_bytes (font_dicts_by p fds sizes lens from)) mid q) where
       listed : Wrote out at dicts mid q
       listed = wrote_as w (ap index_bytes d.are)
 
-      pub privates-put : GoodFont b r.order.f × LocalsIn b p used ws table r.how.globals rows r.how.rising
+      pub privates-put : LocalsIn p used ws table r.how.globals rows r.how.rising
           × PartsRoom r.how.way p rows ws table r.how.globals used totals q (length mid)
       unfolding tail_bytes
       privates-put =
-          let a = privates-asked b rows used ws table r ready totals summed q (length mid)
-          (second_below at dicts privates 67108864 q small listed.behind) (room-then privates listed room) in
-          (ready.read.font, a.0, a.1)
+          privates-asked b rows used ws table r ready totals summed q (length mid)
+          (second_below at dicts privates 67108864 q small listed.behind) (room-then privates listed room)
 
       pub privates-wrote : {new : List ℕ} {q' : ℕ}
           → Wrote mid q (parts_for r.how.way p rows ws table r.how.globals (fds_in used)) new q'

@@ -10,9 +10,12 @@ ghost use Rattle.order_window.specs.Window.{Ordered};
 ghost use Rattle.fds.specs.Locals.{fds_in};
 ghost use Rattle.cid_parts.specs.Cid.{StringsReady, places_by, PartsSmall, CidReady, PrivatesEnd, cid_bytes, cid_places, head_bytes, glyph_bytes, tail_bytes};
 
+use cff::loaded::Loaded;
+use fds::table::FdTable;
 use front::CidPlaces;
 use outcome::Prepared;
 use parts::Planned;
+use private_dicts::fd_array::FdArray;
 
 // A cut and the places of its parts.
 #[derive(Clone, Copy)]
@@ -52,15 +55,15 @@ fn place_parts(
 }
 
 // Measures the parts of the subset: where they stand.
-pub fn places_cid(
+pub fn places_cid<'a>(
     cut: Prepared,
-    font: &[u8],
+    font: &'a [u8],
     name: &[u8],
     slots: &[usize],
-    used: &[u32],
+    used: &'a [u32],
     words: &[u32],
     window: &mut [u32],
-    table: &[usize],
+    table: &'a [usize],
     totals: &[usize],
     rows: &[u8],
 ) -> CidPlaces
@@ -74,14 +77,23 @@ pub fn places_cid(
     let r = cut.plan;
     let own = cut.own;
     let order = r.order;
-    let how = r.how;
     let f = order.f;
+    let loaded = Loaded { bytes: font, f };
+    let fds = FdTable {
+        font: loaded,
+        used,
+        table,
+    };
     let mut sizes = [0usize; 256];
     let mut lens = [0usize; 256];
-    let all = fds::parts::part_sizes(how.way, font, f, used, table, totals, &mut sizes, &mut lens);
+    let all = fds::parts::part_sizes(r.how.way, &fds, totals, &mut sizes, &mut lens);
     let mut listed = [0usize; 256];
     fds::parts::list_used(used, &mut listed);
-    let matrices = private_dicts::matrices_len(font, f, &listed, cut.count);
+    let array = FdArray {
+        font: loaded,
+        fds: &listed[..cut.count],
+    };
+    let matrices = private_dicts::matrices_len(&array);
     let front = front::front_len(true, 0, font, f, name.len(), slots, own);
     let globals = parts::globals_len(r);
     let select = glyph_tables::select::select_len(font, order, words, window, used);
@@ -168,12 +180,12 @@ fn put_glyphs(
 }
 
 // The FD INDEX and the Private parts, from `at` on; the place after them.
-fn put_tail(
+fn put_tail<'a>(
     c: PlacedCut,
-    font: &[u8],
-    used: &[u32],
+    font: &'a [u8],
+    used: &'a [u32],
     words: &[u32],
-    table: &[usize],
+    table: &'a [usize],
     totals: &[usize],
     rows: &[u8],
     out: &mut [u8],
@@ -190,26 +202,27 @@ fn put_tail(
         out.new result }
 {
     let cut = c.cut;
-    let f = cut.plan.order.f;
     let how = cut.plan.how;
-    let places = c.at;
+    let loaded = Loaded {
+        bytes: font,
+        f: cut.plan.order.f,
+    };
+    let fds = FdTable {
+        font: loaded,
+        used,
+        table,
+    };
     let mut sizes = [0usize; 256];
     let mut lens = [0usize; 256];
-    fds::parts::part_sizes(how.way, font, f, used, table, totals, &mut sizes, &mut lens);
+    fds::parts::part_sizes(how.way, &fds, totals, &mut sizes, &mut lens);
     let mut listed = [0usize; 256];
     fds::parts::list_used(used, &mut listed);
-    let p = private_dicts::put_font_dicts(
-        font,
-        f,
-        &listed,
-        &sizes,
-        &lens,
-        cut.count,
-        places.privates,
-        &mut *out,
-        at,
-    );
-    fds::privates::put_privates(how, font, f, used, words, table, totals, rows, out, p)
+    let array = FdArray {
+        font: loaded,
+        fds: &listed[..cut.count],
+    };
+    let p = private_dicts::put_font_dicts(&array, &sizes, &lens, c.at.privates, &mut *out, at);
+    fds::privates::put_privates(how, &fds, words, totals, rows, out, p)
 }
 
 // The subset, from the start of out on; the place after it.

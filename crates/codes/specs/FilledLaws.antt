@@ -1,8 +1,8 @@
 -- Laws of a filled table: one naming after the other, and what it holds of each code in the end.
 use Rattle.std.specs.Prelude.{ℕ, zero, suc, ◌+◌, ◌-◌, ◌≤◌, ◌<◌, ◌≡◌, refl, Bool, true, false, List, [], ◌∷◌, ◌++◌, ltb, eqb, length, take, drop, get_or, set, replicate, None, Option, Some}
-use Rattle.std.proofs.Common.{sym, ap, ◌∙◌, add-one, arith, lt-ltb, eqb-true, length-set, drop-cons, drop-drop, get_or-drop, get_or-set_same, get_or-set_other}
+use Rattle.std.proofs.Common.{sym, ap, ◌∙◌, add-one, arith, lt-ltb, ltb-true, eqb-true, length-set, length-take-le, drop-cons, drop-drop, get_or-drop, get_or-set_same, get_or-set_other}
 use Rattle.std.proofs.lemmas.Bool.{eqb-false}
-use Rattle.std.proofs.lemmas.List.{length-replicate}
+use Rattle.std.proofs.lemmas.List.{length-replicate, set-append_left, take-append-drop}
 use Rattle.octets.specs.Pick.{pick, pick_ind}
 use Rattle.octets.specs.PickLaws.{pick_same}
 use Rattle.octets.specs.ListLaws.{zeros-at}
@@ -23,6 +23,31 @@ pub stored-length : (table : List ℕ) (code : ℕ) (f : Option ℕ) → length 
 stored-length table code None = refl
 stored-length table code (Some g) =
     pick_ind (λ (l : List ℕ). length l ≡ length table) (ltb code 256) (set table code (g + 1)) table (λ e. length-set table code (g + 1)) (λ e. refl)
+
+-- ---- a table in front of more
+
+chosen_front : (front rest : List ℕ) (code g : ℕ) (t : Bool) → ltb code 256 ≡ t → 256 ≤ length front
+    → pick t (set (front ++ rest) code (g + 1)) (front ++ rest) ≡ pick t (set front code (g + 1)) front ++ rest
+chosen_front front rest code g true e h = let l = ltb-true code 256 e in set-append_left front rest code (g + 1) (omega arith)
+chosen_front front rest code g false e h = refl
+
+stored_front : (front rest : List ℕ) (code : ℕ) (f : Option ℕ) → 256 ≤ length front → stored (front ++ rest) code f ≡ stored front code f ++ rest
+stored_front front rest code None h = refl
+stored_front front rest code (Some g) h = chosen_front front rest code g (ltb code 256) refl h
+
+filled_front : (p : Program) (front rest : List ℕ) (ns : List Naming) → 256 ≤ length front → filled p (front ++ rest) ns ≡ filled p front ns ++ rest
+unfolding filled
+filled_front p front rest [] h = refl
+filled_front p front rest (n ∷ ns) h =
+    ap (λ (t : List ℕ). filled p t ns) (stored_front front rest (code_of n) (glyph_by p n) h)
+    ∙ filled_front p (stored front (code_of n) (glyph_by p n)) rest ns (rw (stored-length front (code_of n) (glyph_by p n)) h)
+
+pub filled_first : (p : Program) (table first new : List ℕ) (ns : List Naming) → 256 ≤ length table → first ≡ take 256 table → new ≡ filled p first ns
+    → new ++ drop 256 table ≡ filled p table ns
+filled_first p table first new ns h is e =
+    let n : 256 ≤ length (take 256 table) = omega (arith, length-take-le 256 table h) in
+    ap (λ (l : List ℕ). l ++ drop 256 table) (e ∙ ap (λ (l : List ℕ). filled p l ns) is)
+    ∙ sym (filled_front p (take 256 table) (drop 256 table) ns n) ∙ ap (λ (l : List ℕ). filled p l ns) (take-append-drop 256 table)
 
 -- ---- what the table holds
 

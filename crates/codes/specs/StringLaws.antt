@@ -1,15 +1,9 @@
--- Laws of the glyph of a string id: its text by the kind of id, and that a glyph that is found is in the font.
-use Rattle.std.specs.Prelude.{ℕ, zero, suc, ◌+◌, ◌-◌, ◌≤◌, ◌<◌, ◌≡◌, refl, Bool, true, List, [], ◌∷◌, map, ltb, length, take, drop, get_or, None, Option, Some}
-use Rattle.std.proofs.Common.{sym, ap, ◌∙◌, arith, lt-ltb, ltb-true}
+-- Laws of the glyph of a string id: it is found by the id's text, and one that is found is in the font.
+use Rattle.std.specs.Prelude.{ℕ, ◌+◌, ◌<◌, ◌≡◌, Bool, true, List, [], ◌∷◌, ltb, length, None, Option, Some}
+use Rattle.std.proofs.Common.{sym, ap, ◌∙◌, arith, lt-ltb}
 use Rattle.octets.specs.Pick.{pick, pick_ind}
-use Rattle.octets.specs.PickLaws.{both_hold}
-use Rattle.octets.specs.Lists.{all_below}
-use Rattle.octets.specs.Octets.{Wrote}
-use Rattle.octets.specs.PutLaws.{take_put}
-use Rattle.strings.specs.Table.{standard_names}
-use Rattle.strings.specs.Text.{codes, same_text_lem}
-use Rattle.strings.specs.Strings.{standard_strings, standard_string, string_text}
-use Rattle.strings.proofs.StringsLaws.{string_standard, string_own, string_none}
+use Rattle.strings.specs.Text.{same_text_lem}
+use Rattle.strings.specs.Strings.{string_text}
 use Rattle.charset.specs.CharsetFound.{good_length}
 use Rattle.find.specs.Find.{glyph_with_text}
 use Rattle.cff.specs.Font.{Program}
@@ -18,37 +12,10 @@ use Rattle.cff.specs.declared.font.Font.{Font}
 use Rattle.subset.specs.Codes.{string_glyph}
 use Rattle.codes.specs.Filled.{stored}
 
--- ---- the text of an id
+-- ---- by the text of an id
 
--- no standard string has more than 32 bytes
-short-at : (ss : List (List ℕ)) → all_below 33 (map length ss) ≡ true → (k : ℕ) → length (get_or ss k []) < 33
-unfolding all_below
-short-at [] e k = omega arith
-short-at (s ∷ ss) e zero = ltb-true (length s) 33 (both_hold (ltb (length s) 33) (all_below 33 (map length ss)) e).0
-short-at (s ∷ ss) e (suc k) = short-at ss (both_hold (ltb (length s) 33) (all_below 33 (map length ss)) e).1 k
-
-pub standard-short : (k : ℕ) → length (standard_string k) < 33
-unfolding standard_names codes standard_strings standard_string all_below
-standard-short k = short-at standard_strings refl k
-
--- a standard string that was written in front of a buffer
-pub standard-text : (old new : List ℕ) (k end : ℕ) → Wrote old 0 (standard_string k) new end → take (end - 0) (drop 0 new) ≡ standard_string k
-standard-text old new k end w =
-    let e : end - 0 ≡ 0 + length (standard_string k) = omega (arith, w.behind) in
-    ap (λ (m : ℕ). take m new) e ∙ ap (take (0 + length (standard_string k))) w.is ∙ take_put old 0 (standard_string k) (omega arith)
-
-module _ (p : Program) (sid : ℕ) (text : List ℕ) (r : Option ℕ) (found : r ≡ glyph_with_text p.strings text 0 p.ids) where
-  glyph-by : text ≡ string_text p.strings sid → r ≡ string_glyph p sid
-  glyph-by e = found ∙ ap (λ (t : List ℕ). glyph_with_text p.strings t 0 p.ids) e
-
-  pub glyph_standard : sid < 391 → text ≡ standard_string sid → r ≡ string_glyph p sid
-  glyph_standard h e = glyph-by (e ∙ sym (string_standard p.strings sid h))
-
-  pub glyph_own : 391 ≤ sid → text ≡ get_or p.strings (sid - 391) [] → r ≡ string_glyph p sid
-  glyph_own h e = glyph-by (e ∙ sym (string_own p.strings sid h))
-
-  pub glyph_none : 391 + length p.strings ≤ sid → text ≡ [] → r ≡ string_glyph p sid
-  glyph_none h e = glyph-by (e ∙ sym (string_none p.strings sid h))
+pub glyph_by : (p : Program) (sid : ℕ) (text : List ℕ) (r : Option ℕ) → r ≡ glyph_with_text p.strings text 0 p.ids → text ≡ string_text p.strings sid → r ≡ string_glyph p sid
+glyph_by p sid text r found e = found ∙ ap (λ (t : List ℕ). glyph_with_text p.strings t 0 p.ids) e
 
 -- ---- the glyph
 

@@ -6,15 +6,14 @@ ghost use Rattle.std.specs.Prelude.{◌≡◌, ◌+◌, ◌*◌, ◌≤◌, ◌<
 ghost use Rattle.octets.specs.Pick.{pick};
 ghost use Rattle.charset.specs.Codes.{codes_from, range_from, ranges_from, supplied_from, namings_at};
 ghost use Rattle.find.specs.Find.{glyph_with_text};
-ghost use Rattle.cff.specs.Reads.{GoodFont, program_of};
+ghost use Rattle.cff.specs.Loaded.{program};
 ghost use Rattle.subset.specs.Codes.{string_glyph};
 ghost use Rattle.codes.specs.Filled.{stored, filled, Fills};
 
-use cff::font::Font;
+use cff::loaded::Loaded;
 
 // A code names a glyph by its number, of n glyphs: nothing where there is no such code or glyph.
-fn name_glyph(table: &mut [usize], n: usize, code: usize, glyph: usize)
-    requires { 256 ≤ length table.old }
+fn name_glyph(table: &mut [usize; 256], n: usize, code: usize, glyph: usize)
     ensures { table.new ≡ stored table.old code (pick (ltb glyph n) (Some glyph) None) }
 {
     if n <= glyph {
@@ -27,8 +26,8 @@ fn name_glyph(table: &mut [usize], n: usize, code: usize, glyph: usize)
 }
 
 // Format 0: count codes, of the glyphs from 1 on.
-fn fill_codes(font: &[u8], at: usize, count: usize, n: usize, table: &mut [usize])
-    requires { (256 ≤ length table.old) × (at + count ≤ length font.now) × (count < 256) }
+fn fill_codes(font: &[u8], at: usize, count: usize, n: usize, table: &mut [usize; 256])
+    requires { (at + count ≤ length font.now) × (count < 256) }
     ensures { Fills n table.old (codes_from 1 (take count (drop at font.now))) table.new }
 {
     for (i, code) in font[at..at + count].iter().enumerate() {
@@ -37,8 +36,8 @@ fn fill_codes(font: &[u8], at: usize, count: usize, n: usize, table: &mut [usize
 }
 
 // A range of count codes from one on, of the glyphs from one on.
-fn fill_range(n: usize, first: usize, from: usize, count: usize, table: &mut [usize])
-    requires { (256 ≤ length table.old) × (first < 256) × (from ≤ 65536) × (count ≤ 256) }
+fn fill_range(n: usize, first: usize, from: usize, count: usize, table: &mut [usize; 256])
+    requires { (first < 256) × (from ≤ 65536) × (count ≤ 256) }
     ensures { Fills n table.old (range_from count first from) table.new }
 {
     for i in 0..count {
@@ -47,8 +46,8 @@ fn fill_range(n: usize, first: usize, from: usize, count: usize, table: &mut [us
 }
 
 // Format 1: count ranges, of the glyphs from 1 on; a glyph at a code above 255 counts.
-fn fill_ranges(font: &[u8], at: usize, count: usize, n: usize, table: &mut [usize])
-    requires { (256 ≤ length table.old) × (at + count * 2 ≤ length font.now) × (count < 256) }
+fn fill_ranges(font: &[u8], at: usize, count: usize, n: usize, table: &mut [usize; 256])
+    requires { (at + count * 2 ≤ length font.now) × (count < 256) }
     ensures { Fills n table.old (ranges_from count 1 (drop at font.now)) table.new }
 {
     let mut next = 1;
@@ -61,8 +60,8 @@ fn fill_ranges(font: &[u8], at: usize, count: usize, n: usize, table: &mut [usiz
 }
 
 // The codes or ranges of a format. The kind, 0 or 1, is a number, for an entry has so many bytes and one more.
-fn fill_first(font: &[u8], at: usize, kind: usize, count: usize, n: usize, table: &mut [usize])
-    requires { (256 ≤ length table.old) × (kind ≤ 1) × (at + count * (kind + 1) ≤ length font.now) × (count < 256) }
+fn fill_first(font: &[u8], at: usize, kind: usize, count: usize, n: usize, table: &mut [usize; 256])
+    requires { (kind ≤ 1) × (at + count * (kind + 1) ≤ length font.now) × (count < 256) }
     ensures { Fills n table.old
         (pick (eqb kind 0) (codes_from 1 (take count (drop at font.now))) (ranges_from count 1 (drop at font.now)))
         table.new }
@@ -74,53 +73,27 @@ fn fill_first(font: &[u8], at: usize, kind: usize, count: usize, n: usize, table
 }
 
 // The glyph that finding gives for a text, if it finds one.
-fn glyph_of_text(font: &[u8], f: Font, text: &[u8]) -> Option<usize>
-    requires { GoodFont font.now f }
-    ensures { result ≡ glyph_with_text (program_of font.now f).strings text.now 0 (program_of font.now f).ids }
+fn glyph_of_text(font: &Loaded<'_>, text: &[u8]) -> Option<usize>
+    ensures { result ≡ glyph_with_text (program font.now).strings text.now 0 (program font.now).ids }
 {
-    let charset = f.charset;
-    let charstrings = f.charstrings;
-    let strings = f.strings;
-    let n = charstrings.count;
     let sid = strings::sid_of(text);
-    find::find_text(font, charset, n, strings, text, sid)
-}
-
-// The glyph that finding gives for a standard string, of which none has more than 32 bytes; if it finds one.
-fn glyph_of_standard(font: &[u8], f: Font, sid: usize) -> Option<usize>
-    requires { GoodFont font.now f × (sid < 391) }
-    ensures { result ≡ string_glyph (program_of font.now f) sid }
-{
-    let mut text = [0u8; 32];
-    let end = strings::put_standard(&mut text, 0, sid);
-    glyph_of_text(font, f, &text[0..end])
+    find::find_text(&font.ids(), &font.strings(), text, sid)
 }
 
 // The glyph that finding gives for the string of an id: past the font's strings the empty one; if it finds one.
-fn glyph_of_string(font: &[u8], f: Font, sid: usize) -> Option<usize>
-    requires { GoodFont font.now f }
-    ensures { result ≡ string_glyph (program_of font.now f) sid }
+fn glyph_of_string(font: &Loaded<'_>, sid: usize) -> Option<usize>
+    ensures { result ≡ string_glyph (program font.now) sid }
 {
-    if sid < 391 {
-        return glyph_of_standard(font, f, sid);
-    }
-    let strings = f.strings;
-    let count = strings.count;
-    let k = sid - 391;
-    if k < count {
-        return glyph_of_text(font, f, index::item(font, strings, k));
-    }
-    glyph_of_text(font, f, &font[0..0])
+    let text = name_order::text_at(&font.strings(), sid);
+    glyph_of_text(font, text)
 }
 
 // A code names the glyph of a string.
-fn name_string(font: &[u8], f: Font, code: usize, sid: usize, table: &mut [usize])
-    requires { GoodFont font.now f × (256 ≤ length table.old) }
-    ensures { table.new ≡ stored table.old code (string_glyph (program_of font.now f) sid) }
+fn name_string(font: &Loaded<'_>, code: usize, sid: usize, table: &mut [usize; 256])
+    ensures { table.new ≡ stored table.old code (string_glyph (program font.now) sid) }
 {
-    let charstrings = f.charstrings;
-    let n = charstrings.count;
-    let found = glyph_of_string(font, f, sid);
+    let n = font.f.charstrings.count;
+    let found = glyph_of_string(font, sid);
     match found {
         None => {}
         Some(g) => name_glyph(table, n, code, g),
@@ -128,32 +101,41 @@ fn name_string(font: &[u8], f: Font, code: usize, sid: usize, table: &mut [usize
 }
 
 // The supplements: count codes with a string id each.
-fn fill_supplements(font: &[u8], f: Font, at: usize, count: usize, table: &mut [usize])
-    requires { GoodFont font.now f × (256 ≤ length table.old) × (at + count * 3 ≤ length font.now) }
-    ensures { table.new ≡ filled (program_of font.now f) table.old (supplied_from count (drop at font.now)) }
+fn fill_supplements(font: &Loaded<'_>, at: usize, count: usize, table: &mut [usize; 256])
+    requires { at + count * 3 ≤ length font.now.bytes.now }
+    ensures { table.new ≡ filled (program font.now) table.old (supplied_from count (drop at font.now.bytes.now)) }
 {
     for i in 0..count {
-        let code = octets::u8_at(font, at + 3 * i);
-        let sid = octets::u16_at(font, at + 3 * i + 1);
-        name_string(font, f, code, sid, table);
+        let code = octets::u8_at(font.bytes, at + 3 * i);
+        let sid = octets::u16_at(font.bytes, at + 3 * i + 1);
+        name_string(font, code, sid, table);
     }
 }
 
 // All that the encoding of a font says, which has one of its own: the codes or ranges, and then the supplements.
-pub fn fill(font: &[u8], f: Font, table: &mut [usize])
-    requires { GoodFont font.now f × (length font.now ≤ 67108864) × (2 ≤ f.encoding) × (256 ≤ length table.old) }
-    ensures { table.new ≡ filled (program_of font.now f) table.old (namings_at font.now f.encoding) }
+fn fill_all(font: &Loaded<'_>, table: &mut [usize; 256])
+    requires { (length font.now.bytes.now ≤ 67108864) × (2 ≤ font.now.f.encoding) }
+    ensures { table.new ≡ filled (program font.now) table.old (namings_at font.now.bytes.now font.now.f.encoding) }
 {
-    let charstrings = f.charstrings;
-    let n = charstrings.count;
-    let at = f.encoding;
-    let format = octets::u8_at(font, at);
+    let n = font.f.charstrings.count;
+    let at = font.f.encoding;
+    let format = octets::u8_at(font.bytes, at);
     let kind = format % 128;
-    let count = octets::u8_at(font, at + 1);
+    let count = octets::u8_at(font.bytes, at + 1);
     let behind = at + 2 + count * (kind + 1);
-    fill_first(font, at + 2, kind, count, n, table);
+    fill_first(font.bytes, at + 2, kind, count, n, table);
     if format / 128 == 0 {
         return;
     }
-    fill_supplements(font, f, behind + 1, octets::u8_at(font, behind), table)
+    fill_supplements(font, behind + 1, octets::u8_at(font.bytes, behind), table)
+}
+
+// The same in the first 256 places of a table.
+pub fn fill(font: &Loaded<'_>, table: &mut [usize])
+    requires { (length font.now.bytes.now ≤ 67108864) × (2 ≤ font.now.f.encoding) × (256 ≤ length table.old) }
+    ensures { table.new ≡ filled (program font.now) table.old (namings_at font.now.bytes.now font.now.f.encoding) }
+{
+    if let Some(first) = table.first_chunk_mut() {
+        fill_all(font, first);
+    }
 }

@@ -4,7 +4,7 @@ use Rattle.std.proofs.Common.{sym, ap, ◌∙◌, subst, inl, inr, pow-suc, mul-
 use Rattle.std.proofs.Math.Nat.{pow-succ', pow-zero, one-le-pow, mul-div-mul_right, mul-mod_left, pow-le-pow_right}
 use Rattle.std.proofs.Math.Decide.{ℕ_discrete, dec_lt}
 use Rattle.decimal.specs.declared.Decimal.{Decimal}
-use Rattle.decimal.specs.Decimal.{nought, zeros_of, zeros, stripped, scaled, normal, Normal}
+use Rattle.decimal.specs.Decimal.{nought, zeros_of, zeros, stripped, scaled, normal, Normal, Reduced}
 
 pub ten_pos : (k : ℕ) → 0 < 10 ^ k
 ten_pos k = one-le-pow k 10 (lit< tt)
@@ -179,15 +179,21 @@ normal-last d h p e =
     let q : d.digits ≡ stripped d.digits = ap (λ (c : Decimal). c.digits) (scaled_is d h p) in
     stripped-last d.digits p (subst (λ (m : ℕ). m % 10 ≡ 0) q e)
 
-pub one_power : (d : Decimal) → Normal d → (d.down ≡ 0 → ⊥) → d.up ≡ 0
-one_power d h e = go (eq-zero-or-pos d.digits)
+pub one_power : (d : Decimal) → Reduced d → (d.down ≡ 0 → ⊥) → d.up ≡ 0
+one_power d h e = h.one (pos_of_ne-zero e)
+
+-- a number that a DICT holds is one of the code's
+pub reduced : (d : Decimal) → Normal d → Reduced d
+reduced d h = go (eq-zero-or-pos d.digits)
   where
-    go : (d.digits ≡ 0) ⊎ (0 < d.digits) → d.up ≡ 0
-    go (inl o) = ap (λ (c : Decimal). c.up) (nought_is d h o)
+    go : (d.digits ≡ 0) ⊎ (0 < d.digits) → Reduced d
+    go (inl o) =
+        let e = nought_is d h o in
+        let u : d.up ≡ 0 = ap (λ (c : Decimal). c.up) e in
+        record { last = λ z. e; one = λ l. u; high = h.high; low = h.low }
     go (inr p) =
         let q : d.down ≡ d.down - (d.up + zeros d.digits) = ap (λ (c : Decimal). c.down) (scaled_is d h p) in
-        let l : 0 < d.down = pos_of_ne-zero e in
-        omega arith
+        record { last = λ z. absurd (normal-last d h p z); one = λ l. omega arith; high = h.high; low = h.low }
 
 -- ---- an integer's zeros dropped one by one
 
@@ -205,3 +211,21 @@ whole_done s m up n e h =
 
 pub whole-nought : (s : Bool) (n : ℕ) → n ≡ 0 → nought ≡ normal s n 0 0
 whole-nought s n e = rw e (sym (normal-nought s 0 0))
+
+-- digits that end in no zero, with one power of ten at most
+pub reduced-digits : (s : Bool) (m u v : ℕ) → (m % 10 ≡ 0 → ⊥) → (0 < v → u ≡ 0) → u ≤ 30 → v ≤ 30 → Reduced (record { neg = s; digits = m; up = u; down = v })
+reduced-digits s m u v l one high low = record { last = λ z. absurd (l z); one = one; high = high; low = low }
+
+-- a number of 64 bits ends in fewer than 20 zeros
+few-zeros : (m up n : ℕ) → 0 < m → m * 10 ^ up ≡ n → n < 2 ^ 64 → up ≤ 30
+few-zeros m up n p e h = go (dec_lt up 20)
+  where
+    go : Dec (up < 20) → up ≤ 30
+    go (yes q) = omega arith
+    go (no q) =
+        let a : 10 ^ 20 ≤ 10 ^ up = pow-le-pow_right {n = 10} (lit< tt) {i = 20} {j = up} (omega arith) in
+        let b : 1 * 10 ^ up ≤ m * 10 ^ up = mul-le-mul_right (10 ^ up) p in
+        absurd (lt_irrefl 0 (omega arith))
+
+pub whole-reduced : (s : Bool) (m up n : ℕ) → 0 < m → m * 10 ^ up ≡ n → n < 2 ^ 64 → (m % 10 ≡ 0 → ⊥) → Reduced (record { neg = s; digits = m; up = up; down = 0 })
+whole-reduced s m up n p e h l = reduced-digits s m up 0 l (λ z. absurd (lt_irrefl 0 z)) (few-zeros m up n p e h) (omega arith)

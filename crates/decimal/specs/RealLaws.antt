@@ -1,5 +1,5 @@
 -- Laws of reals: the limits of refusal 5 by what the code holds, and a text read to its end.
-use Prim.Native.Nat.{ℕ, ◌+◌, ◌-◌, ◌/◌, ◌^◌, ◌≤◌, ◌<◌, min}
+use Prim.Native.Nat.{ℕ, ◌+◌, ◌-◌, ◌/◌, ◌%◌, ◌^◌, ◌≤◌, ◌<◌, min}
 use Rattle.std.specs.Prelude.{◌≡◌, ◌⊎◌, Bool, ltb, leb, Result, Ok, Err, Option}
 use Rattle.std.proofs.Math.Path.{refl}
 use Rattle.std.proofs.Common.{sym, ap, ◌∙◌, inl, inr, eq-zero-or-pos, lt_irrefl, arith, lt-ltb, le-ltb, le-leb}
@@ -7,15 +7,15 @@ use Rattle.std.proofs.Math.Bool.{true, false}
 use Rattle.std.proofs.lemmas.Bool.{false≢true}
 use Rattle.std.proofs.Math.Decide.{dec_le}
 use Rattle.octets.specs.Pick.{pick}
-use Rattle.decimal.specs.declared.Decimal.{Decimal}
 use Rattle.decimal.specs.declared.Held.{Held}
 use Rattle.decimal.specs.declared.Stage.{Stage}
 use Rattle.decimal.specs.declared.Stage.TheVariants.{Start, Mantissa, Exponent, Power, Malformed as Spoilt}
+use Rattle.decimal.specs.declared.Decimal.{Decimal}
 use Rattle.decimal.specs.Decimal.{nought, zeros, stripped, scaled, normal}
-use Rattle.decimal.specs.DecimalLaws.{zeros-nought, stripped-nought, stripped_pos, normal-nought, normal_pos}
+use Rattle.decimal.specs.DecimalLaws.{zeros-nought, stripped-nought, stripped-last, stripped_pos, normal-nought, normal_pos}
 use Rattle.decimal.specs.Real.{bad, form, exp_digits, exponent, mantissa, form_of, limited, value_of}
 use Rattle.decimal.specs.Number.{placed, a_number, answer_of}
-use Rattle.decimal.specs.Stage.{begun, in_mantissa, after_e, in_exponent, spoilt, held_of, Few, Finished, Ended}
+use Rattle.decimal.specs.Stage.{begun, in_mantissa, after_e, in_exponent, spoilt, held_of, Few, Finished, Ended, Bounded}
 use Rattle.decimal.specs.declared.NumberAt.{NumberAt}
 use Rattle.refusal.specs.declared.Refusal.{Refusal}
 use Rattle.refusal.specs.declared.Refusal.TheVariants.{Malformed, Real}
@@ -53,6 +53,20 @@ down-same s m f z e exp h k = go (dec_le e 1000)
     go : Dec (e ≤ 1000) → limited (scaled s m z (f + exp)) ≡ limited (scaled s m (0 + z) (f + e))
     go (yes p) = let q : exp ≡ e = omega arith in ap (λ (y : ℕ). limited (scaled s m y (f + exp))) o ∙ ap (λ (y : ℕ). limited (scaled s m (0 + z) (f + y))) q
     go (no p) = past-low s m z (f + exp) (omega arith) ∙ sym (past-low s m (0 + z) (f + e) (omega arith))
+
+-- what is held of any number
+held_last : (n : ℕ) → min (stripped n) (10 ^ 15) % 10 ≡ 0 → min (stripped n) (10 ^ 15) < 10 ^ 15 → min (stripped n) (10 ^ 15) ≡ 0
+held_last n e h = go (eq-zero-or-pos n)
+  where
+    k : min (stripped n) (10 ^ 15) ≡ stripped n
+    k = omega arith
+
+    go : (n ≡ 0) ⊎ (0 < n) → min (stripped n) (10 ^ 15) ≡ 0
+    go (inl o) = k ∙ ap stripped o ∙ stripped-nought
+    go (inr p) = absurd (stripped-last n p (ap (λ (m : ℕ). m % 10) (sym k) ∙ e))
+
+pub held_bounded : (h : Held) (s : Bool) (n f : ℕ) → h ≡ held_of s n f → Bounded h
+held_bounded h s n f e = rw e (omega arith, omega arith, held_last n)
 
 -- ---- a well formed text
 

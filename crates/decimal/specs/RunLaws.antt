@@ -8,7 +8,8 @@ use Rattle.decimal.specs.Decimal.{zeros}
 use Rattle.decimal.specs.DecimalLaws.{zeros_ten, zeros-digit, zeros-nought}
 use Rattle.decimal.specs.Real.{nibbles, Text, cut, wrong, text, before, text_of, exp_digits, exponent, mantissa, form_of, value_of}
 use Rattle.decimal.specs.Number.{placed, real_of, real_at, answer_of}
-use Rattle.decimal.specs.Stage.{Exact, begun, in_mantissa, after_e, in_exponent, spoilt, mantissa_step, exponent_step, step_of, form_from, real_from, stage_of, Few, Counted, Ended, Going, Running, Stopped}
+use Rattle.decimal.specs.Stage.{Exact, begun, in_mantissa, after_e, in_exponent, spoilt, mantissa_step, exponent_step, step_of, form_from, real_from, held_of, stage_of, Few, Counted, Ended, Going, Running, Stopped}
+use Rattle.decimal.specs.RealLaws.{held_bounded}
 use Rattle.decimal.specs.declared.NumberAt.{NumberAt}
 use Rattle.refusal.specs.declared.Refusal.{Refusal}
 use Rattle.refusal.specs.declared.Refusal.TheVariants.{Truncated, Malformed}
@@ -137,9 +138,9 @@ going-cut b at st k going = ap answer_of going.rest
 -- the counts of every stage stop
 stops : (g : Exact) → Stopped (stage_of g)
 stops begun = tt
-stops (in_mantissa s any point n f) = (omega arith, omega arith)
+stops (in_mantissa s any point n f) = held_bounded (held_of s n f) s n f refl
 stops (after_e s n f) = tt
-stops (in_exponent s n f es any e) = (omega arith, omega arith, omega arith)
+stops (in_exponent s n f es any e) = (held_bounded (held_of s n f) s n f refl, omega arith)
 stops spoilt = tt
 
 -- ---- the next byte

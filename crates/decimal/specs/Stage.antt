@@ -1,6 +1,6 @@
 -- The grammar of Real.antt (TN5176, section 4, table 5) run nibble by nibble: how far a text was read, exactly, and as much of it as the code holds, whose numbers
 -- stop at a bound past every limit of refusal 5.
-use Rattle.std.specs.Prelude.{ℕ, ◌+◌, ◌-◌, ◌*◌, ◌/◌, ◌^◌, ◌≤◌, ◌<◌, min, ◌≡◌, Bool, true, false, List, [], ltb, eqb, length, drop, Result, Option}
+use Rattle.std.specs.Prelude.{ℕ, ◌+◌, ◌-◌, ◌*◌, ◌/◌, ◌%◌, ◌^◌, ◌≤◌, ◌<◌, min, ◌≡◌, Bool, true, false, List, [], ltb, eqb, length, drop, Result, Option}
 use Rattle.octets.specs.Pick.{pick}
 use Rattle.decimal.specs.declared.Held.{Held}
 use Rattle.decimal.specs.declared.Stage.{Stage}
@@ -104,10 +104,14 @@ pub record Running (b : List ℕ) (at : ℕ) (st : Stage) (p : ℕ) : Type 0 whe
   pub within : p ≤ length b
   pub going : Going b at st (2 * (p - (at + 1))) (nibbles (drop p b))
 
--- the counts of a stage are those that stop at 1000
+-- the counts of what is held stop at 1000, and its digits end in no zero unless they are 0 or have stopped
+abbrev pub Bounded : Held → Type 0
+Bounded h = (h.zeros ≤ 1000) × (h.behind ≤ 1000) × (h.digits % 10 ≡ 0 → h.digits < 10 ^ 15 → h.digits ≡ 0)
+
+-- the same of a stage
 abbrev pub Stopped : Stage → Type 0
 Stopped Start = Unit
-Stopped (Mantissa any point h) = (h.zeros ≤ 1000) × (h.behind ≤ 1000)
+Stopped (Mantissa any point h) = Bounded h
 Stopped (Exponent h) = Unit
-Stopped (Power h eneg any exp) = (h.zeros ≤ 1000) × (h.behind ≤ 1000) × (exp ≤ 1000)
+Stopped (Power h eneg any exp) = (Bounded h) × (exp ≤ 1000)
 Stopped Spoilt = Unit

@@ -3,7 +3,7 @@ use Rattle.std.specs.Prelude.{ℕ, zero, suc, ◌-◌, ◌*◌, ◌/◌, ◌^◌
 use Rattle.std.proofs.Common.{sym, ◌∙◌, mul-one, div-one, not-suc-le-zero, sub-one, arith}
 use Rattle.std.proofs.Math.Nat.{pow-zero, pow-succ', div-div-eq-div-mul}
 use Rattle.decimal.specs.declared.Decimal.{Decimal}
-use Rattle.decimal.specs.Decimal.{Normal}
+use Rattle.decimal.specs.Decimal.{Reduced}
 use Rattle.decimal.specs.DecimalLaws.{one_power}
 use Rattle.decimal.specs.Values.{trunc_of}
 
@@ -31,7 +31,7 @@ module _ (d : Decimal) where
   pub trunc-up : (r : ℕ) → d.down ≡ 0 → r ≡ min (d.digits * 10 ^ d.up) 4294967296 → r ≡ min (trunc_of d) 4294967296
   trunc-up r e h = rw (trunc-whole e) h
 
-  module _ (h : Normal d) (e : d.down ≡ 0 → ⊥) (n : ℕ) (q : n ≡ d.digits / 10 ^ d.down) where
+  module _ (h : Reduced d) (e : d.down ≡ 0 → ⊥) (n : ℕ) (q : n ≡ d.digits / 10 ^ d.down) where
     is : n ≡ trunc_of d
     is = q ∙ sym (trunc-fraction (one_power d h e))
 

@@ -6,11 +6,12 @@ pub mod real;
 
 ghost use Rattle.std.specs.Prelude.{◌≡◌, true, false, ◌+◌, ◌-◌, ◌*◌, ◌/◌, ◌^◌, ◌≤◌, ◌<◌, min, ltb, length, get_or};
 ghost use Rattle.octets.specs.Pick.{pick};
-ghost use Rattle.decimal.specs.Decimal.{normal, Normal};
+ghost use Rattle.decimal.specs.Decimal.{normal};
 ghost use Rattle.decimal.specs.Number.{pair_at, real_at, number_at, a_number, answer_of, past_width, past_of};
 ghost use Rattle.decimal.specs.Values.{trunc_of, clamped, i32_of, id_of, offset_of, is_two};
 
 use refusal::Refusal;
+use std::marker::Model;
 
 // ± digits × 10 ^ up / 10 ^ down; normalised, so that two equal numbers are one value.
 #[derive(Clone, Copy)]
@@ -19,6 +20,18 @@ pub struct Decimal {
     pub digits: usize,
     pub up: usize,
     pub down: usize,
+}
+
+impl Model for Decimal {
+    ghost use Rattle.decimal.specs.Decimal.{Figure, Reduced};
+
+    ghost Value = { Figure };
+
+    ghost view = { λ d. record { neg = d.neg; digits = d.digits; up = d.up; down = d.down } };
+
+    ghost inverse = { λ d. record { neg = d.neg; digits = d.digits; up = d.up; down = d.down } };
+
+    ghost invariant = { λ d. Reduced (record { neg = d.neg; digits = d.digits; up = d.up; down = d.down }) };
 }
 
 // A number that was read, and the position after it.
@@ -257,7 +270,6 @@ pub fn scaled_down(m: usize, k: usize) -> usize
 
 // The size with the fraction dropped, 4294967296 for all that is larger.
 pub fn trunc(d: Decimal) -> usize
-    requires { Normal d }
     ensures { result ≡ min (trunc_of d) 4294967296 }
 {
     let digits = d.digits;
@@ -275,7 +287,7 @@ pub fn trunc(d: Decimal) -> usize
 
 // Clamped to 0 .. most, the fraction dropped.
 fn clamped(d: Decimal, most: usize) -> usize
-    requires { (Normal d) × (most < 4294967296) }
+    requires { most < 4294967296 }
     ensures { result ≡ clamped most d }
 {
     let neg = d.neg;
@@ -291,7 +303,6 @@ fn clamped(d: Decimal, most: usize) -> usize
 
 // Clamped to 16 bits: the ids of ROS.
 pub fn to_u16(d: Decimal) -> usize
-    requires { Normal d }
     ensures { result ≡ clamped 65535 d }
 {
     clamped(d, 65535)
@@ -299,7 +310,6 @@ pub fn to_u16(d: Decimal) -> usize
 
 // Clamped to 32 bits: CIDCount.
 pub fn to_u32(d: Decimal) -> usize
-    requires { Normal d }
     ensures { result ≡ clamped 4294967295 d }
 {
     clamped(d, 4294967295)
@@ -307,7 +317,6 @@ pub fn to_u32(d: Decimal) -> usize
 
 // Clamped to 32 bits with a sign: the supplement of ROS.
 pub fn to_i32(d: Decimal) -> Signed
-    requires { Normal d }
     ensures { result ≡ i32_of d }
 {
     let neg = d.neg;
@@ -341,7 +350,6 @@ pub fn to_i32(d: Decimal) -> Signed
 
 // The string id of a string entry, if the number is one.
 pub fn id_of(d: Decimal) -> Option<usize>
-    requires { Normal d }
     ensures { result ≡ id_of d }
 {
     let neg = d.neg;
@@ -360,7 +368,6 @@ pub fn id_of(d: Decimal) -> Option<usize>
 
 // The Rust's `Dict::offset`: whole and not negative, or malformed.
 pub fn offset_of(d: Decimal) -> Result<usize, Refusal>
-    requires { Normal d }
     ensures { result ≡ offset_of d }
 {
     let neg = d.neg;

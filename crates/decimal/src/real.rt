@@ -1,10 +1,10 @@
 // The text of a real (TN5176, section 4, table 5; the Rust's parse_real).
-ghost use Rattle.std.specs.Prelude.{◌≡◌, Bool, true, false, ℕ, ◌+◌, ◌-◌, ◌*◌, ◌/◌, ◌^◌, ◌≤◌, ◌<◌, min, length};
+ghost use Rattle.std.specs.Prelude.{◌≡◌, Bool, true, false, ℕ, ◌+◌, ◌-◌, ◌*◌, ◌/◌, ◌%◌, ◌^◌, ◌≤◌, ◌<◌, min, length};
 ghost use Rattle.octets.specs.Pick.{pick};
 ghost use Rattle.decimal.specs.Decimal.{scaled};
 ghost use Rattle.decimal.specs.Real.{limited};
 ghost use Rattle.decimal.specs.Number.{placed, real_at, answer_of};
-ghost use Rattle.decimal.specs.Stage.{Exact, step_of, mantissa_step, exponent_step, held_of, stage_of, Finished, Ended, Stopped};
+ghost use Rattle.decimal.specs.Stage.{Exact, step_of, mantissa_step, exponent_step, held_of, stage_of, Finished, Ended, Bounded, Stopped};
 
 use crate::{Decimal, Held, NumberAt, PAST, Stage, TOO_MANY, scaled_up};
 use refusal::Refusal;
@@ -202,7 +202,7 @@ fn limited(
     down: usize,
     next: usize,
 ) -> Result<Option<NumberAt>, Refusal>
-    requires { digits < 10 ^ 15 }
+    requires { (digits < 10 ^ 15) × (digits % 10 ≡ 0 → ⊥) }
     ensures { result ≡ answer_of (placed next (limited (scaled neg digits up down))) }
 {
     if down <= up {
@@ -239,7 +239,7 @@ fn finished(
     bytes: usize,
     next: usize,
 ) -> Result<Option<NumberAt>, Refusal>
-    requires { (held.zeros ≤ 1000) × (held.behind ≤ 1000) × (exp ≤ 1000) }
+    requires { (Bounded held) × (exp ≤ 1000) }
     ensures { Finished bytes next held eneg exp result }
 {
     let neg = held.neg;

@@ -13,8 +13,8 @@ use Rattle.octets.specs.Pick.{pick}
 use Rattle.octets.specs.Octets.{put, Wrote}
 use Rattle.octets.specs.PutLaws.{put_nil, put_next, put_all}
 use Rattle.decimal.specs.declared.Decimal.{Decimal}
-use Rattle.decimal.specs.Decimal.{Normal}
-use Rattle.decimal.specs.DecimalLaws.{ten_pos, one_power, nought_is}
+use Rattle.decimal.specs.Decimal.{Normal, Reduced}
+use Rattle.decimal.specs.DecimalLaws.{ten_pos, one_power, reduced}
 use Rattle.decimal.specs.Values.{trunc_of}
 use Rattle.decimal.specs.ValuesLaws.{trunc-whole, trunc-fraction}
 use Rattle.decimal.specs.Written.{digits_of, width_in, width_of, bare_text, real_text, packed, real_bytes}
@@ -118,34 +118,19 @@ digit_at (suc k) n i x h = go (dec_lt i k) (digit_at k (n / 10) i x)
 
 -- ---- the integer part
 
-module _ (d : Decimal) (h : Normal d) where
-  pub digits_width : width_of d.digits ≤ 15
-  digits_width = width_below 14 d.digits h.few
-
+module _ (d : Decimal) (h : Reduced d) where
   pub whole-up : (w : ℕ) → d.down ≡ 0 → w ≡ width_of d.digits → w + d.up ≡ width_of (trunc_of d)
   whole-up w e q = go (eq-zero-or-pos d.digits)
     where
       go : (d.digits ≡ 0) ⊎ (0 < d.digits) → w + d.up ≡ width_of (trunc_of d)
       go (inl o) =
-          let u : d.up ≡ 0 = ap (λ (c : Decimal). c.up) (nought_is d h o) in
+          let u : d.up ≡ 0 = ap (λ (c : Decimal). c.up) (h.last (omega arith)) in
           let t : trunc_of d ≡ d.digits = trunc-whole d e ∙ ap (λ (k : ℕ). d.digits * 10 ^ k) u ∙ rw pow-zero (mul-one d.digits) in
           omega (arith, ap width_of t)
       go (inr p) = rw q (sym (ap width_of (trunc-whole d e) ∙ width_times d.digits d.up p))
 
   pub whole-down : (n w : ℕ) → (d.down ≡ 0 → ⊥) → n ≡ d.digits / 10 ^ d.down → w ≡ width_of n → w ≡ width_of (trunc_of d)
   whole-down n w e q r = r ∙ ap width_of (q ∙ sym (trunc-fraction d (one_power d h e)))
-
-  -- at most 15 digits with at most 30 zeros behind them
-  pub whole_width : width_of (trunc_of d) ≤ 45
-  whole_width = go (eq-zero-or-pos d.down)
-    where
-      go : (d.down ≡ 0) ⊎ (0 < d.down) → width_of (trunc_of d) ≤ 45
-      go (inl e) = omega (arith, whole-up (width_of d.digits) e refl, digits_width, h.high)
-      go (inr p) =
-          let t : trunc_of d ≡ d.digits / 10 ^ d.down = trunc-fraction d (one_power d h (λ e. omega arith)) in
-          let l : trunc_of d ≤ d.digits = rw t (div-le_self d.digits (10 ^ d.down)) in
-          let k : trunc_of d < 10 ^ 15 = omega (arith, h.few) in
-          omega (arith, width_below 14 (trunc_of d) k)
 
   pub digit-zero : (k : ℕ) → d.down ≡ 0 → k < d.up → 0 ≡ trunc_of d / 10 ^ k % 10
   digit-zero k e l =
@@ -167,6 +152,18 @@ module _ (d : Decimal) (h : Normal d) where
       let t : trunc_of d / 10 ^ k ≡ d.digits / 10 ^ (d.down + k) =
       ap (λ (n : ℕ). n / 10 ^ k) (trunc-fraction d (one_power d h e)) ∙ div-div-eq-div-mul d.digits (10 ^ d.down) (10 ^ k) ∙ rw pow-add in
       ap (λ (n : ℕ). n % 10) (r ∙ sym t)
+
+-- at most 15 digits with at most 30 zeros behind them
+pub whole_width : (d : Decimal) → Normal d → width_of (trunc_of d) ≤ 45
+whole_width d h = go (eq-zero-or-pos d.down)
+  where
+    go : (d.down ≡ 0) ⊎ (0 < d.down) → width_of (trunc_of d) ≤ 45
+    go (inl e) = omega (arith, whole-up d (reduced d h) (width_of d.digits) e refl, width_below 14 d.digits h.few, h.high)
+    go (inr p) =
+        let t : trunc_of d ≡ d.digits / 10 ^ d.down = trunc-fraction d (one_power d (reduced d h) (λ e. omega arith)) in
+        let l : trunc_of d ≤ d.digits = rw t (div-le_self d.digits (10 ^ d.down)) in
+        let k : trunc_of d < 10 ^ 15 = omega (arith, h.few) in
+        omega (arith, width_below 14 (trunc_of d) k)
 
 -- ---- the nibbles one by one
 

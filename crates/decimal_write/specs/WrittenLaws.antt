@@ -25,14 +25,6 @@ module _ (d : Decimal) where
   unfolding number_bytes
   number-part e = ap (λ (t : Bool). pick (pick t (ltb (trunc_of d) 2147483647) false) (int_bytes d.neg (trunc_of d)) (real_bytes d)) (ne_eqb d.down 0 e)
 
-  -- by the size that is capped
-  module _ (n : ℕ) (q : n ≡ min (trunc_of d) 4294967296) (e : d.down ≡ 0) where
-    pub sized_int : n < 2147483647 → number_bytes d ≡ int_bytes d.neg n
-    sized_int h = let m : trunc_of d ≡ n = omega arith in number_int e (omega arith) ∙ ap (int_bytes d.neg) m
-
-    pub sized_big : 2147483647 ≤ n → number_bytes d ≡ real_bytes d
-    sized_big h = number_big e (omega arith)
-
   pub real-bytes : 30 ∷ packed (real_text d) ≡ real_bytes d
   unfolding real_bytes
   real-bytes = refl
@@ -40,3 +32,18 @@ module _ (d : Decimal) where
   pub packed-length : (n : ℕ) → n ≡ length (real_bytes d) → n ≡ 1 + length (packed (real_text d))
   unfolding real_bytes
   packed-length n e = omega arith
+
+-- by the fields of a decimal, and the size that is capped
+module _ (d v : Decimal) (k : v ≡ d) where
+  pub parted : (v.down ≡ 0 → ⊥) → number_bytes d ≡ real_bytes d
+  parted e = rw (← k) (number-part v e)
+
+  module _ (n : ℕ) (q : n ≡ min (trunc_of d) 4294967296) (e : v.down ≡ 0) where
+    same : n ≡ min (trunc_of v) 4294967296
+    same = rw k q
+
+    pub sized_int : n < 2147483647 → number_bytes d ≡ int_bytes v.neg n
+    sized_int h = let m : trunc_of v ≡ n = omega (arith, same) in rw (← k) (number_int v e (omega arith) ∙ ap (int_bytes v.neg) m)
+
+    pub sized_big : 2147483647 ≤ n → number_bytes d ≡ real_bytes d
+    sized_big h = rw (← k) (number_big v e (omega (arith, same)))

@@ -11,7 +11,7 @@ use Rattle.octets.specs.Pick.{pick}
 use Rattle.octets.specs.ListLaws.{lies_first}
 use Rattle.decimal.specs.declared.Decimal.{Decimal}
 use Rattle.decimal.specs.Decimal.{normal, Normal}
-use Rattle.decimal.specs.DecimalLaws.{ten_pos, normal-nought, nought_is, normal-last, one_power, whole_done}
+use Rattle.decimal.specs.DecimalLaws.{ten_pos, normal-nought, nought_is, normal-last, one_power, reduced, whole_done}
 use Rattle.decimal.specs.Real.{nibbles, text, before, text_of, Form, form, mantissa, form_of, limited, value_of}
 use Rattle.decimal.specs.Number.{number, placed, real_of, real_at}
 use Rattle.decimal.specs.NumberLaws.{form_30}
@@ -149,7 +149,7 @@ module _ (d : Decimal) (s : Bool) where
   bare-part : Normal d → (d.down ≡ 0 → ⊥) → mantissa s false false 0 0 (bare_text d) ≡ form s d.digits d.down false 0
   bare-part h e =
       let m : trunc_of d * 10 ^ d.down + d.digits % 10 ^ d.down ≡ d.digits =
-      ap (λ (n : ℕ). n * 10 ^ d.down + d.digits % 10 ^ d.down) (trunc-fraction d (one_power d h e)) ∙ div-add-mod' d.digits (10 ^ d.down) in
+      ap (λ (n : ℕ). n * 10 ^ d.down + d.digits % 10 ^ d.down) (trunc-fraction d (one_power d (reduced d h) e)) ∙ div-add-mod' d.digits (10 ^ d.down) in
       let z : 0 + d.down ≡ d.down = zero-add d.down in
       ap (mantissa s false false 0 0) (with-point d (width_of (trunc_of d)) 0 refl e)
       ∙ front (10 ∷ digits_of d.down d.digits) ∙ mantissa-point s true (trunc_of d) 0 (digits_of d.down d.digits)
@@ -201,7 +201,7 @@ text-short d h = go (eq-zero-or-pos d.down) d.neg refl
   where
     part : 0 < d.down → width_of (trunc_of d) ≤ 15
     part p =
-        let t : trunc_of d ≡ d.digits / 10 ^ d.down = trunc-fraction d (one_power d h (λ e. omega arith)) in
+        let t : trunc_of d ≡ d.digits / 10 ^ d.down = trunc-fraction d (one_power d (reduced d h) (λ e. omega arith)) in
         let l : trunc_of d ≤ d.digits = rw t (div-le_self d.digits (10 ^ d.down)) in
         let k : trunc_of d < 10 ^ 15 = omega (arith, h.few) in
         width_below 14 (trunc_of d) k
@@ -227,7 +227,7 @@ value-text d h = go (ℕ_discrete d.down 0)
     go (yes e) = as_form (trunc_of d) 0 (form_text d (form d.neg (trunc_of d) 0 false 0) (λ s o. bare-whole d s e ∙ ap (λ (x : Bool). form x (trunc_of d) 0 false 0) o)) (whole_back d h e)
     go (no e) =
         as_form d.digits d.down (form_text d (form d.neg d.digits d.down false 0) (λ s o. bare-part d s h e ∙ ap (λ (x : Bool). form x d.digits d.down false 0) o))
-        (ap (λ (u : ℕ). normal d.neg d.digits u d.down) (sym (one_power d h e)) ∙ h.same)
+        (ap (λ (u : ℕ). normal d.neg d.digits u d.down) (sym (one_power d (reduced d h) e)) ∙ h.same)
 
 pub reads-real : (d : Decimal) → Normal d → Reads d (real_bytes d)
 unfolding real_bytes real_at

@@ -3,7 +3,6 @@
 
 ghost use Rattle.std.specs.Prelude.{◌≡◌, [], ◌∷◌, ◌+◌, ◌-◌, ◌/◌, ◌%◌, ◌^◌, ◌≤◌, ◌<◌, length, get_or};
 ghost use Rattle.octets.specs.Octets.{bytes_of, Wrote};
-ghost use Rattle.decimal.specs.Decimal.{Normal};
 ghost use Rattle.decimal.specs.Values.{trunc_of};
 ghost use Rattle.decimal.specs.Written.{int_bytes, int5_bytes, width_of, bare_text, real_text, packed, real_bytes, number_bytes};
 
@@ -11,6 +10,14 @@ use decimal::Decimal;
 
 // The least whole size that is written as a real: `dict_number` compares with i32::MAX.
 const LEAST_REAL: usize = 2147483647;
+
+// The text of a decimal as a real, by how many of its digits stand before the point.
+#[derive(Clone, Copy)]
+struct Text {
+    value: Decimal,
+    whole: usize,
+    ghost counted: { (whole ≡ width_of (trunc_of value)) × (whole ≤ 50) },
+}
 
 // Stores two bytes.
 fn put_pair(out: &mut [u8], at: usize, a: u8, b: u8) -> usize
@@ -94,15 +101,14 @@ pub fn put_int(neg: bool, size: usize, out: &mut [u8], at: usize) -> usize
 
 // How many decimal digits n has.
 fn width_of(n: usize) -> usize
-    ensures { result ≡ width_of n }
+    ensures { (result ≡ width_of n) × (result ≤ 20) }
 {
     n.max(1).ilog10() as usize + 1
 }
 
 // How many digits stand before the point.
 fn whole_width(d: Decimal) -> usize
-    requires { Normal d }
-    ensures { result ≡ width_of (trunc_of d) }
+    ensures { (result ≡ width_of (trunc_of d)) × (result ≤ 50) }
 {
     let digits = d.digits;
     let up = d.up;
@@ -115,7 +121,7 @@ fn whole_width(d: Decimal) -> usize
 
 // The digit of the integer part that stands for 10 ^ k.
 fn whole_digit(d: Decimal, k: usize) -> usize
-    requires { (Normal d) × (k < 100) }
+    requires { k < 100 }
     ensures { (result ≡ trunc_of d / 10 ^ k % 10) × (result < 10) }
 {
     let digits = d.digits;
@@ -130,13 +136,24 @@ fn whole_digit(d: Decimal, k: usize) -> usize
     decimal::scaled_down(digits, down + k) % 10
 }
 
-// The nibble i of a real without its sign, w digits standing before the point; 15 past its last.
-fn bare_nibble(d: Decimal, w: usize, i: usize) -> usize
-    requires { (Normal d) × (w ≡ width_of (trunc_of d)) × (w < 100) }
-    ensures { (result ≡ get_or (bare_text d) i 15) × (result < 16) }
+// The text of a decimal, its digits before the point counted.
+fn text_of(value: Decimal) -> Text
+    ensures { result.value ≡ value }
 {
+    Text {
+        value,
+        whole: whole_width(value),
+    }
+}
+
+// The nibble i of a real without its sign; 15 past its last.
+fn bare_nibble(t: &Text, i: usize) -> usize
+    ensures { (result ≡ get_or (bare_text t.now.value) i 15) × (result < 16) }
+{
+    let d = t.value;
     let digits = d.digits;
     let down = d.down;
+    let w = t.whole;
     if i < w {
         return whole_digit(d, w - 1 - i);
     }
@@ -154,27 +171,28 @@ fn bare_nibble(d: Decimal, w: usize, i: usize) -> usize
 }
 
 // The nibble i of a real; 15 past its last.
-fn nibble(d: Decimal, w: usize, i: usize) -> usize
-    requires { (Normal d) × (w ≡ width_of (trunc_of d)) × (w < 100) }
-    ensures { (result ≡ get_or (real_text d) i 15) × (result < 16) }
+fn nibble(t: &Text, i: usize) -> usize
+    ensures { (result ≡ get_or (real_text t.now.value) i 15) × (result < 16) }
 {
+    let d = t.value;
     let neg = d.neg;
     if neg {
         if i == 0 {
             return 14;
         }
-        return bare_nibble(d, w, i - 1);
+        return bare_nibble(t, i - 1);
     }
-    bare_nibble(d, w, i)
+    bare_nibble(t, i)
 }
 
-// How many nibbles a real takes, w of them digits before the point.
-fn text_len(d: Decimal, w: usize) -> usize
-    requires { (Normal d) × (w ≡ width_of (trunc_of d)) × (w < 100) }
-    ensures { (result ≡ length (real_text d)) × (result ≤ 200) }
+// How many nibbles a real takes.
+fn text_len(t: &Text) -> usize
+    ensures { (result ≡ length (real_text t.now.value)) × (result ≤ 200) }
 {
+    let d = t.value;
     let neg = d.neg;
     let down = d.down;
+    let w = t.whole;
     if down == 0 {
         if neg {
             return w + 1;
@@ -189,27 +207,26 @@ fn text_len(d: Decimal, w: usize) -> usize
 
 // How many bytes a real takes.
 pub fn real_len(d: Decimal) -> usize
-    requires { Normal d }
     ensures { result ≡ length (real_bytes d) }
 {
-    text_len(d, whole_width(d)) / 2 + 2
+    text_len(&text_of(d)) / 2 + 2
 }
 
 // The bytes of a real after its first, n of them; the place after them.
 fn put_packed(d: Decimal, n: usize, out: &mut [u8], at: usize) -> usize
-    requires { (Normal d) × (n ≡ length (packed (real_text d))) × (at + n ≤ length out.old) }
+    requires { (n ≡ length (packed (real_text d))) × (at + n ≤ length out.old) }
     ensures { Wrote out.old at (packed (real_text d)) out.new result }
 {
-    let w = whole_width(d);
+    let t = text_of(d);
     for (i, b) in out[at..at + n].iter_mut().enumerate() {
-        *b = (nibble(d, w, 2 * i) * 16 + nibble(d, w, 2 * i + 1)) as u8;
+        *b = (nibble(&t, 2 * i) * 16 + nibble(&t, 2 * i + 1)) as u8;
     }
     at + n
 }
 
 // A number as a real, without exponent; the place after it.
 pub fn put_real(d: Decimal, out: &mut [u8], at: usize) -> usize
-    requires { (Normal d) × (at + length (real_bytes d) ≤ length out.old) }
+    requires { at + length (real_bytes d) ≤ length out.old }
     ensures { Wrote out.old at (real_bytes d) out.new result }
 {
     let n = real_len(d);
@@ -219,7 +236,6 @@ pub fn put_real(d: Decimal, out: &mut [u8], at: usize) -> usize
 
 // How many bytes a number takes.
 pub fn number_len(d: Decimal) -> usize
-    requires { Normal d }
     ensures { result ≡ length (number_bytes d) }
 {
     let neg = d.neg;
@@ -236,7 +252,7 @@ pub fn number_len(d: Decimal) -> usize
 
 // A number: an integer where it is whole and below 2147483647 in size, else a real; the place after it.
 pub fn put_number(d: Decimal, out: &mut [u8], at: usize) -> usize
-    requires { (Normal d) × (at + length (number_bytes d) ≤ length out.old) }
+    requires { at + length (number_bytes d) ≤ length out.old }
     ensures { Wrote out.old at (number_bytes d) out.new result }
 {
     let neg = d.neg;

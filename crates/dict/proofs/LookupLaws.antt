@@ -9,8 +9,7 @@ use Rattle.octets.specs.Pick.{pick, pick_ind}
 use Rattle.octets.specs.Octets.{Octets}
 use Rattle.decimal.specs.declared.Decimal.{Decimal}
 use Rattle.decimal.specs.Decimal.{nought, Normal}
-use Rattle.decimal.specs.DecimalLaws.{normal-nought}
-use Rattle.decimal.specs.TakenLaws.{whole-normal, number-taken, answer-number}
+use Rattle.decimal.specs.TakenLaws.{number-taken, answer-number}
 use Rattle.decimal.specs.Values.{trunc_of}
 use Rattle.decimal.specs.Number.{Number, refused as refusedNumber, not_number, number, number_at, answer_of}
 use Rattle.decimal.specs.NumberLaws.{form_none}
@@ -240,31 +239,6 @@ module _ (b : List ℕ) (o : Octets b) where
   operands_normal zero at = tt
   operands_normal (suc n) at =
       none-normal (number_at b at) (operands_at n b) (λ d next e. number-normal at d next e (ltb at (length b)) refl) (operands_normal n)
-
-  pub nought-normal : Normal nought
-  nought-normal = subst Normal (normal-nought false 0 0) (whole-normal false 0 (omega arith))
-
-  one-of : (ds : List Decimal) (k : ℕ) → AllNormal ds → Normal (get_or ds k nought)
-  unfolding AllNormal
-  one-of [] k h = nought-normal
-  one-of (d ∷ ds) zero h = h.0
-  one-of (d ∷ ds) (suc k) h = one-of ds k h.1
-
-  pub operand_normal : (n at k : ℕ) (v : Decimal) → v ≡ get_or (operands_at n b at) k nought → Normal v
-  operand_normal n at k v e = subst Normal (sym e) (one-of (operands_at n b at) k (operands_normal n at))
-
-  only-normal : (f : Option OperandsAt) (p : Operands) → Matches b f p → (v : Decimal) → only p ≡ Some v → Normal v
-  only-normal f absent m v e = absurd (no cc)
-  only-normal f (operands []) m v e = absurd (no cc)
-  only-normal None (operands (d ∷ [])) m v e = absurd m
-  only-normal (Some q) (operands (d ∷ [])) m v e =
-      let k : d ≡ v = cc in
-      let l = subst AllNormal m.here (operands_normal 1 q.start) in
-      subst Normal k (one-of (d ∷ []) 0 l)
-  only-normal f (operands (d ∷ x ∷ ds)) m v e = absurd (no cc)
-
-  pub one-normal : (op : ℕ) (r : Option Decimal) (v : Decimal) → r ≡ one_of op (entries_of b) → r ≡ Some v → Normal v
-  one-normal op r v e f = only-normal (place_of op b) (last_of op (entries_of b)) (place-matches b op) v (sym e ∙ f)
 
 -- ---- a string id has 16 bits
 

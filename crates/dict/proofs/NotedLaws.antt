@@ -1,17 +1,16 @@
 -- Laws of noting where entries stand: a slot is its operator's own, and each turn of the pass notes one entry.
 use Prim.Native.Nat.{ℕ, zero, suc, ◌+◌, ◌≤◌, ◌<◌}
-use Rattle.std.specs.Prelude.{◌≡◌, refl, Bool, true, false, List, [], ◌∷◌, ltb, eqb, length, get_or, set, replicate, Result, Ok, Err}
+use Rattle.std.specs.Prelude.{◌≡◌, refl, Bool, true, false, List, [], ◌∷◌, ltb, eqb, length, get_or, set, replicate, Some, None, Result, Ok, Err}
 use Rattle.std.proofs.Common.{sym, ap, ◌∙◌, subst, add-one, arith, length-set, get_or-set_same, get_or-set_other, ltb-true, eqb-true, ne_eqb}
 use Rattle.std.proofs.lemmas.List.{length-replicate, get_or-replicate}
 use Rattle.std.proofs.lemmas.Bool.{eqb-false}
 use Rattle.octets.specs.Pick.{pick, pick_ind}
 use Rattle.decimal.specs.declared.Decimal.{Decimal}
-use Rattle.dict.specs.Dict.{Token, bad, operand, operator, token_at, Reading, stopped, got, after, onward, entry_from, entry_at}
-use Rattle.dict.specs.Places.{entry_told}
-use Rattle.dict.specs.Noted.{asked, slot_of, found_of, Placed, ReadsDict}
+use Rattle.dict.specs.Dict.{Token, bad, operand, operator, token_at, Reading, stopped, got, after, onward, entry_from, entry_at, dict_of}
+use Rattle.dict.specs.Places.{entry_told, refusal_of}
+use Rattle.dict.specs.Noted.{asked, slot_of, found_of, Placed}
 use Rattle.dict.specs.TokenLaws.{Passes, token-passes}
 use Rattle.dict.proofs.WalkLaws.{answered, Checking, checking_start, checking_end, checking_refused, checking_turn, Finding, finding_start, finding_end, finding_here, finding_on}
-use Rattle.dict.specs.declared.Places.{Places}
 use Rattle.dict.specs.declared.EntryAt.{EntryAt}
 use Rattle.refusal.specs.declared.Refusal.{Refusal}
 
@@ -114,16 +113,15 @@ noting_start t b =
       each = λ op h. rw (get_or-replicate {A = ℕ} 16 (slot_of (asked t) op) 0 0 (omega (arith, h, asked-few t))) (finding_start b op);
     }
 
--- nothing noted
-pub nowhere_placed : (b : List ℕ) (p : Places) → p.noted ≡ false → Placed b p
-nowhere_placed b p e = record { notes = λ t. absurd (no (let f : true ≡ false = sym t ∙ e in cc)) }
-
 module _ (t : Bool) (b : List ℕ) (at : ℕ) (starts counts : List ℕ) (w : Noting t b at starts counts) where
-  pub noting_end : length b ≤ at → ReadsDict b (Ok (record { noted = true; subsetting = t; starts = starts; counts = counts }))
-  noting_end h = (sym (checking_end b at w.checking h), record { notes = λ e. record { each = λ op l. finding_end b op at _ (w.each op l) h } })
+  pub noting_end : length b ≤ at → refusal_of (dict_of b) ≡ None
+  noting_end h = sym (checking_end b at w.checking h)
+
+  pub noting_placed : length b ≤ at → Placed b (record { noted = true; subsetting = t; starts = starts; counts = counts })
+  noting_placed h = record { notes = λ e. record { each = λ op l. finding_end b op at _ (w.each op l) h } }
 
   module _ (h : at < length b) (r : Result EntryAt Refusal) (e : r ≡ entry_told 0 (entry_at b at)) where
-    pub noting_refused : (n : Refusal) → r ≡ Err n → ReadsDict b (Err n)
+    pub noting_refused : (n : Refusal) → r ≡ Err n → refusal_of (dict_of b) ≡ Some n
     noting_refused n f = sym (checking_refused b at w.checking h r e n f)
 
     module _ (entry : EntryAt) (f : r ≡ Ok entry) where

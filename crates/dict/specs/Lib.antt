@@ -7,3 +7,5 @@ pub mod Examples
 pub mod TokenLaws
 pub mod EntryLaws
 pub mod Noted
+pub mod Alone
+pub mod Held

@@ -1,13 +1,11 @@
 -- Where the last entries that reading asks for stand (TN5176, section 4: those of the top DICT, of a Font DICT and of a Private DICT), or those that
 -- subsetting asks for, noted in one pass over a DICT: a table has a slot for each of their operators.
-use Rattle.std.specs.Prelude.{ℕ, zero, suc, ◌<◌, ◌≡◌, Bool, true, false, List, [], ◌∷◌, eqb, length, get_or, Option, Some, None, Result, Ok, Err}
+use Rattle.std.specs.Prelude.{ℕ, zero, suc, ◌<◌, ◌≡◌, Bool, true, false, List, [], ◌∷◌, eqb, length, get_or, Option, None}
 use Rattle.octets.specs.Pick.{pick}
 use Rattle.dict.specs.Op.{esc, private, subrs, paint_type, font_matrix, charstring_type, ros, cid_count}
-use Rattle.dict.specs.Dict.{dict_of}
-use Rattle.dict.specs.Places.{refusal_of, place_of, found_at}
+use Rattle.dict.specs.Places.{place_of, found_at}
 use Rattle.dict.specs.declared.OperandsAt.{OperandsAt}
 use Rattle.dict.specs.declared.Places.{Places}
-use Rattle.refusal.specs.declared.Refusal.{Refusal}
 
 -- reading asks for charset, Encoding, CharStrings, Private, Subrs, CharstringType, ROS, FDArray, FDSelect
 abbrev pub asked_by_reading : List ℕ
@@ -39,8 +37,3 @@ pub record Notes (t : Bool) (b starts counts : List ℕ) : Type 0 where
 -- the entries stand where it was noted, if it was
 pub record Placed (b : List ℕ) (p : Places) : Type 0 where
   pub notes : p.noted ≡ true → Notes p.subsetting b p.starts p.counts
-
--- the refusal of a DICT, or where its entries stand
-abbrev pub ReadsDict : List ℕ → Result Places Refusal → Type 0
-ReadsDict b (Err n) = refusal_of (dict_of b) ≡ Some n
-ReadsDict b (Ok p) = (refusal_of (dict_of b) ≡ None) × Placed b p

@@ -3,19 +3,19 @@
 #![tactic(auto)]
 
 pub mod op;
+pub mod placed;
 
 ghost use Rattle.std.specs.Prelude.{◌≡◌, false, [], ◌∷◌, ◌+◌, ◌<◌, length, get_or};
-ghost use Rattle.decimal.specs.Decimal.{nought, Normal};
-ghost use Rattle.dict.specs.Dict.{operator_at, token_at, entry_at};
-ghost use Rattle.dict.specs.Lookup.{operands, one_of, offset_in, private_as, private_in, id_in, cid_keyed, ros_as, ros_in, cid_count_in, stroked_in, charstring_type_in};
-ghost use Rattle.dict.specs.Places.{token_told, entry_told, entries_of, place_of, operands_at};
-ghost use Rattle.dict.specs.Noted.{found_of, Placed, ReadsDict};
+ghost use Rattle.decimal.specs.Decimal.{nought};
+ghost use Rattle.dict.specs.Dict.{operator_at, token_at, entry_at, dict_of};
+ghost use Rattle.dict.specs.Lookup.{operands, private_as, ros_as};
+ghost use Rattle.dict.specs.Places.{token_told, entry_told, refusal_of, place_of, operands_at};
+ghost use Rattle.dict.specs.Noted.{found_of};
+ghost use Rattle.dict.specs.Held.{ReadsDict};
 
-use crate::op::{Op, slot, slots};
-use decimal::{
-    Decimal, Signed, id_of, is_two, number_at, offset_of, past_number, to_i32, to_u16, to_u32,
-    trunc,
-};
+use crate::op::{Op, slot};
+use crate::placed::Dict;
+use decimal::{Decimal, Signed, number_at, past_number, to_i32, to_u16, trunc};
 use refusal::Refusal;
 
 // What stands at a position of a DICT: an operand or an operator, with the position after it.
@@ -136,25 +136,25 @@ pub fn read_entry(d: &[u8], start: usize) -> Result<EntryAt, Refusal>
     Err(Refusal::Malformed)
 }
 
-// A DICT read in one pass: its refusal, or where the last entries stand that reading asks for.
-pub fn read_dict(d: &[u8]) -> Result<Places, Refusal>
+// A DICT read in one pass: its refusal, or it with the places of the last entries that reading asks for.
+pub fn read_dict(d: &[u8]) -> Result<Dict<'_>, Refusal>
     ensures { ReadsDict d.now result }
 {
     note_entries(d, false)
 }
 
-// Where the entries of a top DICT stand that subsetting asks for: nothing is noted of a DICT that is refused.
-pub fn read_top(d: &[u8]) -> Places
-    ensures { Placed d.now result }
+// A top DICT read in one pass, with the places of the entries that subsetting asks for, and its refusal, if it is refused: nothing is noted of it then.
+pub fn read_top(d: &[u8]) -> (Dict<'_>, Option<Refusal>)
+    ensures { (result.0.bytes.now ≡ d.now) × (result.1 ≡ refusal_of (dict_of d.now)) }
 {
     match note_entries(d, true) {
-        Ok(places) => places,
-        Err(_) => nowhere(),
+        Ok(top) => (top, None),
+        Err(n) => (nowhere(d), Some(n)),
     }
 }
 
 // The one pass of both.
-fn note_entries(d: &[u8], subsetting: bool) -> Result<Places, Refusal>
+fn note_entries(d: &[u8], subsetting: bool) -> Result<Dict<'_>, Refusal>
     ensures { ReadsDict d.now result }
 {
     let mut starts = [0usize; 16];
@@ -167,11 +167,14 @@ fn note_entries(d: &[u8], subsetting: bool) -> Result<Places, Refusal>
         counts[j] = entry.count + 1;
         at = entry.next;
     }
-    Ok(Places {
-        noted: true,
-        subsetting,
-        starts,
-        counts,
+    Ok(Dict {
+        bytes: d,
+        places: Places {
+            noted: true,
+            subsetting,
+            starts,
+            counts,
+        },
     })
 }
 
@@ -200,15 +203,18 @@ fn find_entry(d: &[u8], op: usize) -> Option<OperandsAt>
     found
 }
 
-// Nothing noted.
-pub fn nowhere() -> Places
-    ensures { result.noted ≡ false }
+// A DICT of which nothing is noted.
+pub fn nowhere(d: &[u8]) -> Dict<'_>
+    ensures { (result.bytes.now ≡ d.now) × (result.places.noted ≡ false) }
 {
-    Places {
-        noted: false,
-        subsetting: false,
-        starts: [0usize; 16],
-        counts: [0usize; 16],
+    Dict {
+        bytes: d,
+        places: Places {
+            noted: false,
+            subsetting: false,
+            starts: [0usize; 16],
+            counts: [0usize; 16],
+        },
     }
 }
 
@@ -223,24 +229,6 @@ fn found_at(start: usize, count: usize) -> Option<OperandsAt>
         start,
         count: count - 1,
     })
-}
-
-// Where the last entry of an operator stands: as it was noted, or by a pass.
-pub fn place(d: &[u8], p: Places, op: usize) -> Option<OperandsAt>
-    requires { Placed d.now p }
-    ensures { result ≡ place_of op d.now }
-{
-    let noted = p.noted;
-    let subsetting = p.subsetting;
-    let j = slot(subsetting, op);
-    if noted {
-        if j < slots(subsetting) {
-            let starts = p.starts;
-            let counts = p.counts;
-            return found_at(starts[j], counts[j]);
-        }
-    }
-    find_entry(d, op)
 }
 
 // The k-th operand from a position on, the first being the 0th; zero where there are not so many. How many are left is counted beside the cursor:
@@ -270,99 +258,8 @@ pub fn operand(d: &[u8], start: usize, k: usize) -> Decimal
     NOUGHT
 }
 
-// The one operand of an operator's last entry, if it has one.
-fn number(d: &[u8], p: Places, op: usize) -> Option<Decimal>
-    requires { Placed d.now p }
-    ensures { result ≡ one_of op (entries_of d.now) }
-{
-    match place(d, p, op) {
-        None => None,
-        Some(OperandsAt { start, count }) => {
-            if count == 1 {
-                return Some(operand(d, start, 0));
-            }
-            None
-        }
-    }
-}
-
-// Whether a font of this top DICT is CID-keyed: ROS is there, with whatever operands.
-pub fn is_cid_keyed(d: &[u8], p: Places) -> bool
-    requires { Placed d.now p }
-    ensures { result ≡ cid_keyed (entries_of d.now) }
-{
-    match place(d, p, Op::ROS) {
-        None => false,
-        Some(OperandsAt { start: _, count: _ }) => true,
-    }
-}
-
-// The offset that an entry holds, if it is there.
-pub fn offset(d: &[u8], p: Places, op: usize) -> Result<Option<usize>, Refusal>
-    requires { Placed d.now p }
-    ensures { result ≡ offset_in op (entries_of d.now) }
-{
-    match number(d, p, op) {
-        None => Ok(None),
-        Some(v) => {
-            let at = offset_of(v)?;
-            Ok(Some(at))
-        }
-    }
-}
-
-// The string id that an entry holds, if it holds one.
-pub fn string_id(d: &[u8], p: Places, op: usize) -> Option<usize>
-    requires { Placed d.now p }
-    ensures { result ≡ id_in op (entries_of d.now) }
-{
-    match number(d, p, op) {
-        None => None,
-        Some(v) => id_of(v),
-    }
-}
-
-// CIDCount.
-pub fn cid_count(d: &[u8], p: Places) -> usize
-    requires { Placed d.now p }
-    ensures { result ≡ cid_count_in (entries_of d.now) }
-{
-    match number(d, p, Op::CID_COUNT) {
-        None => 8720,
-        Some(v) => to_u32(v),
-    }
-}
-
-// Whether PaintType is one number other than 0.
-pub fn is_stroked(d: &[u8], p: Places) -> bool
-    requires { Placed d.now p }
-    ensures { result ≡ stroked_in (entries_of d.now) }
-{
-    match number(d, p, Op::PAINT_TYPE) {
-        None => false,
-        Some(v) => v.digits != 0,
-    }
-}
-
-// A CharstringType other than 2 is refused.
-pub fn charstring_type(d: &[u8], p: Places) -> Result<(), Refusal>
-    requires { Placed d.now p }
-    ensures { result ≡ charstring_type_in (entries_of d.now) }
-{
-    match number(d, p, Op::CHARSTRING_TYPE) {
-        None => Ok(()),
-        Some(v) => {
-            if is_two(v) {
-                return Ok(());
-            }
-            Err(Refusal::Unsupported)
-        }
-    }
-}
-
 // The size and the offset of a Private entry: the signs are tested first, then the fractions dropped.
 fn private_at(size: Decimal, offset: Decimal) -> Result<Option<PrivateEntry>, Refusal>
-    requires { (Normal size) × (Normal offset) }
     ensures { result ≡ private_as (operands (size ∷ offset ∷ [])) }
 {
     let s = size.neg;
@@ -379,25 +276,8 @@ fn private_at(size: Decimal, offset: Decimal) -> Result<Option<PrivateEntry>, Re
     }))
 }
 
-// Where the Private DICT is, if there is an entry for it, as the Rust's private_of takes it.
-pub fn private_of(d: &[u8], p: Places) -> Result<Option<PrivateEntry>, Refusal>
-    requires { Placed d.now p }
-    ensures { result ≡ private_in (entries_of d.now) }
-{
-    match place(d, p, Op::PRIVATE) {
-        None => Ok(None),
-        Some(OperandsAt { start, count }) => {
-            if count == 2 {
-                return private_at(operand(d, start, 0), operand(d, start, 1));
-            }
-            Err(Refusal::Malformed)
-        }
-    }
-}
-
 // The three operands of ROS.
 fn ros_at(registry: Decimal, ordering: Decimal, supplement: Decimal) -> Option<RosEntry>
-    requires { (Normal registry) × (Normal ordering) × (Normal supplement) }
     ensures { result ≡ ros_as (operands (registry ∷ ordering ∷ supplement ∷ [])) }
 {
     Some(RosEntry {
@@ -405,24 +285,4 @@ fn ros_at(registry: Decimal, ordering: Decimal, supplement: Decimal) -> Option<R
         ordering: to_u16(ordering),
         supplement: to_i32(supplement),
     })
-}
-
-// The registry, ordering and supplement of a CID-keyed font, if ROS has three operands.
-pub fn ros(d: &[u8], p: Places) -> Option<RosEntry>
-    requires { Placed d.now p }
-    ensures { result ≡ ros_in (entries_of d.now) }
-{
-    match place(d, p, Op::ROS) {
-        None => None,
-        Some(OperandsAt { start, count }) => {
-            if count == 3 {
-                return ros_at(
-                    operand(d, start, 0),
-                    operand(d, start, 1),
-                    operand(d, start, 2),
-                );
-            }
-            None
-        }
-    }
 }

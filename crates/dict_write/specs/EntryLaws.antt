@@ -4,11 +4,11 @@ use Rattle.std.proofs.Common.{sym, ◌∙◌, arith}
 use Rattle.std.proofs.Math.Path.{ap}
 use mathlib.Core.List.{List, [], ◌∷◌, ◌++◌, append_assoc, append-nil}
 use Rattle.std.proofs.Math.ListN.{length, length-append}
-use Rattle.octets.specs.Octets.{Octets, Wrote}
+use Rattle.octets.specs.Octets.{Wrote}
 use Rattle.octets.specs.PutLaws.{wrote_none, wrote_then, wrote_as, wrote-length}
 use Rattle.decimal.specs.declared.Decimal.{Decimal}
-use Rattle.decimal.specs.Number.{number, number_at, answer_of, Taken}
-use Rattle.decimal.specs.TakenLaws.{number-taken, answer-number}
+use Rattle.decimal.specs.Number.{number, number_at, answer_of}
+use Rattle.decimal.specs.TakenLaws.{answer-number}
 use Rattle.decimal.specs.Written.{number_bytes}
 use Rattle.dict.specs.Places.{operands_at}
 use Rattle.dict.proofs.LookupLaws.{operands_next, operands_none}
@@ -44,9 +44,6 @@ module _ (b : List ℕ) (at left : ℕ) (r : Result (Option NumberAt) Refusal) (
   module _ (t : NumberAt) (f : r ≡ Ok (Some t)) where
     here : number_at b at ≡ number t.value t.next
     here = answer-number (number_at b at) t (sym f ∙ e)
-
-    pub operand_taken : Octets b → at < length b → Taken b at t.value t.next
-    operand_taken o h = number-taken b at t.value t.next o h here
 
     pub operand_first : 0 < left → operands_at left b at ≡ t.value ∷ operands_at (left - 1) b t.next
     operand_first h =

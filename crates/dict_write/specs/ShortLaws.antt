@@ -1,8 +1,7 @@
 -- What is written is not much longer than what was read, so that lengths can be added up.
 use Prim.Native.Nat.{ℕ, zero, suc, ◌+◌, ◌-◌, ◌*◌, ◌≤◌, ◌<◌}
-use Rattle.std.specs.Prelude.{◌≡◌, Bool, true, false, ltb, leb, eqb, None, Option, Some}
+use Rattle.std.specs.Prelude.{◌≡◌, Bool, true, false, ltb, leb, eqb}
 use Rattle.std.proofs.Math.Path.{refl}
-use Rattle.std.proofs.Common.{ap}
 use mathlib.Core.List.{List, ◌∷◌, ◌++◌}
 use native.Mathlib.Omega.{arith}
 use Rattle.std.proofs.Math.ListN.{length, length-append}
@@ -19,14 +18,11 @@ use Rattle.decimal.specs.Written.{int_bytes, real_bytes, as_integer, number_byte
 use Rattle.decimal_write.specs.IntLaws.{length_int5}
 use Rattle.decimal_write.specs.TextLaws.{packed-small}
 use Rattle.dict.specs.Dict.{Entry, Token, bad, operand, operator, token_at, Reading, stopped, got, after, onward, entry_from, entry_at, followed, readings_from, readings_at}
-use Rattle.dict.specs.Lookup.{last_of}
-use Rattle.dict.specs.Places.{listed, entries_of, place_of, or_none, operands_at}
-use Rattle.dict.specs.declared.OperandsAt.{OperandsAt}
+use Rattle.dict.specs.Places.{listed, entries_of, or_none, operands_at}
 use Rattle.dict.specs.TokenLaws.{Passes, token-passes}
 use Rattle.dict.specs.EntryLaws.{Entered, entered, from-entered}
 use Rattle.dict.proofs.LookupLaws.{number_out}
-use Rattle.dict_write.specs.Written.{op_bytes_lem, operands_bytes, entry_bytes, entries_bytes, copied_entry, without, private_bytes}
-use Rattle.dict_write.specs.WriteLaws.{copied-absent, copied-found}
+use Rattle.dict_write.specs.Written.{op_bytes_lem, operands_bytes, entry_bytes, entries_bytes, without, private_bytes}
 
 no : ◌≡◌ {A = ℕ} 0 1 → ⊥
 no h = omega arith
@@ -130,13 +126,3 @@ module _ (b : List ℕ) (o : Octets b) where
   pub private-short : length (private_bytes (entries_of b)) ≤ 103 * length b
   unfolding readings_at
   private-short = omega (arith, all_short 19 (length b) 0)
-
--- ---- what is copied is not much longer than the DICT
-
-module _ (b : List ℕ) (o : Octets b) (few : length b ≤ 67108864) where
-  found-short : (op : ℕ) (r : Option OperandsAt) → r ≡ place_of op b → length (copied_entry op (last_of op (entries_of b))) ≤ 7000000000
-  found-short op None e = omega (arith, ap length (copied-absent b op None e refl))
-  found-short op (Some q) e = omega (arith, ap length (copied-found b op (Some q) e q.start q.count refl), entry-short b o op q.count q.start)
-
-  pub copied-short : (op : ℕ) → length (copied_entry op (last_of op (entries_of b))) ≤ 7000000000
-  copied-short op = found-short op (place_of op b) refl

@@ -7,13 +7,14 @@ ghost use Rattle.octets.specs.Octets.{Wrote};
 ghost use Rattle.dict.specs.Op.{is_operator};
 ghost use Rattle.dict.specs.Lookup.{last_of};
 ghost use Rattle.dict.specs.Places.{entries_of, operands_at};
-ghost use Rattle.dict.specs.Noted.{Placed};
+ghost use Rattle.dict.specs.Held.{entries};
 ghost use Rattle.dict_write.specs.Written.{op_bytes_lem, operands_bytes, entry_bytes, offset_entry, private_entry, copied_entry, private_bytes};
 
 use decimal::number_at;
 use decimal_write::{number_len, put_int5, put_number};
 use dict::op::Op;
-use dict::{OperandsAt, Places, place, read_entry};
+use dict::placed::Dict;
+use dict::{OperandsAt, read_entry};
 
 // How many bytes an operator takes: one, or two for an escape.
 pub fn op_len(op: usize) -> usize
@@ -90,7 +91,7 @@ fn put_operands(d: &[u8], start: usize, count: usize, out: &mut [u8], to: usize)
 // How many bytes an entry takes whose operands stand from a position on.
 pub fn entry_len(d: &[u8], start: usize, count: usize, op: usize) -> usize
     requires { length d.now ≤ 67108864 }
-    ensures { result ≡ length (entry_bytes op (operands_at count d.now start)) }
+    ensures { (result ≡ length (entry_bytes op (operands_at count d.now start))) × (result ≤ 7000000000) }
 {
     operands_len(d, start, count) + op_len(op)
 }
@@ -111,25 +112,25 @@ pub fn put_entry(
     put_op(op, out, p)
 }
 
-// How many bytes the last entry of an operator takes, 0 where there is none; p has where entries stand.
-pub fn copied_len(d: &[u8], p: Places, op: usize) -> usize
-    requires { (length d.now ≤ 67108864) × (Placed d.now p) }
-    ensures { result ≡ length (copied_entry op (last_of op (entries_of d.now))) }
+// How many bytes the last entry of an operator takes, 0 where there is none.
+pub fn copied_len(d: &Dict<'_>, op: usize) -> usize
+    requires { length d.now.bytes.now ≤ 67108864 }
+    ensures { (result ≡ length (copied_entry op (last_of op (entries d.now)))) × (result ≤ 7000000000) }
 {
-    match place(d, p, op) {
+    match d.place(op) {
         None => 0,
-        Some(OperandsAt { start, count }) => entry_len(d, start, count, op),
+        Some(OperandsAt { start, count }) => entry_len(d.bytes, start, count, op),
     }
 }
 
 // The last entry of an operator, where there is one, from `to` on; the place after it.
-pub fn put_copied(d: &[u8], p: Places, op: usize, out: &mut [u8], to: usize) -> usize
-    requires { (is_operator op ≡ true) × (to + length (copied_entry op (last_of op (entries_of d.now))) ≤ length out.old) × (Placed d.now p) }
-    ensures { Wrote out.old to (copied_entry op (last_of op (entries_of d.now))) out.new result }
+pub fn put_copied(d: &Dict<'_>, op: usize, out: &mut [u8], to: usize) -> usize
+    requires { (is_operator op ≡ true) × (to + length (copied_entry op (last_of op (entries d.now))) ≤ length out.old) }
+    ensures { Wrote out.old to (copied_entry op (last_of op (entries d.now))) out.new result }
 {
-    match place(d, p, op) {
+    match d.place(op) {
         None => to,
-        Some(OperandsAt { start, count }) => put_entry(d, start, count, op, out, to),
+        Some(OperandsAt { start, count }) => put_entry(d.bytes, start, count, op, out, to),
     }
 }
 

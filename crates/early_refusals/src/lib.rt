@@ -4,34 +4,31 @@
 ghost use Rattle.std.specs.Prelude.{◌≡◌, true, false, not, ◌+◌, ◌<◌};
 ghost use Rattle.octets.specs.Pick.{pick};
 ghost use Rattle.dict.specs.Lookup.{ros_in};
-ghost use Rattle.dict.specs.Places.{entries_of};
-ghost use Rattle.dict.specs.Noted.{Placed};
-ghost use Rattle.cff.specs.Reads.{program_of, GoodFont};
+ghost use Rattle.dict.specs.Held.{entries};
+ghost use Rattle.cff.specs.Loaded.{program};
 ghost use Rattle.subset.specs.Cut.{has_ros_lem, same_bool_lem};
 ghost use Rattle.outcome.specs.Entry.{size_of, refusal_of};
 ghost use Rattle.early_refusals.specs.RefusalLaws.{unsupported_at};
 
-use cff::font::Font;
-use dict::Places;
+use cff::loaded::Loaded;
+use dict::placed::Dict;
 use refusal::Refusal;
 
 // Whether the ROS of a top DICT can be used.
-fn has_ros(d: &[u8], p: Places) -> bool
-    requires { Placed d.now p }
-    ensures { result ≡ has_ros_lem (ros_in (entries_of d.now)) }
+fn has_ros(d: &Dict<'_>) -> bool
+    ensures { result ≡ has_ros_lem (ros_in (entries d.now)) }
 {
-    match dict::ros(d, p) {
+    match d.ros() {
         None => false,
         Some(_) => true,
     }
 }
 
 // Whether a font is stroked, or has an Expert encoding, offset 1, that is not asked for.
-fn is_unsupported(ask: bool, encoding: usize, d: &[u8], p: Places) -> bool
-    requires { Placed d.now p }
-    ensures { result ≡ unsupported_at ask encoding (entries_of d.now) }
+fn is_unsupported(ask: bool, encoding: usize, d: &Dict<'_>) -> bool
+    ensures { result ≡ unsupported_at ask encoding (entries d.now) }
 {
-    if dict::is_stroked(d, p) {
+    if d.is_stroked() {
         return true;
     }
     if ask {
@@ -41,32 +38,30 @@ fn is_unsupported(ask: bool, encoding: usize, d: &[u8], p: Places) -> bool
 }
 
 // Whether a font has the keying that is asked for and is supported.
-fn is_fit(cid: bool, ask: bool, keyed: bool, encoding: usize, d: &[u8], p: Places) -> bool
-    requires { Placed d.now p }
-    ensures { result ≡ pick (same_bool_lem cid keyed) (not (unsupported_at ask encoding (entries_of d.now))) false }
+fn is_fit(cid: bool, ask: bool, keyed: bool, encoding: usize, d: &Dict<'_>) -> bool
+    ensures { result ≡ pick (same_bool_lem cid keyed) (not (unsupported_at ask encoding (entries d.now))) false }
 {
     if cid == keyed {
-        return !is_unsupported(ask, encoding, d, p);
+        return !is_unsupported(ask, encoding, d);
     }
     false
 }
 
 // Whether the ROS of a top DICT can be used where a CID-keyed font is asked for.
-fn ros_fine(cid: bool, d: &[u8], p: Places) -> bool
-    requires { Placed d.now p }
-    ensures { result ≡ pick cid (has_ros_lem (ros_in (entries_of d.now))) true }
+fn ros_fine(cid: bool, d: &Dict<'_>) -> bool
+    ensures { result ≡ pick cid (has_ros_lem (ros_in (entries d.now))) true }
 {
     if cid {
-        return has_ros(d, p);
+        return has_ros(d);
     }
     true
 }
 
 // How many work words the small call asks for (document 02, Wish 10), or the other.
-pub fn size_of(small: bool, font: &[u8], f: Font) -> usize
-    requires { GoodFont font.now f }
-    ensures { result ≡ size_of small (program_of font.now f) }
+pub fn size_of(small: bool, font: &Loaded<'_>) -> usize
+    ensures { result ≡ size_of small (program font.now) }
 {
+    let f = font.f;
     let charstrings = f.charstrings;
     let globals = f.globals;
     if small {
@@ -80,26 +75,23 @@ pub fn refusal(
     small: bool,
     cid: bool,
     ask: bool,
-    font: &[u8],
-    f: Font,
+    font: &Loaded<'_>,
     name: usize,
     keep: &[u16],
     rows: &[u8],
     traced: u8,
     words: usize,
 ) -> Result<(), Refusal>
-    requires { GoodFont font.now f }
-    ensures { result ≡ refusal_of (size_of small) cid ask (program_of font.now f) name keep.now rows.now traced words }
+    ensures { result ≡ refusal_of (size_of small) cid ask (program font.now) name keep.now rows.now traced words }
 {
+    let bytes = font.bytes;
+    let f = font.f;
     let charstrings = f.charstrings;
-    let top = f.top;
-    let end = f.top_end;
-    let d = &font[top..end];
-    let p = dict::read_top(d);
-    if !is_fit(cid, ask, f.cid, f.encoding, d, p) {
+    let (d, _) = dict::read_top(&bytes[f.top..f.top_end]);
+    if !is_fit(cid, ask, f.cid, f.encoding, &d) {
         return Err(Refusal::Unsupported);
     }
-    if !ros_fine(cid, d, p) {
+    if !ros_fine(cid, &d) {
         return Err(Refusal::Malformed);
     }
     if 65535 < name {
@@ -108,13 +100,13 @@ pub fn refusal(
     if !kept::keep_below(keep, charstrings.count) {
         return Err(Refusal::NoSuchNumber);
     }
-    if !found::all_found(font, f, keep) {
+    if !found::all_found(font, keep) {
         return Err(Refusal::NotFound);
     }
     if !reach::check_record(cid, rows, traced) {
         return Err(Refusal::BadRecord);
     }
-    if words < size_of(small, font, f) {
+    if words < size_of(small, font) {
         return Err(Refusal::Work);
     }
     Ok(())

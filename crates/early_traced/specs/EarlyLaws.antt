@@ -13,7 +13,7 @@ use Rattle.record.specs.Record.{rows_from, rows_of, rows_fine_lem, record_fine}
 use Rattle.dict.specs.Lookup.{ros_in, cid_keyed}
 use Rattle.cff.specs.Font.{Program}
 use Rattle.cff.specs.Find.{work_size}
-use Rattle.cff.specs.Reads.{program_of}
+use Rattle.cff.specs.Reads.{program_of, GoodFont}
 use Rattle.cff.specs.File.{InFile, table_in}
 use Rattle.cff.specs.declared.font.Font.{Font}
 use Rattle.subset.specs.Kept.{kept_of}
@@ -21,7 +21,7 @@ use Rattle.unfold.specs.Unfold.{Row}
 use Rattle.subset.specs.Cut.{all_found_lem, has_ros_lem, same_bool_lem, unsupported_in}
 use Rattle.outcome.specs.Entry.{refusal_of}
 use Rattle.early_refusals.specs.RefusalLaws.{work_is}
-use Rattle.traced.specs.Traced.{Traced, refused, traced, record_of, met_all, answered, trace_program, trace_read, trace_of}
+use Rattle.traced.specs.Traced.{Traced, refused, traced, record_of, met_all, answered, trace_program}
 use Rattle.early_traced.specs.Early.{fits_in, refused_or, early_of}
 use Rattle.refusal.specs.declared.Refusal.{Refusal}
 use Rattle.refusal.specs.declared.Refusal.TheVariants.{Malformed, Unsupported, TooLong, NoSuchNumber, NotFound, Work, Output}
@@ -131,9 +131,9 @@ module _ (p : Program) (name : ℕ) (keep : List ℕ) (words lent : ℕ) where
       pub early-none : work_size p ≤ words → Ok tt ≡ early_of p name keep words lent
       early-none h = sym (behind ∙ ap (λ (t : Bool). pick t (Err Work) (Ok tt)) (le-ltb words (work_size p) h))
 
--- ---- a font in a file
+-- ---- a font by its places
 
-module _ (file : List ℕ) (f : Font) (b : List ℕ) (held : InFile file f b) where
+module _ (b : List ℕ) (f : Font) (good : GoodFont b f) where
   abbrev q : Program
   q = program_of b f
 
@@ -141,16 +141,12 @@ module _ (file : List ℕ) (f : Font) (b : List ℕ) (held : InFile file f b) wh
   many = items-length b f.charstrings
 
   keyed : f.cid ≡ cid_keyed q.top
-  keyed = held.good.cid
-
-  trace-of : (keep : List ℕ) (lent : ℕ) → trace_of file keep lent ≡ trace_program q keep lent
-  unfolding trace_of
-  trace-of keep lent = ap (λ (g : Result Program Refusal). trace_read g keep lent) held.is
+  keyed = good.cid
 
   module _ (name : ℕ) (keep : List ℕ) (words lent w : ℕ) (r : Result Unit Refusal) (size : w ≡ 2 * f.charstrings.count + words_for f.globals.count + f.words)
       (is : r ≡ refusal_of work_size f.cid false q name keep (take 0 b) 1 w) where
     wide : w ≡ work_size q
-    wide = size ∙ work_is b f held.good
+    wide = size ∙ work_is b f good
 
     asked : r ≡ refusal_of work_size (cid_keyed q.top) false q name keep [] 1 (work_size q)
     asked = is ∙ ap (λ (c : Bool). refusal_of work_size c false q name keep [] 1 w) keyed ∙ ap (refusal_of work_size (cid_keyed q.top) false q name keep [] 1) wide
@@ -169,9 +165,9 @@ module _ (file : List ℕ) (f : Font) (b : List ℕ) (held : InFile file f b) wh
           let h = keep-passes q name keep words lent not_refused in
           (ap (λ (m : ℕ). all_below m keep) (sym many) ∙ h.0, ap (λ (m : ℕ). all_found_lem q (kept_of m keep)) (sym many) ∙ h.1)
 
-      module _ (t : Bool) (fits : t ≡ fits_in (trace_of file keep lent)) where
+      module _ (t : Bool) (fits : t ≡ fits_in (trace_program q keep lent)) where
         pub long_refusal : not t ≡ true → Err Output ≡ early_of q name keep words lent
-        long_refusal h = early_long q name keep words lent not_refused (ap fits_in (sym (trace-of keep lent)) ∙ sym fits ∙ was_false t h)
+        long_refusal h = early_long q name keep words lent not_refused (sym fits ∙ was_false t h)
           where
             was_false : (r : Bool) → not r ≡ true → r ≡ false
             was_false true e = absurd (zero_one cc)
@@ -179,7 +175,7 @@ module _ (file : List ℕ) (f : Font) (b : List ℕ) (held : InFile file f b) wh
 
         module _ (room : not t ≡ false) where
           has_room : fits_in (trace_program q keep lent) ≡ true
-          has_room = ap fits_in (sym (trace-of keep lent)) ∙ sym fits ∙ was_true t room
+          has_room = sym fits ∙ was_true t room
             where
               was_true : (r : Bool) → not r ≡ false → r ≡ true
               was_true true e = refl
@@ -191,15 +187,9 @@ module _ (file : List ℕ) (f : Font) (b : List ℕ) (held : InFile file f b) wh
           pub no_refusal : w ≤ words → Ok tt ≡ early_of q name keep words lent
           no_refusal h = early-none q name keep words lent not_refused has_room (subst (λ (k : ℕ). k ≤ words) wide h)
 
--- ---- by the bytes of the table
-
-module _ (file : List ℕ) (f : Font) (b : List ℕ) (held : InFile file f b) where
-  pub early-table : (r : Result Unit Refusal) (name : ℕ) (keep : List ℕ) (words lent : ℕ) → r ≡ early_of (program_of b f) name keep words lent
-      → r ≡ early_of (program_of (table_in file f) f) name keep words lent
-  early-table r name keep words lent e = subst (λ (l : List ℕ). r ≡ early_of (program_of l f) name keep words lent) held.bytes e
-
-  pub found-table : (kept : List ℕ) → all_found_lem (program_of b f) kept ≡ true → all_found_lem (program_of (table_in file f) f) kept ≡ true
-  found-table kept e = subst (λ (l : List ℕ). all_found_lem (program_of l f) kept ≡ true) held.bytes e
-
-  pub found-bytes : (kept : List ℕ) → all_found_lem (program_of (table_in file f) f) kept ≡ true → all_found_lem (program_of b f) kept ≡ true
-  found-bytes kept e = subst (λ (l : List ℕ). all_found_lem (program_of l f) kept ≡ true) (sym held.bytes) e
+-- in a file
+pub early-table : (file b : List ℕ) (f g : Font) → InFile file g b → g ≡ f → (r : Result Unit Refusal) (name : ℕ) (keep : List ℕ) (words lent : ℕ)
+    → r ≡ early_of (program_of b g) name keep words lent → r ≡ early_of (program_of (table_in file f) f) name keep words lent
+early-table file b f g held is r name keep words lent e =
+    subst (λ (h : Font). r ≡ early_of (program_of (table_in file h) h) name keep words lent) is
+    (subst (λ (l : List ℕ). r ≡ early_of (program_of l g) name keep words lent) held.bytes e)

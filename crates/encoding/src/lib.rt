@@ -11,6 +11,8 @@ ghost use Rattle.subset.specs.Codes.{coded_by_lem, coded_if, coded_bytes, pair_b
 ghost use Rattle.order_window.specs.Window.{glyphs_of, Ordered};
 ghost use Rattle.encoding.specs.Encoded.{pairs_of, pair_in, pairs_in, coded_in, Encodes, encoding_len, offset_for, kept_own, CanRename, Emptied, Puts, Renames};
 
+use cff::loaded::Loaded;
+use index::items::Items;
 use order_window::Order;
 
 // What a subset has: no encoding, the Expert one, or so many pairs of a table.
@@ -83,16 +85,19 @@ fn rename(
         × (Ordered font.now words.now window.new o) }
 {
     let f = o.f;
-    let strings = f.strings;
+    let strings = Items {
+        bytes: font,
+        ix: f.strings,
+    };
     let count = o.count;
     let top = empty(named, &mut *table);
-    let mut own = name_strings::slots_own(font, strings, slots);
+    let mut own = name_strings::slots_own(&strings, slots);
     let mut u = o.held;
     for i in 0..count {
         u = order_window::hold(font, f, words, &mut *window, u, i);
         let w = order_window::word_at(&*window, u, i);
-        let id = own_strings::given_id(font, strings, slots, 8, own.count, w / 65536);
-        own = own_strings::count_one(font, strings, own, w / 65536, id);
+        let id = own_strings::given_id(&strings, slots, 8, own.count, w / 65536);
+        own = own_strings::count_one(&strings, own, w / 65536, id);
         put_id(named, top, w % 65536 + 1, id + 1, &mut *table);
     }
 }
@@ -130,7 +135,7 @@ fn encode_asked(
         return Encoding::Expert;
     }
     let mut named = [0usize; 256];
-    codes::fill(font, f, &mut named);
+    codes::fill(&Loaded { bytes: font, f }, &mut named);
     rename(font, o, words, window, slots, &named, &mut *table);
     Encoding::Pairs(pair_count(&*table))
 }

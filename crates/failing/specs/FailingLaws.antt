@@ -184,7 +184,6 @@ module _ (b : List ℕ) (f : Font) (rows : List Row) (used ws : List ℕ) (globa
           local_ranks = subst (Ranked ws) (sym is_its) (local_ranked its (fd-byte b f a.read g h) u);
           global_ranks = global_ranked;
           order = a.order;
-          body = omega (arith, h, a.read.font.glyphs.held.few);
           size = let n = ap length c in omega (arith, item-short b f.charstrings a.read.font.glyphs.held.good g h, a.read.size);
         }
 

@@ -15,6 +15,8 @@ ghost use Rattle.culprit.specs.NarrowLaws.{body_at};
 ghost use Rattle.failing.specs.Failing.{FdsMarked, Asks, first_failing, Recorded, Only};
 
 use cff::font::Font;
+use cff::loaded::Loaded;
+use fds::in_use::InUse;
 use reach::Site;
 use renumber::Ranks;
 
@@ -60,7 +62,7 @@ fn is_made(
     let fd = charset::fd_select::fd_of(font, select, g) as usize;
     let locals = bodies::ranks_in(table, fd);
     let code = index::item(font, charstrings, g);
-    let site = Site::Glyph(g);
+    let site = Site::Glyph(g as u16);
     match renumbered::renumbered_len(code, words, locals, globals, rows, rising, site) {
         Some(_) => true,
         None => false,
@@ -104,7 +106,12 @@ pub fn only_culprit(font: &[u8], f: Font, keep: &[u16], rows: &[u8], words: &mut
     let mut used = [0u32; 256];
     mark_fds(font, f, keep, &mut used);
     let mut table = [0usize; 1280];
-    let ranked = plan::rank_all(font, f, rows, &used, &mut *words, &mut table);
+    let loaded = Loaded { bytes: font, f };
+    let fds = InUse {
+        font: loaded,
+        used: &used,
+    };
+    let ranked = plan::rank_all(&fds, rows, &mut *words, &mut table);
     let globals = ranked.globals;
     if ranked.all {
         let rising = reach::masks::rises(rows);

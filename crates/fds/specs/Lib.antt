@@ -8,3 +8,4 @@ pub mod PartsLaws
 pub mod ListLaws
 pub mod NewLocalsLaws
 pub mod NewPartsLaws
+pub mod Alone

@@ -1,10 +1,10 @@
 -- Laws of the list of the FDs in use: it is made FD by FD, and each of them is in use.
 use Rattle.std.specs.Prelude.{ℕ, zero, suc, ◌+◌, ◌≤◌, ◌<◌, ◌≡◌, Bool, true, false, List, [], ◌∷◌, length, take, get_or, set}
 use Rattle.std.proofs.Math.Path.{refl, sym}
-use Rattle.std.proofs.Common.{ap, ◌∙◌, subst, arith, length-append, get_or-take}
+use Rattle.std.proofs.Common.{ap, ◌∙◌, subst, arith, length-append}
 use Rattle.octets.specs.Pick.{pick}
 use Rattle.octets.specs.Octets.{put}
-use Rattle.octets.specs.PutLaws.{put_nil, put_snoc, put-length, take_put}
+use Rattle.octets.specs.PutLaws.{put_nil, put_snoc, take_put}
 use Rattle.subset.specs.Kept.{those}
 use Rattle.fds.specs.Locals.{in_use_lem, used_below, fds_in, UsedOf}
 use Rattle.fds.specs.UsedLaws.{used-next, unused_next}
@@ -67,23 +67,14 @@ those-at test (suc n) g k h =
     front_at test g (g + suc n) (those test n (g + 1)) (test g) refl (omega arith)
     (λ i q. let r = those-at test n (g + 1) i q in (omega (arith, r.0), r.1)) k h
 
--- those in use stand in front of a list
-pub record Listed (used fds : List ℕ) : Type 0 where
-  pub front : take (length (fds_in used)) fds ≡ fds_in used
-  pub long : length (fds_in used) ≤ length fds
-
-pub listed-put : (used old fds : List ℕ) → fds ≡ put old 0 (fds_in used) → 256 ≤ length old → Listed used fds
-listed-put used old fds is room =
-    let z : length (fds_in used) ≡ 0 + length (fds_in used) = omega arith in
-    record {
-      front = ap (take (length (fds_in used))) is ∙ ap (λ (n : ℕ). take n (put old 0 (fds_in used))) z ∙ take_put old 0 (fds_in used) (omega arith);
-      long = omega (arith, used-count used 256, ap length is, put-length old 0 (fds_in used) (omega (arith, used-count used 256)));
-    }
+-- those in use stand in front of the list that was made
+pub listed-put : (used old fds : List ℕ) → fds ≡ put old 0 (fds_in used) → 256 ≤ length old → (count : ℕ) → count ≡ length (fds_in used) → take count fds ≡ fds_in used
+listed-put used old fds is room count counted =
+    let z : count ≡ 0 + length (fds_in used) = omega (arith, counted) in
+    ap (take count) is ∙ ap (λ (n : ℕ). take n (put old 0 (fds_in used))) z ∙ take_put old 0 (fds_in used) (omega arith)
 
 -- they are of the n that a font has
-pub listed_there : {used fds : List ℕ} → Listed used fds → (n : ℕ) → UsedOf n used → (k : ℕ) → k < length (fds_in used) → get_or fds k 0 < n
-listed_there {used} {fds} l n there k h =
+pub used_there : (used : List ℕ) (n : ℕ) → UsedOf n used → (k : ℕ) → k < length (fds_in used) → get_or (fds_in used) k 0 < n
+used_there used n there k h =
     let r = those-at (in_use_lem used) 256 0 k h in
-    let e : get_or (fds_in used) k 0 ≡ get_or fds k 0
-    = ap (λ (x : List ℕ). get_or x k 0) (sym l.front) ∙ get_or-take (length (fds_in used)) fds k 0 h in
-    subst (λ (m : ℕ). m < n) e (there (get_or (fds_in used) k 0) r.0 r.1)
+    there (get_or (fds_in used) k 0) r.0 r.1

@@ -25,7 +25,6 @@ module _ (way : Way) (p : Program) (rows : List Row) (ws : List ℕ) (own global
 pub record FdIn (b : List ℕ) (p : Program) (ws : List ℕ) (own globals : Ranks) (rows : List Row) (rising : Bool) (f : ℕ) : Type 0 where
   pub size : length b ≤ 67108864
   pub below : f < 256
-  pub there : f < length p.privates
   pub many : own.count ≡ length (locals_of p f)
   pub ranks : Ranked ws own
   pub global_ranks : Ranked ws globals
@@ -45,12 +44,15 @@ module _ (way : Way) (p : Program) (rows : List Row) (ws table : List ℕ) (glob
     pub sums : all ≡ true → (f : ℕ) → f < 256 → in_use_lem used f ≡ true → get_or totals f 0 ≡ total (new_locals f)
     pub few : all ≡ true → (f : ℕ) → f < 256 → in_use_lem used f ≡ true → get_or totals f 0 ≤ 21989897011200
 
--- what the FDs in use ask: tables of all FDs, ranks in the words, rows in order where that is said
-pub record LocalsIn (b : List ℕ) (p : Program) (used ws table : List ℕ) (globals : Ranks) (rows : List Row) (rising : Bool) : Type 0 where
+-- tables of all FDs: which of the font are in use, and where the bits of their local subroutines stand
+pub record Tables (b : List ℕ) (p : Program) (used table : List ℕ) : Type 0 where
   pub size : length b ≤ 67108864
   pub used_long : 256 ≤ length used
   pub table_long : 1280 ≤ length table
   pub fds : UsedOf (length p.privates) used
+
+-- what the FDs in use ask by their tables: ranks in the words, rows in order where that is said
+pub record LocalsIn (p : Program) (used ws table : List ℕ) (globals : Ranks) (rows : List Row) (rising : Bool) : Type 0 where
   pub many : (f : ℕ) → f < 256 → in_use_lem used f ≡ true → get_or table (256 + f) 0 ≡ length (locals_of p f)
   pub ranks : (f : ℕ) → f < 256 → in_use_lem used f ≡ true → Ranked ws (ranks_in table f)
   pub global_ranks : Ranked ws globals

@@ -26,7 +26,7 @@ use Rattle.bodies.specs.declared.subrs.Subrs.TheVariants.{Local}
 use Rattle.fds.specs.Locals.{in_use_lem, used_below}
 use Rattle.fds.specs.UsedLaws.{used-next, unused_next, both-last, one_last, unused_apart}
 use Rattle.fds.specs.LocalsLaws.{locals-count}
-use Rattle.fds.specs.NewLocals.{locals_with, FdIn, locals_by, new_locals, MeasuresLocals, LocalsIn}
+use Rattle.fds.specs.NewLocals.{locals_with, FdIn, locals_by, new_locals, MeasuresLocals, Tables, LocalsIn}
 use Rattle.subset.specs.declared.Way.{Way}
 
 -- ---- some that hold
@@ -97,14 +97,13 @@ module _ (way : Way) (b : List ℕ) (p : Program) (rows : List Row) (ws : List �
 -- ---- FD by FD
 
 module _ (b : List ℕ) (p : Program) (used ws table : List ℕ) (globals : Ranks) (rows : List Row) (rising : Bool)
-    (w : LocalsIn b p used ws table globals rows rising) where
+    (t : Tables b p used table) (w : LocalsIn p used ws table globals rows rising) where
   pub fd_in : (f : ℕ) → f < 256 → in_use_lem used f ≡ true → (own : Ranks) → own ≡ ranks_in table f → FdIn b p ws own globals rows rising f
   fd_in f h u own e =
       subst (λ (o : Ranks). FdIn b p ws o globals rows rising f) (sym e)
       (record {
-        size = w.size;
+        size = t.size;
         below = h;
-        there = w.fds f h u;
         many = w.many f h u;
         ranks = w.ranks f h u;
         global_ranks = w.global_ranks;

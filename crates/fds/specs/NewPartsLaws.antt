@@ -122,6 +122,14 @@ module _ (way : Way) (b : List ℕ) (p : Program) (rows : List Row) (ws : List �
               fits = omega (arith, v.behind, r.fits, wrote-length v k);
             }
 
+        -- what writing them asks
+        pub subrs_asked : (to < 4294967296) × (to + length (index_bytes (bodies_in (items_of b q.locals))) ≤ length mid)
+        subrs_asked = (
+          subrs-room.early,
+          subst (λ (l : List (List ℕ)). to + length (index_bytes l) ≤ length mid)
+              (sym (new-subrs_is way rows (reached_in ws own) (calls_by ws own globals) (local f) (items_of b q.locals))) subrs-room.fits,
+        )
+
         pub part-some : (out : List ℕ) (last : ℕ) → Wrote mid to (index_bytes (bodies_in (items_of b q.locals))) out last
             → Wrote old at (part_with way p rows ws own globals f) out last
         part-some out last x =

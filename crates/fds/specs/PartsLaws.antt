@@ -6,15 +6,11 @@ use mathlib.Core.List.{List, [], ◌∷◌, ◌++◌}
 use native.Mathlib.Omega.{arith}
 use Rattle.std.proofs.Math.ListN.{length, length-append}
 use Rattle.octets.specs.Pick.{pick}
-use Rattle.octets.specs.Octets.{Octets, put}
+use Rattle.octets.specs.Octets.{put}
 use Rattle.octets.specs.PutLaws.{put_nil, put_snoc}
-use Rattle.octets.specs.Lists.{part_of, sum_of}
+use Rattle.octets.specs.Lists.{sum_of}
 use Rattle.index.specs.Write.{total, size_for, index_bytes, index_len_lem}
 use Rattle.index.specs.WriteLaws.{len_some, length-index, ends-small}
-use Rattle.index.proofs.FoundLaws.{part_octets}
-use Rattle.dict.specs.Places.{entries_of}
-use Rattle.dict_write.specs.Written.{private_bytes}
-use Rattle.dict_write.specs.ShortLaws.{private-short}
 use Rattle.cff.specs.Font.{Private, Program}
 use Rattle.cff.specs.Reads.{GoodPrivate}
 use Rattle.cff.specs.Reads as reads
@@ -26,7 +22,7 @@ use Rattle.subset.specs.EachLaws.{length-mapped}
 use Rattle.subset.specs.KeptListLaws.{those-count}
 use Rattle.reach.specs.Cases.{by_number}
 use Rattle.private_dicts.specs.Privates.{private_dict_by, sizes_of, lens_of}
-use Rattle.private_dicts.specs.PrivatesLaws.{private-dict_is, none-length, some-length, part-few}
+use Rattle.private_dicts.specs.PrivatesLaws.{private-dict_is}
 use Rattle.fds.specs.Locals.{in_use_lem, used_below, fds_in}
 use Rattle.fds.specs.UsedLaws.{used-next, unused_next}
 use Rattle.fds.specs.Parts.{left_in, subrs_len, dict_len, part_by, part_at, SizesParts}
@@ -58,21 +54,10 @@ subrs-few left t h =
 
 -- ---- one FD
 
-dict-few : (b : List ℕ) → Octets b → length b ≤ 67108864 → (q : PrivateAt) (x : Private) → GoodPrivate b q × (reads.private_of b q ≡ x)
-    → (left : ℕ) → length (private_dict_by x.entries left) ≤ 6912212998
-dict-few b o h q x g left =
-    let d = part_of b q.start q.size in
-    let e : private_dict_by x.entries left ≡ private_dict_by (entries_of d) left = ap (λ (y : Private). private_dict_by y.entries left) (sym g.1) in
-    let s : length (private_bytes (entries_of d)) ≤ 103 * length d = private-short d (part_octets b q.size q.start o) in
-    let k : length d ≤ 67108864 = part-few b q.start q.size 67108864 h in
-    let m : length (private_dict_by x.entries left) ≡ length (private_dict_by (entries_of d) left) = ap length e in
-    by_number left 0 (λ z. omega (arith, none-length (entries_of d) left z)) (λ n. omega (arith, some-length (entries_of d) left n))
-
-pub fd-dict : (b : List ℕ) → Octets b → length b ≤ 67108864 → (q : PrivateAt) (x : Private) → GoodPrivate b q × (reads.private_of b q ≡ x)
-    → (left r : ℕ) → r ≡ length (private_dict_by (reads.private_of b q).entries left) → (r ≡ length (private_dict_by x.entries left)) × (r ≤ 6912212998)
-fd-dict b o h q x g left r e =
-    let k : r ≡ length (private_dict_by x.entries left) = e ∙ ap (λ (y : Private). length (private_dict_by y.entries left)) g.1 in
-    (k, omega (arith, dict-few b o h q x g left))
+pub fd-dict : (b : List ℕ) (q : PrivateAt) (x : Private) → GoodPrivate b q × (reads.private_of b q ≡ x)
+    → (left r : ℕ) → (r ≡ length (private_dict_by (reads.private_of b q).entries left)) × (r ≤ 6912212998)
+    → (r ≡ length (private_dict_by x.entries left)) × (r ≤ 6912212998)
+fd-dict b q x g left r e = (e.0 ∙ ap (λ (y : Private). length (private_dict_by y.entries left)) g.1, e.1)
 
 abbrev measured : ℕ → ℕ → Part
 measured size len = record { size = size; len = len }

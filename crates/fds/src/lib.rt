@@ -2,8 +2,10 @@
 // local subroutines behind them.
 #![tactic(auto)]
 
+pub mod in_use;
 pub mod parts;
 pub mod privates;
+pub mod table;
 pub mod totals;
 
 ghost use Rattle.std.specs.Prelude.{◌≡◌, false, ◌+◌, ◌≤◌, ◌<◌, length};
@@ -12,11 +14,12 @@ ghost use Rattle.octets.specs.Pick.{pick};
 ghost use Rattle.record.specs.Record.{rows_of};
 ghost use Rattle.bits.specs.Bits.{words_for};
 ghost use Rattle.cff.specs.Find.{locals_words};
-ghost use Rattle.cff.specs.Reads.{GoodFont, program_of};
+ghost use Rattle.cff.specs.Loaded.{program};
 ghost use Rattle.subset.specs.Kept.{locals_of};
-ghost use Rattle.fds.specs.Locals.{UsedOf, fd_bits, ranked_locals, with_ranks, RanksLocals};
+ghost use Rattle.fds.specs.Locals.{fd_bits, ranked_locals, with_ranks, RanksLocals};
 
-use cff::font::Font;
+use crate::in_use::InUse;
+use private_dicts::fd::Fd;
 use renumber::Ranks;
 
 // The bits of the local subroutines of an FD, and whether the record has no other number.
@@ -27,23 +30,14 @@ pub struct RankedLocals {
 }
 
 // Sets the bits of the locals of an FD in the words from `at` on.
-fn rank_fd(
-    font: &[u8],
-    f: Font,
-    fd: usize,
-    rows: &[u8],
-    words: &mut [u32],
-    at: usize,
-) -> RankedLocals
-    requires { (GoodFont font.now f) × (fd < 256) × (fd < length (program_of font.now f).privates)
-        × (at + words_for (length (locals_of (program_of font.now f) fd)) ≤ length words.old) }
-    ensures { (words.new ≡ put words.old at (fd_bits (program_of font.now f) (rows_of rows.now) fd))
-        × (result ≡ ranked_locals (program_of font.now f) (rows_of rows.now) at fd) × (result.own.count < 65536) }
+fn rank_fd(of: &Fd<'_>, rows: &[u8], words: &mut [u32], at: usize) -> RankedLocals
+    requires { (of.now.fd < 256) × (at + words_for (length (locals_of (program of.now.font) of.now.fd)) ≤ length words.old) }
+    ensures { (words.new ≡ put words.old at (fd_bits (program of.now.font) (rows_of rows.now) of.now.fd))
+        × (result ≡ ranked_locals (program of.now.font) (rows_of rows.now) at of.now.fd) × (result.own.count < 65536) }
 {
-    let q = private_dicts::fd_private(font, f, fd);
-    let locals = q.locals;
-    let count = locals.count;
-    let r = reach::ranks::rank_reached(rows, false, fd, words, at, count);
+    let q = private_dicts::fd_private(of);
+    let count = q.locals.count;
+    let r = reach::ranks::rank_reached(rows, false, of.fd, words, at, count);
     let own = Ranks {
         at,
         count,
@@ -55,8 +49,8 @@ fn rank_fd(
 }
 
 // Tells by the table where the bits of the locals of an FD stand.
-fn put_ranks(table: &mut [usize], fd: usize, q: Ranks)
-    requires { (fd < 256) × (1280 ≤ length table.old) }
+fn put_ranks(table: &mut [usize; 1280], fd: usize, q: Ranks)
+    requires { fd < 256 }
     ensures { table.new ≡ with_ranks table.old fd q }
 {
     table[fd] = q.at;
@@ -75,25 +69,23 @@ pub fn both(a: bool, b: bool) -> bool
 
 // Sets the bits of the locals of each FD in use, one FD behind the other from `at` on; whether no number is without a subroutine.
 pub fn rank_locals(
-    font: &[u8],
-    f: Font,
+    fds: &InUse<'_, '_>,
     rows: &[u8],
-    used: &[u32],
     words: &mut [u32],
     at: usize,
-    table: &mut [usize],
+    table: &mut [usize; 1280],
 ) -> bool
-    requires { (GoodFont font.now f) × (256 ≤ length used.now) × (UsedOf (length (program_of font.now f).privates) used.now)
-        × (at < 4294967296) × (at + locals_words (program_of font.now f).privates ≤ length words.old)
-        × (1280 ≤ length table.old) }
-    ensures { RanksLocals (program_of font.now f) (rows_of rows.now) used.now at
-        words.old words.new table.new result }
+    requires { (at < 4294967296) × (at + locals_words (program fds.now.font).privates ≤ length words.old) }
+    ensures { RanksLocals (program fds.now.font) (rows_of rows.now) fds.now.used.now at words.old words.new table.new result }
 {
+    let font = fds.font;
+    let used = fds.used;
     let mut place = at;
     let mut all = true;
     for fd in 0..256 {
         if used[fd] != 0 {
-            let r = rank_fd(font, f, fd, rows, &mut *words, place);
+            let of = Fd { font, fd };
+            let r = rank_fd(&of, rows, &mut *words, place);
             put_ranks(&mut *table, fd, r.own);
             all = both(all, r.all);
             place += bits::words_for(r.own.count);

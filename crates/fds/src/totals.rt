@@ -1,69 +1,61 @@
 // The new local subroutines of the FDs in use, measured by the way.
-ghost use Rattle.std.specs.Prelude.{◌≡◌, ◌≤◌, ◌<◌, length};
+ghost use Rattle.std.specs.Prelude.{◌≡◌};
 ghost use Rattle.record.specs.Record.{rows_of};
-ghost use Rattle.cff.specs.Reads.{GoodFont, program_of};
+ghost use Rattle.cff.specs.Loaded.{program};
 ghost use Rattle.bodies.specs.Ways.{measured_of};
 ghost use Rattle.bodies.specs.Sizes.{Bounded};
 ghost use Rattle.fds.specs.NewLocals.{locals_with, FdIn, MeasuresLocals, LocalsIn};
 
-use bodies::ranks_in;
+use crate::table::FdTable;
+use bodies::Manner;
+use bodies::subroutines::Subroutines;
 use bodies::subrs::{Source, Subrs};
-use cff::font::Font;
+use private_dicts::fd::Fd;
 use renumber::Ranks;
-use subset::Way;
 
 // The bytes of the new local subroutines of an FD, by the way; or that their renumbering fails.
-fn locals_total(
-    way: Way,
-    font: &[u8],
-    f: Font,
-    fd: usize,
-    words: &[u32],
-    own: Ranks,
-    globals: Ranks,
-    rows: &[u8],
-    rising: bool,
-) -> Option<usize>
-    requires { (GoodFont font.now f) × (FdIn font.now (program_of font.now f) words.now own globals (rows_of rows.now) rising fd) }
-    ensures { (result ≡ measured_of (locals_with way (program_of font.now f) (rows_of rows.now) words.now own globals fd))
+fn locals_total(how: Manner, at: &Fd<'_>, words: &[u32], own: Ranks, rows: &[u8]) -> Option<usize>
+    requires { FdIn at.now.font.bytes.now (program at.now.font) words.now own how.globals (rows_of rows.now) how.rising at.now.fd }
+    ensures { (result ≡ measured_of (locals_with how.way (program at.now.font) (rows_of rows.now) words.now own how.globals at.now.fd))
         × (Bounded result) }
 {
-    let q = private_dicts::fd_private(font, f, fd);
-    let ix = q.locals;
-    let of = Subrs::Local(fd);
+    let q = private_dicts::fd_private(at);
     let from = Source {
-        way,
-        of,
-        ix,
+        way: how.way,
+        of: Subrs::Local(at.fd),
+        ix: q.locals,
         own,
         locals: own,
-        globals,
-        rising,
+        globals: how.globals,
+        rising: how.rising,
     };
-    bodies::subrs::subrs_total(from, font, words, rows)
+    let all = Subroutines {
+        from,
+        font: at.font.bytes,
+        words,
+        rows,
+    };
+    bodies::subrs::subrs_total(&all)
 }
 
 // The bytes of the new local subroutines of each FD in use, by the way; false where their renumbering fails.
 pub fn measure_locals(
-    way: Way,
-    font: &[u8],
-    f: Font,
-    used: &[u32],
+    how: Manner,
+    fds: &FdTable<'_>,
     words: &[u32],
-    table: &[usize],
-    globals: Ranks,
     rows: &[u8],
-    rising: bool,
-    totals: &mut [usize],
+    totals: &mut [usize; 256],
 ) -> bool
-    requires { (GoodFont font.now f) × (256 ≤ length totals.old)
-        × (LocalsIn font.now (program_of font.now f) used.now words.now table.now globals (rows_of rows.now) rising) }
-    ensures { MeasuresLocals way (program_of font.now f) (rows_of rows.now) words.now table.now globals used.now totals.new result }
+    requires { LocalsIn (program fds.now.font) fds.now.used.now words.now fds.now.table.now how.globals (rows_of rows.now) how.rising }
+    ensures { MeasuresLocals how.way (program fds.now.font) (rows_of rows.now) words.now fds.now.table.now how.globals fds.now.used.now totals.new result }
 {
+    let font = fds.font;
+    let used = fds.used;
     for fd in 0..256 {
         if used[fd] != 0 {
-            let own = ranks_in(table, fd);
-            match locals_total(way, font, f, fd, words, own, globals, rows, rising) {
+            let own = fds.ranks(fd);
+            let at = Fd { font, fd };
+            match locals_total(how, &at, words, own, rows) {
                 Some(t) => totals[fd] = t,
                 None => return false,
             }

@@ -1,24 +1,24 @@
 // The glyphs of many CIDs, with one reading of the font and one pass over its charset: each glyph goes to the slot of its CID unless there is one.
 ghost use Rattle.std.specs.Prelude.{◌≡◌, map, ℕ, ◌≤◌, ◌<◌, length};
 ghost use Rattle.octets.specs.Octets.{put};
-ghost use Rattle.charset.specs.CharsetPlaces.{ids_of, GoodCharset};
+ghost use Rattle.charset.specs.Ids.{ids};
 ghost use Rattle.find.specs.Find.{glyph_with_id};
 ghost use Rattle.cff.specs.Font.{read_font};
-ghost use Rattle.cff.specs.Reads.{program_of, GoodFont};
+ghost use Rattle.cff.specs.Loaded.{program};
 ghost use Rattle.find_many.specs.Many.{number_for, of_cid, cids_found, Finds, Slots, none};
 
-use cff::font::Font;
-use charset::Charset;
+use cff::loaded::Loaded;
+use charset::ids::Ids;
 use refusal::Refusal;
 
-// Puts the first of n glyphs with each id into the slot of the id.
-fn fill(font: &[u8], c: Charset, n: usize, slots: &mut [u32])
-    requires { (GoodCharset font.now c n) × Slots none slots.old }
-    ensures { Slots (λ id. number_for (glyph_with_id id 0 (ids_of font.now c n))) slots.new }
+// Puts the first of the glyphs with each id into the slot of the id.
+fn fill(glyphs: &Ids<'_>, slots: &mut [u32])
+    requires { Slots none slots.old }
+    ensures { Slots (λ id. number_for (glyph_with_id id 0 (ids glyphs.now))) slots.new }
 {
-    let mut u = charset::charset_start(c);
-    for g in 0..n {
-        let s = charset::next_id(font, u);
+    let mut u = charset::charset_start(glyphs.charset);
+    for g in 0..glyphs.n {
+        let s = charset::next_id(glyphs.bytes, u);
         let id = s.id;
         u = s.next;
         if slots[id] == 65536 {
@@ -28,16 +28,12 @@ fn fill(font: &[u8], c: Charset, n: usize, slots: &mut [u32])
 }
 
 // The slots of all CIDs of a font that was read: none has a glyph in a name-keyed font.
-fn slots_in(font: &[u8], f: Font, slots: &mut [u32])
-    requires { (GoodFont font.now f) × Slots none slots.old }
-    ensures { Slots (of_cid (program_of font.now f)) slots.new }
+fn slots_in(font: &Loaded<'_>, slots: &mut [u32])
+    requires { Slots none slots.old }
+    ensures { Slots (of_cid (program font.now)) slots.new }
 {
-    let charset = f.charset;
-    let charstrings = f.charstrings;
-    let keyed = f.cid;
-    let n = charstrings.count;
-    if keyed {
-        fill(font, charset, n, slots);
+    if font.f.cid {
+        fill(&font.ids(), slots);
     }
 }
 
@@ -57,12 +53,12 @@ fn put_cids(slots: &[u32], cids: &[u16], glyphs: &mut [u32])
 pub fn find_cids(font: &[u8], cids: &[u16], glyphs: &mut [u32]) -> Result<(), Refusal>
     ensures { Finds (cids_found (read_font font.now) cids.now) glyphs.old glyphs.new result }
 {
-    let f = cff::set::read_font(font)?;
+    let font = cff::set::load(font)?;
     if glyphs.len() < cids.len() {
         return Err(Refusal::Output);
     }
     let mut slots = [65536u32; 65536];
-    slots_in(cff::set::table(font, f), f, &mut slots);
+    slots_in(&font, &mut slots);
     put_cids(&slots, cids, glyphs);
     Ok(())
 }

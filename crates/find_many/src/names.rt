@@ -3,27 +3,21 @@ ghost use Rattle.std.specs.Prelude.{◌≡◌, not, map, ◌≤◌, ◌<◌, ltb
 ghost use Rattle.octets.specs.Lists.{sum_of};
 ghost use Rattle.octets.specs.Octets.{put};
 ghost use Rattle.cff.specs.Font.{read_font};
-ghost use Rattle.cff.specs.Reads.{program_of, GoodFont};
+ghost use Rattle.cff.specs.Loaded.{program};
 ghost use Rattle.find_many.specs.Many.{of_name, names_by, names_in, names_found, Finds};
 
-use cff::font::Font;
+use cff::loaded::Loaded;
 use refusal::Refusal;
 
 // The glyph of a name in a font that was read, 65536 where it is absent; no glyph of a CID-keyed font has a name.
-fn name_in(font: &[u8], f: Font, name: &[u8]) -> u32
-    requires { GoodFont font.now f }
-    ensures { result ≡ of_name (program_of font.now f) name.now }
+fn name_in(font: &Loaded<'_>, name: &[u8]) -> u32
+    ensures { result ≡ of_name (program font.now) name.now }
 {
-    let charset = f.charset;
-    let charstrings = f.charstrings;
-    let texts = f.strings;
-    let cid = f.cid;
-    let n = charstrings.count;
-    if cid {
+    if font.f.cid {
         return 65536;
     }
     let sid = strings::sid_of(name);
-    let found = find::find_text(font, charset, n, texts, name, sid);
+    let found = find::find_text(&font.ids(), &font.strings(), name, sid);
     match found {
         None => 65536,
         Some(g) => g as u32,
@@ -46,34 +40,32 @@ fn fit(bytes: usize, lens: &[u32]) -> bool
 }
 
 // Puts the glyph of each name to the front of the lent words.
-fn put_names(font: &[u8], f: Font, names: &[u8], lens: &[u32], glyphs: &mut [u32])
-    requires { (GoodFont font.now f) × (sum_of lens.now ≤ length names.now) × (length lens.now ≤ length glyphs.old) }
-    ensures { glyphs.new ≡ put glyphs.old 0 (map (of_name (program_of font.now f)) (names_by lens.now names.now)) }
+fn put_names(font: &Loaded<'_>, names: &[u8], lens: &[u32], glyphs: &mut [u32])
+    requires { (sum_of lens.now ≤ length names.now) × (length lens.now ≤ length glyphs.old) }
+    ensures { glyphs.new ≡ put glyphs.old 0 (map (of_name (program font.now)) (names_by lens.now names.now)) }
 {
     let mut at = 0;
     for (i, len) in lens.iter().enumerate() {
         let end = at + *len as usize;
-        glyphs[i] = name_in(font, f, &names[at..end]);
+        glyphs[i] = name_in(font, &names[at..end]);
         at = end;
     }
 }
 
 // The glyphs of the names in a font that was read.
 fn names_in(
-    font: &[u8],
-    f: Font,
+    font: &Loaded<'_>,
     names: &[u8],
     lens: &[u32],
     glyphs: &mut [u32],
 ) -> Result<(), Refusal>
-    requires { GoodFont font.now f }
-    ensures { Finds (names_in (program_of font.now f) names.now lens.now) glyphs.old glyphs.new result }
+    ensures { Finds (names_in (program font.now) names.now lens.now) glyphs.old glyphs.new result }
 {
     if fit(names.len(), lens) {
         if glyphs.len() < lens.len() {
             return Err(Refusal::Output);
         }
-        put_names(font, f, names, lens, glyphs);
+        put_names(font, names, lens, glyphs);
         return Ok(());
     }
     Err(Refusal::Truncated)
@@ -89,6 +81,6 @@ pub fn find_names(
 ) -> Result<(), Refusal>
     ensures { Finds (names_found (read_font font.now) names.now lens.now) glyphs.old glyphs.new result }
 {
-    let f = cff::set::read_font(font)?;
-    names_in(cff::set::table(font, f), f, names, lens, glyphs)
+    let font = cff::set::load(font)?;
+    names_in(&font, names, lens, glyphs)
 }

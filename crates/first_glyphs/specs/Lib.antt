@@ -1,5 +1,6 @@
 pub mod Bits
 pub mod BitsLaws
+pub mod Flagged
 pub mod FoundLaws
 pub mod FirstLaws
 pub mod Lead

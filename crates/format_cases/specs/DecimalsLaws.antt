@@ -1,19 +1,18 @@
 -- Laws of a decimal of a case: one that is as it is written there is normalised and within the limits of refusal 5.
-use Rattle.std.specs.Prelude.{ℕ, ◌+◌, ◌-◌, ◌*◌, ◌%◌, ◌≤◌, ◌<◌, ◌≡◌, refl, Bool, true, false, List, ◌⊎◌, ltb, leb, eqb, length, get_or, None, Some}
+use Rattle.std.specs.Prelude.{ℕ, ◌+◌, ◌-◌, ◌*◌, ◌%◌, ◌≤◌, ◌<◌, ◌≡◌, refl, Bool, true, false, List, ◌⊎◌, ltb, leb, eqb, length, get_or, None, Option, Some}
 use Rattle.std.proofs.Common.{sym, ap, ◌∙◌, inl, inr, arith}
 use borrow.Author.Tests.{lt-ltb, le-ltb, eq-eqb, ne_eqb, eqb-true, eqb-false, leb-false, ltb-false, le-leb, lt-leb}
 use Rattle.octets.specs.Pick.{pick}
 use Rattle.octets.specs.PickLaws.{both_hold, other_holds}
 use Rattle.octets.specs.Octets.{num_at}
 use Rattle.decimal.specs.declared.Decimal.{Decimal}
-use Rattle.decimal.specs.Decimal.{nought, normal, Normal}
-use Rattle.decimal.specs.DecimalLaws.{normal-nought, normal_times}
+use Rattle.decimal.specs.Decimal.{nought, normal, Normal, Reduced}
+use Rattle.decimal.specs.DecimalLaws.{normal-nought, normal_times, reduced}
 use Rattle.decimal.specs.Written.{number_bytes}
-use Rattle.format_cases.specs.Dicts.{decimal_at, is_decimal, number_answer}
+use Rattle.format_cases.specs.Dicts.{made, decimal_at, is_decimal, decimal_told, number_answer}
 
--- a decimal of its four parts
-abbrev made : Bool → ℕ → ℕ → ℕ → Decimal
-made s m u v = record { neg = s; digits = m; up = u; down = v }
+no : ◌≡◌ {A = ℕ} 0 1 → ⊥
+no h = omega arith
 
 -- ---- zero
 
@@ -134,7 +133,33 @@ decimal-normal d e = go (eqb d.digits 0) refl
     go true f = zero-normal d (eqb-true d.digits 0 f) e
     go false f = digits-normal d (eqb-false d.digits 0 f) e
 
+pub decimal-reduced : (d : Decimal) → is_decimal d ≡ true → Reduced d
+decimal-reduced d e = reduced d (decimal-normal d e)
+
 -- ---- the ways out
+
+-- what is told of a decimal
+module _ (c : Decimal) (r : Option Decimal) (e : r ≡ decimal_told c) where
+  pub told_none : r ≡ None → is_decimal c ≡ false
+  told_none f = go (is_decimal c) (sym e ∙ f)
+    where
+      go : (t : Bool) → pick t (Some c) None ≡ None → t ≡ false
+      go true g = absurd (no cc)
+      go false g = refl
+
+  pub told_some : (d : Decimal) → r ≡ Some d → (d ≡ c) × (is_decimal d ≡ true)
+  told_some d f = go (is_decimal c) refl (sym e ∙ f)
+    where
+      go : (t : Bool) → is_decimal c ≡ t → pick t (Some c) None ≡ Some d → (d ≡ c) × (is_decimal d ≡ true)
+      go true k g = let h : d ≡ c = cc in (h, ap is_decimal h ∙ k)
+      go false k g = absurd (no cc)
+
+module _ (d : Decimal) (t : is_decimal d ≡ true) where
+  pub told_made : Some d ≡ decimal_told d
+  told_made = sym (ap (λ (b : Bool). pick b (Some d) None) t)
+
+pub told_not : (d : Decimal) → is_decimal d ≡ false → None ≡ decimal_told d
+told_not d t = sym (ap (λ (b : Bool). pick b (Some d) None) t)
 
 pub decimal_is : (s : List ℕ) (high low up down : ℕ) → high ≡ num_at s 1 4 → low ≡ num_at s 5 4 → up ≡ get_or s 9 0 → down ≡ get_or s 10 0
     → made (eqb (get_or s 0 0) 1) (high * 4294967296 + low) up down ≡ decimal_at s

@@ -34,6 +34,10 @@ behind front (Ok es) = 0 ∷ (front ++ entries_bytes es)
 unfoldable pub dict_answer : List ℕ → Option (List ℕ)
 dict_answer s = pick (ltb 100 (length s)) None (Some (behind [] (dict_of s)))
 
+-- a decimal of its four parts
+abbrev pub made : Bool → ℕ → ℕ → ℕ → Decimal
+made s m u v = record { neg = s; digits = m; up = u; down = v }
+
 -- the decimal that 11 bytes hold
 unfoldable pub decimal_at : List ℕ → Decimal
 decimal_at s = record { neg = eqb (get_or s 0 0) 1; digits = num_at s 1 4 * 4294967296 + num_at s 5 4; up = get_or s 9 0; down = get_or s 10 0 }
@@ -47,6 +51,10 @@ is_decimal d =
     (pick (ltb 30 d.up) false
     (pick (ltb 30 d.down) false
     (pick (eqb d.down 0) true (eqb d.up 0))))))
+
+-- a decimal, if it is one
+abbrev pub decimal_told : Decimal → Option Decimal
+decimal_told d = pick (is_decimal d) (Some d) None
 
 -- kind w: a decimal, written as a number of a DICT
 unfoldable pub number_answer : List ℕ → Option (List ℕ)

@@ -4,7 +4,7 @@ ghost use Rattle.octets.specs.Octets.{bytes_of, Wrote};
 ghost use Rattle.dict.specs.Dict.{dict_of};
 ghost use Rattle.dict.specs.Places.{operands_at};
 ghost use Rattle.cases.specs.Answers.{Starts, Gives};
-ghost use Rattle.format_cases.specs.Dicts.{decimal_bytes, operands_bytes, entry_bytes, behind, dict_answer, decimal_at, is_decimal, number_answer};
+ghost use Rattle.format_cases.specs.Dicts.{decimal_bytes, operands_bytes, entry_bytes, behind, dict_answer, made, decimal_at, is_decimal, decimal_told, number_answer};
 
 use decimal::{Decimal, number_at};
 use octets::{put_byte, put_num};
@@ -94,29 +94,10 @@ pub fn answer_dict(input: &[u8], out: &mut [u8]) -> Option<usize>
     Some(put_dict(input, out))
 }
 
-// The decimal that 11 bytes hold.
-fn decimal_at(s: &[u8]) -> Decimal
-    requires { length s.now ≡ 11 }
-    ensures { result ≡ decimal_at s.now }
+// Whether no digit, a sign and two powers are zero as it is written in a case.
+fn is_zero(neg: bool, up: usize, down: usize) -> bool
+    ensures { result ≡ is_decimal (made neg 0 up down) }
 {
-    let high = octets::u32_at(s, 1);
-    let low = octets::u32_at(s, 5);
-    Decimal {
-        neg: s[0] == 1,
-        digits: high * 4294967296 + low,
-        up: usize::from(s[9]),
-        down: usize::from(s[10]),
-    }
-}
-
-// Whether a decimal is zero as it is written in a case.
-fn is_zero(d: Decimal) -> bool
-    requires { d.digits ≡ 0 }
-    ensures { result ≡ is_decimal d }
-{
-    let neg = d.neg;
-    let up = d.up;
-    let down = d.down;
     if neg {
         return false;
     }
@@ -126,15 +107,12 @@ fn is_zero(d: Decimal) -> bool
     false
 }
 
-// Whether a decimal is as it is written in a case: no zero at the end of its digits, and within the limits of refusal 5.
-fn is_decimal(d: Decimal) -> bool
-    ensures { result ≡ is_decimal d }
+// Whether these are a decimal as it is written in a case: no zero at the end of its digits, and within the limits of refusal 5.
+fn is_decimal(neg: bool, digits: usize, up: usize, down: usize) -> bool
+    ensures { result ≡ is_decimal (made neg digits up down) }
 {
-    let digits = d.digits;
-    let up = d.up;
-    let down = d.down;
     if digits == 0 {
-        return is_zero(d);
+        return is_zero(neg, up, down);
     }
     if digits % 10 == 0 {
         return false;
@@ -154,6 +132,26 @@ fn is_decimal(d: Decimal) -> bool
     up == 0
 }
 
+// The decimal that 11 bytes hold, if it is as it is written in a case.
+fn decimal_at(s: &[u8]) -> Option<Decimal>
+    requires { length s.now ≡ 11 }
+    ensures { result ≡ decimal_told (decimal_at s.now) }
+{
+    let neg = s[0] == 1;
+    let digits = octets::u32_at(s, 1) * 4294967296 + octets::u32_at(s, 5);
+    let up = usize::from(s[9]);
+    let down = usize::from(s[10]);
+    if is_decimal(neg, digits, up, down) {
+        return Some(Decimal {
+            neg,
+            digits,
+            up,
+            down,
+        });
+    }
+    None
+}
+
 // Kind w: a decimal, written as a number of a DICT.
 pub fn answer_number(input: &[u8], out: &mut [u8]) -> Option<usize>
     requires { 4096 ≤ length out.old }
@@ -165,9 +163,8 @@ pub fn answer_number(input: &[u8], out: &mut [u8]) -> Option<usize>
     if 1 < input[0] {
         return None;
     }
-    let d = decimal_at(input);
-    if is_decimal(d) {
-        return Some(decimal_write::put_number(d, out, 0));
+    match decimal_at(input) {
+        None => None,
+        Some(d) => Some(decimal_write::put_number(d, out, 0)),
     }
-    None
 }

@@ -2,26 +2,26 @@
 ghost use Rattle.std.specs.Prelude.{◌+◌, ◌*◌, ◌≤◌, ◌<◌, length};
 ghost use Rattle.octets.specs.Octets.{Wrote};
 ghost use Rattle.charset.specs.Charset.{charset_at};
-ghost use Rattle.charset.specs.CharsetPlaces.{ids_of, GoodCharset};
+ghost use Rattle.charset.specs.Ids.{ids};
 ghost use Rattle.charset.specs.FdSelect.{fd_select_at};
 ghost use Rattle.charset.specs.FdPlaces.{fds_of, GoodSelect};
 ghost use Rattle.cases.specs.Answers.{Gives};
 ghost use Rattle.format_cases.specs.Glyphs.{listed_answer, charset_answer, fd_select_answer};
 ghost use Rattle.index.specs.Write.{table_bytes};
 
-use charset::Charset;
 use charset::fd_select::FdSelect;
+use charset::ids::Ids;
 use octets::{put_byte, put_num};
 
-// The id of each of n glyphs.
-fn put_ids(font: &[u8], c: Charset, n: usize, out: &mut [u8], at: usize) -> usize
-    requires { (GoodCharset font.now c n) × (at + 2 * n ≤ length out.old) }
-    ensures { Wrote out.old at (table_bytes 2 (ids_of font.now c n)) out.new result }
+// The id of each glyph.
+fn put_ids(glyphs: &Ids<'_>, out: &mut [u8], at: usize) -> usize
+    requires { at + 2 * glyphs.now.n ≤ length out.old }
+    ensures { Wrote out.old at (table_bytes 2 (ids glyphs.now)) out.new result }
 {
-    let mut u = charset::charset_start(c);
+    let mut u = charset::charset_start(glyphs.charset);
     let mut p = at;
-    for _ in 0..n {
-        let step = charset::next_id(font, u);
+    for _ in 0..glyphs.n {
+        let step = charset::next_id(glyphs.bytes, u);
         p = put_num(out, p, step.id, 2);
         u = step.next;
     }
@@ -40,7 +40,12 @@ fn charset_in(font: &[u8], at: usize, n: usize, out: &mut [u8]) -> Option<usize>
                 return None;
             }
             let p = put_byte(out, 0, 0);
-            Some(put_ids(font, c, n, out, p))
+            let glyphs = Ids {
+                bytes: font,
+                charset: c,
+                n,
+            };
+            Some(put_ids(&glyphs, out, p))
         }
     }
 }

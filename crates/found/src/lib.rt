@@ -7,23 +7,21 @@ pub mod marks;
 ghost use Rattle.std.specs.Prelude.{◌≡◌, true, ◌≤◌, ◌<◌, length};
 ghost use Rattle.octets.specs.Lists.{all_below};
 ghost use Rattle.octets.specs.Pick.{pick};
-ghost use Rattle.bits.specs.Bits.{words_for, bit_in};
-ghost use Rattle.strings.specs.Table.{standard_offsets};
-ghost use Rattle.strings.specs.Strings.{standard_text};
-ghost use Rattle.index.specs.Index.{items_of};
-ghost use Rattle.index.specs.Good.{Good};
-ghost use Rattle.charset.specs.CharsetPlaces.{ids_of, GoodCharset};
-ghost use Rattle.cff.specs.Reads.{program_of, GoodFont};
-ghost use Rattle.subset.specs.Kept.{kept_of, those};
+ghost use Rattle.index.specs.Items.{items};
+ghost use Rattle.charset.specs.Ids.{ids};
+ghost use Rattle.cff.specs.Loaded.{program};
+ghost use Rattle.subset.specs.Kept.{kept_of};
 ghost use Rattle.subset.specs.Cut.{all_found_lem, is_glyph};
 ghost use Rattle.kept.specs.Packed.{all_of, text_found, name_found};
 ghost use Rattle.first_glyphs.specs.Bits.{Unseen};
+ghost use Rattle.first_glyphs.specs.Flagged.{flagged_of};
 ghost use Rattle.found.specs.Flags.{Unset};
 ghost use Rattle.found.specs.Hash.{told};
 
-use cff::font::Font;
-use charset::Charset;
-use index::Index;
+use cff::loaded::Loaded;
+use charset::ids::Ids;
+use first_glyphs::flagged::Flagged;
+use index::items::Items;
 
 // A pass over the names may look for fewer than this many of them among all glyphs, and only for names of at most 127 bytes.
 const LOOKS: usize = 17;
@@ -45,69 +43,56 @@ fn is_glyph(found: Option<usize>, g: usize) -> bool
 }
 
 // Whether finding a name gives glyph g.
-fn text_found(font: &[u8], c: Charset, n: usize, strings: Index, name: &[u8], g: usize) -> bool
-    requires { (GoodCharset font.now c n) × (Good font.now strings) }
-    ensures { result ≡ text_found (items_of font.now strings) (ids_of font.now c n) name.now g }
+fn text_found(glyphs: &Ids<'_>, strings: &Items<'_>, name: &[u8], g: usize) -> bool
+    ensures { result ≡ text_found (items strings.now) (ids glyphs.now) name.now g }
 {
     let sid = strings::sid_of(name);
-    let found = find::find_text(font, c, n, strings, name, sid);
+    let found = find::find_text(glyphs, strings, name, sid);
     is_glyph(found, g)
 }
 
 // Whether finding the name of glyph g gives that glyph.
-fn name_found(font: &[u8], c: Charset, n: usize, strings: Index, g: usize) -> bool
-    requires { (GoodCharset font.now c n) × (Good font.now strings) × (g < n) }
-    ensures { result ≡ name_found (items_of font.now strings) (ids_of font.now c n) g }
+fn name_found(glyphs: &Ids<'_>, strings: &Items<'_>, g: usize) -> bool
+    requires { g < glyphs.now.n }
+    ensures { result ≡ name_found (items strings.now) (ids glyphs.now) g }
 {
-    let names = strings::table::STANDARD_TEXT;
-    let offsets = strings::table::STANDARD_OFFSETS;
-    let id = charset::id_of(font, c, n, g);
-    let name = name_order::text_at(font, strings, &names, &offsets, id);
-    text_found(font, c, n, strings, name, g)
+    let id = charset::id_of(glyphs, g);
+    let name = name_order::text_at(strings, id);
+    text_found(glyphs, strings, name, g)
 }
 
 // Whether finding the name of a glyph gives that glyph, where its flag is set; of a new name it does.
-fn flagged_found(
-    font: &[u8],
-    c: Charset,
-    n: usize,
-    strings: Index,
-    g: usize,
-    flag: bool,
-    new: bool,
-) -> bool
-    requires { (GoodCharset font.now c n) × (Good font.now strings) × (g < n)
-        × (new ≡ true → name_found (items_of font.now strings) (ids_of font.now c n) g ≡ true) }
-    ensures { result ≡ pick flag (name_found (items_of font.now strings) (ids_of font.now c n) g) true }
+fn flagged_found(glyphs: &Ids<'_>, strings: &Items<'_>, g: usize, flag: bool, new: bool) -> bool
+    requires { (g < glyphs.now.n) × (new ≡ true → name_found (items strings.now) (ids glyphs.now) g ≡ true) }
+    ensures { result ≡ pick flag (name_found (items strings.now) (ids glyphs.now) g) true }
 {
     if new {
         return true;
     }
     if flag {
-        return name_found(font, c, n, strings, g);
+        return name_found(glyphs, strings, g);
     }
     true
 }
 
-// A place among n flags behind the last word of them that is not 0.
-fn words_end(flags: &[u32], n: usize) -> usize
-    requires { (words_for n ≤ length flags.now) × (n < 65536) }
-    ensures { (result ≤ n) × Unset flags.now result n }
+// A place among the flags behind the last word of them that is not 0.
+fn words_end(flagged: &Flagged<'_>) -> usize
+    ensures { (result ≤ flagged.now.glyphs.n) × Unset flagged.now.flags.now result flagged.now.glyphs.n }
 {
+    let n = flagged.glyphs.n;
     let words = bits::words_for(n);
-    match flags[..words].iter().rposition(|w| *w != 0) {
+    match flagged.flags[..words].iter().rposition(|w| *w != 0) {
         Some(q) => n.min(32 * (q + 1)),
         None => 0,
     }
 }
 
-// A place among n flags behind the last that is set.
-fn flags_end(flags: &[u32], n: usize) -> usize
-    requires { (words_for n ≤ length flags.now) × (n < 65536) }
-    ensures { (result ≤ n) × Unset flags.now result n }
+// A place among the flags behind the last that is set.
+fn flags_end(flagged: &Flagged<'_>) -> usize
+    ensures { (result ≤ flagged.now.glyphs.n) × Unset flagged.now.flags.now result flagged.now.glyphs.n }
 {
-    for g in (0..words_end(flags, n)).rev() {
-        if bits::has_bit(flags, 0, g) {
+    for g in (0..words_end(flagged)).rev() {
+        if bits::has_bit(flagged.flags, 0, g) {
             return g + 1;
         }
     }
@@ -132,45 +117,40 @@ fn looks_left(looks: usize, flag: bool, new: bool, size: usize) -> usize
     looks
 }
 
-// Whether finding the name of each flagged glyph gives that glyph, by one pass up to the last of them. The caller lends the tables of the
-// standard strings, marks of which none is set and words `seen` with a bit for each id: only the first glyph of an id is found, so each string is
-// read once. Only a name whose marks are both there is looked for among all glyphs. Where that were to happen too often, the answer is open.
-fn names_met<'a>(
-    font: &'a [u8],
-    c: Charset,
-    n: usize,
-    strings: Index,
-    names: &'a [u8],
-    offsets: &[u16],
-    flags: &[u32],
+// Whether finding the name of each flagged glyph gives that glyph, by one pass up to the last of them. The caller lends marks of which none is set
+// and words `seen` with a bit for each id: only the first glyph of an id is found, so each string is read once. Only a name whose marks are both there
+// is looked for among all glyphs. Where that were to happen too often, the answer is open.
+fn names_met(
+    flagged: &Flagged<'_>,
+    strings: &Items<'_>,
     marks: &mut [u32],
     seen: &mut [u32],
 ) -> Told
-    requires { (GoodCharset font.now c n) × (Good font.now strings) × (words_for n ≤ length flags.now)
-        × (names.now ≡ standard_text) × (offsets.now ≡ standard_offsets) × (length marks.old ≡ 4096) × Unseen seen.old }
-    ensures { told result (all_of (name_found (items_of font.now strings) (ids_of font.now c n)) (those (bit_in flags.now 0) n 0))
-        ≡ all_of (name_found (items_of font.now strings) (ids_of font.now c n)) (those (bit_in flags.now 0) n 0) }
+    requires { (length marks.old ≡ 4096) × Unseen seen.old }
+    ensures { told result (all_of (name_found (items strings.now) (ids flagged.now.glyphs)) (flagged_of flagged.now))
+        ≡ all_of (name_found (items strings.now) (ids flagged.now.glyphs)) (flagged_of flagged.now) }
 {
-    let end = flags_end(flags, n);
-    let mut u = charset::charset_start(c);
+    let glyphs = &flagged.glyphs;
+    let end = flags_end(flagged);
+    let mut u = charset::charset_start(glyphs.charset);
     let mut looks = LOOKS;
     for g in 0..end {
-        let s = charset::next_id(font, u);
+        let s = charset::next_id(glyphs.bytes, u);
         let sid = s.id;
         u = s.next;
-        let flag = bits::has_bit(flags, 0, g);
+        let flag = bits::has_bit(flagged.flags, 0, g);
         if first_glyphs::see(&mut *seen, sid) {
             if flag {
                 return Told::No;
             }
         } else {
-            let name = name_order::text_at(font, strings, names, offsets, sid);
+            let name = name_order::text_at(strings, sid);
             let new = marks::meet(&mut *marks, marks::hash_of(name));
             looks = looks_left(looks, flag, new, name.len());
             if looks == 0 {
                 return Told::Open;
             }
-            if !flagged_found(font, c, n, strings, g, flag, new) {
+            if !flagged_found(glyphs, strings, g, flag, new) {
                 return Told::No;
             }
         }
@@ -179,43 +159,38 @@ fn names_met<'a>(
 }
 
 // Whether finding the name of each flagged glyph gives that glyph.
-pub fn names_found(font: &[u8], c: Charset, n: usize, strings: Index, flags: &[u32]) -> bool
-    requires { (GoodCharset font.now c n) × (Good font.now strings) × (words_for n ≤ length flags.now) }
-    ensures { result ≡ all_of (name_found (items_of font.now strings) (ids_of font.now c n)) (those (bit_in flags.now 0) n 0) }
+pub fn names_found(flagged: &Flagged<'_>, strings: &Items<'_>) -> bool
+    ensures { result ≡ all_of (name_found (items strings.now) (ids flagged.now.glyphs)) (flagged_of flagged.now) }
 {
-    let names = strings::table::STANDARD_TEXT;
-    let offsets = strings::table::STANDARD_OFFSETS;
     // A bit for each of the 65,536 values of either half of a hash: 16 KiB.
     let mut marks = [0u32; 4096];
     // A bit for each id: 8 KiB.
     let mut seen = [0u32; 2048];
-    let met = names_met(
-        font, c, n, strings, &names, &offsets, flags, &mut marks, &mut seen,
-    );
+    let met = names_met(flagged, strings, &mut marks, &mut seen);
     match met {
         Told::Yes => true,
         Told::No => false,
-        Told::Open => { first_glyphs::names_sorted(font, c, n, strings, &names, &offsets, flags) }
+        Told::Open => first_glyphs::names_sorted(flagged, strings),
     }
 }
 
 // Whether finding the name or the CID of glyph 0 and of each glyph to keep gives that glyph: refusal 7 where not.
-pub fn all_found(font: &[u8], f: Font, keep: &[u16]) -> bool
-    requires { (GoodFont font.now f) × (all_below f.charstrings.count keep.now ≡ true) }
-    ensures { result ≡ all_found_lem (program_of font.now f) (kept_of f.charstrings.count keep.now) }
+pub fn all_found(font: &Loaded<'_>, keep: &[u16]) -> bool
+    requires { all_below font.now.f.charstrings.count keep.now ≡ true }
+    ensures { result ≡ all_found_lem (program font.now) (kept_of font.now.f.charstrings.count keep.now) }
 {
-    let charset = f.charset;
-    let charstrings = f.charstrings;
-    let texts = f.strings;
-    let cid = f.cid;
-    let n = charstrings.count;
+    let glyphs = font.ids();
     // A bit for each glyph: 8 KiB.
     let mut flags = [0u32; 2048];
-    order::mark(keep, &mut flags, n);
-    if cid {
+    order::mark(keep, &mut flags, glyphs.n);
+    let flagged = Flagged {
+        glyphs,
+        flags: &flags,
+    };
+    if font.f.cid {
         // A bit for each CID: 8 KiB.
         let mut seen = [0u32; 2048];
-        return first_glyphs::cids_found(font, charset, n, &flags, &mut seen);
+        return first_glyphs::cids_found(&flagged, &mut seen);
     }
-    names_found(font, charset, n, texts, &flags)
+    names_found(&flagged, &font.strings())
 }

@@ -8,20 +8,20 @@ use Rattle.octets.specs.Octets.{Wrote}
 use Rattle.octets.specs.PutLaws.{wrote_as}
 use Rattle.index.specs.Write.{index_bytes}
 use Rattle.cff.specs.Font.{Program}
-use Rattle.cff.specs.Reads.{program_of, top_of}
+use Rattle.cff.specs.Reads.{program_of}
 use Rattle.cff.specs.declared.font.Font.{Font}
 use Rattle.subset.specs.Texts.{own_strings_lem}
 use Rattle.subset.specs.Subset.{own_by_cid, top_by_cid}
 use Rattle.own_strings.specs.declared.Own.{Own}
 use Rattle.own_strings.specs.Slots.{own_of, slots_own}
 use Rattle.own_strings.specs.Ready.{HasStrings, SlotsGiven, IndexRoom}
-use Rattle.top_dict.specs.Top.{Filled, Offsets, top_len, top_cid}
+use Rattle.top_dict.specs.Top.{top_len, top_cid}
 use Rattle.top_dict.specs.TopLaws.{cid_measured}
 use Rattle.top_dict.specs.Slotted.{top_cid_is}
 use Rattle.front.specs.Front.{SlotsReady, front_len, header_bytes, front_bytes, CidFront}
 use Rattle.front.specs.SlotLaws.{slots_slotted}
 use Rattle.front.specs.PrepareLaws.{has-strings, cid_own}
-use Rattle.front.specs.FrontLaws.{front-sum, names-room, top-room, front-wrote, top_small, ready_filled, measured-front, front-room, top-short, strings-asked}
+use Rattle.front.specs.FrontLaws.{front-sum, names-room, top-room, front-wrote, measured-front, front-room, top-short, strings-asked}
 
 module _ (p : Program) (slots : List ℕ) (ready : SlotsReady p true slots) where
   abbrev own : List (List ℕ)
@@ -85,20 +85,15 @@ module _ (b : List ℕ) (f : Font) (slots : List ℕ) (own : Own) (name out : Li
   names-asked = (g.fits.short, names-room all name top strings out room)
 
   module _ {mid : List ℕ} {q : ℕ} (w : Wrote out 0 (header_bytes all ++ index_bytes (name ∷ [])) mid q) where
-    pub top-asked : Offsets at₁ at₂ at₃ at₄ → (length (top_of b f.top f.top_end) ≤ 67108864) × Filled slots × Offsets at₁ at₂ at₃ at₄
-        × (top_len true 0 p.top slots < 4294967295) × (q + length (index_bytes (top ∷ [])) ≤ length mid)
-    top-asked o = (
-      top_small b f g.font,
-      ready_filled b f true slots g.font g.ready,
-      o,
+    pub top-asked : (top_len true 0 p.top slots < 4294967295) × (q + length (index_bytes (top ∷ [])) ≤ length mid)
+    top-asked = (
       top-short p true 0 slots own name out g.fits all top strings measured counted,
       top-room all name top strings out room w,
     )
 
     module _ {mid2 : List ℕ} {q2 : ℕ} (v : Wrote mid q (index_bytes (top ∷ [])) mid2 q2) where
-      pub own-asked : HasStrings b f.strings × SlotsGiven p.strings slots × IndexRoom mid2 q2 strings own
+      pub own-asked : SlotsGiven p.strings slots × IndexRoom mid2 q2 strings own
       own-asked = (
-        has-strings b f g.font,
         g.ready.given,
         strings-asked p true 0 slots own name out g.fits all top strings measured counted w v,
       )

@@ -5,7 +5,7 @@ use Rattle.octets.specs.Octets.{Wrote}
 use Rattle.octets.specs.PutLaws.{wrote_as}
 use Rattle.index.specs.Write.{index_bytes}
 use Rattle.cff.specs.Font.{Program}
-use Rattle.cff.specs.Reads.{GoodFont, program_of, top_of}
+use Rattle.cff.specs.Reads.{GoodFont, program_of}
 use Rattle.cff.specs.declared.font.Font.{Font}
 use Rattle.subset.specs.Subset.{own_by_name, top_by_name}
 use Rattle.order.specs.Walks.{order_in}
@@ -16,13 +16,13 @@ use Rattle.own_strings.specs.Slots.{word_names, own_of, all_own}
 use Rattle.own_strings.specs.Ready.{HasStrings, SlotsGiven, IndexRoom}
 use Rattle.name_strings.specs.Names.{NamesApart}
 use Rattle.name_strings.specs.NamesLaws.{order-own}
-use Rattle.top_dict.specs.Top.{Filled, Offsets, top_len, top_named}
+use Rattle.top_dict.specs.Top.{top_len, top_named}
 use Rattle.top_dict.specs.TopLaws.{named-measured}
 use Rattle.top_dict.specs.Slotted.{top-named_is}
 use Rattle.front.specs.Front.{SlotsReady, front_len, header_bytes, front_bytes, NamedFront}
 use Rattle.front.specs.SlotLaws.{slots_slotted}
 use Rattle.front.specs.PrepareLaws.{has-strings}
-use Rattle.front.specs.FrontLaws.{front-sum, names-room, top-room, front-wrote, top_small, ready_filled, measured-front, front-room, top-short, strings-asked}
+use Rattle.front.specs.FrontLaws.{front-sum, names-room, top-room, front-wrote, measured-front, front-room, top-short, strings-asked}
 
 module _ (b : List ℕ) (f : Font) (ws : List ℕ) (good : GoodFont b f) (slots : List ℕ) (ready : SlotsReady (program_of b f) false slots) where
   abbrev program : Program
@@ -94,13 +94,8 @@ module _ (b : List ℕ) (o : Order) (slots : List ℕ) (own : Own) (ws window na
   names-asked = (g.fits.short, names-room all name top strings out room)
 
   module _ {mid : List ℕ} {q : ℕ} (w : Wrote out 0 (header_bytes all ++ index_bytes (name ∷ [])) mid q) where
-    pub top-asked : Offsets at₁ at₂ size at₃ → v < 2147483648 → (length (top_of b o.f.top o.f.top_end) ≤ 67108864) × Filled slots × Offsets at₁ at₂ size at₃
-        × (v < 2147483648) × (top_len false v p.top slots < 4294967295) × (q + length (index_bytes (top ∷ [])) ≤ length mid)
-    top-asked h e = (
-      top_small b o.f g.font,
-      ready_filled b o.f false slots g.font g.ready,
-      h,
-      e,
+    pub top-asked : (top_len false v p.top slots < 4294967295) × (q + length (index_bytes (top ∷ [])) ≤ length mid)
+    top-asked = (
       top-short p false v slots own name out g.fits all top strings measured counted,
       top-room all name top strings out room w,
     )

@@ -14,9 +14,13 @@ ghost use Rattle.top_dict.specs.Top.{Offsets};
 ghost use Rattle.front.specs.Front.{SmallFont, SlotsReady, Measured, front_len, header_bytes, front_bytes, NamedFront, CidFront};
 
 use cff::font::Font;
+use index::items::Items;
 use name_strings::{count_names, put_slot_strings, put_strings};
 use order_window::Order;
 use own_strings::{Own, put_slot_ids, put_slots};
+use top_dict::offsets::{CidOffsets, NamedOffsets};
+use top_dict::slots::Slots;
+use top_dict::top::Top;
 use top_dict::{put_cid_index, put_named_index, top_len};
 
 // The string ids of the top DICT given new ones, by the keying of the subset: slots; the own strings so far.
@@ -27,9 +31,12 @@ fn prepare_slots(font: &[u8], f: Font, cid: bool, slots: &mut [usize]) -> Own
 {
     let top = f.top;
     let end = f.top_end;
-    let strings = f.strings;
+    let strings = Items {
+        bytes: font,
+        ix: f.strings,
+    };
     put_slots(&font[top..end], cid, &mut *slots);
-    put_slot_ids(font, strings, slots)
+    put_slot_ids(&strings, slots)
 }
 
 // The string ids of the top DICT given new ones: slots; the own strings of a name-keyed subset, those of the names of the kept glyphs among them.
@@ -74,11 +81,12 @@ pub fn front_len(
         × (own.count ≤ 65544) × (own.total ≤ 4398583382016) }
     ensures { (result ≡ front_len cid v (program_of font.now f).top slots.now name own) × (result ≤ 844424931000004) }
 {
-    let top = f.top;
+    let start = f.top;
     let end = f.top_end;
     let count = own.count;
     let total = own.total;
-    let n = top_len(cid, v, &font[top..end], slots);
+    let top = Top::read(&font[start..end], Slots { ids: slots });
+    let n = top_len(cid, v, &top);
     4 + index::index_len(1, name) + index::index_len(1, n) + index::index_len(count, total)
 }
 
@@ -126,21 +134,18 @@ pub fn put_front_named(
         out.new result) × (Ordered font.now words.now window.new o) }
 {
     let f = o.f;
-    let top = f.top;
+    let start = f.top;
     let end = f.top_end;
-    let d = &font[top..end];
+    let top = Top::read(&font[start..end], Slots { ids: slots });
+    let offsets = NamedOffsets {
+        charset: at.charset,
+        encoding: at.encoding,
+        charstrings: at.charstrings,
+        size: at.size,
+        private: at.private,
+    };
     let p = put_names(name, at.end, out);
-    let q = put_named_index(
-        d,
-        slots,
-        at.charset,
-        at.encoding,
-        at.charstrings,
-        at.size,
-        at.private,
-        out,
-        p,
-    );
+    let q = put_named_index(&top, offsets, out, p);
     put_strings(font, o, words, window, slots, own, out, q)
 }
 
@@ -172,11 +177,20 @@ pub fn put_front_cid(
         (own_by_cid (program_of font.now f)))
         out.new result }
 {
-    let top = f.top;
+    let start = f.top;
     let end = f.top_end;
-    let strings = f.strings;
-    let d = &font[top..end];
+    let strings = Items {
+        bytes: font,
+        ix: f.strings,
+    };
+    let top = Top::read(&font[start..end], Slots { ids: slots });
+    let offsets = CidOffsets {
+        charset: at.charset,
+        select: at.select,
+        glyphs: at.glyphs,
+        dicts: at.dicts,
+    };
     let p = put_names(name, at.end, out);
-    let q = put_cid_index(d, slots, at.charset, at.select, at.glyphs, at.dicts, out, p);
-    put_slot_strings(font, strings, slots, own, out, q)
+    let q = put_cid_index(&top, offsets, out, p);
+    put_slot_strings(&strings, slots, own, out, q)
 }

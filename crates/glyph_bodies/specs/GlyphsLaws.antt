@@ -40,7 +40,6 @@ module _ {b ws table : List ℕ} {from : Source} {g : Glyph} {rows : List Row} (
           local_ranks = subst (Ranked ws) (sym el) w.local_ranks;
           global_ranks = w.global_ranks;
           order = w.order;
-          body = omega (arith, w.inside, w.few);
           size = omega (arith, item-short b from.ix w.good g.number w.inside, w.size);
         }
 

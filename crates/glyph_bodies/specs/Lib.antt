@@ -5,3 +5,5 @@ pub mod GlyphsLaws
 pub mod PartLaws
 pub mod LoopLaws
 pub mod PutLaws
+pub mod Alone
+pub mod Written

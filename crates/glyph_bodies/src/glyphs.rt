@@ -2,18 +2,20 @@
 ghost use Rattle.std.specs.Prelude.{◌≡◌, true, ◌+◌, ◌-◌, ◌%◌, ◌≤◌, ◌<◌, length, get_or};
 ghost use Rattle.octets.specs.Octets.{Wrote};
 ghost use Rattle.charset.specs.FdPlaces.{GoodSelect};
-ghost use Rattle.record.specs.Record.{rows_of};
 ghost use Rattle.mask_rows.specs.MaskRows.{Covers, HasOrNone};
 ghost use Rattle.renumber.specs.Turn.{sized_of, body_of_lem};
 ghost use Rattle.bodies.specs.Ways.{holds};
-ghost use Rattle.bodies.specs.Windows.{Lent};
 ghost use Rattle.bodies.specs.Sizes.{AtMost};
-ghost use Rattle.glyph_bodies.specs.Glyphs.{glyph_of, GlyphIn, charstring_for, in_order};
+ghost use Rattle.glyph_bodies.specs.Glyphs.{glyph_of, in_order};
+ghost use Rattle.glyph_bodies.specs.Written.{written};
 
+use crate::charstrings::Charstring;
 use bodies::Manner;
 use charset::fd_select::FdSelect;
 use index::Index;
+use long_bodies::long_site::LongSite;
 use mask_rows::Window;
+use mask_rows::lent::Lent;
 use order_window::Held;
 use reach::Site;
 
@@ -42,29 +44,21 @@ pub fn glyph_at(font: &[u8], select: FdSelect, window: &[u32], u: Held, i: usize
 }
 
 // How long the charstring of a glyph is by the way, or that its renumbering fails.
-pub fn charstring_len(
-    from: Source,
-    glyph: Glyph,
-    font: &[u8],
-    words: &[u32],
-    table: &[usize],
-    rows: &[u8],
-) -> Option<usize>
-    requires { GlyphIn font.now words.now table.now from glyph (rows_of rows.now) }
-    ensures { (result ≡ sized_of (charstring_for from glyph (rows_of rows.now) words.now table.now font.now)) × (AtMost 335544320 result) }
+pub fn charstring_len(one: &Charstring<'_>) -> Option<usize>
+    ensures { (result ≡ sized_of (written one.now)) × (AtMost 335544320 result) }
 {
-    let how = from.how;
-    let number = glyph.number;
-    let locals = bodies::ranks_in(table, glyph.fd);
-    let code = index::item(font, from.ix, number);
-    let site = Site::Glyph(number);
+    let how = one.from.how;
+    let number = one.glyph.number;
+    let locals = bodies::ranks_in(one.table, one.glyph.fd);
+    let code = index::item(one.font, one.from.ix, number);
+    let site = Site::Glyph(number as u16);
     bodies::body_len(
         how.way,
         code,
-        words,
+        one.words,
         locals,
         how.globals,
-        rows,
+        one.rows,
         how.rising,
         site,
     )
@@ -86,100 +80,68 @@ fn in_order(from: Source) -> Source
 }
 
 // The same where the glyph has more rows than a window holds.
-fn long_len(
-    from: Source,
-    glyph: Glyph,
-    font: &[u8],
-    words: &[u32],
-    table: &[usize],
-    rows: &[u8],
-    keys: &mut [u64],
-    bytes: &mut [u8],
-) -> Option<usize>
-    requires { (GlyphIn font.now words.now table.now from glyph (rows_of rows.now)) × (Lent keys.old bytes.old) }
-    ensures { (result ≡ sized_of (charstring_for from glyph (rows_of rows.now) words.now table.now font.now)) × (AtMost 335544320 result) }
+fn long_len(one: &Charstring<'_>, lent: &mut Lent<'_>) -> Option<usize>
+    ensures { (result ≡ sized_of (written one.now)) × (AtMost 335544320 result) }
 {
-    let how = from.how;
-    if how.way.is_renumbered() {
-        let number = glyph.number;
-        let locals = bodies::ranks_in(table, glyph.fd);
-        let code = index::item(font, from.ix, number);
-        let site = Site::Glyph(number);
-        return long_bodies::renumbered_len(
-            code,
-            words,
-            locals,
-            how.globals,
-            rows,
-            site,
-            keys,
-            bytes,
-        );
-    }
-    charstring_len(from, glyph, font, words, table, rows)
+    let how = one.from.how;
+    let number = one.glyph.number;
+    let locals = bodies::ranks_in(one.table, one.glyph.fd);
+    let code = index::item(one.font, one.from.ix, number);
+    let of = LongSite {
+        site: Site::Glyph(number as u16),
+    };
+    bodies::long_body_len(
+        how.way,
+        code,
+        one.words,
+        locals,
+        how.globals,
+        one.rows,
+        of,
+        lent,
+    )
 }
 
 // The same by a part of the record, where it has the rows of the glyph; a longer one takes the part's place.
-pub fn windowed_len(
-    from: Source,
-    glyph: Glyph,
-    font: &[u8],
-    words: &[u32],
-    table: &[usize],
-    rows: &[u8],
-    masks: Window,
-    keys: &mut [u64],
-    bytes: &mut [u8],
-) -> Option<usize>
-    requires { (GlyphIn font.now words.now table.now from glyph (rows_of rows.now)) × (Covers rows.now bytes.old 2 0 masks) × (HasOrNone glyph.number masks)
-        × (Lent keys.old bytes.old) }
-    ensures { (result ≡ sized_of (charstring_for from glyph (rows_of rows.now) words.now table.now font.now)) × (AtMost 335544320 result)
-        × (Covers rows.now bytes.new 2 0 masks) }
+pub fn windowed_len(one: &Charstring<'_>, masks: Window, lent: &mut Lent<'_>) -> Option<usize>
+    requires { (Covers one.now.rows.now lent.old.bytes.now 2 0 masks) × (HasOrNone one.now.glyph.number masks) }
+    ensures { (result ≡ sized_of (written one.now)) × (AtMost 335544320 result) × (Covers one.now.rows.now lent.new.bytes.now 2 0 masks) }
 {
+    let glyph = one.glyph;
     if glyph.number < masks.from {
-        return charstring_len(from, glyph, font, words, table, rows);
+        return charstring_len(one);
     }
     if glyph.number < masks.end {
-        return charstring_len(
-            in_order(from),
+        let part = Charstring {
+            from: in_order(one.from),
             glyph,
-            font,
-            words,
-            table,
-            &bytes[..masks.len],
-        );
+            font: one.font,
+            words: one.words,
+            table: one.table,
+            rows: lent.rows(masks.len),
+        };
+        return charstring_len(&part);
     }
-    long_len(from, glyph, font, words, table, rows, keys, bytes)
+    long_len(one, lent)
 }
 
 // The charstring of a glyph by the way, from `at` on; the place after it.
-pub fn put_charstring(
-    from: Source,
-    glyph: Glyph,
-    font: &[u8],
-    words: &[u32],
-    table: &[usize],
-    rows: &[u8],
-    out: &mut [u8],
-    at: usize,
-) -> usize
-    requires { (GlyphIn font.now words.now table.now from glyph (rows_of rows.now))
-        × (holds (charstring_for from glyph (rows_of rows.now) words.now table.now font.now) ≡ true)
-        × (at + length (body_of_lem (charstring_for from glyph (rows_of rows.now) words.now table.now font.now)) ≤ length out.old) }
-    ensures { Wrote out.old at (body_of_lem (charstring_for from glyph (rows_of rows.now) words.now table.now font.now)) out.new result }
+pub fn put_charstring(one: &Charstring<'_>, out: &mut [u8], at: usize) -> usize
+    requires { (holds (written one.now) ≡ true) × (at + length (body_of_lem (written one.now)) ≤ length out.old) }
+    ensures { Wrote out.old at (body_of_lem (written one.now)) out.new result }
 {
-    let how = from.how;
-    let number = glyph.number;
-    let locals = bodies::ranks_in(table, glyph.fd);
-    let code = index::item(font, from.ix, number);
-    let site = Site::Glyph(number);
+    let how = one.from.how;
+    let number = one.glyph.number;
+    let locals = bodies::ranks_in(one.table, one.glyph.fd);
+    let code = index::item(one.font, one.from.ix, number);
+    let site = Site::Glyph(number as u16);
     bodies::put_body(
         how.way,
         code,
-        words,
+        one.words,
         locals,
         how.globals,
-        rows,
+        one.rows,
         how.rising,
         site,
         out,
@@ -188,79 +150,57 @@ pub fn put_charstring(
 }
 
 // The same where the glyph has more rows than a window holds.
-fn put_long(
-    from: Source,
-    glyph: Glyph,
-    font: &[u8],
-    words: &[u32],
-    table: &[usize],
-    rows: &[u8],
-    out: &mut [u8],
-    at: usize,
-    keys: &mut [u64],
-    bytes: &mut [u8],
-) -> usize
-    requires { (GlyphIn font.now words.now table.now from glyph (rows_of rows.now)) × (Lent keys.old bytes.old)
-        × (holds (charstring_for from glyph (rows_of rows.now) words.now table.now font.now) ≡ true)
-        × (at + length (body_of_lem (charstring_for from glyph (rows_of rows.now) words.now table.now font.now)) ≤ length out.old) }
-    ensures { Wrote out.old at (body_of_lem (charstring_for from glyph (rows_of rows.now) words.now table.now font.now)) out.new result }
+fn put_long(one: &Charstring<'_>, out: &mut [u8], at: usize, lent: &mut Lent<'_>) -> usize
+    requires { (holds (written one.now) ≡ true) × (at + length (body_of_lem (written one.now)) ≤ length out.old) }
+    ensures { Wrote out.old at (body_of_lem (written one.now)) out.new result }
 {
-    let how = from.how;
-    if how.way.is_renumbered() {
-        let number = glyph.number;
-        let locals = bodies::ranks_in(table, glyph.fd);
-        let code = index::item(font, from.ix, number);
-        let site = Site::Glyph(number);
-        return long_bodies::put_renumbered(
-            code,
-            words,
-            locals,
-            how.globals,
-            rows,
-            site,
-            out,
-            at,
-            keys,
-            bytes,
-        );
-    }
-    put_charstring(from, glyph, font, words, table, rows, out, at)
+    let how = one.from.how;
+    let number = one.glyph.number;
+    let locals = bodies::ranks_in(one.table, one.glyph.fd);
+    let code = index::item(one.font, one.from.ix, number);
+    let of = LongSite {
+        site: Site::Glyph(number as u16),
+    };
+    bodies::put_long_body(
+        how.way,
+        code,
+        one.words,
+        locals,
+        how.globals,
+        one.rows,
+        of,
+        out,
+        at,
+        lent,
+    )
 }
 
 // The same by a part of the record, where it has the rows of the glyph; a longer one takes the part's place.
 pub fn put_windowed(
-    from: Source,
-    glyph: Glyph,
-    font: &[u8],
-    words: &[u32],
-    table: &[usize],
-    rows: &[u8],
+    one: &Charstring<'_>,
     masks: Window,
     out: &mut [u8],
     at: usize,
-    keys: &mut [u64],
-    bytes: &mut [u8],
+    lent: &mut Lent<'_>,
 ) -> usize
-    requires { (GlyphIn font.now words.now table.now from glyph (rows_of rows.now)) × (Covers rows.now bytes.old 2 0 masks) × (HasOrNone glyph.number masks)
-        × (Lent keys.old bytes.old) × (holds (charstring_for from glyph (rows_of rows.now) words.now table.now font.now) ≡ true)
-        × (at + length (body_of_lem (charstring_for from glyph (rows_of rows.now) words.now table.now font.now)) ≤ length out.old) }
-    ensures { (Wrote out.old at (body_of_lem (charstring_for from glyph (rows_of rows.now) words.now table.now font.now)) out.new result)
-        × (Covers rows.now bytes.new 2 0 masks) }
+    requires { (Covers one.now.rows.now lent.old.bytes.now 2 0 masks) × (HasOrNone one.now.glyph.number masks)
+        × (holds (written one.now) ≡ true) × (at + length (body_of_lem (written one.now)) ≤ length out.old) }
+    ensures { (Wrote out.old at (body_of_lem (written one.now)) out.new result) × (Covers one.now.rows.now lent.new.bytes.now 2 0 masks) }
 {
+    let glyph = one.glyph;
     if glyph.number < masks.from {
-        return put_charstring(from, glyph, font, words, table, rows, out, at);
+        return put_charstring(one, out, at);
     }
     if glyph.number < masks.end {
-        return put_charstring(
-            in_order(from),
+        let part = Charstring {
+            from: in_order(one.from),
             glyph,
-            font,
-            words,
-            table,
-            &bytes[..masks.len],
-            out,
-            at,
-        );
+            font: one.font,
+            words: one.words,
+            table: one.table,
+            rows: lent.rows(masks.len),
+        };
+        return put_charstring(&part, out, at);
     }
-    put_long(from, glyph, font, words, table, rows, out, at, keys, bytes)
+    put_long(one, out, at, lent)
 }

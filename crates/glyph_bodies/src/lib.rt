@@ -3,6 +3,7 @@
 // not have the place: a call for each glyph takes about as long as the copy of a short charstring.
 #![tactic(auto)]
 
+pub mod charstrings;
 pub mod glyphs;
 
 ghost use Rattle.std.specs.Prelude.{◌≡◌, length};
@@ -14,9 +15,11 @@ ghost use Rattle.bodies.specs.Ways.{many_of, measured_of, Room};
 ghost use Rattle.bodies.specs.Sizes.{Bounded};
 ghost use Rattle.glyph_bodies.specs.Charstrings.{CharstringsIn, charstrings_from};
 
+use crate::charstrings::Charstring;
 use crate::glyphs::Source;
 use bodies::Manner;
 use mask_rows::Window;
+use mask_rows::lent::Lent;
 use order_window::Order;
 
 // Their bytes together, by parts of a record that does not rise.
@@ -35,6 +38,10 @@ fn total_by_windows(
 {
     let mut keys = [0u64; 9216];
     let mut bytes = [0u8; 81920];
+    let mut lent = Lent {
+        keys: &mut keys,
+        bytes: &mut bytes,
+    };
     let mut masks = Window {
         from: 0,
         end: 0,
@@ -51,10 +58,16 @@ fn total_by_windows(
             u = order_window::hold(font, f, words, &mut *window, u, i);
         }
         let glyph = glyphs::glyph_at(font, f.select, &*window, u, i);
-        masks = mask_rows::advance(masks, rows, 2, 0, glyph.number, &mut keys, &mut bytes);
-        match glyphs::windowed_len(
-            from, glyph, font, words, table, rows, masks, &mut keys, &mut bytes,
-        ) {
+        masks = mask_rows::advance(masks, rows, 2, 0, glyph.number, &mut lent);
+        let one = Charstring {
+            from,
+            glyph,
+            font,
+            words,
+            table,
+            rows,
+        };
+        match glyphs::windowed_len(&one, masks, &mut lent) {
             Some(len) => total += len,
             None => return None,
         }
@@ -87,7 +100,15 @@ fn total_directly(
             u = order_window::hold(font, f, words, &mut *window, u, i);
         }
         let glyph = glyphs::glyph_at(font, f.select, &*window, u, i);
-        match glyphs::charstring_len(from, glyph, font, words, table, rows) {
+        let one = Charstring {
+            from,
+            glyph,
+            font,
+            words,
+            table,
+            rows,
+        };
+        match glyphs::charstring_len(&one) {
             Some(len) => total += len,
             None => return None,
         }
@@ -138,6 +159,10 @@ fn put_by_windows(
 {
     let mut keys = [0u64; 9216];
     let mut bytes = [0u8; 81920];
+    let mut lent = Lent {
+        keys: &mut keys,
+        bytes: &mut bytes,
+    };
     let mut masks = Window {
         from: 0,
         end: 0,
@@ -156,10 +181,16 @@ fn put_by_windows(
             u = order_window::hold(font, f, words, &mut *window, u, i);
         }
         let glyph = glyphs::glyph_at(font, f.select, &*window, u, i);
-        masks = mask_rows::advance(masks, rows, 2, 0, glyph.number, &mut keys, &mut bytes);
-        p = glyphs::put_windowed(
-            from, glyph, font, words, table, rows, masks, &mut *out, p, &mut keys, &mut bytes,
-        );
+        masks = mask_rows::advance(masks, rows, 2, 0, glyph.number, &mut lent);
+        let one = Charstring {
+            from,
+            glyph,
+            font,
+            words,
+            table,
+            rows,
+        };
+        p = glyphs::put_windowed(&one, masks, &mut *out, p, &mut lent);
         index::put_end(out, to, i, p);
     }
     p
@@ -196,7 +227,15 @@ fn put_directly(
             u = order_window::hold(font, f, words, &mut *window, u, i);
         }
         let glyph = glyphs::glyph_at(font, f.select, &*window, u, i);
-        p = glyphs::put_charstring(from, glyph, font, words, table, rows, &mut *out, p);
+        let one = Charstring {
+            from,
+            glyph,
+            font,
+            words,
+            table,
+            rows,
+        };
+        p = glyphs::put_charstring(&one, &mut *out, p);
         index::put_end(out, to, i, p);
     }
     p

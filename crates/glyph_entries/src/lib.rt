@@ -6,10 +6,10 @@ pub mod places;
 
 ghost use Rattle.std.specs.Prelude.{[], ◌∷◌, length};
 ghost use Rattle.cff.specs.Font.{read_font};
-ghost use Rattle.cff.specs.Reads.{program_of, GoodFont};
+ghost use Rattle.cff.specs.Loaded.{program};
 ghost use Rattle.glyph_entries.specs.Glyph.{told, glyph_in, glyph_of, Tells};
 
-use cff::font::Font;
+use cff::loaded::Loaded;
 use refusal::Refusal;
 
 // Writes a name to the lent bytes, and what else is told of a glyph to the lent words.
@@ -40,33 +40,19 @@ fn give(
 
 // A glyph of a font that was read: its name, where the font is name-keyed, and four words: 1 for a CID-keyed font, its CID or string id, its FD
 // and the length of its name.
-fn glyph_in(
-    font: &[u8],
-    f: Font,
-    g: usize,
-    name: &mut [u8],
-    answer: &mut [u64],
-) -> Result<(), Refusal>
-    requires { GoodFont font.now f }
-    ensures { Tells (glyph_in (program_of font.now f) g) name.old name.new answer.old answer.new result }
+fn glyph_in(font: &Loaded<'_>, g: usize, name: &mut [u8], answer: &mut [u64]) -> Result<(), Refusal>
+    ensures { Tells (glyph_in (program font.now) g) name.old name.new answer.old answer.new result }
 {
-    let charstrings = f.charstrings;
-    let charset = f.charset;
-    let select = f.select;
-    let strings = f.strings;
-    let cid = f.cid;
-    let n = charstrings.count;
+    let n = font.f.charstrings.count;
     if n <= g {
         return Err(Refusal::NoSuchNumber);
     }
-    let id = charset::id_of(font, charset, n, g);
-    let fd = charset::fd_select::fd_of(font, select, g);
-    if cid {
-        return give(1, id, fd, &font[0..0], name, answer);
+    let id = charset::id_of(&font.ids(), g);
+    let fd = charset::fd_select::fd_of(font.bytes, font.f.select, g);
+    if font.f.cid {
+        return give(1, id, fd, &font.bytes[0..0], name, answer);
     }
-    let names = strings::table::STANDARD_TEXT;
-    let offsets = strings::table::STANDARD_OFFSETS;
-    let text = name_order::text_at(font, strings, &names, &offsets, id);
+    let text = name_order::text_at(&font.strings(), id);
     give(0, id, fd, text, name, answer)
 }
 
@@ -74,6 +60,6 @@ fn glyph_in(
 pub fn glyph(font: &[u8], number: usize, name: &mut [u8], answer: &mut [u64]) -> Result<(), Refusal>
     ensures { Tells (glyph_of (read_font font.now) number) name.old name.new answer.old answer.new result }
 {
-    let f = cff::set::read_font(font)?;
-    glyph_in(cff::set::table(font, f), f, number, name, answer)
+    let font = cff::set::load(font)?;
+    glyph_in(&font, number, name, answer)
 }

@@ -1,9 +1,9 @@
 -- Laws of lines, fields and hexadecimal, as the functions meet them: a byte at a time, a pair of digits at a time.
 use Prim.Native.Nat.{ℕ, zero, suc, ◌+◌, ◌-◌, ◌*◌, ◌≤◌, ◌<◌}
-use Rattle.std.specs.Prelude.{◌≡◌, refl, Bool, true, false, List, [], ◌∷◌, ltb, get_or, None, Option, Some}
-use Rattle.std.proofs.Common.{sym, ap, ◌∙◌, not-suc-le-zero, add-one}
+use Rattle.std.specs.Prelude.{◌≡◌, refl, Bool, true, false, List, [], ◌∷◌, ltb, get_or, None, Option, Some, drop, take}
+use Rattle.std.proofs.Common.{sym, ap, ◌∙◌, not-suc-le-zero, length-drop, take_all}
 use native.Mathlib.Omega.{arith}
-use borrow.Author.Tests.{lt-ltb, le-ltb, ltb-false, eq-eqb, ne_eqb}
+use borrow.Author.Tests.{lt-ltb, le-ltb, ltb-false}
 use Rattle.std.proofs.Math.ListN.{length}
 use Rattle.std.proofs.Math.Seq.{slice, slice_empty, slice-cons, length-slice, take-length}
 use Rattle.octets.specs.Pick.{pick}
@@ -11,31 +11,21 @@ use Rattle.octets.specs.PickLaws.{other_holds}
 use Rattle.octets.specs.Octets.{Octets, put, Wrote}
 use Rattle.octets.specs.PutLaws.{put_nil}
 use Rattle.octets.specs.Lists.{before}
-use Rattle.hexlines.specs.Hexlines.{hex_value_lem, line_end, is_hex_lem, spelt, hex_bytes, room_for, Unhexes}
+use Rattle.hexlines.specs.Hexlines.{hex_value_lem, line_end, field_end_lem, is_hex_lem, spelt, hex_bytes, room_for, Unhexes}
 
 -- ---- the first of a byte
 
--- the byte stands here
-pub before_here : (b : ℕ) (s : List ℕ) (i end : ℕ) → i < end → end ≤ length s → get_or s i 0 ≡ b → before b (slice i end s) ≡ 0
-unfolding before
-before_here b s i end h k e = rw (slice-cons i end s 0 h k) (simp (eq-eqb (get_or s i 0) b e))
+-- a part that goes to the end is all that is left
+rest_is : (s : List ℕ) (at : ℕ) → take (length s - at) (drop at s) ≡ drop at s
+rest_is s at = take_all (length s - at) (drop at s) (omega (arith, length-drop at s))
 
--- it does not: one more
-pub before-next : (b : ℕ) (s : List ℕ) (i end : ℕ) → i < end → end ≤ length s → (get_or s i 0 ≡ b → ⊥)
-    → i + before b (slice i end s) ≡ (i + 1) + before b (slice (i + 1) end s)
-unfolding before
-before-next b s i end h k n =
-    rw (slice-cons i end s 0 h k) (simp (ne_eqb (get_or s i 0) b n, add-one) (omega arith))
-
--- nothing is left
-pub before-none : (b : ℕ) (s : List ℕ) (i end : ℕ) → i ≡ end → before b (slice i end s) ≡ 0
-unfolding before
-before-none b s i end e = rw (e, slice_empty)
-
--- the whole rest of a text
-pub line-place : (s : List ℕ) (at : ℕ) → at + before 10 (slice at (length s) s) ≡ line_end s at
+pub line-place : (s : List ℕ) (at : ℕ) → at + before 10 (take (length s - at) (drop at s)) ≡ line_end s at
 unfolding line_end
-line-place s at = rw take-length
+line-place s at = rw (rest_is s at)
+
+pub field-place : (s : List ℕ) (at : ℕ) → at + before 32 (take (length s - at) (drop at s)) ≡ field_end_lem s at (length s)
+unfolding field_end_lem
+field-place s at = rw (rest_is s at, take-length)
 
 -- ---- digits, a pair at a time
 
@@ -79,25 +69,6 @@ module _ (s : List ℕ) (i end : ℕ) (k : end ≤ length s) where
       slice-cons i end s 0 a k
       ∙ ap (λ (l : List ℕ). get_or s i 0 ∷ l) (slice-cons (suc i) end s 0 b k ∙ rw (n, m))
 
-  pub hex-odd : i < end → end - i < 2 → is_hex_lem (slice i end s) ≡ false
-  unfolding is_hex_lem
-  hex-odd h n =
-      let e : suc i ≡ end = omega arith in
-      rw (slice-cons i end s 0 h k, e, slice_empty)
-
-  pub hex-high : i + 2 ≤ end → 15 < hex_value_lem (get_or s i 0) → is_hex_lem (slice i end s) ≡ false
-  unfolding is_hex_lem
-  hex-high h v = rw (slice-two h) (simp (lt-ltb 15 (hex_value_lem (get_or s i 0)) v))
-
-  pub hex-low : i + 2 ≤ end → hex_value_lem (get_or s i 0) ≤ 15 → 15 < hex_value_lem (get_or s (i + 1) 0) → is_hex_lem (slice i end s) ≡ false
-  unfolding is_hex_lem
-  hex-low h u v = rw (slice-two h) (simp (le-ltb 15 (hex_value_lem (get_or s i 0)) u, lt-ltb 15 (hex_value_lem (get_or s (i + 1) 0)) v))
-
-  pub hex-next : i + 2 ≤ end → hex_value_lem (get_or s i 0) ≤ 15 → hex_value_lem (get_or s (i + 1) 0) ≤ 15
-      → is_hex_lem (slice i end s) ≡ is_hex_lem (slice (i + 2) end s)
-  unfolding is_hex_lem
-  hex-next h u v = rw (slice-two h) (simp (le-ltb 15 (hex_value_lem (get_or s i 0)) u, le-ltb 15 (hex_value_lem (get_or s (i + 1) 0)) v))
-
   pub hex-pair : i < end → is_hex_lem (slice i end s) ≡ true → Pair s i end
   hex-pair h t =
       let m = hex-more (get_or s i 0) (slice (suc i) end s) (rw (slice-cons i end s 0 h k) at t) in
@@ -110,10 +81,6 @@ module _ (s : List ℕ) (i end : ℕ) (k : end ≤ length s) where
       → spelt (slice i end s) ≡ (h * 16 + l) ∷ spelt (slice (i + 2) end s)
   unfolding spelt
   spelt-two h l high low w = rw (slice-two w, high, low)
-
-pub hex-none : (s : List ℕ) (i end : ℕ) → i ≡ end → is_hex_lem (slice i end s) ≡ true
-unfolding is_hex_lem
-hex-none s i end e = rw (e, slice_empty)
 
 pub spelt-none : (s : List ℕ) (i end : ℕ) → i ≡ end → spelt (slice i end s) ≡ []
 unfolding spelt

@@ -8,3 +8,5 @@ pub mod PutApart
 pub mod Begun
 pub mod BegunLaws
 pub mod Examples
+pub mod Alone
+pub mod Items

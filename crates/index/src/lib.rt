@@ -10,6 +10,8 @@ ghost use Rattle.index.specs.Place.{StartsAt, item_place};
 ghost use Rattle.index.specs.Write.{total, size_for, head_bytes, index_bytes, index_len_lem, index_for_lem};
 ghost use Rattle.index.specs.Begun.{WroteItem, end_place};
 
+pub mod items;
+
 use refusal::Refusal;
 
 // An INDEX in a font: how many items, the bytes of an offset, where the offsets stand, the byte before the data, and the end.

@@ -3,6 +3,7 @@ pub mod TraceLaws
 pub mod Rows
 pub mod RowsLaws
 pub mod Run
+pub mod Alone
 pub mod RunLaws
 pub mod StandingLaws
 pub mod GlyphLaws

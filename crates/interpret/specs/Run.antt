@@ -15,16 +15,11 @@ use Rattle.interpret.specs.declared.Site.TheVariants.{Glyph as InGlyph, Local, G
 use Rattle.interpret.specs.declared.Ran.{Ran}
 use Rattle.interpret.specs.declared.Ran.TheVariants.{Broken, Returned, Ended}
 
--- a body as the definitions name it, and numbers of one that a row can hold
+-- a body as the definitions name it
 abbrev pub site_of : Site → bodies.Site
 site_of (InGlyph g) = bodies.glyph g
 site_of (Local fd k) = bodies.local fd k
 site_of (Global k) = bodies.global k
-
-abbrev pub SiteFits : Site → Type 0
-SiteFits (InGlyph g) = g < 65536
-SiteFits (Local fd k) = (fd < 256) × (k < 65536)
-SiteFits (Global k) = k < 65536
 
 -- the subroutine that a call enters
 abbrev pub site_in : ℕ → Bool → ℕ → Site
@@ -44,7 +39,6 @@ pub record Ready (font : List ℕ) (q : Subrs) : Type 0 where
   pub locals : Good font q.locals
   pub few_globals : q.globals.count < 65536
   pub few_locals : q.locals.count < 65536
-  pub fds : q.fd < 256
   pub size : length font ≤ 67108864
 
 -- the run of a body, and of a call, with these subroutines

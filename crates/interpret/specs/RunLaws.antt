@@ -19,7 +19,7 @@ use Rattle.interpret.specs.Trace.{Trace, broken, returned, ended, meets, afterwa
 use Rattle.interpret.specs.TraceLaws.{meets-none, meets-both, meets-after}
 use Rattle.interpret.specs.Rows.{Proper}
 use Rattle.interpret.specs.RowsLaws.{proper_call}
-use Rattle.interpret.specs.Run.{site_of, SiteFits, site_in, globals_in, locals_in, key_for, Notes, Telling}
+use Rattle.interpret.specs.Run.{site_of, site_in, globals_in, locals_in, key_for, Notes, Telling}
 use Rattle.interpret.specs.declared.Subrs.{Subrs}
 use Rattle.interpret.specs.declared.Range.{Range}
 use Rattle.interpret.specs.declared.Site.{Site as Body}
@@ -55,17 +55,7 @@ turn-told font q site own e s at prev x r f =
     ∙ ap (λ (n : ℕ). turn_at_lem (length (locals_in font q)) n own s at prev x) (sym (items-length font q.globals))
     ∙ ap (λ (t : Bool). turn_at_lem (length (locals_in font q)) (length (globals_in font q)) t s at prev x) e
 
--- a body's numbers, and where it stands
-pub fits_as : (a b : Body) → a ≡ b → SiteFits a → SiteFits b
-fits_as a b e f = subst SiteFits e f
-
-pub site_fits : (fd : ℕ) (wide : Bool) (i : ℕ) (t : Body) → t ≡ site_in fd wide i → fd < 256 → i < 65536 → SiteFits t
-site_fits fd wide i t e h k = fits_as (site_in fd wide i) t (sym e) (by wide)
-  where
-    by : (w : Bool) → SiteFits (site_in fd w i)
-    by true = k
-    by false = (h, k)
-
+-- the body that a call enters
 pub site_as : (fd : ℕ) (wide : Bool) (i : ℕ) (t : Body) → t ≡ site_in fd wide i → site_of t ≡ site_for fd wide i
 site_as fd wide i t e = ap site_of e ∙ by wide
   where

@@ -10,8 +10,8 @@ use Rattle.turns.specs.declared.Counts.{Counts}
 use Rattle.turns.specs.declared.Turn.{Turn}
 use Rattle.turns.specs.declared.Turn.TheVariants.{Breaks, Returns, Ends, Goes, Masks, Calls}
 use Rattle.interpret.specs.Trace.{Trace, site_for, body_for, trace_body}
-use Rattle.interpret.specs.Run.{site_of, SiteFits, site_in, globals_in, locals_in, Ready, Notes, Telling, Tells, whole_of, call_of}
-use Rattle.interpret.specs.RunLaws.{turn-told, site_fits, site_as, Going, going_start, sound, going_breaks, going_returns, going-ends, going_on, going-mask, going-returned, going_ended, going_broken, going_off, call_deep, call_runs}
+use Rattle.interpret.specs.Run.{site_of, site_in, globals_in, locals_in, Ready, Notes, Telling, Tells, whole_of, call_of}
+use Rattle.interpret.specs.RunLaws.{turn-told, site_as, Going, going_start, sound, going_breaks, going_returns, going-ends, going_on, going-mask, going-returned, going_ended, going_broken, going_off, call_deep, call_runs}
 use Rattle.interpret.specs.declared.Subrs.{Subrs}
 use Rattle.interpret.specs.declared.Range.{Range}
 use Rattle.interpret.specs.declared.Site.{Site as Body}
@@ -21,23 +21,22 @@ use Rattle.interpret.specs.declared.Ran.TheVariants.{Broken, Returned, Ended}
 pub record Standing (font : List ℕ) (q : Subrs) (depth : ℕ) (site : Body) (code : List ℕ) (start : Counts) (range : Range) (keys₀ : List ℕ) (held : ℕ) (own : Bool)
     (keys : List ℕ) (n at prev : ℕ) (x : Counts) : Type 0 where
   pub ready : Ready font q
-  pub fits : SiteFits site
   pub size : length code ≤ 67108864
   pub kind : own ≡ is_glyph (site_of site)
   pub going : Going (globals_in font q) (locals_in font q) q.fd depth (site_of site) code (whole_of font q depth site code start) range keys₀ held keys n at prev x
 
 pub stand_start : (font : List ℕ) (q : Subrs) (depth : ℕ) (site : Body) (code : List ℕ) (start : Counts) (range : Range) (keys : List ℕ) (held : ℕ) (own : Bool)
-    → Ready font q → SiteFits site → length code ≤ 67108864 → Few start → Collecting keys held → own ≡ is_glyph (site_of site)
+    → Ready font q → length code ≤ 67108864 → Few start → Collecting keys held → own ≡ is_glyph (site_of site)
     → Standing font q depth site code start range keys held own keys held 0 0 start
-stand_start font q depth site code start range keys held own r f s w v e =
-    record { ready = r; fits = f; size = s; kind = e; going = going_start (globals_in font q) (locals_in font q) q.fd depth (site_of site) code range keys held start v w }
+stand_start font q depth site code start range keys held own r s w v e =
+    record { ready = r; size = s; kind = e; going = going_start (globals_in font q) (locals_in font q) q.fd depth (site_of site) code range keys held start v w }
 
 -- a subroutine that is named, by the counts
 counted : (font : List ℕ) (q : Subrs) (wide : Bool) (i : ℕ) → i < pick wide (length (globals_in font q)) (length (locals_in font q)) → i < pick wide q.globals.count q.locals.count
 counted font q true i h = subst (λ (k : ℕ). i < k) (items-length font q.globals) h
 counted font q false i h = subst (λ (k : ℕ). i < k) (items-length font q.locals) h
 
-number_small : (font : List ℕ) (q : Subrs) → Ready font q → (wide : Bool) (i : ℕ) → i < pick wide q.globals.count q.locals.count → i < 65536
+pub number_small : (font : List ℕ) (q : Subrs) → Ready font q → (wide : Bool) (i : ℕ) → i < pick wide q.globals.count q.locals.count → i < 65536
 number_small font q r true i h = omega (arith, r.few_globals)
 number_small font q r false i h = omega (arith, r.few_locals)
 
@@ -79,7 +78,7 @@ module _ {font : List ℕ} {q : Subrs} {depth : ℕ} {site : Body} {code : List 
   -- the same with the loop further on
   onward : {keys' : List ℕ} {n' at' prev' : ℕ} {y : Counts} → Going G L q.fd depth (site_of site) code whole range keys₀ held keys' n' at' prev' y
       → Standing font q depth site code start range keys₀ held own keys' n' at' prev' y
-  onward g = record { ready = w.ready; fits = w.fits; size = w.size; kind = w.kind; going = g }
+  onward g = record { ready = w.ready; size = w.size; kind = w.kind; going = g }
 
   pub stand_off : length code ≤ at → Tells whole range keys₀ held keys Broken
   stand_off h = record { says = going_off G L q.fd depth (site_of site) code whole range keys₀ held keys n at prev x w.going h }
@@ -107,10 +106,9 @@ module _ {font : List ℕ} {q : Subrs} {depth : ℕ} {site : Body} {code : List 
 
     -- a mask
     module _ (len : ℕ) (y : Counts) (f : r ≡ Masks len y) where
-      pub mask_asks : (SiteFits site) × (at < 4294967296) × (len < 16) × (Collecting keys n)
-      mask_asks =
-          let k = sound G L q.fd depth (site_of site) code whole range keys₀ held keys n at prev x w.going h r told (Masks len y) f in
-          (w.fits, omega (arith, w.size), omega (arith, k.0), stand_window)
+      pub mask-short : len < 16
+      mask-short =
+          let k = sound G L q.fd depth (site_of site) code whole range keys₀ held keys n at prev x w.going h r told (Masks len y) f in omega (arith, k.0)
 
       pub mask-room : at + 1 + len ≤ length code
       mask-room = (sound G L q.fd depth (site_of site) code whole range keys₀ held keys n at prev x w.going h r told (Masks len y) f).1
@@ -122,10 +120,10 @@ module _ {font : List ℕ} {q : Subrs} {depth : ℕ} {site : Body} {code : List 
 
     -- a call
     module _ (wide : Bool) (i : ℕ) (y : Counts) (f : r ≡ Calls wide i y) where
-      pub call_asks : (Ready font q) × (i < pick wide q.globals.count q.locals.count) × (Few y) × (Collecting keys n)
+      pub call_asks : (i < pick wide q.globals.count q.locals.count) × (Few y) × (Collecting keys n)
       call_asks =
           let k = sound G L q.fd depth (site_of site) code whole range keys₀ held keys n at prev x w.going h r told (Calls wide i y) f in
-          (w.ready, counted font q wide i k.0, k.1, stand_window)
+          (counted font q wide i k.0, k.1, stand_window)
 
       module _ {keys' : List ℕ} {v : Ran} (u : Tells (call_of font q depth wide i y) range keys n keys' v) where
         pub stand_broken : v ≡ Broken → Tells whole range keys₀ held keys' Broken
@@ -141,9 +139,6 @@ module _ {font : List ℕ} {q : Subrs} {depth : ℕ} {site : Body} {code : List 
 
 module _ {font : List ℕ} {q : Subrs} (ready : Ready font q) (wide : Bool) (i : ℕ) (within : i < pick wide q.globals.count q.locals.count) {t : Body}
     (a : t ≡ site_in q.fd wide i) where
-  pub entered-fits : SiteFits t
-  entered-fits = site_fits q.fd wide i t a ready.fds (number_small font q ready wide i within)
-
   module _ {b : List ℕ} (d : b ≡ body_for (globals_in font q) (locals_in font q) wide i) where
     pub body-fits : length b ≤ 67108864
     body-fits = subst (λ (s : List ℕ). length s ≤ 67108864) (sym d) (body-small font q ready wide i within)

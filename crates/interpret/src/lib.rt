@@ -2,6 +2,9 @@
 // meets noted in a window of a range (document 02, Wish 1).
 #![tactic(auto)]
 
+pub mod callees;
+pub mod mask;
+
 ghost use Rattle.std.specs.Prelude.{◌≡◌, [], ◌∷◌, ◌≤◌, ◌<◌, length};
 ghost use Rattle.octets.specs.Pick.{pick};
 ghost use Rattle.unfold.specs.Unfold.{entered, masked, is_glyph, unfold_glyph};
@@ -9,8 +12,10 @@ ghost use Rattle.row_window.specs.Key.{key_of_lem};
 ghost use Rattle.row_window.specs.Window.{Collecting};
 ghost use Rattle.turns.specs.Turns.{Few};
 ghost use Rattle.interpret.specs.Trace.{body_for};
-ghost use Rattle.interpret.specs.Run.{site_of, SiteFits, site_in, globals_in, locals_in, Ready, whole_of, call_of, key_for, Notes, Tells, Meets};
+ghost use Rattle.interpret.specs.Run.{site_of, site_in, globals_in, locals_in, whole_of, call_of, key_for, Notes, Tells, Meets};
 
+use crate::callees::Callees;
+use crate::mask::Mask;
 use index::Index;
 use row_window::note;
 use turns::{Counts, Turn, turn_at};
@@ -20,7 +25,7 @@ use turns::{Counts, Turn, turn_at};
 pub struct Subrs {
     pub globals: Index,
     pub locals: Index,
-    pub fd: usize,
+    pub fd: u8,
 }
 
 // The keys from low up to high, which is not among them.
@@ -33,9 +38,9 @@ pub struct Range {
 // The body that runs: a glyph's charstring, a local or a global subroutine.
 #[derive(Clone, Copy)]
 pub enum Site {
-    Glyph(usize),
-    Local { fd: usize, number: usize },
-    Global(usize),
+    Glyph(u16),
+    Local { fd: u8, number: u16 },
+    Global(u16),
 }
 
 // How a body's run ends: in what is not plain, by return with the counts then, or by endchar; and how many keys the window has.
@@ -47,34 +52,34 @@ pub enum Ran {
 }
 
 // A row as one number, of which the kind, a number too, is the highest part.
-fn row_key(kind: usize, fd: usize, number: usize, offset: usize, len: usize) -> u64
-    requires { (kind ≤ 4) × (fd < 256) × (number < 65536) × (offset < 4294967296) × (len < 16) }
-    ensures { result ≡ key_of_lem kind fd number offset len }
+fn row_key(kind: u8, fd: u8, number: u16, mask: Mask) -> u64
+    requires { kind ≤ 4 }
+    ensures { result ≡ key_of_lem kind fd number mask.offset mask.len }
 {
-    ((((kind * 256 + fd) * 65536 + number) * 4294967296 + offset) * 16 + len) as u64
+    let body = (kind as u64 * 256 + fd as u64) * 65536 + number as u64;
+    (body * 4294967296 + mask.offset as u64) * 16 + mask.len as u64
 }
 
 // The key of a subroutine entered.
 fn entered_key(site: Site) -> u64
-    requires { SiteFits site }
     ensures { result ≡ key_for (entered (site_of site)) }
 {
+    let none = Mask { offset: 0, len: 0 };
     match site {
-        Site::Glyph(g) => row_key(2, 0, g, 0, 0),
-        Site::Local { fd, number } => row_key(0, fd, number, 0, 0),
-        Site::Global(k) => row_key(1, 0, k, 0, 0),
+        Site::Glyph(g) => row_key(2, 0, g, none),
+        Site::Local { fd, number } => row_key(0, fd, number, none),
+        Site::Global(k) => row_key(1, 0, k, none),
     }
 }
 
 // The key of a mask met.
-fn mask_key(site: Site, offset: usize, len: usize) -> u64
-    requires { (SiteFits site) × (offset < 4294967296) × (len < 16) }
-    ensures { result ≡ key_for (masked (site_of site) offset len) }
+fn mask_key(site: Site, mask: Mask) -> u64
+    ensures { result ≡ key_for (masked (site_of site) mask.offset mask.len) }
 {
     match site {
-        Site::Glyph(g) => row_key(2, 0, g, offset, len),
-        Site::Local { fd, number } => row_key(3, fd, number, offset, len),
-        Site::Global(k) => row_key(4, 0, k, offset, len),
+        Site::Glyph(g) => row_key(2, 0, g, mask),
+        Site::Local { fd, number } => row_key(3, fd, number, mask),
+        Site::Global(k) => row_key(4, 0, k, mask),
     }
 }
 
@@ -91,29 +96,23 @@ fn is_glyph(site: Site) -> bool
 
 // Notes a subroutine entered; how many keys the window has then.
 fn note_entered(site: Site, range: Range, keys: &mut [u64], n: usize) -> usize
-    requires { (SiteFits site) × (Collecting keys.old n) }
+    requires { Collecting keys.old n }
     ensures { Notes range (entered (site_of site) ∷ []) keys.old n keys.new result }
 {
     note(keys, n, range.low, range.high, entered_key(site))
 }
 
 // Notes a mask met; how many keys the window has then.
-fn note_mask(
-    site: Site,
-    offset: usize,
-    len: usize,
-    range: Range,
-    keys: &mut [u64],
-    n: usize,
-) -> usize
-    requires { (SiteFits site) × (offset < 4294967296) × (len < 16) × (Collecting keys.old n) }
+fn note_mask(site: Site, offset: u32, len: u8, range: Range, keys: &mut [u64], n: usize) -> usize
+    requires { (len < 16) × (Collecting keys.old n) }
     ensures { Notes range (masked (site_of site) offset len ∷ []) keys.old n keys.new result }
 {
-    note(keys, n, range.low, range.high, mask_key(site, offset, len))
+    let key = mask_key(site, Mask { offset, len });
+    note(keys, n, range.low, range.high, key)
 }
 
 // The subroutine that a call enters.
-fn site_for(fd: usize, global: bool, number: usize) -> Site
+fn site_for(fd: u8, global: bool, number: u16) -> Site
     ensures { result ≡ site_in fd global number }
 {
     if global {
@@ -123,23 +122,20 @@ fn site_for(fd: usize, global: bool, number: usize) -> Site
 }
 
 // Its bytes: a part of the font.
-fn subr(font: &[u8], q: Subrs, global: bool, number: usize) -> &[u8]
-    requires { (Ready font.now q) × (number < pick global q.globals.count q.locals.count) }
-    ensures { result.now ≡ body_for (globals_in font.now q) (locals_in font.now q) global number }
+fn subr<'a>(from: &Callees<'a>, global: bool, number: usize) -> &'a [u8]
+    requires { number < pick global from.now.q.globals.count from.now.q.locals.count }
+    ensures { result.now ≡ body_for (globals_in from.now.font.now from.now.q) (locals_in from.now.font.now from.now.q) global number }
 {
     if global {
-        let globals = q.globals;
-        return index::item(font, globals, number);
+        return index::item(from.font, from.q.globals, number);
     }
-    let locals = q.locals;
-    index::item(font, locals, number)
+    index::item(from.font, from.q.locals, number)
 }
 
 // A subroutine entered: noted, and run one call deeper, where that is not too deep.
 #[cycle(enter_run_body)]
 fn enter(
-    font: &[u8],
-    q: Subrs,
+    from: &Callees<'_>,
     depth: usize,
     global: bool,
     number: usize,
@@ -148,23 +144,22 @@ fn enter(
     keys: &mut [u64],
     n: usize,
 ) -> Ran
-    requires { (Ready font.now q) × (number < pick global q.globals.count q.locals.count) × (Few x) × (Collecting keys.old n) }
-    ensures { Tells (call_of font.now q depth global number x) range keys.old n keys.new result }
+    requires { (number < pick global from.now.q.globals.count from.now.q.locals.count) × (Few x) × (Collecting keys.old n) }
+    ensures { Tells (call_of from.now.font.now from.now.q depth global number x) range keys.old n keys.new result }
 {
     if depth == 0 {
         return Ran::Broken;
     }
-    let site = site_for(q.fd, global, number);
+    let site = site_for(from.q.fd, global, number as u16);
     let m = note_entered(site, range, &mut *keys, n);
-    let body = subr(font, q, global, number);
-    run_body(font, q, depth - 1, site, body, x, range, keys, m)
+    let body = subr(from, global, number);
+    run_body(from, depth - 1, site, body, x, range, keys, m)
 }
 
 // A body run from its start, with calls `depth` deep at most.
 #[cycle(enter_run_body)]
 fn run_body(
-    font: &[u8],
-    q: Subrs,
+    from: &Callees<'_>,
     depth: usize,
     site: Site,
     code: &[u8],
@@ -173,12 +168,12 @@ fn run_body(
     keys: &mut [u64],
     held: usize,
 ) -> Ran
-    requires { (Ready font.now q) × (SiteFits site) × (length code.now ≤ 67108864) × (Few start) × (Collecting keys.old held) }
-    ensures { Tells (whole_of font.now q depth site code.now start) range keys.old held keys.new result }
+    requires { (length code.now ≤ 67108864) × (Few start) × (Collecting keys.old held) }
+    ensures { Tells (whole_of from.now.font.now from.now.q depth site code.now start) range keys.old held keys.new result }
 {
     let own = is_glyph(site);
-    let globals = q.globals;
-    let locals = q.locals;
+    let globals = from.q.globals;
+    let locals = from.q.locals;
     let mut at: usize = 0;
     let mut prev: usize = 0;
     let mut x = start;
@@ -194,13 +189,13 @@ fn run_body(
                 at = next;
             }
             Turn::Masks(len, counts) => {
-                n = note_mask(site, at, len, range, &mut *keys, n);
+                n = note_mask(site, at as u32, len as u8, range, &mut *keys, n);
                 x = counts;
                 at = at + 1 + len;
                 prev = at;
             }
             Turn::Calls(global, number, counts) => {
-                match enter(font, q, depth, global, number, counts, range, &mut *keys, n) {
+                match enter(from, depth, global, number, counts, range, &mut *keys, n) {
                     Ran::Broken => return Ran::Broken,
                     Ran::Ended(count) => return Ran::Ended(count),
                     Ran::Returned(after, count) => {
@@ -216,19 +211,18 @@ fn run_body(
     Ran::Broken
 }
 
-// A glyph of FD q.fd run from its charstring: where it is plain, how many keys the window has once the rows that it meets are noted; else
-// None, and of the window nothing is said. An empty one is plain.
+// A glyph, by the subroutines of its FD, run from its charstring: where it is plain, how many keys the window has once the rows that it meets are
+// noted; else None, and of the window nothing is said. An empty one is plain.
 pub fn run_glyph(
-    font: &[u8],
-    q: Subrs,
-    g: usize,
+    from: &Callees<'_>,
+    g: u16,
     code: &[u8],
     range: Range,
     keys: &mut [u64],
     n: usize,
 ) -> Option<usize>
-    requires { (Ready font.now q) × (g < 65536) × (length code.now ≤ 67108864) × (Collecting keys.old n) }
-    ensures { Meets (unfold_glyph (globals_in font.now q) (locals_in font.now q) q.fd g code.now)
+    requires { (length code.now ≤ 67108864) × (Collecting keys.old n) }
+    ensures { Meets (unfold_glyph (globals_in from.now.font.now from.now.q) (locals_in from.now.font.now from.now.q) from.now.q.fd g code.now)
         range keys.old n keys.new result }
 {
     if code.len() == 0 {
@@ -239,7 +233,7 @@ pub fn run_glyph(
         stems: 0,
         spent: 0,
     };
-    match run_body(font, q, 10, Site::Glyph(g), code, fresh, range, keys, n) {
+    match run_body(from, 10, Site::Glyph(g), code, fresh, range, keys, n) {
         Ran::Broken => None,
         Ran::Returned(_, _) => None,
         Ran::Ended(count) => Some(count),

@@ -1,6 +1,7 @@
 -- Laws of marks beside a window: one key looked for, several one after the other, and all that are marked.
 use Prim.Native.Nat.{ℕ, zero, suc, ◌+◌, ◌-◌, ◌/◌, ◌≤◌, ◌<◌}
-use Rattle.std.specs.Prelude.{◌≡◌, Bool, ltb, eqb, length, take, get_or, set, replicate}
+use Rattle.std.specs.Prelude.{◌≡◌, ◌||◌, Bool, not, ltb, eqb, length, take, drop, get_or, set, replicate}
+use Rattle.std.specs.List.{list_any}
 use Rattle.std.proofs.Math.Path.{refl, ap}
 use Rattle.std.proofs.Common.{sym, ◌∙◌, not-suc-le-zero, add-zero, lt-ltb, eq-eqb, ne_eqb, ltb-true, ltb-false, eqb-true, length-drop, length-take-le, get_or-take, get_or-drop}
 use Rattle.std.proofs.Math.Bool.{true, false}
@@ -15,7 +16,7 @@ use Rattle.octets.specs.ListLaws.{zeros-at}
 use Rattle.unfold.specs.Unfold.{Row}
 use Rattle.subset.specs.Kept.{is_in}
 use Rattle.kept.specs.Packed.{marked, all_of}
-use Rattle.kept.specs.MarkLaws.{mark-same, mark_other}
+use Rattle.kept.specs.MarkLaws.{ahead, mark-same, mark_other}
 use Rattle.kept.specs.GatherLaws.{mark_not}
 use Rattle.reach.specs.Reach.{row_no, rest_of}
 use Rattle.reach.specs.RowLaws.{rest_all, rest-none, rest-next}
@@ -99,10 +100,9 @@ module _ (l : List ℕ) (rises : Rising l) (key i : ℕ) (p : Parted key l i) wh
           mark_other old i 1 j n ∙ same-mark (marked old j)
           ∙ ap (λ (u : Bool). pick (marked old j) true (pick u true false)) (sym (ne_eqb key (get_or l j 0) (other j h n)))
 
--- a place where a key stands is one of the n
-pub stands_inside : (keys : List ℕ) (n i key : ℕ) → n ≤ length keys → stands_at (take n keys) i key ≡ true → i < n
-stands_inside keys n i key h e =
-    omega (arith, ltb-true i (length (take n keys)) (both_hold (ltb i (length (take n keys))) (eqb (get_or (take n keys) i 0) key) e).0, length-take-le n keys h)
+-- a place where a key stands is one of the window's
+pub stands_inside : (l : List ℕ) (i key : ℕ) → stands_at l i key ≡ true → i < length l
+stands_inside l i key e = ltb-true i (length l) (both_hold (ltb i (length l)) (eqb (get_or l i 0) key) e).0
 
 -- ---- the rows of a record, one after the other
 
@@ -174,15 +174,25 @@ module _ (test : ℕ → Bool) where
       = each_all q l (j + 1) (λ i h. let s : j + 1 + i ≡ j + suc i = omega arith in ap test s ∙ f (suc i) (omega arith)) in
       rw (e, r)
 
+-- no mark from the j-th on is 0
+none-clear : (seen : List ℕ) (n j : ℕ) → j + n ≤ length seen → not (list_any (λ x. eqb x 0) (take n (drop j seen))) ≡ each_of (marked seen) n j
+unfolding each_of
+none-clear seen zero j h = refl
+none-clear seen (suc n) j h =
+    let more : j < length seen = omega arith in
+    ap (λ (l : List ℕ). not (list_any (λ x. eqb x 0) (take (suc n) l))) (ahead seen j more) ∙ turned (eqb (get_or seen j 0) 0) _ _ (none-clear seen n (j + 1) (omega arith))
+  where
+    turned : (t a b : Bool) → not a ≡ b → not (t || a) ≡ pick (pick t false true) b false
+    turned true a b e = refl
+    turned false a b e = e
+
 -- beside a window whose marks were all clear
-pub window-seen : (l ks old new : List ℕ) (n : ℕ) → length l ≡ n → old ≡ replicate 65536 0 → Seen l ks old new → each_of (marked new) n 0 ≡ all_in ks l
-window-seen l ks old new n e z s =
-    ap (λ (m : ℕ). each_of (marked new) m 0) (sym e)
+pub window-seen : (l ks old new : List ℕ) → length l ≤ 65536 → old ≡ replicate 65536 0 → Seen l ks old new
+    → not (list_any (λ x. eqb x 0) (take (length l) new)) ≡ all_in ks l
+window-seen l ks old new h z s =
+    none-clear new (length l) 0 (omega (arith, h, s.size, ap length z, length-replicate {A = ℕ} 65536 0))
     ∙ each_all (marked new) (λ k. is_in k ks) l 0
     (λ i h. let z : 0 + i ≡ i = omega arith in ap (marked new) z ∙ s.marks i h ∙ ap (λ (t : Bool). pick t true (is_in (get_or l i 0) ks)) (clear i))
   where
     clear : (i : ℕ) → marked old i ≡ false
     clear i = mark_not old i (omega (arith, ap (λ (x : List ℕ). get_or x i 0) z, zeros-at 65536 i))
-
-pub seen_long : (old new : List ℕ) (n : ℕ) → old ≡ replicate 65536 0 → n ≤ 65536 → length new ≡ length old → n ≤ length new
-seen_long old new n z h e = omega (arith, e, ap length z, length-replicate {A = ℕ} 65536 0)

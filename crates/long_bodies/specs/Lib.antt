@@ -3,3 +3,4 @@ pub mod TwoLaws
 pub mod PartLaws
 pub mod WalkLaws
 pub mod Examples
+pub mod Alone

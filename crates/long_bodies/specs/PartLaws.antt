@@ -9,7 +9,7 @@ use Rattle.octets.specs.PutLaws.{wrote-length}
 use Rattle.unfold.specs.Unfold.{Row, Site, masked}
 use Rattle.record.specs.Record.{rows_of, rows_from, lists, given_in, two_lengths_lem}
 use Rattle.subset.specs.Kept.{is_in}
-use Rattle.reach.specs.Reach.{SiteFits, site_of, rises}
+use Rattle.reach.specs.Reach.{site_of, rises}
 use Rattle.reach.specs.RowLaws.{all_fit}
 use Rattle.reach.specs.Cases.{by_order}
 use Rattle.reach.specs.declared.Site as code
@@ -17,11 +17,11 @@ use Rattle.reach.specs.declared.Site.TheVariants.{Glyph, Local, Global}
 use Rattle.row_window.specs.Window.{within, Below, none, one, Gathers}
 use Rattle.row_window.specs.MergeLaws.{gathers-few}
 use Rattle.row_window.specs.NextLaws.{window-whole, window-next, front-inside}
-use Rattle.mask_rows.specs.MaskRows.{no_key, keys_in, row_for, rows_bytes, room_in}
+use Rattle.mask_rows.specs.MaskRows.{no_key, keys_in, row_for, rows_bytes, room_in, HasRoom}
 use Rattle.mask_rows.specs.KeyLaws.{mask, in_both, keys_list, lists-none, rows-length, rows-rise}
 use Rattle.mask_rows.specs.FillLaws.{rows_fit, window-below, rows_written}
 use Rattle.mask_rows.specs.SameLaws.{given-alike, two_back}
-use Rattle.long_bodies.specs.Offsets.{body_in, keys_to, end_of, Lent, Gives}
+use Rattle.long_bodies.specs.Offsets.{body_in, keys_to, end_of, Sited, Gives}
 use Rattle.long_bodies.specs.TwoLaws.{in_at, in_to, site_mask, listed}
 use Rattle.long_bodies.specs.declared.offsets.Body.{Body}
 
@@ -158,29 +158,21 @@ kind-small (Glyph g) = omega arith
 kind-small (Local fd k) = omega arith
 kind-small (Global k) = omega arith
 
-fd-small : (s : code.Site) → SiteFits s → (body_in s).fd < 256
-fd-small (Glyph g) f = omega arith
-fd-small (Local fd k) f = f.0
-fd-small (Global k) f = omega arith
-
 module _ (rec : List ℕ) (octets : Octets rec) (s : code.Site) (once : two_lengths_lem (rows_of rec) (site_of s) ≡ false) (offset to : ℕ) (past : offset < to) (near : to ≤ 4294967296)
-    (old was : List ℕ) (lent : Lent old was s) (b : Body) (e : b ≡ body_in s) (keys : List ℕ) (n : ℕ)
+    (old was : List ℕ) (lent : HasRoom old was) (sited : Sited s) (b : Body) (e : b ≡ body_in s) (fd_fits : b.fd < 256) (keys : List ℕ) (n : ℕ)
     (g : Gathers (within ((b.number * 4294967296 + offset) * 65536) ((b.number * 4294967296 + to) * 65536) (keys_in b.kind b.fd rec)) old keys n) where
   kind_fits : b.kind < 256
   kind_fits = subst (λ (x : Body). x.kind < 256) (sym e) (kind-small s)
 
-  fd_fits : b.fd < 256
-  fd_fits = subst (λ (x : Body). x.fd < 256) (sym e) (fd-small s lent.body)
-
   few : b.number < 65535
-  few = subst (λ (x : Body). x.number < 65535) (sym e) lent.few
+  few = subst (λ (x : Body). x.number < 65535) (sym e) sited.few
 
   is : (o l : ℕ) → masked (site_of s) o l ≡ mask b.kind b.fd b.number o l
   is o l = site_mask s o l ∙ ap (λ (x : Body). mask x.kind x.fd x.number o l) (sym e)
 
   -- what writing the rows asks
-  pub fill_room : (n ≤ length keys) × (b.kind < 256) × (b.fd < 256) × (10 * n ≤ length was)
-  fill_room = (g.window.fits, kind_fits, fd_fits, omega (arith, gathers-few g, lent.room))
+  pub fill_room : (n ≤ length keys) × (10 * n ≤ length was)
+  fill_room = (g.window.fits, omega (arith, gathers-few g, lent.room))
 
   -- the end is behind the offset
   pub fill_past : (end : ℕ) → end ≡ end_of keys n to → offset < end
@@ -206,7 +198,3 @@ module _ (rec : List ℕ) (octets : Octets rec) (s : code.Site) (once : two_leng
 pub gives_none : (rec bytes : List ℕ) (s : code.Site) (span : ℕ) → Gives rec bytes s (record { from = 0; end = 0; len = 0; span = span })
 unfolding rows_of rows_from rises
 gives_none rec bytes s span = record { fits = omega arith; rising = refl; same = λ o from to. absurd (omega arith) }
-
--- room stays
-pub lent_same : {keys bytes : List ℕ} {s : code.Site} → Lent keys bytes s → (keys' bytes' : List ℕ) → length keys' ≡ length keys → length bytes' ≡ length bytes → Lent keys' bytes' s
-lent_same l keys' bytes' e f = record { body = l.body; few = l.few; some = omega (arith, l.some); most = omega (arith, l.most); room = omega (arith, l.room) }

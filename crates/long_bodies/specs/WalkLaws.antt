@@ -1,5 +1,5 @@
 -- Laws of a walk over the tokens of a body that asks a part of its rows: at an offset of the part it reads what it reads by the whole record.
-use Rattle.std.specs.Prelude.{ℕ, ◌-◌, ◌≤◌, ◌<◌, ◌≡◌, refl, Bool, true, false, List, take, None, Option, Float}
+use Rattle.std.specs.Prelude.{ℕ, ◌-◌, ◌≤◌, ◌<◌, ◌≡◌, refl, Bool, true, false, List, take, None, Option, ℤ}
 use Rattle.std.proofs.Common.{sym, ap, ◌∙◌, arith}
 use Rattle.std.proofs.lemmas.Bool.{false≢true}
 use Rattle.octets.specs.Pick.{pick}
@@ -12,7 +12,7 @@ use Rattle.unfold.specs.Unfold.{Row, Site}
 use Rattle.record.specs.Record.{rows_of, given_in, two_lengths_lem}
 use Rattle.prune.specs.Renumber.{Calls, renumber_charstring}
 use Rattle.subset.specs.Pruned.{renumbered_body}
-use Rattle.reach.specs.Reach.{site_of}
+use Rattle.reach.specs.Reach.{site_of, rises}
 use Rattle.reach.specs.declared.Site as code
 use Rattle.renumber.specs.Turn.{turned_at, Inputs, is_yes}
 use Rattle.renumber.specs.declared.Ranks.{Ranks}
@@ -20,19 +20,20 @@ use Rattle.renumber.specs.declared.Turned.{Turned}
 use Rattle.long_bodies.specs.Offsets.{Gives}
 use Rattle.long_bodies.specs.declared.offsets.Part.{Part}
 
--- what is asked of a part
-pub part_inputs : {rec bytes s ws : List ℕ} {locals globals : Ranks} {site : code.Site} {w : Part} {rising : Bool} → Inputs s ws locals globals (rows_of rec) rising site
-    → Gives rec bytes site w → Inputs s ws locals globals (rows_of (take w.len bytes)) true site
-part_inputs i g =
-    record { local_ranks = i.local_ranks; global_ranks = i.global_ranks; order = λ e. g.rising; body = i.body; size = i.size }
+-- what is asked of a part, which is shown as a record
+pub part_inputs : {rec bytes s ws shown : List ℕ} {locals globals : Ranks} {site : code.Site} {w : Part} {rising : Bool} → Inputs s ws locals globals (rows_of rec) rising site
+    → Gives rec bytes site w → shown ≡ take w.len bytes → Inputs s ws locals globals (rows_of shown) true site
+part_inputs i g e =
+    record { local_ranks = i.local_ranks; global_ranks = i.global_ranks; order = λ z. ap (λ (l : List ℕ). rises (rows_of l)) e ∙ g.rising; size = i.size }
 
 -- THE LAW of a part: the token at its offset
-pub turned-alike : {rec bytes : List ℕ} {site : code.Site} {w : Part} → Gives rec bytes site w → (calls : Calls) (h : Option Float) (s : List ℕ) (c : Cursor) (offset : ℕ)
+pub turned-alike : {rec bytes shown : List ℕ} {site : code.Site} {w : Part} → Gives rec bytes site w → shown ≡ take w.len bytes → (calls : Calls) (h : Option ℤ) (s : List ℕ) (c : Cursor) (offset : ℕ)
     → offset ≡ c.at - 1 → w.from ≤ offset → offset < w.end → (r : Option Turned)
-    → r ≡ turned_at calls h (step_of (token_at s (given_at (given_in (rows_of (take w.len bytes)) (site_of site)) c) c))
+    → r ≡ turned_at calls h (step_of (token_at s (given_at (given_in (rows_of shown) (site_of site)) c) c))
     → r ≡ turned_at calls h (step_of (token_at s (given_at (given_in (rows_of rec) (site_of site)) c) c))
-turned-alike g calls h s c offset e from to r f =
-    f ∙ ap (λ (m : MaskLen). turned_at calls h (step_of (token_at s (pick c.due m Own) c))) (sym (g.same (c.at - 1) (omega (arith, e)) (omega (arith, e))))
+turned-alike {rec} {bytes} {shown} {site} g there calls h s c offset e from to r f =
+    f ∙ ap (λ (l : List ℕ). turned_at calls h (step_of (token_at s (given_at (given_in (rows_of l) (site_of site)) c) c))) there
+    ∙ ap (λ (m : MaskLen). turned_at calls h (step_of (token_at s (pick c.due m Own) c))) (sym (g.same (c.at - 1) (omega (arith, e)) (omega (arith, e))))
 
 -- a body that is renumbered has one length at each offset
 pub one_each : (rows : List Row) (calls : Calls) (site : Site) (s : List ℕ) → is_yes (renumbered_body rows calls site s) ≡ true → two_lengths_lem rows site ≡ false

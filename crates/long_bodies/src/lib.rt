@@ -3,6 +3,7 @@
 // record that rises is crate `renumbered`'s: its loops ask no more than it needs.
 #![tactic(auto)]
 
+pub mod long_site;
 pub mod offsets;
 
 ghost use Rattle.std.specs.Prelude.{◌≡◌, true, false, ◌+◌, ◌-◌, ◌≤◌, ◌<◌, length};
@@ -13,14 +14,14 @@ ghost use Rattle.subset.specs.Pruned.{renumbered_body};
 ghost use Rattle.reach.specs.Reach.{site_of};
 ghost use Rattle.renumber.specs.Ranks.{calls_by};
 ghost use Rattle.renumber.specs.Turn.{Inputs, sized_of, body_of_lem, is_yes};
-ghost use Rattle.long_bodies.specs.Offsets.{Lent};
 
+use crate::long_site::LongSite;
 use crate::offsets::Part;
 use charstring::{Cursor, more, start};
-use reach::Site;
+use mask_rows::lent::Lent;
 use renumber::Ranks;
 use renumber::runs::{held_at, run_at};
-use renumber::turns::after;
+use renumber::turns::held_after;
 use renumbered::{held_len, put_held, put_run, put_sent, run_len, sent_len, turn_at};
 
 // The offset that a mask asks for where reading stands: that of its operator.
@@ -37,14 +38,13 @@ fn body_len(
     locals: Ranks,
     globals: Ranks,
     rows: &[u8],
-    site: Site,
-    keys: &mut [u64],
-    bytes: &mut [u8],
+    of: LongSite,
+    lent: &mut Lent<'_>,
 ) -> Option<usize>
-    requires { (Inputs code.now words.now locals globals (rows_of rows.now) false site) × (Lent keys.old bytes.old site)
-        × (two_lengths_lem (rows_of rows.now) (site_of site) ≡ false) }
+    requires { (Inputs code.now words.now locals globals (rows_of rows.now) false of.site)
+        × (two_lengths_lem (rows_of rows.now) (site_of of.site) ≡ false) }
     ensures { result ≡ sized_of (renumber_charstring (calls_by words.now locals globals)
-        (given_in (rows_of rows.now) (site_of site)) code.now) }
+        (given_in (rows_of rows.now) (site_of of.site)) code.now) }
 {
     let mut part = Part {
         from: 0,
@@ -68,24 +68,14 @@ fn body_len(
             };
             continue;
         }
-        part = offsets::advance(part, rows, site, offset_at(c.at), &mut *keys, &mut *bytes);
+        part = offsets::advance(part, rows, of, offset_at(c.at), &mut *lent);
+        let shown = lent.rows(part.len);
         match turn_at(
-            code,
-            words,
-            locals,
-            globals,
-            &bytes[..part.len],
-            true,
-            site,
-            c.at,
-            c.args,
-            c.stems,
-            c.due,
-            h,
+            code, words, locals, globals, shown, true, of.site, c.at, c.args, c.stems, c.due, h,
         ) {
             Some(turned) => {
                 len += sent_len(turned.before, turned.token);
-                h = after(turned.token);
+                h = held_after(turned.token);
                 c = Cursor {
                     at: turned.next.at,
                     args: turned.next.args,
@@ -108,18 +98,17 @@ pub fn renumbered_len(
     locals: Ranks,
     globals: Ranks,
     rows: &[u8],
-    site: Site,
-    keys: &mut [u64],
-    bytes: &mut [u8],
+    of: LongSite,
+    lent: &mut Lent<'_>,
 ) -> Option<usize>
-    requires { (Inputs code.now words.now locals globals (rows_of rows.now) false site) × (Lent keys.old bytes.old site) }
+    requires { Inputs code.now words.now locals globals (rows_of rows.now) false of.site }
     ensures { result ≡ sized_of (renumbered_body (rows_of rows.now) (calls_by words.now locals globals)
-        (site_of site) code.now) }
+        (site_of of.site) code.now) }
 {
-    if offsets::two_lengths(rows, site, &mut *keys) {
+    if offsets::two_lengths(rows, of.site, &mut *lent.keys) {
         return None;
     }
-    body_len(code, words, locals, globals, rows, site, keys, bytes)
+    body_len(code, words, locals, globals, rows, of, lent)
 }
 
 // A body renumbered, from `at` on; the place after it.
@@ -129,17 +118,16 @@ pub fn put_renumbered(
     locals: Ranks,
     globals: Ranks,
     rows: &[u8],
-    site: Site,
+    of: LongSite,
     out: &mut [u8],
     at: usize,
-    keys: &mut [u64],
-    bytes: &mut [u8],
+    lent: &mut Lent<'_>,
 ) -> usize
-    requires { (Inputs code.now words.now locals globals (rows_of rows.now) false site) × (Lent keys.old bytes.old site)
-        × (is_yes (renumbered_body (rows_of rows.now) (calls_by words.now locals globals) (site_of site) code.now) ≡ true)
-        × (at + length (body_of_lem (renumbered_body (rows_of rows.now) (calls_by words.now locals globals) (site_of site) code.now)) ≤ length out.old) }
+    requires { (Inputs code.now words.now locals globals (rows_of rows.now) false of.site)
+        × (is_yes (renumbered_body (rows_of rows.now) (calls_by words.now locals globals) (site_of of.site) code.now) ≡ true)
+        × (at + length (body_of_lem (renumbered_body (rows_of rows.now) (calls_by words.now locals globals) (site_of of.site) code.now)) ≤ length out.old) }
     ensures { Wrote out.old at
-        (body_of_lem (renumbered_body (rows_of rows.now) (calls_by words.now locals globals) (site_of site) code.now))
+        (body_of_lem (renumbered_body (rows_of rows.now) (calls_by words.now locals globals) (site_of of.site) code.now))
         out.new result }
 {
     let mut part = Part {
@@ -164,24 +152,14 @@ pub fn put_renumbered(
             };
             continue;
         }
-        part = offsets::advance(part, rows, site, offset_at(c.at), &mut *keys, &mut *bytes);
+        part = offsets::advance(part, rows, of, offset_at(c.at), &mut *lent);
+        let shown = lent.rows(part.len);
         match turn_at(
-            code,
-            words,
-            locals,
-            globals,
-            &bytes[..part.len],
-            true,
-            site,
-            c.at,
-            c.args,
-            c.stems,
-            c.due,
-            h,
+            code, words, locals, globals, shown, true, of.site, c.at, c.args, c.stems, c.due, h,
         ) {
             Some(turned) => {
                 p = put_sent(code, turned.before, turned.token, &mut *out, p);
-                h = after(turned.token);
+                h = held_after(turned.token);
                 c = Cursor {
                     at: turned.next.at,
                     args: turned.next.args,

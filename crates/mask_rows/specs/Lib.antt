@@ -2,3 +2,4 @@ pub mod MaskRows
 pub mod SameLaws
 pub mod KeyLaws
 pub mod FillLaws
+pub mod Alone

@@ -6,7 +6,6 @@ use mathlib.Core.List.{List, [], ◌∷◌, ◌++◌}
 use Rattle.std.proofs.Math.ListN.{length}
 use Rattle.octets.specs.Octets.{Octets}
 use Rattle.index.specs.Index.{items_of}
-use Rattle.index.specs.Good.{Good}
 use Rattle.index.specs.Write.{total}
 use Rattle.strings.specs.Strings.{string_text, sid_of}
 use Rattle.charset.specs.CharsetFound.{good-small}
@@ -120,11 +119,11 @@ module _ (b : List ℕ) (f : Font) (ws slots : List ℕ) (own : Own) (i : ℕ) (
       (omega (arith, c, bound.0, n.within, n.few), omega (arith, s, bound.1, n.within, n.few))
 
   -- what `given_id` asks, and `count_one`
-  pub naming_asks : (Good b f.strings) × (8 ≤ 8) × (16 ≤ length slots) × (own.count < 4294967296)
-  naming_asks = (n.has.good, omega arith, n.given.room, omega (arith, naming-bound.0))
+  pub naming_asks : (8 ≤ 8) × (16 ≤ length slots) × (own.count < 4294967296)
+  naming_asks = (omega arith, n.given.room, omega (arith, naming-bound.0))
 
-  pub naming_counts : (HasStrings b f.strings) × (own.count < 4294967296) × (own.total < 4611686018427387904)
-  naming_counts = (n.has, omega (arith, naming-bound.0), omega (arith, naming-bound.1))
+  pub naming_counts : (own.count < 4294967296) × (own.total < 4611686018427387904)
+  naming_counts = (omega (arith, naming-bound.0), omega (arith, naming-bound.1))
 
   pub naming_end : length order ≤ i → own ≡ own_of (all_own S slots order)
   naming_end h = n.counts ∙ ap (λ (l : List ℕ). own_of (all_own S slots l)) (take_all i order h)

@@ -40,7 +40,7 @@ module _ (b : List ℕ) (ix : Index) (has : HasStrings b ix) (slots : List ℕ) 
     stage = own_strings_lem [] (slot_texts S (take j l))
 
     -- what `count_one` asks
-    pub counting_asks : (HasStrings b ix) × (own.count < 4294967296) × (own.total < 4611686018427387904)
+    pub counting_asks : (own.count < 4294967296) × (own.total < 4611686018427387904)
     unfolding total
     counting_asks =
         asks (length-take-le j l (omega (arith, eight, t.within))) (ap (λ (o : Own). o.count) t.counts) (ap (λ (o : Own). o.total) t.counts)
@@ -48,8 +48,8 @@ module _ (b : List ℕ) (ix : Index) (has : HasStrings b ix) (slots : List ℕ) 
       where
         asks : length (take j l) ≡ j → own.count ≡ length stage → own.total ≡ total stage
             → (length stage ≤ 0 + length (take j l)) × (total stage ≤ 0 + length (take j l) * 67108864)
-            → (HasStrings b ix) × (own.count < 4294967296) × (own.total < 4611686018427387904)
-        asks m c s f = (has, omega (arith, m, c, f.0, t.within), omega (arith, m, s, f.1, t.within))
+            → (own.count < 4294967296) × (own.total < 4611686018427387904)
+        asks m c s f = (omega (arith, m, c, f.0, t.within), omega (arith, m, s, f.1, t.within))
 
     pub counting_end : 8 ≤ j → own ≡ own_of (slots_own S slots)
     counting_end h = t.counts ∙ ap (λ (x : List ℕ). own_of (own_strings_lem [] (slot_texts S x))) (take_all j l (omega (arith, eight)))

@@ -8,7 +8,6 @@ use Rattle.octets.specs.Octets.{Wrote, put}
 use Rattle.octets.specs.PutLaws.{wrote-length}
 use Rattle.octets.specs.Lists.{joined}
 use Rattle.index.specs.Index.{items_of}
-use Rattle.index.specs.Good.{Good}
 use Rattle.index.specs.WriteLaws.{head-room}
 use Rattle.index.specs.Write.{total, ends, table_bytes, index_bytes, index_for_lem, size_for, head_bytes}
 use Rattle.index.specs.Begun.{Meant, Begun}
@@ -232,8 +231,8 @@ module _ (b : List ℕ) (f : Font) (ws slots : List ℕ) where
     part = all_own S slots (take i order)
 
     -- what `given_id` asks
-    pub name_asks : (Good b f.strings) × (8 ≤ 8) × (16 ≤ length slots) × (c < 4294967296)
-    name_asks = let q = naming_asks b f ws slots (own_of part) i t.naming in (q.0, q.1, q.2, omega (arith, q.3, t.counts))
+    pub name_asks : (8 ≤ 8) × (16 ≤ length slots) × (c < 4294967296)
+    name_asks = let q = naming_asks b f ws slots (own_of part) i t.naming in (q.0, q.1, omega (arith, q.2, t.counts))
 
     pub name_end : length order ≤ i → c ≡ length (all_own S slots order)
     name_end h = t.counts ∙ ap (λ (l : List ℕ). length (all_own S slots l)) (take_all i order h)

@@ -5,6 +5,7 @@
 ghost use Rattle.std.specs.Prelude.{◌≡◌, ◌+◌, ◌≤◌, length};
 ghost use Rattle.octets.specs.Octets.{Wrote};
 ghost use Rattle.index.specs.Index.{items_of};
+ghost use Rattle.index.specs.Items.{items};
 ghost use Rattle.index.specs.Write.{index_bytes};
 ghost use Rattle.charset.specs.CharsetBytes.{charset_bytes};
 ghost use Rattle.order.specs.Walks.{order_in};
@@ -15,6 +16,7 @@ ghost use Rattle.name_strings.specs.Names.{NamesApart, new_names};
 ghost use Rattle.name_strings.specs.Strings.{StringsRoom, StringsBegun};
 
 use index::Index;
+use index::items::Items;
 use order_window::Order;
 use own_strings::Own;
 
@@ -27,13 +29,13 @@ pub struct Started {
 }
 
 // The own strings of the slots, counted.
-pub fn slots_own(font: &[u8], strings: Index, slots: &[usize]) -> Own
-    requires { (HasStrings font.now strings) × (SlotsGiven (items_of font.now strings) slots.now) }
-    ensures { result ≡ own_of (slots_own (items_of font.now strings) slots.now) }
+pub fn slots_own(strings: &Items<'_>, slots: &[usize]) -> Own
+    requires { (length strings.now.bytes.now ≤ 67108864) × (SlotsGiven (items strings.now) slots.now) }
+    ensures { result ≡ own_of (slots_own (items strings.now) slots.now) }
 {
     let mut own = Own { count: 0, total: 0 };
     for j in 0..8 {
-        own = own_strings::count_one(font, strings, own, slots[j], slots[8 + j]);
+        own = own_strings::count_one(strings, own, slots[j], slots[8 + j]);
     }
     own
 }
@@ -54,31 +56,32 @@ pub fn count_names(
         × (Ordered font.now words.now window.new o) }
 {
     let f = o.f;
-    let strings = f.strings;
+    let strings = Items {
+        bytes: font,
+        ix: f.strings,
+    };
     let k = o.count;
     let mut u = o.held;
     let mut all = own;
     for i in 0..k {
         u = order_window::hold(font, f, words, &mut *window, u, i);
         let x = order_window::word_at(&*window, u, i) / 65536;
-        let id = own_strings::given_id(font, strings, slots, 8, all.count, x);
-        all = own_strings::count_one(font, strings, all, x, id);
+        let id = own_strings::given_id(&strings, slots, 8, all.count, x);
+        all = own_strings::count_one(&strings, all, x, id);
     }
     all
 }
 
 // Begins the String INDEX of a subset at `at`: its head, for all own strings, and the strings of the slots.
 fn begin_strings(
-    font: &[u8],
-    strings: Index,
+    strings: &Items<'_>,
     slots: &[usize],
     own: Own,
     out: &mut [u8],
     at: usize,
 ) -> Started
-    requires { (HasStrings font.now strings) × (SlotsGiven (items_of font.now strings) slots.now)
-        × (StringsRoom (items_of font.now strings) slots.now out.old at own) }
-    ensures { StringsBegun out.old at own (slots_own (items_of font.now strings) slots.now) out.new result }
+    requires { (SlotsGiven (items strings.now) slots.now) × (StringsRoom (items strings.now) slots.now out.old at own) }
+    ensures { StringsBegun out.old at own (slots_own (items strings.now) slots.now) out.new result }
 {
     let count = own.count;
     let total = own.total;
@@ -90,7 +93,7 @@ fn begin_strings(
         let sid = slots[j];
         let id = slots[8 + j];
         if id == 391 + c {
-            let text = own_strings::own_text(font, strings, sid);
+            let text = own_strings::own_text(strings, sid);
             p = index::put_item(&mut *out, ix, c, p, text);
             c += 1;
         }
@@ -122,9 +125,12 @@ pub fn put_strings(
         × (Ordered font.now words.now window.new o) }
 {
     let f = o.f;
-    let strings = f.strings;
+    let strings = Items {
+        bytes: font,
+        ix: f.strings,
+    };
     let k = o.count;
-    let begun = begin_strings(font, strings, slots, own, &mut *out, at);
+    let begun = begin_strings(&strings, slots, own, &mut *out, at);
     let ix = begun.ix;
     let mut p = begun.next;
     let mut c = begun.count;
@@ -132,9 +138,9 @@ pub fn put_strings(
     for i in 0..k {
         u = order_window::hold(font, f, words, &mut *window, u, i);
         let sid = order_window::word_at(&*window, u, i) / 65536;
-        let id = own_strings::given_id(font, strings, slots, 8, c, sid);
+        let id = own_strings::given_id(&strings, slots, 8, c, sid);
         if id == 391 + c {
-            let text = own_strings::own_text(font, strings, sid);
+            let text = own_strings::own_text(&strings, sid);
             p = index::put_item(&mut *out, ix, c, p, text);
             c += 1;
         }
@@ -144,18 +150,17 @@ pub fn put_strings(
 
 // The same of a CID-keyed subset, which has the strings of the slots alone.
 pub fn put_slot_strings(
-    font: &[u8],
-    strings: Index,
+    strings: &Items<'_>,
     slots: &[usize],
     own: Own,
     out: &mut [u8],
     at: usize,
 ) -> usize
-    requires { (HasStrings font.now strings) × (SlotsGiven (items_of font.now strings) slots.now)
-        × (IndexRoom out.old at (slots_own (items_of font.now strings) slots.now) own) }
-    ensures { Wrote out.old at (index_bytes (slots_own (items_of font.now strings) slots.now)) out.new result }
+    requires { (SlotsGiven (items strings.now) slots.now)
+        × (IndexRoom out.old at (slots_own (items strings.now) slots.now) own) }
+    ensures { Wrote out.old at (index_bytes (slots_own (items strings.now) slots.now)) out.new result }
 {
-    let begun = begin_strings(font, strings, slots, own, out, at);
+    let begun = begin_strings(strings, slots, own, out, at);
     begun.next
 }
 
@@ -176,16 +181,19 @@ pub fn put_charset_named(
         × (Ordered font.now words.now window.new o) }
 {
     let f = o.f;
-    let strings = f.strings;
+    let strings = Items {
+        bytes: font,
+        ix: f.strings,
+    };
     let k = o.count;
     let mut p = octets::put_byte(&mut *out, at, 0);
-    let mut own = slots_own(font, strings, slots);
+    let mut own = slots_own(&strings, slots);
     let mut u = o.held;
     for i in 0..k {
         u = order_window::hold(font, f, words, &mut *window, u, i);
         let x = order_window::word_at(&*window, u, i) / 65536;
-        let id = own_strings::given_id(font, strings, slots, 8, own.count, x);
-        own = own_strings::count_one(font, strings, own, x, id);
+        let id = own_strings::given_id(&strings, slots, 8, own.count, x);
+        own = own_strings::count_one(&strings, own, x, id);
         if 0 < i {
             p = octets::put_num(&mut *out, p, id, 2);
         }

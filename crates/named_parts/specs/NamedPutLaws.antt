@@ -9,7 +9,7 @@ use Rattle.charset.specs.CharsetBytes.{charset_bytes}
 use Rattle.charset.specs.CharsetBytesLaws.{charset-length}
 use Rattle.unfold.specs.Unfold.{Row}
 use Rattle.cff.specs.Font.{Program}
-use Rattle.cff.specs.Reads.{program_of, GoodFont}
+use Rattle.cff.specs.Reads.{program_of}
 use Rattle.cff.specs.declared.font.Font.{Font}
 use Rattle.subset.specs.Kept.{private_of}
 use Rattle.subset.specs.Texts.{names_of}
@@ -181,13 +181,12 @@ module _ (b : List ℕ) (rows : List Row) (used ws : List ℕ) (r : Planned) (ta
       private_len : length (private_parts p (fds_in used) bodies.locals) ≡ length private
       private_len = ap length private_is
 
-      pub parts-asked : GoodFont b r.order.f × LocalsIn b p used ws table r.how.globals rows r.how.rising
+      pub parts-asked : LocalsIn p used ws table r.how.globals rows r.how.rising
           × PartsRoom r.how.way p rows ws table r.how.globals used totals q (length mid)
       parts-asked =
           let left : q + length private ≤ length mid = writing-left room charstrings-put in
-          let h = privates-asked b rows used ws table r g.ready totals g.summed q (length mid)
-          (omega (arith, sums, glyphs-put.behind, private_len)) (omega (arith, left, private_len)) in
-          (g.ready.read.font, h.0, h.1)
+          privates-asked b rows used ws table r g.ready totals g.summed q (length mid)
+          (omega (arith, sums, glyphs-put.behind, private_len)) (omega (arith, left, private_len))
 
       pub glyphs-wrote : {new : List ℕ} {q3 : ℕ} → Wrote mid q (parts_for r.how.way p rows ws table r.how.globals (fds_in used)) new q3
           → Wrote out at (named_glyphs p bodies) new q3

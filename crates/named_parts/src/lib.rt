@@ -11,7 +11,9 @@ ghost use Rattle.parts.specs.Ready.{bodies_for};
 ghost use Rattle.encoding.specs.Encoded.{CanRename};
 ghost use Rattle.named_parts.specs.Named.{coded_for, named_tables, named_glyphs, NamedPlan, NamedStrings, NamedCodes, PlacedNamed};
 
+use cff::loaded::Loaded;
 use encoding::{Encoding, encoding_at, encoding_len, put_encoding};
+use fds::table::FdTable;
 use front::NamedPlaces;
 use order_window::Order;
 use outcome::Prepared;
@@ -54,13 +56,13 @@ fn put_tables(
 }
 
 // Charstrings and Private, from `at` on; the place after them.
-fn put_glyphs(
+fn put_glyphs<'a>(
     r: Planned,
-    font: &[u8],
-    used: &[u32],
+    font: &'a [u8],
+    used: &'a [u32],
     words: &[u32],
     window: &mut [u32],
-    table: &[usize],
+    table: &'a [usize],
     totals: &[usize],
     rows: &[u8],
     out: &mut [u8],
@@ -87,7 +89,16 @@ fn put_glyphs(
         &mut *out,
         at,
     );
-    fds::privates::put_privates(how, font, order.f, used, words, table, totals, rows, out, q)
+    let loaded = Loaded {
+        bytes: font,
+        f: order.f,
+    };
+    let fds = FdTable {
+        font: loaded,
+        used,
+        table,
+    };
+    fds::privates::put_privates(how, &fds, words, totals, rows, out, q)
 }
 
 // The subset in the front of the output; the place after it.
@@ -147,14 +158,14 @@ pub fn put_named(
 }
 
 // Measures the parts of the subset: where they stand.
-pub fn places_named(
+pub fn places_named<'a>(
     c: CodedCut,
-    font: &[u8],
+    font: &'a [u8],
     name: &[u8],
     slots: &[usize],
-    used: &[u32],
+    used: &'a [u32],
     words: &[u32],
-    table: &[usize],
+    table: &'a [usize],
     totals: &[usize],
     rows: &[u8],
 ) -> NamedPlaces
@@ -169,14 +180,17 @@ pub fn places_named(
     let encoding = c.encoding;
     let r = cut.plan;
     let own = cut.own;
-    let how = r.how;
     let order = r.order;
     let f = order.f;
+    let loaded = Loaded { bytes: font, f };
+    let fds = FdTable {
+        font: loaded,
+        used,
+        table,
+    };
     let mut sizes = [0usize; 256];
     let mut lens = [0usize; 256];
-    let privates = fds::parts::part_sizes(
-        how.way, font, f, used, table, totals, &mut sizes, &mut lens,
-    );
+    let privates = fds::parts::part_sizes(r.how.way, &fds, totals, &mut sizes, &mut lens);
     let v = encoding_at(encoding, 1);
     let charset = front::front_len(false, v, font, f, name.len(), slots, own) + globals_len(r);
     let codes = charset + (1 + 2 * (order.count - 1));

@@ -32,11 +32,11 @@ fn table_of(file: &[u8], start: usize, len: usize) -> Result<TableAt, Refusal>
 }
 
 // The first of n rows, from a place on, that is tagged `CFF `.
-fn row_from(file: &[u8], n: usize, from: usize) -> Result<TableAt, Refusal>
-    requires { (n < 65536) × (from + 16 * n ≤ length file.now) }
+fn row_from(file: &[u8], n: u16, from: usize) -> Result<TableAt, Refusal>
+    requires { from + 16 * n ≤ length file.now }
     ensures { result ≡ row_from_lem file.now n from }
 {
-    for i in 0..n {
+    for i in 0..n as usize {
         let at = from + 16 * i;
         if octets::u32_at(file, at) == CFF_TAG {
             return table_of(
@@ -70,7 +70,7 @@ pub fn place_of(file: &[u8]) -> Result<TableAt, Refusal>
     if n < 12 + 16 * count {
         return Err(Refusal::Truncated);
     }
-    row_from(file, count, 12)
+    row_from(file, count as u16, 12)
 }
 
 // The bytes of a table that lies in a file: the part of the file itself.

@@ -14,7 +14,6 @@ use Rattle.order.specs.Walks.{many_in}
 use Rattle.order_window.specs.Window.{glyphs_of}
 use Rattle.subset.specs.Cut.{all_found_lem}
 use Rattle.bodies.specs.Ways.{kept_count}
-use Rattle.fds.specs.Locals.{UsedOf}
 use Rattle.fds.specs.Parts.{PartsFit}
 use Rattle.parts.specs.Ready.{FontHeld, Ready, Summed}
 use Rattle.parts.specs.declared.Planned.{Planned}
@@ -65,19 +64,5 @@ module _ (b : List ℕ) (rows : List Row) (used ws table : List ℕ) (r : Planne
   glyphs-measured = (omega (arith, ready.few), omega (arith, ready.glyphs_few))
 
   -- and so can the Private parts
-  pub parts-measured : (totals : List ℕ) → Summed b rows used ws r table totals → (sizes lens : ℕ) → 256 ≤ sizes → 256 ≤ lens
-      → (length b ≤ 67108864) × GoodFont b r.order.f × (256 ≤ length used) × UsedOf (length (program_of b r.order.f).privates) used
-      × (1280 ≤ length table) × (256 ≤ length totals) × PartsFit (program_of b r.order.f) r.how.way table totals used
-      × (256 ≤ sizes) × (256 ≤ lens)
-  parts-measured totals summed sizes lens s l =
-      let h = ready.asked.locals in (
-        ready.read.size,
-        ready.read.font,
-        h.used_long,
-        h.fds,
-        h.table_long,
-        summed.long,
-        parts_fit b rows used ws table r ready totals summed,
-        s,
-        l,
-      )
+  pub parts-measured : (totals : List ℕ) → Summed b rows used ws r table totals → (256 ≤ length totals) × PartsFit (program_of b r.order.f) r.how.way table totals used
+  parts-measured totals summed = (summed.long, parts_fit b rows used ws table r ready totals summed)

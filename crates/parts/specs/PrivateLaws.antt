@@ -1,7 +1,7 @@
 -- The Private parts of the FDs in use as the plan left them: what their measures and writers ask, and that what is measured and written is
 -- the subset's.
 use Rattle.std.specs.Prelude.{ℕ, zero, suc, ◌+◌, ◌*◌, ◌≤◌, ◌<◌, ◌≡◌, Bool, true, false, List, [], ◌∷◌, eqb, length, take, get_or}
-use Rattle.std.proofs.Common.{sym, ap, ◌∙◌, arith, length-append, get_or-take}
+use Rattle.std.proofs.Common.{sym, ap, ◌∙◌, subst, arith, length-append, get_or-take}
 use Rattle.octets.specs.Pick.{pick, pick_ind}
 use Rattle.octets.specs.PickLaws.{both_hold}
 use Rattle.octets.specs.Octets.{put}
@@ -11,7 +11,7 @@ use Rattle.index.specs.Write.{total, index_bytes, index_len_lem}
 use Rattle.index.specs.WriteLaws.{length-index, total-within}
 use Rattle.unfold.specs.Unfold.{Row, local}
 use Rattle.cff.specs.Font.{Program}
-use Rattle.cff.specs.Reads.{GoodFont, program_of}
+use Rattle.cff.specs.Reads.{program_of}
 use Rattle.subset.specs.Kept.{locals_of, private_of}
 use Rattle.bits.specs.Bits.{count_below}
 use Rattle.subset.specs.Pruned.{mapped, reached, local_set, calls_in}
@@ -31,7 +31,7 @@ use Rattle.fds.specs.Locals.{in_use_lem, fds_in}
 use Rattle.fds.specs.NewLocals.{locals_by, new_locals, LocalsIn}
 use Rattle.fds.specs.Parts.{left_in, part_at, PartsFit, SizesParts}
 use Rattle.fds.specs.PartsLaws.{used-count, mapped-used, sizes_are, lens_are, parts_are}
-use Rattle.fds.specs.ListLaws.{Listed, listed_there}
+use Rattle.fds.specs.ListLaws.{used_there}
 use Rattle.fds.specs.NewParts.{Counted, parts_for, PartsRoom}
 use Rattle.fds.specs.NewPartsLaws.{holds-one}
 use Rattle.plan.specs.Ranked.{Stands}
@@ -175,28 +175,26 @@ module _ (b : List ℕ) (rows : List Row) (used ws table : List ℕ) (r : Planne
 
     -- ---- Font DICTs, the FDs in use being listed
 
-    module _ {fds : List ℕ} (listed : Listed used fds) where
-      pub dicts_are : (from : ℕ) → font_dicts_by p fds sizes lens (length (fds_in used)) from ≡ font_dicts p from (fds_in used) locals
+    module _ {fds : List ℕ} (listed : fds ≡ fds_in used) where
+      pub dicts_are : (from : ℕ) → font_dicts_by p fds sizes lens from ≡ font_dicts p from (fds_in used) locals
       dicts_are from =
           let n = length (fds_in used) in
-          ap (λ (l : List ℕ). dicts_by (matrices_by p l) (take n sizes) (take n lens) from) listed.front
+          ap (λ (l : List ℕ). font_dicts_by p l sizes lens from) listed
           ∙ ap (λ (l : List ℕ). dicts_by (matrices_by p (fds_in used)) l (take n lens) from) sizes_held
           ∙ ap (λ (l : List ℕ). dicts_by (matrices_by p (fds_in used)) (sizes_of p (fds_in used) locals) l from) lens_held
           ∙ sym (font-dicts_are p from (fds_in used) locals)
 
       pub dicts-placed : (from : ℕ) → from + length (private_parts p (fds_in used) locals) ≤ 67108864
-          → length (index_bytes (font_dicts p from (fds_in used) locals)) ≤ 67108864 → Placed p fds sizes lens (length (fds_in used)) from
+          → length (index_bytes (font_dicts p from (fds_in used) locals)) ≤ 67108864 → Placed p fds sizes lens from
       dicts-placed from small few =
           let n : length (fds_in used) ≤ 256 = used-count used 256 in
           let e : length (mapped size_at (fds_in used)) ≡ length (fds_in used) = length-mapped size_at (fds_in used) in
           let g : length (mapped len_at (fds_in used)) ≡ length (fds_in used) = length-mapped len_at (fds_in used) in
           let i : length sizes ≡ length oldSizes = ap length s.dicts ∙ put-length oldSizes 0 (mapped size_at (fds_in used)) (omega arith) in
           let j : length lens ≡ length oldLens = ap length s.parts ∙ put-length oldLens 0 (mapped len_at (fds_in used)) (omega arith) in
-          record {
-            few = omega arith;
-            listed = listed.long;
-            there = listed_there listed (length p.privates) ready.asked.locals.fds;
-            short = omega (arith, ap total (dicts_are from), total-within (font_dicts p from (fds_in used) locals));
+          subst (λ (l : List ℕ). Placed p l sizes lens from) (sym listed)
+          (record {
+            short = omega (arith, ap total (listed_are from), total-within (font_dicts p from (fds_in used) locals));
             sized = omega arith;
             long = omega arith;
             small = λ k l.
@@ -204,20 +202,20 @@ module _ (b : List ℕ) (rows : List Row) (used ws table : List ℕ) (r : Planne
                 = sym (get_or-take (length (fds_in used)) sizes k 0 l) ∙ ap (λ (x : List ℕ). get_or x k 0) sizes_held in
                 omega (arith, size-within p (fds_in used) locals k);
             ends = let v : sum_of (take (length (fds_in used)) lens) ≡ length (private_parts p (fds_in used) locals) = ap sum_of lens_put ∙ parts_same in omega arith;
-          }
+          })
+        where
+          listed_are : (x : ℕ) → font_dicts_by p (fds_in used) sizes lens x ≡ font_dicts p x (fds_in used) locals
+          listed_are x = ap (λ (l : List ℕ). font_dicts_by p l sizes lens x) (sym listed) ∙ dicts_are x
 
-  -- their FontMatrix entries can be measured
-  pub matrices_asked : r.order.f.cid ≡ true → {fds : List ℕ} → Listed used fds → (count : ℕ) → count ≡ length (fds_in used)
-      → (length b ≤ 67108864) × GoodFont b r.order.f × (r.order.f.cid ≡ true) × (count ≤ 256) × (count ≤ length fds)
-      × ((k : ℕ) → k < count → get_or fds k 0 < length p.privates)
-  matrices_asked keyed listed count counted = (
-    ready.read.size,
-    ready.read.font,
-    keyed,
-    omega (arith, used-count used 256),
-    omega (arith, listed.long),
-    (λ k h. listed_there listed (length p.privates) ready.asked.locals.fds k (omega arith)),
-  )
+  -- they are FDs of the font, and few
+  module _ {fds : List ℕ} (listed : fds ≡ fds_in used) where
+    pub array_few : length fds ≤ 256
+    array_few = omega (arith, ap length listed, used-count used 256)
+
+    pub array_there : (k : ℕ) → k < length fds → get_or fds k 0 < length p.privates
+    array_there =
+        subst (λ (l : List ℕ). (k : ℕ) → k < length l → get_or l k 0 < length p.privates) (sym listed)
+        (used_there used (length p.privates) ready.asked.tables.fds)
 
   -- their INDEX is as long wherever the Privates stand
   pub dicts-length : (from : ℕ) → length (index_bytes (font_dicts p from (fds_in used) locals))
@@ -242,7 +240,7 @@ module _ (b : List ℕ) (rows : List Row) (used ws table : List ℕ) (r : Planne
   privates_are = ap (private_parts p (fds_in used)) new_are
 
   pub privates-asked : (at room : ℕ) → at + length (private_parts p (fds_in used) locals) ≤ 67108864 → at + length (private_parts p (fds_in used) locals) ≤ room
-      → LocalsIn b p used ws table r.how.globals rows r.how.rising
+      → LocalsIn p used ws table r.how.globals rows r.how.rising
       × PartsRoom r.how.way p rows ws table r.how.globals used totals at room
   privates-asked at room small fits =
       let e = ap length privates_are in (

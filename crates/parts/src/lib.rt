@@ -15,8 +15,13 @@ ghost use Rattle.order_window.specs.Window.{glyphs_of, Ordered};
 ghost use Rattle.parts.specs.Ready.{PlanIn, bodies_for, Ready, Summed};
 
 use bodies::Manner;
+use bodies::measured::Measured;
+use bodies::subroutines::Subroutines;
 use bodies::subrs::{Source, Subrs};
+use cff::loaded::Loaded;
+use fds::in_use::InUse;
 use order_window::Order;
+use plan::bodies_in::BodiesIn;
 
 // The kept glyphs, how bodies are written by the way that was found, and the bytes of the globals and of the charstrings by it.
 #[derive(Clone, Copy)]
@@ -29,19 +34,18 @@ pub struct Planned {
 
 // Ranks all subroutines in the work words behind the bits of the glyphs, finds the way, and measures all bodies by it: those of the locals of
 // each FD in use in a table.
-pub fn plan_all(
+pub fn plan_all<'a>(
     o: Order,
-    font: &[u8],
-    rows: &[u8],
+    font: &'a [u8],
+    rows: &'a [u8],
     traced: bool,
-    used: &[u32],
+    used: &'a [u32],
     words: &mut [u32],
     window: &mut [u32],
-    table: &mut [usize],
-    totals: &mut [usize],
+    table: &mut [usize; 1280],
+    totals: &mut [usize; 256],
 ) -> Planned
-    requires { (PlanIn font.now o used.now words.old window.old) × (1280 ≤ length table.old)
-        × (256 ≤ length totals.old) }
+    requires { PlanIn font.now o used.now words.old window.old }
     ensures { (Ready font.now (rows_of rows.now) used.now words.new result table.new)
         × (Summed font.now (rows_of rows.now) used.now words.new result table.new totals.new)
         × (Ordered font.now words.new window.new o) × (result.order ≡ o)
@@ -49,8 +53,12 @@ pub fn plan_all(
         × (record { way = result.how.way; bodies = bodies_for font.now (rows_of rows.now) used.now words.new result }
         ≡ pruned (program_of font.now o.f) (rows_of rows.now) (fds_in used.now) (glyphs_of font.now o.f words.old) (flag_of traced)) }
 {
-    let f = o.f;
-    let ranked = plan::rank_all(font, f, rows, used, &mut *words, &mut *table);
+    let loaded = Loaded {
+        bytes: font,
+        f: o.f,
+    };
+    let fds = InUse { font: loaded, used };
+    let ranked = plan::rank_all(&fds, rows, &mut *words, &mut *table);
     let rising = reach::masks::rises(rows);
     let globals = ranked.globals;
     let first = Manner {
@@ -58,7 +66,16 @@ pub fn plan_all(
         globals,
         rising,
     };
-    let found = plan::plan_bodies(first, o, font, used, words, window, table, rows, totals);
+    let bodies = BodiesIn {
+        how: first,
+        o,
+        font,
+        used,
+        words,
+        table,
+        rows,
+    };
+    let found = plan::plan_bodies(&bodies, window, totals);
     let how = Manner {
         way: found.way,
         globals,
@@ -123,5 +140,15 @@ pub fn put_globals(
         globals: own,
         rising: how.rising,
     };
-    bodies::subrs::put_subrs(from, font, words, rows, r.globals_total, out, at)
+    let all = Subroutines {
+        from,
+        font,
+        words,
+        rows,
+    };
+    let m = Measured {
+        all,
+        total: r.globals_total,
+    };
+    bodies::subrs::put_subrs(&m, out, at)
 }

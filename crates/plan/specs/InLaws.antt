@@ -51,11 +51,8 @@ module _ (b : List ℕ) (o : Order) (font : GoodFont b o.f) (good : GoodProgram 
       let fd : ℕ → ℕ = λ i. get_or (program_of b o.f).fds (get_or (glyphs_of b o.f ws) i 0) 0 in
       record {
         font = font;
+        tables = record { size = size; used_long = u; table_long = a; fds = fds };
         locals = record {
-          size = size;
-          used_long = u;
-          table_long = a;
-          fds = fds;
           many = λ x l v. (h.local_ranks x l v).many;
           ranks = local_ranked;
           global_ranks = global_ranked;

@@ -9,3 +9,5 @@ pub mod PlanLaws
 pub mod FontLaws
 pub mod WayLaws
 pub mod InLaws
+pub mod Alone
+pub mod Held

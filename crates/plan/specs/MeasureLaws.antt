@@ -130,6 +130,7 @@ by_way way b o used ws how table rows h =
     let g = h.glyphs in
     record {
       font = h.font;
+      tables = h.tables;
       locals = h.locals;
       subrs = h.subrs;
       glyphs = record { size = g.size; table_long = g.table_long; fds = g.fds; local_ranks = g.local_ranks; global_ranks = g.global_ranks; order = g.order };

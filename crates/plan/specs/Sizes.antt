@@ -15,7 +15,7 @@ use Rattle.bodies.specs.Pruning.{all_hold}
 use Rattle.order_window.specs.declared.Order.{Order}
 use Rattle.glyph_bodies.specs.Charstrings.{charstrings_of, CharstringsIn}
 use Rattle.fds.specs.Locals.{in_use_lem, fds_in}
-use Rattle.fds.specs.NewLocals.{locals_by, new_locals, LocalsIn}
+use Rattle.fds.specs.NewLocals.{locals_by, new_locals, Tables, LocalsIn}
 use Rattle.plan.specs.declared.sizes.Measures.{Measures}
 use Rattle.plan.specs.declared.Plan.{Plan}
 use Rattle.subset.specs.declared.Way.{Way}
@@ -81,7 +81,8 @@ module _ (p : Program) (rows : List Row) (ws used table : List ℕ) (globals : R
 -- what measuring asks: the parts that the words and the tables hold, as their own measures ask for them
 pub record MeasureIn (b : List ℕ) (o : Order) (used ws : List ℕ) (how : Manner) (table : List ℕ) (rows : List Row) : Type 0 where
   pub font : GoodFont b o.f
-  pub locals : LocalsIn b (program_of b o.f) used ws table how.globals rows how.rising
+  pub tables : Tables b (program_of b o.f) used table
+  pub locals : LocalsIn (program_of b o.f) used ws table how.globals rows how.rising
   pub subrs : SubrsIn b ws o.f.globals how.globals (across_by table (fds_in used)) how.globals rows how.rising Global
   pub glyphs : CharstringsIn b ws table o how rows
 

@@ -2,22 +2,23 @@
 // are measured.
 #![tactic(auto)]
 
+pub mod bodies_in;
 pub mod sizes;
 
 ghost use Rattle.std.specs.Prelude.{◌≡◌, ◌+◌, ◌≤◌, length};
 ghost use Rattle.record.specs.Record.{rows_of};
 ghost use Rattle.bits.specs.Bits.{words_for};
 ghost use Rattle.cff.specs.Find.{locals_words};
-ghost use Rattle.cff.specs.Reads.{GoodFont, program_of};
-ghost use Rattle.fds.specs.Locals.{UsedOf};
+ghost use Rattle.cff.specs.Loaded.{program};
 ghost use Rattle.plan.specs.Ranked.{RanksAll};
-ghost use Rattle.order_window.specs.Window.{glyphs_of, Ordered};
-ghost use Rattle.plan.specs.Sizes.{MeasureIn, first_way, Plans};
+ghost use Rattle.order_window.specs.Window.{Ordered};
+ghost use Rattle.plan.specs.Held.{Planned};
+ghost use Rattle.plan.specs.Sizes.{first_way};
 
+use crate::bodies_in::BodiesIn;
 use crate::sizes::{Measures, measure};
 use bodies::Manner;
-use cff::font::Font;
-use order_window::Order;
+use fds::in_use::InUse;
 use renumber::Ranks;
 use subset::Way;
 
@@ -30,28 +31,22 @@ pub struct RankedAll {
 
 // Sets the bits of the globals in the words behind the bits of the glyphs, and of the locals of each FD in use behind them.
 pub fn rank_all(
-    font: &[u8],
-    f: Font,
+    fds: &InUse<'_, '_>,
     rows: &[u8],
-    used: &[u32],
     words: &mut [u32],
-    table: &mut [usize],
+    table: &mut [usize; 1280],
 ) -> RankedAll
-    requires { (GoodFont font.now f) × (256 ≤ length used.now) × (UsedOf (length (program_of font.now f).privates) used.now)
-        × (words_for f.charstrings.count + words_for f.globals.count + locals_words (program_of font.now f).privates ≤ length words.old)
-        × (1280 ≤ length table.old) }
-    ensures { RanksAll (program_of font.now f) (rows_of rows.now) used.now words.old words.new
-        table.new result }
+    requires { words_for fds.now.font.f.charstrings.count + words_for fds.now.font.f.globals.count + locals_words (program fds.now.font).privates
+        ≤ length words.old }
+    ensures { RanksAll (program fds.now.font) (rows_of rows.now) fds.now.used.now words.old words.new table.new result }
 {
-    let charstrings = f.charstrings;
-    let subrs = f.globals;
-    let at = bits::words_for(charstrings.count);
-    let count = subrs.count;
+    let f = fds.font.f;
+    let at = bits::words_for(f.charstrings.count);
+    let count = f.globals.count;
     let r = reach::ranks::rank_reached(rows, true, 0, &mut *words, at, count);
-    let first = r.all;
     let behind = at + bits::words_for(count);
-    let rest = fds::rank_locals(font, f, rows, used, words, behind, table);
-    let all = fds::both(first, rest);
+    let rest = fds::rank_locals(fds, rows, words, behind, table);
+    let all = fds::both(r.all, rest);
     let globals = Ranks {
         at,
         count,
@@ -95,44 +90,28 @@ pub fn first_way(traced: bool, all: bool) -> Way
 }
 
 // Finds the way, the first of which is given, and measures all bodies by it: those of the locals of each FD in use in a table.
-pub fn plan_bodies(
-    how: Manner,
-    o: Order,
-    font: &[u8],
-    used: &[u32],
-    words: &[u32],
-    window: &mut [u32],
-    table: &[usize],
-    rows: &[u8],
-    totals: &mut [usize],
-) -> Plan
-    requires { (MeasureIn font.now o used.now words.now how table.now (rows_of rows.now)) × (Ordered font.now words.now window.old o)
-        × (256 ≤ length totals.old) }
-    ensures { (Plans (program_of font.now o.f) (rows_of rows.now) words.now used.now table.now how.globals
-        (glyphs_of font.now o.f words.now) how.way totals.new result)
-        × (Ordered font.now words.now window.new o) }
+pub fn plan_bodies(b: &BodiesIn<'_>, window: &mut [u32], totals: &mut [usize; 256]) -> Plan
+    requires { Ordered b.now.font.now b.now.words.now window.old b.now.o }
+    ensures { (Planned b.now totals.new result) × (Ordered b.now.font.now b.now.words.now window.new b.now.o) }
 {
-    let way = how.way;
-    let m = measure(
-        how,
-        o,
-        font,
-        used,
-        words,
-        &mut *window,
-        table,
-        rows,
-        &mut *totals,
-    );
+    let m = measure(b, &mut *window, &mut *totals);
     if m.all {
-        return planned(way, m);
+        return planned(b.how.way, m);
     }
-    let globals = how.globals;
-    let stubbed = Manner {
+    let how = Manner {
         way: Way::Stubbed,
-        globals,
-        rising: how.rising,
+        globals: b.how.globals,
+        rising: b.how.rising,
     };
-    let s = measure(stubbed, o, font, used, words, window, table, rows, totals);
+    let stubbed = BodiesIn {
+        how,
+        o: b.o,
+        font: b.font,
+        used: b.used,
+        words: b.words,
+        table: b.table,
+        rows: b.rows,
+    };
+    let s = measure(&stubbed, window, totals);
     planned(Way::Stubbed, s)
 }

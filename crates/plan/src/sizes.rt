@@ -1,17 +1,19 @@
 // The sizes of all bodies by the way.
 ghost use Rattle.std.specs.Prelude.{◌≡◌, false, ◌≤◌, length};
 ghost use Rattle.record.specs.Record.{rows_of};
-ghost use Rattle.cff.specs.Reads.{program_of};
 ghost use Rattle.bodies.specs.Ways.{measured_of};
 ghost use Rattle.bodies.specs.Sizes.{Bounded};
 ghost use Rattle.fds.specs.Locals.{fds_in};
 ghost use Rattle.fds.specs.NewLocals.{MeasuresLocals};
-ghost use Rattle.order_window.specs.Window.{glyphs_of, Ordered};
-ghost use Rattle.plan.specs.Sizes.{across_by, globals_by, MeasureIn, MeasuresAll};
+ghost use Rattle.order_window.specs.Window.{Ordered};
+ghost use Rattle.plan.specs.Held.{program, globals, Measured};
+ghost use Rattle.plan.specs.Sizes.{across_by};
 
-use bodies::Manner;
+use crate::bodies_in::BodiesIn;
+use bodies::subroutines::Subroutines;
 use bodies::subrs::{Source, Subrs};
-use order_window::Order;
+use cff::loaded::Loaded;
+use fds::table::FdTable;
 use renumber::Ranks;
 
 // Whether no part fails, and then the bytes of the globals and of the charstrings.
@@ -59,82 +61,57 @@ fn failed() -> Measures
 }
 
 // The bytes of the globals by the way, or that their renumbering fails.
-fn globals_total(
-    how: Manner,
-    o: Order,
-    font: &[u8],
-    used: &[u32],
-    words: &[u32],
-    table: &[usize],
-    rows: &[u8],
-) -> Option<usize>
-    requires { MeasureIn font.now o used.now words.now how table.now (rows_of rows.now) }
-    ensures { (result ≡ measured_of (globals_by how.way (program_of font.now o.f) (rows_of rows.now) words.now
-        used.now table.now how.globals (glyphs_of font.now o.f words.now))) × (Bounded result) }
+fn globals_total(b: &BodiesIn<'_>) -> Option<usize>
+    ensures { (result ≡ measured_of (globals b.now)) × (Bounded result) }
 {
-    let f = o.f;
-    let ix = f.globals;
-    let own = how.globals;
-    let locals = across(used, table);
-    let of = Subrs::Global;
+    let own = b.how.globals;
     let from = Source {
-        way: how.way,
-        of,
-        ix,
+        way: b.how.way,
+        of: Subrs::Global,
+        ix: b.o.f.globals,
         own,
-        locals,
+        locals: across(b.used, b.table),
         globals: own,
-        rising: how.rising,
+        rising: b.how.rising,
     };
-    bodies::subrs::subrs_total(from, font, words, rows)
+    let all = Subroutines {
+        from,
+        font: b.font,
+        words: b.words,
+        rows: b.rows,
+    };
+    bodies::subrs::subrs_total(&all)
 }
 
 // The bytes of the locals of each FD in use by the way, in a table; false where their renumbering fails.
-fn locals_totals(
-    how: Manner,
-    o: Order,
-    font: &[u8],
-    used: &[u32],
-    words: &[u32],
-    table: &[usize],
-    rows: &[u8],
-    sums: &mut [usize],
-) -> bool
-    requires { (MeasureIn font.now o used.now words.now how table.now (rows_of rows.now)) × (256 ≤ length sums.old) }
-    ensures { MeasuresLocals how.way (program_of font.now o.f) (rows_of rows.now) words.now table.now how.globals used.now sums.new result }
+fn locals_totals(b: &BodiesIn<'_>, sums: &mut [usize; 256]) -> bool
+    ensures { MeasuresLocals b.now.how.way (program b.now) (rows_of b.now.rows.now) b.now.words.now b.now.table.now b.now.how.globals
+        b.now.used.now sums.new result }
 {
-    let way = how.way;
-    let globals = how.globals;
-    let rising = how.rising;
-    let f = o.f;
-    fds::totals::measure_locals(
-        way, font, f, used, words, table, globals, rows, rising, sums,
-    )
+    let loaded = Loaded {
+        bytes: b.font,
+        f: b.o.f,
+    };
+    let fds = FdTable {
+        font: loaded,
+        used: b.used,
+        table: b.table,
+    };
+    fds::totals::measure_locals(b.how, &fds, b.words, b.rows, sums)
 }
 
 // The bytes of all bodies by the way: those of the locals of each FD in use in a table.
-pub fn measure(
-    how: Manner,
-    o: Order,
-    font: &[u8],
-    used: &[u32],
-    words: &[u32],
-    window: &mut [u32],
-    table: &[usize],
-    rows: &[u8],
-    sums: &mut [usize],
-) -> Measures
-    requires { (MeasureIn font.now o used.now words.now how table.now (rows_of rows.now)) × (Ordered font.now words.now window.old o)
-        × (256 ≤ length sums.old) }
-    ensures { (MeasuresAll how.way (program_of font.now o.f) (rows_of rows.now) words.now used.now
-        table.now how.globals (glyphs_of font.now o.f words.now) sums.new result)
-        × (Ordered font.now words.now window.new o) }
+pub fn measure(b: &BodiesIn<'_>, window: &mut [u32], sums: &mut [usize; 256]) -> Measures
+    requires { Ordered b.now.font.now b.now.words.now window.old b.now.o }
+    ensures { (Measured b.now sums.new result) × (Ordered b.now.font.now b.now.words.now window.new b.now.o) }
 {
-    match globals_total(how, o, font, used, words, table, rows) {
+    match globals_total(b) {
         None => failed(),
         Some(g) => {
-            if locals_totals(how, o, font, used, words, table, rows, sums) {
-                match glyph_bodies::charstrings_total(how, o, font, words, window, table, rows) {
+            if locals_totals(b, sums) {
+                match glyph_bodies::charstrings_total(
+                    b.how, b.o, b.font, b.words, window, b.table, b.rows,
+                ) {
                     None => failed(),
                     Some(c) => Measures {
                         all: true,

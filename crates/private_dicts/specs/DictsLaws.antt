@@ -1,6 +1,7 @@
 -- Laws of the Font DICTs: how many they are, how long they are, what each is, and that they are those of the subset.
 use Rattle.std.specs.Prelude.{ℕ, zero, suc, ◌+◌, ◌*◌, ◌≤◌, ◌<◌, ◌≡◌, refl, List, [], ◌∷◌, ◌++◌, length, take, get_or}
 use Rattle.std.proofs.Common.{sym, ap, ◌∙◌, arith, length-append, length-take-le, get_or-take}
+use Rattle.std.proofs.Math.Seq.{take-length}
 use Rattle.octets.specs.Lists.{sum_of}
 use Rattle.dict.specs.Op.{font_matrix}
 use Rattle.dict_write.specs.Written.{copied_entry, private_entry}
@@ -75,9 +76,8 @@ matrices_next p (f ∷ fs) (suc k) h =
     omega (arith, t, matrices_next p fs k (omega arith))
 
 -- all of them
-pub matrices_all : (p : Program) (fds : List ℕ) (k count : ℕ) → k ≤ count → count ≤ k → (len : ℕ) → len ≡ total (matrices_by p (take k fds))
-    → len ≡ total (matrices_by p (take count fds))
-matrices_all p fds k count h g len e = let i : k ≡ count = omega arith in e ∙ ap (λ (n : ℕ). total (matrices_by p (take n fds))) i
+pub matrices_all : (p : Program) (fds : List ℕ) (k : ℕ) → k ≡ length fds → (len : ℕ) → len ≡ total (matrices_by p (take k fds)) → len ≡ total (matrices_by p fds)
+matrices_all p fds k i len e = e ∙ ap (λ (n : ℕ). total (matrices_by p (take n fds))) i ∙ ap (λ (l : List ℕ). total (matrices_by p l)) (take-length fds)
 
 pub matrices_none : (p : Program) (fds : List ℕ) → 0 ≡ total (matrices_by p (take 0 fds))
 unfolding matrices_by total
@@ -114,36 +114,37 @@ sum-part [] (suc k) (suc n) h = omega arith
 sum-part (x ∷ l) (suc k) zero h = absurd (no (omega arith))
 sum-part (x ∷ l) (suc k) (suc n) h = omega (arith, sum-part l k n (omega arith))
 
-module _ (f : Program) (fds sizes lens : List ℕ) (count from : ℕ) (p : Placed f fds sizes lens count from) where
-  counted : length (matrices_by f (take count fds)) ≡ count
-  counted = matrices_length f (take count fds) ∙ length-take-le count fds p.listed
+module _ (f : Program) (fds sizes lens : List ℕ) (from : ℕ) (p : Placed f fds sizes lens from) where
+  even : Even (matrices_by f fds) (take (length fds) sizes) (take (length fds) lens)
+  even =
+      record {
+        sized = length-take-le (length fds) sizes p.sized ∙ sym (matrices_length f fds);
+        long = length-take-le (length fds) lens p.long ∙ sym (matrices_length f fds);
+      }
 
-  even : Even (matrices_by f (take count fds)) (take count sizes) (take count lens)
-  even = record { sized = length-take-le count sizes p.sized ∙ sym counted; long = length-take-le count lens p.long ∙ sym counted }
+  pub dicts_many : length fds ≡ length (font_dicts_by f fds sizes lens from)
+  dicts_many = sym (many (matrices_by f fds) (take (length fds) sizes) (take (length fds) lens) from even ∙ matrices_length f fds)
 
-  pub dicts_many : count ≡ length (font_dicts_by f fds sizes lens count from)
-  dicts_many = sym (many (matrices_by f (take count fds)) (take count sizes) (take count lens) from even ∙ counted)
-
-  pub dicts-total : (m : ℕ) → m ≡ total (matrices_by f (take count fds)) → m + 11 * count ≡ total (font_dicts_by f fds sizes lens count from)
+  pub dicts-total : (m : ℕ) → m ≡ total (matrices_by f fds) → m + 11 * length fds ≡ total (font_dicts_by f fds sizes lens from)
   dicts-total m e =
-      sym (long (matrices_by f (take count fds)) (take count sizes) (take count lens) from even
-      ∙ ap (λ (n : ℕ). total (matrices_by f (take count fds)) + 11 * n) counted ∙ ap (λ (n : ℕ). n + 11 * count) (sym e))
+      sym (long (matrices_by f fds) (take (length fds) sizes) (take (length fds) lens) from even
+      ∙ ap (λ (n : ℕ). total (matrices_by f fds) + 11 * n) (matrices_length f fds) ∙ ap (λ (n : ℕ). n + 11 * length fds) (sym e))
 
-  pub dicts-at : (k place : ℕ) → k < count → place ≡ from + sum_of (take k lens)
-      → copied_entry font_matrix (matrix_of f (get_or fds k 0)) ++ private_entry (get_or sizes k 0) place ≡ get_or (font_dicts_by f fds sizes lens count from) k []
+  pub dicts-at : (k place : ℕ) → k < length fds → place ≡ from + sum_of (take k lens)
+      → copied_entry font_matrix (matrix_of f (get_or fds k 0)) ++ private_entry (get_or sizes k 0) place ≡ get_or (font_dicts_by f fds sizes lens from) k []
   dicts-at k place h e =
-      sym (at (matrices_by f (take count fds)) (take count sizes) (take count lens) from k even (omega (arith, counted))
-      ∙ ap (λ (l : List ℕ). l ++ private_entry (get_or (take count sizes) k 0) (from + sum_of (take k (take count lens))))
-      (matrix_at f (take count fds) k (omega (arith, length-take-le count fds p.listed)) ∙ ap (λ (n : ℕ). copied_entry font_matrix (matrix_of f n)) (get_or-take count fds k 0 h))
+      let count = length fds in
+      sym (at (matrices_by f fds) (take count sizes) (take count lens) from k even (omega (arith, h, matrices_length f fds))
+      ∙ ap (λ (l : List ℕ). l ++ private_entry (get_or (take count sizes) k 0) (from + sum_of (take k (take count lens)))) (matrix_at f fds k h)
       ∙ ap (λ (n : ℕ). copied_entry font_matrix (matrix_of f (get_or fds k 0)) ++ private_entry n (from + sum_of (take k (take count lens)))) (get_or-take count sizes k 0 h)
       ∙ ap (λ (l : List ℕ). copied_entry font_matrix (matrix_of f (get_or fds k 0)) ++ private_entry (get_or sizes k 0) (from + sum_of l)) (take-take k count lens (omega arith))
       ∙ ap (λ (n : ℕ). copied_entry font_matrix (matrix_of f (get_or fds k 0)) ++ private_entry (get_or sizes k 0) n) (sym e))
 
   -- the places are held by the five-byte form
-  pub place-small : (k place : ℕ) → k ≤ count → place ≡ from + sum_of (take k lens) → place < 2147483648
-  place-small k place h e = omega (arith, p.ends, sum-part lens k count h)
+  pub place-small : (k place : ℕ) → k ≤ length fds → place ≡ from + sum_of (take k lens) → place < 2147483648
+  place-small k place h e = omega (arith, p.ends, sum-part lens k (length fds) h)
 
-  pub place-next : (k place : ℕ) → k < count → place ≡ from + sum_of (take k lens) → place + get_or lens k 0 ≡ from + sum_of (take (k + 1) lens)
+  pub place-next : (k place : ℕ) → k < length fds → place ≡ from + sum_of (take k lens) → place + get_or lens k 0 ≡ from + sum_of (take (k + 1) lens)
   place-next k place h e = omega (arith, sum-next lens k (omega (arith, p.long)))
 
 -- ---- those of the subset

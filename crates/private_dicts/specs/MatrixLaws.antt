@@ -1,15 +1,11 @@
 -- Laws of the FontMatrix of an FD: it is that of the Font DICT at the FD's place in the FD array.
-use Rattle.std.specs.Prelude.{ℕ, zero, suc, ◌+◌, ◌≤◌, ◌<◌, ◌≡◌, refl, Bool, true, List, [], ◌∷◌, ◌++◌, length, get_or}
-use Rattle.std.proofs.Common.{sym, ap, ◌∙◌, arith, length-append}
-use Rattle.octets.specs.Octets.{Octets}
+use Rattle.std.specs.Prelude.{ℕ, zero, suc, ◌<◌, ◌≡◌, refl, Bool, true, List, [], ◌∷◌, length, get_or}
+use Rattle.std.proofs.Common.{sym, ap, ◌∙◌, arith}
 use Rattle.index.specs.Index.{items_of}
 use Rattle.index.specs.IndexLaws.{items-length}
-use Rattle.index.proofs.FoundLaws.{item_octets}
 use Rattle.dict.specs.Op.{font_matrix}
 use Rattle.dict.specs.Lookup.{last_of}
 use Rattle.dict.specs.Places.{entries_of}
-use Rattle.dict_write.specs.Written.{copied_entry, private_entry}
-use Rattle.dict_write.specs.ShortLaws.{copied-short}
 use Rattle.cff.specs.Font.{dicts_at}
 use Rattle.cff.specs.Reads.{GoodFont, dicts_of, program_of}
 use Rattle.cff.specs.declared.font.Font.{Font}
@@ -34,19 +30,3 @@ module _ (b : List ℕ) (f : Font) (g : GoodFont b f) (c : f.cid ≡ true) (fd :
       ap (λ (x : List ℕ). last_of font_matrix (entries_of x)) e
       ∙ ap (last_of font_matrix) (sym (dicts-entry (items_of b f.dicts) fd k))
       ∙ ap (λ (t : Bool). last_of font_matrix (get_or (dicts_of b t f.dicts) fd [])) (sym c)
-
-  pub matrix_bytes : copied_entry font_matrix (last_of font_matrix (entries_of d)) ≡ copied_entry font_matrix (matrix_of (program_of b f) fd)
-  matrix_bytes = ap (copied_entry font_matrix) matrix_is
-
-  -- room for it and Private is room for it
-  pub matrix_room : (size place n at : ℕ) → at + length (copied_entry font_matrix (matrix_of (program_of b f) fd) ++ private_entry size place) ≤ n
-      → at + length (copied_entry font_matrix (last_of font_matrix (entries_of d))) ≤ n
-  matrix_room size place n at h =
-      omega (arith, ap length matrix_bytes, length-append (copied_entry font_matrix (matrix_of (program_of b f) fd)) (private_entry size place))
-
-  -- it is not much longer than the font
-  pub matrix_short : Octets b → length d ≤ 67108864 → length (copied_entry font_matrix (matrix_of (program_of b f) fd)) ≤ 7000000000
-  matrix_short o few = omega (arith, ap length matrix_bytes, copied-short d octets few font_matrix)
-    where
-      octets : Octets d
-      octets = rw e (item_octets b f.dicts g.parts.dicts.good fd (fd-within b f g fd h c) o)

@@ -39,20 +39,17 @@ dicts_by (m ∷ ms) [] lens from = []
 dicts_by (m ∷ ms) (s ∷ ss) [] from = []
 dicts_by (m ∷ ms) (s ∷ ss) (l ∷ ls) from = (m ++ private_entry s from) ∷ dicts_by ms ss ls (from + l)
 
--- of the first so many FDs of a list
-abbrev pub font_dicts_by : Program → List ℕ → List ℕ → List ℕ → ℕ → ℕ → List (List ℕ)
-font_dicts_by p fds sizes lens count from = dicts_by (matrices_by p (take count fds)) (take count sizes) (take count lens) from
+-- of some FDs
+abbrev pub font_dicts_by : Program → List ℕ → List ℕ → List ℕ → ℕ → List (List ℕ)
+font_dicts_by p fds sizes lens from = dicts_by (matrices_by p fds) (take (length fds) sizes) (take (length fds) lens) from
 
--- there are so many, FDs of the font, their INDEX is not too long, and the five-byte form holds the sizes and the places
-pub record Placed (p : Program) (fds sizes lens : List ℕ) (count from : ℕ) : Type 0 where
-  pub few : count ≤ 256
-  pub listed : count ≤ length fds
-  pub there : (k : ℕ) → k < count → get_or fds k 0 < length p.privates
-  pub short : total (font_dicts_by p fds sizes lens count from) < 4294967295
-  pub sized : count ≤ length sizes
-  pub long : count ≤ length lens
-  pub small : (k : ℕ) → k < count → get_or sizes k 0 < 2147483648
-  pub ends : from + sum_of (take count lens) < 2147483648
+-- their INDEX is not too long, and the five-byte form holds the sizes and the places
+pub record Placed (p : Program) (fds sizes lens : List ℕ) (from : ℕ) : Type 0 where
+  pub short : total (font_dicts_by p fds sizes lens from) < 4294967295
+  pub sized : length fds ≤ length sizes
+  pub long : length fds ≤ length lens
+  pub small : (k : ℕ) → k < length fds → get_or sizes k 0 < 2147483648
+  pub ends : from + sum_of (take (length fds) lens) < 2147483648
 
 -- the sizes of the Private DICTs of the FDs in use, and the lengths of their parts
 unfoldable pub sizes_of : Program → List ℕ → List (List (List ℕ)) → List ℕ

@@ -1,20 +1,30 @@
 // The Private DICTs of a subset and the Font DICTs of a CID-keyed one, measured first and then written (the Rust's subset and subset_cid).
 #![tactic(auto)]
 
-ghost use Rattle.std.specs.Prelude.{◌≡◌, true, ◌++◌, ℕ, ◌+◌, ◌≤◌, ◌<◌, length, take, get_or, Ok};
+pub mod fd;
+pub mod fd_array;
+pub mod held;
+
+ghost use Rattle.std.specs.Prelude.{◌≡◌, ◌++◌, ℕ, ◌+◌, ◌≤◌, ◌<◌, length, get_or, Ok};
 ghost use Rattle.octets.specs.Octets.{Wrote};
 ghost use Rattle.dict.specs.Places.{entries_of};
+ghost use Rattle.dict.specs.Lookup.{last_of};
 ghost use Rattle.dict.specs.Op.{font_matrix};
 ghost use Rattle.dict_write.specs.Written.{copied_entry, private_entry};
 ghost use Rattle.index.specs.Write.{total, index_bytes};
-ghost use Rattle.cff.specs.Reads.{GoodPrivate, GoodFont, program_of, fd_private};
+ghost use Rattle.cff.specs.Reads.{GoodPrivate, fd_private};
+ghost use Rattle.cff.specs.Loaded.{program};
 ghost use Rattle.cff.specs.Reads as reads;
 ghost use Rattle.subset.specs.Kept.{private_of};
 ghost use Rattle.subset.specs.Subset.{matrix_of};
 ghost use Rattle.private_dicts.specs.Privates.{FdRead, private_dict_by, matrices_by, font_dicts_by, Placed};
+ghost use Rattle.private_dicts.specs.Held.{entries};
 
-use cff::font::Font;
+use crate::fd::Fd;
+use crate::fd_array::FdArray;
+use crate::held::PrivateDict;
 use cff::private::PrivateAt;
+use cff::table::Table;
 use dict::nowhere;
 use dict::op::Op;
 use dict_write::{
@@ -26,7 +36,7 @@ fn read_fd(font: &[u8], d: &[u8]) -> PrivateAt
     requires { (2 ≤ length font.now) × (FdRead font.now d.now) }
     ensures { GoodPrivate font.now result × (Ok (reads.private_of font.now result) ≡ fd_private font.now d.now) }
 {
-    let read = cff::private::private_at(font, d);
+    let read = cff::private::private_at(&Table { bytes: font }, d);
     match read {
         Err(_) => cff::private::no_private(),
         Ok(q) => q,
@@ -34,23 +44,22 @@ fn read_fd(font: &[u8], d: &[u8]) -> PrivateAt
 }
 
 // The Private DICT of an FD; in a name-keyed font the one.
-pub fn fd_private(font: &[u8], f: Font, fd: usize) -> PrivateAt
-    requires { (GoodFont font.now f) × (fd < length (program_of font.now f).privates) }
-    ensures { GoodPrivate font.now result × (reads.private_of font.now result ≡ private_of (program_of font.now f) fd) }
+pub fn fd_private(at: &Fd<'_>) -> PrivateAt
+    ensures { GoodPrivate at.now.font.bytes.now result × (reads.private_of at.now.font.bytes.now result ≡ private_of (program at.now.font) at.now.fd) }
 {
+    let font = at.font.bytes;
+    let f = at.font.f;
     let cid = f.cid;
-    let dicts = f.dicts;
-    let private = f.private;
     if cid {
-        return read_fd(font, index::item(font, dicts, fd));
+        return read_fd(font, index::item(font, f.dicts, at.fd));
     }
-    private
+    f.private
 }
 
 // The length of the Private DICT with bytes d and so many local subroutines behind it: 6 bytes for Subrs where there are some.
 fn bytes_len(d: &[u8], left: usize) -> usize
     requires { length d.now ≤ 67108864 }
-    ensures { result ≡ length (private_dict_by (entries_of d.now) left) }
+    ensures { (result ≡ length (private_dict_by (entries_of d.now) left)) × (result ≤ 6912212998) }
 {
     let n = private_len(d);
     if left == 0 {
@@ -60,13 +69,11 @@ fn bytes_len(d: &[u8], left: usize) -> usize
 }
 
 // The length of a Private DICT with so many local subroutines behind it.
-pub fn dict_len(font: &[u8], q: PrivateAt, left: usize) -> usize
-    requires { (length font.now ≤ 67108864) × (GoodPrivate font.now q) }
-    ensures { result ≡ length (private_dict_by (reads.private_of font.now q).entries left) }
+pub fn dict_len(p: &PrivateDict<'_>, left: usize) -> usize
+    ensures { (result ≡ length (private_dict_by (entries p.now) left)) × (result ≤ 6912212998) }
 {
-    let start = q.start;
-    let end = start + q.size;
-    let d = &font[start..end];
+    let q = p.q;
+    let d = &p.bytes[q.start..q.start + q.size];
     bytes_len(d, left)
 }
 
@@ -83,86 +90,76 @@ fn put_bytes(d: &[u8], left: usize, out: &mut [u8], at: usize) -> usize
 }
 
 // A Private DICT with so many local subroutines behind it, from `at` on; the place after it.
-pub fn put_dict(font: &[u8], q: PrivateAt, left: usize, out: &mut [u8], at: usize) -> usize
-    requires { (length font.now ≤ 67108864) × (GoodPrivate font.now q) × (length (private_dict_by (reads.private_of font.now q).entries left) < 2147483648)
-        × (at + length (private_dict_by (reads.private_of font.now q).entries left) ≤ length out.old) }
-    ensures { Wrote out.old at (private_dict_by (reads.private_of font.now q).entries left) out.new result }
+pub fn put_dict(p: &PrivateDict<'_>, left: usize, out: &mut [u8], at: usize) -> usize
+    requires { (length (private_dict_by (entries p.now) left) < 2147483648) × (at + length (private_dict_by (entries p.now) left) ≤ length out.old) }
+    ensures { Wrote out.old at (private_dict_by (entries p.now) left) out.new result }
 {
-    let start = q.start;
-    let end = start + q.size;
-    let d = &font[start..end];
+    let q = p.q;
+    let d = &p.bytes[q.start..q.start + q.size];
     put_bytes(d, left, out, at)
 }
 
-// The length of the FontMatrix of an FD, as it is copied.
-fn matrix_len(font: &[u8], f: Font, fd: usize) -> usize
-    requires { (length font.now ≤ 67108864) × (GoodFont font.now f) × (f.cid ≡ true) × (fd < length (program_of font.now f).privates) }
-    ensures { (result ≡ length (copied_entry font_matrix (matrix_of (program_of font.now f) fd))) × (result ≤ 7000000000) }
+// The Font DICT of the FD with a new number.
+fn font_dict<'a>(a: &FdArray<'a, '_>, k: usize) -> &'a [u8]
+    requires { k < length a.now.fds.now }
+    ensures { (last_of font_matrix (entries_of result.now) ≡ matrix_of (program a.now.font) (get_or a.now.fds.now k 0)) × (length result.now ≤ 67108864) }
 {
-    let dicts = f.dicts;
-    let d = index::item(font, dicts, fd);
-    copied_len(d, nowhere(), Op::FONT_MATRIX)
+    index::item(a.font.bytes, a.font.f.dicts, a.fds[k])
 }
 
-// The length of the FontMatrix entries of the first so many FDs of a list.
-pub fn matrices_len(font: &[u8], f: Font, fds: &[usize], count: usize) -> usize
-    requires { (length font.now ≤ 67108864) × (GoodFont font.now f) × (f.cid ≡ true) × (count ≤ 256) × (count ≤ length fds.now)
-        × ((k : ℕ) → k < count → get_or fds.now k 0 < length (program_of font.now f).privates) }
-    ensures { (result ≡ total (matrices_by (program_of font.now f) (take count fds.now))) × (result ≤ 1792000000000) }
+// The length of the FontMatrix of a Font DICT, as it is copied.
+fn matrix_len(d: &[u8]) -> usize
+    requires { length d.now ≤ 67108864 }
+    ensures { (result ≡ length (copied_entry font_matrix (last_of font_matrix (entries_of d.now)))) × (result ≤ 7000000000) }
+{
+    copied_len(&nowhere(d), Op::FONT_MATRIX)
+}
+
+// The length of the FontMatrix entries of all FDs.
+pub fn matrices_len(a: &FdArray<'_, '_>) -> usize
+    ensures { (result ≡ total (matrices_by (program a.now.font) a.now.fds.now)) × (result ≤ 1792000000000) }
 {
     let mut len: usize = 0;
-    for fd in &fds[..count] {
-        len += matrix_len(font, f, *fd);
+    for k in 0..a.fds.len() {
+        len += matrix_len(font_dict(a, k));
     }
     len
 }
 
-// A Font DICT: the FontMatrix of the FD, and a Private DICT of a size at a place; the place after it.
-fn put_font_dict(
-    font: &[u8],
-    f: Font,
-    fd: usize,
-    size: usize,
-    place: usize,
-    out: &mut [u8],
-    at: usize,
-) -> usize
-    requires { (GoodFont font.now f) × (f.cid ≡ true) × (fd < length (program_of font.now f).privates) × (size < 2147483648) × (place < 2147483648)
-        × (at + length (copied_entry font_matrix (matrix_of (program_of font.now f) fd) ++ private_entry size place) ≤ length out.old) }
-    ensures { Wrote out.old at (copied_entry font_matrix (matrix_of (program_of font.now f) fd) ++ private_entry size place) out.new result }
+// A Font DICT of a subset: the FontMatrix of one of the font, and a Private DICT of a size at a place; the place after it.
+fn put_font_dict(d: &[u8], size: usize, place: usize, out: &mut [u8], at: usize) -> usize
+    requires { (size < 2147483648) × (place < 2147483648)
+        × (at + length (copied_entry font_matrix (last_of font_matrix (entries_of d.now)) ++ private_entry size place) ≤ length out.old) }
+    ensures { Wrote out.old at
+        (copied_entry font_matrix (last_of font_matrix (entries_of d.now)) ++ private_entry size place) out.new result }
 {
-    let dicts = f.dicts;
-    let d = index::item(font, dicts, fd);
-    let p = put_copied(d, nowhere(), Op::FONT_MATRIX, &mut *out, at);
+    let p = put_copied(&nowhere(d), Op::FONT_MATRIX, &mut *out, at);
     put_private_entry(size, place, out, p)
 }
 
-// The FD INDEX: the Font DICTs of the first so many FDs of a list, for parts of these lengths that stand one behind the other, the first at
-// `from`; the place after it.
+// The FD INDEX: the Font DICTs of all FDs, for Private DICTs of these sizes, in parts of these lengths that stand one behind the other, the first
+// at `from`; the place after it.
 pub fn put_font_dicts(
-    font: &[u8],
-    f: Font,
-    fds: &[usize],
+    a: &FdArray<'_, '_>,
     sizes: &[usize],
     lens: &[usize],
-    count: usize,
     from: usize,
     out: &mut [u8],
     at: usize,
 ) -> usize
-    requires { (length font.now ≤ 67108864) × (GoodFont font.now f) × (f.cid ≡ true)
-        × (Placed (program_of font.now f) fds.now sizes.now lens.now count from) × (at < 4294967296)
-        × (at + length (index_bytes (font_dicts_by (program_of font.now f) fds.now sizes.now lens.now count from)) ≤ length out.old) }
+    requires { (Placed (program a.now.font) a.now.fds.now sizes.now lens.now from) × (at < 4294967296)
+        × (at + length (index_bytes (font_dicts_by (program a.now.font) a.now.fds.now sizes.now lens.now from)) ≤ length out.old) }
     ensures { Wrote out.old at
-        (index_bytes (font_dicts_by (program_of font.now f) fds.now sizes.now lens.now count from)) out.new result }
+        (index_bytes (font_dicts_by (program a.now.font) a.now.fds.now sizes.now lens.now from)) out.new result }
 {
-    let total = matrices_len(font, f, fds, count) + 11 * count;
+    let count = a.fds.len();
+    let total = matrices_len(a) + 11 * count;
     let ix = index::index_for(at, count, total);
     index::put_head(out, at, count, total);
     let mut p = ix.base + 1;
     let mut place = from;
     for k in 0..count {
-        p = put_font_dict(font, f, fds[k], sizes[k], place, &mut *out, p);
+        p = put_font_dict(font_dict(a, k), sizes[k], place, &mut *out, p);
         index::put_end(&mut *out, ix, k, p);
         place += lens[k];
     }

@@ -1,6 +1,6 @@
 -- Laws of keys: rows that fit are at one place exactly where their keys are equal, and of one body exactly where their bodies are.
 use Rattle.std.specs.Prelude.{ℕ, ◌+◌, ◌*◌, ◌/◌, ◌%◌, ◌<◌, ◌≡◌, refl, Bool, true, false, ◌&&◌, not, List, [], ◌∷◌, eqb}
-use Rattle.std.proofs.Common.{sym, ap, ◌∙◌, subst, arith, eq-eqb, ne_eqb}
+use Rattle.std.proofs.Common.{sym, ap, ◌∙◌, eq-eqb, ne_eqb}
 use Rattle.std.proofs.Math.Arith.{digits_div, digits_mod}
 use Rattle.octets.specs.Octets.{Octets}
 use Rattle.octets.specs.Pick.{pick}
@@ -10,7 +10,7 @@ use Rattle.unfold.specs.Unfold.{Row, Site, masked}
 use Rattle.record.specs.Record.{at_place, of_body, disagrees, given_in, two_lengths_lem, rows_of}
 use Rattle.reach.specs.declared.Site as code
 use Rattle.reach.specs.declared.Site.TheVariants.{Glyph, Local, Global}
-use Rattle.reach.specs.Reach.{Fits, SiteFits, site_of, key_of_lem}
+use Rattle.reach.specs.Reach.{Fits, site_of, key_of_lem}
 use Rattle.reach.specs.Masks.{body_of_lem, len_at, other_len_lem, two_of}
 use Rattle.reach.specs.RowLaws.{AllFit, all_fit}
 use Rattle.reach.specs.Cases.{by_number}
@@ -41,29 +41,10 @@ same_place r q f g =
     ∙ both-digits 4294967296 (body_of_lem r) r.offset (body_of_lem q) q.offset f.offset g.offset
 
 -- the row of a mask of a site fits
-pub site_fits : (site : code.Site) (offset : ℕ) → SiteFits site → offset < 4294967296 → Fits (masked (site_of site) offset 0)
-site_fits (Glyph g) offset s h = record { kind = omega arith; fd = omega arith; number = s; offset = h; len = omega arith }
-site_fits (Local fd k) offset s h = record { kind = omega arith; fd = s.0; number = s.1; offset = h; len = omega arith }
-site_fits (Global k) offset s h = record { kind = omega arith; fd = omega arith; number = s; offset = h; len = omega arith }
-
--- the bodies of the three sites
-pub glyph_body : (site : code.Site) (g : ℕ) → site ≡ Glyph g → SiteFits site
-    → (2 * 16777216 + g ≡ body_of_lem (masked (site_of site) 0 0)) × (2 * 16777216 + g < 4294967296)
-glyph_body site g e s =
-    subst (λ (x : code.Site). SiteFits x → (2 * 16777216 + g ≡ body_of_lem (masked (site_of x) 0 0)) × (2 * 16777216 + g < 4294967296)) (sym e)
-    (λ h. (omega arith, omega arith)) s
-
-pub local_body : (site : code.Site) (fd k : ℕ) → site ≡ Local fd k → SiteFits site
-    → ((3 * 256 + fd) * 65536 + k ≡ body_of_lem (masked (site_of site) 0 0)) × ((3 * 256 + fd) * 65536 + k < 4294967296)
-local_body site fd k e s =
-    subst (λ (x : code.Site). SiteFits x → ((3 * 256 + fd) * 65536 + k ≡ body_of_lem (masked (site_of x) 0 0)) × ((3 * 256 + fd) * 65536 + k < 4294967296)) (sym e)
-    (λ h. (refl, omega arith)) s
-
-pub global_body : (site : code.Site) (k : ℕ) → site ≡ Global k → SiteFits site
-    → (4 * 16777216 + k ≡ body_of_lem (masked (site_of site) 0 0)) × (4 * 16777216 + k < 4294967296)
-global_body site k e s =
-    subst (λ (x : code.Site). SiteFits x → (4 * 16777216 + k ≡ body_of_lem (masked (site_of x) 0 0)) × (4 * 16777216 + k < 4294967296)) (sym e)
-    (λ h. (omega arith, omega arith)) s
+pub mask_fits : (site : code.Site) (offset : ℕ) → Fits (masked (site_of site) 0 0) → offset < 4294967296 → Fits (masked (site_of site) offset 0)
+mask_fits (Glyph g) offset f h = record { kind = f.kind; fd = f.fd; number = f.number; offset = h; len = f.len }
+mask_fits (Local fd k) offset f h = record { kind = f.kind; fd = f.fd; number = f.number; offset = h; len = f.len }
+mask_fits (Global k) offset f h = record { kind = f.kind; fd = f.fd; number = f.number; offset = h; len = f.len }
 
 -- a site's key: its body and the offset
 pub site_key : (site : code.Site) (offset : ℕ) → key_of_lem (masked (site_of site) offset 0) ≡ body_of_lem (masked (site_of site) 0 0) * 4294967296 + offset
@@ -104,14 +85,14 @@ two-by-key (r ∷ rs) site a f =
 
 -- ---- the answers
 
-pub given-right : (b : List ℕ) → Octets b → (site : code.Site) (offset body key : ℕ) → SiteFits site → offset < 4294967296
+pub given-right : (b : List ℕ) → Octets b → (site : code.Site) (offset body key : ℕ) → Fits (masked (site_of site) 0 0) → offset < 4294967296
     → body ≡ body_of_lem (masked (site_of site) 0 0) → key ≡ body * 4294967296 + offset → (r : MaskLen) → r ≡ len_at key (rows_of b)
     → r ≡ given_in (rows_of b) (site_of site) offset
 given-right b o site offset body key s h e k r q =
     let f : key ≡ key_of_lem (masked (site_of site) offset 0) = k ∙ ap (λ (i : ℕ). i * 4294967296 + offset) e ∙ sym (site_key site offset) in
-    q ∙ ap (λ (i : ℕ). len_at i (rows_of b)) f ∙ given-by-key (rows_of b) (site_of site) offset (all_fit b o) (site_fits site offset s h)
+    q ∙ ap (λ (i : ℕ). len_at i (rows_of b)) f ∙ given-by-key (rows_of b) (site_of site) offset (all_fit b o) (mask_fits site offset s h)
 
-pub two-right : (b : List ℕ) → Octets b → (site : code.Site) (body : ℕ) → SiteFits site → body ≡ body_of_lem (masked (site_of site) 0 0) → (r : Bool)
+pub two-right : (b : List ℕ) → Octets b → (site : code.Site) (body : ℕ) → Fits (masked (site_of site) 0 0) → body ≡ body_of_lem (masked (site_of site) 0 0) → (r : Bool)
     → r ≡ two_of body (rows_of b) → r ≡ two_lengths_lem (rows_of b) (site_of site)
 two-right b o site body s e r q =
-    q ∙ ap (λ (i : ℕ). two_of i (rows_of b)) e ∙ two-by-key (rows_of b) (site_of site) (all_fit b o) (site_fits site 0 s (omega arith))
+    q ∙ ap (λ (i : ℕ). two_of i (rows_of b)) e ∙ two-by-key (rows_of b) (site_of site) (all_fit b o) s

@@ -4,40 +4,41 @@
 
 pub mod masks;
 pub mod ranks;
+pub mod rows;
 
 ghost use Rattle.std.specs.Prelude.{◌≡◌, ◌/◌, ◌<◌, length};
 ghost use Rattle.record.specs.Record.{takes_fd, row_fine_lem, rows_fine_lem, rows_of, record_fine};
-ghost use Rattle.reach.specs.Reach.{row_in, row_no, Fits, fd_fine, mask_fine};
+ghost use Rattle.reach.specs.Reach.{row_in, row_no, fd_fine, mask_fine};
 
 // A row of a record: its five numbers. The kind is a number too: a record may have any, which refusal 8 judges, and rows are ordered by it.
 #[derive(Clone, Copy)]
 pub struct Row {
-    pub kind: usize,
-    pub fd: usize,
-    pub number: usize,
-    pub offset: usize,
-    pub len: usize,
+    pub kind: u8,
+    pub fd: u8,
+    pub number: u16,
+    pub offset: u32,
+    pub len: u16,
 }
 
 // A body that the record speaks of.
 #[derive(Clone, Copy)]
 pub enum Site {
-    Glyph(usize),
-    Local { fd: usize, number: usize },
-    Global(usize),
+    Glyph(u16),
+    Local { fd: u8, number: u16 },
+    Global(u16),
 }
 
 // The i-th row of a record.
 pub fn row_at(rows: &[u8], i: usize) -> Row
     requires { i < length rows.now / 10 }
-    ensures { (row_in result ≡ row_no rows.now i) × (Fits (row_in result)) }
+    ensures { row_in result ≡ row_no rows.now i }
 {
     let at = 10 * i;
-    let kind = octets::u8_at(rows, at);
-    let fd = octets::u8_at(rows, at + 1);
-    let number = octets::u16_at(rows, at + 2);
-    let offset = octets::u32_at(rows, at + 4);
-    let len = octets::u16_at(rows, at + 8);
+    let kind = rows[at];
+    let fd = rows[at + 1];
+    let number = octets::u16_at(rows, at + 2) as u16;
+    let offset = octets::u32_at(rows, at + 4) as u32;
+    let len = octets::u16_at(rows, at + 8) as u16;
     Row {
         kind,
         fd,
@@ -48,7 +49,7 @@ pub fn row_at(rows: &[u8], i: usize) -> Row
 }
 
 // Whether a row of a kind may have an FD that is not 0.
-fn takes_fd(cid: bool, kind: usize) -> bool
+fn takes_fd(cid: bool, kind: u8) -> bool
     ensures { result ≡ takes_fd cid kind }
 {
     if cid {
@@ -61,7 +62,7 @@ fn takes_fd(cid: bool, kind: usize) -> bool
 }
 
 // Whether the FD of a row is 0 where it must be.
-fn fd_fine(cid: bool, kind: usize, fd: usize) -> bool
+fn fd_fine(cid: bool, kind: u8, fd: u8) -> bool
     ensures { result ≡ fd_fine cid kind fd }
 {
     if takes_fd(cid, kind) {
@@ -71,7 +72,7 @@ fn fd_fine(cid: bool, kind: usize, fd: usize) -> bool
 }
 
 // Whether offset and length of a row are 0 where they must be.
-fn mask_fine(kind: usize, offset: usize, len: usize) -> bool
+fn mask_fine(kind: u8, offset: u32, len: u16) -> bool
     ensures { result ≡ mask_fine kind offset len }
 {
     if kind < 2 {

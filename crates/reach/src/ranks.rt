@@ -35,11 +35,11 @@ pub fn rank_reached(
     if global {
         return rank_rows(rows, 1, 0, count, &mut words[at..end]);
     }
-    rank_rows(rows, 0, fd, count, &mut words[at..end])
+    rank_rows(rows, 0, fd as u8, count, &mut words[at..end])
 }
 
 // The same for all of some words, and the rows of a kind and an FD. The kind is the number that the rows have.
-fn rank_rows(rows: &[u8], kind: usize, fd: usize, count: usize, held: &mut [u32]) -> Ranked
+fn rank_rows(rows: &[u8], kind: u8, fd: u8, count: usize, held: &mut [u32]) -> Ranked
     requires { (count < 65536) × (length held.old ≡ words_for count) }
     ensures { (held.new ≡ bits_of (reached_in (rows_of rows.now) kind fd) count)
         × (result ≡ ranked_of (reached_in (rows_of rows.now) kind fd) count) }
@@ -75,7 +75,7 @@ pub fn clear(marks: &mut [u32])
 }
 
 // Whether a row says that a subroutine of a kind and an FD is reached.
-fn tells(r: Row, kind: usize, fd: usize) -> bool
+fn tells(r: Row, kind: u8, fd: u8) -> bool
     ensures { result ≡ tells (row_in r) kind fd }
 {
     if r.kind != kind {
@@ -91,11 +91,11 @@ fn tells(r: Row, kind: usize, fd: usize) -> bool
 }
 
 // Sets the bit of the subroutine that a row says is reached; returns 1 where there is no such subroutine, else 0.
-fn mark_row(r: Row, kind: usize, fd: usize, count: usize, held: &mut [u32]) -> usize
+fn mark_row(r: Row, kind: u8, fd: u8, count: usize, held: &mut [u32]) -> usize
     requires { words_for count ≤ length held.old }
     ensures { (held.new ≡ mark_row kind fd count held.old (row_in r)) × (result ≡ past_row kind fd count (row_in r)) }
 {
-    let number = r.number;
+    let number = r.number as usize;
     if tells(r, kind, fd) {
         if number < count {
             bits::set_bit(held, 0, number);
@@ -107,7 +107,7 @@ fn mark_row(r: Row, kind: usize, fd: usize, count: usize, held: &mut [u32]) -> u
 }
 
 // Sets the bits of the subroutines that the rows say are reached; returns how many rows have no subroutine.
-fn mark_rows(rows: &[u8], kind: usize, fd: usize, count: usize, held: &mut [u32]) -> usize
+fn mark_rows(rows: &[u8], kind: u8, fd: u8, count: usize, held: &mut [u32]) -> usize
     requires { words_for count ≤ length held.old }
     ensures { (held.new ≡ marked kind fd count (rows_of rows.now) held.old)
         × (result ≡ past_of kind fd count (rows_of rows.now)) }

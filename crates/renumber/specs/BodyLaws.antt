@@ -1,5 +1,5 @@
 -- A body renumbered by a walk over its tokens: the tokens read, those written, and the number that is held.
-use Rattle.std.specs.Prelude.{ℕ, ◌+◌, ◌-◌, ◌*◌, ◌≤◌, ◌≡◌, refl, Bool, true, false, ℤ, None, Option, Some, Float}
+use Rattle.std.specs.Prelude.{ℕ, ◌+◌, ◌-◌, ◌*◌, ◌≤◌, ◌≡◌, refl, Bool, true, false, ℤ, None, Option, Some}
 use Rattle.std.proofs.Common.{sym, ◌∙◌}
 use Rattle.std.proofs.Math.Path.{ap, subst}
 use Rattle.std.proofs.lemmas.Bool.{false≢true}
@@ -27,56 +27,55 @@ use Rattle.prune.specs.StepLaws.{zero_one}
 use Rattle.prune.specs.Renumber.{Calls, is_call, renumber, renumber_charstring}
 use Rattle.prune.specs.RenumberSteps.{written_back, renumbered_tokens}
 use Rattle.subset.specs.Pruned.{renumbered_body}
-use Rattle.renumber.specs.Turn.{waiting_in, HoldsHeld, call_turn, turn_of, after, turned_at, held_bytes_lem, sent_bytes, held_len_lem, own_len, sized_of, body_of_lem, is_yes, a_turn}
+use Rattle.renumber.specs.Turn.{call_turn, turn_of, after, turned_at, held_bytes_lem, sent_bytes, held_len_lem, own_len, sized_of, body_of_lem, is_yes, a_turn}
 use Rattle.renumber.specs.TurnLaws.{ahead, ahead_none, ahead-ahead, held_toks, sent_toks, sent-bytes, held_bytes, held-length, sent-length, stuck_sends, sends_same, turn_sends, turn_stuck, Onward, onward-of, failed_of}
 use Rattle.renumber.specs.declared.turns.Turn.TheVariants.{Stuck, Sends}
 use Rattle.renumber.specs.declared.Turned.{Turned}
 
 -- the tokens read, and that renumbering what is left, after what was written, is renumbering all
-pub record Turning (calls : Calls) (given : ℕ → MaskLen) (s : List ℕ) (c : Cursor) (h : Option Float) (sent : List Tok) : Type 0 where
+pub record Turning (calls : Calls) (given : ℕ → MaskLen) (s : List ℕ) (c : Cursor) (h : Option ℤ) (sent : List Tok) : Type 0 where
   pub read : List Tok
   pub walk : Walk given s c read
-  pub held : HoldsHeld h
-  pub carries : (ts : List Tok) → renumber calls None (read ++ ts) ≡ ahead sent (renumber calls (waiting_in h) ts)
+  pub carries : (ts : List Tok) → renumber calls None (read ++ ts) ≡ ahead sent (renumber calls h ts)
 
 -- the most bytes that a number that is held can take
-abbrev pub held_most : Option Float → ℕ
+abbrev pub held_most : Option ℤ → ℕ
 held_most None = 0
 held_most (Some v) = 5
 
 -- measuring: the length so far is that of the tokens written
-pub record Sizing (calls : Calls) (given : ℕ → MaskLen) (s : List ℕ) (c : Cursor) (h : Option Float) (len : ℕ) : Type 0 where
+pub record Sizing (calls : Calls) (given : ℕ → MaskLen) (s : List ℕ) (c : Cursor) (h : Option ℤ) (len : ℕ) : Type 0 where
   pub sent : List Tok
   pub turning : Turning calls given s c h sent
   pub size : len ≡ length (encode sent)
   pub small : len + held_most h ≤ 5 * c.at
 
 -- writing: the tokens written stand in the output
-pub record Putting (calls : Calls) (given : ℕ → MaskLen) (s old : List ℕ) (to : ℕ) (c : Cursor) (h : Option Float) (new : List ℕ) (p : ℕ) : Type 0 where
+pub record Putting (calls : Calls) (given : ℕ → MaskLen) (s old : List ℕ) (to : ℕ) (c : Cursor) (h : Option ℤ) (new : List ℕ) (p : ℕ) : Type 0 where
   pub sent : List Tok
   pub turning : Turning calls given s c h sent
   pub wrote : Wrote old to (encode sent) new p
 
 -- ---- bounds
 
-pub held-few : (h : Option Float) → held_len_lem h ≤ 5
+pub held-few : (h : Option ℤ) → held_len_lem h ≤ 5
 held-few None = omega arith
-held-few (Some v) = (number_short (is_neg (scaled_of v)) (mag (scaled_of v))).few
+held-few (Some v) = (number_short (is_neg v) (mag v)).few
 
-pub held-most : (h : Option Float) → held_len_lem h ≤ held_most h
+pub held-most : (h : Option ℤ) → held_len_lem h ≤ held_most h
 held-most None = omega arith
 held-most (Some v) = held-few (Some v)
 
-sends_most : (calls : Calls) (h : Option Float) (t : Token) (v : Option Float) → turn_of calls h t ≡ Sends v → held_len_lem v ≤ held_most h
-sends_most calls h (Num x) v e = subst (λ (y : Option Float). held_len_lem y ≤ held_most h) (sends_same h v e) (held-most h)
+sends_most : (calls : Calls) (h : Option ℤ) (t : Token) (v : Option ℤ) → turn_of calls h t ≡ Sends v → held_len_lem v ≤ held_most h
+sends_most calls h (Num x) v e = subst (λ (y : Option ℤ). held_len_lem y ≤ held_most h) (sends_same h v e) (held-most h)
 sends_most calls h (Op b) v e = go h (is_call b) e
   where
-    go : (g : Option Float) (k : Bool) → pick k (call_turn (calls b) g) (Sends g) ≡ Sends v → held_len_lem v ≤ held_most g
-    go g false f = subst (λ (y : Option Float). held_len_lem y ≤ held_most g) (sends_same g v f) (held-most g)
+    go : (g : Option ℤ) (k : Bool) → pick k (call_turn (calls b) g) (Sends g) ≡ Sends v → held_len_lem v ≤ held_most g
+    go g false f = subst (λ (y : Option ℤ). held_len_lem y ≤ held_most g) (sends_same g v f) (held-most g)
     go None true f = absurd (stuck_sends v f)
     go (Some x) true f = held-few v
-sends_most calls h (Esc b) v e = subst (λ (y : Option Float). held_len_lem y ≤ held_most h) (sends_same h v e) (held-most h)
-sends_most calls h (Mask start len) v e = subst (λ (y : Option Float). held_len_lem y ≤ held_most h) (sends_same h v e) (held-most h)
+sends_most calls h (Esc b) v e = subst (λ (y : Option ℤ). held_len_lem y ≤ held_most h) (sends_same h v e) (held-most h)
+sends_most calls h (Mask start len) v e = subst (λ (y : Option ℤ). held_len_lem y ≤ held_most h) (sends_same h v e) (held-most h)
 
 own_most : (t : Token) (a d : ℕ) → token_len_lem t + 5 * a ≤ 5 * d → own_len t + held_most (after t) + 5 * a ≤ 5 * d
 own_most (Num v) a d h = let k = (number_short (is_neg (scaled_of v)) (mag (scaled_of v))).some in omega arith
@@ -90,13 +89,7 @@ own-small s (Op b) w h = omega arith
 own-small s (Esc b) w h = omega arith
 own-small s (Mask start len) w h = omega arith
 
-after-held : (s : List ℕ) (t : Token) → Writable s t → HoldsHeld (after t)
-after-held s (Num v) w = w
-after-held s (Op b) w = tt
-after-held s (Esc b) w = tt
-after-held s (Mask start len) w = tt
-
-end_held : (calls : Calls) (h : Option Float) → renumber calls (waiting_in h) [] ≡ Some (held_toks h)
+end_held : (calls : Calls) (h : Option ℤ) → renumber calls h [] ≡ Some (held_toks h)
 unfolding renumber
 end_held calls None = refl
 end_held calls (Some v) = refl
@@ -105,10 +98,10 @@ end_held calls (Some v) = refl
 
 module _ (calls : Calls) (reads : (b : ℕ) (z y : ℤ) → calls b z ≡ Some y → Reading y) (given : ℕ → MaskLen) (s : List ℕ) (b : Octets s) where
   turning_start : Turning calls given s start None []
-  turning_start = record { read = []; walk = walk_start given s b; held = tt; carries = λ ts. ahead_none (renumber calls None ts) }
+  turning_start = record { read = []; walk = walk_start given s b; carries = λ ts. ahead_none (renumber calls None ts) }
 
   -- what was written is no longer than the whole
-  pub sent-within : (c : Cursor) (h : Option Float) (sent : List Tok) → Turning calls given s c h sent → (bs : List ℕ)
+  pub sent-within : (c : Cursor) (h : Option ℤ) (sent : List Tok) → Turning calls given s c h sent → (bs : List ℕ)
       → renumbered_tokens calls (tokens_of given s) ≡ Some bs → length (encode sent) ≤ length bs
   sent-within c h sent w bs e = go (tokens_from (fuel_of s c) given s c) (ap (renumbered_tokens calls) (sym w.walk.rest) ∙ e)
     where
@@ -121,9 +114,9 @@ module _ (calls : Calls) (reads : (b : ℕ) (z y : ℤ) → calls b z ≡ Some y
 
       go : (x : Option (List Tok)) → renumbered_tokens calls (join w.read x) ≡ Some bs → length (encode sent) ≤ length bs
       go None f = absurd (zero_one cc)
-      go (Some us) f = more-written (renumber calls (waiting_in h) us) (ap written_back (sym (w.carries us)) ∙ f)
+      go (Some us) f = more-written (renumber calls h us) (ap written_back (sym (w.carries us)) ∙ f)
 
-  module _ (c : Cursor) (h : Option Float) (sent : List Tok) (w : Turning calls given s c h sent) where
+  module _ (c : Cursor) (h : Option ℤ) (sent : List Tok) (w : Turning calls given s c h sent) where
     turning_end : more s c ≡ false → renumbered_tokens calls (tokens_of given s) ≡ Some (encode (sent ++ held_toks h))
     turning_end m =
         ap (renumbered_tokens calls) (walk_end given s b c w.read w.walk m)
@@ -131,33 +124,29 @@ module _ (calls : Calls) (reads : (b : ℕ) (z y : ℤ) → calls b z ≡ Some y
         ∙ ap written_back (w.carries [] ∙ ap (ahead sent) (end_held calls h))
 
     module _ (m : more s c ≡ true) (r : Option Turned) (e : r ≡ turned_at calls h (step_of (token_at s (given_at given c) c))) where
-      onward : (v : Option Float) (t : Token) (d : Cursor) → r ≡ a_turn v t d → Onward calls h (step_of (token_at s (given_at given c) c)) v t d
+      onward : (v : Option ℤ) (t : Token) (d : Cursor) → r ≡ a_turn v t d → Onward calls h (step_of (token_at s (given_at given c) c)) v t d
       onward v t d f = onward-of calls h (step_of (token_at s (given_at given c) c)) v t d (sym e ∙ f)
 
-      pub turning_next : (v : Option Float) (t : Token) (d : Cursor) → r ≡ a_turn v t d → Next s c (token_at s (given (c.at - 1)) c) t d
+      pub turning_next : (v : Option ℤ) (t : Token) (d : Cursor) → r ≡ a_turn v t d → Next s c (token_at s (given (c.at - 1)) c) t d
       turning_next v t d f = walk-next given s b c w.read w.walk m (step_of (token_at s (given_at given c) c)) refl t d (onward v t d f).step
 
-      pub turning_held : (v : Option Float) (t : Token) (d : Cursor) → r ≡ a_turn v t d → HoldsHeld v
-      turning_held v t d f = (turn_sends calls reads s h t v [] w.held (onward v t d f).turn).1
-
       -- a token and what is left after it
-      after_read : (t : Token) (ts : List Tok) → renumber calls None ((w.read ++ (told s t ∷ [])) ++ ts) ≡ ahead sent (renumber calls (waiting_in h) (told s t ∷ ts))
+      after_read : (t : Token) (ts : List Tok) → renumber calls None ((w.read ++ (told s t ∷ [])) ++ ts) ≡ ahead sent (renumber calls h (told s t ∷ ts))
       after_read t ts = ap (renumber calls None) (append_assoc w.read (told s t ∷ []) ts) ∙ w.carries (told s t ∷ ts)
 
-      pub turning_turn : (v : Option Float) (t : Token) (d : Cursor) → r ≡ a_turn v t d → Turning calls given s d (after t) (sent ++ sent_toks s v t)
+      pub turning_turn : (v : Option ℤ) (t : Token) (d : Cursor) → r ≡ a_turn v t d → Turning calls given s d (after t) (sent ++ sent_toks s v t)
       turning_turn v t d f =
           let o = onward v t d f in
           record {
             read = w.read ++ (told s t ∷ []);
             walk = walk_turn given s b c w.read w.walk m (step_of (token_at s (given_at given c) c)) refl t d o.step;
-            held = after-held s t (turning_next v t d f).writable;
-            carries = λ ts. after_read t ts ∙ ap (ahead sent) (turn_sends calls reads s h t v ts w.held o.turn).0
-                ∙ ahead-ahead sent (sent_toks s v t) (renumber calls (waiting_in (after t)) ts);
+            carries = λ ts. after_read t ts ∙ ap (ahead sent) (turn_sends calls s h t v ts o.turn)
+                ∙ ahead-ahead sent (sent_toks s v t) (renumber calls (after t) ts);
           }
 
       stuck_join : (t : Token) → turn_of calls h t ≡ Stuck → (x : Option (List Tok)) → renumbered_tokens calls (join (w.read ++ (told s t ∷ [])) x) ≡ None
       stuck_join t k None = refl
-      stuck_join t k (Some us) = ap written_back (after_read t us ∙ ap (ahead sent) (turn_stuck calls reads s h t us k))
+      stuck_join t k (Some us) = ap written_back (after_read t us ∙ ap (ahead sent) (turn_stuck calls s h t us k))
 
       turning_failed : r ≡ None → renumbered_tokens calls (tokens_of given s) ≡ None
       turning_failed f =
@@ -173,7 +162,7 @@ module _ (calls : Calls) (reads : (b : ℕ) (z y : ℤ) → calls b z ≡ Some y
   sizing_start c e =
       subst (λ (x : Cursor). Sizing calls given s x None 0) (sym e) (record { sent = []; turning = turning_start; size = refl; small = omega arith })
 
-  module _ (c : Cursor) (h : Option Float) (len : ℕ) (w : Sizing calls given s c h len) where
+  module _ (c : Cursor) (h : Option ℤ) (len : ℕ) (w : Sizing calls given s c h len) where
     pub sized-room : len + held_len_lem h ≤ 5 * c.at
     sized-room = let k = held-most h in omega (arith, w.small)
 
@@ -187,8 +176,8 @@ module _ (calls : Calls) (reads : (b : ℕ) (z y : ℤ) → calls b z ≡ Some y
         ap Some l ∙ ap (λ (x : Option (List ℕ)). sized_of x) (sym (turning_end c h w.sent w.turning m))
 
     module _ (m : more s c ≡ true) (r : Option Turned) (e : r ≡ turned_at calls h (step_of (token_at s (given_at given c) c))) where
-      pub sizing_turn : (v : Option Float) (t : Token) (d : Cursor) → r ≡ a_turn v t d → (n : ℕ) → n ≡ held_len_lem v + own_len t
-          → (k : Option Float) → k ≡ after t → Sizing calls given s d k (len + n)
+      pub sizing_turn : (v : Option ℤ) (t : Token) (d : Cursor) → r ≡ a_turn v t d → (n : ℕ) → n ≡ held_len_lem v + own_len t
+          → (k : Option ℤ) → k ≡ after t → Sizing calls given s d k (len + n)
       sizing_turn v t d f n g held j =
           let x = turning_next c h w.sent w.turning m r e v t d f in
           let o = onward c h w.sent w.turning m r e v t d f in
@@ -196,7 +185,7 @@ module _ (calls : Calls) (reads : (b : ℕ) (z y : ℤ) → calls b z ≡ Some y
           let l = own_most t c.at d.at x.moves.grows in
           let p : length (encode (w.sent ++ sent_toks s v t)) ≡ length (encode w.sent) + length (encode (sent_toks s v t))
           = ap length (encode-append w.sent (sent_toks s v t)) ∙ length-append (encode w.sent) (encode (sent_toks s v t)) in
-          subst (λ (y : Option Float). Sizing calls given s d y (len + n)) (sym j) (record {
+          subst (λ (y : Option ℤ). Sizing calls given s d y (len + n)) (sym j) (record {
             sent = w.sent ++ sent_toks s v t;
             turning = turning_turn c h w.sent w.turning m r e v t d f;
             size = omega (arith, w.size, sent-length s v t x.writable);
@@ -216,7 +205,7 @@ module _ (calls : Calls) (reads : (b : ℕ) (z y : ℤ) → calls b z ≡ Some y
         subst (λ (x : Cursor). Putting calls given s old to x None old to) (sym e) (record { sent = []; turning = turning_start; wrote = wrote_none old to })
 
     module _ (bs : List ℕ) (y : renumbered_tokens calls (tokens_of given s) ≡ Some bs) (room : to + length bs ≤ length old)
-        (c : Cursor) (h : Option Float) (new : List ℕ) (p : ℕ) (w : Putting calls given s old to c h new p) where
+        (c : Cursor) (h : Option ℤ) (new : List ℕ) (p : ℕ) (w : Putting calls given s old to c h new p) where
       pub same_length : length new ≡ length old
       same_length = let k = sent-within c h w.sent w.turning bs y in wrote-length w.wrote (omega arith)
 
@@ -237,7 +226,7 @@ module _ (calls : Calls) (reads : (b : ℕ) (z y : ℤ) → calls b z ≡ Some y
       put_end m newer q v = wrote_as (wrote_then (omega arith) w.wrote v) (whole_sent m)
 
       module _ (m : more s c ≡ true) (r : Option Turned) (e : r ≡ turned_at calls h (step_of (token_at s (given_at given c) c))) where
-        pub putting_room : (v : Option Float) (t : Token) (d : Cursor) → r ≡ a_turn v t d → p + length (sent_bytes s v t) ≤ length new
+        pub putting_room : (v : Option ℤ) (t : Token) (d : Cursor) → r ≡ a_turn v t d → p + length (sent_bytes s v t) ≤ length new
         putting_room v t d f =
             let x = sent-within d (after t) (w.sent ++ sent_toks s v t) (turning_turn c h w.sent w.turning m r e v t d f) bs y in
             let k : length (encode (w.sent ++ sent_toks s v t)) ≡ length (encode w.sent) + length (sent_bytes s v t)
@@ -246,10 +235,10 @@ module _ (calls : Calls) (reads : (b : ℕ) (z y : ℤ) → calls b z ≡ Some y
             let n = same_length in
             omega (arith, w.wrote.behind)
 
-        pub putting_turn : (v : Option Float) (t : Token) (d : Cursor) → r ≡ a_turn v t d → (newer : List ℕ) (q : ℕ) → Wrote new p (sent_bytes s v t) newer q
-            → (k : Option Float) → k ≡ after t → Putting calls given s old to d k newer q
+        pub putting_turn : (v : Option ℤ) (t : Token) (d : Cursor) → r ≡ a_turn v t d → (newer : List ℕ) (q : ℕ) → Wrote new p (sent_bytes s v t) newer q
+            → (k : Option ℤ) → k ≡ after t → Putting calls given s old to d k newer q
         putting_turn v t d f newer q u k j =
-            subst (λ (x : Option Float). Putting calls given s old to d x newer q) (sym j) (record {
+            subst (λ (x : Option ℤ). Putting calls given s old to d x newer q) (sym j) (record {
               sent = w.sent ++ sent_toks s v t;
               turning = turning_turn c h w.sent w.turning m r e v t d f;
               wrote = wrote_as (wrote_then (omega arith) w.wrote u)

@@ -4,7 +4,6 @@ use Rattle.std.proofs.Common.{sym, ap, ◌∙◌, subst, arith, length-append}
 use Rattle.octets.specs.Pick.{pick, pick_ind}
 use Rattle.octets.specs.Octets.{Wrote}
 use Rattle.octets.specs.PutLaws.{wrote_none, wrote_then, wrote-length}
-use Rattle.type2_number.specs.Floats.{scaled_of}
 use Rattle.charstring.specs.Bias.{bias_of}
 use Rattle.charstring.specs.declared.MaskLen.{MaskLen}
 use Rattle.charstring.specs.declared.Token.{Token}
@@ -14,24 +13,21 @@ use Rattle.charstring.specs.Token.{token_at}
 use Rattle.charstring.specs.Answers.{step_of}
 use Rattle.prune.specs.Renumber.{Calls, is_call, operand_of}
 use Rattle.renumber.specs.Ranks.{numbers_in, calls_by, Ranked}
-use Rattle.renumber.specs.Turn.{HoldsHeld, turn_for, call_turn, turn_of, turned_by, turned_at, held_bytes_lem, own_bytes, a_turn}
+use Rattle.renumber.specs.Turn.{turn_for, call_turn, turn_of, turned_by, turned_at, held_bytes_lem, own_bytes, a_turn}
 use Rattle.renumber.specs.declared.Ranks.{Ranks}
 use Rattle.renumber.specs.declared.turns.Turn.{Turn}
 use Rattle.renumber.specs.declared.turns.Turn.TheVariants.{Stuck, Sends}
 
 -- ---- the number that is held, by its constructor
 
-pub held_as : (h u : Option Float) → h ≡ u → HoldsHeld h → HoldsHeld u
-held_as h u e k = subst HoldsHeld e k
+pub held-room : (h u : Option ℤ) → h ≡ u → (at n : ℕ) → at + length (held_bytes_lem h) ≤ n → at + length (held_bytes_lem u) ≤ n
+held-room h u e at n k = subst (λ (x : Option ℤ). at + length (held_bytes_lem x) ≤ n) e k
 
-pub held-room : (h u : Option Float) → h ≡ u → (at n : ℕ) → at + length (held_bytes_lem h) ≤ n → at + length (held_bytes_lem u) ≤ n
-held-room h u e at n k = subst (λ (x : Option Float). at + length (held_bytes_lem x) ≤ n) e k
+pub wrote-held : (h u : Option ℤ) → h ≡ u → {old new : List ℕ} {to q : ℕ} → Wrote old to (held_bytes_lem u) new q → Wrote old to (held_bytes_lem h) new q
+wrote-held h u e {old} {new} {to} {q} w = subst (λ (x : Option ℤ). Wrote old to (held_bytes_lem x) new q) (sym e) w
 
-pub wrote-held : (h u : Option Float) → h ≡ u → {old new : List ℕ} {to q : ℕ} → Wrote old to (held_bytes_lem u) new q → Wrote old to (held_bytes_lem h) new q
-wrote-held h u e {old} {new} {to} {q} w = subst (λ (x : Option Float). Wrote old to (held_bytes_lem x) new q) (sym e) w
-
-pub wrote_nothing : (old : List ℕ) (to : ℕ) (h : Option Float) → h ≡ None → Wrote old to (held_bytes_lem h) old to
-wrote_nothing old to h e = subst (λ (x : Option Float). Wrote old to (held_bytes_lem x) old to) (sym e) (wrote_none old to)
+pub wrote_nothing : (old : List ℕ) (to : ℕ) (h : Option ℤ) → h ≡ None → Wrote old to (held_bytes_lem h) old to
+wrote_nothing old to h e = subst (λ (x : Option ℤ). Wrote old to (held_bytes_lem x) old to) (sym e) (wrote_none old to)
 
 -- ---- a token by its constructor
 
@@ -64,12 +60,12 @@ pub called-ranked : (ws : List ℕ) (locals globals : Ranks) → Ranked ws local
     → (q : Ranks) → q ≡ pick (eqb b 10) locals globals → Ranked ws q
 called-ranked ws locals globals l g t b e q f = subst (Ranked ws) (sym f) (pick_ind (Ranked ws) (eqb b 10) locals globals (λ u. l) (λ u. g))
 
-pub call_held : (operand : ℤ → Option ℤ) (h : Option Float) (v : Float) (r : Turn) → h ≡ Some v → r ≡ turn_for (operand (scaled_of v)) → r ≡ call_turn operand h
+pub call_held : (operand : ℤ → Option ℤ) (h : Option ℤ) (v : ℤ) (r : Turn) → h ≡ Some v → r ≡ turn_for (operand v) → r ≡ call_turn operand h
 call_held operand h v r e f = f ∙ ap (call_turn operand) (sym e)
 
-module _ (ws : List ℕ) (locals globals : Ranks) (h : Option Float) (t : Token) where
+module _ (ws : List ℕ) (locals globals : Ranks) (h : Option ℤ) (t : Token) where
   -- the subroutines of which a call calls one, by its operator
-  called-turn : (b : ℕ) (u : Bool) (g : Option Float) → eqb b 10 ≡ u → is_call b ≡ true
+  called-turn : (b : ℕ) (u : Bool) (g : Option ℤ) → eqb b 10 ≡ u → is_call b ≡ true
       → call_turn (operand_of (numbers_in ws (pick u locals globals)) (bias_of (pick u locals globals).count) (bias_of (pick u locals globals).reached)) g
       ≡ turn_of (calls_by ws locals globals) g (Op b)
   called-turn b true None e c = rw c
@@ -101,7 +97,7 @@ module _ (ws : List ℕ) (locals globals : Ranks) (h : Option Float) (t : Token)
 
 -- ---- a step
 
-module _ (calls : Calls) (h : Option Float) (s : List ℕ) (c : Cursor) (given : MaskLen) (g : MaskLen) (k : g ≡ given) (r : Option (Token × Cursor)) (e : r ≡ step_of (token_at s g c)) where
+module _ (calls : Calls) (h : Option ℤ) (s : List ℕ) (c : Cursor) (given : MaskLen) (g : MaskLen) (k : g ≡ given) (r : Option (Token × Cursor)) (e : r ≡ step_of (token_at s g c)) where
   stepped : r ≡ step_of (token_at s given c)
   stepped = e ∙ ap (λ (x : MaskLen). step_of (token_at s x c)) k
 
@@ -115,5 +111,5 @@ module _ (calls : Calls) (h : Option Float) (s : List ℕ) (c : Cursor) (given :
     pub turned_stuck : q ≡ Stuck → None ≡ turned_at calls h (step_of (token_at s given c))
     turned_stuck l = ap (λ (x : Turn). turned_by x t d) (sym l) ∙ by_turn
 
-    pub turned_sends : (v : Option Float) → q ≡ Sends v → a_turn v t d ≡ turned_at calls h (step_of (token_at s given c))
+    pub turned_sends : (v : Option ℤ) → q ≡ Sends v → a_turn v t d ≡ turned_at calls h (step_of (token_at s given c))
     turned_sends v l = ap (λ (x : Turn). turned_by x t d) (sym l) ∙ by_turn

@@ -1,11 +1,10 @@
 -- Laws of a call's new operand: by the rank of the subroutine that the old operand names; it is a reading.
-use Rattle.std.specs.Prelude.{ℕ, zero, suc, ◌+◌, ◌-◌, ◌*◌, ◌/◌, ◌%◌, ◌≤◌, ◌<◌, ◌≡◌, refl, Bool, true, false, List, ltb, eqb, ℤ, pos, negsuc, Float, None, Option, Some}
+use Rattle.std.specs.Prelude.{ℕ, zero, suc, ◌+◌, ◌-◌, ◌*◌, ◌/◌, ◌%◌, ◌≤◌, ◌<◌, ◌≡◌, refl, Bool, true, false, List, ltb, eqb, ℤ, pos, negsuc, None, Option, Some}
 use Rattle.std.proofs.Common.{sym, ap, ◌∙◌, subst, true≢false, div-lt_iff_lt-mul, div-mul-le_self, arith, ltb-true, lt-ltb, le-ltb, eq-eqb, ne_eqb, le-leb}
 use Rattle.std.proofs.lemmas.Bool.{false≢true, lt-leb}
 use Rattle.std.proofs.Math.Nat.{lt-div-mul-add}
 use Rattle.octets.specs.Pick.{pick, pick_ind}
 use Rattle.type2_number.specs.Number.{is_neg, mag, whole, rounded, Reading}
-use Rattle.type2_number.specs.Floats.{float_of}
 use Rattle.bits.specs.Bits.{count_below, words_for, bit_in, below, eighth, sum_below, low_sums, sum_in}
 use Rattle.bits.specs.BitsLaws.{count-alike}
 use Rattle.bits.specs.SumsLaws.{sum_is}
@@ -27,6 +26,16 @@ bias_small count =
 
 pub bias_few : (b count : ℕ) → b ≡ bias_of count → b ≤ 32768
 bias_few b count e = subst (λ (k : ℕ). k ≤ 32768) (sym e) (bias_small count)
+
+-- a number below the count is no further from the bias than an integer of 16 bits reaches
+pub bias-near : (b count i : ℕ) → b ≡ bias_of count → i < count → count ≤ 65536 → (i ≤ b + 32768) × (b ≤ i + 32768)
+bias-near b count i e h k = let s = bias_few b count e in (omega (arith, near), omega arith)
+  where
+    near : i ≤ b + 32768
+    near =
+        subst (λ (x : ℕ). i ≤ x + 32768) (sym e)
+        (pick_ind (λ (x : ℕ). i ≤ x + 32768) (ltb count 1240) 107 (pick (ltb count 33900) 1131 32768) (λ t. let l = ltb-true count 1240 t in omega arith)
+        (λ t. pick_ind (λ (x : ℕ). i ≤ x + 32768) (ltb count 33900) 1131 32768 (λ u. let l = ltb-true count 33900 u in omega arith) (λ u. omega arith)))
 
 -- ---- where all of some numbers are in a set, so are all of the first of them
 
@@ -218,18 +227,22 @@ module _ (ws : List ℕ) (q : Ranks) (good : Ranked ws q) where
     pub rank-small : r < 65536
     rank-small = let k = rank_below (numbered (bias_of q.count) z) in omega (arith, good.few_reached)
 
+    -- and the new number lies near the bias
+    pub rank-near : (b : ℕ) → b ≡ bias_of q.reached → (r ≡ 0 → ⊥) → (r - 1 ≤ b + 32768) × (b ≤ r - 1 + 32768)
+    rank-near b a n = let k = rank_below (numbered (bias_of q.count) z) in bias-near b q.reached (r - 1) a (omega arith) (omega (arith, good.few_reached))
+
     -- no rank: the renumbering fails
     pub operand_stuck : r ≡ 0 → Stuck ≡ turn_for (operand_of (numbers_in ws q) (bias_of q.count) (bias_of q.reached) z)
     operand_stuck f = ap (λ (x : Option ℕ). turn_for (operand_for (bias_of q.reached) x)) (sym (becomes_by ∙ ap new_in f))
 
     -- the rank less 1 is the new number
-    pub operand_sends : (r ≡ 0 → ⊥) → (b : ℕ) → b ≡ bias_of q.reached → (v : Float) → v ≡ float_of (rounded (whole (r - 1) b))
+    pub operand_sends : (r ≡ 0 → ⊥) → (b : ℕ) → b ≡ bias_of q.reached → (v : ℤ) → v ≡ rounded (whole (r - 1) b)
         → Sends (Some v) ≡ turn_for (operand_of (numbers_in ws q) (bias_of q.count) (bias_of q.reached) z)
     operand_sends n b a v f =
         let k : suc (r - 1) ≡ r = omega arith in
         let g : operand_of (numbers_in ws q) (bias_of q.count) (bias_of q.reached) z ≡ Some (whole (r - 1) (bias_of q.reached))
         = ap (operand_for (bias_of q.reached)) (becomes_by ∙ ap new_in (sym k)) in
-        ap (λ (x : Float). Sends (Some x)) (f ∙ ap (λ (k : ℕ). float_of (rounded (whole (r - 1) k))) a ∙ ap float_of (operand_reads z (whole (r - 1) (bias_of q.reached)) g).kept) ∙ ap turn_for (sym g)
+        ap (λ (x : ℤ). Sends (Some x)) (f ∙ ap (λ (k : ℕ). rounded (whole (r - 1) k)) a ∙ (operand_reads z (whole (r - 1) (bias_of q.reached)) g).kept) ∙ ap turn_for (sym g)
 
 -- the operands of calls are readings
 pub calls-read : (ws : List ℕ) (locals globals : Ranks) → Ranked ws locals → Ranked ws globals → (b : ℕ) (z y : ℤ) → calls_by ws locals globals b z ≡ Some y → Reading y

@@ -1,9 +1,8 @@
 -- Runs of plain tokens (document 01, 'Corners in charstring.rs'; TN5177, sections 3.1 and 3.2): a token that is written as it was read, is no
 -- call and has no mask behind it. A run is copied byte for byte, but for a number that stands last: it is held, since a call may follow.
-use Rattle.std.specs.Prelude.{ℕ, ◌+◌, ◌-◌, ◌*◌, ◌≤◌, ◌<◌, ◌≡◌, Bool, true, false, not, List, ◌++◌, ltb, eqb, ℤ, length, take, drop, get_or, Some, None, Option, Float}
+use Rattle.std.specs.Prelude.{ℕ, ◌+◌, ◌-◌, ◌*◌, ◌≤◌, ◌<◌, ◌≡◌, Bool, true, false, not, List, ◌++◌, ltb, eqb, ℤ, length, take, drop, get_or, Some, None, Option}
 use Rattle.octets.specs.Pick.{pick}
 use Rattle.type2_number.specs.Number.{Read, cut, operator, number, number_at, Reading}
-use Rattle.type2_number.specs.Floats.{float_of}
 use Rattle.charstring.specs.declared.MaskLen.{MaskLen}
 use Rattle.charstring.specs.declared.Cursor.{Cursor}
 use Rattle.charstring.specs.Token.{Tok}
@@ -51,26 +50,26 @@ abbrev pub part : List ℕ → ℕ → ℕ → List ℕ
 part s from to = take (to - from) (drop from s)
 
 -- what is written at a run: the number that was held, and the run's bytes up to the number that it holds back
-abbrev pub run_bytes : List ℕ → Option Float → ℕ → ℕ → List ℕ
+abbrev pub run_bytes : List ℕ → Option ℤ → ℕ → ℕ → List ℕ
 run_bytes s h from last = held_bytes_lem h ++ part s from last
 
 -- the number that a run holds back: the one that starts at `last`, where the run ends behind that
-abbrev pub held_of : Read → Option Float
+abbrev pub held_of : Read → Option ℤ
 held_of cut = None
 held_of operator = None
-held_of (number z n) = Some (float_of z)
+held_of (number z n) = Some z
 
-abbrev pub held_in : List ℕ → ℕ → ℕ → Option Float
+abbrev pub held_in : List ℕ → ℕ → ℕ → Option ℤ
 held_in s last at = pick (ltb last at) (held_of (number_at s last)) None
 
 -- a walk that stands at a cursor with a number held has written these bytes
-pub record Standing (calls : Calls) (given : ℕ → MaskLen) (s : List ℕ) (c : Cursor) (h : Option Float) (bs : List ℕ) : Type 0 where
+pub record Standing (calls : Calls) (given : ℕ → MaskLen) (s : List ℕ) (c : Cursor) (h : Option ℤ) (bs : List ℕ) : Type 0 where
   pub sent : List Tok
   pub turning : Turning calls given s c h sent
   pub written : encode sent ≡ bs
 
 -- any walk that stands at c, holding h, comes to d, holding g, and writes these bytes on the way
-pub record Passes (s : List ℕ) (c : Cursor) (h : Option Float) (d : Cursor) (g : Option Float) (bs : List ℕ) : Type 0 where
+pub record Passes (s : List ℕ) (c : Cursor) (h : Option ℤ) (d : Cursor) (g : Option ℤ) (bs : List ℕ) : Type 0 where
   pub goes : (calls : Calls) → ((b : ℕ) (z y : ℤ) → calls b z ≡ Some y → Reading y) → (given : ℕ → MaskLen) (pre : List ℕ)
       → Standing calls given s c h pre → Standing calls given s d g (pre ++ bs)
 
@@ -79,5 +78,5 @@ pub record RunFrom (s : List ℕ) (c : Cursor) (r : Run) : Type 0 where
   pub starts : c.at ≤ r.last
   pub ends : r.last ≤ r.at
   pub inside : r.at ≤ length s
-  pub passes : c.at < r.at → (h : Option Float)
+  pub passes : c.at < r.at → (h : Option ℤ)
       → Passes s c h (cursor r.at r.args r.stems false) (held_in s r.last r.at) (run_bytes s h c.at r.last)

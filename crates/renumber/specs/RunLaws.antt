@@ -1,5 +1,5 @@
 -- Laws of runs of plain tokens: a token passes, passes follow one another, and the loop that takes a run keeps what a run is.
-use Rattle.std.specs.Prelude.{ℕ, ◌+◌, ◌-◌, ◌≤◌, ◌<◌, ◌≡◌, Bool, length, take, drop, get_or, None, Option, Some, Float}
+use Rattle.std.specs.Prelude.{ℕ, ◌+◌, ◌-◌, ◌≤◌, ◌<◌, ◌≡◌, Bool, length, take, drop, get_or, None, Option, Some, ℤ}
 use Rattle.std.proofs.Math.Path.{refl, ap, subst}
 use Rattle.std.proofs.Common.{sym, ◌∙◌, arith, take-add, drop-drop}
 use Rattle.std.proofs.Math.Bool.{true, false}
@@ -9,8 +9,8 @@ use borrow.Author.Tests.{lt-ltb, le-ltb, ne_eqb}
 use Rattle.octets.specs.Pick.{pick}
 use Rattle.octets.specs.Octets.{Octets}
 use Rattle.type2_number.specs.Number.{Read, cut, operator, number, number_at}
-use Rattle.type2_number.specs.Encoding.{encoded}
-use Rattle.type2_number.specs.Floats.{float_of, number_of}
+use Rattle.type2_number.specs.Floats.{float_of}
+use Rattle.type2_number.specs.Answers.{number_of}
 use Rattle.type2_number.specs.declared.Number.{Number as Answer}
 use Rattle.type2_number.specs.declared.Number.TheVariants.{Num as NumAt, Cut, Operator}
 use Rattle.type2_number.specs.NumberLaws.{OperatorByte, form_op}
@@ -37,14 +37,14 @@ use Rattle.renumber.specs.declared.turns.Turn.TheVariants.{Sends}
 
 -- ---- passes
 
-standing_as : {calls : Calls} {given : ℕ → MaskLen} {s : List ℕ} {c : Cursor} {h : Option Float} {bs cs : List ℕ} → bs ≡ cs
+standing_as : {calls : Calls} {given : ℕ → MaskLen} {s : List ℕ} {c : Cursor} {h : Option ℤ} {bs cs : List ℕ} → bs ≡ cs
     → Standing calls given s c h bs → Standing calls given s c h cs
 standing_as e w = record { sent = w.sent; turning = w.turning; written = w.written ∙ e }
 
-passes_as : {s : List ℕ} {c : Cursor} {h : Option Float} {d : Cursor} {g : Option Float} {bs cs : List ℕ} → bs ≡ cs → Passes s c h d g bs → Passes s c h d g cs
+passes_as : {s : List ℕ} {c : Cursor} {h : Option ℤ} {d : Cursor} {g : Option ℤ} {bs cs : List ℕ} → bs ≡ cs → Passes s c h d g bs → Passes s c h d g cs
 passes_as e p = record { goes = λ calls reads given pre w. standing_as (ap (λ (l : List ℕ). pre ++ l) e) (p.goes calls reads given pre w) }
 
-passes_then : {s : List ℕ} {c : Cursor} {h : Option Float} {d : Cursor} {g : Option Float} {e : Cursor} {k : Option Float} {bs cs : List ℕ}
+passes_then : {s : List ℕ} {c : Cursor} {h : Option ℤ} {d : Cursor} {g : Option ℤ} {e : Cursor} {k : Option ℤ} {bs cs : List ℕ}
     → Passes s c h d g bs → Passes s d g e k cs → Passes s c h e k (bs ++ cs)
 passes_then {bs = bs} {cs = cs} p q =
     record { goes = λ calls reads given pre w. standing_as (append_assoc pre bs cs) (q.goes calls reads given (pre ++ bs) (p.goes calls reads given pre w)) }
@@ -52,10 +52,10 @@ passes_then {bs = bs} {cs = cs} p q =
 -- from c on the bytes bs are passed, up to e, whatever is held at either end
 unfoldable pub Carries : List ℕ → Cursor → Cursor → List ℕ → Type 0
 Carries s c e bs =
-    (d : Cursor) (k : Option Float) (own : List ℕ) → ((g : Option Float) → Passes s e g d k (held_bytes_lem g ++ own)) → (h : Option Float) → Passes s c h d k (held_bytes_lem h ++ (bs ++ own))
+    (d : Cursor) (k : Option ℤ) (own : List ℕ) → ((g : Option ℤ) → Passes s e g d k (held_bytes_lem g ++ own)) → (h : Option ℤ) → Passes s c h d k (held_bytes_lem h ++ (bs ++ own))
 
 -- one token more
-carries_on : (s : List ℕ) (c e f : Cursor) (k : Option Float) (bs own : List ℕ) → Carries s c e bs → ((g : Option Float) → Passes s e g f k (held_bytes_lem g ++ own))
+carries_on : (s : List ℕ) (c e f : Cursor) (k : Option ℤ) (bs own : List ℕ) → Carries s c e bs → ((g : Option ℤ) → Passes s e g f k (held_bytes_lem g ++ own))
     → Carries s c f (bs ++ (own ++ held_bytes_lem k))
 unfolding Carries
 carries_on s c e f k bs own carry one d j rest next h =
@@ -74,7 +74,7 @@ module _ (s : List ℕ) (b : Octets s) (at args stems : ℕ) (h : at < length s)
     token-within w =
         (next_of s (cursor at args stems false) Own b w (lt-ltb at (length s) h) (step_of (token_at s Own (cursor at args stems false))) refl t d st).moves.within
 
-    token-passes : ((calls : Calls) (g : Option Float) → turn_of calls g t ≡ Sends g) → (g : Option Float) → Passes s (cursor at args stems false) g d (after t) (sent_bytes s g t)
+    token-passes : ((calls : Calls) (g : Option ℤ) → turn_of calls g t ≡ Sends g) → (g : Option ℤ) → Passes s (cursor at args stems false) g d (after t) (sent_bytes s g t)
     token-passes sends g =
         record {
           goes = λ calls reads given pre w. record {
@@ -108,7 +108,7 @@ module _ (s : List ℕ) (b : Octets s) (at args stems : ℕ) (h : at < length s)
         ap (λ (q : Read). step_of (plain_at s (cursor at args stems false) q)) (form_op s at low (other 28 refl)) ∙ by_itself
         ∙ ap (λ (t : Bool). Some (Op (get_or s at 0), cursor (at + 1) 0 (stems_after (get_or s at 0) args stems) t)) no_mask
 
-    operator-passes : (g : Option Float) → Passes s (cursor at args stems false) g (cursor (at + 1) 0 (stems_after (get_or s at 0) args stems) false) None
+    operator-passes : (g : Option ℤ) → Passes s (cursor at args stems false) g (cursor (at + 1) 0 (stems_after (get_or s at 0) args stems) false) None
         (held_bytes_lem g ++ (get_or s at 0 ∷ []))
     operator-passes g =
         token-passes (Op (get_or s at 0)) (cursor (at + 1) 0 (stems_after (get_or s at 0) args stems) false) operator-step
@@ -119,18 +119,20 @@ module _ (s : List ℕ) (b : Octets s) (at args stems : ℕ) (h : at < length s)
     unfolding token_at
     number_step = ap (λ (q : Read). step_of (plain_at s (cursor at args stems false) q)) short.reads
 
-    number-passes : (g : Option Float) → Passes s (cursor at args stems false) g (cursor n (args + 1) stems false) (Some (float_of short.value)) (held_bytes_lem g ++ [])
-    number-passes g = token-passes (Num (float_of short.value)) (cursor n (args + 1) stems false) number_step (λ calls k. refl) g
+    number-passes : (g : Option ℤ) → Passes s (cursor at args stems false) g (cursor n (args + 1) stems false) (Some short.value) (held_bytes_lem g ++ [])
+    number-passes g =
+        subst (λ (x : Option ℤ). Passes s (cursor at args stems false) g (cursor n (args + 1) stems false) x (held_bytes_lem g ++ [])) (ap Some (back-reading short.value short.reading))
+        (token-passes (Num (float_of short.value)) (cursor n (args + 1) stems false) number_step (λ calls k. refl) g)
 
-    number-own : held_bytes_lem (Some (float_of short.value)) ≡ part s at n
-    number-own = ap encoded (back-reading short.value short.reading) ∙ short.own
+    number-own : held_bytes_lem (Some short.value) ≡ part s at n
+    number-own = short.own
 
-    number-held : Some (float_of short.value) ≡ held_in s at n
+    number-held : Some short.value ≡ held_in s at n
     number-held = rw (lt-ltb at n short.further, short.reads)
 
 -- ---- the number that is held, as the code finds it
 
-abbrev held_by_lem : Answer → Option Float
+abbrev held_by_lem : Answer → Option ℤ
 held_by_lem (NumAt v n) = Some v
 held_by_lem Cut = None
 held_by_lem Operator = None
@@ -193,8 +195,8 @@ running_start s at args stems w =
 carries_as : (s : List ℕ) (c e : Cursor) (bs cs : List ℕ) → bs ≡ cs → Carries s c e bs → Carries s c e cs
 carries_as s c e bs cs f w = subst (Carries s c e) f w
 
-passes-held : {s : List ℕ} {c : Cursor} {h : Option Float} {d : Cursor} {g k : Option Float} {bs : List ℕ} → g ≡ k → Passes s c h d g bs → Passes s c h d k bs
-passes-held {s} {c} {h} {d} {g} {k} {bs} e p = subst (λ (x : Option Float). Passes s c h d x bs) e p
+passes-held : {s : List ℕ} {c : Cursor} {h : Option ℤ} {d : Cursor} {g k : Option ℤ} {bs : List ℕ} → g ≡ k → Passes s c h d g bs → Passes s c h d k bs
+passes-held {s} {c} {h} {d} {g} {k} {bs} e p = subst (λ (x : Option ℤ). Passes s c h d x bs) e p
 
 module _ (s : List ℕ) (b : Octets s) (c : Cursor) (at last args stems : ℕ) (w : Running s c (run_of at last args stems)) (h : at < length s) (n : ℕ)
     (e : n ≡ plain_len s at) (some : n ≡ 0 → ⊥) where
@@ -236,7 +238,7 @@ module _ (s : List ℕ) (b : Octets s) (c : Cursor) (at last args stems : ℕ) (
       next : Cursor
       next = cursor (at + 1) 0 (stems_after (get_or s at 0) args stems) false
 
-      one : (g : Option Float) → Passes s (cursor at args stems false) g next None (held_bytes_lem g ++ (get_or s at 0 ∷ []))
+      one : (g : Option ℤ) → Passes s (cursor at args stems false) g next None (held_bytes_lem g ++ (get_or s at 0 ∷ []))
       one = operator-passes s b at args stems h low plain
 
       own : part s c.at at ++ (get_or s at 0 ∷ []) ≡ part s c.at (at + 1)
@@ -259,13 +261,13 @@ module _ (s : List ℕ) (b : Octets s) (c : Cursor) (at last args stems : ℕ) (
       short : ShortAt s at (at + n)
       short = short-at s at b h begins n e some
 
-      held : Option Float
-      held = Some (float_of short.value)
+      held : Option ℤ
+      held = Some short.value
 
       next : Cursor
       next = cursor (at + n) (args + 1) stems false
 
-      one : (g : Option Float) → Passes s (cursor at args stems false) g next held (held_bytes_lem g ++ [])
+      one : (g : Option ℤ) → Passes s (cursor at args stems false) g next held (held_bytes_lem g ++ [])
       one = number-passes s b at args stems h (at + n) short
 
       own : part s c.at at ++ ([] ++ held_bytes_lem held) ≡ part s c.at (at + n)

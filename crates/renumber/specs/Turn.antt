@@ -1,52 +1,42 @@
 -- A body renumbered token by token (the Rust's renumber_charstring; document 01, 'Corners in write.rs'), as the code goes: a number token is
 -- held until the next token, which writes it as it is, or, being a call, its new operand. The code's answers for what the definitions say.
-use Rattle.std.specs.Prelude.{ℕ, ◌≤◌, ◌≡◌, Bool, true, false, List, [], ◌∷◌, ◌++◌, ℤ, length, take, drop, None, Option, Some, Float}
+use Rattle.std.specs.Prelude.{ℕ, ◌≤◌, ◌≡◌, Bool, true, false, List, [], ◌∷◌, ◌++◌, ℤ, length, take, drop, None, Option, Some}
 use Rattle.octets.specs.Pick.{pick}
 use Rattle.type2_number.specs.Encoding.{encoded}
-use Rattle.type2_number.specs.Floats.{float_of, scaled_of, HoldsReading}
+use Rattle.type2_number.specs.Floats.{scaled_of}
 use Rattle.charstring.specs.declared.Token.{Token}
 use Rattle.charstring.specs.declared.Token.TheVariants.{Num, Op, Esc, Mask}
 use Rattle.charstring.specs.declared.Cursor.{Cursor}
 use Rattle.unfold.specs.Unfold.{Row}
 use Rattle.prune.specs.Renumber.{Calls, is_call}
 use Rattle.reach.specs.declared.Site.{Site}
-use Rattle.reach.specs.Reach.{SiteFits, rises}
+use Rattle.reach.specs.Reach.{rises}
 use Rattle.renumber.specs.Ranks.{Ranked}
 use Rattle.renumber.specs.declared.Ranks.{Ranks}
 use Rattle.renumber.specs.declared.turns.Turn.{Turn}
 use Rattle.renumber.specs.declared.turns.Turn.TheVariants.{Stuck, Sends}
 use Rattle.renumber.specs.declared.Turned.{Turned}
 
--- the number that is held, as the definitions say it
-abbrev pub waiting_in : Option Float → Option ℤ
-waiting_in None = None
-waiting_in (Some v) = Some (scaled_of v)
-
--- a number that is held is a reading
-abbrev pub HoldsHeld : Option Float → Type 0
-HoldsHeld None = Unit
-HoldsHeld (Some v) = HoldsReading v
-
 -- what a call's operand becomes
 abbrev pub turn_for : Option ℤ → Turn
 turn_for None = Stuck
-turn_for (Some z) = Sends (Some (float_of z))
+turn_for (Some z) = Sends (Some z)
 
 -- a call takes the number just before it
-abbrev pub call_turn : (ℤ → Option ℤ) → Option Float → Turn
+abbrev pub call_turn : (ℤ → Option ℤ) → Option ℤ → Turn
 call_turn operand None = Stuck
-call_turn operand (Some v) = turn_for (operand (scaled_of v))
+call_turn operand (Some v) = turn_for (operand v)
 
 -- what a token brings: the number that is written just before it
-abbrev pub turn_of : Calls → Option Float → Token → Turn
+abbrev pub turn_of : Calls → Option ℤ → Token → Turn
 turn_of calls h (Num v) = Sends h
 turn_of calls h (Op b) = pick (is_call b) (call_turn (calls b) h) (Sends h)
 turn_of calls h (Esc b) = Sends h
 turn_of calls h (Mask start len) = Sends h
 
 -- the number that is held after a token
-abbrev pub after : Token → Option Float
-after (Num v) = Some v
+abbrev pub after : Token → Option ℤ
+after (Num v) = Some (scaled_of v)
 after (Op b) = None
 after (Esc b) = None
 after (Mask start len) = None
@@ -56,21 +46,21 @@ abbrev pub cursor : ℕ → ℕ → ℕ → Bool → Cursor
 cursor at args stems due = record { at = at; args = args; stems = stems; due = due }
 
 -- a step of reading, and what its token brings
-abbrev pub a_turn : Option Float → Token → Cursor → Option Turned
+abbrev pub a_turn : Option ℤ → Token → Cursor → Option Turned
 a_turn v t d = Some (record { before = v; token = t; next = d })
 
 abbrev pub turned_by : Turn → Token → Cursor → Option Turned
 turned_by Stuck t d = None
 turned_by (Sends v) t d = a_turn v t d
 
-abbrev pub turned_at : Calls → Option Float → Option (Token × Cursor) → Option Turned
+abbrev pub turned_at : Calls → Option ℤ → Option (Token × Cursor) → Option Turned
 turned_at calls h None = None
 turned_at calls h (Some (t, d)) = turned_by (turn_of calls h t) t d
 
 -- the bytes of the number that was held, and of a token that is not a number
-abbrev pub held_bytes_lem : Option Float → List ℕ
+abbrev pub held_bytes_lem : Option ℤ → List ℕ
 held_bytes_lem None = []
-held_bytes_lem (Some v) = encoded (scaled_of v)
+held_bytes_lem (Some v) = encoded v
 
 abbrev pub own_bytes : List ℕ → Token → List ℕ
 own_bytes s (Num v) = []
@@ -78,13 +68,13 @@ own_bytes s (Op b) = b ∷ []
 own_bytes s (Esc b) = 12 ∷ b ∷ []
 own_bytes s (Mask start len) = take len (drop start s)
 
-abbrev pub sent_bytes : List ℕ → Option Float → Token → List ℕ
+abbrev pub sent_bytes : List ℕ → Option ℤ → Token → List ℕ
 sent_bytes s h t = held_bytes_lem h ++ own_bytes s t
 
 -- how many they are
-abbrev pub held_len_lem : Option Float → ℕ
+abbrev pub held_len_lem : Option ℤ → ℕ
 held_len_lem None = 0
-held_len_lem (Some v) = length (encoded (scaled_of v))
+held_len_lem (Some v) = length (encoded v)
 
 abbrev pub own_len : Token → ℕ
 own_len (Num v) = 0
@@ -97,7 +87,6 @@ pub record Inputs (s ws : List ℕ) (locals globals : Ranks) (rows : List Row) (
   pub local_ranks : Ranked ws locals
   pub global_ranks : Ranked ws globals
   pub order : rising ≡ true → rises rows ≡ true
-  pub body : SiteFits site
   pub size : length s ≤ 67108864
 
 -- how long a body is once it is renumbered, its bytes, and whether there are any

@@ -1,11 +1,9 @@
 -- Laws of a body renumbered token by token: what was written so far and what is left give the whole.
-use Rattle.std.specs.Prelude.{ℕ, ◌+◌, ◌≡◌, refl, Bool, true, false, List, [], ◌∷◌, ◌++◌, ℤ, length, take, drop, None, Option, Some, Float}
+use Rattle.std.specs.Prelude.{ℕ, ◌+◌, ◌≡◌, refl, Bool, true, false, List, [], ◌∷◌, ◌++◌, ℤ, length, take, drop, None, Option, Some}
 use Rattle.std.proofs.Common.{sym, ◌∙◌, append_assoc, append-nil, arith, length-append}
-use Rattle.std.proofs.Math.Path.{ap, subst}
+use Rattle.std.proofs.Math.Path.{ap}
 use Rattle.octets.specs.Pick.{pick}
-use Rattle.type2_number.specs.Number.{Reading}
-use Rattle.type2_number.specs.Floats.{float_of, scaled_of}
-use Rattle.type2_number.specs.Readings.{back-reading, holds}
+use Rattle.type2_number.specs.Floats.{scaled_of}
 use Rattle.charstring.specs.declared.Token.{Token}
 use Rattle.charstring.specs.declared.Token.TheVariants.{Num, Op, Esc, Mask}
 use Rattle.charstring.specs.declared.Cursor.{Cursor}
@@ -16,7 +14,7 @@ use Rattle.charstring.specs.TokenLaws.{token-length}
 use Rattle.charstring.specs.EncodeLaws.{encode-append}
 use Rattle.prune.specs.StepLaws.{zero_one}
 use Rattle.prune.specs.Renumber.{Calls, is_call, before, called, called_after, kept, renumber}
-use Rattle.renumber.specs.Turn.{waiting_in, HoldsHeld, turn_for, call_turn, turn_of, after, turned_by, turned_at, held_bytes_lem, own_bytes, sent_bytes, held_len_lem, own_len, a_turn}
+use Rattle.renumber.specs.Turn.{turn_for, call_turn, turn_of, after, turned_by, turned_at, held_bytes_lem, own_bytes, sent_bytes, held_len_lem, own_len, a_turn}
 use Rattle.renumber.specs.declared.turns.Turn.{Turn}
 use Rattle.renumber.specs.declared.Turned.{Turned}
 use Rattle.renumber.specs.declared.turns.Turn.TheVariants.{Stuck, Sends}
@@ -37,9 +35,9 @@ ahead-ahead ts us None = refl
 ahead-ahead ts us (Some vs) = ap Some (sym (append_assoc ts us vs))
 
 -- the tokens that are written at a token: the number that was held, and the token unless it is a number
-abbrev pub held_toks : Option Float → List Tok
+abbrev pub held_toks : Option ℤ → List Tok
 held_toks None = []
-held_toks (Some v) = num (scaled_of v) ∷ []
+held_toks (Some v) = num v ∷ []
 
 abbrev pub own_toks : List ℕ → Token → List Tok
 own_toks s (Num v) = []
@@ -47,10 +45,10 @@ own_toks s (Op b) = op b ∷ []
 own_toks s (Esc b) = esc b ∷ []
 own_toks s (Mask start len) = mask (take len (drop start s)) ∷ []
 
-abbrev pub sent_toks : List ℕ → Option Float → Token → List Tok
+abbrev pub sent_toks : List ℕ → Option ℤ → Token → List Tok
 sent_toks s h t = held_toks h ++ own_toks s t
 
-pub held_bytes : (h : Option Float) → encode (held_toks h) ≡ held_bytes_lem h
+pub held_bytes : (h : Option ℤ) → encode (held_toks h) ≡ held_bytes_lem h
 unfolding encode
 held_bytes None = refl
 held_bytes (Some v) = append-nil _
@@ -63,12 +61,12 @@ own-bytes s (Esc b) = refl
 own-bytes s (Mask start len) = append-nil _
 
 -- their bytes
-pub sent-bytes : (s : List ℕ) (h : Option Float) (t : Token) → encode (sent_toks s h t) ≡ sent_bytes s h t
+pub sent-bytes : (s : List ℕ) (h : Option ℤ) (t : Token) → encode (sent_toks s h t) ≡ sent_bytes s h t
 sent-bytes s h t =
     encode-append (held_toks h) (own_toks s t) ∙ ap (λ (l : List ℕ). l ++ encode (own_toks s t)) (held_bytes h)
     ∙ ap (λ (l : List ℕ). held_bytes_lem h ++ l) (own-bytes s t)
 
-pub held-length : (h : Option Float) → held_len_lem h ≡ length (held_bytes_lem h)
+pub held-length : (h : Option ℤ) → held_len_lem h ≡ length (held_bytes_lem h)
 held-length None = refl
 held-length (Some v) = refl
 
@@ -78,7 +76,7 @@ own-length s (Op b) h = refl
 own-length s (Esc b) h = refl
 own-length s (Mask start len) h = token-length s (Mask start len) h
 
-pub sent-length : (s : List ℕ) (h : Option Float) (t : Token) → Writable s t → held_len_lem h + own_len t ≡ length (encode (sent_toks s h t))
+pub sent-length : (s : List ℕ) (h : Option ℤ) (t : Token) → Writable s t → held_len_lem h + own_len t ≡ length (encode (sent_toks s h t))
 sent-length s h t w =
     let a = held-length h in
     let b = own-length s t w in
@@ -87,13 +85,13 @@ sent-length s h t w =
 
 -- ---- one token
 
-kept-ahead : (h : Option Float) (r : Option (List Tok)) → kept (waiting_in h) r ≡ ahead (held_toks h ++ []) r
+kept-ahead : (h : Option ℤ) (r : Option (List Tok)) → kept h r ≡ ahead (held_toks h ++ []) r
 kept-ahead None None = refl
 kept-ahead None (Some us) = refl
 kept-ahead (Some v) None = refl
 kept-ahead (Some v) (Some us) = refl
 
-kept-own : (h : Option Float) (t : Tok) (r : Option (List Tok)) → kept (waiting_in h) (before t r) ≡ ahead (held_toks h ++ (t ∷ [])) r
+kept-own : (h : Option ℤ) (t : Tok) (r : Option (List Tok)) → kept h (before t r) ≡ ahead (held_toks h ++ (t ∷ [])) r
 kept-own None t None = refl
 kept-own None t (Some us) = refl
 kept-own (Some v) t None = refl
@@ -103,65 +101,52 @@ kept_failed : (w : Option ℤ) (t : Tok) → kept w (before t None) ≡ None
 kept_failed None t = refl
 kept_failed (Some z) t = refl
 
-pub stuck_sends : (v : Option Float) → Stuck ≡ Sends v → ⊥
+pub stuck_sends : (v : Option ℤ) → Stuck ≡ Sends v → ⊥
 stuck_sends v e = zero_one cc
 
-pub sends_same : (h v : Option Float) → Sends h ≡ Sends v → h ≡ v
+pub sends_same : (h v : Option ℤ) → Sends h ≡ Sends v → h ≡ v
 sends_same h v e = cc
 
-module _ (calls : Calls) (reads : (b : ℕ) (z y : ℤ) → calls b z ≡ Some y → Reading y) where
+module _ (calls : Calls) where
   -- a call
-  called-turn : (b : ℕ) (z : ℤ) (v : Option Float) (r : Option (List Tok)) (o : Option ℤ) → calls b z ≡ o → turn_for o ≡ Sends v
-      → (called b o r ≡ ahead (held_toks v ++ (op b ∷ [])) r) × HoldsHeld v
-  called-turn b z v r None f e = absurd (stuck_sends v e)
-  called-turn b z v r (Some y) f e =
-      let k = reads b z y f in
-      let g : Some (float_of y) ≡ v = sends_same (Some (float_of y)) v e in (
-        ap (λ (x : ℤ). before (num x) (before (op b) r)) (sym (back-reading y k))
-            ∙ kept-own (Some (float_of y)) (op b) r
-            ∙ ap (λ (x : Option Float). ahead (held_toks x ++ (op b ∷ [])) r) g,
-        subst HoldsHeld g (holds y k),
-      )
+  called-turn : (b : ℕ) (v : Option ℤ) (r : Option (List Tok)) (o : Option ℤ) → turn_for o ≡ Sends v → called b o r ≡ ahead (held_toks v ++ (op b ∷ [])) r
+  called-turn b v r None e = absurd (stuck_sends v e)
+  called-turn b v r (Some y) e = kept-own (Some y) (op b) r ∙ ap (λ (x : Option ℤ). ahead (held_toks x ++ (op b ∷ [])) r) (sends_same (Some y) v e)
 
-  op_turn : (b : ℕ) (h v : Option Float) (r : Option (List Tok)) (k : Bool) → HoldsHeld h → pick k (call_turn (calls b) h) (Sends h) ≡ Sends v
-      → (pick k (called_after calls b (waiting_in h) r) (kept (waiting_in h) (before (op b) r)) ≡ ahead (held_toks v ++ (op b ∷ [])) r) × HoldsHeld v
-  op_turn b h v r false l e =
-      let g = sends_same h v e in
-      (kept-own h (op b) r ∙ ap (λ (x : Option Float). ahead (held_toks x ++ (op b ∷ [])) r) g, subst HoldsHeld g l)
-  op_turn b None v r true l e = absurd (stuck_sends v e)
-  op_turn b (Some x) v r true l e = called-turn b (scaled_of x) v r (calls b (scaled_of x)) refl e
+  op_turn : (b : ℕ) (h v : Option ℤ) (r : Option (List Tok)) (k : Bool) → pick k (call_turn (calls b) h) (Sends h) ≡ Sends v
+      → pick k (called_after calls b h r) (kept h (before (op b) r)) ≡ ahead (held_toks v ++ (op b ∷ [])) r
+  op_turn b h v r false e = kept-own h (op b) r ∙ ap (λ (x : Option ℤ). ahead (held_toks x ++ (op b ∷ [])) r) (sends_same h v e)
+  op_turn b None v r true e = absurd (stuck_sends v e)
+  op_turn b (Some x) v r true e = called-turn b v r (calls b x) e
 
-  op_stuck : (b : ℕ) (h : Option Float) (r : Option (List Tok)) (k : Bool) → pick k (call_turn (calls b) h) (Sends h) ≡ Stuck
-      → pick k (called_after calls b (waiting_in h) r) (kept (waiting_in h) (before (op b) r)) ≡ None
+  op_stuck : (b : ℕ) (h : Option ℤ) (r : Option (List Tok)) (k : Bool) → pick k (call_turn (calls b) h) (Sends h) ≡ Stuck
+      → pick k (called_after calls b h r) (kept h (before (op b) r)) ≡ None
   op_stuck b h r false e = absurd (stuck_sends h (sym e))
   op_stuck b None r true e = refl
-  op_stuck b (Some x) r true e = go (calls b (scaled_of x)) e
+  op_stuck b (Some x) r true e = go (calls b x) e
     where
       go : (o : Option ℤ) → turn_for o ≡ Stuck → called b o r ≡ None
       go None f = refl
-      go (Some y) f = absurd (stuck_sends (Some (float_of y)) (sym f))
+      go (Some y) f = absurd (stuck_sends (Some y) (sym f))
 
   -- a token that sends a number: what is written, before what is left
-  pub turn_sends : (s : List ℕ) (h : Option Float) (t : Token) (v : Option Float) (ts : List Tok) → HoldsHeld h → turn_of calls h t ≡ Sends v
-      → (renumber calls (waiting_in h) (told s t ∷ ts) ≡ ahead (sent_toks s v t) (renumber calls (waiting_in (after t)) ts)) × HoldsHeld v
+  pub turn_sends : (s : List ℕ) (h : Option ℤ) (t : Token) (v : Option ℤ) (ts : List Tok) → turn_of calls h t ≡ Sends v
+      → renumber calls h (told s t ∷ ts) ≡ ahead (sent_toks s v t) (renumber calls (after t) ts)
   unfolding renumber
-  turn_sends s h (Num x) v ts l e =
-      let g = sends_same h v e in
+  turn_sends s h (Num x) v ts e =
       let r = renumber calls (Some (scaled_of x)) ts in
-      (kept-ahead h r ∙ ap (λ (y : Option Float). ahead (held_toks y ++ []) r) g, subst HoldsHeld g l)
-  turn_sends s h (Op b) v ts l e = op_turn b h v (renumber calls None ts) (is_call b) l e
-  turn_sends s h (Esc b) v ts l e =
-      let g = sends_same h v e in
+      kept-ahead h r ∙ ap (λ (y : Option ℤ). ahead (held_toks y ++ []) r) (sends_same h v e)
+  turn_sends s h (Op b) v ts e = op_turn b h v (renumber calls None ts) (is_call b) e
+  turn_sends s h (Esc b) v ts e =
       let r = renumber calls None ts in
-      (kept-own h (esc b) r ∙ ap (λ (y : Option Float). ahead (held_toks y ++ (esc b ∷ [])) r) g, subst HoldsHeld g l)
-  turn_sends s h (Mask start len) v ts l e =
-      let g = sends_same h v e in
+      kept-own h (esc b) r ∙ ap (λ (y : Option ℤ). ahead (held_toks y ++ (esc b ∷ [])) r) (sends_same h v e)
+  turn_sends s h (Mask start len) v ts e =
       let r = renumber calls None ts in
       let m = mask (take len (drop start s)) in
-      (kept-own h m r ∙ ap (λ (y : Option Float). ahead (held_toks y ++ (m ∷ [])) r) g, subst HoldsHeld g l)
+      kept-own h m r ∙ ap (λ (y : Option ℤ). ahead (held_toks y ++ (m ∷ [])) r) (sends_same h v e)
 
   -- and one at which the renumbering fails
-  pub turn_stuck : (s : List ℕ) (h : Option Float) (t : Token) (ts : List Tok) → turn_of calls h t ≡ Stuck → renumber calls (waiting_in h) (told s t ∷ ts) ≡ None
+  pub turn_stuck : (s : List ℕ) (h : Option ℤ) (t : Token) (ts : List Tok) → turn_of calls h t ≡ Stuck → renumber calls h (told s t ∷ ts) ≡ None
   unfolding renumber
   turn_stuck s h (Num x) ts e = absurd (stuck_sends h (sym e))
   turn_stuck s h (Op b) ts e = op_stuck b h (renumber calls None ts) (is_call b) e
@@ -171,12 +156,12 @@ module _ (calls : Calls) (reads : (b : ℕ) (z y : ℤ) → calls b z ≡ Some y
 -- ---- a step
 
 -- what a step that goes on says
-pub record Onward (calls : Calls) (h : Option Float) (st : Option (Token × Cursor)) (v : Option Float) (t : Token) (d : Cursor) : Type 0 where
+pub record Onward (calls : Calls) (h : Option ℤ) (st : Option (Token × Cursor)) (v : Option ℤ) (t : Token) (d : Cursor) : Type 0 where
   pub step : st ≡ Some (t, d)
   pub turn : turn_of calls h t ≡ Sends v
 
-module _ (calls : Calls) (h : Option Float) where
-  pub onward-of : (st : Option (Token × Cursor)) (v : Option Float) (t : Token) (d : Cursor) → turned_at calls h st ≡ a_turn v t d → Onward calls h st v t d
+module _ (calls : Calls) (h : Option ℤ) where
+  pub onward-of : (st : Option (Token × Cursor)) (v : Option ℤ) (t : Token) (d : Cursor) → turned_at calls h st ≡ a_turn v t d → Onward calls h st v t d
   onward-of None v t d e = absurd (zero_one cc)
   onward-of (Some (t', d')) v t d e = go (turn_of calls h t') refl e
     where

@@ -6,6 +6,7 @@ pub mod runs;
 pub mod turns;
 
 use charstring::{Cursor, Token};
+use type2_number::Operand;
 
 // Where the bits of some subroutines stand in the work words, how many subroutines there are, and how many of them are reached: all of them,
 // and those below each eighth of the words (16 bits each, four to a number).
@@ -21,7 +22,7 @@ pub struct Ranks {
 // A token of a body read: the number that is written just before it, the token, and where reading stands.
 #[derive(Clone, Copy)]
 pub struct Turned {
-    pub before: Option<f32>,
+    pub before: Option<Operand>,
     pub token: Token,
     pub next: Cursor,
 }

@@ -5,8 +5,9 @@ ghost use Rattle.charstring.specs.Answers.{Within};
 ghost use Rattle.renumber.specs.Turn.{cursor};
 ghost use Rattle.renumber.specs.Run.{is_plain, is_operator, is_three_lem, is_five_lem, three_len, five_len, plain_len, held_in, RunFrom};
 
+use charstring::place::Place;
 use charstring::stems_after;
-use type2_number::{Number, read_number};
+use type2_number::{Number, Operand, read_number};
 
 // A run of plain tokens: where reading stands after it, and where its last number starts; that is the same place where it ends in an operator.
 #[derive(Clone, Copy)]
@@ -66,14 +67,14 @@ fn is_three(n: usize) -> bool
 }
 
 // How many bytes the number of three bytes at a place has, 0 where it is cut off or not written as it was read.
-fn three_len(code: &[u8], at: usize) -> usize
-    requires { at < length code.now }
-    ensures { result ≡ three_len code.now at }
+fn three_len(p: &Place<'_>) -> usize
+    ensures { result ≡ three_len p.now.code.now p.now.at }
 {
-    if code.len() - at < 3 {
+    let at = p.at;
+    if p.code.len() - at < 3 {
         return 0;
     }
-    let n = usize::from(code[at + 1]) * 256 + usize::from(code[at + 2]);
+    let n = usize::from(p.code[at + 1]) * 256 + usize::from(p.code[at + 2]);
     if is_three(n) {
         return 3;
     }
@@ -94,15 +95,15 @@ fn is_five(high: usize, low: usize) -> bool
 }
 
 // The same for the number of five bytes at a place.
-fn five_len(code: &[u8], at: usize) -> usize
-    requires { at < length code.now }
-    ensures { result ≡ five_len code.now at }
+fn five_len(p: &Place<'_>) -> usize
+    ensures { result ≡ five_len p.now.code.now p.now.at }
 {
-    if code.len() - at < 5 {
+    let at = p.at;
+    if p.code.len() - at < 5 {
         return 0;
     }
-    let high = usize::from(code[at + 1]) * 256 + usize::from(code[at + 2]);
-    let low = usize::from(code[at + 3]) * 256 + usize::from(code[at + 4]);
+    let high = usize::from(p.code[at + 1]) * 256 + usize::from(p.code[at + 2]);
+    let low = usize::from(p.code[at + 3]) * 256 + usize::from(p.code[at + 4]);
     if is_five(high, low) {
         return 5;
     }
@@ -110,14 +111,13 @@ fn five_len(code: &[u8], at: usize) -> usize
 }
 
 // How many bytes the plain token at a place has, 0 where there is none.
-fn plain_len(code: &[u8], at: usize) -> usize
-    requires { at < length code.now }
-    ensures { result ≡ plain_len code.now at }
+fn plain_len(p: &Place<'_>) -> usize
+    ensures { result ≡ plain_len p.now.code.now p.now.at }
 {
-    let v = code[at];
+    let v = p.code[p.at];
     if v < 32 {
         if v == 28 {
-            return three_len(code, at);
+            return three_len(p);
         }
         if is_plain(v) {
             return 1;
@@ -128,12 +128,12 @@ fn plain_len(code: &[u8], at: usize) -> usize
         return 1;
     }
     if v < 255 {
-        if code.len() - at < 2 {
+        if p.code.len() - p.at < 2 {
             return 0;
         }
         return 2;
     }
-    five_len(code, at)
+    five_len(p)
 }
 
 // The longest run of plain tokens from a place on, no mask being due.
@@ -146,7 +146,7 @@ fn plain_run(code: &[u8], from: usize, args: usize, stems: usize) -> Run
     let mut args = args;
     let mut stems = stems;
     while at < code.len() {
-        let n = plain_len(code, at);
+        let n = plain_len(&Place { code, at });
         if n == 0 {
             return Run {
                 at,
@@ -192,7 +192,7 @@ pub fn run_at(code: &[u8], at: usize, args: usize, stems: usize, due: bool) -> R
 }
 
 // The number that a run holds back.
-pub fn held_at(code: &[u8], last: usize, at: usize) -> Option<f32>
+pub fn held_at(code: &[u8], last: usize, at: usize) -> Option<Operand>
     requires { at ≤ length code.now }
     ensures { result ≡ held_in code.now last at }
 {

@@ -3,15 +3,15 @@
 ghost use Rattle.std.specs.Prelude.{◌≡◌, ◌<◌, eqb};
 ghost use Rattle.octets.specs.Pick.{pick};
 ghost use Rattle.bits.specs.Bits.{count_below, bit_in};
-ghost use Rattle.type2_number.specs.Floats.{scaled_of, HoldsReading};
+ghost use Rattle.charstring.specs.Answers.{Measurable};
 ghost use Rattle.charstring.specs.Bias.{bias_of, numbered};
 ghost use Rattle.prune.specs.Renumber.{operand_of, is_call};
 ghost use Rattle.renumber.specs.Ranks.{rank_in, number_of, rank_at, numbers_in, calls_by, Ranked};
-ghost use Rattle.renumber.specs.Turn.{HoldsHeld, turn_for, call_turn, turn_of, after};
+ghost use Rattle.renumber.specs.Turn.{turn_for, call_turn, turn_of, after};
 
 use crate::Ranks;
 use charstring::{Token, bias};
-use type2_number::{count_of, integer};
+use type2_number::{Operand, count_of, whole};
 
 // How many are reached below a number: from the sum below its eighth of the words on, and without a count of words where all of the eighth are.
 fn rank_below(words: &[u32], q: Ranks, i: usize) -> usize
@@ -49,9 +49,8 @@ fn rank_in(words: &[u32], q: Ranks, i: usize) -> usize
 }
 
 // The number of the subroutine that an operand calls, of so many: 65536, which none has, where it calls none.
-fn number_at(count: usize, v: f32) -> usize
-    requires { HoldsReading v }
-    ensures { result ≡ number_of (numbered (bias_of count) (scaled_of v)) }
+fn number_at(count: usize, v: Operand) -> usize
+    ensures { result ≡ number_of (numbered (bias_of count) v) }
 {
     let s = count_of(v);
     let neg = s.neg;
@@ -71,9 +70,9 @@ fn number_at(count: usize, v: f32) -> usize
 }
 
 // The rank of the subroutine that an operand calls, plus 1: 0 where it calls none.
-fn rank_at(words: &[u32], q: Ranks, v: f32) -> usize
-    requires { (Ranked words.now q) × (HoldsReading v) }
-    ensures { result ≡ rank_at words.now q (numbered (bias_of q.count) (scaled_of v)) }
+fn rank_at(words: &[u32], q: Ranks, v: Operand) -> usize
+    requires { Ranked words.now q }
+    ensures { result ≡ rank_at words.now q (numbered (bias_of q.count) v) }
 {
     rank_in(words, q, number_at(q.count, v))
 }
@@ -83,24 +82,24 @@ fn rank_at(words: &[u32], q: Ranks, v: f32) -> usize
 #[derive(Clone, Copy)]
 pub enum Turn {
     Stuck,
-    Sends(Option<f32>),
+    Sends(Option<Operand>),
 }
 
 // The new operand of a call, by its old one.
-fn new_operand(words: &[u32], q: Ranks, v: f32) -> Turn
-    requires { (Ranked words.now q) × (HoldsReading v) }
-    ensures { result ≡ turn_for (operand_of (numbers_in words.now q) (bias_of q.count) (bias_of q.reached) (scaled_of v)) }
+fn new_operand(words: &[u32], q: Ranks, v: Operand) -> Turn
+    requires { Ranked words.now q }
+    ensures { result ≡ turn_for (operand_of (numbers_in words.now q) (bias_of q.count) (bias_of q.reached) v) }
 {
     let rank = rank_at(words, q, v);
     if rank == 0 {
         return Turn::Stuck;
     }
-    Turn::Sends(Some(integer(rank - 1, bias(q.reached))))
+    Turn::Sends(Some(whole(rank - 1, bias(q.reached))))
 }
 
 // A call: it takes the number just before it.
-fn call(words: &[u32], q: Ranks, h: Option<f32>) -> Turn
-    requires { (Ranked words.now q) × (HoldsHeld h) }
+fn call(words: &[u32], q: Ranks, h: Option<Operand>) -> Turn
+    requires { Ranked words.now q }
     ensures { result ≡ call_turn (operand_of (numbers_in words.now q) (bias_of q.count) (bias_of q.reached)) h }
 {
     match h {
@@ -127,8 +126,8 @@ fn called(b: u8, locals: Ranks, globals: Ranks) -> Ranks
 }
 
 // What a token brings: a call changes the number before it, any other token leaves it.
-pub fn turn_of(words: &[u32], locals: Ranks, globals: Ranks, h: Option<f32>, t: Token) -> Turn
-    requires { (Ranked words.now locals) × (Ranked words.now globals) × (HoldsHeld h) }
+pub fn turn_of(words: &[u32], locals: Ranks, globals: Ranks, h: Option<Operand>, t: Token) -> Turn
+    requires { (Ranked words.now locals) × (Ranked words.now globals) }
     ensures { result ≡ turn_of (calls_by words.now locals globals) h t }
 {
     match t {
@@ -144,12 +143,13 @@ pub fn turn_of(words: &[u32], locals: Ranks, globals: Ranks, h: Option<f32>, t: 
     }
 }
 
-// The number that is held after a token.
-pub fn after(t: Token) -> Option<f32>
+// The number that is held after a token of a body.
+pub fn held_after(t: Token) -> Option<Operand>
+    requires { Measurable t }
     ensures { result ≡ after t }
 {
     match t {
-        Token::Num(v) => Some(v),
+        Token::Num(v) => Some(Operand::of(v)),
         Token::Op(_) => None,
         Token::Esc(_) => None,
         Token::Mask { start: _, len: _ } => None,

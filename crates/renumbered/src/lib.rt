@@ -9,21 +9,21 @@ ghost use Rattle.charstring.specs.Answers.{step_of, given_at, Within, Writable};
 ghost use Rattle.prune.specs.Renumber.{renumber_charstring};
 ghost use Rattle.record.specs.Record.{rows_of, given_in};
 ghost use Rattle.subset.specs.Pruned.{renumbered_body};
-ghost use Rattle.reach.specs.Reach.{site_of, SiteFits, rises};
+ghost use Rattle.reach.specs.Reach.{site_of, rises};
 ghost use Rattle.renumber.specs.Ranks.{calls_by};
-ghost use Rattle.renumber.specs.Turn.{HoldsHeld, cursor, turned_at, held_bytes_lem, own_bytes, sent_bytes, held_len_lem, own_len, Inputs, sized_of, body_of_lem, is_yes};
+ghost use Rattle.renumber.specs.Turn.{cursor, turned_at, held_bytes_lem, own_bytes, sent_bytes, held_len_lem, own_len, Inputs, sized_of, body_of_lem, is_yes};
 ghost use Rattle.renumber.specs.Run.{run_bytes};
 
 use charstring::{Cursor, MaskLen, Token, more, next_token, put_token, start};
 use reach::Site;
+use reach::rows::Rows;
 use renumber::runs::{held_at, run_at};
-use renumber::turns::{Turn, after, turn_of};
+use renumber::turns::{Turn, held_after, turn_of};
 use renumber::{Ranks, Turned};
-use type2_number::{number_len, put_number};
+use type2_number::{Operand, number_len, put_number};
 
 // How many bytes the number that was held takes.
-pub fn held_len(h: Option<f32>) -> usize
-    requires { HoldsHeld h }
+pub fn held_len(h: Option<Operand>) -> usize
     ensures { result ≡ held_len_lem h }
 {
     match h {
@@ -45,16 +45,16 @@ fn own_len(t: Token) -> usize
 }
 
 // How many bytes are written at a token: the number that was held, and the token.
-pub fn sent_len(h: Option<f32>, t: Token) -> usize
-    requires { (HoldsHeld h) × (own_len t ≤ 67108864) }
+pub fn sent_len(h: Option<Operand>, t: Token) -> usize
+    requires { own_len t ≤ 67108864 }
     ensures { result ≡ held_len_lem h + own_len t }
 {
     held_len(h) + own_len(t)
 }
 
 // The number that was held, from `at` on; the place after it.
-pub fn put_held(h: Option<f32>, out: &mut [u8], at: usize) -> usize
-    requires { (HoldsHeld h) × (at + length (held_bytes_lem h) ≤ length out.old) }
+pub fn put_held(h: Option<Operand>, out: &mut [u8], at: usize) -> usize
+    requires { at + length (held_bytes_lem h) ≤ length out.old }
     ensures { Wrote out.old at (held_bytes_lem h) out.new result }
 {
     match h {
@@ -77,8 +77,8 @@ fn put_own(code: &[u8], t: Token, out: &mut [u8], at: usize) -> usize
 }
 
 // The number that was held and then a token other than a number, from `at` on; the place after them.
-pub fn put_sent(code: &[u8], h: Option<f32>, t: Token, out: &mut [u8], at: usize) -> usize
-    requires { (HoldsHeld h) × (Writable code.now t) × (at + length (sent_bytes code.now h t) ≤ length out.old) }
+pub fn put_sent(code: &[u8], h: Option<Operand>, t: Token, out: &mut [u8], at: usize) -> usize
+    requires { (Writable code.now t) × (at + length (sent_bytes code.now h t) ≤ length out.old) }
     ensures { Wrote out.old at (sent_bytes code.now h t) out.new result }
 {
     let p = put_held(h, &mut *out, at);
@@ -86,8 +86,8 @@ pub fn put_sent(code: &[u8], h: Option<f32>, t: Token, out: &mut [u8], at: usize
 }
 
 // How many bytes are written at a run: the number that was held, and the run up to the number that it holds back.
-pub fn run_len(h: Option<f32>, from: usize, last: usize) -> usize
-    requires { (HoldsHeld h) × (from ≤ last) × (last ≤ 67108864) }
+pub fn run_len(h: Option<Operand>, from: usize, last: usize) -> usize
+    requires { (from ≤ last) × (last ≤ 67108864) }
     ensures { result ≡ held_len_lem h + (last - from) }
 {
     held_len(h) + (last - from)
@@ -96,13 +96,13 @@ pub fn run_len(h: Option<f32>, from: usize, last: usize) -> usize
 // The number that was held and then the bytes of a body between two places, from `at` on; the place after them.
 pub fn put_run(
     code: &[u8],
-    h: Option<f32>,
+    h: Option<Operand>,
     from: usize,
     last: usize,
     out: &mut [u8],
     at: usize,
 ) -> usize
-    requires { (HoldsHeld h) × (from ≤ last) × (last ≤ length code.now) × (at + length (run_bytes code.now h from last) ≤ length out.old) }
+    requires { (from ≤ last) × (last ≤ length code.now) × (at + length (run_bytes code.now h from last) ≤ length out.old) }
     ensures { Wrote out.old at (run_bytes code.now h from last) out.new result }
 {
     let p = put_held(h, &mut *out, at);
@@ -111,13 +111,20 @@ pub fn put_run(
 
 // The length to pass on for the token at a cursor: the record's for the mask that is due.
 fn given_at(rows: &[u8], rising: bool, site: Site, c: Cursor) -> MaskLen
-    requires { (rising ≡ true → rises (rows_of rows.now) ≡ true) × SiteFits site × (c.due ≡ true → 0 < c.at) × (c.at < 4294967296) }
+    requires { (rising ≡ true → rises (rows_of rows.now) ≡ true) × (c.due ≡ true → 0 < c.at) × (c.at < 4294967296) }
     ensures { result ≡ given_at (given_in (rows_of rows.now) (site_of site)) c }
 {
     let due = c.due;
     let at = c.at;
     if due {
-        return reach::masks::given(rows, rising, site, at - 1);
+        return reach::masks::given(
+            &Rows {
+                bytes: rows,
+                rising,
+            },
+            site,
+            (at - 1) as u32,
+        );
     }
     MaskLen::Own
 }
@@ -136,10 +143,10 @@ pub fn turn_at(
     args: usize,
     stems: usize,
     due: bool,
-    h: Option<f32>,
+    h: Option<Operand>,
 ) -> Option<Turned>
     requires { (Inputs code.now words.now locals globals (rows_of rows.now) rising site)
-        × (Within code.now (cursor at args stems due)) × (more code.now (cursor at args stems due) ≡ true) × (HoldsHeld h) }
+        × (Within code.now (cursor at args stems due)) × (more code.now (cursor at args stems due) ≡ true) }
     ensures { result ≡ turned_at (calls_by words.now locals globals) h
         (step_of (token_at code.now (given_at (given_in (rows_of rows.now) (site_of site)) (cursor at args stems due))
         (cursor at args stems due))) }
@@ -199,7 +206,7 @@ fn body_len(
         ) {
             Some(turned) => {
                 len += sent_len(turned.before, turned.token);
-                h = after(turned.token);
+                h = held_after(turned.token);
                 c = Cursor {
                     at: turned.next.at,
                     args: turned.next.args,
@@ -229,7 +236,13 @@ pub fn renumbered_len(
     ensures { result ≡ sized_of (renumbered_body (rows_of rows.now) (calls_by words.now locals globals)
         (site_of site) code.now) }
 {
-    if reach::masks::two_lengths(rows, rising, site) {
+    if reach::masks::two_lengths(
+        &Rows {
+            bytes: rows,
+            rising,
+        },
+        site,
+    ) {
         return None;
     }
     body_len(code, words, locals, globals, rows, rising, site)
@@ -275,7 +288,7 @@ pub fn put_renumbered(
         ) {
             Some(turned) => {
                 p = put_sent(code, turned.before, turned.token, &mut *out, p);
-                h = after(turned.token);
+                h = held_after(turned.token);
                 c = Cursor {
                     at: turned.next.at,
                     args: turned.next.args,

@@ -41,7 +41,7 @@ pub fn agrees(line: &[u8]) -> bool
     if line[1] != b' ' {
         return false;
     }
-    let end = hexlines::field_end(line, 2, n);
+    let end = hexlines::field_end(line, 2);
     if n <= end {
         return false;
     }

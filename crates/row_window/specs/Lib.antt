@@ -1,4 +1,5 @@
 pub mod Window
+pub mod Alone
 pub mod Key
 pub mod WindowLaws
 pub mod PlaceLaws

@@ -2,7 +2,7 @@
 use Rattle.std.specs.Prelude.{ℕ, ◌+◌, ◌*◌, ◌%◌, ◌≤◌, ◌≡◌, Bool, true, false, List, leb, eqb, length, take, drop, get_or, None, Some, Option}
 use Rattle.std.proofs.Math.Path.{refl, ap}
 use Rattle.std.proofs.Common.{sym, ◌∙◌, subst, arith, leb-true}
-use Rattle.std.proofs.Math.Seq.{slice, length-slice}
+use Rattle.std.proofs.Math.Seq.{slice, take-length}
 use Rattle.octets.specs.Pick.{pick}
 use Rattle.octets.specs.PickLaws.{both_hold}
 use Rattle.octets.specs.Octets.{Wrote}
@@ -12,7 +12,7 @@ use Rattle.hexlines.specs.HexlinesLaws.{spelt-length, spelt-two, Pair, hex-pair}
 use Rattle.cases.specs.Lines.{lines_of}
 use Rattle.sheet.specs.Sheet.{hex_up_to, is_kept, hex_of, filled, are_rows, row_bytes, pairs, is_sheet_lem, sheet_in, sheet_of}
 use Rattle.sheet.specs.Reading.{part, FourLines, HeadIs, ends, parts, is_sheet_at, sheet_at, Stands, Reads}
-use Rattle.sheet.specs.ReadingLaws.{hex-of, slice-part}
+use Rattle.sheet.specs.ReadingLaws.{hex-of}
 use Rattle.sheet.specs.declared.reading.LineEnds.{LineEnds}
 use Rattle.sheet.specs.declared.reading.Parts.{Parts}
 
@@ -27,19 +27,6 @@ up_to_room n l e =
 pub kept-room : (l : List ℕ) → is_kept l ≡ true → (is_hex_lem l ≡ true) × (length (spelt l) ≤ 2048)
 unfolding is_kept
 kept-room l e = up_to_room 2048 l (both_hold (eqb (length l % 4) 0) (hex_up_to 2048 l) e).1
-
--- digits of a part, as they are written
-pub hex-slice : (f t : ℕ) (s : List ℕ) → is_hex_lem (part f t s) ≡ true → is_hex_lem (slice f t s) ≡ true
-hex-slice f t s e = ap is_hex_lem (slice-part f t s) ∙ e
-
-pub spelt-slice : (f t : ℕ) (s : List ℕ) → spelt (slice f t s) ≡ spelt (part f t s)
-spelt-slice f t s = ap spelt (slice-part f t s)
-
-pub up_to_fits : (n f t : ℕ) (s : List ℕ) → hex_up_to n (part f t s) ≡ true → (is_hex_lem (slice f t s) ≡ true) × (length (spelt (slice f t s)) ≤ n)
-up_to_fits n f t s e = let r = up_to_room n (part f t s) e in (hex-slice f t s r.0, omega (arith, ap length (spelt-slice f t s), r.1))
-
-pub kept-fits : (f t : ℕ) (s : List ℕ) → is_kept (part f t s) ≡ true → (is_hex_lem (slice f t s) ≡ true) × (length (spelt (slice f t s)) ≤ 2048)
-kept-fits f t s e = let r = kept-room (part f t s) e in (hex-slice f t s r.0, omega (arith, ap length (spelt-slice f t s), r.1))
 
 -- what was written stands in front
 pub in_front : {old new bs : List ℕ} {q : ℕ} → Wrote old 0 bs new q → take (length bs) new ≡ bs
@@ -59,17 +46,22 @@ in_front_as {old} {new} {bs} {q} cs w e =
 
 -- ---- the flag
 
-module _ (s : List ℕ) (i end : ℕ) (w : end ≤ length s) (e : hex_of 2 (part i end s) ≡ true) where
-  pub flag-two : i + 2 ≡ end
-  flag-two = let h = hex-of (part i end s) 2 e in let n = length-slice i end s w in omega (arith, ap length (slice-part i end s), h.0, n)
+module _ (l : List ℕ) (e : hex_of 2 l ≡ true) where
+  pub flag-two : length l ≡ 2
+  flag-two = (hex-of l 2 e).0
 
-  pub flag-pair : Pair s i end
-  flag-pair = hex-pair s i end w (omega (arith, flag-two)) (hex-slice i end s (hex-of (part i end s) 2 e).1)
+  all : slice 0 (length l) l ≡ l
+  all = rw take-length
 
-  pub flag-value : (h l : ℕ) → h ≡ hex_value_lem (get_or s i 0) → l ≡ hex_value_lem (get_or s (i + 1) 0) → h * 16 + l ≡ get_or (spelt (part i end s)) 0 0
-  flag-value h l high low =
-      let x = spelt-two s i end w h l high low (omega (arith, flag-two)) in
-      sym (ap (λ (t : List ℕ). get_or t 0 0) (sym (spelt-slice i end s) ∙ x))
+  pub flag-pair : Pair l 0 (length l)
+  flag-pair = hex-pair l 0 (length l) (omega arith) (omega (arith, flag-two)) (rw take-length (hex-of l 2 e).1)
+
+  pub flag-value : (h v : ℕ) → h ≡ hex_value_lem (get_or l 0 0) → v ≡ hex_value_lem (get_or l 1 0) → h * 16 + v ≡ get_or (spelt l) 0 0
+  flag-value h v high low =
+      let one : 0 + 1 ≡ 1 = omega arith in
+      let second : v ≡ hex_value_lem (get_or l (0 + 1) 0) = rw one low in
+      let x = spelt-two l 0 (length l) (omega arith) h v high second (omega (arith, flag-two)) in
+      sym (ap (λ (t : List ℕ). get_or t 0 0) (sym (ap spelt all) ∙ x))
 
 -- ---- a sheet
 
@@ -92,18 +84,16 @@ fine text a b c d e =
 
 -- its parts were written
 pub stands : (text : List ℕ) (a b c d : ℕ) {font font' name name' keep keep' rec rec' : List ℕ} {m n k l flag : ℕ}
-    → Wrote font 0 (spelt (slice 0 a text)) font' m → Wrote name 0 (spelt (slice (a + 1) b text)) name' n
+    → Wrote font 0 (spelt (part 0 a text)) font' m → Wrote name 0 (spelt (part (a + 1) b text)) name' n
     → Wrote keep 0 (pairs (spelt (part (b + 1) c text))) keep' k → flag ≡ get_or (spelt (part (c + 1) d text)) 0 0
     → Wrote rec 0 (row_bytes (filled (lines_of (drop (d + 1) text)))) rec' l → Stands (sheet_at text a b c d) font' name' keep' rec' (Some (parts m n k l flag))
 unfolding sheet_at
 stands text a b c d w x y e z =
-    let f = in_front_as (spelt (part 0 a text)) w (spelt-slice 0 a text) in
-    let g = in_front_as (spelt (part (a + 1) b text)) x (spelt-slice (a + 1) b text) in
-    let p = f.2 in
-    let q = g.2 in
+    let p = many w in
+    let q = many x in
     let r = many y in
     let t = many z in
-    record { answer = cc (p, q, r, t, e); font_is = f.1; name_is = g.1; keep_is = in_front y; rec_is = in_front z }
+    record { answer = cc (p, q, r, t, e); font_is = in_front w; name_is = in_front x; keep_is = in_front y; rec_is = in_front z }
 
 -- what the answer says of the first lines
 pub four-told : (text : List ℕ) (h : Option LineEnds) (a b c d : ℕ) → HeadIs text h → h ≡ Some (ends a b c d) → FourLines text a b c d

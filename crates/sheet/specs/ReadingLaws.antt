@@ -1,11 +1,10 @@
 -- Laws of reading a sheet: a line at a time, and what the lines from a place on hold.
-use Rattle.std.specs.Prelude.{ℕ, zero, suc, ◌+◌, ◌-◌, ◌*◌, ◌%◌, ◌≤◌, ◌<◌, ◌≡◌, refl, Bool, true, false, ltb, leb, eqb, length, take, drop, get_or, set, None}
-use Rattle.std.proofs.Common.{sym, ◌∙◌, arith, length-append, length-drop, drop-cons}
+use Rattle.std.specs.Prelude.{ℕ, suc, ◌+◌, ◌-◌, ◌*◌, ◌%◌, ◌≤◌, ◌<◌, ◌≡◌, refl, Bool, true, false, ltb, leb, eqb, length, take, drop, get_or, set, None}
+use Rattle.std.proofs.Common.{sym, ◌∙◌, arith, length-append, length-drop, take_all, drop-cons}
 use Rattle.std.proofs.Math.Path.{ap}
 use Rattle.std.proofs.lemmas.Bool.{false≢true}
 use mathlib.Core.List.{List, [], ◌∷◌, ◌++◌}
 use borrow.Author.Tests.{eq-eqb, ne_eqb, le-leb, lt-leb, eqb-true, leb-true, ltb-true, ltb-false}
-use Rattle.std.proofs.Math.Seq.{slice, take-length, take-nil}
 use Rattle.octets.specs.Pick.{pick}
 use Rattle.octets.specs.PickLaws.{both_hold, pick_same}
 use Rattle.octets.specs.Octets.{be, num_at, Wrote}
@@ -28,17 +27,17 @@ fails true b e = absurd (false≢true (sym e))
 fails false b e = refl
 
 module _ (l : List ℕ) (n : ℕ) where
-  pub of-same : length l ≡ n → is_hex_lem (slice 0 (length l) l) ≡ hex_of n l
+  pub of-same : length l ≡ n → is_hex_lem l ≡ hex_of n l
   unfolding hex_of
-  of-same e = rw (take-length, eq-eqb (length l) n e)
+  of-same e = rw (eq-eqb (length l) n e)
 
   pub of_other : (length l ≡ n → ⊥) → false ≡ hex_of n l
   unfolding hex_of
   of_other e = rw (ne_eqb (length l) n e)
 
-  pub up_to : length l ≤ 2 * n → is_hex_lem (slice 0 (length l) l) ≡ hex_up_to n l
+  pub up_to : length l ≤ 2 * n → is_hex_lem l ≡ hex_up_to n l
   unfolding hex_up_to
-  up_to h = rw (take-length, le-leb (length l) (2 * n) h)
+  up_to h = rw (le-leb (length l) (2 * n) h)
 
   pub up_to_not : 2 * n < length l → false ≡ hex_up_to n l
   unfolding hex_up_to
@@ -179,26 +178,18 @@ rows_start s p e =
     let m = ap length (rows-filled (lines_of (drop p s))) in
     (record { fine = h.1 }, omega (arith, h.0, n, m))
 
--- a part in the middle, both ways
-pub slice-part : (f t : ℕ) (s : List ℕ) → slice f t s ≡ part f t s
-slice-part zero t s = let e : t ≡ t - 0 = omega arith in ap (λ (j : ℕ). take j s) e
-slice-part (suc f) zero s = let e : 0 ≡ 0 - suc f = omega arith in ap (λ (j : ℕ). take j (drop (suc f) s)) e
-slice-part (suc f) (suc t) [] = sym (take-nil (suc t - suc f))
-slice-part (suc f) (suc t) (x ∷ s) = let e : t - f ≡ suc t - suc f = omega arith in slice-part f t s ∙ ap (λ (j : ℕ). take j (drop f s)) e
-
 module _ (s : List ℕ) (p end : ℕ) (h : p < length s) (e : end ≡ line_end s p) where
-  pub rows_next : row_bytes (lines_of (drop p s)) ≡ spelt (slice p end s) ++ row_bytes (lines_of (drop (end + 1) s))
+  pub rows_next : row_bytes (lines_of (drop p s)) ≡ spelt (part p end s) ++ row_bytes (lines_of (drop (end + 1) s))
   unfolding row_bytes
-  rows_next =
-      ap row_bytes (lines_next s p end h e) ∙ ap (λ (l : List ℕ). spelt l ++ row_bytes (lines_of (drop (end + 1) s))) (sym (slice-part p end s))
+  rows_next = ap row_bytes (lines_next s p end h e)
 
   rows-turn : RowsLeft s p → (is_hex_lem (part p end s) ≡ true) × (all_rows (filled (lines_of (drop (end + 1) s))) ≡ true)
   rows-turn r =
       rows-first (part p end s) (lines_of (drop (end + 1) s))
       (sym (ap (λ (l : List (List ℕ)). all_rows (filled l)) (lines_next s p end h e)) ∙ r.fine)
 
-  pub rows-hex : RowsLeft s p → is_hex_lem (slice p end s) ≡ true
-  rows-hex r = ap is_hex_lem (slice-part p end s) ∙ (rows-turn r).0
+  pub rows-hex : RowsLeft s p → is_hex_lem (part p end s) ≡ true
+  rows-hex r = (rows-turn r).0
 
   pub rows_behind : RowsLeft s p → RowsLeft s (end + 1)
   rows_behind r = record { fine = (rows-turn r).1 }
@@ -207,8 +198,12 @@ pub rows_none : (s : List ℕ) (p : ℕ) → length s ≤ p → row_bytes (lines
 unfolding row_bytes
 rows_none s p h = ap row_bytes (lines_none s p h)
 
-pub wrote-rows : {old new : List ℕ} {q : ℕ} (s : List ℕ) (p : ℕ) → Wrote old 0 (row_bytes (lines_of (drop p s))) new q → Wrote old 0 (row_bytes (filled (lines_of (drop p s)))) new q
-wrote-rows s p w = wrote_as w (sym (rows-filled (lines_of (drop p s))))
+pub wrote-rows : {old new : List ℕ} {q : ℕ} (s : List ℕ) → Wrote old 0 (row_bytes (lines_of s)) new q → Wrote old 0 (row_bytes (filled (lines_of s))) new q
+wrote-rows s w = wrote_as w (sym (rows-filled (lines_of s)))
+
+-- how much is left of a slice
+pub rest_length : (l : List ℕ) (q : ℕ) → length (take (length l - q) (drop q l)) ≡ length l - q
+rest_length l q = ap length (take_all (length l - q) (drop q l) (omega (arith, length-drop q l))) ∙ length-drop q l
 
 -- ---- pairs of bytes
 

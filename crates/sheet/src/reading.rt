@@ -33,7 +33,7 @@ fn hex_of(line: &[u8], n: usize) -> bool
 {
     let k = line.len();
     if k == n {
-        return hexlines::is_hex(line, 0, k);
+        return hexlines::is_hex(line);
     }
     false
 }
@@ -45,7 +45,7 @@ fn hex_up_to(line: &[u8], n: usize) -> bool
 {
     let k = line.len();
     if k <= 2 * n {
-        return hexlines::is_hex(line, 0, k);
+        return hexlines::is_hex(line);
     }
     false
 }
@@ -76,12 +76,12 @@ fn rows_after(rows: usize, line: &[u8]) -> usize
     513
 }
 
-// Whether the lines from a place on are rows.
-fn are_rows(text: &[u8], at: usize) -> bool
-    ensures { result ≡ are_rows (filled (lines_of (drop at text.now))) }
+// Whether the lines of a text are rows.
+fn are_rows(text: &[u8]) -> bool
+    ensures { result ≡ are_rows (filled (lines_of text.now)) }
 {
     let n = text.len();
-    let mut p = at;
+    let mut p = 0;
     let mut rows = 0;
     while p < n {
         let end = hexlines::line_end(text, p);
@@ -91,17 +91,17 @@ fn are_rows(text: &[u8], at: usize) -> bool
     rows <= 512
 }
 
-// Writes the bytes of the rows from a place on to the start of rec; returns how many they are.
-fn put_rows(text: &[u8], at: usize, rec: &mut [u8]) -> usize
-    requires { (are_rows (filled (lines_of (drop at text.now))) ≡ true) × (5120 ≤ length rec.old) }
-    ensures { Wrote rec.old 0 (row_bytes (filled (lines_of (drop at text.now)))) rec.new result }
+// Writes the bytes of the rows of a text to the start of rec; returns how many they are.
+fn put_rows(text: &[u8], rec: &mut [u8]) -> usize
+    requires { (are_rows (filled (lines_of text.now)) ≡ true) × (5120 ≤ length rec.old) }
+    ensures { Wrote rec.old 0 (row_bytes (filled (lines_of text.now))) rec.new result }
 {
     let n = text.len();
-    let mut p = at;
+    let mut p = 0;
     let mut q = 0;
     while p < n {
         let end = hexlines::line_end(text, p);
-        q = hexlines::put_spelt(&mut *rec, q, text, p, end);
+        q += hexlines::put_spelt(&mut rec[q..], &text[p..end]);
         p = end + 1;
     }
     q
@@ -148,87 +148,100 @@ fn first_lines(text: &[u8]) -> Option<LineEnds>
     })
 }
 
-// Whether the lines of a text from the flag's on, which ends at d, are those of a sheet.
-fn are_last(text: &[u8], c: usize, d: usize) -> bool
-    requires { (c < d) × (d ≤ length text.now) }
-    ensures { result ≡ pick (hex_of 2 (part (c + 1) d text.now)) (are_rows (filled (lines_of (drop (d + 1) text.now)))) false }
+// Whether a line of the flag, and the text behind it, are those of a sheet.
+fn are_last(flag: &[u8], rows: &[u8]) -> bool
+    ensures { result ≡ pick (hex_of 2 flag.now) (are_rows (filled (lines_of rows.now))) false }
 {
-    let p = c + 1;
-    if hex_of(&text[p..d], 2) {
-        return are_rows(text, d + 1);
+    if hex_of(flag, 2) {
+        return are_rows(rows);
     }
     false
 }
 
-// Whether the lines of a text from that of the kept numbers on are those of a sheet.
-fn are_kept(text: &[u8], b: usize, c: usize, d: usize) -> bool
-    requires { (b < c) × (c < d) × (d ≤ length text.now) }
-    ensures { result ≡ pick (is_kept (part (b + 1) c text.now))
-        (pick (hex_of 2 (part (c + 1) d text.now)) (are_rows (filled (lines_of (drop (d + 1) text.now)))) false) false }
+// Whether a line of the kept numbers, one of the flag, and the text behind them, are those of a sheet.
+fn are_kept(kept: &[u8], flag: &[u8], rows: &[u8]) -> bool
+    ensures { result ≡ pick (is_kept kept.now) (pick (hex_of 2 flag.now) (are_rows (filled (lines_of rows.now))) false) false }
 {
-    let p = b + 1;
-    if is_kept(&text[p..c]) {
-        return are_last(text, c, d);
+    if is_kept(kept) {
+        return are_last(flag, rows);
     }
     false
 }
 
-// Whether the lines of a text, the first four of which end at a, b, c and d, are those of a sheet.
-fn is_sheet(text: &[u8], a: usize, b: usize, c: usize, d: usize) -> bool
-    requires { FourLines text.now a b c d }
-    ensures { result ≡ is_sheet_at text.now a b c d }
+// Whether the lines of a text, the first four of which end here, are those of a sheet.
+fn is_sheet(text: &[u8], ends: LineEnds) -> bool
+    requires { FourLines text.now ends.font ends.name ends.keep ends.flag }
+    ensures { result ≡ is_sheet_at text.now ends.font ends.name ends.keep ends.flag }
 {
-    if hex_up_to(&text[0..a], 16384) {
-        let p = a + 1;
-        if hex_up_to(&text[p..b], 256) {
-            return are_kept(text, b, c, d);
+    let LineEnds {
+        font,
+        name,
+        keep,
+        flag,
+    } = ends;
+    if hex_up_to(&text[0..font], 16384) {
+        if hex_up_to(&text[font + 1..name], 256) {
+            return are_kept(
+                &text[name + 1..keep],
+                &text[keep + 1..flag],
+                rest(text, flag),
+            );
         }
         return false;
     }
     false
 }
 
-// The flag in the two digits from a place on.
-fn flag_at(text: &[u8], at: usize, end: usize) -> u8
-    requires { (end ≤ length text.now) × (hex_of 2 (part at end text.now) ≡ true) }
-    ensures { result ≡ get_or (spelt (part at end text.now)) 0 0 }
+// The text behind a line that ends at a place, which is the end of the text where no line feed stands there.
+fn rest(text: &[u8], end: usize) -> &[u8]
+    requires { end ≤ length text.now }
+    ensures { result.now ≡ drop (end + 1) text.now }
 {
-    let high = hexlines::hex_value(text[at]);
-    let low = hexlines::hex_value(text[at + 1]);
+    if text.len() == end {
+        return &text[end..];
+    }
+    &text[end + 1..]
+}
+
+// The flag in two digits.
+fn flag_of(line: &[u8]) -> u8
+    requires { hex_of 2 line.now ≡ true }
+    ensures { result ≡ get_or (spelt line.now) 0 0 }
+{
+    let high = hexlines::hex_value(line[0]);
+    let low = hexlines::hex_value(line[1]);
     (high * 16 + low) as u8
 }
 
-// Writes the kept numbers of the line from at to end to the start of keep; returns how many they are.
-fn put_kept(text: &[u8], at: usize, end: usize, keep: &mut [u16]) -> usize
-    requires { (at ≤ end) × (end ≤ length text.now) × (is_kept (part at end text.now) ≡ true) × (1024 ≤ length keep.old) }
-    ensures { Wrote keep.old 0 (pairs (spelt (part at end text.now))) keep.new result }
+// Writes the kept numbers of a line to the start of keep; returns how many they are.
+fn put_kept(line: &[u8], keep: &mut [u16]) -> usize
+    requires { (is_kept line.now ≡ true) × (1024 ≤ length keep.old) }
+    ensures { Wrote keep.old 0 (pairs (spelt line.now)) keep.new result }
 {
     let mut bytes = [0u8; 2048];
-    let k = hexlines::put_spelt(&mut bytes, 0, text, at, end);
+    let k = hexlines::put_spelt(&mut bytes, line);
     put_pairs(&bytes[..k], keep)
 }
 
-// Writes the parts of a sheet, the first four lines of which end at a, b, c and d, to the start of the buffers.
+// Writes the parts of a sheet, the first four lines of which end here, to the start of the buffers.
 fn put_parts(
     text: &[u8],
-    a: usize,
-    b: usize,
-    c: usize,
-    d: usize,
+    ends: LineEnds,
     font: &mut [u8],
     name: &mut [u8],
     keep: &mut [u16],
     rec: &mut [u8],
 ) -> Parts
-    requires { (FourLines text.now a b c d) × (is_sheet_at text.now a b c d ≡ true) × (16384 ≤ length font.old) × (256 ≤ length name.old)
-        × (1024 ≤ length keep.old) × (5120 ≤ length rec.old) }
-    ensures { Stands (sheet_at text.now a b c d) font.new name.new keep.new rec.new (Some result) }
+    requires { (FourLines text.now ends.font ends.name ends.keep ends.flag)
+        × (is_sheet_at text.now ends.font ends.name ends.keep ends.flag ≡ true)
+        × (16384 ≤ length font.old) × (256 ≤ length name.old) × (1024 ≤ length keep.old) × (5120 ≤ length rec.old) }
+    ensures { Stands (sheet_at text.now ends.font ends.name ends.keep ends.flag) font.new name.new keep.new rec.new (Some result) }
 {
-    let m = hexlines::put_spelt(font, 0, text, 0, a);
-    let n = hexlines::put_spelt(name, 0, text, a + 1, b);
-    let k = put_kept(text, b + 1, c, keep);
-    let flag = flag_at(text, c + 1, d);
-    let l = put_rows(text, d + 1, rec);
+    let m = hexlines::put_spelt(font, &text[0..ends.font]);
+    let n = hexlines::put_spelt(name, &text[ends.font + 1..ends.name]);
+    let k = put_kept(&text[ends.name + 1..ends.keep], keep);
+    let flag = flag_of(&text[ends.keep + 1..ends.flag]);
+    let l = put_rows(rest(text, ends.flag), rec);
     Parts {
         font: m,
         name: n,
@@ -251,10 +264,8 @@ pub fn read_sheet(
 {
     match first_lines(text) {
         Some(ends) => {
-            if is_sheet(text, ends.font, ends.name, ends.keep, ends.flag) {
-                return Some(put_parts(
-                    text, ends.font, ends.name, ends.keep, ends.flag, font, name, keep, rec,
-                ));
+            if is_sheet(text, ends) {
+                return Some(put_parts(text, ends, font, name, keep, rec));
             }
             None
         }

@@ -37,7 +37,6 @@ none_ready font e =
       locals = none-good font (omega (arith, e));
       few_globals = lit< tt;
       few_locals = lit< tt;
-      fds = lit< tt;
       size = omega (arith, e);
     }
 

@@ -8,6 +8,7 @@ ghost use Rattle.short_charstrings.specs.Short.{ends, is_short};
 ghost use Rattle.short_charstrings.specs.Next.{candidate, candidates, place_of, first_from_lem, found_place, place_next, PlaceFits, next_of, Answers, Gives};
 
 use index::Index;
+use interpret::callees::Callees;
 use interpret::{Range, Subrs};
 use refusal::Refusal;
 
@@ -36,7 +37,8 @@ fn ends(code: &[u8]) -> bool
         fd: 0,
     };
     let mut keys = [0u64; 1];
-    match interpret::run_glyph(&font, q, 0, code, Range { low: 0, high: 0 }, &mut keys, 0) {
+    let from = Callees { font: &font, q };
+    match interpret::run_glyph(&from, 0, code, Range { low: 0, high: 0 }, &mut keys, 0) {
         None => false,
         Some(_) => true,
     }

@@ -1,12 +1,11 @@
 -- Why halving the names in byte order finds the id of a text: what each comparison leaves out, and what is left at the end.
-use Rattle.std.specs.Prelude.{ℕ, ◌+◌, ◌≤◌, ◌<◌, ◌≡◌, refl, Bool, true, false, List, ltb, length, get_or, None, Some}
+use Rattle.std.specs.Prelude.{ℕ, ◌+◌, ◌≤◌, ◌<◌, ◌≡◌, refl, Bool, true, false, List, ltb, get_or, None, Some}
 use Rattle.std.proofs.Math.Path.{sym}
 use Rattle.std.proofs.Common.{◌∙◌, subst, ⊎_elim, eq-or-lt_of_le, not-suc-le-zero, arith, below_more, ltb-true, ltb-false}
 use Rattle.strings.specs.Table.{standard_order}
 use Rattle.strings.specs.Text.{order_of}
 use Rattle.strings.specs.TextLaws.{order_refl, order_same, order_trans, order_flip}
 use Rattle.strings.specs.Strings.{standard_string, sid_of}
-use Rattle.strings.proofs.TableLaws.{order-length}
 use Rattle.strings.proofs.NamesLaws.{in_order, order-within, order-rises, rank_of, rank-within, rank-name}
 use Rattle.strings.proofs.StringsLaws.{sid_is, sid_none}
 use Rattle.std.specs.declared.cmp.Ordering.{Ordering}
@@ -41,22 +40,16 @@ module _ (text : List ℕ) (low high middle : ℕ) (n : Narrowed text low high) 
             (eq-or-lt_of_le k);
       }
 
--- code that holds the order: its ids, and the name that it compares
-module _ (order : List ℕ) (e : order ≡ standard_order) (i : ℕ) (h : i < 391) where
-  pub listed : i < length order
-  listed = rw (e, order-length) h
-
-  pub listed_below : get_or order i 0 < 391
-  listed_below = rw e (order-within i h)
-
-  pub compared : (name text : List ℕ) (o : Ordering) → name ≡ standard_string (get_or order i 0) → o ≡ order_of name text → order_of (in_order i) text ≡ o
+-- the name that is compared
+module _ (i : ℕ) (h : i < 391) where
+  pub compared : (name text : List ℕ) (o : Ordering) → name ≡ standard_string (get_or standard_order i 0) → o ≡ order_of name text → order_of (in_order i) text ≡ o
   unfolding in_order
-  compared name text o f g = sym (g ∙ rw (f, e))
+  compared name text o f g = sym (g ∙ rw f)
 
   -- a name that is neither less nor more is the text
-  pub searched_same : (text : List ℕ) → order_of (in_order i) text ≡ Equal → Some (get_or order i 0) ≡ sid_of text
+  pub searched_same : (text : List ℕ) → order_of (in_order i) text ≡ Equal → Some (get_or standard_order i 0) ≡ sid_of text
   unfolding in_order
-  searched_same text f = rw e (sym (sid_is text (get_or standard_order i 0) (order-within i h) (order_same (in_order i) text f)))
+  searched_same text f = sym (sid_is text (get_or standard_order i 0) (order-within i h) (order_same (in_order i) text f))
 
 -- no name is the text where none is left
 left_out : (text : List ℕ) (low high : ℕ) → Narrowed text low high → high ≤ low → (i : ℕ) → i < 391 → in_order i ≡ text → (t : Bool) → ltb i low ≡ t → ⊥

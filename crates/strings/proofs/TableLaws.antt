@@ -1,6 +1,6 @@
 -- What the one test of the table shows of each id: its offsets rise, from 0 to the end of the text, and bound its name.
 use Rattle.std.specs.Prelude.{ℕ, zero, suc, ◌+◌, ◌-◌, ◌≤◌, ◌<◌, ◌≡◌, refl, Bool, true, false, ◌&&◌, ltb, length, take, drop, get_or}
-use Rattle.std.proofs.Common.{sym, ap, ◌∙◌, le_of_suc-le-suc, not-suc-le-zero, add-one, arith, ltb-true, length-append, length-drop, length-take-le}
+use Rattle.std.proofs.Common.{le_of_suc-le-suc, not-suc-le-zero, add-one, arith, ltb-true, length-append}
 use mathlib.Core.List.{List, [], ◌∷◌, ◌++◌, append_assoc, append-nil}
 use Rattle.std.proofs.Math.Seq.{take-append_seam, drop-append_seam}
 use Rattle.octets.specs.Lists.{all_below, joined, before}
@@ -114,29 +114,3 @@ module _ (k : ℕ) (h : k < 391) where
   pub part_is : take (get_or standard_offsets (k + 1) 0 - get_or standard_offsets k 0) (drop (get_or standard_offsets k 0) standard_text) ≡ standard_string k
   unfolding standard_text standard_string
   part_is = rw (add-one, offsets_are) (part_at [] standard_strings k (rw strings-length h))
-
-  pub part_length : get_or standard_offsets (k + 1) 0 - get_or standard_offsets k 0 ≡ length (standard_string k)
-  part_length =
-      let fits : get_or standard_offsets (k + 1) 0 - get_or standard_offsets k 0 ≤ length (drop (get_or standard_offsets k 0) standard_text)
-      = rw (length-drop, text-length) (omega (arith, offset-within)) in
-      sym (length-take-le _ (drop (get_or standard_offsets k 0) standard_text) fits) ∙ ap length part_is
-
--- what code that holds the two tables needs of an id
-pub record Named (names offsets : List ℕ) (k : ℕ) : Type 0 where
-  pub has : k + 1 < length offsets
-  pub rises : get_or offsets k 0 < get_or offsets (k + 1) 0
-  pub within : get_or offsets (k + 1) 0 ≤ length names
-  pub small : length names ≡ 3052
-  pub is : take (get_or offsets (k + 1) 0 - get_or offsets k 0) (drop (get_or offsets k 0) names) ≡ standard_string k
-  pub long : get_or offsets (k + 1) 0 - get_or offsets k 0 ≡ length (standard_string k)
-
-pub named : (names offsets : List ℕ) (k : ℕ) → names ≡ standard_text → offsets ≡ standard_offsets → k < 391 → Named names offsets k
-named names offsets k e f h =
-    rw (e, f) (record {
-      has = rw offsets-length (omega arith);
-      rises = offset-rises k h;
-      within = rw text-length (offset-within k h);
-      small = text-length;
-      is = part_is k h;
-      long = part_length k h;
-    })

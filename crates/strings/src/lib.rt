@@ -2,11 +2,9 @@
 // Strings::sid.
 #![tactic(auto)]
 
-ghost use Rattle.std.specs.Prelude.{◌≡◌, ◌+◌, ◌<◌, ◌≤◌, length};
-ghost use Rattle.octets.specs.Octets.{Wrote};
-ghost use Rattle.strings.specs.Table.{standard_offsets, standard_order};
+ghost use Rattle.std.specs.Prelude.{◌≡◌, ◌<◌};
 ghost use Rattle.strings.specs.Text.{same_text_lem, order_of};
-ghost use Rattle.strings.specs.Strings.{standard_text, standard_string, sid_of};
+ghost use Rattle.strings.specs.Strings.{standard_string, sid_of};
 
 use std::cmp::Ordering;
 
@@ -26,40 +24,18 @@ pub fn order_of(a: &[u8], b: &[u8]) -> Ordering
     a.cmp(b)
 }
 
-// The standard string of an id: a part of the text of all names. A function cannot return a part of a constant, which lives only
-// until the function returns, so the caller lends its copies of the two tables.
-pub fn standard_string<'a>(names: &'a [u8], offsets: &[u16], k: usize) -> &'a [u8]
-    requires { (names.now ≡ standard_text) × (offsets.now ≡ standard_offsets) × (k < 391) }
+// The standard string of an id: a part of the text of all names.
+pub fn standard_string(k: usize) -> &'static [u8]
+    requires { k < 391 }
     ensures { result.now ≡ standard_string k }
 {
-    let start = offsets[k] as usize;
-    let end = offsets[k + 1] as usize;
-    &names[start..end]
+    let start = table::STANDARD_OFFSETS[k] as usize;
+    let end = table::STANDARD_OFFSETS[k + 1] as usize;
+    &table::STANDARD_TEXT[start..end]
 }
 
-// The length of the standard string of an id, by the offsets that the caller lends.
-fn len_at(offsets: &[u16], k: usize) -> usize
-    requires { (offsets.now ≡ standard_offsets) × (k < 391) }
-    ensures { result ≡ length (standard_string k) }
-{
-    let start = offsets[k] as usize;
-    let end = offsets[k + 1] as usize;
-    end - start
-}
-
-// Writes the standard string of an id at a place; returns the place after it.
-pub fn put_standard(out: &mut [u8], at: usize, k: usize) -> usize
-    requires { (k < 391) × (at + length (standard_string k) ≤ length out.old) }
-    ensures { Wrote out.old at (standard_string k) out.new result }
-{
-    let names = table::STANDARD_TEXT;
-    let offsets = table::STANDARD_OFFSETS;
-    octets::put_bytes(out, at, standard_string(&names, &offsets, k))
-}
-
-// The id of a text among the standard strings, if it is one of them, by halving their byte order; the caller lends the three tables.
-fn search(names: &[u8], offsets: &[u16], order: &[u16], text: &[u8]) -> Option<usize>
-    requires { (names.now ≡ standard_text) × (offsets.now ≡ standard_offsets) × (order.now ≡ standard_order) }
+// The id of a text among the standard strings, if it is one of them, by halving their byte order.
+pub fn sid_of(text: &[u8]) -> Option<usize>
     ensures { result ≡ sid_of text.now }
 {
     let mut low: usize = 0;
@@ -67,8 +43,8 @@ fn search(names: &[u8], offsets: &[u16], order: &[u16], text: &[u8]) -> Option<u
     // Not `binary_search_by`: it asks for a closure that takes any number, and ids from 391 on have no standard string.
     while low < high {
         let middle = low + (high - low) / 2;
-        let k = order[middle] as usize;
-        let found = order_of(standard_string(names, offsets, k), text);
+        let k = table::STANDARD_ORDER[middle] as usize;
+        let found = order_of(standard_string(k), text);
         match found {
             Ordering::Equal => return Some(k),
             Ordering::Less => low = middle + 1,
@@ -76,14 +52,4 @@ fn search(names: &[u8], offsets: &[u16], order: &[u16], text: &[u8]) -> Option<u
         }
     }
     None
-}
-
-// The id of a text among the standard strings, if it is one of them.
-pub fn sid_of(text: &[u8]) -> Option<usize>
-    ensures { result ≡ sid_of text.now }
-{
-    let names = table::STANDARD_TEXT;
-    let offsets = table::STANDARD_OFFSETS;
-    let order = table::STANDARD_ORDER;
-    search(&names, &offsets, &order, text)
 }

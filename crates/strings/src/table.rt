@@ -1,7 +1,7 @@
 // The standard strings of TN5176, Appendix A, written by tools/standard_strings.py from the Rust's STANDARD_STRINGS.
 
 // All names, one behind the other.
-pub const STANDARD_TEXT: [u8; 3052] =
+pub static STANDARD_TEXT: [u8; 3052] =
     *b".notdefspaceexclamquotedblnumbersigndollarpercentampersandquoterightparenleftparenrightasteriskplus\
     commahyphenperiodslashzeroonetwothreefourfivesixseveneightninecolonsemicolonlessequalgreaterquestion\
     atABCDEFGHIJKLMNOPQRSTUVWXYZbracketleftbackslashbracketrightasciicircumunderscorequoteleftabcdefghij\
@@ -36,7 +36,7 @@ pub const STANDARD_TEXT: [u8; 3052] =
     ThornsmallYdieresissmall001.000001.001001.002001.003BlackBoldBookLightMediumRegularRomanSemibold";
 
 // Where each name begins in the text, and where the last one ends.
-pub const STANDARD_OFFSETS: [u16; 392] = [
+pub static STANDARD_OFFSETS: [u16; 392] = [
     0, 7, 12, 18, 26, 36, 42, 49, 58, 68, 77, 87, 95, 99, 104, 110, 116, 121, 125, 128, 131, 136,
     140, 144, 147, 152, 157, 161, 166, 175, 179, 184, 191, 199, 201, 202, 203, 204, 205, 206, 207,
     208, 209, 210, 211, 212, 213, 214, 215, 216, 217, 218, 219, 220, 221, 222, 223, 224, 225, 226,
@@ -63,7 +63,7 @@ pub const STANDARD_OFFSETS: [u16; 392] = [
 ];
 
 // The ids in the rising byte order of their names.
-pub const STANDARD_ORDER: [u16; 391] = [
+pub static STANDARD_ORDER: [u16; 391] = [
     0, 379, 380, 381, 382, 34, 138, 353, 171, 348, 172, 349, 234, 173, 351, 174, 347, 175, 352,
     274, 176, 350, 35, 383, 384, 385, 310, 275, 36, 311, 177, 354, 318, 271, 276, 37, 309, 312,
     277, 38, 178, 356, 179, 357, 180, 358, 181, 355, 278, 154, 363, 39, 279, 40, 273, 280, 41, 281,

@@ -1,3 +1,4 @@
+pub mod Alone
 pub mod Top
 pub mod Writing
 pub mod TopParts

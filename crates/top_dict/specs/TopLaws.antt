@@ -130,16 +130,18 @@ module _ (slots : List ℕ) (es : List Entry) (r : Option RosEntry) (e : r ≡ r
   unfolding ros_of
   ros_there registry ordering s f = record { is = sym (ap (ros_of slots) (sym f ∙ e)) }
 
-  pub ros-length : (registry ordering : ℕ) (s : Signed) → r ≡ a_ros registry ordering s → (a b n : ℕ) → a ≡ length (number_bytes (whole (get_or slots 8 0)))
-      → b ≡ length (number_bytes (whole (get_or slots 9 0))) → n ≡ length (number_bytes (normal s.neg s.size 0 0)) → a + b + n + 2 ≡ length (ros_of slots (ros_in es))
+  pub ros-length : (registry ordering : ℕ) (s : Signed) → r ≡ a_ros registry ordering s → (a n : ℕ) → a ≡ length (ids_bytes slots)
+      → n ≡ length (number_bytes (normal s.neg s.size 0 0)) → a + n + 2 ≡ length (ros_of slots (ros_in es))
   unfolding op_bytes_lem
-  ros-length registry ordering s f a b n i j k =
+  ros-length registry ordering s f a n i j =
       omega (
         arith,
         split-length (ros_there registry ordering s f),
-        split-length (ids-parts slots),
         length-append (number_bytes (normal s.neg s.size 0 0)) (op_bytes_lem ros),
       )
+
+pub ids-length : (slots : List ℕ) (a b : ℕ) → a ≡ length (number_bytes (whole (get_or slots 8 0))) → b ≡ length (number_bytes (whole (get_or slots 9 0))) → a + b ≡ length (ids_bytes slots)
+ids-length slots a b i j = omega (arith, split-length (ids-parts slots))
 
 pub ros-rest : (s : Signed) → Split (number_bytes (normal s.neg s.size 0 0) ++ op_bytes_lem ros) (number_bytes (normal s.neg s.size 0 0)) (op_bytes_lem ros)
 ros-rest s = split-append (number_bytes (normal s.neg s.size 0 0)) (op_bytes_lem ros)

@@ -1,6 +1,6 @@
 -- The parts of the top DICT (document 01, 'Layout'), one behind the other, as the code writes them.
 use Rattle.std.specs.Prelude.{ℕ, ◌+◌, ◌≡◌, refl, List, [], ◌∷◌, ◌++◌, length, get_or}
-use Rattle.std.proofs.Common.{sym, ap, ◌∙◌, append-nil, length-append}
+use Rattle.std.proofs.Common.{sym, ap, subst, ◌∙◌, append-nil, length-append}
 use Rattle.octets.specs.Octets.{bytes_of}
 use Rattle.decimal.specs.Written.{number_bytes}
 use Rattle.dict.specs.Op.{cid_count, copied_top_entries}
@@ -33,6 +33,10 @@ value-parts op n = record { is = value-bytes op n }
 pub ids-parts : (slots : List ℕ) → Split (ids_bytes slots) (number_bytes (whole (get_or slots 8 0))) (number_bytes (whole (get_or slots 9 0)))
 unfolding ids_bytes
 ids-parts slots = record { is = refl }
+
+-- the same of the list that a type shows for them
+pub view-parts : (slots view : List ℕ) → slots ≡ view → Split (ids_bytes view) (number_bytes (whole (get_or slots 8 0))) (number_bytes (whole (get_or slots 9 0)))
+view-parts slots view e = subst (λ (l : List ℕ). Split (ids_bytes l) (number_bytes (whole (get_or slots 8 0))) (number_bytes (whole (get_or slots 9 0)))) e (ids-parts slots)
 
 pub carried-parts : (es : List Entry) (slots : List ℕ) → Split (carried es slots) (string_entries slots) (copied_bytes es copied_top_entries)
 unfolding carried

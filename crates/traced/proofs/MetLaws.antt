@@ -15,7 +15,7 @@ use Rattle.subset.specs.Kept.{is_in, those, keeps, kept_of}
 use Rattle.subset.specs.KeptListLaws.{in_head, in_more, in_cases, in_none, in_place, those_in}
 use Rattle.faithful.specs.Faithful.{unfolded, IsKept}
 use Rattle.traced.specs.Traced.{met_by, met_all}
-use Rattle.traced.specs.Has.{Has, there}
+use Rattle.traced.specs.Has.{Has}
 use Rattle.traced.specs.HasLaws.{has-none, has_left, has_right, has_either}
 
 -- ---- what glyphs meet

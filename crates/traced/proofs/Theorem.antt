@@ -17,10 +17,11 @@ use Rattle.record.specs.Record.{rows_from, rows_of, row_fine_lem, rows_fine_lem,
 use Rattle.dict.specs.Lookup.{cid_keyed}
 use Rattle.cff.specs.Font.{Program, read_font}
 use Rattle.cff.specs.Find.{work_size}
-use Rattle.subset.specs.Kept.{keeps, kept_of, locals_of}
+use Rattle.subset.specs.Kept.{is_in, keeps, kept_of, locals_of}
 use Rattle.subset.specs.Cut.{refused as refusedCut, subset, all_found_lem, cut_read, cut_with, cut_of}
 use Rattle.row_window.specs.Window.{Rising, none as noKeys}
 use Rattle.faithful.specs.Faithful.{unfolded, IsKept, Recorded, Holds, Faithful}
+use Rattle.faithful.specs.Laid.{GoodProgram}
 use Rattle.faithful.specs.GoodLaws.{font-good}
 use Rattle.faithful.specs.KeptLaws.{kept_is}
 use Rattle.faithful.proofs.Theorem.{faithful}
@@ -29,7 +30,7 @@ use Rattle.traced.specs.Has.{Has, here, there}
 use Rattle.traced.specs.HasLaws.{has_listed, listed_has, all-at, all_from}
 use Rattle.traced.specs.RowLaws.{RowFits}
 use Rattle.traced.proofs.RowLaws.{record_tens, record-has, record-from, record-rises, record_octets}
-use Rattle.traced.specs.BodyLaws.{font-short}
+use Rattle.traced.specs.BodyLaws.{ShortBodies, font-short}
 use Rattle.traced.proofs.RunLaws.{Proper, FdFits, rows_proper}
 use Rattle.traced.proofs.EightLaws.{not_eight}
 use Rattle.traced.proofs.MetLaws.{Meets, met-within, met-from, met-fails, in_kept, kept_same, below_as}
@@ -86,16 +87,26 @@ was_answered p keep room flag rec e = by-below (all_below (length p.charstrings)
 -- ---- rows of a font
 
 -- the rows that a glyph of a font meets are proper
-pub glyph_proper : (font : List ℕ) → Octets font → (p : Program) → read_font font ≡ Ok p → (g : ℕ) → g < length p.charstrings → (ts : List Tok) (met : List Row)
-    → unfolded p g ≡ plain ts met → All (Proper (cid_keyed p.top)) met
-glyph_proper font octets p is g h ts met e =
-    let good = font-good font p octets is in
-    let short = font-short font p is in
+pub proper_met : (p : Program) → GoodProgram p → ShortBodies 67108864 p → (g : ℕ) → g < length p.charstrings → (ts : List Tok) (met : List Row) → unfolded p g ≡ plain ts met
+    → All (Proper (cid_keyed p.top)) met
+proper_met p good short g h ts met e =
     let fd = get_or p.fds g 0 in
     let there = below_at (length p.privates) p.fds good.fds_there g (omega (arith, good.fds_count)) in
     let fits : FdFits (cid_keyed p.top) fd = record { byte = good.fds g; one = λ n. omega (arith, good.one_private n, there) } in
     rows_proper (cid_keyed p.top) p.globals (locals_of p fd) fd fits good.globals.count (good.locals fd).count short.globals (short.locals fd) g
     (get_or p.charstrings g []) ts met (omega (arith, good.charstrings.count)) (short.charstrings g) e
+
+pub glyph_proper : (font : List ℕ) → Octets font → (p : Program) → read_font font ≡ Ok p → (g : ℕ) → g < length p.charstrings → (ts : List Tok) (met : List Row)
+    → unfolded p g ≡ plain ts met → All (Proper (cid_keyed p.top)) met
+glyph_proper font octets p is = proper_met p (font-good font p octets is) (font-short font p is)
+
+-- the rows that glyphs of a font meet together fit their bytes
+pub met-fits : (p : Program) → GoodProgram p → ShortBodies 67108864 p → (gs : List ℕ) → ((g : ℕ) → is_in g gs ≡ true → g < length p.charstrings) → (rows : List Row)
+    → met_all p gs ≡ Some rows → All RowFits rows
+met-fits p good short gs inside rows e =
+    all_from RowFits rows
+    (λ r h. let m = met-from p gs rows e r h in
+    (all-at (Proper (cid_keyed p.top)) r m.2.met (proper_met p good short m.0 (inside m.0 m.1) m.2.tokens m.2.met m.2.plainly) m.2.has).fits)
 
 rows_fine : (cid : Bool) (rows : List Row) → ((r : Row) → Has Row r rows → row_fine_lem cid r ≡ true) → rows_fine_lem cid rows ≡ true
 unfolding rows_fine_lem

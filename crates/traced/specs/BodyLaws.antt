@@ -1,12 +1,14 @@
 -- The charstrings and subroutines of a font that was read are no longer than the font: offsets in them fit four bytes.
 use Rattle.std.specs.Prelude.{ℕ, zero, suc, ◌+◌, ◌≤◌, ◌≡◌, Bool, true, false, ltb, eqb, take, drop, get_or, Result, Ok, Err, Option, Some, None}
-use Rattle.std.proofs.Math.Path.{ap, subst}
+use Rattle.std.proofs.Math.Path.{refl, sym, ap, subst}
 use Rattle.std.proofs.Common.{◌∙◌, arith}
 use mathlib.Core.List.{List, [], ◌∷◌}
 use Rattle.std.proofs.Math.ListN.{length}
 use Rattle.octets.specs.Pick.{pick}
 use Rattle.octets.specs.Lists.{all_below}
-use Rattle.index.specs.Index.{read_index, found}
+use Rattle.index.specs.Index.{items_of, read_index, found}
+use Rattle.index.specs.Good.{Good}
+use Rattle.index.specs.declared.Index.{Index}
 use Rattle.index.specs.Write.{total}
 use Rattle.index.proofs.FoundLaws.{found-read, found-good, items-total}
 use Rattle.dict.specs.Dict.{Entry, dict_of}
@@ -15,6 +17,8 @@ use Rattle.dict.specs.Lookup.{offset_in, private_in, cid_keyed, charstring_type_
 use Rattle.charset.specs.FdSelect.{no_fds}
 use Rattle.cff.specs.Font.{charset, encoding, char_strings, fd_array, fd_select_lem, then, Private, standard, Added, Program, index_got, needed, or_zero, locals_at, private_data, private_at, privates_at, dicts_at, ids_at, fds_at, encoding_got, cid_parts, name_parts, font_at, fonts_at, first_of, set_at, read_table, read_font, empty_private}
 use Rattle.cff.specs.FileLaws.{read-within, within-short}
+use Rattle.cff.specs.Reads.{private_of, privates_of, program_of, GoodFont}
+use Rattle.cff.specs.declared.font.Font.{Font}
 use Rattle.cff.specs.ReadsLaws.{no}
 use Rattle.subset.specs.Kept.{locals_of}
 use Rattle.faithful.specs.GoodPartsLaws.{then_gave, got_same, index_gave, index-got, test-past, test-held}
@@ -182,3 +186,22 @@ table-bodies b p n h =
 
 pub font-short : (file : List ℕ) (p : Program) → read_font file ≡ Ok p → ShortBodies 67108864 p
 font-short file p h = let w = read-within file p h in table-bodies _ p (within-short file p w) w.is
+
+-- the same by its places
+module _ (b : List ℕ) (f : Font) (good : GoodFont b f) (size : length b ≤ 67108864) where
+  items_short : (ix : Index) → Good b ix → Short 67108864 (items_of b ix)
+  items_short ix h i = omega (arith, item-short (items_of b ix) i, items-total b ix h, size)
+
+  privates_short : (cid : Bool) → f.cid ≡ cid → AllShort b (privates_of b f.cid f.dicts f.private)
+  privates_short true e = privates-short b (items_of b f.dicts) (privates_of b f.cid f.dicts f.private) (good.parts.read e)
+  privates_short false e =
+      subst (λ (c : Bool). AllShort b (privates_of b c f.dicts f.private)) (sym e)
+      (short-front b (private_of b f.private) [] (λ i. omega (arith, item-short (items_of b f.private.locals) i, items-total b f.private.locals good.parts.private.locals.good)) (λ f. none-short b))
+
+  pub places-short : ShortBodies 67108864 (program_of b f)
+  places-short =
+      record {
+        charstrings = items_short f.charstrings good.glyphs.held.good;
+        globals = items_short f.globals good.begun.globals-held.good;
+        locals = λ fd i. omega (arith, privates_short f.cid refl fd i, size);
+      }

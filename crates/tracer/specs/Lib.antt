@@ -1,3 +1,6 @@
+pub mod Held
+pub mod Alone
+pub mod HeldLaws
 pub mod Tracing
 pub mod FillLaws
 pub mod WindowsLaws

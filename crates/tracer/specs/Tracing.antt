@@ -3,20 +3,21 @@
 use Rattle.std.specs.Prelude.{ℕ, ◌≤◌, ◌≡◌, List, [], ◌++◌, map, length, take, get_or, None, Option, Some, Result}
 use Rattle.octets.specs.Pick.{pick}
 use Rattle.unfold.specs.Unfold.{Row}
-use Rattle.prune.specs.Bodies.{All}
-use Rattle.cff.specs.Reads.{program_of, GoodFont}
-use Rattle.cff.specs.declared.font.Font.{Font}
+use Rattle.cff.specs.Font.{Program}
+use Rattle.cff.specs.Loaded.{program}
 use Rattle.subset.specs.Kept.{those, locals_of, kept_of}
 use Rattle.subset.specs.Cut.{all_found_lem}
-use Rattle.faithful.specs.Laid.{GoodProgram}
 use Rattle.kept.specs.Packed.{marked}
 use Rattle.row_window.specs.Window.{gathered, within, Gathers}
 use Rattle.interpret.specs.Run.{globals_in, locals_in, Ready, key_for}
 use Rattle.interpret.specs.declared.Subrs.{Subrs}
 use Rattle.interpret.specs.declared.Range.{Range}
 use Rattle.traced.specs.Traced.{met_all, Traced, refused, answered, traced_as, leaves_record}
-use Rattle.traced.specs.RowLaws.{RowFits}
 use Rattle.traced.specs.declared.Recorded.{Recorded}
+use Rattle.tracer.specs.Held.{met_in, or_none}
+use Rattle.tracer.specs.declared.traceable.Traceable.{Traceable}
+use Rattle.tracer.specs.declared.marked.Marked.{Marked}
+use Rattle.tracer.specs.declared.marked.Plain.{Plain}
 use Rattle.refusal.specs.declared.Refusal.{Refusal}
 use Rattle.refusal.specs.declared.Refusal.TheVariants.{NotFound}
 
@@ -26,48 +27,33 @@ top = 9223372036854775808
 
 -- ---- a font and its subroutines
 
--- a font that was read
-pub record Held (b : List ℕ) (f : Font) : Type 0 where
-  pub font : GoodFont b f
-  pub size : length b ≤ 67108864
-  pub program : GoodProgram (program_of b f)
-
 -- the FD of a glyph
-abbrev pub fd_for : List ℕ → Font → ℕ → ℕ
-fd_for b f g = get_or (program_of b f).fds g 0
+abbrev pub fd_for : Traceable → ℕ → ℕ
+fd_for t g = get_or (program t.loaded).fds g 0
 
 -- the subroutines that the glyphs of an FD can call
-pub record SubrsOf (b : List ℕ) (f : Font) (fd : ℕ) (q : Subrs) : Type 0 where
-  pub ready : Ready b q
+pub record SubrsOf (t : Traceable) (fd : ℕ) (q : Subrs) : Type 0 where
+  pub ready : Ready t.loaded.bytes.now q
   pub is : q.fd ≡ fd
-  pub globals : globals_in b q ≡ (program_of b f).globals
-  pub locals : locals_in b q ≡ locals_of (program_of b f) fd
+  pub globals : globals_in t.loaded.bytes.now q ≡ (program t.loaded).globals
+  pub locals : locals_in t.loaded.bytes.now q ≡ locals_of (program t.loaded) fd
 
 -- ---- rows
 
--- the rows that the marked glyphs meet, where all are plain
-abbrev pub met_in : List ℕ → Font → List ℕ → Option (List Row)
-met_in b f marks = met_all (program_of b f) (those (marked marks) f.charstrings.count 0)
+-- the marked glyphs
+abbrev pub marked_in : Marked → List ℕ
+marked_in m = those (marked m.marks.now) m.font.loaded.f.charstrings.count 0
 
-abbrev pub or_none : Option (List Row) → List Row
-or_none None = []
-or_none (Some rows) = rows
+-- the rows that they meet, where all are plain
+abbrev pub met : Marked → Option (List Row)
+met m = met_in m.font.loaded.bytes.now m.font.loaded.f m.marks.now
 
--- they fit their bytes
-pub record RowsFit (m : Option (List Row)) : Type 0 where
-  pub fits : All RowFits (or_none m)
+-- those of plain ones as keys, and these rising without repeats
+abbrev pub keys_of : Plain → List ℕ
+keys_of p = map key_for (or_none (met p.marked))
 
--- all marked glyphs are plain
-pub record Plainly (b : List ℕ) (f : Font) (marks : List ℕ) : Type 0 where
-  pub plain : met_in b f marks ≡ Some (or_none (met_in b f marks))
-  pub fits : RowsFit (met_in b f marks)
-
--- their keys, and these rising without repeats
-abbrev pub keys_in : List ℕ → Font → List ℕ → List ℕ
-keys_in b f marks = map key_for (or_none (met_in b f marks))
-
-abbrev pub sorted_in : List ℕ → Font → List ℕ → List ℕ
-sorted_in b f marks = gathered [] (keys_in b f marks)
+abbrev pub sorted : Plain → List ℕ
+sorted p = gathered [] (keys_of p)
 
 -- ---- windows
 
@@ -103,10 +89,8 @@ pub record Answers (t : Traced) (out out' : List ℕ) (r : Result Recorded Refus
   pub answers : r ≡ traced_as t
   pub output : out' ≡ leaves_record t out
 
--- the rows that the kept glyphs meet, where all are plain
-abbrev pub met_kept : List ℕ → Font → List ℕ → Option (List Row)
-met_kept b f keep = met_all (program_of b f) (kept_of f.charstrings.count keep)
-
--- the outcome behind refusal 6
-abbrev pub kept_answer : List ℕ → Font → List ℕ → ℕ → Traced
-kept_answer b f keep room = pick (all_found_lem (program_of b f) (kept_of f.charstrings.count keep)) (answered room (met_kept b f keep)) (refused NotFound)
+-- the outcome of the kept glyphs, behind refusal 6
+abbrev pub kept_answer : Program → List ℕ → ℕ → Traced
+kept_answer p keep room =
+    let kept = kept_of (length p.charstrings) keep in
+    pick (all_found_lem p kept) (answered room (met_all p kept)) (refused NotFound)

@@ -1,16 +1,14 @@
 -- Laws of a number's end and of the subroutine that a number names, each for one way out of the code.
-use Rattle.std.specs.Prelude.{ℕ, suc, ◌+◌, ◌-◌, ◌/◌, ◌%◌, ◌≤◌, ◌<◌, ◌≡◌, Bool, true, false, List, ltb, leb, eqb, Float, ℤ, pos, negsuc, length, get_or, None, Option, Some}
+use Rattle.std.specs.Prelude.{ℕ, suc, ◌+◌, ◌-◌, ◌/◌, ◌%◌, ◌≤◌, ◌<◌, ◌≡◌, Bool, true, false, List, ltb, leb, eqb, ℤ, pos, negsuc, length, get_or, None, Option, Some}
 use Rattle.std.proofs.Math.Path.{refl, ap}
 use Rattle.std.proofs.Common.{sym, ◌∙◌, subst, arith, lt-ltb, le-ltb, le-leb, eq-eqb, ne_eqb}
 use Rattle.std.proofs.Math.Decide.{dec_lt}
 use Rattle.std.proofs.lemmas.Bool.{lt-leb}
 use Rattle.octets.specs.Pick.{pick, pick_ind}
 use Rattle.octets.specs.StepsLaws.{and-pick}
-use Rattle.octets.specs.Octets.{Octets}
 use Rattle.type2_number.specs.Number.{is_neg, mag, Read, cut, operator, number, taken, number_at}
 use Rattle.type2_number.specs.NumberLaws.{short, long, form_28, form_op, form_1, form_up, form_down, form_ff}
-use Rattle.type2_number.specs.Floats.{float_of, scaled_of, HoldsReading, number_of}
-use Rattle.type2_number.specs.Readings.{ReadingRead, reading-at, back-reading, holds}
+use Rattle.type2_number.specs.Answers.{number_of}
 use Rattle.type2_number.specs.declared.Number.{Number}
 use Rattle.type2_number.specs.declared.Number.TheVariants.{Num, Cut as CutOff, Operator as AnOperator}
 use Rattle.charstring.specs.Bias.{bias_of}
@@ -128,13 +126,13 @@ module _ (s : List ℕ) (prev at : ℕ) (h : prev < at) where
   last_is : last_of (number_at s prev) ≡ last_at s prev at
   last_is = rw (lt-ltb prev at h)
 
-  pub last-read : Octets s → (r : Number) → r ≡ number_of (number_at s prev) → (v : Float) (n : ℕ) → r ≡ Num v n → (HoldsReading v) × (Some (scaled_of v) ≡ last_at s prev at)
-  last-read b r e v n f = let p = by (number_at s prev) (reading-at s prev b) (sym e ∙ f) in (p.0, p.1 ∙ last_is)
+  pub last-read : (r : Number) → r ≡ number_of (number_at s prev) → (v : ℤ) (n : ℕ) → r ≡ Num v n → Some v ≡ last_at s prev at
+  last-read r e v n f = by (number_at s prev) (sym e ∙ f) ∙ last_is
     where
-      by : (q : Read) → ReadingRead q → number_of q ≡ Num v n → (HoldsReading v) × (Some (scaled_of v) ≡ last_of q)
-      by cut p k = absurd (zero_one cc)
-      by operator p k = absurd (zero_one cc)
-      by (number z m) p k = let g : float_of z ≡ v = cc in (subst HoldsReading g (holds z p), ap Some (ap scaled_of (sym g) ∙ back-reading z p))
+      by : (q : Read) → number_of q ≡ Num v n → Some v ≡ last_of q
+      by cut k = absurd (zero_one cc)
+      by operator k = absurd (zero_one cc)
+      by (number z m) k = let g : z ≡ v = cc in ap Some (sym g)
 
   pub last-cut : (count : ℕ) (r : Number) → r ≡ number_of (number_at s prev) → r ≡ CutOff → None ≡ target_of count (last_at s prev at)
   unfolding target_of

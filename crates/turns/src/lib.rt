@@ -5,12 +5,12 @@
 
 ghost use Rattle.std.specs.Prelude.{◌≡◌, ◌-◌, ◌≤◌, ◌<◌, length, get_or, Some};
 ghost use Rattle.type2_number.specs.Number.{number_at};
-ghost use Rattle.type2_number.specs.Floats.{scaled_of, HoldsReading};
 ghost use Rattle.unfold.specs.Unfold.{target_of, is_stem, is_path};
 ghost use Rattle.turns.specs.Turns.{Few, end_of, last_at, goes_on, call_turn, mask_turn, escape_turn, clearing_turn_lem, operator_turn_lem, turn_at_lem};
 
+use charstring::place::Place;
 use charstring::{bias, is_mask};
-use type2_number::{Number, count_of, read_number};
+use type2_number::{Number, Operand, count_of, read_number};
 
 // What has run so far: operands waiting, stems, tokens and calls spent.
 #[derive(Clone, Copy)]
@@ -41,12 +41,12 @@ pub enum NumberEnd {
 }
 
 // The same as read_number, without the number.
-fn number_end(code: &[u8], at: usize) -> NumberEnd
-    requires { at < length code.now }
-    ensures { result ≡ end_of (number_at code.now at) }
+fn number_end(p: &Place<'_>) -> NumberEnd
+    ensures { result ≡ end_of (number_at p.now.code.now p.now.at) }
 {
-    let left = code.len() - at;
-    let v = code[at];
+    let at = p.at;
+    let left = p.code.len() - at;
+    let v = p.code[at];
     if v < 32 {
         if v == 28 {
             if left < 3 {
@@ -72,9 +72,8 @@ fn number_end(code: &[u8], at: usize) -> NumberEnd
 }
 
 // The subroutine of `count` that a number names, if it names one.
-fn target_of(v: f32, count: usize) -> Option<usize>
-    requires { HoldsReading v }
-    ensures { result ≡ target_of count (Some (scaled_of v)) }
+fn target_of(v: Operand, count: usize) -> Option<usize>
+    ensures { result ≡ target_of count (Some v) }
 {
     let s = count_of(v);
     let neg = s.neg;
@@ -159,14 +158,14 @@ fn call_turn(code: &[u8], prev: usize, at: usize, global: bool, count: usize, x:
 }
 
 // An escape: 34 to 37.
-fn escape_turn(code: &[u8], at: usize, x: Counts) -> Turn
-    requires { at < length code.now }
-    ensures { result ≡ escape_turn code.now at x }
+fn escape_turn(p: &Place<'_>, x: Counts) -> Turn
+    ensures { result ≡ escape_turn p.now.code.now p.now.at x }
 {
-    if code.len() - at < 2 {
+    let at = p.at;
+    if p.code.len() - at < 2 {
         return Turn::Breaks;
     }
-    let e = code[at + 1];
+    let e = p.code[at + 1];
     if e < 34 {
         return Turn::Breaks;
     }
@@ -177,15 +176,14 @@ fn escape_turn(code: &[u8], at: usize, x: Counts) -> Turn
 }
 
 // A mask with n stems, its own included: one bit each, rounded up to bytes, which must be there.
-fn mask_turn(code: &[u8], at: usize, n: usize, spent: usize) -> Turn
-    requires { at < length code.now }
-    ensures { result ≡ mask_turn code.now at n spent }
+fn mask_turn(p: &Place<'_>, n: usize, spent: usize) -> Turn
+    ensures { result ≡ mask_turn p.now.code.now p.now.at n spent }
 {
     if 96 < n {
         return Turn::Breaks;
     }
     let len = (n + 7) / 8;
-    if code.len() - (at + 1) < len {
+    if p.code.len() - (p.at + 1) < len {
         return Turn::Breaks;
     }
     if spent < 65536 {
@@ -240,18 +238,19 @@ fn is_path(b: u8) -> bool
 }
 
 // An operator that clears the operands, endchar aside.
-fn clearing_turn(code: &[u8], at: usize, b: u8, x: Counts) -> Turn
-    requires { (at < length code.now) × (Few x) }
-    ensures { result ≡ clearing_turn_lem code.now at x b }
+fn clearing_turn(p: &Place<'_>, b: u8, x: Counts) -> Turn
+    requires { Few x }
+    ensures { result ≡ clearing_turn_lem p.now.code.now p.now.at x b }
 {
+    let at = p.at;
     let stems = x.stems;
     let spent = x.spent;
     let n = stems + x.args / 2;
     if b == 12 {
-        return escape_turn(code, at, x);
+        return escape_turn(p, x);
     }
     if is_mask(b) {
-        return mask_turn(code, at, n, spent);
+        return mask_turn(p, n, spent);
     }
     if is_stem(b) {
         if 96 < n {
@@ -267,23 +266,22 @@ fn clearing_turn(code: &[u8], at: usize, b: u8, x: Counts) -> Turn
 
 // The operator at a place of a body, which is a glyph's own or not, by how many local and global subroutines there are.
 fn operator_turn(
-    code: &[u8],
-    at: usize,
+    p: &Place<'_>,
     prev: usize,
     x: Counts,
     locals: usize,
     globals: usize,
     own: bool,
 ) -> Turn
-    requires { (at < length code.now) × (Few x) }
-    ensures { result ≡ operator_turn_lem locals globals own code.now at prev x (get_or code.now at 0) }
+    requires { Few x }
+    ensures { result ≡ operator_turn_lem locals globals own p.now.code.now p.now.at prev x (get_or p.now.code.now p.now.at 0) }
 {
-    let b = code[at];
+    let b = p.code[p.at];
     if b == 10 {
-        return call_turn(code, prev, at, false, locals, x);
+        return call_turn(p.code, prev, p.at, false, locals, x);
     }
     if b == 29 {
-        return call_turn(code, prev, at, true, globals, x);
+        return call_turn(p.code, prev, p.at, true, globals, x);
     }
     if b == 11 {
         if own {
@@ -300,7 +298,7 @@ fn operator_turn(
         }
         return Turn::Breaks;
     }
-    clearing_turn(code, at, b, x)
+    clearing_turn(p, b, x)
 }
 
 // The token at a place: a number waits, at most 48 of them; or an operator.
@@ -316,9 +314,10 @@ pub fn turn_at(
     requires { (at < length code.now) × (Few x) }
     ensures { result ≡ turn_at_lem locals globals own code.now at prev x }
 {
-    match number_end(code, at) {
+    let p = Place { code, at };
+    match number_end(&p) {
         NumberEnd::Cut => Turn::Breaks,
-        NumberEnd::Operator => operator_turn(code, at, prev, x, locals, globals, own),
+        NumberEnd::Operator => operator_turn(&p, prev, x, locals, globals, own),
         NumberEnd::At(n) => {
             if x.args < 48 {
                 return goes_on(n, at, x.args + 1, x.stems, x.spent);

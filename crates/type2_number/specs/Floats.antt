@@ -2,9 +2,7 @@
 use Rattle.std.specs.Prelude.{ℕ, suc, ◌*◌, ◌/◌, ◌≤◌, Bool, true, false, ◌≡◌, ℤ, pos, negsuc, neg_ℤ, Float}
 use Rattle.std.specs.Float.{nan, inf, fin, binary32}
 use Rattle.std.specs.Float.Ieee.{round, up, down}
-use Rattle.type2_number.specs.Number.{mag, Read, cut, operator, number}
-use Rattle.type2_number.specs.declared.Number.{Number}
-use Rattle.type2_number.specs.declared.Number.TheVariants.{Num, Cut, Operator}
+use Rattle.type2_number.specs.Number.{mag}
 
 unfoldable pub float_of : ℤ → Float
 unfolding round
@@ -27,9 +25,3 @@ pub record HoldsReading (x : Float) : Type 0 where
   pub count : ℤ
   pub stands : x ≡ float_of count
   pub small : mag count ≤ 2147483648
-
--- the code's answer for what stands at a position
-abbrev pub number_of : Read → Number
-number_of cut = Cut
-number_of operator = Operator
-number_of (number z n) = Num (float_of z) n

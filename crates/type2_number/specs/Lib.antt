@@ -8,6 +8,7 @@ pub mod Unique
 pub mod Rounding
 pub mod Counts
 pub mod Readings
+pub mod Answers
 pub mod NumberLaws
 pub mod EncodingLaws
 pub mod NumberRound

@@ -1,9 +1,8 @@
 -- `number_at` by its cases: what the first byte and the bytes left say.
-use Rattle.std.specs.Prelude.{◌≡◌, List, ℕ, ◌+◌, ◌-◌, ◌*◌, ◌≤◌, ◌<◌, Float, length, get_or, ltb, eqb}
+use Rattle.std.specs.Prelude.{◌≡◌, List, ℕ, ◌+◌, ◌-◌, ◌*◌, ◌≤◌, ◌<◌, length, get_or, ltb, eqb}
 use Rattle.std.proofs.Common.{◌∙◌, arith}
 use Rattle.std.proofs.Math.Decide.{dec_lt}
-use Rattle.type2_number.specs.Floats.{float_of}
-use Rattle.type2_number.specs.Floats.{number_of}
+use Rattle.type2_number.specs.Answers.{number_of}
 use Rattle.type2_number.specs.declared.Number.TheVariants.{Num, Cut, Operator}
 use borrow.Author.Tests.{lt-ltb, le-ltb, eq-eqb, ne_eqb, ltb-true, ltb-false, eqb-false}
 use Rattle.octets.specs.Pick.{pick_ind}
@@ -44,14 +43,14 @@ module _ (s : List ℕ) (at : ℕ) where
   pub cut_28 : (v : ℕ) → v ≡ get_or s at 0 → v ≡ 28 → length s - at < 3 → Cut ≡ number_of (number_at s at)
   cut_28 v e h k = rw (form_28 (omega arith), short 3 (sixteen (get_or s (at + 1) 0 * 256 + get_or s (at + 2) 0)) k)
 
-  pub got_28 : (v : ℕ) → v ≡ get_or s at 0 → v ≡ 28 → 3 ≤ length s - at → (r : Float) → r ≡ float_of (rounded (sixteen (get_or s (at + 1) 0 * 256 + get_or s (at + 2) 0)))
+  pub got_28 : (v : ℕ) → v ≡ get_or s at 0 → v ≡ 28 → 3 ≤ length s - at → (r : lib.IntN.ℤ) → r ≡ rounded (sixteen (get_or s (at + 1) 0 * 256 + get_or s (at + 2) 0))
       → Num r (at + 3) ≡ number_of (number_at s at)
   got_28 v e h k r q = rw (form_28 (omega arith), long 3 (sixteen (get_or s (at + 1) 0 * 256 + get_or s (at + 2) 0)) k, q)
 
   pub got_op : (v : ℕ) → v ≡ get_or s at 0 → v < 32 → (v ≡ 28 → ⊥) → Operator ≡ number_of (number_at s at)
   got_op v e h k = rw (form_op (omega arith) (λ z. k (e ∙ z)))
 
-  pub got_1 : (v : ℕ) → v ≡ get_or s at 0 → 32 ≤ v → v < 247 → (r : Float) → r ≡ float_of (rounded (whole v 139)) → Num r (at + 1) ≡ number_of (number_at s at)
+  pub got_1 : (v : ℕ) → v ≡ get_or s at 0 → 32 ≤ v → v < 247 → (r : lib.IntN.ℤ) → r ≡ rounded (whole v 139) → Num r (at + 1) ≡ number_of (number_at s at)
   got_1 v e h k r q = rw (form_1 (omega arith) (omega arith), q, e)
 
   pub cut_2 : (v : ℕ) → v ≡ get_or s at 0 → 247 ≤ v → v < 255 → length s - at < 2 → Cut ≡ number_of (number_at s at)
@@ -61,11 +60,11 @@ module _ (s : List ℕ) (at : ℕ) where
       go (yes p) = rw (form_up (omega arith) p, short 2 (whole ((get_or s at 0 - 247) * 256 + get_or s (at + 1) 0 + 108) 0) l)
       go (no p) = rw (form_down (omega arith) (omega arith), short 2 (whole 0 ((get_or s at 0 - 251) * 256 + get_or s (at + 1) 0 + 108)) l)
 
-  pub got-up : (v w : ℕ) → v ≡ get_or s at 0 → w ≡ get_or s (at + 1) 0 → 247 ≤ v → v < 251 → 2 ≤ length s - at → (r : Float) → r ≡ float_of (rounded (whole ((v - 247) * 256 + w + 108) 0))
+  pub got-up : (v w : ℕ) → v ≡ get_or s at 0 → w ≡ get_or s (at + 1) 0 → 247 ≤ v → v < 251 → 2 ≤ length s - at → (r : lib.IntN.ℤ) → r ≡ rounded (whole ((v - 247) * 256 + w + 108) 0)
       → Num r (at + 2) ≡ number_of (number_at s at)
   got-up v w e g h k l r q = rw (form_up (omega arith) (omega arith), long 2 (whole ((get_or s at 0 - 247) * 256 + get_or s (at + 1) 0 + 108) 0) l, q, e, g)
 
-  pub got-down : (v w : ℕ) → v ≡ get_or s at 0 → w ≡ get_or s (at + 1) 0 → 251 ≤ v → v < 255 → 2 ≤ length s - at → (r : Float) → r ≡ float_of (rounded (whole 0 ((v - 251) * 256 + w + 108)))
+  pub got-down : (v w : ℕ) → v ≡ get_or s at 0 → w ≡ get_or s (at + 1) 0 → 251 ≤ v → v < 255 → 2 ≤ length s - at → (r : lib.IntN.ℤ) → r ≡ rounded (whole 0 ((v - 251) * 256 + w + 108))
       → Num r (at + 2) ≡ number_of (number_at s at)
   got-down v w e g h k l r q = rw (form_down (omega arith) (omega arith), long 2 (whole 0 ((get_or s at 0 - 251) * 256 + get_or s (at + 1) 0 + 108)) l, q, e, g)
 
@@ -73,7 +72,7 @@ module _ (s : List ℕ) (at : ℕ) where
   cut_5 v e h k = rw (form_ff (omega arith), short 5 (fixed (get_or s (at + 1) 0 * 256 + get_or s (at + 2) 0) (get_or s (at + 3) 0 * 256 + get_or s (at + 4) 0)) k)
 
   pub got_ff : (v a b : ℕ) → v ≡ get_or s at 0 → 255 ≤ v → 5 ≤ length s - at → a ≡ get_or s (at + 1) 0 * 256 + get_or s (at + 2) 0 → b ≡ get_or s (at + 3) 0 * 256 + get_or s (at + 4) 0
-      → (r : Float) → r ≡ float_of (rounded (fixed a b)) → Num r (at + 5) ≡ number_of (number_at s at)
+      → (r : lib.IntN.ℤ) → r ≡ rounded (fixed a b) → Num r (at + 5) ≡ number_of (number_at s at)
   got_ff v a b e h k f g r q =
       rw (form_ff (omega arith), long 5 (fixed (get_or s (at + 1) 0 * 256 + get_or s (at + 2) 0) (get_or s (at + 3) 0 * 256 + get_or s (at + 4) 0)) k, q, f, g)
 

@@ -12,7 +12,7 @@ use Rattle.type2_number.specs.Number.{mag, is_neg}
 use Rattle.type2_number.specs.Floats.{float_of, scaled_of, signed, HoldsReading}
 use Rattle.type2_number.specs.Number.{Reading}
 use Rattle.type2_number.specs.FloatLaws.{float_of_pos, float_of-neg}
-use Rattle.type2_number.specs.Rounding.{keep-val, keep-round, rounded_pos, rounded-neg}
+use Rattle.type2_number.specs.Rounding.{keep-val, keep-round, rounded_pos, rounded-neg, same_float}
 use Rattle.type2_number.specs.Counts.{keep-le, scaled_is}
 
 -- one float has one count
@@ -54,7 +54,7 @@ reading-sixteen n h = go (ltb n 32768) (ltb-true n 32768) (ltb-false n 32768)
     go true p q = let l = p refl in reading-diff (n * 65536) 0 (omega arith) (omega arith)
     go false p q = let l = q refl in reading-diff (n * 65536) 4294967296 (omega arith) (omega arith)
 
-reading-fixed : (h l : ℕ) → h < 65536 → l < 65536 → Reading (rounded (fixed h l))
+pub reading-fixed : (h l : ℕ) → h < 65536 → l < 65536 → Reading (rounded (fixed h l))
 reading-fixed h l a b = go (ltb h 32768) (ltb-true h 32768) (ltb-false h 32768)
   where
     go : (t : Bool) → (t ≡ true → h < 32768) → (t ≡ false → 32768 ≤ h) → Reading (rounded (diff (h * 65536 + l) (pick t 0 4294967296)))
@@ -110,3 +110,8 @@ back-reading z h = back z h.small ∙ h.kept
 
 pub holds : (z : ℤ) → Reading z → HoldsReading (float_of z)
 holds z h = record { count = z; stands = refl; small = h.small }
+
+-- and an f32 that holds a reading is the one of its count
+pub held_back : (x : Float) → HoldsReading x → float_of (scaled_of x) ≡ x
+held_back x h =
+    ap (λ (y : Float). float_of (scaled_of y)) h.stands ∙ ap float_of (back h.count h.small) ∙ same_float h.count (omega (arith, h.small)) ∙ sym h.stands

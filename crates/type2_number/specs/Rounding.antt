@@ -1,5 +1,5 @@
 -- The f32 nearest to n / 65536 is keep24 n / 65536, and stands for it.
-use Rattle.std.specs.Prelude.{◌≡◌, refl, ◌⊎◌, Bool, true, false, leb, ltb, pos, neg_ℤ, Float}
+use Rattle.std.specs.Prelude.{◌≡◌, refl, ◌⊎◌, Bool, true, false, leb, ltb, ℤ, pos, negsuc, neg_ℤ, Float}
 use Rattle.std.proofs.Common.{sym, ap, ◌∙◌, subst, inl, inr, mul-one, one-mul, mul_comm, mul_assoc, mul_left_comm, mul_right_comm, mul-pos, zero-lt-suc, le_trans, le_of_eq, lt_of_lt_of_le, lt_of_le_of_lt, lt_of_not-le, not-le_of_lt, mul-le-mul_right, mul-div_cancel, div-one, eq-or-lt_of_le, mul-le-mul_left, le-div_iff_mul-le, arith, lit<, pow_pos, pow-add, pow_mono, shl_lt}
 use Prim.Native.Nat.{ℕ, zero, suc, ◌+◌, ◌-◌, ◌*◌, ◌/◌, ◌%◌, ◌^◌, ◌≤◌, ◌<◌, compare}
 use Rattle.std.proofs.Math.Nat.{eq_of_mul-eq-mul_right, mod-one}
@@ -11,7 +11,7 @@ use Rattle.std.specs.Float.Ieee.Fits.{round_is, round-fits, core, nearest-le, ke
 use Rattle.std.specs.Float.Ieee.Exact.{HasValue, round_exact, units_val}
 use Rattle.std.specs.Float.Ieee.Nearest.{closest, closest_same, nearest-ge}
 use Rattle.octets.specs.Pick.{pick}
-use Rattle.type2_number.specs.Number.{keep24, rounded, diff, fixed}
+use Rattle.type2_number.specs.Number.{mag, keep24, rounded, diff, fixed}
 use Rattle.type2_number.specs.Floats.{float_of}
 use Rattle.type2_number.specs.FloatLaws.{float_of_pos, float_of-neg, fixed-val}
 use Rattle.type2_number.specs.Unique.{unique}
@@ -173,3 +173,7 @@ stands_fixed h l p q = stands (h * 65536 + l) (pick (ltb h 32768) 0 4294967296) 
     go : (t : Bool) → pick t 0 4294967296 < 2 ^ 40
     go true = lit< tt
     go false = lit< tt
+
+pub same_float : (z : ℤ) → mag z < 2 ^ 40 → float_of (rounded z) ≡ float_of z
+same_float (pos n) h = stands_pos n h
+same_float (negsuc n) h = stands_neg (suc n) h

@@ -6,7 +6,49 @@ ghost use Rattle.std.specs.Prelude.{◌≡◌, true, false, ◌∷◌, ◌+◌, 
 ghost use Rattle.octets.specs.Octets.{bytes_of, Wrote};
 ghost use Rattle.type2_number.specs.Number.{is_neg, mag, whole, fixed, sixteen, rounded, number_at};
 ghost use Rattle.type2_number.specs.Encoding.{integer_bytes, fixed_bytes, encoded};
-ghost use Rattle.type2_number.specs.Floats.{float_of, scaled_of, HoldsReading, number_of};
+ghost use Rattle.type2_number.specs.Floats.{float_of, scaled_of, HoldsReading};
+ghost use Rattle.type2_number.specs.Answers.{number_of};
+
+use std::marker::Model;
+
+// A number of a charstring: an f32, seen as the count of 65536ths that it stands for.
+#[derive(Clone, Copy)]
+pub struct Operand {
+    value: f32,
+}
+
+impl Model for Operand {
+    ghost use Rattle.std.specs.Prelude.{ℤ};
+    ghost use Rattle.type2_number.specs.Floats.{float_of, scaled_of, HoldsReading};
+    ghost use Rattle.type2_number.specs.Readings.{held_back};
+
+    ghost Value = { ℤ };
+
+    ghost view = { λ x. scaled_of x.value };
+
+    ghost inverse = { λ z. record { value = float_of z } };
+
+    ghost inverse_ok = { λ x h i. record { value = held_back x.value h i } };
+
+    ghost invariant = { λ x. HoldsReading x.value };
+}
+
+impl Operand {
+    // The number that an f32 stands for.
+    pub fn of(value: f32) -> Operand
+        requires { HoldsReading value }
+        ensures { result ≡ scaled_of value }
+    {
+        Operand { value }
+    }
+
+    // Its f32.
+    pub fn float(self) -> f32
+        ensures { result ≡ float_of self }
+    {
+        self.value
+    }
+}
 
 // The f32 of the integer up - down.
 pub fn integer(up: usize, down: usize) -> f32
@@ -33,15 +75,35 @@ fn fixed(high: usize, low: usize) -> f32
     }
 }
 
-// The f32 of the signed 16-bit integer with the bytes a and b.
-fn sixteen(a: u8, b: u8) -> f32
-    ensures { result ≡ float_of (rounded (sixteen (a * 256 + b))) }
+// The integer up - down.
+pub fn whole(up: usize, down: usize) -> Operand
+    requires { (up ≤ down + 32768) × (down ≤ up + 32768) × (up ≤ 65536) × (down ≤ 65536) }
+    ensures { result ≡ rounded (whole up down) }
+{
+    Operand {
+        value: integer(up, down),
+    }
+}
+
+// The signed 16.16 with the halves high and low.
+fn fixed_operand(high: usize, low: usize) -> Operand
+    requires { (high < 65536) × (low < 65536) }
+    ensures { result ≡ rounded (fixed high low) }
+{
+    Operand {
+        value: fixed(high, low),
+    }
+}
+
+// The signed 16-bit integer with the bytes a and b.
+fn sixteen(a: u8, b: u8) -> Operand
+    ensures { result ≡ rounded (sixteen (a * 256 + b)) }
 {
     let n = usize::from(a) * 256 + usize::from(b);
     if n < 32768 {
-        integer(n, 0)
+        whole(n, 0)
     } else {
-        integer(n, 65536)
+        whole(n, 65536)
     }
 }
 
@@ -55,7 +117,7 @@ fn pair(a: u8, b: u8) -> usize
 // What stands at a position: a number and the position after it, a number that the end cuts off, or an operator.
 #[derive(Clone, Copy)]
 pub enum Number {
-    Num { value: f32, next: usize },
+    Num { value: Operand, next: usize },
     Cut,
     Operator,
 }
@@ -81,7 +143,7 @@ pub fn read_number(code: &[u8], at: usize) -> Number
     }
     if v < 247 {
         return Number::Num {
-            value: integer(v, 139),
+            value: whole(v, 139),
             next: at + 1,
         };
     }
@@ -92,12 +154,12 @@ pub fn read_number(code: &[u8], at: usize) -> Number
         let w = usize::from(code[at + 1]);
         if v < 251 {
             return Number::Num {
-                value: integer((v - 247) * 256 + w + 108, 0),
+                value: whole((v - 247) * 256 + w + 108, 0),
                 next: at + 2,
             };
         }
         return Number::Num {
-            value: integer(0, (v - 251) * 256 + w + 108),
+            value: whole(0, (v - 251) * 256 + w + 108),
             next: at + 2,
         };
     }
@@ -105,7 +167,7 @@ pub fn read_number(code: &[u8], at: usize) -> Number
         return Number::Cut;
     }
     Number::Num {
-        value: fixed(
+        value: fixed_operand(
             pair(code[at + 1], code[at + 2]),
             pair(code[at + 3], code[at + 4]),
         ),
@@ -121,19 +183,19 @@ pub struct Scaled {
 }
 
 // The count that a number that was read stands for.
-pub fn count_of(v: f32) -> Scaled
-    requires { HoldsReading v }
-    ensures { (result.neg ≡ is_neg (scaled_of v)) × (result.size ≡ mag (scaled_of v)) × (result.size ≤ 2147483648) × (result.neg ≡ true → 0 < result.size) }
+pub fn count_of(v: Operand) -> Scaled
+    ensures { (result.neg ≡ is_neg v) × (result.size ≡ mag v) × (result.size ≤ 2147483648) × (result.neg ≡ true → 0 < result.size) }
 {
-    if v < 0.0 {
+    let x = v.value;
+    if x < 0.0 {
         Scaled {
             neg: true,
-            size: ((-v) as f64 * 65536.0) as usize,
+            size: ((-x) as f64 * 65536.0) as usize,
         }
     } else {
         Scaled {
             neg: false,
-            size: (v as f64 * 65536.0) as usize,
+            size: (x as f64 * 65536.0) as usize,
         }
     }
 }
@@ -203,9 +265,8 @@ pub fn encode_fixed(neg: bool, n: usize, out: &mut [u8], at: usize) -> usize
 }
 
 // How many bytes a number takes.
-pub fn number_len(v: f32) -> usize
-    requires { HoldsReading v }
-    ensures { result ≡ length (encoded (scaled_of v)) }
+pub fn number_len(v: Operand) -> usize
+    ensures { result ≡ length (encoded v) }
 {
     let s = count_of(v);
     let n = s.size;
@@ -226,9 +287,9 @@ pub fn number_len(v: f32) -> usize
 }
 
 // The bytes of a number, from at on; the place after them.
-pub fn put_number(v: f32, out: &mut [u8], at: usize) -> usize
-    requires { (HoldsReading v) × (at + length (encoded (scaled_of v)) ≤ length out.old) }
-    ensures { Wrote out.old at (encoded (scaled_of v)) out.new result }
+pub fn put_number(v: Operand, out: &mut [u8], at: usize) -> usize
+    requires { at + length (encoded v) ≤ length out.old }
+    ensures { Wrote out.old at (encoded v) out.new result }
 {
     let s = count_of(v);
     let neg = s.neg;

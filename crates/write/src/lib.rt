@@ -9,6 +9,7 @@ ghost use Rattle.outcome.specs.Entry.{size_of, cut_behind, CutsWith, Cut, Passed
 ghost use Rattle.write.specs.Call.{is_cid, asks};
 
 use cff::font::Font;
+use cff::loaded::Loaded;
 use outcome::Subsetted;
 use refusal::Refusal;
 
@@ -90,20 +91,20 @@ fn cut_font(
         work.new out.new result }
 {
     let table = cff::set::table(font, f);
+    let loaded = Loaded { bytes: table, f };
     let small = c.small;
     early_refusals::refusal(
         small,
         c.keying.is_cid(),
         c.keying.asks(),
-        table,
-        f,
+        &loaded,
         name.len(),
         keep,
         rows,
         traced,
         work.len(),
     )?;
-    let w = early_refusals::size_of(small, table, f);
+    let w = early_refusals::size_of(small, &loaded);
     let words = &mut work[..w];
     let r = cut_glyphs(
         c.keying,

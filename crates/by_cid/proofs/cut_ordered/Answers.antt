@@ -2,7 +2,7 @@
 use Rattle.subset.specs.Flag.{flag_of}
 use Rattle.std.proofs.Common.{refl, sym, ◌∙◌}
 use Rattle.record.specs.Record.{rows_of}
-use Rattle.cid_parts.specs.CidPlacesLaws.{strings_ready, own-few, table-room, ranks-room}
+use Rattle.cid_parts.specs.CidPlacesLaws.{strings_ready, own-few, table-room}
 use Rattle.by_cid.specs.CidKeptLaws.{fds_counted, plan_asked, cid_ready, cut-planned, strings-of, ordered_of}
 use Rattle.by_cid.proofs.cut_ordered.Goals as goal
 
@@ -10,7 +10,7 @@ pub plan_all-plan-requires : goal.plan_all-plan-requires
 plan_all-plan-requires c =
     let a = c.args in
     let h = c.requires.0 in
-    (plan_asked a.font.now a.o h.read a.words.now _ _ (table-room _ refl) c.rank_fds-count.ensures.0 _ c.rank_fds-count.ensures.2 h.room, ranks-room _ refl, table-room _ refl)
+    plan_asked a.font.now a.o h.read a.words.now _ _ (table-room _ refl) c.rank_fds-count.ensures.0 _ c.rank_fds-count.ensures.2 h.room
 
 pub slice_bounds-cut_planned-end : goal.slice_bounds-cut_planned-end
 slice_bounds-cut_planned-end c = sym c.prepare_cid-own.auto.slots

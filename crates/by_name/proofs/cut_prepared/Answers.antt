@@ -8,8 +8,7 @@ use Rattle.by_name.proofs.cut_prepared.Goals as goal
 pub plan_all-plan-requires : goal.plan_all-plan-requires
 plan_all-plan-requires c =
     let h : 256 ≤ 256 = omega arith in
-    let t : 1280 ≤ 1280 = omega arith in
-    (plan_in _ _ _ _ c.requires.0 first_fd first-only h, t, h)
+    plan_in _ _ _ _ c.requires.0 first_fd first-only h
 
 pub cut_planned-requires : goal.cut_planned-requires
 cut_planned-requires c =

@@ -12,7 +12,7 @@ pub operator_at-requires : goal.operator_at-requires
 operator_at-requires c = let a = c.args in (c.requires.0, byte_left a.code.now a.c c.if-due.false c.requires.1)
 
 pub returns-in-Num : goal.returns-in-Num
-returns-in-Num c = step-num _ _ _ _ c.read_number.ensures c.if-due.false _ _ c.in-Num.is
+returns-in-Num c = step-num _ _ _ _ c.read_number.ensures c.if-due.false _ _ c.in-Num.is _ c.float.ensures
 
 pub returns-in-Cut : goal.returns-in-Cut
 returns-in-Cut c = step_cut _ _ _ _ c.read_number.ensures c.if-due.false c.in-Cut.is

@@ -6,8 +6,11 @@ use Rattle.charstring.specs.declared.Token.TheVariants.{Num, Op, Esc, Mask}
 use Rattle.octets.specs.ListLaws.{span}
 use Rattle.charstring.proofs.put_token.Goals as goal
 
+pub of-requires : goal.of-requires
+of-requires c = writable_as _ _ _ c.in-Num.is c.requires.0
+
 pub put_number-requires : goal.put_number-requires
-put_number-requires c = let p = c.requires in (writable_as _ _ _ c.in-Num.is p.0, room_as _ _ _ c.in-Num.is _ _ p.1)
+put_number-requires c = rw c.of.ensures (room_as _ _ _ c.in-Num.is _ _ c.requires.1)
 
 pub put_byte-requires : goal.put_byte-requires
 put_byte-requires c = let p = c.requires in omega (arith, room_as _ _ _ c.in-Op.is _ _ p.1)
@@ -25,7 +28,7 @@ pub put_bytes-requires : goal.put_bytes-requires
 put_bytes-requires c = rw span (room_as _ _ _ c.in-Mask.is _ _ c.requires.1)
 
 pub returns-in-Num : goal.returns-in-Num
-returns-in-Num c = wrote-token _ _ (Num _) c.in-Num.is c.put_number.ensures
+returns-in-Num c = wrote-token _ _ (Num _) c.in-Num.is (rw c.of.ensures at c.put_number.ensures)
 
 pub returns-in-Op : goal.returns-in-Op
 returns-in-Op c = wrote-token _ _ (Op _) c.in-Op.is c.put_byte.ensures

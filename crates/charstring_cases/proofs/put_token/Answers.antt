@@ -1,5 +1,5 @@
 -- `put_token` meets its contract: each arm writes the bytes of its kind of token.
-use Rattle.std.proofs.Common.{arith, rules}
+use Rattle.std.proofs.Common.{arith}
 use Rattle.octets.specs.OctetsLaws.{length-bytes}
 use Rattle.octets.specs.PutLaws.{wrote_then}
 use Rattle.charstring.specs.TokenLaws.{measurable_as}
@@ -7,14 +7,14 @@ use Rattle.charstring.specs.declared.Token.TheVariants.{Num, Op, Esc, Mask}
 use Rattle.charstring_cases.specs.AnswersLaws.{token-wrote}
 use Rattle.charstring_cases.proofs.put_token.Goals as goal
 
-pub put_count-requires : goal.put_count-requires
-put_count-requires c = (measurable_as _ _ c.in-Num.is c.requires.0, search rules)
+pub of-requires : goal.of-requires
+of-requires c = measurable_as _ _ c.in-Num.is c.requires.0
 
 pub put_num-requires : goal.put_num-requires
 put_num-requires c = omega (arith, length-bytes 2 c.in-Mask.start)
 
 pub returns-in-Num : goal.returns-in-Num
-returns-in-Num c = token-wrote _ (Num _) c.in-Num.is (wrote_then (omega arith) c.put_byte-p.ensures c.put_count.ensures)
+returns-in-Num c = token-wrote _ (Num _) c.in-Num.is (wrote_then (omega arith) c.put_byte-p.ensures (rw c.of.ensures at c.put_count.ensures))
 
 pub returns-in-Op : goal.returns-in-Op
 returns-in-Op c = token-wrote _ (Op _) c.in-Op.is (wrote_then (omega arith) c.put_byte-p-in-Op.ensures c.put_byte.ensures)

@@ -7,7 +7,7 @@ returns-then-kind-eq0 c = fills_codes _ _ c.args.kind c.if-kind-eq0.true c.fill_
 
 pub fill_ranges-requires : goal.fill_ranges-requires
 fill_ranges-requires c =
-    (c.requires.0, kind-ranges c.args.at c.args.count c.args.kind _ c.if-kind-eq0.false c.requires.1 c.requires.2, c.requires.3)
+    (kind-ranges c.args.at c.args.count c.args.kind _ c.if-kind-eq0.false c.requires.0 c.requires.1, c.requires.2)
 
 pub returns : goal.returns
 returns c = fills_ranges _ _ c.args.kind c.if-kind-eq0.false c.fill_ranges.ensures

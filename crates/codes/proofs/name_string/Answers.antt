@@ -10,4 +10,4 @@ returns-in-None c =
 
 pub returns-in-Some : goal.returns-in-Some
 returns-in-Some c =
-    c.name_glyph.ensures ∙ string_stored _ c.args.f c.requires.0 c.args.sid _ (sym c.in-Some.is ∙ c.glyph_of_string-found.ensures) _ _
+    c.name_glyph.ensures ∙ string_stored _ c.args.font.now.f c.args.font.now.good c.args.sid _ (sym c.in-Some.is ∙ c.glyph_of_string-found.ensures) _ _

@@ -4,4 +4,4 @@ use Rattle.decimal.specs.Written.{real_text, packed}
 use Rattle.decimal_write.proofs.put_packed.Given as goal
 
 abbrev pub invariant-loop-i : goal.invariant-loop-i
-invariant-loop-i l = take l.i l.b-items ≡ take l.i (packed (real_text l.d))
+invariant-loop-i l = take l.i l.b-items ≡ take l.i (packed (real_text l.t.value))

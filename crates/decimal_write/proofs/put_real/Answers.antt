@@ -11,7 +11,7 @@ pub overflow_sub-n : goal.overflow_sub-n
 overflow_sub-n c = omega (arith, packed-length c.args.d _ refl)
 
 pub put_packed-requires : goal.put_packed-requires
-put_packed-requires c = (c.requires.0, omega (arith, packed-length c.args.d _ refl), omega (arith, packed-length c.args.d _ refl))
+put_packed-requires c = (omega (arith, packed-length c.args.d _ refl), omega (arith, packed-length c.args.d _ refl))
 
 pub returns : goal.returns
 returns c = wrote_as (wrote_then (omega (arith, packed-length c.args.d _ refl)) c.put_byte-p.ensures c.put_packed.ensures) (real-bytes c.args.d)

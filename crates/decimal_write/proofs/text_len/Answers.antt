@@ -4,13 +4,13 @@ use Rattle.decimal_write.specs.TextLaws.{length-whole-neg, length-whole_pos, len
 use Rattle.decimal_write.proofs.text_len.Goals as goal
 
 pub returns-then-neg : goal.returns-then-neg
-returns-then-neg c = let a = c.args in (length-whole-neg a.d a.w c.requires.1 c.if-down-eq0.true c.if-neg.true, omega arith)
+returns-then-neg c = rw (← c.d.view_is) (length-whole-neg _ _ (rw c.d.view_is c.args.t.now.counted.0) c.if-down-eq0.true c.if-neg.true, omega (arith, c.args.t.now.counted.1))
 
 pub returns-then-down-eq0 : goal.returns-then-down-eq0
-returns-then-down-eq0 c = let a = c.args in (length-whole_pos a.d a.w c.requires.1 c.if-down-eq0.true c.if-neg.false, omega arith)
+returns-then-down-eq0 c = rw (← c.d.view_is) (length-whole_pos _ _ (rw c.d.view_is c.args.t.now.counted.0) c.if-down-eq0.true c.if-neg.false, omega (arith, c.args.t.now.counted.1))
 
 pub returns-then-neg-2 : goal.returns-then-neg-2
-returns-then-neg-2 c = let a = c.args in (length-part-neg a.d a.w c.requires.1 c.if-down-eq0.false c.if-neg-2.true, omega arith)
+returns-then-neg-2 c = rw (← c.d.view_is) (length-part-neg _ _ (rw c.d.view_is c.args.t.now.counted.0) c.if-down-eq0.false c.if-neg-2.true, omega (arith, c.args.t.now.counted.1, c.d.invariant.low))
 
 pub returns : goal.returns
-returns c = let a = c.args in (length-part_pos a.d a.w c.requires.1 c.if-down-eq0.false c.if-neg-2.false, omega arith)
+returns c = rw (← c.d.view_is) (length-part_pos _ _ (rw c.d.view_is c.args.t.now.counted.0) c.if-down-eq0.false c.if-neg-2.false, omega (arith, c.args.t.now.counted.1, c.d.invariant.low))

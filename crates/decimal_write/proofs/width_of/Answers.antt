@@ -18,4 +18,4 @@ at_least_1 zero = width_digit 1 (lit< tt) ∙ sym (width_digit 0 (lit< tt))
 at_least_1 (suc n) = let e : max (suc n) 1 ≡ suc n = omega arith in ap width_of e
 
 pub returns : goal.returns
-returns c = let e = c.ilog10.ensures in tens c.ilog10.result c.max.result e.power_le e.next_power_gt ∙ ap width_of c.max.ensures ∙ at_least_1 c.args.n
+returns c = let e = c.ilog10.ensures in (tens c.ilog10.result c.max.result e.power_le e.next_power_gt ∙ ap width_of c.max.ensures ∙ at_least_1 c.args.n, omega (arith, e.bound))

@@ -1,9 +1,9 @@
 -- `dict::note_entries` meets its contract: what was noted so far, and what is left of the DICT, give what the whole does.
-use Rattle.std.proofs.Common.{arith}
+use Rattle.std.proofs.Common.{arith, refl}
 use Rattle.refusal.specs.HandedOn.{handed_on}
-use Rattle.dict.specs.Noted.{ReadsDict}
+use Rattle.dict.specs.Held.{ReadsDict}
 use Rattle.dict.proofs.WalkLaws.{answered}
-use Rattle.dict.proofs.NotedLaws.{slot-few, noting_start, noting_end, noting_refused, noting_few, noting_turn}
+use Rattle.dict.proofs.NotedLaws.{slot-few, noting_start, noting_end, noting_placed, noting_refused, noting_few, noting_turn}
 use Rattle.dict.proofs.note_entries.Goals as goal
 
 pub loop-at-init : goal.loop-at-init
@@ -40,5 +40,8 @@ pub loop-at-preserved : goal.loop-at-preserved
 loop-at-preserved c =
     noting_turn _ _ _ _ _ c.loop-at.invariant c.loop-at-test.true _ c.read_entry.ensures _ c.in_ok-entry.was _ c.slot-j.ensures
 
+pub invariant_of-result : goal.invariant_of-result
+invariant_of-result c = record { placed = noting_placed _ _ _ _ _ c.loop-at.invariant c.loop-at-test.false }
+
 pub returns : goal.returns
-returns c = noting_end _ _ _ _ _ c.loop-at.invariant c.loop-at-test.false
+returns c = (noting_end _ _ _ _ _ c.loop-at.invariant c.loop-at-test.false, refl)

@@ -1,15 +1,12 @@
 -- `dict_write::operands_len` meets its contract: the length so far, and that of the operands that are left, make that of all.
 use Rattle.std.proofs.Common.{arith, ◌+◌, ◌-◌, ◌≡◌}
-use Rattle.dict_write.specs.EntryLaws.{none_left, none_refused, none_number, operand_taken, operand_first, measuring_end, measuring_sum, measuring_turn}
+use Rattle.dict_write.specs.EntryLaws.{none_left, none_refused, none_number, operand_first, measuring_end, measuring_sum, measuring_turn}
 use Rattle.dict_write.specs.ShortLaws.{operands_short}
 use Rattle.dict.proofs.LookupLaws.{operands_out}
 use Rattle.dict_write.proofs.operands_len.Goals as goal
 
 pub returns-then-d-at : goal.returns-then-d-at
 returns-then-d-at c = measuring_end _ _ _ _ _ _ c.loop.invariant (operands_out _ _ _ c.if-d-at.true)
-
-pub number_len-len-requires : goal.number_len-len-requires
-number_len-len-requires c = (operand_taken _ _ (c.args.count - c.loop.counter) _ c.number_at.ensures c.in-Ok-Some.number (cc) (λ i. (c.type_inv.d i).fits) c.if-d-at.false).normal
 
 pub overflow_add-len : goal.overflow_add-len
 overflow_add-len c = omega (arith, measuring_sum _ _ _ _ _ _ c.loop.invariant _ _ (operand_first _ _ _ _ c.number_at.ensures c.in-Ok-Some.number (cc) (omega (arith, c.loop-test.true))), operands_short c.args.d.now (λ i. (c.type_inv.d i).fits) c.args.count c.args.start, c.number_len-len.ensures, c.requires)

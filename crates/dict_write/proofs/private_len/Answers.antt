@@ -5,13 +5,13 @@ use Rattle.dict_write.specs.ShortLaws.{private-short}
 use Rattle.dict_write.proofs.private_len.Goals as goal
 
 pub overflow_add-len : goal.overflow_add-len
-overflow_add-len c = omega (arith, (measuring_turn _ _ _ c.loop-at.invariant c.loop-at-test.true _ c.read_entry.ensures _ c.in-Ok.is c.if-entry-ne-SUBRS.true _ c.entry_len-len.ensures).rest, private-short c.args.d.now (λ i. (c.type_inv.d i).fits), c.requires)
+overflow_add-len c = omega (arith, (measuring_turn _ _ _ c.loop-at.invariant c.loop-at-test.true _ c.read_entry.ensures _ c.in-Ok.is c.if-entry-ne-SUBRS.true _ c.entry_len-len.ensures.0).rest, private-short c.args.d.now (λ i. (c.type_inv.d i).fits), c.requires)
 
 pub loop-at-smaller-then-entry-ne-SUBRS : goal.loop-at-smaller-then-entry-ne-SUBRS
 loop-at-smaller-then-entry-ne-SUBRS c = let s = (entry-placed _ _ c.loop-at-test.true _ c.read_entry.ensures _ c.in-Ok.is).stands in omega (arith, s.further, s.inside)
 
 pub loop-at-preserved-then-entry-ne-SUBRS : goal.loop-at-preserved-then-entry-ne-SUBRS
-loop-at-preserved-then-entry-ne-SUBRS c = measuring_turn _ _ _ c.loop-at.invariant c.loop-at-test.true _ c.read_entry.ensures _ c.in-Ok.is c.if-entry-ne-SUBRS.true _ c.entry_len-len.ensures
+loop-at-preserved-then-entry-ne-SUBRS c = measuring_turn _ _ _ c.loop-at.invariant c.loop-at-test.true _ c.read_entry.ensures _ c.in-Ok.is c.if-entry-ne-SUBRS.true _ c.entry_len-len.ensures.0
 
 pub loop-at-smaller : goal.loop-at-smaller
 loop-at-smaller c = let s = (entry-placed _ _ c.loop-at-test.true _ c.read_entry.ensures _ c.in-Ok.is).stands in omega (arith, s.further, s.inside)

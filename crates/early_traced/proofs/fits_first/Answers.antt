@@ -5,21 +5,18 @@ use Rattle.early_traced.specs.FitsLaws.{counted-past, counted-whole, first_past,
 use Rattle.early_traced.proofs.fits_first.Goals as goal
 
 pub count_rows-count-requires : goal.count_rows-count-requires
-count_rows-count-requires c =
-    (c.requires.0, c.requires.1, c.requires.2, shown_as _ _ _ _ c.if-first-eq-WINDOW.true c.requires.3, search rules)
+count_rows-count-requires c = (shown_as _ _ _ _ c.if-first-eq-WINDOW.true c.requires, search rules)
 
 pub returns-then-room-count : goal.returns-then-room-count
-returns-then-room-count c =
-    counted-past c.args.font.now c.args.f c.args.marks.now c.requires.2 c.args.lent.now _ c.count_rows-count.ensures.0 c.if-room-count.true
+returns-then-room-count c = counted-past c.args.glyphs.now c.args.lent.now _ c.count_rows-count.ensures.0 c.if-room-count.true
 
 pub returns-then-first-eq-WINDOW : goal.returns-then-first-eq-WINDOW
-returns-then-first-eq-WINDOW c =
-    counted-whole c.args.font.now c.args.f c.args.marks.now c.requires.2 c.args.lent.now _ c.count_rows-count.ensures.0 c.if-room-count.false
+returns-then-first-eq-WINDOW c = counted-whole c.args.glyphs.now c.args.lent.now _ c.count_rows-count.ensures.0 c.if-room-count.false
 
 pub returns-then-room-first : goal.returns-then-room-first
 returns-then-room-first c =
-    first_past c.args.font.now c.args.f c.args.marks.now c.requires.2 c.args.lent.now c.args.keys.now _ c.requires.3 c.if-first-eq-WINDOW.false c.if-room-first.true
+    first_past c.args.glyphs.now c.args.lent.now c.args.keys.now _ c.requires c.if-first-eq-WINDOW.false c.if-room-first.true
 
 pub returns : goal.returns
 returns c =
-    first-whole c.args.font.now c.args.f c.args.marks.now c.requires.2 c.args.lent.now c.args.keys.now _ c.requires.3 c.if-first-eq-WINDOW.false c.if-room-first.false
+    first-whole c.args.glyphs.now c.args.lent.now c.args.keys.now _ c.requires c.if-first-eq-WINDOW.false c.if-room-first.false

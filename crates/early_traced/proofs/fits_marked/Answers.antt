@@ -1,22 +1,12 @@
 -- `early_traced::fits_marked` meets its contract: one that is not plain has an empty record; else the first window of their rows decides.
-use Rattle.std.proofs.Common.{arith, refl, ℕ}
-use lib.ListN.{length-replicate}
+use Rattle.std.proofs.Common.{refl}
 use Rattle.kept.specs.SlotLaws.{slots-empty}
-use Rattle.tracer.specs.AnswerLaws.{marked_broken, marked_plainly, marked-shown}
+use Rattle.tracer.specs.AnswerLaws.{marked_broken, marked-shown}
 use Rattle.early_traced.specs.FitsLaws.{fits_broken}
 use Rattle.early_traced.proofs.fits_marked.Goals as goal
 
-pub fill-requires : goal.fill-requires
-fill-requires c = (c.requires.0, c.requires.1, omega (arith, length-replicate {A = ℕ} 65536 0))
-
 pub fits_first-requires : goal.fits_first-requires
-fits_first-requires c = (
-  c.requires.0,
-  c.requires.1,
-  marked_plainly c.args.font.now c.args.f c.args.marks.now c.requires.2 _ _ _ c.fill.ensures _ c.in-Some.is,
-  marked-shown c.args.font.now c.args.f c.args.marks.now c.requires.2 _ _ _ c.fill.ensures _ c.in-Some.is (slots-empty _ refl).size,
-)
+fits_first-requires c = marked-shown c.args.glyphs.now _ _ _ c.fill.ensures _ c.in-Some.is (slots-empty _ refl).size
 
 pub returns-in-None : goal.returns-in-None
-returns-in-None c =
-    fits_broken _ _ _ _ _ (marked_broken c.args.font.now c.args.f c.args.marks.now c.requires.2 _ _ _ c.fill.ensures c.in-None.is c.args.lent.now)
+returns-in-None c = fits_broken _ _ _ _ _ (marked_broken c.args.glyphs.now _ _ _ c.fill.ensures c.in-None.is c.args.lent.now)

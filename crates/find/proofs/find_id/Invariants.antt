@@ -5,4 +5,4 @@ use Rattle.find.proofs.find_id.Given as goal
 
 abbrev pub invariant-loop-g : goal.invariant-loop-g
 invariant-loop-g l =
-    Passing l.font l.initial.u l.n l.u l.g × (glyph_with_id l.id 0 (ids_ahead l.font l.initial.u l.n) ≡ glyph_with_id l.id l.g (drop l.g (ids_ahead l.font l.initial.u l.n)))
+    Passing l.glyphs.bytes.now l.initial.u l.glyphs.n l.u l.g × (glyph_with_id l.id 0 (ids_ahead l.glyphs.bytes.now l.initial.u l.glyphs.n) ≡ glyph_with_id l.id l.g (drop l.g (ids_ahead l.glyphs.bytes.now l.initial.u l.glyphs.n)))

@@ -9,5 +9,5 @@ use Rattle.first_glyphs.proofs.cids_found.Given as goal
 
 abbrev pub invariant-loop-g : goal.invariant-loop-g
 invariant-loop-g l =
-    Passing l.font l.initial.u l.n l.u l.g × Seen (ids_ahead l.font l.initial.u l.n) l.g (bit_in l.seen 0)
-    × (all_of (cid_found (ids_ahead l.font l.initial.u l.n)) (those (bit_in l.flags 0) (l.n - l.g) l.g) ≡ all_of (cid_found (ids_ahead l.font l.initial.u l.n)) (those (bit_in l.flags 0) l.n 0))
+    Passing l.flagged.glyphs.bytes.now l.initial.u l.flagged.glyphs.n l.u l.g × Seen (ids_ahead l.flagged.glyphs.bytes.now l.initial.u l.flagged.glyphs.n) l.g (bit_in l.seen 0)
+    × (all_of (cid_found (ids_ahead l.flagged.glyphs.bytes.now l.initial.u l.flagged.glyphs.n)) (those (bit_in l.flagged.flags.now 0) (l.flagged.glyphs.n - l.g) l.g) ≡ all_of (cid_found (ids_ahead l.flagged.glyphs.bytes.now l.initial.u l.flagged.glyphs.n)) (those (bit_in l.flagged.flags.now 0) l.flagged.glyphs.n 0))

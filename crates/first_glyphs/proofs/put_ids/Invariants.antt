@@ -8,5 +8,5 @@ use Rattle.first_glyphs.proofs.put_ids.Given as goal
 
 abbrev pub invariant-loop-g : goal.invariant-loop-g
 invariant-loop-g l =
-    Passing l.font l.initial.u l.n l.u l.g × Seen (ids_ahead l.font l.initial.u l.n) l.g (bit_in l.seen 0)
-    × (l.k ≤ l.g) × HasIds (ids_ahead l.font l.initial.u l.n) l.g (take l.k l.ids)
+    Passing l.glyphs.bytes.now l.initial.u l.glyphs.n l.u l.g × Seen (ids_ahead l.glyphs.bytes.now l.initial.u l.glyphs.n) l.g (bit_in l.seen 0)
+    × (l.k ≤ l.g) × HasIds (ids_ahead l.glyphs.bytes.now l.initial.u l.glyphs.n) l.g (take l.k l.out)

@@ -3,7 +3,7 @@ use Rattle.first_glyphs.specs.FoundLaws.{flag-unset, flag-set, flag-either}
 use Rattle.found.proofs.flagged_found.Goals as goal
 
 pub returns-then-new : goal.returns-then-new
-returns-then-new c = flag-either c.args.flag _ (c.requires.3 c.if-new.true)
+returns-then-new c = flag-either c.args.flag _ (c.requires.1 c.if-new.true)
 
 pub returns-then-flag : goal.returns-then-flag
 returns-then-flag c = flag-set _ _ _ c.if-flag.true c.name_found.ensures

@@ -9,7 +9,7 @@ returns-then-has_bit c =
 
 pub loop-g-preserved : goal.loop-g-preserved
 loop-g-preserved c =
-    unset-one c.args.flags.now c.loop-g.g _ c.loop-g-test.true (sym c.has_bit.ensures ∙ c.if-has_bit.false) c.loop-g.invariant
+    unset-one c.args.flagged.now.flags.now c.loop-g.g _ c.loop-g-test.true (sym c.has_bit.ensures ∙ c.if-has_bit.false) c.loop-g.invariant
 
 pub returns : goal.returns
 returns c = (omega arith, record { none = λ i a b. c.loop-g.invariant.none i (omega (arith, c.loop-g-test.false)) b })

@@ -1,8 +1,8 @@
 -- The invariant: the names and the ids of the glyphs that were passed are marked, and the glyphs that are left are found exactly where all are. An open answer says nothing.
 use Rattle.std.proofs.Common.{◌-◌, ◌<◌, ◌≡◌}
 use Rattle.bits.specs.Bits.{bit_in}
-use Rattle.index.specs.Index.{items_of}
-use Rattle.charset.specs.CharsetPlaces.{ids_of}
+use Rattle.index.specs.Items.{items}
+use Rattle.charset.specs.Ids.{ids}
 use Rattle.find.specs.FindLaws.{Passing}
 use Rattle.subset.specs.Kept.{those}
 use Rattle.kept.specs.Packed.{all_of, name_found}
@@ -12,6 +12,6 @@ use Rattle.found.proofs.names_met.Given as goal
 
 abbrev pub invariant-loop-g : goal.invariant-loop-g
 invariant-loop-g l =
-    Passing l.font l.initial.u l.n l.u l.g × MetNames (items_of l.font l.strings) (ids_of l.font l.c l.n) l.g (bit_in l.marks 0) × Seen (ids_of l.font l.c l.n) l.g (bit_in l.seen 0) × (0 < l.looks)
-    × (all_of (name_found (items_of l.font l.strings) (ids_of l.font l.c l.n)) (those (bit_in l.flags 0) (l.n - l.g) l.g)
-    ≡ all_of (name_found (items_of l.font l.strings) (ids_of l.font l.c l.n)) (those (bit_in l.flags 0) l.n 0))
+    Passing l.flagged.glyphs.bytes.now l.initial.u l.flagged.glyphs.n l.u l.g × MetNames (items l.strings) (ids l.flagged.glyphs) l.g (bit_in l.marks 0) × Seen (ids l.flagged.glyphs) l.g (bit_in l.seen 0) × (0 < l.looks)
+    × (all_of (name_found (items l.strings) (ids l.flagged.glyphs)) (those (bit_in l.flagged.flags.now 0) (l.flagged.glyphs.n - l.g) l.g)
+    ≡ all_of (name_found (items l.strings) (ids l.flagged.glyphs)) (those (bit_in l.flagged.flags.now 0) l.flagged.glyphs.n 0))

@@ -24,9 +24,9 @@ behind flags n words from e h f =
 
 pub returns-in-Some : goal.returns-in-Some
 returns-in-Some c =
-    let b = behind c.args.flags.now c.args.n _ (c.in-Some.q + 1) c.words_for-words.ensures.0 (omega (arith, c.words_for-words.ensures.0, c.requires.0)) (search rules) in
+    let b = behind c.args.flagged.now.flags.now c.args.flagged.now.glyphs.n _ (c.in-Some.q + 1) c.words_for-words.ensures.0 (omega (arith, c.words_for-words.ensures.0, c.args.flagged.now.enough)) (search rules) in
     (omega (arith, c.min.ensures), record { none = λ i l m. b.none i (omega (arith, c.min.ensures)) m })
 
 pub returns-in-None : goal.returns-in-None
 returns-in-None c =
-    (omega arith, behind c.args.flags.now c.args.n _ 0 c.words_for-words.ensures.0 (omega (arith, c.words_for-words.ensures.0, c.requires.0)) (search rules))
+    (omega arith, behind c.args.flagged.now.flags.now c.args.flagged.now.glyphs.n _ 0 c.words_for-words.ensures.0 (omega (arith, c.words_for-words.ensures.0, c.args.flagged.now.enough)) (search rules))

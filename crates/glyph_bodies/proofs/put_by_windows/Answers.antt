@@ -1,13 +1,12 @@
 -- `glyph_bodies::put_by_windows` meets its contract.
-use Rattle.std.proofs.Common.{arith, length, sym, ℕ, ◌∙◌, ◌≡◌}
-use lib.ListN.{length-replicate}
+use Rattle.std.proofs.Common.{arith}
 use Rattle.mask_rows.specs.FillLaws.{covers-none}
 use Rattle.order_window.specs.LoopLaws.{order-start, order_asks, order_end}
 use Rattle.glyph_bodies.specs.LoopLaws.{Turned, turn_moved, turn-kept, glyph_asks, glyph_asked}
-use Rattle.glyph_bodies.specs.PartLaws.{fills_glyph, lent_long}
+use Rattle.glyph_bodies.specs.PartLaws.{fills_glyph}
 use Rattle.glyph_bodies.specs.PutLaws.{head-asked, charstrings-meant, put-start, put_whole, put-asked, end_asked, put_next}
 use Rattle.glyph_bodies.proofs.put_by_windows.Goals as goal
-use Rattle.glyph_bodies.proofs.put_by_windows.Goals.{After-advance-masks, Joined-u-i, then-u-i, else-u-i}
+use Rattle.glyph_bodies.proofs.put_by_windows.Goals.{Joined-u-i, then-u-i, else-u-i}
 
 -- the window has the place
 turned : (j : Joined-u-i)
@@ -36,8 +35,6 @@ loop-i-init c = (
   put-start c.requires.0 c.requires.1 c.args.out.now c.requires.2 c.index_for-to.ensures _ c.put_head.auto.out,
   order-start _ _ _ _ c.requires.1,
   covers-none _ _ _ _,
-  length-replicate {A = ℕ} 9216 0,
-  length-replicate {A = ℕ} 81920 0,
 )
 
 pub hold-u-requires : goal.hold-u-requires
@@ -48,33 +45,19 @@ pub glyph_at-glyph-requires : goal.glyph_at-glyph-requires
 glyph_at-glyph-requires c =
     glyph_asks c.requires.0 c.requires.1 (turned (goal.at.glyph_at-glyph-requires c).Joined-u-i) c.loop-i-test.true
 
-keys-long : (a : After-advance-masks) → length a.advance-masks.new.keys ≡ 9216
-keys-long a = a.advance-masks.auto.keys ∙ a.loop-i.invariant.3
-
-bytes_long : (a : After-advance-masks) → length a.advance-masks.new.bytes ≡ 81920
-bytes_long a = a.advance-masks.auto.bytes ∙ a.loop-i.invariant.4
-
-pub slice_bounds-advance-end : goal.slice_bounds-advance-end
-slice_bounds-advance-end c = sym c.loop-i.invariant.3
-
-pub slice_bounds-advance-end-in-loop-i : goal.slice_bounds-advance-end-in-loop-i
-slice_bounds-advance-end-in-loop-i c = sym c.loop-i.invariant.4
-
 pub advance-masks-requires : goal.advance-masks-requires
 advance-masks-requires c =
-    (fills_glyph (glyph_asked c.requires.0 c.requires.1 (turned (goal.at.advance-masks-requires c).Joined-u-i) c.loop-i-test.true _ c.glyph_at-glyph.ensures) c.loop-i.invariant.3 c.loop-i.invariant.4, c.loop-i.invariant.2)
+    (fills_glyph (glyph_asked c.requires.0 c.requires.1 (turned (goal.at.advance-masks-requires c).Joined-u-i) c.loop-i-test.true _ c.glyph_at-glyph.ensures), c.loop-i.invariant.2)
 
-pub slice_bounds-put_windowed-end : goal.slice_bounds-put_windowed-end
-slice_bounds-put_windowed-end c = sym (keys-long (goal.at.slice_bounds-put_windowed-end c).After-advance-masks)
-
-pub slice_bounds-put_windowed-end-in-loop-i : goal.slice_bounds-put_windowed-end-in-loop-i
-slice_bounds-put_windowed-end-in-loop-i c = sym (bytes_long (goal.at.slice_bounds-put_windowed-end-in-loop-i c).After-advance-masks)
+pub invariant_of-one : goal.invariant_of-one
+invariant_of-one c =
+    record { asked = glyph_asked c.requires.0 c.requires.1 (turned (goal.at.invariant_of-one c).Joined-u-i) c.loop-i-test.true _ c.glyph_at-glyph.ensures }
 
 pub put_windowed-p-requires : goal.put_windowed-p-requires
 put_windowed-p-requires c =
     let q = put-asked c.requires.0 c.requires.1 c.args.out.now c.requires.2 c.index_for-to.ensures _ c.put_head.auto.out c.loop-i.invariant.0 (turned (goal.at.put_windowed-p-requires c).Joined-u-i) c.loop-i-test.true _
     c.glyph_at-glyph.ensures in
-    (q.0, c.advance-masks.ensures.0, c.advance-masks.ensures.1, lent_long (keys-long (goal.at.put_windowed-p-requires c).After-advance-masks) (bytes_long (goal.at.put_windowed-p-requires c).After-advance-masks), q.1, q.2)
+    (c.advance-masks.ensures.0, c.advance-masks.ensures.1, q.1, q.2)
 
 pub put_end-requires : goal.put_end-requires
 put_end-requires c =
@@ -87,8 +70,6 @@ loop-i-preserved c = (
       c.put_windowed-p.ensures.0 c.put_end.ensures,
   (turned (goal.at.loop-i-preserved c).Joined-u-i).next,
   c.put_windowed-p.ensures.1,
-  c.put_windowed-p.auto.keys ∙ keys-long (goal.at.loop-i-preserved c).After-advance-masks,
-  c.put_windowed-p.auto.bytes ∙ bytes_long (goal.at.loop-i-preserved c).After-advance-masks,
 )
 
 pub returns : goal.returns

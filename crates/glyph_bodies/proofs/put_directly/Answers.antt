@@ -42,9 +42,15 @@ pub glyph_at-glyph-requires : goal.glyph_at-glyph-requires
 glyph_at-glyph-requires c =
     glyph_asks c.requires.0 c.requires.1 (turned (goal.at.glyph_at-glyph-requires c).Joined-u-i) c.loop-i-test.true
 
+pub invariant_of-one : goal.invariant_of-one
+invariant_of-one c =
+    let q = put-asked c.requires.0 c.requires.1 c.args.out.now c.requires.2 c.index_for-to.ensures _ c.put_head.auto.out c.loop-i.invariant.0 (turned (goal.at.invariant_of-one c).Joined-u-i) c.loop-i-test.true _ c.glyph_at-glyph.ensures in
+    record { asked = q.0 }
+
 pub put_charstring-p-requires : goal.put_charstring-p-requires
 put_charstring-p-requires c =
-    put-asked c.requires.0 c.requires.1 c.args.out.now c.requires.2 c.index_for-to.ensures _ c.put_head.auto.out c.loop-i.invariant.0 (turned (goal.at.put_charstring-p-requires c).Joined-u-i) c.loop-i-test.true _ c.glyph_at-glyph.ensures
+    let q = put-asked c.requires.0 c.requires.1 c.args.out.now c.requires.2 c.index_for-to.ensures _ c.put_head.auto.out c.loop-i.invariant.0 (turned (goal.at.put_charstring-p-requires c).Joined-u-i) c.loop-i-test.true _ c.glyph_at-glyph.ensures in
+    (q.1, q.2)
 
 pub put_end-requires : goal.put_end-requires
 put_end-requires c =

@@ -1,14 +1,13 @@
 -- `glyph_bodies::total_by_windows` meets its contract.
-use Rattle.std.proofs.Common.{arith, length, sym, ℕ, ◌∙◌, ◌≡◌}
-use lib.ListN.{length-replicate}
+use Rattle.std.proofs.Common.{arith}
 use Rattle.mask_rows.specs.FillLaws.{covers-none}
 use Rattle.order_window.specs.LoopLaws.{order-start, order_asks, order_end}
 use Rattle.bodies.specs.Ways.{every}
 use Rattle.bodies.specs.SizesLaws.{adding_start}
 use Rattle.glyph_bodies.specs.LoopLaws.{Turned, turn_moved, turn-kept, glyph_asks, glyph_asked, total_failed, total-room, total-next, total-whole}
-use Rattle.glyph_bodies.specs.PartLaws.{fills_glyph, lent_long}
+use Rattle.glyph_bodies.specs.PartLaws.{fills_glyph}
 use Rattle.glyph_bodies.proofs.total_by_windows.Goals as goal
-use Rattle.glyph_bodies.proofs.total_by_windows.Goals.{After-advance-masks, Joined-u-i, then-u-i, else-u-i}
+use Rattle.glyph_bodies.proofs.total_by_windows.Goals.{Joined-u-i, then-u-i, else-u-i}
 
 -- the window has the place
 turned : (j : Joined-u-i)
@@ -21,7 +20,7 @@ turned j =
     ]
 
 pub loop-i-init : goal.loop-i-init
-loop-i-init c = (adding_start _ every _, order-start _ _ _ _ c.requires.1, covers-none _ _ _ _, length-replicate {A = ℕ} 9216 0, length-replicate {A = ℕ} 81920 0)
+loop-i-init c = (adding_start _ every _, order-start _ _ _ _ c.requires.1, covers-none _ _ _ _)
 
 pub hold-u-requires : goal.hold-u-requires
 hold-u-requires c =
@@ -31,35 +30,16 @@ pub glyph_at-glyph-requires : goal.glyph_at-glyph-requires
 glyph_at-glyph-requires c =
     glyph_asks c.requires.0 c.requires.1 (turned (goal.at.glyph_at-glyph-requires c).Joined-u-i) c.loop-i-test.true
 
-keys-long : (a : After-advance-masks) → length a.advance-masks.new.keys ≡ 9216
-keys-long a = a.advance-masks.auto.keys ∙ a.loop-i.invariant.3
-
-bytes_long : (a : After-advance-masks) → length a.advance-masks.new.bytes ≡ 81920
-bytes_long a = a.advance-masks.auto.bytes ∙ a.loop-i.invariant.4
-
-pub slice_bounds-advance-end : goal.slice_bounds-advance-end
-slice_bounds-advance-end c = sym c.loop-i.invariant.3
-
-pub slice_bounds-advance-end-in-loop-i : goal.slice_bounds-advance-end-in-loop-i
-slice_bounds-advance-end-in-loop-i c = sym c.loop-i.invariant.4
-
 pub advance-masks-requires : goal.advance-masks-requires
 advance-masks-requires c =
-    (fills_glyph (glyph_asked c.requires.0 c.requires.1 (turned (goal.at.advance-masks-requires c).Joined-u-i) c.loop-i-test.true _ c.glyph_at-glyph.ensures) c.loop-i.invariant.3 c.loop-i.invariant.4, c.loop-i.invariant.2)
+    (fills_glyph (glyph_asked c.requires.0 c.requires.1 (turned (goal.at.advance-masks-requires c).Joined-u-i) c.loop-i-test.true _ c.glyph_at-glyph.ensures), c.loop-i.invariant.2)
 
-pub slice_bounds-windowed_len-end : goal.slice_bounds-windowed_len-end
-slice_bounds-windowed_len-end c = sym (keys-long (goal.at.slice_bounds-windowed_len-end c).After-advance-masks)
-
-pub slice_bounds-windowed_len-end-in-loop-i : goal.slice_bounds-windowed_len-end-in-loop-i
-slice_bounds-windowed_len-end-in-loop-i c = sym (bytes_long (goal.at.slice_bounds-windowed_len-end-in-loop-i c).After-advance-masks)
+pub invariant_of-one : goal.invariant_of-one
+invariant_of-one c =
+    record { asked = glyph_asked c.requires.0 c.requires.1 (turned (goal.at.invariant_of-one c).Joined-u-i) c.loop-i-test.true _ c.glyph_at-glyph.ensures }
 
 pub windowed_len-requires : goal.windowed_len-requires
-windowed_len-requires c = (
-  glyph_asked c.requires.0 c.requires.1 (turned (goal.at.windowed_len-requires c).Joined-u-i) c.loop-i-test.true _ c.glyph_at-glyph.ensures,
-  c.advance-masks.ensures.0,
-  c.advance-masks.ensures.1,
-  lent_long (keys-long (goal.at.windowed_len-requires c).After-advance-masks) (bytes_long (goal.at.windowed_len-requires c).After-advance-masks),
-)
+windowed_len-requires c = (c.advance-masks.ensures.0, c.advance-masks.ensures.1)
 
 pub overflow_add-total : goal.overflow_add-total
 overflow_add-total c =
@@ -71,8 +51,6 @@ loop-i-preserved c = (
   total-next c.requires.0 c.requires.1 (turned (goal.at.loop-i-preserved c).Joined-u-i) c.loop-i-test.true _ c.glyph_at-glyph.ensures _ c.loop-i.invariant.0 _ (c.windowed_len.ensures.0, c.windowed_len.ensures.1) _ c.in-Some.is,
   (turned (goal.at.loop-i-preserved c).Joined-u-i).next,
   c.windowed_len.ensures.2,
-  c.windowed_len.auto.keys ∙ keys-long (goal.at.loop-i-preserved c).After-advance-masks,
-  c.windowed_len.auto.bytes ∙ bytes_long (goal.at.loop-i-preserved c).After-advance-masks,
 )
 
 pub returns-in-None : goal.returns-in-None

@@ -1,5 +1,4 @@
 -- The invariant: the charstrings of the first i kept glyphs were measured, the window comes to place i, and the part of the record has what it says.
-use Rattle.std.proofs.Common.{length, ◌≡◌}
 use Rattle.record.specs.Record.{rows_of}
 use Rattle.mask_rows.specs.MaskRows.{Covers}
 use Rattle.order_window.specs.Window.{Looping}
@@ -11,4 +10,4 @@ use Rattle.glyph_bodies.proofs.total_by_windows.Given as goal
 abbrev pub invariant-loop-i : goal.invariant-loop-i
 invariant-loop-i l =
     Adding (charstring_at l.from l.f (rows_of l.rows) l.words l.table l.font) every l.n l.i l.total × Looping l.font l.f l.words l.initial.window l.initial.u l.window l.u l.i
-    × Covers l.rows l.bytes 2 0 l.masks × (length l.keys ≡ 9216) × (length l.bytes ≡ 81920)
+    × Covers l.rows l.lent.bytes.now 2 0 l.masks

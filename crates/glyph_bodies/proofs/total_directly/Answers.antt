@@ -28,9 +28,9 @@ pub glyph_at-glyph-requires : goal.glyph_at-glyph-requires
 glyph_at-glyph-requires c =
     glyph_asks c.requires.0 c.requires.1 (turned (goal.at.glyph_at-glyph-requires c).Joined-u-i) c.loop-i-test.true
 
-pub charstring_len-requires : goal.charstring_len-requires
-charstring_len-requires c =
-    glyph_asked c.requires.0 c.requires.1 (turned (goal.at.charstring_len-requires c).Joined-u-i) c.loop-i-test.true _ c.glyph_at-glyph.ensures
+pub invariant_of-one : goal.invariant_of-one
+invariant_of-one c =
+    record { asked = glyph_asked c.requires.0 c.requires.1 (turned (goal.at.invariant_of-one c).Joined-u-i) c.loop-i-test.true _ c.glyph_at-glyph.ensures }
 
 pub overflow_add-total : goal.overflow_add-total
 overflow_add-total c =

@@ -1,19 +1,14 @@
 -- `hexlines::is_hex` meets its contract.
-use Rattle.std.specs.Prelude.{ℕ, List, [], ◌∷◌, ◌%◌, length, take, drop, ◌-◌, ltb, false, ◌&&◌, ◌≡◌, refl}
+use Rattle.std.specs.Prelude.{ℕ, List, [], ◌∷◌, ◌%◌, length, ltb, false, ◌&&◌, ◌≡◌, refl}
 use Rattle.std.specs.List.{list_all}
 use Rattle.std.proofs.Common.{arith, rules, sym, ◌∙◌}
 use Rattle.std.proofs.lemmas.Iterator.{YieldsList-from_slice}
 use Rattle.std.proofs.lemmas.Iterator.Search.{all_from_yields_List}
-use Rattle.std.proofs.lemmas.Slice.{between_is}
 use borrow.Author.Tests.{lt-ltb, le-ltb, ltb-true, ltb-false, ne_eqb, tests}
-use lib.Seq.{slice, length-slice}
 use Rattle.octets.specs.Pick.{pick, pick_ind}
 use Rattle.octets.specs.PickLaws.{pick_same}
 use Rattle.hexlines.specs.Hexlines.{hex_value_lem, is_hex_lem}
 use Rattle.hexlines.proofs.is_hex.Goals as goal
-
-part : (s : List ℕ) (at end : ℕ) → take (end - at) (drop at s) ≡ slice at end s
-part s at end = search (rules, between_is)
 
 -- an even number of digits, and each is one
 digits : (text : List ℕ) → length text % 2 ≡ 0 → list_all (λ x. ltb (hex_value_lem x) 16) text ≡ is_hex_lem text
@@ -38,14 +33,10 @@ odd (x ∷ []) n = refl
 odd (x ∷ (y ∷ text)) n =
     simp (odd text (λ e. n (omega arith)), pick_same (ltb 15 (hex_value_lem y)) false, pick_same (ltb 15 (hex_value_lem x)) false)
 
-pub returns-then-end-at-eq0 : goal.returns-then-end-at-eq0
-returns-then-end-at-eq0 c =
-    let a = c.args in
-    let text = slice a.at a.end a.s.now in
-    all_from_yields_List (λ x. ltb (hex_value_lem x) 16) _ _ _ c.all.ensures.ran (YieldsList-from_slice text (c.iter.ensures.rest ∙ part a.s.now a.at a.end)) (λ x b q k. search (rules, tests))
-    ∙ digits text (omega (arith, length-slice a.at a.end a.s.now c.requires.1))
+pub returns-then-s-eq0 : goal.returns-then-s-eq0
+returns-then-s-eq0 c =
+    all_from_yields_List (λ x. ltb (hex_value_lem x) 16) _ _ _ c.all.ensures.ran (YieldsList-from_slice c.args.s.now c.iter.ensures.rest) (λ x b q k. search (rules, tests))
+    ∙ digits c.args.s.now (omega arith)
 
-pub returns-else-end-at-eq0 : goal.returns-else-end-at-eq0
-returns-else-end-at-eq0 c =
-    let a = c.args in
-    ne_eqb _ _ c.if-end-at-eq0.false ∙ sym (odd (slice a.at a.end a.s.now) (omega (arith, length-slice a.at a.end a.s.now c.requires.1)))
+pub returns-else-s-eq0 : goal.returns-else-s-eq0
+returns-else-s-eq0 c = ne_eqb _ _ c.if-s-eq0.false ∙ sym (odd c.args.s.now (omega arith))

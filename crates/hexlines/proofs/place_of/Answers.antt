@@ -1,14 +1,12 @@
 -- `hexlines::place_of` meets its contract.
-use Rattle.std.specs.Prelude.{ℕ, List, length, take, drop, ◌-◌, ◌≡◌, refl}
+use Rattle.std.specs.Prelude.{ℕ, List, length, ◌≡◌, refl}
 use Rattle.std.specs.Option.{MatchOption, unwrap_or}
 use Rattle.std.specs.List.{AllWithin, HoldsAt}
 use Rattle.std.specs.declared.option.Option.{Option}
 use Rattle.std.specs.declared.option.Option.TheVariants.{Some, None}
-use Rattle.std.proofs.Common.{ap, arith, rules, sym, ◌<◌, ◌+◌, ◌∙◌}
+use Rattle.std.proofs.Common.{ap, arith, rules, sym, ◌<◌, ◌∙◌}
 use Rattle.std.proofs.lemmas.Iterator.{YieldsList-from_slice, IsFirst-from_position, index_from_first}
-use Rattle.std.proofs.lemmas.Slice.{between_is}
 use borrow.Author.Tests.{eq-eqb, ne_eqb, tests}
-use lib.Seq.{slice, length-slice}
 use Rattle.octets.specs.Lists.{before}
 use Rattle.hexlines.proofs.place_of.Goals as goal
 use Rattle.hexlines.proofs.place_of.Goals.{After-position}
@@ -30,23 +28,18 @@ found b text r k h e = (first b text r h ∙ ap (λ (o : Option ℕ). unwrap_or 
 lost : (b : ℕ) (text : List ℕ) (r : Option ℕ) → Place b text r → r ≡ None → before b text ≡ length text
 lost b text r h e = first b text r h ∙ ap (λ (o : Option ℕ). unwrap_or o (length text)) e
 
-part : (s : List ℕ) (at end : ℕ) → take (end - at) (drop at s) ≡ slice at end s
-part s at end = search (rules, between_is)
-
-place : (c : After-position) → Place c.args.b (slice c.args.at c.args.end c.args.s.now) c.position.result
+place : (c : After-position) → Place c.args.b c.args.s.now c.position.result
 place c =
     let a = c.args in
     IsFirst-from_position _ _ _ (λ x. x ≡ a.b) (λ x. x ≡ a.b → ⊥) c.position.ensures.ran
-    (YieldsList-from_slice (slice a.at a.end a.s.now) (c.iter.ensures.rest ∙ part a.s.now a.at a.end)) (λ x q k. search (rules, tests)) (λ x q k. search (rules, tests))
+    (YieldsList-from_slice a.s.now c.iter.ensures.rest) (λ x q k. search (rules, tests)) (λ x q k. search (rules, tests))
 
 pub returns-in-Some : goal.returns-in-Some
 returns-in-Some c =
-    let a = c.args in
-    let e = found a.b (slice a.at a.end a.s.now) _ _ (place (goal.at.returns-in-Some c).After-position) c.in-Some.is in
-    (ap (λ (i : ℕ). a.at + i) (sym e.0), omega arith, omega (arith, e.1, length-slice a.at a.end a.s.now c.requires.1))
+    let e = found c.args.b c.args.s.now _ _ (place (goal.at.returns-in-Some c).After-position) c.in-Some.is in
+    (sym e.0, omega (arith, e.1))
 
 pub returns-in-None : goal.returns-in-None
 returns-in-None c =
-    let a = c.args in
-    let e = lost a.b (slice a.at a.end a.s.now) _ (place (goal.at.returns-in-None c).After-position) c.in-None.is in
-    (omega (arith, e, length-slice a.at a.end a.s.now c.requires.1), c.requires.0, omega arith)
+    let e = lost c.args.b c.args.s.now _ (place (goal.at.returns-in-None c).After-position) c.in-None.is in
+    (sym e, omega arith)

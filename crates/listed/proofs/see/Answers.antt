@@ -1,17 +1,16 @@
 -- `listed::see` meets its contract: the key stands at its place, or at none.
-use Rattle.std.proofs.Common.{arith, length-take-le, sym, ◌∙◌}
+use Rattle.std.proofs.Common.{arith, sym, ◌∙◌}
 use Rattle.listed.specs.ListedLaws.{stands_inside, see_none, see_one}
 use Rattle.listed.proofs.see.Goals as goal
 
 pub bounds-seen-i : goal.bounds-seen-i
 bounds-seen-i c =
-    omega (arith, stands_inside c.args.keys.now c.args.n _ c.args.key c.requires.0.fits (sym c.stands_at.ensures ∙ c.if-stands_at.true), c.requires.1)
+    omega (arith, stands_inside c.args.window.now.keys.now _ c.args.key (sym c.stands_at.ensures ∙ c.if-stands_at.true), c.requires)
 
 pub returns-then-stands_at : goal.returns-then-stands_at
 returns-then-stands_at c =
-    see_one _ c.requires.0.rises _ _ c.first_at-i.ensures _ (omega (arith, length-take-le c.args.n c.args.keys.now c.requires.0.fits, c.requires.1))
-    (sym c.stands_at.ensures ∙ c.if-stands_at.true)
+    see_one _ c.args.window.now.rises _ _ c.first_at-i.ensures _ c.requires (sym c.stands_at.ensures ∙ c.if-stands_at.true)
 
 pub returns-else-stands_at : goal.returns-else-stands_at
 returns-else-stands_at c =
-    see_none _ c.requires.0.rises _ _ c.first_at-i.ensures _ (sym c.stands_at.ensures ∙ c.if-stands_at.false)
+    see_none _ c.args.window.now.rises _ _ c.first_at-i.ensures _ (sym c.stands_at.ensures ∙ c.if-stands_at.false)

@@ -9,7 +9,7 @@ loop-i-init c = see_start _ _ _
 
 pub loop-i-preserved : goal.loop-i-preserved
 loop-i-preserved c =
-    see_next _ _ _ _ _ c.loop-i.invariant c.loop-i-test.true _ (c.row_key-key.ensures ∙ ap key_in c.row_at.ensures.0) _ c.see.ensures
+    see_next _ _ _ _ _ c.loop-i.invariant c.loop-i-test.true _ (c.row_key-key.ensures ∙ ap key_in c.row_at.ensures) _ c.see.ensures
 
 pub returns : goal.returns
 returns c = see_done _ _ _ _ _ c.loop-i.invariant c.loop-i-test.false

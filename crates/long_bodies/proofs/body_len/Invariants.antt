@@ -1,4 +1,3 @@
-use Rattle.std.proofs.Common.{length, ◌≡◌}
 use Rattle.charstring.specs.TokensLaws.{fuel_of}
 use Rattle.record.specs.Record.{rows_of, given_in}
 use Rattle.reach.specs.Reach.{site_of}
@@ -9,8 +8,7 @@ use Rattle.long_bodies.proofs.body_len.Given as goal
 
 abbrev pub invariant-loop-locals : goal.invariant-loop-locals
 invariant-loop-locals l =
-    Sizing (calls_by l.words l.locals l.globals) (given_in (rows_of l.rows) (site_of l.site)) l.code l.c l.h l.len × Gives l.rows l.bytes l.site l.part × (length l.keys ≡ length l.initial.keys)
-    × (length l.bytes ≡ length l.initial.bytes)
+    Sizing (calls_by l.words l.locals l.globals) (given_in (rows_of l.rows) (site_of l.of.site)) l.code l.c l.h l.len × Gives l.rows l.lent.bytes.now l.of.site l.part
 
 abbrev pub decreases-loop-locals : goal.decreases-loop-locals
 decreases-loop-locals l = fuel_of l.code l.c

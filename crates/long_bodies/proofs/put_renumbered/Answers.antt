@@ -1,22 +1,23 @@
 -- `long_bodies::put_renumbered` meets its contract: the tokens written, one by one or a run at once, stand in the output, and a token is read by a part of the
 -- rows as by all; a body that fails is excluded.
-use Rattle.std.proofs.Common.{arith, length-take-le, refl, sym, true, ℕ, ℤ, ◌-◌, ◌∙◌, ◌≡◌, Some}
+use Rattle.std.proofs.Common.{arith, refl, sym, true, ℕ, ℤ, ◌-◌, ◌∙◌, ◌≡◌, Some}
 use Rattle.octets.specs.Octets.{Octets}
 use Rattle.octets.specs.PutLaws.{wrote-length}
 use Rattle.type2_number.specs.Number.{Reading}
 use Rattle.charstring.specs.declared.MaskLen.{MaskLen}
 use Rattle.charstring.specs.Token.{more, token_at}
 use Rattle.charstring.specs.Answers.{step_of, given_at}
+use Rattle.charstring.specs.TokenLaws.{measurable}
 use Rattle.charstring.specs.TokensLaws.{Next}
 use Rattle.prune.specs.Renumber.{Calls}
 use Rattle.record.specs.Record.{rows_of, given_in}
 use Rattle.reach.specs.Reach.{site_of}
 use Rattle.renumber.specs.Ranks.{calls_by}
 use Rattle.renumber.specs.OperandLaws.{calls-read}
-use Rattle.renumber.specs.Turn.{HoldsHeld, turned_at}
-use Rattle.renumber.specs.BodyLaws.{turning_next, turning_held, putting_start, putting_room, putting_turn, putting_failed, put_end_room, put_end, whole-body}
+use Rattle.renumber.specs.Turn.{turned_at}
+use Rattle.renumber.specs.BodyLaws.{turning_next, putting_start, putting_room, putting_turn, putting_failed, put_end_room, put_end, whole-body}
 use Rattle.renumber.specs.RunBodyLaws.{putting_run-room, putting_run, run_shorter}
-use Rattle.long_bodies.specs.PartLaws.{gives_none, lent_same}
+use Rattle.long_bodies.specs.PartLaws.{gives_none}
 use Rattle.long_bodies.specs.WalkLaws.{part_inputs, turned-alike, one_each}
 use Rattle.long_bodies.proofs.put_renumbered.Goals as goal
 use Rattle.long_bodies.proofs.put_renumbered.Lts.View as view
@@ -26,7 +27,7 @@ abbrev calls_in : At-loop-locals → Calls
 calls_in l = calls_by l.args.words.now l.args.locals l.args.globals
 
 abbrev givenBy : At-loop-locals → ℕ → MaskLen
-givenBy l = given_in (rows_of l.args.rows.now) (site_of l.args.site)
+givenBy l = given_in (rows_of l.args.rows.now) (site_of l.args.of.site)
 
 reads : (l : At-loop-locals) (b : ℕ) (z y : ℤ) → calls_in l b z ≡ Some y → Reading y
 reads l = calls-read _ _ _ l.requires.0.local_ranks l.requires.0.global_ranks
@@ -38,27 +39,20 @@ octets l i = (l.type_inv.code i).fits
 going : (c : In-loop-locals) → more c.args.code.now c.loop-locals.c ≡ true
 going c = sym c.more.ensures ∙ c.loop-locals-test.true
 
-turned : (t : After-turn_at) → t.turn_at.result ≡ turned_at (calls_in (view.up-At-loop-locals _ _ _ _ _ t.before.before.before.before.before.before.before.before.before.before.before.before.before.before.before.before)) t.loop-locals.h (step_of (token_at t.args.code.now (given_at (givenBy (view.up-At-loop-locals _ _ _ _ _ t.before.before.before.before.before.before.before.before.before.before.before.before.before.before.before.before)) t.loop-locals.c) t.loop-locals.c))
+turned : (t : After-turn_at) → t.turn_at.result ≡ turned_at (calls_in (view.up-At-loop-locals _ _ _ _ _ t.before.before.before.before.before.before.before.before.before.before.before.before)) t.loop-locals.h (step_of (token_at t.args.code.now (given_at (givenBy (view.up-At-loop-locals _ _ _ _ _ t.before.before.before.before.before.before.before.before.before.before.before.before)) t.loop-locals.c) t.loop-locals.c))
 turned t =
-    turned-alike t.advance-part.ensures.0 (calls_in (view.up-At-loop-locals _ _ _ _ _ t.before.before.before.before.before.before.before.before.before.before.before.before.before.before.before.before)) t.loop-locals.h t.args.code.now t.loop-locals.c _ t.offset_at.ensures t.advance-part.ensures.1 t.advance-part.ensures.2 _ t.turn_at.ensures
+    turned-alike t.advance-part.ensures.0 t.rows-shown.ensures (calls_in (view.up-At-loop-locals _ _ _ _ _ t.before.before.before.before.before.before.before.before.before.before.before.before)) t.loop-locals.h t.args.code.now t.loop-locals.c _ t.offset_at.ensures t.advance-part.ensures.1 t.advance-part.ensures.2 _ t.turn_at.ensures
 
 -- the token, and where it leads
-nextly : (c : In-Some) → Next c.args.code.now c.loop-locals.c (token_at c.args.code.now (givenBy (view.up-At-loop-locals _ _ _ _ _ c.before.before.before.before.before.before.before.before.before.before.before.before.before.before.before.before.before) (c.loop-locals.c.at - 1)) c.loop-locals.c) c.in-Some.turned.token c.in-Some.turned.next
+nextly : (c : In-Some) → Next c.args.code.now c.loop-locals.c (token_at c.args.code.now (givenBy (view.up-At-loop-locals _ _ _ _ _ c.before.before.before.before.before.before.before.before.before.before.before.before.before) (c.loop-locals.c.at - 1)) c.loop-locals.c) c.in-Some.turned.token c.in-Some.turned.next
 nextly c =
-    turning_next (calls_in (view.up-At-loop-locals _ _ _ _ _ c.before.before.before.before.before.before.before.before.before.before.before.before.before.before.before.before.before)) (reads (view.up-At-loop-locals _ _ _ _ _ c.before.before.before.before.before.before.before.before.before.before.before.before.before.before.before.before.before)) (givenBy (view.up-At-loop-locals _ _ _ _ _ c.before.before.before.before.before.before.before.before.before.before.before.before.before.before.before.before.before)) c.args.code.now (octets (view.up-At-loop-locals _ _ _ _ _ c.before.before.before.before.before.before.before.before.before.before.before.before.before.before.before.before.before)) c.loop-locals.c _ _ c.loop-locals.invariant.0.turning (going (view.up-In-loop-locals _ _ _ _ _ c.before.before.before.before.before.before.before.before.before.before.before.before.before.before.before)) _ (turned (view.up-After-turn_at _ _ _ _ _ c.before.before)) _ _ _ c.in-Some.is
-
--- the number that is written before it is a reading
-heldly : (c : In-Some) → HoldsHeld c.in-Some.turned.before
-heldly c =
-    turning_held (calls_in (view.up-At-loop-locals _ _ _ _ _ c.before.before.before.before.before.before.before.before.before.before.before.before.before.before.before.before.before)) (reads (view.up-At-loop-locals _ _ _ _ _ c.before.before.before.before.before.before.before.before.before.before.before.before.before.before.before.before.before)) (givenBy (view.up-At-loop-locals _ _ _ _ _ c.before.before.before.before.before.before.before.before.before.before.before.before.before.before.before.before.before)) c.args.code.now (octets (view.up-At-loop-locals _ _ _ _ _ c.before.before.before.before.before.before.before.before.before.before.before.before.before.before.before.before.before)) c.loop-locals.c _ _ c.loop-locals.invariant.0.turning (going (view.up-In-loop-locals _ _ _ _ _ c.before.before.before.before.before.before.before.before.before.before.before.before.before.before.before)) _ (turned (view.up-After-turn_at _ _ _ _ _ c.before.before)) _ _ _ c.in-Some.is
+    turning_next (calls_in (view.up-At-loop-locals _ _ _ _ _ c.before.before.before.before.before.before.before.before.before.before.before.before.before)) (reads (view.up-At-loop-locals _ _ _ _ _ c.before.before.before.before.before.before.before.before.before.before.before.before.before)) (givenBy (view.up-At-loop-locals _ _ _ _ _ c.before.before.before.before.before.before.before.before.before.before.before.before.before)) c.args.code.now (octets (view.up-At-loop-locals _ _ _ _ _ c.before.before.before.before.before.before.before.before.before.before.before.before.before)) c.loop-locals.c _ _ c.loop-locals.invariant.0.turning (going (view.up-In-loop-locals _ _ _ _ _ c.before.before.before.before.before.before.before.before.before.before.before)) _ (turned (view.up-After-turn_at _ _ _ _ _ c.before.before)) _ _ _ c.in-Some.is
 
 pub loop-locals-init : goal.loop-locals-init
 loop-locals-init c = (
   putting_start _ (calls-read _ _ _ c.requires.0.local_ranks c.requires.0.global_ranks) _ _ (λ i. (c.type_inv.code i).fits) _ _ _ c.start-c.ensures,
   refl,
   gives_none _ _ _ _,
-  refl,
-  refl,
 )
 
 pub run_at-run-requires : goal.run_at-run-requires
@@ -66,10 +60,9 @@ run_at-run-requires c = c.loop-locals.invariant.0.turning.walk.within
 
 pub put_run-p-requires : goal.put_run-p-requires
 put_run-p-requires c = (
-  c.loop-locals.invariant.0.turning.held,
   c.run_at-run.ensures.starts,
   omega (arith, c.run_at-run.ensures.ends, c.run_at-run.ensures.inside),
-  putting_run-room (calls_in (goal.at.put_run-p-requires c).At-loop-locals) (reads (goal.at.put_run-p-requires c).At-loop-locals) (givenBy (goal.at.put_run-p-requires c).At-loop-locals) c.args.code.now (octets (goal.at.put_run-p-requires c).At-loop-locals) _ _ c.run_at-run.ensures c.if-c-run.true _ _ _ (whole-body _ _ _ _ c.requires.2) c.requires.3 _ _ _ c.loop-locals.invariant.0,
+  putting_run-room (calls_in (goal.at.put_run-p-requires c).At-loop-locals) (reads (goal.at.put_run-p-requires c).At-loop-locals) (givenBy (goal.at.put_run-p-requires c).At-loop-locals) c.args.code.now (octets (goal.at.put_run-p-requires c).At-loop-locals) _ _ c.run_at-run.ensures c.if-c-run.true _ _ _ (whole-body _ _ _ _ c.requires.1) c.requires.2 _ _ _ c.loop-locals.invariant.0,
 )
 
 pub held_at-h-requires : goal.held_at-h-requires
@@ -80,55 +73,51 @@ loop-locals-smaller-then-c-run c = run_shorter (calls_in (goal.at.loop-locals-sm
 
 pub loop-locals-preserved-then-c-run : goal.loop-locals-preserved-then-c-run
 loop-locals-preserved-then-c-run c =
-    let m = putting_run (calls_in (goal.at.loop-locals-preserved-then-c-run c).At-loop-locals) (reads (goal.at.loop-locals-preserved-then-c-run c).At-loop-locals) (givenBy (goal.at.loop-locals-preserved-then-c-run c).At-loop-locals) c.args.code.now (octets (goal.at.loop-locals-preserved-then-c-run c).At-loop-locals) _ _ c.run_at-run.ensures c.if-c-run.true _ _ _ (whole-body _ _ _ _ c.requires.2) c.requires.3 _ _ _ c.loop-locals.invariant.0 _ _ c.put_run-p.ensures _ c.held_at-h.ensures in
-    (m.0, m.1 ∙ c.loop-locals.invariant.1, c.loop-locals.invariant.2, c.loop-locals.invariant.3, c.loop-locals.invariant.4)
+    let m = putting_run (calls_in (goal.at.loop-locals-preserved-then-c-run c).At-loop-locals) (reads (goal.at.loop-locals-preserved-then-c-run c).At-loop-locals) (givenBy (goal.at.loop-locals-preserved-then-c-run c).At-loop-locals) c.args.code.now (octets (goal.at.loop-locals-preserved-then-c-run c).At-loop-locals) _ _ c.run_at-run.ensures c.if-c-run.true _ _ _ (whole-body _ _ _ _ c.requires.1) c.requires.2 _ _ _ c.loop-locals.invariant.0 _ _ c.put_run-p.ensures _ c.held_at-h.ensures in
+    (m.0, m.1 ∙ c.loop-locals.invariant.1, c.loop-locals.invariant.2)
 
 pub advance-part-requires : goal.advance-part-requires
 advance-part-requires c = (
-  lent_same c.requires.1 _ _ c.loop-locals.invariant.3 c.loop-locals.invariant.4,
   omega (arith, c.offset_at.ensures, c.loop-locals.invariant.0.turning.walk.within.inside, c.requires.0.size),
-  one_each _ _ _ _ c.requires.2,
+  one_each _ _ _ _ c.requires.1,
   c.loop-locals.invariant.2,
 )
 
-pub slice_bounds-turn_at-end : goal.slice_bounds-turn_at-end
-slice_bounds-turn_at-end c = c.advance-part.ensures.0.fits
-
-pub slice_bounds-turn_at-end-in-loop-locals : goal.slice_bounds-turn_at-end-in-loop-locals
-slice_bounds-turn_at-end-in-loop-locals c = sym (length-take-le _ _ c.advance-part.ensures.0.fits)
+pub rows-shown-requires : goal.rows-shown-requires
+rows-shown-requires c = c.advance-part.ensures.0.fits
 
 pub turn_at-requires : goal.turn_at-requires
 turn_at-requires c =
-    (part_inputs c.requires.0 c.advance-part.ensures.0, c.loop-locals.invariant.0.turning.walk.within, going (goal.at.turn_at-requires c).In-loop-locals, c.loop-locals.invariant.0.turning.held)
+    (part_inputs c.requires.0 c.advance-part.ensures.0 c.rows-shown.ensures, c.loop-locals.invariant.0.turning.walk.within, going (goal.at.turn_at-requires c).In-loop-locals)
 
 pub put_sent-p-requires : goal.put_sent-p-requires
 put_sent-p-requires c = (
-  heldly (goal.at.put_sent-p-requires c).In-Some,
   (nextly (goal.at.put_sent-p-requires c).In-Some).writable,
-  putting_room (calls_in (goal.at.put_sent-p-requires c).At-loop-locals) (reads (goal.at.put_sent-p-requires c).At-loop-locals) (givenBy (goal.at.put_sent-p-requires c).At-loop-locals) c.args.code.now (octets (goal.at.put_sent-p-requires c).At-loop-locals) _ _ _ (whole-body _ _ _ _ c.requires.2) c.requires.3 c.loop-locals.c _ _ _ c.loop-locals.invariant.0 (going (goal.at.put_sent-p-requires c).In-loop-locals) _ (turned (goal.at.put_sent-p-requires c).After-turn_at) _ _ _ c.in-Some.is,
+  putting_room (calls_in (goal.at.put_sent-p-requires c).At-loop-locals) (reads (goal.at.put_sent-p-requires c).At-loop-locals) (givenBy (goal.at.put_sent-p-requires c).At-loop-locals) c.args.code.now (octets (goal.at.put_sent-p-requires c).At-loop-locals) _ _ _ (whole-body _ _ _ _ c.requires.1) c.requires.2 c.loop-locals.c _ _ _ c.loop-locals.invariant.0 (going (goal.at.put_sent-p-requires c).In-loop-locals) _ (turned (goal.at.put_sent-p-requires c).After-turn_at) _ _ _ c.in-Some.is,
 )
+
+pub held_after-h-requires : goal.held_after-h-requires
+held_after-h-requires c = measurable _ _ (nextly (goal.at.held_after-h-requires c).In-Some).writable
 
 pub loop-locals-smaller : goal.loop-locals-smaller
 loop-locals-smaller c = (nextly (goal.at.loop-locals-smaller c).In-Some).moves.shorter
 
 pub loop-locals-preserved : goal.loop-locals-preserved
 loop-locals-preserved c =
-    let room = putting_room (calls_in (goal.at.loop-locals-preserved c).At-loop-locals) (reads (goal.at.loop-locals-preserved c).At-loop-locals) (givenBy (goal.at.loop-locals-preserved c).At-loop-locals) c.args.code.now (octets (goal.at.loop-locals-preserved c).At-loop-locals) _ _ _ (whole-body _ _ _ _ c.requires.2) c.requires.3 c.loop-locals.c _ _ _ c.loop-locals.invariant.0 (going (goal.at.loop-locals-preserved c).In-loop-locals) _ (turned (goal.at.loop-locals-preserved c).After-turn_at) _ _ _ c.in-Some.is in (
-      putting_turn (calls_in (goal.at.loop-locals-preserved c).At-loop-locals) (reads (goal.at.loop-locals-preserved c).At-loop-locals) (givenBy (goal.at.loop-locals-preserved c).At-loop-locals) c.args.code.now (octets (goal.at.loop-locals-preserved c).At-loop-locals) _ _ _ (whole-body _ _ _ _ c.requires.2) c.requires.3 c.loop-locals.c _ _ _ c.loop-locals.invariant.0 (going (goal.at.loop-locals-preserved c).In-loop-locals) _ (turned (goal.at.loop-locals-preserved c).After-turn_at) _ _ _ c.in-Some.is _ _ c.put_sent-p.ensures _ c.after-h.ensures,
+    let room = putting_room (calls_in (goal.at.loop-locals-preserved c).At-loop-locals) (reads (goal.at.loop-locals-preserved c).At-loop-locals) (givenBy (goal.at.loop-locals-preserved c).At-loop-locals) c.args.code.now (octets (goal.at.loop-locals-preserved c).At-loop-locals) _ _ _ (whole-body _ _ _ _ c.requires.1) c.requires.2 c.loop-locals.c _ _ _ c.loop-locals.invariant.0 (going (goal.at.loop-locals-preserved c).In-loop-locals) _ (turned (goal.at.loop-locals-preserved c).After-turn_at) _ _ _ c.in-Some.is in (
+      putting_turn (calls_in (goal.at.loop-locals-preserved c).At-loop-locals) (reads (goal.at.loop-locals-preserved c).At-loop-locals) (givenBy (goal.at.loop-locals-preserved c).At-loop-locals) c.args.code.now (octets (goal.at.loop-locals-preserved c).At-loop-locals) _ _ _ (whole-body _ _ _ _ c.requires.1) c.requires.2 c.loop-locals.c _ _ _ c.loop-locals.invariant.0 (going (goal.at.loop-locals-preserved c).In-loop-locals) _ (turned (goal.at.loop-locals-preserved c).After-turn_at) _ _ _ c.in-Some.is _ _ c.put_sent-p.ensures _ c.held_after-h.ensures,
       wrote-length c.put_sent-p.ensures room ∙ c.loop-locals.invariant.1,
       c.advance-part.ensures.0,
-      c.advance-part.auto.keys ∙ c.loop-locals.invariant.3,
-      c.advance-part.auto.bytes ∙ c.loop-locals.invariant.4,
     )
 
 pub returns-in-None : goal.returns-in-None
 returns-in-None c =
-    absurd (putting_failed (calls_in (goal.at.returns-in-None c).At-loop-locals) (reads (goal.at.returns-in-None c).At-loop-locals) (givenBy (goal.at.returns-in-None c).At-loop-locals) c.args.code.now (octets (goal.at.returns-in-None c).At-loop-locals) _ _ _ (whole-body _ _ _ _ c.requires.2) c.requires.3 c.loop-locals.c _ _ _ c.loop-locals.invariant.0 (going (goal.at.returns-in-None c).In-loop-locals) _ (turned (goal.at.returns-in-None c).After-turn_at) c.in-None.is)
+    absurd (putting_failed (calls_in (goal.at.returns-in-None c).At-loop-locals) (reads (goal.at.returns-in-None c).At-loop-locals) (givenBy (goal.at.returns-in-None c).At-loop-locals) c.args.code.now (octets (goal.at.returns-in-None c).At-loop-locals) _ _ _ (whole-body _ _ _ _ c.requires.1) c.requires.2 c.loop-locals.c _ _ _ c.loop-locals.invariant.0 (going (goal.at.returns-in-None c).In-loop-locals) _ (turned (goal.at.returns-in-None c).After-turn_at) c.in-None.is)
 
 pub put_held-requires : goal.put_held-requires
 put_held-requires c =
-    (c.loop-locals.invariant.0.turning.held, put_end_room (calls_in (goal.at.put_held-requires c).At-loop-locals) (reads (goal.at.put_held-requires c).At-loop-locals) (givenBy (goal.at.put_held-requires c).At-loop-locals) c.args.code.now (octets (goal.at.put_held-requires c).At-loop-locals) _ _ _ (whole-body _ _ _ _ c.requires.2) c.requires.3 c.loop-locals.c _ _ _ c.loop-locals.invariant.0 (sym c.more.ensures ∙ c.loop-locals-test.false))
+    (put_end_room (calls_in (goal.at.put_held-requires c).At-loop-locals) (reads (goal.at.put_held-requires c).At-loop-locals) (givenBy (goal.at.put_held-requires c).At-loop-locals) c.args.code.now (octets (goal.at.put_held-requires c).At-loop-locals) _ _ _ (whole-body _ _ _ _ c.requires.1) c.requires.2 c.loop-locals.c _ _ _ c.loop-locals.invariant.0 (sym c.more.ensures ∙ c.loop-locals-test.false))
 
 pub returns : goal.returns
 returns c =
-    put_end (calls_in (goal.at.returns c).At-loop-locals) (reads (goal.at.returns c).At-loop-locals) (givenBy (goal.at.returns c).At-loop-locals) c.args.code.now (octets (goal.at.returns c).At-loop-locals) _ _ _ (whole-body _ _ _ _ c.requires.2) c.requires.3 c.loop-locals.c _ _ _ c.loop-locals.invariant.0 (sym c.more.ensures ∙ c.loop-locals-test.false) _ _ c.put_held.ensures
+    put_end (calls_in (goal.at.returns c).At-loop-locals) (reads (goal.at.returns c).At-loop-locals) (givenBy (goal.at.returns c).At-loop-locals) c.args.code.now (octets (goal.at.returns c).At-loop-locals) _ _ _ (whole-body _ _ _ _ c.requires.1) c.requires.2 c.loop-locals.c _ _ _ c.loop-locals.invariant.0 (sym c.more.ensures ∙ c.loop-locals-test.false) _ _ c.put_held.ensures

@@ -1,7 +1,6 @@
 -- `long_bodies::renumbered_len` meets its contract: two lengths at one offset fail, and then the body decides.
-use Rattle.std.proofs.Common.{refl, sym, ◌∙◌}
+use Rattle.std.proofs.Common.{sym, ◌∙◌}
 use Rattle.renumber.specs.BodyLaws.{two-fail, one-length}
-use Rattle.long_bodies.specs.PartLaws.{lent_same}
 use Rattle.long_bodies.proofs.renumbered_len.Goals as goal
 
 pub returns-then-two_lengths : goal.returns-then-two_lengths
@@ -9,7 +8,7 @@ returns-then-two_lengths c = two-fail _ _ _ _ (sym c.two_lengths.ensures ∙ c.i
 
 pub body_len-requires : goal.body_len-requires
 body_len-requires c =
-    (c.requires.0, lent_same c.requires.1 _ _ c.two_lengths.auto.keys refl, sym c.two_lengths.ensures ∙ c.if-two_lengths.false)
+    (c.requires, sym c.two_lengths.ensures ∙ c.if-two_lengths.false)
 
 pub returns : goal.returns
 returns c =

@@ -1,6 +1,6 @@
 -- `begin_strings` meets its contract: of the slots those are written whose id is the next. The invariant: c strings stand behind the head.
 use Rattle.std.proofs.Common.{List, ap, arith, length, ℕ, ◌+◌, ◌∙◌, ◌≡◌}
-use Rattle.index.specs.Index.{items_of}
+use Rattle.index.specs.Items.{items}
 use Rattle.index.specs.Write.{total}
 use Rattle.index.specs.WriteLaws.{head-room}
 use Rattle.index.specs.BegunLaws.{begun_room, begun_more}
@@ -14,22 +14,22 @@ use Rattle.name_strings.proofs.begin_strings.Goals.{then-id-c, else-id-c, After-
 
 -- the own strings
 abbrev all : Start → List (List ℕ)
-all s = own_strings_lem (slots_own (items_of s.args.font.now s.args.strings) s.args.slots.now) s.requires.2.others
+all s = own_strings_lem (slots_own (items s.args.strings.now) s.args.slots.now) s.requires.1.others
 
 many : (s : Start) → s.args.own.count ≡ length (all s)
-many s = ap (λ (o : Own). o.count) s.requires.2.room.is
+many s = ap (λ (o : Own). o.count) s.requires.1.room.is
 
 sum : (s : Start) → s.args.own.total ≡ total (all s)
-sum s = ap (λ (o : Own). o.total) s.requires.2.room.is
+sum s = ap (λ (o : Own). o.total) s.requires.1.room.is
 
 -- where the loop begins
 begun : (d : After-struct_known-1) → (let ix = d.index_for-ix.result in
-    SlotWriting (items_of d.args.font.now d.args.strings) d.args.slots.now d.put_head.new.out ix d.put_head.new.out (ix.base + 1) 0 0)
-begun d = slot-start _ _ d.requires.1 _ _ d.args.at d.args.own _ d.requires.2 d.index_for-ix.ensures d.put_head.auto.out
+    SlotWriting (items d.args.strings.now) d.args.slots.now d.put_head.new.out ix d.put_head.new.out (ix.base + 1) 0 0)
+begun d = slot-start _ _ d.requires.0 _ _ d.args.at d.args.own _ d.requires.1 d.index_for-ix.ensures d.put_head.auto.out
 
 pub put_head-requires : goal.put_head-requires
 put_head-requires c =
-    (c.requires.2.room.small, head-room _ c.args.at c.args.own.count c.args.own.total (all (goal.at.put_head-requires c).Start) (many (goal.at.put_head-requires c).Start) (sum (goal.at.put_head-requires c).Start) c.requires.2.room.room)
+    (c.requires.1.room.small, head-room _ c.args.at c.args.own.count c.args.own.total (all (goal.at.put_head-requires c).Start) (many (goal.at.put_head-requires c).Start) (sum (goal.at.put_head-requires c).Start) c.requires.1.room.room)
 
 pub overflow_add-p : goal.overflow_add-p
 overflow_add-p c = omega (arith, (begun c).meant.room)
@@ -39,18 +39,18 @@ loop-j-init c = begun c
 
 pub own_text-text-requires : goal.own_text-text-requires
 own_text-text-requires c =
-    (c.requires.0.good, (slot_string _ _ c.requires.1 _ _ _ _ _ _ c.loop-j.invariant c.loop-j-test.true c.if-id-c.true).0)
+    (slot_string _ _ c.requires.0 _ _ _ _ _ _ c.loop-j.invariant c.loop-j-test.true c.if-id-c.true).0
 
 pub put_item-p-requires : goal.put_item-p-requires
 put_item-p-requires c =
     let v = c.loop-j.invariant in
-    let q = slot_string _ _ c.requires.1 _ _ _ _ _ _ v c.loop-j-test.true c.if-id-c.true in
+    let q = slot_string _ _ c.requires.0 _ _ _ _ _ _ v c.loop-j-test.true c.if-id-c.true in
     begun_room _ _ _ v.meant _ q.1 _ (c.own_text-text.ensures ∙ q.2) v.begun
 
 pub loop-j-preserved : goal.loop-j-preserved
 loop-j-preserved c =
     let v = c.loop-j.invariant in
-    let g = c.requires.1 in
+    let g = c.requires.0 in
     elim c.if-id-c.branch [
       | then-id-c h ↦ let q = slot_string _ _ g _ _ _ _ _ _ v c.loop-j-test.true h.if-id-c.true in
           slot_next _ _ g _ _ _ _ _ _ v c.loop-j-test.true h.if-id-c.true _ _ _ h.out-is h.p-is h.c-is
@@ -60,4 +60,4 @@ loop-j-preserved c =
 
 pub returns : goal.returns
 returns c =
-    slot_end _ _ c.requires.1 _ _ c.args.own _ _ _ _ _ c.index_for-ix.ensures c.put_head.ensures c.loop-j.invariant c.loop-j-test.false
+    slot_end _ _ c.requires.0 _ _ c.args.own _ _ _ _ _ c.index_for-ix.ensures c.put_head.ensures c.loop-j.invariant c.loop-j-test.false

@@ -1,6 +1,6 @@
-use Rattle.index.specs.Index.{items_of}
+use Rattle.index.specs.Items.{items}
 use Rattle.name_strings.specs.Strings.{SlotWriting}
 use Rattle.name_strings.proofs.begin_strings.Given as goal
 
 abbrev pub invariant-loop-j : goal.invariant-loop-j
-invariant-loop-j l = SlotWriting (items_of l.font l.strings) l.slots l.initial.out l.ix l.out l.p l.c l.j
+invariant-loop-j l = SlotWriting (items l.strings) l.slots l.initial.out l.ix l.out l.p l.c l.j

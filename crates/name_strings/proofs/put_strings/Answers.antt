@@ -38,7 +38,7 @@ loop-i-init c = (
 
 pub own_text-text-requires : goal.own_text-text-requires
 own_text-text-requires c =
-    (c.requires.0.good, (name_string _ _ _ _ _ _ c.loop-i.invariant.1 (more (goal.at.own_text-text-requires c).In-loop-i) _ (word (goal.at.own_text-text-requires c).After-word_at-sid) _ c.given_id-id.ensures c.if-id-c.true).0)
+    (name_string _ _ _ _ _ _ c.loop-i.invariant.1 (more (goal.at.own_text-text-requires c).In-loop-i) _ (word (goal.at.own_text-text-requires c).After-word_at-sid) _ c.given_id-id.ensures c.if-id-c.true).0
 
 pub put_item-p-requires : goal.put_item-p-requires
 put_item-p-requires c =

@@ -1,14 +1,19 @@
 -- `slots_own` meets its contract: a slot adds a string exactly where its id is the next.
 use Rattle.name_strings.specs.SlotCountLaws.{counting-start, counting_asks, counting-next}
+use Rattle.own_strings.specs.Ready.{HasStrings}
 use Rattle.name_strings.proofs.slots_own.Goals as goal
+use Rattle.name_strings.proofs.slots_own.Goals.{Start}
+
+has : (s : Start) → HasStrings s.args.strings.now.bytes.now s.args.strings.now.ix
+has s = record { good = s.args.strings.now.good; small = s.requires.0 }
 
 pub loop-j-init : goal.loop-j-init
-loop-j-init c = counting-start _ _ c.requires.0 _ c.requires.1
+loop-j-init c = counting-start _ _ (has (goal.at.loop-j-init c).Start) _ c.requires.1
 
 pub count_one-own-requires : goal.count_one-own-requires
 count_one-own-requires c =
-    counting_asks _ _ c.requires.0 _ c.requires.1 _ _ c.loop-j.invariant
+    counting_asks _ _ (has (goal.at.count_one-own-requires c).Start) _ c.requires.1 _ _ c.loop-j.invariant
 
 pub loop-j-preserved : goal.loop-j-preserved
 loop-j-preserved c =
-    counting-next _ _ c.requires.0 _ c.requires.1 _ _ c.loop-j.invariant c.loop-j-test.true _ c.count_one-own.ensures
+    counting-next _ _ (has (goal.at.loop-j-preserved c).Start) _ c.requires.1 _ _ c.loop-j.invariant c.loop-j-test.true _ c.count_one-own.ensures

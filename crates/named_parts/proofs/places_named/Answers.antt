@@ -4,11 +4,16 @@ use Rattle.outcome.specs.BothLaws.{parts-measured, globals-measured, glyphs-meas
 use Rattle.named_parts.specs.NamedPutLaws.{places_are}
 use Rattle.named_parts.proofs.places_named.Goals as goal
 
+pub invariant_of-fds : goal.invariant_of-fds
+invariant_of-fds c = record { held = c.requires.0.ready.asked.tables }
+
+pub invariant_of-loaded : goal.invariant_of-loaded
+invariant_of-loaded c = record { good = c.requires.0.ready.read.font }
+
 pub part_sizes-privates-requires : goal.part_sizes-privates-requires
 part_sizes-privates-requires c =
     let g = c.requires.0 in
-    let h : 256 ≤ 256 = omega arith in
-    parts-measured _ _ _ _ _ _ g.ready _ g.summed 256 256 h h
+    parts-measured _ _ _ _ _ _ g.ready _ g.summed
 
 pub globals_len-requires : goal.globals_len-requires
 globals_len-requires c = globals-measured _ _ _ _ _ _ c.requires.0.ready

@@ -2,8 +2,8 @@
 use Rattle.own_strings.specs.TurnLaws.{text-item, text-none}
 use Rattle.own_strings.proofs.own_text.Goals as goal
 
-pub returns-then-k-count : goal.returns-then-k-count
-returns-then-k-count c = text-item _ c.args.sid _ c.requires.1 c.item.ensures.0
+pub returns-then-k-strings : goal.returns-then-k-strings
+returns-then-k-strings c = text-item _ c.args.sid _ c.requires c.item.ensures.0
 
 pub returns : goal.returns
-returns c = text-none c.args.font.now c.args.strings c.args.sid c.requires.1 c.if-k-count.false
+returns c = text-none c.args.strings.now.bytes.now c.args.strings.now.ix c.args.sid c.requires c.if-k-strings.false

@@ -8,7 +8,7 @@ use Rattle.std.proofs.lemmas.List.Sums.{prefix_len-le-length}
 use Rattle.std.specs.List.{position_or_len}
 use Rattle.std.specs.Option.{unwrap_or}
 use Rattle.octets.specs.Pick.{pick}
-use Rattle.index.specs.Index.{items_of}
+use Rattle.index.specs.Items.{items}
 use Rattle.own_strings.specs.Slots.{slot_has, slot_with_lem}
 use Rattle.own_strings.proofs.slot_with.Goals as goal
 
@@ -31,10 +31,10 @@ place false p many n e l m = let h : many ≤ p = ltb-false p many e in omega ar
 pub returns : goal.returns
 returns c =
     let a = c.args in
-    let test = slot_has (items_of a.font.now a.strings) a.text.now in
+    let test = slot_has (items a.strings.now) a.text.now in
     let xs = take a.n a.slots.now in
     let few : position_or_len test xs ≤ length xs = prefix_len-le-length (λ x. not (test x)) xs in
     let found = position_from_yields_List test _ _ c.position.result c.position.ensures.ran (YieldsList-from_slice xs cc) (λ x b q k. search (rules, tests)) in
     c.unwrap_or.ensures ∙ ap (λ (r : Option ℕ). unwrap_or r a.n) found
-    ∙ place (ltb (position_or_len test xs) (length xs)) (position_or_len test xs) (length xs) a.n refl few (length-take-le a.n a.slots.now c.requires.2)
-    ∙ sym (is_position_or_len (slot_with_lem (items_of a.font.now a.strings) a.text.now) test (none (items_of a.font.now a.strings) a.text.now) (next (items_of a.font.now a.strings) a.text.now) xs)
+    ∙ place (ltb (position_or_len test xs) (length xs)) (position_or_len test xs) (length xs) a.n refl few (length-take-le a.n a.slots.now c.requires.1)
+    ∙ sym (is_position_or_len (slot_with_lem (items a.strings.now) a.text.now) test (none (items a.strings.now) a.text.now) (next (items a.strings.now) a.text.now) xs)

@@ -1,5 +1,4 @@
 -- `plan::plan_bodies` meets its contract: measured by the way that is tried first, and by stubs where a part fails by it.
-use Rattle.std.proofs.Common.{arith}
 use Rattle.record.specs.Record.{rows_of}
 use Rattle.plan.specs.MeasureLaws.{by_way}
 use Rattle.plan.specs.PlanLaws.{returns_first, returns_stubbed}
@@ -10,13 +9,10 @@ pub returns-then-m : goal.returns-then-m
 returns-then-m c =
     (returns_first _ _ _ _ _ _ _ _ _ _ c.measure-m.ensures.0 c.if-m.true _ c.planned.ensures, c.measure-m.ensures.1)
 
-pub measure-s-requires : goal.measure-s-requires
-measure-s-requires c =
-    let a = c.args in (
-      by_way Stubbed a.font.now a.o a.used.now a.words.now a.how a.table.now (rows_of a.rows.now) c.requires.0,
-      c.measure-m.ensures.1,
-      omega (arith, c.requires.2, c.measure-m.auto.sums),
-    )
+pub invariant_of-stubbed : goal.invariant_of-stubbed
+invariant_of-stubbed c =
+    let b = c.args.b.now in
+    record { asked = by_way Stubbed b.font.now b.o b.used.now b.words.now b.how b.table.now (rows_of b.rows.now) b.asked }
 
 pub returns : goal.returns
 returns c =

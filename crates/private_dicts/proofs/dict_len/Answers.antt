@@ -7,7 +7,9 @@ use Rattle.private_dicts.specs.Privates.{private_dict_by}
 use Rattle.private_dicts.proofs.dict_len.Goals as goal
 
 pub bytes_len-requires : goal.bytes_len-requires
-bytes_len-requires c = part-few c.args.font.now c.args.q.start (c.args.q.start + c.args.q.size - c.args.q.start) _ c.requires.0
+bytes_len-requires c = let p = c.args.p.now in part-few p.bytes.now p.q.start (p.q.start + p.q.size - p.q.start) _ p.short
 
 pub returns : goal.returns
-returns c = c.bytes_len.ensures ∙ ap (λ (d : List ℕ). length (private_dict_by (entries_of d) c.args.left)) (span c.args.font.now c.args.q.start c.args.q.size)
+returns c =
+    let p = c.args.p.now in
+    (c.bytes_len.ensures.0 ∙ ap (λ (d : List ℕ). length (private_dict_by (entries_of d) c.args.left)) (span p.bytes.now p.q.start p.q.size), c.bytes_len.ensures.1)

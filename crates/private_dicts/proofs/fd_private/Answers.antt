@@ -3,13 +3,13 @@ use Rattle.private_dicts.specs.PrivatesLaws.{fd-within, fd-read, fd-answer, fd-o
 use Rattle.private_dicts.proofs.fd_private.Goals as goal
 
 pub item-requires : goal.item-requires
-item-requires c = (c.requires.0.parts.dicts.good, fd-within _ _ c.requires.0 _ c.requires.1 c.if-cid.true)
+item-requires c = let at = c.args.at.now in (at.font.good.parts.dicts.good, fd-within _ _ at.font.good _ at.there c.if-cid.true)
 
 pub read_fd-requires : goal.read_fd-requires
-read_fd-requires c = (c.requires.0.begun.some, fd-read _ _ c.requires.0 _ c.requires.1 c.if-cid.true _ c.item.ensures.0)
+read_fd-requires c = let at = c.args.at.now in (at.font.good.begun.some, fd-read _ _ at.font.good _ at.there c.if-cid.true _ c.item.ensures.0)
 
 pub returns-then-cid : goal.returns-then-cid
-returns-then-cid c = fd-answer _ _ c.requires.0 _ c.requires.1 c.if-cid.true _ c.item.ensures.0 _ c.read_fd.ensures
+returns-then-cid c = let at = c.args.at.now in fd-answer _ _ at.font.good _ at.there c.if-cid.true _ c.item.ensures.0 _ c.read_fd.ensures
 
 pub returns : goal.returns
-returns c = fd-one _ _ c.requires.0 _ c.requires.1 c.if-cid.false
+returns c = let at = c.args.at.now in fd-one _ _ at.font.good _ at.there c.if-cid.false

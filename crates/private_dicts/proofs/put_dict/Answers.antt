@@ -8,7 +8,7 @@ use Rattle.octets.specs.ListLaws.{span}
 use Rattle.private_dicts.proofs.put_dict.Goals as goal
 
 pub put_bytes-requires : goal.put_bytes-requires
-put_bytes-requires c = part-asked c.args.font.now c.args.q.start c.args.q.size _ _ _ c.requires.2 c.requires.3
+put_bytes-requires c = let p = c.args.p.now in part-asked p.bytes.now p.q.start p.q.size _ _ _ c.requires.0 c.requires.1
 
 pub returns : goal.returns
-returns c = wrote_as c.put_bytes.ensures (ap (λ (d : List ℕ). private_dict_by (entries_of d) c.args.left) (span c.args.font.now c.args.q.start c.args.q.size))
+returns c = let p = c.args.p.now in wrote_as c.put_bytes.ensures (ap (λ (d : List ℕ). private_dict_by (entries_of d) c.args.left) (span p.bytes.now p.q.start p.q.size))

@@ -11,14 +11,14 @@ pub loop-i-preserved : goal.loop-i-preserved
 loop-i-preserved c =
     let l = c.loop-i in
     let a = c.args in
-    let e = sym (ap (row_fine_lem a.cid) c.row_at.ensures.0) ∙ sym c.row_fine.ensures ∙ c.if-not-row_fine.false in
+    let e = sym (ap (row_fine_lem a.cid) c.row_at.ensures) ∙ sym c.row_fine.ensures ∙ c.if-not-row_fine.false in
     fine_goes_on a.cid a.rows.now l.i (omega arith) e ∙ l.invariant
 
 pub returns-then-not-row_fine : goal.returns-then-not-row_fine
 returns-then-not-row_fine c =
     let l = c.loop-i in
     let a = c.args in
-    let e = sym (ap (row_fine_lem a.cid) c.row_at.ensures.0) ∙ sym c.row_fine.ensures ∙ c.if-not-row_fine.true in
+    let e = sym (ap (row_fine_lem a.cid) c.row_at.ensures) ∙ sym c.row_fine.ensures ∙ c.if-not-row_fine.true in
     fine_stops a.cid a.rows.now l.i (omega arith) e ∙ l.invariant
 
 pub returns : goal.returns

@@ -4,14 +4,14 @@ use Rattle.octets.specs.Octets.{Octets}
 use Rattle.type2_number.specs.Number.{Reading}
 use Rattle.charstring.specs.declared.MaskLen.{MaskLen}
 use Rattle.charstring.specs.Token.{more, token_at}
+use Rattle.charstring.specs.TokenLaws.{measurable}
 use Rattle.charstring.specs.TokensLaws.{Next}
 use Rattle.prune.specs.Renumber.{Calls}
 use Rattle.record.specs.Record.{rows_of, given_in}
 use Rattle.reach.specs.Reach.{site_of}
 use Rattle.renumber.specs.Ranks.{calls_by}
 use Rattle.renumber.specs.OperandLaws.{calls-read}
-use Rattle.renumber.specs.Turn.{HoldsHeld}
-use Rattle.renumber.specs.BodyLaws.{own-small, turning_next, turning_held, sizing_start, sized-room, sized_end, sizing_turn, sized_failed}
+use Rattle.renumber.specs.BodyLaws.{own-small, turning_next, sizing_start, sized-room, sized_end, sizing_turn, sized_failed}
 use Rattle.renumber.specs.RunBodyLaws.{sizing_run, run_shorter}
 use Rattle.renumbered.proofs.body_len.Goals as goal
 use Rattle.renumbered.proofs.body_len.Lts.View as view
@@ -39,10 +39,6 @@ nextly : (c : In-Some)
     → Next c.args.code.now c.loop-locals.c (token_at c.args.code.now (givenBy (view.up-At-loop-locals _ _ _ _ _ c.before.before.before.before.before.before.before.before.before) (c.loop-locals.c.at - 1)) c.loop-locals.c) c.in-Some.turned.token c.in-Some.turned.next
 nextly c = turning_next (calls_in (view.up-At-loop-locals _ _ _ _ _ c.before.before.before.before.before.before.before.before.before)) (reads (view.up-At-loop-locals _ _ _ _ _ c.before.before.before.before.before.before.before.before.before)) (givenBy (view.up-At-loop-locals _ _ _ _ _ c.before.before.before.before.before.before.before.before.before)) c.args.code.now (bytes (view.up-At-loop-locals _ _ _ _ _ c.before.before.before.before.before.before.before.before.before)) c.loop-locals.c _ _ c.loop-locals.invariant.turning (going (view.up-In-loop-locals _ _ _ _ _ c.before.before.before.before.before.before.before)) _ c.turn_at.ensures _ _ _ c.in-Some.is
 
--- the number that is written before it is a reading
-heldly : (c : In-Some) → HoldsHeld c.in-Some.turned.before
-heldly c = turning_held (calls_in (view.up-At-loop-locals _ _ _ _ _ c.before.before.before.before.before.before.before.before.before)) (reads (view.up-At-loop-locals _ _ _ _ _ c.before.before.before.before.before.before.before.before.before)) (givenBy (view.up-At-loop-locals _ _ _ _ _ c.before.before.before.before.before.before.before.before.before)) c.args.code.now (bytes (view.up-At-loop-locals _ _ _ _ _ c.before.before.before.before.before.before.before.before.before)) c.loop-locals.c _ _ c.loop-locals.invariant.turning (going (view.up-In-loop-locals _ _ _ _ _ c.before.before.before.before.before.before.before)) _ c.turn_at.ensures _ _ _ c.in-Some.is
-
 pub loop-locals-init : goal.loop-locals-init
 loop-locals-init c = sizing_start _ (calls-read _ _ _ c.requires.local_ranks c.requires.global_ranks) _ _ (λ i. (c.type_inv.code i).fits) _ c.start-c.ensures
 
@@ -56,19 +52,22 @@ pub loop-locals-preserved-then-c-run : goal.loop-locals-preserved-then-c-run
 loop-locals-preserved-then-c-run c = sizing_run (calls_in (goal.at.loop-locals-preserved-then-c-run c).At-loop-locals) (reads (goal.at.loop-locals-preserved-then-c-run c).At-loop-locals) (givenBy (goal.at.loop-locals-preserved-then-c-run c).At-loop-locals) c.args.code.now (bytes (goal.at.loop-locals-preserved-then-c-run c).At-loop-locals) _ _ c.run_at-run.ensures c.if-c-run.true _ _ c.loop-locals.invariant _ c.run_len-len.ensures _ c.held_at-h.ensures
 
 pub turn_at-requires : goal.turn_at-requires
-turn_at-requires c = (c.requires, c.loop-locals.invariant.turning.walk.within, going (goal.at.turn_at-requires c).In-loop-locals, c.loop-locals.invariant.turning.held)
+turn_at-requires c = (c.requires, c.loop-locals.invariant.turning.walk.within, going (goal.at.turn_at-requires c).In-loop-locals)
 
 pub sent_len-len-requires : goal.sent_len-len-requires
-sent_len-len-requires c = (heldly c, own-small c.args.code.now c.in-Some.turned.token (nextly c).writable c.requires.size)
+sent_len-len-requires c = own-small c.args.code.now c.in-Some.turned.token (nextly c).writable c.requires.size
 
 pub overflow_add-len-in-Some : goal.overflow_add-len-in-Some
 overflow_add-len-in-Some c = let m = sizing_turn (calls_in (goal.at.overflow_add-len-in-Some c).At-loop-locals) (reads (goal.at.overflow_add-len-in-Some c).At-loop-locals) (givenBy (goal.at.overflow_add-len-in-Some c).At-loop-locals) c.args.code.now (bytes (goal.at.overflow_add-len-in-Some c).At-loop-locals) c.loop-locals.c _ _ c.loop-locals.invariant (going (goal.at.overflow_add-len-in-Some c).In-loop-locals) _ c.turn_at.ensures _ _ _ c.in-Some.is _ c.sent_len-len.ensures _ refl in omega (arith, m.small, m.turning.walk.within.inside, c.requires.size)
+
+pub held_after-h-requires : goal.held_after-h-requires
+held_after-h-requires c = measurable _ _ (nextly (goal.at.held_after-h-requires c).In-Some).writable
 
 pub loop-locals-smaller : goal.loop-locals-smaller
 loop-locals-smaller c = (nextly (goal.at.loop-locals-smaller c).In-Some).moves.shorter
 
 pub loop-locals-preserved : goal.loop-locals-preserved
-loop-locals-preserved c = sizing_turn (calls_in (goal.at.loop-locals-preserved c).At-loop-locals) (reads (goal.at.loop-locals-preserved c).At-loop-locals) (givenBy (goal.at.loop-locals-preserved c).At-loop-locals) c.args.code.now (bytes (goal.at.loop-locals-preserved c).At-loop-locals) c.loop-locals.c _ _ c.loop-locals.invariant (going (goal.at.loop-locals-preserved c).In-loop-locals) _ c.turn_at.ensures _ _ _ c.in-Some.is _ c.sent_len-len.ensures _ c.after-h.ensures
+loop-locals-preserved c = sizing_turn (calls_in (goal.at.loop-locals-preserved c).At-loop-locals) (reads (goal.at.loop-locals-preserved c).At-loop-locals) (givenBy (goal.at.loop-locals-preserved c).At-loop-locals) c.args.code.now (bytes (goal.at.loop-locals-preserved c).At-loop-locals) c.loop-locals.c _ _ c.loop-locals.invariant (going (goal.at.loop-locals-preserved c).In-loop-locals) _ c.turn_at.ensures _ _ _ c.in-Some.is _ c.sent_len-len.ensures _ c.held_after-h.ensures
 
 pub returns-in-None : goal.returns-in-None
 returns-in-None c = sized_failed (calls_in (goal.at.returns-in-None c).At-loop-locals) (reads (goal.at.returns-in-None c).At-loop-locals) (givenBy (goal.at.returns-in-None c).At-loop-locals) c.args.code.now (bytes (goal.at.returns-in-None c).At-loop-locals) c.loop-locals.c _ _ c.loop-locals.invariant (going (goal.at.returns-in-None c).In-loop-locals) _ c.turn_at.ensures c.in-None.is

@@ -1,9 +1,9 @@
 -- `renumbered::put_held` meets its contract: the cases of the definition.
-use Rattle.renumber.specs.CodeLaws.{held_as, held-room, wrote-held, wrote_nothing}
+use Rattle.renumber.specs.CodeLaws.{held-room, wrote-held, wrote_nothing}
 use Rattle.renumbered.proofs.put_held.Goals as goal
 
 pub put_number-requires : goal.put_number-requires
-put_number-requires c = (held_as _ _ c.in-Some.is c.requires.0, held-room _ _ c.in-Some.is _ _ c.requires.1)
+put_number-requires c = held-room _ _ c.in-Some.is _ _ c.requires
 
 pub returns-in-None : goal.returns-in-None
 returns-in-None c = wrote_nothing _ _ _ c.in-None.is

@@ -4,4 +4,4 @@ use Rattle.renumber.specs.BodyLaws.{held-few}
 use Rattle.renumbered.proofs.sent_len.Goals as goal
 
 pub overflow_add-result : goal.overflow_add-result
-overflow_add-result c = let k = held-few c.args.h in omega (arith, c.held_len.ensures, c.own_len.ensures, c.requires.1)
+overflow_add-result c = let k = held-few c.args.h in omega (arith, c.held_len.ensures, c.own_len.ensures, c.requires)

@@ -1,27 +1,25 @@
--- `strings::standard_string` meets its contract: the table's law says that the part between the two offsets is the name.
+-- `strings::standard_string` meets its contract: the code's tables are those of the definitions, whose law says that the part between the two offsets is
+-- the name.
 use Rattle.std.proofs.Common.{arith}
-use Rattle.strings.proofs.TableLaws.{Named, named}
+use Rattle.octets.specs.Lists.{joined}
+use Rattle.strings.specs.Table.{standard_names, standard_offsets}
+use Rattle.strings.specs.Text.{codes}
+use Rattle.strings.specs.Strings.{standard_strings, standard_text}
+use Rattle.strings.proofs.TableLaws.{offset-rises, offset-within, part_is}
 use Rattle.strings.proofs.standard_string.Goals as goal
-use Rattle.strings.proofs.standard_string.Goals.{Start}
-
--- the two offsets of the name
-of-name : (c : Start) → Named c.args.names.now c.args.offsets.now c.args.k
-of-name c = named _ _ _ c.requires.0 c.requires.1 c.requires.2
-
-pub bounds-offsets-k : goal.bounds-offsets-k
-bounds-offsets-k c = let n = of-name (goal.at.bounds-offsets-k c).Start in omega arith
-
-pub bounds-offsets-k-2 : goal.bounds-offsets-k-2
-bounds-offsets-k-2 c = let n = of-name (goal.at.bounds-offsets-k-2 c).Start in omega arith
 
 pub slice_bounds-result-count : goal.slice_bounds-result-count
-slice_bounds-result-count c = let n = of-name (goal.at.slice_bounds-result-count c).Start in omega arith
+unfolding standard_offsets
+slice_bounds-result-count c = let n = offset-rises c.args.k c.requires in omega (arith, n)
 
 pub slice_bounds-result-start : goal.slice_bounds-result-start
-slice_bounds-result-start c = let n = of-name (goal.at.slice_bounds-result-start c).Start in omega arith
+unfolding standard_offsets
+slice_bounds-result-start c = let n = offset-rises c.args.k c.requires in omega (arith, n)
 
 pub slice_bounds-result-end : goal.slice_bounds-result-end
-slice_bounds-result-end c = let n = of-name (goal.at.slice_bounds-result-end c).Start in omega arith
+unfolding standard_offsets
+slice_bounds-result-end c = let n = offset-within c.args.k c.requires in omega (arith, n)
 
 pub returns : goal.returns
-returns c = (of-name (goal.at.returns c).Start).is
+unfolding standard_names standard_offsets codes standard_strings joined standard_text
+returns c = part_is c.args.k c.requires

@@ -1,18 +1,12 @@
 -- `top_dict::carried_len` meets its contract: the string entries and the others.
 use Rattle.std.proofs.Common.{arith}
-use Rattle.dict.specs.Places.{entries_of}
+use Rattle.dict.specs.Held.{entries}
 use Rattle.top_dict.specs.Writing.{split-length}
 use Rattle.top_dict.specs.TopParts.{carried-parts}
 use Rattle.top_dict.proofs.carried_len.Goals as goal
-
-pub strings_len-requires : goal.strings_len-requires
-strings_len-requires c = c.requires.1
-
-pub entries_len-requires : goal.entries_len-requires
-entries_len-requires c = (c.requires.0, c.requires.2)
 
 pub overflow_add-result : goal.overflow_add-result
 overflow_add-result c = omega (arith, c.strings_len.ensures.1, c.entries_len.ensures.1)
 
 pub returns : goal.returns
-returns c = (omega (arith, c.strings_len.ensures.0, c.entries_len.ensures.0, split-length (carried-parts (entries_of c.args.d.now) c.args.slots.now)), omega (arith, c.strings_len.ensures.1, c.entries_len.ensures.1))
+returns c = (omega (arith, c.strings_len.ensures.0, c.entries_len.ensures.0, split-length (carried-parts (entries c.args.top.now.dict) c.args.top.now.slots)), omega (arith, c.strings_len.ensures.1, c.entries_len.ensures.1))

@@ -5,13 +5,13 @@ use Rattle.top_dict.specs.TopParts.{cid-parts, cid_rest}
 use Rattle.top_dict.proofs.put_cid_offsets.Goals as goal
 
 pub put_glyph_offsets-p-requires : goal.put_glyph_offsets-p-requires
-put_glyph_offsets-p-requires c = (c.requires.0.first, c.requires.0.second, split-room _ _ c.requires.1 (cid-parts c.args.at1 c.args.at2 c.args.at3 c.args.at4))
+put_glyph_offsets-p-requires c = split-room _ _ c.requires (cid-parts c.args.to.charset c.args.to.select c.args.to.glyphs c.args.to.dicts)
 
 pub put_offset_entry-q-requires : goal.put_offset_entry-q-requires
-put_offset_entry-q-requires c = (refl, c.requires.0.third, writing-room c.requires.1 (cid_rest c.args.at3 c.args.at4) (writing-turn c.requires.1 (cid-parts c.args.at1 c.args.at2 c.args.at3 c.args.at4) (writing_start _ _ _) c.put_glyph_offsets-p.ensures))
+put_offset_entry-q-requires c = (refl, c.args.to.few.third, writing-room c.requires (cid_rest c.args.to.glyphs c.args.to.dicts) (writing-turn c.requires (cid-parts c.args.to.charset c.args.to.select c.args.to.glyphs c.args.to.dicts) (writing_start _ _ _) c.put_glyph_offsets-p.ensures))
 
 pub put_offset_entry-requires : goal.put_offset_entry-requires
-put_offset_entry-requires c = (refl, c.requires.0.fourth, writing-left c.requires.1 (writing-turn c.requires.1 (cid_rest c.args.at3 c.args.at4) (writing-turn c.requires.1 (cid-parts c.args.at1 c.args.at2 c.args.at3 c.args.at4) (writing_start _ _ _) c.put_glyph_offsets-p.ensures) c.put_offset_entry-q.ensures))
+put_offset_entry-requires c = (refl, c.args.to.few.fourth, writing-left c.requires (writing-turn c.requires (cid_rest c.args.to.glyphs c.args.to.dicts) (writing-turn c.requires (cid-parts c.args.to.charset c.args.to.select c.args.to.glyphs c.args.to.dicts) (writing_start _ _ _) c.put_glyph_offsets-p.ensures) c.put_offset_entry-q.ensures))
 
 pub returns : goal.returns
-returns c = writing-last c.requires.1 (writing-turn c.requires.1 (cid_rest c.args.at3 c.args.at4) (writing-turn c.requires.1 (cid-parts c.args.at1 c.args.at2 c.args.at3 c.args.at4) (writing_start _ _ _) c.put_glyph_offsets-p.ensures) c.put_offset_entry-q.ensures) c.put_offset_entry.ensures
+returns c = writing-last c.requires (writing-turn c.requires (cid_rest c.args.to.glyphs c.args.to.dicts) (writing-turn c.requires (cid-parts c.args.to.charset c.args.to.select c.args.to.glyphs c.args.to.dicts) (writing_start _ _ _) c.put_glyph_offsets-p.ensures) c.put_offset_entry-q.ensures) c.put_offset_entry.ensures

@@ -5,10 +5,10 @@ use Rattle.top_dict.specs.TopParts.{code-parts}
 use Rattle.top_dict.proofs.put_code_offsets.Goals as goal
 
 pub put_offset_entry-p-requires : goal.put_offset_entry-p-requires
-put_offset_entry-p-requires c = (refl, c.requires.0, split-room _ _ c.requires.2 (code-parts c.args.at1 c.args.v))
+put_offset_entry-p-requires c = (refl, c.args.to.few.first, split-room _ _ c.requires (code-parts c.args.to.charset c.args.to.encoding))
 
 pub put_encoding_entry-requires : goal.put_encoding_entry-requires
-put_encoding_entry-requires c = (c.requires.1, writing-left c.requires.2 (writing-turn c.requires.2 (code-parts c.args.at1 c.args.v) (writing_start _ _ _) c.put_offset_entry-p.ensures))
+put_encoding_entry-requires c = (c.args.to.coded, writing-left c.requires (writing-turn c.requires (code-parts c.args.to.charset c.args.to.encoding) (writing_start _ _ _) c.put_offset_entry-p.ensures))
 
 pub returns : goal.returns
-returns c = writing-last c.requires.2 (writing-turn c.requires.2 (code-parts c.args.at1 c.args.v) (writing_start _ _ _) c.put_offset_entry-p.ensures) c.put_encoding_entry.ensures
+returns c = writing-last c.requires (writing-turn c.requires (code-parts c.args.to.charset c.args.to.encoding) (writing_start _ _ _) c.put_offset_entry-p.ensures) c.put_encoding_entry.ensures

@@ -7,10 +7,10 @@ pub loop-k-init : goal.loop-k-init
 loop-k-init c = writing_start _ _ _
 
 pub put_copied-p-requires : goal.put_copied-p-requires
-put_copied-p-requires c = let e = c.copied_top_entry.ensures in (copied-operator _ _ c.loop-k-test.true e, writing-room c.requires.0 (copied_next _ _ c.loop-k-test.true _ e) c.loop-k.invariant, c.requires.1)
+put_copied-p-requires c = let e = c.copied_top_entry.ensures in (copied-operator _ _ c.loop-k-test.true e, writing-room c.requires (copied_next _ _ c.loop-k-test.true _ e) c.loop-k.invariant)
 
 pub loop-k-preserved : goal.loop-k-preserved
-loop-k-preserved c = writing-turn c.requires.0 (copied_next _ _ c.loop-k-test.true _ c.copied_top_entry.ensures) c.loop-k.invariant c.put_copied-p.ensures
+loop-k-preserved c = writing-turn c.requires (copied_next _ _ c.loop-k-test.true _ c.copied_top_entry.ensures) c.loop-k.invariant c.put_copied-p.ensures
 
 pub returns : goal.returns
 returns c = writing_end c.loop-k.invariant (copied-over _ _ c.loop-k-test.false)

@@ -1,9 +1,9 @@
 use Rattle.top_dict.specs.Writing.{Writing}
 use Rattle.top_dict.specs.TopLaws.{copied_from}
 use Rattle.dict.specs.Op.{copied_top_entries}
-use Rattle.dict.specs.Places.{entries_of}
+use Rattle.dict.specs.Held.{entries}
 use Rattle.subset.specs.Subset.{copied_bytes}
 use Rattle.top_dict.proofs.put_entries.Given as goal
 
 abbrev pub invariant-loop-k : goal.invariant-loop-k
-invariant-loop-k l = Writing (copied_bytes (entries_of l.d) copied_top_entries) l.initial.out l.at (copied_from (entries_of l.d) l.k) l.out l.p
+invariant-loop-k l = Writing (copied_bytes (entries l.d) copied_top_entries) l.initial.out l.at (copied_from (entries l.d) l.k) l.out l.p

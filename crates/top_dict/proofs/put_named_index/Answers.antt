@@ -1,6 +1,6 @@
 -- `top_dict::put_named_index` meets its contract: what stands before the item, and then the top DICT, whose length was measured.
 use Rattle.std.proofs.Common.{subst, sym, ℕ, ◌<◌, ◌∙◌}
-use Rattle.dict.specs.Places.{entries_of}
+use Rattle.dict.specs.Held.{entries}
 use Rattle.top_dict.specs.Writing.{split-room, writing_start, writing-turn, writing-left, writing-last}
 use Rattle.top_dict.specs.TopParts.{single-parts}
 use Rattle.top_dict.specs.TopLaws.{named-measured}
@@ -8,10 +8,10 @@ use Rattle.top_dict.specs.Top.{top_named}
 use Rattle.top_dict.proofs.put_named_index.Goals as goal
 
 pub put_single_head-p-requires : goal.put_single_head-p-requires
-put_single_head-p-requires c = (subst (λ (n : ℕ). n < 4294967295) (sym c.placed_len-n.ensures.0) c.requires.4, split-room _ _ c.requires.5 (single-parts _ (top_named (entries_of c.args.d.now) c.args.slots.now c.args.at1 c.args.v c.args.at2 c.args.size c.args.at3) (c.placed_len-n.ensures.0 ∙ named-measured (entries_of c.args.d.now) c.args.slots.now c.args.at1 c.args.v c.args.at2 c.args.size c.args.at3)))
+put_single_head-p-requires c = (subst (λ (n : ℕ). n < 4294967295) (sym c.top_len-n.ensures.0) c.requires.0, split-room _ _ c.requires.1 (single-parts _ (top_named (entries c.args.top.now.dict) c.args.top.now.slots c.args.to.charset c.args.to.encoding c.args.to.charstrings c.args.to.size c.args.to.private) (c.top_len-n.ensures.0 ∙ named-measured (entries c.args.top.now.dict) c.args.top.now.slots c.args.to.charset c.args.to.encoding c.args.to.charstrings c.args.to.size c.args.to.private)))
 
 pub put_top_named-requires : goal.put_top_named-requires
-put_top_named-requires c = (c.requires.1, c.requires.2, c.requires.3, writing-left c.requires.5 (writing-turn c.requires.5 (single-parts _ (top_named (entries_of c.args.d.now) c.args.slots.now c.args.at1 c.args.v c.args.at2 c.args.size c.args.at3) (c.placed_len-n.ensures.0 ∙ named-measured (entries_of c.args.d.now) c.args.slots.now c.args.at1 c.args.v c.args.at2 c.args.size c.args.at3)) (writing_start _ _ _) c.put_single_head-p.ensures), c.read_top-places.ensures)
+put_top_named-requires c = writing-left c.requires.1 (writing-turn c.requires.1 (single-parts _ (top_named (entries c.args.top.now.dict) c.args.top.now.slots c.args.to.charset c.args.to.encoding c.args.to.charstrings c.args.to.size c.args.to.private) (c.top_len-n.ensures.0 ∙ named-measured (entries c.args.top.now.dict) c.args.top.now.slots c.args.to.charset c.args.to.encoding c.args.to.charstrings c.args.to.size c.args.to.private)) (writing_start _ _ _) c.put_single_head-p.ensures)
 
 pub returns : goal.returns
-returns c = writing-last c.requires.5 (writing-turn c.requires.5 (single-parts _ (top_named (entries_of c.args.d.now) c.args.slots.now c.args.at1 c.args.v c.args.at2 c.args.size c.args.at3) (c.placed_len-n.ensures.0 ∙ named-measured (entries_of c.args.d.now) c.args.slots.now c.args.at1 c.args.v c.args.at2 c.args.size c.args.at3)) (writing_start _ _ _) c.put_single_head-p.ensures) c.put_top_named.ensures
+returns c = writing-last c.requires.1 (writing-turn c.requires.1 (single-parts _ (top_named (entries c.args.top.now.dict) c.args.top.now.slots c.args.to.charset c.args.to.encoding c.args.to.charstrings c.args.to.size c.args.to.private) (c.top_len-n.ensures.0 ∙ named-measured (entries c.args.top.now.dict) c.args.top.now.slots c.args.to.charset c.args.to.encoding c.args.to.charstrings c.args.to.size c.args.to.private)) (writing_start _ _ _) c.put_single_head-p.ensures) c.put_top_named.ensures

@@ -5,13 +5,13 @@ use Rattle.top_dict.specs.TopParts.{named-parts, named-rest}
 use Rattle.top_dict.proofs.put_named_offsets.Goals as goal
 
 pub put_code_offsets-p-requires : goal.put_code_offsets-p-requires
-put_code_offsets-p-requires c = (c.requires.0.first, c.requires.1, split-room _ _ c.requires.2 (named-parts c.args.at1 c.args.v c.args.at2 c.args.size c.args.at3))
+put_code_offsets-p-requires c = split-room _ _ c.requires (named-parts c.args.to.charset c.args.to.encoding c.args.to.charstrings c.args.to.size c.args.to.private)
 
 pub put_offset_entry-q-requires : goal.put_offset_entry-q-requires
-put_offset_entry-q-requires c = (refl, c.requires.0.second, writing-room c.requires.2 (named-rest c.args.at2 c.args.size c.args.at3) (writing-turn c.requires.2 (named-parts c.args.at1 c.args.v c.args.at2 c.args.size c.args.at3) (writing_start _ _ _) c.put_code_offsets-p.ensures))
+put_offset_entry-q-requires c = (refl, c.args.to.few.second, writing-room c.requires (named-rest c.args.to.charstrings c.args.to.size c.args.to.private) (writing-turn c.requires (named-parts c.args.to.charset c.args.to.encoding c.args.to.charstrings c.args.to.size c.args.to.private) (writing_start _ _ _) c.put_code_offsets-p.ensures))
 
 pub put_private_entry-requires : goal.put_private_entry-requires
-put_private_entry-requires c = (c.requires.0.third, c.requires.0.fourth, writing-left c.requires.2 (writing-turn c.requires.2 (named-rest c.args.at2 c.args.size c.args.at3) (writing-turn c.requires.2 (named-parts c.args.at1 c.args.v c.args.at2 c.args.size c.args.at3) (writing_start _ _ _) c.put_code_offsets-p.ensures) c.put_offset_entry-q.ensures))
+put_private_entry-requires c = (c.args.to.few.third, c.args.to.few.fourth, writing-left c.requires (writing-turn c.requires (named-rest c.args.to.charstrings c.args.to.size c.args.to.private) (writing-turn c.requires (named-parts c.args.to.charset c.args.to.encoding c.args.to.charstrings c.args.to.size c.args.to.private) (writing_start _ _ _) c.put_code_offsets-p.ensures) c.put_offset_entry-q.ensures))
 
 pub returns : goal.returns
-returns c = writing-last c.requires.2 (writing-turn c.requires.2 (named-rest c.args.at2 c.args.size c.args.at3) (writing-turn c.requires.2 (named-parts c.args.at1 c.args.v c.args.at2 c.args.size c.args.at3) (writing_start _ _ _) c.put_code_offsets-p.ensures) c.put_offset_entry-q.ensures) c.put_private_entry.ensures
+returns c = writing-last c.requires (writing-turn c.requires (named-rest c.args.to.charstrings c.args.to.size c.args.to.private) (writing-turn c.requires (named-parts c.args.to.charset c.args.to.encoding c.args.to.charstrings c.args.to.size c.args.to.private) (writing_start _ _ _) c.put_code_offsets-p.ensures) c.put_offset_entry-q.ensures) c.put_private_entry.ensures

@@ -1,14 +1,17 @@
 -- `top_dict::put_slot` meets its contract: the slot tells whether there is an entry.
-use Rattle.std.proofs.Common.{ap, arith, length}
+use Rattle.std.proofs.Common.{ap, arith, length, List, ℕ, ◌∙◌}
 use Rattle.octets.specs.PutLaws.{wrote_none, wrote_as}
+use Rattle.top_dict.specs.Top.{slot_entry}
 use Rattle.top_dict.specs.TopLaws.{slot_there, slot-none, slot_small}
 use Rattle.top_dict.proofs.put_slot.Goals as goal
 
 pub put_value-requires : goal.put_value-requires
-put_value-requires c = (c.requires.2, slot_small _ _ 0 c.requires.0 c.requires.1, omega (arith, c.requires.3, ap length (slot_there c.args.slots.now c.args.j c.args.op c.if-slots-j-lt65536.true)))
+put_value-requires c =
+    let e = slot_there c.slots.inside.ids.now c.args.j c.args.op c.if-ids-j-lt65536.true ∙ ap (λ (l : List ℕ). slot_entry l c.args.j c.args.op) c.slots.view_is in
+    (c.requires.1, slot_small _ _ 0 c.slots.invariant c.requires.0, omega (arith, c.requires.2, ap length e))
 
-pub returns-then-slots-j-lt65536 : goal.returns-then-slots-j-lt65536
-returns-then-slots-j-lt65536 c = wrote_as c.put_value.ensures (slot_there _ _ _ c.if-slots-j-lt65536.true)
+pub returns-then-ids-j-lt65536 : goal.returns-then-ids-j-lt65536
+returns-then-ids-j-lt65536 c = wrote_as c.put_value.ensures (slot_there _ _ _ c.if-ids-j-lt65536.true ∙ ap (λ (l : List ℕ). slot_entry l c.args.j c.args.op) c.slots.view_is)
 
 pub returns : goal.returns
-returns c = wrote_as (wrote_none _ _) (slot-none _ _ _ c.if-slots-j-lt65536.false)
+returns c = wrote_as (wrote_none _ _) (slot-none _ _ _ c.if-ids-j-lt65536.false ∙ ap (λ (l : List ℕ). slot_entry l c.args.j c.args.op) c.slots.view_is)

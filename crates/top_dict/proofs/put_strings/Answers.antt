@@ -8,10 +8,10 @@ pub loop-k-init : goal.loop-k-init
 loop-k-init c = writing_start _ _ _
 
 pub put_slot-p-requires : goal.put_slot-p-requires
-put_slot-p-requires c = let e = c.copied_top_string.ensures in (c.requires.0, omega (arith, c.loop-k-test.true), six_operator _ _ c.loop-k-test.true e, writing-room c.requires.1 (strings-next _ _ c.loop-k-test.true _ e) c.loop-k.invariant)
+put_slot-p-requires c = let e = c.copied_top_string.ensures in (omega (arith, c.loop-k-test.true), six_operator _ _ c.loop-k-test.true e, writing-room c.requires (strings-next _ _ c.loop-k-test.true _ e) c.loop-k.invariant)
 
 pub loop-k-preserved : goal.loop-k-preserved
-loop-k-preserved c = writing-turn c.requires.1 (strings-next _ _ c.loop-k-test.true _ c.copied_top_string.ensures) c.loop-k.invariant c.put_slot-p.ensures
+loop-k-preserved c = writing-turn c.requires (strings-next _ _ c.loop-k-test.true _ c.copied_top_string.ensures) c.loop-k.invariant c.put_slot-p.ensures
 
 pub returns : goal.returns
 returns c = writing_end c.loop-k.invariant (strings-over _ _ c.loop-k-test.false)

@@ -1,14 +1,12 @@
--- `top_dict::put_whole` meets its contract: the integer is normalised.
-use Rattle.std.proofs.Common.{ap, arith, length, subst, sym}
+-- `top_dict::put_whole` meets its contract: the number that is written is the integer.
+use Rattle.std.proofs.Common.{ap, arith, length}
 use Rattle.octets.specs.PutLaws.{wrote_as}
 use Rattle.decimal.specs.declared.Decimal.{Decimal}
-use Rattle.decimal.specs.Decimal.{Normal}
 use Rattle.decimal.specs.Written.{number_bytes}
-use Rattle.decimal.specs.TakenLaws.{whole-normal}
 use Rattle.top_dict.proofs.put_whole.Goals as goal
 
 pub put_number-requires : goal.put_number-requires
-put_number-requires c = (subst Normal (sym c.whole.ensures) (whole-normal _ _ c.requires.0), omega (arith, c.requires.1, ap (λ (x : Decimal). length (number_bytes x)) c.whole.ensures))
+put_number-requires c = omega (arith, c.requires, ap (λ (x : Decimal). length (number_bytes x)) c.whole.ensures)
 
 pub returns : goal.returns
 returns c = wrote_as c.put_number.ensures (ap number_bytes c.whole.ensures)

@@ -2,11 +2,8 @@
 use Rattle.turns.specs.TargetLaws.{last-read, last-cut, last-operator, no_last, last-names}
 use Rattle.turns.proofs.target_at.Goals as goal
 
-pub target_of-requires : goal.target_of-requires
-target_of-requires c = (last-read _ _ _ c.if-prev-at.true (λ i. (c.type_inv.code i).fits) _ c.read_number.ensures _ _ c.in-Num.is).0
-
 pub returns-in-Num : goal.returns-in-Num
-returns-in-Num c = last-names c.args.code.now c.args.prev c.args.at _ _ (last-read _ _ _ c.if-prev-at.true (λ i. (c.type_inv.code i).fits) _ c.read_number.ensures _ _ c.in-Num.is).1 _ c.target_of.ensures
+returns-in-Num c = last-names c.args.code.now c.args.prev c.args.at _ _ (last-read _ _ _ c.if-prev-at.true _ c.read_number.ensures _ _ c.in-Num.is) _ c.target_of.ensures
 
 pub returns-in-Cut : goal.returns-in-Cut
 returns-in-Cut c = last-cut _ _ _ c.if-prev-at.true _ _ c.read_number.ensures c.in-Cut.is

@@ -8,37 +8,37 @@ use Rattle.type2_number.proofs.count_of.Goals as goal
 
 pub float_to_float-result : goal.float_to_float-result
 float_to_float-result c =
-    let k = side _ true c.requires c.if-v.true in
+    let k = side _ true c.v.invariant c.if-x.true in
     widens _ false k.size (neg_value _ k.size k.value) c.row_known-1.given
 
 pub float_to_int-result : goal.float_to_int-result
 float_to_int-result c =
-    let k = side _ true c.requires c.if-v.true in
+    let k = side _ true c.v.invariant c.if-x.true in
     (cast _ k.size (neg_value _ k.size k.value) k.small).0
 
-pub float_to_float-result-else-v : goal.float_to_float-result-else-v
-float_to_float-result-else-v c =
-    let k = side _ false c.requires c.if-v.false in
-    widens _ false k.size k.value c.type_inv.v
+pub float_to_float-result-else-x : goal.float_to_float-result-else-x
+float_to_float-result-else-x c =
+    let k = side _ false c.v.invariant c.if-x.false in
+    widens _ false k.size k.value c.type_inv.x
 
-pub float_to_int-result-else-v : goal.float_to_int-result-else-v
-float_to_int-result-else-v c =
-    let k = side _ false c.requires c.if-v.false in
+pub float_to_int-result-else-x : goal.float_to_int-result-else-x
+float_to_int-result-else-x c =
+    let k = side _ false c.v.invariant c.if-x.false in
     (cast _ k.size k.value k.small).0
 
-pub returns-then-v : goal.returns-then-v
-returns-then-v c =
-    let v = c.args.v in
-    let k = side v true c.requires c.if-v.true in
+pub returns-then-x : goal.returns-then-x
+returns-then-x c =
+    let v = c.v.inside.value in
+    let k = side v true c.v.invariant c.if-x.true in
     let e = (cast (neg v) k.size (neg_value v k.size k.value) k.small).1 in
     let z = scaled_is v true k.size k.value in
     let m = is-neg k.size (k.above refl) in
-    (m.0 ∙ ap is_neg (sym z), e ∙ m.1 ∙ ap mag (sym z), le_trans (le_of_eq e) k.small, λ t. rw e (k.above refl))
+    (m.0 ∙ ap is_neg (sym z ∙ c.v.view_is), e ∙ m.1 ∙ ap mag (sym z ∙ c.v.view_is), le_trans (le_of_eq e) k.small, λ t. rw e (k.above refl))
 
-pub returns-else-v : goal.returns-else-v
-returns-else-v c =
-    let v = c.args.v in
-    let k = side v false c.requires c.if-v.false in
+pub returns-else-x : goal.returns-else-x
+returns-else-x c =
+    let v = c.v.inside.value in
+    let k = side v false c.v.invariant c.if-x.false in
     let e = (cast v k.size k.value k.small).1 in
     let z = scaled_is v false k.size k.value in
-    (ap is_neg (sym z), e ∙ ap mag (sym z), le_trans (le_of_eq e) k.small, λ t. absurd (false≢true t))
+    (ap is_neg (sym z ∙ c.v.view_is), e ∙ ap mag (sym z ∙ c.v.view_is), le_trans (le_of_eq e) k.small, λ t. absurd (false≢true t))

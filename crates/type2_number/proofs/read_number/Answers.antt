@@ -13,19 +13,19 @@ pub returns-then-v-lt32 : goal.returns-then-v-lt32
 returns-then-v-lt32 c = got_op _ _ _ c.from-v.ensures (omega arith) c.if-v-eq28.false
 
 pub returns-then-v-lt247 : goal.returns-then-v-lt247
-returns-then-v-lt247 c = got_1 _ _ _ c.from-v.ensures (omega arith) (omega arith) _ c.integer.ensures
+returns-then-v-lt247 c = got_1 _ _ _ c.from-v.ensures (omega arith) (omega arith) _ c.whole.ensures
 
 pub returns-then-left-lt2 : goal.returns-then-left-lt2
 returns-then-left-lt2 c = cut_2 _ _ _ c.from-v.ensures (omega arith) (omega arith) (omega arith)
 
 pub returns-then-v-lt251 : goal.returns-then-v-lt251
-returns-then-v-lt251 c = got-up _ _ _ _ c.from-v.ensures c.from-w.ensures (omega arith) (omega arith) (omega arith) _ c.integer-then-v-lt251.ensures
+returns-then-v-lt251 c = got-up _ _ _ _ c.from-v.ensures c.from-w.ensures (omega arith) (omega arith) (omega arith) _ c.whole-then-v-lt251.ensures
 
 pub returns-then-v-lt255 : goal.returns-then-v-lt255
-returns-then-v-lt255 c = got-down _ _ _ _ c.from-v.ensures c.from-w.ensures (omega arith) (omega arith) (omega arith) _ c.integer-then-v-lt255.ensures
+returns-then-v-lt255 c = got-down _ _ _ _ c.from-v.ensures c.from-w.ensures (omega arith) (omega arith) (omega arith) _ c.whole-then-v-lt255.ensures
 
 pub returns-then-left-lt5 : goal.returns-then-left-lt5
 returns-then-left-lt5 c = cut_5 _ _ _ c.from-v.ensures (omega arith) (omega arith)
 
 pub returns : goal.returns
-returns c = got_ff _ _ _ _ _ c.from-v.ensures (omega arith) (omega arith) c.pair.ensures.0 c.pair-2.ensures.0 _ c.fixed.ensures
+returns c = got_ff _ _ _ _ _ c.from-v.ensures (omega arith) (omega arith) c.pair.ensures.0 c.pair-2.ensures.0 _ c.fixed_operand.ensures

@@ -1,14 +1,16 @@
 -- `bodies::subrs::advance` meets its contract: the globals' rows have kind 4, those of the locals of an FD kind 3.
-use Rattle.bodies.specs.WindowsLaws.{fills_global, covers_global, global_covers, fills_local, covers_local, local_covers}
+use Rattle.bodies.specs.WindowsLaws.{fills_subr, fills_global, covers_global, global_covers, fills_local, covers_local, local_covers}
 use Rattle.bodies.proofs.subrs.advance.Goals as goal
 
 pub advance-requires : goal.advance-requires
 advance-requires c =
-    (fills_global c.in-Global.is c.requires.0, covers_global c.in-Global.is c.requires.1)
+    let one = c.args.one.now in
+    (fills_global c.in-Global.is (fills_subr one.of.now.from one.of.now.sourced one.k one.there), covers_global c.in-Global.is c.requires)
 
 pub advance-requires-in-Local : goal.advance-requires-in-Local
 advance-requires-in-Local c =
-    (fills_local c.in-Local.is c.requires.0, covers_local c.in-Local.is c.requires.1)
+    let one = c.args.one.now in
+    (fills_local c.in-Local.is (fills_subr one.of.now.from one.of.now.sourced one.k one.there), covers_local c.in-Local.is c.requires)
 
 pub returns-in-Global : goal.returns-in-Global
 returns-in-Global c =

@@ -5,12 +5,10 @@ use Rattle.bodies.specs.CodeLaws.{bit-reached}
 use Rattle.bodies.proofs.subrs.is_reached.Goals as goal
 
 pub returns-then-own-k : goal.returns-then-own-k
-returns-then-own-k c =
-    sym (reached-none c.args.words.now c.args.own c.args.k c.if-own-k.true)
+returns-then-own-k c = sym (reached-none c.args.all.now.words.now c.args.all.now.from.own c.args.k c.if-own-k.true)
 
 pub has_bit-requires : goal.has_bit-requires
-has_bit-requires c = omega arith
+has_bit-requires c = omega (arith, c.args.all.now.sourced.inside)
 
 pub returns : goal.returns
-returns c =
-    bit-reached c.args.words.now c.args.own c.args.k c.if-own-k.false _ c.has_bit.ensures
+returns c = bit-reached c.args.all.now.words.now c.args.all.now.from.own c.args.k c.if-own-k.false _ c.has_bit.ensures

@@ -1,102 +1,84 @@
 -- `bodies::subrs::put_directly` meets its contract.
-use Rattle.std.proofs.Common.{Bool, List, ap, arith, length, sym, true, ℕ, ◌∙◌, ◌≡◌, Option}
+use Rattle.std.proofs.Common.{ap, arith, length, sym, ◌∙◌, ◌≡◌}
 use Rattle.octets.specs.PutLaws.{wrote_as}
-use Rattle.index.specs.Index.{items_of}
 use Rattle.index.specs.Write.{index_bytes}
 use Rattle.index.specs.Begun.{Meant}
-use Rattle.record.specs.Record.{rows_of}
-use Rattle.subset.specs.Kept.{those}
 use Rattle.bits.specs.Bits.{count_below}
-use Rattle.subset.specs.Pruned.{each}
 use Rattle.subset.specs.RankLaws.{count-few}
-use Rattle.renumber.specs.Ranks.{calls_by}
-use Rattle.bodies.specs.Ways.{many_of, reached_in, site_in, is_kept, subr_by, subrs_by}
+use Rattle.bodies.specs.Ways.{many_of}
 use Rattle.bodies.specs.WritingLaws.{writing_start, writing-skip, writing-room, writing_end, writing-on, head-fits, places-meant, writing-whole}
-use Rattle.bodies.specs.SubrsLaws.{index-each, index_many, new-subrs_is}
+use Rattle.bodies.specs.Written.{kept_of, subr_of, subrs_of}
+use Rattle.bodies.specs.WrittenLaws.{written-each, written-count, new-written, measured_room}
 use Rattle.bodies.proofs.subrs.put_directly.Goals as goal
 use Rattle.bodies.proofs.subrs.put_directly.Lts.View as view
-use Rattle.bodies.proofs.subrs.put_directly.Goals.{After-kept_count-count, After-put_head, Start, Then-is_kept, then-is_kept, else-is_kept}
+use Rattle.bodies.proofs.subrs.put_directly.Goals.{After-kept_count-count, After-put_head, then-is_kept, else-is_kept}
 
--- which are written, what each is, and all
-abbrev T : Start → ℕ → Bool
-T s = is_kept s.args.from.way (reached_in s.args.words.now s.args.from.own)
-
-abbrev F : Start → ℕ → Option (List ℕ)
-F s =
-    subr_by s.args.from.way (rows_of s.args.rows.now) (reached_in s.args.words.now s.args.from.own)
-    (calls_by s.args.words.now s.args.from.locals s.args.from.globals) (site_in s.args.from.of) (items_of s.args.font.now s.args.from.ix)
-
-abbrev B : Start → Option (List (List ℕ))
-B s =
-    subrs_by s.args.from.way (rows_of s.args.rows.now) (reached_in s.args.words.now s.args.from.own)
-    (calls_by s.args.words.now s.args.from.locals s.args.from.globals) (site_in s.args.from.of) (items_of s.args.font.now s.args.from.ix)
-
-same : (s : Start) → B s ≡ each (F s) (those (T s) s.args.from.ix.count 0)
-same s =
-    index-each s.args.from.way s.args.font.now s.args.words.now s.args.from.ix s.args.from.own s.args.from.locals s.args.from.globals
-    (rows_of s.args.rows.now) s.args.from.rising s.args.from.of s.requires.0 (calls_by s.args.words.now s.args.from.locals s.args.from.globals) (site_in s.args.from.of)
-
-many : (c : After-kept_count-count) → c.kept_count-count.result ≡ count_below (T c.before.before.before.before.before.before) c.args.from.ix.count
-many c =
-    c.kept_count-count.ensures
-    ∙ index_many c.args.from.way c.args.font.now c.args.words.now c.args.from.ix c.args.from.own c.args.from.locals c.args.from.globals
-    (rows_of c.args.rows.now) c.args.from.rising c.args.from.of c.requires.0 (calls_by c.args.words.now c.args.from.locals c.args.from.globals) (site_in c.args.from.of) c.requires.1
+many : (c : After-kept_count-count) → c.kept_count-count.result ≡ count_below (kept_of c.args.m.now.all) c.args.m.now.all.from.ix.count
+many c = c.kept_count-count.ensures ∙ written-count c.args.m.now
 
 -- the places are for the subroutines
-meant : (c : After-put_head) → Meant (length c.put_head.new.out) c.index_for-to.result (many_of (B c.before.before.before.before.before.before.before.before.before))
+meant : (c : After-put_head) → Meant (length c.put_head.new.out) c.index_for-to.result (many_of (subrs_of c.args.m.now.all))
 meant c =
-    places-meant (B c.before.before.before.before.before.before.before.before.before) (F c.before.before.before.before.before.before.before.before.before) (T c.before.before.before.before.before.before.before.before.before) c.args.from.ix.count (same c.before.before.before.before.before.before.before.before.before) c.requires.2.done c.args.out.now c.args.at c.kept_count-count.result c.args.total c.index_for-to.result
-    c.requires.2 c.index_for-to.ensures (many (view.up-After-kept_count-count _ _ _ _ _ c.before.before.before.before)) (length c.put_head.new.out) c.put_head.auto.out
+    let m = c.args.m.now in
+    let a = m.all in
+    places-meant (subrs_of a) (subr_of a) (kept_of a) a.from.ix.count (written-each a) m.adds.done c.args.out.now c.args.at c.kept_count-count.result m.total c.index_for-to.result
+    (measured_room m c.requires.0 c.requires.1) c.index_for-to.ensures (many (view.up-After-kept_count-count _ _ _ _ _ c.before.before.before.before)) (length c.put_head.new.out) c.put_head.auto.out
 
 pub index_for-to-requires : goal.index_for-to-requires
 index_for-to-requires c =
-    (c.requires.2.early, omega (arith, many c, count-few (T (goal.at.index_for-to-requires c).Start) c.args.from.ix.count, c.requires.0.few), c.requires.2.few)
+    let m = c.args.m.now in
+    (c.requires.0, omega (arith, many c, count-few (kept_of m.all) m.all.from.ix.count, m.all.sourced.few), m.adds.few)
 
 pub put_head-requires : goal.put_head-requires
-put_head-requires c = (
-  c.requires.2.few,
-  head-fits (B (goal.at.put_head-requires c).Start) (F (goal.at.put_head-requires c).Start) (T (goal.at.put_head-requires c).Start) c.args.from.ix.count (same (goal.at.put_head-requires c).Start) c.requires.2.done c.args.out.now c.args.at c.kept_count-count.result c.args.total c.index_for-to.result
-      c.requires.2 c.index_for-to.ensures (many (goal.at.put_head-requires c).After-kept_count-count),
-)
+put_head-requires c =
+    let m = c.args.m.now in
+    let a = m.all in (
+      m.adds.few,
+      head-fits (subrs_of a) (subr_of a) (kept_of a) a.from.ix.count (written-each a) m.adds.done c.args.out.now c.args.at c.kept_count-count.result m.total c.index_for-to.result
+          (measured_room m c.requires.0 c.requires.1) c.index_for-to.ensures (many (goal.at.put_head-requires c).After-kept_count-count),
+    )
 
 pub overflow_add-p : goal.overflow_add-p
 overflow_add-p c = omega (arith, meant (goal.at.overflow_add-p c).After-put_head)
 
 pub loop-k-init : goal.loop-k-init
-loop-k-init c = writing_start _ _ (many_of (B (goal.at.loop-k-init c).Start)) (T (goal.at.loop-k-init c).Start) c.args.from.ix.count
-
--- number k is written
-taken : (c : Then-is_kept) → T c.before.before.before.before.before.before.before.before.before.before.before.before.before.before.before.before.before c.loop-k.k ≡ true
-taken c = sym c.is_kept.ensures ∙ c.if-is_kept.true
+loop-k-init c = let a = c.args.m.now.all in writing_start _ _ (many_of (subrs_of a)) (kept_of a) a.from.ix.count
 
 pub put_subr-p-requires : goal.put_subr-p-requires
 put_subr-p-requires c =
-    let q = writing-room (B (goal.at.put_subr-p-requires c).Start) (F (goal.at.put_subr-p-requires c).Start) (T (goal.at.put_subr-p-requires c).Start) c.args.from.ix.count (same (goal.at.put_subr-p-requires c).Start) c.requires.2.done _ _ (meant (goal.at.put_subr-p-requires c).After-put_head) c.loop-k.k c.loop-k.j c.loop-k.invariant c.loop-k-test.true (taken (goal.at.put_subr-p-requires c).Then-is_kept) in
-    (c.requires.0, c.loop-k-test.true, q.0, q.1)
+    let m = c.args.m.now in
+    let a = m.all in
+    writing-room (subrs_of a) (subr_of a) (kept_of a) a.from.ix.count (written-each a) m.adds.done _ _ (meant (goal.at.put_subr-p-requires c).After-put_head) c.loop-k.k c.loop-k.j
+    c.loop-k.invariant c.loop-k-test.true (sym c.is_kept.ensures ∙ c.if-is_kept.true)
 
 pub put_end-requires : goal.put_end-requires
 put_end-requires c =
-    writing_end (B (goal.at.put_end-requires c).Start) (F (goal.at.put_end-requires c).Start) (T (goal.at.put_end-requires c).Start) c.args.from.ix.count (same (goal.at.put_end-requires c).Start) c.requires.2.done _ _ (meant (goal.at.put_end-requires c).After-put_head) c.loop-k.k c.loop-k.j c.loop-k.invariant c.loop-k-test.true (taken (goal.at.put_end-requires c).Then-is_kept) c.put_subr-p.ensures
+    let m = c.args.m.now in
+    let a = m.all in
+    writing_end (subrs_of a) (subr_of a) (kept_of a) a.from.ix.count (written-each a) m.adds.done _ _ (meant (goal.at.put_end-requires c).After-put_head) c.loop-k.k c.loop-k.j
+    c.loop-k.invariant c.loop-k-test.true (sym c.is_kept.ensures ∙ c.if-is_kept.true) c.put_subr-p.ensures
 
 pub overflow_add-j : goal.overflow_add-j
 overflow_add-j c =
-    omega (arith, c.loop-k.invariant.counted, count-few (T (goal.at.overflow_add-j c).Start) c.loop-k.k, c.loop-k-test.true, c.requires.0.few)
+    let a = c.args.m.now.all in omega (arith, c.loop-k.invariant.counted, count-few (kept_of a) c.loop-k.k, c.loop-k-test.true, a.sourced.few)
 
 pub loop-k-preserved : goal.loop-k-preserved
 loop-k-preserved c =
-    let s = (goal.at.loop-k-preserved c).Start in
+    let m = c.args.m.now in
+    let a = m.all in
     elim c.if-is_kept.branch [
       | then-is_kept w ↦
-          rw (w.out-is, w.p-is, w.j-is) (writing-on (B s) (F s) (T s) c.args.from.ix.count (same s) c.requires.2.done _ _ (meant (goal.at.loop-k-preserved c).After-put_head) c.loop-k.k c.loop-k.j c.loop-k.invariant c.loop-k-test.true
-          (sym c.is_kept.ensures ∙ w.if-is_kept.true) w.put_subr-p.ensures w.put_end.ensures)
+          rw (w.out-is, w.p-is, w.j-is) (writing-on (subrs_of a) (subr_of a) (kept_of a) a.from.ix.count (written-each a) m.adds.done _ _ (meant (goal.at.loop-k-preserved c).After-put_head) c.loop-k.k c.loop-k.j
+          c.loop-k.invariant c.loop-k-test.true (sym c.is_kept.ensures ∙ w.if-is_kept.true) w.put_subr-p.ensures w.put_end.ensures)
       | else-is_kept w ↦
-          rw (w.out-is, w.p-is, w.j-is) (writing-skip (B s) (F s) (T s) c.args.from.ix.count (same s) c.requires.2.done _ _ (meant (goal.at.loop-k-preserved c).After-put_head) c.loop-k.k c.loop-k.j c.loop-k.invariant c.loop-k-test.true
-          (sym c.is_kept.ensures ∙ w.if-is_kept.false))
+          rw (w.out-is, w.p-is, w.j-is) (writing-skip (subrs_of a) (subr_of a) (kept_of a) a.from.ix.count (written-each a) m.adds.done _ _ (meant (goal.at.loop-k-preserved c).After-put_head) c.loop-k.k c.loop-k.j
+          c.loop-k.invariant c.loop-k-test.true (sym c.is_kept.ensures ∙ w.if-is_kept.false))
     ]
 
 pub returns : goal.returns
 returns c =
-    wrote_as (writing-whole (B (goal.at.returns c).Start) (F (goal.at.returns c).Start) (T (goal.at.returns c).Start) c.args.from.ix.count (same (goal.at.returns c).Start) c.requires.2.done c.args.out.now c.args.at c.kept_count-count.result c.args.total c.index_for-to.result
-    c.requires.2 c.index_for-to.ensures (many (goal.at.returns c).After-kept_count-count) c.put_head.ensures c.loop-k-test.false c.loop-k.invariant)
-    (ap index_bytes (sym (new-subrs_is c.args.from.way (rows_of c.args.rows.now) (reached_in c.args.words.now c.args.from.own)
-    (calls_by c.args.words.now c.args.from.locals c.args.from.globals) (site_in c.args.from.of) (items_of c.args.font.now c.args.from.ix))))
+    let m = c.args.m.now in
+    let a = m.all in
+    wrote_as (writing-whole (subrs_of a) (subr_of a) (kept_of a) a.from.ix.count (written-each a) m.adds.done c.args.out.now c.args.at c.kept_count-count.result m.total c.index_for-to.result
+    (measured_room m c.requires.0 c.requires.1) c.index_for-to.ensures (many (goal.at.returns c).After-kept_count-count) c.put_head.ensures c.loop-k-test.false c.loop-k.invariant)
+    (ap index_bytes (sym (new-written a)))

@@ -9,7 +9,7 @@ pub returns-in_err-offset : goal.returns-in_err-offset
 returns-in_err-offset c = handed_on _ _ (ReadsItems _ _) c.from_residual.ensures.1 (locals_refused _ _ _ _ c.in_err-offset.ensures)
 
 pub returns-in-None : goal.returns-in-None
-returns-in-None c = locals-none _ _ _ _ c.in_ok-offset.ensures c.requires.0 (ap Ok c.in-None.is) _ c.no_items.ensures
+returns-in-None c = locals-none _ _ _ _ c.in_ok-offset.ensures (rw c.font.view_is at c.font.invariant) (ap Ok c.in-None.is) _ c.no_items.ensures
 
 pub returns-in-Some : goal.returns-in-Some
-returns-in-Some c = locals-read _ _ _ _ c.in_ok-offset.ensures (λ i. (c.type_inv.font i).fits) _ (ap Ok c.in-Some.is) _ c.read_index.ensures
+returns-in-Some c = locals-read _ _ _ _ c.in_ok-offset.ensures _ (ap Ok c.in-Some.is) _ (rw c.font.view_is at c.items_at.ensures.0) (rw c.font.view_is at c.items_at.ensures.1)

@@ -9,7 +9,7 @@ pub returns-in_err-private_of : goal.returns-in_err-private_of
 returns-in_err-private_of c = handed_on _ _ (ReadsPrivate _ _) c.from_residual.ensures.1 (private_refused _ _ _ c.in_err-private_of.ensures)
 
 pub returns-in-None : goal.returns-in-None
-returns-in-None c = private-none _ _ _ c.in_ok-private_of.ensures c.requires.0 (ap Ok c.in-None.is) _ c.no_private.ensures
+returns-in-None c = private-none _ _ _ c.in_ok-private_of.ensures (rw c.font.view_is at c.font.invariant) (ap Ok c.in-None.is) _ c.no_private.ensures
 
 pub returns-in-Some : goal.returns-in-Some
 returns-in-Some c = private-read c.args.font.now _ _ c.in_ok-private_of.ensures _ _ (ap Ok c.in-Some.is) c.private_data.result c.private_data.ensures

@@ -1,8 +1,7 @@
-use Rattle.std.proofs.Common.{◌<◌}
+use Rattle.std.proofs.Common.{◌≡◌}
 use Rattle.index.specs.Index.{items_of}
-use Rattle.cff.specs.Reads.{Remembers}
 use Rattle.cff.specs.ReadsLaws.{Adding}
 use Rattle.cff.proofs.private.read_privates.Given as goal
 
 abbrev pub invariant-loop-k : goal.invariant-loop-k
-invariant-loop-k l = Adding l.font (items_of l.font l.dicts) l.total l.k × Remembers l.font l.sizes l.offsets l.words × (l.free < 128)
+invariant-loop-k l = Adding l.font (items_of l.font l.dicts) l.total l.k × (l.seen.font.now ≡ l.font)

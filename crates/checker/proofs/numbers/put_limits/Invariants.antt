@@ -3,4 +3,4 @@ use Rattle.checker.specs.NumberLaws.{Limiting}
 use Rattle.checker.proofs.numbers.put_limits.Given as goal
 
 abbrev pub invariant-loop-g : goal.invariant-loop-g
-invariant-loop-g l = Limiting l.font l.f l.marks l.limits l.g
+invariant-loop-g l = Limiting l.glyphs l.limits l.g

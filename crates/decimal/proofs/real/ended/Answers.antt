@@ -1,5 +1,6 @@
 -- `decimal::real::ended` meets its contract: each arm of the match is a case of `form_from` with no nibble left.
-use Rattle.decimal.specs.RealLaws.{ended_start, ended_mantissa, ended_bare, ended_exponent, ended_power, ended_e, ended_malformed}
+use Rattle.std.proofs.Common.{false, arith}
+use Rattle.decimal.specs.RealLaws.{held_bounded, ended_start, ended_mantissa, ended_bare, ended_exponent, ended_power, ended_e, ended_malformed}
 use Rattle.decimal.proofs.real.ended.Goals as goal
 
 pub returns-then-any : goal.returns-then-any
@@ -22,3 +23,6 @@ returns-else-any-2 c = let a = c.args in ended_e a.stage a.bytes a.next _ _ _ _ 
 
 pub returns-in-Malformed : goal.returns-in-Malformed
 returns-in-Malformed c = let a = c.args in ended_malformed a.stage a.bytes a.next c.in-Malformed.is
+
+pub finished-requires : goal.finished-requires
+finished-requires c = (held_bounded _ false 0 0 c.no_digits.ensures, omega arith)

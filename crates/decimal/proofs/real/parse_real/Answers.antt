@@ -1,6 +1,6 @@
 -- `decimal::real::parse_real` meets its contract.
 use Rattle.std.proofs.Common.{refl}
-use Rattle.decimal.specs.RunLaws.{running_start, running_over, high_end, high_wrong, low_end, low_wrong, running_on}
+use Rattle.decimal.specs.RunLaws.{running_start, running_over, running_stopped, low_stopped, high_end, high_wrong, low_end, low_wrong, running_on}
 use Rattle.decimal.proofs.real.parse_real.Goals as goal
 
 pub loop-p-init : goal.loop-p-init
@@ -23,3 +23,9 @@ loop-p-preserved c = let a = c.args in let l = c.loop-p in let t = c.loop-p-test
 
 pub returns : goal.returns
 returns c = let a = c.args in let l = c.loop-p in running_over a.d.now a.at l.p l.stage l.invariant c.loop-p-test.false
+
+pub ended-requires : goal.ended-requires
+ended-requires c = running_stopped _ _ _ _ c.loop-p.invariant
+
+pub ended-requires-then-low-eq15 : goal.ended-requires-then-low-eq15
+ended-requires-then-low-eq15 c = let a = c.args in let l = c.loop-p in low_stopped a.d.now a.at l.p l.stage l.invariant c.loop-p-test.true _ refl c.if-high-eq15.false c.if-high-eq13.false _ c.step-stage.ensures

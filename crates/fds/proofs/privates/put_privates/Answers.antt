@@ -2,7 +2,7 @@
 use Rattle.std.proofs.Common.{sym, true, ◌≡◌}
 use Rattle.octets.specs.PutLaws.{wrote_none, wrote_as}
 use Rattle.record.specs.Record.{rows_of}
-use Rattle.cff.specs.Reads.{program_of}
+use Rattle.cff.specs.Loaded.{program}
 use Rattle.fds.specs.Locals.{in_use_lem}
 use Rattle.fds.specs.UsedLaws.{not_used, is_used}
 use Rattle.fds.specs.NewLocalsLaws.{fd_in}
@@ -10,21 +10,20 @@ use Rattle.fds.specs.NewPartsLaws.{parts-start, parts-pass, putting_room, puttin
 use Rattle.fds.proofs.privates.put_privates.Goals as goal
 use Rattle.fds.proofs.privates.put_privates.Goals.{Then-used-fd-ne0, then-used-fd-ne0, else-used-fd-ne0}
 
-in_use : (e : Then-used-fd-ne0) → in_use_lem e.args.used.now e.loop-fd.fd ≡ true
-in_use e = is_used e.args.used.now e.loop-fd.fd e.if-used-fd-ne0.true
+in_use : (e : Then-used-fd-ne0) → in_use_lem e.args.fds.now.used.now e.loop-fd.fd ≡ true
+in_use e = is_used e.args.fds.now.used.now e.loop-fd.fd e.if-used-fd-ne0.true
 
 pub loop-fd-init : goal.loop-fd-init
 loop-fd-init c =
     let a = c.args in
-    wrote_as (wrote_none _ _) (sym (parts-start a.how.way (program_of c.args.font.now c.args.f) (rows_of a.rows.now) a.words.now a.table.now a.how.globals a.used.now))
+    wrote_as (wrote_none _ _) (sym (parts-start a.how.way (program a.fds.now.font) (rows_of a.rows.now) a.words.now a.fds.now.table.now a.how.globals a.fds.now.used.now))
 
 pub put_part-p-requires : goal.put_part-p-requires
 put_part-p-requires c =
     let a = c.args in (
-      c.requires.0,
-      fd_in _ _ _ _ _ _ _ _ c.requires.1 _ c.loop-fd-test.true (in_use (goal.at.put_part-p-requires c).Then-used-fd-ne0) _ c.ranks_in-own.ensures,
-      putting_room a.how.way (program_of c.args.font.now c.args.f) (rows_of a.rows.now) a.words.now a.table.now a.how.globals a.used.now
-          a.out.now a.totals.now a.at c.requires.2 c.loop-fd.out c.loop-fd.p c.loop-fd.fd c.loop-fd.invariant c.loop-fd-test.true (in_use (goal.at.put_part-p-requires c).Then-used-fd-ne0) _ c.ranks_in-own.ensures,
+      fd_in _ _ _ _ _ _ _ _ a.fds.now.held c.requires.0 _ c.loop-fd-test.true (in_use (goal.at.put_part-p-requires c).Then-used-fd-ne0) _ c.ranks-own.ensures,
+      putting_room a.how.way (program a.fds.now.font) (rows_of a.rows.now) a.words.now a.fds.now.table.now a.how.globals a.fds.now.used.now
+          a.out.now a.totals.now a.at c.requires.1 c.loop-fd.out c.loop-fd.p c.loop-fd.fd c.loop-fd.invariant c.loop-fd-test.true (in_use (goal.at.put_part-p-requires c).Then-used-fd-ne0) _ c.ranks-own.ensures,
     )
 
 pub loop-fd-preserved : goal.loop-fd-preserved
@@ -33,9 +32,9 @@ loop-fd-preserved c =
     let i = c.loop-fd.invariant in
     elim c.if-used-fd-ne0.branch [
       | then-used-fd-ne0 w ↦
-          rw (w.out-is, w.p-is) (putting_take a.how.way (program_of c.args.font.now c.args.f) (rows_of a.rows.now) a.words.now a.table.now a.how.globals a.used.now
-          a.out.now a.totals.now a.at c.requires.2 c.loop-fd.out c.loop-fd.p c.loop-fd.fd i c.loop-fd-test.true (is_used c.args.used.now c.loop-fd.fd w.if-used-fd-ne0.true) _ w.ranks_in-own.ensures _ _ w.put_part-p.ensures)
+          rw (w.out-is, w.p-is) (putting_take a.how.way (program a.fds.now.font) (rows_of a.rows.now) a.words.now a.fds.now.table.now a.how.globals a.fds.now.used.now
+          a.out.now a.totals.now a.at c.requires.1 c.loop-fd.out c.loop-fd.p c.loop-fd.fd i c.loop-fd-test.true (is_used c.args.fds.now.used.now c.loop-fd.fd w.if-used-fd-ne0.true) _ w.ranks-own.ensures _ _ w.put_part-p.ensures)
       | else-used-fd-ne0 w ↦
-          rw (w.out-is, w.p-is) (wrote_as i (sym (parts-pass a.how.way (program_of c.args.font.now c.args.f) (rows_of a.rows.now) a.words.now a.table.now a.how.globals a.used.now c.loop-fd.fd
-          (not_used c.args.used.now c.loop-fd.fd w.if-used-fd-ne0.false))))
+          rw (w.out-is, w.p-is) (wrote_as i (sym (parts-pass a.how.way (program a.fds.now.font) (rows_of a.rows.now) a.words.now a.fds.now.table.now a.how.globals a.fds.now.used.now c.loop-fd.fd
+          (not_used c.args.fds.now.used.now c.loop-fd.fd w.if-used-fd-ne0.false))))
     ]

@@ -6,4 +6,4 @@ use Rattle.find_many.proofs.cids.fill.Given as goal
 
 abbrev pub invariant-loop-g : goal.invariant-loop-g
 invariant-loop-g l =
-    Passing l.font l.initial.u l.n l.u l.g × (length l.slots ≡ 65536) × Settled (ids_ahead l.font l.initial.u l.n) l.g l.slots
+    Passing l.glyphs.bytes.now l.initial.u l.glyphs.n l.u l.g × (length l.slots ≡ 65536) × Settled (ids_ahead l.glyphs.bytes.now l.initial.u l.glyphs.n) l.g l.slots

@@ -4,4 +4,4 @@ use Rattle.find_many.specs.ManyLaws.{slots-start}
 use Rattle.find_many.proofs.cids.find_cids.Goals as goal
 
 pub slots_in-requires : goal.slots_in-requires
-slots_in-requires c = (c.table.ensures.0.good, slots-start _ refl)
+slots_in-requires c = slots-start _ refl

@@ -10,14 +10,14 @@ fits : (t : Then-fit) → ltb (length t.args.names.now) (sum_of t.args.lens.now)
 fits t = not-true _ (sym t.fit.ensures ∙ t.if-fit.true)
 
 pub returns-then-glyphs-lens : goal.returns-then-glyphs-lens
-returns-then-glyphs-lens c = let a = c.args in names-full a.font.now a.f a.names.now a.lens.now _ (fits (goal.at.returns-then-glyphs-lens c).Then-fit) c.if-glyphs-lens.true
+returns-then-glyphs-lens c = let a = c.args in names-full a.font.now.bytes.now a.font.now.f a.names.now a.lens.now _ (fits (goal.at.returns-then-glyphs-lens c).Then-fit) c.if-glyphs-lens.true
 
 pub returns-then-fit : goal.returns-then-fit
 returns-then-fit c =
     let a = c.args in
-    names-put a.font.now a.f a.names.now a.lens.now a.glyphs.now (fits (goal.at.returns-then-fit c).Then-fit) c.if-glyphs-lens.false _ c.put_names.ensures
+    names-put a.font.now.bytes.now a.font.now.f a.names.now a.lens.now a.glyphs.now (fits (goal.at.returns-then-fit c).Then-fit) c.if-glyphs-lens.false _ c.put_names.ensures
 
 pub returns : goal.returns
 returns c =
     let a = c.args in
-    names_long a.font.now a.f a.names.now a.lens.now _ (not-false _ (sym c.fit.ensures ∙ c.if-fit.false))
+    names_long a.font.now.bytes.now a.font.now.f a.names.now a.lens.now _ (not-false _ (sym c.fit.ensures ∙ c.if-fit.false))

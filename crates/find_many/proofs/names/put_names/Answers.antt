@@ -1,6 +1,6 @@
 -- `names::put_names` meets its contract.
 use Rattle.std.proofs.Common.{ap, arith, drop, get_or, length, refl, rules, take, ℕ, ◌+◌, ◌-◌, ◌<◌, ◌∙◌, ◌≡◌, ◌≤◌}
-use Rattle.cff.specs.Reads.{program_of}
+use Rattle.cff.specs.Loaded.{program}
 use Rattle.find_many.specs.Many.{of_name}
 use Rattle.find_many.specs.ManyLaws.{sum-next, names-turn, names_end}
 use Rattle.find_many.proofs.names.put_names.Goals as goal
@@ -18,14 +18,14 @@ loop-i-preserved c =
     let n = get_or a.lens.now l.i 0 in
     let t = c.loop-i-test.true in
     let e : l.at + n - l.at ≡ n = omega arith in
-    let x = c.name_in.ensures ∙ ap (λ (k : ℕ). of_name (program_of a.font.now a.f) (take k (drop l.at a.names.now))) e in
-    let room : l.i < length l.glyphs = omega (arith, c.requires.2) in (
+    let x = c.name_in.ensures ∙ ap (λ (k : ℕ). of_name (program a.font.now) (take k (drop l.at a.names.now))) e in
+    let room : l.i < length l.glyphs = omega (arith, c.requires.1) in (
       omega (arith, sum-next a.lens.now l.i t, l.invariant.0),
-      names-turn (of_name (program_of a.font.now a.f)) a.lens.now a.names.now l.i l.at n t refl l.glyphs room _ x ∙ l.invariant.1,
+      names-turn (of_name (program a.font.now)) a.lens.now a.names.now l.i l.at n t refl l.glyphs room _ x ∙ l.invariant.1,
     )
 
 pub returns : goal.returns
 returns c =
     let a = c.args in
-    names_end (of_name (program_of a.font.now a.f)) a.lens.now a.names.now c.loop-i.i c.loop-i.at c.loop-i-test.false c.loop-i.glyphs
+    names_end (of_name (program a.font.now)) a.lens.now a.names.now c.loop-i.i c.loop-i.at c.loop-i-test.false c.loop-i.glyphs
     ∙ c.loop-i.invariant.1

@@ -1,8 +1,8 @@
 -- `dicts::answer_number` meets its contract: each way out is a case of `number_answer`.
-use Rattle.std.proofs.Common.{arith, sym, ◌∙◌}
+use Rattle.std.proofs.Common.{arith, refl}
 use Rattle.dict_write.specs.ShortLaws.{number_short}
 use Rattle.cases.specs.AnswersLaws.{gives_none, gives_wrote}
-use Rattle.format_cases.specs.DecimalsLaws.{decimal-normal, number_size, number-sign, number-none, number-found}
+use Rattle.format_cases.specs.DecimalsLaws.{decimal-normal, told_none, told_some, number_size, number-sign, number-none, number-found}
 use Rattle.format_cases.proofs.dicts.answer_number.Goals as goal
 
 pub returns-then-input-ne11 : goal.returns-then-input-ne11
@@ -12,10 +12,10 @@ pub returns-then-input-gt1 : goal.returns-then-input-gt1
 returns-then-input-gt1 c = gives_none _ _ (number-sign c.args.input.now c.if-input-ne11.false c.if-input-gt1.true)
 
 pub put_number-requires : goal.put_number-requires
-put_number-requires c = let n = decimal-normal c.decimal_at-d.result (sym c.is_decimal.ensures ∙ c.if-is_decimal.true) in (n, omega (arith, number_short c.decimal_at-d.result n))
+put_number-requires c = let w = told_some _ _ c.decimal_at.ensures _ c.in-Some.is in omega (arith, number_short _ (decimal-normal _ w.1))
 
-pub returns-then-is_decimal : goal.returns-then-is_decimal
-returns-then-is_decimal c = gives_wrote _ _ _ _ _ (number-found c.args.input.now c.if-input-ne11.false c.if-input-gt1.false _ c.decimal_at-d.ensures (sym c.is_decimal.ensures ∙ c.if-is_decimal.true)) c.put_number.ensures
+pub returns-in-Some : goal.returns-in-Some
+returns-in-Some c = let w = told_some _ _ c.decimal_at.ensures _ c.in-Some.is in gives_wrote _ _ _ _ _ (number-found c.args.input.now c.if-input-ne11.false c.if-input-gt1.false _ w.0 w.1) c.put_number.ensures
 
-pub returns : goal.returns
-returns c = gives_none _ _ (number-none c.args.input.now c.if-input-ne11.false c.if-input-gt1.false _ c.decimal_at-d.ensures (sym c.is_decimal.ensures ∙ c.if-is_decimal.false))
+pub returns-in-None : goal.returns-in-None
+returns-in-None c = gives_none _ _ (number-none c.args.input.now c.if-input-ne11.false c.if-input-gt1.false _ refl (told_none _ _ c.decimal_at.ensures c.in-None.is))

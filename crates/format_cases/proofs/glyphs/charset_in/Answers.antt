@@ -14,10 +14,13 @@ returns-then-n-gt2000 c =
     let f = sym c.read_charset.ensures ∙ c.in-Ok.is in
     gives_none _ _ (listed_many 2 _ _ (found-ids a.font.now a.at a.n _ c.requires.1 f) a.n (good_length _ _ _ (found-good a.font.now a.at a.n _ c.requires.1 f)) c.if-n-gt2000.true)
 
-pub put_ids-requires : goal.put_ids-requires
-put_ids-requires c =
+pub invariant_of-glyphs : goal.invariant_of-glyphs
+invariant_of-glyphs c =
     let a = c.args in
-    (found-good a.font.now a.at a.n _ c.requires.1 (sym c.read_charset.ensures ∙ c.in-Ok.is), omega (arith, c.if-n-gt2000.false, c.put_byte-p.ensures.behind))
+    record { good = found-good a.font.now a.at a.n _ c.requires.1 (sym c.read_charset.ensures ∙ c.in-Ok.is) }
+
+pub put_ids-requires : goal.put_ids-requires
+put_ids-requires c = omega (arith, c.if-n-gt2000.false, c.put_byte-p.ensures.behind)
 
 pub returns-in-Err : goal.returns-in-Err
 returns-in-Err c =

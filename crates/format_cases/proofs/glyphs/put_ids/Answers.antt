@@ -17,8 +17,8 @@ pub loop-init : goal.loop-init
 loop-init c =
     let a = c.args in
     let e = c.charset_start-u.ensures in (
-      subst (λ (v : CharsetCursor). StandsId a.font.now v (ids_of a.font.now (of v) a.n)) (sym e) (id_start a.font.now a.c a.n c.requires.0),
-      subst (λ (v : CharsetCursor). length (ids_of a.font.now (of v) a.n) ≡ a.n) (sym e) (good_length a.font.now a.c a.n c.requires.0),
+      subst (λ (v : CharsetCursor). StandsId a.glyphs.now.bytes.now v (ids_of a.glyphs.now.bytes.now (of v) a.glyphs.now.n)) (sym e) (id_start a.glyphs.now.bytes.now a.glyphs.now.charset a.glyphs.now.n a.glyphs.now.good),
+      subst (λ (v : CharsetCursor). length (ids_of a.glyphs.now.bytes.now (of v) a.glyphs.now.n) ≡ a.glyphs.now.n) (sym e) (good_length a.glyphs.now.bytes.now a.glyphs.now.charset a.glyphs.now.n a.glyphs.now.good),
       omega arith,
       writing_start _ _ _,
     )
@@ -27,9 +27,9 @@ pub next_id-step-requires : goal.next_id-step-requires
 next_id-step-requires c =
     let l = c.loop in
     let a = c.args in
-    let ids = ids_of a.font.now (of c.charset_start-u.result) a.n in
+    let ids = ids_of a.glyphs.now.bytes.now (of c.charset_start-u.result) a.glyphs.now.n in
     let h : l.counter < length ids = omega (arith, l.invariant.1, c.loop-test.true) in
-    id_ready a.font.now l.u ids l.counter h l.invariant.0
+    id_ready a.glyphs.now.bytes.now l.u ids l.counter h l.invariant.0
 
 pub loop-preserved : goal.loop-preserved
 loop-preserved c =
@@ -37,14 +37,14 @@ loop-preserved c =
     let i = l.invariant in
     let a = c.args in
     let w = c.put_num-p.ensures in
-    let ids = ids_of a.font.now (of c.charset_start-u.result) a.n in
+    let ids = ids_of a.glyphs.now.bytes.now (of c.charset_start-u.result) a.glyphs.now.n in
     let h : l.counter < length ids = omega (arith, i.1, c.loop-test.true) in
     let e = c.next_id-step.ensures.0 in
-    let here = ap (λ (s : IdStep). s.id) e ∙ id_step a.font.now l.u ids l.counter h i.0 in (
-      subst (λ (s : IdStep). StandsId a.font.now s.next (drop (l.counter + 1) ids)) (sym e) (id_next a.font.now l.u ids l.counter h i.0),
+    let here = ap (λ (s : IdStep). s.id) e ∙ id_step a.glyphs.now.bytes.now l.u ids l.counter h i.0 in (
+      subst (λ (s : IdStep). StandsId a.glyphs.now.bytes.now s.next (drop (l.counter + 1) ids)) (sym e) (id_next a.glyphs.now.bytes.now l.u ids l.counter h i.0),
       i.1,
       omega (arith, w.behind, length-bytes 2 c.next_id-step.result.id, i.2),
-      writing-turn i.3 _ _ (numbers-next 2 ids l.counter _ h here) (omega (arith, length-table 2 ids, i.1, c.requires.1)) _ _ w,
+      writing-turn i.3 _ _ (numbers-next 2 ids l.counter _ h here) (omega (arith, length-table 2 ids, i.1, c.requires)) _ _ w,
     )
 
 pub returns : goal.returns
@@ -52,5 +52,5 @@ returns c =
     let l = c.loop in
     let a = c.args in
     let e = c.charset_start-u.ensures in
-    subst (λ (v : CharsetCursor). Wrote a.out.now a.at (table_bytes 2 (ids_of a.font.now (of v) a.n)) l.out l.p) e
+    subst (λ (v : CharsetCursor). Wrote a.out.now a.at (table_bytes 2 (ids_of a.glyphs.now.bytes.now (of v) a.glyphs.now.n)) l.out l.p) e
     (writing_end l.invariant.3 (numbers-none 2 _ l.counter (omega (arith, l.invariant.1, c.loop-test.false))))

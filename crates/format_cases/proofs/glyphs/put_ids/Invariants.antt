@@ -13,5 +13,5 @@ of u = record { own = u.left; width = u.width; at = u.at }
 
 abbrev pub invariant-loop : goal.invariant-loop
 invariant-loop l =
-    StandsId l.font l.u (drop l.counter (ids_of l.font (of l.initial.u) l.n)) × (length (ids_of l.font (of l.initial.u) l.n) ≡ l.n) × (l.p ≡ l.at + 2 * l.counter)
-    × Writing l.initial.out l.at (table_bytes 2 (ids_of l.font (of l.initial.u) l.n)) l.out l.p (table_bytes 2 (drop l.counter (ids_of l.font (of l.initial.u) l.n)))
+    StandsId l.glyphs.bytes.now l.u (drop l.counter (ids_of l.glyphs.bytes.now (of l.initial.u) l.glyphs.n)) × (length (ids_of l.glyphs.bytes.now (of l.initial.u) l.glyphs.n) ≡ l.glyphs.n) × (l.p ≡ l.at + 2 * l.counter)
+    × Writing l.initial.out l.at (table_bytes 2 (ids_of l.glyphs.bytes.now (of l.initial.u) l.glyphs.n)) l.out l.p (table_bytes 2 (drop l.counter (ids_of l.glyphs.bytes.now (of l.initial.u) l.glyphs.n)))

@@ -4,8 +4,8 @@ use Rattle.glyph_bodies.proofs.glyphs.charstring_len.Goals as goal
 
 pub body_len-requires : goal.body_len-requires
 body_len-requires c =
-    charstring_inputs c.requires c.ranks_in-locals.result c.ranks_in-locals.ensures c.item-code.result.now c.item-code.ensures.0
+    charstring_inputs c.args.one.now.asked c.ranks_in-locals.result c.ranks_in-locals.ensures c.item-code.result.now c.item-code.ensures.0
 
 pub returns : goal.returns
 returns c =
-    charstring-len c.requires c.ranks_in-locals.result c.ranks_in-locals.ensures c.item-code.result.now c.item-code.ensures.0 c.body_len.result c.body_len.ensures
+    charstring-len c.args.one.now.asked c.ranks_in-locals.result c.ranks_in-locals.ensures c.item-code.result.now c.item-code.ensures.0 c.body_len.result c.body_len.ensures

@@ -1,15 +1,16 @@
--- `glyph_bodies::glyphs::long_len` meets its contract: where it is renumbered, by windows of its rows.
-use Rattle.std.proofs.Common.{sym, ◌∙◌}
+-- `glyph_bodies::glyphs::long_len` meets its contract: the glyph and the tables say which charstring, and which calls.
 use Rattle.bodies.specs.WindowsLaws.{any_order}
-use Rattle.glyph_bodies.specs.GlyphsLaws.{charstring_inputs}
-use Rattle.glyph_bodies.specs.PartLaws.{lends_glyph, long-len}
+use Rattle.glyph_bodies.specs.GlyphsLaws.{charstring_inputs, charstring-len}
+use Rattle.glyph_bodies.specs.PartLaws.{sited_glyph}
 use Rattle.glyph_bodies.proofs.glyphs.long_len.Goals as goal
 
-pub renumbered_len-requires : goal.renumbered_len-requires
-renumbered_len-requires c =
-    (any_order (charstring_inputs c.requires.0 c.ranks_in-locals.result c.ranks_in-locals.ensures c.item-code.result.now c.item-code.ensures.0), lends_glyph c.requires.0 c.requires.1)
+pub invariant_of-of : goal.invariant_of-of
+invariant_of-of c = record { sited = sited_glyph c.args.one.now.asked }
 
-pub returns-then-is_renumbered : goal.returns-then-is_renumbered
-returns-then-is_renumbered c =
-    long-len c.requires.0 (sym c.is_renumbered.ensures ∙ c.if-is_renumbered.true) c.ranks_in-locals.result c.ranks_in-locals.ensures c.item-code.result.now c.item-code.ensures.0 (λ j. (c.type_inv.font j).fits) _
-    c.renumbered_len.ensures
+pub long_body_len-requires : goal.long_body_len-requires
+long_body_len-requires c =
+    any_order (charstring_inputs c.args.one.now.asked c.ranks_in-locals.result c.ranks_in-locals.ensures c.item-code.result.now c.item-code.ensures.0)
+
+pub returns : goal.returns
+returns c =
+    charstring-len c.args.one.now.asked c.ranks_in-locals.result c.ranks_in-locals.ensures c.item-code.result.now c.item-code.ensures.0 c.long_body_len.result c.long_body_len.ensures

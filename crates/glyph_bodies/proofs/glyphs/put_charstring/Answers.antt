@@ -4,9 +4,9 @@ use Rattle.glyph_bodies.proofs.glyphs.put_charstring.Goals as goal
 
 pub put_body-requires : goal.put_body-requires
 put_body-requires c =
-    let q = charstring_room c.requires.0 c.ranks_in-locals.result c.ranks_in-locals.ensures c.item-code.result.now c.item-code.ensures.0 c.args.at _ c.requires.1 c.requires.2 in
-    (charstring_inputs c.requires.0 c.ranks_in-locals.result c.ranks_in-locals.ensures c.item-code.result.now c.item-code.ensures.0, q.0, q.1)
+    let q = charstring_room c.args.one.now.asked c.ranks_in-locals.result c.ranks_in-locals.ensures c.item-code.result.now c.item-code.ensures.0 c.args.at _ c.requires.0 c.requires.1 in
+    (charstring_inputs c.args.one.now.asked c.ranks_in-locals.result c.ranks_in-locals.ensures c.item-code.result.now c.item-code.ensures.0, q.0, q.1)
 
 pub returns : goal.returns
 returns c =
-    charstring_wrote c.requires.0 c.ranks_in-locals.result c.ranks_in-locals.ensures c.item-code.result.now c.item-code.ensures.0 c.put_body.ensures
+    charstring_wrote c.args.one.now.asked c.ranks_in-locals.result c.ranks_in-locals.ensures c.item-code.result.now c.item-code.ensures.0 c.put_body.ensures

@@ -8,10 +8,10 @@ pub returns-then-body_of-body : goal.returns-then-body_of-body
 returns-then-body_of-body c =
     let r = c.row_at-r in
     let a = c.args in
-    clash_here a.rows.now a.i a.body (row_in r.result) r.ensures.0 (sym c.body_of.ensures.0 ∙ c.if-body_of-body.true) _ c.key_of.ensures _ c.other_len.ensures
+    clash_here a.rows.now a.i a.body (row_in r.result) r.ensures (sym c.body_of.ensures ∙ c.if-body_of-body.true) _ c.key_of.ensures _ c.other_len.ensures
 
 pub returns : goal.returns
 returns c =
     let r = c.row_at-r in
     let a = c.args in
-    clash_not a.rows.now a.i a.body (row_in r.result) r.ensures.0 (λ e. c.if-body_of-body.false (c.body_of.ensures.0 ∙ e))
+    clash_not a.rows.now a.i a.body (row_in r.result) r.ensures (λ e. c.if-body_of-body.false (c.body_of.ensures ∙ e))

@@ -5,7 +5,7 @@ use Rattle.reach.proofs.masks.first_at.Given as goal
 
 abbrev pub invariant-loop-low : goal.invariant-loop-low
 invariant-loop-low l =
-    Searches l.rows l.key l.low l.high
+    Searches l.rows.bytes.now l.key l.low l.high
 
 abbrev pub decreases-loop-low : goal.decreases-loop-low
 decreases-loop-low l = l.high - l.low

@@ -15,14 +15,14 @@ pub returns-then-key_of-key : goal.returns-then-key_of-key
 returns-then-key_of-key c =
     let l = c.loop-i in
     let b = c.args.rows.now in
-    let e = sym (ap key_of_lem c.row_at-r.ensures.0) ∙ sym c.key_of.ensures ∙ c.if-key_of-key.true in
-    ap (λ (q : Row). Given q.len) c.row_at-r.ensures.0 ∙ given-here b l.i (omega arith) _ e ∙ l.invariant
+    let e = sym (ap key_of_lem c.row_at-r.ensures) ∙ sym c.key_of.ensures ∙ c.if-key_of-key.true in
+    ap (λ (q : Row). Given q.len) c.row_at-r.ensures ∙ given-here b l.i (omega arith) _ e ∙ l.invariant
 
 pub loop-i-preserved : goal.loop-i-preserved
 loop-i-preserved c =
     let l = c.loop-i in
     let b = c.args.rows.now in
-    let e = c.key_of.ensures ∙ ap key_of_lem c.row_at-r.ensures.0 in
+    let e = c.key_of.ensures ∙ ap key_of_lem c.row_at-r.ensures in
     given-on b l.i (omega arith) _ (λ z. c.if-key_of-key.false (e ∙ z)) ∙ l.invariant
 
 pub returns : goal.returns

@@ -8,14 +8,14 @@ pub returns-then-clashes : goal.returns-then-clashes
 returns-then-clashes c =
     let l = c.loop-i in
     let a = c.args in
-    let e = sym (ap (clashes a.key a.len) c.row_at.ensures.0) ∙ sym c.clashes.ensures ∙ c.if-clashes.true in
+    let e = sym (ap (clashes a.key a.len) c.row_at.ensures) ∙ sym c.clashes.ensures ∙ c.if-clashes.true in
     other_here a.rows.now l.i (omega arith) a.key a.len e ∙ l.invariant
 
 pub loop-i-preserved : goal.loop-i-preserved
 loop-i-preserved c =
     let l = c.loop-i in
     let a = c.args in
-    let e = sym (ap (clashes a.key a.len) c.row_at.ensures.0) ∙ sym c.clashes.ensures ∙ c.if-clashes.false in
+    let e = sym (ap (clashes a.key a.len) c.row_at.ensures) ∙ sym c.clashes.ensures ∙ c.if-clashes.false in
     other_on a.rows.now l.i (omega arith) a.key a.len e ∙ l.invariant
 
 pub returns : goal.returns

@@ -12,14 +12,14 @@ pub returns-then-key-last : goal.returns-then-key-last
 returns-then-key-last c =
     let l = c.loop-i in
     let b = c.args.rows.now in
-    let e = c.key_of-key.ensures ∙ ap key_of_lem c.row_at.ensures.0 in
+    let e = c.key_of-key.ensures ∙ ap key_of_lem c.row_at.ensures in
     rises_stops b l.i (omega arith) l.last (omega (arith, e)) ∙ l.invariant
 
 pub loop-i-preserved : goal.loop-i-preserved
 loop-i-preserved c =
     let l = c.loop-i in
     let b = c.args.rows.now in
-    let e = c.key_of-key.ensures ∙ ap key_of_lem c.row_at.ensures.0 in
+    let e = c.key_of-key.ensures ∙ ap key_of_lem c.row_at.ensures in
     ap (λ m. rises_from m (rest_of b (l.i + 1))) e ∙ rises-on b l.i (omega arith) l.last (omega (arith, e)) ∙ l.invariant
 
 pub returns : goal.returns

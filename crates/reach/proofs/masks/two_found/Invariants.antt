@@ -4,4 +4,4 @@ use Rattle.reach.proofs.masks.two_found.Given as goal
 
 abbrev pub invariant-loop-i : goal.invariant-loop-i
 invariant-loop-i l =
-    Neighbours l.rows l.body l.i
+    Neighbours l.rows.bytes.now l.body l.i

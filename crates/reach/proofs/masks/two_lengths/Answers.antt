@@ -2,10 +2,12 @@
 use Rattle.reach.specs.KeyLaws.{two-right}
 use Rattle.reach.proofs.masks.two_lengths.Goals as goal
 
-pub returns-then-rising : goal.returns-then-rising
-returns-then-rising c =
-    two-right _ (λ i. (c.type_inv.rows i).fits) c.args.site _ c.requires.1 c.site_body-body.ensures.0 _ c.two_found.ensures
+pub returns-then-rows : goal.returns-then-rows
+returns-then-rows c =
+    let s = c.site_body-body.ensures in
+    two-right _ c.args.rows.now.octets c.args.site _ s.1 s.0 _ c.two_found.ensures
 
 pub returns : goal.returns
 returns c =
-    two-right _ (λ i. (c.type_inv.rows i).fits) c.args.site _ c.requires.1 c.site_body-body.ensures.0 _ c.two_passed.ensures
+    let s = c.site_body-body.ensures in
+    two-right _ c.args.rows.now.octets c.args.site _ s.1 s.0 _ c.two_passed.ensures

@@ -3,8 +3,8 @@ use Rattle.std.proofs.Common.{arith, false, true}
 use Rattle.renumber.specs.ShortLaws.{five_cut, five_told}
 use Rattle.renumber.proofs.runs.five_len.Goals as goal
 
-pub returns-then-code-at-lt5 : goal.returns-then-code-at-lt5
-returns-then-code-at-lt5 c = five_cut _ _ (omega arith)
+pub returns-then-p-at-lt5 : goal.returns-then-p-at-lt5
+returns-then-p-at-lt5 c = five_cut _ _ (omega arith)
 
 pub returns-then-is_five : goal.returns-then-is_five
 returns-then-is_five c = five_told _ _ (omega arith) _ true _ _ c.is_five.ensures c.if-is_five.true (omega arith) (omega arith)

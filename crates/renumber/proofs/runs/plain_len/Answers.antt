@@ -15,8 +15,8 @@ returns-then-v-lt32 c = plain_other _ _ (omega arith) c.if-v-eq28.false _ c.is_p
 pub returns-then-v-lt247 : goal.returns-then-v-lt247
 returns-then-v-lt247 c = plain-one _ _ (omega arith) (omega arith)
 
-pub returns-then-code-at-lt2 : goal.returns-then-code-at-lt2
-returns-then-code-at-lt2 c = plain-cut _ _ (omega arith) (omega arith) (omega arith)
+pub returns-then-p-lt2 : goal.returns-then-p-lt2
+returns-then-p-lt2 c = plain-cut _ _ (omega arith) (omega arith) (omega arith)
 
 pub returns-then-v-lt255 : goal.returns-then-v-lt255
 returns-then-v-lt255 c = plain-two _ _ (omega arith) (omega arith) (omega arith)

@@ -21,7 +21,7 @@ loop-at-preserved-then-is_operator c = running_operator _ (bytes (goal.at.loop-a
 onward : (c : Else-is_operator)
     → Running c.args.code.now (cursor c.args.from c.args.args c.args.stems false)
     (run_of (c.loop-at.at + c.plain_len-n.result) c.loop-at.at (c.loop-at.args + 1) c.loop-at.stems)
-onward c = running_number _ (bytes (view.up-At-loop-at _ _ _ _ _ c.before.before.before.before.before.before.before)) _ _ _ _ _ c.loop-at.invariant (omega arith) _ c.plain_len-n.ensures c.if-n-eq0.false (sym c.is_operator.ensures ∙ c.if-is_operator.false)
+onward c = running_number _ (bytes (view.up-At-loop-at _ _ _ _ _ c.before.before.before.before.before.before.before.before.before)) _ _ _ _ _ c.loop-at.invariant (omega arith) _ c.plain_len-n.ensures c.if-n-eq0.false (sym c.is_operator.ensures ∙ c.if-is_operator.false)
 
 pub overflow_add-at-in-loop-at : goal.overflow_add-at-in-loop-at
 overflow_add-at-in-loop-at c = let m = onward c in omega (arith, m.run.inside)

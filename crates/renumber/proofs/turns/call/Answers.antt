@@ -2,11 +2,8 @@
 use Rattle.charstring.specs.Bias.{bias_of}
 use Rattle.prune.specs.Renumber.{operand_of}
 use Rattle.renumber.specs.Ranks.{numbers_in}
-use Rattle.renumber.specs.CodeLaws.{held_as, call_held}
+use Rattle.renumber.specs.CodeLaws.{call_held}
 use Rattle.renumber.proofs.turns.call.Goals as goal
-
-pub new_operand-requires : goal.new_operand-requires
-new_operand-requires c = (c.requires.0, held_as _ _ c.in-Some.is c.requires.1)
 
 pub returns-in-Some : goal.returns-in-Some
 returns-in-Some c = call_held (operand_of (numbers_in c.args.words.now c.args.q) (bias_of c.args.q.count) (bias_of c.args.q.reached)) _ _ _ c.in-Some.is c.new_operand.ensures

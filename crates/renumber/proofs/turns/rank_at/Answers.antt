@@ -1,9 +1,8 @@
 -- `renumber::turns::rank_at` meets its contract: the rank of the number that the operand names.
-use Rattle.type2_number.specs.Floats.{scaled_of}
 use Rattle.charstring.specs.Bias.{bias_of, numbered}
 use Rattle.renumber.specs.OperandLaws.{rank-number}
 use Rattle.renumber.proofs.turns.rank_at.Goals as goal
 
 pub returns : goal.returns
 returns c =
-    rank-number c.args.words.now c.args.q c.requires.0.few (numbered (bias_of c.args.q.count) (scaled_of c.args.v)) _ _ c.number_at.ensures c.rank_in.ensures
+    rank-number c.args.words.now c.args.q c.requires.few (numbered (bias_of c.args.q.count) c.args.v) _ _ c.number_at.ensures c.rank_in.ensures

@@ -5,7 +5,7 @@ use Rattle.renumber.proofs.turns.turn_of.Goals as goal
 
 pub call-requires : goal.call-requires
 call-requires c =
-    (called-ranked _ _ _ c.requires.0 c.requires.1 _ _ c.in-Op.is _ c.called.ensures, c.requires.2)
+    called-ranked _ _ _ c.requires.0 c.requires.1 _ _ c.in-Op.is _ c.called.ensures
 
 pub returns-then-is_call : goal.returns-then-is_call
 returns-then-is_call c =

@@ -15,4 +15,4 @@ pub returns : goal.returns
 returns c = let l = c.loop-p in
     let s = c.args.text.now in
     let h : length s ≤ l.p = omega arith in
-    ap (λ (k : ℕ). leb k 512) (sym (count_done s l.p l.rows h) ∙ l.invariant.1) ∙ count-rows (lines_of (drop c.args.at s))
+    ap (λ (k : ℕ). leb k 512) (sym (count_done s l.p l.rows h) ∙ l.invariant.1) ∙ count-rows (lines_of s)

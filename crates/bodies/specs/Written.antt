@@ -1,0 +1,31 @@
+-- Subroutines as they are written, as values that hold their bytes.
+use Rattle.std.specs.Prelude.{ℕ, Bool, List, Option}
+use Rattle.record.specs.Record.{rows_of}
+use Rattle.mask_rows.specs.MaskRows.{Covers}
+use Rattle.mask_rows.specs.declared.Window.{Window}
+use Rattle.bodies.specs.Sources.{kept_from, subr_from, subrs_from, new_subrs_from}
+use Rattle.bodies.specs.Windows.{kind_of, fd_of}
+use Rattle.bodies.specs.declared.subroutines.Subroutines.{Subroutines}
+use Rattle.bodies.specs.declared.subroutines.Subr.{Subr}
+
+-- which of them are written
+abbrev pub kept_of : Subroutines → ℕ → Bool
+kept_of all = kept_from all.from all.words.now
+
+-- the k-th as it is written; all, or that their renumbering fails; all
+abbrev pub subr_of : Subroutines → ℕ → Option (List ℕ)
+subr_of all = subr_from all.from (rows_of all.rows.now) all.words.now all.font.now
+
+abbrev pub subrs_of : Subroutines → Option (List (List ℕ))
+subrs_of all = subrs_from all.from (rows_of all.rows.now) all.words.now all.font.now
+
+abbrev pub new_subrs_of : Subroutines → List (List ℕ)
+new_subrs_of all = new_subrs_from all.from (rows_of all.rows.now) all.words.now all.font.now
+
+-- one of them as it is written
+abbrev pub written : Subr → Option (List ℕ)
+written one = subr_of one.of.now one.k
+
+-- the record in the first bytes of a slice has the rows of those that a window says
+abbrev pub Shows : Subroutines → List ℕ → Window → Type 0
+Shows all bytes w = Covers all.rows.now bytes (kind_of all.from.of) (fd_of all.from.of) w

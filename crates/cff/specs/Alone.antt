@@ -1,0 +1,41 @@
+-- That a font was read, and that Private DICTs are remembered, is one fact each, so that a type may hold it.
+use Rattle.std.specs.Prelude.{List, ℕ, length, ◌≡◌, ◌<◌, Result, Ok}
+use Rattle.std.proofs.Common.{arith}
+use Rattle.std.proofs.Props.{props}
+use mathlib.Core.HLevel.{is_prop→PathP}
+use Rattle.bits.specs.Bits.{words_for}
+use Rattle.index.specs.Alone.{good_prop}
+use Rattle.cff.specs.Font.{Private, private_data}
+use Rattle.cff.specs.Reads.{GoodFont, Known, Remembers}
+use Rattle.cff.specs.declared.font.Font.{Font}
+use Rattle.refusal.specs.declared.Refusal.{Refusal}
+
+pub good_font_prop : (b : List ℕ) (f : Font) → IsProp (GoodFont b f)
+good_font_prop b f = Prim.hlevel (props, good_prop)
+
+read_once : (r : Result Private Refusal) (p q : Private) → r ≡ Ok p → r ≡ Ok q → p ≡ q
+read_once r p q e f = Prim.grind arith
+
+answers_set : IsSet (Result Private Refusal)
+answers_set = Prim.hlevel props
+
+numbers_set : IsSet ℕ
+numbers_set = Prim.hlevel props
+
+below_prop : (m n : ℕ) → IsProp (m < n)
+below_prop m n = Prim.hlevel props
+
+-- what is remembered of a Private DICT is what reading it gives
+pub known_prop : (b : List ℕ) (size offset words : ℕ) → IsProp (Known b size offset words)
+known_prop b size offset words x y =
+    let r = private_data b size offset in
+    let same : x.private ≡ y.private = read_once r _ _ x.is y.is in
+    λ i. record {
+      private = same i;
+      few = below_prop _ _ x.few y.few i;
+      counted = is_prop→PathP (λ j. words_for (length (same j).locals) ≡ words) (λ j. numbers_set _ _) x.counted y.counted i;
+      is = is_prop→PathP (λ j. r ≡ Ok (same j)) (λ j. answers_set _ _) x.is y.is i;
+    }
+
+pub remembers_prop : (b sizes offsets words : List ℕ) → IsProp (Remembers b sizes offsets words)
+remembers_prop b sizes offsets words = Prim.hlevel (props, known_prop)

@@ -1,0 +1,15 @@
+-- The program that a loaded font is, and what loading a file answers.
+use Rattle.std.specs.Prelude.{ℕ, ◌≡◌, List, Result, Ok, Err}
+use Rattle.cff.specs.Font.{Program, read_font}
+use Rattle.cff.specs.Reads.{program_of}
+use Rattle.cff.specs.File.{InFile}
+use Rattle.cff.specs.declared.loaded.Loaded.{Loaded}
+use Rattle.refusal.specs.declared.Refusal.{Refusal}
+
+abbrev pub program : Loaded → Program
+program font = program_of font.bytes.now font.f
+
+-- the font of a file, with the bytes of its table
+abbrev pub Loads : List ℕ → Result Loaded Refusal → Type 0
+Loads file (Err n) = read_font file ≡ Err n
+Loads file (Ok font) = InFile file font.f font.bytes.now

@@ -1,0 +1,11 @@
+-- That a charstring is asked for rightly is one fact, so that a type may hold it.
+use Rattle.std.specs.Prelude.{ℕ, List}
+use Rattle.std.proofs.Props.{props}
+use Rattle.index.specs.Alone.{good_prop}
+use Rattle.unfold.specs.Unfold.{Row}
+use Rattle.glyph_bodies.specs.Glyphs.{GlyphIn}
+use Rattle.glyph_bodies.specs.declared.glyphs.Glyph.{Glyph}
+use Rattle.glyph_bodies.specs.declared.glyphs.Source.{Source}
+
+pub glyph_in_prop : (b ws table : List ℕ) (from : Source) (g : Glyph) (rows : List Row) → IsProp (GlyphIn b ws table from g rows)
+glyph_in_prop b ws table from g rows = Prim.hlevel (props, good_prop)
