@@ -1,5 +1,5 @@
 -- Laws of one list that is tried: what its trace hands on, what measuring asks, and that the outcome is the traced cut's.
-use Rattle.std.specs.Prelude.{ℕ, ◌+◌, ◌≤◌, refl, Bool, List, [], ltb, length, take, None, Option, Some, Result, Ok, Err}
+use Rattle.std.specs.Prelude.{ℕ, ◌+◌, ◌≤◌, refl, Bool, List, [], ltb, eqb, length, take, None, Option, Some, Result, Ok, Err}
 use Rattle.std.proofs.Math.Path.{◌≡◌, ap}
 use Rattle.std.proofs.Common.{sym, ◌∙◌, subst, arith, le-ltb, ltb-false}
 use Rattle.std.proofs.Math.Bool.{true, false}
@@ -7,23 +7,22 @@ use Rattle.octets.specs.Pick.{pick, pick_ind}
 use Rattle.octets.specs.Octets.{Octets, put}
 use Rattle.octets.specs.PutLaws.{take_put, put-length}
 use Rattle.octets.specs.Lists.{all_below}
-use Rattle.index.specs.IndexLaws.{items-length}
 use Rattle.unfold.specs.Unfold.{Row}
 use Rattle.prune.specs.StepLaws.{zero_one}
 use Rattle.record.specs.Record.{record_fine}
 use Rattle.dict.specs.Lookup.{ros_in, cid_keyed}
 use Rattle.cff.specs.Font.{Program}
 use Rattle.cff.specs.Find.{work_size}
-use Rattle.small.specs.Small.{small_size}
 use Rattle.cff.specs.Reads.{program_of}
-use Rattle.cff.specs.File.{InFile, table_in}
+use Rattle.cff.specs.File.{InFile}
 use Rattle.cff.specs.declared.font.Font.{Font}
+use Rattle.subset.specs.Flag.{flag_of}
 use Rattle.subset.specs.Kept.{kept_of}
 use Rattle.subset.specs.Cut.{Outcome, refused as refusedCut, subset, all_found_lem, has_ros_lem, unsupported_in}
 use Rattle.small.specs.Theorem.{small-less}
-use Rattle.parts.specs.Ready.{FontHeld}
 use Rattle.outcome.specs.Entry.{answer_of, refusal_of, cut_behind, Passed}
-use Rattle.write.specs.EntryLaws.{unless_refused, program-cut, font-held}
+use Rattle.write.specs.EntryLaws.{unless_refused, program-cut}
+use Rattle.write.specs.FlagLaws.{flag_is}
 use Rattle.traced.specs.Traced.{Traced, refused, traced, record_of, met_all, answered, trace_program, trace_read, trace_of, traced_as, leaves_record, Traces}
 use Rattle.traced.specs.Theorem.{kept_rows}
 use Rattle.traced.proofs.Theorem.{trace_fine, kept-fits}
@@ -157,14 +156,19 @@ module _ (file : List ℕ) (f : Font) (b : List ℕ) (octets : Octets file) (hel
     fine : record_fine (cid_keyed p.top) rec flag ≡ true
     fine = trace_fine file keep lent octets p held.is flag rec (trace_is lent ∙ e)
 
-    pub measure_asked : FontHeld b f × Passed f.cid false p (length name) keep rec flag words
-    measure_asked = (
-      font-held file f b octets held,
-      subst (λ (c : Bool). Passed c false p (length name) keep rec flag words) (sym held.good.cid) (passed-all p name keep words lent can flag rec e fine),
-    )
+    -- the flag by whether it is 1
+    same-flag : flag ≡ flag_of (eqb flag 1)
+    same-flag = sym (flag_is (cid_keyed p.top) rec flag fine)
 
-    pub measured : (r : Result Subsetted Refusal) → r ≡ answer_of (cut_behind false p name keep rec flag 67108864) → r ≡ answer_of (traced_cut p name keep words lent)
-    measured r h = h ∙ ap answer_of (sym (cut-behind p name keep words lent can flag rec e fine))
+    pub measure_asked : Passed f.cid false p (length name) keep rec (flag_of (eqb flag 1)) words
+    measure_asked =
+        subst (λ (c : Bool). Passed c false p (length name) keep rec (flag_of (eqb flag 1)) words) (sym held.good.cid)
+        (subst (λ (n : ℕ). Passed (cid_keyed p.top) false p (length name) keep rec n words) same-flag (passed-all p name keep words lent can flag rec e fine))
+
+    pub measured : (r : Result Subsetted Refusal) → r ≡ answer_of (cut_behind false p name keep rec (flag_of (eqb flag 1)) 67108864) → r ≡ answer_of (traced_cut p name keep words lent)
+    measured r h =
+        h ∙ ap (λ (n : ℕ). answer_of (cut_behind false p name keep rec n 67108864)) (sym same-flag)
+        ∙ ap answer_of (sym (cut-behind p name keep words lent can flag rec e fine))
 
   -- what a trace leaves
   module _ (old new : List ℕ) (a : Result AsRecorded Refusal) (t : Traces file keep old new a) where
@@ -201,42 +205,9 @@ module _ (file : List ℕ) (f : Font) (b : List ℕ) (octets : Octets file) (hel
     pub tried_handed : (r : AsRecorded) → a ≡ Ok r → Handed (trace_program p keep (length old)) r.flag r.len new
     tried_handed = traced_handed old new a t
 
--- what is asked to find the one that alone can be the culprit
-module _ (file : List ℕ) (f : Font) (b : List ℕ) (octets : Octets file) (held : InFile file f b) (keep rec : List ℕ) where
-  pub only-asked : (words : ℕ) → work_size (program_of (table_in file f) f) ≤ words → all_below (length (program_of (table_in file f) f).charstrings) keep ≡ true
-      → Recorded (program_of (table_in file f) f) keep rec
-      → FontHeld b f × (all_below f.charstrings.count keep ≡ true) × (small_size (program_of b f) ≤ words) × Recorded (program_of b f) keep rec
-  only-asked words room below recorded = (
-    font-held file f b octets held,
-    ap (λ (n : ℕ). all_below n keep) (sym (items-length (table_in file f) f.charstrings)) ∙ below,
-    omega (arith, small-less (program_of b f), subst (λ (l : List ℕ). work_size (program_of l f) ≤ words) (sym held.bytes) room),
-    subst (λ (l : List ℕ). Recorded (program_of l f) keep rec) (sym held.bytes) recorded,
-  )
-
-  -- where none is found each may be
-  pub each_may : Only (program_of (table_in file f) f) keep 65536
-  each_may = record { others = λ k. absurd (omega arith) }
-
-  pub only_of : (g : ℕ) → Only (program_of b f) keep g → Only (program_of (table_in file f) f) keep g
-  only_of g h = subst (λ (l : List ℕ). Only (program_of l f) keep g) held.bytes h
-
--- the same over the bytes of the table, as the functions say it
-module _ (file : List ℕ) (f : Font) (b : List ℕ) (octets : Octets file) (held : InFile file f b) (name keep : List ℕ) (words lent flag : ℕ) (rec : List ℕ)
-    (can : CanCut (program_of (table_in file f) f) (length name) words) (e : trace_program (program_of (table_in file f) f) keep lent ≡ traced flag rec) where
-  bytes_can : CanCut (program_of b f) (length name) words
-  bytes_can = subst (λ (l : List ℕ). CanCut (program_of l f) (length name) words) (sym held.bytes) can
-
-  bytes-traced : trace_program (program_of b f) keep lent ≡ traced flag rec
-  bytes-traced = subst (λ (l : List ℕ). trace_program (program_of l f) keep lent ≡ traced flag rec) (sym held.bytes) e
-
-  pub table-asked : FontHeld b f × Passed f.cid false (program_of b f) (length name) keep rec flag words
-  table-asked = measure_asked file f b octets held name keep words lent flag rec bytes_can bytes-traced
-
-  pub table-measured : (r : Result Subsetted Refusal) → r ≡ answer_of (cut_behind false (program_of b f) name keep rec flag 67108864)
-      → r ≡ answer_of (traced_cut (program_of (table_in file f) f) name keep words lent)
-  table-measured r h =
-      subst (λ (l : List ℕ). r ≡ answer_of (traced_cut (program_of l f) name keep words lent)) held.bytes
-      (measured file f b octets held name keep words lent flag rec bytes_can bytes-traced r h)
+-- where none is found each may be the culprit
+pub each_may : (p : Program) (keep : List ℕ) → Only p keep 65536
+each_may p keep = record { others = λ k. absurd (omega arith) }
 
 -- the way of an answer is its outcome's
 pub way-of : (o : Outcome) → renumbered_in (answer_of o) ≡ has_way Renumbered o

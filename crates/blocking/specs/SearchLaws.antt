@@ -16,7 +16,10 @@ use Rattle.octets.specs.PickLaws.{pick_same, both_hold, not_true}
 use Rattle.octets.specs.Lists.{all_below}
 use Rattle.octets.specs.ListLaws.{below_at, zeros-at}
 use Rattle.prune.specs.StepLaws.{zero_one}
+use Rattle.index.specs.IndexLaws.{items-length}
 use Rattle.cff.specs.Font.{Program}
+use Rattle.cff.specs.Loaded.{program}
+use Rattle.cff.specs.declared.opened.Opened.{Opened}
 use Rattle.subset.specs.Kept.{is_in, those, keeps}
 use Rattle.subset.specs.KeptListLaws.{in_at, in_place}
 use Rattle.culprit.specs.Culprit.{traced_cut, without, has_way, is_culprit, first_of, least_culprit}
@@ -201,16 +204,6 @@ module _ (p : Program) (name list : List ℕ) (words lent g : ℕ) where
   pub alone_freed : frees p name list words lent g ≡ true → Some g ≡ pick (frees p name list words lent g) (Some g) None
   alone_freed e = sym (ap (λ (t : Bool). pick t (Some g) None) e)
 
--- over the list and the room of the start
-pub tried_as : (p : Program) (name list old : List ℕ) (w w₀ t t₀ g : ℕ) (r : Bool) → list ≡ old → w ≡ w₀ → t ≡ t₀ → r ≡ has_way Renumbered (traced_cut p name (set list g 0) w t)
-    → r ≡ has_way Renumbered (traced_cut p name (set old g 0) w₀ t₀)
-tried_as p name list old w w₀ t t₀ g r a b c e =
-    e ∙ ap (λ (l : List ℕ). has_way Renumbered (traced_cut p name (set l g 0) w t)) a ∙ ap (λ (k : ℕ). has_way Renumbered (traced_cut p name (set old g 0) k t)) b
-    ∙ ap (λ (k : ℕ). has_way Renumbered (traced_cut p name (set old g 0) w₀ k)) c
-
-pub least_as : (p : Program) (name keep : List ℕ) (w w₀ t t₀ : ℕ) (r : Option ℕ) → w ≡ w₀ → t ≡ t₀ → r ≡ least_culprit p name keep w t → r ≡ least_culprit p name keep w₀ t₀
-least_as p name keep w w₀ t t₀ r b c e = e ∙ ap (λ (k : ℕ). least_culprit p name keep k t) b ∙ ap (λ (k : ℕ). least_culprit p name keep w₀ k) c
-
 -- what is left to search from g on gives what the whole search does
 pub record Searching (test : ℕ → Bool) (n g : ℕ) : Type 0 where
   pub above : 1 ≤ g
@@ -284,10 +277,21 @@ blank-length : (m : ℕ) → length (blank m) ≡ m
 blank-length m = length-replicate m 0
 
 -- the search by the first n of 65,536 places, n being how many glyphs there are
-module _ (p : Program) (keep : List ℕ) (n : ℕ) (many : n ≡ length p.charstrings) (some : 0 < n) (few : n < 65536) (below : all_below (length p.charstrings) keep ≡ true)
-    (all : List ℕ) (blanks : all ≡ blank 65536) where
-  same-below : all_below n keep ≡ true
-  same-below = ap (λ (m : ℕ). all_below m keep) many ∙ below
+module _ (font : Opened) (keep : List ℕ) (below : all_below font.loaded.f.charstrings.count keep ≡ true) (all : List ℕ) (blanks : all ≡ blank 65536) where
+  abbrev p : Program
+  p = program font.loaded
+
+  abbrev n : ℕ
+  n = font.loaded.f.charstrings.count
+
+  many : n ≡ length p.charstrings
+  many = sym (items-length font.loaded.bytes.now font.loaded.f.charstrings)
+
+  some : 0 < n
+  some = font.loaded.good.some
+
+  few : n < 65536
+  few = font.loaded.good.ids.few
 
   first-blank : take n all ≡ blank n
   first-blank = ap (take n) blanks ∙ no_glyphs n 65536 (omega arith)
@@ -296,14 +300,14 @@ module _ (p : Program) (keep : List ℕ) (n : ℕ) (many : n ≡ length p.charst
   places_there = omega (arith, ap length blanks, blank-length 65536)
 
   pub spread-asked : all_below (length (take n all)) keep ≡ true
-  spread-asked = ap (λ (l : List ℕ). all_below (length l) keep) first-blank ∙ ap (λ (k : ℕ). all_below k keep) (blank-length n) ∙ same-below
+  spread-asked = ap (λ (l : List ℕ). all_below (length l) keep) first-blank ∙ ap (λ (k : ℕ). all_below k keep) (blank-length n) ∙ below
 
   module _ (list : List ℕ) (e : list ≡ spread keep (take n all)) where
-    spread-own : list ≡ own keep n same-below
+    spread-own : list ≡ own keep n below
     spread-own = e ∙ ap (spread keep) first-blank
 
     pub spread_long : length list ≡ n
-    spread_long = ap length spread-own ∙ own-length keep n same-below
+    spread_long = ap length spread-own ∙ own-length keep n below
 
     pub spread-few : length list < 65536
     spread-few = omega (arith, spread_long, few)
@@ -315,9 +319,9 @@ module _ (p : Program) (keep : List ℕ) (n : ℕ) (many : n ≡ length p.charst
     alone-found name words lent g only h r q =
         q ∙ ap (λ (l : List ℕ). pick (frees p name l words lent g) (Some g) None) spread-own
         ∙ first_alone (is_culprit p name keep words lent) (length p.charstrings - 1) g (λ x. only.others (omega (arith, few)) name words lent x)
-        (frees p name (own keep n same-below) words lent g)
-        (λ l. freed_is keep n same-below g h l p name words lent (omega (arith, some, many)))
-        (λ z. ap (λ (k : ℕ). pick (eqb k 0) false (has_way Renumbered (traced_cut p name (set (own keep n same-below) g 0) words lent))) (own_at keep n same-below g ∙ at_zero (is_in g keep) z))
+        (frees p name (own keep n below) words lent g)
+        (λ l. freed_is keep n below g h l p name words lent (omega (arith, some, many)))
+        (λ z. ap (λ (k : ℕ). pick (eqb k 0) false (has_way Renumbered (traced_cut p name (set (own keep n below) g 0) words lent))) (own_at keep n below g ∙ at_zero (is_in g keep) z))
         (omega (arith, h, many))
       where
         at_zero : (t : Bool) → g ≡ 0 → pick t g 0 ≡ 0
@@ -327,4 +331,4 @@ module _ (p : Program) (keep : List ℕ) (n : ℕ) (many : n ≡ length p.charst
     pub least-found : (name : List ℕ) (words lent : ℕ) (r : Option ℕ) → r ≡ first_of (those (frees p name list words lent) (length list - 1) 1)
         → r ≡ least_culprit p name keep words lent
     least-found name words lent r q =
-        q ∙ ap (λ (l : List ℕ). first_of (those (frees p name l words lent) (length l - 1) 1)) spread-own ∙ least_is keep n same-below p name words lent many some
+        q ∙ ap (λ (l : List ℕ). first_of (those (frees p name l words lent) (length l - 1) 1)) spread-own ∙ least_is keep n below p name words lent many some

@@ -2,58 +2,46 @@
 // kept glyph. The list without a glyph has a 0 in its place, since glyph 0 is always kept.
 #![tactic(auto)]
 
-ghost use Rattle.std.specs.Prelude.{◌≡◌, true, ◌-◌, ◌≤◌, ◌<◌, length, set, replicate, None, Some};
+pub mod search;
+
+ghost use Rattle.std.specs.Prelude.{◌≡◌, true, ◌-◌, ◌<◌, length, set, None, Some};
 ghost use Rattle.octets.specs.Pick.{pick};
 ghost use Rattle.octets.specs.Lists.{all_below};
-ghost use Rattle.cff.specs.Find.{work_size};
-ghost use Rattle.cff.specs.Reads.{program_of};
-ghost use Rattle.cff.specs.File.{HasFont, table_in};
+ghost use Rattle.cff.specs.Loaded.{program};
 ghost use Rattle.subset.specs.Kept.{those};
-ghost use Rattle.traced.specs.Traced.{trace_program, traced};
 ghost use Rattle.outcome.specs.Entry.{answer_of};
 ghost use Rattle.subset.specs.declared.Way.TheVariants.{Renumbered};
-ghost use Rattle.culprit.specs.Culprit.{traced_cut, has_way, first_of, least_culprit, culprit_in, Blocks};
-ghost use Rattle.failing.specs.Failing.{Recorded, Only};
-ghost use Rattle.blocking.specs.Search.{CanCut, spread, renumbered_in, frees, Tried};
+ghost use Rattle.culprit.specs.Culprit.{has_way, first_of, culprit_in, Blocks};
+ghost use Rattle.failing.specs.Failing.{Only};
+ghost use Rattle.blocking.specs.Search.{spread, renumbered_in, Tried};
+ghost use Rattle.blocking.specs.Stays.{over, cut_by, frees_by, least_by, Stays};
 
-use cff::font::Font;
+use crate::search::Search;
+use cff::opened::Opened;
+use failing::list::KeepList;
+use faithful::read::Held;
 use outcome::Subsetted;
 use refusal::Refusal;
 
-// The cut of a list with what was traced, measured.
-fn measure_traced(
-    font: &[u8],
-    f: Font,
-    name: &[u8],
-    keep: &[u16],
-    rows: &[u8],
-    flag: u8,
-    words: &mut [u32],
-    lent: usize,
-) -> Result<Subsetted, Refusal>
-    requires { (HasFont font.now f) × (CanCut (program_of (table_in font.now f) f) (length name.now) (length words.old))
-        × (trace_program (program_of (table_in font.now f) f) keep.now lent ≡ traced flag rows.now) }
-    ensures { result ≡ answer_of (traced_cut (program_of (table_in font.now f) f) name.now keep.now (length words.old) lent) }
-{
-    let table = cff::set::table(font, f);
-    measure::measure(f.cid, table, f, name, keep, rows, flag == 1, words)
-}
-
 // A list traced, and its cut measured with what was traced: the way, or the refusal.
-fn try_list(
-    font: &[u8],
-    f: Font,
-    name: &[u8],
-    keep: &[u16],
-    words: &mut [u32],
-    slice: &mut [u8],
-) -> Result<Subsetted, Refusal>
-    requires { (HasFont font.now f) × (CanCut (program_of (table_in font.now f) f) (length name.now) (length words.old)) }
-    ensures { result ≡ answer_of (traced_cut (program_of (table_in font.now f) f) name.now keep.now (length words.old) (length slice.old)) }
+fn try_list(search: &mut Search<'_>, keep: &[u16]) -> Result<Subsetted, Refusal>
+    ensures { (result ≡ answer_of (over (cut_by keep.now) search.old)) × (Stays search.old search.new) }
 {
-    let lent = slice.len();
-    let r = tracer::trace_font(font, f, keep, &mut *slice)?;
-    measure_traced(font, f, name, keep, &slice[..r.len], r.flag, words, lent)
+    let font = search.font;
+    let slice = &mut *search.slice;
+    let r = tracer::trace_font(&font, keep, &mut *slice)?;
+    let rows = &slice[..r.len];
+    let held = Held::of(&font);
+    let words = &mut *search.words;
+    measure::measure(
+        font.loaded.f.cid,
+        &held,
+        search.name,
+        keep,
+        rows,
+        r.flag == 1,
+        words,
+    )
 }
 
 // Whether an answer is that of a renumbered subset.
@@ -67,41 +55,24 @@ fn is_renumbered(a: Result<Subsetted, Refusal>) -> bool
 }
 
 // Whether the list without glyph g, traced anew, gives way 0; the list is left as it was.
-fn is_freed(
-    font: &[u8],
-    f: Font,
-    name: &[u8],
-    list: &mut [u16],
-    g: usize,
-    words: &mut [u32],
-    slice: &mut [u8],
-) -> bool
-    requires { (HasFont font.now f) × (CanCut (program_of (table_in font.now f) f) (length name.now) (length words.old)) × (g < length list.old) }
-    ensures { Tried (has_way Renumbered (traced_cut (program_of (table_in font.now f) f) name.now (set list.old g 0) (length words.old) (length slice.old)))
-        list.old list.new result }
+fn is_freed(search: &mut Search<'_>, list: &mut [u16], g: usize) -> bool
+    requires { g < length list.old }
+    ensures { (Tried (has_way Renumbered (over (cut_by (set list.old g 0)) search.old)) list.old list.new result) × (Stays search.old search.new) }
 {
     let kept = list[g];
     list[g] = 0;
-    let a = try_list(font, f, name, &*list, words, slice);
+    let a = try_list(search, &*list);
     list[g] = kept;
     is_renumbered(a)
 }
 
 // The first glyph but 0 of a list with each glyph at its own place, without which the list has way 0.
-fn first_freed(
-    font: &[u8],
-    f: Font,
-    name: &[u8],
-    list: &mut [u16],
-    words: &mut [u32],
-    slice: &mut [u8],
-) -> Option<u16>
-    requires { (HasFont font.now f) × (CanCut (program_of (table_in font.now f) f) (length name.now) (length words.old)) × (length list.old < 65536) }
-    ensures { result ≡ first_of (those (frees (program_of (table_in font.now f) f) name.now list.old (length words.old) (length slice.old))
-        (length list.old - 1) 1) }
+fn first_freed(search: &mut Search<'_>, list: &mut [u16]) -> Option<u16>
+    requires { length list.old < 65536 }
+    ensures { (result ≡ first_of (those (over (frees_by list.old) search.old) (length list.old - 1) 1)) × (Stays search.old search.new) }
 {
     for g in 1..list.len() {
-        if list[g] != 0 && is_freed(font, f, name, &mut *list, g, &mut *words, &mut *slice) {
+        if list[g] != 0 && is_freed(&mut *search, &mut *list, g) {
             return Some(g as u16);
         }
     }
@@ -109,51 +80,34 @@ fn first_freed(
 }
 
 // The same where no glyph but g can be the first.
-fn one_freed(
-    font: &[u8],
-    f: Font,
-    name: &[u8],
-    list: &mut [u16],
-    g: usize,
-    words: &mut [u32],
-    slice: &mut [u8],
-) -> Option<u16>
-    requires { (HasFont font.now f) × (CanCut (program_of (table_in font.now f) f) (length name.now) (length words.old)) × (g < length list.old)
-        × (length list.old < 65536) }
-    ensures { result ≡ pick (frees (program_of (table_in font.now f) f) name.now list.old (length words.old) (length slice.old) g)
-        (Some g) None }
+fn one_freed(search: &mut Search<'_>, list: &mut [u16], g: usize) -> Option<u16>
+    requires { (g < length list.old) × (length list.old < 65536) }
+    ensures { (result ≡ pick (over (frees_by list.old) search.old g) (Some g) None) × (Stays search.old search.new) }
 {
-    let kept = list[g];
-    if kept == 0 {
+    if list[g] == 0 {
         return None;
     }
-    if is_freed(font, f, name, list, g, words, slice) {
+    if is_freed(search, list, g) {
         return Some(g as u16);
     }
     None
 }
 
-// The kept glyph that alone can be the culprit by what was traced, or 65536.
-fn only_traced(font: &[u8], f: Font, keep: &[u16], rows: &[u8], words: &mut [u32]) -> usize
-    requires { (HasFont font.now f) × (work_size (program_of (table_in font.now f) f) ≤ length words.old)
-        × (all_below (length (program_of (table_in font.now f) f).charstrings) keep.now ≡ true) × (Recorded (program_of (table_in font.now f) f) keep.now rows.now) }
-    ensures { Only (program_of (table_in font.now f) f) keep.now result }
-{
-    let table = cff::set::table(font, f);
-    failing::only_culprit(table, f, keep, rows, words)
-}
-
 // The kept glyph that alone can be the culprit, or 65536 where each may be.
-fn candidate(font: &[u8], f: Font, keep: &[u16], words: &mut [u32], slice: &mut [u8]) -> usize
-    requires { (HasFont font.now f) × (work_size (program_of (table_in font.now f) f) ≤ length words.old)
-        × (all_below (length (program_of (table_in font.now f) f).charstrings) keep.now ≡ true) }
-    ensures { Only (program_of (table_in font.now f) f) keep.now result }
+fn candidate(search: &mut Search<'_>, keep: &[u16]) -> usize
+    requires { all_below search.old.font.loaded.f.charstrings.count keep.now ≡ true }
+    ensures { (Only (program search.old.font.loaded) keep.now result) × (Stays search.old search.new) }
 {
-    match tracer::trace_font(font, f, keep, &mut *slice) {
+    let opened = search.font;
+    let slice = &mut *search.slice;
+    match tracer::trace_font(&opened, keep, &mut *slice) {
         Err(_) => 65536,
         Ok(r) => {
             if r.flag == 1 {
-                return only_traced(font, f, keep, &slice[..r.len], words);
+                let font = Held::of(&opened);
+                let list = KeepList { font, keep };
+                let words = &mut *search.words;
+                return failing::only_culprit(&list, &slice[..r.len], words);
             }
             65536
         }
@@ -170,85 +124,54 @@ fn spread(keep: &[u16], list: &mut [u16])
     }
 }
 
-// The first for a keep list, by so many places of `all`, which are 0, as the font has glyphs; `only` is tried alone where it is one of them.
-fn search_places(
-    font: &[u8],
-    f: Font,
-    name: &[u8],
-    keep: &[u16],
-    only: usize,
-    all: &mut [u16],
-    words: &mut [u32],
-    slice: &mut [u8],
-) -> Option<u16>
-    requires { (HasFont font.now f) × (CanCut (program_of (table_in font.now f) f) (length name.now) (length words.old))
-        × (all_below (length (program_of (table_in font.now f) f).charstrings) keep.now ≡ true) × (all.old ≡ replicate 65536 0)
-        × (Only (program_of (table_in font.now f) f) keep.now only) }
-    ensures { result ≡ least_culprit (program_of (table_in font.now f) f) name.now keep.now (length words.old) (length slice.old) }
+// The smallest kept glyph but 0 without which a list has way 0: by so many places as the font has glyphs; where one alone can be the culprit, it alone is tried.
+fn least_culprit(search: &mut Search<'_>, keep: &[u16]) -> Option<u16>
+    requires { all_below search.old.font.loaded.f.charstrings.count keep.now ≡ true }
+    ensures { (result ≡ over (least_by keep.now) search.old) × (Stays search.old search.new) }
 {
-    let charstrings = f.charstrings;
-    let n = charstrings.count;
+    let n = search.font.loaded.f.charstrings.count;
+    let only = candidate(&mut *search, keep);
+    let mut all = [0u16; 65536];
     let list = &mut all[..n];
     spread(keep, &mut *list);
     if only < n {
-        return one_freed(font, f, name, list, only, words, slice);
+        return one_freed(search, list, only);
     }
-    first_freed(font, f, name, list, words, slice)
-}
-
-// The smallest kept glyph but 0 without which a list has way 0.
-fn least_culprit(
-    font: &[u8],
-    f: Font,
-    name: &[u8],
-    keep: &[u16],
-    words: &mut [u32],
-    slice: &mut [u8],
-) -> Option<u16>
-    requires { (HasFont font.now f) × (CanCut (program_of (table_in font.now f) f) (length name.now) (length words.old))
-        × (all_below (length (program_of (table_in font.now f) f).charstrings) keep.now ≡ true) }
-    ensures { result ≡ least_culprit (program_of (table_in font.now f) f) name.now keep.now (length words.old) (length slice.old) }
-{
-    let only = candidate(font, f, keep, &mut *words, &mut *slice);
-    let mut all = [0u16; 65536];
-    search_places(font, f, name, keep, only, &mut all, words, slice)
+    first_freed(search, list)
 }
 
 // The answer by the first W work words, which are used, as the record slice is.
-fn culprit_in(
-    font: &[u8],
-    f: Font,
-    name: &[u8],
-    keep: &[u16],
-    words: &mut [u32],
-    slice: &mut [u8],
-) -> Result<Option<u16>, Refusal>
-    requires { (HasFont font.now f) × (CanCut (program_of (table_in font.now f) f) (length name.now) (length words.old)) }
-    ensures { result ≡ culprit_in (program_of (table_in font.now f) f) name.now keep.now (length words.old) (length slice.old) }
+fn culprit_in(search: &mut Search<'_>, keep: &[u16]) -> Result<Option<u16>, Refusal>
+    ensures { (result ≡ culprit_in (program search.old.font.loaded) search.old.name.now keep.now (length search.old.words.now) (length search.old.slice.now))
+        × (Stays search.old search.new) }
 {
-    let c = try_list(font, f, name, keep, &mut *words, &mut *slice)?;
+    let c = try_list(&mut *search, keep)?;
     if c.way.is_stubbed() {
-        return Ok(least_culprit(font, f, name, keep, words, slice));
+        return Ok(least_culprit(search, keep));
     }
     Ok(None)
 }
 
 // The answer for a font that was read in a file.
 fn culprit_font(
-    font: &[u8],
-    f: Font,
+    font: &Opened<'_>,
     name: &[u8],
     keep: &[u16],
     work: &mut [u32],
     slice: &mut [u8],
 ) -> Result<Option<u16>, Refusal>
-    requires { HasFont font.now f }
-    ensures { Blocks font.now name.now keep.now work.old slice.old work.new slice.new result }
+    ensures { Blocks font.now.file.now name.now keep.now work.old slice.old work.new slice.new result }
 {
-    early_traced::refusal(font, f, name.len(), keep, work.len(), &*slice)?;
-    let w = cff::font::work_size(f);
+    early_traced::refusal(font, name.len(), keep, work.len(), &*slice)?;
+    let w = cff::font::work_size(font.loaded.f);
     let words = &mut work[..w];
-    let r = culprit_in(font, f, name, keep, &mut *words, &mut *slice);
+    let mut search = Search {
+        font: *font,
+        name,
+        words: &mut *words,
+        slice: &mut *slice,
+    };
+    let r = culprit_in(&mut search, keep);
     reach::ranks::clear(words);
     slice.fill(0);
     r
@@ -265,6 +188,5 @@ pub fn blocking_glyph(
 ) -> Result<Option<u16>, Refusal>
     ensures { Blocks font.now name.now keep.now work.old slice.old work.new slice.new result }
 {
-    let f = cff::set::read_font(font)?;
-    culprit_font(font, f, name, keep, work, slice)
+    culprit_font(&cff::set::read(font)?, name, keep, work, slice)
 }

@@ -2,24 +2,29 @@
 use Rattle.std.specs.Prelude.{ℕ, ◌+◌, ◌*◌, ◌≤◌, ◌<◌, ◌≡◌, Bool, true, false, not, List, [], ◌∷◌, length, get_or, None, Option, Some}
 use Rattle.std.proofs.Common.{sym, ap, ◌∙◌, subst, arith, lt-ltb}
 use Rattle.octets.specs.Pick.{pick}
-use Rattle.octets.specs.Octets.{Octets, bytes_of, Wrote}
-use Rattle.octets.specs.PutLaws.{wrote_as}
+use Rattle.octets.specs.Octets.{Octets, bytes_of}
+use Rattle.octets.specs.declared.out.Out.{Out}
+use Rattle.octets.specs.Out.{Writes}
+use Rattle.octets.specs.OutLaws.{writes_as}
 use Rattle.bits.specs.Bits.{bit_in}
-use Rattle.index.specs.Good.{Good}
 use Rattle.index.specs.Index.{items_of}
 use Rattle.index.specs.IndexLaws.{item-short}
 use Rattle.index.specs.declared.Index.{Index}
 use Rattle.unfold.specs.Unfold.{Row, Site}
 use Rattle.prune.specs.Renumber.{Calls}
 use Rattle.subset.specs.Pruned.{renumbered_body}
+use Rattle.record.specs.Record.{rows_of}
+use Rattle.reach.specs.Reach.{site_of}
 use Rattle.reach.specs.declared.Site as code
 use Rattle.renumber.specs.Ranks.{calls_by, Ranked}
 use Rattle.renumber.specs.OperandLaws.{calls-read}
 use Rattle.renumber.specs.Turn.{Inputs, sized_of, body_of_lem, is_yes}
+use Rattle.renumber.specs.Bodies.{calls_of, Reads}
 use Rattle.renumber.specs.declared.Ranks.{Ranks}
-use Rattle.bodies.specs.Ways.{holds, new_body, body_by, subr_by, reached_in, is_kept, is_stub, kept_count, site_in, SubrsIn}
+use Rattle.renumber.specs.declared.body.Body.{Body}
+use Rattle.bodies.specs.Ways.{holds, new_body, body_by, by_way, subr_by, reached_in, is_kept, is_stub, kept_count, site_in, SubrsIn}
 use Rattle.bodies.specs.Sizes.{AtMost, len_at}
-use Rattle.bodies.specs.SizesLaws.{renumbered-short, at_most_more}
+use Rattle.bodies.specs.SizesLaws.{renumbered-short}
 use Rattle.bodies.specs.SubrsLaws.{new-body_is}
 use Rattle.bodies.specs.declared.subrs.Subrs.{Subrs}
 use Rattle.subset.specs.Way.{is_renumbered, is_stubbed}
@@ -65,6 +70,17 @@ renumbered_len way rows ws locals globals site s b l g e r h = (
   subst (AtMost (5 * length s)) (sym h) (renumbered-short (calls_by ws locals globals) (calls-read ws locals globals l g) s b rows site),
 )
 
+-- a body by what it was put together from
+module _ (way : Way) {b : Body} {s ws : List ℕ} {locals globals : Ranks} {rows : List ℕ} {rising : Bool} {site : code.Site} (r : Reads b s ws locals globals rows rising site) where
+  pub by_way-reads : by_way way b ≡ body_by way (rows_of rows) (calls_by ws locals globals) (site_of site) s
+  by_way-reads =
+      ap (λ (x : List ℕ). body_by way (rows_of x) (calls_of b) (site_of b.site) b.code.now) r.rows_are
+      ∙ ap (λ (x : code.Site). body_by way (rows_of rows) (calls_of b) (site_of x) b.code.now) r.site_is
+      ∙ ap (λ (x : List ℕ). body_by way (rows_of rows) (calls_by x b.locals b.globals) (site_of site) b.code.now) r.words_are
+      ∙ ap (λ (q : Ranks). body_by way (rows_of rows) (calls_by ws q b.globals) (site_of site) b.code.now) r.locals_are
+      ∙ ap (λ (q : Ranks). body_by way (rows_of rows) (calls_by ws locals q) (site_of site) b.code.now) r.globals_are
+      ∙ ap (body_by way (rows_of rows) (calls_by ws locals globals) (site_of site)) r.code_is
+
 -- ---- whether a subroutine is reached, written, or a return
 
 pub bit-reached : (ws : List ℕ) (own : Ranks) (k : ℕ) → k < own.count → (t : Bool) → t ≡ bit_in ws own.at k → t ≡ reached_in ws own k
@@ -91,22 +107,12 @@ count-any way reached count e = ap (λ (b : Bool). pick b reached count) (sym e)
 
 -- ---- an item
 
--- what renumbering an item asks
-pub item_inputs : {b ws : List ℕ} {ix : Index} {own locals globals : Ranks} {rows : List Row} {rising : Bool} {of : Subrs}
-    → SubrsIn b ws ix own locals globals rows rising of → (k : ℕ) → k < ix.count → (s : List ℕ) → s ≡ get_or (items_of b ix) k [] → (site : code.Site)
-    → Inputs s ws locals globals rows rising site
-item_inputs {b} {ws} {ix} w k h s e site =
-    record {
-      local_ranks = w.local_ranks;
-      global_ranks = w.global_ranks;
-      order = w.order;
-      size = let n = ap length e in omega (arith, item-short b ix w.good k h, w.size);
-    }
-
--- five times an item is not too long
-pub item-bound : (b : List ℕ) (ix : Index) → Good b ix → length b ≤ 67108864 → (k : ℕ) → k < ix.count → (s : List ℕ) → s ≡ get_or (items_of b ix) k []
-    → (r : Option ℕ) → AtMost (5 * length s) r → AtMost 335544320 r
-item-bound b ix g l k h s e r m = let n = ap length e in at_most_more (5 * length s) 335544320 (omega (arith, item-short b ix g k h)) r m
+-- what renumbering an item asks, by ranks of those that it calls
+pub item_inputs : {b ws : List ℕ} {ix : Index} {own locals globals l g : Ranks} {rows : List Row} {rising : Bool} {of : Subrs}
+    → SubrsIn b ws ix own locals globals rows rising of → Ranked ws l → Ranked ws g → (k : ℕ) → k < ix.count → (s : List ℕ) → s ≡ get_or (items_of b ix) k [] → (site : code.Site)
+    → Inputs s ws l g rows rising site
+item_inputs {b} {ws} {ix} w p q k h s e site =
+    record { local_ranks = p; global_ranks = q; order = w.order; size = let n = ap length e in omega (arith, item-short b ix w.good k h, w.size) }
 
 -- ---- a subroutine
 
@@ -120,30 +126,16 @@ module _ (way : Way) (rows : List Row) (set : ℕ → Bool) (calls : Calls) (of 
   pub stub_room : is_stub way set k ≡ true → (at n : ℕ) → at + length (body_of_lem (subr_by way rows set calls (site_in of) subrs k)) ≤ n → at + 1 ≤ n
   stub_room e at n h = subst (λ (m : Option (List ℕ)). at + length (body_of_lem m) ≤ n) (sym (stub_is e)) h
 
-  pub stub_wrote : is_stub way set k ≡ true → {old new : List ℕ} {at q : ℕ} → Wrote old at (bytes_of 1 11) new q
-      → Wrote old at (body_of_lem (subr_by way rows set calls (site_in of) subrs k)) new q
+  pub stub_writes : is_stub way set k ≡ true → {old new : Out} → Writes old (bytes_of 1 11) new
+      → Writes old (body_of_lem (subr_by way rows set calls (site_in of) subrs k)) new
   unfolding bytes_of
-  stub_wrote e w = wrote_as w (ap body_of_lem (stub_is e))
+  stub_writes e w = writes_as w (ap body_of_lem (stub_is e))
 
   module _ (site : Site) (s : List ℕ) (f : site ≡ site_in of k) (g : s ≡ get_or subrs k []) (e : is_stub way set k ≡ false) where
-    body_is : body_by way rows calls site s ≡ subr_by way rows set calls (site_in of) subrs k
+    pub body_is : body_by way rows calls site s ≡ subr_by way rows set calls (site_in of) subrs k
     body_is =
         ap (λ (x : Site). body_by way rows calls x s) f ∙ ap (λ (x : List ℕ). body_by way rows calls (site_in of k) x) g
         ∙ ap (λ (b : Bool). pick b (Some (11 ∷ [])) (body_by way rows calls (site_in of k) (get_or subrs k []))) (sym e)
-
-    new_is : new_body way rows calls site s ≡ body_of_lem (subr_by way rows set calls (site_in of) subrs k)
-    new_is = new-body_is way rows calls site s ∙ ap body_of_lem body_is
-
-    pub subr_len : (r : Option ℕ) → r ≡ sized_of (body_by way rows calls site s) → r ≡ sized_of (subr_by way rows set calls (site_in of) subrs k)
-    subr_len r h = h ∙ ap sized_of body_is
-
-    pub subr_room : (at n : ℕ) → holds (subr_by way rows set calls (site_in of) subrs k) ≡ true → at + length (body_of_lem (subr_by way rows set calls (site_in of) subrs k)) ≤ n
-        → (holds (body_by way rows calls site s) ≡ true) × (at + length (new_body way rows calls site s) ≤ n)
-    subr_room at n h l = (ap holds body_is ∙ h, subst (λ (x : List ℕ). at + length x ≤ n) (sym new_is) l)
-
-    pub subr_wrote : {old new : List ℕ} {at q : ℕ} → Wrote old at (new_body way rows calls site s) new q
-        → Wrote old at (body_of_lem (subr_by way rows set calls (site_in of) subrs k)) new q
-    subr_wrote w = wrote_as w new_is
 
 -- how long number k is, by whether it passes
 pub len_kept : (test : ℕ → Bool) (f : ℕ → Option (List ℕ)) (k n : ℕ) → test k ≡ true → (r : Option ℕ) → (r ≡ sized_of (f k)) × AtMost n r → (r ≡ len_at test f k) × AtMost n r

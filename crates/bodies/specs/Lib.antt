@@ -5,6 +5,7 @@ pub mod Pruning
 pub mod Examples
 pub mod SizesLaws
 pub mod WritingLaws
+pub mod WritingOut
 pub mod SubrsLaws
 pub mod WaysLaws
 pub mod CodeLaws

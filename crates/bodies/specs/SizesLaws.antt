@@ -21,7 +21,7 @@ use Rattle.prune.specs.Renumber.{Calls, renumber_charstring}
 use Rattle.prune.specs.StepLaws.{zero_one}
 use Rattle.subset.specs.Kept.{those}
 use Rattle.subset.specs.Pruned.{each, renumbered_body}
-use Rattle.renumber.specs.Turn.{after, turned_at, held_len_lem, own_len, sized_of}
+use Rattle.renumber.specs.Turn.{held_after, turned_at, held_len_lem, own_len, sized_of}
 use Rattle.renumber.specs.BodyLaws.{Sizing, sizing_start, sized-room, sized_end, sizing_turn, sized_failed, turning_next}
 use Rattle.renumber.specs.declared.Turned.{Turned}
 use Rattle.bodies.specs.Ways.{measured_of}
@@ -43,8 +43,8 @@ module _ (calls : Calls) (reads : (b : ℕ) (z y : ℤ) → calls b z ≡ Some y
         turned : more s c ≡ true → (r : Option Turned) → r ≡ turned_at calls h (step_of (token_at s (given_at given c) c)) → Short
         turned m None e = subst (AtMost (5 * length s)) (sized_failed calls reads given s b c h len w m None e refl) tt
         turned m (Some q) e =
-            on q.next (after q.token) (len + (held_len_lem q.before + own_len q.token)) (turning_next calls reads given s b c h w.sent w.turning m (Some q) e q.before q.token q.next refl).moves.shorter
-            (sizing_turn calls reads given s b c h len w m (Some q) e q.before q.token q.next refl (held_len_lem q.before + own_len q.token) refl (after q.token) refl)
+            on q.next (held_after q.token) (len + (held_len_lem q.before + own_len q.token)) (turning_next calls reads given s b c h w.sent w.turning m (Some q) e q.before q.token q.next refl).moves.shorter
+            (sizing_turn calls reads given s b c h len w m (Some q) e q.before q.token q.next refl (held_len_lem q.before + own_len q.token) refl (held_after q.token) refl)
 
         go : (t : Bool) → more s c ≡ t → Short
         go true m = turned m (turned_at calls h (step_of (token_at s (given_at given c) c))) refl

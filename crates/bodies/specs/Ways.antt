@@ -10,10 +10,13 @@ use Rattle.unfold.specs.Unfold.{Row, Site, local, global}
 use Rattle.prune.specs.Renumber.{Calls}
 use Rattle.subset.specs.Kept.{those}
 use Rattle.subset.specs.Pruned.{renumbered_body, renumbered_subrs, stubbed_from}
-use Rattle.reach.specs.Reach.{rises}
+use Rattle.record.specs.Record.{rows_of}
+use Rattle.reach.specs.Reach.{site_of, rises}
 use Rattle.renumber.specs.Ranks.{Ranked}
 use Rattle.renumber.specs.Turn.{body_of_lem}
+use Rattle.renumber.specs.Bodies.{calls_of}
 use Rattle.renumber.specs.declared.Ranks.{Ranks}
+use Rattle.renumber.specs.declared.body.Body.{Body}
 use Rattle.bodies.specs.declared.subrs.Subrs.{Subrs}
 use Rattle.bodies.specs.declared.subrs.Subrs.TheVariants.{Global, Local}
 use Rattle.subset.specs.Way.{is_renumbered, is_stubbed}
@@ -48,6 +51,13 @@ new_body way rows calls site s = pick (is_renumbered way) (body_of_lem (renumber
 
 abbrev pub body_by : Way → List Row → Calls → Site → List ℕ → Option (List ℕ)
 body_by way rows calls site s = pick (is_renumbered way) (renumbered_body rows calls site s) (Some s)
+
+-- the same of a body with what its renumbering reads
+abbrev pub new_by_way : Way → Body → List ℕ
+new_by_way way b = new_body way (rows_of b.rows.now) (calls_of b) (site_of b.site) b.code.now
+
+abbrev pub by_way : Way → Body → Option (List ℕ)
+by_way way b = body_by way (rows_of b.rows.now) (calls_of b) (site_of b.site) b.code.now
 
 -- the subroutines of an INDEX by the way, of which the set is reached; the same, or that their renumbering fails
 abbrev pub new_subrs : Way → List Row → (ℕ → Bool) → Calls → (ℕ → Site) → List (List ℕ) → List (List ℕ)

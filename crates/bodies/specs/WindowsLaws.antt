@@ -1,19 +1,18 @@
 -- A body by a window of the record that has its rows is the body by the whole record.
-use Rattle.std.specs.Prelude.{ℕ, ◌+◌, ◌≤◌, ◌<◌, ◌≡◌, refl, Bool, true, false, List, [], ◌∷◌, length, take, get_or, Option, Some}
+use Rattle.std.specs.Prelude.{ℕ, ◌+◌, ◌≤◌, ◌<◌, ◌≡◌, refl, Bool, true, List, [], ◌∷◌, length, take, get_or, Option, Some}
 use Rattle.std.proofs.Common.{sym, ap, ◌∙◌, subst, arith}
-use Rattle.std.proofs.lemmas.Bool.{false≢true}
 use Rattle.octets.specs.Pick.{pick}
-use Rattle.octets.specs.Octets.{Wrote}
-use Rattle.octets.specs.PutLaws.{wrote_as}
+use Rattle.octets.specs.declared.out.Out.{Out}
+use Rattle.octets.specs.Out.{Writes}
+use Rattle.octets.specs.OutLaws.{writes_as}
 use Rattle.index.specs.Index.{items_of}
 use Rattle.unfold.specs.Unfold.{Row, Site, masked}
 use Rattle.record.specs.Record.{rows_of}
 use Rattle.prune.specs.Renumber.{Calls}
 use Rattle.reach.specs.Reach.{site_of}
 use Rattle.reach.specs.declared.Site as code
-use Rattle.renumber.specs.Turn.{Inputs, sized_of, body_of_lem}
+use Rattle.renumber.specs.Turn.{sized_of, body_of_lem}
 use Rattle.renumber.specs.Ranks.{calls_by}
-use Rattle.renumber.specs.declared.Ranks.{Ranks}
 use Rattle.mask_rows.specs.MaskRows.{SameMasks, Fillable, Covers, HasOrNone}
 use Rattle.mask_rows.specs.FillLaws.{covers-none}
 use Rattle.mask_rows.specs.SameLaws.{same_body}
@@ -69,9 +68,9 @@ module _ (rec bytes : List ℕ) (w : Window) (source : Source) (covers : Covers 
           → (holds (subr_from source' (rows_of part) ws b k) ≡ true) × (at + length (body_of_lem (subr_from source' (rows_of part) ws b k)) ≤ n)
       subr_window-room at n h l = (ap holds window_subr ∙ h, subst (λ (m : Option (List ℕ)). at + length (body_of_lem m) ≤ n) (sym window_subr) l)
 
-      pub subr_window-wrote : {old new : List ℕ} {at q : ℕ} → Wrote old at (body_of_lem (subr_from source' (rows_of part) ws b k)) new q
-          → Wrote old at (body_of_lem (subr_from source (rows_of rec) ws b k)) new q
-      subr_window-wrote v = wrote_as v (ap body_of_lem window_subr)
+      pub subr_window-writes : {old new : Out} → Writes old (body_of_lem (subr_from source' (rows_of part) ws b k)) new
+          → Writes old (body_of_lem (subr_from source (rows_of rec) ws b k)) new
+      subr_window-writes v = writes_as v (ap body_of_lem window_subr)
 
 fd-small : (of : Subrs) → SubrsFit of → fd_of of < 256
 fd-small Global f = omega arith
@@ -109,11 +108,6 @@ pub covers-past : {rec : List ℕ} {kind fd : ℕ} {k : ℕ} {w : Window} → Ha
 covers-past {rec} {kind} {fd} {k} {w} none past bytes' = subst (λ (x : Window). Covers rec bytes' kind fd x) (sym (none past)) (covers-none rec bytes' kind fd)
 
 -- ---- a body with more rows than a window holds
-
--- rows in any order
-pub any_order : {s ws : List ℕ} {locals globals : Ranks} {rows : List Row} {rising : Bool} {site : code.Site} → Inputs s ws locals globals rows rising site
-    → Inputs s ws locals globals rows false site
-any_order i = record { local_ranks = i.local_ranks; global_ranks = i.global_ranks; order = λ e. absurd (false≢true e); size = i.size }
 
 site_number : (site : code.Site) (of : Subrs) (k : ℕ) → site_of site ≡ site_in of k → (body_in site).number ≡ k
 site_number site of k e = sym (ap (λ (r : Row). r.number) (site_mask site 0 0)) ∙ ap (λ (x : Site). (masked x 0 0).number) e ∙ own of

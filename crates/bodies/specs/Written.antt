@@ -1,8 +1,14 @@
 -- Subroutines as they are written, as values that hold their bytes.
-use Rattle.std.specs.Prelude.{ℕ, Bool, List, Option}
+use Rattle.std.specs.Prelude.{ℕ, ◌≡◌, Bool, List, [], get_or, Option}
+use Rattle.index.specs.Index.{items_of}
 use Rattle.record.specs.Record.{rows_of}
+use Rattle.reach.specs.Reach.{site_of}
+use Rattle.renumber.specs.Bodies.{Reads}
+use Rattle.renumber.specs.declared.Ranks.{Ranks}
+use Rattle.renumber.specs.declared.body.Body.{Body}
 use Rattle.mask_rows.specs.MaskRows.{Covers}
 use Rattle.mask_rows.specs.declared.Window.{Window}
+use Rattle.bodies.specs.Ways.{site_in}
 use Rattle.bodies.specs.Sources.{kept_from, subr_from, subrs_from, new_subrs_from}
 use Rattle.bodies.specs.Windows.{kind_of, fd_of}
 use Rattle.bodies.specs.declared.subroutines.Subroutines.{Subroutines}
@@ -25,6 +31,12 @@ new_subrs_of all = new_subrs_from all.from (rows_of all.rows.now) all.words.now 
 -- one of them as it is written
 abbrev pub written : Subr → Option (List ℕ)
 written one = subr_of one.of.now one.k
+
+-- one of them with what its renumbering reads, by the bits of those that it calls
+abbrev pub Bodied : Subr → Ranks → Ranks → Body → Type 0
+Bodied one locals globals b =
+    (Reads b (get_or (items_of one.of.now.font.now one.of.now.from.ix) one.k []) one.of.now.words.now locals globals one.of.now.rows.now one.of.now.from.rising b.site)
+    × (site_of b.site ≡ site_in one.of.now.from.of one.k)
 
 -- the record in the first bytes of a slice has the rows of those that a window says
 abbrev pub Shows : Subroutines → List ℕ → Window → Type 0

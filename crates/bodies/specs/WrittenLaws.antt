@@ -1,7 +1,10 @@
 -- Laws of subroutines as they are written, as values that hold their bytes.
-use Rattle.std.specs.Prelude.{ℕ, ◌+◌, ◌*◌, ◌≤◌, ◌<◌, ◌≡◌, Bool, true, false, List, [], length, get_or, Option, Some}
-use Rattle.std.proofs.Common.{sym, ap, subst, arith}
-use Rattle.octets.specs.Octets.{bytes_of, Wrote}
+use Rattle.std.specs.Prelude.{ℕ, ◌+◌, ◌*◌, ◌≤◌, ◌<◌, ◌≡◌, refl, Bool, true, false, List, [], length, get_or, Option, Some}
+use Rattle.std.proofs.Common.{sym, ap, ◌∙◌, subst, arith}
+use Rattle.octets.specs.Octets.{bytes_of}
+use Rattle.octets.specs.declared.out.Out.{Out}
+use Rattle.octets.specs.Out.{Writes}
+use Rattle.octets.specs.OutLaws.{writes_as}
 use Rattle.bits.specs.Bits.{count_below}
 use Rattle.index.specs.Write.{index_bytes}
 use Rattle.index.specs.Index.{items_of}
@@ -9,18 +12,20 @@ use Rattle.unfold.specs.Unfold.{Row}
 use Rattle.prune.specs.Renumber.{Calls}
 use Rattle.record.specs.Record.{rows_of}
 use Rattle.reach.specs.Reach.{site_of}
-use Rattle.reach.specs.declared.Site as code
 use Rattle.subset.specs.Kept.{those}
 use Rattle.subset.specs.Pruned.{each}
 use Rattle.renumber.specs.Ranks.{calls_by}
-use Rattle.renumber.specs.Turn.{Inputs, sized_of, body_of_lem}
+use Rattle.renumber.specs.Turn.{sized_of, body_of_lem}
+use Rattle.renumber.specs.Bodies.{calls_of}
+use Rattle.renumber.specs.declared.body.Body.{Body}
 use Rattle.long_bodies.specs.Offsets.{Sited}
-use Rattle.bodies.specs.Ways.{many_of, holds, measured_of, new_body, body_by, reached_in, site_in, is_stub, kept_count, Room}
+use Rattle.bodies.specs.Ways.{many_of, holds, measured_of, by_way, new_by_way, reached_in, site_in, is_stub, kept_count, Room}
 use Rattle.bodies.specs.Sizes.{AtMost}
-use Rattle.bodies.specs.CodeLaws.{item_inputs, item-bound, stub_len, stub_room, stub_wrote, subr_len, subr_room, subr_wrote}
+use Rattle.bodies.specs.CodeLaws.{by_way-reads, stub_len, stub_room, stub_writes, body_is}
+use Rattle.bodies.specs.SizesLaws.{at_most_more}
 use Rattle.bodies.specs.WindowsLaws.{sited_subr}
-use Rattle.bodies.specs.SubrsLaws.{index-each, index_many, new-subrs_is}
-use Rattle.bodies.specs.Written.{kept_of, subr_of, subrs_of, new_subrs_of, written}
+use Rattle.bodies.specs.SubrsLaws.{index-each, index_many, new-body_is, new-subrs_is}
+use Rattle.bodies.specs.Written.{kept_of, subr_of, subrs_of, new_subrs_of, written, Bodied}
 use Rattle.bodies.specs.Measured.{Adds}
 use Rattle.bodies.specs.declared.subrs.Source.{Source}
 use Rattle.bodies.specs.declared.subroutines.Subroutines.{Subroutines}
@@ -91,28 +96,28 @@ module _ (one : Subr) where
     pub return_room : (at n : ℕ) → at + length (body_of_lem (written one)) ≤ n → at + 1 ≤ n
     return_room = stub_room from.way rows set calls from.of items one.k e
 
-    pub return_wrote : {old new : List ℕ} {at q : ℕ} → Wrote old at (bytes_of 1 11) new q → Wrote old at (body_of_lem (written one)) new q
-    return_wrote w = stub_wrote from.way rows set calls from.of items one.k e w
+    pub return_writes : {old new : Out} → Writes old (bytes_of 1 11) new → Writes old (body_of_lem (written one)) new
+    return_writes w = stub_writes from.way rows set calls from.of items one.k e w
 
   -- it is a body by the way
-  module _ (site : code.Site) (there : site_of site ≡ site_in from.of one.k) where
-    pub written_sited : Sited site
-    written_sited = sited_subr site from.of one.k there (omega (arith, one.there, one.of.now.sourced.few))
+  module _ {b : Body} (w : Bodied one from.locals from.globals b) where
+    -- its rows can be taken by windows
+    pub written_sited : Sited b.site
+    written_sited = sited_subr b.site from.of one.k w.1 (omega (arith, one.there, one.of.now.sourced.few))
 
-    module _ (s : List ℕ) (is : s ≡ get_or items one.k []) where
-      pub written_inputs : Inputs s one.of.now.words.now from.locals from.globals rows from.rising site
-      written_inputs = item_inputs one.of.now.sourced one.k one.there s is site
+    module _ (e : is_stub from.way set one.k ≡ false) where
+      body_written : by_way from.way b ≡ written one
+      body_written = by_way-reads from.way w.0 ∙ body_is from.way rows set calls from.of items one.k (site_of b.site) (get_or items one.k []) w.1 refl e
 
-      module _ (e : is_stub from.way set one.k ≡ false) where
-        pub written-len : (r : Option ℕ) → (r ≡ sized_of (body_by from.way rows calls (site_of site) s)) × AtMost (5 * length s) r → (r ≡ sized_of (written one)) × AtMost 335544320 r
-        written-len r h = (
-          subr_len from.way rows set calls from.of items one.k (site_of site) s there is e r h.0,
-          item-bound one.of.now.font.now from.ix one.of.now.sourced.good one.of.now.sourced.size one.k one.there s is r h.1,
-        )
+      new_written : new_by_way from.way b ≡ body_of_lem (written one)
+      new_written = new-body_is from.way (rows_of b.rows.now) (calls_of b) (site_of b.site) b.code.now ∙ ap body_of_lem body_written
 
-        pub written_room : (at n : ℕ) → holds (written one) ≡ true → at + length (body_of_lem (written one)) ≤ n
-            → (holds (body_by from.way rows calls (site_of site) s) ≡ true) × (at + length (new_body from.way rows calls (site_of site) s) ≤ n)
-        written_room = subr_room from.way rows set calls from.of items one.k (site_of site) s there is e
+      pub written-len : {r : Option ℕ} → (r ≡ sized_of (by_way from.way b)) × AtMost (5 * length b.code.now) r → (r ≡ sized_of (written one)) × AtMost 335544320 r
+      written-len {r} h = (h.0 ∙ ap sized_of body_written, at_most_more (5 * length b.code.now) 335544320 (omega (arith, b.inputs.size)) r h.1)
 
-        pub written_wrote : {old new : List ℕ} {at q : ℕ} → Wrote old at (new_body from.way rows calls (site_of site) s) new q → Wrote old at (body_of_lem (written one)) new q
-        written_wrote w = subr_wrote from.way rows set calls from.of items one.k (site_of site) s there is e w
+      pub written_room : (at n : ℕ) → holds (written one) ≡ true → at + length (body_of_lem (written one)) ≤ n
+          → (holds (by_way from.way b) ≡ true) × (at + length (new_by_way from.way b) ≤ n)
+      written_room at n h l = (ap holds body_written ∙ h, subst (λ (x : List ℕ). at + length x ≤ n) (sym new_written) l)
+
+      pub written_writes : {old new : Out} → Writes old (new_by_way from.way b) new → Writes old (body_of_lem (written one)) new
+      written_writes v = writes_as v new_written

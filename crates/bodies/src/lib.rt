@@ -7,18 +7,16 @@ pub mod subroutines;
 pub mod subrs;
 
 ghost use Rattle.std.specs.Prelude.{◌≡◌, true, ◌+◌, ◌*◌, ◌≤◌, ◌<◌, false, length};
-ghost use Rattle.octets.specs.Octets.{Wrote};
-ghost use Rattle.record.specs.Record.{rows_of};
-ghost use Rattle.reach.specs.Reach.{site_of};
-ghost use Rattle.renumber.specs.Ranks.{calls_by};
-ghost use Rattle.renumber.specs.Turn.{Inputs, sized_of};
-ghost use Rattle.bodies.specs.Ways.{holds, new_body, body_by, ranks_in};
+ghost use Rattle.octets.specs.Out.{Writes};
+ghost use Rattle.renumber.specs.Turn.{sized_of};
+ghost use Rattle.bodies.specs.Ways.{holds, by_way, new_by_way, ranks_in};
 ghost use Rattle.bodies.specs.Sizes.{AtMost};
 
-use long_bodies::long_site::LongSite;
+use long_bodies::long_body::LongBody;
 use mask_rows::lent::Lent;
-use reach::Site;
+use octets::out::Out;
 use renumber::Ranks;
+use renumber::body::Body;
 use subset::Way;
 
 // How bodies are written: the way, the bits of the globals, and whether the rows rise.
@@ -50,95 +48,43 @@ pub fn ranks_in(table: &[usize], fd: usize) -> Ranks
 }
 
 // How long a charstring or subroutine is, by the way; or that its renumbering fails.
-pub fn body_len(
-    way: Way,
-    code: &[u8],
-    words: &[u32],
-    locals: Ranks,
-    globals: Ranks,
-    rows: &[u8],
-    rising: bool,
-    site: Site,
-) -> Option<usize>
-    requires { Inputs code.now words.now locals globals (rows_of rows.now) rising site }
-    ensures { (result ≡ sized_of (body_by way (rows_of rows.now) (calls_by words.now locals globals) (site_of site) code.now))
-        × (AtMost (5 * length code.now) result) }
+pub fn body_len(way: Way, body: &Body<'_>) -> Option<usize>
+    ensures { (result ≡ sized_of (by_way way body.now)) × (AtMost (5 * length body.now.code.now) result) }
 {
     if way.is_renumbered() {
-        return renumbered::renumbered_len(code, words, locals, globals, rows, rising, site);
+        return renumbered::renumbered_len(body);
     }
-    Some(code.len())
+    Some(body.code.len())
 }
 
 // The same where it has more rows than a window holds.
-pub fn long_body_len(
-    way: Way,
-    code: &[u8],
-    words: &[u32],
-    locals: Ranks,
-    globals: Ranks,
-    rows: &[u8],
-    of: LongSite,
-    lent: &mut Lent<'_>,
-) -> Option<usize>
-    requires { Inputs code.now words.now locals globals (rows_of rows.now) false of.site }
-    ensures { (result ≡ sized_of (body_by way (rows_of rows.now) (calls_by words.now locals globals) (site_of of.site) code.now))
-        × (AtMost (5 * length code.now) result) }
+pub fn long_body_len(way: Way, one: &LongBody<'_>, lent: &mut Lent<'_>) -> Option<usize>
+    ensures { (result ≡ sized_of (by_way way one.now.body.now)) × (AtMost (5 * length one.now.body.now.code.now) result) }
 {
     if way.is_renumbered() {
-        return long_bodies::renumbered_len(code, words, locals, globals, rows, of, lent);
+        return long_bodies::renumbered_len(one, lent);
     }
-    Some(code.len())
+    Some(one.body.code.len())
 }
 
-// A charstring or subroutine by the way, from `at` on; the place after it.
-pub fn put_body(
-    way: Way,
-    code: &[u8],
-    words: &[u32],
-    locals: Ranks,
-    globals: Ranks,
-    rows: &[u8],
-    rising: bool,
-    site: Site,
-    out: &mut [u8],
-    at: usize,
-) -> usize
-    requires { (Inputs code.now words.now locals globals (rows_of rows.now) rising site)
-        × (holds (body_by way (rows_of rows.now) (calls_by words.now locals globals) (site_of site) code.now) ≡ true)
-        × (at + length (new_body way (rows_of rows.now) (calls_by words.now locals globals) (site_of site) code.now) ≤ length out.old) }
-    ensures { Wrote out.old at
-        (new_body way (rows_of rows.now) (calls_by words.now locals globals) (site_of site) code.now) out.new result }
+// A charstring or subroutine by the way.
+pub fn put_body(way: Way, body: &Body<'_>, out: &mut Out<'_>)
+    requires { (holds (by_way way body.now) ≡ true) × (out.old.at + length (new_by_way way body.now) ≤ length out.old.bytes.now) }
+    ensures { Writes out.old (new_by_way way body.now) out.new }
 {
     if way.is_renumbered() {
-        return renumbered::put_renumbered(
-            code, words, locals, globals, rows, rising, site, out, at,
-        );
+        return renumbered::put_renumbered(body, out);
     }
-    octets::put_bytes(out, at, code)
+    out.copy(body.code);
 }
 
 // The same where it has more rows than a window holds.
-pub fn put_long_body(
-    way: Way,
-    code: &[u8],
-    words: &[u32],
-    locals: Ranks,
-    globals: Ranks,
-    rows: &[u8],
-    of: LongSite,
-    out: &mut [u8],
-    at: usize,
-    lent: &mut Lent<'_>,
-) -> usize
-    requires { (Inputs code.now words.now locals globals (rows_of rows.now) false of.site)
-        × (holds (body_by way (rows_of rows.now) (calls_by words.now locals globals) (site_of of.site) code.now) ≡ true)
-        × (at + length (new_body way (rows_of rows.now) (calls_by words.now locals globals) (site_of of.site) code.now) ≤ length out.old) }
-    ensures { Wrote out.old at
-        (new_body way (rows_of rows.now) (calls_by words.now locals globals) (site_of of.site) code.now) out.new result }
+pub fn put_long_body(way: Way, one: &LongBody<'_>, out: &mut Out<'_>, lent: &mut Lent<'_>)
+    requires { (holds (by_way way one.now.body.now) ≡ true) × (out.old.at + length (new_by_way way one.now.body.now) ≤ length out.old.bytes.now) }
+    ensures { Writes out.old (new_by_way way one.now.body.now) out.new }
 {
     if way.is_renumbered() {
-        return long_bodies::put_renumbered(code, words, locals, globals, rows, of, out, at, lent);
+        return long_bodies::put_renumbered(one, out, lent);
     }
-    octets::put_bytes(out, at, code)
+    out.copy(one.body.code);
 }

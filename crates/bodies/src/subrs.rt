@@ -1,24 +1,27 @@
 // The subroutines of an INDEX, the globals or the locals of an FD, by the way (the Rust's renumber and stubbed): where they are renumbered,
 // only those that are reached are written; where they are stubbed, each other one is a return.
 ghost use Rattle.std.specs.Prelude.{◌≡◌, true, ◌+◌, ◌≤◌, ◌<◌, length};
-ghost use Rattle.octets.specs.Octets.{Wrote};
+ghost use Rattle.octets.specs.Out.{Writes};
 ghost use Rattle.index.specs.Write.{index_bytes};
 ghost use Rattle.mask_rows.specs.MaskRows.{HasOrNone};
 ghost use Rattle.reach.specs.Reach.{site_of};
+ghost use Rattle.renumber.specs.Ranks.{Ranked};
 ghost use Rattle.renumber.specs.Turn.{sized_of, body_of_lem};
 ghost use Rattle.bodies.specs.Ways.{holds, measured_of, reached_in, site_in, is_stub, kept_count};
 ghost use Rattle.bodies.specs.Sizes.{AtMost, Bounded, len_at};
 ghost use Rattle.bodies.specs.Windows.{source_in_order};
-ghost use Rattle.bodies.specs.Written.{kept_of, subr_of, subrs_of, new_subrs_of, written, Shows};
+ghost use Rattle.bodies.specs.Written.{kept_of, subr_of, subrs_of, new_subrs_of, written, Bodied, Shows};
 
 use crate::measured::Measured;
 use crate::subroutines::{Subr, Subroutines};
 use index::Index;
-use long_bodies::long_site::LongSite;
+use long_bodies::long_body::LongBody;
 use mask_rows::Window;
 use mask_rows::lent::Lent;
+use octets::out::Out;
 use reach::Site;
 use renumber::Ranks;
+use renumber::body::Body;
 use subset::Way;
 
 // The subroutines of an INDEX: the globals, or the locals of an FD.
@@ -86,6 +89,25 @@ fn site_for(one: &Subr<'_>) -> Site
     }
 }
 
+// A subroutine with what its renumbering reads, by the bits of those that it calls.
+fn body_of<'a>(one: &Subr<'a>, locals: Ranks, globals: Ranks) -> Body<'a>
+    requires { (Ranked one.now.of.now.words.now locals) × (Ranked one.now.of.now.words.now globals) }
+    ensures { Bodied one.now locals globals result }
+{
+    let all = one.of;
+    let code = index::item(all.font, all.from.ix, one.k);
+    let site = site_for(one);
+    Body::new(
+        code,
+        all.words,
+        locals,
+        globals,
+        all.rows,
+        all.from.rising,
+        site,
+    )
+}
+
 // How long a subroutine is as it is written, or that its renumbering fails.
 fn written_len(one: &Subr<'_>) -> Option<usize>
     ensures { (result ≡ sized_of (written one.now)) × (AtMost 335544320 result) }
@@ -94,18 +116,8 @@ fn written_len(one: &Subr<'_>) -> Option<usize>
     if is_stub(all, one.k) {
         return Some(1);
     }
-    let site = site_for(one);
-    let code = index::item(all.font, all.from.ix, one.k);
-    crate::body_len(
-        all.from.way,
-        code,
-        all.words,
-        all.from.locals,
-        all.from.globals,
-        all.rows,
-        all.from.rising,
-        site,
-    )
+    let body = body_of(one, all.from.locals, all.from.globals);
+    crate::body_len(all.from.way, &body)
 }
 
 // The same, 0 for a subroutine that is not written.
@@ -159,20 +171,9 @@ fn long_written(one: &Subr<'_>, lent: &mut Lent<'_>) -> Option<usize>
     if is_stub(all, one.k) {
         return Some(1);
     }
-    let of = LongSite {
-        site: site_for(one),
-    };
-    let code = index::item(all.font, all.from.ix, one.k);
-    crate::long_body_len(
-        all.from.way,
-        code,
-        all.words,
-        all.from.locals,
-        all.from.globals,
-        all.rows,
-        of,
-        lent,
-    )
+    let measured = body_of(one, all.from.locals, all.from.globals);
+    let long = LongBody { body: &measured };
+    crate::long_body_len(all.from.way, &long, lent)
 }
 
 // The same, 0 for a subroutine that is not written.
@@ -268,29 +269,17 @@ pub fn subrs_total(all: &Subroutines<'_>) -> Option<usize>
     total_directly(all)
 }
 
-// A subroutine as it is written, from `at` on; the place after it.
-fn put_subr(one: &Subr<'_>, out: &mut [u8], at: usize) -> usize
-    requires { (holds (written one.now) ≡ true) × (at + length (body_of_lem (written one.now)) ≤ length out.old) }
-    ensures { Wrote out.old at (body_of_lem (written one.now)) out.new result }
+// A subroutine as it is written.
+fn put_subr(one: &Subr<'_>, out: &mut Out<'_>)
+    requires { (holds (written one.now) ≡ true) × (out.old.at + length (body_of_lem (written one.now)) ≤ length out.old.bytes.now) }
+    ensures { Writes out.old (body_of_lem (written one.now)) out.new }
 {
     let all = one.of;
     if is_stub(all, one.k) {
-        return octets::put_num(out, at, 11, 1);
+        return out.num(11, 1);
     }
-    let site = site_for(one);
-    let code = index::item(all.font, all.from.ix, one.k);
-    crate::put_body(
-        all.from.way,
-        code,
-        all.words,
-        all.from.locals,
-        all.from.globals,
-        all.rows,
-        all.from.rising,
-        site,
-        out,
-        at,
-    )
+    let body = body_of(one, all.from.locals, all.from.globals);
+    crate::put_body(all.from.way, &body, out)
 }
 
 // The number of subroutines that are written.
@@ -304,47 +293,28 @@ pub fn kept_count(way: Way, reached: usize, count: usize) -> usize
 }
 
 // The same where it has more rows than a window holds.
-fn put_long(one: &Subr<'_>, out: &mut [u8], at: usize, lent: &mut Lent<'_>) -> usize
-    requires { (holds (written one.now) ≡ true) × (at + length (body_of_lem (written one.now)) ≤ length out.old) }
-    ensures { Wrote out.old at (body_of_lem (written one.now)) out.new result }
+fn put_long(one: &Subr<'_>, out: &mut Out<'_>, lent: &mut Lent<'_>)
+    requires { (holds (written one.now) ≡ true) × (out.old.at + length (body_of_lem (written one.now)) ≤ length out.old.bytes.now) }
+    ensures { Writes out.old (body_of_lem (written one.now)) out.new }
 {
     let all = one.of;
     if is_stub(all, one.k) {
-        return octets::put_num(out, at, 11, 1);
+        return out.num(11, 1);
     }
-    let of = LongSite {
-        site: site_for(one),
-    };
-    let code = index::item(all.font, all.from.ix, one.k);
-    crate::put_long_body(
-        all.from.way,
-        code,
-        all.words,
-        all.from.locals,
-        all.from.globals,
-        all.rows,
-        of,
-        out,
-        at,
-        lent,
-    )
+    let written = body_of(one, all.from.locals, all.from.globals);
+    let long = LongBody { body: &written };
+    crate::put_long_body(all.from.way, &long, out, lent)
 }
 
 // The same by a window of the record, where it has the rows of the subroutine; a longer one takes the window's place.
-fn put_windowed(
-    one: &Subr<'_>,
-    window: Window,
-    out: &mut [u8],
-    at: usize,
-    lent: &mut Lent<'_>,
-) -> usize
+fn put_windowed(one: &Subr<'_>, window: Window, out: &mut Out<'_>, lent: &mut Lent<'_>)
     requires { (Shows one.now.of.now lent.old.bytes.now window) × (HasOrNone one.now.k window)
-        × (holds (written one.now) ≡ true) × (at + length (body_of_lem (written one.now)) ≤ length out.old) }
-    ensures { (Wrote out.old at (body_of_lem (written one.now)) out.new result) × (Shows one.now.of.now lent.new.bytes.now window) }
+        × (holds (written one.now) ≡ true) × (out.old.at + length (body_of_lem (written one.now)) ≤ length out.old.bytes.now) }
+    ensures { (Writes out.old (body_of_lem (written one.now)) out.new) × (Shows one.now.of.now lent.new.bytes.now window) }
 {
     let k = one.k;
     if k < window.from {
-        return put_subr(one, out, at);
+        return put_subr(one, out);
     }
     if k < window.end {
         let all = one.of;
@@ -354,44 +324,43 @@ fn put_windowed(
             words: all.words,
             rows: lent.rows(window.len),
         };
-        return put_subr(&Subr { of: &part, k }, out, at);
+        return put_subr(&Subr { of: &part, k }, out);
     }
-    put_long(one, out, at, lent)
+    put_long(one, out, lent)
 }
 
-// Their INDEX, from `at` on, by windows of a record that does not rise; the place after it.
-fn put_windows(m: &Measured<'_>, out: &mut [u8], at: usize, lent: &mut Lent<'_>) -> usize
-    requires { (at < 4294967296) × (at + length (index_bytes (new_subrs_of m.now.all)) ≤ length out.old) }
-    ensures { Wrote out.old at (index_bytes (new_subrs_of m.now.all)) out.new result }
+// Their INDEX, by windows of a record that does not rise.
+fn put_windows(m: &Measured<'_>, out: &mut Out<'_>, lent: &mut Lent<'_>)
+    requires { (out.old.at < 4294967296) × (out.old.at + length (index_bytes (new_subrs_of m.now.all)) ≤ length out.old.bytes.now) }
+    ensures { Writes out.old (index_bytes (new_subrs_of m.now.all)) out.new }
 {
     let all = &m.all;
     let n = all.from.ix.count;
     let count = kept_count(all.from.way, all.from.own.reached, n);
-    let to = index::index_for(at, count, m.total);
-    index::put_head(out, at, count, m.total);
+    let ix = index::index_for(out.at, count, m.total);
+    index::put_head(&mut *out, count, m.total);
+    out.at = ix.base + 1;
     let mut window = Window {
         from: 0,
         end: 0,
         len: 0,
     };
-    let mut p = to.base + 1;
     let mut put: usize = 0;
     for k in 0..n {
         if is_kept(all, k) {
             let one = Subr { of: &*all, k };
             window = advance(window, &one, &mut *lent);
-            p = put_windowed(&one, window, &mut *out, p, &mut *lent);
-            index::put_end(out, to, put, p);
+            put_windowed(&one, window, &mut *out, &mut *lent);
+            index::put_end(&mut *out, ix, put);
             put += 1;
         }
     }
-    p
 }
 
 // The same, with the window on the stack.
-fn put_by_windows(m: &Measured<'_>, out: &mut [u8], at: usize) -> usize
-    requires { (at < 4294967296) × (at + length (index_bytes (new_subrs_of m.now.all)) ≤ length out.old) }
-    ensures { Wrote out.old at (index_bytes (new_subrs_of m.now.all)) out.new result }
+fn put_by_windows(m: &Measured<'_>, out: &mut Out<'_>)
+    requires { (out.old.at < 4294967296) × (out.old.at + length (index_bytes (new_subrs_of m.now.all)) ≤ length out.old.bytes.now) }
+    ensures { Writes out.old (index_bytes (new_subrs_of m.now.all)) out.new }
 {
     let mut keys = [0u64; 9216];
     let mut bytes = [0u8; 81920];
@@ -399,41 +368,40 @@ fn put_by_windows(m: &Measured<'_>, out: &mut [u8], at: usize) -> usize
         keys: &mut keys,
         bytes: &mut bytes,
     };
-    put_windows(m, out, at, &mut lent)
+    put_windows(m, out, &mut lent)
 }
 
-// Their INDEX, from `at` on, each by the whole record; the place after it.
-fn put_directly(m: &Measured<'_>, out: &mut [u8], at: usize) -> usize
-    requires { (at < 4294967296) × (at + length (index_bytes (new_subrs_of m.now.all)) ≤ length out.old) }
-    ensures { Wrote out.old at (index_bytes (new_subrs_of m.now.all)) out.new result }
+// Their INDEX, each by the whole record.
+fn put_directly(m: &Measured<'_>, out: &mut Out<'_>)
+    requires { (out.old.at < 4294967296) × (out.old.at + length (index_bytes (new_subrs_of m.now.all)) ≤ length out.old.bytes.now) }
+    ensures { Writes out.old (index_bytes (new_subrs_of m.now.all)) out.new }
 {
     let all = &m.all;
     let n = all.from.ix.count;
     let count = kept_count(all.from.way, all.from.own.reached, n);
-    let to = index::index_for(at, count, m.total);
-    index::put_head(out, at, count, m.total);
-    let mut p = to.base + 1;
+    let ix = index::index_for(out.at, count, m.total);
+    index::put_head(&mut *out, count, m.total);
+    out.at = ix.base + 1;
     let mut j: usize = 0;
     for k in 0..n {
         if is_kept(all, k) {
-            p = put_subr(&Subr { of: &*all, k }, &mut *out, p);
-            index::put_end(out, to, j, p);
+            put_subr(&Subr { of: &*all, k }, &mut *out);
+            index::put_end(&mut *out, ix, j);
             j += 1;
         }
     }
-    p
 }
 
-// Their INDEX, from `at` on; the place after it.
-pub fn put_subrs(m: &Measured<'_>, out: &mut [u8], at: usize) -> usize
-    requires { (at < 4294967296) × (at + length (index_bytes (new_subrs_of m.now.all)) ≤ length out.old) }
-    ensures { Wrote out.old at (index_bytes (new_subrs_of m.now.all)) out.new result }
+// Their INDEX.
+pub fn put_subrs(m: &Measured<'_>, out: &mut Out<'_>)
+    requires { (out.old.at < 4294967296) × (out.old.at + length (index_bytes (new_subrs_of m.now.all)) ≤ length out.old.bytes.now) }
+    ensures { Writes out.old (index_bytes (new_subrs_of m.now.all)) out.new }
 {
     if m.all.from.rising {
-        return put_directly(m, out, at);
+        return put_directly(m, out);
     }
     if m.all.from.way.is_renumbered() {
-        return put_by_windows(m, out, at);
+        return put_by_windows(m, out);
     }
-    put_directly(m, out, at)
+    put_directly(m, out)
 }

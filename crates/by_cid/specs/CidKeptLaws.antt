@@ -28,9 +28,9 @@ use Rattle.small.specs.Small.{small_size}
 use Rattle.order.specs.Order.{kept_in}
 use Rattle.order.specs.Walks.{many_in}
 use Rattle.order_window.specs.declared.Order.{Order}
-use Rattle.order_window.specs.Window.{glyphs_of, Ordered}
+use Rattle.order_window.specs.Window.{glyphs_of, Gathered}
 use Rattle.order_window.specs.OrderLaws.{order_below}
-use Rattle.order_window.specs.LoopLaws.{glyphs_many}
+use Rattle.order_window.specs.GatheredLaws.{glyphs_many}
 use Rattle.reach.specs.Reach.{ranks_of}
 use Rattle.reach.specs.CountLaws.{length-ranks}
 use Rattle.glyph_tables.specs.Tables.{new_fds_by, Numbered}
@@ -39,11 +39,11 @@ use Rattle.fds.specs.Locals.{in_use_lem, fds_in, UsedOf}
 use Rattle.fds.specs.UsedLaws.{is_used}
 use Rattle.plan.specs.Sizes.{FdsUsed}
 use Rattle.plan.specs.FontLaws.{fds_at}
-use Rattle.parts.specs.Ready.{FontHeld, PlanIn, bodies_for, Ready}
+use Rattle.faithful.specs.FontHeld.{FontHeld}
+use Rattle.parts.specs.Ready.{PlanIn, bodies_for, Ready}
 use Rattle.parts.specs.declared.Planned.{Planned}
 use Rattle.outcome.specs.Entry.{cut_behind, Cut}
-use Rattle.own_strings.specs.declared.Own.{Own}
-use Rattle.cid_parts.specs.Cid.{sized, StringsReady, CidReady, cid_bytes}
+use Rattle.cid_parts.specs.Cid.{sized, CidReady, cid_bytes}
 use Rattle.cid_parts.specs.CidPlacesLaws.{cut-sized}
 use Rattle.outcome.specs.declared.Subsetted.{Subsetted}
 use Rattle.refusal.specs.declared.Refusal.{Refusal}
@@ -94,35 +94,35 @@ module _ (b : List ℕ) (o : Order) (held : FontHeld b o.f) (ws : List ℕ) wher
         ∙ is_used used (get_or (fds_of p order) i 0) (λ z. omega (arith, (table-numbered p kept order held.program (order_same p kept) below table used long ranks i l).in_use_lem))
 
     -- what the plan asks
-    pub plan_asked : (window : List ℕ) → Ordered b ws window o → small_size p ≤ length ws → PlanIn b o used ws window
-    plan_asked window ordered room =
+    pub plan_asked : (u : Order) → u.f ≡ o.f → (window : List ℕ) → Gathered b ws window u → small_size p ≤ length ws → PlanIn b u used ws window
+    plan_asked u same window ordered room =
         let m = length-ranks (λ d. is_in d (fds_of p order)) 0 256 in
         record {
-          read = held;
+          read = subst (FontHeld b) (sym same) held;
           used_long = omega (arith, long, m, ap length ranks, put-length table 0 (ranks_of (λ d. is_in d (fds_of p order)) 0 256) (omega (arith, m, long)));
-          fds = there_used;
+          fds = subst (λ (f : Font). UsedOf (length (program_of b f).privates) used) (sym same) there_used;
           ordered = ordered;
-          within = use-of;
-          room = room;
+          within = subst (λ (f : Font). FdsUsed (program_of b f) used (glyphs_of b f ws)) (sym same) use-of;
+          room = subst (λ (f : Font). small_size (program_of b f) ≤ length ws) (sym same) room;
         }
 
     -- ---- behind the plan
 
-    module _ (rows : List Row) (new : List ℕ) (r : Planned) (kind : r.order ≡ o) (stays : glyphs_of b o.f new ≡ order) where
+    module _ (rows : List Row) (new : List ℕ) (r : Planned) (same : r.order.f ≡ o.f) (count : r.order.count ≡ o.count) (stays : glyphs_of b o.f new ≡ order) where
       -- the FDs of the glyphs stay
       fds_stay : fds_of (program_of b r.order.f) (glyphs_of b r.order.f new) ≡ fds_of p order
-      fds_stay = ap (λ (x : Order). fds_of (program_of b x.f) (glyphs_of b x.f new)) kind ∙ ap (fds_of p) stays
+      fds_stay = ap (λ (f : Font). fds_of (program_of b f) (glyphs_of b f new)) same ∙ ap (fds_of p) stays
 
-      pub cid_ready : (tables window : List ℕ) → Ready b rows used new r tables → Ordered b new window o → o.f.cid ≡ true → CidReady b rows used new r tables
-      cid_ready tables window ready ordered keyed =
+      pub cid_ready : (tables : List ℕ) → Ready b rows used new r tables → 0 < o.count → o.f.cid ≡ true → CidReady b rows used new r tables
+      cid_ready tables ready one keyed =
           record {
             ready = ready;
-            keyed = ap (λ (x : Order). x.f.cid) kind ∙ keyed;
-            some = omega (arith, ap (λ (x : Order). x.count) kind, ordered.one);
+            keyed = ap (λ (f : Font). f.cid) same ∙ keyed;
+            some = omega (arith, count, one);
             numbered = subst (Numbered used) (sym fds_stay) (table-numbered p kept order held.program (order_same p kept) below table used long ranks);
             news = ap (new_fds_by used) fds_stay ∙ table-new_fds p kept order held.program (order_same p kept) below table used long ranks
                 ∙ ap (λ (l : List ℕ). new_fds p l order) (sym fds_used)
-                ∙ sym (ap (λ (x : Order). new_fds (program_of b x.f) (fds_in used) (glyphs_of b x.f new)) kind ∙ ap (new_fds p (fds_in used)) stays);
+                ∙ sym (ap (λ (f : Font). new_fds (program_of b f) (fds_in used) (glyphs_of b f new)) same ∙ ap (new_fds p (fds_in used)) stays);
           }
 
       -- the outcome of the cut is that of the subset from its plan
@@ -140,14 +140,14 @@ module _ (b : List ℕ) (o : Order) (held : FontHeld b o.f) (ws : List ℕ) wher
           = ap (written p none name kept order room) q ∙ cut-sized p name kept order room (record { way = r.how.way; bodies = bodies }) (sym keyed) few
           ∙ ap (λ (l : List ℕ). sized r.how.way (subset_by_cid p name l order bodies) room) (sym fds_used)
           ∙ ap (λ (l : List ℕ). sized r.how.way (subset_by_cid p name (fds_in used) l bodies) room) (sym stays)
-          ∙ ap (λ (y : Order). sized r.how.way (subset_by_cid (program_of b y.f) name (fds_in used) (glyphs_of b y.f new) bodies) room) (sym kind) in
+          ∙ ap (λ (f : Font). sized r.how.way (subset_by_cid (program_of b f) name (fds_in used) (glyphs_of b f new) bodies) room) (sym same) in
           subst (λ (z : Outcome). Cut z out out' a) (sym e) x
 
 -- what the cut of the kept glyphs of a CID-keyed font asks
 pub record CidOrdered (b : List ℕ) (o : Order) (ws window : List ℕ) : Type 0 where
   pub read : FontHeld b o.f
   pub keyed : cid_keyed (program_of b o.f).top ≡ true
-  pub ordered : Ordered b ws window o
+  pub ordered : Gathered b ws window o
   pub room : small_size (program_of b o.f) ≤ length ws
 
 -- a new window has room
@@ -174,7 +174,7 @@ module _ (b rec name : List ℕ) (flag : ℕ) where
 
   -- what it asks is there
   pub gathered-asked : (f : Font) → FontHeld b f → true ≡ cid_keyed (program_of b f).top → (o : Order) → o.f ≡ f → (old ws window : List ℕ) → small_size (program_of b f) ≤ length old
-      → length ws ≡ length old → Ordered b ws window o → CidOrdered b o ws window
+      → length ws ≡ length old → Gathered b ws window o → CidOrdered b o ws window
   gathered-asked f held keyed o same old ws window room size ordered =
       record {
         read = subst (FontHeld b) (sym same) held;
@@ -184,15 +184,6 @@ module _ (b rec name : List ℕ) (flag : ℕ) where
       }
 
   -- the cut of the gathered glyphs is written as the cut
-  pub gathered_is : (f : Font) (keep : List ℕ) (o : Order) {ws window : List ℕ} → Ordered b ws window o → o.f ≡ f → kept_in (many_in f) ws ≡ kept_of (many_in f) keep
+  pub gathered_is : (f : Font) (keep : List ℕ) (o : Order) {ws window : List ℕ} → Gathered b ws window o → o.f ≡ f → kept_in (many_in f) ws ≡ kept_of (many_in f) keep
       → {out out' : List ℕ} {a : Result Subsetted Refusal} → Cut (cut_ordered o ws (length out)) out out' a → Cut (cut_behind false (program_of b f) name keep rec flag (length out)) out out' a
   gathered_is f keep o {ws} {window} ordered same is {out} {out'} {a} x = subst (λ (z : Outcome). Cut z out out' a) (gathered-cut f keep o ws same is (length out)) x
-
--- ---- what is ready for an order is ready for the plan's
-
-pub strings-of : (b : List ℕ) (o : Order) (r : Planned) → r.order ≡ o → {slots : List ℕ} {own : Own} → StringsReady (program_of b o.f) slots own
-    → StringsReady (program_of b r.order.f) slots own
-strings-of b o r kind {slots} {own} x = subst (λ (y : Order). StringsReady (program_of b y.f) slots own) (sym kind) x
-
-pub ordered_of : (b : List ℕ) (o : Order) (r : Planned) → r.order ≡ o → {ws window : List ℕ} → Ordered b ws window o → Ordered b ws window r.order
-ordered_of b o r kind {ws} {window} x = subst (Ordered b ws window) (sym kind) x

@@ -1,1 +1,2 @@
 pub mod CidKeptLaws
+pub mod Prepares

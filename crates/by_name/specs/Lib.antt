@@ -1,3 +1,5 @@
 pub mod NamedLaws
 pub mod NamedPlanLaws
 pub mod NamedKeptLaws
+pub mod Prepares
+pub mod PrepareLaws

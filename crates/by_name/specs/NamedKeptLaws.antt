@@ -24,16 +24,16 @@ use Rattle.kept.specs.OrderLaws.{those-at}
 use Rattle.order.specs.Order.{kept_in}
 use Rattle.order.specs.Walks.{many_in}
 use Rattle.order_window.specs.declared.Order.{Order}
-use Rattle.order_window.specs.Window.{glyphs_of, Ordered}
+use Rattle.order_window.specs.Window.{glyphs_of, Gathered}
 use Rattle.record.specs.Record.{rows_of}
 use Rattle.small.specs.Small.{small_size}
-use Rattle.front.specs.Front.{SmallFont, SlotsReady, Measured}
+use Rattle.front.specs.Front.{SlotsReady, Measured}
 use Rattle.front.specs.ApartLaws.{names_apart}
 use Rattle.own_strings.specs.declared.Own.{Own}
 use Rattle.own_strings.specs.Slots.{slot_ids, slot_texts}
 use Rattle.name_strings.specs.Names.{NamesApart}
 use Rattle.outcome.specs.BothLaws.{part_stays}
-use Rattle.parts.specs.Ready.{FontHeld}
+use Rattle.faithful.specs.FontHeld.{FontHeld}
 use Rattle.outcome.specs.OutcomeLaws.{cut-strings, cut-pairs}
 use Rattle.outcome.specs.Entry.{cut_behind, Cut, Passed}
 use Rattle.named_parts.specs.Named.{coded_for, named_outcome, NamedStrings, NamedCodes, NamedCut}
@@ -135,7 +135,18 @@ cut_ordered ask b rec name flag o ws room =
     let order = glyphs_of b o.f ws in
     named_outcome p (coded_if ask p order (own_by_name p order)) name order room (pruned p (rows_of rec) (0 ∷ []) order flag)
 
-module _ (ask : Bool) (b rec name : List ℕ) (flag : ℕ) (o : Order) (ws window : List ℕ) (h : NamedCut b o ws window) (short : length name ≤ 65535) where
+-- the glyphs are kept still where the window moves
+pub cut_moved : (b : List ℕ) (o u : Order) (ws window window₂ : List ℕ) → u.f ≡ o.f → NamedCut b o ws window → Gathered b ws window₂ u → NamedCut b u ws window₂
+cut_moved b o u ws window window₂ same h ordered =
+    record {
+      read = subst (FontHeld b) (sym same) h.read;
+      keyed = ap (λ (f : Font). cid_keyed (program_of b f).top) same ∙ h.keyed;
+      ordered = ordered;
+      apart = subst (λ (f : Font). NamesApart b f ws) (sym same) h.apart;
+      room = subst (λ (f : Font). small_size (program_of b f) ≤ length ws) (sym same) h.room;
+    }
+
+module _ (ask : Bool) (b rec : List ℕ) (flag : ℕ) (o : Order) (ws window : List ℕ) (h : NamedCut b o ws window) where
   abbrev p : Program
   p = program_of b o.f
 
@@ -145,53 +156,48 @@ module _ (ask : Bool) (b rec name : List ℕ) (flag : ℕ) (o : Order) (ws windo
   abbrev coded : Coded
   coded = coded_if ask p order (own_by_name p order)
 
-  small : SmallFont b o.f
-  small = record { good = h.read.font; small = h.read.size }
-
-  pub names-asked : SmallFont b o.f × (o.f.cid ≡ false) × (16 ≤ 272) × Ordered b ws window o × NamesApart b o.f ws
-  names-asked = (small, h.read.font.cid ∙ h.keyed, omega arith, h.ordered, h.apart)
-
-  module _ (own : Own) (slots window₁ : List ℕ) (measured : Measured (own_by_name p order) own) (ready : SlotsReady p false slots) (ordered : Ordered b ws window₁ o) where
+  module _ (own : Own) (slots : List ℕ) (measured : Measured (own_by_name p order) own) (ready : SlotsReady p false slots) where
     counted : own.count ≡ length (own_of p order)
     counted = ap (λ (x : Own). x.count) measured.is ∙ sym (ap length (named-strings p h.keyed order))
 
     -- too many own strings
-    pub named_refused : (out : List ℕ) → 64609 < own.count → Cut (cut_ordered ask b rec name flag o ws (length out)) out out (Err StringId)
-    named_refused out l =
+    pub named_refused : 64609 < own.count → (name out : List ℕ) → Cut (cut_ordered ask b rec name flag o ws (length out)) out out (Err StringId)
+    named_refused l name out =
         cut-strings p coded name order order (length out) (pruned p (rows_of rec) (0 ∷ []) order flag) out (subst (λ (m : ℕ). 64609 < m) counted l)
 
     -- what encoding asks
-    pub encode-asked : length slots ≡ 272 → Ordered b ws window₁ o × CanRename b o.f ws slots × (272 ≤ length slots)
-    encode-asked wide = (ordered, can_rename b o.f ws slots small ready h.apart, omega (arith, wide))
+    pub names-rename : CanRename b o.f ws slots
+    names-rename = can_rename b o.f ws slots (record { good = h.read.font; small = h.read.size }) ready h.apart
 
     module _ (few : own.count ≤ 64609) (slots₂ : List ℕ) (e : Encoding) (behind : CodesBehind coded slots slots₂ e) (wide : length slots ≡ 272) where
       -- too many pairs
-      pub pairs_refused : (out : List ℕ) → 255 < pairs_of e → Cut (cut_ordered ask b rec name flag o ws (length out)) out out (Err Pairs)
-      pairs_refused out l =
+      pub pairs_refused : 255 < pairs_of e → (name out : List ℕ) → Cut (cut_ordered ask b rec name flag o ws (length out)) out out (Err Pairs)
+      pairs_refused l name out =
           cut-pairs p coded name order order (length out) (pruned p (rows_of rec) (0 ∷ []) order flag) out (omega (arith, few, counted))
           (omega (arith, l, behind.is.many))
 
       module _ (fit : pairs_of e ≤ 255) where
-        pub prepared_asked : {window₂ : List ℕ} → Ordered b ws window₂ o → NamedCut b o ws window₂ × NamedStrings p order slots₂ own (length name) × NamedCodes e slots₂
-        prepared_asked ordered₂ = (
-          record { read = h.read; keyed = h.keyed; ordered = ordered₂; apart = h.apart; room = h.room },
-          record {
-            ready = slots_stay p false slots slots₂ ready behind.long behind.front;
-            measured = measured;
-            few = few;
-            short = short;
-          },
-          record {
-            is = encodes_self _ (drop 16 slots₂) e behind.is;
-            few = fit;
-            long = omega (arith, behind.long, wide);
-          },
-        )
+        pub strings_there : (m : ℕ) → m ≤ 65535 → NamedStrings p order slots₂ own m
+        strings_there m short =
+            record {
+              ready = slots_stay p false slots slots₂ ready behind.long behind.front;
+              measured = measured;
+              few = few;
+              short = short;
+            }
 
-        pub named-cut : (out out' : List ℕ) (a : Result Subsetted Refusal)
+        pub codes_there : NamedCodes e slots₂
+        codes_there =
+            record {
+              is = encodes_self _ (drop 16 slots₂) e behind.is;
+              few = fit;
+              long = omega (arith, behind.long, wide);
+            }
+
+        pub named-cut : (name out out' : List ℕ) (a : Result Subsetted Refusal)
             → Cut (named_outcome p (coded_for e slots₂) name order (length out) (pruned p (rows_of rec) (0 ∷ []) order flag)) out out' a
             → Cut (cut_ordered ask b rec name flag o ws (length out)) out out' a
-        named-cut out out' a c =
+        named-cut name out out' a c =
             subst (λ (x : Coded). Cut (named_outcome p x name order (length out) (pruned p (rows_of rec) (0 ∷ []) order flag)) out out' a) behind.is.is c
 
 -- ---- the cut of the glyphs that were gathered is the cut
@@ -219,7 +225,7 @@ module _ (ask : Bool) (b rec name : List ℕ) (flag : ℕ) (f : Font) (read : Fo
   one-used : used_fds program kept ≡ 0 ∷ []
   one-used = used-one program kept read.program keyed (kept-some (length program.charstrings) keep read.program.some).0 below
 
-  module _ (o : Order) (ws window : List ℕ) (ordered : Ordered b ws window o) (same : o.f ≡ f) (is : kept_in (many_in f) ws ≡ kept_of (many_in f) keep) where
+  module _ (o : Order) (ws window : List ℕ) (ordered : Gathered b ws window o) (same : o.f ≡ f) (is : kept_in (many_in f) ws ≡ kept_of (many_in f) keep) where
     -- what it asks is there
     pub gathered-asked : length ws ≡ length old → NamedCut b o ws window
     gathered-asked size =

@@ -12,7 +12,7 @@ use Rattle.subset.specs.Kept.{used_fds}
 use Rattle.subset.specs.Pruned.{Bodies, Pruned}
 use Rattle.subset.specs.Codes.{Coded, pair_count}
 use Rattle.subset.specs.Subset.{own_by_name, own_by_cid, subset_by_name, subset_by_cid, subset_bytes}
-use Rattle.subset.specs.Cut.{own_of, written}
+use Rattle.subset.specs.Cut.{own_of}
 use Rattle.order_window.specs.Window.{glyphs_of}
 use Rattle.own_strings.specs.declared.Own.{Own}
 use Rattle.parts.specs.Ready.{bodies_for}

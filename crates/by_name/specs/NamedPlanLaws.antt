@@ -6,6 +6,7 @@ use Rattle.unfold.specs.Unfold.{Row}
 use Rattle.dict.specs.Lookup.{cid_keyed}
 use Rattle.cff.specs.Font.{Program}
 use Rattle.cff.specs.Reads.{program_of}
+use Rattle.cff.specs.declared.font.Font.{Font}
 use Rattle.index.specs.IndexLaws.{items-length}
 use Rattle.prune.specs.StepLaws.{zero_one}
 use Rattle.subset.specs.Kept.{is_in, those}
@@ -15,9 +16,9 @@ use Rattle.kept.specs.Packed.{packed}
 use Rattle.faithful.specs.UsedLaws.{fd_there}
 use Rattle.glyph_tables.specs.ThoseLaws.{those-none}
 use Rattle.order_window.specs.declared.Order.{Order}
-use Rattle.order_window.specs.Window.{glyphs_of, Ordered}
+use Rattle.order_window.specs.Window.{glyphs_of}
 use Rattle.order_window.specs.OrderLaws.{order_below}
-use Rattle.order_window.specs.LoopLaws.{glyphs_many}
+use Rattle.order_window.specs.GatheredLaws.{glyphs_many}
 use Rattle.own_strings.specs.declared.Own.{Own}
 use Rattle.own_strings.specs.Slots.{word_names, Different}
 use Rattle.name_strings.specs.Names.{NamesApart}
@@ -82,22 +83,19 @@ module _ (b : List ℕ) (o : Order) (ws window : List ℕ) (h : NamedCut b o ws 
       }
 
   -- what planning leaves
-  module _ (ws' window' : List ℕ) (r : Planned) (ordered : Ordered b ws' window' o) (kind : r.order ≡ o) (stays : glyphs_of b o.f ws' ≡ order) where
-    pub prepared_ordered : Ordered b ws' window' r.order
-    prepared_ordered = subst (Ordered b ws' window') (sym kind) ordered
-
+  module _ (ws' : List ℕ) (r : Planned) (same : r.order.f ≡ o.f) (count : r.order.count ≡ o.count) (stays : glyphs_of b o.f ws' ≡ order) where
     -- the names are those of the same glyphs
     apart_stays : NamesApart b r.order.f ws'
     apart_stays =
-        subst (λ (x : Order). NamesApart b x.f ws') (sym kind)
+        subst (λ (f : Font). NamesApart b f ws') (sym same)
         (record { apart = subst (λ (l : List ℕ). Different (word_names p.strings (packed p l))) (sym stays) h.apart.apart })
 
     pub prepared_plan : (rows : List Row) (table totals : List ℕ) → Ready b rows used ws' r table → Summed b rows used ws' r table totals
         → NamedPlan b rows used ws' r table totals
     prepared_plan rows table totals ready summed =
         record {
-          keyed = ap (λ (x : Order). cid_keyed (program_of b x.f).top) kind ∙ h.keyed;
-          some = omega (arith, ap (λ (x : Order). x.count) kind, ordered.one);
+          keyed = ap (λ (f : Font). cid_keyed (program_of b f).top) same ∙ h.keyed;
+          some = omega (arith, count, h.ordered.one);
           ready = ready;
           summed = summed;
           only = only;
@@ -107,7 +105,7 @@ module _ (b : List ℕ) (o : Order) (ws window : List ℕ) (h : NamedCut b o ws 
     pub prepared_strings : (slots : List ℕ) (own : Own) (m : ℕ) → NamedStrings p order slots own m
         → NamedStrings (program_of b r.order.f) (glyphs_of b r.order.f ws') slots own m
     prepared_strings slots own m s =
-        subst (λ (x : Order). NamedStrings (program_of b x.f) (glyphs_of b x.f ws') slots own m) (sym kind)
+        subst (λ (f : Font). NamedStrings (program_of b f) (glyphs_of b f ws') slots own m) (sym same)
         (subst (λ (l : List ℕ). NamedStrings p l slots own m) (sym stays) s)
 
     pub prepared_cut : (rows : List Row) (traced : ℕ) → record { way = r.how.way; bodies = bodies_for b rows used ws' r } ≡ pruned p rows (fds_in used) order traced
@@ -120,4 +118,4 @@ module _ (b : List ℕ) (o : Order) (ws window : List ℕ) (h : NamedCut b o ws 
         subst (λ (fs : List ℕ). Cut (named_outcome p coded name order (length out) (pruned p rows fs order traced)) out out' a) only
         (subst (λ (x : Pruned). Cut (named_outcome p coded name order (length out) x) out out' a) e
         (subst (λ (l : List ℕ). Cut (named_outcome p coded name l (length out) q) out out' a) stays
-        (subst (λ (x : Order). Cut (named_outcome (program_of b x.f) coded name (glyphs_of b x.f ws') (length out) q) out out' a) kind c)))
+        (subst (λ (f : Font). Cut (named_outcome (program_of b f) coded name (glyphs_of b f ws') (length out) q) out out' a) same c)))

@@ -3,14 +3,14 @@
 ghost use Rattle.std.specs.Prelude.{◌≡◌, true, false, not, eqb, [], ◌∷◌};
 ghost use Rattle.cff.specs.Find.{work_size};
 ghost use Rattle.small.specs.Small.{small_size};
+ghost use Rattle.outcome.specs.Call.{is_cid, asks};
 ghost use Rattle.outcome.specs.Entry.{size_of};
-ghost use Rattle.write.specs.Call.{is_cid, asks};
 ghost use Rattle.capi.specs.Capi.{given, Answers};
 ghost use Rattle.capi.specs.Subset.{room_for, cut_answer, AnswersCut};
 
 use outcome::Subsetted;
+use outcome::call::{Call, Keying, Request};
 use refusal::Refusal;
-use write::{Call, Keying};
 
 // The room for a subset: none where fewer than two words are lent for its answer.
 pub fn room_for(words: usize, room: usize) -> usize
@@ -48,19 +48,16 @@ fn put_cut(cut: Result<Subsetted, Refusal>, answer: &mut [u64]) -> u8
 fn answer_cut(
     call: Call,
     font: &[u8],
-    name: &[u8],
-    keep: &[u16],
-    rows: &[u8],
-    traced: u8,
+    ask: &Request<'_>,
     work: &mut [u32],
     out: &mut [u8],
     answer: &mut [u64],
 ) -> u8
-    ensures { AnswersCut (size_of call.small) (is_cid call.keying) (asks call.keying) font.now name.now keep.now rows.now traced
+    ensures { AnswersCut (size_of call.small) (is_cid call.keying) (asks call.keying) font.now ask.now.name.now ask.now.keep.now ask.now.rows.now ask.now.traced
         work.old out.old answer.old work.new out.new answer.new result }
 {
     let room = room_for(answer.len(), out.len());
-    let cut = write::cut(call, font, name, keep, rows, traced, work, &mut out[..room]);
+    let cut = write::cut(call, font, ask, work, &mut out[..room]);
     put_cut(cut, answer)
 }
 
@@ -86,7 +83,13 @@ pub extern "C" fn cff_subset(
         },
         small: false,
     };
-    answer_cut(call, font, name, keep, rows, traced, work, out, answer)
+    let ask = Request {
+        name,
+        keep,
+        rows,
+        traced,
+    };
+    answer_cut(call, font, &ask, work, out, answer)
 }
 
 // The subset of a CID-keyed font.
@@ -108,7 +111,13 @@ pub extern "C" fn cff_subset_cid(
         keying: Keying::Cid,
         small: false,
     };
-    answer_cut(call, font, name, keep, rows, traced, work, out, answer)
+    let ask = Request {
+        name,
+        keep,
+        rows,
+        traced,
+    };
+    answer_cut(call, font, &ask, work, out, answer)
 }
 
 // The subset of a name-keyed font with few work words: a bit for each glyph and each subroutine (document 02, Wish 10).
@@ -133,7 +142,13 @@ pub extern "C" fn cff_subset_small(
         },
         small: true,
     };
-    answer_cut(call, font, name, keep, rows, traced, work, out, answer)
+    let ask = Request {
+        name,
+        keep,
+        rows,
+        traced,
+    };
+    answer_cut(call, font, &ask, work, out, answer)
 }
 
 // The subset of a CID-keyed font with few work words.
@@ -155,5 +170,11 @@ pub extern "C" fn cff_subset_cid_small(
         keying: Keying::Cid,
         small: true,
     };
-    answer_cut(call, font, name, keep, rows, traced, work, out, answer)
+    let ask = Request {
+        name,
+        keep,
+        rows,
+        traced,
+    };
+    answer_cut(call, font, &ask, work, out, answer)
 }

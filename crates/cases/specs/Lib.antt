@@ -1,4 +1,3 @@
-pub mod Answers
 pub mod AnswersLaws
 pub mod Fields
 pub mod FieldsLaws
@@ -9,5 +8,8 @@ pub mod TallyLaws
 pub mod Report
 pub mod ReportLaws
 pub mod Writing
+pub mod Inputs
+pub mod InputsLaws
 pub mod Meaning
 pub mod Examples
+pub mod Adding

@@ -4,6 +4,8 @@ use Rattle.std.proofs.Common.{sym, ap, ◌∙◌, arith, length-append, length-d
 use Rattle.std.proofs.lemmas.Slice.{take-put_mid}
 use borrow.Rule.Slice.PartMut.{put_mid, same_len_mid}
 use Rattle.octets.specs.Octets.{put, Wrote}
+use Rattle.octets.specs.declared.out.Out.{Out}
+use Rattle.octets.specs.Out.{Writes}
 use Rattle.octets.specs.PutLaws.{put-put, put-length, wrote-length}
 use Rattle.hexlines.specs.HexlinesLaws.{put_done}
 
@@ -68,3 +70,21 @@ module _ (old sub bs : List ℕ) (q k : ℕ) (room : q + length bs ≤ length ol
         is = all ∙ ap (λ (l : List ℕ). take q old ++ l) (held ∙ ap (λ (l : List ℕ). bs ++ l) (ap (λ (n : ℕ). drop n (drop q old)) z ∙ drop-drop (length bs) q old));
         behind = omega (arith, w.behind);
       }
+
+-- ---- at an output's place
+
+-- all goes to old's place on; some is in new, up to its place, and the rest is left
+pub record WritingOn (old : Out) (all : List ℕ) (new : Out) (left : List ℕ) : Type 0 where
+  pub writing : Writing old.bytes.now old.at all new.bytes.now new.at left
+  pub same : new.bytes.ghost_name ≡ old.bytes.ghost_name
+
+pub on_start : (old : Out) (all : List ℕ) → WritingOn old all old all
+on_start old all = record { writing = writing_start old.bytes.now old.at all; same = refl }
+
+module _ {old : Out} {all : List ℕ} {new : Out} {left : List ℕ} (w : WritingOn old all new left) where
+  pub on_end : left ≡ [] → Writes old all new
+  on_end e = record { wrote = writing_end w.writing e; same = w.same; size = w.writing.size }
+
+  pub on_turn : (bs rest : List ℕ) → left ≡ bs ++ rest → old.at + length all ≤ length old.bytes.now → {newer : Out} → Writes new bs newer → WritingOn old all newer rest
+  on_turn bs rest e fits {newer} x =
+      record { writing = writing-turn w.writing bs rest e fits newer.bytes.now newer.at x.wrote; same = x.same ∙ w.same }

@@ -1,4 +1,4 @@
--- That a font was read, and that Private DICTs are remembered, is one fact each, so that a type may hold it.
+-- That a font was read, that it was in a file, and that Private DICTs are remembered, is one fact each, so that a type may hold it.
 use Rattle.std.specs.Prelude.{List, ℕ, length, ◌≡◌, ◌<◌, Result, Ok}
 use Rattle.std.proofs.Common.{arith}
 use Rattle.std.proofs.Props.{props}
@@ -7,11 +7,15 @@ use Rattle.bits.specs.Bits.{words_for}
 use Rattle.index.specs.Alone.{good_prop}
 use Rattle.cff.specs.Font.{Private, private_data}
 use Rattle.cff.specs.Reads.{GoodFont, Known, Remembers}
+use Rattle.cff.specs.File.{InFile}
 use Rattle.cff.specs.declared.font.Font.{Font}
 use Rattle.refusal.specs.declared.Refusal.{Refusal}
 
 pub good_font_prop : (b : List ℕ) (f : Font) → IsProp (GoodFont b f)
 good_font_prop b f = Prim.hlevel (props, good_prop)
+
+pub in_file_prop : (file : List ℕ) (f : Font) (b : List ℕ) → IsProp (InFile file f b)
+in_file_prop file f b = Prim.hlevel (props, good_font_prop)
 
 read_once : (r : Result Private Refusal) (p q : Private) → r ≡ Ok p → r ≡ Ok q → p ≡ q
 read_once r p q e f = Prim.grind arith

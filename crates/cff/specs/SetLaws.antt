@@ -18,11 +18,13 @@ use Rattle.cff.specs.Font.{then, Program, fonts_at, first_of, index_then, set_at
 use Rattle.cff.specs.Find.{counts_of, find_name, find_cid, items_in, item_refusal_lem, item_of}
 use Rattle.cff.specs.Reads.{Holds, font_of, program_of, HasTop, GoodFont, ReadsFont, index_in_lem, HasSet, font_with, fonts_of, behind_tops}
 use Rattle.cff.specs.File.{InFile, HasFont, ReadsFile}
+use Rattle.cff.specs.Loaded.{Opens}
 use Rattle.cff.specs.ReadsLaws.{drop-over, then_refused, then-got}
 use Rattle.cff.specs.declared.Counts.{Counts}
 use Rattle.cff.specs.declared.ItemKind.{ItemKind}
 use Rattle.cff.specs.declared.ItemKind.TheVariants.{Charstring, Global, Text}
 use Rattle.cff.specs.declared.font.Font.{Font}
+use Rattle.cff.specs.declared.opened.Opened.{Opened}
 use Rattle.refusal.specs.declared.Refusal.{Refusal}
 use Rattle.refusal.specs.declared.Refusal.TheVariants.{Truncated, Malformed, Unsupported, NoSuchNumber}
 
@@ -215,6 +217,14 @@ module _ (file : List ℕ) (r : Result Font Refusal) (reads : ReadsFile file r) 
 
   pub found-font : (f : Font) → r ≡ Ok f → HasFont file f
   found-font f q = subst (ReadsFile file) q reads
+
+-- and of reading with the file
+module _ (file : List ℕ) (r : Result Opened Refusal) (opens : Opens file r) where
+  pub opens_not : (n : Refusal) → r ≡ Err n → read_font file ≡ Err n
+  opens_not n q = subst (Opens file) q opens
+
+  pub opened : (o : Opened) → r ≡ Ok o → o.file.now ≡ file
+  opened o q = subst (Opens file) q opens
 
 -- its items, where b are the bytes of its table
 module _ (file : List ℕ) (f : Font) (b : List ℕ) (found : InFile file f b) (kind : ItemKind) (ix : Index) (i : ix ≡ index_in_lem kind f) where

@@ -3,6 +3,7 @@
 
 pub mod font;
 pub mod loaded;
+pub mod opened;
 pub mod private;
 mod remembered;
 pub mod set;

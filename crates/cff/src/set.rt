@@ -5,10 +5,11 @@ ghost use Rattle.index.specs.Place.{StartsAt};
 ghost use Rattle.cff.specs.Font.{set_at, read_table};
 ghost use Rattle.cff.specs.Reads.{Holds, ReadsFont, HasSet, font_with, fonts_of, behind_tops};
 ghost use Rattle.cff.specs.File.{InFile, HasFont, ReadsFile};
-ghost use Rattle.cff.specs.Loaded.{Loads};
+ghost use Rattle.cff.specs.Loaded.{Opens, Loads};
 
 use crate::font::Font;
 use crate::loaded::Loaded;
+use crate::opened::Opened;
 use crate::private::items_at;
 use crate::table::Table;
 use index::Index;
@@ -121,13 +122,21 @@ pub fn table(file: &[u8], f: Font) -> &[u8]
     opentype::table(file, f.start, f.len)
 }
 
+// The font of a file, with the file; or the refusal.
+pub fn read(file: &[u8]) -> Result<Opened<'_>, Refusal>
+    ensures { Opens file.now result }
+{
+    let f = read_font(file)?;
+    let loaded = Loaded {
+        bytes: table(file, f),
+        f,
+    };
+    Ok(Opened { file, loaded })
+}
+
 // The font of a file with the bytes of its table; or the refusal.
 pub fn load(file: &[u8]) -> Result<Loaded<'_>, Refusal>
     ensures { Loads file.now result }
 {
-    let f = read_font(file)?;
-    Ok(Loaded {
-        bytes: table(file, f),
-        f,
-    })
+    Ok(read(file)?.loaded)
 }

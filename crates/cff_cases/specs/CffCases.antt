@@ -1,7 +1,8 @@
 -- The answers of stored cases R, N, C and I (tools/compare/README.md, 'Stored cases'), over what reading, finding and items are.
-use Rattle.std.specs.Prelude.{ℕ, ◌+◌, List, [], ◌∷◌, ◌++◌, ltb, eqb, length, take, drop, get_or, None, Option, Some, Result, Ok, Err}
+use Rattle.std.specs.Prelude.{ℕ, List, [], ◌∷◌, ◌++◌, ltb, eqb, length, get_or, None, Option, Some, Result, Ok, Err}
 use Rattle.octets.specs.Pick.{pick}
 use Rattle.octets.specs.Octets.{num_at, bytes_of}
+use Rattle.cases.specs.Inputs.{font_input, over}
 use Rattle.refusal.specs.Refusal.{number_of}
 use Rattle.refusal.specs.declared.Refusal.{Refusal}
 use Rattle.cff.specs.Font.{read_font}
@@ -68,6 +69,4 @@ asked_answer kind font asked =
 
 -- an input: the font's length in two bytes, the font, and what is asked of it
 unfoldable pub cff_answer : ℕ → List ℕ → Option (List ℕ)
-cff_answer kind s =
-    pick (ltb (length s) 2) None
-    (pick (ltb (length s) (2 + num_at s 0 2)) None (asked_answer kind (take (num_at s 0 2) (drop 2 s)) (drop (2 + num_at s 0 2) s)))
+cff_answer kind s = over (asked_answer kind) (font_input s)

@@ -1,10 +1,9 @@
 -- Laws of the answers to stored cases, by the code's ways out.
-use Rattle.std.specs.Prelude.{ℕ, ◌+◌, ◌-◌, ◌≤◌, ◌<◌, ◌≡◌, refl, get_or, None, Option, Some, Result, Ok, Err}
+use Rattle.std.specs.Prelude.{ℕ, ◌≤◌, ◌<◌, ◌≡◌, refl, get_or, None, Option, Some, Result, Ok, Err}
 use Rattle.std.proofs.Math.Path.{sym, ap}
-use Rattle.std.proofs.Common.{◌∙◌, length-append, take_all}
+use Rattle.std.proofs.Common.{◌∙◌, length-append}
 use mathlib.Core.List.{List, [], ◌∷◌}
-use native.Mathlib.Omega.{arith}
-use Rattle.std.proofs.Math.ListN.{length, take, drop, length-drop}
+use Rattle.std.proofs.Math.ListN.{length}
 use borrow.Author.Tests.{eq-eqb, ne_eqb, lt-ltb, le-ltb}
 use Rattle.octets.specs.Octets.{num_at}
 use Rattle.octets.specs.OctetsLaws.{length-bytes}
@@ -16,6 +15,7 @@ use Rattle.cff.specs.declared.Counts.{Counts}
 use Rattle.cff.specs.declared.ItemKind.{ItemKind}
 use Rattle.cff_entries.specs.Kinds.{kind_of}
 use Rattle.cff_cases.specs.CffCases.{sizes_bytes, read_bytes, found_bytes, read_answer, cid_answer, item_bytes, item_of_kind, item_answer, asked_answer, cff_answer}
+use Rattle.cases.specs.Inputs.{font_input, over}
 
 -- the three sizes have twelve bytes
 pub sizes_length : (c : Counts) → length (sizes_bytes c) ≡ 12
@@ -91,27 +91,6 @@ module _ (font : List ℕ) (kind : ItemKind) (number : ℕ) where
 
 -- ---- an input
 
-module _ (kind : ℕ) (s : List ℕ) where
-  pub input_short : length s < 2 → cff_answer kind s ≡ None
-  unfolding cff_answer
-  input_short h = rw (lt-ltb (length s) 2 h)
-
-  module _ (h : 2 ≤ length s) (n : ℕ) (e : n ≡ num_at s 0 2) where
-    pub input_cut : length s < 2 + n → cff_answer kind s ≡ None
-    unfolding cff_answer
-    input_cut l =
-        let k : length s < 2 + num_at s 0 2 = omega (arith, e) in
-        rw (le-ltb (length s) 2 h, lt-ltb (length s) (2 + num_at s 0 2) k)
-
-    -- the font and what is asked, as the code lends them
-    pub input_parts : 2 + n ≤ length s
-        → cff_answer kind s ≡ asked_answer kind (take (2 + n - 2) (drop 2 s)) (take (length s - (2 + n)) (drop (2 + n) s))
-    unfolding cff_answer
-    input_parts l =
-        let k : 2 + num_at s 0 2 ≤ length s = omega (arith, e) in
-        let d : n ≡ 2 + n - 2 = omega arith in
-        let r : drop (2 + n) s ≡ take (length s - (2 + n)) (drop (2 + n) s) = sym (take_all (length s - (2 + n)) (drop (2 + n) s) (rw length-drop (omega arith))) in
-        rw (le-ltb (length s) 2 h, le-ltb (length s) (2 + num_at s 0 2) k)
-        (ap (λ (m : ℕ). asked_answer kind (take m (drop 2 s)) (drop (2 + m) s)) (sym e)
-        ∙ ap (λ (m : ℕ). asked_answer kind (take m (drop 2 s)) (drop (2 + n) s)) d
-        ∙ ap (asked_answer kind (take (2 + n - 2) (drop 2 s))) r)
+pub cff_parts : (kind : ℕ) (s : List ℕ) (o : Option (List ℕ × List ℕ)) → o ≡ font_input s → over (asked_answer kind) o ≡ cff_answer kind s
+unfolding cff_answer
+cff_parts kind s o e = ap (over (asked_answer kind)) e

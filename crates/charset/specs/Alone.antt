@@ -1,13 +1,8 @@
--- That a charset or an FDSelect is good is one fact, so that a type may hold it.
+-- That a charset is good is one fact, so that a type may hold it.
 use Rattle.std.specs.Prelude.{ℕ, List}
 use Rattle.std.proofs.Props.{props}
 use Rattle.charset.specs.CharsetPlaces.{GoodCharset}
-use Rattle.charset.specs.FdPlaces.{GoodSelect}
 use Rattle.charset.specs.declared.Charset.{Charset}
-use Rattle.charset.specs.declared.fd_select.FdSelect.{FdSelect}
 
 pub good_charset_prop : (b : List ℕ) (c : Charset) (n : ℕ) → IsProp (GoodCharset b c n)
 good_charset_prop b c n = Prim.hlevel props
-
-pub good_select_prop : (b : List ℕ) (s : FdSelect) → IsProp (GoodSelect b s)
-good_select_prop b s = Prim.hlevel props

@@ -2,6 +2,7 @@
 use Rattle.std.specs.Prelude.{ℕ, ◌+◌, ◌-◌, ◌≤◌, ◌<◌, ◌≡◌, true, List, length, take, drop, leb, None, Option, Some, Ok, Err, Result}
 use Rattle.octets.specs.Pick.{pick}
 use Rattle.octets.specs.Octets.{put}
+use Rattle.octets.specs.declared.out.Out.{Out}
 use Rattle.type2_number.specs.Encoding.{encoded}
 use Rattle.type2_number.specs.Floats.{float_of, scaled_of, HoldsReading}
 use Rattle.charstring.specs.Token.{Tok, num, op, esc, mask, Lexeme, lost, got_num, got_op, got_esc, got_mask}
@@ -81,3 +82,13 @@ recoded_in old to (Some ts) = pick (leb (to + length (encode ts)) (length old)) 
 pub record Recodes (old : List ℕ) (to : ℕ) (body : Option (List Tok)) (new : List ℕ) (r : Result ℕ RecodeError) : Type 0 where
   pub answer : r ≡ recoded_of old to body
   pub leaves : new ≡ recoded_in old to body
+
+-- the same at an output's place, where the answer says no place: the output's is behind the bytes
+abbrev pub placed : ℕ → Result Unit RecodeError → Result ℕ RecodeError
+placed at (Ok done) = Ok at
+placed at (Err why) = Err why
+
+pub record RecodesAt (old : Out) (body : Option (List Tok)) (new : Out) (r : Result Unit RecodeError) : Type 0 where
+  pub recodes : Recodes old.bytes.now old.at body new.bytes.now (placed new.at r)
+  pub same : new.bytes.ghost_name ≡ old.bytes.ghost_name
+  pub size : length new.bytes.now ≡ length old.bytes.now

@@ -3,7 +3,8 @@ use Rattle.std.specs.Prelude.{ℕ, ◌+◌, ◌/◌, ◌%◌, ◌≤◌, ◌<◌
 use Rattle.std.proofs.Common.{sym, ◌∙◌, subst, arith, length-drop, length-take-le, ltb-true}
 use Rattle.std.proofs.Math.Path.{ap}
 use Rattle.octets.specs.Pick.{pick}
-use Rattle.octets.specs.Octets.{Wrote}
+use Rattle.octets.specs.declared.out.Out.{Out}
+use Rattle.octets.specs.Out.{Writes}
 use Rattle.type2_number.specs.Number.{Read, cut, operator, number, number_at}
 use Rattle.type2_number.specs.Floats.{float_of}
 use Rattle.type2_number.specs.Answers.{number_of}
@@ -83,8 +84,8 @@ module _ (s : List ℕ) (t u : Token) (e : t ≡ u) where
   pub room_as : (to n : ℕ) → to + length (token_bytes s t) ≤ n → to + length (token_bytes s u) ≤ n
   room_as to n h = subst (λ (x : Token). to + length (token_bytes s x) ≤ n) e h
 
-  pub wrote-token : {old new : List ℕ} {to q : ℕ} → Wrote old to (token_bytes s u) new q → Wrote old to (token_bytes s t) new q
-  wrote-token {old} {new} {to} {q} w = subst (λ (x : Token). Wrote old to (token_bytes s x) new q) (sym e) w
+  pub writes_token : {old new : Out} → Writes old (token_bytes s u) new → Writes old (token_bytes s t) new
+  writes_token {old} {new} w = subst (λ (x : Token). Writes old (token_bytes s x) new) (sym e) w
 
 pub measurable_as : (t u : Token) → t ≡ u → Measurable t → Measurable u
 measurable_as t u e h = subst Measurable e h

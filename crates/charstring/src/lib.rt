@@ -5,12 +5,13 @@
 pub mod place;
 
 ghost use Rattle.std.specs.Prelude.{◌≡◌, false, true, ◌+◌, ◌≤◌, ◌<◌, length, get_or};
-ghost use Rattle.octets.specs.Octets.{Wrote};
+ghost use Rattle.octets.specs.Out.{Writes};
 ghost use Rattle.charstring.specs.Bias.{bias_of};
 ghost use Rattle.charstring.specs.Token.{is_mask, is_stem, stems_after, mask_len, mask_at, operator_at, more, token_at, tokens_of, lookup, start};
 ghost use Rattle.charstring.specs.Encode.{is_whole, body_bytes};
-ghost use Rattle.charstring.specs.Answers.{step_of, token_bytes, token_len_lem, Measurable, Writable, Within, given_at, measured_of, Recodes};
+ghost use Rattle.charstring.specs.Answers.{step_of, token_bytes, token_len_lem, Measurable, Writable, Within, given_at, measured_of, RecodesAt};
 
+use octets::out::Out;
 use type2_number::{Number, Operand, number_len, put_number, read_number};
 
 // The number added to a call's operand, by the count of subroutines.
@@ -224,18 +225,18 @@ pub fn token_len(t: Token) -> usize
     }
 }
 
-// The bytes of a token of a body, from `to` on; the place after them.
-pub fn put_token(code: &[u8], t: Token, out: &mut [u8], to: usize) -> usize
-    requires { (Writable code.now t) × (to + length (token_bytes code.now t) ≤ length out.old) }
-    ensures { Wrote out.old to (token_bytes code.now t) out.new result }
+// The bytes of a token of a body.
+pub fn put_token(code: &[u8], t: Token, out: &mut Out<'_>)
+    requires { (Writable code.now t) × (out.old.at + length (token_bytes code.now t) ≤ length out.old.bytes.now) }
+    ensures { Writes out.old (token_bytes code.now t) out.new }
 {
     match t {
-        Token::Num(v) => put_number(Operand::of(v), out, to),
-        Token::Op(b) => octets::put_byte(out, to, b),
-        Token::Esc(b) => octets::put_pair(out, to, 12, b),
+        Token::Num(v) => put_number(Operand::of(v), out),
+        Token::Op(b) => out.byte(b),
+        Token::Esc(b) => out.pair(12, b),
         Token::Mask { start, len } => {
             let end = start + len;
-            octets::put_bytes(out, to, &code[start..end])
+            out.copy(&code[start..end]);
         }
     }
 }
@@ -286,27 +287,25 @@ pub fn measure(code: &[u8], pairs: &[u32]) -> Option<usize>
     Some(len)
 }
 
-// The tokens of a body that can be read to its end, written from `to` on; the place after them.
-fn put_body(code: &[u8], pairs: &[u32], out: &mut [u8], to: usize) -> usize
+// The tokens of a body that can be read to its end, written at the output's place.
+fn put_body(code: &[u8], pairs: &[u32], out: &mut Out<'_>)
     requires { (is_whole (tokens_of (lookup pairs.now) code.now) ≡ true)
-        × (to + length (body_bytes (tokens_of (lookup pairs.now) code.now)) ≤ length out.old) }
-    ensures { Wrote out.old to (body_bytes (tokens_of (lookup pairs.now) code.now)) out.new result }
+        × (out.old.at + length (body_bytes (tokens_of (lookup pairs.now) code.now)) ≤ length out.old.bytes.now) }
+    ensures { Writes out.old (body_bytes (tokens_of (lookup pairs.now) code.now)) out.new }
 {
     let mut c = start();
-    let mut p = to;
     while more(code, c) {
         let given = given_at(pairs, c);
         match next_token(code, c, given) {
             Some((token, next)) => {
-                p = put_token(code, token, &mut *out, p);
+                put_token(code, token, &mut *out);
                 c = next;
             }
             None => {
-                return p;
+                return;
             }
         }
     }
-    p
 }
 
 // Why a body is not written back: the end cuts off a token, or there is no room.
@@ -316,21 +315,22 @@ pub enum RecodeError {
     Full,
 }
 
-// A whole body through its tokens and back, measured first, then written: the place after it. Where that fails the output is as it was.
-pub fn recode(code: &[u8], pairs: &[u32], out: &mut [u8], to: usize) -> Result<usize, RecodeError>
+// A whole body through its tokens and back, measured first, then written. Where that fails the output is as it was.
+pub fn recode(code: &[u8], pairs: &[u32], out: &mut Out<'_>) -> Result<(), RecodeError>
     requires { length code.now ≤ 67108864 }
-    ensures { Recodes out.old to (tokens_of (lookup pairs.now) code.now) out.new result }
+    ensures { RecodesAt out.old (tokens_of (lookup pairs.now) code.now) out.new result }
 {
     match measure(code, pairs) {
         None => Err(RecodeError::Cut),
         Some(n) => {
-            if out.len() < to {
+            if out.bytes.len() < out.at {
                 return Err(RecodeError::Full);
             }
-            if out.len() - to < n {
+            if out.bytes.len() - out.at < n {
                 return Err(RecodeError::Full);
             }
-            Ok(put_body(code, pairs, out, to))
+            put_body(code, pairs, out);
+            Ok(())
         }
     }
 }

@@ -1,6 +1,6 @@
 -- Laws of answers, by the code's ways out: the kinds of one number, and pairs.
 use Rattle.std.specs.Prelude.{ℕ, zero, suc, ◌+◌, ◌-◌, ◌*◌, ◌≤◌, ◌<◌, ◌≡◌, refl, Bool, List, [], ◌∷◌, ◌++◌, leb, eqb, ℤ, length, take, drop, None, Some}
-use Rattle.std.proofs.Common.{sym, ap, ◌∙◌, subst, arith, length-append, length-drop, take_all}
+use Rattle.std.proofs.Common.{sym, ap, ◌∙◌, arith, length-append, length-drop, take_all}
 use Rattle.std.proofs.Math.ListN.{get_or}
 use borrow.Author.Tests.{eq-eqb, ne_eqb, lt-ltb, le-ltb, le-leb, lt-leb}
 use Rattle.octets.specs.Pick.{pick, pick_ind}
@@ -127,8 +127,8 @@ module _ (s : List ℕ) where
 
 -- ---- a token by its constructor
 
-pub token-wrote : (t u : Token) → t ≡ u → {old new : List ℕ} {at q : ℕ} → Wrote old at (token_bytes u) new q → Wrote old at (token_bytes t) new q
-token-wrote t u e {old} {new} {at} {q} w = subst (λ (x : Token). Wrote old at (token_bytes x) new q) (sym e) w
+pub token_put : (t u : Token) → t ≡ u → (old : List ℕ) {new : List ℕ} → new ≡ old ++ token_bytes u → new ≡ old ++ token_bytes t
+token_put t u e old {new} w = w ∙ ap (λ (x : Token). old ++ token_bytes x) (sym e)
 
 pub token-length : (t : Token) → length (token_bytes t) ≤ 6
 token-length (Num v) = omega (arith, count-length (scaled_of v))

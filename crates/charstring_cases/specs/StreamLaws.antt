@@ -2,17 +2,18 @@
 use Prim.Native.Nat.{ℕ, zero, suc, ◌+◌, ◌-◌, ◌*◌, ◌≤◌, ◌<◌}
 use Rattle.std.specs.Prelude.{◌≡◌, Bool, List, [], ◌∷◌, ◌++◌, ◌⊎◌, leb, None, Option, Some, Ok, Err, Result}
 use Rattle.std.proofs.Math.Path.{refl, sym, ap, subst}
-use Rattle.std.proofs.Common.{◌∙◌, append_assoc, append-nil, inl, inr, length-append, leb-false}
+use Rattle.std.proofs.Common.{◌∙◌, MutBor, append_assoc, append-nil, inl, inr, length-append, leb-false}
 use Rattle.std.proofs.Math.Bool.{true, false}
 use native.Mathlib.Omega.{arith}
 use Rattle.std.proofs.Math.ListN.{length}
 use Rattle.octets.specs.Pick.{pick}
 use Rattle.octets.specs.Octets.{Octets, put, Wrote}
-use Rattle.octets.specs.PutLaws.{wrote_then, wrote-length}
+use Rattle.octets.specs.declared.out.Out.{Out}
+use Rattle.octets.specs.Out.{Writes}
 use Rattle.type2_number.specs.Floats.{float_of, scaled_of}
 use Rattle.charstring.specs.Token.{Tok, num, Lexeme, lost, got_num, got_op, got_esc, got_mask, token_at, join, onward, more, tokens_from, tokens_of, start}
 use Rattle.charstring.specs.Encode.{tok_bytes, encode, body_bytes}
-use Rattle.charstring.specs.Answers.{step_of, told, Within, given_at, Recodes}
+use Rattle.charstring.specs.Answers.{step_of, told, Within, given_at, Recodes, RecodesAt, placed}
 use Rattle.charstring.specs.TokenLaws.{byte_left, token-length as length-told}
 use Rattle.charstring.specs.TokensLaws.{bit, fuel_of, Next, read_parts, next_of, lost_of, start-within}
 use Rattle.charstring.specs.EncodeLaws.{given-due}
@@ -24,8 +25,6 @@ use Rattle.charstring.specs.declared.RecodeError.{RecodeError}
 use Rattle.charstring.specs.declared.RecodeError.TheVariants.{Cut, Full}
 use Rattle.charstring_cases.specs.Numbers.{count_bytes}
 use Rattle.charstring_cases.specs.Streams.{ahead, listed, list_from, flagged, tokens_bytes, recoded_bytes, token_bytes}
-use Rattle.cases.specs.Answers.{Starts}
-use Rattle.cases.specs.AnswersLaws.{starts-wrote, starts_as}
 use Rattle.charstring_cases.specs.AnswersLaws.{token-length}
 
 no : ◌≡◌ {A = ℕ} 0 1 → ⊥
@@ -72,30 +71,28 @@ listed-token s c (got_mask a m x) t d n e rest =
 
 -- ---- a walk: the tokens done are written, and they and what is left are the body's
 
-pub record Listing (given : ℕ → MaskLen) (s : List ℕ) (c : Cursor) (new : List ℕ) (p : ℕ) : Type 0 where
-  pub old : List ℕ
+pub record Listing (given : ℕ → MaskLen) (s : List ℕ) (c : Cursor) (to : List ℕ) : Type 0 where
   pub done : List ℕ
   pub fuel : ℕ
   pub within : Within s c
   pub enough : fuel_of s c ≤ fuel
   pub rest : list_from (2 * length s) given s start ≡ ahead done (list_from fuel given s c)
-  pub wrote : Wrote old 0 (1 ∷ done) new p
-  pub room : p + 6 * fuel_of s c ≤ length new
+  pub is : to ≡ 1 ∷ done
+  pub room : length to + 6 * fuel_of s c ≤ 4096
 
 module _ (given : ℕ → MaskLen) (s : List ℕ) (b : Octets s) where
-  pub listing_start : (c : Cursor) → c ≡ start → (old new : List ℕ) (p : ℕ) → Wrote old 0 (1 ∷ []) new p → length s ≤ 60 → 1024 ≤ length new
-      → Listing given s c new p
-  listing_start c e old new p w h k =
-      subst (λ (x : Cursor). Listing given s x new p) (sym e)
+  pub listing_start : (c : Cursor) → c ≡ start → (to : List ℕ) → to ≡ 1 ∷ [] → length s ≤ 60 → Listing given s c to
+  listing_start c e to w h =
+      let n = ap length w in
+      subst (λ (x : Cursor). Listing given s x to) (sym e)
       (record {
-        old = old;
         done = [];
         fuel = 2 * length s;
         within = start-within given s b;
         enough = omega arith;
         rest = sym (ahead_none (list_from (2 * length s) given s start));
-        wrote = w;
-        room = omega (arith, w.behind);
+        is = w;
+        room = omega (arith, n);
       })
 
   -- where a token is left there is fuel for it
@@ -115,18 +112,16 @@ module _ (given : ℕ → MaskLen) (s : List ℕ) (b : Octets s) where
   unfolding list_from
   one_more k c e = rw e (ap (λ (q : Lexeme). listed q (list_from k given s)) (sym (given-due s (given (c.at - 1)) c)))
 
-  module _ (c : Cursor) (new : List ℕ) (p : ℕ) where
-    pub listing_end : Listing given s c new p → more s c ≡ false → Starts (tokens_bytes given s) new p
+  module _ (c : Cursor) (to : List ℕ) where
+    pub listing_end : Listing given s c to → more s c ≡ false → to ≡ tokens_bytes given s
     unfolding tokens_bytes
-    listing_end l e =
-        starts_as (starts-wrote l.wrote)
-        (sym (ap flagged (l.rest ∙ ap (ahead l.done) (none_more l.fuel c e) ∙ ap Some (append-nil l.done))))
+    listing_end l e = l.is ∙ sym (ap flagged (l.rest ∙ ap (ahead l.done) (none_more l.fuel c e) ∙ ap Some (append-nil l.done)))
 
     module _ (m : more s c ≡ true) (r : Option (Token × Cursor)) (e : r ≡ step_of (token_at s (given_at given c) c)) where
       pub listing-next : Within s c → (t : Token) (d : Cursor) → r ≡ Some (t, d) → Next s c (token_at s (given_at given c) c) t d
       listing-next w t d f = next_of s c (given_at given c) b w m r e t d f
 
-      pub listing-cut : Listing given s c new p → r ≡ None → 0 ∷ [] ≡ tokens_bytes given s
+      pub listing-cut : Listing given s c to → r ≡ None → 0 ∷ [] ≡ tokens_bytes given s
       unfolding tokens_bytes
       listing-cut l f = sym (ap flagged (l.rest ∙ ap (ahead l.done) (cut_at l.fuel l.enough)))
         where
@@ -137,7 +132,7 @@ module _ (given : ℕ → MaskLen) (s : List ℕ) (b : Octets s) where
           cut_at zero h = absurd (let y : ⊥ = omega (arith, fuel_left c m) in y)
           cut_at (suc k) h = one_more k c m ∙ ap (λ (q : Lexeme). listed q (list_from k given s)) nothing
 
-      pub listing-room : (l : Listing given s c new p) (t : Token) (d : Cursor) → r ≡ Some (t, d) → p + length (token_bytes t) ≤ length new
+      pub listing-room : (l : Listing given s c to) (t : Token) (d : Cursor) → r ≡ Some (t, d) → length to + length (token_bytes t) ≤ 4096
       listing-room l t d f = omega (arith, (listing-next l.within t d f).moves.shorter, l.room, token-length t)
 
       listing-more : (k : ℕ) (done : List ℕ) (t : Token) (d : Cursor) (n : Next s c (token_at s (given_at given c) c) t d) → r ≡ Some (t, d) → fuel_of s c ≤ suc k
@@ -147,25 +142,26 @@ module _ (given : ℕ → MaskLen) (s : List ℕ) (b : Octets s) where
           l ∙ ap (ahead done) (one_more k c m ∙ listed-token s c (token_at s (given_at given c) c) t d n (sym e ∙ f) (list_from k given s))
           ∙ ahead-ahead done (token_bytes t) (list_from k given s d)
 
-      pub listing-turn : (l : Listing given s c new p) (t : Token) (d : Cursor) → r ≡ Some (t, d) → (newer : List ℕ) (q : ℕ) → Wrote new p (token_bytes t) newer q
-          → Listing given s d newer q
-      listing-turn l t d f newer q v = turn l.fuel l.enough l.rest
+      pub listing-turn : (l : Listing given s c to) (t : Token) (d : Cursor) → r ≡ Some (t, d) → (newer : List ℕ) → newer ≡ to ++ token_bytes t → Listing given s d newer
+      listing-turn l t d f newer v = turn l.fuel l.enough l.rest
         where
           n : Next s c (token_at s (given_at given c) c) t d
           n = listing-next l.within t d f
 
-          turn : (k : ℕ) → fuel_of s c ≤ k → list_from (2 * length s) given s start ≡ ahead l.done (list_from k given s c) → Listing given s d newer q
+          longer : length newer ≡ length to + length (token_bytes t)
+          longer = ap length v ∙ length-append to (token_bytes t)
+
+          turn : (k : ℕ) → fuel_of s c ≤ k → list_from (2 * length s) given s start ≡ ahead l.done (list_from k given s c) → Listing given s d newer
           turn zero h x = absurd (let y : ⊥ = omega (arith, n.moves.shorter) in y)
           turn (suc k) h x =
               record {
-                old = l.old;
                 done = l.done ++ token_bytes t;
                 fuel = k;
                 within = n.moves.within;
                 enough = omega (arith, n.moves.shorter);
                 rest = listing-more k l.done t d n f h x;
-                wrote = wrote_then (omega arith) l.wrote v;
-                room = omega (arith, n.moves.shorter, l.room, token-length t, v.behind, wrote-length v (listing-room l t d f));
+                is = v ∙ ap (λ (xs : List ℕ). xs ++ token_bytes t) l.is;
+                room = omega (arith, n.moves.shorter, l.room, token-length t, longer);
               }
 
 -- ---- how long a body written back can be
@@ -232,19 +228,27 @@ full_is : (t : Bool) (n : ℕ) → pick t (Ok n) (Err Full) ≡ Err Full → t �
 full_is true n e = absurd (no cc)
 full_is false n e = refl
 
-module _ (one : List ℕ) (p : ℕ) where
-  pub recoded_done : (old : List ℕ) → Wrote old 0 (1 ∷ []) one p → (x : Option (List Tok)) (new : List ℕ) (r : Result ℕ RecodeError) → Recodes one p x new r
-      → (q : ℕ) → r ≡ Ok q → Starts (recoded_bytes x) new q
-  recoded_done old w None new r z q e = absurd (no (cc z.answer))
-  recoded_done old w (Some ts) new r z q e =
-      let d = done_is (leb (p + length (encode ts)) (length one)) (p + length (encode ts)) q (put one p (encode ts)) one (sym z.answer ∙ e) in
-      starts-wrote (wrote_then (omega arith) w (record { is = z.leaves ∙ d.1; behind = sym d.0 }))
+module _ (one : List ℕ) where
+  pub recoded_done : (x : Option (List Tok)) (new : List ℕ) (r : Result ℕ RecodeError) → Recodes one 0 x new r
+      → (q : ℕ) → r ≡ Ok q → Wrote one 0 (body_bytes x) new q × (1 ∷ body_bytes x ≡ recoded_bytes x)
+  recoded_done None new r z q e = absurd (no (cc z.answer))
+  recoded_done (Some ts) new r z q e =
+      let d = done_is (leb (0 + length (encode ts)) (length one)) (0 + length (encode ts)) q (put one 0 (encode ts)) one (sym z.answer ∙ e) in
+      (record { is = z.leaves ∙ d.1; behind = sym d.0 }, refl)
 
-  pub recoded_cut : (x : Option (List Tok)) (new : List ℕ) (r : Result ℕ RecodeError) → Recodes one p x new r → r ≡ Err Cut → 0 ∷ [] ≡ recoded_bytes x
+  pub recoded_cut : (x : Option (List Tok)) (new : List ℕ) (r : Result ℕ RecodeError) → Recodes one 0 x new r → r ≡ Err Cut → 0 ∷ [] ≡ recoded_bytes x
   recoded_cut None new r z e = refl
-  recoded_cut (Some ts) new r z e = absurd (never_cut (leb (p + length (encode ts)) (length one)) (p + length (encode ts)) (sym z.answer ∙ e))
+  recoded_cut (Some ts) new r z e = absurd (never_cut (leb (0 + length (encode ts)) (length one)) (0 + length (encode ts)) (sym z.answer ∙ e))
 
-  pub recoded_full : (x : Option (List Tok)) (new : List ℕ) (r : Result ℕ RecodeError) → Recodes one p x new r → r ≡ Err Full → length one < p + length (body_bytes x)
+  pub recoded_full : (x : Option (List Tok)) (new : List ℕ) (r : Result ℕ RecodeError) → Recodes one 0 x new r → r ≡ Err Full → length one < length (body_bytes x)
   recoded_full None new r z e = absurd (no (cc z.answer))
   recoded_full (Some ts) new r z e =
-      leb-false (p + length (encode ts)) (length one) (full_is (leb (p + length (encode ts)) (length one)) (p + length (encode ts)) (sym z.answer ∙ e))
+      let h = leb-false (0 + length (encode ts)) (length one) (full_is (leb (0 + length (encode ts)) (length one)) (0 + length (encode ts)) (sym z.answer ∙ e)) in
+      omega (arith, h)
+
+-- the same at an output's place
+module _ {one : MutBor (List ℕ)} {new : Out} {x : Option (List Tok)} {r : Result Unit RecodeError} (z : RecodesAt (record { bytes = one; at = 0 }) x new r) where
+  pub recoded_writes : r ≡ Ok tt → Writes (record { bytes = one; at = 0 }) (body_bytes x) new × (1 ∷ body_bytes x ≡ recoded_bytes x)
+  recoded_writes e =
+      let d = recoded_done one.now x new.bytes.now (placed new.at r) z.recodes new.at (ap (placed new.at) e) in
+      (record { wrote = d.0; same = z.same; size = z.size }, d.1)

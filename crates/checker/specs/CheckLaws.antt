@@ -20,7 +20,7 @@ use Rattle.subset.specs.Cut.{all_found_lem}
 use Rattle.kept.specs.Packed.{Marks, marked}
 use Rattle.kept.specs.OrderLaws.{kept-marked}
 use Rattle.traced.specs.Traced.{met_all}
-use Rattle.tracer.specs.Held.{met_in, or_none}
+use Rattle.tracer.specs.Met.{met_in, or_none}
 use Rattle.tracer.specs.Tracing.{top, met, keys_of, sorted, Filling, Fills}
 use Rattle.tracer.specs.WindowsLaws.{rows_fit, refill-plain}
 use Rattle.tracer.specs.AnswerLaws.{all_plain}

@@ -27,7 +27,7 @@ use Rattle.reach.specs.Reach.{Fits, row_no, rest_of}
 use Rattle.reach.specs.RowLaws.{rest-none, rest-next, AllFit, all_fit}
 use Rattle.faithful.specs.UsedLaws.{uses, fd_there}
 use Rattle.tracer.specs.Tracing.{fd_for, marked_in}
-use Rattle.tracer.specs.declared.traceable.Traceable.{Traceable}
+use Rattle.faithful.specs.declared.read.Held.{Held}
 use Rattle.tracer.specs.declared.marked.Marked.{Marked}
 use Rattle.accepted.specs.Accepted.{each_row, number_is}
 use Rattle.accepted.proofs.Theorem.{fd-from}
@@ -172,7 +172,7 @@ each_same s t (r ∷ rows) a f =
     ap (λ (x : Bool). pick x (each_row s rows) false) (f r a.0) ∙ ap (λ (x : Bool). pick (t r) x false) (each_same s t rows a.1 f)
 
 module _ (m : Marked) (limits : List ℕ) (l : Limits (program m.font.loaded) (all_fds m) limits) where
-  abbrev t : Traceable
+  abbrev t : Held
   t = m.font
 
   abbrev some : List ℕ

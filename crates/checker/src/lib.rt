@@ -7,19 +7,18 @@ pub mod numbers;
 ghost use Rattle.std.specs.Prelude.{◌≡◌, true};
 ghost use Rattle.octets.specs.Lists.{all_below};
 ghost use Rattle.record.specs.Record.{rows_of};
-ghost use Rattle.cff.specs.File.{HasFont};
 ghost use Rattle.cff.specs.Loaded.{program};
 ghost use Rattle.tracer.specs.Tracing.{met, keys_of, sorted};
 ghost use Rattle.listed.specs.Listed.{row_keys, all_in};
 ghost use Rattle.accepted.specs.Accepted.{lists_met, accepted_by, check_of};
 ghost use Rattle.checker.specs.Checking.{Asks};
 
-use cff::font::Font;
+use cff::opened::Opened;
+use faithful::read::Held;
 use interpret::Range;
 use refusal::Refusal;
 use row_window::sorted::Sorted;
 use tracer::marked::{Marked, Plain};
-use tracer::traceable::Traceable;
 
 // Whether the record has all rows that plain glyphs meet, by windows from the first on.
 fn windows_listed(glyphs: &Plain<'_>, keys: &mut [u64], first: usize, rows: &[u8]) -> bool
@@ -59,7 +58,7 @@ fn lists_met(glyphs: &Marked<'_>, rows: &[u8]) -> bool
 }
 
 // Whether the record is accepted: the numbers first, which cost one pass over the record.
-fn accepts(font: &Traceable<'_>, keep: &[u16], rows: &[u8]) -> bool
+fn accepts(font: &Held<'_>, keep: &[u16], rows: &[u8]) -> bool
     requires { all_below font.now.loaded.f.charstrings.count keep.now ≡ true }
     ensures { result ≡ accepted_by (program font.now.loaded) keep.now rows.now }
 {
@@ -75,12 +74,11 @@ fn accepts(font: &Traceable<'_>, keep: &[u16], rows: &[u8]) -> bool
     false
 }
 
-// The answer for a font that was read in a file, by the bytes of its table.
-fn check_font(font: &[u8], f: Font, keep: &[u16], rows: &[u8]) -> Result<(), Refusal>
-    requires { HasFont font.now f }
-    ensures { result ≡ check_of font.now keep.now rows.now }
+// The answer for a font that was read in its file.
+fn check_font(font: &Opened<'_>, keep: &[u16], rows: &[u8]) -> Result<(), Refusal>
+    ensures { result ≡ check_of font.now.file.now keep.now rows.now }
 {
-    let table = Traceable::in_file(font, f);
+    let table = Held::of(font);
     if !kept::keep_below(keep, table.loaded.f.charstrings.count) {
         return Err(Refusal::NoSuchNumber);
     }
@@ -100,6 +98,5 @@ fn check_font(font: &[u8], f: Font, keep: &[u16], rows: &[u8]) -> Result<(), Ref
 pub fn check(font: &[u8], keep: &[u16], rows: &[u8]) -> Result<(), Refusal>
     ensures { result ≡ check_of font.now keep.now rows.now }
 {
-    let f = cff::set::read_font(font)?;
-    check_font(font, f, keep, rows)
+    check_font(&cff::set::read(font)?, keep, rows)
 }

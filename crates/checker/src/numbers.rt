@@ -8,16 +8,16 @@ ghost use Rattle.tracer.specs.Tracing.{fd_for, marked_in};
 ghost use Rattle.accepted.specs.Accepted.{each_row, number_is};
 ghost use Rattle.checker.specs.Checking.{number_fits, Unlimited, Known, Limited, Limits};
 
+use faithful::read::Held;
 use private_dicts::fd::Fd;
 use reach::Row;
 use tracer::marked::Marked;
-use tracer::traceable::Traceable;
 
 // What the table has for an FD that is not in use: every number is below it.
 const NO_LIMIT: usize = 65536;
 
 // Puts how many local subroutines the FD of glyph g has to its place; a Private DICT is read once.
-fn put_limit(font: &Traceable<'_>, g: usize, limits: &mut [usize])
+fn put_limit(font: &Held<'_>, g: usize, limits: &mut [usize])
     requires { (g < font.now.loaded.f.charstrings.count) × (Known (program font.now.loaded) limits.old) }
     ensures { Limited (program font.now.loaded) (fd_for font.now g) limits.old limits.new }
 {

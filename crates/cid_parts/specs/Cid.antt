@@ -18,8 +18,12 @@ use Rattle.private_dicts.specs.Privates.{font_dicts_by, Placed}
 use Rattle.fds.specs.Locals.{fds_in}
 use Rattle.own_strings.specs.declared.Own.{Own}
 use Rattle.front.specs.Front.{SlotsReady, Measured, front_bytes}
-use Rattle.parts.specs.Ready.{bodies_for, Ready}
+use Rattle.parts.specs.Ready.{bodies_for, Ready, Summed}
+use Rattle.record.specs.Record.{rows_of}
 use Rattle.parts.specs.declared.Planned.{Planned}
+use Rattle.order_window.specs.declared.Order.{Order}
+use Rattle.outcome.specs.declared.tables.Parts.{Parts}
+use Rattle.outcome.specs.Walked.{Walked}
 use Rattle.outcome.specs.Layout.{cid_charset, cid_select, cid_glyphs, cid_dicts, cid_privates, cid_end, cid_top}
 use Rattle.front.specs.declared.CidPlaces.{CidPlaces}
 use Rattle.refusal.specs.declared.Refusal.TheVariants.{Subset, Output}
@@ -128,3 +132,14 @@ module _ (b : List ℕ) (rows : List Row) (used ws : List ℕ) (r : Planned) whe
   -- the FD INDEX and the Private parts, of which the first stands at a place
   unfoldable pub tail_bytes : ℕ → List ℕ
   tail_bytes from = index_bytes (font_dicts program_in from (fds_in used) bodies_in.locals) ++ private_parts program_in (fds_in used) bodies_in.locals
+
+-- ---- a subset
+
+-- what it is written from: the bodies and the numbers of the FDs are ready, the strings counted, and it is the plan's glyphs that are kept
+pub record PartsReady (b ws : List ℕ) (o : Order) (parts : Parts) : Type 0 where
+  pub cid : CidReady b (rows_of parts.rows.now) parts.used.now ws parts.cut.plan parts.table.now
+  pub summed : Summed b (rows_of parts.rows.now) parts.used.now ws parts.cut.plan parts.table.now parts.totals.now
+  pub strings : StringsReady (program_of b parts.cut.plan.order.f) parts.slots.now parts.cut.own
+  pub short : length parts.name.now ≤ 65535
+  pub counted : parts.cut.count ≡ length (fds_in parts.used.now)
+  pub walked : Walked o parts.cut.plan.order

@@ -25,7 +25,9 @@ use Rattle.subset.specs.Pruned.{Pruned}
 use Rattle.subset.specs.Subset.{private_parts, font_dicts, own_by_name, own_by_cid, cids_of, subset_by_cid, subset_by_name, subset_bytes}
 use Rattle.subset.specs.Codes.{none}
 use Rattle.subset.specs.Cut.{Outcome, refused, subset, own_of, written}
-use Rattle.glyph_tables.specs.Tables.{new_fd_by, new_fds_by}
+use Rattle.order_window.specs.declared.Order.{Order}
+use Rattle.outcome.specs.Walked.{Walked}
+use Rattle.glyph_tables.specs.Tables.{kept_fds, new_fd_by, new_fds_by}
 use Rattle.fds.specs.Locals.{in_use_lem, fds_in}
 use Rattle.fds.specs.Parts.{SizesParts}
 use Rattle.private_dicts.specs.Privates.{matrices_by}
@@ -34,7 +36,8 @@ use Rattle.own_strings.specs.declared.Own.{Own}
 use Rattle.front.specs.Front.{SmallFont, SlotsReady, Measured, front_len}
 use Rattle.front.specs.ByCidLaws.{cid_front-sum}
 use Rattle.front.specs.PrepareLaws.{has-strings, cid_own, slots-bound}
-use Rattle.parts.specs.Ready.{FontHeld, Summed}
+use Rattle.faithful.specs.FontHeld.{FontHeld}
+use Rattle.parts.specs.Ready.{Summed}
 use Rattle.parts.specs.declared.Planned.{Planned}
 use Rattle.outcome.specs.Entry.{Cut, a_cut}
 use Rattle.outcome.specs.Layout.{cid_privates, cid_length}
@@ -104,6 +107,11 @@ own-few p slots own s = omega (arith, s.few, ap (λ (o : Own). o.count) s.measur
 -- a new table has a word for each FD
 pub table-room : (table : List ℕ) → table ≡ replicate 256 0 → 256 ≤ length table
 table-room table e = omega (arith, ap length e, length-replicate {A = ℕ} 256 0)
+
+-- the FDSelect is as long, by the font that is walked
+pub select-walked : (b ws used : List ℕ) (o planned : Order) → Walked o planned
+    → length (fd_select_bytes (new_fds_by used (kept_fds b o.f ws))) ≡ length (fd_select_bytes (new_fds_by used (kept_fds b planned.f ws)))
+select-walked b ws used o planned walked = ap (λ (f : Font). length (fd_select_bytes (new_fds_by used (kept_fds b f ws)))) walked.f
 
 module _ (b : List ℕ) (rows : List Row) (used ws : List ℕ) (r : Planned) (table : List ℕ)
     (c : CidReady b rows used ws r table) where

@@ -1,6 +1,6 @@
 -- The parts of a CID-keyed subset written one behind the other (document 01, 'Layout'): what each writer asks is there, and together they write
 -- the subset.
-use Rattle.std.specs.Prelude.{ℕ, ◌+◌, ◌≤◌, ◌<◌, ◌≡◌}
+use Rattle.std.specs.Prelude.{ℕ, ◌+◌, ◌≤◌, ◌<◌, ◌≡◌, Option}
 use Rattle.std.proofs.Math.Path.{sym, ap, subst}
 use Rattle.std.proofs.Common.{◌∙◌, arith}
 use Rattle.std.proofs.Math.Bool.{true}
@@ -15,10 +15,12 @@ use Rattle.charset.specs.FdSelectBytes.{fd_select_bytes}
 use Rattle.dict_write.specs.WriteLaws.{room-first, room-then, wrote-both}
 use Rattle.cff.specs.Font.{Program}
 use Rattle.cff.specs.Reads.{program_of}
-use Rattle.subset.specs.Kept.{fds_of}
+use Rattle.cff.specs.declared.font.Font.{Font}
+use Rattle.order_window.specs.declared.Order.{Order}
+use Rattle.outcome.specs.Walked.{Walked, charstrings-walked, same-charstrings}
 use Rattle.subset.specs.Pruned.{Bodies}
 use Rattle.subset.specs.Subset.{private_parts, font_dicts, own_by_cid, top_by_cid, cids_of, new_fds}
-use Rattle.glyph_tables.specs.Tables.{new_fds_by, Numbered}
+use Rattle.glyph_tables.specs.Tables.{kept_cids, kept_fds, new_fds_by, Numbered}
 use Rattle.private_dicts.specs.Privates.{font_dicts_by, Placed}
 use Rattle.bodies.specs.Ways.{many_of, Room}
 use Rattle.glyph_bodies.specs.Charstrings.{CharstringsIn, charstrings_from}
@@ -69,35 +71,39 @@ module _ (b : List ℕ) (rows : List Row) (used ws : List ℕ) (r : Planned) (ta
 
   -- ---- FDSelect and charstrings
 
-  module _ (c : CidReady b rows used ws r table) (at : ℕ) (out : List ℕ) (small : at + length (glyph_bytes b rows used ws r) ≤ 67108864)
-      (room : at + length (glyph_bytes b rows used ws r) ≤ length out) where
+  module _ (c : CidReady b rows used ws r table) (o : Order) (walked : Walked o r.order) (at : ℕ) (out : List ℕ)
+      (small : at + length (glyph_bytes b rows used ws r) ≤ 67108864) (room : at + length (glyph_bytes b rows used ws r) ≤ length out) where
     abbrev select : List ℕ
     select = fd_select_bytes (new_fds p (fds_in used) order)
 
     abbrev glyphs : List ℕ
     glyphs = index_bytes bodies.charstrings
 
-    pub select-put : Numbered used (fds_of p order) × (at ≤ 67108864) × (at + length (fd_select_bytes (new_fds_by used (fds_of p order))) ≤ length out)
+    pub select-put : Numbered used (kept_fds b o.f ws) × (at ≤ 67108864) × (at + length (fd_select_bytes (new_fds_by used (kept_fds b o.f ws))) ≤ length out)
     unfolding glyph_bytes
     select-put =
+        subst (λ (f : Font). Numbered used (kept_fds b f ws) × (at ≤ 67108864) × (at + length (fd_select_bytes (new_fds_by used (kept_fds b f ws))) ≤ length out)) (sym walked.f)
         (c.numbered, omega (arith, small), subst (λ (l : List ℕ). at + length (fd_select_bytes l) ≤ length out) (sym c.news) (room-first (length out) at select glyphs room))
 
-    module _ {mid : List ℕ} {q : ℕ} (w : Wrote out at (fd_select_bytes (new_fds_by used (fds_of p order))) mid q) where
+    module _ {mid : List ℕ} {q : ℕ} (w : Wrote out at (fd_select_bytes (new_fds_by used (kept_fds b o.f ws))) mid q) where
       selected : Wrote out at select mid q
-      selected = wrote_as w (ap fd_select_bytes c.news)
+      selected = wrote_as w (ap (λ (f : Font). fd_select_bytes (new_fds_by used (kept_fds b f ws))) walked.f ∙ ap fd_select_bytes c.news)
 
-      pub glyphs-put : CharstringsIn b ws table r.order r.how rows
-          × Room (charstrings_from r.how r.order rows ws table b) r.glyphs_total q (length mid)
+      -- the window moved meanwhile
+      pub glyphs-put : (u : Order) → Walked u r.order → CharstringsIn b ws table u r.how rows × Room (charstrings_from r.how u rows ws table b) r.glyphs_total q (length mid)
       unfolding glyph_bytes
-      glyphs-put =
-          glyphs-asked b rows used ws table r c.ready q (length mid) (second_below at select glyphs 67108864 q small selected.behind)
-          (room-then glyphs selected room)
+      glyphs-put u moved =
+          charstrings-walked b rows ws table u r moved q (length mid)
+          (glyphs-asked b rows used ws table r c.ready q (length mid) (second_below at select glyphs 67108864 q small selected.behind)
+          (room-then glyphs selected room))
 
-      pub glyphs-wrote : {new : List ℕ} {q' : ℕ} → Wrote mid q (index_bytes (many_of (charstrings_from r.how r.order rows ws table b))) new q'
-          → Wrote out at (glyph_bytes b rows used ws r) new q'
+      pub glyphs-wrote : (u : Order) → Walked u r.order → {new : List ℕ} {q' : ℕ}
+          → Wrote mid q (index_bytes (many_of (charstrings_from r.how u rows ws table b))) new q' → Wrote out at (glyph_bytes b rows used ws r) new q'
       unfolding glyph_bytes
-      glyphs-wrote v =
-          wrote-both room selected (wrote_as v (ap index_bytes (glyphs_are b rows used ws table r c.ready)))
+      glyphs-wrote u moved v =
+          wrote-both room selected
+          (wrote_as v (ap (λ (l : Option (List (List ℕ))). index_bytes (many_of l)) (same-charstrings b rows ws table u r moved)
+          ∙ ap index_bytes (glyphs_are b rows used ws table r c.ready)))
 
   -- ---- the FD INDEX and the Private parts
 
@@ -222,13 +228,16 @@ module _ (b : List ℕ) (rows : List Row) (used ws : List ℕ) (r : Planned) (ta
 
       module _ {mid2 : List ℕ} {q2 : ℕ} (v : Wrote mid q globals mid2 q2) where
         -- what the charset asks
-        pub charset-put : q2 + length (charset_bytes (cids_of p order)) ≤ length mid2
-        charset-put = room-then ids v rest-room
+        pub charset-put : (o : Order) → Walked o r.order → q2 + length (charset_bytes (kept_cids b o.f ws)) ≤ length mid2
+        charset-put o walked =
+            subst (λ (f : Font). q2 + length (charset_bytes (kept_cids b f ws)) ≤ length mid2) (sym walked.f) (room-then ids v rest-room)
 
-        pub head-wrote : {new : List ℕ} {q3 : ℕ} → Wrote mid2 q2 (charset_bytes (cids_of p order)) new q3 → Wrote out 0 (head_bytes b rows used ws r name) new q3
+        pub head-wrote : (o : Order) → Walked o r.order → {new : List ℕ} {q3 : ℕ}
+            → Wrote mid2 q2 (charset_bytes (kept_cids b o.f ws)) new q3 → Wrote out 0 (head_bytes b rows used ws r name) new q3
         unfolding head_bytes
-        head-wrote u =
-            wrote-both head-room fronted (wrote-both rest-room v u)
+        head-wrote o walked u =
+            wrote-both head-room fronted
+            (wrote-both rest-room v (wrote_as u (ap (λ (f : Font). charset_bytes (kept_cids b f ws)) walked.f)))
 
   -- ---- all
 
@@ -269,6 +278,10 @@ module _ (b : List ℕ) (rows : List Row) (used ws : List ℕ) (r : Planned) (ta
 
       pub middle-put : CidReady b rows used ws r table × (q + length middle ≤ 67108864) × (q + length middle ≤ length mid)
       middle-put = (c, omega (arith, left-small, length-append middle tail), room-first (length mid) q middle tail left-room)
+
+      -- what is behind the head as one
+      pub all-left : {new : List ℕ} {q3 : ℕ} → Wrote mid q (middle ++ tail) new q3 → Wrote out 0 (cid_bytes b rows used ws r name) new q3
+      all-left u = wrote_as (wrote-both all_room w u) groups
 
       module _ {mid2 : List ℕ} {q2 : ℕ} (v : Wrote mid q middle mid2 q2) where
         pub tail-small : q2 + length tail ≤ 67108864

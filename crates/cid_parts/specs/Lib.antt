@@ -1,3 +1,5 @@
 pub mod Cid
+pub mod Alone
+pub mod Subset
 pub mod CidPlacesLaws
 pub mod CidPutLaws

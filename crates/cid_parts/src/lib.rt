@@ -1,28 +1,20 @@
 // The parts of a CID-keyed subset (document 01, 'Layout'): where they stand, and each written behind the other.
 #![tactic(auto)]
 
+pub mod cid;
+
 ghost use Rattle.std.specs.Prelude.{◌≡◌, ◌+◌, ◌≤◌, length};
 ghost use Rattle.octets.specs.Octets.{Wrote};
-ghost use Rattle.record.specs.Record.{rows_of};
-ghost use Rattle.cff.specs.Reads.{program_of};
-ghost use Rattle.parts.specs.Ready.{Summed};
-ghost use Rattle.order_window.specs.Window.{Ordered};
-ghost use Rattle.fds.specs.Locals.{fds_in};
-ghost use Rattle.cid_parts.specs.Cid.{StringsReady, places_by, PartsSmall, CidReady, PrivatesEnd, cid_bytes, cid_places, head_bytes, glyph_bytes, tail_bytes};
+ghost use Rattle.octets.specs.Out.{Writes};
+ghost use Rattle.cid_parts.specs.Cid.{places_by, PartsSmall};
+ghost use Rattle.cid_parts.specs.Subset.{places_in, subset_in, head_in, glyphs_in, tail_in, EndsIn, Remains};
 
+use crate::cid::CidSubset;
 use cff::loaded::Loaded;
 use fds::table::FdTable;
 use front::CidPlaces;
-use outcome::Prepared;
-use parts::Planned;
+use octets::out::Out;
 use private_dicts::fd_array::FdArray;
-
-// A cut and the places of its parts.
-#[derive(Clone, Copy)]
-pub struct PlacedCut {
-    pub cut: Prepared,
-    pub at: CidPlaces,
-}
 
 // The places of parts of these lengths: k glyphs have a charset of format 0, and so many FDs Font DICTs, each with a Private of 11 bytes, and
 // FontMatrix entries of so many bytes together.
@@ -55,213 +47,126 @@ fn place_parts(
 }
 
 // Measures the parts of the subset: where they stand.
-pub fn places_cid<'a>(
-    cut: Prepared,
-    font: &'a [u8],
-    name: &[u8],
-    slots: &[usize],
-    used: &'a [u32],
-    words: &[u32],
-    window: &mut [u32],
-    table: &'a [usize],
-    totals: &[usize],
-    rows: &[u8],
-) -> CidPlaces
-    requires { (CidReady font.now (rows_of rows.now) used.now words.now cut.plan table.now)
-        × (Summed font.now (rows_of rows.now) used.now words.now cut.plan table.now totals.now)
-        × (StringsReady (program_of font.now cut.plan.order.f) slots.now cut.own) × (length name.now ≤ 65535) × (cut.count ≡ length (fds_in used.now))
-        × (Ordered font.now words.now window.old cut.plan.order) }
-    ensures { (result ≡ cid_places font.now (rows_of rows.now) used.now words.now cut.plan name.now)
-        × (Ordered font.now words.now window.new cut.plan.order) }
+pub fn places_cid(c: &mut CidSubset<'_>) -> CidPlaces
+    ensures { (result ≡ places_in c.old) × (Remains c.old c.new) }
 {
-    let r = cut.plan;
-    let own = cut.own;
-    let order = r.order;
-    let f = order.f;
-    let loaded = Loaded { bytes: font, f };
+    let parts = c.parts;
+    let own = parts.cut.own;
+    let count = parts.cut.count;
+    let r = parts.cut.plan;
+    let k = r.order.count;
+    let font = Loaded {
+        bytes: c.kept.font,
+        f: r.order.f,
+    };
     let fds = FdTable {
-        font: loaded,
-        used,
-        table,
+        font,
+        used: parts.used,
+        table: parts.table,
     };
     let mut sizes = [0usize; 256];
     let mut lens = [0usize; 256];
-    let all = fds::parts::part_sizes(r.how.way, &fds, totals, &mut sizes, &mut lens);
+    let way = r.how.way;
+    let all = fds::parts::part_sizes(way, &fds, parts.totals, &mut sizes, &mut lens);
     let mut listed = [0usize; 256];
-    fds::parts::list_used(used, &mut listed);
+    fds::parts::list_used(parts.used, &mut listed);
     let array = FdArray {
-        font: loaded,
-        fds: &listed[..cut.count],
+        font,
+        fds: &listed[..count],
     };
     let matrices = private_dicts::matrices_len(&array);
-    let front = front::front_len(true, 0, font, f, name.len(), slots, own);
+    let front = front::front_len(true, 0, &font, parts.name.len(), parts.slots, own);
     let globals = parts::globals_len(r);
-    let select = glyph_tables::select::select_len(font, order, words, window, used);
+    let select = glyph_tables::select::select_len(&mut c.kept, parts.used);
     let glyphs = parts::glyphs_len(r);
-    place_parts(
-        front,
-        globals,
-        order.count,
-        select,
-        glyphs,
-        cut.count,
-        matrices,
-        all,
-    )
+    place_parts(front, globals, k, select, glyphs, count, matrices, all)
 }
 
 // Front, globals and charset, from the start of out on; the place after them.
-fn put_head(
-    c: PlacedCut,
-    font: &[u8],
-    name: &[u8],
-    slots: &[usize],
-    used: &[u32],
-    words: &[u32],
-    window: &mut [u32],
-    table: &[usize],
-    rows: &[u8],
-    out: &mut [u8],
-) -> usize
-    requires { (CidReady font.now (rows_of rows.now) used.now words.now c.cut.plan table.now)
-        × (StringsReady (program_of font.now c.cut.plan.order.f) slots.now c.cut.own) × (length name.now ≤ 65535)
-        × (c.at ≡ cid_places font.now (rows_of rows.now) used.now words.now c.cut.plan name.now)
-        × (c.at.end ≤ 67108864) × (c.at.end ≤ length out.old) × (Ordered font.now words.now window.old c.cut.plan.order) }
-    ensures { (Wrote out.old 0
-        (head_bytes font.now (rows_of rows.now) used.now words.now c.cut.plan name.now)
-        out.new result) × (Ordered font.now words.now window.new c.cut.plan.order) }
+fn put_head(c: &mut CidSubset<'_>, at: CidPlaces, out: &mut [u8]) -> usize
+    requires { (at ≡ places_in c.old) × (at.end ≤ 67108864) × (at.end ≤ length out.old) }
+    ensures { (Wrote out.old 0 (head_in c.old) out.new result) × (Remains c.old c.new) }
 {
-    let cut = c.cut;
-    let at = c.at;
-    let r = cut.plan;
-    let own = cut.own;
-    let order = r.order;
-    let f = order.f;
-    let p = front::put_front_cid(font, f, name, slots, own, at, &mut *out);
-    let q = parts::put_globals(r, font, used, words, table, rows, &mut *out, p);
-    glyph_tables::put_charset_cid(font, order, words, window, out, q)
-}
-
-// FDSelect and charstrings, from `at` on; the place after them.
-fn put_glyphs(
-    r: Planned,
-    font: &[u8],
-    used: &[u32],
-    words: &[u32],
-    window: &mut [u32],
-    table: &[usize],
-    rows: &[u8],
-    out: &mut [u8],
-    at: usize,
-) -> usize
-    requires { (CidReady font.now (rows_of rows.now) used.now words.now r table.now)
-        × (at + length (glyph_bytes font.now (rows_of rows.now) used.now words.now r) ≤ 67108864)
-        × (at + length (glyph_bytes font.now (rows_of rows.now) used.now words.now r) ≤ length out.old)
-        × (Ordered font.now words.now window.old r.order) }
-    ensures { (Wrote out.old at
-        (glyph_bytes font.now (rows_of rows.now) used.now words.now r) out.new result)
-        × (Ordered font.now words.now window.new r.order) }
-{
-    let order = r.order;
-    let how = r.how;
-    let p = glyph_tables::select::put_select(font, order, words, &mut *window, used, &mut *out, at);
-    glyph_bodies::put_charstrings(
-        how,
-        order,
-        font,
+    let parts = c.parts;
+    let cut = parts.cut;
+    let bytes = c.kept.font;
+    let words = c.kept.words;
+    let font = Loaded {
+        bytes,
+        f: cut.plan.order.f,
+    };
+    let mut to = Out {
+        bytes: &mut *out,
+        at: 0,
+    };
+    front::put_front_cid(&font, parts.name, parts.slots, cut.own, at, &mut to);
+    parts::put_globals(
+        cut.plan,
+        bytes,
+        parts.used,
         words,
-        window,
-        table,
-        rows,
-        r.glyphs_total,
-        out,
-        p,
-    )
+        parts.table,
+        parts.rows,
+        &mut to,
+    );
+    glyph_tables::put_charset_cid(&mut c.kept, &mut to);
+    to.at
 }
 
-// The FD INDEX and the Private parts, from `at` on; the place after them.
-fn put_tail<'a>(
-    c: PlacedCut,
-    font: &'a [u8],
-    used: &'a [u32],
-    words: &[u32],
-    table: &'a [usize],
-    totals: &[usize],
-    rows: &[u8],
-    out: &mut [u8],
-    at: usize,
-) -> usize
-    requires { (CidReady font.now (rows_of rows.now) used.now words.now c.cut.plan table.now)
-        × (Summed font.now (rows_of rows.now) used.now words.now c.cut.plan table.now totals.now)
-        × (c.cut.count ≡ length (fds_in used.now))
-        × (PrivatesEnd font.now (rows_of rows.now) used.now words.now c.cut.plan c.at.privates)
-        × (at + length (tail_bytes font.now (rows_of rows.now) used.now words.now c.cut.plan c.at.privates) ≤ 67108864)
-        × (at + length (tail_bytes font.now (rows_of rows.now) used.now words.now c.cut.plan c.at.privates) ≤ length out.old) }
-    ensures { Wrote out.old at
-        (tail_bytes font.now (rows_of rows.now) used.now words.now c.cut.plan c.at.privates)
-        out.new result }
+// FDSelect and charstrings.
+fn put_glyphs(c: &mut CidSubset<'_>, out: &mut Out<'_>)
+    requires { (out.old.at + length (glyphs_in c.old) ≤ 67108864) × (out.old.at + length (glyphs_in c.old) ≤ length out.old.bytes.now) }
+    ensures { (Writes out.old (glyphs_in c.old) out.new) × (Remains c.old c.new) }
 {
-    let cut = c.cut;
+    let parts = c.parts;
+    let rows = parts.rows;
+    let r = parts.cut.plan;
+    glyph_tables::select::put_select(&mut c.kept, parts.used, &mut *out);
+    glyph_bodies::put_charstrings(&mut c.kept, r.how, parts.table, rows, r.glyphs_total, out)
+}
+
+// The FD INDEX and the Private parts, of which the first stands at `from`.
+fn put_tail(c: &CidSubset<'_>, from: usize, out: &mut Out<'_>)
+    requires { (EndsIn c.now from) × (out.old.at + length (tail_in c.now from) ≤ 67108864) × (out.old.at + length (tail_in c.now from) ≤ length out.old.bytes.now) }
+    ensures { Writes out.old (tail_in c.now from) out.new }
+{
+    let parts = c.parts;
+    let cut = parts.cut;
     let how = cut.plan.how;
-    let loaded = Loaded {
-        bytes: font,
+    let words = c.kept.words;
+    let font = Loaded {
+        bytes: c.kept.font,
         f: cut.plan.order.f,
     };
     let fds = FdTable {
-        font: loaded,
-        used,
-        table,
+        font,
+        used: parts.used,
+        table: parts.table,
     };
     let mut sizes = [0usize; 256];
     let mut lens = [0usize; 256];
-    fds::parts::part_sizes(how.way, &fds, totals, &mut sizes, &mut lens);
+    fds::parts::part_sizes(how.way, &fds, parts.totals, &mut sizes, &mut lens);
     let mut listed = [0usize; 256];
-    fds::parts::list_used(used, &mut listed);
+    fds::parts::list_used(parts.used, &mut listed);
     let array = FdArray {
-        font: loaded,
+        font,
         fds: &listed[..cut.count],
     };
-    let p = private_dicts::put_font_dicts(&array, &sizes, &lens, c.at.privates, &mut *out, at);
-    fds::privates::put_privates(how, &fds, words, totals, rows, out, p)
+    private_dicts::put_font_dicts(&array, &sizes, &lens, from, &mut *out);
+    fds::privates::put_privates(how, &fds, words, parts.totals, parts.rows, out)
 }
 
 // The subset, from the start of out on; the place after it.
-pub fn put_parts(
-    c: PlacedCut,
-    font: &[u8],
-    name: &[u8],
-    slots: &[usize],
-    used: &[u32],
-    words: &[u32],
-    window: &mut [u32],
-    table: &[usize],
-    totals: &[usize],
-    rows: &[u8],
-    out: &mut [u8],
-) -> usize
-    requires { (CidReady font.now (rows_of rows.now) used.now words.now c.cut.plan table.now)
-        × (Summed font.now (rows_of rows.now) used.now words.now c.cut.plan table.now totals.now)
-        × (StringsReady (program_of font.now c.cut.plan.order.f) slots.now c.cut.own) × (length name.now ≤ 65535)
-        × (c.at ≡ cid_places font.now (rows_of rows.now) used.now words.now c.cut.plan name.now)
-        × (c.cut.count ≡ length (fds_in used.now))
-        × (c.at.end ≤ 67108864) × (c.at.end ≤ length out.old) × (Ordered font.now words.now window.old c.cut.plan.order) }
-    ensures { Wrote out.old 0
-        (cid_bytes font.now (rows_of rows.now) used.now words.now c.cut.plan name.now)
-        out.new result }
+pub fn put_parts(c: &mut CidSubset<'_>, at: CidPlaces, out: &mut [u8]) -> usize
+    requires { (at ≡ places_in c.old) × (at.end ≤ 67108864) × (at.end ≤ length out.old) }
+    ensures { (Wrote out.old 0 (subset_in c.old) out.new result) × (Remains c.old c.new) }
 {
-    let r = c.cut.plan;
-    let p = put_head(
-        c,
-        font,
-        name,
-        slots,
-        used,
-        words,
-        &mut *window,
-        table,
-        rows,
-        &mut *out,
-    );
-    let q = put_glyphs(r, font, used, words, window, table, rows, &mut *out, p);
-    put_tail(c, font, used, words, table, totals, rows, out, q)
+    let p = put_head(&mut *c, at, &mut *out);
+    let mut to = Out {
+        bytes: &mut *out,
+        at: p,
+    };
+    put_glyphs(&mut *c, &mut to);
+    put_tail(&*c, at.privates, &mut to);
+    to.at
 }

@@ -382,14 +382,10 @@ pub fn offset_of(d: Decimal) -> Result<usize, Refusal>
     Err(Refusal::Malformed)
 }
 
-// Exactly 2: the charstring type that is supported.
-pub fn is_two(d: Decimal) -> bool
-    ensures { result ≡ is_two d }
+// Exactly 2: the charstring type that is supported. (Asked by the parts of a number: it answers for those that make no `Decimal` too.)
+pub fn is_two(neg: bool, digits: usize, up: usize, down: usize) -> bool
+    ensures { result ≡ is_two (record { neg = neg; digits = digits; up = up; down = down }) }
 {
-    let neg = d.neg;
-    let digits = d.digits;
-    let up = d.up;
-    let down = d.down;
     if neg {
         return false;
     }

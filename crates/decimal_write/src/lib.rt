@@ -2,11 +2,13 @@
 #![tactic(auto)]
 
 ghost use Rattle.std.specs.Prelude.{◌≡◌, [], ◌∷◌, ◌+◌, ◌-◌, ◌/◌, ◌%◌, ◌^◌, ◌≤◌, ◌<◌, length, get_or};
-ghost use Rattle.octets.specs.Octets.{bytes_of, Wrote};
+ghost use Rattle.octets.specs.Octets.{bytes_of};
+ghost use Rattle.octets.specs.Out.{Writes};
 ghost use Rattle.decimal.specs.Values.{trunc_of};
 ghost use Rattle.decimal.specs.Written.{int_bytes, int5_bytes, width_of, bare_text, real_text, packed, real_bytes, number_bytes};
 
 use decimal::Decimal;
+use octets::out::Out;
 
 // The least whole size that is written as a real: `dict_number` compares with i32::MAX.
 const LEAST_REAL: usize = 2147483647;
@@ -19,33 +21,24 @@ struct Text {
     ghost counted: { (whole ≡ width_of (trunc_of value)) × (whole ≤ 50) },
 }
 
-// Stores two bytes.
-fn put_pair(out: &mut [u8], at: usize, a: u8, b: u8) -> usize
-    requires { at + 2 ≤ length out.old }
-    ensures { Wrote out.old at (a ∷ b ∷ []) out.new result }
-{
-    let p = octets::put_byte(out, at, a);
-    octets::put_byte(out, p, b)
-}
-
 // Stores a byte and then the low n bytes of a number.
-fn put_tagged(out: &mut [u8], at: usize, tag: u8, value: usize, n: usize) -> usize
-    requires { at + (1 + n) ≤ length out.old }
-    ensures { Wrote out.old at (tag ∷ bytes_of n value) out.new result }
+fn put_tagged(out: &mut Out<'_>, tag: u8, value: usize, n: usize)
+    requires { out.old.at + (1 + n) ≤ length out.old.bytes.now }
+    ensures { Writes out.old (tag ∷ bytes_of n value) out.new }
 {
-    let p = octets::put_byte(out, at, tag);
-    octets::put_num(out, p, value, n)
+    out.byte(tag);
+    out.num(value, n);
 }
 
-// The integer size, or -size where neg, in the five-byte form; the place after it.
-pub fn put_int5(neg: bool, size: usize, out: &mut [u8], at: usize) -> usize
-    requires { (size ≤ 2147483648) × (at + 5 ≤ length out.old) }
-    ensures { Wrote out.old at (int5_bytes neg size) out.new result }
+// The integer size, or -size where neg, in the five-byte form.
+pub fn put_int5(neg: bool, size: usize, out: &mut Out<'_>)
+    requires { (size ≤ 2147483648) × (out.old.at + 5 ≤ length out.old.bytes.now) }
+    ensures { Writes out.old (int5_bytes neg size) out.new }
 {
     if neg {
-        return put_tagged(out, at, 29, 4294967296 - size, 4);
+        return put_tagged(out, 29, 4294967296 - size, 4);
     }
-    put_tagged(out, at, 29, size, 4)
+    put_tagged(out, 29, size, 4)
 }
 
 // How many bytes an integer takes in its shortest form.
@@ -69,34 +62,34 @@ pub fn int_len(neg: bool, size: usize) -> usize
     5
 }
 
-// The integer size, or -size where neg, in its shortest form; the place after it.
-pub fn put_int(neg: bool, size: usize, out: &mut [u8], at: usize) -> usize
-    requires { (size ≤ 2147483648) × (at + length (int_bytes neg size) ≤ length out.old) }
-    ensures { Wrote out.old at (int_bytes neg size) out.new result }
+// The integer size, or -size where neg, in its shortest form.
+pub fn put_int(neg: bool, size: usize, out: &mut Out<'_>)
+    requires { (size ≤ 2147483648) × (out.old.at + length (int_bytes neg size) ≤ length out.old.bytes.now) }
+    ensures { Writes out.old (int_bytes neg size) out.new }
 {
     if size <= 107 {
         if neg {
-            return octets::put_byte(out, at, (139 - size) as u8);
+            return out.byte((139 - size) as u8);
         }
-        return octets::put_byte(out, at, (139 + size) as u8);
+        return out.byte((139 + size) as u8);
     }
     if size <= 1131 {
         let w = size - 108;
         if neg {
-            return put_pair(out, at, (w / 256 + 251) as u8, (w % 256) as u8);
+            return out.pair((w / 256 + 251) as u8, (w % 256) as u8);
         }
-        return put_pair(out, at, (w / 256 + 247) as u8, (w % 256) as u8);
+        return out.pair((w / 256 + 247) as u8, (w % 256) as u8);
     }
     if neg {
         if size <= 32768 {
-            return put_tagged(out, at, 28, 65536 - size, 2);
+            return put_tagged(out, 28, 65536 - size, 2);
         }
-        return put_int5(neg, size, out, at);
+        return put_int5(neg, size, out);
     }
     if size <= 32767 {
-        return put_tagged(out, at, 28, size, 2);
+        return put_tagged(out, 28, size, 2);
     }
-    put_int5(neg, size, out, at)
+    put_int5(neg, size, out)
 }
 
 // How many decimal digits n has.
@@ -212,26 +205,27 @@ pub fn real_len(d: Decimal) -> usize
     text_len(&text_of(d)) / 2 + 2
 }
 
-// The bytes of a real after its first, n of them; the place after them.
-fn put_packed(d: Decimal, n: usize, out: &mut [u8], at: usize) -> usize
-    requires { (n ≡ length (packed (real_text d))) × (at + n ≤ length out.old) }
-    ensures { Wrote out.old at (packed (real_text d)) out.new result }
+// The bytes of a real after its first, n of them.
+fn put_packed(d: Decimal, n: usize, out: &mut Out<'_>)
+    requires { (n ≡ length (packed (real_text d))) × (out.old.at + n ≤ length out.old.bytes.now) }
+    ensures { Writes out.old (packed (real_text d)) out.new }
 {
     let t = text_of(d);
-    for (i, b) in out[at..at + n].iter_mut().enumerate() {
+    let at = out.at;
+    for (i, b) in out.bytes[at..at + n].iter_mut().enumerate() {
         *b = (nibble(&t, 2 * i) * 16 + nibble(&t, 2 * i + 1)) as u8;
     }
-    at + n
+    out.at = at + n;
 }
 
-// A number as a real, without exponent; the place after it.
-pub fn put_real(d: Decimal, out: &mut [u8], at: usize) -> usize
-    requires { at + length (real_bytes d) ≤ length out.old }
-    ensures { Wrote out.old at (real_bytes d) out.new result }
+// A number as a real, without exponent.
+pub fn put_real(d: Decimal, out: &mut Out<'_>)
+    requires { out.old.at + length (real_bytes d) ≤ length out.old.bytes.now }
+    ensures { Writes out.old (real_bytes d) out.new }
 {
     let n = real_len(d);
-    let p = octets::put_byte(out, at, 30);
-    put_packed(d, n - 1, out, p)
+    out.byte(30);
+    put_packed(d, n - 1, out);
 }
 
 // How many bytes a number takes.
@@ -250,19 +244,19 @@ pub fn number_len(d: Decimal) -> usize
     real_len(d)
 }
 
-// A number: an integer where it is whole and below 2147483647 in size, else a real; the place after it.
-pub fn put_number(d: Decimal, out: &mut [u8], at: usize) -> usize
-    requires { at + length (number_bytes d) ≤ length out.old }
-    ensures { Wrote out.old at (number_bytes d) out.new result }
+// A number: an integer where it is whole and below 2147483647 in size, else a real.
+pub fn put_number(d: Decimal, out: &mut Out<'_>)
+    requires { out.old.at + length (number_bytes d) ≤ length out.old.bytes.now }
+    ensures { Writes out.old (number_bytes d) out.new }
 {
     let neg = d.neg;
     let down = d.down;
     let size = decimal::trunc(d);
     if down == 0 {
         if size < LEAST_REAL {
-            return put_int(neg, size, out, at);
+            return put_int(neg, size, out);
         }
-        return put_real(d, out, at);
+        return put_real(d, out);
     }
-    put_real(d, out, at)
+    put_real(d, out)
 }

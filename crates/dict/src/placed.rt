@@ -112,7 +112,7 @@ impl Dict<'_> {
         match self.number(Op::CHARSTRING_TYPE) {
             None => Ok(()),
             Some(v) => {
-                if is_two(v) {
+                if is_two(v.neg, v.digits, v.up, v.down) {
                     return Ok(());
                 }
                 Err(Refusal::Unsupported)

@@ -3,7 +3,7 @@
 #![tactic(auto)]
 
 ghost use Rattle.std.specs.Prelude.{◌≡◌, true, ◌+◌, ◌≤◌, ◌<◌, length};
-ghost use Rattle.octets.specs.Octets.{Wrote};
+ghost use Rattle.octets.specs.Out.{Writes};
 ghost use Rattle.dict.specs.Op.{is_operator};
 ghost use Rattle.dict.specs.Lookup.{last_of};
 ghost use Rattle.dict.specs.Places.{entries_of, operands_at};
@@ -15,6 +15,7 @@ use decimal_write::{number_len, put_int5, put_number};
 use dict::op::Op;
 use dict::placed::Dict;
 use dict::{OperandsAt, read_entry};
+use octets::out::Out;
 
 // How many bytes an operator takes: one, or two for an escape.
 pub fn op_len(op: usize) -> usize
@@ -26,12 +27,12 @@ pub fn op_len(op: usize) -> usize
     2
 }
 
-// The operator, from `to` on; the place after it. The number of an escape is that of its two bytes.
-pub fn put_op(op: usize, out: &mut [u8], to: usize) -> usize
-    requires { (is_operator op ≡ true) × (to + length (op_bytes_lem op) ≤ length out.old) }
-    ensures { Wrote out.old to (op_bytes_lem op) out.new result }
+// The operator. The number of an escape is that of its two bytes.
+pub fn put_op(op: usize, out: &mut Out<'_>)
+    requires { (is_operator op ≡ true) × (out.old.at + length (op_bytes_lem op) ≤ length out.old.bytes.now) }
+    ensures { Writes out.old (op_bytes_lem op) out.new }
 {
-    octets::put_num(out, to, op, op_len(op))
+    out.num(op, op_len(op));
 }
 
 // How many bytes the operands take that stand from a position on.
@@ -61,31 +62,29 @@ fn operands_len(d: &[u8], start: usize, count: usize) -> usize
     len
 }
 
-// The operands that stand from a position on, each in its shortest form, from `to` on; the place after them.
-fn put_operands(d: &[u8], start: usize, count: usize, out: &mut [u8], to: usize) -> usize
-    requires { to + length (operands_bytes (operands_at count d.now start)) ≤ length out.old }
-    ensures { Wrote out.old to (operands_bytes (operands_at count d.now start)) out.new result }
+// The operands that stand from a position on, each in its shortest form.
+fn put_operands(d: &[u8], start: usize, count: usize, out: &mut Out<'_>)
+    requires { out.old.at + length (operands_bytes (operands_at count d.now start)) ≤ length out.old.bytes.now }
+    ensures { Writes out.old (operands_bytes (operands_at count d.now start)) out.new }
 {
     let mut at = start;
-    let mut p = to;
     for _ in 0..count {
         if d.len() <= at {
-            return p;
+            return;
         }
         match number_at(d, at) {
             Ok(Some(number)) => {
-                p = put_number(number.value, &mut *out, p);
+                put_number(number.value, &mut *out);
                 at = number.next;
             }
             Ok(None) => {
-                return p;
+                return;
             }
             Err(_) => {
-                return p;
+                return;
             }
         }
     }
-    p
 }
 
 // How many bytes an entry takes whose operands stand from a position on.
@@ -96,20 +95,13 @@ pub fn entry_len(d: &[u8], start: usize, count: usize, op: usize) -> usize
     operands_len(d, start, count) + op_len(op)
 }
 
-// An entry whose operands stand from a position on, from `to` on; the place after it.
-pub fn put_entry(
-    d: &[u8],
-    start: usize,
-    count: usize,
-    op: usize,
-    out: &mut [u8],
-    to: usize,
-) -> usize
-    requires { (is_operator op ≡ true) × (to + length (entry_bytes op (operands_at count d.now start)) ≤ length out.old) }
-    ensures { Wrote out.old to (entry_bytes op (operands_at count d.now start)) out.new result }
+// An entry whose operands stand from a position on.
+pub fn put_entry(d: &[u8], start: usize, count: usize, op: usize, out: &mut Out<'_>)
+    requires { (is_operator op ≡ true) × (out.old.at + length (entry_bytes op (operands_at count d.now start)) ≤ length out.old.bytes.now) }
+    ensures { Writes out.old (entry_bytes op (operands_at count d.now start)) out.new }
 {
-    let p = put_operands(d, start, count, out, to);
-    put_op(op, out, p)
+    put_operands(d, start, count, &mut *out);
+    put_op(op, out);
 }
 
 // How many bytes the last entry of an operator takes, 0 where there is none.
@@ -123,33 +115,33 @@ pub fn copied_len(d: &Dict<'_>, op: usize) -> usize
     }
 }
 
-// The last entry of an operator, where there is one, from `to` on; the place after it.
-pub fn put_copied(d: &Dict<'_>, op: usize, out: &mut [u8], to: usize) -> usize
-    requires { (is_operator op ≡ true) × (to + length (copied_entry op (last_of op (entries d.now))) ≤ length out.old) }
-    ensures { Wrote out.old to (copied_entry op (last_of op (entries d.now))) out.new result }
+// The last entry of an operator, where there is one.
+pub fn put_copied(d: &Dict<'_>, op: usize, out: &mut Out<'_>)
+    requires { (is_operator op ≡ true) × (out.old.at + length (copied_entry op (last_of op (entries d.now))) ≤ length out.old.bytes.now) }
+    ensures { Writes out.old (copied_entry op (last_of op (entries d.now))) out.new }
 {
     match d.place(op) {
-        None => to,
-        Some(OperandsAt { start, count }) => put_entry(d.bytes, start, count, op, out, to),
+        None => {}
+        Some(OperandsAt { start, count }) => put_entry(d.bytes, start, count, op, out),
     }
 }
 
-// An offset in the five-byte form and its operator, from `to` on; the place after them.
-pub fn put_offset_entry(op: usize, value: usize, out: &mut [u8], to: usize) -> usize
-    requires { (is_operator op ≡ true) × (value < 2147483648) × (to + length (offset_entry op value) ≤ length out.old) }
-    ensures { Wrote out.old to (offset_entry op value) out.new result }
+// An offset in the five-byte form and its operator.
+pub fn put_offset_entry(op: usize, value: usize, out: &mut Out<'_>)
+    requires { (is_operator op ≡ true) × (value < 2147483648) × (out.old.at + length (offset_entry op value) ≤ length out.old.bytes.now) }
+    ensures { Writes out.old (offset_entry op value) out.new }
 {
-    let p = put_int5(false, value, out, to);
-    put_op(op, out, p)
+    put_int5(false, value, &mut *out);
+    put_op(op, out);
 }
 
-// A Private entry, size and offset in the five-byte form, from `to` on; the place after it.
-pub fn put_private_entry(size: usize, offset: usize, out: &mut [u8], to: usize) -> usize
-    requires { (size < 2147483648) × (offset < 2147483648) × (to + length (private_entry size offset) ≤ length out.old) }
-    ensures { Wrote out.old to (private_entry size offset) out.new result }
+// A Private entry, size and offset in the five-byte form.
+pub fn put_private_entry(size: usize, offset: usize, out: &mut Out<'_>)
+    requires { (size < 2147483648) × (offset < 2147483648) × (out.old.at + length (private_entry size offset) ≤ length out.old.bytes.now) }
+    ensures { Writes out.old (private_entry size offset) out.new }
 {
-    let p = put_int5(false, size, out, to);
-    put_offset_entry(Op::PRIVATE, offset, out, p)
+    put_int5(false, size, &mut *out);
+    put_offset_entry(Op::PRIVATE, offset, out);
 }
 
 // How many bytes a Private DICT takes without its Subrs.
@@ -175,25 +167,23 @@ pub fn private_len(d: &[u8]) -> usize
     len
 }
 
-// A Private DICT without its Subrs, its other entries in order, from `to` on; the place after it.
-pub fn put_private(d: &[u8], out: &mut [u8], to: usize) -> usize
-    requires { to + length (private_bytes (entries_of d.now)) ≤ length out.old }
-    ensures { Wrote out.old to (private_bytes (entries_of d.now)) out.new result }
+// A Private DICT without its Subrs, its other entries in order.
+pub fn put_private(d: &[u8], out: &mut Out<'_>)
+    requires { out.old.at + length (private_bytes (entries_of d.now)) ≤ length out.old.bytes.now }
+    ensures { Writes out.old (private_bytes (entries_of d.now)) out.new }
 {
     let mut at: usize = 0;
-    let mut p = to;
     while at < d.len() {
         match read_entry(d, at) {
             Ok(entry) => {
                 if entry.op != Op::SUBRS {
-                    p = put_entry(d, at, entry.count, entry.op, &mut *out, p);
+                    put_entry(d, at, entry.count, entry.op, &mut *out);
                 }
                 at = entry.next;
             }
             Err(_) => {
-                return p;
+                return;
             }
         }
     }
-    p
 }

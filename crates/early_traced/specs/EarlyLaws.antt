@@ -14,7 +14,6 @@ use Rattle.dict.specs.Lookup.{ros_in, cid_keyed}
 use Rattle.cff.specs.Font.{Program}
 use Rattle.cff.specs.Find.{work_size}
 use Rattle.cff.specs.Reads.{program_of, GoodFont}
-use Rattle.cff.specs.File.{InFile, table_in}
 use Rattle.cff.specs.declared.font.Font.{Font}
 use Rattle.subset.specs.Kept.{kept_of}
 use Rattle.unfold.specs.Unfold.{Row}
@@ -186,10 +185,3 @@ module _ (b : List ℕ) (f : Font) (good : GoodFont b f) where
 
           pub no_refusal : w ≤ words → Ok tt ≡ early_of q name keep words lent
           no_refusal h = early-none q name keep words lent not_refused has_room (subst (λ (k : ℕ). k ≤ words) wide h)
-
--- in a file
-pub early-table : (file b : List ℕ) (f g : Font) → InFile file g b → g ≡ f → (r : Result Unit Refusal) (name : ℕ) (keep : List ℕ) (words lent : ℕ)
-    → r ≡ early_of (program_of b g) name keep words lent → r ≡ early_of (program_of (table_in file f) f) name keep words lent
-early-table file b f g held is r name keep words lent e =
-    subst (λ (h : Font). r ≡ early_of (program_of (table_in file h) h) name keep words lent) is
-    (subst (λ (l : List ℕ). r ≡ early_of (program_of l g) name keep words lent) held.bytes e)

@@ -15,7 +15,7 @@ use Rattle.kept.specs.Packed.{Marks}
 use Rattle.kept.specs.OrderLaws.{kept-marked}
 use Rattle.row_window.specs.Key.{keys_bytes}
 use Rattle.traced.specs.Traced.{met_all, Traced, refused, traced, answered, trace_program, traced_as, a_record}
-use Rattle.tracer.specs.Held.{met_in}
+use Rattle.tracer.specs.Met.{met_in}
 use Rattle.tracer.specs.Tracing.{met, keys_of, sorted, Shown, Counted, Answers}
 use Rattle.tracer.specs.AnswerLaws.{answer_long, answer-written}
 use Rattle.tracer.specs.WindowsLaws.{shows-count}

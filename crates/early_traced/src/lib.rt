@@ -4,8 +4,6 @@
 
 ghost use Rattle.std.specs.Prelude.{◌≡◌, true, length};
 ghost use Rattle.octets.specs.Lists.{all_below};
-ghost use Rattle.cff.specs.Reads.{program_of};
-ghost use Rattle.cff.specs.File.{HasFont, table_in};
 ghost use Rattle.cff.specs.Loaded.{program};
 ghost use Rattle.subset.specs.Kept.{kept_of};
 ghost use Rattle.subset.specs.Cut.{all_found_lem};
@@ -13,13 +11,12 @@ ghost use Rattle.traced.specs.Traced.{answered, trace_program};
 ghost use Rattle.tracer.specs.Tracing.{met, keys_of, Shown};
 ghost use Rattle.early_traced.specs.Early.{fits_in, early_of};
 
-use cff::font::Font;
-use cff::loaded::Loaded;
+use cff::opened::Opened;
+use faithful::read::Held;
 use interpret::Range;
 use refusal::Refusal;
 use tracer::count_rows;
 use tracer::marked::{Marked, Plain};
-use tracer::traceable::Traceable;
 
 // Whether the rows of plain glyphs, of which the first window has so many, have room.
 fn fits_first(glyphs: &Plain<'_>, keys: &mut [u64], first: usize, lent: &[u8]) -> bool
@@ -59,7 +56,7 @@ fn fits_marked(glyphs: &Marked<'_>, lent: &[u8]) -> bool
 }
 
 // Whether the record of glyph 0 and the glyphs of a keep list that passes 6 and 7 has room.
-fn record_fits(font: &Traceable<'_>, keep: &[u16], lent: &[u8]) -> bool
+fn record_fits(font: &Held<'_>, keep: &[u16], lent: &[u8]) -> bool
     requires { (all_below font.now.loaded.f.charstrings.count keep.now ≡ true)
         × (all_found_lem (program font.now.loaded) (kept_of font.now.loaded.f.charstrings.count keep.now) ≡ true) }
     ensures { result ≡ fits_in (trace_program (program font.now.loaded) keep.now (length lent.now)) }
@@ -75,18 +72,15 @@ fn record_fits(font: &Traceable<'_>, keep: &[u16], lent: &[u8]) -> bool
 
 // The refusal, where there is one.
 pub fn refusal(
-    font: &[u8],
-    f: Font,
+    font: &Opened<'_>,
     name: usize,
     keep: &[u16],
     words: usize,
     lent: &[u8],
 ) -> Result<(), Refusal>
-    requires { HasFont font.now f }
-    ensures { result ≡ early_of (program_of (table_in font.now f) f) name keep.now words (length lent.now) }
+    ensures { result ≡ early_of (program font.now.loaded) name keep.now words (length lent.now) }
 {
-    let table = Traceable::in_file(font, f);
-    let loaded = table.loaded;
+    let loaded = font.loaded;
     let w = cff::font::work_size(loaded.f);
     early_refusals::refusal(
         false,
@@ -99,7 +93,7 @@ pub fn refusal(
         1,
         w,
     )?;
-    if !record_fits(&table, keep, lent) {
+    if !record_fits(&Held::of(font), keep, lent) {
         return Err(Refusal::Output);
     }
     if words < w {

@@ -8,6 +8,7 @@ use Rattle.cff.specs.declared.font.Font.{Font}
 use Rattle.subset.specs.Texts.{name_of, new_id}
 use Rattle.subset.specs.Subset.{own_by_name}
 use Rattle.subset.specs.Codes.{Pair, Coded, none, predefined, pairs, pair_count}
+use Rattle.order_window.specs.declared.window.Kept.{Kept}
 use Rattle.order_window.specs.Window.{glyphs_of}
 use Rattle.own_strings.specs.Slots.{slots_of}
 use Rattle.own_strings.specs.Ready.{HasStrings, SlotsGiven}
@@ -58,6 +59,9 @@ offset_for (Pairs n) at = at
 -- the own strings of the subset of a name-keyed font, by the bits of its kept glyphs
 abbrev pub kept_own : List ℕ → Font → List ℕ → List (List ℕ)
 kept_own b f ws = own_by_name (program_of b f) (glyphs_of b f ws)
+
+abbrev pub own_kept : Kept → List (List ℕ)
+own_kept k = kept_own k.font.now k.o.f k.words.now
 
 -- the names of the kept glyphs can be given their new ids: the strings can be read, the slots hold those of the top DICT and behind them their new ids,
 -- and the names differ

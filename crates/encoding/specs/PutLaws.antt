@@ -5,9 +5,12 @@ use Rattle.std.proofs.Common.{◌∙◌, subst, arith, eq-eqb, ne_eqb, length-ap
 use mathlib.Core.List.{List, [], ◌∷◌, ◌++◌, append-nil}
 use Rattle.std.proofs.Math.ListN.{length}
 use Rattle.octets.specs.Pick.{pick}
-use Rattle.octets.specs.Octets.{bytes_of, put, Wrote}
+use Rattle.octets.specs.Octets.{bytes_of, put}
 use Rattle.octets.specs.OctetsLaws.{length-bytes}
-use Rattle.octets.specs.PutLaws.{put_nil, put-put, wrote_none, wrote_then, wrote_as, wrote-length}
+use Rattle.octets.specs.PutLaws.{put_nil, put-put}
+use Rattle.octets.specs.declared.out.Out.{Out}
+use Rattle.octets.specs.Out.{Writes}
+use Rattle.octets.specs.OutLaws.{writes_none, writes_then, writes_as, writes-room}
 use Rattle.subset.specs.Codes.{pair_count, pair_bytes, coded_bytes}
 use Rattle.encoding.specs.Encoded.{pairs_of, pair_in, pairs_in, coded_in, Encodes}
 use Rattle.encoding.specs.PairLaws.{pair-bytes-append, pairs-more, pairs-none}
@@ -27,35 +30,36 @@ no_pair-bytes : (code held : ℕ) → held ≡ 0 → pair_bytes (pair_in code he
 unfolding pair_bytes
 no_pair-bytes code held h = ap (λ (b : Bool). pair_bytes (pick b [] (record { code = code; id = held - 1 } ∷ []))) (eq-eqb held 0 h)
 
-pub one_none : (old : List ℕ) (at code held : ℕ) → held ≡ 0 → Wrote old at (pair_bytes (pair_in code held)) old at
-one_none old at code held h = wrote_as (wrote_none old at) (sym (no_pair-bytes code held h))
+pub one_none : (old : Out) (code held : ℕ) → held ≡ 0 → Writes old (pair_bytes (pair_in code held)) old
+one_none old code held h = writes_as (writes_none old) (sym (no_pair-bytes code held h))
 
-module _ (old : List ℕ) (at code held : ℕ) (h : held ≡ 0 → ⊥) (room : at + length (pair_bytes (pair_in code held)) ≤ length old) where
-  pub one-room : at + 3 ≤ length old
+module _ (old : Out) (code held : ℕ) (h : held ≡ 0 → ⊥) (room : old.at + length (pair_bytes (pair_in code held)) ≤ length old.bytes.now) where
+  pub one-room : old.at + 3 ≤ length old.bytes.now
   one-room =
       let l : length (pair_bytes (pair_in code held)) ≡ suc (length (bytes_of 2 (held - 1))) = ap length (one-bytes code held h) in
       omega (arith, length-bytes 2 (held - 1))
 
-  pub one-second : {mid : List ℕ} {p : ℕ} → Wrote old at (code ∷ []) mid p → p + 2 ≤ length mid
-  one-second w = omega (arith, w.behind, wrote-length w (omega (arith, one-room)), one-room)
+  pub one-second : {mid : Out} → Writes old (code ∷ []) mid → mid.at + 2 ≤ length mid.bytes.now
+  one-second w = writes-room 2 w one-room
 
-  pub one-wrote : {mid new : List ℕ} {p q : ℕ} → Wrote old at (code ∷ []) mid p → Wrote mid p (bytes_of 2 (held - 1)) new q → Wrote old at (pair_bytes (pair_in code held)) new q
-  one-wrote v w = wrote_as (wrote_then (omega (arith, one-room)) v w) (sym (one-bytes code held h))
+  pub one-wrote : {mid new : Out} → Writes old (code ∷ []) mid → Writes mid (bytes_of 2 (held - 1)) new → Writes old (pair_bytes (pair_in code held)) new
+  one-wrote v w = writes_as (writes_then (omega (arith, one-room)) v w) (sym (one-bytes code held h))
 
 -- ---- all pairs
 
--- those from code c on are left to write at p
-pub record PairsLeft (table old : List ℕ) (at : ℕ) (out : List ℕ) (p c : ℕ) : Type 0 where
+-- those from code c on are left to write
+pub record PairsLeft (table : List ℕ) (old out : Out) (c : ℕ) : Type 0 where
   pub within : c ≤ 256
-  pub size : length out ≡ length old
-  pub behind : p + length (pair_bytes (pairs_in table (256 - c) c)) ≡ at + length (pair_bytes (pairs_in table 256 0))
-  pub puts : put out p (pair_bytes (pairs_in table (256 - c) c)) ≡ put old at (pair_bytes (pairs_in table 256 0))
+  pub same : out.bytes.ghost_name ≡ old.bytes.ghost_name
+  pub size : length out.bytes.now ≡ length old.bytes.now
+  pub behind : out.at + length (pair_bytes (pairs_in table (256 - c) c)) ≡ old.at + length (pair_bytes (pairs_in table 256 0))
+  pub puts : put out.bytes.now out.at (pair_bytes (pairs_in table (256 - c) c)) ≡ put old.bytes.now old.at (pair_bytes (pairs_in table 256 0))
 
-pub left-start : (table old : List ℕ) (at : ℕ) → PairsLeft table old at old at 0
-left-start table old at = record { within = omega arith; size = refl; behind = refl; puts = refl }
+pub left-start : (table : List ℕ) (old : Out) → PairsLeft table old old 0
+left-start table old = record { within = omega arith; same = refl; size = refl; behind = refl; puts = refl }
 
-module _ (table old : List ℕ) (at : ℕ) (out : List ℕ) (p c : ℕ) (room : at + length (pair_bytes (pairs_in table 256 0)) ≤ length old)
-    (l : PairsLeft table old at out p c) where
+module _ (table : List ℕ) (old out : Out) (c : ℕ) (room : old.at + length (pair_bytes (pairs_in table 256 0)) ≤ length old.bytes.now)
+    (l : PairsLeft table old out c) where
   module _ (h : c < 256) where
     rest-bytes : pair_bytes (pairs_in table (256 - c) c) ≡ pair_bytes (pair_in c (get_or table c 0)) ++ pair_bytes (pairs_in table (256 - (c + 1)) (c + 1))
     rest-bytes = ap pair_bytes (pairs-more table c h) ∙ pair-bytes-append (pair_in c (get_or table c 0)) (pairs_in table (256 - (c + 1)) (c + 1))
@@ -63,40 +67,45 @@ module _ (table old : List ℕ) (at : ℕ) (out : List ℕ) (p c : ℕ) (room : 
     rest-length : length (pair_bytes (pairs_in table (256 - c) c)) ≡ length (pair_bytes (pair_in c (get_or table c 0))) + length (pair_bytes (pairs_in table (256 - (c + 1)) (c + 1)))
     rest-length = ap length rest-bytes ∙ length-append (pair_bytes (pair_in c (get_or table c 0))) (pair_bytes (pairs_in table (256 - (c + 1)) (c + 1)))
 
-    pub left-room : p + length (pair_bytes (pair_in c (get_or table c 0))) ≤ length out
+    pub left-room : out.at + length (pair_bytes (pair_in c (get_or table c 0))) ≤ length out.bytes.now
     left-room = omega (arith, rest-length, l.behind, l.size)
 
-    pub left-next : {new : List ℕ} {q : ℕ} → Wrote out p (pair_bytes (pair_in c (get_or table c 0))) new q → PairsLeft table old at new q (c + 1)
-    left-next {new} {q} w =
+    pub left-next : {new : Out} → Writes out (pair_bytes (pair_in c (get_or table c 0))) new → PairsLeft table old new (c + 1)
+    left-next {new} w =
         let xs = pair_bytes (pair_in c (get_or table c 0)) in
         let ys = pair_bytes (pairs_in table (256 - (c + 1)) (c + 1)) in
         record {
           within = omega arith;
-          size = wrote-length w left-room ∙ l.size;
-          behind = omega (arith, rest-length, l.behind, w.behind);
+          same = w.same ∙ l.same;
+          size = w.size ∙ l.size;
+          behind = omega (arith, rest-length, l.behind, w.wrote.behind);
           puts =
-              ap (λ (o : List ℕ). put o q ys) w.is ∙ ap (λ (k : ℕ). put (put out p xs) k ys) w.behind
-              ∙ put-put out p xs ys (omega (arith, left-room)) ∙ ap (put out p) (sym rest-bytes) ∙ l.puts;
+              ap (λ (o : List ℕ). put o new.at ys) w.wrote.is ∙ ap (λ (k : ℕ). put (put out.bytes.now out.at xs) k ys) w.wrote.behind
+              ∙ put-put out.bytes.now out.at xs ys (omega (arith, left-room)) ∙ ap (put out.bytes.now out.at) (sym rest-bytes) ∙ l.puts;
         }
 
-  pub left_done : 256 ≤ c → Wrote old at (pair_bytes (pairs_in table 256 0)) out p
+  pub left_done : 256 ≤ c → Writes old (pair_bytes (pairs_in table 256 0)) out
   unfolding pair_bytes
   left_done h =
       let z : pair_bytes (pairs_in table (256 - c) c) ≡ [] = ap pair_bytes (pairs-none table c h) in
       let n : length (pair_bytes (pairs_in table (256 - c) c)) ≡ 0 = ap length z in
-      record { is = sym (put_nil out p) ∙ sym (ap (put out p) z) ∙ l.puts; behind = omega (arith, l.behind) }
+      record {
+        wrote = record { is = sym (put_nil out.bytes.now out.at) ∙ sym (ap (put out.bytes.now out.at) z) ∙ l.puts; behind = omega (arith, l.behind) };
+        same = l.same;
+        size = l.size;
+      }
 
 -- ---- the whole
 
-module _ (out : List ℕ) (at : ℕ) (table : List ℕ) (e : Encoding) where
-  pub absent-wrote : e ≡ Absent → Wrote out at (coded_bytes (coded_in e table)) out at
-  absent-wrote is = wrote_as (wrote_none out at) (sym (ap (λ (x : Encoding). coded_bytes (coded_in x table)) is))
+module _ (out : Out) (table : List ℕ) (e : Encoding) where
+  pub absent-wrote : e ≡ Absent → Writes out (coded_bytes (coded_in e table)) out
+  absent-wrote is = writes_as (writes_none out) (sym (ap (λ (x : Encoding). coded_bytes (coded_in x table)) is))
 
-  pub expert-wrote : e ≡ Expert → Wrote out at (coded_bytes (coded_in e table)) out at
-  expert-wrote is = wrote_as (wrote_none out at) (sym (ap (λ (x : Encoding). coded_bytes (coded_in x table)) is))
+  pub expert-wrote : e ≡ Expert → Writes out (coded_bytes (coded_in e table)) out
+  expert-wrote is = writes_as (writes_none out) (sym (ap (λ (x : Encoding). coded_bytes (coded_in x table)) is))
 
-module _ (out : List ℕ) (at : ℕ) (table : List ℕ) (e : Encoding) (s : Encodes (coded_in e table) table e) (n : ℕ) (is : e ≡ Pairs n)
-    (room : at + length (coded_bytes (coded_in e table)) ≤ length out) where
+module _ (out : Out) (table : List ℕ) (e : Encoding) (s : Encodes (coded_in e table) table e) (n : ℕ) (is : e ≡ Pairs n)
+    (room : out.at + length (coded_bytes (coded_in e table)) ≤ length out.bytes.now) where
   abbrev rest : List ℕ
   rest = pair_bytes (pairs_in table 256 0)
 
@@ -106,19 +115,17 @@ module _ (out : List ℕ) (at : ℕ) (table : List ℕ) (e : Encoding) (s : Enco
   all-bytes : coded_bytes (coded_in e table) ≡ ((0x80 ∷ 0x00 ∷ []) ++ (n ∷ [])) ++ rest
   all-bytes = ap (λ (x : Encoding). coded_bytes (coded_in x table)) is ∙ ap (λ (m : ℕ). 0x80 ∷ 0x00 ∷ m ∷ rest) (sym counted)
 
-  pub whole_room : at + 3 + length rest ≤ length out
+  pub whole_room : out.at + 3 + length rest ≤ length out.bytes.now
   whole_room =
       let l : length (coded_bytes (coded_in e table)) ≡ suc (suc (suc (length rest))) = ap length all-bytes in
       omega arith
 
-  pub count_room : {mid : List ℕ} {p : ℕ} → Wrote out at (0x80 ∷ 0x00 ∷ []) mid p → p < length mid
-  count_room w = omega (arith, w.behind, wrote-length w (omega (arith, whole_room)), whole_room)
+  pub count_room : {mid : Out} → Writes out (0x80 ∷ 0x00 ∷ []) mid → mid.at + 1 ≤ length mid.bytes.now
+  count_room w = writes-room 1 w (omega (arith, whole_room))
 
-  module _ {mid mid2 : List ℕ} {p q : ℕ} (v : Wrote out at (0x80 ∷ 0x00 ∷ []) mid p) (w : Wrote mid p (n ∷ []) mid2 q) where
-    pub pairs-room : q + length rest ≤ length mid2
-    pairs-room =
-        let a = count_room v in
-        omega (arith, v.behind, w.behind, wrote-length v (omega (arith, whole_room)), wrote-length w (omega arith), whole_room)
+  module _ {mid mid2 : Out} (v : Writes out (0x80 ∷ 0x00 ∷ []) mid) (w : Writes mid (n ∷ []) mid2) where
+    pub pairs-room : mid2.at + length rest ≤ length mid2.bytes.now
+    pairs-room = writes-room (length rest) w (writes-room (1 + length rest) v (omega (arith, whole_room)))
 
-    pub whole-wrote : {new : List ℕ} {r : ℕ} → Wrote mid2 q rest new r → Wrote out at (coded_bytes (coded_in e table)) new r
-    whole-wrote u = wrote_as (wrote_then (omega (arith, whole_room)) (wrote_then (omega (arith, whole_room)) v w) u) (sym all-bytes)
+    pub whole-wrote : {new : Out} → Writes mid2 rest new → Writes out (coded_bytes (coded_in e table)) new
+    whole-wrote u = writes_as (writes_then (omega (arith, whole_room)) (writes_then (omega (arith, whole_room)) v w) u) (sym all-bytes)

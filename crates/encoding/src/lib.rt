@@ -5,15 +5,17 @@
 
 ghost use Rattle.std.specs.Prelude.{◌≡◌, ℕ, ◌+◌, ◌≤◌, ◌<◌, length, get_or, eqb};
 ghost use Rattle.octets.specs.Pick.{pick};
-ghost use Rattle.octets.specs.Octets.{Wrote};
+ghost use Rattle.octets.specs.Out.{Writes};
 ghost use Rattle.cff.specs.Reads.{program_of};
 ghost use Rattle.subset.specs.Codes.{coded_by_lem, coded_if, coded_bytes, pair_bytes};
-ghost use Rattle.order_window.specs.Window.{glyphs_of, Ordered};
-ghost use Rattle.encoding.specs.Encoded.{pairs_of, pair_in, pairs_in, coded_in, Encodes, encoding_len, offset_for, kept_own, CanRename, Emptied, Puts, Renames};
+ghost use Rattle.order_window.specs.Stays.{kept_glyphs, Stays};
+ghost use Rattle.encoding.specs.Encoded.{pairs_of, pair_in, pairs_in, coded_in, Encodes, encoding_len, offset_for, own_kept, CanRename, Emptied, Puts, Renames};
 
 use cff::loaded::Loaded;
 use index::items::Items;
-use order_window::Order;
+use name_strings::slots::GivenSlots;
+use octets::out::Out;
+use order_window::window::Kept;
 
 // What a subset has: no encoding, the Expert one, or so many pairs of a table.
 #[derive(Clone, Copy)]
@@ -69,33 +71,25 @@ fn put_id(named: &[usize], top: usize, glyph: usize, id: usize, table: &mut [usi
 }
 
 // The table of all codes, from the one of their glyphs: each kept glyph in its turn, with the new id of its name.
-fn rename(
-    font: &[u8],
-    o: Order,
-    words: &[u32],
-    window: &mut [u32],
-    slots: &[usize],
-    named: &[usize],
-    table: &mut [usize],
-)
-    requires { (Ordered font.now words.now window.old o) × (CanRename font.now o.f words.now slots.now)
-        × (256 ≤ length named.now) × (256 ≤ length table.old) }
-    ensures { (Renames (program_of font.now o.f) (kept_own font.now o.f words.now)
-        (glyphs_of font.now o.f words.now) named.now table.new)
-        × (Ordered font.now words.now window.new o) }
+fn rename(kept: &mut Kept<'_>, slots: &[usize], named: &[usize], table: &mut [usize])
+    requires { (CanRename kept.old.font.now kept.old.o.f kept.old.words.now slots.now) × (256 ≤ length named.now) × (256 ≤ length table.old) }
+    ensures { (Renames (program_of kept.old.font.now kept.old.o.f) (own_kept kept.old) (kept_glyphs kept.old) named.now table.new)
+        × Stays kept.old kept.new }
 {
-    let f = o.f;
+    let font = kept.font;
+    name_strings::octets_in(font);
     let strings = Items {
         bytes: font,
-        ix: f.strings,
+        ix: kept.o.f.strings,
     };
-    let count = o.count;
     let top = empty(named, &mut *table);
-    let mut own = name_strings::slots_own(&strings, slots);
-    let mut u = o.held;
-    for i in 0..count {
-        u = order_window::hold(font, f, words, &mut *window, u, i);
-        let w = order_window::word_at(&*window, u, i);
+    let given = GivenSlots {
+        strings,
+        ids: slots,
+    };
+    let mut own = name_strings::slots_own(&given);
+    for i in 0..kept.o.count {
+        let w = kept.word(i);
         let id = own_strings::given_id(&strings, slots, 8, own.count, w / 65536);
         own = own_strings::count_one(&strings, own, w / 65536, id);
         put_id(named, top, w % 65536 + 1, id + 1, &mut *table);
@@ -111,22 +105,15 @@ fn pair_count(table: &[usize]) -> usize
 }
 
 // The encoding of the subset of a name-keyed font, which was asked for.
-fn encode_asked(
-    font: &[u8],
-    o: Order,
-    words: &[u32],
-    window: &mut [u32],
-    slots: &[usize],
-    table: &mut [usize],
-) -> Encoding
-    requires { (Ordered font.now words.now window.old o) × (CanRename font.now o.f words.now slots.now) × (256 ≤ length table.old) }
+fn encode_asked(kept: &mut Kept<'_>, slots: &[usize], table: &mut [usize]) -> Encoding
+    requires { (CanRename kept.old.font.now kept.old.o.f kept.old.words.now slots.now) × (256 ≤ length table.old) }
     ensures { (Encodes
-        (coded_by_lem (program_of font.now o.f) (glyphs_of font.now o.f words.now)
-        (kept_own font.now o.f words.now) (program_of font.now o.f).coding)
+        (coded_by_lem (program_of kept.old.font.now kept.old.o.f) (kept_glyphs kept.old) (own_kept kept.old)
+        (program_of kept.old.font.now kept.old.o.f).coding)
         table.new result)
-        × (Ordered font.now words.now window.new o) }
+        × Stays kept.old kept.new }
 {
-    let f = o.f;
+    let f = kept.o.f;
     let at = f.encoding;
     if at == 0 {
         return Encoding::Absent;
@@ -135,31 +122,26 @@ fn encode_asked(
         return Encoding::Expert;
     }
     let mut named = [0usize; 256];
-    codes::fill(&Loaded { bytes: font, f }, &mut named);
-    rename(font, o, words, window, slots, &named, &mut *table);
+    codes::fill(
+        &Loaded {
+            bytes: kept.font,
+            f,
+        },
+        &mut named,
+    );
+    rename(kept, slots, &named, &mut *table);
     Encoding::Pairs(pair_count(&*table))
 }
 
 // The encoding of the subset of a name-keyed font, where it is asked for: of the kept glyphs by the new ids of their names, the slots holding the strings
 // that the subset uses before them.
-pub fn encode(
-    font: &[u8],
-    o: Order,
-    ask: bool,
-    words: &[u32],
-    window: &mut [u32],
-    slots: &[usize],
-    table: &mut [usize],
-) -> Encoding
-    requires { (Ordered font.now words.now window.old o) × (CanRename font.now o.f words.now slots.now) × (256 ≤ length table.old) }
-    ensures { (Encodes
-        (coded_if ask (program_of font.now o.f) (glyphs_of font.now o.f words.now)
-        (kept_own font.now o.f words.now))
-        table.new result)
-        × (Ordered font.now words.now window.new o) }
+pub fn encode(kept: &mut Kept<'_>, ask: bool, slots: &[usize], table: &mut [usize]) -> Encoding
+    requires { (CanRename kept.old.font.now kept.old.o.f kept.old.words.now slots.now) × (256 ≤ length table.old) }
+    ensures { (Encodes (coded_if ask (program_of kept.old.font.now kept.old.o.f) (kept_glyphs kept.old) (own_kept kept.old)) table.new result)
+        × Stays kept.old kept.new }
 {
     if ask {
-        return encode_asked(font, o, words, window, slots, table);
+        return encode_asked(kept, slots, table);
     }
     Encoding::Absent
 }
@@ -187,43 +169,41 @@ pub fn encoding_at(e: Encoding, at: usize) -> usize
     }
 }
 
-// Writes the pair of a code, if there is one, by what the table holds of it; returns the place after it.
-fn put_one(code: usize, held: usize, out: &mut [u8], at: usize) -> usize
-    requires { (code < 256) × (at + length (pair_bytes (pair_in code held)) ≤ length out.old) }
-    ensures { Wrote out.old at (pair_bytes (pair_in code held)) out.new result }
+// Writes the pair of a code, if there is one, by what the table holds of it.
+fn put_one(code: usize, held: usize, out: &mut Out<'_>)
+    requires { (code < 256) × (out.old.at + length (pair_bytes (pair_in code held)) ≤ length out.old.bytes.now) }
+    ensures { Writes out.old (pair_bytes (pair_in code held)) out.new }
 {
     if held == 0 {
-        return at;
+        return;
     }
-    let p = octets::put_byte(out, at, code as u8);
-    octets::put_num(out, p, held - 1, 2)
+    out.byte(code as u8);
+    out.num(held - 1, 2);
 }
 
-// Writes all pairs of the table, codes rising; returns the place after them.
-fn put_pairs(table: &[usize], out: &mut [u8], at: usize) -> usize
-    requires { (256 ≤ length table.now) × (at + length (pair_bytes (pairs_in table.now 256 0)) ≤ length out.old) }
-    ensures { Wrote out.old at (pair_bytes (pairs_in table.now 256 0)) out.new result }
+// Writes all pairs of the table, codes rising.
+fn put_pairs(table: &[usize], out: &mut Out<'_>)
+    requires { (256 ≤ length table.now) × (out.old.at + length (pair_bytes (pairs_in table.now 256 0)) ≤ length out.old.bytes.now) }
+    ensures { Writes out.old (pair_bytes (pairs_in table.now 256 0)) out.new }
 {
-    let mut p = at;
     for (code, &held) in table[..256].iter().enumerate() {
-        p = put_one(code, held, out, p);
+        put_one(code, held, &mut *out);
     }
-    p
 }
 
-// Writes the encoding at a place; returns the place after it. Nothing is written for the predefined ones.
-pub fn put_encoding(e: Encoding, table: &[usize], out: &mut [u8], at: usize) -> usize
+// Writes the encoding. Nothing is written for the predefined ones.
+pub fn put_encoding(e: Encoding, table: &[usize], out: &mut Out<'_>)
     requires { Encodes (coded_in e table.now) table.now e × (pairs_of e ≤ 255) × (256 ≤ length table.now)
-        × (at + length (coded_bytes (coded_in e table.now)) ≤ length out.old) }
-    ensures { Wrote out.old at (coded_bytes (coded_in e table.now)) out.new result }
+        × (out.old.at + length (coded_bytes (coded_in e table.now)) ≤ length out.old.bytes.now) }
+    ensures { Writes out.old (coded_bytes (coded_in e table.now)) out.new }
 {
     match e {
-        Encoding::Absent => at,
-        Encoding::Expert => at,
+        Encoding::Absent => {}
+        Encoding::Expert => {}
         Encoding::Pairs(n) => {
-            let p = octets::put_pair(out, at, 0x80, 0);
-            let q = octets::put_byte(out, p, n as u8);
-            put_pairs(table, out, q)
+            out.pair(0x80, 0);
+            out.byte(n as u8);
+            put_pairs(table, out);
         }
     }
 }

@@ -15,7 +15,7 @@ use Rattle.bodies.specs.Ways.{holds}
 use Rattle.fds.specs.Locals.{in_use_lem, fds_in, UsedOf}
 use Rattle.plan.specs.Ranked.{AllRanked, every_numbered}
 use Rattle.plan.specs.Sizes.{Narrow}
-use Rattle.parts.specs.Ready.{FontHeld}
+use Rattle.faithful.specs.FontHeld.{FontHeld}
 use Rattle.culprit.specs.Culprit.{is_culprit}
 use Rattle.culprit.specs.NarrowLaws.{body_at}
 

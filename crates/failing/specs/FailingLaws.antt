@@ -40,7 +40,7 @@ use Rattle.plan.specs.Ranked.{globals_numbered, RanksAll}
 use Rattle.plan.specs.FontLaws.{narrow_rows}
 use Rattle.plan.specs.declared.RankedAll.{RankedAll}
 use Rattle.plan.specs.StandsLaws.{stands_ranked, stands_holds}
-use Rattle.parts.specs.Ready.{FontHeld}
+use Rattle.faithful.specs.FontHeld.{FontHeld}
 use Rattle.culprit.specs.NarrowLaws.{body_at}
 use Rattle.culprit.proofs.NarrowLaws.{FdsThere, charstring_fails}
 use Rattle.failing.specs.Failing.{FdsMarked, Asks, first_failing, Recorded, Only}

@@ -1,2 +1,3 @@
 pub mod Failing
+pub mod Alone
 pub mod FailingLaws

@@ -2,8 +2,11 @@ pub mod Faithful
 pub mod Matrices
 pub mod Codes
 pub mod Laid
+pub mod FontHeld
+pub mod Alone
 pub mod GoodPartsLaws
 pub mod GoodLaws
+pub mod FontHeldLaws
 pub mod KeptLaws
 pub mod FirstLaws
 pub mod FoundLaws

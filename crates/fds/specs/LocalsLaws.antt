@@ -55,9 +55,6 @@ fd-ranked p rows fd count words new at r e h = (
 
 -- ---- the table
 
-pub ranks_length : (table : List ℕ) (f : ℕ) (q : Ranks) → length (with_ranks table f q) ≡ length table
-ranks_length table f q = simp length-set refl
-
 module _ (table : List ℕ) (long : 1280 ≤ length table) (fd : ℕ) (below : fd < 256) (q : Ranks) where
   abbrev t₁ : List ℕ
   t₁ = set table fd q.at

@@ -49,8 +49,8 @@ fn rank_fd(of: &Fd<'_>, rows: &[u8], words: &mut [u32], at: usize) -> RankedLoca
 }
 
 // Tells by the table where the bits of the locals of an FD stand.
-fn put_ranks(table: &mut [usize; 1280], fd: usize, q: Ranks)
-    requires { fd < 256 }
+fn put_ranks(table: &mut [usize], fd: usize, q: Ranks)
+    requires { (fd < 256) × (1280 ≤ length table.old) }
     ensures { table.new ≡ with_ranks table.old fd q }
 {
     table[fd] = q.at;
@@ -73,9 +73,9 @@ pub fn rank_locals(
     rows: &[u8],
     words: &mut [u32],
     at: usize,
-    table: &mut [usize; 1280],
+    table: &mut [usize],
 ) -> bool
-    requires { (at < 4294967296) × (at + locals_words (program fds.now.font).privates ≤ length words.old) }
+    requires { (at < 4294967296) × (at + locals_words (program fds.now.font).privates ≤ length words.old) × (1280 ≤ length table.old) }
     ensures { RanksLocals (program fds.now.font) (rows_of rows.now) fds.now.used.now at words.old words.new table.new result }
 {
     let font = fds.font;

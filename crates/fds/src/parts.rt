@@ -19,8 +19,8 @@ pub struct Part {
 }
 
 // The FDs in use, rising, from the front of fds on; how many they are.
-pub fn list_used(used: &[u32], fds: &mut [usize; 256]) -> usize
-    requires { 256 ≤ length used.now }
+pub fn list_used(used: &[u32], fds: &mut [usize]) -> usize
+    requires { (256 ≤ length used.now) × (256 ≤ length fds.old) }
     ensures { (fds.new ≡ put fds.old 0 (fds_in used.now)) × (result ≡ length (fds_in used.now)) × (result ≤ 256) }
 {
     let mut j: usize = 0;
@@ -63,10 +63,11 @@ pub fn part_sizes(
     way: Way,
     fds: &FdTable<'_>,
     totals: &[usize],
-    sizes: &mut [usize; 256],
-    lens: &mut [usize; 256],
+    sizes: &mut [usize],
+    lens: &mut [usize],
 ) -> usize
-    requires { (256 ≤ length totals.now) × (PartsFit (program fds.now.font) way fds.now.table.now totals.now fds.now.used.now) }
+    requires { (256 ≤ length totals.now) × (PartsFit (program fds.now.font) way fds.now.table.now totals.now fds.now.used.now)
+        × (256 ≤ length sizes.old) × (256 ≤ length lens.old) }
     ensures { SizesParts (program fds.now.font) way fds.now.table.now totals.now fds.now.used.now sizes.old lens.old sizes.new lens.new result }
 {
     let font = fds.font;

@@ -1,5 +1,5 @@
 // The new local subroutines of the FDs in use, measured by the way.
-ghost use Rattle.std.specs.Prelude.{◌≡◌};
+ghost use Rattle.std.specs.Prelude.{◌≡◌, ◌≤◌, length};
 ghost use Rattle.record.specs.Record.{rows_of};
 ghost use Rattle.cff.specs.Loaded.{program};
 ghost use Rattle.bodies.specs.Ways.{measured_of};
@@ -44,9 +44,10 @@ pub fn measure_locals(
     fds: &FdTable<'_>,
     words: &[u32],
     rows: &[u8],
-    totals: &mut [usize; 256],
+    totals: &mut [usize],
 ) -> bool
-    requires { LocalsIn (program fds.now.font) fds.now.used.now words.now fds.now.table.now how.globals (rows_of rows.now) how.rising }
+    requires { (LocalsIn (program fds.now.font) fds.now.used.now words.now fds.now.table.now how.globals (rows_of rows.now) how.rising)
+        × (256 ≤ length totals.old) }
     ensures { MeasuresLocals how.way (program fds.now.font) (rows_of rows.now) words.now fds.now.table.now how.globals fds.now.used.now totals.new result }
 {
     let font = fds.font;

@@ -6,9 +6,7 @@ use Rattle.std.proofs.Common.{◌∙◌, length-append, lt-ltb, le-ltb, ltb-true
 use mathlib.Core.List.{List, [], ◌∷◌, ◌++◌, append_assoc, append-nil}
 use native.Mathlib.Omega.{arith}
 use Rattle.octets.specs.Pick.{pick_ind}
-use Rattle.octets.specs.Octets.{Wrote}
 use Rattle.octets.specs.OctetsLaws.{length-bytes}
-use Rattle.octets.specs.PutLaws.{wrote_then, wrote_as}
 use Rattle.decimal.specs.declared.Decimal.{Decimal}
 use Rattle.decimal.specs.Number.{Number, refused as refusedNumber, not_number, number, number_at}
 use Rattle.dict.specs.Dict.{Entry, Token, bad, operand, operator, token_at, Reading, stopped, got, after, onward, entry_from, entry_at, readings_at, before, gathered, dict_of}
@@ -16,8 +14,6 @@ use Rattle.dict.specs.Places.{entry_told, or_none, operands_at}
 use Rattle.dict.specs.TokenLaws.{Passes, token-passes}
 use Rattle.dict.specs.EntryLaws.{readings_end}
 use Rattle.dict.proofs.WalkLaws.{Answered, answered, left_stopped, left-entry}
-use Rattle.cases.specs.Answers.{Starts}
-use Rattle.cases.specs.AnswersLaws.{starts-wrote, starts_as}
 use Rattle.format_cases.specs.Dicts.{decimal_bytes, operands_bytes, entry_bytes, entries_bytes, behind, dict_answer}
 use Rattle.dict.specs.declared.EntryAt.{EntryAt}
 use Rattle.refusal.specs.declared.Refusal.{Refusal}
@@ -97,27 +93,27 @@ behind_more front e (Ok es) =
     ap (λ (l : List ℕ). 0 ∷ l) (sym (append_assoc front (entry_bytes e.op (length e.operands) e.operands) (entries_bytes es)))
 
 -- what is known with the entries before a position written
-pub record Listing (b : List ℕ) (at : ℕ) (new : List ℕ) (p : ℕ) : Type 0 where
-  pub old : List ℕ
+pub record Listing (b : List ℕ) (at : ℕ) (to : List ℕ) : Type 0 where
   pub done : List ℕ
   pub inside : at ≤ length b
   pub rest : behind done (gathered (readings_at b at)) ≡ behind [] (dict_of b)
-  pub wrote : Wrote old 0 (0 ∷ done) new p
-  pub room : p ≤ 1 + 11 * at
+  pub is : to ≡ 0 ∷ done
+  pub room : length to ≤ 1 + 11 * at
 
-pub listing_start : (b old new : List ℕ) (p : ℕ) → Wrote old 0 (0 ∷ []) new p → Listing b 0 new p
+pub listing_start : (b to : List ℕ) → to ≡ 0 ∷ [] → Listing b 0 to
 unfolding dict_of
-listing_start b old new p w =
-    record { old = old; done = []; inside = omega arith; rest = refl; wrote = w; room = omega (arith, w.behind) }
+listing_start b to e =
+    let n = ap length e in
+    record { done = []; inside = omega arith; rest = refl; is = e; room = omega (arith, n) }
 
-module _ (b : List ℕ) (at : ℕ) (new : List ℕ) (p : ℕ) (w : Listing b at new p) where
+module _ (b : List ℕ) (at : ℕ) (to : List ℕ) (w : Listing b at to) where
   -- the end
-  pub listing_end : length b ≤ at → Starts (behind [] (dict_of b)) new p
+  pub listing_end : length b ≤ at → to ≡ behind [] (dict_of b)
   unfolding gathered entries_bytes
   listing_end h =
       let e : behind w.done (Ok []) ≡ behind [] (dict_of b)
       = ap (λ (l : List Reading). behind w.done (gathered l)) (sym (readings_end b at h)) ∙ w.rest in
-      starts_as (starts-wrote w.wrote) (ap (λ (l : List ℕ). 0 ∷ l) (sym (append-nil w.done)) ∙ e)
+      w.is ∙ ap (λ (l : List ℕ). 0 ∷ l) (sym (append-nil w.done)) ∙ e
 
   module _ (h : at < length b) (r : Result EntryAt Refusal) (e : r ≡ entry_told 0 (entry_at b at)) where
     pub listing_refused : (n : Refusal) → r ≡ Err n → number_of n ∷ [] ≡ behind [] (dict_of b)
@@ -132,7 +128,7 @@ module _ (b : List ℕ) (at : ℕ) (new : List ℕ) (p : ℕ) (w : Listing b at 
       listing_spans = omega (arith, entry_spans b at t.op placed.operands t.end t.next placed.entry, placed.counted)
 
       -- room for an entry, in the answer to a DICT of up to 100 bytes
-      pub listing-room : p + (3 + 11 * t.count) ≤ 1 + 11 * length b
+      pub listing-room : length to + (3 + 11 * t.count) ≤ 1 + 11 * length b
       listing-room = omega (arith, listing_spans, w.room, placed.stands.inside)
 
       pub listing_further : (at < t.next) × (t.next ≤ length b)
@@ -143,18 +139,19 @@ module _ (b : List ℕ) (at : ℕ) (new : List ℕ) (p : ℕ) (w : Listing b at 
           ap (λ (ds : List Decimal). entry_bytes t.op t.count ds) (ap (λ (n : ℕ). operands_at n b at) placed.counted ∙ placed.stands.here)
           ∙ ap (λ (n : ℕ). entry_bytes t.op n placed.operands) placed.counted
 
-      pub listing-turn : (newer : List ℕ) (q : ℕ) → Wrote new p (entry_bytes t.op t.count (operands_at t.count b at)) newer q → Listing b t.next newer q
+      pub listing-turn : (newer : List ℕ) → newer ≡ to ++ entry_bytes t.op t.count (operands_at t.count b at) → Listing b t.next newer
       unfolding gathered
-      listing-turn newer q x =
-          let y = wrote_as x entry_is in
+      listing-turn newer x =
+          let one = entry_bytes t.op (length placed.operands) placed.operands in
+          let y : newer ≡ to ++ one = x ∙ ap (λ (l : List ℕ). to ++ l) entry_is in
+          let n : length newer ≡ length to + length one = ap length y ∙ length-append to one in
           record {
-            old = w.old;
-            done = w.done ++ entry_bytes t.op (length placed.operands) placed.operands;
+            done = w.done ++ one;
             inside = placed.stands.inside;
             rest = sym (behind_more w.done (record { op = t.op; operands = placed.operands }) (gathered (readings_at b t.next)))
                 ∙ sym (ap (λ (l : List Reading). behind w.done (gathered l)) (left-entry b at h r e t placed)) ∙ w.rest;
-            wrote = wrote_then (omega arith) w.wrote y;
-            room = omega (arith, y.behind, entry_length t.op (length placed.operands) placed.operands, placed.counted, listing_spans, w.room);
+            is = y ∙ ap (λ (l : List ℕ). l ++ one) w.is;
+            room = omega (arith, n, entry_length t.op (length placed.operands) placed.operands, placed.counted, listing_spans, w.room);
           }
 
 -- ---- the ways out

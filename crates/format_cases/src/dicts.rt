@@ -1,97 +1,83 @@
 // Cases of a DICT, and of a number written into one.
 ghost use Rattle.std.specs.Prelude.{◌+◌, ◌*◌, ◌≤◌, ◌≡◌, [], ◌++◌, length};
-ghost use Rattle.octets.specs.Octets.{bytes_of, Wrote};
 ghost use Rattle.dict.specs.Dict.{dict_of};
 ghost use Rattle.dict.specs.Places.{operands_at};
-ghost use Rattle.cases.specs.Answers.{Starts, Gives};
 ghost use Rattle.format_cases.specs.Dicts.{decimal_bytes, operands_bytes, entry_bytes, behind, dict_answer, made, decimal_at, is_decimal, decimal_told, number_answer};
 
+use cases::answer::Answer;
 use decimal::{Decimal, number_at};
-use octets::{put_byte, put_num};
-
-// Two numbers of one byte each.
-fn put_powers(up: usize, down: usize, out: &mut [u8], at: usize) -> usize
-    requires { at + 2 ≤ length out.old }
-    ensures { Wrote out.old at (bytes_of 1 up ++ bytes_of 1 down) out.new result }
-{
-    let p = put_num(out, at, up, 1);
-    put_num(out, p, down, 1)
-}
+use octets::out::Out;
 
 // A decimal: its sign, its digits, and its powers of ten.
-fn put_decimal(d: Decimal, out: &mut [u8], at: usize) -> usize
-    requires { at + 11 ≤ length out.old }
-    ensures { Wrote out.old at (decimal_bytes d) out.new result }
+fn put_decimal(d: Decimal, to: &mut Answer)
+    requires { length to.old + 11 ≤ 4096 }
+    ensures { (to.new ≡ to.old ++ decimal_bytes d) × (length to.new ≡ length to.old + 11) }
 {
-    let p = put_byte(out, at, cases::sign_of(d.neg));
-    let q = put_num(out, p, d.digits, 8);
-    put_powers(d.up, d.down, out, q)
+    to.byte(cases::sign_of(d.neg));
+    to.num(d.digits, 8);
+    to.num(d.up, 1);
+    to.num(d.down, 1);
 }
 
 // The operands that stand from a position on, as dict_write `put_operands` writes them in their shortest form. A trait for how a number is written, with its
 // law, would be longer than this.
-fn put_operands(d: &[u8], start: usize, count: usize, out: &mut [u8], to: usize) -> usize
-    requires { to + 11 * count ≤ length out.old }
-    ensures { Wrote out.old to (operands_bytes (operands_at count d.now start)) out.new result }
+fn put_operands(d: &[u8], start: usize, count: usize, to: &mut Answer)
+    requires { length to.old + 11 * count ≤ 4096 }
+    ensures { to.new ≡ to.old ++ operands_bytes (operands_at count d.now start) }
 {
     let mut at = start;
-    let mut p = to;
     for _ in 0..count {
         if d.len() <= at {
-            return p;
+            return;
         }
         match number_at(d, at) {
             Ok(Some(number)) => {
-                p = put_decimal(number.value, out, p);
+                put_decimal(number.value, to);
                 at = number.next;
             }
-            Ok(None) => return p,
-            Err(_) => return p,
+            Ok(None) => return,
+            Err(_) => return,
         }
     }
-    p
 }
 
 // An entry whose operands stand from a position on.
-fn put_entry(d: &[u8], start: usize, count: usize, op: usize, out: &mut [u8], to: usize) -> usize
-    requires { to + (3 + 11 * count) ≤ length out.old }
-    ensures { Wrote out.old to (entry_bytes op count (operands_at count d.now start)) out.new result }
+fn put_entry(d: &[u8], start: usize, count: usize, op: usize, to: &mut Answer)
+    requires { length to.old + (3 + 11 * count) ≤ 4096 }
+    ensures { to.new ≡ to.old ++ entry_bytes op count (operands_at count d.now start) }
 {
-    let p = put_num(out, to, op, 2);
-    let q = put_num(out, p, count, 1);
-    put_operands(d, start, count, out, q)
+    to.num(op, 2);
+    to.num(count, 1);
+    put_operands(d, start, count, to);
 }
 
 // The entries of a DICT, after 0; or its refusal's number.
-fn put_dict(d: &[u8], out: &mut [u8]) -> usize
-    requires { (length d.now ≤ 100) × (4096 ≤ length out.old) }
-    ensures { Starts (behind [] (dict_of d.now)) out.new result }
+fn of_dict(d: &[u8]) -> Answer
+    requires { length d.now ≤ 100 }
+    ensures { result ≡ behind [] (dict_of d.now) }
 {
-    let mut p = put_byte(&mut *out, 0, 0);
+    let mut answer = Answer::one(0);
     let mut at = 0;
     while at < d.len() {
         match dict::read_entry(d, at) {
             Ok(entry) => {
-                p = put_entry(d, at, entry.count, entry.op, &mut *out, p);
+                put_entry(d, at, entry.count, entry.op, &mut answer);
                 at = entry.next;
             }
-            Err(refusal) => {
-                return put_byte(out, 0, refusal.number());
-            }
+            Err(refusal) => return Answer::one(refusal.number()),
         }
     }
-    p
+    answer
 }
 
 // Kind d: the entries of a DICT.
-pub fn answer_dict(input: &[u8], out: &mut [u8]) -> Option<usize>
-    requires { 4096 ≤ length out.old }
-    ensures { Gives (dict_answer input.now) out.new result }
+pub fn answer_dict(input: &[u8]) -> Option<Answer>
+    ensures { result ≡ dict_answer input.now }
 {
     if 100 < input.len() {
         return None;
     }
-    Some(put_dict(input, out))
+    Some(of_dict(input))
 }
 
 // Whether no digit, a sign and two powers are zero as it is written in a case.
@@ -153,9 +139,8 @@ fn decimal_at(s: &[u8]) -> Option<Decimal>
 }
 
 // Kind w: a decimal, written as a number of a DICT.
-pub fn answer_number(input: &[u8], out: &mut [u8]) -> Option<usize>
-    requires { 4096 ≤ length out.old }
-    ensures { Gives (number_answer input.now) out.new result }
+pub fn answer_number(input: &[u8]) -> Option<Answer>
+    ensures { result ≡ number_answer input.now }
 {
     if input.len() != 11 {
         return None;
@@ -165,6 +150,15 @@ pub fn answer_number(input: &[u8], out: &mut [u8]) -> Option<usize>
     }
     match decimal_at(input) {
         None => None,
-        Some(d) => Some(decimal_write::put_number(d, out, 0)),
+        Some(d) => {
+            let mut text = [0u8; 101];
+            let mut out = Out {
+                bytes: &mut text,
+                at: 0,
+            };
+            decimal_write::put_number(d, &mut out);
+            let k = out.at;
+            Some(Answer::of(&out.bytes[..k]))
+        }
     }
 }

@@ -1,71 +1,66 @@
 // Cases of an INDEX: a position and a font.
-ghost use Rattle.std.specs.Prelude.{◌+◌, ◌*◌, ◌≤◌, ◌<◌, length};
-ghost use Rattle.octets.specs.Octets.{Wrote};
+ghost use Rattle.std.specs.Prelude.{◌≡◌, ◌+◌, ◌*◌, ◌≤◌, ◌<◌, ◌++◌, length};
 ghost use Rattle.index.specs.Index.{index_at};
 ghost use Rattle.index.specs.Good.{Good};
-ghost use Rattle.cases.specs.Answers.{Gives};
 ghost use Rattle.format_cases.specs.Indexes.{item_bytes, items_bytes, head_bytes, index_found, index_answer};
 
+use cases::answer::Answer;
 use index::Index;
-use octets::{put_byte, put_num};
 
 // The k-th item: where it starts in the font, and its length.
-fn put_item(font: &[u8], ix: Index, k: usize, out: &mut [u8], at: usize) -> usize
-    requires { (Good font.now ix) × (k < ix.count) × (at + 6 ≤ length out.old) }
-    ensures { Wrote out.old at (item_bytes font.now ix k) out.new result }
+fn put_item(font: &[u8], ix: Index, k: usize, to: &mut Answer)
+    requires { (Good font.now ix) × (k < ix.count) × (length to.old + 6 ≤ 4096) }
+    ensures { (to.new ≡ to.old ++ item_bytes font.now ix k) × (length to.new ≡ length to.old + 6) }
 {
     let start = index::offset(font, ix, k);
     let end = index::offset(font, ix, k + 1);
-    let p = put_num(out, at, ix.base + start, 4);
-    put_num(out, p, end - start, 2)
+    to.num(ix.base + start, 4);
+    to.num(end - start, 2);
 }
 
 // All items.
-fn put_items(font: &[u8], ix: Index, out: &mut [u8], at: usize) -> usize
-    requires { (Good font.now ix) × (at + 6 * ix.count ≤ length out.old) }
-    ensures { Wrote out.old at (items_bytes font.now ix 0 ix.count) out.new result }
+fn put_items(font: &[u8], ix: Index, to: &mut Answer)
+    requires { (Good font.now ix) × (length to.old + 6 * ix.count ≤ 4096) }
+    ensures { to.new ≡ to.old ++ items_bytes font.now ix 0 ix.count }
 {
-    let mut p = at;
     for k in 0..ix.count {
-        p = put_item(font, ix, k, out, p);
+        put_item(font, ix, k, to);
     }
-    p
 }
 
 // No refusal, the place after the INDEX, and its count.
-fn put_head(ix: Index, out: &mut [u8]) -> usize
-    requires { 7 ≤ length out.old }
-    ensures { Wrote out.old 0 (head_bytes ix) out.new result }
+fn of_head(ix: Index) -> Answer
+    ensures { (result ≡ head_bytes ix) × (length result ≡ 7) }
 {
-    let p = put_byte(out, 0, 0);
-    let q = put_num(out, p, ix.end, 4);
-    put_num(out, q, ix.count, 2)
+    let mut answer = Answer::one(0);
+    answer.num(ix.end, 4);
+    answer.num(ix.count, 2);
+    answer
 }
 
 // The INDEX at a place of a font.
-fn index_in(font: &[u8], at: usize, out: &mut [u8]) -> Option<usize>
-    requires { 4096 ≤ length out.old }
-    ensures { Gives (index_found font.now (index_at font.now at)) out.new result }
+fn index_in(font: &[u8], at: usize) -> Option<Answer>
+    ensures { result ≡ index_found font.now (index_at font.now at) }
 {
     match index::read_index(font, at) {
-        Err(refusal) => Some(put_byte(out, 0, refusal.number())),
+        Err(refusal) => Some(Answer::one(refusal.number())),
         Ok(ix) => {
             if 600 < ix.count {
                 return None;
             }
-            let p = put_head(ix, out);
-            Some(put_items(font, ix, out, p))
+            let mut answer = of_head(ix);
+            put_items(font, ix, &mut answer);
+            Some(answer)
         }
     }
 }
 
 // Kind x: the INDEX at a place of a font.
-pub fn answer_index(input: &[u8], out: &mut [u8]) -> Option<usize>
-    requires { 4096 ≤ length out.old }
-    ensures { Gives (index_answer input.now) out.new result }
+pub fn answer_index(input: &[u8]) -> Option<Answer>
+    ensures { result ≡ index_answer input.now }
 {
     if input.len() < 2 {
         return None;
     }
-    index_in(&input[2..], octets::u16_at(input, 0), out)
+    index_in(&input[2..], octets::u16_at(input, 0))
 }

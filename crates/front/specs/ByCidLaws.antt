@@ -4,23 +4,24 @@ use Rattle.std.proofs.Common.{sym, ◌∙◌}
 use Rattle.std.proofs.Math.Path.{ap}
 use Rattle.std.proofs.Math.Bool.{true}
 use mathlib.Core.List.{List, [], ◌∷◌, ◌++◌}
-use Rattle.octets.specs.Octets.{Wrote}
-use Rattle.octets.specs.PutLaws.{wrote_as}
+use Rattle.octets.specs.declared.out.Out.{Out}
+use Rattle.octets.specs.Out.{Writes}
+use Rattle.octets.specs.OutLaws.{writes_as}
 use Rattle.index.specs.Write.{index_bytes}
 use Rattle.cff.specs.Font.{Program}
-use Rattle.cff.specs.Reads.{program_of}
-use Rattle.cff.specs.declared.font.Font.{Font}
+use Rattle.cff.specs.Loaded.{program}
+use Rattle.cff.specs.declared.loaded.Loaded.{Loaded}
 use Rattle.subset.specs.Texts.{own_strings_lem}
 use Rattle.subset.specs.Subset.{own_by_cid, top_by_cid}
 use Rattle.own_strings.specs.declared.Own.{Own}
 use Rattle.own_strings.specs.Slots.{own_of, slots_own}
-use Rattle.own_strings.specs.Ready.{HasStrings, SlotsGiven, IndexRoom}
+use Rattle.own_strings.specs.Ready.{IndexRoom}
 use Rattle.top_dict.specs.Top.{top_len, top_cid}
 use Rattle.top_dict.specs.TopLaws.{cid_measured}
 use Rattle.top_dict.specs.Slotted.{top_cid_is}
 use Rattle.front.specs.Front.{SlotsReady, front_len, header_bytes, front_bytes, CidFront}
 use Rattle.front.specs.SlotLaws.{slots_slotted}
-use Rattle.front.specs.PrepareLaws.{has-strings, cid_own}
+use Rattle.front.specs.PrepareLaws.{cid_own}
 use Rattle.front.specs.FrontLaws.{front-sum, names-room, top-room, front-wrote, measured-front, front-room, top-short, strings-asked}
 
 module _ (p : Program) (slots : List ℕ) (ready : SlotsReady p true slots) where
@@ -61,10 +62,10 @@ module _ (p : Program) (slots : List ℕ) (ready : SlotsReady p true slots) wher
 
 -- ---- what the writers ask, and what they write
 
-module _ (b : List ℕ) (f : Font) (slots : List ℕ) (own : Own) (name out : List ℕ)
-    (g : CidFront b f slots own (length name) (length out)) (all at₁ at₂ at₃ at₄ : ℕ) where
+module _ (font : Loaded) (slots : List ℕ) (own : Own) (name : List ℕ) (out : Out)
+    (z : out.at ≡ 0) (g : CidFront font.bytes.now font.f slots own (length name) (length out.bytes.now)) (all at₁ at₂ at₃ at₄ : ℕ) where
   abbrev p : Program
-  p = program_of b f
+  p = program font
 
   abbrev top : List ℕ
   top = top_cid p.top slots at₁ at₂ at₃ at₄
@@ -78,26 +79,23 @@ module _ (b : List ℕ) (f : Font) (slots : List ℕ) (own : Own) (name out : Li
   counted : own ≡ own_of strings
   counted = cid_own-of p slots g.ready own g.is
 
-  room : 0 + length (front_bytes all name top strings) ≤ length out
-  room = front-room p true 0 slots own name out g.fits all top strings measured counted
+  room : out.at + length (front_bytes all name top strings) ≤ length out.bytes.now
+  room = front-room p true 0 slots own name out z g.fits all top strings measured counted
 
-  pub names-asked : (length name ≤ 65535) × (length (header_bytes all ++ index_bytes (name ∷ [])) ≤ length out)
+  pub names-asked : (length name ≤ 65535) × (out.at + length (header_bytes all ++ index_bytes (name ∷ [])) ≤ length out.bytes.now)
   names-asked = (g.fits.short, names-room all name top strings out room)
 
-  module _ {mid : List ℕ} {q : ℕ} (w : Wrote out 0 (header_bytes all ++ index_bytes (name ∷ [])) mid q) where
-    pub top-asked : (top_len true 0 p.top slots < 4294967295) × (q + length (index_bytes (top ∷ [])) ≤ length mid)
+  module _ {mid : Out} (w : Writes out (header_bytes all ++ index_bytes (name ∷ [])) mid) where
+    pub top-asked : (top_len true 0 p.top slots < 4294967295) × (mid.at + length (index_bytes (top ∷ [])) ≤ length mid.bytes.now)
     top-asked = (
-      top-short p true 0 slots own name out g.fits all top strings measured counted,
+      top-short p true 0 slots own name out z g.fits all top strings measured counted,
       top-room all name top strings out room w,
     )
 
-    module _ {mid2 : List ℕ} {q2 : ℕ} (v : Wrote mid q (index_bytes (top ∷ [])) mid2 q2) where
-      pub own-asked : SlotsGiven p.strings slots × IndexRoom mid2 q2 strings own
-      own-asked = (
-        g.ready.given,
-        strings-asked p true 0 slots own name out g.fits all top strings measured counted w v,
-      )
+    module _ {mid2 : Out} (v : Writes mid (index_bytes (top ∷ [])) mid2) where
+      pub own-asked : IndexRoom mid2.bytes.now mid2.at strings own
+      own-asked = strings-asked p true 0 slots own name out z g.fits all top strings measured counted w v
 
-      pub all-wrote : {new : List ℕ} {r : ℕ} → Wrote mid2 q2 (index_bytes strings) new r
-          → Wrote out 0 (front_bytes all name (top_by_cid p (own_by_cid p) at₁ at₂ at₃ at₄) (own_by_cid p)) new r
-      all-wrote u = wrote_as (front-wrote all name top strings out room w v u) (cid_front p slots g.ready all name at₁ at₂ at₃ at₄)
+      pub all-wrote : {new : Out} → Writes mid2 (index_bytes strings) new
+          → Writes out (front_bytes all name (top_by_cid p (own_by_cid p) at₁ at₂ at₃ at₄) (own_by_cid p)) new
+      all-wrote u = writes_as (front-wrote all name top strings out room w v u) (cid_front p slots g.ready all name at₁ at₂ at₃ at₄)

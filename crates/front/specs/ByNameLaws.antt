@@ -1,27 +1,28 @@
 -- Laws of the front of a name-keyed subset: what its writers ask is there, and what they write is the subset's.
 use Rattle.std.specs.Prelude.{ℕ, ◌+◌, ◌≤◌, ◌<◌, ◌≡◌, false, List, [], ◌∷◌, ◌++◌, length}
 use Rattle.std.proofs.Common.{sym, ap, ◌∙◌}
-use Rattle.octets.specs.Octets.{Wrote}
-use Rattle.octets.specs.PutLaws.{wrote_as}
+use Rattle.octets.specs.declared.out.Out.{Out}
+use Rattle.octets.specs.Out.{Writes}
+use Rattle.octets.specs.OutLaws.{writes_as}
 use Rattle.index.specs.Write.{index_bytes}
 use Rattle.cff.specs.Font.{Program}
 use Rattle.cff.specs.Reads.{GoodFont, program_of}
 use Rattle.cff.specs.declared.font.Font.{Font}
 use Rattle.subset.specs.Subset.{own_by_name, top_by_name}
 use Rattle.order.specs.Walks.{order_in}
-use Rattle.order_window.specs.declared.Order.{Order}
-use Rattle.order_window.specs.Window.{glyphs_of, Ordered}
+use Rattle.order_window.specs.declared.window.Kept.{Kept}
+use Rattle.order_window.specs.Window.{glyphs_of}
+use Rattle.order_window.specs.Stays.{order_of, kept_glyphs}
 use Rattle.own_strings.specs.declared.Own.{Own}
 use Rattle.own_strings.specs.Slots.{word_names, own_of, all_own}
-use Rattle.own_strings.specs.Ready.{HasStrings, SlotsGiven, IndexRoom}
-use Rattle.name_strings.specs.Names.{NamesApart}
+use Rattle.own_strings.specs.Ready.{IndexRoom}
+use Rattle.name_strings.specs.Names.{strings_of, NamesReady}
 use Rattle.name_strings.specs.NamesLaws.{order-own}
 use Rattle.top_dict.specs.Top.{top_len, top_named}
 use Rattle.top_dict.specs.TopLaws.{named-measured}
 use Rattle.top_dict.specs.Slotted.{top-named_is}
-use Rattle.front.specs.Front.{SlotsReady, front_len, header_bytes, front_bytes, NamedFront}
+use Rattle.front.specs.Front.{kept_program, SlotsReady, front_len, header_bytes, front_bytes, NamedFront}
 use Rattle.front.specs.SlotLaws.{slots_slotted}
-use Rattle.front.specs.PrepareLaws.{has-strings}
 use Rattle.front.specs.FrontLaws.{front-sum, names-room, top-room, front-wrote, measured-front, front-room, top-short, strings-asked}
 
 module _ (b : List ℕ) (f : Font) (ws : List ℕ) (good : GoodFont b f) (slots : List ℕ) (ready : SlotsReady (program_of b f) false slots) where
@@ -67,49 +68,46 @@ module _ (b : List ℕ) (f : Font) (ws : List ℕ) (good : GoodFont b f) (slots 
 
 -- ---- what the writers ask, and what they write
 
-module _ (b : List ℕ) (o : Order) (slots : List ℕ) (own : Own) (ws window name out : List ℕ)
-    (all at₁ v at₂ size at₃ : ℕ) (g : NamedFront b o v slots own ws window (length name) (length out)) where
+module _ (k : Kept) (slots : List ℕ) (own : Own) (name : List ℕ) (out : Out)
+    (all at₁ v at₂ size at₃ : ℕ) (z : out.at ≡ 0) (g : NamedFront k.font.now k.o.f v slots own k.words.now (length name) (length out.bytes.now)) where
   abbrev p : Program
-  p = program_of b o.f
+  p = kept_program k
 
   abbrev top : List ℕ
   top = top_named p.top slots at₁ v at₂ size at₃
 
   abbrev strings : List (List ℕ)
-  strings = all_own p.strings slots (order_in b o.f ws)
+  strings = all_own (strings_of k) slots (order_of k)
 
   abbrev theirs : List (List ℕ)
-  theirs = own_by_name p (glyphs_of b o.f ws)
+  theirs = own_by_name p (kept_glyphs k)
 
   measured : top_len false v p.top slots ≡ length top
   measured = named-measured p.top slots at₁ v at₂ size at₃
 
   counted : own ≡ own_of strings
-  counted = named-own-of b o.f ws g.font.good slots g.ready own g.is
+  counted = named-own-of k.font.now k.o.f k.words.now g.font.good slots g.ready own g.is
 
-  room : 0 + length (front_bytes all name top strings) ≤ length out
-  room = front-room p false v slots own name out g.fits all top strings measured counted
+  room : out.at + length (front_bytes all name top strings) ≤ length out.bytes.now
+  room = front-room p false v slots own name out z g.fits all top strings measured counted
 
-  pub names-asked : (length name ≤ 65535) × (length (header_bytes all ++ index_bytes (name ∷ [])) ≤ length out)
+  pub names-asked : (length name ≤ 65535) × (out.at + length (header_bytes all ++ index_bytes (name ∷ [])) ≤ length out.bytes.now)
   names-asked = (g.fits.short, names-room all name top strings out room)
 
-  module _ {mid : List ℕ} {q : ℕ} (w : Wrote out 0 (header_bytes all ++ index_bytes (name ∷ [])) mid q) where
-    pub top-asked : (top_len false v p.top slots < 4294967295) × (q + length (index_bytes (top ∷ [])) ≤ length mid)
+  module _ {mid : Out} (w : Writes out (header_bytes all ++ index_bytes (name ∷ [])) mid) where
+    pub top-asked : (top_len false v p.top slots < 4294967295) × (mid.at + length (index_bytes (top ∷ [])) ≤ length mid.bytes.now)
     top-asked = (
-      top-short p false v slots own name out g.fits all top strings measured counted,
+      top-short p false v slots own name out z g.fits all top strings measured counted,
       top-room all name top strings out room w,
     )
 
-    module _ {mid2 : List ℕ} {q2 : ℕ} (x : Wrote mid q (index_bytes (top ∷ [])) mid2 q2) where
-      pub own-asked : HasStrings b o.f.strings × SlotsGiven p.strings slots × NamesApart b o.f ws × Ordered b ws window o × IndexRoom mid2 q2 strings own
+    module _ {mid2 : Out} (x : Writes mid (index_bytes (top ∷ [])) mid2) where
+      pub own-asked : NamesReady k slots × IndexRoom mid2.bytes.now mid2.at strings own
       own-asked = (
-        has-strings b o.f g.font,
-        g.ready.given,
-        g.apart,
-        g.ordered,
-        strings-asked p false v slots own name out g.fits all top strings measured counted w x,
+        record { small = g.font.small; given = g.ready.given; apart = g.apart },
+        strings-asked p false v slots own name out z g.fits all top strings measured counted w x,
       )
 
-      pub all-wrote : {new : List ℕ} {r : ℕ} → Wrote mid2 q2 (index_bytes strings) new r → Wrote out 0 (front_bytes all name (top_by_name p theirs at₁ v at₂ size at₃) theirs) new r
+      pub all-wrote : {new : Out} → Writes mid2 (index_bytes strings) new → Writes out (front_bytes all name (top_by_name p theirs at₁ v at₂ size at₃) theirs) new
       all-wrote u =
-          wrote_as (front-wrote all name top strings out room w x u) (named-front b o.f ws g.font.good slots g.ready all name at₁ v at₂ size at₃)
+          writes_as (front-wrote all name top strings out room w x u) (named-front k.font.now k.o.f k.words.now g.font.good slots g.ready all name at₁ v at₂ size at₃)

@@ -8,8 +8,8 @@ use Rattle.cff.specs.Font.{Program}
 use Rattle.cff.specs.Reads.{GoodFont, program_of}
 use Rattle.cff.specs.declared.font.Font.{Font}
 use Rattle.subset.specs.Subset.{own_by_name, own_by_cid}
-use Rattle.order_window.specs.declared.Order.{Order}
-use Rattle.order_window.specs.Window.{glyphs_of, Ordered}
+use Rattle.order_window.specs.declared.window.Kept.{Kept}
+use Rattle.order_window.specs.Window.{glyphs_of}
 use Rattle.own_strings.specs.declared.Own.{Own}
 use Rattle.own_strings.specs.Slots.{slots_of, own_of}
 use Rattle.own_strings.specs.Ready.{SlotsGiven}
@@ -20,6 +20,10 @@ use Rattle.top_dict.specs.Top.{top_len}
 pub record SmallFont (b : List ℕ) (f : Font) : Type 0 where
   pub good : GoodFont b f
   pub small : length b ≤ 67108864
+
+-- the font of kept glyphs
+abbrev pub kept_program : Kept → Program
+kept_program k = program_of k.font.now k.o.f
 
 -- ---- slots and own strings
 
@@ -56,13 +60,12 @@ pub record Fits (cid : Bool) (v : ℕ) (es : List Entry) (slots : List ℕ) (own
   pub room : front_len cid v es slots name own ≤ out
 
 -- what is ready when the front of a name-keyed subset is written
-pub record NamedFront (b : List ℕ) (o : Order) (v : ℕ) (slots : List ℕ) (own : Own) (ws window : List ℕ) (name out : ℕ) : Type 0 where
-  pub font : SmallFont b o.f
-  pub ready : SlotsReady (program_of b o.f) false slots
-  pub ordered : Ordered b ws window o
-  pub apart : NamesApart b o.f ws
-  pub is : own ≡ own_of (own_by_name (program_of b o.f) (glyphs_of b o.f ws))
-  pub fits : Fits false v (program_of b o.f).top slots own name out
+pub record NamedFront (b : List ℕ) (f : Font) (v : ℕ) (slots : List ℕ) (own : Own) (ws : List ℕ) (name out : ℕ) : Type 0 where
+  pub font : SmallFont b f
+  pub ready : SlotsReady (program_of b f) false slots
+  pub apart : NamesApart b f ws
+  pub is : own ≡ own_of (own_by_name (program_of b f) (glyphs_of b f ws))
+  pub fits : Fits false v (program_of b f).top slots own name out
 
 -- and that of a CID-keyed one
 pub record CidFront (b : List ℕ) (f : Font) (slots : List ℕ) (own : Own) (name out : ℕ) : Type 0 where

@@ -1,13 +1,15 @@
 -- Laws of the front: its length, its parts one behind the other, and what their writers ask.
-use Rattle.std.specs.Prelude.{ℕ, ◌+◌, ◌-◌, ◌≤◌, ◌<◌, ◌≡◌, refl, Bool, List, [], ◌∷◌, ◌++◌, length, drop}
-use Rattle.std.proofs.Common.{sym, ap, ◌∙◌, append_assoc, add-zero, arith, length-append, length-drop, length-take-le}
-use Rattle.octets.specs.Octets.{Wrote}
-use Rattle.octets.specs.PutLaws.{wrote_then, wrote_as}
+use Rattle.std.specs.Prelude.{ℕ, ◌+◌, ◌≤◌, ◌<◌, ◌≡◌, refl, Bool, List, [], ◌∷◌, ◌++◌, length}
+use Rattle.std.proofs.Common.{sym, ap, ◌∙◌, append_assoc, add-zero, arith, length-append}
+use Rattle.octets.specs.declared.out.Out.{Out}
+use Rattle.octets.specs.Out.{Writes}
+use Rattle.octets.specs.OutLaws.{writes_then, writes_as}
 use Rattle.index.specs.Write.{total, size_for, index_bytes, index_len_lem}
 use Rattle.index.specs.WriteLaws.{length-index, total-within}
 use Rattle.cff.specs.Font.{Program}
-use Rattle.cff.specs.Reads.{program_of, top_of}
+use Rattle.cff.specs.Reads.{program_of}
 use Rattle.cff.specs.declared.font.Font.{Font}
+use Rattle.cff.specs.declared.loaded.Loaded.{Loaded}
 use Rattle.own_strings.specs.declared.Own.{Own}
 use Rattle.own_strings.specs.Slots.{own_of}
 use Rattle.own_strings.specs.Ready.{IndexRoom}
@@ -31,11 +33,10 @@ single-length x = length-index (x ∷ []) ∙ ap (index_len_lem 1) (add-zero (le
 -- ---- the parts, one behind the other
 
 -- the header in two pairs, and the names
-pub header-wrote : {old mid mid2 new : List ℕ} {p q r : ℕ} (all size : ℕ) (name : List ℕ) → size ≡ size_for all → Wrote old 0 (1 ∷ 0 ∷ []) mid p → Wrote mid p (4 ∷ size ∷ []) mid2 q
-    → Wrote mid2 q (index_bytes (name ∷ [])) new r → Wrote old 0 (header_bytes all ++ index_bytes (name ∷ [])) new r
-header-wrote {old} all size name e w v u =
-    let z : 0 ≤ length old = omega arith in
-    wrote_as (wrote_then z (wrote_then z w v) u) (ap (λ (s : ℕ). 1 ∷ 0 ∷ 4 ∷ s ∷ index_bytes (name ∷ [])) e)
+pub header-wrote : {old mid mid2 new : Out} (all size : ℕ) (name : List ℕ) → size ≡ size_for all → old.at ≤ length old.bytes.now → Writes old (1 ∷ 0 ∷ []) mid
+    → Writes mid (4 ∷ size ∷ []) mid2 → Writes mid2 (index_bytes (name ∷ [])) new → Writes old (header_bytes all ++ index_bytes (name ∷ [])) new
+header-wrote all size name e z w v u =
+    writes_as (writes_then z (writes_then z w v) u) (ap (λ (s : ℕ). 1 ∷ 0 ∷ 4 ∷ s ∷ index_bytes (name ∷ [])) e)
 
 module _ (all : ℕ) (name top : List ℕ) (own : List (List ℕ)) where
   -- its length, of bytes and as it is measured
@@ -64,40 +65,35 @@ module _ (all : ℕ) (name top : List ℕ) (own : List (List ℕ)) where
   pub front-strings : total own ≤ length (front_bytes all name top own)
   front-strings = omega (arith, front-sum, total-within own)
 
-  module _ (out : List ℕ) (room : 0 + length (front_bytes all name top own) ≤ length out) where
-    pub names-room : length (header_bytes all ++ index_bytes (name ∷ [])) ≤ length out
-    names-room = omega (arith, split-room 0 (length out) room front-parts)
+  module _ (out : Out) (room : out.at + length (front_bytes all name top own) ≤ length out.bytes.now) where
+    pub names-room : out.at + length (header_bytes all ++ index_bytes (name ∷ [])) ≤ length out.bytes.now
+    names-room = omega (arith, split-room out.at (length out.bytes.now) room front-parts)
 
-    module _ {mid : List ℕ} {q : ℕ} (w : Wrote out 0 (header_bytes all ++ index_bytes (name ∷ [])) mid q) where
-      opened : Writing (front_bytes all name top own) out 0 (index_bytes (top ∷ []) ++ index_bytes own) mid q
-      opened = writing-turn room front-parts (writing_start (front_bytes all name top own) out 0) w
+    module _ {mid : Out} (w : Writes out (header_bytes all ++ index_bytes (name ∷ [])) mid) where
+      opened : Writing (front_bytes all name top own) out.bytes.now out.at (index_bytes (top ∷ []) ++ index_bytes own) mid.bytes.now mid.at
+      opened = writing-turn room front-parts (writing_start (front_bytes all name top own) out.bytes.now out.at) w.wrote
 
-      pub top-room : q + length (index_bytes (top ∷ [])) ≤ length mid
+      pub top-room : mid.at + length (index_bytes (top ∷ [])) ≤ length mid.bytes.now
       top-room = writing-room room (split-append (index_bytes (top ∷ [])) (index_bytes own)) opened
 
-      module _ {mid2 : List ℕ} {q2 : ℕ} (v : Wrote mid q (index_bytes (top ∷ [])) mid2 q2) where
-        topped : Writing (front_bytes all name top own) out 0 (index_bytes own) mid2 q2
-        topped = writing-turn room (split-append (index_bytes (top ∷ [])) (index_bytes own)) opened v
+      module _ {mid2 : Out} (v : Writes mid (index_bytes (top ∷ [])) mid2) where
+        topped : Writing (front_bytes all name top own) out.bytes.now out.at (index_bytes own) mid2.bytes.now mid2.at
+        topped = writing-turn room (split-append (index_bytes (top ∷ [])) (index_bytes own)) opened v.wrote
 
-        pub strings-room : q2 + length (index_bytes own) ≤ length mid2
+        pub strings-room : mid2.at + length (index_bytes own) ≤ length mid2.bytes.now
         strings-room = writing-left room topped
 
-        pub strings-low : q2 ≤ length (front_bytes all name top own)
+        pub strings-low : mid2.at ≤ out.at + length (front_bytes all name top own)
         strings-low = omega (arith, topped.wrote.behind, ap length topped.whole, length-append topped.done (index_bytes own))
 
-        pub front-wrote : {new : List ℕ} {r : ℕ} → Wrote mid2 q2 (index_bytes own) new r → Wrote out 0 (front_bytes all name top own) new r
-        front-wrote x = writing-last room topped x
+        pub front-wrote : {new : Out} → Writes mid2 (index_bytes own) new → Writes out (front_bytes all name top own) new
+        front-wrote x = record { wrote = writing-last room topped x.wrote; same = x.same ∙ (v.same ∙ w.same); size = x.size ∙ (v.size ∙ w.size) }
 
 -- ---- what the writers ask
 
--- the top DICT is a part of the font
-pub top_small : (b : List ℕ) (f : Font) → SmallFont b f → length (top_of b f.top f.top_end) ≤ 67108864
-top_small b f s =
-    let h = s.good.begun in
-    let d = length-drop f.top b in
-    let e : length (top_of b f.top f.top_end) ≡ f.top_end - f.top =
-    length-take-le (f.top_end - f.top) (drop f.top b) (omega (arith, d, h.rises, h.within)) in
-    omega (arith, e, h.within, s.small)
+-- a font in its type that is not too long
+pub small_font : (font : Loaded) → length font.bytes.now ≤ 67108864 → SmallFont font.bytes.now font.f
+small_font font small = record { good = font.good; small = small }
 
 -- the new ids of a font's slots are string ids
 pub ready_filled : (b : List ℕ) (f : Font) (cid : Bool) (slots : List ℕ) → SmallFont b f → SlotsReady (program_of b f) cid slots → Filled slots
@@ -111,24 +107,24 @@ measured-front p cid v slots own all name top strings m e =
     ∙ ap (λ (t : ℕ). 4 + index_len_lem 1 (length name) + index_len_lem 1 t + index_len_lem (length strings) (total strings)) (sym m)
     ∙ ap (λ (o : Own). 4 + index_len_lem 1 (length name) + index_len_lem 1 (top_len cid v p.top slots) + index_len_lem o.count o.total) (sym e)
 
-module _ (p : Program) (cid : Bool) (v : ℕ) (slots : List ℕ) (own : Own) (name out : List ℕ) (fits : Fits cid v p.top slots own (length name) (length out))
-    (all : ℕ) (top : List ℕ) (strings : List (List ℕ)) (m : top_len cid v p.top slots ≡ length top) (e : own ≡ own_of strings) where
+module _ (p : Program) (cid : Bool) (v : ℕ) (slots : List ℕ) (own : Own) (name : List ℕ) (out : Out) (z : out.at ≡ 0)
+    (fits : Fits cid v p.top slots own (length name) (length out.bytes.now)) (all : ℕ) (top : List ℕ) (strings : List (List ℕ)) (m : top_len cid v p.top slots ≡ length top) (e : own ≡ own_of strings) where
   whole : length (front_bytes all name top strings) ≡ front_len cid v p.top slots (length name) own
   whole = measured-front p cid v slots own all name top strings m e
 
-  pub front-room : 0 + length (front_bytes all name top strings) ≤ length out
-  front-room = omega (arith, whole, fits.room)
+  pub front-room : out.at + length (front_bytes all name top strings) ≤ length out.bytes.now
+  front-room = omega (arith, whole, fits.room, z)
 
   pub top-short : top_len cid v p.top slots < 4294967295
   top-short = omega (arith, m, front-top all name top strings, whole, fits.small)
 
-  pub strings-asked : {mid mid2 : List ℕ} {q q2 : ℕ} → Wrote out 0 (header_bytes all ++ index_bytes (name ∷ [])) mid q → Wrote mid q (index_bytes (top ∷ [])) mid2 q2
-      → IndexRoom mid2 q2 strings own
+  pub strings-asked : {mid mid2 : Out} → Writes out (header_bytes all ++ index_bytes (name ∷ [])) mid → Writes mid (index_bytes (top ∷ [])) mid2
+      → IndexRoom mid2.bytes.now mid2.at strings own
   strings-asked w x =
       record {
         is = e;
         few = omega (arith, fits.few);
         small = omega (arith, ap (λ (o : Own). o.total) e, front-strings all name top strings, whole, fits.small);
-        low = omega (arith, strings-low all name top strings out front-room w x, whole, fits.small);
+        low = omega (arith, strings-low all name top strings out front-room w x, whole, fits.small, z);
         room = strings-room all name top strings out front-room w x;
       }

@@ -1,13 +1,13 @@
 -- A charstring by a part of the record that has its rows is the charstring by the whole record.
 use Rattle.std.specs.Prelude.{ℕ, ◌+◌, ◌≤◌, ◌<◌, ◌≡◌, true, List, [], length, take, get_or, Option}
 use Rattle.std.proofs.Common.{sym, ap, ◌∙◌, subst, arith}
-use Rattle.octets.specs.Octets.{Wrote}
-use Rattle.octets.specs.PutLaws.{wrote_as}
+use Rattle.octets.specs.declared.out.Out.{Out}
+use Rattle.octets.specs.Out.{Writes}
+use Rattle.octets.specs.OutLaws.{writes_as}
 use Rattle.index.specs.Index.{items_of}
 use Rattle.unfold.specs.Unfold.{Row, glyph}
 use Rattle.record.specs.Record.{rows_of}
 use Rattle.reach.specs.Reach.{rises}
-use Rattle.reach.specs.declared.Site.TheVariants.{Glyph as GlyphSite}
 use Rattle.renumber.specs.Turn.{sized_of, body_of_lem}
 use Rattle.renumber.specs.Ranks.{calls_by}
 use Rattle.mask_rows.specs.MaskRows.{SameMasks, Fillable, Covers}
@@ -15,7 +15,6 @@ use Rattle.mask_rows.specs.declared.Window.{Window}
 use Rattle.bodies.specs.Ways.{holds, ranks_in}
 use Rattle.bodies.specs.Sizes.{AtMost}
 use Rattle.bodies.specs.WindowsLaws.{by-same}
-use Rattle.long_bodies.specs.Offsets.{Sited}
 use Rattle.glyph_bodies.specs.Glyphs.{GlyphIn, charstring_for, in_order}
 use Rattle.glyph_bodies.specs.declared.glyphs.Glyph.{Glyph}
 use Rattle.glyph_bodies.specs.declared.glyphs.Source.{Source}
@@ -56,17 +55,10 @@ module _ (rec bytes : List ℕ) (w : Window) (covers : Covers rec bytes 2 0 w) {
         × (at + length (body_of_lem (charstring_for from' g (rows_of part) ws table b)) ≤ n)
     part_room at n h l = (ap holds part_same ∙ h, subst (λ (m : Option (List ℕ)). at + length (body_of_lem m) ≤ n) (sym part_same) l)
 
-    pub part-wrote : {old new : List ℕ} {at q : ℕ} → Wrote old at (body_of_lem (charstring_for from' g (rows_of part) ws table b)) new q
-        → Wrote old at (body_of_lem (charstring_for from g (rows_of rec) ws table b)) new q
-    part-wrote v = wrote_as v (ap body_of_lem part_same)
+    pub part-writes : {old new : Out} → Writes old (body_of_lem (charstring_for from' g (rows_of part) ws table b)) new
+        → Writes old (body_of_lem (charstring_for from g (rows_of rec) ws table b)) new
+    part-writes v = writes_as v (ap body_of_lem part_same)
 
 -- a part from a glyph on can be filled
 pub fills_glyph : {b ws table : List ℕ} {from : Source} {g : Glyph} {rows : List Row} → GlyphIn b ws table from g rows → Fillable 2 0 g.number
 fills_glyph a = record { kind_fits = omega arith; fd_fits = omega arith; few = omega (arith, a.inside, a.few) }
-
--- ---- a charstring with more rows than a window holds
-
-module _ {b ws table : List ℕ} {from : Source} {g : Glyph} {rows : List Row} (a : GlyphIn b ws table from g rows) where
-  -- its rows can be taken by windows
-  pub sited_glyph : Sited (GlyphSite g.number)
-  sited_glyph = record { few = omega (arith, a.inside, a.few) }

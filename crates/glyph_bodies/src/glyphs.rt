@@ -1,23 +1,24 @@
 // The charstring of a glyph by the way: its length, and its bytes.
-ghost use Rattle.std.specs.Prelude.{◌≡◌, true, ◌+◌, ◌-◌, ◌%◌, ◌≤◌, ◌<◌, length, get_or};
-ghost use Rattle.octets.specs.Octets.{Wrote};
-ghost use Rattle.charset.specs.FdPlaces.{GoodSelect};
+ghost use Rattle.std.specs.Prelude.{◌≡◌, true, ◌+◌, ◌≤◌, ◌<◌, length};
+ghost use Rattle.octets.specs.Out.{Writes};
 ghost use Rattle.mask_rows.specs.MaskRows.{Covers, HasOrNone};
+ghost use Rattle.order_window.specs.Stays.{Stays};
 ghost use Rattle.renumber.specs.Turn.{sized_of, body_of_lem};
 ghost use Rattle.bodies.specs.Ways.{holds};
 ghost use Rattle.bodies.specs.Sizes.{AtMost};
-ghost use Rattle.glyph_bodies.specs.Glyphs.{glyph_of, in_order};
-ghost use Rattle.glyph_bodies.specs.Written.{written};
+ghost use Rattle.glyph_bodies.specs.Glyphs.{in_order};
+ghost use Rattle.glyph_bodies.specs.Written.{glyph_in, written, Bodied};
 
 use crate::charstrings::Charstring;
 use bodies::Manner;
-use charset::fd_select::FdSelect;
 use index::Index;
-use long_bodies::long_site::LongSite;
+use long_bodies::long_body::LongBody;
 use mask_rows::Window;
 use mask_rows::lent::Lent;
-use order_window::Held;
+use octets::out::Out;
+use order_window::window::Kept;
 use reach::Site;
+use renumber::body::Body;
 
 // The charstrings of a font, and how they are written.
 #[derive(Clone, Copy)]
@@ -33,27 +34,26 @@ pub struct Glyph {
     pub fd: usize,
 }
 
-// The i-th kept glyph, which the window holds.
-pub fn glyph_at(font: &[u8], select: FdSelect, window: &[u32], u: Held, i: usize) -> Glyph
-    requires { (GoodSelect font.now select) × (u.from ≤ i) × (i - u.from < length window.now) }
-    ensures { result ≡ glyph_of font.now select (get_or window.now (i - u.from) 0 % 65536) }
+// The i-th kept glyph. (`word` is inlined: a call for each glyph would take about as long as the copy of a short charstring.)
+pub fn glyph_at(kept: &mut Kept<'_>, i: usize) -> Glyph
+    requires { i < kept.old.o.count }
+    ensures { (result ≡ glyph_in kept.old i) × Stays kept.old kept.new }
 {
-    let number = order_window::word_at(window, u, i) % 65536;
-    let fd = charset::fd_select::fd_of(font, select, number) as usize;
+    let number = kept.word(i) % 65536;
+    let fd = charset::fd_select::fd_of(kept.font, kept.o.f.select, number) as usize;
     Glyph { number, fd }
 }
 
-// How long the charstring of a glyph is by the way, or that its renumbering fails.
-pub fn charstring_len(one: &Charstring<'_>) -> Option<usize>
-    ensures { (result ≡ sized_of (written one.now)) × (AtMost 335544320 result) }
+// The charstring of a glyph with what its renumbering reads.
+fn body_of<'a>(one: &Charstring<'a>) -> Body<'a>
+    ensures { Bodied one.now result }
 {
     let how = one.from.how;
     let number = one.glyph.number;
     let locals = bodies::ranks_in(one.table, one.glyph.fd);
     let code = index::item(one.font, one.from.ix, number);
     let site = Site::Glyph(number as u16);
-    bodies::body_len(
-        how.way,
+    Body::new(
         code,
         one.words,
         locals,
@@ -62,6 +62,14 @@ pub fn charstring_len(one: &Charstring<'_>) -> Option<usize>
         how.rising,
         site,
     )
+}
+
+// How long the charstring of a glyph is by the way, or that its renumbering fails.
+pub fn charstring_len(one: &Charstring<'_>) -> Option<usize>
+    ensures { (result ≡ sized_of (written one.now)) × (AtMost 335544320 result) }
+{
+    let body = body_of(one);
+    bodies::body_len(one.from.how.way, &body)
 }
 
 // The same charstrings by a record that rises.
@@ -83,23 +91,9 @@ fn in_order(from: Source) -> Source
 fn long_len(one: &Charstring<'_>, lent: &mut Lent<'_>) -> Option<usize>
     ensures { (result ≡ sized_of (written one.now)) × (AtMost 335544320 result) }
 {
-    let how = one.from.how;
-    let number = one.glyph.number;
-    let locals = bodies::ranks_in(one.table, one.glyph.fd);
-    let code = index::item(one.font, one.from.ix, number);
-    let of = LongSite {
-        site: Site::Glyph(number as u16),
-    };
-    bodies::long_body_len(
-        how.way,
-        code,
-        one.words,
-        locals,
-        how.globals,
-        one.rows,
-        of,
-        lent,
-    )
+    let body = body_of(one);
+    let long = LongBody { body: &body };
+    bodies::long_body_len(one.from.how.way, &long, lent)
 }
 
 // The same by a part of the record, where it has the rows of the glyph; a longer one takes the part's place.
@@ -125,71 +119,34 @@ pub fn windowed_len(one: &Charstring<'_>, masks: Window, lent: &mut Lent<'_>) ->
     long_len(one, lent)
 }
 
-// The charstring of a glyph by the way, from `at` on; the place after it.
-pub fn put_charstring(one: &Charstring<'_>, out: &mut [u8], at: usize) -> usize
-    requires { (holds (written one.now) ≡ true) × (at + length (body_of_lem (written one.now)) ≤ length out.old) }
-    ensures { Wrote out.old at (body_of_lem (written one.now)) out.new result }
+// The charstring of a glyph by the way.
+pub fn put_charstring(one: &Charstring<'_>, out: &mut Out<'_>)
+    requires { (holds (written one.now) ≡ true) × (out.old.at + length (body_of_lem (written one.now)) ≤ length out.old.bytes.now) }
+    ensures { Writes out.old (body_of_lem (written one.now)) out.new }
 {
-    let how = one.from.how;
-    let number = one.glyph.number;
-    let locals = bodies::ranks_in(one.table, one.glyph.fd);
-    let code = index::item(one.font, one.from.ix, number);
-    let site = Site::Glyph(number as u16);
-    bodies::put_body(
-        how.way,
-        code,
-        one.words,
-        locals,
-        how.globals,
-        one.rows,
-        how.rising,
-        site,
-        out,
-        at,
-    )
+    let body = body_of(one);
+    bodies::put_body(one.from.how.way, &body, out)
 }
 
 // The same where the glyph has more rows than a window holds.
-fn put_long(one: &Charstring<'_>, out: &mut [u8], at: usize, lent: &mut Lent<'_>) -> usize
-    requires { (holds (written one.now) ≡ true) × (at + length (body_of_lem (written one.now)) ≤ length out.old) }
-    ensures { Wrote out.old at (body_of_lem (written one.now)) out.new result }
+fn put_long(one: &Charstring<'_>, out: &mut Out<'_>, lent: &mut Lent<'_>)
+    requires { (holds (written one.now) ≡ true) × (out.old.at + length (body_of_lem (written one.now)) ≤ length out.old.bytes.now) }
+    ensures { Writes out.old (body_of_lem (written one.now)) out.new }
 {
-    let how = one.from.how;
-    let number = one.glyph.number;
-    let locals = bodies::ranks_in(one.table, one.glyph.fd);
-    let code = index::item(one.font, one.from.ix, number);
-    let of = LongSite {
-        site: Site::Glyph(number as u16),
-    };
-    bodies::put_long_body(
-        how.way,
-        code,
-        one.words,
-        locals,
-        how.globals,
-        one.rows,
-        of,
-        out,
-        at,
-        lent,
-    )
+    let body = body_of(one);
+    let long = LongBody { body: &body };
+    bodies::put_long_body(one.from.how.way, &long, out, lent)
 }
 
 // The same by a part of the record, where it has the rows of the glyph; a longer one takes the part's place.
-pub fn put_windowed(
-    one: &Charstring<'_>,
-    masks: Window,
-    out: &mut [u8],
-    at: usize,
-    lent: &mut Lent<'_>,
-) -> usize
+pub fn put_windowed(one: &Charstring<'_>, masks: Window, out: &mut Out<'_>, lent: &mut Lent<'_>)
     requires { (Covers one.now.rows.now lent.old.bytes.now 2 0 masks) × (HasOrNone one.now.glyph.number masks)
-        × (holds (written one.now) ≡ true) × (at + length (body_of_lem (written one.now)) ≤ length out.old) }
-    ensures { (Wrote out.old at (body_of_lem (written one.now)) out.new result) × (Covers one.now.rows.now lent.new.bytes.now 2 0 masks) }
+        × (holds (written one.now) ≡ true) × (out.old.at + length (body_of_lem (written one.now)) ≤ length out.old.bytes.now) }
+    ensures { (Writes out.old (body_of_lem (written one.now)) out.new) × (Covers one.now.rows.now lent.new.bytes.now 2 0 masks) }
 {
     let glyph = one.glyph;
     if glyph.number < masks.from {
-        return put_charstring(one, out, at);
+        return put_charstring(one, out);
     }
     if glyph.number < masks.end {
         let part = Charstring {
@@ -200,7 +157,7 @@ pub fn put_windowed(
             table: one.table,
             rows: lent.rows(masks.len),
         };
-        return put_charstring(&part, out, at);
+        return put_charstring(&part, out);
     }
-    put_long(one, out, at, lent)
+    put_long(one, out, lent)
 }

@@ -1,40 +1,41 @@
 // The charstrings of the kept glyphs by the way (document 01, 'Corners in write.rs'), in the order in which they are written, which is read through a
-// window (document 02, Wish 10). The local subroutines of a glyph's FD have their ranks where a table says. A loop calls `hold` only where the window does
-// not have the place: a call for each glyph takes about as long as the copy of a short charstring.
+// window (document 02, Wish 10). The local subroutines of a glyph's FD have their ranks where a table says.
 #![tactic(auto)]
 
 pub mod charstrings;
 pub mod glyphs;
+pub mod kept_bodies;
 
 ghost use Rattle.std.specs.Prelude.{◌≡◌, length};
-ghost use Rattle.octets.specs.Octets.{Wrote};
+ghost use Rattle.octets.specs.Out.{Writes};
 ghost use Rattle.index.specs.Write.{index_bytes};
 ghost use Rattle.record.specs.Record.{rows_of};
-ghost use Rattle.order_window.specs.Window.{Ordered};
+ghost use Rattle.order_window.specs.Stays.{Stays};
 ghost use Rattle.bodies.specs.Ways.{many_of, measured_of, Room};
 ghost use Rattle.bodies.specs.Sizes.{Bounded};
 ghost use Rattle.glyph_bodies.specs.Charstrings.{CharstringsIn, charstrings_from};
+ghost use Rattle.glyph_bodies.specs.Written.{all_written};
 
 use crate::charstrings::Charstring;
 use crate::glyphs::Source;
+use crate::kept_bodies::KeptBodies;
 use bodies::Manner;
 use mask_rows::Window;
 use mask_rows::lent::Lent;
-use order_window::Order;
+use octets::out::Out;
+use order_window::window::Kept;
+
+// A window that has the rows of no body.
+const NO_ROWS: Window = Window {
+    from: 0,
+    end: 0,
+    len: 0,
+};
 
 // Their bytes together, by parts of a record that does not rise.
-fn total_by_windows(
-    how: Manner,
-    o: Order,
-    font: &[u8],
-    words: &[u32],
-    window: &mut [u32],
-    table: &[usize],
-    rows: &[u8],
-) -> Option<usize>
-    requires { (CharstringsIn font.now words.now table.now o how (rows_of rows.now)) × (Ordered font.now words.now window.old o) }
-    ensures { (result ≡ measured_of (charstrings_from how o (rows_of rows.now) words.now table.now font.now)) × (Bounded result)
-        × (Ordered font.now words.now window.new o) }
+fn total_by_windows(all: &mut KeptBodies<'_, '_>) -> Option<usize>
+    ensures { (result ≡ measured_of (all_written all.old)) × (Bounded result) × (all.new.kept.ghost_name ≡ all.old.kept.ghost_name)
+        × Stays all.old.kept.now all.new.kept.now }
 {
     let mut keys = [0u64; 9216];
     let mut bytes = [0u8; 81920];
@@ -42,22 +43,19 @@ fn total_by_windows(
         keys: &mut keys,
         bytes: &mut bytes,
     };
-    let mut masks = Window {
-        from: 0,
-        end: 0,
-        len: 0,
-    };
-    let f = o.f;
-    let ix = f.charstrings;
+    let mut masks = NO_ROWS;
+    let table = all.table;
+    let rows = all.rows;
+    let how = all.how;
+    let kept = &mut *all.kept;
+    let font = kept.font;
+    let words = kept.words;
+    let ix = kept.o.f.charstrings;
     let from = Source { how, ix };
-    let n = o.count;
-    let mut u = o.held;
+    let n = kept.o.count;
     let mut total: usize = 0;
     for i in 0..n {
-        if u.walk.done <= i {
-            u = order_window::hold(font, f, words, &mut *window, u, i);
-        }
-        let glyph = glyphs::glyph_at(font, f.select, &*window, u, i);
+        let glyph = glyphs::glyph_at(kept, i);
         masks = mask_rows::advance(masks, rows, 2, 0, glyph.number, &mut lent);
         let one = Charstring {
             from,
@@ -76,30 +74,22 @@ fn total_by_windows(
 }
 
 // Their bytes together, each by the whole record.
-fn total_directly(
-    how: Manner,
-    o: Order,
-    font: &[u8],
-    words: &[u32],
-    window: &mut [u32],
-    table: &[usize],
-    rows: &[u8],
-) -> Option<usize>
-    requires { (CharstringsIn font.now words.now table.now o how (rows_of rows.now)) × (Ordered font.now words.now window.old o) }
-    ensures { (result ≡ measured_of (charstrings_from how o (rows_of rows.now) words.now table.now font.now)) × (Bounded result)
-        × (Ordered font.now words.now window.new o) }
+fn total_directly(all: &mut KeptBodies<'_, '_>) -> Option<usize>
+    ensures { (result ≡ measured_of (all_written all.old)) × (Bounded result) × (all.new.kept.ghost_name ≡ all.old.kept.ghost_name)
+        × Stays all.old.kept.now all.new.kept.now }
 {
-    let f = o.f;
-    let ix = f.charstrings;
+    let table = all.table;
+    let rows = all.rows;
+    let how = all.how;
+    let kept = &mut *all.kept;
+    let font = kept.font;
+    let words = kept.words;
+    let ix = kept.o.f.charstrings;
     let from = Source { how, ix };
-    let n = o.count;
-    let mut u = o.held;
+    let n = kept.o.count;
     let mut total: usize = 0;
     for i in 0..n {
-        if u.walk.done <= i {
-            u = order_window::hold(font, f, words, &mut *window, u, i);
-        }
-        let glyph = glyphs::glyph_at(font, f.select, &*window, u, i);
+        let glyph = glyphs::glyph_at(kept, i);
         let one = Charstring {
             from,
             glyph,
@@ -117,45 +107,35 @@ fn total_directly(
 }
 
 // The bytes of the charstrings together, by the way; or that their renumbering fails. Masks are asked for only where they are renumbered.
-pub fn charstrings_total(
+pub fn charstrings_total<'k, 'a>(
+    kept: &'k mut Kept<'a>,
     how: Manner,
-    o: Order,
-    font: &[u8],
-    words: &[u32],
-    window: &mut [u32],
-    table: &[usize],
-    rows: &[u8],
+    table: &'k [usize],
+    rows: &'k [u8],
 ) -> Option<usize>
-    requires { (CharstringsIn font.now words.now table.now o how (rows_of rows.now)) × (Ordered font.now words.now window.old o) }
-    ensures { (result ≡ measured_of (charstrings_from how o (rows_of rows.now) words.now table.now font.now)) × (Bounded result)
-        × (Ordered font.now words.now window.new o) }
+    requires { CharstringsIn kept.old.font.now kept.old.words.now table.now kept.old.o how (rows_of rows.now) }
+    ensures { (result ≡ measured_of (charstrings_from how kept.old.o (rows_of rows.now) kept.old.words.now table.now kept.old.font.now)) × (Bounded result)
+        × Stays kept.old kept.new }
 {
+    let mut all = KeptBodies {
+        kept,
+        how,
+        table,
+        rows,
+    };
     if how.rising {
-        return total_directly(how, o, font, words, window, table, rows);
+        return total_directly(&mut all);
     }
     if how.way.is_renumbered() {
-        return total_by_windows(how, o, font, words, window, table, rows);
+        return total_by_windows(&mut all);
     }
-    total_directly(how, o, font, words, window, table, rows)
+    total_directly(&mut all)
 }
 
-// Their INDEX, from `at` on, by parts of a record that does not rise; the place after it.
-fn put_by_windows(
-    how: Manner,
-    o: Order,
-    font: &[u8],
-    words: &[u32],
-    window: &mut [u32],
-    table: &[usize],
-    rows: &[u8],
-    total: usize,
-    out: &mut [u8],
-    at: usize,
-) -> usize
-    requires { (CharstringsIn font.now words.now table.now o how (rows_of rows.now)) × (Ordered font.now words.now window.old o)
-        × (Room (charstrings_from how o (rows_of rows.now) words.now table.now font.now) total at (length out.old)) }
-    ensures { (Wrote out.old at (index_bytes (many_of (charstrings_from how o (rows_of rows.now) words.now table.now font.now))) out.new result)
-        × (Ordered font.now words.now window.new o) }
+// Their INDEX, by parts of a record that does not rise.
+fn put_by_windows(all: KeptBodies<'_, '_>, total: usize, out: &mut Out<'_>)
+    requires { Room (all_written all) total out.old.at (length out.old.bytes.now) }
+    ensures { (Writes out.old (index_bytes (many_of (all_written all.entry))) out.new) × Stays all.entry.kept.now all.exit.0.now }
 {
     let mut keys = [0u64; 9216];
     let mut bytes = [0u8; 81920];
@@ -163,24 +143,21 @@ fn put_by_windows(
         keys: &mut keys,
         bytes: &mut bytes,
     };
-    let mut masks = Window {
-        from: 0,
-        end: 0,
-        len: 0,
-    };
-    let f = o.f;
-    let ix = f.charstrings;
+    let mut masks = NO_ROWS;
+    let table = all.table;
+    let rows = all.rows;
+    let how = all.how;
+    let kept = all.kept;
+    let font = kept.font;
+    let words = kept.words;
+    let ix = kept.o.f.charstrings;
     let from = Source { how, ix };
-    let n = o.count;
-    let to = index::index_for(at, n, total);
-    index::put_head(out, at, n, total);
-    let mut u = o.held;
-    let mut p = to.base + 1;
+    let n = kept.o.count;
+    let to = index::index_for(out.at, n, total);
+    index::put_head(&mut *out, n, total);
+    out.at = to.base + 1;
     for i in 0..n {
-        if u.walk.done <= i {
-            u = order_window::hold(font, f, words, &mut *window, u, i);
-        }
-        let glyph = glyphs::glyph_at(font, f.select, &*window, u, i);
+        let glyph = glyphs::glyph_at(kept, i);
         masks = mask_rows::advance(masks, rows, 2, 0, glyph.number, &mut lent);
         let one = Charstring {
             from,
@@ -190,43 +167,30 @@ fn put_by_windows(
             table,
             rows,
         };
-        p = glyphs::put_windowed(&one, masks, &mut *out, p, &mut lent);
-        index::put_end(out, to, i, p);
+        glyphs::put_windowed(&one, masks, &mut *out, &mut lent);
+        index::put_end(&mut *out, to, i);
     }
-    p
 }
 
-// Their INDEX, from `at` on, each by the whole record; the place after it.
-fn put_directly(
-    how: Manner,
-    o: Order,
-    font: &[u8],
-    words: &[u32],
-    window: &mut [u32],
-    table: &[usize],
-    rows: &[u8],
-    total: usize,
-    out: &mut [u8],
-    at: usize,
-) -> usize
-    requires { (CharstringsIn font.now words.now table.now o how (rows_of rows.now)) × (Ordered font.now words.now window.old o)
-        × (Room (charstrings_from how o (rows_of rows.now) words.now table.now font.now) total at (length out.old)) }
-    ensures { (Wrote out.old at (index_bytes (many_of (charstrings_from how o (rows_of rows.now) words.now table.now font.now))) out.new result)
-        × (Ordered font.now words.now window.new o) }
+// Their INDEX, each by the whole record.
+fn put_directly(all: KeptBodies<'_, '_>, total: usize, out: &mut Out<'_>)
+    requires { Room (all_written all) total out.old.at (length out.old.bytes.now) }
+    ensures { (Writes out.old (index_bytes (many_of (all_written all.entry))) out.new) × Stays all.entry.kept.now all.exit.0.now }
 {
-    let f = o.f;
-    let ix = f.charstrings;
+    let table = all.table;
+    let rows = all.rows;
+    let how = all.how;
+    let kept = all.kept;
+    let font = kept.font;
+    let words = kept.words;
+    let ix = kept.o.f.charstrings;
     let from = Source { how, ix };
-    let n = o.count;
-    let to = index::index_for(at, n, total);
-    index::put_head(out, at, n, total);
-    let mut u = o.held;
-    let mut p = to.base + 1;
+    let n = kept.o.count;
+    let to = index::index_for(out.at, n, total);
+    index::put_head(&mut *out, n, total);
+    out.at = to.base + 1;
     for i in 0..n {
-        if u.walk.done <= i {
-            u = order_window::hold(font, f, words, &mut *window, u, i);
-        }
-        let glyph = glyphs::glyph_at(font, f.select, &*window, u, i);
+        let glyph = glyphs::glyph_at(kept, i);
         let one = Charstring {
             from,
             glyph,
@@ -235,35 +199,36 @@ fn put_directly(
             table,
             rows,
         };
-        p = glyphs::put_charstring(&one, &mut *out, p);
-        index::put_end(out, to, i, p);
+        glyphs::put_charstring(&one, &mut *out);
+        index::put_end(&mut *out, to, i);
     }
-    p
 }
 
-// Their INDEX, from `at` on; the place after it.
+// Their INDEX.
 pub fn put_charstrings(
+    kept: &mut Kept<'_>,
     how: Manner,
-    o: Order,
-    font: &[u8],
-    words: &[u32],
-    window: &mut [u32],
     table: &[usize],
     rows: &[u8],
     total: usize,
-    out: &mut [u8],
-    at: usize,
-) -> usize
-    requires { (CharstringsIn font.now words.now table.now o how (rows_of rows.now)) × (Ordered font.now words.now window.old o)
-        × (Room (charstrings_from how o (rows_of rows.now) words.now table.now font.now) total at (length out.old)) }
-    ensures { (Wrote out.old at (index_bytes (many_of (charstrings_from how o (rows_of rows.now) words.now table.now font.now))) out.new result)
-        × (Ordered font.now words.now window.new o) }
+    out: &mut Out<'_>,
+)
+    requires { (CharstringsIn kept.old.font.now kept.old.words.now table.now kept.old.o how (rows_of rows.now))
+        × (Room (charstrings_from how kept.old.o (rows_of rows.now) kept.old.words.now table.now kept.old.font.now) total out.old.at (length out.old.bytes.now)) }
+    ensures { (Writes out.old (index_bytes (many_of (charstrings_from how kept.old.o (rows_of rows.now) kept.old.words.now table.now kept.old.font.now))) out.new)
+        × Stays kept.old kept.new }
 {
+    let all = KeptBodies {
+        kept,
+        how,
+        table,
+        rows,
+    };
     if how.rising {
-        return put_directly(how, o, font, words, window, table, rows, total, out, at);
+        return put_directly(all, total, out);
     }
     if how.way.is_renumbered() {
-        return put_by_windows(how, o, font, words, window, table, rows, total, out, at);
+        return put_by_windows(all, total, out);
     }
-    put_directly(how, o, font, words, window, table, rows, total, out, at)
+    put_directly(all, total, out)
 }

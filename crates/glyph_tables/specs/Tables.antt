@@ -6,6 +6,7 @@ use Rattle.cff.specs.declared.font.Font.{Font}
 use Rattle.subset.specs.Kept.{fds_of}
 use Rattle.subset.specs.Subset.{cids_of}
 use Rattle.subset.specs.Pruned.{mapped}
+use Rattle.order_window.specs.declared.window.Kept.{Kept}
 use Rattle.order_window.specs.Window.{glyphs_of}
 
 -- the CIDs of the kept glyphs of a font as they are written, by their bits
@@ -15,6 +16,13 @@ kept_cids b f ws = cids_of (program_of b f) (glyphs_of b f ws)
 -- and their FDs
 abbrev pub kept_fds : List ℕ → Font → List ℕ → List ℕ
 kept_fds b f ws = fds_of (program_of b f) (glyphs_of b f ws)
+
+-- the same of a font with its bits
+abbrev pub cids_kept : Kept → List ℕ
+cids_kept k = kept_cids k.font.now k.o.f k.words.now
+
+abbrev pub fds_kept : Kept → List ℕ
+fds_kept k = kept_fds k.font.now k.o.f k.words.now
 
 -- the words of FDs set to 1
 unfoldable pub marked_fds : List ℕ → List ℕ → List ℕ

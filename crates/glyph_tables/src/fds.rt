@@ -5,52 +5,41 @@ ghost use Rattle.octets.specs.Octets.{put};
 ghost use Rattle.subset.specs.Kept.{is_in};
 ghost use Rattle.bits.specs.Bits.{count_below};
 ghost use Rattle.reach.specs.Reach.{ranks_of};
-ghost use Rattle.order_window.specs.Window.{Ordered};
-ghost use Rattle.glyph_tables.specs.Tables.{kept_fds, marked_fds};
+ghost use Rattle.order_window.specs.Stays.{Stays};
+ghost use Rattle.glyph_tables.specs.Tables.{fds_kept, marked_fds};
 
-use order_window::Order;
+use order_window::window::Kept;
 
 // Marks the FDs of the kept glyphs.
-fn mark_fds(font: &[u8], o: Order, words: &[u32], window: &mut [u32], marks: &mut [u32])
-    requires { (Ordered font.now words.now window.old o) × (length marks.old ≡ 256) }
-    ensures { (marks.new ≡ marked_fds (kept_fds font.now o.f words.now) marks.old)
-        × (Ordered font.now words.now window.new o) }
+fn mark_fds(kept: &mut Kept<'_>, marks: &mut [u32])
+    requires { length marks.old ≡ 256 }
+    ensures { (marks.new ≡ marked_fds (fds_kept kept.old) marks.old) × Stays kept.old kept.new }
 {
-    let f = o.f;
-    let mut u = o.held;
-    for i in 0..o.count {
-        u = order_window::hold(font, f, words, &mut *window, u, i);
-        let g = order_window::word_at(&*window, u, i) % 65536;
+    let font = kept.font;
+    let f = kept.o.f;
+    for i in 0..kept.o.count {
+        let g = kept.word(i) % 65536;
         let fd = charset::fd_select::fd_of(font, f.select, g) as usize;
         marks[fd] = 1;
     }
 }
 
 // Sets all 256 words of a table to the new numbers of FDs, plus 1, or 0 for an FD that no kept glyph has; returns how many are in use.
-fn rank_all(font: &[u8], o: Order, words: &[u32], window: &mut [u32], table: &mut [u32]) -> usize
-    requires { (Ordered font.now words.now window.old o) × (length table.old ≡ 256) }
-    ensures { (table.new ≡ ranks_of (λ d. is_in d (kept_fds font.now o.f words.now)) 0 256)
-        × (result ≡ count_below (λ d. is_in d (kept_fds font.now o.f words.now)) 256)
-        × (Ordered font.now words.now window.new o) }
+fn rank_all(kept: &mut Kept<'_>, table: &mut [u32]) -> usize
+    requires { length table.old ≡ 256 }
+    ensures { (table.new ≡ ranks_of (λ d. is_in d (fds_kept kept.old)) 0 256) × (result ≡ count_below (λ d. is_in d (fds_kept kept.old)) 256)
+        × Stays kept.old kept.new }
 {
     reach::ranks::clear(&mut *table);
-    mark_fds(font, o, words, window, &mut *table);
+    mark_fds(kept, &mut *table);
     reach::ranks::rank_marks(table)
 }
 
 // The same for the first 256 words of a table.
-pub fn rank_fds(
-    font: &[u8],
-    o: Order,
-    words: &[u32],
-    window: &mut [u32],
-    table: &mut [u32],
-) -> usize
-    requires { (Ordered font.now words.now window.old o) × (256 ≤ length table.old) }
-    ensures { (table.new ≡ put table.old 0
-        (ranks_of (λ d. is_in d (kept_fds font.now o.f words.now)) 0 256))
-        × (result ≡ count_below (λ d. is_in d (kept_fds font.now o.f words.now)) 256)
-        × (Ordered font.now words.now window.new o) }
+pub fn rank_fds(kept: &mut Kept<'_>, table: &mut [u32]) -> usize
+    requires { 256 ≤ length table.old }
+    ensures { (table.new ≡ put table.old 0 (ranks_of (λ d. is_in d (fds_kept kept.old)) 0 256))
+        × (result ≡ count_below (λ d. is_in d (fds_kept kept.old)) 256) × Stays kept.old kept.new }
 {
-    rank_all(font, o, words, window, &mut table[0..256])
+    rank_all(kept, &mut table[0..256])
 }

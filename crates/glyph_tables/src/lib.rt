@@ -6,35 +6,22 @@ pub mod fds;
 pub mod select;
 
 ghost use Rattle.std.specs.Prelude.{◌+◌, ◌≤◌, length};
-ghost use Rattle.octets.specs.Octets.{Wrote};
+ghost use Rattle.octets.specs.Out.{Writes};
 ghost use Rattle.charset.specs.CharsetBytes.{charset_bytes};
-ghost use Rattle.order_window.specs.Window.{Ordered};
-ghost use Rattle.glyph_tables.specs.Tables.{kept_cids};
+ghost use Rattle.order_window.specs.Stays.{Stays};
+ghost use Rattle.glyph_tables.specs.Tables.{cids_kept};
 
-use order_window::Order;
+use octets::out::Out;
+use order_window::window::Kept;
 
-// Writes the charset of the kept glyphs by their CIDs; returns the place after it.
-pub fn put_charset_cid(
-    font: &[u8],
-    o: Order,
-    words: &[u32],
-    window: &mut [u32],
-    out: &mut [u8],
-    at: usize,
-) -> usize
-    requires { (Ordered font.now words.now window.old o)
-        × (at + length (charset_bytes (kept_cids font.now o.f words.now)) ≤ length out.old) }
-    ensures { (Wrote out.old at
-        (charset_bytes (kept_cids font.now o.f words.now)) out.new result)
-        × (Ordered font.now words.now window.new o) }
+// Writes the charset of the kept glyphs by their CIDs.
+pub fn put_charset_cid(kept: &mut Kept<'_>, out: &mut Out<'_>)
+    requires { out.old.at + length (charset_bytes (cids_kept kept.old)) ≤ length out.old.bytes.now }
+    ensures { (Writes out.old (charset_bytes (cids_kept kept.old)) out.new) × Stays kept.old kept.new }
 {
-    let f = o.f;
-    let mut p = octets::put_byte(&mut *out, at, 0);
-    let mut u = order_window::hold(font, f, words, &mut *window, o.held, 0);
-    for i in 1..o.count {
-        u = order_window::hold(font, f, words, &mut *window, u, i);
-        let id = order_window::word_at(&*window, u, i) / 65536;
-        p = octets::put_num(&mut *out, p, id, 2);
+    out.byte(0);
+    for i in 1..kept.o.count {
+        let id = kept.word(i) / 65536;
+        out.num(id, 2);
     }
-    p
 }

@@ -7,6 +7,8 @@ pub mod WriteLaws
 pub mod PutApart
 pub mod Begun
 pub mod BegunLaws
+pub mod ItemOut
+pub mod ItemOutLaws
 pub mod Examples
 pub mod Alone
 pub mod Items

@@ -3,15 +3,16 @@
 #![tactic(auto)]
 
 ghost use Rattle.std.specs.Prelude.{◌≡◌, [], ◌∷◌, ◌+◌, ◌*◌, ◌-◌, ◌≤◌, ◌<◌, length, drop, get_or};
-ghost use Rattle.octets.specs.Octets.{bytes_of, Wrote};
+ghost use Rattle.octets.specs.Out.{Writes};
 ghost use Rattle.index.specs.Index.{offsets, run_of, table_at, empty_at, index_at, items_of};
 ghost use Rattle.index.specs.Good.{Lies, Good, offset_of};
 ghost use Rattle.index.specs.Place.{StartsAt, item_place};
 ghost use Rattle.index.specs.Write.{total, size_for, head_bytes, index_bytes, index_len_lem, index_for_lem};
-ghost use Rattle.index.specs.Begun.{WroteItem, end_place};
+ghost use Rattle.index.specs.ItemOut.{Ends, WritesItem};
 
 pub mod items;
 
+use octets::out::Out;
 use refusal::Refusal;
 
 // An INDEX in a font: how many items, the bytes of an offset, where the offsets stand, the byte before the data, and the end.
@@ -192,45 +193,46 @@ pub fn index_for(at: usize, count: usize, total: usize) -> Index
 }
 
 // Writes what stands before the ends of an INDEX: its count and, where there are items, the offset size and the first offset, 1.
-pub fn put_head(out: &mut [u8], at: usize, count: usize, total: usize) -> usize
-    requires { (total < 4294967295) × (at + length (head_bytes count (size_for (total + 1))) ≤ length out.old) }
-    ensures { Wrote out.old at (head_bytes count (size_for (total + 1))) out.new result }
+pub fn put_head(out: &mut Out<'_>, count: usize, total: usize)
+    requires { (total < 4294967295) × (out.old.at + length (head_bytes count (size_for (total + 1))) ≤ length out.old.bytes.now) }
+    ensures { Writes out.old (head_bytes count (size_for (total + 1))) out.new }
 {
     if count == 0 {
-        return octets::put_num(out, at, 0, 2);
+        out.num(0, 2);
+        return;
     }
     let size = offset_size(total + 1);
-    let p = octets::put_num(out, at, count, 2);
-    let q = octets::put_num(out, p, size, 1);
-    octets::put_num(out, q, 1, size)
+    out.num(count, 2);
+    out.num(size, 1);
+    out.num(1, size);
 }
 
 // Writes an INDEX of one item.
-pub fn put_single(out: &mut [u8], at: usize, item: &[u8]) -> usize
-    requires { (length item.now < 4294967295) × (at + length (index_bytes (item.now ∷ [])) ≤ length out.old) }
-    ensures { Wrote out.old at (index_bytes (item.now ∷ [])) out.new result }
+pub fn put_single(out: &mut Out<'_>, item: &[u8])
+    requires { (length item.now < 4294967295) × (out.old.at + length (index_bytes (item.now ∷ [])) ≤ length out.old.bytes.now) }
+    ensures { Writes out.old (index_bytes (item.now ∷ [])) out.new }
 {
     let n = item.len();
-    let p = put_head(out, at, 1, n);
-    let q = octets::put_num(out, p, n + 1, offset_size(n + 1));
-    octets::put_bytes(out, q, item)
+    put_head(&mut *out, 1, n);
+    out.num(n + 1, offset_size(n + 1));
+    out.copy(item);
 }
 
-// Stores the offset of item k's end, of an INDEX that is being written, for the place after the item.
-pub fn put_end(out: &mut [u8], ix: Index, k: usize, next: usize) -> usize
-    requires { (Lies (length out.old) ix) × (k < ix.count) × (ix.base ≤ next) }
-    ensures { Wrote out.old (end_place ix k) (bytes_of ix.size (next - ix.base)) out.new result }
+// Stores the offset of item k's end, of an INDEX that is being written: the item ends where the output stands.
+pub fn put_end(out: &mut Out<'_>, ix: Index, k: usize)
+    requires { (Lies (length out.old.bytes.now) ix) × (k < ix.count) × (ix.base ≤ out.old.at) }
+    ensures { Ends out.old ix k out.new }
 {
     let size = ix.size;
-    octets::put_num(out, ix.table + (k + 1) * size, next - ix.base, size)
+    let end = out.at - ix.base;
+    octets::put_num(&mut *out.bytes, ix.table + (k + 1) * size, end, size);
 }
 
-// Copies item k of an INDEX that is being written to its place, and stores the offset of its end; returns the place after it.
-pub fn put_item(out: &mut [u8], ix: Index, k: usize, at: usize, item: &[u8]) -> usize
-    requires { (Lies (length out.old) ix) × (k < ix.count) × (ix.base ≤ at) × (at + length item.now ≤ length out.old) }
-    ensures { WroteItem out.old ix k at item.now out.new result }
+// Copies item k of an INDEX that is being written, and stores the offset of its end.
+pub fn put_item(out: &mut Out<'_>, ix: Index, k: usize, item: &[u8])
+    requires { (Lies (length out.old.bytes.now) ix) × (k < ix.count) × (ix.base ≤ out.old.at) × (out.old.at + length item.now ≤ length out.old.bytes.now) }
+    ensures { WritesItem out.old ix k item.now out.new }
 {
-    let next = octets::put_bytes(out, at, item);
-    put_end(out, ix, k, next);
-    next
+    out.copy(item);
+    put_end(out, ix, k);
 }

@@ -1,5 +1,5 @@
 -- Laws of a glyph's run: what it answers is over the glyph's unfolding, and the rows that it meets are a run's.
-use Rattle.std.specs.Prelude.{ℕ, ◌≡◌, None, Option, Some}
+use Rattle.std.specs.Prelude.{ℕ, ◌≡◌, Bool, true, false}
 use Rattle.std.proofs.Math.Path.{refl, ap, subst}
 use Rattle.std.proofs.Common.{sym, ◌∙◌, arith}
 use mathlib.Core.List.{List, [], ◌∷◌}
@@ -7,7 +7,7 @@ use Rattle.std.proofs.Math.ListN.{length}
 use Rattle.unfold.specs.Unfold.{Row, glyph, Run, broken as broke, returned as back, ended as done, run_body, Tok, Glyph, plain, glyph_of, unfold_glyph}
 use Rattle.unfold.specs.Unfold as bodies
 use Rattle.prune.specs.Bodies.{All}
-use Rattle.row_window.specs.Window.{Collecting}
+use Rattle.row_window.specs.declared.filling.Filling.{Filling}
 use Rattle.turns.specs.Turns.{Few}
 use Rattle.turns.specs.TargetLaws.{zero_one}
 use Rattle.interpret.specs.Trace.{Trace, trace_body, fresh}
@@ -47,38 +47,38 @@ rows-met globals locals fd g (b ∷ bs) ts rows e =
 
 -- ---- the ways out of the code
 
-module _ (font : List ℕ) (q : Subrs) (g : ℕ) (code : List ℕ) (range : Range) (keys : List ℕ) (n : ℕ) where
+module _ (font : List ℕ) (q : Subrs) (g : ℕ) (code : List ℕ) (range : Range) (old : Filling) where
   abbrev unfolded : List ℕ → Glyph
   unfolded s = unfold_glyph (globals_in font q) (locals_in font q) q.fd g s
 
   -- an empty charstring
-  pub glyph_empty : length code ≡ 0 → Collecting keys n → Meets (unfold_glyph (globals_in font q) (locals_in font q) q.fd g code) range keys n keys (Some n)
+  pub glyph_empty : length code ≡ 0 → Meets (unfold_glyph (globals_in font q) (locals_in font q) q.fd g code) range old old true
   unfolding unfold_glyph
-  glyph_empty e w = by code e
+  glyph_empty e = by code e
     where
-      by : (s : List ℕ) → length s ≡ 0 → Meets (unfolded s) range keys n keys (Some n)
-      by [] k = record { says = (n, refl, notes_none range w) }
+      by : (s : List ℕ) → length s ≡ 0 → Meets (unfolded s) range old old true
+      by [] k = record { says = (refl, notes_none range old) }
       by (b ∷ bs) k = absurd (omega (arith, k))
 
   -- any other: by how its run ends
-  abbrev met_by : Ran → Option ℕ
-  met_by Broken = None
-  met_by (Returned x m) = None
-  met_by (Ended m) = Some m
+  abbrev met_by : Ran → Bool
+  met_by Broken = false
+  met_by (Returned x) = false
+  met_by Ended = true
 
-  pub glyph_ran : (length code ≡ 0 → ⊥) → {keys' : List ℕ} {a : Ran} → Tells (trace_body (globals_in font q) (locals_in font q) q.fd 10 (glyph g) code fresh) range keys n keys' a
-      → (b : Ran) → a ≡ b → Meets (unfold_glyph (globals_in font q) (locals_in font q) q.fd g code) range keys n keys' (met_by b)
+  pub glyph_ran : (length code ≡ 0 → ⊥) → {new : Filling} {a : Ran} → Tells (trace_body (globals_in font q) (locals_in font q) q.fd 10 (glyph g) code fresh) range old new a
+      → (b : Ran) → a ≡ b → Meets (unfold_glyph (globals_in font q) (locals_in font q) q.fd g code) range old new (met_by b)
   unfolding unfold_glyph
-  glyph_ran h {keys'} {a} u b f = record { says = subst (λ (r : Ran). Meeting (unfolded code) range keys n keys' (met_by r)) f (by code h u.says) }
+  glyph_ran h {new} {a} u b f = record { says = subst (λ (r : Ran). Meeting (unfolded code) range old new (met_by r)) f (by code h u.says) }
     where
-      told : (r : Run) → Telling (tell r) range keys n keys' a → Meeting (glyph_of r) range keys n keys' (met_by a)
+      told : (r : Run) → Telling (tell r) range old new a → Meeting (glyph_of r) range old new (met_by a)
       told broke p = ap met_by p
-      told (back st) p = ap met_by p.1
-      told (done st) p = (p.0, ap met_by p.1, p.2)
+      told (back st) p = ap met_by p.0
+      told (done st) p = (ap met_by p.0, p.1)
 
-      by : (s : List ℕ) → (length s ≡ 0 → ⊥) → Telling (trace_body (globals_in font q) (locals_in font q) q.fd 10 (glyph g) s fresh) range keys n keys' a
-          → Meeting (unfolded s) range keys n keys' (met_by a)
+      by : (s : List ℕ) → (length s ≡ 0 → ⊥) → Telling (trace_body (globals_in font q) (locals_in font q) q.fd 10 (glyph g) s fresh) range old new a
+          → Meeting (unfolded s) range old new (met_by a)
       by [] k p = absurd (k refl)
       by (c ∷ cs) k p =
           told (run_body (globals_in font q) (locals_in font q) q.fd 10 (glyph g) (c ∷ cs) bodies.fresh)
-          (subst (λ (t : Trace). Telling t range keys n keys' a) (sym (glyph_as (globals_in font q) (locals_in font q) q.fd g (c ∷ cs))) p)
+          (subst (λ (t : Trace). Telling t range old new a) (sym (glyph_as (globals_in font q) (locals_in font q) q.fd g (c ∷ cs))) p)

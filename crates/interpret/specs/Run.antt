@@ -1,11 +1,13 @@
 -- What running a body asks, and what it leaves: rows as keys, noted in a window of a range (crates/row_window), and the code's answers.
-use Rattle.std.specs.Prelude.{ℕ, ◌≤◌, ◌<◌, ◌≡◌, Bool, true, false, List, map, length, None, Option, Some}
+use Rattle.std.specs.Prelude.{ℕ, ◌≤◌, ◌<◌, ◌≡◌, Bool, true, false, List, map, length}
 use Rattle.index.specs.Index.{items_of}
 use Rattle.index.specs.Good.{Good}
 use Rattle.unfold.specs.Unfold.{Row, Glyph, not_plain_lem, plain}
 use Rattle.unfold.specs.Unfold as bodies
 use Rattle.row_window.specs.Key.{key_of_lem}
-use Rattle.row_window.specs.Window.{within, Collects}
+use Rattle.row_window.specs.Window.{within}
+use Rattle.row_window.specs.Filled.{Adds}
+use Rattle.row_window.specs.declared.filling.Filling.{Filling}
 use Rattle.interpret.specs.Trace.{Trace, broken, returned, ended, trace_body, trace_call}
 use Rattle.turns.specs.declared.Counts.{Counts}
 use Rattle.interpret.specs.declared.Subrs.{Subrs}
@@ -52,23 +54,23 @@ call_of font q depth wide i x = trace_call (globals_in font q) (locals_in font q
 abbrev pub key_for : Row → ℕ
 key_for r = key_of_lem r.kind r.fd r.number r.offset r.len
 
--- rows noted in a window of a range, from n keys on to m
-abbrev pub Notes : Range → List Row → List ℕ → ℕ → List ℕ → ℕ → Type 0
-Notes range rows keys n keys' m = Collects (within range.low range.high (map key_for rows)) keys n keys' m
+-- rows noted in a window of a range
+abbrev pub Notes : Range → List Row → Filling → Filling → Type 0
+Notes range rows old new = Adds (within range.low range.high (map key_for rows)) old new
 
 -- what a body's run answers, and what it leaves in the window
-abbrev pub Telling : Trace → Range → List ℕ → ℕ → List ℕ → Ran → Type 0
-Telling broken range keys n keys' r = r ≡ Broken
-Telling (returned x rows) range keys n keys' r = (m : ℕ) × (r ≡ Returned x m) × Notes range rows keys n keys' m
-Telling (ended rows) range keys n keys' r = (m : ℕ) × (r ≡ Ended m) × Notes range rows keys n keys' m
+abbrev pub Telling : Trace → Range → Filling → Filling → Ran → Type 0
+Telling broken range old new r = r ≡ Broken
+Telling (returned x rows) range old new r = (r ≡ Returned x) × Notes range rows old new
+Telling (ended rows) range old new r = (r ≡ Ended) × Notes range rows old new
 
-pub record Tells (t : Trace) (range : Range) (keys : List ℕ) (n : ℕ) (keys' : List ℕ) (r : Ran) : Type 0 where
-  pub says : Telling t range keys n keys' r
+pub record Tells (t : Trace) (range : Range) (old new : Filling) (r : Ran) : Type 0 where
+  pub says : Telling t range old new r
 
 -- the same of a glyph, over its unfolding
-abbrev pub Meeting : Glyph → Range → List ℕ → ℕ → List ℕ → Option ℕ → Type 0
-Meeting not_plain_lem range keys n keys' r = r ≡ None
-Meeting (plain ts rows) range keys n keys' r = (m : ℕ) × (r ≡ Some m) × Notes range rows keys n keys' m
+abbrev pub Meeting : Glyph → Range → Filling → Filling → Bool → Type 0
+Meeting not_plain_lem range old new r = r ≡ false
+Meeting (plain ts rows) range old new r = (r ≡ true) × Notes range rows old new
 
-pub record Meets (g : Glyph) (range : Range) (keys : List ℕ) (n : ℕ) (keys' : List ℕ) (r : Option ℕ) : Type 0 where
-  pub says : Meeting g range keys n keys' r
+pub record Meets (g : Glyph) (range : Range) (old new : Filling) (r : Bool) : Type 0 where
+  pub says : Meeting g range old new r

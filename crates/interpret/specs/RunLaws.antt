@@ -7,8 +7,9 @@ use Rattle.std.proofs.lemmas.List.{map-append}
 use native.Mathlib.Omega.{arith}
 use Rattle.index.specs.IndexLaws.{items-length}
 use Rattle.unfold.specs.Unfold.{Row, Site, entered, masked, is_glyph}
-use Rattle.row_window.specs.Window.{within, Collecting, Collects}
-use Rattle.row_window.specs.WindowLaws.{collects_none, collects_as, notes_then}
+use Rattle.row_window.specs.Window.{within}
+use Rattle.row_window.specs.Filled.{adds_none, adds_as, adds_then}
+use Rattle.row_window.specs.declared.filling.Filling.{Filling}
 use Rattle.turns.specs.Turns.{Few, turn_at_lem}
 use Rattle.turns.specs.TargetLaws.{zero_one}
 use Rattle.turns.specs.TurnLaws.{Sound, turn_sound}
@@ -29,20 +30,15 @@ use Rattle.interpret.specs.declared.Ran.TheVariants.{Broken, Returned, Ended}
 -- ---- rows noted one after the other
 
 module _ (range : Range) where
-  pub notes_none : {keys : List ℕ} {n : ℕ} → Collecting keys n → Notes range [] keys n keys n
+  pub notes_none : (w : Filling) → Notes range [] w w
   unfolding within
-  notes_none w = collects_none w
+  notes_none w = adds_none w
 
-  pub notes_both : (a b : List Row) {keys keys' keys'' : List ℕ} {n m k : ℕ} → Notes range a keys n keys' m → Notes range b keys' m keys'' k → Notes range (a ++ b) keys n keys'' k
-  notes_both a b f g = collects_as (notes_then range.low range.high (map key_for a) (map key_for b) f g) (ap (within range.low range.high) (sym (map-append key_for a b)))
+  pub notes_both : (a b : List Row) {u v w : Filling} → Notes range a u v → Notes range b v w → Notes range (a ++ b) u w
+  notes_both a b f g = adds_as (adds_then range.low range.high (map key_for a) (map key_for b) f g) (ap (within range.low range.high) (sym (map-append key_for a b)))
 
-  notes_as : {a b : List Row} {keys keys' : List ℕ} {n m : ℕ} → Notes range a keys n keys' m → a ≡ b → Notes range b keys n keys' m
-  notes_as {a} {b} {keys} {keys'} {n} {m} f e = subst (λ (l : List Row). Notes range l keys n keys' m) e f
-
-  -- one row, by its key
-  pub notes_one : (row : Row) (key : ℕ) → key ≡ key_for row → {keys keys' : List ℕ} {n m : ℕ} → Collects (within range.low range.high (key ∷ [])) keys n keys' m
-      → Notes range (row ∷ []) keys n keys' m
-  notes_one row key e f = collects_as f (ap (λ (k : ℕ). within range.low range.high (k ∷ [])) e)
+  notes_as : {a b : List Row} {u v : Filling} → Notes range a u v → a ≡ b → Notes range b u v
+  notes_as {a} {b} {u} {v} f e = subst (λ (l : List Row). Notes range l u v) e f
 
 -- ---- what the code asks of its parts
 
@@ -83,17 +79,17 @@ module _ (globals locals : List (List ℕ)) (fd d : ℕ) (site : Site) (s : List
       by zero = refl
       by (suc k) = refl
 
-  pub record Going (whole : Trace) (range : Range) (keys₀ : List ℕ) (n₀ : ℕ) (keys : List ℕ) (n at prev : ℕ) (x : Counts) : Type 0 where
+  pub record Going (whole : Trace) (range : Range) (old now : Filling) (at prev : ℕ) (x : Counts) : Type 0 where
     pub fuel : ℕ
     pub enough : length s ≤ at + fuel
     pub few : Few x
     pub rows : List Row
-    pub noting : Notes range rows keys₀ n₀ keys n
+    pub noting : Notes range rows old now
     pub left : whole ≡ meets rows (rest fuel at prev x)
 
-  pub going_start : (range : Range) (keys : List ℕ) (n : ℕ) (x : Counts) → Collecting keys n → Few x
-      → Going (trace_body globals locals fd d site s x) range keys n keys n 0 0 x
-  going_start range keys n x w f =
+  pub going_start : (range : Range) (w : Filling) (x : Counts) → Few x
+      → Going (trace_body globals locals fd d site s x) range w w 0 0 x
+  going_start range w x f =
       record { fuel = length s; enough = omega arith; few = f; rows = []; noting = notes_none range w; left = run_walks x ∙ sym (meets-none _) }
 
   -- a turn inside a body
@@ -104,8 +100,8 @@ module _ (globals locals : List (List ℕ)) (fd d : ℕ) (site : Site) (s : List
   turn_at zero at prev x h e = absurd (omega arith)
   turn_at (suc k) at prev x h e = (k, omega arith, rw (lt-ltb at (length s) h))
 
-  module _ (whole : Trace) (range : Range) (keys₀ : List ℕ) (n₀ : ℕ) (keys : List ℕ) (n at prev : ℕ) (x : Counts)
-      (g : Going whole range keys₀ n₀ keys n at prev x) (h : at < length s)
+  module _ (whole : Trace) (range : Range) (old now : Filling) (at prev : ℕ) (x : Counts)
+      (g : Going whole range old now at prev x) (h : at < length s)
       (r : Turn) (e : r ≡ turn_at_lem (length locals) (length globals) (is_glyph site) s at prev x) where
     turn : (k : ℕ) × (length s ≤ at + 1 + k)
         × (rest g.fuel at prev x ≡ turned globals locals fd (enter_at globals locals fd d) (λ m p y. rest k m p y) site at (turn_at_lem (length locals) (length globals) (is_glyph site) s at prev x))
@@ -121,29 +117,29 @@ module _ (globals locals : List (List ℕ)) (fd d : ℕ) (site : Site) (s : List
     sound t f = subst (Sound (length locals) (length globals) s at) (sym e ∙ f) (turn_sound (length locals) (length globals) s at h (is_glyph site) prev x g.few)
 
     -- it breaks, returns, ends
-    pub going_breaks : r ≡ Breaks → Telling whole range keys₀ n₀ keys Broken
-    going_breaks f = subst (λ (t : Trace). Telling t range keys₀ n₀ keys Broken) (sym (whole_is Breaks f)) refl
+    pub going_breaks : r ≡ Breaks → Telling whole range old now Broken
+    going_breaks f = subst (λ (t : Trace). Telling t range old now Broken) (sym (whole_is Breaks f)) refl
 
-    noted : Notes range (g.rows ++ []) keys₀ n₀ keys n
+    noted : Notes range (g.rows ++ []) old now
     noted = notes_as range g.noting (sym (append-nil g.rows))
 
-    pub going_returns : (y : Counts) → r ≡ Returns y → Telling whole range keys₀ n₀ keys (Returned y n)
-    going_returns y f = subst (λ (t : Trace). Telling t range keys₀ n₀ keys (Returned y n)) (sym (whole_is (Returns y) f)) (n, refl, noted)
+    pub going_returns : (y : Counts) → r ≡ Returns y → Telling whole range old now (Returned y)
+    going_returns y f = subst (λ (t : Trace). Telling t range old now (Returned y)) (sym (whole_is (Returns y) f)) (refl, noted)
 
-    pub going-ends : r ≡ Ends → Telling whole range keys₀ n₀ keys (Ended n)
-    going-ends f = subst (λ (t : Trace). Telling t range keys₀ n₀ keys (Ended n)) (sym (whole_is Ends f)) (n, refl, noted)
+    pub going-ends : r ≡ Ends → Telling whole range old now Ended
+    going-ends f = subst (λ (t : Trace). Telling t range old now Ended) (sym (whole_is Ends f)) (refl, noted)
 
     -- it goes on
-    pub going_on : (m p : ℕ) (y : Counts) → r ≡ Goes m p y → Going whole range keys₀ n₀ keys n m p y
+    pub going_on : (m p : ℕ) (y : Counts) → r ≡ Goes m p y → Going whole range old now m p y
     going_on m p y f =
         let k = sound (Goes m p y) f in
         record { fuel = turn.0; enough = omega (arith, turn.1); few = k.2; rows = g.rows; noting = g.noting; left = whole_is (Goes m p y) f }
 
     -- a mask is met
-    pub going-mask : (len : ℕ) (y : Counts) → r ≡ Masks len y → (keys' : List ℕ) (n' : ℕ) → Notes range (masked site at len ∷ []) keys n keys' n'
-        → (m : ℕ) → m ≡ at + 1 + len → Going whole range keys₀ n₀ keys' n' m m y
-    going-mask len y f keys' n' t m q =
-        subst (λ (k : ℕ). Going whole range keys₀ n₀ keys' n' k k y) (sym q)
+    pub going-mask : (len : ℕ) (y : Counts) → r ≡ Masks len y → (new : Filling) → Notes range (masked site at len ∷ []) now new
+        → (m : ℕ) → m ≡ at + 1 + len → Going whole range old new m m y
+    going-mask len y f new t m q =
+        subst (λ (k : ℕ). Going whole range old new k k y) (sym q)
         (record {
           fuel = turn.0;
           enough = omega (arith, turn.1);
@@ -154,8 +150,8 @@ module _ (globals locals : List (List ℕ)) (fd d : ℕ) (site : Site) (s : List
         })
 
     -- a call, and how it ended
-    module _ (wide : Bool) (i : ℕ) (y : Counts) (f : r ≡ Calls wide i y) (keys' : List ℕ) (a : Ran)
-        (u : Telling (trace_call globals locals fd d wide i y) range keys n keys' a) where
+    module _ (wide : Bool) (i : ℕ) (y : Counts) (f : r ≡ Calls wide i y) (new : Filling) (a : Ran)
+        (u : Telling (trace_call globals locals fd d wide i y) range now new a) where
       abbrev called : Trace
       called = trace_call globals locals fd d wide i y
 
@@ -165,8 +161,8 @@ module _ (globals locals : List (List ℕ)) (fd d : ℕ) (site : Site) (s : List
           ∙ ap (meets g.rows) (meets-after (entered (site_for fd wide i) ∷ []) (enter_at globals locals fd d (site_for fd wide i) (body_for globals locals wide i) y) (λ z. rest turn.0 (at + 1) (at + 1) z)
           ∙ ap (λ (t : Trace). afterwards t (λ z. rest turn.0 (at + 1) (at + 1) z)) j)
 
-      told : (v : Trace) → called ≡ v → Telling v range keys n keys' a
-      told v j = subst (λ (t : Trace). Telling t range keys n keys' a) j u
+      told : (v : Trace) → called ≡ v → Telling v range now new a
+      told v j = subst (λ (t : Trace). Telling t range now new a) j u
 
       few-after : (v : Counts) (rs : List Row) → called ≡ returned v rs → Few v
       few-after v rs j =
@@ -174,58 +170,54 @@ module _ (globals locals : List (List ℕ)) (fd d : ℕ) (site : Site) (s : List
           (subst (Proper globals locals fd 0 []) j (proper_call globals locals fd 0 [] d wide i y k.0 k.1)).0
 
       -- it returned
-      pub going-returned : (z : Counts) (m : ℕ) → a ≡ Returned z m → Going whole range keys₀ n₀ keys' m (at + 1) (at + 1) z
-      going-returned z m q = by called refl
+      pub going-returned : (z : Counts) → a ≡ Returned z → Going whole range old new (at + 1) (at + 1) z
+      going-returned z q = by called refl
         where
-          same : (v : Counts) (k : ℕ) → Returned v k ≡ Returned z m → (v ≡ z) × (k ≡ m)
-          same v k j = (cc, cc)
+          same : (v : Counts) → Returned v ≡ Returned z → v ≡ z
+          same v j = cc
 
-          by : (v : Trace) → called ≡ v → Going whole range keys₀ n₀ keys' m (at + 1) (at + 1) z
+          by : (v : Trace) → called ≡ v → Going whole range old new (at + 1) (at + 1) z
           by broken j = let k : a ≡ Broken = told broken j in absurd (zero_one cc)
-          by (ended rs) j = let k = told (ended rs) j in let l : a ≡ Ended k.0 = k.1 in absurd (zero_one cc)
+          by (ended rs) j = let k : a ≡ Ended = (told (ended rs) j).0 in absurd (zero_one cc)
           by (returned v rs) j =
               let k = told (returned v rs) j in
-              let w = same v k.0 (sym k.1 ∙ q) in
+              let w = same v (sym k.0 ∙ q) in
               record {
                 fuel = turn.0;
                 enough = omega (arith, turn.1);
-                few = subst Few w.0 (few-after v rs j);
+                few = subst Few w (few-after v rs j);
                 rows = g.rows ++ rs;
-                noting = notes_both range g.rows rs g.noting (subst (λ (c : ℕ). Notes range rs keys n keys' c) w.1 k.2);
+                noting = notes_both range g.rows rs g.noting k.1;
                 left = whole-calls (returned v rs) j ∙ meets-both g.rows rs (rest turn.0 (at + 1) (at + 1) v)
-                    ∙ ap (λ (c : Counts). meets (g.rows ++ rs) (rest turn.0 (at + 1) (at + 1) c)) w.0;
+                    ∙ ap (λ (c : Counts). meets (g.rows ++ rs) (rest turn.0 (at + 1) (at + 1) c)) w;
               }
 
       -- it ended all
-      pub going_ended : (m : ℕ) → a ≡ Ended m → Telling whole range keys₀ n₀ keys' (Ended m)
-      going_ended m q = by called refl
+      pub going_ended : a ≡ Ended → Telling whole range old new Ended
+      going_ended q = by called refl
         where
-          same : (k : ℕ) → Ended k ≡ Ended m → k ≡ m
-          same k j = cc
-
-          by : (v : Trace) → called ≡ v → Telling whole range keys₀ n₀ keys' (Ended m)
+          by : (v : Trace) → called ≡ v → Telling whole range old new Ended
           by broken j = let k : a ≡ Broken = told broken j in absurd (zero_one cc)
-          by (returned v rs) j = let k = told (returned v rs) j in let l : a ≡ Returned v k.0 = k.1 in absurd (zero_one cc)
+          by (returned v rs) j = let k : a ≡ Returned v = (told (returned v rs) j).0 in absurd (zero_one cc)
           by (ended rs) j =
-              let k = told (ended rs) j in
-              subst (λ (c : Trace). Telling c range keys₀ n₀ keys' (Ended m)) (sym (whole-calls (ended rs) j))
-              (m, refl, notes_both range g.rows rs g.noting (subst (λ (c : ℕ). Notes range rs keys n keys' c) (same k.0 (sym k.1 ∙ q)) k.2))
+              subst (λ (c : Trace). Telling c range old new Ended) (sym (whole-calls (ended rs) j))
+              (refl, notes_both range g.rows rs g.noting (told (ended rs) j).1)
 
       -- it broke
-      pub going_broken : a ≡ Broken → Telling whole range keys₀ n₀ keys' Broken
+      pub going_broken : a ≡ Broken → Telling whole range old new Broken
       going_broken q = by called refl
         where
-          by : (v : Trace) → called ≡ v → Telling whole range keys₀ n₀ keys' Broken
-          by broken j = subst (λ (c : Trace). Telling c range keys₀ n₀ keys' Broken) (sym (whole-calls broken j)) refl
-          by (returned v rs) j = let k = told (returned v rs) j in let l : a ≡ Returned v k.0 = k.1 in absurd (zero_one cc)
-          by (ended rs) j = let k = told (ended rs) j in let l : a ≡ Ended k.0 = k.1 in absurd (zero_one cc)
+          by : (v : Trace) → called ≡ v → Telling whole range old new Broken
+          by broken j = subst (λ (c : Trace). Telling c range old new Broken) (sym (whole-calls broken j)) refl
+          by (returned v rs) j = let k : a ≡ Returned v = (told (returned v rs) j).0 in absurd (zero_one cc)
+          by (ended rs) j = let k : a ≡ Ended = (told (ended rs) j).0 in absurd (zero_one cc)
 
   -- past the end
-  pub going_off : (whole : Trace) (range : Range) (keys₀ : List ℕ) (n₀ : ℕ) (keys : List ℕ) (n at prev : ℕ) (x : Counts)
-      → Going whole range keys₀ n₀ keys n at prev x → length s ≤ at → Telling whole range keys₀ n₀ keys Broken
+  pub going_off : (whole : Trace) (range : Range) (old now : Filling) (at prev : ℕ) (x : Counts)
+      → Going whole range old now at prev x → length s ≤ at → Telling whole range old now Broken
   unfolding trace_walk
-  going_off whole range keys₀ n₀ keys n at prev x g h =
-      subst (λ (t : Trace). Telling t range keys₀ n₀ keys Broken) (sym (g.left ∙ ap (meets g.rows) (by g.fuel))) refl
+  going_off whole range old now at prev x g h =
+      subst (λ (t : Trace). Telling t range old now Broken) (sym (g.left ∙ ap (meets g.rows) (by g.fuel))) refl
     where
       by : (k : ℕ) → rest k at prev x ≡ broken
       by zero = refl
@@ -239,7 +231,7 @@ unfolding enter_at
 deeper globals locals fd zero t s x l = absurd (l refl)
 deeper globals locals fd (suc k) t s x l = let z : suc k - 1 ≡ k = omega arith in rw z
 
-module _ (globals locals : List (List ℕ)) (fd d : ℕ) (wide : Bool) (i : ℕ) (x : Counts) (range : Range) (keys : List ℕ) (n : ℕ) where
+module _ (globals locals : List (List ℕ)) (fd d : ℕ) (wide : Bool) (i : ℕ) (x : Counts) (range : Range) (old : Filling) where
   abbrev which : Site
   which = site_for fd wide i
 
@@ -247,20 +239,20 @@ module _ (globals locals : List (List ℕ)) (fd d : ℕ) (wide : Bool) (i : ℕ)
   body = body_for globals locals wide i
 
   -- too deep
-  pub call_deep : d ≡ 0 → Telling (trace_call globals locals fd d wide i x) range keys n keys Broken
+  pub call_deep : d ≡ 0 → Telling (trace_call globals locals fd d wide i x) range old old Broken
   unfolding enter_at
-  call_deep z = subst (λ (k : ℕ). Telling (trace_call globals locals fd k wide i x) range keys n keys Broken) (sym z) refl
+  call_deep z = subst (λ (k : ℕ). Telling (trace_call globals locals fd k wide i x) range old old Broken) (sym z) refl
 
   -- its row, and then the subroutine's
-  pub call_runs : (d ≡ 0 → ⊥) → (keys' : List ℕ) (n' : ℕ) → Notes range (entered which ∷ []) keys n keys' n' → (keys'' : List ℕ) (a : Ran)
-      → Telling (trace_body globals locals fd (d - 1) which body x) range keys' n' keys'' a → Telling (trace_call globals locals fd d wide i x) range keys n keys'' a
-  call_runs deep keys' n' t keys'' a u =
-      subst (λ (c : Trace). Telling (meets (entered which ∷ []) c) range keys n keys'' a) (sym (enters d deep)) (by (trace_body globals locals fd (d - 1) which body x) u)
+  pub call_runs : (d ≡ 0 → ⊥) → (mid : Filling) → Notes range (entered which ∷ []) old mid → (new : Filling) (a : Ran)
+      → Telling (trace_body globals locals fd (d - 1) which body x) range mid new a → Telling (trace_call globals locals fd d wide i x) range old new a
+  call_runs deep mid t new a u =
+      subst (λ (c : Trace). Telling (meets (entered which ∷ []) c) range old new a) (sym (enters d deep)) (by (trace_body globals locals fd (d - 1) which body x) u)
     where
       enters : (k : ℕ) → (k ≡ 0 → ⊥) → enter_at globals locals fd k which body x ≡ trace_body globals locals fd (k - 1) which body x
       enters k l = deeper globals locals fd k which body x l
 
-      by : (v : Trace) → Telling v range keys' n' keys'' a → Telling (meets (entered which ∷ []) v) range keys n keys'' a
+      by : (v : Trace) → Telling v range mid new a → Telling (meets (entered which ∷ []) v) range old new a
       by broken p = p
-      by (returned z rs) p = (p.0, p.1, notes_both range (entered which ∷ []) rs t p.2)
-      by (ended rs) p = (p.0, p.1, notes_both range (entered which ∷ []) rs t p.2)
+      by (returned z rs) p = (p.0, notes_both range (entered which ∷ []) rs t p.1)
+      by (ended rs) p = (p.0, notes_both range (entered which ∷ []) rs t p.1)

@@ -4,7 +4,7 @@ use Rattle.std.proofs.Common.{sym, ap, ◌∙◌, subst, arith}
 use Rattle.octets.specs.Pick.{pick}
 use Rattle.index.specs.IndexLaws.{items-length, item-short}
 use Rattle.unfold.specs.Unfold.{Site, entered, masked, is_glyph}
-use Rattle.row_window.specs.Window.{Collecting}
+use Rattle.row_window.specs.declared.filling.Filling.{Filling}
 use Rattle.turns.specs.Turns.{Few, turn_at_lem}
 use Rattle.turns.specs.declared.Counts.{Counts}
 use Rattle.turns.specs.declared.Turn.{Turn}
@@ -18,18 +18,18 @@ use Rattle.interpret.specs.declared.Site.{Site as Body}
 use Rattle.interpret.specs.declared.Ran.{Ran}
 use Rattle.interpret.specs.declared.Ran.TheVariants.{Broken, Returned, Ended}
 
-pub record Standing (font : List ℕ) (q : Subrs) (depth : ℕ) (site : Body) (code : List ℕ) (start : Counts) (range : Range) (keys₀ : List ℕ) (held : ℕ) (own : Bool)
-    (keys : List ℕ) (n at prev : ℕ) (x : Counts) : Type 0 where
+pub record Standing (font : List ℕ) (q : Subrs) (depth : ℕ) (site : Body) (code : List ℕ) (start : Counts) (range : Range) (old : Filling) (own : Bool)
+    (now : Filling) (at prev : ℕ) (x : Counts) : Type 0 where
   pub ready : Ready font q
   pub size : length code ≤ 67108864
   pub kind : own ≡ is_glyph (site_of site)
-  pub going : Going (globals_in font q) (locals_in font q) q.fd depth (site_of site) code (whole_of font q depth site code start) range keys₀ held keys n at prev x
+  pub going : Going (globals_in font q) (locals_in font q) q.fd depth (site_of site) code (whole_of font q depth site code start) range old now at prev x
 
-pub stand_start : (font : List ℕ) (q : Subrs) (depth : ℕ) (site : Body) (code : List ℕ) (start : Counts) (range : Range) (keys : List ℕ) (held : ℕ) (own : Bool)
-    → Ready font q → length code ≤ 67108864 → Few start → Collecting keys held → own ≡ is_glyph (site_of site)
-    → Standing font q depth site code start range keys held own keys held 0 0 start
-stand_start font q depth site code start range keys held own r s w v e =
-    record { ready = r; size = s; kind = e; going = going_start (globals_in font q) (locals_in font q) q.fd depth (site_of site) code range keys held start v w }
+pub stand_start : (font : List ℕ) (q : Subrs) (depth : ℕ) (site : Body) (code : List ℕ) (start : Counts) (range : Range) (w : Filling) (own : Bool)
+    → Ready font q → length code ≤ 67108864 → Few start → own ≡ is_glyph (site_of site)
+    → Standing font q depth site code start range w own w 0 0 start
+stand_start font q depth site code start range w own r s f e =
+    record { ready = r; size = s; kind = e; going = going_start (globals_in font q) (locals_in font q) q.fd depth (site_of site) code range w start f }
 
 -- a subroutine that is named, by the counts
 counted : (font : List ℕ) (q : Subrs) (wide : Bool) (i : ℕ) → i < pick wide (length (globals_in font q)) (length (locals_in font q)) → i < pick wide q.globals.count q.locals.count
@@ -55,8 +55,8 @@ subr_local font q wide i e h = subst (λ (w : Bool). i < pick w q.globals.count 
 pub body_is : (font : List ℕ) (q : Subrs) (wide t : Bool) (i : ℕ) (b : List ℕ) → wide ≡ t → b ≡ body_for (globals_in font q) (locals_in font q) t i → b ≡ body_for (globals_in font q) (locals_in font q) wide i
 body_is font q wide t i b e f = f ∙ ap (λ (w : Bool). body_for (globals_in font q) (locals_in font q) w i) (sym e)
 
-module _ {font : List ℕ} {q : Subrs} {depth : ℕ} {site : Body} {code : List ℕ} {start : Counts} {range : Range} {keys₀ : List ℕ} {held : ℕ} {own : Bool}
-    {keys : List ℕ} {n at prev : ℕ} {x : Counts} (w : Standing font q depth site code start range keys₀ held own keys n at prev x) where
+module _ {font : List ℕ} {q : Subrs} {depth : ℕ} {site : Body} {code : List ℕ} {start : Counts} {range : Range} {old : Filling} {own : Bool}
+    {now : Filling} {at prev : ℕ} {x : Counts} (w : Standing font q depth site code start range old own now at prev x) where
   abbrev G : List (List ℕ)
   G = globals_in font q
 
@@ -69,71 +69,65 @@ module _ {font : List ℕ} {q : Subrs} {depth : ℕ} {site : Body} {code : List 
   pub stand_few : Few x
   stand_few = w.going.few
 
-  pub stand_window : Collecting keys n
-  stand_window = w.going.noting.window
-
-  pub stand_room : length keys ≡ length keys₀
-  stand_room = w.going.noting.room
-
   -- the same with the loop further on
-  onward : {keys' : List ℕ} {n' at' prev' : ℕ} {y : Counts} → Going G L q.fd depth (site_of site) code whole range keys₀ held keys' n' at' prev' y
-      → Standing font q depth site code start range keys₀ held own keys' n' at' prev' y
+  onward : {new : Filling} {at' prev' : ℕ} {y : Counts} → Going G L q.fd depth (site_of site) code whole range old new at' prev' y
+      → Standing font q depth site code start range old own new at' prev' y
   onward g = record { ready = w.ready; size = w.size; kind = w.kind; going = g }
 
-  pub stand_off : length code ≤ at → Tells whole range keys₀ held keys Broken
-  stand_off h = record { says = going_off G L q.fd depth (site_of site) code whole range keys₀ held keys n at prev x w.going h }
+  pub stand_off : length code ≤ at → Tells whole range old now Broken
+  stand_off h = record { says = going_off G L q.fd depth (site_of site) code whole range old now at prev x w.going h }
 
   module _ (h : at < length code) {r : Turn} (e : r ≡ turn_at_lem q.locals.count q.globals.count own code at prev x) where
     told : r ≡ turn_at_lem (length L) (length G) (is_glyph (site_of site)) code at prev x
     told = turn-told font q site own w.kind code at prev x r e
 
-    pub stand_breaks : r ≡ Breaks → Tells whole range keys₀ held keys Broken
-    stand_breaks f = record { says = going_breaks G L q.fd depth (site_of site) code whole range keys₀ held keys n at prev x w.going h r told f }
+    pub stand_breaks : r ≡ Breaks → Tells whole range old now Broken
+    stand_breaks f = record { says = going_breaks G L q.fd depth (site_of site) code whole range old now at prev x w.going h r told f }
 
-    pub stand_returns : (y : Counts) → r ≡ Returns y → Tells whole range keys₀ held keys (Returned y n)
-    stand_returns y f = record { says = going_returns G L q.fd depth (site_of site) code whole range keys₀ held keys n at prev x w.going h r told y f }
+    pub stand_returns : (y : Counts) → r ≡ Returns y → Tells whole range old now (Returned y)
+    stand_returns y f = record { says = going_returns G L q.fd depth (site_of site) code whole range old now at prev x w.going h r told y f }
 
-    pub stand_ends : r ≡ Ends → Tells whole range keys₀ held keys (Ended n)
-    stand_ends f = record { says = going-ends G L q.fd depth (site_of site) code whole range keys₀ held keys n at prev x w.going h r told f }
+    pub stand_ends : r ≡ Ends → Tells whole range old now Ended
+    stand_ends f = record { says = going-ends G L q.fd depth (site_of site) code whole range old now at prev x w.going h r told f }
 
     -- on in the same body
     module _ (m p : ℕ) (y : Counts) (f : r ≡ Goes m p y) where
       pub stand_further : at < m
-      stand_further = (sound G L q.fd depth (site_of site) code whole range keys₀ held keys n at prev x w.going h r told (Goes m p y) f).0
+      stand_further = (sound G L q.fd depth (site_of site) code whole range old now at prev x w.going h r told (Goes m p y) f).0
 
-      pub stand_goes : Standing font q depth site code start range keys₀ held own keys n m p y
-      stand_goes = onward (going_on G L q.fd depth (site_of site) code whole range keys₀ held keys n at prev x w.going h r told m p y f)
+      pub stand_goes : Standing font q depth site code start range old own now m p y
+      stand_goes = onward (going_on G L q.fd depth (site_of site) code whole range old now at prev x w.going h r told m p y f)
 
     -- a mask
     module _ (len : ℕ) (y : Counts) (f : r ≡ Masks len y) where
       pub mask-short : len < 16
       mask-short =
-          let k = sound G L q.fd depth (site_of site) code whole range keys₀ held keys n at prev x w.going h r told (Masks len y) f in omega (arith, k.0)
+          let k = sound G L q.fd depth (site_of site) code whole range old now at prev x w.going h r told (Masks len y) f in omega (arith, k.0)
 
       pub mask-room : at + 1 + len ≤ length code
-      mask-room = (sound G L q.fd depth (site_of site) code whole range keys₀ held keys n at prev x w.going h r told (Masks len y) f).1
+      mask-room = (sound G L q.fd depth (site_of site) code whole range old now at prev x w.going h r told (Masks len y) f).1
 
-      pub stand_masks : {keys' : List ℕ} {n' : ℕ} → Notes range (masked (site_of site) at len ∷ []) keys n keys' n'
-          → Standing font q depth site code start range keys₀ held own keys' n' (at + 1 + len) (at + 1 + len) y
-      stand_masks {keys'} {n'} t =
-          onward (going-mask G L q.fd depth (site_of site) code whole range keys₀ held keys n at prev x w.going h r told len y f keys' n' t (at + 1 + len) refl)
+      pub stand_masks : {new : Filling} → Notes range (masked (site_of site) at len ∷ []) now new
+          → Standing font q depth site code start range old own new (at + 1 + len) (at + 1 + len) y
+      stand_masks {new} t =
+          onward (going-mask G L q.fd depth (site_of site) code whole range old now at prev x w.going h r told len y f new t (at + 1 + len) refl)
 
     -- a call
     module _ (wide : Bool) (i : ℕ) (y : Counts) (f : r ≡ Calls wide i y) where
-      pub call_asks : (i < pick wide q.globals.count q.locals.count) × (Few y) × (Collecting keys n)
+      pub call_asks : (i < pick wide q.globals.count q.locals.count) × (Few y)
       call_asks =
-          let k = sound G L q.fd depth (site_of site) code whole range keys₀ held keys n at prev x w.going h r told (Calls wide i y) f in
-          (counted font q wide i k.0, k.1, stand_window)
+          let k = sound G L q.fd depth (site_of site) code whole range old now at prev x w.going h r told (Calls wide i y) f in
+          (counted font q wide i k.0, k.1)
 
-      module _ {keys' : List ℕ} {v : Ran} (u : Tells (call_of font q depth wide i y) range keys n keys' v) where
-        pub stand_broken : v ≡ Broken → Tells whole range keys₀ held keys' Broken
-        stand_broken k = record { says = going_broken G L q.fd depth (site_of site) code whole range keys₀ held keys n at prev x w.going h r told wide i y f keys' v u.says k }
+      module _ {new : Filling} {v : Ran} (u : Tells (call_of font q depth wide i y) range now new v) where
+        pub stand_broken : v ≡ Broken → Tells whole range old new Broken
+        stand_broken k = record { says = going_broken G L q.fd depth (site_of site) code whole range old now at prev x w.going h r told wide i y f new v u.says k }
 
-        pub stand_ended : (m : ℕ) → v ≡ Ended m → Tells whole range keys₀ held keys' (Ended m)
-        stand_ended m k = record { says = going_ended G L q.fd depth (site_of site) code whole range keys₀ held keys n at prev x w.going h r told wide i y f keys' v u.says m k }
+        pub stand_ended : v ≡ Ended → Tells whole range old new Ended
+        stand_ended k = record { says = going_ended G L q.fd depth (site_of site) code whole range old now at prev x w.going h r told wide i y f new v u.says k }
 
-        pub stand_returned : (z : Counts) (m : ℕ) → v ≡ Returned z m → Standing font q depth site code start range keys₀ held own keys' m (at + 1) (at + 1) z
-        stand_returned z m k = onward (going-returned G L q.fd depth (site_of site) code whole range keys₀ held keys n at prev x w.going h r told wide i y f keys' v u.says z m k)
+        pub stand_returned : (z : Counts) → v ≡ Returned z → Standing font q depth site code start range old own new (at + 1) (at + 1) z
+        stand_returned z k = onward (going-returned G L q.fd depth (site_of site) code whole range old now at prev x w.going h r told wide i y f new v u.says z k)
 
 -- ---- a call
 
@@ -143,20 +137,20 @@ module _ {font : List ℕ} {q : Subrs} (ready : Ready font q) (wide : Bool) (i :
     pub body-fits : length b ≤ 67108864
     body-fits = subst (λ (s : List ℕ). length s ≤ 67108864) (sym d) (body-small font q ready wide i within)
 
-    pub entered_ran : (depth : ℕ) (x : Counts) (range : Range) (keys : List ℕ) (n : ℕ) → (depth ≡ 0 → ⊥) → {keys' : List ℕ} {n' : ℕ} → Notes range (entered (site_of t) ∷ []) keys n keys' n'
-        → {keys'' : List ℕ} {v : Ran} → Tells (whole_of font q (depth - 1) t b x) range keys' n' keys'' v → Tells (call_of font q depth wide i x) range keys n keys'' v
-    entered_ran depth x range keys n deep {keys'} {n'} c {keys''} {v} u =
-        record { says = call_runs (globals_in font q) (locals_in font q) q.fd depth wide i x range keys n deep keys' n' noted keys'' v ran }
+    pub entered_ran : (depth : ℕ) (x : Counts) (range : Range) (old : Filling) → (depth ≡ 0 → ⊥) → {mid : Filling} → Notes range (entered (site_of t) ∷ []) old mid
+        → {new : Filling} {v : Ran} → Tells (whole_of font q (depth - 1) t b x) range mid new v → Tells (call_of font q depth wide i x) range old new v
+    entered_ran depth x range old deep {mid} c {new} {v} u =
+        record { says = call_runs (globals_in font q) (locals_in font q) q.fd depth wide i x range old deep mid noted new v ran }
       where
-        noted : Notes range (entered (site_for q.fd wide i) ∷ []) keys n keys' n'
-        noted = subst (λ (s : Site). Notes range (entered s ∷ []) keys n keys' n') (site_as q.fd wide i t a) c
+        noted : Notes range (entered (site_for q.fd wide i) ∷ []) old mid
+        noted = subst (λ (s : Site). Notes range (entered s ∷ []) old mid) (site_as q.fd wide i t a) c
 
-        ran : Telling (trace_body (globals_in font q) (locals_in font q) q.fd (depth - 1) (site_for q.fd wide i) (body_for (globals_in font q) (locals_in font q) wide i) x) range keys' n' keys'' v
+        ran : Telling (trace_body (globals_in font q) (locals_in font q) q.fd (depth - 1) (site_for q.fd wide i) (body_for (globals_in font q) (locals_in font q) wide i) x) range mid new v
         ran =
-            subst (λ (s : List ℕ). Telling (trace_body (globals_in font q) (locals_in font q) q.fd (depth - 1) (site_for q.fd wide i) s x) range keys' n' keys'' v) d
-            (subst (λ (s : Site). Telling (trace_body (globals_in font q) (locals_in font q) q.fd (depth - 1) s b x) range keys' n' keys'' v) (site_as q.fd wide i t a) u.says)
+            subst (λ (s : List ℕ). Telling (trace_body (globals_in font q) (locals_in font q) q.fd (depth - 1) (site_for q.fd wide i) s x) range mid new v) d
+            (subst (λ (s : Site). Telling (trace_body (globals_in font q) (locals_in font q) q.fd (depth - 1) s b x) range mid new v) (site_as q.fd wide i t a) u.says)
 
 -- a call too deep
-pub too_deep : (font : List ℕ) (q : Subrs) (depth : ℕ) (wide : Bool) (i : ℕ) (x : Counts) (range : Range) (keys : List ℕ) (n : ℕ) → depth ≡ 0
-    → Tells (call_of font q depth wide i x) range keys n keys Broken
-too_deep font q depth wide i x range keys n z = record { says = call_deep (globals_in font q) (locals_in font q) q.fd depth wide i x range keys n z }
+pub too_deep : (font : List ℕ) (q : Subrs) (depth : ℕ) (wide : Bool) (i : ℕ) (x : Counts) (range : Range) (w : Filling) → depth ≡ 0
+    → Tells (call_of font q depth wide i x) range w w Broken
+too_deep font q depth wide i x range w z = record { says = call_deep (globals_in font q) (locals_in font q) q.fd depth wide i x range w z }

@@ -9,7 +9,6 @@ ghost use Rattle.std.specs.Prelude.{◌≡◌, [], ◌∷◌, ◌≤◌, ◌<◌
 ghost use Rattle.octets.specs.Pick.{pick};
 ghost use Rattle.unfold.specs.Unfold.{entered, masked, is_glyph, unfold_glyph};
 ghost use Rattle.row_window.specs.Key.{key_of_lem};
-ghost use Rattle.row_window.specs.Window.{Collecting};
 ghost use Rattle.turns.specs.Turns.{Few};
 ghost use Rattle.interpret.specs.Trace.{body_for};
 ghost use Rattle.interpret.specs.Run.{site_of, site_in, globals_in, locals_in, whole_of, call_of, key_for, Notes, Tells, Meets};
@@ -17,7 +16,7 @@ ghost use Rattle.interpret.specs.Run.{site_of, site_in, globals_in, locals_in, w
 use crate::callees::Callees;
 use crate::mask::Mask;
 use index::Index;
-use row_window::note;
+use row_window::filling::Filling;
 use turns::{Counts, Turn, turn_at};
 
 // The subroutines that a glyph can call: the global ones, and the local ones of its FD.
@@ -43,12 +42,12 @@ pub enum Site {
     Global(u16),
 }
 
-// How a body's run ends: in what is not plain, by return with the counts then, or by endchar; and how many keys the window has.
+// How a body's run ends: in what is not plain, by return with the counts then, or by endchar.
 #[derive(Clone, Copy)]
 pub enum Ran {
     Broken,
-    Returned(Counts, usize),
-    Ended(usize),
+    Returned(Counts),
+    Ended,
 }
 
 // A row as one number, of which the kind, a number too, is the highest part.
@@ -94,21 +93,20 @@ fn is_glyph(site: Site) -> bool
     }
 }
 
-// Notes a subroutine entered; how many keys the window has then.
-fn note_entered(site: Site, range: Range, keys: &mut [u64], n: usize) -> usize
-    requires { Collecting keys.old n }
-    ensures { Notes range (entered (site_of site) ∷ []) keys.old n keys.new result }
+// Notes a subroutine entered.
+fn note_entered(site: Site, range: Range, filling: &mut Filling<'_>)
+    ensures { Notes range (entered (site_of site) ∷ []) filling.old filling.new }
 {
-    note(keys, n, range.low, range.high, entered_key(site))
+    filling.note(range.low, range.high, entered_key(site));
 }
 
-// Notes a mask met; how many keys the window has then.
-fn note_mask(site: Site, offset: u32, len: u8, range: Range, keys: &mut [u64], n: usize) -> usize
-    requires { (len < 16) × (Collecting keys.old n) }
-    ensures { Notes range (masked (site_of site) offset len ∷ []) keys.old n keys.new result }
+// Notes a mask met.
+fn note_mask(site: Site, offset: u32, len: u8, range: Range, filling: &mut Filling<'_>)
+    requires { len < 16 }
+    ensures { Notes range (masked (site_of site) offset len ∷ []) filling.old filling.new }
 {
     let key = mask_key(site, Mask { offset, len });
-    note(keys, n, range.low, range.high, key)
+    filling.note(range.low, range.high, key);
 }
 
 // The subroutine that a call enters.
@@ -141,19 +139,18 @@ fn enter(
     number: usize,
     x: Counts,
     range: Range,
-    keys: &mut [u64],
-    n: usize,
+    filling: &mut Filling<'_>,
 ) -> Ran
-    requires { (number < pick global from.now.q.globals.count from.now.q.locals.count) × (Few x) × (Collecting keys.old n) }
-    ensures { Tells (call_of from.now.font.now from.now.q depth global number x) range keys.old n keys.new result }
+    requires { (number < pick global from.now.q.globals.count from.now.q.locals.count) × (Few x) }
+    ensures { Tells (call_of from.now.font.now from.now.q depth global number x) range filling.old filling.new result }
 {
     if depth == 0 {
         return Ran::Broken;
     }
     let site = site_for(from.q.fd, global, number as u16);
-    let m = note_entered(site, range, &mut *keys, n);
+    note_entered(site, range, filling);
     let body = subr(from, global, number);
-    run_body(from, depth - 1, site, body, x, range, keys, m)
+    run_body(from, depth - 1, site, body, x, range, filling)
 }
 
 // A body run from its start, with calls `depth` deep at most.
@@ -165,11 +162,10 @@ fn run_body(
     code: &[u8],
     start: Counts,
     range: Range,
-    keys: &mut [u64],
-    held: usize,
+    filling: &mut Filling<'_>,
 ) -> Ran
-    requires { (length code.now ≤ 67108864) × (Few start) × (Collecting keys.old held) }
-    ensures { Tells (whole_of from.now.font.now from.now.q depth site code.now start) range keys.old held keys.new result }
+    requires { (length code.now ≤ 67108864) × (Few start) }
+    ensures { Tells (whole_of from.now.font.now from.now.q depth site code.now start) range filling.old filling.new result }
 {
     let own = is_glyph(site);
     let globals = from.q.globals;
@@ -177,30 +173,28 @@ fn run_body(
     let mut at: usize = 0;
     let mut prev: usize = 0;
     let mut x = start;
-    let mut n = held;
     while at < code.len() {
         match turn_at(code, at, prev, x, locals.count, globals.count, own) {
             Turn::Breaks => return Ran::Broken,
-            Turn::Returns(counts) => return Ran::Returned(counts, n),
-            Turn::Ends => return Ran::Ended(n),
+            Turn::Returns(counts) => return Ran::Returned(counts),
+            Turn::Ends => return Ran::Ended,
             Turn::Goes(next, last, counts) => {
                 x = counts;
                 prev = last;
                 at = next;
             }
             Turn::Masks(len, counts) => {
-                n = note_mask(site, at as u32, len as u8, range, &mut *keys, n);
+                note_mask(site, at as u32, len as u8, range, filling);
                 x = counts;
                 at = at + 1 + len;
                 prev = at;
             }
             Turn::Calls(global, number, counts) => {
-                match enter(from, depth, global, number, counts, range, &mut *keys, n) {
+                match enter(from, depth, global, number, counts, range, filling) {
                     Ran::Broken => return Ran::Broken,
-                    Ran::Ended(count) => return Ran::Ended(count),
-                    Ran::Returned(after, count) => {
+                    Ran::Ended => return Ran::Ended,
+                    Ran::Returned(after) => {
                         x = after;
-                        n = count;
                         at += 1;
                         prev = at;
                     }
@@ -211,31 +205,30 @@ fn run_body(
     Ran::Broken
 }
 
-// A glyph, by the subroutines of its FD, run from its charstring: where it is plain, how many keys the window has once the rows that it meets are
-// noted; else None, and of the window nothing is said. An empty one is plain.
+// A glyph, by the subroutines of its FD, run from its charstring: whether it is plain, and then the rows that it meets are noted in the window; of
+// the window of another nothing is said. An empty one is plain.
 pub fn run_glyph(
     from: &Callees<'_>,
     g: u16,
     code: &[u8],
     range: Range,
-    keys: &mut [u64],
-    n: usize,
-) -> Option<usize>
-    requires { (length code.now ≤ 67108864) × (Collecting keys.old n) }
+    filling: &mut Filling<'_>,
+) -> bool
+    requires { length code.now ≤ 67108864 }
     ensures { Meets (unfold_glyph (globals_in from.now.font.now from.now.q) (locals_in from.now.font.now from.now.q) from.now.q.fd g code.now)
-        range keys.old n keys.new result }
+        range filling.old filling.new result }
 {
     if code.len() == 0 {
-        return Some(n);
+        return true;
     }
     let fresh = Counts {
         args: 0,
         stems: 0,
         spent: 0,
     };
-    match run_body(from, 10, Site::Glyph(g), code, fresh, range, keys, n) {
-        Ran::Broken => None,
-        Ran::Returned(_, _) => None,
-        Ran::Ended(count) => Some(count),
+    match run_body(from, 10, Site::Glyph(g), code, fresh, range, filling) {
+        Ran::Broken => false,
+        Ran::Returned(_) => false,
+        Ran::Ended => true,
     }
 }

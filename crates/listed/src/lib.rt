@@ -32,7 +32,7 @@ fn see(window: &Sorted<'_>, key: u64, seen: &mut [u8])
     ensures { Seen window.now.keys.now (key ∷ []) seen.old seen.new }
 {
     let i = row_window::first_at(window, key);
-    if row_window::stands_at(window, i, key) {
+    if row_window::stands_at(window.keys, i, key) {
         seen[i] = 1;
     }
 }

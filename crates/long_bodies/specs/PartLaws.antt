@@ -21,9 +21,10 @@ use Rattle.mask_rows.specs.MaskRows.{no_key, keys_in, row_for, rows_bytes, room_
 use Rattle.mask_rows.specs.KeyLaws.{mask, in_both, keys_list, lists-none, rows-length, rows-rise}
 use Rattle.mask_rows.specs.FillLaws.{rows_fit, window-below, rows_written}
 use Rattle.mask_rows.specs.SameLaws.{given-alike, two_back}
-use Rattle.long_bodies.specs.Offsets.{body_in, keys_to, end_of, Sited, Gives}
+use Rattle.long_bodies.specs.Offsets.{body_in, keys_to, end_of, no_part, Sited, Gives}
 use Rattle.long_bodies.specs.TwoLaws.{in_at, in_to, site_mask, listed}
 use Rattle.long_bodies.specs.declared.offsets.Body.{Body}
+use Rattle.long_bodies.specs.declared.offsets.Part.{Part}
 
 below_more : (a b : ℕ) → a ≤ b → (l : List ℕ) → Below a l → Below b l
 below_more a b h [] none = none
@@ -198,3 +199,6 @@ module _ (rec : List ℕ) (octets : Octets rec) (s : code.Site) (once : two_leng
 pub gives_none : (rec bytes : List ℕ) (s : code.Site) (span : ℕ) → Gives rec bytes s (record { from = 0; end = 0; len = 0; span = span })
 unfolding rows_of rows_from rises
 gives_none rec bytes s span = record { fits = omega arith; rising = refl; same = λ o from to. absurd (omega arith) }
+
+pub gives-first : (rec bytes : List ℕ) (s : code.Site) (w : Part) → w ≡ no_part → Gives rec bytes s w
+gives-first rec bytes s w e = subst (Gives rec bytes s) (sym e) (gives_none rec bytes s 32768)

@@ -3,26 +3,33 @@
 // record that rises is crate `renumbered`'s: its loops ask no more than it needs.
 #![tactic(auto)]
 
+pub mod long_body;
 pub mod long_site;
 pub mod offsets;
 
 ghost use Rattle.std.specs.Prelude.{◌≡◌, true, false, ◌+◌, ◌-◌, ◌≤◌, ◌<◌, length};
-ghost use Rattle.octets.specs.Octets.{Wrote};
-ghost use Rattle.prune.specs.Renumber.{renumber_charstring};
-ghost use Rattle.record.specs.Record.{rows_of, given_in, two_lengths_lem};
-ghost use Rattle.subset.specs.Pruned.{renumbered_body};
+ghost use Rattle.octets.specs.Out.{Writes};
+ghost use Rattle.charstring.specs.Token.{more};
+ghost use Rattle.charstring.specs.Answers.{Within};
+ghost use Rattle.record.specs.Record.{rows_of, two_lengths_lem};
 ghost use Rattle.reach.specs.Reach.{site_of};
-ghost use Rattle.renumber.specs.Ranks.{calls_by};
-ghost use Rattle.renumber.specs.Turn.{Inputs, sized_of, body_of_lem, is_yes};
+ghost use Rattle.renumber.specs.Turn.{cursor, sized_of, body_of_lem, is_yes};
+ghost use Rattle.renumber.specs.Bodies.{renumbered_of, turned_of};
+ghost use Rattle.renumber.specs.Walks.{Turns};
+ghost use Rattle.long_bodies.specs.Offsets.{Gives, no_part};
 
+use crate::long_body::LongBody;
 use crate::long_site::LongSite;
 use crate::offsets::Part;
 use charstring::{Cursor, more, start};
 use mask_rows::lent::Lent;
-use renumber::Ranks;
+use octets::out::Out;
+use renumber::Turned;
+use renumber::body::Body;
 use renumber::runs::{held_at, run_at};
 use renumber::turns::held_after;
 use renumbered::{held_len, put_held, put_run, put_sent, run_len, sent_len, turn_at};
+use type2_number::Operand;
 
 // The offset that a mask asks for where reading stands: that of its operator.
 fn offset_at(at: usize) -> usize
@@ -31,27 +38,57 @@ fn offset_at(at: usize) -> usize
     at.saturating_sub(1)
 }
 
-// The length of a body renumbered, of one length at each offset; or that this fails.
-fn body_len(
-    code: &[u8],
-    words: &[u32],
-    locals: Ranks,
-    globals: Ranks,
-    rows: &[u8],
-    of: LongSite,
-    lent: &mut Lent<'_>,
-) -> Option<usize>
-    requires { (Inputs code.now words.now locals globals (rows_of rows.now) false of.site)
-        × (two_lengths_lem (rows_of rows.now) (site_of of.site) ≡ false) }
-    ensures { result ≡ sized_of (renumber_charstring (calls_by words.now locals globals)
-        (given_in (rows_of rows.now) (site_of of.site)) code.now) }
+// The part that has no offset.
+fn no_part() -> Part
+    ensures { result ≡ no_part }
 {
-    let mut part = Part {
+    Part {
         from: 0,
         end: 0,
         len: 0,
         span: 32768,
+    }
+}
+
+// The token where reading stands, by the part of the rows that has the offset of a mask there.
+fn turn_in(
+    body: &Body<'_>,
+    part: Part,
+    lent: &Lent<'_>,
+    at: usize,
+    args: usize,
+    stems: usize,
+    due: bool,
+    h: Option<Operand>,
+) -> Option<Turned>
+    requires { (Within body.now.code.now (cursor at args stems due)) × (more body.now.code.now (cursor at args stems due) ≡ true)
+        × (Gives body.now.rows.now lent.now.bytes.now body.now.site part) × (part.from ≤ at - 1) × (at - 1 < part.end) }
+    ensures { Turns body.now (cursor at args stems due) h result }
+{
+    let locals = body.locals;
+    let globals = body.globals;
+    let site = body.site;
+    let shown = Body {
+        code: body.code,
+        words: body.words,
+        locals,
+        globals,
+        rows: lent.rows(part.len),
+        rising: true,
+        site,
     };
+    turn_at(&shown, at, args, stems, due, h)
+}
+
+// The length of a body renumbered, of one length at each offset; or that this fails.
+fn body_len(one: &LongBody<'_>, lent: &mut Lent<'_>) -> Option<usize>
+    requires { two_lengths_lem (rows_of one.now.body.now.rows.now) (site_of one.now.body.now.site) ≡ false }
+    ensures { result ≡ sized_of (turned_of one.now.body.now) }
+{
+    let code = one.body.code;
+    let site = one.body.site;
+    let of = LongSite { site };
+    let mut part = no_part();
     let mut c = start();
     let mut h = None;
     let mut len: usize = 0;
@@ -68,11 +105,8 @@ fn body_len(
             };
             continue;
         }
-        part = offsets::advance(part, rows, of, offset_at(c.at), &mut *lent);
-        let shown = lent.rows(part.len);
-        match turn_at(
-            code, words, locals, globals, shown, true, of.site, c.at, c.args, c.stems, c.due, h,
-        ) {
+        part = offsets::advance(part, one.body.rows, of, offset_at(c.at), &mut *lent);
+        match turn_in(one.body, part, &*lent, c.at, c.args, c.stems, c.due, h) {
             Some(turned) => {
                 len += sent_len(turned.before, turned.token);
                 h = held_after(turned.token);
@@ -83,66 +117,37 @@ fn body_len(
                     due: turned.next.due,
                 };
             }
-            None => {
-                return None;
-            }
+            None => return None,
         }
     }
     Some(len + held_len(h))
 }
 
 // The length of a body renumbered, or that this fails: two lengths at one offset fail too.
-pub fn renumbered_len(
-    code: &[u8],
-    words: &[u32],
-    locals: Ranks,
-    globals: Ranks,
-    rows: &[u8],
-    of: LongSite,
-    lent: &mut Lent<'_>,
-) -> Option<usize>
-    requires { Inputs code.now words.now locals globals (rows_of rows.now) false of.site }
-    ensures { result ≡ sized_of (renumbered_body (rows_of rows.now) (calls_by words.now locals globals)
-        (site_of of.site) code.now) }
+pub fn renumbered_len(one: &LongBody<'_>, lent: &mut Lent<'_>) -> Option<usize>
+    ensures { result ≡ sized_of (renumbered_of one.now.body.now) }
 {
-    if offsets::two_lengths(rows, of.site, &mut *lent.keys) {
+    if offsets::two_lengths(one.body.rows, one.body.site, &mut *lent.keys) {
         return None;
     }
-    body_len(code, words, locals, globals, rows, of, lent)
+    body_len(one, lent)
 }
 
-// A body renumbered, from `at` on; the place after it.
-pub fn put_renumbered(
-    code: &[u8],
-    words: &[u32],
-    locals: Ranks,
-    globals: Ranks,
-    rows: &[u8],
-    of: LongSite,
-    out: &mut [u8],
-    at: usize,
-    lent: &mut Lent<'_>,
-) -> usize
-    requires { (Inputs code.now words.now locals globals (rows_of rows.now) false of.site)
-        × (is_yes (renumbered_body (rows_of rows.now) (calls_by words.now locals globals) (site_of of.site) code.now) ≡ true)
-        × (at + length (body_of_lem (renumbered_body (rows_of rows.now) (calls_by words.now locals globals) (site_of of.site) code.now)) ≤ length out.old) }
-    ensures { Wrote out.old at
-        (body_of_lem (renumbered_body (rows_of rows.now) (calls_by words.now locals globals) (site_of of.site) code.now))
-        out.new result }
+// A body renumbered.
+pub fn put_renumbered(one: &LongBody<'_>, out: &mut Out<'_>, lent: &mut Lent<'_>)
+    requires { (is_yes (renumbered_of one.now.body.now) ≡ true) × (out.old.at + length (body_of_lem (renumbered_of one.now.body.now)) ≤ length out.old.bytes.now) }
+    ensures { Writes out.old (body_of_lem (renumbered_of one.now.body.now)) out.new }
 {
-    let mut part = Part {
-        from: 0,
-        end: 0,
-        len: 0,
-        span: 32768,
-    };
+    let code = one.body.code;
+    let site = one.body.site;
+    let of = LongSite { site };
+    let mut part = no_part();
     let mut c = start();
     let mut h = None;
-    let mut p = at;
     while more(code, c) {
         let run = run_at(code, c.at, c.args, c.stems, c.due);
         if c.at < run.at {
-            p = put_run(code, h, c.at, run.last, &mut *out, p);
+            put_run(code, h, c.at, run.last, &mut *out);
             h = held_at(code, run.last, run.at);
             c = Cursor {
                 at: run.at,
@@ -152,13 +157,10 @@ pub fn put_renumbered(
             };
             continue;
         }
-        part = offsets::advance(part, rows, of, offset_at(c.at), &mut *lent);
-        let shown = lent.rows(part.len);
-        match turn_at(
-            code, words, locals, globals, shown, true, of.site, c.at, c.args, c.stems, c.due, h,
-        ) {
+        part = offsets::advance(part, one.body.rows, of, offset_at(c.at), &mut *lent);
+        match turn_in(one.body, part, &*lent, c.at, c.args, c.stems, c.due, h) {
             Some(turned) => {
-                p = put_sent(code, turned.before, turned.token, &mut *out, p);
+                put_sent(code, turned.before, turned.token, &mut *out);
                 h = held_after(turned.token);
                 c = Cursor {
                     at: turned.next.at,
@@ -167,10 +169,8 @@ pub fn put_renumbered(
                     due: turned.next.due,
                 };
             }
-            None => {
-                return p;
-            }
+            None => return,
         }
     }
-    put_held(h, out, p)
+    put_held(h, out);
 }

@@ -2,11 +2,8 @@
 use Rattle.std.specs.Prelude.{ℕ, ◌≤◌, ◌≡◌, refl, Bool, false, List, length, Result}
 use Rattle.std.proofs.Common.{sym, ap, ◌∙◌, subst}
 use Rattle.cff.specs.Font.{Program}
-use Rattle.subset.specs.Codes.{Coded}
-use Rattle.subset.specs.Pruned.{Pruned}
 use Rattle.subset.specs.Cut.{Outcome, leaves_out}
 use Rattle.outcome.specs.Entry.{answer_of, Cut, Passed}
-use Rattle.named_parts.specs.Named.{named_outcome}
 use Rattle.order_window.specs.declared.Order.{Order}
 use Rattle.by_name.specs.NamedKeptLaws.{cut_ordered}
 use Rattle.measure.specs.Room.{of_length}
@@ -35,11 +32,6 @@ as_cut o a e = record { answers = e ∙ sym (ap (λ (n : ℕ). answer_of (o n)) 
 pub ordered-measured : (b rec name : List ℕ) (flag : ℕ) (o : Order) (ws out' : List ℕ) (a : Result Subsetted Refusal) → Cut (cut_ordered false b rec name flag o ws (length lent)) lent out' a
     → a ≡ answer_of (cut_ordered false b rec name flag o ws 67108864)
 ordered-measured b rec name flag o ws out' a c = as_measured (λ (m : ℕ). cut_ordered false b rec name flag o ws m) out' a c
-
--- and by what they are written from
-pub named-cut-of : (p : Program) (coded : Coded) (name order : List ℕ) (q : Pruned) (a : Result Subsetted Refusal) → a ≡ answer_of (named_outcome p coded name order 67108864 q)
-    → Cut (named_outcome p coded name order (length lent) q) lent (leaves_out (named_outcome p coded name order (length lent) q) lent) a
-named-cut-of p coded name order q a e = as_cut (λ (m : ℕ). named_outcome p coded name order m q) a e
 
 -- the keying, when it was found
 pub passed-keyed : (cid ask t : Bool) (p : Program) (name : ℕ) (keep rec : List ℕ) (flag words : ℕ) → Passed cid ask p name keep rec flag words → cid ≡ t

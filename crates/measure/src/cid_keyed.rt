@@ -1,45 +1,27 @@
 // The cut of a CID-keyed font, measured.
 ghost use Rattle.std.specs.Prelude.{◌≡◌, true, false, ◌≤◌, length};
-ghost use Rattle.record.specs.Record.{rows_of};
+ghost use Rattle.cff.specs.Loaded.{program};
 ghost use Rattle.cff.specs.Reads.{program_of};
-ghost use Rattle.order_window.specs.Window.{Ordered};
 ghost use Rattle.by_cid.specs.CidKeptLaws.{CidOrdered, cut_ordered};
-ghost use Rattle.fds.specs.Locals.{fds_in};
-ghost use Rattle.parts.specs.Ready.{FontHeld, Summed};
 ghost use Rattle.outcome.specs.Entry.{answer_of, cut_behind, Passed};
 ghost use Rattle.subset.specs.Flag.{flag_of};
-ghost use Rattle.cid_parts.specs.Cid.{sized, StringsReady, CidReady, cid_bytes};
+ghost use Rattle.cid_parts.specs.Cid.{sized};
+ghost use Rattle.cid_parts.specs.Subset.{subset_in};
 
-use cff::font::Font;
+use cid_parts::cid::CidSubset;
 use cid_parts::places_cid;
+use faithful::read::Held;
 use order_window::Order;
-use outcome::{Prepared, Subsetted};
+use outcome::Subsetted;
+use outcome::tables::{Parts, Tables};
 use refusal::Refusal;
 
-// The way and the length of the subset by the plan, if it is not too long.
-fn measure_planned(
-    cut: Prepared,
-    font: &[u8],
-    name: &[u8],
-    slots: &[usize],
-    used: &[u32],
-    words: &[u32],
-    window: &mut [u32],
-    table: &[usize],
-    totals: &[usize],
-    rows: &[u8],
-) -> Result<Subsetted, Refusal>
-    requires { (CidReady font.now (rows_of rows.now) used.now words.now cut.plan table.now)
-        × (Summed font.now (rows_of rows.now) used.now words.now cut.plan table.now totals.now)
-        × (StringsReady (program_of font.now cut.plan.order.f) slots.now cut.own) × (length name.now ≤ 65535) × (cut.count ≡ length (fds_in used.now))
-        × (Ordered font.now words.now window.old cut.plan.order) }
-    ensures { result ≡ answer_of (sized cut.plan.how.way (cid_bytes font.now (rows_of rows.now) used.now words.now cut.plan
-        name.now) 67108864) }
+// The way and the length of the subset, if it is not too long.
+fn measure_planned(c: &mut CidSubset<'_>) -> Result<Subsetted, Refusal>
+    ensures { result ≡ answer_of (sized c.old.parts.cut.plan.how.way (subset_in c.old) 67108864) }
 {
-    let how = cut.plan.how;
-    let at = places_cid(
-        cut, font, name, slots, used, words, window, table, totals, rows,
-    );
+    let how = c.parts.cut.plan.how;
+    let at = places_cid(c);
     let end = at.end;
     if octets::LONGEST < end {
         return Err(Refusal::Subset);
@@ -64,43 +46,44 @@ fn measure_ordered(
     ensures { result ≡ answer_of (cut_ordered font.now rows.now name.now (flag_of traced) o words.old 67108864) }
 {
     let mut slots = [0usize; 16];
-    let own = front::prepare_cid(font, o.f, &mut slots);
-    let mut used = [0u32; 256];
-    let count = glyph_tables::fds::rank_fds(font, o, &*words, &mut *window, &mut used);
-    let mut table = [0usize; 1280];
-    let mut totals = [0usize; 256];
-    let plan = parts::plan_all(
+    let mut tables = Tables::new();
+    let cut = by_cid::prepare(
         o,
         font,
         rows,
         traced,
-        &used,
         &mut *words,
         &mut *window,
-        &mut table,
-        &mut totals,
+        &mut slots,
+        &mut tables,
     );
-    let cut = Prepared { plan, own, count };
-    measure_planned(
-        cut, font, name, &slots, &used, &*words, window, &table, &totals, rows,
-    )
+    let parts = Parts {
+        cut,
+        name,
+        slots: &slots,
+        used: &tables.used,
+        table: &tables.table,
+        totals: &tables.totals,
+        rows,
+    };
+    let mut c = CidSubset::new(font, &*words, window, parts);
+    measure_planned(&mut c)
 }
 
 // The way and the length of the subset, if it is not too long.
 pub fn measure_cid(
-    font: &[u8],
-    f: Font,
+    font: &Held<'_>,
     name: &[u8],
     keep: &[u16],
     rows: &[u8],
     traced: bool,
     words: &mut [u32],
 ) -> Result<Subsetted, Refusal>
-    requires { (FontHeld font.now f)
-        × (Passed true false (program_of font.now f) (length name.now) keep.now rows.now (flag_of traced) (length words.old)) }
-    ensures { result ≡ answer_of (cut_behind false (program_of font.now f) name.now keep.now rows.now (flag_of traced) 67108864) }
+    requires { Passed true false (program font.now.loaded) (length name.now) keep.now rows.now (flag_of traced) (length words.old) }
+    ensures { result ≡ answer_of (cut_behind false (program font.now.loaded) name.now keep.now rows.now (flag_of traced) 67108864) }
 {
     let mut window = [0u32; 4096];
-    let o = order_window::gather(font, f, keep, &mut *words, &mut window);
-    measure_ordered(o, font, name, rows, traced, words, &mut window)
+    let bytes = font.loaded.bytes;
+    let o = order_window::gather(bytes, font.loaded.f, keep, &mut *words, &mut window);
+    measure_ordered(o, bytes, name, rows, traced, words, &mut window)
 }

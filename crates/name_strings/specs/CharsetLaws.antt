@@ -3,54 +3,56 @@
 use Rattle.std.specs.Prelude.{ℕ, ◌+◌, ◌≤◌, ◌<◌, ◌≡◌, refl, List, [], ◌∷◌, length, take, get_or}
 use Rattle.std.proofs.Common.{sym, ap, ◌∙◌, arith}
 use Rattle.octets.specs.Octets.{bytes_of, Wrote}
-use Rattle.octets.specs.OctetsLaws.{length-bytes}
-use Rattle.octets.specs.PutLaws.{wrote-length, wrote_as}
+use Rattle.octets.specs.PutLaws.{wrote_as}
+use Rattle.octets.specs.declared.out.Out.{Out}
+use Rattle.octets.specs.Out.{Writes}
 use Rattle.charset.specs.CharsetBytes.{id_bytes, charset_bytes}
 use Rattle.charset.specs.CharsetBytesLaws.{charset-length, charset_begun, charset-more, charset-finished, charset-room}
 
 -- the ids of i glyphs are written
-pub record CharsetPut (old : List ℕ) (at : ℕ) (ids new : List ℕ) (p i : ℕ) : Type 0 where
-  pub size : length new ≡ length old
-  pub wrote : Wrote old at (charset_bytes (take i ids)) new p
+pub record CharsetPut (old : Out) (ids : List ℕ) (new : Out) (i : ℕ) : Type 0 where
+  pub same : new.bytes.ghost_name ≡ old.bytes.ghost_name
+  pub size : length new.bytes.now ≡ length old.bytes.now
+  pub wrote : Wrote old.bytes.now old.at (charset_bytes (take i ids)) new.bytes.now new.at
 
 -- the charset of no glyph
 none-put : (ids : List ℕ) → charset_bytes (take 0 ids) ≡ 0 ∷ []
 unfolding charset_bytes id_bytes
 none-put ids = refl
 
-module _ (old : List ℕ) (at : ℕ) (ids : List ℕ) (room : at + length (charset_bytes ids) ≤ length old) where
+module _ (old : Out) (ids : List ℕ) (room : old.at + length (charset_bytes ids) ≤ length old.bytes.now) where
   -- there is room for the format
-  pub format-room : at < length old
+  pub format-room : old.at + 1 ≤ length old.bytes.now
   format-room = omega (arith, charset-length ids)
 
   -- it is written
-  pub charset-start : {new : List ℕ} {p : ℕ} → Wrote old at (0 ∷ []) new p → CharsetPut old at ids new p 0
-  charset-start w = record { size = wrote-length w (omega (arith, charset-length ids)); wrote = wrote_as w (sym (none-put ids)) }
+  pub charset-start : {new : Out} → Writes old (0 ∷ []) new → CharsetPut old ids new 0
+  charset-start w = record { same = w.same; size = w.size; wrote = wrote_as w.wrote (sym (none-put ids)) }
 
-  module _ {mid : List ℕ} {p i : ℕ} (c : CharsetPut old at ids mid p i) where
+  module _ {mid : Out} {i : ℕ} (c : CharsetPut old ids mid i) where
     -- glyph 0 has no id there
-    pub charset-pass : i ≤ 0 → (out : List ℕ) (q : ℕ) → out ≡ mid → q ≡ p → CharsetPut old at ids out q (i + 1)
-    charset-pass h out q a d =
+    pub charset-pass : i ≤ 0 → (out : Out) → out ≡ mid → CharsetPut old ids out (i + 1)
+    charset-pass h out a =
         let e : i ≡ 0 = omega arith in
         let z : charset_bytes (take i ids) ≡ 0 ∷ [] = ap (λ (k : ℕ). charset_bytes (take k ids)) e ∙ none-put ids in
-        let w : Wrote old at (charset_bytes (take 1 ids)) mid p = charset_begun ids (wrote_as c.wrote z) in
-        rw (a, d) (record { size = c.size; wrote = wrote_as w (ap (λ (k : ℕ). charset_bytes (take (k + 1) ids)) (sym e)) })
+        let w : Wrote old.bytes.now old.at (charset_bytes (take 1 ids)) mid.bytes.now mid.at = charset_begun ids (wrote_as c.wrote z) in
+        rw a (record { same = c.same; size = c.size; wrote = wrote_as w (ap (λ (k : ℕ). charset_bytes (take (k + 1) ids)) (sym e)) })
 
     module _ (some : 0 < i) (h : i < length ids) where
       -- there is room for the next id
-      pub charset-space : p + 2 ≤ length mid
-      charset-space = omega (arith, c.size, charset-room ids i (length old) some h room c.wrote)
+      pub charset-space : mid.at + 2 ≤ length mid.bytes.now
+      charset-space = omega (arith, c.size, charset-room ids i (length old.bytes.now) some h room c.wrote)
 
       -- it is written
-      pub charset-next : {new : List ℕ} {next id : ℕ} → id ≡ get_or ids i 0 → Wrote mid p (bytes_of 2 id) new next → (out : List ℕ) (q : ℕ) → out ≡ new → q ≡ next
-          → CharsetPut old at ids out q (i + 1)
-      charset-next {new} {next} {id} e w out q a d =
-          rw (a, d)
+      pub charset-next : {new : Out} {id : ℕ} → id ≡ get_or ids i 0 → Writes mid (bytes_of 2 id) new → (out : Out) → out ≡ new → CharsetPut old ids out (i + 1)
+      charset-next {new} {id} e w out a =
+          rw a
           (record {
-            size = wrote-length w (omega (arith, length-bytes 2 id, charset-space)) ∙ c.size;
-            wrote = charset-more ids i (omega arith) some h c.wrote (rw e at w);
+            same = w.same ∙ c.same;
+            size = w.size ∙ c.size;
+            wrote = charset-more ids i (omega arith) some h c.wrote (rw e at w.wrote);
           })
 
     -- all ids are written
-    pub charset_done : length ids ≤ i → Wrote old at (charset_bytes ids) mid p
-    charset_done h = charset-finished ids i h c.wrote
+    pub charset_done : length ids ≤ i → Writes old (charset_bytes ids) mid
+    charset_done h = record { wrote = charset-finished ids i h c.wrote; same = c.same; size = c.size }

@@ -1,4 +1,5 @@
 pub mod Names
+pub mod Alone
 pub mod SlotCountLaws
 pub mod NamingLaws
 pub mod CharsetLaws

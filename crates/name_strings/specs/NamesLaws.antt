@@ -13,7 +13,7 @@ use Rattle.kept.specs.Packed.{packed}
 use Rattle.order.specs.Walks.{many_in, order_in}
 use Rattle.order_window.specs.Window.{glyphs_of}
 use Rattle.order_window.specs.OrderLaws.{order_below}
-use Rattle.order_window.specs.LoopLaws.{glyphs_many}
+use Rattle.order_window.specs.GatheredLaws.{glyphs_many}
 use Rattle.own_strings.specs.Slots.{slots_of, slot_texts, word_names, all_own}
 use Rattle.own_strings.specs.SlotTexts.{name-texts}
 use Rattle.own_strings.specs.OwnLaws.{own-append}

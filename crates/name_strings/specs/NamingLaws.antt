@@ -14,18 +14,17 @@ use Rattle.cff.specs.declared.font.Font.{Font}
 use Rattle.subset.specs.Texts.{has_text, own_strings_lem}
 use Rattle.subset.proofs.TextsLaws.{has_left, ids-length as new-ids-length}
 use Rattle.order.specs.Walks.{many_in, order_in}
-use Rattle.order_window.specs.declared.Order.{Order}
-use Rattle.order_window.specs.Window.{glyphs_of, Ordered}
+use Rattle.order_window.specs.declared.window.Kept.{Kept}
+use Rattle.order_window.specs.Window.{glyphs_of}
 use Rattle.order_window.specs.OrderLaws.{order_below, order_glyph, order_id}
 use Rattle.own_strings.specs.declared.Own.{Own}
 use Rattle.own_strings.specs.Slots.{slot_texts, slot_id, slot_ids, word_names, word_ids, own_of, slots_own, all_own, given_id, counted}
-use Rattle.own_strings.specs.Ready.{HasStrings, SlotsGiven}
 use Rattle.own_strings.specs.OwnLaws.{has-second, own-append, own_same}
 use Rattle.own_strings.specs.SlotLaws.{used, stage-more, stage-rest, Step, step}
 use Rattle.own_strings.specs.TurnLaws.{text-short}
 use Rattle.own_strings.specs.StageLaws.{own-bound, ids_at, Words, names-slots, new-ids-slots, word-ids-length, word-ids-at, names_at, names-length, names-take, turn_id, turn-own, turn_below}
 use Rattle.own_strings.specs.IdsLaws.{slots-known}
-use Rattle.name_strings.specs.Names.{NamesApart, new_names, Naming}
+use Rattle.name_strings.specs.Names.{new_names, strings_of, NamesReady, Naming}
 
 -- ---- the words of the order
 
@@ -48,16 +47,16 @@ names-front strings (suc i) (w ∷ ws) = ap (λ (l : List (List ℕ)). string_te
 
 -- ---- a loop begins
 
-pub naming-start : (b ws window : List ℕ) (o : Order) (slots : List ℕ) (own : Own) → Octets b → HasStrings b o.f.strings → SlotsGiven (items_of b o.f.strings) slots
-    → NamesApart b o.f ws → Ordered b ws window o → own ≡ own_of (slots_own (items_of b o.f.strings) slots) → Naming b o.f ws slots own 0
+pub naming-start : (k : Kept) (slots : List ℕ) (own : Own) → Octets k.font.now → NamesReady k slots → own ≡ own_of (slots_own (strings_of k) slots)
+    → Naming k.font.now k.o.f k.words.now slots own 0
 unfolding word_names own_strings_lem
-naming-start b ws window o slots own octets has given apart s e =
+naming-start k slots own octets r e =
     record {
-      has = has;
-      given = given;
-      apart = apart;
-      words = order-words b o.f ws octets s.good;
-      few = omega (arith, s.many, s.few);
+      has = record { good = k.gathered.good.begun.strings-held.good; small = r.small };
+      given = r.given;
+      apart = r.apart;
+      words = order-words k.font.now k.o.f k.words.now octets k.gathered.good;
+      few = omega (arith, k.gathered.many, k.gathered.few);
       within = omega arith;
       counts = e;
     }

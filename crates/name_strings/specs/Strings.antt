@@ -1,8 +1,10 @@
 -- The String INDEX of a subset (document 01, 'Layout') as it is written: the strings of the slots first, and behind them those of the names.
 use Rattle.std.specs.Prelude.{ℕ, ◌+◌, ◌≤◌, ◌<◌, ◌≡◌, List, [], length, take}
-use Rattle.octets.specs.Octets.{Wrote}
+use Rattle.octets.specs.declared.out.Out.{Out}
+use Rattle.octets.specs.Out.{Writes}
 use Rattle.index.specs.Write.{size_for, head_bytes, index_for_lem}
-use Rattle.index.specs.Begun.{Meant, Begun}
+use Rattle.index.specs.Begun.{Meant}
+use Rattle.index.specs.ItemOut.{Begins}
 use Rattle.index.specs.Index.{items_of}
 use Rattle.index.specs.declared.Index.{Index}
 use Rattle.cff.specs.declared.font.Font.{Font}
@@ -19,24 +21,25 @@ pub record StringsRoom (strings : List (List ℕ)) (slots out : List ℕ) (at : 
   pub others : List (List ℕ)
   pub room : IndexRoom out at (own_strings_lem (slots_own strings slots) others) own
 
--- the head of the INDEX was written at a place, and behind it the first strings
-pub record StringsBegun (old : List ℕ) (at : ℕ) (own : Own) (first : List (List ℕ)) (new : List ℕ) (s : Started) : Type 0 where
-  pub mid : List ℕ
-  pub next : ℕ
-  pub is : s.ix ≡ index_for_lem at own.count own.total
-  pub head : Wrote old at (head_bytes own.count (size_for (own.total + 1))) mid next
+-- the head of the INDEX was written, and, from mid on, the first strings
+pub record StringsBegun (old : Out) (own : Own) (first : List (List ℕ)) (new : Out) (s : Started) : Type 0 where
+  pub after : Out
+  pub mid : Out
+  pub is : s.ix ≡ index_for_lem old.at own.count own.total
+  pub head : Writes old (head_bytes own.count (size_for (own.total + 1))) after
+  pub from : mid.bytes ≡ after.bytes
   pub many : s.count ≡ length first
-  pub begun : Begun mid s.ix first s.count new s.next
+  pub begun : Begins mid s.ix first s.count new
 
 -- before slot j: c strings are written behind the head, which mid has
-pub record SlotWriting (strings : List (List ℕ)) (slots mid : List ℕ) (ix : Index) (out : List ℕ) (p c j : ℕ) : Type 0 where
+pub record SlotWriting (strings : List (List ℕ)) (slots : List ℕ) (mid : Out) (ix : Index) (out : Out) (c j : ℕ) : Type 0 where
   pub others : List (List ℕ)
-  pub meant : Meant (length mid) ix (own_strings_lem (slots_own strings slots) others)
+  pub meant : Meant (length mid.bytes.now) ix (own_strings_lem (slots_own strings slots) others)
   pub small : length (own_strings_lem (slots_own strings slots) others) < 65536
   pub within : j ≤ 8
   pub counts : c ≡ length (own_strings_lem [] (slot_texts strings (take j (take 8 slots))))
   pub few : c ≤ length (own_strings_lem (slots_own strings slots) others)
-  pub begun : Begun mid ix (own_strings_lem (slots_own strings slots) others) c out p
+  pub begun : Begins mid ix (own_strings_lem (slots_own strings slots) others) c out
 
 -- before the name at place i: c own strings were met
 pub record NameWriting (b : List ℕ) (f : Font) (ws slots : List ℕ) (c i : ℕ) : Type 0 where

@@ -1,17 +1,19 @@
 -- Laws of the loops that write the String INDEX: a string is written where the id of what is used is the next.
 use Rattle.std.specs.Prelude.{ℕ, ◌+◌, ◌/◌, ◌≤◌, ◌<◌, ◌≡◌, refl, List, [], ◌∷◌, ◌++◌, take, drop, get_or}
-use Rattle.std.proofs.Common.{sym, ◌∙◌, arith, take_all, get_or-take, get_or-drop, length-take-le}
+use Rattle.std.proofs.Common.{sym, ◌∙◌, arith, MutBor, take_all, get_or-take, get_or-drop, length-take-le}
 use Rattle.std.proofs.Math.Path.{ap}
 use Rattle.std.proofs.Math.ListN.{length, length-append}
 use Rattle.std.proofs.Math.Seq.{take-append_seam}
-use Rattle.octets.specs.Octets.{Wrote, put}
-use Rattle.octets.specs.PutLaws.{wrote-length}
+use Rattle.octets.specs.Octets.{put}
+use Rattle.octets.specs.declared.out.Out.{Out}
+use Rattle.octets.specs.Out.{Writes}
 use Rattle.octets.specs.Lists.{joined}
 use Rattle.index.specs.Index.{items_of}
-use Rattle.index.specs.WriteLaws.{head-room}
 use Rattle.index.specs.Write.{total, ends, table_bytes, index_bytes, index_for_lem, size_for, head_bytes}
-use Rattle.index.specs.Begun.{Meant, Begun}
-use Rattle.index.specs.BegunLaws.{for_meant, begun_none, begun_length, begun_whole}
+use Rattle.index.specs.Begun.{Meant}
+use Rattle.index.specs.BegunLaws.{for_meant}
+use Rattle.index.specs.ItemOut.{Begins}
+use Rattle.index.specs.ItemOutLaws.{begins_none, begins_whole}
 use Rattle.index.specs.declared.Index.{Index}
 use Rattle.strings.specs.Strings.{string_text}
 use Rattle.cff.specs.declared.font.Font.{Font}
@@ -29,9 +31,8 @@ use Rattle.name_strings.specs.NamingLaws.{naming_asks, naming-slot, naming-step,
 use Rattle.name_strings.specs.Strings.{StringsRoom, StringsBegun, SlotWriting, NameWriting}
 
 -- what is begun, under other names
-pub begun_is : {mid new : List ℕ} {ix : Index} {items : List (List ℕ)} {k p : ℕ} (out : List ℕ) (q c : ℕ) → out ≡ new → q ≡ p → c ≡ k → Begun mid ix items k new p
-    → Begun mid ix items c out q
-begun_is out q c a d e b = rw (a, d, e) b
+pub begun_is : {mid new : Out} {ix : Index} {items : List (List ℕ)} {k : ℕ} (out : Out) (c : ℕ) → out ≡ new → c ≡ k → Begins mid ix items k new → Begins mid ix items c out
+begun_is out c a e b = rw (a, e) b
 
 -- ---- what is used, and its id
 
@@ -66,23 +67,29 @@ module _ (strings : List (List ℕ)) (slots : List ℕ) (g : SlotsGiven strings 
   eight : length l ≡ 8
   eight = length-take-le 8 slots (omega (arith, g.room))
 
-  pub slot-start : (mid : List ℕ) (ix : Index) (at : ℕ) (own : Own) (old : List ℕ) → (r : StringsRoom strings slots old at own) → ix ≡ index_for_lem at own.count own.total
-      → length mid ≡ length old → SlotWriting strings slots mid ix mid (ix.base + 1) 0 0
+  pub slot-meant : (n : ℕ) (ix : Index) (at : ℕ) (own : Own) (old : List ℕ) → (r : StringsRoom strings slots old at own) → ix ≡ index_for_lem at own.count own.total
+      → n ≡ length old → Meant n ix (own_strings_lem (slots_own strings slots) r.others)
+  slot-meant n ix at own old r is size =
+      for_meant n at own.count own.total ix (own_strings_lem (slots_own strings slots) r.others) is (ap (λ (o : Own). o.count) r.room.is)
+      (ap (λ (o : Own). o.total) r.room.is) (omega (arith, r.room.room, size))
+
+  pub slot-start : (mid : Out) (ix : Index) (at : ℕ) (own : Own) (old : List ℕ) → (r : StringsRoom strings slots old at own) → ix ≡ index_for_lem at own.count own.total
+      → length mid.bytes.now ≡ length old → mid.at ≡ ix.base + 1 → SlotWriting strings slots mid ix mid 0 0
   unfolding slot_texts own_strings_lem
-  slot-start mid ix at own old r is size =
+  slot-start mid ix at own old r is size from =
       let all = own_strings_lem (slots_own strings slots) r.others in
       let n = ap (λ (o : Own). o.count) r.room.is in
       record {
         others = r.others;
-        meant = for_meant (length mid) at own.count own.total ix all is n (ap (λ (o : Own). o.total) r.room.is) (omega (arith, r.room.room, size));
+        meant = slot-meant (length mid.bytes.now) ix at own old r is size;
         small = omega (arith, r.room.few, n);
         within = omega arith;
         counts = refl;
         few = omega arith;
-        begun = begun_none mid ix all;
+        begun = begins_none mid ix all from;
       }
 
-  module _ (mid : List ℕ) (ix : Index) (out : List ℕ) (p c j : ℕ) (t : SlotWriting strings slots mid ix out p c j) (h : j < 8) where
+  module _ (mid : Out) (ix : Index) (out : Out) (c j : ℕ) (t : SlotWriting strings slots mid ix out c j) (h : j < 8) where
     abbrev all : List (List ℕ)
     all = own_strings_lem (slots_own strings slots) t.others
 
@@ -113,9 +120,9 @@ module _ (strings : List (List ℕ)) (slots : List ℕ) (g : SlotsGiven strings 
         → (391 ≤ get_or slots j 0) × (c < length all) × (string_text strings (get_or slots j 0) ≡ get_or all c [])
     slot_string i = use_string strings stage all (get_or slots j 0) c t.counts (get_or slots (8 + j) 0) slot-id i slot_step
 
-    pub slot_next : get_or slots (8 + j) 0 ≡ 391 + c → {new : List ℕ} {q : ℕ} (out' : List ℕ) (p' c' : ℕ) → out' ≡ new → p' ≡ q → c' ≡ c + 1
-        → Begun mid ix all (c + 1) new q → SlotWriting strings slots mid ix out' p' c' (j + 1)
-    slot_next i {new} {q} out' p' c' a d e s =
+    pub slot_next : get_or slots (8 + j) 0 ≡ 391 + c → {new : Out} (out' : Out) (c' : ℕ) → out' ≡ new → c' ≡ c + 1
+        → Begins mid ix all (c + 1) new → SlotWriting strings slots mid ix out' c' (j + 1)
+    slot_next i {new} out' c' a e s =
         record {
           others = t.others;
           meant = t.meant;
@@ -124,12 +131,11 @@ module _ (strings : List (List ℕ)) (slots : List ℕ) (g : SlotsGiven strings 
           counts =
               e ∙ use-more strings stage all (get_or slots j 0) c t.counts (get_or slots (8 + j) 0) slot-id i slot_step ∙ ap length (sym slot-used);
           few = omega (arith, e, (slot_string i).1);
-          begun = begun_is out' p' c' a d e s;
+          begun = begun_is out' c' a e s;
         }
 
-    pub slot_same : (get_or slots (8 + j) 0 ≡ 391 + c → ⊥) → (out' : List ℕ) (p' c' : ℕ) → out' ≡ out → p' ≡ p → c' ≡ c
-        → SlotWriting strings slots mid ix out' p' c' (j + 1)
-    slot_same i out' p' c' a d e =
+    pub slot_same : (get_or slots (8 + j) 0 ≡ 391 + c → ⊥) → (out' : Out) (c' : ℕ) → out' ≡ out → c' ≡ c → SlotWriting strings slots mid ix out' c' (j + 1)
+    slot_same i out' c' a e =
         record {
           others = t.others;
           meant = t.meant;
@@ -138,15 +144,19 @@ module _ (strings : List (List ℕ)) (slots : List ℕ) (g : SlotsGiven strings 
           counts =
               e ∙ use-same strings stage all (get_or slots j 0) c t.counts (get_or slots (8 + j) 0) slot-id i slot_step ∙ ap length (sym slot-used);
           few = omega (arith, e, t.few);
-          begun = begun_is out' p' c' a d e t.begun;
+          begun = begun_is out' c' a e t.begun;
         }
 
 -- the first strings are what is begun
-begun_as : {mid new : List ℕ} {k p : ℕ} (ix : Index) (xs ys : List (List ℕ)) → take k xs ≡ take k ys → Begun mid ix xs k new p → Begun mid ix ys k new p
-begun_as {mid} {new} {k} {p} ix xs ys e b =
+begun_as : {mid new : Out} {k : ℕ} (ix : Index) (xs ys : List (List ℕ)) → take k xs ≡ take k ys → Begins mid ix xs k new → Begins mid ix ys k new
+begun_as {mid} {new} {k} ix xs ys e b =
     record {
-      is = b.is ∙ ap (λ (l : List (List ℕ)). put (put mid (ix.table + ix.size) (table_bytes ix.size (ends 1 l))) (ix.base + 1) (joined l)) e;
-      place = b.place ∙ ap (λ (l : List (List ℕ)). ix.base + 1 + total l) e;
+      begun = record {
+        is = b.begun.is ∙ ap (λ (l : List (List ℕ)). put (put mid.bytes.now (ix.table + ix.size) (table_bytes ix.size (ends 1 l))) (ix.base + 1) (joined l)) e;
+        place = b.begun.place ∙ ap (λ (l : List (List ℕ)). ix.base + 1 + total l) e;
+      };
+      same = b.same;
+      size = b.size;
     }
 
 -- all own strings begin with those of the slots
@@ -156,18 +166,19 @@ first_part first others k e =
     ap (λ (n : ℕ). take n (own_strings_lem first others)) e ∙ ap (take (length first)) g.is ∙ take-append_seam first g.rest
     ∙ sym (ap (λ (n : ℕ). take n first) e ∙ take_all (length first) first (omega arith))
 
-pub slot_end : (strings : List (List ℕ)) (slots : List ℕ) → SlotsGiven strings slots → (old : List ℕ) (at : ℕ) (own : Own) (mid : List ℕ) (after : ℕ) (s : Started) (out : List ℕ) (j : ℕ)
-    → s.ix ≡ index_for_lem at own.count own.total → Wrote old at (head_bytes own.count (size_for (own.total + 1))) mid after
-    → SlotWriting strings slots mid s.ix out s.next s.count j → 8 ≤ j → StringsBegun old at own (slots_own strings slots) out s
-slot_end strings slots g old at own mid after s out j is head t h =
+pub slot_end : (strings : List (List ℕ)) (slots : List ℕ) → SlotsGiven strings slots → (old : Out) (own : Own) (after mid : Out) (s : Started) (out : Out) (j : ℕ)
+    → s.ix ≡ index_for_lem old.at own.count own.total → Writes old (head_bytes own.count (size_for (own.total + 1))) after → mid.bytes ≡ after.bytes
+    → SlotWriting strings slots mid s.ix out s.count j → 8 ≤ j → StringsBegun old own (slots_own strings slots) out s
+slot_end strings slots g old own after mid s out j is head from t h =
     let first = slots_own strings slots in
     let e : length (take 8 slots) ≡ 8 = length-take-le 8 slots (omega (arith, g.room)) in
     let n : s.count ≡ length first = t.counts ∙ ap (λ (l : List ℕ). length (own_strings_lem [] (slot_texts strings l))) (take_all j (take 8 slots) (omega (arith, e))) in
     record {
+      after = after;
       mid = mid;
-      next = after;
       is = is;
       head = head;
+      from = from;
       many = n;
       begun = begun_as s.ix (own_strings_lem first t.others) first (first_part first t.others s.count n) t.begun;
     }
@@ -178,38 +189,35 @@ pub slots-alone : (strings : List (List ℕ)) (slots out : List ℕ) (at : ℕ) 
 unfolding own_strings_lem
 slots-alone strings slots out at own r = record { others = []; room = r }
 
-module _ (old : List ℕ) (at : ℕ) (own : Own) (first : List (List ℕ)) (out : List ℕ) (s : Started) (b : StringsBegun old at own first out s) where
+module _ (old : Out) (own : Own) (first : List (List ℕ)) (out : Out) (s : Started) (b : StringsBegun old own first out s) where
   -- those of the slots are all
-  pub begun_slots : IndexRoom old at first own → Wrote old at (index_bytes first) out s.next
+  pub begun_slots : IndexRoom old.bytes.now old.at first own → Writes old (index_bytes first) out
   begun_slots r =
-      begun_whole at own.count own.total s.ix first s.count b.is (ap (λ (o : Own). o.count) r.is) (ap (λ (o : Own). o.total) r.is) r.room
-      b.head b.many b.begun
+      begins_whole own.count own.total s.ix first s.count b.is (ap (λ (o : Own). o.count) r.is) (ap (λ (o : Own). o.total) r.is) r.room
+      b.head b.from b.many b.begun
 
   -- others are to come behind them
-  module _ (others : List (List ℕ)) (r : IndexRoom old at (own_strings_lem first others) own) where
+  module _ (others : List (List ℕ)) (r : IndexRoom old.bytes.now old.at (own_strings_lem first others) own) where
     many : own.count ≡ length (own_strings_lem first others)
     many = ap (λ (o : Own). o.count) r.is
 
     sum : own.total ≡ total (own_strings_lem first others)
     sum = ap (λ (o : Own). o.total) r.is
 
-    size : length b.mid ≡ length old
-    size = wrote-length b.head (head-room (length old) at own.count own.total (own_strings_lem first others) many sum r.room)
+    size : length b.mid.bytes.now ≡ length old.bytes.now
+    size = ap (λ (m : MutBor (List ℕ)). length m.now) b.from ∙ b.head.size
 
-    pub others-meant : Meant (length b.mid) s.ix (own_strings_lem first others)
-    others-meant = for_meant (length b.mid) at own.count own.total s.ix (own_strings_lem first others) b.is many sum (omega (arith, r.room, size))
+    pub others-meant : Meant (length b.mid.bytes.now) s.ix (own_strings_lem first others)
+    others-meant = for_meant (length b.mid.bytes.now) old.at own.count own.total s.ix (own_strings_lem first others) b.is many sum (omega (arith, r.room, size))
 
-    pub others_begun : Begun b.mid s.ix (own_strings_lem first others) s.count out s.next
+    pub others_begun : Begins b.mid s.ix (own_strings_lem first others) s.count out
     others_begun = begun_as s.ix first (own_strings_lem first others) (sym (first_part first others s.count b.many)) b.begun
 
     -- all strings are written
-    pub others-whole : {new : List ℕ} {p : ℕ} (c : ℕ) → c ≡ length (own_strings_lem first others) → Begun b.mid s.ix (own_strings_lem first others) c new p
-        → Wrote old at (index_bytes (own_strings_lem first others)) new p
+    pub others-whole : {new : Out} (c : ℕ) → c ≡ length (own_strings_lem first others) → Begins b.mid s.ix (own_strings_lem first others) c new
+        → Writes old (index_bytes (own_strings_lem first others)) new
     others-whole c e w =
-        begun_whole at own.count own.total s.ix (own_strings_lem first others) c b.is many sum r.room b.head e w
-
-    pub others-length : {new : List ℕ} {p : ℕ} (c : ℕ) → c ≤ length (own_strings_lem first others) → Begun b.mid s.ix (own_strings_lem first others) c new p → length new ≡ length old
-    others-length c h w = begun_length b.mid s.ix (own_strings_lem first others) others-meant c h w ∙ size
+        begins_whole own.count own.total s.ix (own_strings_lem first others) c b.is many sum r.room b.head b.from e w
 
 -- ---- the strings of the names
 

@@ -2,201 +2,157 @@
 // the own strings counted, the String INDEX and the charset written. No id is stored: each loop gives them anew, by the own strings counted so far.
 #![tactic(auto)]
 
+pub mod slots;
+
 ghost use Rattle.std.specs.Prelude.{◌≡◌, ◌+◌, ◌≤◌, length};
-ghost use Rattle.octets.specs.Octets.{Wrote};
-ghost use Rattle.index.specs.Index.{items_of};
+ghost use Rattle.octets.specs.Octets.{Octets};
+ghost use Rattle.octets.specs.Out.{Writes};
 ghost use Rattle.index.specs.Items.{items};
 ghost use Rattle.index.specs.Write.{index_bytes};
 ghost use Rattle.charset.specs.CharsetBytes.{charset_bytes};
-ghost use Rattle.order.specs.Walks.{order_in};
-ghost use Rattle.order_window.specs.Window.{Ordered};
+ghost use Rattle.order_window.specs.Stays.{order_of, Stays};
 ghost use Rattle.own_strings.specs.Slots.{own_of, slots_own, all_own};
-ghost use Rattle.own_strings.specs.Ready.{HasStrings, SlotsGiven, IndexRoom};
-ghost use Rattle.name_strings.specs.Names.{NamesApart, new_names};
+ghost use Rattle.own_strings.specs.Ready.{IndexRoom};
+ghost use Rattle.name_strings.specs.Names.{own_in, strings_of, names_for, NamesReady};
 ghost use Rattle.name_strings.specs.Strings.{StringsRoom, StringsBegun};
 
+use crate::slots::GivenSlots;
 use index::Index;
 use index::items::Items;
-use order_window::Order;
+use octets::out::Out;
+use order_window::window::Kept;
 use own_strings::Own;
 
-// A String INDEX that was begun: where its parts stand, how many strings are written, and the place of the next.
+// A String INDEX that was begun: where its parts stand, and how many strings are written.
 #[derive(Clone, Copy)]
 pub struct Started {
     pub ix: Index,
     pub count: usize,
-    pub next: usize,
 }
 
+// Does nothing: its contract says that the bytes of a font are octets, as the type of a parameter tells and that of a field does not.
+pub fn octets_in(font: &[u8])
+    ensures { Octets font.now }
+{}
+
 // The own strings of the slots, counted.
-pub fn slots_own(strings: &Items<'_>, slots: &[usize]) -> Own
-    requires { (length strings.now.bytes.now ≤ 67108864) × (SlotsGiven (items strings.now) slots.now) }
-    ensures { result ≡ own_of (slots_own (items strings.now) slots.now) }
+pub fn slots_own(slots: &GivenSlots<'_, '_>) -> Own
+    requires { length slots.now.strings.bytes.now ≤ 67108864 }
+    ensures { result ≡ own_of (own_in slots.now) }
 {
     let mut own = Own { count: 0, total: 0 };
     for j in 0..8 {
-        own = own_strings::count_one(strings, own, slots[j], slots[8 + j]);
+        own = own_strings::count_one(&slots.strings, own, slots.ids[j], slots.ids[8 + j]);
     }
     own
 }
 
 // The own strings of a name-keyed subset: those of the slots, and of the names of the kept glyphs.
-pub fn count_names(
-    font: &[u8],
-    o: Order,
-    words: &[u32],
-    window: &mut [u32],
-    slots: &[usize],
-    own: Own,
-) -> Own
-    requires { (HasStrings font.now o.f.strings) × (SlotsGiven (items_of font.now o.f.strings) slots.now)
-        × (own ≡ own_of (slots_own (items_of font.now o.f.strings) slots.now)) × (NamesApart font.now o.f words.now)
-        × (Ordered font.now words.now window.old o) }
-    ensures { (result ≡ own_of (all_own (items_of font.now o.f.strings) slots.now (order_in font.now o.f words.now)))
-        × (Ordered font.now words.now window.new o) }
+pub fn count_names(kept: &mut Kept<'_>, slots: &[usize], own: Own) -> Own
+    requires { (NamesReady kept.old slots.now) × (own ≡ own_of (slots_own (strings_of kept.old) slots.now)) }
+    ensures { (result ≡ own_of (all_own (strings_of kept.old) slots.now (order_of kept.old)))
+        × (result.count ≤ 65544) × (result.total ≤ 4398583382016) × (Stays kept.old kept.new) }
 {
-    let f = o.f;
+    let font = kept.font;
     let strings = Items {
         bytes: font,
-        ix: f.strings,
+        ix: kept.o.f.strings,
     };
-    let k = o.count;
-    let mut u = o.held;
+    octets_in(font);
     let mut all = own;
-    for i in 0..k {
-        u = order_window::hold(font, f, words, &mut *window, u, i);
-        let x = order_window::word_at(&*window, u, i) / 65536;
+    for i in 0..kept.o.count {
+        let x = kept.word(i) / 65536;
         let id = own_strings::given_id(&strings, slots, 8, all.count, x);
         all = own_strings::count_one(&strings, all, x, id);
     }
     all
 }
 
-// Begins the String INDEX of a subset at `at`: its head, for all own strings, and the strings of the slots.
-fn begin_strings(
-    strings: &Items<'_>,
-    slots: &[usize],
-    own: Own,
-    out: &mut [u8],
-    at: usize,
-) -> Started
-    requires { (SlotsGiven (items strings.now) slots.now) × (StringsRoom (items strings.now) slots.now out.old at own) }
-    ensures { StringsBegun out.old at own (slots_own (items strings.now) slots.now) out.new result }
+// Begins the String INDEX of a subset: its head, for all own strings, and the strings of the slots.
+fn begin_strings(slots: &GivenSlots<'_, '_>, own: Own, out: &mut Out<'_>) -> Started
+    requires { StringsRoom (items slots.now.strings) slots.now.ids.now out.old.bytes.now out.old.at own }
+    ensures { StringsBegun out.old own (own_in slots.now) out.new result }
 {
     let count = own.count;
     let total = own.total;
-    let ix = index::index_for(at, count, total);
-    index::put_head(&mut *out, at, count, total);
-    let mut p = ix.base + 1;
+    let ix = index::index_for(out.at, count, total);
+    index::put_head(&mut *out, count, total);
+    out.at = ix.base + 1;
     let mut c = 0;
     for j in 0..8 {
-        let sid = slots[j];
-        let id = slots[8 + j];
+        let sid = slots.ids[j];
+        let id = slots.ids[8 + j];
         if id == 391 + c {
-            let text = own_strings::own_text(strings, sid);
-            p = index::put_item(&mut *out, ix, c, p, text);
+            let text = own_strings::own_text(&slots.strings, sid);
+            index::put_item(&mut *out, ix, c, text);
             c += 1;
         }
     }
-    Started {
-        ix,
-        count: c,
-        next: p,
-    }
+    Started { ix, count: c }
 }
 
-// Writes the String INDEX of a name-keyed subset from `at` on; the place after it.
-pub fn put_strings(
-    font: &[u8],
-    o: Order,
-    words: &[u32],
-    window: &mut [u32],
-    slots: &[usize],
-    own: Own,
-    out: &mut [u8],
-    at: usize,
-) -> usize
-    requires { (HasStrings font.now o.f.strings) × (SlotsGiven (items_of font.now o.f.strings) slots.now)
-        × (NamesApart font.now o.f words.now) × (Ordered font.now words.now window.old o)
-        × (IndexRoom out.old at (all_own (items_of font.now o.f.strings) slots.now (order_in font.now o.f words.now)) own) }
-    ensures { (Wrote out.old at
-        (index_bytes (all_own (items_of font.now o.f.strings) slots.now (order_in font.now o.f words.now)))
-        out.new result)
-        × (Ordered font.now words.now window.new o) }
+// Writes the String INDEX of a name-keyed subset.
+pub fn put_strings(kept: &mut Kept<'_>, slots: &[usize], own: Own, out: &mut Out<'_>)
+    requires { (NamesReady kept.old slots.now)
+        × (IndexRoom out.old.bytes.now out.old.at (all_own (strings_of kept.old) slots.now (order_of kept.old)) own) }
+    ensures { (Writes out.old (index_bytes (all_own (strings_of kept.old) slots.now (order_of kept.old))) out.new)
+        × (Stays kept.old kept.new) }
 {
-    let f = o.f;
+    let font = kept.font;
     let strings = Items {
         bytes: font,
-        ix: f.strings,
+        ix: kept.o.f.strings,
     };
-    let k = o.count;
-    let begun = begin_strings(&strings, slots, own, &mut *out, at);
+    octets_in(font);
+    let given = GivenSlots {
+        strings,
+        ids: slots,
+    };
+    let begun = begin_strings(&given, own, &mut *out);
     let ix = begun.ix;
-    let mut p = begun.next;
     let mut c = begun.count;
-    let mut u = o.held;
-    for i in 0..k {
-        u = order_window::hold(font, f, words, &mut *window, u, i);
-        let sid = order_window::word_at(&*window, u, i) / 65536;
+    for i in 0..kept.o.count {
+        let sid = kept.word(i) / 65536;
         let id = own_strings::given_id(&strings, slots, 8, c, sid);
         if id == 391 + c {
             let text = own_strings::own_text(&strings, sid);
-            p = index::put_item(&mut *out, ix, c, p, text);
+            index::put_item(&mut *out, ix, c, text);
             c += 1;
         }
     }
-    p
 }
 
 // The same of a CID-keyed subset, which has the strings of the slots alone.
-pub fn put_slot_strings(
-    strings: &Items<'_>,
-    slots: &[usize],
-    own: Own,
-    out: &mut [u8],
-    at: usize,
-) -> usize
-    requires { (SlotsGiven (items strings.now) slots.now)
-        × (IndexRoom out.old at (slots_own (items strings.now) slots.now) own) }
-    ensures { Wrote out.old at (index_bytes (slots_own (items strings.now) slots.now)) out.new result }
+pub fn put_slot_strings(slots: &GivenSlots<'_, '_>, own: Own, out: &mut Out<'_>)
+    requires { IndexRoom out.old.bytes.now out.old.at (own_in slots.now) own }
+    ensures { Writes out.old (index_bytes (own_in slots.now)) out.new }
 {
-    let begun = begin_strings(strings, slots, own, out, at);
-    begun.next
+    begin_strings(slots, own, out);
 }
 
-// Writes the charset of a name-keyed subset from `at` on, by the new ids of the names; the place after it.
-pub fn put_charset_named(
-    font: &[u8],
-    o: Order,
-    words: &[u32],
-    window: &mut [u32],
-    slots: &[usize],
-    out: &mut [u8],
-    at: usize,
-) -> usize
-    requires { (HasStrings font.now o.f.strings) × (SlotsGiven (items_of font.now o.f.strings) slots.now)
-        × (NamesApart font.now o.f words.now) × (Ordered font.now words.now window.old o)
-        × (at + length (charset_bytes (new_names font.now o.f words.now slots.now)) ≤ length out.old) }
-    ensures { (Wrote out.old at (charset_bytes (new_names font.now o.f words.now slots.now)) out.new result)
-        × (Ordered font.now words.now window.new o) }
+// Writes the charset of a name-keyed subset, by the new ids of the names.
+pub fn put_charset_named(kept: &mut Kept<'_>, slots: &[usize], out: &mut Out<'_>)
+    requires { (NamesReady kept.old slots.now) × (out.old.at + length (charset_bytes (names_for kept.old slots.now)) ≤ length out.old.bytes.now) }
+    ensures { (Writes out.old (charset_bytes (names_for kept.old slots.now)) out.new) × (Stays kept.old kept.new) }
 {
-    let f = o.f;
+    let font = kept.font;
     let strings = Items {
         bytes: font,
-        ix: f.strings,
+        ix: kept.o.f.strings,
     };
-    let k = o.count;
-    let mut p = octets::put_byte(&mut *out, at, 0);
-    let mut own = slots_own(&strings, slots);
-    let mut u = o.held;
-    for i in 0..k {
-        u = order_window::hold(font, f, words, &mut *window, u, i);
-        let x = order_window::word_at(&*window, u, i) / 65536;
+    octets_in(font);
+    out.byte(0);
+    let given = GivenSlots {
+        strings,
+        ids: slots,
+    };
+    let mut own = slots_own(&given);
+    for i in 0..kept.o.count {
+        let x = kept.word(i) / 65536;
         let id = own_strings::given_id(&strings, slots, 8, own.count, x);
         own = own_strings::count_one(&strings, own, x, id);
         if 0 < i {
-            p = octets::put_num(&mut *out, p, id, 2);
+            out.num(id, 2);
         }
     }
-    p
 }

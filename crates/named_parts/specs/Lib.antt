@@ -1,2 +1,4 @@
 pub mod Named
+pub mod Alone
+pub mod Subset
 pub mod NamedPutLaws

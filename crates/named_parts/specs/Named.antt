@@ -14,13 +14,17 @@ use Rattle.subset.specs.Subset.{private_dict, private_part, own_by_name, new_ids
 use Rattle.subset.specs.Cut.{Outcome, written}
 use Rattle.small.specs.Small.{small_size}
 use Rattle.order_window.specs.declared.Order.{Order}
-use Rattle.order_window.specs.Window.{Ordered}
+use Rattle.order_window.specs.Window.{glyphs_of, Gathered}
+use Rattle.record.specs.Record.{rows_of}
 use Rattle.own_strings.specs.declared.Own.{Own}
 use Rattle.name_strings.specs.Names.{NamesApart}
 use Rattle.fds.specs.Locals.{fds_in}
 use Rattle.front.specs.Front.{SlotsReady, Measured}
-use Rattle.parts.specs.Ready.{FontHeld, Ready, Summed}
+use Rattle.faithful.specs.FontHeld.{FontHeld}
+use Rattle.parts.specs.Ready.{Ready, Summed}
 use Rattle.parts.specs.declared.Planned.{Planned}
+use Rattle.outcome.specs.declared.tables.Parts.{Parts}
+use Rattle.outcome.specs.Walked.{Walked}
 use Rattle.outcome.specs.Layout.{named_charset, named_codes, named_charstrings, named_private, named_end}
 use Rattle.front.specs.declared.NamedPlaces.{NamedPlaces}
 use Rattle.encoding.specs.Encoded.{pairs_of, coded_in, Encodes}
@@ -68,6 +72,13 @@ pub record NamedCodes (e : Encoding) (slots : List ℕ) : Type 0 where
   pub few : pairs_of e ≤ 255
   pub long : 272 ≤ length slots
 
+-- what a subset is written from: the bodies are planned, the strings counted, the codes few, and it is the plan's glyphs that are kept
+pub record NamedReady (b ws : List ℕ) (o : Order) (parts : Parts) (e : Encoding) : Type 0 where
+  pub plan : NamedPlan b (rows_of parts.rows.now) parts.used.now ws parts.cut.plan parts.table.now parts.totals.now
+  pub strings : NamedStrings (program_of b parts.cut.plan.order.f) (glyphs_of b parts.cut.plan.order.f ws) parts.slots.now parts.cut.own (length parts.name.now)
+  pub codes : NamedCodes e parts.slots.now
+  pub walked : Walked o parts.cut.plan.order
+
 -- the places of the parts, and the size of the Private DICT
 pub record PlacedNamed (p : Program) (coded : Coded) (name order : List ℕ) (b : Bodies) (at : NamedPlaces) : Type 0 where
   pub charset : at.charset ≡ named_charset p coded name order b
@@ -81,6 +92,6 @@ pub record PlacedNamed (p : Program) (coded : Coded) (name order : List ℕ) (b 
 pub record NamedCut (b : List ℕ) (o : Order) (ws window : List ℕ) : Type 0 where
   pub read : FontHeld b o.f
   pub keyed : cid_keyed (program_of b o.f).top ≡ false
-  pub ordered : Ordered b ws window o
+  pub ordered : Gathered b ws window o
   pub apart : NamesApart b o.f ws
   pub room : small_size (program_of b o.f) ≤ length ws

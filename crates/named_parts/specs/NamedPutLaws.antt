@@ -1,5 +1,5 @@
 -- Laws of the parts of a name-keyed subset: where they stand, what their writers ask, and that part behind part the subset is written.
-use Rattle.std.specs.Prelude.{ℕ, ◌+◌, ◌*◌, ◌-◌, ◌≤◌, ◌<◌, ◌≡◌, false, List, [], ◌∷◌, ◌++◌, length, take, drop, get_or}
+use Rattle.std.specs.Prelude.{ℕ, ◌+◌, ◌*◌, ◌-◌, ◌≤◌, ◌<◌, ◌≡◌, false, List, [], ◌∷◌, ◌++◌, length, take, drop, get_or, Option}
 use Rattle.std.proofs.Common.{sym, ap, ◌∙◌, subst, append_assoc, append-nil, arith, length-append, length-drop, get_or-take, take_all}
 use Rattle.octets.specs.Octets.{Wrote}
 use Rattle.octets.specs.PutLaws.{wrote_as}
@@ -9,7 +9,7 @@ use Rattle.charset.specs.CharsetBytes.{charset_bytes}
 use Rattle.charset.specs.CharsetBytesLaws.{charset-length}
 use Rattle.unfold.specs.Unfold.{Row}
 use Rattle.cff.specs.Font.{Program}
-use Rattle.cff.specs.Reads.{program_of}
+use Rattle.cff.specs.Reads.{GoodFont, program_of}
 use Rattle.cff.specs.declared.font.Font.{Font}
 use Rattle.subset.specs.Kept.{private_of}
 use Rattle.subset.specs.Texts.{names_of}
@@ -18,12 +18,13 @@ use Rattle.subset.specs.Codes.{Coded, coded_bytes, coded_at}
 use Rattle.subset.specs.Subset.{private_dict, private_part, private_parts, own_by_name, top_by_name, new_ids, one_local_lem, subset_by_name}
 use Rattle.subset.proofs.TextsLaws.{names-length, ids-length}
 use Rattle.order_window.specs.declared.Order.{Order}
-use Rattle.order_window.specs.Window.{glyphs_of, Ordered}
+use Rattle.order_window.specs.declared.window.Kept.{Kept}
+use Rattle.order_window.specs.Window.{glyphs_of}
 use Rattle.faithful.specs.ByName.{coded-within, dict-within}
 use Rattle.private_dicts.specs.Privates.{sizes_of}
 use Rattle.own_strings.specs.declared.Own.{Own}
-use Rattle.own_strings.specs.Ready.{HasStrings, SlotsGiven}
-use Rattle.name_strings.specs.Names.{NamesApart, new_names}
+use Rattle.own_strings.specs.Ready.{SlotsGiven}
+use Rattle.name_strings.specs.Names.{NamesApart, new_names, names_for, NamesReady}
 use Rattle.name_strings.specs.NamesLaws.{order-ids}
 use Rattle.top_dict.specs.Top.{Offsets}
 use Rattle.top_dict.specs.Writing.{split-append, split-room, Writing, writing_start, writing-room, writing-turn, writing-left, writing-last}
@@ -41,6 +42,7 @@ use Rattle.parts.specs.Ready.{bodies_for, Ready}
 use Rattle.parts.specs.declared.Planned.{Planned}
 use Rattle.parts.specs.CodeLaws.{globals_long, glyphs_long, glyphs-asked, glyphs_are}
 use Rattle.parts.specs.PrivateLaws.{all-parts, sizes_held, privates-asked, privates_are}
+use Rattle.outcome.specs.Walked.{Walked, charstrings-walked, same-charstrings}
 use Rattle.outcome.specs.Layout.{front_len, named_charset, named_codes, named_charstrings, named_private, named_end, named_top, named-parts, named-length}
 use Rattle.named_parts.specs.Named.{coded_for, named_tables, named_glyphs, NamedPlan, NamedStrings, NamedCodes, PlacedNamed}
 use Rattle.front.specs.declared.NamedPlaces.{NamedPlaces}
@@ -53,30 +55,35 @@ use Rattle.subset.specs.declared.Way.{Way}
 pub can_rename : (b : List ℕ) (f : Font) (ws slots : List ℕ) → SmallFont b f → SlotsReady (program_of b f) false slots → NamesApart b f ws → CanRename b f ws slots
 can_rename b f ws slots small ready apart = record { has = has-strings b f small; front = ready.front; given = ready.given; apart = apart }
 
--- charset and encoding, one behind the other
-module _ (b : List ℕ) (o : Order) (e : Encoding) (slots ws window : List ℕ) (s : Ordered b ws window o) (h : CanRename b o.f ws slots) (coding : NamedCodes e slots)
-    (out : List ℕ) (at : ℕ)
-    (room : at + length (named_tables (program_of b o.f) (glyphs_of b o.f ws) (coded_for e slots)) ≤ length out) where
+-- charset and encoding, one behind the other, of the font that is walked
+module _ (k : Kept) (e : Encoding) (slots : List ℕ) (f : Font) (walked : k.o.f ≡ f) (ready : SlotsReady (program_of k.font.now f) false slots) (coding : NamedCodes e slots)
+    (small : length k.font.now ≤ 67108864) (apart : NamesApart k.font.now f k.words.now) (out : List ℕ) (at : ℕ)
+    (room : at + length (named_tables (program_of k.font.now f) (glyphs_of k.font.now f k.words.now) (coded_for e slots)) ≤ length out) where
   abbrev charset_part : List ℕ
-  charset_part = charset_bytes (new_ids (own_by_name (program_of b o.f) (glyphs_of b o.f ws)) (names_of (program_of b o.f) (glyphs_of b o.f ws)))
+  charset_part = charset_bytes (new_ids (own_by_name (program_of k.font.now f) (glyphs_of k.font.now f k.words.now)) (names_of (program_of k.font.now f) (glyphs_of k.font.now f k.words.now)))
 
   abbrev coded_part : List ℕ
   coded_part = coded_bytes (coded_for e slots)
 
-  ids_are : charset_bytes (new_names b o.f ws slots) ≡ charset_part
-  ids_are = ap charset_bytes (order-ids b o.f ws s.good.glyphs.held.few slots h.front)
+  good : GoodFont k.font.now f
+  good = subst (GoodFont k.font.now) walked k.gathered.good
 
-  pub charset-asked : HasStrings b o.f.strings × SlotsGiven (program_of b o.f).strings slots × NamesApart b o.f ws × Ordered b ws window o
-      × (at + length (charset_bytes (new_names b o.f ws slots)) ≤ length out)
+  ids_are : charset_bytes (names_for k slots) ≡ charset_part
+  ids_are =
+      ap (λ (g : Font). charset_bytes (new_names k.font.now g k.words.now slots)) walked
+      ∙ ap charset_bytes (order-ids k.font.now f k.words.now good.glyphs.held.few slots ready.front)
+
+  pub charset-asked : NamesReady k slots × (at + length (charset_bytes (names_for k slots)) ≤ length out)
   charset-asked = (
-    h.has,
-    h.given,
-    h.apart,
-    s,
+    record {
+      small = small;
+      given = subst (λ (g : Font). SlotsGiven (program_of k.font.now g).strings slots) (sym walked) ready.given;
+      apart = subst (λ (g : Font). NamesApart k.font.now g k.words.now) (sym walked) apart;
+    },
     omega (arith, ap length ids_are, split-room at (length out) room (split-append charset_part coded_part)),
   )
 
-  module _ {mid : List ℕ} {q : ℕ} (w : Wrote out at (charset_bytes (new_names b o.f ws slots)) mid q) where
+  module _ {mid : List ℕ} {q : ℕ} (w : Wrote out at (charset_bytes (names_for k slots)) mid q) where
     charset-put : Writing (charset_part ++ coded_part) out at coded_part mid q
     charset-put = writing-turn room (split-append charset_part coded_part) (writing_start (charset_part ++ coded_part) out at) (wrote_as w ids_are)
 
@@ -97,7 +104,7 @@ module _ (b : List ℕ) (o : Order) (e : Encoding) (slots ws window : List ℕ) 
       )
 
       pub tables_wrote : {new : List ℕ} {q2 : ℕ} → Wrote mid q (coded_bytes (coded_in e table)) new q2
-          → Wrote out at (named_tables (program_of b o.f) (glyphs_of b o.f ws) (coded_for e slots)) new q2
+          → Wrote out at (named_tables (program_of k.font.now f) (glyphs_of k.font.now f k.words.now) (coded_for e slots)) new q2
       tables_wrote v = writing-last room charset-put (wrote_as v (ap coded_bytes codes_are))
 
 -- what stands behind the slots
@@ -160,20 +167,19 @@ module _ (b : List ℕ) (rows : List Row) (used ws : List ℕ) (r : Planned) (ta
 
   -- ---- charstrings and Private written
 
-  module _ (out : List ℕ) (at : ℕ) (small : at + length (named_glyphs p bodies) ≤ 67108864) (room : at + length (named_glyphs p bodies) ≤ length out) where
+  module _ (o : Order) (walked : Walked o r.order) (out : List ℕ) (at : ℕ) (small : at + length (named_glyphs p bodies) ≤ 67108864)
+      (room : at + length (named_glyphs p bodies) ≤ length out) where
     sums : length (named_glyphs p bodies) ≡ length glyphs + length private
     sums = length-append glyphs private
 
-    pub charstrings-asked : {window : List ℕ} → Ordered b ws window r.order
-        → CharstringsIn b ws table r.order r.how rows × Ordered b ws window r.order
-        × Room (charstrings_from r.how r.order rows ws table b) r.glyphs_total at (length out)
-    charstrings-asked ordered =
-        let h = glyphs-asked b rows used ws table r g.ready at (length out) (omega (arith, sums)) (split-room at (length out) room (split-append glyphs private)) in
-        (h.0, ordered, h.1)
+    pub charstrings-asked : CharstringsIn b ws table o r.how rows × Room (charstrings_from r.how o rows ws table b) r.glyphs_total at (length out)
+    charstrings-asked =
+        charstrings-walked b rows ws table o r walked at (length out)
+        (glyphs-asked b rows used ws table r g.ready at (length out) (omega (arith, sums)) (split-room at (length out) room (split-append glyphs private)))
 
-    module _ {mid : List ℕ} {q : ℕ} (v : Wrote out at (index_bytes (many_of (charstrings_from r.how r.order rows ws table b))) mid q) where
+    module _ {mid : List ℕ} {q : ℕ} (v : Wrote out at (index_bytes (many_of (charstrings_from r.how o rows ws table b))) mid q) where
       glyphs-put : Wrote out at glyphs mid q
-      glyphs-put = wrote_as v (ap index_bytes (glyphs_are b rows used ws table r g.ready))
+      glyphs-put = wrote_as v (ap (λ (l : Option (List (List ℕ))). index_bytes (many_of l)) (same-charstrings b rows ws table o r walked) ∙ ap index_bytes (glyphs_are b rows used ws table r g.ready))
 
       charstrings-put : Writing (named_glyphs p bodies) out at private mid q
       charstrings-put = writing-turn room (split-append glyphs private) (writing_start (named_glyphs p bodies) out at) glyphs-put
@@ -256,7 +262,8 @@ module _ (b : List ℕ) (rows : List Row) (used ws : List ℕ) (r : Planned) (ta
 
     -- ---- all written
 
-    module _ (at : NamedPlaces) (placed : PlacedNamed p coded name order bodies at) (out : List ℕ) (small : at.end ≤ 67108864) (room : at.end ≤ length out) where
+    module _ (at : NamedPlaces) (placed : PlacedNamed p coded name order bodies at) (out : List ℕ) (small : at.end ≤ 67108864) (room : at.end ≤ length out)
+        (o : Order) (walked : Walked o r.order) where
       abbrev globals : List ℕ
       globals = index_bytes bodies.globals
 
@@ -324,25 +331,30 @@ module _ (b : List ℕ) (rows : List Row) (used ws : List ℕ) (r : Planned) (ta
       encoding-low =
           omega (arith, placed.encoding, coded-within coded (named_codes p coded name order bodies) at.end (omega (arith, placed.end)) (omega (arith, placed.end)))
 
-      pub front-asked : {window : List ℕ} → Ordered b ws window r.order
-          → NamedFront b r.order at.encoding slots own ws window (length name) (length out) × Offsets at.charset at.charstrings at.size at.private
+      -- the front by the font that is walked
+      abbrev front_of : Font → List ℕ
+      front_of f =
+          front_bytes at.end name (top_by_name (program_of b f) (own_by_name (program_of b f) (glyphs_of b f ws)) at.charset at.encoding at.charstrings at.size at.private)
+          (own_by_name (program_of b f) (glyphs_of b f ws))
+
+      pub front-asked : NamedFront b o.f at.encoding slots own ws (length name) (length out) × Offsets at.charset at.charstrings at.size at.private
           × (at.encoding < 2147483648)
-      front-asked ordered =
+      front-asked =
           let d = dict-within (private_of p 0) (one_local_lem bodies) in (
-            record {
-              font = record { good = g.ready.read.font; small = g.ready.read.size };
-              ready = t.ready;
-              ordered = ordered;
-              apart = g.apart;
-              is = t.measured.is;
-              fits =
-                  record {
-                    few = t.few;
-                    short = t.short;
-                    small = omega (arith, long, halves, front_long);
-                    room = omega (arith, long, halves, front_long);
-                  };
-            },
+            subst (λ (f : Font). NamedFront b f at.encoding slots own ws (length name) (length out)) (sym walked.f)
+                (record {
+                  font = record { good = g.ready.read.font; small = g.ready.read.size };
+                  ready = t.ready;
+                  apart = g.apart;
+                  is = t.measured.is;
+                  fits =
+                      record {
+                        few = t.few;
+                        short = t.short;
+                        small = omega (arith, long, halves, front_long);
+                        room = omega (arith, long, halves, front_long);
+                      };
+                }),
             record {
               first = omega (arith, placed.charset, placed.charstrings, placed.private, placed.end);
               second = omega (arith, placed.charset, placed.charstrings, placed.private, placed.end);
@@ -352,7 +364,10 @@ module _ (b : List ℕ) (rows : List Row) (used ws : List ℕ) (r : Planned) (ta
             omega (arith, encoding-low),
           )
 
-      module _ {mid : List ℕ} {q : ℕ} (w : Wrote out 0 front mid q) where
+      module _ {mid : List ℕ} {q : ℕ} (v₀ : Wrote out 0 (front_of o.f) mid q) where
+        w : Wrote out 0 front mid q
+        w = wrote_as v₀ (ap front_of walked.f)
+
         front-put : Writing whole out 0 (globals ++ (tables ++ rest)) mid q
         front-put = writing-turn whole_room (split-append front (globals ++ (tables ++ rest))) (writing_start whole out 0) w
 
@@ -367,22 +382,15 @@ module _ (b : List ℕ) (rows : List Row) (used ws : List ℕ) (r : Planned) (ta
           globals-put : Writing whole out 0 (tables ++ rest) mid2 q2
           globals-put = writing-turn whole_room (split-append globals (tables ++ rest)) front-put v
 
-          pub tables_there : {window : List ℕ} → Ordered b ws window r.order
-              → Ordered b ws window r.order × CanRename b r.order.f ws slots × NamedCodes e slots × (q2 + length tables ≤ length mid2)
-          tables_there ordered = (
-            ordered,
-            can_rename b r.order.f ws slots (record { good = g.ready.read.font; small = g.ready.read.size }) t.ready g.apart,
-            coding,
-            writing-room whole_room (split-append tables rest) globals-put,
-          )
+          pub tables_there : q2 + length tables ≤ length mid2
+          tables_there = writing-room whole_room (split-append tables rest) globals-put
 
           module _ {mid3 : List ℕ} {q3 : ℕ} (x : Wrote mid2 q2 tables mid3 q3) where
             tables-put : Writing whole out 0 rest mid3 q3
             tables-put = writing-turn whole_room (split-append tables rest) globals-put x
 
-            pub glyphs_there : {window : List ℕ} → Ordered b ws window r.order
-                → NamedPlan b rows used ws r table totals × Ordered b ws window r.order × (q3 + length rest ≤ 67108864) × (q3 + length rest ≤ length mid3)
-            glyphs_there ordered = (g, ordered, omega (arith, long, halves, w.behind, v.behind, x.behind), writing-left whole_room tables-put)
+            pub glyphs_there : (q3 + length rest ≤ 67108864) × (q3 + length rest ≤ length mid3)
+            glyphs_there = (omega (arith, long, halves, w.behind, v.behind, x.behind), writing-left whole_room tables-put)
 
             pub named-wrote : {new : List ℕ} {q4 : ℕ} → Wrote mid3 q3 rest new q4 → Wrote out 0 (subset_by_name p coded name order bodies) new q4
             named-wrote u = wrote_as (writing-last whole_room tables-put u) whole_is

@@ -5,6 +5,8 @@ pub mod Octets
 pub mod Lists
 pub mod Examples
 pub mod OctetsLaws
+pub mod Out
+pub mod OutLaws
 pub mod PutLaws
 pub mod StepsLaws
 pub mod ListLaws

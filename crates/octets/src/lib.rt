@@ -2,6 +2,8 @@
 // A reader here requires that its bytes are there: the caller tests first, since a refusal has its place in the caller's order.
 #![tactic(auto)]
 
+pub mod out;
+
 ghost use Rattle.std.specs.Prelude.{◌≡◌, [], ◌∷◌, ◌+◌, ◌≤◌, ◌<◌, ◌^◌, length, get_or};
 ghost use Rattle.octets.specs.Octets.{num_at, bytes_of, Wrote};
 

@@ -1,4 +1,6 @@
 pub mod Window
+pub mod Alone
+pub mod Stays
 pub mod WindowLaws
 pub mod OrderLaws
-pub mod LoopLaws
+pub mod GatheredLaws

@@ -30,26 +30,18 @@ pub record Marked (b : List ℕ) (f : Font) (ws : List ℕ) : Type 0 where
   pub found : all_found_lem (program_of b f) (kept_in (many_in f) ws) ≡ true
   pub one : 0 < length (kept_in (many_in f) ws)
 
--- the window where no loop is under way: it holds all words, or none
+-- the window where no loop has begun: it holds all words, or none
 pub record Steady (b : List ℕ) (f : Font) (ws window : List ℕ) (h : Held) : Type 0 where
   pub holds : Holds b f ws window h
   pub front : h.from ≡ 0
   pub whole : (h.walk.done ≡ 0) ⊎ (h.walk.done ≡ length (order_in b f ws))
 
--- the kept glyphs of a font, and the window
-pub record Ordered (b ws window : List ℕ) (o : Order) : Type 0 where
+-- the kept glyphs of a font, and the window, which may hold any part of their order
+pub record Gathered (b ws window : List ℕ) (o : Order) : Type 0 where
   pub good : GoodFont b o.f
   pub bits : words_for (many_in o.f) ≤ length ws
   pub some : 0 < length window
-  pub steady : Steady b o.f ws window o.held
+  pub holds : Holds b o.f ws window o.held
   pub many : o.count ≡ length (order_in b o.f ws)
   pub one : 0 < o.count
   pub few : o.count < 65536
-
--- a loop under way that comes to place i: all words stay where the window held them all
-pub record Looping (b : List ℕ) (f : Font) (ws old : List ℕ) (h : Held) (window : List ℕ) (u : Held) (i : ℕ) : Type 0 where
-  pub size : length window ≡ length old
-  pub holds : Holds b f ws window u
-  pub low : u.from ≤ i
-  pub high : i ≤ u.walk.done
-  pub stays : h.walk.done ≡ length (order_in b f ws) → (u ≡ h) × (window ≡ old)

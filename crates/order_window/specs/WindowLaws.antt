@@ -4,7 +4,6 @@ use Rattle.std.proofs.Common.{sym, ap, ◌∙◌, subst, arith, get_or-take, get
 use Rattle.octets.specs.Pick.{pick}
 use Rattle.bits.specs.Bits.{count_below, words_for, bit_in, whole_ones_lem}
 use Rattle.bits.specs.BitsLaws.{whole_is}
-use Rattle.reach.specs.Cases.{by_order}
 use Rattle.cff.specs.declared.font.Font.{Font}
 use Rattle.subset.specs.Kept.{those}
 use Rattle.order.specs.declared.Walk.{Walk}
@@ -60,9 +59,6 @@ ones-kept ws small n q r e none is =
 -- ---- what a window holds
 
 module _ (b : List ℕ) (f : Font) (ws window : List ℕ) (h : Held) (s : Holds b f ws window h) (i : ℕ) (low : h.from ≤ i) (high : i < h.walk.done) where
-  pub held-inside : i - h.from < length window
-  held-inside = omega (arith, s.fits)
-
   -- its word is the order's
   pub held_word : get_or window (i - h.from) 0 ≡ get_or (order_in b f ws) i 0
   held_word =
@@ -91,15 +87,6 @@ pub none-held : (b : List ℕ) (f : Font) (ws window : List ℕ) (w : Walk) (sea
 none-held b f ws window w search is s =
     subst (λ (x : Walk). Holds b f ws window (record { walk = x; from = 0 })) (sym is)
     (record { stands = s; first = s; ordered = omega arith; fits = omega arith; words = refl })
-
--- ---- which place is asked for
-
--- a place before the window is the first one, one behind it the next
-pub first-asked : (i from done : ℕ) → (0 < i → (from ≤ i) × (i ≤ done)) → i < from → i ≡ 0
-first-asked i from done f h = by_order 0 i (λ p. let q = f p in omega (arith, q.0)) (λ p. omega arith)
-
-pub next-asked : (i from done : ℕ) → (0 < i → (from ≤ i) × (i ≤ done)) → done ≤ i → i ≡ done
-next-asked i from done f h = by_order 0 i (λ p. let q = f p in omega (arith, q.1)) (λ p. omega arith)
 
 pub started_none : (w : Walk) (f : Font) (search : Bool) → w ≡ start_of f search → w.done ≡ 0
 started_none w f search e = ap (λ (x : Walk). x.done) e

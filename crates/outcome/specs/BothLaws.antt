@@ -15,7 +15,8 @@ use Rattle.order_window.specs.Window.{glyphs_of}
 use Rattle.subset.specs.Cut.{all_found_lem}
 use Rattle.bodies.specs.Ways.{kept_count}
 use Rattle.fds.specs.Parts.{PartsFit}
-use Rattle.parts.specs.Ready.{FontHeld, Ready, Summed}
+use Rattle.faithful.specs.FontHeld.{FontHeld}
+use Rattle.parts.specs.Ready.{Ready, Summed}
 use Rattle.parts.specs.declared.Planned.{Planned}
 use Rattle.parts.specs.CodeLaws.{globals-few}
 use Rattle.parts.specs.PrivateLaws.{parts_fit}

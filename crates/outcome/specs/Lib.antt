@@ -1,4 +1,6 @@
+pub mod Call
 pub mod Entry
 pub mod Layout
 pub mod OutcomeLaws
 pub mod BothLaws
+pub mod Walked

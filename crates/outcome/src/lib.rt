@@ -1,6 +1,9 @@
-// What a call answers and leaves (specs/Entry.antt), where the parts of a subset stand (Layout.antt), and the outcome by the tests of the code:
+// A call, what it answers and leaves (specs/Entry.antt), where the parts of a subset stand (Layout.antt), and the outcome by the tests of the code:
 // what both cuts and the entries share.
 #![tactic(auto)]
+
+pub mod call;
+pub mod tables;
 
 use own_strings::Own;
 use parts::Planned;

@@ -17,11 +17,15 @@ use Rattle.cff.specs.Font.{Program}
 use Rattle.bits.specs.Bits.{words_for}
 use Rattle.cff.specs.Find.{locals_words}
 use Rattle.cff.specs.Reads.{program_of}
+use Rattle.cff.specs.declared.font.Font.{Font}
 use Rattle.subset.specs.Pruned.{Pruned, each, mapped, calls_in, pruned}
 use Rattle.order.specs.Walks.{many_in}
+use Rattle.order_window.specs.declared.Held.{Held}
 use Rattle.order_window.specs.declared.Order.{Order}
-use Rattle.order_window.specs.Window.{glyphs_of, Ordered}
-use Rattle.order_window.specs.LoopLaws.{glyphs_many, same-glyphs, same-ordered}
+use Rattle.order_window.specs.declared.window.Kept.{Kept}
+use Rattle.order_window.specs.Window.{glyphs_of, Gathered}
+use Rattle.order_window.specs.GatheredLaws.{glyphs_many, same-glyphs, same-gathered}
+use Rattle.order_window.specs.Stays.{Stays}
 use Rattle.reach.specs.Reach.{rises}
 use Rattle.renumber.specs.Turn.{body_of_lem}
 use Rattle.bodies.specs.Ways.{many_of, holds, body_by}
@@ -91,8 +95,8 @@ module _ (b : List ℕ) (o : Order) (used old window : List ℕ) (h : PlanIn b o
     order_stays : glyphs_of b o.f old ≡ glyphs_of b o.f ws
     order_stays = same-glyphs b o.f old ws bits_stay
 
-    pub plan_ordered : Ordered b ws window o
-    plan_ordered = same-ordered b old ws window o bits_stay size h.ordered
+    pub plan_ordered : Gathered b ws window o
+    plan_ordered = same-gathered b old ws window o bits_stay size h.ordered
 
     within : FdsUsed p used (glyphs_of b o.f ws)
     within = subst (FdsUsed p used) order_stays h.within
@@ -101,22 +105,26 @@ module _ (b : List ℕ) (o : Order) (used old window : List ℕ) (h : PlanIn b o
     many = plan_ordered.many ∙ glyphs_many b o.f ws
 
     module _ (rising : Bool) (sorted : rising ≡ rises rows) (table_long : 1280 ≤ length table) where
+      -- the kept glyphs, whatever the window holds
+      abbrev after : Held → Order
+      after held = record { f = o.f; count = o.count; held = held }
+
       -- how bodies are written by a way
       abbrev by : Way → Manner
       by way = record { way = way; globals = ranked.globals; rising = rising }
 
       -- what measuring asks
-      pub plan_asked : (way : Way) → MeasureIn b o used ws (by way) table rows
-      plan_asked way =
-          measure_in b o h.read.font h.read.program rows used ws ranked.globals table s.ranked way rising within many
+      pub plan_asked : (held : Held) (way : Way) → MeasureIn b (after held) used ws (by way) table rows
+      plan_asked held way =
+          measure_in b (after held) h.read.font h.read.program rows used ws ranked.globals table s.ranked way rising within many
           h.read.size h.used_long table_long h.fds (λ e. sym sorted ∙ e)
 
       -- ---- what is found and measured
 
-      module _ (traced : Bool) (first : Way) (tried : first ≡ first_way traced ranked.all) (totals : List ℕ) (r : Plan)
+      module _ (held : Held) (traced : Bool) (first : Way) (tried : first ≡ first_way traced ranked.all) (totals : List ℕ) (r : Plan)
           (t : Plans p rows ws used table ranked.globals (glyphs_of b o.f ws) first totals r) where
         abbrev planned : Planned
-        planned = record { order = o; how = by r.way; globals_total = r.globals_total; glyphs_total = r.glyphs_total }
+        planned = record { order = after held; how = by r.way; globals_total = r.globals_total; glyphs_total = r.glyphs_total }
 
         -- the way that is found
         found : r.way ≡ way_by traced ranked.all (all_made Renumbered p rows ws used table ranked.globals (glyphs_of b o.f ws))
@@ -149,7 +157,7 @@ module _ (b : List ℕ) (o : Order) (used old window : List ℕ) (h : PlanIn b o
             record {
               read = h.read;
               narrow = narrow;
-              asked = plan_asked r.way;
+              asked = plan_asked held r.way;
               many = many;
               few = h.ordered.few;
               within = within;
@@ -178,9 +186,33 @@ module _ (b : List ℕ) (o : Order) (used old window : List ℕ) (h : PlanIn b o
             ap (λ (w : Way). record { way = w; bodies = bodies_by p rows w (fds_in used) order }) e
             ∙ sym by ∙ ap (λ (l : List ℕ). pruned p rows (fds_in used) l (flag_of traced)) (sym order_stays)
 
-        -- what the code returns
-        pub returns_planned : 256 ≤ length totals → (last : List ℕ) → Ordered b ws last o
-            → Ready b rows used ws planned table × Summed b rows used ws planned table totals × Ordered b ws last o × (planned.order ≡ o)
+        -- what the code returns, the window being moved by then
+        abbrev planned_by : Order → Planned
+        planned_by q = record { order = q; how = by r.way; globals_total = r.globals_total; glyphs_total = r.glyphs_total }
+
+        abbrev Whole : Order → Type 0
+        Whole q =
+            Ready b rows used ws (planned_by q) table × Summed b rows used ws (planned_by q) table totals
+            × (record { way = r.way; bodies = bodies_for b rows used ws (planned_by q) } ≡ pruned p rows (fds_in used) (glyphs_of b o.f old) (flag_of traced))
+
+        whole_moved : (q : Order) → q.f ≡ o.f → q.count ≡ o.count → q.held ≡ held → Whole (after held) → Whole q
+        whole_moved q f n g w =
+            let e = ap (λ (x : Font). record { f = x; count = o.count; held = held }) (sym f) in
+            let y = ap (λ (k : ℕ). record { f = q.f; count = k; held = held }) (sym n) in
+            let z = ap (λ (h : Held). record { f = q.f; count = q.count; held = h }) (sym g) in
+            subst Whole (e ∙ y ∙ z) w
+
+        pub returns_planned : 256 ≤ length totals → (q : Order) → q.f ≡ o.f → q.count ≡ o.count → q.held ≡ held → (last : List ℕ) → Gathered b ws last q
+            → Ready b rows used ws (planned_by q) table × Summed b rows used ws (planned_by q) table totals × Gathered b ws last q × (q.f ≡ o.f) × (q.count ≡ o.count)
             × (glyphs_of b o.f ws ≡ glyphs_of b o.f old)
-            × (record { way = r.way; bodies = bodies_for b rows used ws planned } ≡ pruned p rows (fds_in used) (glyphs_of b o.f old) (flag_of traced))
-        returns_planned long last ordered = (plan_ready, plan_summed long, ordered, refl, sym order_stays, plan_pruned)
+            × (record { way = r.way; bodies = bodies_for b rows used ws (planned_by q) } ≡ pruned p rows (fds_in used) (glyphs_of b o.f old) (flag_of traced))
+        returns_planned long q f n g last gathered =
+            let w = whole_moved q f n g (plan_ready, plan_summed long, plan_pruned) in
+            (w.0, w.1, gathered, f, n, sym order_stays, w.2)
+
+-- who lent the window has what it holds after it was moved
+pub stays_gathered : (a b : Kept) → Stays a b → (window : List ℕ) → window ≡ b.window.now → Gathered a.font.now a.words.now window b.o
+stays_gathered a b s window e =
+    let x = subst (λ (w : List ℕ). Gathered b.font.now b.words.now w b.o) (sym e) b.gathered in
+    let y = subst (λ (l : List ℕ). Gathered l b.words.now window b.o) s.font x in
+    subst (λ (l : List ℕ). Gathered a.font.now l window b.o) s.words y

@@ -3,13 +3,12 @@
 use Rattle.std.specs.Prelude.{ℕ, ◌≤◌, ◌<◌, ◌≡◌, true, List, length, get_or}
 use Rattle.index.specs.Write.{total}
 use Rattle.unfold.specs.Unfold.{Row}
-use Rattle.cff.specs.Reads.{GoodFont, program_of}
-use Rattle.cff.specs.declared.font.Font.{Font}
+use Rattle.cff.specs.Reads.{program_of}
 use Rattle.subset.specs.Pruned.{Bodies}
-use Rattle.faithful.specs.Laid.{GoodProgram}
+use Rattle.faithful.specs.FontHeld.{FontHeld}
 use Rattle.small.specs.Small.{small_size}
 use Rattle.order_window.specs.declared.Order.{Order}
-use Rattle.order_window.specs.Window.{glyphs_of, Ordered}
+use Rattle.order_window.specs.Window.{glyphs_of, Gathered}
 use Rattle.bodies.specs.Pruning.{bodies_by}
 use Rattle.fds.specs.Locals.{in_use_lem, fds_in, UsedOf}
 use Rattle.fds.specs.NewLocals.{new_locals}
@@ -18,18 +17,12 @@ use Rattle.plan.specs.Sizes.{FdsUsed, all_made, MeasureIn, Narrow}
 use Rattle.parts.specs.declared.Planned.{Planned}
 use Rattle.subset.specs.Way.{is_renumbered}
 
--- a font that was read
-pub record FontHeld (b : List ℕ) (f : Font) : Type 0 where
-  pub font : GoodFont b f
-  pub size : length b ≤ 67108864
-  pub program : GoodProgram (program_of b f)
-
 -- what planning asks: the kept glyphs, whose FDs are in use, and words for the bits of all subroutines
 pub record PlanIn (b : List ℕ) (o : Order) (used ws window : List ℕ) : Type 0 where
   pub read : FontHeld b o.f
   pub used_long : 256 ≤ length used
   pub fds : UsedOf (length (program_of b o.f).privates) used
-  pub ordered : Ordered b ws window o
+  pub ordered : Gathered b ws window o
   pub within : FdsUsed (program_of b o.f) used (glyphs_of b o.f ws)
   pub room : small_size (program_of b o.f) ≤ length ws
 

@@ -3,7 +3,7 @@
 #![tactic(auto)]
 
 ghost use Rattle.std.specs.Prelude.{◌≡◌, ◌+◌, ◌≤◌, length};
-ghost use Rattle.octets.specs.Octets.{Wrote};
+ghost use Rattle.octets.specs.Out.{Writes};
 ghost use Rattle.index.specs.Write.{index_bytes, index_len_lem};
 ghost use Rattle.record.specs.Record.{rows_of};
 ghost use Rattle.cff.specs.Reads.{program_of};
@@ -11,7 +11,7 @@ ghost use Rattle.subset.specs.Pruned.{pruned};
 ghost use Rattle.subset.specs.Flag.{flag_of};
 ghost use Rattle.bodies.specs.Ways.{kept_count};
 ghost use Rattle.fds.specs.Locals.{fds_in};
-ghost use Rattle.order_window.specs.Window.{glyphs_of, Ordered};
+ghost use Rattle.order_window.specs.Window.{glyphs_of, Gathered};
 ghost use Rattle.parts.specs.Ready.{PlanIn, bodies_for, Ready, Summed};
 
 use bodies::Manner;
@@ -20,8 +20,9 @@ use bodies::subroutines::Subroutines;
 use bodies::subrs::{Source, Subrs};
 use cff::loaded::Loaded;
 use fds::in_use::InUse;
+use octets::out::Out;
 use order_window::Order;
-use plan::bodies_in::BodiesIn;
+use order_window::window::Kept;
 
 // The kept glyphs, how bodies are written by the way that was found, and the bytes of the globals and of the charstrings by it.
 #[derive(Clone, Copy)]
@@ -34,21 +35,21 @@ pub struct Planned {
 
 // Ranks all subroutines in the work words behind the bits of the glyphs, finds the way, and measures all bodies by it: those of the locals of
 // each FD in use in a table.
-pub fn plan_all<'a>(
+pub fn plan_all(
     o: Order,
-    font: &'a [u8],
-    rows: &'a [u8],
+    font: &[u8],
+    rows: &[u8],
     traced: bool,
-    used: &'a [u32],
+    used: &[u32],
     words: &mut [u32],
     window: &mut [u32],
-    table: &mut [usize; 1280],
-    totals: &mut [usize; 256],
+    table: &mut [usize],
+    totals: &mut [usize],
 ) -> Planned
-    requires { PlanIn font.now o used.now words.old window.old }
+    requires { (PlanIn font.now o used.now words.old window.old) × (1280 ≤ length table.old) × (256 ≤ length totals.old) }
     ensures { (Ready font.now (rows_of rows.now) used.now words.new result table.new)
         × (Summed font.now (rows_of rows.now) used.now words.new result table.new totals.new)
-        × (Ordered font.now words.new window.new o) × (result.order ≡ o)
+        × (Gathered font.now words.new window.new result.order) × (result.order.f ≡ o.f) × (result.order.count ≡ o.count)
         × (glyphs_of font.now o.f words.new ≡ glyphs_of font.now o.f words.old)
         × (record { way = result.how.way; bodies = bodies_for font.now (rows_of rows.now) used.now words.new result }
         ≡ pruned (program_of font.now o.f) (rows_of rows.now) (fds_in used.now) (glyphs_of font.now o.f words.old) (flag_of traced)) }
@@ -66,23 +67,20 @@ pub fn plan_all<'a>(
         globals,
         rising,
     };
-    let bodies = BodiesIn {
-        how: first,
-        o,
+    let mut kept = Kept {
         font,
-        used,
         words,
-        table,
-        rows,
+        window,
+        o,
     };
-    let found = plan::plan_bodies(&bodies, window, totals);
+    let found = plan::plan_bodies(&mut kept, first, used, table, rows, totals);
     let how = Manner {
         way: found.way,
         globals,
         rising,
     };
     Planned {
-        order: o,
+        order: kept.o,
         how,
         globals_total: found.globals_total,
         glyphs_total: found.glyphs_total,
@@ -116,14 +114,12 @@ pub fn put_globals(
     words: &[u32],
     table: &[usize],
     rows: &[u8],
-    out: &mut [u8],
-    at: usize,
-) -> usize
+    out: &mut Out<'_>,
+)
     requires { (Ready font.now (rows_of rows.now) used.now words.now r table.now)
-        × (at + length (index_bytes (bodies_for font.now (rows_of rows.now) used.now words.now r).globals) ≤ 67108864)
-        × (at + length (index_bytes (bodies_for font.now (rows_of rows.now) used.now words.now r).globals) ≤ length out.old) }
-    ensures { Wrote out.old at
-        (index_bytes (bodies_for font.now (rows_of rows.now) used.now words.now r).globals) out.new result }
+        × (out.old.at + length (index_bytes (bodies_for font.now (rows_of rows.now) used.now words.now r).globals) ≤ 67108864)
+        × (out.old.at + length (index_bytes (bodies_for font.now (rows_of rows.now) used.now words.now r).globals) ≤ length out.old.bytes.now) }
+    ensures { Writes out.old (index_bytes (bodies_for font.now (rows_of rows.now) used.now words.now r).globals) out.new }
 {
     let f = r.order.f;
     let ix = f.globals;
@@ -150,5 +146,5 @@ pub fn put_globals(
         all,
         total: r.globals_total,
     };
-    bodies::subrs::put_subrs(&m, out, at)
+    bodies::subrs::put_subrs(&m, out)
 }

@@ -5,8 +5,6 @@ use Rattle.cff.specs.Font.{Program}
 use Rattle.cff.specs.Reads.{program_of}
 use Rattle.order_window.specs.Window.{glyphs_of}
 use Rattle.plan.specs.Sizes as sizes
-use Rattle.plan.specs.declared.Plan.{Plan}
-use Rattle.plan.specs.declared.sizes.Measures.{Measures}
 use Rattle.plan.specs.declared.bodies_in.BodiesIn.{BodiesIn}
 
 -- the program that the font is, and the kept glyphs as they are written
@@ -19,11 +17,3 @@ written b = glyphs_of b.font.now b.o.f b.words.now
 -- the globals by the way, or that their renumbering fails
 abbrev pub globals : BodiesIn → Option (List (List ℕ))
 globals b = sizes.globals_by b.how.way (program b) (rows_of b.rows.now) b.words.now b.used.now b.table.now b.how.globals (written b)
-
--- whether no part fails, and then the bytes of all bodies
-abbrev pub Measured : BodiesIn → List ℕ → Measures → Type 0
-Measured b totals r = sizes.MeasuresAll b.how.way (program b) (rows_of b.rows.now) b.words.now b.used.now b.table.now b.how.globals (written b) totals r
-
--- the plan, the way of the bodies being tried first
-abbrev pub Planned : BodiesIn → List ℕ → Plan → Type 0
-Planned b totals r = sizes.Plans (program b) (rows_of b.rows.now) b.words.now b.used.now b.table.now b.how.globals (written b) b.how.way totals r

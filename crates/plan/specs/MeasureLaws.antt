@@ -16,7 +16,13 @@ use Rattle.bodies.specs.Pruning.{all_hold}
 use Rattle.fds.specs.Locals.{fds_in}
 use Rattle.fds.specs.NewLocals.{locals_by, MeasuresLocals}
 use Rattle.bodies.specs.declared.Manner.{Manner}
+use Rattle.cff.specs.declared.font.Font.{Font}
+use Rattle.cff.specs.Reads.{program_of}
+use Rattle.order_window.specs.Window.{glyphs_of}
+use Rattle.order_window.specs.Stays.{kept_glyphs, Stays, stays-of}
+use Rattle.order_window.specs.declared.Held.{Held}
 use Rattle.order_window.specs.declared.Order.{Order}
+use Rattle.order_window.specs.declared.window.Kept.{Kept}
 use Rattle.plan.specs.Sizes.{across_by, globals_by, glyphs_by, all_made, MeasuresAll, MeasureIn, by_way_lem}
 use Rattle.plan.specs.declared.sizes.Measures.{Measures}
 use Rattle.subset.specs.declared.Way.{Way}
@@ -135,3 +141,35 @@ by_way way b o used ws how table rows h =
       subrs = h.subrs;
       glyphs = record { size = g.size; table_long = g.table_long; fds = g.fds; local_ranks = g.local_ranks; global_ranks = g.global_ranks; order = g.order };
     }
+
+-- nor what a window of the kept glyphs holds
+by_window : (b : List ℕ) (o : Order) (held : Held) (used ws : List ℕ) (how : Manner) (table : List ℕ) (rows : List Row)
+    → MeasureIn b o used ws how table rows → MeasureIn b (record { f = o.f; count = o.count; held = held }) used ws how table rows
+by_window b o held used ws how table rows h =
+    let g = h.glyphs in
+    record {
+      font = h.font;
+      tables = h.tables;
+      locals = h.locals;
+      subrs = h.subrs;
+      glyphs = record { size = g.size; table_long = g.table_long; fds = g.fds; local_ranks = g.local_ranks; global_ranks = g.global_ranks; order = g.order };
+    }
+
+-- so it is there for another way, after the window was moved
+pub measured_again : (way : Way) (old new : Kept) → Stays old new → (used : List ℕ) (how : Manner) (table : List ℕ) (rows : List Row)
+    → MeasureIn old.font.now old.o used old.words.now how table rows → MeasureIn new.font.now new.o used new.words.now (by_way_lem way how) table rows
+measured_again way old new s used how table rows h =
+    let q = by_way_lem way how in
+    let m = by_window old.font.now old.o new.o.held used old.words.now q table rows (by_way way old.font.now old.o used old.words.now how table rows h) in
+    let x = subst (λ (b : List ℕ). MeasureIn b (record { f = old.o.f; count = old.o.count; held = new.o.held }) used old.words.now q table rows) (sym s.font) m in
+    let y = subst (λ (f : Font). MeasureIn new.font.now (record { f = f; count = old.o.count; held = new.o.held }) used old.words.now q table rows) (sym s.f) x in
+    let z = subst (λ (n : ℕ). MeasureIn new.font.now (record { f = new.o.f; count = n; held = new.o.held }) used old.words.now q table rows) (sym s.count) y in
+    subst (λ (ws : List ℕ). MeasureIn new.font.now new.o used ws q table rows) (sym s.words) z
+
+-- what was measured after the window was moved
+pub measured_stays : (old new : Kept) → Stays old new → (way : Way) (rows : List Row) (used table : List ℕ) (globals : Ranks) (totals : List ℕ) (r : Measures)
+    → MeasuresAll way (program_of new.font.now new.o.f) rows new.words.now used table globals (kept_glyphs new) totals r
+    → MeasuresAll way (program_of old.font.now old.o.f) rows old.words.now used table globals (kept_glyphs old) totals r
+measured_stays old new s way rows used table globals totals r m =
+    subst (λ (x : Program × List ℕ × List ℕ). MeasuresAll way x.0 rows x.1 used table globals x.2 totals r)
+    (stays-of (λ b f ws. (program_of b f, ws, glyphs_of b f ws)) old new s) m

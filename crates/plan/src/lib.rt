@@ -10,15 +10,15 @@ ghost use Rattle.record.specs.Record.{rows_of};
 ghost use Rattle.bits.specs.Bits.{words_for};
 ghost use Rattle.cff.specs.Find.{locals_words};
 ghost use Rattle.cff.specs.Loaded.{program};
+ghost use Rattle.cff.specs.Reads.{program_of};
 ghost use Rattle.plan.specs.Ranked.{RanksAll};
-ghost use Rattle.order_window.specs.Window.{Ordered};
-ghost use Rattle.plan.specs.Held.{Planned};
-ghost use Rattle.plan.specs.Sizes.{first_way};
+ghost use Rattle.order_window.specs.Stays.{kept_glyphs, Stays};
+ghost use Rattle.plan.specs.Sizes.{MeasureIn, first_way, Plans};
 
-use crate::bodies_in::BodiesIn;
 use crate::sizes::{Measures, measure};
 use bodies::Manner;
 use fds::in_use::InUse;
+use order_window::window::Kept;
 use renumber::Ranks;
 use subset::Way;
 
@@ -34,10 +34,10 @@ pub fn rank_all(
     fds: &InUse<'_, '_>,
     rows: &[u8],
     words: &mut [u32],
-    table: &mut [usize; 1280],
+    table: &mut [usize],
 ) -> RankedAll
-    requires { words_for fds.now.font.f.charstrings.count + words_for fds.now.font.f.globals.count + locals_words (program fds.now.font).privates
-        ≤ length words.old }
+    requires { (words_for fds.now.font.f.charstrings.count + words_for fds.now.font.f.globals.count + locals_words (program fds.now.font).privates
+        ≤ length words.old) × (1280 ≤ length table.old) }
     ensures { RanksAll (program fds.now.font) (rows_of rows.now) fds.now.used.now words.old words.new table.new result }
 {
     let f = fds.font.f;
@@ -90,28 +90,27 @@ pub fn first_way(traced: bool, all: bool) -> Way
 }
 
 // Finds the way, the first of which is given, and measures all bodies by it: those of the locals of each FD in use in a table.
-pub fn plan_bodies(b: &BodiesIn<'_>, window: &mut [u32], totals: &mut [usize; 256]) -> Plan
-    requires { Ordered b.now.font.now b.now.words.now window.old b.now.o }
-    ensures { (Planned b.now totals.new result) × (Ordered b.now.font.now b.now.words.now window.new b.now.o) }
+pub fn plan_bodies(
+    kept: &mut Kept<'_>,
+    how: Manner,
+    used: &[u32],
+    table: &[usize],
+    rows: &[u8],
+    totals: &mut [usize],
+) -> Plan
+    requires { (MeasureIn kept.old.font.now kept.old.o used.now kept.old.words.now how table.now (rows_of rows.now)) × (256 ≤ length totals.old) }
+    ensures { (Plans (program_of kept.old.font.now kept.old.o.f) (rows_of rows.now) kept.old.words.now used.now table.now how.globals (kept_glyphs kept.old)
+        how.way totals.new result) × Stays kept.old kept.new }
 {
-    let m = measure(b, &mut *window, &mut *totals);
+    let m = measure(&mut *kept, how, used, table, rows, &mut *totals);
     if m.all {
-        return planned(b.how.way, m);
+        return planned(how.way, m);
     }
-    let how = Manner {
+    let stubbed = Manner {
         way: Way::Stubbed,
-        globals: b.how.globals,
-        rising: b.how.rising,
+        globals: how.globals,
+        rising: how.rising,
     };
-    let stubbed = BodiesIn {
-        how,
-        o: b.o,
-        font: b.font,
-        used: b.used,
-        words: b.words,
-        table: b.table,
-        rows: b.rows,
-    };
-    let s = measure(&stubbed, window, totals);
+    let s = measure(kept, stubbed, used, table, rows, totals);
     planned(Way::Stubbed, s)
 }

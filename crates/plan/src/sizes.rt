@@ -1,19 +1,22 @@
 // The sizes of all bodies by the way.
 ghost use Rattle.std.specs.Prelude.{◌≡◌, false, ◌≤◌, length};
 ghost use Rattle.record.specs.Record.{rows_of};
+ghost use Rattle.cff.specs.Reads.{program_of};
 ghost use Rattle.bodies.specs.Ways.{measured_of};
 ghost use Rattle.bodies.specs.Sizes.{Bounded};
 ghost use Rattle.fds.specs.Locals.{fds_in};
 ghost use Rattle.fds.specs.NewLocals.{MeasuresLocals};
-ghost use Rattle.order_window.specs.Window.{Ordered};
-ghost use Rattle.plan.specs.Held.{program, globals, Measured};
-ghost use Rattle.plan.specs.Sizes.{across_by};
+ghost use Rattle.order_window.specs.Stays.{kept_glyphs, Stays};
+ghost use Rattle.plan.specs.Held.{program, globals};
+ghost use Rattle.plan.specs.Sizes.{across_by, MeasureIn, MeasuresAll};
 
 use crate::bodies_in::BodiesIn;
+use bodies::Manner;
 use bodies::subroutines::Subroutines;
 use bodies::subrs::{Source, Subrs};
 use cff::loaded::Loaded;
 use fds::table::FdTable;
+use order_window::window::Kept;
 use renumber::Ranks;
 
 // Whether no part fails, and then the bytes of the globals and of the charstrings.
@@ -84,7 +87,8 @@ fn globals_total(b: &BodiesIn<'_>) -> Option<usize>
 }
 
 // The bytes of the locals of each FD in use by the way, in a table; false where their renumbering fails.
-fn locals_totals(b: &BodiesIn<'_>, sums: &mut [usize; 256]) -> bool
+fn locals_totals(b: &BodiesIn<'_>, sums: &mut [usize]) -> bool
+    requires { 256 ≤ length sums.old }
     ensures { MeasuresLocals b.now.how.way (program b.now) (rows_of b.now.rows.now) b.now.words.now b.now.table.now b.now.how.globals
         b.now.used.now sums.new result }
 {
@@ -101,17 +105,32 @@ fn locals_totals(b: &BodiesIn<'_>, sums: &mut [usize; 256]) -> bool
 }
 
 // The bytes of all bodies by the way: those of the locals of each FD in use in a table.
-pub fn measure(b: &BodiesIn<'_>, window: &mut [u32], sums: &mut [usize; 256]) -> Measures
-    requires { Ordered b.now.font.now b.now.words.now window.old b.now.o }
-    ensures { (Measured b.now sums.new result) × (Ordered b.now.font.now b.now.words.now window.new b.now.o) }
+pub fn measure(
+    kept: &mut Kept<'_>,
+    how: Manner,
+    used: &[u32],
+    table: &[usize],
+    rows: &[u8],
+    sums: &mut [usize],
+) -> Measures
+    requires { (MeasureIn kept.old.font.now kept.old.o used.now kept.old.words.now how table.now (rows_of rows.now)) × (256 ≤ length sums.old) }
+    ensures { (MeasuresAll how.way (program_of kept.old.font.now kept.old.o.f) (rows_of rows.now) kept.old.words.now used.now table.now how.globals
+        (kept_glyphs kept.old) sums.new result) × Stays kept.old kept.new }
 {
-    match globals_total(b) {
+    let b = BodiesIn {
+        how,
+        o: kept.o,
+        font: kept.font,
+        used,
+        words: kept.words,
+        table,
+        rows,
+    };
+    match globals_total(&b) {
         None => failed(),
         Some(g) => {
-            if locals_totals(b, sums) {
-                match glyph_bodies::charstrings_total(
-                    b.how, b.o, b.font, b.words, window, b.table, b.rows,
-                ) {
+            if locals_totals(&b, sums) {
+                match glyph_bodies::charstrings_total(kept, how, table, rows) {
                     None => failed(),
                     Some(c) => Measures {
                         all: true,

@@ -6,7 +6,7 @@ pub mod fd_array;
 pub mod held;
 
 ghost use Rattle.std.specs.Prelude.{◌≡◌, ◌++◌, ℕ, ◌+◌, ◌≤◌, ◌<◌, length, get_or, Ok};
-ghost use Rattle.octets.specs.Octets.{Wrote};
+ghost use Rattle.octets.specs.Out.{Writes};
 ghost use Rattle.dict.specs.Places.{entries_of};
 ghost use Rattle.dict.specs.Lookup.{last_of};
 ghost use Rattle.dict.specs.Op.{font_matrix};
@@ -30,6 +30,7 @@ use dict::op::Op;
 use dict_write::{
     copied_len, private_len, put_copied, put_offset_entry, put_private, put_private_entry,
 };
+use octets::out::Out;
 
 // The Private DICT of the FD with bytes d, which was read before.
 fn read_fd(font: &[u8], d: &[u8]) -> PrivateAt
@@ -77,26 +78,27 @@ pub fn dict_len(p: &PrivateDict<'_>, left: usize) -> usize
     bytes_len(d, left)
 }
 
-// The Private DICT with bytes d and so many local subroutines behind it, from `at` on; the place after it.
-fn put_bytes(d: &[u8], left: usize, out: &mut [u8], at: usize) -> usize
-    requires { (length (private_dict_by (entries_of d.now) left) < 2147483648) × (at + length (private_dict_by (entries_of d.now) left) ≤ length out.old) }
-    ensures { Wrote out.old at (private_dict_by (entries_of d.now) left) out.new result }
+// The Private DICT with bytes d and so many local subroutines behind it.
+fn put_bytes(d: &[u8], left: usize, out: &mut Out<'_>)
+    requires { (length (private_dict_by (entries_of d.now) left) < 2147483648) × (out.old.at + length (private_dict_by (entries_of d.now) left) ≤ length out.old.bytes.now) }
+    ensures { Writes out.old (private_dict_by (entries_of d.now) left) out.new }
 {
-    let p = put_private(d, out, at);
+    let at = out.at;
+    put_private(d, &mut *out);
     if left == 0 {
-        return p;
+        return;
     }
-    put_offset_entry(Op::SUBRS, p - at + 6, out, p)
+    put_offset_entry(Op::SUBRS, out.at - at + 6, out)
 }
 
-// A Private DICT with so many local subroutines behind it, from `at` on; the place after it.
-pub fn put_dict(p: &PrivateDict<'_>, left: usize, out: &mut [u8], at: usize) -> usize
-    requires { (length (private_dict_by (entries p.now) left) < 2147483648) × (at + length (private_dict_by (entries p.now) left) ≤ length out.old) }
-    ensures { Wrote out.old at (private_dict_by (entries p.now) left) out.new result }
+// A Private DICT with so many local subroutines behind it.
+pub fn put_dict(p: &PrivateDict<'_>, left: usize, out: &mut Out<'_>)
+    requires { (length (private_dict_by (entries p.now) left) < 2147483648) × (out.old.at + length (private_dict_by (entries p.now) left) ≤ length out.old.bytes.now) }
+    ensures { Writes out.old (private_dict_by (entries p.now) left) out.new }
 {
     let q = p.q;
     let d = &p.bytes[q.start..q.start + q.size];
-    put_bytes(d, left, out, at)
+    put_bytes(d, left, out)
 }
 
 // The Font DICT of the FD with a new number.
@@ -126,42 +128,38 @@ pub fn matrices_len(a: &FdArray<'_, '_>) -> usize
     len
 }
 
-// A Font DICT of a subset: the FontMatrix of one of the font, and a Private DICT of a size at a place; the place after it.
-fn put_font_dict(d: &[u8], size: usize, place: usize, out: &mut [u8], at: usize) -> usize
+// A Font DICT of a subset: the FontMatrix of one of the font, and a Private DICT of a size at a place.
+fn put_font_dict(d: &[u8], size: usize, place: usize, out: &mut Out<'_>)
     requires { (size < 2147483648) × (place < 2147483648)
-        × (at + length (copied_entry font_matrix (last_of font_matrix (entries_of d.now)) ++ private_entry size place) ≤ length out.old) }
-    ensures { Wrote out.old at
-        (copied_entry font_matrix (last_of font_matrix (entries_of d.now)) ++ private_entry size place) out.new result }
+        × (out.old.at + length (copied_entry font_matrix (last_of font_matrix (entries_of d.now)) ++ private_entry size place) ≤ length out.old.bytes.now) }
+    ensures { Writes out.old (copied_entry font_matrix (last_of font_matrix (entries_of d.now)) ++ private_entry size place) out.new }
 {
-    let p = put_copied(&nowhere(d), Op::FONT_MATRIX, &mut *out, at);
-    put_private_entry(size, place, out, p)
+    put_copied(&nowhere(d), Op::FONT_MATRIX, &mut *out);
+    put_private_entry(size, place, out)
 }
 
 // The FD INDEX: the Font DICTs of all FDs, for Private DICTs of these sizes, in parts of these lengths that stand one behind the other, the first
-// at `from`; the place after it.
+// at `from`.
 pub fn put_font_dicts(
     a: &FdArray<'_, '_>,
     sizes: &[usize],
     lens: &[usize],
     from: usize,
-    out: &mut [u8],
-    at: usize,
-) -> usize
-    requires { (Placed (program a.now.font) a.now.fds.now sizes.now lens.now from) × (at < 4294967296)
-        × (at + length (index_bytes (font_dicts_by (program a.now.font) a.now.fds.now sizes.now lens.now from)) ≤ length out.old) }
-    ensures { Wrote out.old at
-        (index_bytes (font_dicts_by (program a.now.font) a.now.fds.now sizes.now lens.now from)) out.new result }
+    out: &mut Out<'_>,
+)
+    requires { (Placed (program a.now.font) a.now.fds.now sizes.now lens.now from) × (out.old.at < 4294967296)
+        × (out.old.at + length (index_bytes (font_dicts_by (program a.now.font) a.now.fds.now sizes.now lens.now from)) ≤ length out.old.bytes.now) }
+    ensures { Writes out.old (index_bytes (font_dicts_by (program a.now.font) a.now.fds.now sizes.now lens.now from)) out.new }
 {
     let count = a.fds.len();
     let total = matrices_len(a) + 11 * count;
-    let ix = index::index_for(at, count, total);
-    index::put_head(out, at, count, total);
-    let mut p = ix.base + 1;
+    let ix = index::index_for(out.at, count, total);
+    index::put_head(&mut *out, count, total);
+    out.at = ix.base + 1;
     let mut place = from;
     for k in 0..count {
-        p = put_font_dict(font_dict(a, k), sizes[k], place, &mut *out, p);
-        index::put_end(&mut *out, ix, k, p);
+        put_font_dict(font_dict(a, k), sizes[k], place, &mut *out);
+        index::put_end(&mut *out, ix, k);
         place += lens[k];
     }
-    p
 }

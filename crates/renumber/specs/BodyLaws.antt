@@ -27,7 +27,7 @@ use Rattle.prune.specs.StepLaws.{zero_one}
 use Rattle.prune.specs.Renumber.{Calls, is_call, renumber, renumber_charstring}
 use Rattle.prune.specs.RenumberSteps.{written_back, renumbered_tokens}
 use Rattle.subset.specs.Pruned.{renumbered_body}
-use Rattle.renumber.specs.Turn.{call_turn, turn_of, after, turned_at, held_bytes_lem, sent_bytes, held_len_lem, own_len, sized_of, body_of_lem, is_yes, a_turn}
+use Rattle.renumber.specs.Turn.{call_turn, turn_of, held_after, turned_at, held_bytes_lem, sent_bytes, held_len_lem, own_len, sized_of, body_of_lem, is_yes, a_turn}
 use Rattle.renumber.specs.TurnLaws.{ahead, ahead_none, ahead-ahead, held_toks, sent_toks, sent-bytes, held_bytes, held-length, sent-length, stuck_sends, sends_same, turn_sends, turn_stuck, Onward, onward-of, failed_of}
 use Rattle.renumber.specs.declared.turns.Turn.TheVariants.{Stuck, Sends}
 use Rattle.renumber.specs.declared.Turned.{Turned}
@@ -77,7 +77,7 @@ sends_most calls h (Op b) v e = go h (is_call b) e
 sends_most calls h (Esc b) v e = subst (λ (y : Option ℤ). held_len_lem y ≤ held_most h) (sends_same h v e) (held-most h)
 sends_most calls h (Mask start len) v e = subst (λ (y : Option ℤ). held_len_lem y ≤ held_most h) (sends_same h v e) (held-most h)
 
-own_most : (t : Token) (a d : ℕ) → token_len_lem t + 5 * a ≤ 5 * d → own_len t + held_most (after t) + 5 * a ≤ 5 * d
+own_most : (t : Token) (a d : ℕ) → token_len_lem t + 5 * a ≤ 5 * d → own_len t + held_most (held_after t) + 5 * a ≤ 5 * d
 own_most (Num v) a d h = let k = (number_short (is_neg (scaled_of v)) (mag (scaled_of v))).some in omega arith
 own_most (Op b) a d h = omega arith
 own_most (Esc b) a d h = omega arith
@@ -134,14 +134,14 @@ module _ (calls : Calls) (reads : (b : ℕ) (z y : ℤ) → calls b z ≡ Some y
       after_read : (t : Token) (ts : List Tok) → renumber calls None ((w.read ++ (told s t ∷ [])) ++ ts) ≡ ahead sent (renumber calls h (told s t ∷ ts))
       after_read t ts = ap (renumber calls None) (append_assoc w.read (told s t ∷ []) ts) ∙ w.carries (told s t ∷ ts)
 
-      pub turning_turn : (v : Option ℤ) (t : Token) (d : Cursor) → r ≡ a_turn v t d → Turning calls given s d (after t) (sent ++ sent_toks s v t)
+      pub turning_turn : (v : Option ℤ) (t : Token) (d : Cursor) → r ≡ a_turn v t d → Turning calls given s d (held_after t) (sent ++ sent_toks s v t)
       turning_turn v t d f =
           let o = onward v t d f in
           record {
             read = w.read ++ (told s t ∷ []);
             walk = walk_turn given s b c w.read w.walk m (step_of (token_at s (given_at given c) c)) refl t d o.step;
             carries = λ ts. after_read t ts ∙ ap (ahead sent) (turn_sends calls s h t v ts o.turn)
-                ∙ ahead-ahead sent (sent_toks s v t) (renumber calls (after t) ts);
+                ∙ ahead-ahead sent (sent_toks s v t) (renumber calls (held_after t) ts);
           }
 
       stuck_join : (t : Token) → turn_of calls h t ≡ Stuck → (x : Option (List Tok)) → renumbered_tokens calls (join (w.read ++ (told s t ∷ [])) x) ≡ None
@@ -177,7 +177,7 @@ module _ (calls : Calls) (reads : (b : ℕ) (z y : ℤ) → calls b z ≡ Some y
 
     module _ (m : more s c ≡ true) (r : Option Turned) (e : r ≡ turned_at calls h (step_of (token_at s (given_at given c) c))) where
       pub sizing_turn : (v : Option ℤ) (t : Token) (d : Cursor) → r ≡ a_turn v t d → (n : ℕ) → n ≡ held_len_lem v + own_len t
-          → (k : Option ℤ) → k ≡ after t → Sizing calls given s d k (len + n)
+          → (k : Option ℤ) → k ≡ held_after t → Sizing calls given s d k (len + n)
       sizing_turn v t d f n g held j =
           let x = turning_next c h w.sent w.turning m r e v t d f in
           let o = onward c h w.sent w.turning m r e v t d f in
@@ -228,7 +228,7 @@ module _ (calls : Calls) (reads : (b : ℕ) (z y : ℤ) → calls b z ≡ Some y
       module _ (m : more s c ≡ true) (r : Option Turned) (e : r ≡ turned_at calls h (step_of (token_at s (given_at given c) c))) where
         pub putting_room : (v : Option ℤ) (t : Token) (d : Cursor) → r ≡ a_turn v t d → p + length (sent_bytes s v t) ≤ length new
         putting_room v t d f =
-            let x = sent-within d (after t) (w.sent ++ sent_toks s v t) (turning_turn c h w.sent w.turning m r e v t d f) bs y in
+            let x = sent-within d (held_after t) (w.sent ++ sent_toks s v t) (turning_turn c h w.sent w.turning m r e v t d f) bs y in
             let k : length (encode (w.sent ++ sent_toks s v t)) ≡ length (encode w.sent) + length (sent_bytes s v t)
             = ap length (encode-append w.sent (sent_toks s v t)) ∙ length-append (encode w.sent) (encode (sent_toks s v t))
             ∙ ap (λ (l : List ℕ). length (encode w.sent) + length l) (sent-bytes s v t) in
@@ -236,7 +236,7 @@ module _ (calls : Calls) (reads : (b : ℕ) (z y : ℤ) → calls b z ≡ Some y
             omega (arith, w.wrote.behind)
 
         pub putting_turn : (v : Option ℤ) (t : Token) (d : Cursor) → r ≡ a_turn v t d → (newer : List ℕ) (q : ℕ) → Wrote new p (sent_bytes s v t) newer q
-            → (k : Option ℤ) → k ≡ after t → Putting calls given s old to d k newer q
+            → (k : Option ℤ) → k ≡ held_after t → Putting calls given s old to d k newer q
         putting_turn v t d f newer q u k j =
             subst (λ (x : Option ℤ). Putting calls given s old to d x newer q) (sym j) (record {
               sent = w.sent ++ sent_toks s v t;

@@ -2,8 +2,6 @@
 use Rattle.std.specs.Prelude.{ℕ, ◌+◌, ◌≤◌, ◌≡◌, refl, List, ◌++◌, Bool, true, false, eqb, ℤ, Float, length, Option, None, Some}
 use Rattle.std.proofs.Common.{sym, ap, ◌∙◌, subst, arith, length-append}
 use Rattle.octets.specs.Pick.{pick, pick_ind}
-use Rattle.octets.specs.Octets.{Wrote}
-use Rattle.octets.specs.PutLaws.{wrote_none, wrote_then, wrote-length}
 use Rattle.charstring.specs.Bias.{bias_of}
 use Rattle.charstring.specs.declared.MaskLen.{MaskLen}
 use Rattle.charstring.specs.declared.Token.{Token}
@@ -23,35 +21,16 @@ use Rattle.renumber.specs.declared.turns.Turn.TheVariants.{Stuck, Sends}
 pub held-room : (h u : Option ℤ) → h ≡ u → (at n : ℕ) → at + length (held_bytes_lem h) ≤ n → at + length (held_bytes_lem u) ≤ n
 held-room h u e at n k = subst (λ (x : Option ℤ). at + length (held_bytes_lem x) ≤ n) e k
 
-pub wrote-held : (h u : Option ℤ) → h ≡ u → {old new : List ℕ} {to q : ℕ} → Wrote old to (held_bytes_lem u) new q → Wrote old to (held_bytes_lem h) new q
-wrote-held h u e {old} {new} {to} {q} w = subst (λ (x : Option ℤ). Wrote old to (held_bytes_lem x) new q) (sym e) w
-
-pub wrote_nothing : (old : List ℕ) (to : ℕ) (h : Option ℤ) → h ≡ None → Wrote old to (held_bytes_lem h) old to
-wrote_nothing old to h e = subst (λ (x : Option ℤ). Wrote old to (held_bytes_lem x) old to) (sym e) (wrote_none old to)
-
 -- ---- a token by its constructor
 
 module _ (s : List ℕ) (t u : Token) (e : t ≡ u) where
   pub own_room : (to n : ℕ) → to + length (own_bytes s t) ≤ n → to + length (own_bytes s u) ≤ n
   own_room to n k = subst (λ (x : Token). to + length (own_bytes s x) ≤ n) e k
 
-  pub wrote-own : {old new : List ℕ} {to q : ℕ} → Wrote old to (own_bytes s u) new q → Wrote old to (own_bytes s t) new q
-  wrote-own {old} {new} {to} {q} w = subst (λ (x : Token). Wrote old to (own_bytes s x) new q) (sym e) w
-
-pub wrote-number : (s old : List ℕ) (to : ℕ) (t : Token) (v : Float) → t ≡ Num v → Wrote old to (own_bytes s t) old to
-wrote-number s old to t v e = wrote-own s t (Num v) e (wrote_none old to)
-
 -- ---- one part after the other
 
-module _ (old xs ys : List ℕ) (at : ℕ) (room : at + length (xs ++ ys) ≤ length old) where
-  pub front-room : at + length xs ≤ length old
-  front-room = let k = length-append xs ys in omega arith
-
-  pub back-room : (mid : List ℕ) (p : ℕ) → Wrote old at xs mid p → p + length ys ≤ length mid
-  back-room mid p w = let k = length-append xs ys in let n = wrote-length w front-room in omega (arith, w.behind)
-
-  pub wrote-both : (mid new : List ℕ) (p q : ℕ) → Wrote old at xs mid p → Wrote mid p ys new q → Wrote old at (xs ++ ys) new q
-  wrote-both mid new p q v w = wrote_then (omega arith) v w
+pub front-room : (old xs ys : List ℕ) (at : ℕ) → at + length (xs ++ ys) ≤ length old → at + length xs ≤ length old
+front-room old xs ys at room = let k = length-append xs ys in omega arith
 
 -- ---- what a token brings
 

@@ -11,3 +11,6 @@ pub mod Run
 pub mod ShortLaws
 pub mod RunLaws
 pub mod RunBodyLaws
+pub mod Alone
+pub mod Bodies
+pub mod Walks

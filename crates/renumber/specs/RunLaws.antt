@@ -26,7 +26,7 @@ use Rattle.charstring.specs.Answers.{step_of, Within}
 use Rattle.charstring.specs.TokensLaws.{next_of}
 use Rattle.charstring.specs.EncodeLaws.{encode-append}
 use Rattle.prune.specs.Renumber.{Calls, is_call}
-use Rattle.renumber.specs.Turn.{call_turn, turn_of, after, cursor, turned_by, turned_at, held_bytes_lem, sent_bytes}
+use Rattle.renumber.specs.Turn.{call_turn, turn_of, held_after, cursor, turned_by, turned_at, held_bytes_lem, sent_bytes}
 use Rattle.renumber.specs.TurnLaws.{sent_toks, sent-bytes}
 use Rattle.renumber.specs.BodyLaws.{turning_turn}
 use Rattle.renumber.specs.Run.{is_plain, is_operator, plain_len, part, held_of, held_in, Standing, Passes, RunFrom}
@@ -74,7 +74,7 @@ module _ (s : List ℕ) (b : Octets s) (at args stems : ℕ) (h : at < length s)
     token-within w =
         (next_of s (cursor at args stems false) Own b w (lt-ltb at (length s) h) (step_of (token_at s Own (cursor at args stems false))) refl t d st).moves.within
 
-    token-passes : ((calls : Calls) (g : Option ℤ) → turn_of calls g t ≡ Sends g) → (g : Option ℤ) → Passes s (cursor at args stems false) g d (after t) (sent_bytes s g t)
+    token-passes : ((calls : Calls) (g : Option ℤ) → turn_of calls g t ≡ Sends g) → (g : Option ℤ) → Passes s (cursor at args stems false) g d (held_after t) (sent_bytes s g t)
     token-passes sends g =
         record {
           goes = λ calls reads given pre w. record {

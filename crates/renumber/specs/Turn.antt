@@ -1,6 +1,6 @@
 -- A body renumbered token by token (the Rust's renumber_charstring; document 01, 'Corners in write.rs'), as the code goes: a number token is
 -- held until the next token, which writes it as it is, or, being a call, its new operand. The code's answers for what the definitions say.
-use Rattle.std.specs.Prelude.{ℕ, ◌≤◌, ◌≡◌, Bool, true, false, List, [], ◌∷◌, ◌++◌, ℤ, length, take, drop, None, Option, Some}
+use Rattle.std.specs.Prelude.{ℕ, ◌≤◌, ◌≡◌, Bool, true, false, List, [], ◌∷◌, ◌++◌, ℤ, length, take, drop, None, Option, Some, Float}
 use Rattle.octets.specs.Pick.{pick}
 use Rattle.type2_number.specs.Encoding.{encoded}
 use Rattle.type2_number.specs.Floats.{scaled_of}
@@ -34,12 +34,19 @@ turn_of calls h (Op b) = pick (is_call b) (call_turn (calls b) h) (Sends h)
 turn_of calls h (Esc b) = Sends h
 turn_of calls h (Mask start len) = Sends h
 
--- the number that is held after a token
-abbrev pub after : Token → Option ℤ
-after (Num v) = Some (scaled_of v)
+-- the number that is held after a token, and as the definitions say it
+abbrev pub after : Token → Option Float
+after (Num v) = Some v
 after (Op b) = None
 after (Esc b) = None
 after (Mask start len) = None
+
+abbrev pub waiting_in : Option Float → Option ℤ
+waiting_in None = None
+waiting_in (Some v) = Some (scaled_of v)
+
+abbrev pub held_after : Token → Option ℤ
+held_after t = waiting_in (after t)
 
 -- where reading stands, by its four numbers
 abbrev pub cursor : ℕ → ℕ → ℕ → Bool → Cursor

@@ -1,20 +1,20 @@
 -- Laws of a body renumbered token by token: what was written so far and what is left give the whole.
-use Rattle.std.specs.Prelude.{ℕ, ◌+◌, ◌≡◌, refl, Bool, true, false, List, [], ◌∷◌, ◌++◌, ℤ, length, take, drop, None, Option, Some}
+use Rattle.std.specs.Prelude.{ℕ, ◌+◌, ◌≡◌, refl, Bool, true, false, List, [], ◌∷◌, ◌++◌, ℤ, Float, length, take, drop, None, Option, Some}
 use Rattle.std.proofs.Common.{sym, ◌∙◌, append_assoc, append-nil, arith, length-append}
-use Rattle.std.proofs.Math.Path.{ap}
+use Rattle.std.proofs.Math.Path.{ap, subst}
 use Rattle.octets.specs.Pick.{pick}
-use Rattle.type2_number.specs.Floats.{scaled_of}
+use Rattle.type2_number.specs.Floats.{scaled_of, HoldsReading}
 use Rattle.charstring.specs.declared.Token.{Token}
 use Rattle.charstring.specs.declared.Token.TheVariants.{Num, Op, Esc, Mask}
 use Rattle.charstring.specs.declared.Cursor.{Cursor}
 use Rattle.charstring.specs.Token.{Tok, num, op, esc, mask, start}
 use Rattle.charstring.specs.Encode.{encode}
-use Rattle.charstring.specs.Answers.{told, Writable}
+use Rattle.charstring.specs.Answers.{told, Measurable, Writable}
 use Rattle.charstring.specs.TokenLaws.{token-length}
 use Rattle.charstring.specs.EncodeLaws.{encode-append}
 use Rattle.prune.specs.StepLaws.{zero_one}
 use Rattle.prune.specs.Renumber.{Calls, is_call, before, called, called_after, kept, renumber}
-use Rattle.renumber.specs.Turn.{turn_for, call_turn, turn_of, after, turned_by, turned_at, held_bytes_lem, own_bytes, sent_bytes, held_len_lem, own_len, a_turn}
+use Rattle.renumber.specs.Turn.{turn_for, call_turn, turn_of, after, held_after, turned_by, turned_at, held_bytes_lem, own_bytes, sent_bytes, held_len_lem, own_len, a_turn}
 use Rattle.renumber.specs.declared.turns.Turn.{Turn}
 use Rattle.renumber.specs.declared.Turned.{Turned}
 use Rattle.renumber.specs.declared.turns.Turn.TheVariants.{Stuck, Sends}
@@ -83,6 +83,13 @@ sent-length s h t w =
     let c : length (encode (sent_toks s h t)) ≡ length (held_bytes_lem h) + length (own_bytes s t) = ap length (sent-bytes s h t) ∙ length-append (held_bytes_lem h) (own_bytes s t) in
     omega arith
 
+-- the number that is held after a token that is measured is a reading
+pub after_holds : (t : Token) (v : Float) → after t ≡ Some v → Measurable t → HoldsReading v
+after_holds (Num x) v e h = let f : x ≡ v = cc in subst HoldsReading f h
+after_holds (Op b) v e h = absurd (zero_one cc)
+after_holds (Esc b) v e h = absurd (zero_one cc)
+after_holds (Mask start len) v e h = absurd (zero_one cc)
+
 -- ---- one token
 
 kept-ahead : (h : Option ℤ) (r : Option (List Tok)) → kept h r ≡ ahead (held_toks h ++ []) r
@@ -131,7 +138,7 @@ module _ (calls : Calls) where
 
   -- a token that sends a number: what is written, before what is left
   pub turn_sends : (s : List ℕ) (h : Option ℤ) (t : Token) (v : Option ℤ) (ts : List Tok) → turn_of calls h t ≡ Sends v
-      → renumber calls h (told s t ∷ ts) ≡ ahead (sent_toks s v t) (renumber calls (after t) ts)
+      → renumber calls h (told s t ∷ ts) ≡ ahead (sent_toks s v t) (renumber calls (held_after t) ts)
   unfolding renumber
   turn_sends s h (Num x) v ts e =
       let r = renumber calls (Some (scaled_of x)) ts in

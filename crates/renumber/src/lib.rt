@@ -2,6 +2,8 @@
 // that stay as they are. The new numbers of subroutines are found by their bits in the work words. Crate `renumbered` measures and writes whole bodies.
 #![tactic(auto)]
 
+pub mod body;
+pub mod ranking;
 pub mod runs;
 pub mod turns;
 

@@ -7,17 +7,19 @@ ghost use Rattle.charstring.specs.Answers.{Measurable};
 ghost use Rattle.charstring.specs.Bias.{bias_of, numbered};
 ghost use Rattle.prune.specs.Renumber.{operand_of, is_call};
 ghost use Rattle.renumber.specs.Ranks.{rank_in, number_of, rank_at, numbers_in, calls_by, Ranked};
-ghost use Rattle.renumber.specs.Turn.{turn_for, call_turn, turn_of, after};
+ghost use Rattle.renumber.specs.Turn.{turn_for, call_turn, turn_of, after, held_after};
 
 use crate::Ranks;
+use crate::ranking::Ranking;
 use charstring::{Token, bias};
 use type2_number::{Operand, count_of, whole};
 
 // How many are reached below a number: from the sum below its eighth of the words on, and without a count of words where all of the eighth are.
-fn rank_below(words: &[u32], q: Ranks, i: usize) -> usize
-    requires { (Ranked words.now q) × (i < q.count) }
-    ensures { result ≡ count_below (bit_in words.now q.at) i }
+fn rank_below(of: &Ranking<'_>, i: usize) -> usize
+    requires { i < of.now.q.count }
+    ensures { result ≡ count_below (bit_in of.now.words.now of.now.q.at) i }
 {
+    let q = of.q;
     let e = bits::sums::eighth(bits::words_for(q.count));
     let j = i / 32 / e;
     let from = j * e;
@@ -28,22 +30,22 @@ fn rank_below(words: &[u32], q: Ranks, i: usize) -> usize
             return sum + (i - 32 * from);
         }
     }
-    bits::rank(words, q.at, i, from, sum)
+    bits::rank(of.words, q.at, i, from, sum)
 }
 
 // The rank of a subroutine by its old number, plus 1: 0 where there is none, or it is not reached. Where all are reached, each keeps its number.
-fn rank_in(words: &[u32], q: Ranks, i: usize) -> usize
-    requires { Ranked words.now q }
-    ensures { result ≡ rank_in words.now q i }
+fn rank_in(of: &Ranking<'_>, i: usize) -> usize
+    ensures { result ≡ rank_in of.now.words.now of.now.q i }
 {
+    let q = of.q;
     if q.count <= i {
         return 0;
     }
     if q.reached == q.count {
         return i + 1;
     }
-    if bits::has_bit(words, q.at, i) {
-        return rank_below(words, q, i) + 1;
+    if bits::has_bit(of.words, q.at, i) {
+        return rank_below(of, i) + 1;
     }
     0
 }
@@ -70,11 +72,10 @@ fn number_at(count: usize, v: Operand) -> usize
 }
 
 // The rank of the subroutine that an operand calls, plus 1: 0 where it calls none.
-fn rank_at(words: &[u32], q: Ranks, v: Operand) -> usize
-    requires { Ranked words.now q }
-    ensures { result ≡ rank_at words.now q (numbered (bias_of q.count) v) }
+fn rank_at(of: &Ranking<'_>, v: Operand) -> usize
+    ensures { result ≡ rank_at of.now.words.now of.now.q (numbered (bias_of of.now.q.count) v) }
 {
-    rank_in(words, q, number_at(q.count, v))
+    rank_in(of, number_at(of.q.count, v))
 }
 
 // What a token brings: the renumbering fails, or the number that is written just before the token.
@@ -86,25 +87,23 @@ pub enum Turn {
 }
 
 // The new operand of a call, by its old one.
-fn new_operand(words: &[u32], q: Ranks, v: Operand) -> Turn
-    requires { Ranked words.now q }
-    ensures { result ≡ turn_for (operand_of (numbers_in words.now q) (bias_of q.count) (bias_of q.reached) v) }
+fn new_operand(of: &Ranking<'_>, v: Operand) -> Turn
+    ensures { result ≡ turn_for (operand_of (numbers_in of.now.words.now of.now.q) (bias_of of.now.q.count) (bias_of of.now.q.reached) v) }
 {
-    let rank = rank_at(words, q, v);
+    let rank = rank_at(of, v);
     if rank == 0 {
         return Turn::Stuck;
     }
-    Turn::Sends(Some(whole(rank - 1, bias(q.reached))))
+    Turn::Sends(Some(whole(rank - 1, bias(of.q.reached))))
 }
 
 // A call: it takes the number just before it.
-fn call(words: &[u32], q: Ranks, h: Option<Operand>) -> Turn
-    requires { Ranked words.now q }
-    ensures { result ≡ call_turn (operand_of (numbers_in words.now q) (bias_of q.count) (bias_of q.reached)) h }
+fn call(of: &Ranking<'_>, h: Option<Operand>) -> Turn
+    ensures { result ≡ call_turn (operand_of (numbers_in of.now.words.now of.now.q) (bias_of of.now.q.count) (bias_of of.now.q.reached)) h }
 {
     match h {
         None => Turn::Stuck,
-        Some(v) => new_operand(words, q, v),
+        Some(v) => new_operand(of, v),
     }
 }
 
@@ -133,7 +132,9 @@ pub fn turn_of(words: &[u32], locals: Ranks, globals: Ranks, h: Option<Operand>,
     match t {
         Token::Op(b) => {
             if is_call(b) {
-                return call(words, called(b, locals, globals), h);
+                let q = called(b, locals, globals);
+                let of = Ranking { words, q };
+                return call(&of, h);
             }
             Turn::Sends(h)
         }
@@ -143,15 +144,25 @@ pub fn turn_of(words: &[u32], locals: Ranks, globals: Ranks, h: Option<Operand>,
     }
 }
 
-// The number that is held after a token of a body.
-pub fn held_after(t: Token) -> Option<Operand>
-    requires { Measurable t }
+// The number that is held after a token.
+pub fn after(t: Token) -> Option<f32>
     ensures { result ≡ after t }
 {
     match t {
-        Token::Num(v) => Some(Operand::of(v)),
+        Token::Num(v) => Some(v),
         Token::Op(_) => None,
         Token::Esc(_) => None,
         Token::Mask { start: _, len: _ } => None,
+    }
+}
+
+// The same where it is a number of a body, as an operand.
+pub fn held_after(t: Token) -> Option<Operand>
+    requires { Measurable t }
+    ensures { result ≡ held_after t }
+{
+    match after(t) {
+        None => None,
+        Some(v) => Some(Operand::of(v)),
     }
 }

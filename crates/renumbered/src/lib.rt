@@ -3,23 +3,24 @@
 #![tactic(auto)]
 
 ghost use Rattle.std.specs.Prelude.{◌≡◌, true, ◌+◌, ◌-◌, ◌≤◌, ◌<◌, length};
-ghost use Rattle.octets.specs.Octets.{Wrote};
-ghost use Rattle.charstring.specs.Token.{more, token_at};
-ghost use Rattle.charstring.specs.Answers.{step_of, given_at, Within, Writable};
-ghost use Rattle.prune.specs.Renumber.{renumber_charstring};
-ghost use Rattle.record.specs.Record.{rows_of, given_in};
-ghost use Rattle.subset.specs.Pruned.{renumbered_body};
+ghost use Rattle.octets.specs.Out.{Writes};
+ghost use Rattle.charstring.specs.Token.{more};
+ghost use Rattle.charstring.specs.Answers.{given_at, Within, Writable};
+ghost use Rattle.record.specs.Record.{rows_of, given_in, two_lengths_lem};
 ghost use Rattle.reach.specs.Reach.{site_of, rises};
-ghost use Rattle.renumber.specs.Ranks.{calls_by};
-ghost use Rattle.renumber.specs.Turn.{cursor, turned_at, held_bytes_lem, own_bytes, sent_bytes, held_len_lem, own_len, Inputs, sized_of, body_of_lem, is_yes};
+ghost use Rattle.renumber.specs.Turn.{cursor, held_bytes_lem, sent_bytes, held_len_lem, own_len, sized_of, body_of_lem, is_yes};
 ghost use Rattle.renumber.specs.Run.{run_bytes};
+ghost use Rattle.renumber.specs.Bodies.{renumbered_of, turned_of};
+ghost use Rattle.renumber.specs.Walks.{Turns};
 
 use charstring::{Cursor, MaskLen, Token, more, next_token, put_token, start};
+use octets::out::Out;
 use reach::Site;
 use reach::rows::Rows;
+use renumber::Turned;
+use renumber::body::Body;
 use renumber::runs::{held_at, run_at};
 use renumber::turns::{Turn, held_after, turn_of};
-use renumber::{Ranks, Turned};
 use type2_number::{Operand, number_len, put_number};
 
 // How many bytes the number that was held takes.
@@ -52,37 +53,29 @@ pub fn sent_len(h: Option<Operand>, t: Token) -> usize
     held_len(h) + own_len(t)
 }
 
-// The number that was held, from `at` on; the place after it.
-pub fn put_held(h: Option<Operand>, out: &mut [u8], at: usize) -> usize
-    requires { at + length (held_bytes_lem h) ≤ length out.old }
-    ensures { Wrote out.old at (held_bytes_lem h) out.new result }
+// The number that was held.
+pub fn put_held(h: Option<Operand>, out: &mut Out<'_>)
+    requires { out.old.at + length (held_bytes_lem h) ≤ length out.old.bytes.now }
+    ensures { Writes out.old (held_bytes_lem h) out.new }
 {
     match h {
-        None => at,
-        Some(v) => put_number(v, out, at),
+        None => {}
+        Some(v) => put_number(v, out),
     }
 }
 
-// A token other than a number, from `at` on; the place after it.
-fn put_own(code: &[u8], t: Token, out: &mut [u8], at: usize) -> usize
-    requires { (Writable code.now t) × (at + length (own_bytes code.now t) ≤ length out.old) }
-    ensures { Wrote out.old at (own_bytes code.now t) out.new result }
+// The number that was held and then a token other than a number.
+pub fn put_sent(code: &[u8], h: Option<Operand>, t: Token, out: &mut Out<'_>)
+    requires { (Writable code.now t) × (out.old.at + length (sent_bytes code.now h t) ≤ length out.old.bytes.now) }
+    ensures { Writes out.old (sent_bytes code.now h t) out.new }
 {
+    put_held(h, &mut *out);
     match t {
-        Token::Num(_) => at,
-        Token::Op(b) => put_token(code, Token::Op(b), out, at),
-        Token::Esc(b) => put_token(code, Token::Esc(b), out, at),
-        Token::Mask { start, len } => put_token(code, Token::Mask { start, len }, out, at),
+        Token::Num(_) => {}
+        Token::Op(b) => put_token(code, Token::Op(b), out),
+        Token::Esc(b) => put_token(code, Token::Esc(b), out),
+        Token::Mask { start, len } => put_token(code, Token::Mask { start, len }, out),
     }
-}
-
-// The number that was held and then a token other than a number, from `at` on; the place after them.
-pub fn put_sent(code: &[u8], h: Option<Operand>, t: Token, out: &mut [u8], at: usize) -> usize
-    requires { (Writable code.now t) × (at + length (sent_bytes code.now h t) ≤ length out.old) }
-    ensures { Wrote out.old at (sent_bytes code.now h t) out.new result }
-{
-    let p = put_held(h, &mut *out, at);
-    put_own(code, t, out, p)
 }
 
 // How many bytes are written at a run: the number that was held, and the run up to the number that it holds back.
@@ -93,20 +86,13 @@ pub fn run_len(h: Option<Operand>, from: usize, last: usize) -> usize
     held_len(h) + (last - from)
 }
 
-// The number that was held and then the bytes of a body between two places, from `at` on; the place after them.
-pub fn put_run(
-    code: &[u8],
-    h: Option<Operand>,
-    from: usize,
-    last: usize,
-    out: &mut [u8],
-    at: usize,
-) -> usize
-    requires { (from ≤ last) × (last ≤ length code.now) × (at + length (run_bytes code.now h from last) ≤ length out.old) }
-    ensures { Wrote out.old at (run_bytes code.now h from last) out.new result }
+// The number that was held and then the bytes of a body between two places.
+pub fn put_run(code: &[u8], h: Option<Operand>, from: usize, last: usize, out: &mut Out<'_>)
+    requires { (from ≤ last) × (last ≤ length code.now) × (out.old.at + length (run_bytes code.now h from last) ≤ length out.old.bytes.now) }
+    ensures { Writes out.old (run_bytes code.now h from last) out.new }
 {
-    let p = put_held(h, &mut *out, at);
-    octets::put_bytes(out, p, &code[from..last])
+    put_held(h, &mut *out);
+    out.copy(&code[from..last]);
 }
 
 // The length to pass on for the token at a cursor: the record's for the mask that is due.
@@ -132,24 +118,15 @@ fn given_at(rows: &[u8], rising: bool, site: Site, c: Cursor) -> MaskLen
 // The token where reading stands, or None where renumbering fails there. Where it stands comes as four numbers, and the loops take `next` over number by number: a Cursor passed whole is copied
 // through memory at each token, which took half of the time.
 pub fn turn_at(
-    code: &[u8],
-    words: &[u32],
-    locals: Ranks,
-    globals: Ranks,
-    rows: &[u8],
-    rising: bool,
-    site: Site,
+    body: &Body<'_>,
     at: usize,
     args: usize,
     stems: usize,
     due: bool,
     h: Option<Operand>,
 ) -> Option<Turned>
-    requires { (Inputs code.now words.now locals globals (rows_of rows.now) rising site)
-        × (Within code.now (cursor at args stems due)) × (more code.now (cursor at args stems due) ≡ true) }
-    ensures { result ≡ turned_at (calls_by words.now locals globals) h
-        (step_of (token_at code.now (given_at (given_in (rows_of rows.now) (site_of site)) (cursor at args stems due))
-        (cursor at args stems due))) }
+    requires { (Within body.now.code.now (cursor at args stems due)) × (more body.now.code.now (cursor at args stems due) ≡ true) }
+    ensures { Turns body.now (cursor at args stems due) h result }
 {
     let c = Cursor {
         at,
@@ -157,10 +134,10 @@ pub fn turn_at(
         stems,
         due,
     };
-    let given = given_at(rows, rising, site, c);
-    match next_token(code, c, given) {
+    let given = given_at(body.rows, body.rising, body.site, c);
+    match next_token(body.code, c, given) {
         None => None,
-        Some((token, next)) => match turn_of(words, locals, globals, h, token) {
+        Some((token, next)) => match turn_of(body.words, body.locals, body.globals, h, token) {
             Turn::Stuck => None,
             Turn::Sends(before) => Some(Turned {
                 before,
@@ -172,19 +149,10 @@ pub fn turn_at(
 }
 
 // The same without regard to two lengths at one offset.
-fn body_len(
-    code: &[u8],
-    words: &[u32],
-    locals: Ranks,
-    globals: Ranks,
-    rows: &[u8],
-    rising: bool,
-    site: Site,
-) -> Option<usize>
-    requires { Inputs code.now words.now locals globals (rows_of rows.now) rising site }
-    ensures { result ≡ sized_of (renumber_charstring (calls_by words.now locals globals)
-        (given_in (rows_of rows.now) (site_of site)) code.now) }
+fn body_len(body: &Body<'_>) -> Option<usize>
+    ensures { result ≡ sized_of (turned_of body.now) }
 {
+    let code = body.code;
     let mut c = start();
     let mut h = None;
     let mut len: usize = 0;
@@ -201,9 +169,7 @@ fn body_len(
             };
             continue;
         }
-        match turn_at(
-            code, words, locals, globals, rows, rising, site, c.at, c.args, c.stems, c.due, h,
-        ) {
+        match turn_at(body, c.at, c.args, c.stems, c.due, h) {
             Some(turned) => {
                 len += sent_len(turned.before, turned.token);
                 h = held_after(turned.token);
@@ -214,66 +180,48 @@ fn body_len(
                     due: turned.next.due,
                 };
             }
-            None => {
-                return None;
-            }
+            None => return None,
         }
     }
     Some(len + held_len(h))
 }
 
-// The length of a body renumbered, or that this fails: two lengths at one offset fail too.
-pub fn renumbered_len(
-    code: &[u8],
-    words: &[u32],
-    locals: Ranks,
-    globals: Ranks,
-    rows: &[u8],
-    rising: bool,
-    site: Site,
-) -> Option<usize>
-    requires { Inputs code.now words.now locals globals (rows_of rows.now) rising site }
-    ensures { result ≡ sized_of (renumbered_body (rows_of rows.now) (calls_by words.now locals globals)
-        (site_of site) code.now) }
+// Whether the record gives a body two lengths at one offset.
+fn two_lengths(rows: &[u8], rising: bool, site: Site) -> bool
+    requires { rising ≡ true → rises (rows_of rows.now) ≡ true }
+    ensures { result ≡ two_lengths_lem (rows_of rows.now) (site_of site) }
 {
-    if reach::masks::two_lengths(
+    reach::masks::two_lengths(
         &Rows {
             bytes: rows,
             rising,
         },
         site,
-    ) {
-        return None;
-    }
-    body_len(code, words, locals, globals, rows, rising, site)
+    )
 }
 
-// A body renumbered, from `at` on; the place after it.
-pub fn put_renumbered(
-    code: &[u8],
-    words: &[u32],
-    locals: Ranks,
-    globals: Ranks,
-    rows: &[u8],
-    rising: bool,
-    site: Site,
-    out: &mut [u8],
-    at: usize,
-) -> usize
-    requires { (Inputs code.now words.now locals globals (rows_of rows.now) rising site)
-        × (is_yes (renumbered_body (rows_of rows.now) (calls_by words.now locals globals) (site_of site) code.now) ≡ true)
-        × (at + length (body_of_lem (renumbered_body (rows_of rows.now) (calls_by words.now locals globals) (site_of site) code.now)) ≤ length out.old) }
-    ensures { Wrote out.old at
-        (body_of_lem (renumbered_body (rows_of rows.now) (calls_by words.now locals globals) (site_of site) code.now))
-        out.new result }
+// The length of a body renumbered, or that this fails: two lengths at one offset fail too.
+pub fn renumbered_len(body: &Body<'_>) -> Option<usize>
+    ensures { result ≡ sized_of (renumbered_of body.now) }
 {
+    if two_lengths(body.rows, body.rising, body.site) {
+        return None;
+    }
+    body_len(body)
+}
+
+// A body renumbered.
+pub fn put_renumbered(body: &Body<'_>, out: &mut Out<'_>)
+    requires { (is_yes (renumbered_of body.now) ≡ true) × (out.old.at + length (body_of_lem (renumbered_of body.now)) ≤ length out.old.bytes.now) }
+    ensures { Writes out.old (body_of_lem (renumbered_of body.now)) out.new }
+{
+    let code = body.code;
     let mut c = start();
     let mut h = None;
-    let mut p = at;
     while more(code, c) {
         let run = run_at(code, c.at, c.args, c.stems, c.due);
         if c.at < run.at {
-            p = put_run(code, h, c.at, run.last, &mut *out, p);
+            put_run(code, h, c.at, run.last, &mut *out);
             h = held_at(code, run.last, run.at);
             c = Cursor {
                 at: run.at,
@@ -283,11 +231,9 @@ pub fn put_renumbered(
             };
             continue;
         }
-        match turn_at(
-            code, words, locals, globals, rows, rising, site, c.at, c.args, c.stems, c.due, h,
-        ) {
+        match turn_at(body, c.at, c.args, c.stems, c.due, h) {
             Some(turned) => {
-                p = put_sent(code, turned.before, turned.token, &mut *out, p);
+                put_sent(code, turned.before, turned.token, &mut *out);
                 h = held_after(turned.token);
                 c = Cursor {
                     at: turned.next.at,
@@ -296,10 +242,8 @@ pub fn put_renumbered(
                     due: turned.next.due,
                 };
             }
-            None => {
-                return p;
-            }
+            None => return,
         }
     }
-    put_held(h, out, p)
+    put_held(h, out);
 }

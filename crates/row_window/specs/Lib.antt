@@ -6,4 +6,5 @@ pub mod PlaceLaws
 pub mod KeyLaws
 pub mod NextLaws
 pub mod MergeLaws
+pub mod Filled
 pub mod Examples

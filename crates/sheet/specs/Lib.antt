@@ -2,9 +2,11 @@ pub mod Sheet
 pub mod Examples
 pub mod Printing
 pub mod Reading
+pub mod Buffers
 pub mod ReadingLaws
 pub mod PartsLaws
 pub mod Taking
+pub mod Pieces
 pub mod TakingLaws
 pub mod SqueezedLaws
 pub mod TakenLaws

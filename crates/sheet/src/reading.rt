@@ -5,8 +5,11 @@ ghost use Rattle.octets.specs.Octets.{Wrote};
 ghost use Rattle.hexlines.specs.Hexlines.{spelt};
 ghost use Rattle.cases.specs.Lines.{lines_of};
 ghost use Rattle.sheet.specs.Sheet.{hex_up_to, is_kept, hex_of, filled, are_rows, row_bytes, pairs, sheet_of};
-ghost use Rattle.sheet.specs.Reading.{rows_after, part, FourLines, HeadIs, is_sheet_at, sheet_at, Stands, Reads};
+ghost use Rattle.sheet.specs.Reading.{rows_after, FourLines, HeadIs, is_sheet_at, sheet_at, Stands};
+ghost use Rattle.sheet.specs.Buffers.{Stay, ReadsIn};
 ghost use Rattle.sheet.specs.Taking.{Took};
+
+use crate::buffers::Buffers;
 
 // Where the first four lines of a text end.
 #[derive(Clone, Copy)]
@@ -224,24 +227,17 @@ fn put_kept(line: &[u8], keep: &mut [u16]) -> usize
 }
 
 // Writes the parts of a sheet, the first four lines of which end here, to the start of the buffers.
-fn put_parts(
-    text: &[u8],
-    ends: LineEnds,
-    font: &mut [u8],
-    name: &mut [u8],
-    keep: &mut [u16],
-    rec: &mut [u8],
-) -> Parts
+fn put_parts(text: &[u8], ends: LineEnds, to: &mut Buffers<'_>) -> Parts
     requires { (FourLines text.now ends.font ends.name ends.keep ends.flag)
-        × (is_sheet_at text.now ends.font ends.name ends.keep ends.flag ≡ true)
-        × (16384 ≤ length font.old) × (256 ≤ length name.old) × (1024 ≤ length keep.old) × (5120 ≤ length rec.old) }
-    ensures { Stands (sheet_at text.now ends.font ends.name ends.keep ends.flag) font.new name.new keep.new rec.new (Some result) }
+        × (is_sheet_at text.now ends.font ends.name ends.keep ends.flag ≡ true) }
+    ensures { (Stands (sheet_at text.now ends.font ends.name ends.keep ends.flag) to.new.font.now to.new.name.now to.new.keep.now to.new.rec.now (Some result))
+        × (Stay to.old to.new) }
 {
-    let m = hexlines::put_spelt(font, &text[0..ends.font]);
-    let n = hexlines::put_spelt(name, &text[ends.font + 1..ends.name]);
-    let k = put_kept(&text[ends.name + 1..ends.keep], keep);
+    let m = hexlines::put_spelt(&mut *to.font, &text[0..ends.font]);
+    let n = hexlines::put_spelt(&mut *to.name, &text[ends.font + 1..ends.name]);
+    let k = put_kept(&text[ends.name + 1..ends.keep], &mut *to.keep);
     let flag = flag_of(&text[ends.keep + 1..ends.flag]);
-    let l = put_rows(rest(text, ends.flag), rec);
+    let l = put_rows(rest(text, ends.flag), &mut *to.rec);
     Parts {
         font: m,
         name: n,
@@ -252,20 +248,13 @@ fn put_parts(
 }
 
 // Reads the sheet that a text holds into the buffers.
-pub fn read_sheet(
-    text: &[u8],
-    font: &mut [u8],
-    name: &mut [u8],
-    keep: &mut [u16],
-    rec: &mut [u8],
-) -> Option<Parts>
-    requires { (16384 ≤ length font.old) × (256 ≤ length name.old) × (1024 ≤ length keep.old) × (5120 ≤ length rec.old) }
-    ensures { Reads (sheet_of text.now) font.new name.new keep.new rec.new result }
+pub fn read_sheet(text: &[u8], to: &mut Buffers<'_>) -> Option<Parts>
+    ensures { (ReadsIn (sheet_of text.now) to.new result) × (Stay to.old to.new) }
 {
     match first_lines(text) {
         Some(ends) => {
             if is_sheet(text, ends) {
-                return Some(put_parts(text, ends, font, name, keep, rec));
+                return Some(put_parts(text, ends, to));
             }
             None
         }
@@ -274,21 +263,12 @@ pub fn read_sheet(
 }
 
 // Reads the sheet of a text that was taken: len bytes in the buffer, or too many.
-pub fn read_taken(
-    buffer: &[u8],
-    len: usize,
-    font: &mut [u8],
-    name: &mut [u8],
-    keep: &mut [u16],
-    rec: &mut [u8],
-) -> Option<Parts>
-    requires { (48134 ≤ length buffer.now) × (16384 ≤ length font.old) × (256 ≤ length name.old) × (1024 ≤ length keep.old)
-        × (5120 ≤ length rec.old) }
-    ensures { (text : List ℕ) (mode : ℕ) → Took text len mode buffer.now
-        → Reads (sheet_of text) font.new name.new keep.new rec.new result }
+pub fn read_taken(buffer: &[u8], len: usize, to: &mut Buffers<'_>) -> Option<Parts>
+    requires { 48134 ≤ length buffer.now }
+    ensures { ((text : List ℕ) (mode : ℕ) → Took text len mode buffer.now → ReadsIn (sheet_of text) to.new result) × (Stay to.old to.new) }
 {
     if len <= 48134 {
-        return read_sheet(&buffer[..len], font, name, keep, rec);
+        return read_sheet(&buffer[..len], to);
     }
     None
 }

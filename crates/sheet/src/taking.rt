@@ -1,13 +1,34 @@
 // Takes a text piece by piece into a buffer; the line feeds of empty rows are not kept.
 ghost use Rattle.std.specs.Prelude.{◌≡◌, List, ◌++◌, ℕ, ◌≤◌, length};
-ghost use Rattle.sheet.specs.Taking.{next_mode, ends_empty, kept_of, Held, Took};
+ghost use Rattle.sheet.specs.Taking.{next_mode, ends_empty, kept_of, Held};
 
-// What was taken: how many bytes are in the buffer, 48,135 for too many, and where the next one stands. Both are 0 at the start. The mode is a
-// number, for it counts the lines of the head.
-#[derive(Clone, Copy)]
-pub struct Taken {
+// A text that is being taken into lent memory: how many bytes are in it, 48,135 for too many, and where the next one stands. Both are 0 at the start.
+// The mode is a number, for it counts the lines of the head.
+#[derive(Drop)]
+pub struct Taking<'a> {
+    pub buffer: &'a mut [u8],
     pub len: usize,
     pub mode: usize,
+    ghost room: { 48134 ≤ length buffer.now },
+}
+
+impl Taking<'_> {
+    ghost use Rattle.sheet.specs.Pieces.{TakesOn};
+
+    // Takes the next piece of the text.
+    pub fn take(&mut self, piece: &[u8])
+        ensures { TakesOn piece.now self.old self.new }
+    {
+        let buffer = &mut *self.buffer;
+        let mut len = self.len;
+        let mut mode = self.mode;
+        for b in piece {
+            len = keep_byte(&mut *buffer, len, mode, *b);
+            mode = next_mode(mode, *b);
+        }
+        self.len = len;
+        self.mode = mode;
+    }
 }
 
 // Where the byte behind b stands.
@@ -49,18 +70,4 @@ fn keep_byte(buffer: &mut [u8], len: usize, mode: usize, b: u8) -> usize
         return len + 1;
     }
     48135
-}
-
-// Takes the next piece of a text.
-pub fn take(piece: &[u8], len: usize, mode: usize, buffer: &mut [u8]) -> Taken
-    requires { 48134 ≤ length buffer.old }
-    ensures { (text : List ℕ) → Took text len mode buffer.old → Took (text ++ piece.now) result.len result.mode buffer.new }
-{
-    let mut l = len;
-    let mut m = mode;
-    for b in piece {
-        l = keep_byte(buffer, l, m, *b);
-        m = next_mode(m, *b);
-    }
-    Taken { len: l, mode: m }
 }

@@ -11,28 +11,26 @@ ghost use Rattle.sheet.specs.Taking.{Took};
 ghost use Rattle.sheet_cut.specs.Cutting.{length_in, outcome_in, Given};
 
 use outcome::Subsetted;
+use outcome::call::{Call, Keying, Request};
 use refusal::Refusal;
+use sheet::buffers::Buffers;
 use sheet::printing::{put_refused, put_subset};
-use write::{Call, Keying};
 
 // Cuts by the keying of the font: as name-keyed, and where that is refusal 3 as CID-keyed. Refusal 3 has left the words and the output as found.
 pub fn cut_by_keying(
     font: &[u8],
-    name: &[u8],
-    keep: &[u16],
-    rows: &[u8],
-    traced: u8,
+    ask: &Request<'_>,
     work: &mut [u32],
     out: &mut [u8],
 ) -> Result<Subsetted, Refusal>
-    ensures { Cuts (keying (read_font font.now)) false font.now name.now keep.now rows.now traced
+    ensures { Cuts (keying (read_font font.now)) false font.now ask.now.name.now ask.now.keep.now ask.now.rows.now ask.now.traced
         work.old out.old work.new out.new result }
 {
     let named = Call {
         keying: Keying::Name { encoding: false },
         small: false,
     };
-    let first = write::cut(named, font, name, keep, rows, traced, &mut *work, &mut *out);
+    let first = write::cut(named, font, ask, &mut *work, &mut *out);
     match first {
         Err(e) => {
             if e == Refusal::Unsupported {
@@ -40,7 +38,7 @@ pub fn cut_by_keying(
                     keying: Keying::Cid,
                     small: false,
                 };
-                return write::cut(keyed, font, name, keep, rows, traced, work, out);
+                return write::cut(keyed, font, ask, work, out);
             }
             Err(e)
         }
@@ -74,7 +72,13 @@ fn cut_parts(
 {
     let mut work = [0u32; 8192];
     let mut out = [0u8; 32768];
-    let answer = cut_by_keying(font, name, keep, rows, traced, &mut work, &mut out);
+    let ask = Request {
+        name,
+        keep,
+        rows,
+        traced,
+    };
+    let answer = cut_by_keying(font, &ask, &mut work, &mut out);
     put_answer(answer, &out, page)
 }
 
@@ -88,16 +92,30 @@ pub fn cut_taken(buffer: &[u8], len: usize, page: &mut [u8]) -> usize
     let mut name = [0u8; 256];
     let mut keep = [0u16; 1024];
     let mut rows = [0u8; 5120];
-    let read = sheet::reading::read_taken(buffer, len, &mut font, &mut name, &mut keep, &mut rows);
+    let mut to = Buffers {
+        font: &mut font,
+        name: &mut name,
+        keep: &mut keep,
+        rec: &mut rows,
+    };
+    let read = sheet::reading::read_taken(buffer, len, &mut to);
     match read {
         None => put_refused(0, page),
-        Some(parts) => cut_parts(
-            &font[..parts.font],
-            &name[..parts.name],
-            &keep[..parts.keep],
-            &rows[..parts.rec],
-            parts.flag,
-            page,
-        ),
+        Some(parts) => {
+            let Buffers {
+                font,
+                name,
+                keep,
+                rec,
+            } = to;
+            cut_parts(
+                &font[..parts.font],
+                &name[..parts.name],
+                &keep[..parts.keep],
+                &rec[..parts.rec],
+                parts.flag,
+                page,
+            )
+        }
     }
 }

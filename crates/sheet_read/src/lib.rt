@@ -4,22 +4,22 @@
 ghost use Rattle.std.specs.Prelude.{◌≤◌, ◌≤ℤ◌, pos, negsuc, length};
 ghost use Rattle.io.specs.Counts.{IsPrefixLen};
 ghost use Rattle.sheet_cut.specs.Cutting.{Given};
-ghost use Rattle.sheet_read.specs.Program.{Goes, Prints};
+ghost use Rattle.sheet_read.specs.Program.{Begun, Goes, Prints};
 
+use sheet::taking::Taking;
 use std::io::Read;
 
-// What came of one read: it failed, the input is at its end, or more was taken: how many bytes are in the buffer now, and where the next one stands.
+// What came of one read: it failed, the input is at its end, or more was taken.
 #[derive(Clone, Copy)]
 enum Next {
     Failed,
     End,
-    More(usize, usize),
+    More,
 }
 
 // Takes what a read that answered got has put in front of a piece.
-fn take_read(got: isize, piece: &[u8], len: usize, mode: usize, buffer: &mut [u8]) -> Next
-    requires { 48134 ≤ length buffer.old }
-    ensures { Goes got piece.now len mode buffer.old buffer.new result }
+fn take_read(got: isize, piece: &[u8], taking: &mut Taking<'_>) -> Next
+    ensures { Goes got piece.now taking.old taking.new result }
 {
     if got < 0 {
         return Next::Failed;
@@ -28,8 +28,8 @@ fn take_read(got: isize, piece: &[u8], len: usize, mode: usize, buffer: &mut [u8
     if n == 0 {
         return Next::End;
     }
-    let t = sheet::taking::take(&piece[..n], len, mode, buffer);
-    Next::More(t.len, t.mode)
+    taking.take(&piece[..n]);
+    Next::More
 }
 
 // What a read put in front of a piece: how many bytes, or -1 if it failed.
@@ -45,26 +45,21 @@ fn read_piece(input: &mut impl Read, piece: &mut [u8; 4096]) -> isize
 
 // Takes the input to its end; returns how many bytes are in the buffer. After a read that fails nothing is: that is other input. Which bytes a read
 // gives is known to no contract, so this one says that some text was taken. A proved loop has to end: this one has more turns than any run takes.
-fn take_input(input: &mut impl Read, buffer: &mut [u8]) -> usize
-    requires { 48134 ≤ length buffer.old }
-    ensures { Given result buffer.new }
+fn take_input(input: &mut impl Read, taking: &mut Taking<'_>) -> usize
+    requires { Begun taking.old.len taking.old.mode taking.old.buffer.now }
+    ensures { Given result taking.new.buffer.now }
 {
-    let mut len = 0;
-    let mut mode = 0;
     for _ in 0..u64::MAX {
         let mut piece = [0u8; 4096];
         let got = read_piece(input, &mut piece);
-        let next = take_read(got, &piece, len, mode, buffer);
+        let next = take_read(got, &piece, taking);
         match next {
             Next::Failed => return 0,
-            Next::End => return len,
-            Next::More(l, m) => {
-                len = l;
-                mode = m;
-            }
+            Next::End => return taking.len,
+            Next::More => {}
         }
     }
-    len
+    taking.len
 }
 
 // Writes what is printed of the input to the start of page; returns its length.
@@ -73,6 +68,16 @@ pub fn put_cut(input: &mut impl Read, page: &mut [u8]) -> usize
     ensures { (Prints page.old page.new result) × IsPrefixLen result page.new }
 {
     let mut buffer = [0u8; 48134];
-    let len = take_input(input, &mut buffer);
-    sheet_cut::cut_taken(&buffer, len, page)
+    let mut taking = Taking {
+        buffer: &mut buffer,
+        len: 0,
+        mode: 0,
+    };
+    let len = take_input(input, &mut taking);
+    let Taking {
+        buffer: taken,
+        len: _,
+        mode: _,
+    } = taking;
+    sheet_cut::cut_taken(&*taken, len, page)
 }

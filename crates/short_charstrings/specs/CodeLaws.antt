@@ -1,6 +1,6 @@
 -- What the code of short charstrings meets: one law for each way out.
 use Prim.Native.Nat.{ℕ, zero, suc, ◌+◌, ◌-◌, ◌*◌, ◌/◌, ◌%◌, ◌≤◌, ◌<◌}
-use Rattle.std.specs.Prelude.{◌≡◌, Bool, List, [], ◌∷◌, ltb, length, take, get_or, set, None, Option, Some}
+use Rattle.std.specs.Prelude.{◌≡◌, Bool, List, [], ◌∷◌, ltb, length, take, get_or, set}
 use Rattle.std.proofs.Math.Path.{refl, sym, ap}
 use Rattle.std.proofs.Common.{◌∙◌, subst, lit≤, lit<}
 use Rattle.std.proofs.Math.Bool.{true, false, not}
@@ -13,6 +13,7 @@ use Rattle.octets.specs.PutLaws.{put_one, put_two, put_snoc, take_put}
 use Rattle.index.specs.Index.{empty_at, offsets, first_of, run_of, pieces, items_of}
 use Rattle.index.specs.Good.{Good}
 use Rattle.unfold.specs.Unfold.{Glyph, not_plain_lem, plain, unfold_glyph}
+use Rattle.row_window.specs.declared.filling.Filling.{Filling}
 use Rattle.interpret.specs.Run.{Ready, Meeting, Meets}
 use Rattle.interpret.specs.declared.Range.{Range}
 use Rattle.short_charstrings.specs.Short.{alone, is_plain, ends, is_short}
@@ -44,18 +45,14 @@ pub ends-none : (s : List ℕ) → length s < 1 → false ≡ ends s
 unfolding ends
 ends-none s h = rw (lt-ltb (length s) 1 h)
 
-abbrev met_is : Option ℕ → Bool
-met_is None = false
-met_is (Some m) = true
-
-pub ends-met : (font s keys keys' : List ℕ) (range : Range) (n : ℕ) (r : Option ℕ) → 1 ≤ length s
-    → Meets (unfold_glyph (items_of font (empty_at 0)) (items_of font (empty_at 0)) 0 0 s) range keys n keys' r → (q : Option ℕ) → r ≡ q → met_is q ≡ ends s
+pub ends-met : (font s : List ℕ) (range : Range) (old new : Filling) (r : Bool) → 1 ≤ length s
+    → Meets (unfold_glyph (items_of font (empty_at 0)) (items_of font (empty_at 0)) 0 0 s) range old new r → r ≡ ends s
 unfolding ends items_of offsets pieces
-ends-met font s keys keys' range n r h m q e = sym (ap met_is e) ∙ rw (le-ltb (length s) 1 h) (by (alone s) m.says)
+ends-met font s range old new r h m = rw (le-ltb (length s) 1 h) (by (alone s) m.says)
   where
-    by : (g : Glyph) → Meeting g range keys n keys' r → met_is r ≡ is_plain g
-    by not_plain_lem k = ap met_is k
-    by (plain ts rows) k = ap met_is k.1
+    by : (g : Glyph) → Meeting g range old new r → r ≡ is_plain g
+    by not_plain_lem k = k
+    by (plain ts rows) k = k.0
 
 -- ---- whether a charstring is short
 

@@ -11,6 +11,7 @@ use index::Index;
 use interpret::callees::Callees;
 use interpret::{Range, Subrs};
 use refusal::Refusal;
+use row_window::filling::Filling;
 
 // All of 1 to 4 bytes that end in endchar.
 const CANDIDATES: usize = 16843009;
@@ -38,10 +39,9 @@ fn ends(code: &[u8]) -> bool
     };
     let mut keys = [0u64; 1];
     let from = Callees { font: &font, q };
-    match interpret::run_glyph(&from, 0, code, Range { low: 0, high: 0 }, &mut keys, 0) {
-        None => false,
-        Some(_) => true,
-    }
+    let range = Range { low: 0, high: 0 };
+    let mut filling = Filling::begin(&mut keys);
+    interpret::run_glyph(&from, 0, code, range, &mut filling)
 }
 
 // Whether a charstring is a short one.

@@ -2,6 +2,7 @@
 use Rattle.std.specs.Prelude.{ℕ, ◌+◌, ◌*◌, Bool, true, false, List, [], ◌∷◌, ltb, eqb, length, take, drop, get_or, None, Option, Some}
 use Rattle.octets.specs.Pick.{pick}
 use Rattle.octets.specs.Octets.{num_at}
+use Rattle.cases.specs.Inputs.{font_input, over}
 use Rattle.refusal.specs.Refusal.{number_of}
 use Rattle.sheet.specs.Sheet.{pairs}
 use Rattle.subset.specs.Cut.{Outcome, refused, subset, cut_of}
@@ -44,6 +45,4 @@ asked_answer kind font asked = pick (eqb kind 83) (named_answer false font asked
 
 -- an input: the font's length in two bytes, the font, and what is asked of it
 unfoldable pub subset_answer : ℕ → List ℕ → Option (List ℕ)
-subset_answer kind s =
-    pick (ltb (length s) 2) None
-    (pick (ltb (length s) (2 + num_at s 0 2)) None (asked_answer kind (take (num_at s 0 2) (drop 2 s)) (drop (2 + num_at s 0 2) s)))
+subset_answer kind s = over (asked_answer kind) (font_input s)

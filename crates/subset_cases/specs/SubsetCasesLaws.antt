@@ -1,5 +1,5 @@
 -- Laws of the answers to stored cases of subsetting, by the code's ways out.
-use Rattle.std.specs.Prelude.{ℕ, ◌+◌, ◌-◌, ◌*◌, ◌≤◌, ◌<◌, ◌≡◌, Bool, drop, None, Some, Result}
+use Rattle.std.specs.Prelude.{ℕ, ◌+◌, ◌-◌, ◌*◌, ◌≤◌, ◌<◌, ◌≡◌, Bool, drop, None, Option, Some, Result}
 use Rattle.std.proofs.Math.Path.{sym, ap}
 use Rattle.std.proofs.Common.{◌∙◌, subst, length-take, length-drop, take_all}
 use Rattle.std.proofs.Math.Bool.{false}
@@ -10,6 +10,7 @@ use borrow.Author.Tests.{ne_eqb, lt-ltb, le-ltb}
 use Rattle.octets.specs.Octets.{num_at, Wrote}
 use Rattle.refusal.specs.declared.Refusal.{Refusal}
 use Rattle.cases.specs.AnswersLaws.{wrote-front}
+use Rattle.cases.specs.Inputs.{font_input, over}
 use Rattle.sheet.specs.Sheet.{pairs}
 use Rattle.sheet.specs.ReadingLaws.{pairs-length}
 use Rattle.subset.specs.Cut.{cut_of}
@@ -136,25 +137,6 @@ pub asked-none : (b : ℕ) (font asked : List ℕ) → (b ≡ 83 → ⊥) → (b
 unfolding asked_answer
 asked-none b font asked p q = simp (ne_eqb b 83 p, ne_eqb b 68 q)
 
-module _ (kind : ℕ) (s : List ℕ) where
-  pub input_short : length s < 2 → subset_answer kind s ≡ None
-  unfolding subset_answer
-  input_short h = rw (lt-ltb (length s) 2 h)
-
-  module _ (h : 2 ≤ length s) (n : ℕ) (e : n ≡ num_at s 0 2) where
-    pub input_cut : length s < 2 + n → subset_answer kind s ≡ None
-    unfolding subset_answer
-    input_cut l =
-        let k : length s < 2 + num_at s 0 2 = omega (arith, e) in
-        rw (le-ltb (length s) 2 h, lt-ltb (length s) (2 + num_at s 0 2) k)
-
-    pub input_parts : 2 + n ≤ length s
-        → subset_answer kind s ≡ asked_answer kind (take (2 + n - 2) (drop 2 s)) (take (length s - (2 + n)) (drop (2 + n) s))
-    unfolding subset_answer
-    input_parts l =
-        let k : 2 + num_at s 0 2 ≤ length s = omega (arith, e) in
-        let d : n ≡ 2 + n - 2 = omega arith in
-        rw (le-ltb (length s) 2 h, le-ltb (length s) (2 + num_at s 0 2) k)
-        (ap (λ (x : ℕ). asked_answer kind (take x (drop 2 s)) (drop (2 + x) s)) (sym e)
-        ∙ ap (λ (x : ℕ). asked_answer kind (take x (drop 2 s)) (drop (2 + n) s)) d
-        ∙ ap (asked_answer kind (take (2 + n - 2) (drop 2 s))) (sym (rest (2 + n) s)))
+pub subset_parts : (kind : ℕ) (s : List ℕ) (o : Option (List ℕ × List ℕ)) → o ≡ font_input s → over (asked_answer kind) o ≡ subset_answer kind s
+unfolding subset_answer
+subset_parts kind s o e = ap (over (asked_answer kind)) e

@@ -2,9 +2,9 @@
 // that document 01 says of both holds.
 ghost use Rattle.std.specs.Prelude.{◌≤◌, ◌≡◌, ltb, length, drop};
 ghost use Rattle.octets.specs.Pick.{pick};
-ghost use Rattle.cases.specs.Answers.{Gives};
 ghost use Rattle.subset_cases.specs.Left.{lent_word, zeroed, words_left_lem, bytes_left_lem, refused_bytes, subset_bytes, answer_bytes, judged};
 
+use cases::answer::Answer;
 use outcome::Subsetted;
 use refusal::Refusal;
 
@@ -63,55 +63,50 @@ fn zeroed(r: Result<Subsetted, Refusal>, w: usize) -> usize
 }
 
 // The number of a refusal: all of the output is as it was lent.
-fn put_refused(n: u8, found: &[u8], out: &mut [u8]) -> Option<usize>
-    requires { 4096 ≤ length out.old }
-    ensures { Gives (refused_bytes n found.now) out.new result }
+fn of_refused(n: u8, found: &[u8]) -> Option<Answer>
+    ensures { result ≡ refused_bytes n found.now }
 {
     if bytes_left(found, 0) {
-        return Some(octets::put_byte(out, 0, n));
+        return Some(Answer::one(n));
     }
     None
 }
 
 // A subset: the output behind it is as it was lent.
-fn put_subset(way: u8, len: usize, found: &[u8], out: &mut [u8]) -> Option<usize>
-    requires { (length found.now ≤ 4094) × (4096 ≤ length out.old) }
-    ensures { Gives (subset_bytes way len found.now) out.new result }
+fn of_subset(way: u8, len: usize, found: &[u8]) -> Option<Answer>
+    requires { length found.now ≤ 4094 }
+    ensures { result ≡ subset_bytes way len found.now }
 {
     if found.len() < len {
         return None;
     }
     if bytes_left(found, len) {
-        let p = octets::put_pair(out, 0, 0, way);
-        return Some(octets::put_bytes(out, p, &found[..len]));
+        let mut answer = Answer::one(0);
+        answer.byte(way);
+        answer.copy(&found[..len]);
+        return Some(answer);
     }
     None
 }
 
 // What a call answered, with the output that it left.
-fn put_answer(r: Result<Subsetted, Refusal>, found: &[u8], out: &mut [u8]) -> Option<usize>
-    requires { (length found.now ≤ 4094) × (4096 ≤ length out.old) }
-    ensures { Gives (answer_bytes r found.now) out.new result }
+fn of_call(r: Result<Subsetted, Refusal>, found: &[u8]) -> Option<Answer>
+    requires { length found.now ≤ 4094 }
+    ensures { result ≡ answer_bytes r found.now }
 {
     match r {
-        Err(e) => put_refused(e.number(), found, out),
-        Ok(c) => put_subset(c.way.number(), c.len, found, out),
+        Err(e) => of_refused(e.number(), found),
+        Ok(c) => of_subset(c.way.number(), c.len, found),
     }
 }
 
 // What a call answered, with the work words and the output that it left, W being w.
-pub fn judge(
-    r: Result<Subsetted, Refusal>,
-    w: usize,
-    work: &[u32],
-    found: &[u8],
-    out: &mut [u8],
-) -> Option<usize>
-    requires { (length found.now ≤ 4094) × (4096 ≤ length out.old) }
-    ensures { Gives (judged r w work.now found.now) out.new result }
+pub fn judge(r: Result<Subsetted, Refusal>, w: usize, work: &[u32], found: &[u8]) -> Option<Answer>
+    requires { length found.now ≤ 4094 }
+    ensures { result ≡ judged r w work.now found.now }
 {
     if words_left(work, zeroed(r, w)) {
-        return put_answer(r, found, out);
+        return of_call(r, found);
     }
     None
 }

@@ -5,7 +5,6 @@
 pub mod left;
 
 ghost use Rattle.std.specs.Prelude.{◌≤◌, ◌≡◌, false, length, replicate, Some};
-ghost use Rattle.cases.specs.Answers.{Gives};
 ghost use Rattle.cff.specs.Font.{read_font};
 ghost use Rattle.cff.specs.Find.{work_size};
 ghost use Rattle.subset.specs.Cut.{cut_of};
@@ -13,9 +12,11 @@ ghost use Rattle.outcome.specs.Entry.{work_in, Cuts};
 ghost use Rattle.subset_cases.specs.Left.{lent_word, lent_byte};
 ghost use Rattle.subset_cases.specs.SubsetCases.{outcome_bytes, lent_answer, kept_answer, named_answer, asked_answer, subset_answer};
 
+use cases::answer::Answer;
+use cases::inputs::FontInput;
 use outcome::Subsetted;
+use outcome::call::{Call, Keying, Request};
 use refusal::Refusal;
-use write::{Call, Keying};
 
 // W of a font, 0 where reading refuses it.
 fn work_of(font: &[u8]) -> usize
@@ -31,27 +32,25 @@ fn work_of(font: &[u8]) -> usize
 fn cut(
     cid: bool,
     font: &[u8],
-    name: &[u8],
-    keep: &[u16],
-    rows: &[u8],
-    traced: u8,
+    ask: &Request<'_>,
     work: &mut [u32],
     out: &mut [u8],
 ) -> Result<Subsetted, Refusal>
-    ensures { Cuts cid false font.now name.now keep.now rows.now traced work.old out.old work.new out.new result }
+    ensures { Cuts cid false font.now ask.now.name.now ask.now.keep.now ask.now.rows.now ask.now.traced
+        work.old out.old work.new out.new result }
 {
     if cid {
         let keyed = Call {
             keying: Keying::Cid,
             small: false,
         };
-        return write::cut(keyed, font, name, keep, rows, traced, work, out);
+        return write::cut(keyed, font, ask, work, out);
     }
     let named = Call {
         keying: Keying::Name { encoding: false },
         small: false,
     };
-    write::cut(named, font, name, keep, rows, traced, work, out)
+    write::cut(named, font, ask, work, out)
 }
 
 // What a call answers and leaves, with work words and an output that were filled.
@@ -64,28 +63,25 @@ fn answer_cut(
     traced: u8,
     work: &mut [u32],
     found: &mut [u8],
-    out: &mut [u8],
-) -> Option<usize>
+) -> Option<Answer>
     requires { (work.old ≡ replicate (length work.old) lent_word) × (found.old ≡ replicate (length found.old) lent_byte)
-        × (length found.old ≤ 4094) × (4096 ≤ length out.old) }
-    ensures { Gives (Some (outcome_bytes (cut_of cid false font.now name.now keep.now rows.now traced
-        (length work.old) (length found.old)))) out.new result }
+        × (length found.old ≤ 4094) }
+    ensures { result ≡ Some (outcome_bytes (cut_of cid false font.now name.now keep.now rows.now traced
+        (length work.old) (length found.old))) }
 {
-    let r = cut(cid, font, name, keep, rows, traced, &mut *work, &mut *found);
-    left::judge(r, work_of(font), &*work, &*found, out)
+    let ask = Request {
+        name,
+        keep,
+        rows,
+        traced,
+    };
+    let r = cut(cid, font, &ask, &mut *work, &mut *found);
+    left::judge(r, work_of(font), &*work, &*found)
 }
 
 // The flag, how many work words and output bytes are lent, and the record.
-fn answer_lent(
-    cid: bool,
-    font: &[u8],
-    name: &[u8],
-    keep: &[u16],
-    asked: &[u8],
-    out: &mut [u8],
-) -> Option<usize>
-    requires { 4096 ≤ length out.old }
-    ensures { Gives (lent_answer cid font.now name.now keep.now asked.now) out.new result }
+fn answer_lent(cid: bool, font: &[u8], name: &[u8], keep: &[u16], asked: &[u8]) -> Option<Answer>
+    ensures { result ≡ lent_answer cid font.now name.now keep.now asked.now }
 {
     if asked.len() < 5 {
         return None;
@@ -110,14 +106,12 @@ fn answer_lent(
         traced,
         &mut work[..words],
         &mut found[..room],
-        out,
     )
 }
 
 // How many numbers are kept, and the numbers, two bytes each.
-fn answer_kept(cid: bool, font: &[u8], name: &[u8], asked: &[u8], out: &mut [u8]) -> Option<usize>
-    requires { 4096 ≤ length out.old }
-    ensures { Gives (kept_answer cid font.now name.now asked.now) out.new result }
+fn answer_kept(cid: bool, font: &[u8], name: &[u8], asked: &[u8]) -> Option<Answer>
+    ensures { result ≡ kept_answer cid font.now name.now asked.now }
 {
     let n = asked.len();
     if n < 2 {
@@ -133,13 +127,12 @@ fn answer_kept(cid: bool, font: &[u8], name: &[u8], asked: &[u8], out: &mut [u8]
     }
     let mut keep = [0u16; 256];
     let k = sheet::reading::put_pairs(&asked[2..end], &mut keep);
-    answer_lent(cid, font, name, &keep[..k], &asked[end..], out)
+    answer_lent(cid, font, name, &keep[..k], &asked[end..])
 }
 
 // The name's length in one byte, and the name.
-fn answer_named(cid: bool, font: &[u8], asked: &[u8], out: &mut [u8]) -> Option<usize>
-    requires { 4096 ≤ length out.old }
-    ensures { Gives (named_answer cid font.now asked.now) out.new result }
+fn answer_named(cid: bool, font: &[u8], asked: &[u8]) -> Option<Answer>
+    ensures { result ≡ named_answer cid font.now asked.now }
 {
     let n = asked.len();
     if n < 1 {
@@ -149,34 +142,26 @@ fn answer_named(cid: bool, font: &[u8], asked: &[u8], out: &mut [u8]) -> Option<
     if n < end {
         return None;
     }
-    answer_kept(cid, font, &asked[1..end], &asked[end..], out)
+    answer_kept(cid, font, &asked[1..end], &asked[end..])
 }
 
 // The answer to what is asked of a font, by the kind's letter.
-fn answer_asked(kind: u8, font: &[u8], asked: &[u8], out: &mut [u8]) -> Option<usize>
-    requires { 4096 ≤ length out.old }
-    ensures { Gives (asked_answer kind font.now asked.now) out.new result }
+fn answer_asked(kind: u8, font: &[u8], asked: &[u8]) -> Option<Answer>
+    ensures { result ≡ asked_answer kind font.now asked.now }
 {
     match kind {
-        b'S' => answer_named(false, font, asked, out),
-        b'D' => answer_named(true, font, asked, out),
+        b'S' => answer_named(false, font, asked),
+        b'D' => answer_named(true, font, asked),
         _ => None,
     }
 }
 
-// The answer to an input, by its kind's letter: how many bytes of it stand at the start of out; None outside the kind's domain. The kind stays
-// the letter that the line has, which may be any.
-pub fn answer(kind: u8, input: &[u8], out: &mut [u8]) -> Option<usize>
-    requires { 4096 ≤ length out.old }
-    ensures { Gives (subset_answer kind input.now) out.new result }
+// The answer to an input, by its kind's letter; None outside the kind's domain. The kind stays the letter that the line has, which may be any.
+pub fn answer(kind: u8, input: &[u8]) -> Option<Answer>
+    ensures { result ≡ subset_answer kind input.now }
 {
-    let n = input.len();
-    if n < 2 {
-        return None;
+    match FontInput::split(input) {
+        None => None,
+        Some(parts) => answer_asked(kind, parts.font, parts.asked),
     }
-    let end = 2 + octets::u16_at(input, 0);
-    if n < end {
-        return None;
-    }
-    answer_asked(kind, &input[2..end], &input[end..], out)
 }

@@ -6,7 +6,7 @@ pub mod slots;
 pub mod top;
 
 ghost use Rattle.std.specs.Prelude.{◌≡◌, true, false, [], ◌∷◌, ◌+◌, ◌≤◌, ◌<◌, length};
-ghost use Rattle.octets.specs.Octets.{Wrote};
+ghost use Rattle.octets.specs.Out.{Writes};
 ghost use Rattle.decimal.specs.Decimal.{normal};
 ghost use Rattle.decimal.specs.Written.{number_bytes};
 ghost use Rattle.dict.specs.Op.{is_operator, cid_count, copied_top_entries};
@@ -25,6 +25,7 @@ use decimal_write::{number_len, put_number};
 use dict::op::{Op, copied_top_entry, copied_top_string};
 use dict::placed::Dict;
 use dict_write::{copied_len, op_len, put_copied, put_offset_entry, put_op, put_private_entry};
+use octets::out::Out;
 
 // How many bytes an integer takes.
 fn whole_len(neg: bool, n: usize) -> usize
@@ -34,12 +35,12 @@ fn whole_len(neg: bool, n: usize) -> usize
     number_len(whole(neg, n))
 }
 
-// An integer, from `at` on; the place after it.
-fn put_whole(neg: bool, n: usize, out: &mut [u8], at: usize) -> usize
-    requires { (n < 1000000000000000) × (at + length (number_bytes (normal neg n 0 0)) ≤ length out.old) }
-    ensures { Wrote out.old at (number_bytes (normal neg n 0 0)) out.new result }
+// An integer.
+fn put_whole(neg: bool, n: usize, out: &mut Out<'_>)
+    requires { (n < 1000000000000000) × (out.old.at + length (number_bytes (normal neg n 0 0)) ≤ length out.old.bytes.now) }
+    ensures { Writes out.old (number_bytes (normal neg n 0 0)) out.new }
 {
-    put_number(whole(neg, n), out, at)
+    put_number(whole(neg, n), out)
 }
 
 // How many bytes an entry of one number takes.
@@ -50,13 +51,13 @@ fn value_len(op: usize, n: usize) -> usize
     whole_len(false, n) + op_len(op)
 }
 
-// An entry of one number, from `at` on; the place after it.
-fn put_value(op: usize, n: usize, out: &mut [u8], at: usize) -> usize
-    requires { (is_operator op ≡ true) × (n < 1000000000000000) × (at + length (value_entry op n) ≤ length out.old) }
-    ensures { Wrote out.old at (value_entry op n) out.new result }
+// An entry of one number.
+fn put_value(op: usize, n: usize, out: &mut Out<'_>)
+    requires { (is_operator op ≡ true) × (n < 1000000000000000) × (out.old.at + length (value_entry op n) ≤ length out.old.bytes.now) }
+    ensures { Writes out.old (value_entry op n) out.new }
 {
-    let p = put_whole(false, n, out, at);
-    put_op(op, out, p)
+    put_whole(false, n, &mut *out);
+    put_op(op, out)
 }
 
 // How many bytes the string entry of slot j takes, 0 where there is none.
@@ -71,16 +72,15 @@ fn slot_len(slots: &Slots<'_>, j: usize, op: usize) -> usize
     0
 }
 
-// The string entry of slot j, where there is one, from `at` on; the place after it.
-fn put_slot(slots: &Slots<'_>, j: usize, op: usize, out: &mut [u8], at: usize) -> usize
-    requires { (j < 8) × (is_operator op ≡ true) × (at + length (slot_entry slots.now j op) ≤ length out.old) }
-    ensures { Wrote out.old at (slot_entry slots.now j op) out.new result }
+// The string entry of slot j, where there is one.
+fn put_slot(slots: &Slots<'_>, j: usize, op: usize, out: &mut Out<'_>)
+    requires { (j < 8) × (is_operator op ≡ true) × (out.old.at + length (slot_entry slots.now j op) ≤ length out.old.bytes.now) }
+    ensures { Writes out.old (slot_entry slots.now j op) out.new }
 {
     let ids = slots.ids;
     if ids[j] < 65536 {
-        return put_value(op, ids[8 + j], out, at);
+        return put_value(op, ids[8 + j], out);
     }
-    at
 }
 
 // How many bytes the six string entries take.
@@ -94,16 +94,14 @@ fn strings_len(slots: &Slots<'_>) -> usize
     len
 }
 
-// The six string entries, from `at` on; the place after them.
-fn put_strings(slots: &Slots<'_>, out: &mut [u8], at: usize) -> usize
-    requires { at + length (string_entries slots.now) ≤ length out.old }
-    ensures { Wrote out.old at (string_entries slots.now) out.new result }
+// The six string entries.
+fn put_strings(slots: &Slots<'_>, out: &mut Out<'_>)
+    requires { out.old.at + length (string_entries slots.now) ≤ length out.old.bytes.now }
+    ensures { Writes out.old (string_entries slots.now) out.new }
 {
-    let mut p = at;
     for k in 0..6 {
-        p = put_slot(slots, 2 + k, copied_top_string(k), &mut *out, p);
+        put_slot(slots, 2 + k, copied_top_string(k), &mut *out);
     }
-    p
 }
 
 // How many bytes the entries take that are copied as they are.
@@ -117,16 +115,14 @@ fn entries_len(top: &Top<'_>) -> usize
     len
 }
 
-// The entries that are copied as they are, from `at` on; the place after them.
-fn put_entries(d: &Dict<'_>, out: &mut [u8], at: usize) -> usize
-    requires { at + length (copied_bytes (entries d.now) copied_top_entries) ≤ length out.old }
-    ensures { Wrote out.old at (copied_bytes (entries d.now) copied_top_entries) out.new result }
+// The entries that are copied as they are.
+fn put_entries(d: &Dict<'_>, out: &mut Out<'_>)
+    requires { out.old.at + length (copied_bytes (entries d.now) copied_top_entries) ≤ length out.old.bytes.now }
+    ensures { Writes out.old (copied_bytes (entries d.now) copied_top_entries) out.new }
 {
-    let mut p = at;
     for k in 0..6 {
-        p = put_copied(d, copied_top_entry(k), &mut *out, p);
+        put_copied(d, copied_top_entry(k), &mut *out);
     }
-    p
 }
 
 // How many bytes the entries take that both keyings carry over.
@@ -136,13 +132,13 @@ fn carried_len(top: &Top<'_>) -> usize
     strings_len(&top.slots) + entries_len(top)
 }
 
-// The entries that both keyings carry over, from `at` on; the place after them.
-fn put_carried(top: &Top<'_>, out: &mut [u8], at: usize) -> usize
-    requires { at + length (carried (entries top.now.dict) top.now.slots) ≤ length out.old }
-    ensures { Wrote out.old at (carried (entries top.now.dict) top.now.slots) out.new result }
+// The entries that both keyings carry over.
+fn put_carried(top: &Top<'_>, out: &mut Out<'_>)
+    requires { out.old.at + length (carried (entries top.now.dict) top.now.slots) ≤ length out.old.bytes.now }
+    ensures { Writes out.old (carried (entries top.now.dict) top.now.slots) out.new }
 {
-    let p = put_strings(&top.slots, out, at);
-    put_entries(&top.dict, out, p)
+    put_strings(&top.slots, &mut *out);
+    put_entries(&top.dict, out)
 }
 
 // How many bytes the new ids of registry and ordering take.
@@ -153,14 +149,14 @@ fn ids_len(slots: &Slots<'_>) -> usize
     whole_len(false, ids[8]) + whole_len(false, ids[9])
 }
 
-// The new ids of registry and ordering, from `at` on; the place after them.
-fn put_ids(slots: &Slots<'_>, out: &mut [u8], at: usize) -> usize
-    requires { at + length (ids_bytes slots.now) ≤ length out.old }
-    ensures { Wrote out.old at (ids_bytes slots.now) out.new result }
+// The new ids of registry and ordering.
+fn put_ids(slots: &Slots<'_>, out: &mut Out<'_>)
+    requires { out.old.at + length (ids_bytes slots.now) ≤ length out.old.bytes.now }
+    ensures { Writes out.old (ids_bytes slots.now) out.new }
 {
     let ids = slots.ids;
-    let p = put_whole(false, ids[8], out, at);
-    put_whole(false, ids[9], out, p)
+    put_whole(false, ids[8], &mut *out);
+    put_whole(false, ids[9], out)
 }
 
 // How many bytes ROS takes.
@@ -178,20 +174,20 @@ fn ros_len(top: &Top<'_>) -> usize
     }
 }
 
-// ROS, from `at` on; the place after it.
-fn put_ros(top: &Top<'_>, out: &mut [u8], at: usize) -> usize
-    requires { at + length (ros_of top.now.slots (ros_in (entries top.now.dict))) ≤ length out.old }
-    ensures { Wrote out.old at (ros_of top.now.slots (ros_in (entries top.now.dict))) out.new result }
+// ROS.
+fn put_ros(top: &Top<'_>, out: &mut Out<'_>)
+    requires { out.old.at + length (ros_of top.now.slots (ros_in (entries top.now.dict))) ≤ length out.old.bytes.now }
+    ensures { Writes out.old (ros_of top.now.slots (ros_in (entries top.now.dict))) out.new }
 {
     let found = top.dict.ros();
     match found {
-        None => at,
+        None => {}
         Some(entry) => {
             let neg = entry.supplement.neg;
             let size = entry.supplement.size;
-            let p = put_ids(&top.slots, out, at);
-            let q = put_whole(neg, size, out, p);
-            put_op(Op::ROS, out, q)
+            put_ids(&top.slots, &mut *out);
+            put_whole(neg, size, &mut *out);
+            put_op(Op::ROS, out)
         }
     }
 }
@@ -203,12 +199,12 @@ fn count_len(d: &Dict<'_>) -> usize
     value_len(Op::CID_COUNT, d.cid_count())
 }
 
-// CIDCount, from `at` on; the place after it.
-fn put_count(d: &Dict<'_>, out: &mut [u8], at: usize) -> usize
-    requires { at + length (value_entry cid_count (cid_count_in (entries d.now))) ≤ length out.old }
-    ensures { Wrote out.old at (value_entry cid_count (cid_count_in (entries d.now))) out.new result }
+// CIDCount.
+fn put_count(d: &Dict<'_>, out: &mut Out<'_>)
+    requires { out.old.at + length (value_entry cid_count (cid_count_in (entries d.now))) ≤ length out.old.bytes.now }
+    ensures { Writes out.old (value_entry cid_count (cid_count_in (entries d.now))) out.new }
 {
-    put_value(Op::CID_COUNT, d.cid_count(), out, at)
+    put_value(Op::CID_COUNT, d.cid_count(), out)
 }
 
 // How many bytes the Encoding's entry takes: none for offset 0, the standard encoding.
@@ -233,110 +229,110 @@ pub fn top_len(cid: bool, v: usize, top: &Top<'_>) -> usize
     n + 23 + encoding_len(v)
 }
 
-// The Encoding's entry, from `at` on; the place after it.
-fn put_encoding_entry(v: usize, out: &mut [u8], at: usize) -> usize
-    requires { (v < 2147483648) × (at + length (encoding_entry v) ≤ length out.old) }
-    ensures { Wrote out.old at (encoding_entry v) out.new result }
+// The Encoding's entry.
+fn put_encoding_entry(v: usize, out: &mut Out<'_>)
+    requires { (v < 2147483648) × (out.old.at + length (encoding_entry v) ≤ length out.old.bytes.now) }
+    ensures { Writes out.old (encoding_entry v) out.new }
 {
     if v == 0 {
-        return at;
+        return;
     }
-    put_offset_entry(Op::ENCODING, v, out, at)
+    put_offset_entry(Op::ENCODING, v, out)
 }
 
-// The offsets of charset and Encoding, from `at` on; the place after them.
-fn put_code_offsets(to: NamedOffsets, out: &mut [u8], at: usize) -> usize
-    requires { at + length (code_offsets to.charset to.encoding) ≤ length out.old }
-    ensures { Wrote out.old at (code_offsets to.charset to.encoding) out.new result }
+// The offsets of charset and Encoding.
+fn put_code_offsets(to: NamedOffsets, out: &mut Out<'_>)
+    requires { out.old.at + length (code_offsets to.charset to.encoding) ≤ length out.old.bytes.now }
+    ensures { Writes out.old (code_offsets to.charset to.encoding) out.new }
 {
-    let p = put_offset_entry(Op::CHARSET, to.charset, out, at);
-    put_encoding_entry(to.encoding, out, p)
+    put_offset_entry(Op::CHARSET, to.charset, &mut *out);
+    put_encoding_entry(to.encoding, out)
 }
 
-// The offsets of a name-keyed subset, from `at` on; the place after them.
-fn put_named_offsets(to: NamedOffsets, out: &mut [u8], at: usize) -> usize
-    requires { at + length (named_offsets to.charset to.encoding to.charstrings to.size to.private) ≤ length out.old }
-    ensures { Wrote out.old at (named_offsets to.charset to.encoding to.charstrings to.size to.private) out.new result }
+// The offsets of a name-keyed subset.
+fn put_named_offsets(to: NamedOffsets, out: &mut Out<'_>)
+    requires { out.old.at + length (named_offsets to.charset to.encoding to.charstrings to.size to.private) ≤ length out.old.bytes.now }
+    ensures { Writes out.old (named_offsets to.charset to.encoding to.charstrings to.size to.private) out.new }
 {
-    let p = put_code_offsets(to, out, at);
-    let q = put_offset_entry(Op::CHARSTRINGS, to.charstrings, out, p);
-    put_private_entry(to.size, to.private, out, q)
+    put_code_offsets(to, &mut *out);
+    put_offset_entry(Op::CHARSTRINGS, to.charstrings, &mut *out);
+    put_private_entry(to.size, to.private, out)
 }
 
-// The first two offsets of a CID-keyed subset, from `at` on; the place after them.
-fn put_glyph_offsets(to: CidOffsets, out: &mut [u8], at: usize) -> usize
-    requires { at + length (glyph_offsets to.charset to.select) ≤ length out.old }
-    ensures { Wrote out.old at (glyph_offsets to.charset to.select) out.new result }
+// The first two offsets of a CID-keyed subset.
+fn put_glyph_offsets(to: CidOffsets, out: &mut Out<'_>)
+    requires { out.old.at + length (glyph_offsets to.charset to.select) ≤ length out.old.bytes.now }
+    ensures { Writes out.old (glyph_offsets to.charset to.select) out.new }
 {
-    let p = put_offset_entry(Op::CHARSET, to.charset, out, at);
-    put_offset_entry(Op::FD_SELECT, to.select, out, p)
+    put_offset_entry(Op::CHARSET, to.charset, &mut *out);
+    put_offset_entry(Op::FD_SELECT, to.select, out)
 }
 
-// The offsets of a CID-keyed subset, from `at` on; the place after them.
-fn put_cid_offsets(to: CidOffsets, out: &mut [u8], at: usize) -> usize
-    requires { at + length (cid_offsets to.charset to.select to.glyphs to.dicts) ≤ length out.old }
-    ensures { Wrote out.old at (cid_offsets to.charset to.select to.glyphs to.dicts) out.new result }
+// The offsets of a CID-keyed subset.
+fn put_cid_offsets(to: CidOffsets, out: &mut Out<'_>)
+    requires { out.old.at + length (cid_offsets to.charset to.select to.glyphs to.dicts) ≤ length out.old.bytes.now }
+    ensures { Writes out.old (cid_offsets to.charset to.select to.glyphs to.dicts) out.new }
 {
-    let p = put_glyph_offsets(to, out, at);
-    let q = put_offset_entry(Op::CHARSTRINGS, to.glyphs, out, p);
-    put_offset_entry(Op::FD_ARRAY, to.dicts, out, q)
+    put_glyph_offsets(to, &mut *out);
+    put_offset_entry(Op::CHARSTRINGS, to.glyphs, &mut *out);
+    put_offset_entry(Op::FD_ARRAY, to.dicts, out)
 }
 
-// The top DICT of a name-keyed subset, from `at` on; the place after it.
-fn put_top_named(top: &Top<'_>, to: NamedOffsets, out: &mut [u8], at: usize) -> usize
-    requires { at + length (top_named (entries top.now.dict) top.now.slots to.charset to.encoding to.charstrings to.size to.private) ≤ length out.old }
-    ensures { Wrote out.old at (top_named (entries top.now.dict) top.now.slots to.charset to.encoding to.charstrings to.size to.private) out.new result }
+// The top DICT of a name-keyed subset.
+fn put_top_named(top: &Top<'_>, to: NamedOffsets, out: &mut Out<'_>)
+    requires { out.old.at + length (top_named (entries top.now.dict) top.now.slots to.charset to.encoding to.charstrings to.size to.private) ≤ length out.old.bytes.now }
+    ensures { Writes out.old (top_named (entries top.now.dict) top.now.slots to.charset to.encoding to.charstrings to.size to.private) out.new }
 {
-    let p = put_carried(top, out, at);
-    put_named_offsets(to, out, p)
+    put_carried(top, &mut *out);
+    put_named_offsets(to, out)
 }
 
-// What a CID-keyed subset's top DICT holds before its offsets, from `at` on; the place after it.
-fn put_cid_front(top: &Top<'_>, out: &mut [u8], at: usize) -> usize
-    requires { at + length (cid_front (entries top.now.dict) top.now.slots) ≤ length out.old }
-    ensures { Wrote out.old at (cid_front (entries top.now.dict) top.now.slots) out.new result }
+// What a CID-keyed subset's top DICT holds before its offsets.
+fn put_cid_front(top: &Top<'_>, out: &mut Out<'_>)
+    requires { out.old.at + length (cid_front (entries top.now.dict) top.now.slots) ≤ length out.old.bytes.now }
+    ensures { Writes out.old (cid_front (entries top.now.dict) top.now.slots) out.new }
 {
-    let p = put_ros(top, out, at);
-    let q = put_carried(top, out, p);
-    put_count(&top.dict, out, q)
+    put_ros(top, &mut *out);
+    put_carried(top, &mut *out);
+    put_count(&top.dict, out)
 }
 
-// The top DICT of a CID-keyed subset, from `at` on; the place after it.
-fn put_top_cid(top: &Top<'_>, to: CidOffsets, out: &mut [u8], at: usize) -> usize
-    requires { at + length (top_cid (entries top.now.dict) top.now.slots to.charset to.select to.glyphs to.dicts) ≤ length out.old }
-    ensures { Wrote out.old at (top_cid (entries top.now.dict) top.now.slots to.charset to.select to.glyphs to.dicts) out.new result }
+// The top DICT of a CID-keyed subset.
+fn put_top_cid(top: &Top<'_>, to: CidOffsets, out: &mut Out<'_>)
+    requires { out.old.at + length (top_cid (entries top.now.dict) top.now.slots to.charset to.select to.glyphs to.dicts) ≤ length out.old.bytes.now }
+    ensures { Writes out.old (top_cid (entries top.now.dict) top.now.slots to.charset to.select to.glyphs to.dicts) out.new }
 {
-    let p = put_cid_front(top, out, at);
-    put_cid_offsets(to, out, p)
+    put_cid_front(top, &mut *out);
+    put_cid_offsets(to, out)
 }
 
-// What stands before the item of an INDEX of one item of n bytes, from `at` on; the place of the item.
-fn put_single_head(n: usize, out: &mut [u8], at: usize) -> usize
-    requires { (n < 4294967295) × (at + length (single_head n) ≤ length out.old) }
-    ensures { Wrote out.old at (single_head n) out.new result }
+// What stands before the item of an INDEX of one item of n bytes.
+fn put_single_head(n: usize, out: &mut Out<'_>)
+    requires { (n < 4294967295) × (out.old.at + length (single_head n) ≤ length out.old.bytes.now) }
+    ensures { Writes out.old (single_head n) out.new }
 {
-    let p = index::put_head(out, at, 1, n);
-    octets::put_num(out, p, n + 1, index::offset_size(n + 1))
+    index::put_head(&mut *out, 1, n);
+    out.num(n + 1, index::offset_size(n + 1))
 }
 
-// The INDEX of the top DICT of a name-keyed subset, from `at` on; the place after it.
-pub fn put_named_index(top: &Top<'_>, to: NamedOffsets, out: &mut [u8], at: usize) -> usize
+// The INDEX of the top DICT of a name-keyed subset.
+pub fn put_named_index(top: &Top<'_>, to: NamedOffsets, out: &mut Out<'_>)
     requires { (top_len false to.encoding (entries top.now.dict) top.now.slots < 4294967295)
-        × (at + length (index_bytes (top_named (entries top.now.dict) top.now.slots to.charset to.encoding to.charstrings to.size to.private ∷ [])) ≤ length out.old) }
-    ensures { Wrote out.old at (index_bytes (top_named (entries top.now.dict) top.now.slots to.charset to.encoding to.charstrings to.size to.private ∷ [])) out.new result }
+        × (out.old.at + length (index_bytes (top_named (entries top.now.dict) top.now.slots to.charset to.encoding to.charstrings to.size to.private ∷ [])) ≤ length out.old.bytes.now) }
+    ensures { Writes out.old (index_bytes (top_named (entries top.now.dict) top.now.slots to.charset to.encoding to.charstrings to.size to.private ∷ [])) out.new }
 {
     let n = top_len(false, to.encoding, top);
-    let p = put_single_head(n, out, at);
-    put_top_named(top, to, out, p)
+    put_single_head(n, &mut *out);
+    put_top_named(top, to, out)
 }
 
-// The INDEX of the top DICT of a CID-keyed subset, from `at` on; the place after it.
-pub fn put_cid_index(top: &Top<'_>, to: CidOffsets, out: &mut [u8], at: usize) -> usize
+// The INDEX of the top DICT of a CID-keyed subset.
+pub fn put_cid_index(top: &Top<'_>, to: CidOffsets, out: &mut Out<'_>)
     requires { (top_len true 0 (entries top.now.dict) top.now.slots < 4294967295)
-        × (at + length (index_bytes (top_cid (entries top.now.dict) top.now.slots to.charset to.select to.glyphs to.dicts ∷ [])) ≤ length out.old) }
-    ensures { Wrote out.old at (index_bytes (top_cid (entries top.now.dict) top.now.slots to.charset to.select to.glyphs to.dicts ∷ [])) out.new result }
+        × (out.old.at + length (index_bytes (top_cid (entries top.now.dict) top.now.slots to.charset to.select to.glyphs to.dicts ∷ [])) ≤ length out.old.bytes.now) }
+    ensures { Writes out.old (index_bytes (top_cid (entries top.now.dict) top.now.slots to.charset to.select to.glyphs to.dicts ∷ [])) out.new }
 {
     let n = top_len(true, 0, top);
-    let p = put_single_head(n, out, at);
-    put_top_cid(top, to, out, p)
+    put_single_head(n, &mut *out);
+    put_top_cid(top, to, out)
 }

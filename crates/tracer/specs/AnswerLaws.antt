@@ -23,7 +23,7 @@ use Rattle.row_window.specs.KeyLaws.{keys_length}
 use Rattle.row_window.specs.NextLaws.{within_all, window-whole}
 use Rattle.traced.specs.Traced.{met_all, record_of, Traced, refused, traced, answered, trace_read, trace_of, traced_as, leaves_record, Traces, a_record}
 use Rattle.traced.proofs.RowLaws.{record-keys}
-use Rattle.tracer.specs.Held.{met_in, or_none, Plainly}
+use Rattle.tracer.specs.Met.{met_in, or_none, Plainly}
 use Rattle.tracer.specs.Tracing.{top, met, keys_of, sorted, Filling, Fills, Shown, Counted, Answers, kept_answer}
 use Rattle.tracer.specs.WindowsLaws.{rows_fit, keys-below, refill-plain, shows_first, shows-last}
 use Rattle.tracer.specs.declared.marked.Marked.{Marked}

@@ -1,6 +1,4 @@
-pub mod Held
-pub mod Alone
-pub mod HeldLaws
+pub mod Met
 pub mod Tracing
 pub mod FillLaws
 pub mod WindowsLaws

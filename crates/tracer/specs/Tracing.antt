@@ -14,8 +14,8 @@ use Rattle.interpret.specs.declared.Subrs.{Subrs}
 use Rattle.interpret.specs.declared.Range.{Range}
 use Rattle.traced.specs.Traced.{met_all, Traced, refused, answered, traced_as, leaves_record}
 use Rattle.traced.specs.declared.Recorded.{Recorded}
-use Rattle.tracer.specs.Held.{met_in, or_none}
-use Rattle.tracer.specs.declared.traceable.Traceable.{Traceable}
+use Rattle.tracer.specs.Met.{met_in, or_none}
+use Rattle.faithful.specs.declared.read.Held.{Held}
 use Rattle.tracer.specs.declared.marked.Marked.{Marked}
 use Rattle.tracer.specs.declared.marked.Plain.{Plain}
 use Rattle.refusal.specs.declared.Refusal.{Refusal}
@@ -28,11 +28,11 @@ top = 9223372036854775808
 -- ---- a font and its subroutines
 
 -- the FD of a glyph
-abbrev pub fd_for : Traceable → ℕ → ℕ
+abbrev pub fd_for : Held → ℕ → ℕ
 fd_for t g = get_or (program t.loaded).fds g 0
 
 -- the subroutines that the glyphs of an FD can call
-pub record SubrsOf (t : Traceable) (fd : ℕ) (q : Subrs) : Type 0 where
+pub record SubrsOf (t : Held) (fd : ℕ) (q : Subrs) : Type 0 where
   pub ready : Ready t.loaded.bytes.now q
   pub is : q.fd ≡ fd
   pub globals : globals_in t.loaded.bytes.now q ≡ (program t.loaded).globals

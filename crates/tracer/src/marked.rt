@@ -1,14 +1,14 @@
 // The marked glyphs of a font.
 ghost use Rattle.std.specs.Prelude.{◌≤◌, length};
 ghost use Rattle.std.proofs.Props.{props};
-ghost use Rattle.tracer.specs.Held.{met_in, Plainly};
+ghost use Rattle.tracer.specs.Met.{met_in, Plainly};
 
-use crate::traceable::Traceable;
+use faithful::read::Held;
 
 // A mark for each glyph of a font.
 #[derive(Clone, Copy)]
 pub struct Marked<'a> {
-    pub font: Traceable<'a>,
+    pub font: Held<'a>,
     pub marks: &'a [u32],
     ghost long: { font.loaded.f.charstrings.count ≤ length marks.now },
 }

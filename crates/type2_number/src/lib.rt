@@ -2,13 +2,15 @@
 // `encode` does. The definitions count 65536ths; nothing above this crate sees how an f32 rounds.
 #![tactic(auto)]
 
-ghost use Rattle.std.specs.Prelude.{◌≡◌, true, false, ◌∷◌, ◌+◌, ◌*◌, ◌≤◌, ◌<◌, length};
-ghost use Rattle.octets.specs.Octets.{bytes_of, Wrote};
+ghost use Rattle.std.specs.Prelude.{◌≡◌, true, false, ◌∷◌, ◌+◌, ◌*◌, ◌≤◌, ◌<◌, length, get_or};
+ghost use Rattle.octets.specs.Octets.{bytes_of};
+ghost use Rattle.octets.specs.Out.{Writes};
 ghost use Rattle.type2_number.specs.Number.{is_neg, mag, whole, fixed, sixteen, rounded, number_at};
 ghost use Rattle.type2_number.specs.Encoding.{integer_bytes, fixed_bytes, encoded};
 ghost use Rattle.type2_number.specs.Floats.{float_of, scaled_of, HoldsReading};
 ghost use Rattle.type2_number.specs.Answers.{number_of};
 
+use octets::out::Out;
 use std::marker::Model;
 
 // A number of a charstring: an f32, seen as the count of 65536ths that it stands for.
@@ -122,6 +124,27 @@ pub enum Number {
     Operator,
 }
 
+// The number of two bytes at a position, the first of which, 247 to 254, is v.
+fn two_bytes(code: &[u8], at: usize, v: usize) -> Number
+    requires { (at < length code.now) × (v ≡ get_or code.now at 0) × (247 ≤ v) × (v < 255) }
+    ensures { result ≡ number_of (number_at code.now at) }
+{
+    if code.len() - at < 2 {
+        return Number::Cut;
+    }
+    let w = usize::from(code[at + 1]);
+    if v < 251 {
+        return Number::Num {
+            value: whole((v - 247) * 256 + w + 108, 0),
+            next: at + 2,
+        };
+    }
+    Number::Num {
+        value: whole(0, (v - 251) * 256 + w + 108),
+        next: at + 2,
+    }
+}
+
 // The Rust's `number`: all five forms of TN5177.
 pub fn read_number(code: &[u8], at: usize) -> Number
     requires { at < length code.now }
@@ -148,20 +171,7 @@ pub fn read_number(code: &[u8], at: usize) -> Number
         };
     }
     if v < 255 {
-        if left < 2 {
-            return Number::Cut;
-        }
-        let w = usize::from(code[at + 1]);
-        if v < 251 {
-            return Number::Num {
-                value: whole((v - 247) * 256 + w + 108, 0),
-                next: at + 2,
-            };
-        }
-        return Number::Num {
-            value: whole(0, (v - 251) * 256 + w + 108),
-            next: at + 2,
-        };
+        return two_bytes(code, at, v);
     }
     if left < 5 {
         return Number::Cut;
@@ -201,67 +211,67 @@ pub fn count_of(v: Operand) -> Scaled
 }
 
 // Stores a byte and then the low size bytes of a number.
-fn put_tagged(out: &mut [u8], at: usize, tag: u8, value: usize, size: usize) -> usize
-    requires { at + (1 + size) ≤ length out.old }
-    ensures { Wrote out.old at (tag ∷ bytes_of size value) out.new result }
+fn put_tagged(out: &mut Out<'_>, tag: u8, value: usize, size: usize)
+    requires { out.old.at + (1 + size) ≤ length out.old.bytes.now }
+    ensures { Writes out.old (tag ∷ bytes_of size value) out.new }
 {
-    let p = octets::put_byte(out, at, tag);
-    octets::put_num(out, p, value, size)
+    out.byte(tag);
+    out.num(value, size);
 }
 
-// The integer v in its shortest form, from at on; the place after it (TN5177, table 1: a case for each first byte of a two-byte form).
-fn put_positive(v: usize, out: &mut [u8], at: usize) -> usize
-    requires { (v < 32768) × (at + length (integer_bytes false v) ≤ length out.old) }
-    ensures { Wrote out.old at (integer_bytes false v) out.new result }
+// The integer v in its shortest form (TN5177, table 1: a case for each first byte of a two-byte form).
+fn put_positive(v: usize, out: &mut Out<'_>)
+    requires { (v < 32768) × (out.old.at + length (integer_bytes false v) ≤ length out.old.bytes.now) }
+    ensures { Writes out.old (integer_bytes false v) out.new }
 {
     match v {
-        0..=107 => octets::put_byte(out, at, (139 + v) as u8),
-        108..=363 => octets::put_pair(out, at, 247, (v - 108) as u8),
-        364..=619 => octets::put_pair(out, at, 248, (v - 364) as u8),
-        620..=875 => octets::put_pair(out, at, 249, (v - 620) as u8),
-        876..=1131 => octets::put_pair(out, at, 250, (v - 876) as u8),
-        _ => put_tagged(out, at, 28, v, 2),
+        0..=107 => out.byte((139 + v) as u8),
+        108..=363 => out.pair(247, (v - 108) as u8),
+        364..=619 => out.pair(248, (v - 364) as u8),
+        620..=875 => out.pair(249, (v - 620) as u8),
+        876..=1131 => out.pair(250, (v - 876) as u8),
+        _ => put_tagged(out, 28, v, 2),
     }
 }
 
-// The integer -v in its shortest form, from at on; the place after it.
-fn put_negative(v: usize, out: &mut [u8], at: usize) -> usize
-    requires { (v < 32768) × (at + length (integer_bytes true v) ≤ length out.old) }
-    ensures { Wrote out.old at (integer_bytes true v) out.new result }
+// The integer -v in its shortest form.
+fn put_negative(v: usize, out: &mut Out<'_>)
+    requires { (v < 32768) × (out.old.at + length (integer_bytes true v) ≤ length out.old.bytes.now) }
+    ensures { Writes out.old (integer_bytes true v) out.new }
 {
     match v {
-        0..=107 => octets::put_byte(out, at, (139 - v) as u8),
-        108..=363 => octets::put_pair(out, at, 251, (v - 108) as u8),
-        364..=619 => octets::put_pair(out, at, 252, (v - 364) as u8),
-        620..=875 => octets::put_pair(out, at, 253, (v - 620) as u8),
-        876..=1131 => octets::put_pair(out, at, 254, (v - 876) as u8),
-        _ => put_tagged(out, at, 28, 65536 - v, 2),
+        0..=107 => out.byte((139 - v) as u8),
+        108..=363 => out.pair(251, (v - 108) as u8),
+        364..=619 => out.pair(252, (v - 364) as u8),
+        620..=875 => out.pair(253, (v - 620) as u8),
+        876..=1131 => out.pair(254, (v - 876) as u8),
+        _ => put_tagged(out, 28, 65536 - v, 2),
     }
 }
 
-// The integer v, or -v where neg, in its shortest form, from at on; the place after it.
-pub fn encode_number(neg: bool, v: usize, out: &mut [u8], at: usize) -> usize
-    requires { (v < 32768) × (at + length (integer_bytes neg v) ≤ length out.old) }
-    ensures { Wrote out.old at (integer_bytes neg v) out.new result }
+// The integer v, or -v where neg, in its shortest form.
+pub fn encode_number(neg: bool, v: usize, out: &mut Out<'_>)
+    requires { (v < 32768) × (out.old.at + length (integer_bytes neg v) ≤ length out.old.bytes.now) }
+    ensures { Writes out.old (integer_bytes neg v) out.new }
 {
     if neg {
-        return put_negative(v, out, at);
+        return put_negative(v, out);
     }
-    put_positive(v, out, at)
+    put_positive(v, out)
 }
 
-// The 16.16 of n 65536ths, or -n where neg, from at on; the place after it.
-pub fn encode_fixed(neg: bool, n: usize, out: &mut [u8], at: usize) -> usize
-    requires { (n ≤ 2147483648) × (at + 5 ≤ length out.old) }
-    ensures { Wrote out.old at (fixed_bytes neg n) out.new result }
+// The 16.16 of n 65536ths, or -n where neg.
+pub fn encode_fixed(neg: bool, n: usize, out: &mut Out<'_>)
+    requires { (n ≤ 2147483648) × (out.old.at + 5 ≤ length out.old.bytes.now) }
+    ensures { Writes out.old (fixed_bytes neg n) out.new }
 {
     if neg {
-        return put_tagged(out, at, 255, 4294967296 - n, 4);
+        return put_tagged(out, 255, 4294967296 - n, 4);
     }
     if n <= 2147483647 {
-        return put_tagged(out, at, 255, n, 4);
+        return put_tagged(out, 255, n, 4);
     }
-    put_tagged(out, at, 255, 2147483647, 4)
+    put_tagged(out, 255, 2147483647, 4)
 }
 
 // How many bytes a number takes.
@@ -286,19 +296,19 @@ pub fn number_len(v: Operand) -> usize
     3
 }
 
-// The bytes of a number, from at on; the place after them.
-pub fn put_number(v: Operand, out: &mut [u8], at: usize) -> usize
-    requires { at + length (encoded v) ≤ length out.old }
-    ensures { Wrote out.old at (encoded v) out.new result }
+// The bytes of a number.
+pub fn put_number(v: Operand, out: &mut Out<'_>)
+    requires { out.old.at + length (encoded v) ≤ length out.old.bytes.now }
+    ensures { Writes out.old (encoded v) out.new }
 {
     let s = count_of(v);
     let neg = s.neg;
     let n = s.size;
     if n % 65536 != 0 {
-        return encode_fixed(neg, n, out, at);
+        return encode_fixed(neg, n, out);
     }
     if n < 2147483648 {
-        return encode_number(neg, n / 65536, out, at);
+        return encode_number(neg, n / 65536, out);
     }
-    encode_fixed(neg, n, out, at)
+    encode_fixed(neg, n, out)
 }

@@ -11,7 +11,6 @@ use Rattle.dict.specs.Lookup.{ros_in, cid_keyed}
 use Rattle.cff.specs.Font.{Program, read_font}
 use Rattle.cff.specs.Reads.{program_of}
 use Rattle.cff.specs.File.{InFile}
-use Rattle.cff.specs.FileLaws.{table-short}
 use Rattle.cff.specs.declared.font.Font.{Font}
 use Rattle.subset.specs.Kept.{kept_of, written_order, used_fds}
 use Rattle.subset.specs.Pruned.{Pruned, pruned}
@@ -19,14 +18,12 @@ use Rattle.subset.specs.Subset.{subset_bytes}
 use Rattle.subset.specs.Codes.{Coded, coded_if, pair_count}
 use Rattle.subset.specs.Cut.{Outcome, refused, subset, all_found_lem, has_ros_lem, same_bool_lem, own_of, written, unsupported_in, cut_program, cut_read, cut_with, leaves_out, zeros, uses_work, leaves_work}
 use Rattle.faithful.proofs.Theorem.{faithful, codes-back, same_bool}
-use Rattle.faithful.specs.GoodLaws.{font-good}
-use Rattle.parts.specs.Ready.{FontHeld}
 use Rattle.small.specs.Small.{small_size}
 use Rattle.small.specs.Theorem.{small-less}
+use Rattle.outcome.specs.Call.{is_cid, asks}
 use Rattle.outcome.specs.Entry.{answer_of, size_of, work_in, CutsWith, refusal_of, cut_behind, Cut, Passed}
 use Rattle.outcome.specs.declared.Subsetted.{Subsetted}
-use Rattle.write.specs.declared.Keying.{Keying}
-use Rattle.write.specs.Call.{is_cid, asks}
+use Rattle.outcome.specs.declared.call.Keying.{Keying}
 use Rattle.refusal.specs.declared.Refusal.{Refusal}
 use Rattle.refusal.specs.declared.Refusal.TheVariants.{Malformed, Unsupported, TooLong, NoSuchNumber, NotFound, BadRecord, Work, Subset, Output, StringId, Pairs}
 
@@ -201,10 +198,6 @@ words_enough size cid ask p name keep rec flag words z =
     (all_found_lem p (kept_of (length p.charstrings) keep)) (record_fine cid rec flag) (ltb words (size p)) z).7
 
 -- ---- the entries' code
-
--- what the cut asks of the table's bytes
-pub font-held : (file : List ℕ) (f : Font) (b : List ℕ) → Octets file → InFile file f b → FontHeld b f
-font-held file f b o h = record { font = h.good; size = table-short file f b h; program = font-good file (program_of b f) o h.is }
 
 pub zeros_are : (n : ℕ) → replicate n 0 ≡ zeros n
 unfolding zeros

@@ -1,15 +1,19 @@
 -- `blocking::blocking_glyph` meets its contract: a font that is refused leaves all as it was, and one that is read is searched.
+use Rattle.std.proofs.Common.{subst, ℕ, List}
 use Rattle.refusal.specs.HandedOn.{handed_on}
-use Rattle.cff.specs.SetLaws.{refused_as, found-font}
+use Rattle.cff.specs.SetLaws.{opens_not, opened}
 use Rattle.culprit.specs.Culprit.{Blocks}
 use Rattle.blocking.specs.EntryLaws.{unread_blocks}
 use Rattle.blocking.proofs.blocking_glyph.Goals as goal
 
-pub culprit_font-requires : goal.culprit_font-requires
-culprit_font-requires c =
-    found-font c.args.font.now _ c.read_font.ensures _ c.in_ok-f.was
+pub returns-in_err-read : goal.returns-in_err-read
+returns-in_err-read c =
+    let a = c.args in
+    handed_on _ _ (Blocks a.font.now a.name.now a.keep.now a.work.now a.slice.now a.work.now a.slice.now) c.from_residual.ensures.1
+    (unread_blocks a.font.now a.name.now a.keep.now a.work.now a.slice.now _ (opens_not a.font.now _ c.read.ensures _ c.in_err-read.was))
 
-pub returns-in_err-f : goal.returns-in_err-f
-returns-in_err-f c =
-    handed_on _ _ (Blocks c.args.font.now c.args.name.now c.args.keep.now c.args.work.now c.args.slice.now c.args.work.now c.args.slice.now) c.from_residual.ensures.1
-    (unread_blocks c.args.font.now c.args.name.now c.args.keep.now c.args.work.now c.args.slice.now _ (refused_as c.args.font.now _ c.read_font.ensures _ c.in_err-f.was))
+pub returns : goal.returns
+returns c =
+    let a = c.args in
+    subst (λ (font : List ℕ). Blocks font a.name.now a.keep.now a.work.now a.slice.now c.culprit_font.new.work c.culprit_font.new.slice c.culprit_font.result)
+    (opened a.font.now _ c.read.ensures _ c.in_ok-read.was) c.culprit_font.ensures

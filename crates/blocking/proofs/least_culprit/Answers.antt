@@ -1,15 +1,42 @@
--- `blocking::least_culprit` meets its contract: the one that alone can be the culprit is sought first, and then searched for by places that are 0.
-use Rattle.std.proofs.Common.{length, refl, subst, sym}
-use Rattle.cff.specs.Reads.{program_of}
-use Rattle.cff.specs.File.{table_in}
-use Rattle.blocking.specs.Search.{CanCut}
-use Rattle.blocking.specs.SearchLaws.{least_as}
+-- `blocking::least_culprit` meets its contract: each kept glyph stands at its own place, and a 0 there leaves it out; no other than the candidate need be tried.
+use Rattle.std.proofs.Common.{ℕ, ap, arith, length, length-take-le, refl, replicate, sym, Some, None, Bool, ◌-◌, ◌∙◌}
+use Rattle.octets.specs.Pick.{pick}
+use Rattle.subset.specs.Kept.{those}
+use Rattle.culprit.specs.Culprit.{first_of}
+use Rattle.blocking.specs.Stays.{frees_by}
+use Rattle.blocking.specs.StaysLaws.{stays-then, over-stays}
+use Rattle.blocking.specs.SearchLaws.{places_there, spread-asked, spread_long, spread-few, alone-found, least-found}
 use Rattle.blocking.proofs.least_culprit.Goals as goal
 
-pub search_places-requires : goal.search_places-requires
-search_places-requires c =
-    (c.requires.0, subst (λ m. CanCut (program_of (table_in c.args.font.now c.args.f) c.args.f) (length c.args.name.now) m) (sym c.candidate-only.auto.words) c.requires.1, c.requires.2, refl, c.candidate-only.ensures)
+pub slice_bounds-all-end : goal.slice_bounds-all-end
+slice_bounds-all-end c = places_there c.args.search.now.font c.args.keep.now c.requires (replicate 65536 0) refl
+
+pub slice_bounds-list-end : goal.slice_bounds-list-end
+slice_bounds-list-end c = sym (length-take-le _ _ (places_there c.args.search.now.font c.args.keep.now c.requires (replicate 65536 0) refl))
+
+pub spread-requires : goal.spread-requires
+spread-requires c = spread-asked c.args.search.now.font c.args.keep.now c.requires (replicate 65536 0) refl
+
+pub one_freed-requires : goal.one_freed-requires
+one_freed-requires c =
+    let font = c.args.search.now.font in
+    (omega (arith, c.if-only-n.true, spread_long font c.args.keep.now c.requires _ refl _ c.spread.ensures), spread-few font c.args.keep.now c.requires _ refl _ c.spread.ensures)
+
+pub returns-then-only-n : goal.returns-then-only-n
+returns-then-only-n c =
+    let s = c.args.search.now in (
+      alone-found s.font c.args.keep.now c.requires _ refl _ c.spread.ensures s.name.now (length s.words.now) (length s.slice.now) _ c.candidate-only.ensures.0 c.if-only-n.true _
+          (c.one_freed.ensures.0 ∙ ap (λ (test : ℕ → Bool). pick (test c.candidate-only.result) (Some c.candidate-only.result) None) (over-stays (frees_by c.spread.new.list) s _ c.candidate-only.ensures.1)),
+      stays-then c.candidate-only.ensures.1 c.one_freed.ensures.1,
+    )
+
+pub first_freed-requires : goal.first_freed-requires
+first_freed-requires c = spread-few c.args.search.now.font c.args.keep.now c.requires _ refl _ c.spread.ensures
 
 pub returns : goal.returns
 returns c =
-    least_as (program_of (table_in c.args.font.now c.args.f) c.args.f) c.args.name.now c.args.keep.now _ _ _ _ _ c.candidate-only.auto.words c.candidate-only.auto.slice c.search_places.ensures
+    let s = c.args.search.now in (
+      least-found s.font c.args.keep.now c.requires _ refl _ c.spread.ensures s.name.now (length s.words.now) (length s.slice.now) _
+          (c.first_freed.ensures.0 ∙ ap (λ (test : ℕ → Bool). first_of (those test (length c.spread.new.list - 1) 1)) (over-stays (frees_by c.spread.new.list) s _ c.candidate-only.ensures.1)),
+      stays-then c.candidate-only.ensures.1 c.first_freed.ensures.1,
+    )

@@ -1,17 +1,17 @@
 -- `bodies::put_body` meets its contract: the way decides.
 use Rattle.std.proofs.Common.{sym, ◌∙◌}
-use Rattle.octets.specs.PutLaws.{wrote_as}
+use Rattle.octets.specs.OutLaws.{writes_as}
 use Rattle.bodies.specs.CodeLaws.{new-renumbered, new-copied, renumbered-room, copied-room}
 use Rattle.bodies.proofs.put_body.Goals as goal
 
 pub put_renumbered-requires : goal.put_renumbered-requires
-put_renumbered-requires c = let r = renumbered-room _ _ _ _ _ (sym c.is_renumbered.ensures ∙ c.if-is_renumbered.true) _ _ c.requires.1 c.requires.2 in (c.requires.0, r.0, r.1)
+put_renumbered-requires c = renumbered-room _ _ _ _ _ (sym c.is_renumbered.ensures ∙ c.if-is_renumbered.true) _ _ c.requires.0 c.requires.1
 
 pub returns-then-is_renumbered : goal.returns-then-is_renumbered
-returns-then-is_renumbered c = wrote_as c.put_renumbered.ensures (new-renumbered _ _ _ _ _ (sym c.is_renumbered.ensures ∙ c.if-is_renumbered.true))
+returns-then-is_renumbered c = writes_as c.put_renumbered.ensures (new-renumbered _ _ _ _ _ (sym c.is_renumbered.ensures ∙ c.if-is_renumbered.true))
 
-pub put_bytes-requires : goal.put_bytes-requires
-put_bytes-requires c = copied-room _ _ _ _ _ (sym c.is_renumbered.ensures ∙ c.if-is_renumbered.false) _ _ c.requires.2
+pub copy-requires : goal.copy-requires
+copy-requires c = copied-room _ _ _ _ _ (sym c.is_renumbered.ensures ∙ c.if-is_renumbered.false) _ _ c.requires.1
 
 pub returns : goal.returns
-returns c = wrote_as c.put_bytes.ensures (new-copied _ _ _ _ _ (sym c.is_renumbered.ensures ∙ c.if-is_renumbered.false))
+returns c = writes_as c.copy.ensures (new-copied _ _ _ _ _ (sym c.is_renumbered.ensures ∙ c.if-is_renumbered.false))

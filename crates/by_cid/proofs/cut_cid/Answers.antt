@@ -8,18 +8,18 @@ use Rattle.by_cid.proofs.cut_cid.Goals as goal
 pub gather-o-requires : goal.gather-o-requires
 gather-o-requires c =
     let a = c.args in
-    gather_asked a.font.now a.f c.requires.0 a.keep.now a.words.now (replicate 4096 0) c.requires.1.below c.requires.1.found c.requires.1.room (window-room (replicate 4096 0) refl)
+    gather_asked a.font.now.loaded.bytes.now a.font.now.loaded.f a.font.now.held a.keep.now a.words.now (replicate 4096 0) c.requires.below c.requires.found c.requires.room (window-room (replicate 4096 0) refl)
 
 pub cut_ordered-requires : goal.cut_ordered-requires
 cut_ordered-requires c =
     let a = c.args in (
-      gathered-asked a.font.now a.rows.now a.name.now (flag_of a.traced) a.f c.requires.0 c.requires.1.keying _ c.gather-o.ensures.1 a.words.now _ _ c.requires.1.room
+      gathered-asked a.font.now.loaded.bytes.now a.rows.now a.name.now (flag_of a.traced) a.font.now.loaded.f a.font.now.held c.requires.keying _ c.gather-o.ensures.1 a.words.now _ _ c.requires.room
           c.gather-o.auto.words c.gather-o.ensures.0,
-      c.requires.1.named,
+      c.requires.named,
     )
 
 pub returns : goal.returns
 returns c =
     let a = c.args in
-    gathered_is a.font.now a.rows.now a.name.now (flag_of a.traced) a.f a.keep.now c.gather-o.result c.gather-o.ensures.0 c.gather-o.ensures.1 c.gather-o.ensures.2
+    gathered_is a.font.now.loaded.bytes.now a.rows.now a.name.now (flag_of a.traced) a.font.now.loaded.f a.keep.now c.gather-o.result c.gather-o.ensures.0 c.gather-o.ensures.1 c.gather-o.ensures.2
     c.cut_ordered.ensures

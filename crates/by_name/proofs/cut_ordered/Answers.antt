@@ -1,37 +1,32 @@
--- `by_name::cut_ordered` meets its contract: the strings are prepared, then the encoding, and where names and pairs are few the rest is cut.
-use Rattle.std.proofs.Common.{arith}
+-- `by_name::cut_ordered` meets its contract: what is prepared is cut, or the cut is refused.
+use Rattle.std.proofs.Common.{refl, subst, length, Result}
 use Rattle.subset.specs.Flag.{flag_of}
-use Rattle.by_name.specs.NamedKeptLaws.{names-asked, named_refused, encode-asked, pairs_refused, prepared_asked, named-cut}
+use Rattle.subset.specs.Cut.{Outcome}
+use Rattle.outcome.specs.Entry.{Cut}
+use Rattle.outcome.specs.declared.Subsetted.{Subsetted}
+use Rattle.refusal.specs.HandedOn.{handed_on}
+use Rattle.refusal.specs.declared.Refusal.{Refusal}
+use Rattle.named_parts.specs.Subset.{made-outcome}
+use Rattle.by_name.specs.NamedKeptLaws.{cut_ordered}
+use Rattle.by_name.specs.PrepareLaws.{prepared_ok, prepared-err}
 use Rattle.by_name.proofs.cut_ordered.Goals as goal
 
-pub prepare_named-own-requires : goal.prepare_named-own-requires
-prepare_named-own-requires c =
-    names-asked c.args.ask _ c.args.rows.now c.args.name.now (flag_of c.args.traced) _ _ _ c.requires.0 c.requires.1
+pub returns-in_err-coded : goal.returns-in_err-coded
+returns-in_err-coded c =
+    let a = c.args in
+    handed_on _ _ (λ (r : Result Subsetted Refusal). Cut (cut_ordered a.ask a.font.now a.rows.now a.name.now (flag_of a.traced) a.o a.words.now (length a.out.now)) a.out.now a.out.now r)
+    c.from_residual.ensures.1
+    (prepared-err a.ask a.font.now a.rows.now (flag_of a.traced) a.o a.words.now _ _ _ _ _ c.prepare.ensures _ c.in_err-coded.was a.name.now a.out.now)
 
-pub returns-then-own-gt64609 : goal.returns-then-own-gt64609
-returns-then-own-gt64609 c =
-    let e = c.prepare_named-own.ensures in
-    named_refused c.args.ask _ c.args.rows.now c.args.name.now (flag_of c.args.traced) _ _ _ c.requires.0 c.requires.1 _ _ _ e.0 e.1 e.2 c.args.out.now c.if-own-gt64609.true
-
-pub encode_behind-encoding-requires : goal.encode_behind-encoding-requires
-encode_behind-encoding-requires c =
-    let e = c.prepare_named-own.ensures in
-    encode-asked c.args.ask _ c.args.rows.now c.args.name.now (flag_of c.args.traced) _ _ _ c.requires.0 c.requires.1 _ _ _ e.0 e.1 e.2 c.prepare_named-own.auto.slots
-
-pub returns-then-pairs-gt255 : goal.returns-then-pairs-gt255
-returns-then-pairs-gt255 c =
-    let e = c.prepare_named-own.ensures in
-    pairs_refused c.args.ask _ c.args.rows.now c.args.name.now (flag_of c.args.traced) _ _ _ c.requires.0 c.requires.1 _ _ _ e.0 e.1 e.2 c.if-own-gt64609.false _ _ c.encode_behind-encoding.ensures.0
-    c.prepare_named-own.auto.slots c.args.out.now (omega (arith, c.pairs.ensures, c.if-pairs-gt255.true))
-
-pub cut_prepared-requires : goal.cut_prepared-requires
-cut_prepared-requires c =
-    let e = c.prepare_named-own.ensures in
-    prepared_asked c.args.ask _ c.args.rows.now c.args.name.now (flag_of c.args.traced) _ _ _ c.requires.0 c.requires.1 _ _ _ e.0 e.1 e.2 c.if-own-gt64609.false _ _ c.encode_behind-encoding.ensures.0
-    c.prepare_named-own.auto.slots (omega (arith, c.pairs.ensures, c.if-pairs-gt255.false)) c.encode_behind-encoding.ensures.1
+pub new-c-requires : goal.new-c-requires
+new-c-requires c =
+    let a = c.args in
+    let p = prepared_ok a.ask a.font.now a.rows.now (flag_of a.traced) a.o a.words.now _ _ _ _ _ c.prepare.ensures _ c.in_ok-coded.was in
+    (p.gathered, record { plan = p.plan; strings = p.strings _ c.requires.1; codes = p.codes; walked = record { f = refl; count = refl } })
 
 pub returns : goal.returns
 returns c =
-    let e = c.prepare_named-own.ensures in
-    named-cut c.args.ask _ c.args.rows.now c.args.name.now (flag_of c.args.traced) _ _ _ c.requires.0 c.requires.1 _ _ _ e.0 e.1 e.2 c.if-own-gt64609.false _ _ c.encode_behind-encoding.ensures.0
-    c.prepare_named-own.auto.slots (omega (arith, c.pairs.ensures, c.if-pairs-gt255.false)) c.args.out.now _ _ c.cut_prepared.ensures
+    let a = c.args in
+    let p = prepared_ok a.ask a.font.now a.rows.now (flag_of a.traced) a.o a.words.now _ _ _ _ _ c.prepare.ensures _ c.in_ok-coded.was in
+    p.cuts a.name.now a.out.now _ _
+    (subst (λ (z : Outcome). Cut z a.out.now c.cut_planned.new.out c.cut_planned.result) (made-outcome c.new-c.result _ _ _ _ c.new-c.ensures (length a.out.now)) c.cut_planned.ensures)

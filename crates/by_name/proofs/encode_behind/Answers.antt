@@ -11,6 +11,6 @@ returns c =
     let table = c.encode-encoding.new.table in
     let many : length table ≡ 256 = c.encode-encoding.auto.table in
     let all : take 256 table ≡ table = take_all 256 table (omega (arith, many)) in (
-      codes-behind _ _ _ _ _ c.requires.2 many (rw (c.copy_from_slice.ensures.after, all, many, drop-drop) refl) c.encode-encoding.ensures.0,
+      codes-behind _ _ _ _ _ c.requires.1 many (rw (c.copy_from_slice.ensures.after, all, many, drop-drop) refl) c.encode-encoding.ensures.0,
       c.encode-encoding.ensures.1,
     )

@@ -1,7 +1,7 @@
 -- `charstring::put_token` meets its contract: each arm writes the bytes of its kind of token.
 use Rattle.std.proofs.Common.{arith}
-use Rattle.octets.specs.PutLaws.{wrote_as}
-use Rattle.charstring.specs.TokenLaws.{writable_as, room_as, wrote-token}
+use Rattle.octets.specs.OutLaws.{writes_as}
+use Rattle.charstring.specs.TokenLaws.{writable_as, room_as, writes_token}
 use Rattle.charstring.specs.declared.Token.TheVariants.{Num, Op, Esc, Mask}
 use Rattle.octets.specs.ListLaws.{span}
 use Rattle.charstring.proofs.put_token.Goals as goal
@@ -12,29 +12,29 @@ of-requires c = writable_as _ _ _ c.in-Num.is c.requires.0
 pub put_number-requires : goal.put_number-requires
 put_number-requires c = rw c.of.ensures (room_as _ _ _ c.in-Num.is _ _ c.requires.1)
 
-pub put_byte-requires : goal.put_byte-requires
-put_byte-requires c = let p = c.requires in omega (arith, room_as _ _ _ c.in-Op.is _ _ p.1)
+pub byte-requires : goal.byte-requires
+byte-requires c = let p = c.requires in omega (arith, room_as _ _ _ c.in-Op.is _ _ p.1)
 
-pub put_pair-requires : goal.put_pair-requires
-put_pair-requires c = let p = c.requires in room_as _ _ _ c.in-Esc.is _ _ p.1
+pub pair-requires : goal.pair-requires
+pair-requires c = let p = c.requires in room_as _ _ _ c.in-Esc.is _ _ p.1
 
 pub overflow_add-end : goal.overflow_add-end
 overflow_add-end c = omega (arith, writable_as _ _ _ c.in-Mask.is c.requires.0)
 
-pub slice_bounds-put_bytes-end : goal.slice_bounds-put_bytes-end
-slice_bounds-put_bytes-end c = omega (arith, writable_as _ _ _ c.in-Mask.is c.requires.0)
+pub slice_bounds-copy-end : goal.slice_bounds-copy-end
+slice_bounds-copy-end c = omega (arith, writable_as _ _ _ c.in-Mask.is c.requires.0)
 
-pub put_bytes-requires : goal.put_bytes-requires
-put_bytes-requires c = rw span (room_as _ _ _ c.in-Mask.is _ _ c.requires.1)
+pub copy-requires : goal.copy-requires
+copy-requires c = rw span (room_as _ _ _ c.in-Mask.is _ _ c.requires.1)
 
 pub returns-in-Num : goal.returns-in-Num
-returns-in-Num c = wrote-token _ _ (Num _) c.in-Num.is (rw c.of.ensures at c.put_number.ensures)
+returns-in-Num c = writes_token _ _ (Num _) c.in-Num.is (rw c.of.ensures at c.put_number.ensures)
 
 pub returns-in-Op : goal.returns-in-Op
-returns-in-Op c = wrote-token _ _ (Op _) c.in-Op.is c.put_byte.ensures
+returns-in-Op c = writes_token _ _ (Op _) c.in-Op.is c.byte.ensures
 
 pub returns-in-Esc : goal.returns-in-Esc
-returns-in-Esc c = wrote-token _ _ (Esc _) c.in-Esc.is c.put_pair.ensures
+returns-in-Esc c = writes_token _ _ (Esc _) c.in-Esc.is c.pair.ensures
 
 pub returns-in-Mask : goal.returns-in-Mask
-returns-in-Mask c = let a = c.args in wrote-token _ _ (Mask _ _) c.in-Mask.is (wrote_as c.put_bytes.ensures (span a.code.now c.in-Mask.start c.in-Mask.len))
+returns-in-Mask c = let a = c.args in writes_token _ _ (Mask _ _) c.in-Mask.is (writes_as c.copy.ensures (span a.code.now c.in-Mask.start c.in-Mask.len))

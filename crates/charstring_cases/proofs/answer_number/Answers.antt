@@ -1,21 +1,18 @@
--- `answer_number` meets its contract: each arm writes what `read_bytes` says of it.
-use Rattle.std.proofs.Common.{arith}
-use Rattle.octets.specs.PutLaws.{wrote_then}
-use Rattle.cases.specs.AnswersLaws.{gives_none, gives_wrote}
-use Rattle.charstring_cases.specs.AnswersLaws.{number-none, number_cut, number-operator, number_read, count-length}
+-- `answer_number` meets its contract: each way out is a case of `number_answer`.
+use Rattle.std.proofs.Common.{Some, append_assoc, ap, sym, ◌∙◌}
+use Rattle.charstring_cases.specs.AnswersLaws.{number-none, number_cut, number-operator, number_read}
 use Rattle.charstring_cases.proofs.answer_number.Goals as goal
 
 pub returns-then-input-eq0 : goal.returns-then-input-eq0
-returns-then-input-eq0 c = gives_none _ _ (number-none c.args.input.now c.if-input-eq0.true)
-
-pub put_num-requires : goal.put_num-requires
-put_num-requires c = let v = c.in-Num.value in omega (arith, count-length v, c.put_count-q.ensures.behind)
+returns-then-input-eq0 c = sym (number-none c.args.input.now c.if-input-eq0.true)
 
 pub returns-in-Cut : goal.returns-in-Cut
-returns-in-Cut c = gives_wrote _ _ _ _ _ (number_cut c.args.input.now c.if-input-eq0.false _ c.read_number.ensures c.in-Cut.is) c.put_byte.ensures
+returns-in-Cut c = ap Some c.one.ensures ∙ sym (number_cut c.args.input.now c.if-input-eq0.false _ c.read_number.ensures c.in-Cut.is)
 
 pub returns-in-Operator : goal.returns-in-Operator
-returns-in-Operator c = gives_wrote _ _ _ _ _ (number-operator c.args.input.now c.if-input-eq0.false _ c.read_number.ensures c.in-Operator.is) c.put_byte-in-Operator.ensures
+returns-in-Operator c = ap Some c.one-in-Operator.ensures ∙ sym (number-operator c.args.input.now c.if-input-eq0.false _ c.read_number.ensures c.in-Operator.is)
 
 pub returns-in-Num : goal.returns-in-Num
-returns-in-Num c = gives_wrote _ _ _ _ _ (number_read c.args.input.now c.if-input-eq0.false _ c.read_number.ensures _ _ c.in-Num.is) (wrote_then (omega arith) (wrote_then (omega arith) c.put_byte-p.ensures c.put_count-q.ensures) c.put_num.ensures)
+returns-in-Num c =
+    ap Some (simp (c.num.ensures.0, c.put_count.ensures.0, c.one-answer.ensures, append_assoc))
+    ∙ sym (number_read c.args.input.now c.if-input-eq0.false _ c.read_number.ensures _ _ c.in-Num.is)

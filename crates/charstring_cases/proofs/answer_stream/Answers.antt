@@ -1,6 +1,5 @@
 -- `answer_stream` meets its contract: each way out is a case of `stream_answer`.
-use Rattle.std.proofs.Common.{arith, length, take, ◌*◌, ◌≡◌, ◌≤◌}
-use Rattle.cases.specs.AnswersLaws.{gives_none, gives_bytes, starts_as}
+use Rattle.std.proofs.Common.{Some, ap, sym, ◌∙◌, arith, length, take, ◌*◌, ◌≡◌, ◌≤◌}
 use Rattle.charstring_cases.specs.AnswersLaws.{pairs-length, stream_none, stream_many, stream_short, stream_long, stream_found, stream_parts}
 use Rattle.cases.specs.ReportLaws.{wrote_counts}
 use Rattle.charstring_cases.proofs.answer_stream.Goals as goal
@@ -13,26 +12,25 @@ written c =
     wrote_counts c.put_pairs-k.ensures (let l = pairs-length c.args.input.now 1 (2 * n.result) in omega (arith, l, c.if-count-gt16.false))
 
 pub returns-then-n-eq0 : goal.returns-then-n-eq0
-returns-then-n-eq0 c = gives_none _ _ (stream_none c.args.tokens c.args.input.now c.if-n-eq0.true)
+returns-then-n-eq0 c = sym (stream_none c.args.tokens c.args.input.now c.if-n-eq0.true)
 
 pub returns-then-count-gt16 : goal.returns-then-count-gt16
-returns-then-count-gt16 c = let e = c.from-count.ensures in gives_none _ _ (stream_many c.args.tokens c.args.input.now c.if-n-eq0.false (omega (arith, e, c.if-count-gt16.true)))
+returns-then-count-gt16 c = let e = c.from-count.ensures in sym (stream_many c.args.tokens c.args.input.now c.if-n-eq0.false (omega (arith, e, c.if-count-gt16.true)))
 
 pub returns-then-n-at : goal.returns-then-n-at
-returns-then-n-at c = let e = c.from-count.ensures in gives_none _ _ (stream_short c.args.tokens c.args.input.now c.if-n-eq0.false (omega (arith, e, c.if-count-gt16.false)) (omega (arith, e, c.if-n-at.true)))
+returns-then-n-at c = let e = c.from-count.ensures in sym (stream_short c.args.tokens c.args.input.now c.if-n-eq0.false (omega (arith, e, c.if-count-gt16.false)) (omega (arith, e, c.if-n-at.true)))
 
 pub returns-then-n-at-gt60 : goal.returns-then-n-at-gt60
-returns-then-n-at-gt60 c = let e = c.from-count.ensures in gives_none _ _ (stream_long c.args.tokens c.args.input.now c.if-n-eq0.false (omega (arith, e, c.if-count-gt16.false)) (omega (arith, e, c.if-n-at.false)) (omega (arith, e, c.if-n-at-gt60.true)))
+returns-then-n-at-gt60 c = let e = c.from-count.ensures in sym (stream_long c.args.tokens c.args.input.now c.if-n-eq0.false (omega (arith, e, c.if-count-gt16.false)) (omega (arith, e, c.if-n-at.false)) (omega (arith, e, c.if-n-at-gt60.true)))
 
 pub slice_bounds-pairs-end : goal.slice_bounds-pairs-end
 slice_bounds-pairs-end c = (written (goal.at.slice_bounds-pairs-end c).After-put_pairs-k).0
 
-pub slice_bounds-put_stream-end-2 : goal.slice_bounds-put_stream-end-2
-slice_bounds-put_stream-end-2 c = (written (goal.at.slice_bounds-put_stream-end-2 c).After-put_pairs-k).1
+pub slice_bounds-of_stream-end-2 : goal.slice_bounds-of_stream-end-2
+slice_bounds-of_stream-end-2 c = (written (goal.at.slice_bounds-of_stream-end-2 c).After-put_pairs-k).1
 
 pub returns : goal.returns
 returns c =
     let e = c.from-count.ensures in
-    gives_bytes _ _ _ _
-    (stream_found c.args.tokens c.args.input.now c.if-n-eq0.false (omega (arith, e, c.if-count-gt16.false)) (omega (arith, e, c.if-n-at.false)) (omega (arith, e, c.if-n-at-gt60.false)))
-    (starts_as c.put_stream.ensures (stream_parts c.args.tokens c.args.input.now _ _ _ _ e c.put_pairs-k.ensures))
+    ap Some (c.of_stream.ensures ∙ stream_parts c.args.tokens c.args.input.now _ _ _ _ e c.put_pairs-k.ensures)
+    ∙ sym (stream_found c.args.tokens c.args.input.now c.if-n-eq0.false (omega (arith, e, c.if-count-gt16.false)) (omega (arith, e, c.if-n-at.false)) (omega (arith, e, c.if-n-at-gt60.false)))

@@ -2,7 +2,8 @@
 use Rattle.std.proofs.Common.{arith, get_or, length, length-take, length-drop, take, take_all, drop-drop, refl, sym, List, ℕ, ◌+◌, ◌-◌, ◌<◌, ◌≤◌, ◌≡◌, ◌∙◌}
 use Rattle.std.proofs.Math.ListN.{set}
 use Rattle.std.proofs.lemmas.List.{take_more, take_more_set}
-use Rattle.octets.specs.Octets.{put}
+use Rattle.octets.specs.Octets.{put, Wrote}
+use Rattle.octets.specs.PutLaws.{wrote-length}
 use Rattle.decimal.specs.Written.{real_text, packed}
 use Rattle.decimal_write.specs.TextLaws.{packed-at}
 use Rattle.decimal_write.proofs.put_packed.Goals as goal
@@ -27,5 +28,6 @@ returns c =
     let l = c.loop-i in
     let m : length l.b-items ≡ length (packed (real_text a.d)) = omega (arith, length-take {A = ℕ}, length-drop {A = ℕ}, c.requires.0) in
     let w : l.b-items ≡ packed (real_text a.d) = all (packed (real_text a.d)) l.b-items l.i (rw c.text_of-t.ensures at l.invariant) m (omega arith) in
-    let e : a.at + a.n - a.at ≡ length (packed (real_text a.d)) = omega (arith, c.requires.0) in
-    record { is = rw (w, e, drop-drop) refl; behind = omega (arith, c.requires.0) }
+    let e : a.out.now.at + a.n - a.out.now.at ≡ length (packed (real_text a.d)) = omega (arith, c.requires.0) in
+    let v : Wrote a.out.now.bytes.now a.out.now.at (packed (real_text a.d)) _ (a.out.now.at + a.n) = record { is = rw (w, e, drop-drop) refl; behind = omega (arith, c.requires.0) } in
+    record { wrote = v; same = refl; size = wrote-length v (omega (arith, c.requires)) }

@@ -1,5 +1,5 @@
 -- `dict_write::put_copied` meets its contract: the place that was found holds the operands of the last entry.
-use Rattle.octets.specs.PutLaws.{wrote_none, wrote_as}
+use Rattle.octets.specs.OutLaws.{writes_none, writes_as}
 use Rattle.dict_write.specs.WriteLaws.{copied-absent, copied-found, copied-room}
 use Rattle.dict_write.proofs.put_copied.Goals as goal
 
@@ -7,7 +7,7 @@ pub put_entry-requires : goal.put_entry-requires
 put_entry-requires c = (c.requires.0, copied-room _ _ _ c.place.ensures _ _ c.in-Some.is _ _ c.requires.1)
 
 pub returns-in-None : goal.returns-in-None
-returns-in-None c = wrote_as (wrote_none _ _) (copied-absent _ _ _ c.place.ensures c.in-None.is)
+returns-in-None c = writes_as (writes_none _) (copied-absent _ _ _ c.place.ensures c.in-None.is)
 
 pub returns-in-Some : goal.returns-in-Some
-returns-in-Some c = wrote_as c.put_entry.ensures (copied-found _ _ _ c.place.ensures _ _ c.in-Some.is)
+returns-in-Some c = writes_as c.put_entry.ensures (copied-found _ _ _ c.place.ensures _ _ c.in-Some.is)

@@ -1,12 +1,13 @@
--- The invariant: the window comes to place i, the own strings before it are counted, and the kept glyphs from there on still come by.
+-- The invariant: the own strings before place i are counted, and the kept glyphs from there on still come by.
 use Rattle.cff.specs.Reads.{program_of}
-use Rattle.order_window.specs.Window.{glyphs_of, Looping}
+use Rattle.order_window.specs.Stays.{kept_glyphs, Stays}
 use Rattle.name_strings.specs.Names.{Naming}
-use Rattle.encoding.specs.Encoded.{kept_own}
+use Rattle.encoding.specs.Encoded.{own_kept}
 use Rattle.encoding.specs.IdLaws.{Renaming}
 use Rattle.encoding.proofs.rename.Given as goal
 
 abbrev pub invariant-loop-i : goal.invariant-loop-i
 invariant-loop-i l =
-    Looping l.font l.f l.words l.initial.window l.initial.u l.window l.u l.i × Naming l.font l.f l.words l.slots l.own l.i
-    × Renaming (program_of l.font l.f) (kept_own l.font l.f l.words) (glyphs_of l.font l.f l.words) l.named l.table l.i
+    let k = l.initial.kept in
+    Stays k l.kept × Naming k.font.now k.o.f k.words.now l.slots l.own l.i
+    × Renaming (program_of k.font.now k.o.f) (own_kept k) (kept_glyphs k) l.named l.table l.i

@@ -2,37 +2,43 @@
 use Rattle.std.proofs.lemmas.Bool.{not_from_false, not_from_true}
 use Rattle.std.proofs.Common.{arith, length, ◌<◌, ◌∙◌}
 use Rattle.record.specs.Record.{rows_of}
-use Rattle.cff.specs.Reads.{program_of}
+use Rattle.cff.specs.Loaded.{program}
 use Rattle.failing.specs.FailingLaws.{kept-inside, turned_true, turned_false, zero-fails, asking_start, asking_next, asking_found, asking_done}
 use Rattle.failing.proofs.first_failing.Goals as goal
 
 pub returns-then-not-is_made : goal.returns-then-not-is_made
 returns-then-not-is_made c =
-    zero-fails (program_of c.args.font.now c.args.f) (rows_of c.args.rows.now) c.args.keep.now (turned_true c.is_made.result (not_from_false _ c.if-not-is_made.true) ∙ c.is_made.ensures)
+    let by = c.args.by.now in
+    zero-fails (program by.list.font.loaded) (rows_of by.rows.now) by.list.keep.now (turned_true c.is_made.result (not_from_false _ c.if-not-is_made.true) ∙ c.is_made.ensures)
 
 pub loop-k-init : goal.loop-k-init
 loop-k-init c =
-    asking_start (program_of c.args.font.now c.args.f) (rows_of c.args.rows.now) c.args.keep.now (turned_false c.is_made.result (not_from_true _ c.if-not-is_made.false) ∙ c.is_made.ensures)
+    let by = c.args.by.now in
+    asking_start (program by.list.font.loaded) (rows_of by.rows.now) by.list.keep.now (turned_false c.is_made.result (not_from_true _ c.if-not-is_made.false) ∙ c.is_made.ensures)
 
 pub is_made-requires-in-loop-k : goal.is_made-requires-in-loop-k
 is_made-requires-in-loop-k c =
     let l = c.loop-k in
-    let h : l.k-index < length c.args.keep.now = omega arith in
-    (c.requires.0, kept-inside c.args.font.now c.args.f c.requires.0.read c.args.keep.now c.requires.1 l.k-index h, c.requires.2.each l.k-index h)
+    let list = c.args.by.now.list in
+    let h : l.k-index < length list.keep.now = omega arith in
+    (kept-inside list.font.loaded.bytes.now list.font.loaded.f list.font.held list.keep.now list.below l.k-index h, c.args.by.now.marked.each l.k-index h)
 
 pub loop-k-preserved : goal.loop-k-preserved
 loop-k-preserved c =
     let l = c.loop-k in
-    asking_next (program_of c.args.font.now c.args.f) (rows_of c.args.rows.now) c.args.keep.now l.k-index l.invariant (omega arith)
+    let by = c.args.by.now in
+    asking_next (program by.list.font.loaded) (rows_of by.rows.now) by.list.keep.now l.k-index l.invariant (omega arith)
     (turned_false c.is_made-in-loop-k.result (not_from_true _ c.if-not-is_made-2.false) ∙ c.is_made-in-loop-k.ensures)
 
 pub returns-then-not-is_made-2 : goal.returns-then-not-is_made-2
 returns-then-not-is_made-2 c =
     let l = c.loop-k in
-    asking_found (program_of c.args.font.now c.args.f) (rows_of c.args.rows.now) c.args.keep.now l.k-index l.invariant (omega arith)
+    let by = c.args.by.now in
+    asking_found (program by.list.font.loaded) (rows_of by.rows.now) by.list.keep.now l.k-index l.invariant (omega arith)
     (turned_true c.is_made-in-loop-k.result (not_from_false _ c.if-not-is_made-2.true) ∙ c.is_made-in-loop-k.ensures)
 
 pub returns : goal.returns
 returns c =
     let l = c.loop-k in
-    asking_done (program_of c.args.font.now c.args.f) (rows_of c.args.rows.now) c.args.keep.now l.k-index l.invariant (omega arith)
+    let by = c.args.by.now in
+    asking_done (program by.list.font.loaded) (rows_of by.rows.now) by.list.keep.now l.k-index l.invariant (omega arith)

@@ -5,4 +5,5 @@ use Rattle.failing.proofs.mark_fd.Goals as goal
 
 pub returns : goal.returns
 returns c =
-    ap (λ k. set c.args.used.now k 1) (glyph_fd c.args.font.now c.args.f c.requires.0 c.args.g c.requires.1 _ c.fd_of-fd.ensures)
+    let font = c.args.font.now in
+    ap (λ k. set c.args.used.now k 1) (glyph_fd font.loaded.bytes.now font.loaded.f font.held c.args.g c.requires.0 _ c.fd_of-fd.ensures)

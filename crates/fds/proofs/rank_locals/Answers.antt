@@ -6,7 +6,7 @@ use Rattle.subset.specs.Kept.{locals_of}
 use Rattle.fds.specs.declared.RankedLocals.{RankedLocals}
 use Rattle.fds.specs.Locals.{in_use_lem}
 use Rattle.fds.specs.UsedLaws.{not_used, is_used}
-use Rattle.fds.specs.LocalsLaws.{few_words, ranking_start, ranking_room, ranking_small, ranking_pass, ranking_take, ranking_done, ranks_length}
+use Rattle.fds.specs.LocalsLaws.{few_words, ranking_start, ranking_room, ranking_small, ranking_pass, ranking_take, ranking_done}
 use Rattle.fds.proofs.rank_locals.Goals as goal
 use Rattle.fds.proofs.rank_locals.Goals.{Then-used-fd-ne0, then-used-fd-ne0, else-used-fd-ne0}
 
@@ -40,7 +40,7 @@ loop-fd-preserved c =
     let i = c.loop-fd.invariant in
     elim c.if-used-fd-ne0.branch [
       | then-used-fd-ne0 w ↦
-          let g : 1280 ≤ length c.loop-fd.table = omega (arith, w.put_ranks.array_long, ap length w.put_ranks.ensures, ranks_length c.loop-fd.table c.loop-fd.fd w.rank_fd-r.result.own) in
+          let g : 1280 ≤ length c.loop-fd.table = omega (arith, c.loop-fd.auto.table, c.requires.2) in
           rw (w.words-is, w.table-is, w.place-is, w.all-is) (ranking_take _ _ _ _ _ c.requires.1 _ _ _ _ _ i (is_used c.args.fds.now.used.now c.loop-fd.fd w.if-used-fd-ne0.true) g c.loop-fd-test.true
           _ w.rank_fd-r.ensures.1 _ w.rank_fd-r.ensures.0 _ w.both-all.ensures _ w.words_for-place.ensures.0 _ w.put_ranks.ensures)
       | else-used-fd-ne0 w ↦

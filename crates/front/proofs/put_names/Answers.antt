@@ -9,4 +9,4 @@ overflow_cast-offset_size c = omega (arith, c.offset_size.ensures, size-high c.a
 
 pub returns : goal.returns
 returns c =
-    header-wrote c.args.total _ c.args.name.now c.offset_size.ensures c.put_pair-p.ensures c.put_pair-q.ensures c.put_single.ensures
+    header-wrote c.args.total _ c.args.name.now c.offset_size.ensures (omega (arith, c.requires.1)) c.pair.ensures c.pair-2.ensures c.put_single.ensures

@@ -1,13 +1,13 @@
--- The invariant: the charstrings of the first i kept glyphs were written, the window comes to place i, and the part of the record has what it says.
+-- The invariant: the charstrings of the first i kept glyphs were written, only the window was moved, and the part of the record has what it says.
 use Rattle.record.specs.Record.{rows_of}
 use Rattle.mask_rows.specs.MaskRows.{Covers}
-use Rattle.order_window.specs.Window.{Looping}
+use Rattle.order_window.specs.Stays.{Stays}
 use Rattle.bodies.specs.Ways.{many_of, every}
-use Rattle.bodies.specs.WritingLaws.{Writing}
+use Rattle.bodies.specs.WritingOut.{WritesOn}
 use Rattle.glyph_bodies.specs.LoopLaws.{charstrings_by}
 use Rattle.glyph_bodies.proofs.put_by_windows.Given as goal
 
 abbrev pub invariant-loop-i : goal.invariant-loop-i
 invariant-loop-i l =
-    Writing l.initial.out l.to (many_of (charstrings_by l.from l.f (rows_of l.rows) l.words l.table l.font)) every l.n l.i l.i l.out l.p × Looping l.font l.f l.words l.initial.window l.initial.u l.window l.u l.i
-    × Covers l.rows l.lent.bytes.now 2 0 l.masks
+    WritesOn l.initial.out l.to (many_of (charstrings_by l.from l.initial.kept.o.f (rows_of l.rows) l.words l.table l.font)) every l.n l.i l.i l.out
+    × Stays l.initial.kept l.kept × Covers l.rows l.lent.bytes.now 2 0 l.masks

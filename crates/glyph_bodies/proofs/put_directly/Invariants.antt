@@ -1,11 +1,12 @@
--- The invariant: the charstrings of the first i kept glyphs were written, and the window comes to place i.
+-- The invariant: the charstrings of the first i kept glyphs were written, and only the window was moved.
 use Rattle.record.specs.Record.{rows_of}
-use Rattle.order_window.specs.Window.{Looping}
+use Rattle.order_window.specs.Stays.{Stays}
 use Rattle.bodies.specs.Ways.{many_of, every}
-use Rattle.bodies.specs.WritingLaws.{Writing}
+use Rattle.bodies.specs.WritingOut.{WritesOn}
 use Rattle.glyph_bodies.specs.LoopLaws.{charstrings_by}
 use Rattle.glyph_bodies.proofs.put_directly.Given as goal
 
 abbrev pub invariant-loop-i : goal.invariant-loop-i
 invariant-loop-i l =
-    Writing l.initial.out l.to (many_of (charstrings_by l.from l.f (rows_of l.rows) l.words l.table l.font)) every l.n l.i l.i l.out l.p × Looping l.font l.f l.words l.initial.window l.initial.u l.window l.u l.i
+    WritesOn l.initial.out l.to (many_of (charstrings_by l.from l.initial.kept.o.f (rows_of l.rows) l.words l.table l.font)) every l.n l.i l.i l.out
+    × Stays l.initial.kept l.kept

@@ -1,7 +1,7 @@
--- The invariant: the charstrings of the first i kept glyphs were measured, the window comes to place i, and the part of the record has what it says.
+-- The invariant: the charstrings of the first i kept glyphs were measured, only the window was moved, and the part of the record has what it says.
 use Rattle.record.specs.Record.{rows_of}
 use Rattle.mask_rows.specs.MaskRows.{Covers}
-use Rattle.order_window.specs.Window.{Looping}
+use Rattle.order_window.specs.Stays.{Stays}
 use Rattle.bodies.specs.Ways.{every}
 use Rattle.bodies.specs.Sizes.{Adding}
 use Rattle.glyph_bodies.specs.LoopLaws.{charstring_at}
@@ -9,5 +9,5 @@ use Rattle.glyph_bodies.proofs.total_by_windows.Given as goal
 
 abbrev pub invariant-loop-i : goal.invariant-loop-i
 invariant-loop-i l =
-    Adding (charstring_at l.from l.f (rows_of l.rows) l.words l.table l.font) every l.n l.i l.total × Looping l.font l.f l.words l.initial.window l.initial.u l.window l.u l.i
+    Adding (charstring_at l.from l.initial.kept.o.f (rows_of l.rows) l.words l.table l.font) every l.n l.i l.total × Stays l.initial.kept l.kept
     × Covers l.rows l.lent.bytes.now 2 0 l.masks

@@ -1,6 +1,6 @@
--- The invariant: the charstrings of the first i kept glyphs were measured, and the window comes to place i.
+-- The invariant: the charstrings of the first i kept glyphs were measured, and only the window was moved.
 use Rattle.record.specs.Record.{rows_of}
-use Rattle.order_window.specs.Window.{Looping}
+use Rattle.order_window.specs.Stays.{Stays}
 use Rattle.bodies.specs.Ways.{every}
 use Rattle.bodies.specs.Sizes.{Adding}
 use Rattle.glyph_bodies.specs.LoopLaws.{charstring_at}
@@ -8,4 +8,4 @@ use Rattle.glyph_bodies.proofs.total_directly.Given as goal
 
 abbrev pub invariant-loop-i : goal.invariant-loop-i
 invariant-loop-i l =
-    Adding (charstring_at l.from l.f (rows_of l.rows) l.words l.table l.font) every l.n l.i l.total × Looping l.font l.f l.words l.initial.window l.initial.u l.window l.u l.i
+    Adding (charstring_at l.from l.initial.kept.o.f (rows_of l.rows) l.words l.table l.font) every l.n l.i l.total × Stays l.initial.kept l.kept

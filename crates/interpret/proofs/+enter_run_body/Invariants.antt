@@ -10,7 +10,7 @@ abbrev pub decreases-run_body : goal.decreases-run_body
 decreases-run_body l = 2 * l.depth + 1
 
 abbrev pub invariant-run_body-loop-at : goal.invariant-run_body-loop-at
-invariant-run_body-loop-at l = Standing l.from.font.now l.from.q l.depth l.site l.code l.initial.x l.range l.initial.keys l.held l.own l.keys l.n l.at l.prev l.x
+invariant-run_body-loop-at l = Standing l.from.font.now l.from.q l.depth l.site l.code l.initial.x l.range l.initial.filling l.own l.filling l.at l.prev l.x
 
 abbrev pub decreases-run_body-loop-at : goal.decreases-run_body-loop-at
 decreases-run_body-loop-at l = length l.code - l.at

@@ -1,14 +1,10 @@
 use Rattle.charstring.specs.TokensLaws.{fuel_of}
-use Rattle.record.specs.Record.{rows_of, given_in}
-use Rattle.reach.specs.Reach.{site_of}
-use Rattle.renumber.specs.Ranks.{calls_by}
-use Rattle.renumber.specs.BodyLaws.{Sizing}
+use Rattle.renumber.specs.Walks.{Sizes}
 use Rattle.long_bodies.specs.Offsets.{Gives}
 use Rattle.long_bodies.proofs.body_len.Given as goal
 
-abbrev pub invariant-loop-locals : goal.invariant-loop-locals
-invariant-loop-locals l =
-    Sizing (calls_by l.words l.locals l.globals) (given_in (rows_of l.rows) (site_of l.of.site)) l.code l.c l.h l.len × Gives l.rows l.lent.bytes.now l.of.site l.part
+abbrev pub invariant-loop-code : goal.invariant-loop-code
+invariant-loop-code l = Sizes l.one.body.now l.c l.h l.len × Gives l.one.body.now.rows.now l.lent.bytes.now l.one.body.now.site l.part
 
-abbrev pub decreases-loop-locals : goal.decreases-loop-locals
-decreases-loop-locals l = fuel_of l.code l.c
+abbrev pub decreases-loop-code : goal.decreases-loop-code
+decreases-loop-code l = fuel_of l.one.body.now.code.now l.c

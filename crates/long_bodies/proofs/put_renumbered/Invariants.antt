@@ -1,15 +1,13 @@
 use Rattle.std.proofs.Common.{length, ◌≡◌}
 use Rattle.charstring.specs.TokensLaws.{fuel_of}
-use Rattle.record.specs.Record.{rows_of, given_in}
-use Rattle.reach.specs.Reach.{site_of}
-use Rattle.renumber.specs.Ranks.{calls_by}
-use Rattle.renumber.specs.BodyLaws.{Putting}
+use Rattle.renumber.specs.Walks.{Puts}
 use Rattle.long_bodies.specs.Offsets.{Gives}
 use Rattle.long_bodies.proofs.put_renumbered.Given as goal
 
-abbrev pub invariant-loop-locals : goal.invariant-loop-locals
-invariant-loop-locals l =
-    Putting (calls_by l.words l.locals l.globals) (given_in (rows_of l.rows) (site_of l.of.site)) l.code l.initial.out l.at l.c l.h l.out l.p × (length l.out ≡ length l.initial.out) × Gives l.rows l.lent.bytes.now l.of.site l.part
+abbrev pub invariant-loop-code : goal.invariant-loop-code
+invariant-loop-code l = Puts l.one.body.now l.initial.out.bytes.now l.initial.out.at l.c l.h l.out.bytes.now l.out.at
+    × Gives l.one.body.now.rows.now l.lent.bytes.now l.one.body.now.site l.part
+    × (l.out.bytes.ghost_name ≡ l.initial.out.bytes.ghost_name) × (length l.out.bytes.now ≡ length l.initial.out.bytes.now)
 
-abbrev pub decreases-loop-locals : goal.decreases-loop-locals
-decreases-loop-locals l = fuel_of l.code l.c
+abbrev pub decreases-loop-code : goal.decreases-loop-code
+decreases-loop-code l = fuel_of l.one.body.now.code.now l.c

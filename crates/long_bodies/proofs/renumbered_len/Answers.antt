@@ -7,8 +7,7 @@ pub returns-then-two_lengths : goal.returns-then-two_lengths
 returns-then-two_lengths c = two-fail _ _ _ _ (sym c.two_lengths.ensures ∙ c.if-two_lengths.true)
 
 pub body_len-requires : goal.body_len-requires
-body_len-requires c =
-    (c.requires, sym c.two_lengths.ensures ∙ c.if-two_lengths.false)
+body_len-requires c = sym c.two_lengths.ensures ∙ c.if-two_lengths.false
 
 pub returns : goal.returns
 returns c =

@@ -1,13 +1,15 @@
-use Rattle.std.proofs.Common.{List, [], length, ℕ, ◌+◌, ◌∷◌, ◌≤◌}
-use Rattle.octets.specs.Octets.{Wrote}
+use Rattle.std.proofs.Common.{[], length, ◌+◌, ◌∷◌, ◌≤◌}
+use Rattle.octets.specs.declared.out.Out.{Out}
+use Rattle.octets.specs.Out.{Writes}
 use Rattle.charset.specs.CharsetBytes.{charset_bytes}
-use Rattle.order_window.specs.Window.{Looping}
-use Rattle.name_strings.specs.Names.{new_names, Naming}
+use Rattle.order_window.specs.Stays.{Stays}
+use Rattle.name_strings.specs.Names.{names_for, Naming}
 use Rattle.name_strings.specs.CharsetLaws.{CharsetPut}
 use Rattle.name_strings.proofs.put_charset_named.Given as goal
 
 abbrev pub invariant-loop-i : goal.invariant-loop-i
 invariant-loop-i l =
-    Looping l.font l.f l.words l.initial.window l.initial.u l.window l.u l.i × Naming l.font l.f l.words l.slots l.own l.i
-    × ((old : List ℕ) → Wrote old l.at (0 ∷ []) l.initial.out l.initial.p → l.at + length (charset_bytes (new_names l.font l.f l.words l.slots)) ≤ length old
-    → CharsetPut old l.at (new_names l.font l.f l.words l.slots) l.out l.p l.i)
+    let k = l.initial.kept in
+    Stays k l.kept × Naming k.font.now k.o.f k.words.now l.slots l.own l.i
+    × ((old : Out) → Writes old (0 ∷ []) l.initial.out → old.at + length (charset_bytes (names_for k l.slots)) ≤ length old.bytes.now
+    → CharsetPut old (names_for k l.slots) l.out l.i)

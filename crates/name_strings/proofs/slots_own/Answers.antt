@@ -4,16 +4,16 @@ use Rattle.own_strings.specs.Ready.{HasStrings}
 use Rattle.name_strings.proofs.slots_own.Goals as goal
 use Rattle.name_strings.proofs.slots_own.Goals.{Start}
 
-has : (s : Start) → HasStrings s.args.strings.now.bytes.now s.args.strings.now.ix
-has s = record { good = s.args.strings.now.good; small = s.requires.0 }
+has : (s : Start) → (let x = s.args.slots.now.strings in HasStrings x.bytes.now x.ix)
+has s = record { good = s.args.slots.now.strings.good; small = s.requires }
 
 pub loop-j-init : goal.loop-j-init
-loop-j-init c = counting-start _ _ (has (goal.at.loop-j-init c).Start) _ c.requires.1
+loop-j-init c = counting-start _ _ (has (goal.at.loop-j-init c).Start) _ c.args.slots.now.given
 
 pub count_one-own-requires : goal.count_one-own-requires
 count_one-own-requires c =
-    counting_asks _ _ (has (goal.at.count_one-own-requires c).Start) _ c.requires.1 _ _ c.loop-j.invariant
+    counting_asks _ _ (has (goal.at.count_one-own-requires c).Start) _ c.args.slots.now.given _ _ c.loop-j.invariant
 
 pub loop-j-preserved : goal.loop-j-preserved
 loop-j-preserved c =
-    counting-next _ _ (has (goal.at.loop-j-preserved c).Start) _ c.requires.1 _ _ c.loop-j.invariant c.loop-j-test.true _ c.count_one-own.ensures
+    counting-next _ _ (has (goal.at.loop-j-preserved c).Start) _ c.args.slots.now.given _ _ c.loop-j.invariant c.loop-j-test.true _ c.count_one-own.ensures

@@ -1,23 +1,27 @@
 -- `named_parts::put_glyphs` meets its contract: charstrings and Private, one behind the other.
+use Rattle.std.proofs.Common.{refl, ◌∙◌}
 use Rattle.named_parts.specs.NamedPutLaws.{charstrings-asked, parts-asked, glyphs-wrote}
 use Rattle.named_parts.proofs.put_glyphs.Goals as goal
 
-pub put_charstrings-q-requires : goal.put_charstrings-q-requires
-put_charstrings-q-requires c =
-    charstrings-asked _ _ _ _ _ _ _ c.requires.0 c.args.out.now c.args.at c.requires.2 c.requires.3 c.requires.1
+pub invariant_of-font : goal.invariant_of-font
+invariant_of-font c = record { good = c.args.c.now.ready.plan.ready.read.font }
 
 pub invariant_of-fds : goal.invariant_of-fds
-invariant_of-fds c = record { held = c.requires.0.ready.asked.tables }
+invariant_of-fds c = record { held = c.args.c.now.ready.plan.ready.asked.tables }
 
-pub invariant_of-loaded : goal.invariant_of-loaded
-invariant_of-loaded c = record { good = c.requires.0.ready.read.font }
+pub put_charstrings-requires : goal.put_charstrings-requires
+put_charstrings-requires c =
+    let h = c.args.c.now.ready in
+    charstrings-asked _ _ _ _ _ _ _ h.plan _ h.walked c.args.out.now.bytes.now c.args.out.now.at c.requires.0 c.requires.1
 
 pub put_privates-requires : goal.put_privates-requires
 put_privates-requires c =
-    parts-asked _ _ _ _ _ _ _ c.requires.0 c.args.out.now c.args.at c.requires.2 c.requires.3 c.put_charstrings-q.ensures.0
+    let h = c.args.c.now.ready in
+    parts-asked _ _ _ _ _ _ _ h.plan _ h.walked c.args.out.now.bytes.now c.args.out.now.at c.requires.0 c.requires.1 c.put_charstrings.ensures.0.wrote
 
 pub returns : goal.returns
-returns c = (
-  glyphs-wrote _ _ _ _ _ _ _ c.requires.0 c.args.out.now c.args.at c.requires.2 c.requires.3 c.put_charstrings-q.ensures.0 c.put_privates.ensures,
-  c.put_charstrings-q.ensures.1,
-)
+returns c =
+    let h = c.args.c.now.ready in (
+      record { wrote = glyphs-wrote _ _ _ _ _ _ _ h.plan _ h.walked c.args.out.now.bytes.now c.args.out.now.at c.requires.0 c.requires.1 c.put_charstrings.ensures.0.wrote c.put_privates.ensures.wrote; same = c.put_privates.ensures.same ∙ c.put_charstrings.ensures.0.same; size = c.put_privates.ensures.size ∙ c.put_charstrings.ensures.0.size },
+      record { kept = c.put_charstrings.ensures.1; parts = refl; encoding = refl },
+    )

@@ -2,7 +2,7 @@
 use Rattle.std.proofs.Common.{arith, refl}
 use Rattle.order.specs.Walks.{start_of, Stands}
 use Rattle.order.specs.WalkLaws.{start_stands}
-use Rattle.order_window.specs.LoopLaws.{begin_asks, begun_whole, begun_none}
+use Rattle.order_window.specs.GatheredLaws.{begin_asks, begun_whole, begun_none}
 use Rattle.order_window.proofs.begin.Goals as goal
 use Rattle.order_window.proofs.begin.Goals.{After-searches-search}
 
@@ -12,28 +12,19 @@ stands q =
     start_stands q.args.font.now q.args.f q.args.words.now q.requires.0.good q.requires.0.found
     (λ i. (q.type_inv.font i).fits) q.searches-search.result q.searches-search.ensures
 
-pub count-count-requires : goal.count-count-requires
-count-count-requires c =
-    (c.requires.0.good.glyphs.held.few, c.requires.0.bits, c.requires.0.none)
-
-pub searches-search-requires : goal.searches-search-requires
-searches-search-requires c = (c.requires.0.good, c.requires.0.bits)
-
 pub next-walk-requires : goal.next-walk-requires
 next-walk-requires c =
     begin_asks c.args.font.now c.args.f c.args.words.now c.requires.0 c.count-count.result c.count-count.ensures c.start-first.result c.searches-search.result
     c.start-first.ensures (stands (goal.at.next-walk-requires c).After-searches-search) c.args.window.now c.requires.1
 
 pub returns-then-walk-count : goal.returns-then-walk-count
-returns-then-walk-count c = (
-  begun_whole c.args.font.now c.args.f c.args.words.now c.requires.0 c.count-count.result c.count-count.ensures c.start-first.result c.searches-search.result
-      c.start-first.ensures (stands (goal.at.returns-then-walk-count c).After-searches-search) _ (omega (arith, c.next-walk.auto.window, c.requires.1)) _ c.next-walk.ensures c.if-walk-count.true,
-  refl,
-)
+returns-then-walk-count c =
+    let g = begun_whole c.args.font.now c.args.f c.args.words.now c.requires.0 c.count-count.result c.count-count.ensures c.start-first.result c.searches-search.result
+    c.start-first.ensures (stands (goal.at.returns-then-walk-count c).After-searches-search) _ (omega (arith, c.next-walk.auto.window, c.requires.1)) _ c.next-walk.ensures c.if-walk-count.true in
+    (g.0, refl, g.1)
 
 pub returns : goal.returns
-returns c = (
-  begun_none c.args.font.now c.args.f c.args.words.now c.requires.0 c.count-count.result c.count-count.ensures c.start-first.result c.searches-search.result
-      c.start-first.ensures (stands (goal.at.returns c).After-searches-search) _ (omega (arith, c.next-walk.auto.window, c.requires.1)),
-  refl,
-)
+returns c =
+    let g = begun_none c.args.font.now c.args.f c.args.words.now c.requires.0 c.count-count.result c.count-count.ensures c.start-first.result c.searches-search.result
+    c.start-first.ensures (stands (goal.at.returns c).After-searches-search) _ (omega (arith, c.next-walk.auto.window, c.requires.1)) in
+    (g.0, refl, g.1)

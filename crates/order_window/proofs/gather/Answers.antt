@@ -1,6 +1,6 @@
 -- `gather` meets its contract: the words have the bits of the kept glyphs, and of no others.
 use Rattle.std.proofs.Common.{arith}
-use Rattle.order_window.specs.LoopLaws.{gathered-kept, gathered-marked}
+use Rattle.order_window.specs.GatheredLaws.{gathered-kept, gathered-marked}
 use Rattle.order_window.proofs.gather.Goals as goal
 
 pub begin-requires : goal.begin-requires
@@ -12,4 +12,4 @@ begin-requires c = (
 
 pub returns : goal.returns
 returns c =
-    (c.begin.ensures.0, c.begin.ensures.1, gathered-kept c.args.font.now c.args.f c.args.words.now _ c.args.keep.now c.mark.ensures)
+    (c.begin.ensures.0, c.begin.ensures.1, gathered-kept c.args.font.now c.args.f c.args.words.now _ c.args.keep.now c.mark.ensures, c.begin.ensures.2)

@@ -1,6 +1,6 @@
 -- `parts::put_globals` meets its contract: what is written by the ranks across is the globals of the subset.
 use Rattle.std.proofs.Common.{ap, arith, length, List, ℕ}
-use Rattle.octets.specs.PutLaws.{wrote_as}
+use Rattle.octets.specs.OutLaws.{writes_as}
 use Rattle.index.specs.Write.{index_bytes}
 use Rattle.record.specs.Record.{rows_of}
 use Rattle.renumber.specs.declared.Ranks.{Ranks}
@@ -28,13 +28,13 @@ pub invariant_of-all : goal.invariant_of-all
 invariant_of-all c =
     let a = c.args in
     let w = c.across-locals in
-    record { sourced = (globals-asked a.font.now (rows_of a.rows.now) a.used.now a.words.now a.table.now a.r c.requires.0 (calling a.r w.result) (ap (calling a.r) w.ensures) a.at (length a.out.now) c.requires.1 c.requires.2).0 }
+    record { sourced = (globals-asked a.font.now (rows_of a.rows.now) a.used.now a.words.now a.table.now a.r c.requires.0 (calling a.r w.result) (ap (calling a.r) w.ensures) a.out.now.at (length a.out.now.bytes.now) c.requires.1 c.requires.2).0 }
 
 pub invariant_of-m : goal.invariant_of-m
 invariant_of-m c =
     let a = c.args in
     let w = c.across-locals in
-    let q = globals-asked a.font.now (rows_of a.rows.now) a.used.now a.words.now a.table.now a.r c.requires.0 (calling a.r w.result) (ap (calling a.r) w.ensures) a.at (length a.out.now) c.requires.1 c.requires.2 in
+    let q = globals-asked a.font.now (rows_of a.rows.now) a.used.now a.words.now a.table.now a.r c.requires.0 (calling a.r w.result) (ap (calling a.r) w.ensures) a.out.now.at (length a.out.now.bytes.now) c.requires.1 c.requires.2 in
     record { adds = room_adds _ q.1 q.2 }
 
 pub put_subrs-requires : goal.put_subrs-requires
@@ -49,6 +49,6 @@ pub returns : goal.returns
 returns c =
     let a = c.args in
     let w = c.across-locals in
-    wrote_as c.put_subrs.ensures
+    writes_as c.put_subrs.ensures
     (ap index_bytes (globals_are a.font.now (rows_of a.rows.now) a.used.now a.words.now a.table.now
     a.r c.requires.0 (calling a.r w.result) (ap (calling a.r) w.ensures)))

@@ -1,6 +1,8 @@
 -- `plan::plan_bodies` meets its contract: measured by the way that is tried first, and by stubs where a part fails by it.
+use Rattle.std.proofs.Common.{arith}
 use Rattle.record.specs.Record.{rows_of}
-use Rattle.plan.specs.MeasureLaws.{by_way}
+use Rattle.order_window.specs.Stays.{stays-then}
+use Rattle.plan.specs.MeasureLaws.{measured_again, measured_stays}
 use Rattle.plan.specs.PlanLaws.{returns_first, returns_stubbed}
 use Rattle.plan.proofs.plan_bodies.Goals as goal
 use Rattle.subset.specs.declared.Way.TheVariants.{Stubbed}
@@ -9,11 +11,15 @@ pub returns-then-m : goal.returns-then-m
 returns-then-m c =
     (returns_first _ _ _ _ _ _ _ _ _ _ c.measure-m.ensures.0 c.if-m.true _ c.planned.ensures, c.measure-m.ensures.1)
 
-pub invariant_of-stubbed : goal.invariant_of-stubbed
-invariant_of-stubbed c =
-    let b = c.args.b.now in
-    record { asked = by_way Stubbed b.font.now b.o b.used.now b.words.now b.how b.table.now (rows_of b.rows.now) b.asked }
+pub measure-s-requires : goal.measure-s-requires
+measure-s-requires c =
+    let a = c.args in (
+      measured_again Stubbed _ _ c.measure-m.ensures.1 a.used.now a.how a.table.now (rows_of a.rows.now) c.requires.0,
+      omega (arith, c.requires.1, c.measure-m.auto.sums),
+    )
 
 pub returns : goal.returns
-returns c =
-    (returns_stubbed _ _ _ _ _ _ _ _ _ _ c.measure-m.ensures.0 c.if-m.false _ _ c.measure-s.ensures.0 _ c.planned-2.ensures, c.measure-s.ensures.1)
+returns c = (
+  returns_stubbed _ _ _ _ _ _ _ _ _ _ c.measure-m.ensures.0 c.if-m.false _ _ (measured_stays _ _ c.measure-m.ensures.1 _ _ _ _ _ _ _ c.measure-s.ensures.0) _ c.planned-2.ensures,
+  stays-then _ _ _ c.measure-m.ensures.1 c.measure-s.ensures.1,
+)

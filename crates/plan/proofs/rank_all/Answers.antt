@@ -11,7 +11,8 @@ pub rank_locals-rest-requires : goal.rank_locals-rest-requires
 rank_locals-rest-requires c =
     let g = c.args.fds.now.font.good in (
       omega (arith, g.glyphs.held.few, g.begun.globals-held.few, c.words_for.ensures.1),
-      locals-room (rows_of c.args.rows.now) _ _ _ _ _ _ c.words_for.ensures.0 (omega (arith, c.requires, c.words_for-at.ensures.0)) c.rank_reached-r.ensures.0,
+      locals-room (rows_of c.args.rows.now) _ _ _ _ _ _ c.words_for.ensures.0 (omega (arith, c.requires.0, c.words_for-at.ensures.0)) c.rank_reached-r.ensures.0,
+      c.requires.1,
     )
 
 pub returns : goal.returns
@@ -20,5 +21,5 @@ returns c =
     let b = font.bytes.now in
     let f = font.f in
     ranks-all (program font) (rows_of c.args.rows.now) c.args.fds.now.used.now _ _ _ _ c.words_for-at.result f.globals.count _
-    (c.words_for-at.ensures.0 ∙ ap words_for (sym (items-length b f.charstrings))) (sym (items-length b f.globals)) c.words_for.ensures.0 (omega (arith, c.requires, c.words_for-at.ensures.0)) _ c.rank_reached-r.ensures.0 c.rank_reached-r.ensures.1
+    (c.words_for-at.ensures.0 ∙ ap words_for (sym (items-length b f.charstrings))) (sym (items-length b f.globals)) c.words_for.ensures.0 (omega (arith, c.requires.0, c.words_for-at.ensures.0)) _ c.rank_reached-r.ensures.0 c.rank_reached-r.ensures.1
     _ _ c.rank_locals-rest.ensures c.both-all.ensures

@@ -11,4 +11,4 @@ pub put_bytes-requires : goal.put_bytes-requires
 put_bytes-requires c = let p = c.args.p.now in part-asked p.bytes.now p.q.start p.q.size _ _ _ c.requires.0 c.requires.1
 
 pub returns : goal.returns
-returns c = let p = c.args.p.now in wrote_as c.put_bytes.ensures (ap (λ (d : List ℕ). private_dict_by (entries_of d) c.args.left) (span p.bytes.now p.q.start p.q.size))
+returns c = record { wrote = let p = c.args.p.now in wrote_as c.put_bytes.ensures.wrote (ap (λ (d : List ℕ). private_dict_by (entries_of d) c.args.left) (span p.bytes.now p.q.start p.q.size)); same = c.put_bytes.ensures.same; size = c.put_bytes.ensures.size }

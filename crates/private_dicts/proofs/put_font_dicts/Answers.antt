@@ -1,5 +1,5 @@
 -- `private_dicts::put_font_dicts` meets its contract: the first k Font DICTs are written, with the offsets of their ends.
-use Rattle.std.proofs.Common.{[], List, ap, arith, get_or, length, take, ℕ, ◌*◌, ◌++◌, ◌+◌, ◌<◌, ◌≡◌, ◌∙◌}
+use Rattle.std.proofs.Common.{[], List, ap, arith, refl, get_or, length, take, ℕ, ◌*◌, ◌++◌, ◌+◌, ◌<◌, ◌≡◌, ◌∙◌}
 use Rattle.octets.specs.Lists.{sum_of}
 use Rattle.dict.specs.Lookup.{Operands, last_of}
 use Rattle.dict.specs.Op.{font_matrix}
@@ -8,7 +8,8 @@ use Rattle.dict_write.specs.Written.{copied_entry, private_entry}
 use Rattle.index.specs.Write.{total}
 use Rattle.index.specs.WriteLaws.{head-room}
 use Rattle.index.specs.Begun.{Meant}
-use Rattle.index.specs.BegunLaws.{for_meant, wrote-item, begun_none, begun_room, begun_end, begun_more, begun_whole}
+use Rattle.index.specs.BegunLaws.{for_meant}
+use Rattle.index.specs.ItemOutLaws.{writes-item, begins_none, begins_room, begins_end, begins_more, begins_whole}
 use Rattle.cff.specs.Loaded.{program}
 use Rattle.subset.specs.Subset.{matrix_of}
 use Rattle.private_dicts.specs.Privates.{font_dicts_by}
@@ -28,10 +29,10 @@ sums : (m : After-matrices_len) → m.matrices_len.result + 11 * length m.args.a
 sums m = dicts-total _ _ _ _ _ m.requires.0 _ m.matrices_len.ensures.0
 
 -- the places are for the Font DICTs
-meant : (c : After-put_head) → Meant (length c.put_head.new.out) c.index_for-ix.result (K c.args.a.now c.args.sizes.now c.args.lens.now c.args.from)
+meant : (c : After-put_head) → Meant (length c.put_head.new.out.bytes.now) c.index_for-ix.result (K c.args.a.now c.args.sizes.now c.args.lens.now c.args.from)
 meant c =
-    for_meant _ c.args.at (length c.args.a.now.fds.now) (c.matrices_len.result + 11 * length c.args.a.now.fds.now) c.index_for-ix.result (K c.args.a.now c.args.sizes.now c.args.lens.now c.args.from) c.index_for-ix.ensures
-    (dicts_many _ _ _ _ _ c.requires.0) (dicts-total _ _ _ _ _ c.requires.0 _ c.matrices_len.ensures.0) (omega (arith, c.requires.2, c.put_head.auto.out))
+    for_meant _ c.args.out.now.at (length c.args.a.now.fds.now) (c.matrices_len.result + 11 * length c.args.a.now.fds.now) c.index_for-ix.result (K c.args.a.now c.args.sizes.now c.args.lens.now c.args.from) c.index_for-ix.ensures
+    (dicts_many _ _ _ _ _ c.requires.0) (dicts-total _ _ _ _ _ c.requires.0 _ c.matrices_len.ensures.0) (omega (arith, c.requires.2, c.put_head.ensures.size))
 
 more : (t : In-loop-k) → t.loop-k.k < length (K t.args.a.now t.args.sizes.now t.args.lens.now t.args.from)
 more t = omega (arith, t.loop-k-test.true, dicts_many _ _ _ _ _ t.requires.0)
@@ -49,34 +50,32 @@ next : (t : In-loop-k)
 next t = place-next _ _ _ _ _ t.requires.0 _ _ t.loop-k-test.true t.loop-k.invariant.0
 
 pub index_for-ix-requires : goal.index_for-ix-requires
-index_for-ix-requires c = (c.requires.1, omega (arith, c.args.a.now.few), omega (arith, sums c, c.requires.0.short))
+index_for-ix-requires c = (c.requires.1, omega (arith, c.args.a.now.few), omega (arith, sums (goal.at.index_for-ix-requires c).After-matrices_len, c.requires.0.short))
 
 pub put_head-requires : goal.put_head-requires
 put_head-requires c =
     let s = sums (goal.at.put_head-requires c).After-matrices_len in
     let a = c.args in
-    (omega (arith, s, c.requires.0.short), head-room _ a.at (length a.a.now.fds.now) (c.matrices_len.result + 11 * length a.a.now.fds.now) (K a.a.now a.sizes.now a.lens.now a.from) (many (goal.at.put_head-requires c).Start) s c.requires.2)
+    (omega (arith, s, c.requires.0.short), head-room _ a.out.now.at (length a.a.now.fds.now) (c.matrices_len.result + 11 * length a.a.now.fds.now) (K a.a.now a.sizes.now a.lens.now a.from) (many (goal.at.put_head-requires c).Start) s c.requires.2)
 
-pub overflow_add-p : goal.overflow_add-p
-overflow_add-p c = omega (arith, meant (goal.at.overflow_add-p c).After-put_head)
+pub overflow_add-out : goal.overflow_add-out
+overflow_add-out c = omega (arith, meant (goal.at.overflow_add-out c).After-put_head)
 
 pub loop-k-init : goal.loop-k-init
-loop-k-init c = (start-place c.args.lens.now _, begun_none _ _ _)
+loop-k-init c = (start-place c.args.lens.now _, begins_none _ _ _ refl)
 
-pub put_font_dict-p-requires : goal.put_font_dict-p-requires
-put_font_dict-p-requires c =
-    let t = (goal.at.put_font_dict-p-requires c).In-loop-k in
-    let a = c.args in (
+pub put_font_dict-requires : goal.put_font_dict-requires
+put_font_dict-requires c =
+    let t = (goal.at.put_font_dict-requires c).In-loop-k in (
       c.requires.0.small _ c.loop-k-test.true,
       place-small _ _ _ _ _ c.requires.0 _ _ (omega (arith, c.loop-k-test.true)) c.loop-k.invariant.0,
-      (begun_room _ _ (K a.a.now a.sizes.now a.lens.now a.from) (meant (goal.at.put_font_dict-p-requires c).After-put_head) c.loop-k.k (more t) _ (item t _ c.font_dict.ensures.0) c.loop-k.invariant.1).3,
+      (begins_room (meant (goal.at.put_font_dict-requires c).After-put_head) c.loop-k.k (more t) (item t _ c.font_dict.ensures.0) c.loop-k.invariant.1).3,
     )
 
-pub put_end-place-requires : goal.put_end-place-requires
-put_end-place-requires c =
-    let t = (goal.at.put_end-place-requires c).In-loop-k in
-    let a = c.args in
-    begun_end _ _ (K a.a.now a.sizes.now a.lens.now a.from) (meant (goal.at.put_end-place-requires c).After-put_head) c.loop-k.k (more t) (item t _ c.font_dict.ensures.0) c.loop-k.invariant.1 c.put_font_dict-p.ensures
+pub put_end-requires : goal.put_end-requires
+put_end-requires c =
+    let t = (goal.at.put_end-requires c).In-loop-k in
+    begins_end (meant (goal.at.put_end-requires c).After-put_head) c.loop-k.k (more t) (item t _ c.font_dict.ensures.0) c.loop-k.invariant.1 c.put_font_dict.ensures
 
 pub overflow_add-place : goal.overflow_add-place
 overflow_add-place c =
@@ -84,15 +83,14 @@ overflow_add-place c =
 
 pub loop-k-preserved : goal.loop-k-preserved
 loop-k-preserved c =
-    let t = (goal.at.loop-k-preserved c).In-loop-k in
-    let a = c.args in (
+    let t = (goal.at.loop-k-preserved c).In-loop-k in (
       next t,
-      begun_more _ _ (K a.a.now a.sizes.now a.lens.now a.from) (meant (goal.at.loop-k-preserved c).After-put_head) c.loop-k.k (more t) _ (item t _ c.font_dict.ensures.0) c.loop-k.invariant.1
-          (wrote-item _ _ c.put_font_dict-p.ensures c.put_end-place.ensures),
+      begins_more (meant (goal.at.loop-k-preserved c).After-put_head) c.loop-k.k (more t) (item t _ c.font_dict.ensures.0) c.loop-k.invariant.1
+          (writes-item c.put_font_dict.ensures c.put_end.ensures),
     )
 
 pub returns : goal.returns
 returns c =
     let a = c.args in
-    begun_whole a.at (length a.a.now.fds.now) (c.matrices_len.result + 11 * length a.a.now.fds.now) c.index_for-ix.result (K a.a.now a.sizes.now a.lens.now a.from) c.loop-k.k
-    c.index_for-ix.ensures (many (goal.at.returns c).Start) (sums (goal.at.returns c).After-matrices_len) c.requires.2 c.put_head.ensures (omega (arith, c.loop-k.auto.k-end, c.loop-k-test.false, many (goal.at.returns c).Start)) c.loop-k.invariant.1
+    begins_whole (length a.a.now.fds.now) (c.matrices_len.result + 11 * length a.a.now.fds.now) c.index_for-ix.result (K a.a.now a.sizes.now a.lens.now a.from) c.loop-k.k
+    c.index_for-ix.ensures (many (goal.at.returns c).Start) (sums (goal.at.returns c).After-matrices_len) c.requires.2 c.put_head.ensures refl (omega (arith, c.loop-k.auto.k-end, c.loop-k-test.false, many (goal.at.returns c).Start)) c.loop-k.invariant.1

@@ -1,79 +1,49 @@
 -- `renumbered::body_len` meets its contract: the length so far is that of the tokens written, one by one or a run at once.
-use Rattle.std.proofs.Common.{arith, refl, sym, true, ℕ, ℤ, ◌-◌, ◌∙◌, ◌≡◌, Some}
-use Rattle.octets.specs.Octets.{Octets}
-use Rattle.type2_number.specs.Number.{Reading}
-use Rattle.charstring.specs.declared.MaskLen.{MaskLen}
-use Rattle.charstring.specs.Token.{more, token_at}
+use Rattle.std.proofs.Common.{arith, refl, sym, ◌-◌, ◌∙◌}
+use Rattle.charstring.specs.Token.{token_at}
 use Rattle.charstring.specs.TokenLaws.{measurable}
 use Rattle.charstring.specs.TokensLaws.{Next}
-use Rattle.prune.specs.Renumber.{Calls}
-use Rattle.record.specs.Record.{rows_of, given_in}
-use Rattle.reach.specs.Reach.{site_of}
-use Rattle.renumber.specs.Ranks.{calls_by}
-use Rattle.renumber.specs.OperandLaws.{calls-read}
-use Rattle.renumber.specs.BodyLaws.{own-small, turning_next, sizing_start, sized-room, sized_end, sizing_turn, sized_failed}
-use Rattle.renumber.specs.RunBodyLaws.{sizing_run, run_shorter}
+use Rattle.renumber.specs.Bodies.{given_of}
+use Rattle.renumber.specs.BodyLaws.{own-small}
+use Rattle.renumber.specs.Walks.{walk_next, size_start, size_small, size_room, size_end, size_run, size_turn, size_failed}
 use Rattle.renumbered.proofs.body_len.Goals as goal
-use Rattle.renumbered.proofs.body_len.Lts.View as view
-use Rattle.renumbered.proofs.body_len.Goals.{At-loop-locals, In-Some, In-loop-locals}
-
--- what the walk goes by, where its loop stands: the calls, the lengths given, the body and its bytes
-abbrev calls_in : At-loop-locals → Calls
-calls_in l = calls_by l.args.words.now l.args.locals l.args.globals
-
-abbrev givenBy : At-loop-locals → ℕ → MaskLen
-givenBy l = given_in (rows_of l.args.rows.now) (site_of l.args.site)
-
-reads : (l : At-loop-locals) (b : ℕ) (z y : ℤ) → calls_in l b z ≡ Some y → Reading y
-reads l = calls-read _ _ _ l.requires.local_ranks l.requires.global_ranks
-
-bytes : (l : At-loop-locals) → Octets l.args.code.now
-bytes l i = (l.type_inv.code i).fits
-
--- a token is left
-going : (c : In-loop-locals) → more c.args.code.now c.loop-locals.c ≡ true
-going c = sym c.more.ensures ∙ c.loop-locals-test.true
+use Rattle.renumbered.proofs.body_len.Goals.{In-Some}
 
 -- the token, and where it leads
-nextly : (c : In-Some)
-    → Next c.args.code.now c.loop-locals.c (token_at c.args.code.now (givenBy (view.up-At-loop-locals _ _ _ _ _ c.before.before.before.before.before.before.before.before.before) (c.loop-locals.c.at - 1)) c.loop-locals.c) c.in-Some.turned.token c.in-Some.turned.next
-nextly c = turning_next (calls_in (view.up-At-loop-locals _ _ _ _ _ c.before.before.before.before.before.before.before.before.before)) (reads (view.up-At-loop-locals _ _ _ _ _ c.before.before.before.before.before.before.before.before.before)) (givenBy (view.up-At-loop-locals _ _ _ _ _ c.before.before.before.before.before.before.before.before.before)) c.args.code.now (bytes (view.up-At-loop-locals _ _ _ _ _ c.before.before.before.before.before.before.before.before.before)) c.loop-locals.c _ _ c.loop-locals.invariant.turning (going (view.up-In-loop-locals _ _ _ _ _ c.before.before.before.before.before.before.before)) _ c.turn_at.ensures _ _ _ c.in-Some.is
+next : (c : In-Some) → Next c.args.body.now.code.now c.loop-code.c (token_at c.args.body.now.code.now (given_of c.args.body.now (c.loop-code.c.at - 1)) c.loop-code.c) c.in-Some.turned.token c.in-Some.turned.next
+next c = walk_next c.args.body.now c.loop-code.invariant.turning (sym c.more.ensures ∙ c.loop-code-test.true) c.turn_at.ensures c.in-Some.is
 
-pub loop-locals-init : goal.loop-locals-init
-loop-locals-init c = sizing_start _ (calls-read _ _ _ c.requires.local_ranks c.requires.global_ranks) _ _ (λ i. (c.type_inv.code i).fits) _ c.start-c.ensures
+pub loop-code-init : goal.loop-code-init
+loop-code-init c = size_start c.args.body.now c.start-c.ensures
 
 pub overflow_add-len : goal.overflow_add-len
-overflow_add-len c = let m = sizing_run (calls_in (goal.at.overflow_add-len c).At-loop-locals) (reads (goal.at.overflow_add-len c).At-loop-locals) (givenBy (goal.at.overflow_add-len c).At-loop-locals) c.args.code.now (bytes (goal.at.overflow_add-len c).At-loop-locals) _ _ c.run_at-run.ensures c.if-c-run.true _ _ c.loop-locals.invariant _ c.run_len-len.ensures _ refl in omega (arith, m.small, m.turning.walk.within.inside, c.requires.size)
+overflow_add-len c = omega (arith, size_small c.args.body.now (size_run c.args.body.now c.loop-code.invariant c.run_at-run.ensures c.if-c-run.true c.run_len-len.ensures refl))
 
-pub loop-locals-smaller-then-c-run : goal.loop-locals-smaller-then-c-run
-loop-locals-smaller-then-c-run c = run_shorter (calls_in (goal.at.loop-locals-smaller-then-c-run c).At-loop-locals) (reads (goal.at.loop-locals-smaller-then-c-run c).At-loop-locals) (givenBy (goal.at.loop-locals-smaller-then-c-run c).At-loop-locals) c.args.code.now (bytes (goal.at.loop-locals-smaller-then-c-run c).At-loop-locals) _ _ c.run_at-run.ensures c.if-c-run.true
-
-pub loop-locals-preserved-then-c-run : goal.loop-locals-preserved-then-c-run
-loop-locals-preserved-then-c-run c = sizing_run (calls_in (goal.at.loop-locals-preserved-then-c-run c).At-loop-locals) (reads (goal.at.loop-locals-preserved-then-c-run c).At-loop-locals) (givenBy (goal.at.loop-locals-preserved-then-c-run c).At-loop-locals) c.args.code.now (bytes (goal.at.loop-locals-preserved-then-c-run c).At-loop-locals) _ _ c.run_at-run.ensures c.if-c-run.true _ _ c.loop-locals.invariant _ c.run_len-len.ensures _ c.held_at-h.ensures
-
-pub turn_at-requires : goal.turn_at-requires
-turn_at-requires c = (c.requires, c.loop-locals.invariant.turning.walk.within, going (goal.at.turn_at-requires c).In-loop-locals)
+pub loop-code-preserved-then-c-run : goal.loop-code-preserved-then-c-run
+loop-code-preserved-then-c-run c = size_run c.args.body.now c.loop-code.invariant c.run_at-run.ensures c.if-c-run.true c.run_len-len.ensures c.held_at-h.ensures
 
 pub sent_len-len-requires : goal.sent_len-len-requires
-sent_len-len-requires c = own-small c.args.code.now c.in-Some.turned.token (nextly c).writable c.requires.size
+sent_len-len-requires c = own-small _ _ (next (goal.at.sent_len-len-requires c).In-Some).writable c.args.body.now.inputs.size
 
 pub overflow_add-len-in-Some : goal.overflow_add-len-in-Some
-overflow_add-len-in-Some c = let m = sizing_turn (calls_in (goal.at.overflow_add-len-in-Some c).At-loop-locals) (reads (goal.at.overflow_add-len-in-Some c).At-loop-locals) (givenBy (goal.at.overflow_add-len-in-Some c).At-loop-locals) c.args.code.now (bytes (goal.at.overflow_add-len-in-Some c).At-loop-locals) c.loop-locals.c _ _ c.loop-locals.invariant (going (goal.at.overflow_add-len-in-Some c).In-loop-locals) _ c.turn_at.ensures _ _ _ c.in-Some.is _ c.sent_len-len.ensures _ refl in omega (arith, m.small, m.turning.walk.within.inside, c.requires.size)
+overflow_add-len-in-Some c =
+    omega (arith, size_small c.args.body.now (size_turn c.args.body.now c.loop-code.invariant (sym c.more.ensures ∙ c.loop-code-test.true) c.turn_at.ensures c.in-Some.is c.sent_len-len.ensures refl))
 
 pub held_after-h-requires : goal.held_after-h-requires
-held_after-h-requires c = measurable _ _ (nextly (goal.at.held_after-h-requires c).In-Some).writable
+held_after-h-requires c = measurable _ _ (next (goal.at.held_after-h-requires c).In-Some).writable
 
-pub loop-locals-smaller : goal.loop-locals-smaller
-loop-locals-smaller c = (nextly (goal.at.loop-locals-smaller c).In-Some).moves.shorter
+pub loop-code-smaller : goal.loop-code-smaller
+loop-code-smaller c = (next (goal.at.loop-code-smaller c).In-Some).moves.shorter
 
-pub loop-locals-preserved : goal.loop-locals-preserved
-loop-locals-preserved c = sizing_turn (calls_in (goal.at.loop-locals-preserved c).At-loop-locals) (reads (goal.at.loop-locals-preserved c).At-loop-locals) (givenBy (goal.at.loop-locals-preserved c).At-loop-locals) c.args.code.now (bytes (goal.at.loop-locals-preserved c).At-loop-locals) c.loop-locals.c _ _ c.loop-locals.invariant (going (goal.at.loop-locals-preserved c).In-loop-locals) _ c.turn_at.ensures _ _ _ c.in-Some.is _ c.sent_len-len.ensures _ c.held_after-h.ensures
+pub loop-code-preserved : goal.loop-code-preserved
+loop-code-preserved c =
+    size_turn c.args.body.now c.loop-code.invariant (sym c.more.ensures ∙ c.loop-code-test.true) c.turn_at.ensures c.in-Some.is c.sent_len-len.ensures c.held_after-h.ensures
 
 pub returns-in-None : goal.returns-in-None
-returns-in-None c = sized_failed (calls_in (goal.at.returns-in-None c).At-loop-locals) (reads (goal.at.returns-in-None c).At-loop-locals) (givenBy (goal.at.returns-in-None c).At-loop-locals) c.args.code.now (bytes (goal.at.returns-in-None c).At-loop-locals) c.loop-locals.c _ _ c.loop-locals.invariant (going (goal.at.returns-in-None c).In-loop-locals) _ c.turn_at.ensures c.in-None.is
+returns-in-None c = size_failed c.args.body.now c.loop-code.invariant (sym c.more.ensures ∙ c.loop-code-test.true) c.turn_at.ensures c.in-None.is
 
 pub overflow_add-result : goal.overflow_add-result
-overflow_add-result c = let m = sized-room (calls_in (goal.at.overflow_add-result c).At-loop-locals) (reads (goal.at.overflow_add-result c).At-loop-locals) (givenBy (goal.at.overflow_add-result c).At-loop-locals) c.args.code.now (bytes (goal.at.overflow_add-result c).At-loop-locals) c.loop-locals.c _ _ c.loop-locals.invariant in omega (arith, c.held_len.ensures, c.loop-locals.invariant.turning.walk.within.inside, c.requires.size)
+overflow_add-result c = omega (arith, c.held_len.ensures, size_room c.args.body.now c.loop-code.invariant)
 
 pub returns : goal.returns
-returns c = sized_end (calls_in (goal.at.returns c).At-loop-locals) (reads (goal.at.returns c).At-loop-locals) (givenBy (goal.at.returns c).At-loop-locals) c.args.code.now (bytes (goal.at.returns c).At-loop-locals) c.loop-locals.c _ _ c.loop-locals.invariant (sym c.more.ensures ∙ c.loop-locals-test.false) _ c.held_len.ensures
+returns c = size_end c.args.body.now c.loop-code.invariant (sym c.more.ensures ∙ c.loop-code-test.false) c.held_len.ensures

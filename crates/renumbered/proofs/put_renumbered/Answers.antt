@@ -1,77 +1,56 @@
 -- `renumbered::put_renumbered` meets its contract: the tokens written, one by one or a run at once, stand in the output; a body that fails is excluded.
-use Rattle.std.proofs.Common.{arith, refl, sym, true, ℕ, ℤ, ◌-◌, ◌∙◌, ◌≡◌, Some}
-use Rattle.octets.specs.Octets.{Octets}
-use Rattle.octets.specs.PutLaws.{wrote-length}
-use Rattle.type2_number.specs.Number.{Reading}
-use Rattle.charstring.specs.declared.MaskLen.{MaskLen}
-use Rattle.charstring.specs.Token.{more, token_at}
+use Rattle.std.proofs.Common.{arith, refl, sym, ◌-◌, ◌∙◌}
+use Rattle.charstring.specs.Token.{token_at}
 use Rattle.charstring.specs.TokenLaws.{measurable}
 use Rattle.charstring.specs.TokensLaws.{Next}
-use Rattle.prune.specs.Renumber.{Calls}
-use Rattle.record.specs.Record.{rows_of, given_in}
-use Rattle.reach.specs.Reach.{site_of}
-use Rattle.renumber.specs.Ranks.{calls_by}
-use Rattle.renumber.specs.OperandLaws.{calls-read}
-use Rattle.renumber.specs.BodyLaws.{turning_next, putting_start, putting_room, putting_turn, putting_failed, put_end_room, put_end, whole-body}
-use Rattle.renumber.specs.RunBodyLaws.{putting_run-room, putting_run, run_shorter}
+use Rattle.renumber.specs.Bodies.{given_of}
+use Rattle.renumber.specs.Walks.{walk_next, puts_start, puts_end-room, puts_end, puts_run-room, puts_run, puts_turn-room, puts_turn, puts_failed}
 use Rattle.renumbered.proofs.put_renumbered.Goals as goal
-use Rattle.renumbered.proofs.put_renumbered.Lts.View as view
-use Rattle.renumbered.proofs.put_renumbered.Goals.{At-loop-locals, In-Some, In-loop-locals}
-
--- what the walk goes by, where its loop stands: the calls, the lengths given, the body and its bytes
-abbrev calls_in : At-loop-locals → Calls
-calls_in l = calls_by l.args.words.now l.args.locals l.args.globals
-
-abbrev givenBy : At-loop-locals → ℕ → MaskLen
-givenBy l = given_in (rows_of l.args.rows.now) (site_of l.args.site)
-
-reads : (l : At-loop-locals) (b : ℕ) (z y : ℤ) → calls_in l b z ≡ Some y → Reading y
-reads l = calls-read _ _ _ l.requires.0.local_ranks l.requires.0.global_ranks
-
-bytes : (l : At-loop-locals) → Octets l.args.code.now
-bytes l i = (l.type_inv.code i).fits
-
--- a token is left
-going : (c : In-loop-locals) → more c.args.code.now c.loop-locals.c ≡ true
-going c = sym c.more.ensures ∙ c.loop-locals-test.true
+use Rattle.renumbered.proofs.put_renumbered.Goals.{In-Some}
 
 -- the token, and where it leads
-nextly : (c : In-Some)
-    → Next c.args.code.now c.loop-locals.c (token_at c.args.code.now (givenBy (view.up-At-loop-locals _ _ _ _ _ c.before.before.before.before.before.before.before.before.before) (c.loop-locals.c.at - 1)) c.loop-locals.c) c.in-Some.turned.token c.in-Some.turned.next
-nextly c = turning_next (calls_in (view.up-At-loop-locals _ _ _ _ _ c.before.before.before.before.before.before.before.before.before)) (reads (view.up-At-loop-locals _ _ _ _ _ c.before.before.before.before.before.before.before.before.before)) (givenBy (view.up-At-loop-locals _ _ _ _ _ c.before.before.before.before.before.before.before.before.before)) c.args.code.now (bytes (view.up-At-loop-locals _ _ _ _ _ c.before.before.before.before.before.before.before.before.before)) c.loop-locals.c _ _ c.loop-locals.invariant.0.turning (going (view.up-In-loop-locals _ _ _ _ _ c.before.before.before.before.before.before.before)) _ c.turn_at.ensures _ _ _ c.in-Some.is
+next : (c : In-Some) → Next c.args.body.now.code.now c.loop-code.c (token_at c.args.body.now.code.now (given_of c.args.body.now (c.loop-code.c.at - 1)) c.loop-code.c) c.in-Some.turned.token c.in-Some.turned.next
+next c = walk_next c.args.body.now c.loop-code.invariant.0.turning (sym c.more.ensures ∙ c.loop-code-test.true) c.turn_at.ensures c.in-Some.is
 
-pub loop-locals-init : goal.loop-locals-init
-loop-locals-init c = (putting_start _ (calls-read _ _ _ c.requires.0.local_ranks c.requires.0.global_ranks) _ _ (λ i. (c.type_inv.code i).fits) _ _ _ c.start-c.ensures, refl)
+pub loop-code-init : goal.loop-code-init
+loop-code-init c = (puts_start c.args.body.now c.start-c.ensures, refl, refl)
 
-pub put_run-p-requires : goal.put_run-p-requires
-put_run-p-requires c = (c.run_at-run.ensures.starts, omega (arith, c.run_at-run.ensures.ends, c.run_at-run.ensures.inside), putting_run-room (calls_in (goal.at.put_run-p-requires c).At-loop-locals) (reads (goal.at.put_run-p-requires c).At-loop-locals) (givenBy (goal.at.put_run-p-requires c).At-loop-locals) c.args.code.now (bytes (goal.at.put_run-p-requires c).At-loop-locals) _ _ c.run_at-run.ensures c.if-c-run.true _ _ _ (whole-body _ _ _ _ c.requires.1) c.requires.2 _ _ _ c.loop-locals.invariant.0)
+pub put_run-requires : goal.put_run-requires
+put_run-requires c = (
+  c.run_at-run.ensures.starts,
+  omega (arith, c.run_at-run.ensures.ends, c.run_at-run.ensures.inside),
+  puts_run-room c.args.body.now c.requires.0 c.requires.1 c.loop-code.invariant.0 c.run_at-run.ensures c.if-c-run.true,
+)
 
-pub loop-locals-smaller-then-c-run : goal.loop-locals-smaller-then-c-run
-loop-locals-smaller-then-c-run c = run_shorter (calls_in (goal.at.loop-locals-smaller-then-c-run c).At-loop-locals) (reads (goal.at.loop-locals-smaller-then-c-run c).At-loop-locals) (givenBy (goal.at.loop-locals-smaller-then-c-run c).At-loop-locals) c.args.code.now (bytes (goal.at.loop-locals-smaller-then-c-run c).At-loop-locals) _ _ c.run_at-run.ensures c.if-c-run.true
+pub loop-code-preserved-then-c-run : goal.loop-code-preserved-then-c-run
+loop-code-preserved-then-c-run c =
+    (puts_run c.args.body.now c.requires.0 c.requires.1 c.loop-code.invariant.0 c.run_at-run.ensures c.if-c-run.true c.put_run.ensures.wrote c.held_at-h.ensures, c.put_run.ensures.same ∙ c.loop-code.invariant.1, c.put_run.ensures.size ∙ c.loop-code.invariant.2)
 
-pub loop-locals-preserved-then-c-run : goal.loop-locals-preserved-then-c-run
-loop-locals-preserved-then-c-run c = let m = putting_run (calls_in (goal.at.loop-locals-preserved-then-c-run c).At-loop-locals) (reads (goal.at.loop-locals-preserved-then-c-run c).At-loop-locals) (givenBy (goal.at.loop-locals-preserved-then-c-run c).At-loop-locals) c.args.code.now (bytes (goal.at.loop-locals-preserved-then-c-run c).At-loop-locals) _ _ c.run_at-run.ensures c.if-c-run.true _ _ _ (whole-body _ _ _ _ c.requires.1) c.requires.2 _ _ _ c.loop-locals.invariant.0 _ _ c.put_run-p.ensures _ c.held_at-h.ensures in (m.0, m.1 ∙ c.loop-locals.invariant.1)
-
-pub turn_at-requires : goal.turn_at-requires
-turn_at-requires c = (c.requires.0, c.loop-locals.invariant.0.turning.walk.within, going (goal.at.turn_at-requires c).In-loop-locals)
-
-pub put_sent-p-requires : goal.put_sent-p-requires
-put_sent-p-requires c = ((nextly (goal.at.put_sent-p-requires c).In-Some).writable, putting_room (calls_in (goal.at.put_sent-p-requires c).At-loop-locals) (reads (goal.at.put_sent-p-requires c).At-loop-locals) (givenBy (goal.at.put_sent-p-requires c).At-loop-locals) c.args.code.now (bytes (goal.at.put_sent-p-requires c).At-loop-locals) _ _ _ (whole-body _ _ _ _ c.requires.1) c.requires.2 c.loop-locals.c _ _ _ c.loop-locals.invariant.0 (going (goal.at.put_sent-p-requires c).In-loop-locals) _ c.turn_at.ensures _ _ _ c.in-Some.is)
+pub put_sent-requires : goal.put_sent-requires
+put_sent-requires c = (
+  (next (goal.at.put_sent-requires c).In-Some).writable,
+  puts_turn-room c.args.body.now c.requires.0 c.requires.1 c.loop-code.invariant.0 (sym c.more.ensures ∙ c.loop-code-test.true) c.turn_at.ensures c.in-Some.is,
+)
 
 pub held_after-h-requires : goal.held_after-h-requires
-held_after-h-requires c = measurable _ _ (nextly (goal.at.held_after-h-requires c).In-Some).writable
+held_after-h-requires c = measurable _ _ (next (goal.at.held_after-h-requires c).In-Some).writable
 
-pub loop-locals-smaller : goal.loop-locals-smaller
-loop-locals-smaller c = (nextly (goal.at.loop-locals-smaller c).In-Some).moves.shorter
+pub loop-code-smaller : goal.loop-code-smaller
+loop-code-smaller c = (next (goal.at.loop-code-smaller c).In-Some).moves.shorter
 
-pub loop-locals-preserved : goal.loop-locals-preserved
-loop-locals-preserved c = (putting_turn (calls_in (goal.at.loop-locals-preserved c).At-loop-locals) (reads (goal.at.loop-locals-preserved c).At-loop-locals) (givenBy (goal.at.loop-locals-preserved c).At-loop-locals) c.args.code.now (bytes (goal.at.loop-locals-preserved c).At-loop-locals) _ _ _ (whole-body _ _ _ _ c.requires.1) c.requires.2 c.loop-locals.c _ _ _ c.loop-locals.invariant.0 (going (goal.at.loop-locals-preserved c).In-loop-locals) _ c.turn_at.ensures _ _ _ c.in-Some.is _ _ c.put_sent-p.ensures _ c.held_after-h.ensures, wrote-length c.put_sent-p.ensures (putting_room (calls_in (goal.at.loop-locals-preserved c).At-loop-locals) (reads (goal.at.loop-locals-preserved c).At-loop-locals) (givenBy (goal.at.loop-locals-preserved c).At-loop-locals) c.args.code.now (bytes (goal.at.loop-locals-preserved c).At-loop-locals) _ _ _ (whole-body _ _ _ _ c.requires.1) c.requires.2 c.loop-locals.c _ _ _ c.loop-locals.invariant.0 (going (goal.at.loop-locals-preserved c).In-loop-locals) _ c.turn_at.ensures _ _ _ c.in-Some.is) ∙ c.loop-locals.invariant.1)
+pub loop-code-preserved : goal.loop-code-preserved
+loop-code-preserved c =
+    (puts_turn c.args.body.now c.requires.0 c.requires.1 c.loop-code.invariant.0 (sym c.more.ensures ∙ c.loop-code-test.true) c.turn_at.ensures c.in-Some.is c.put_sent.ensures.wrote c.held_after-h.ensures, c.put_sent.ensures.same ∙ c.loop-code.invariant.1, c.put_sent.ensures.size ∙ c.loop-code.invariant.2)
 
 pub returns-in-None : goal.returns-in-None
-returns-in-None c = absurd (putting_failed (calls_in (goal.at.returns-in-None c).At-loop-locals) (reads (goal.at.returns-in-None c).At-loop-locals) (givenBy (goal.at.returns-in-None c).At-loop-locals) c.args.code.now (bytes (goal.at.returns-in-None c).At-loop-locals) _ _ _ (whole-body _ _ _ _ c.requires.1) c.requires.2 c.loop-locals.c _ _ _ c.loop-locals.invariant.0 (going (goal.at.returns-in-None c).In-loop-locals) _ c.turn_at.ensures c.in-None.is)
+returns-in-None c = absurd (puts_failed c.args.body.now c.requires.0 c.requires.1 c.loop-code.invariant.0 (sym c.more.ensures ∙ c.loop-code-test.true) c.turn_at.ensures c.in-None.is)
 
 pub put_held-requires : goal.put_held-requires
-put_held-requires c = put_end_room (calls_in (goal.at.put_held-requires c).At-loop-locals) (reads (goal.at.put_held-requires c).At-loop-locals) (givenBy (goal.at.put_held-requires c).At-loop-locals) c.args.code.now (bytes (goal.at.put_held-requires c).At-loop-locals) _ _ _ (whole-body _ _ _ _ c.requires.1) c.requires.2 c.loop-locals.c _ _ _ c.loop-locals.invariant.0 (sym c.more.ensures ∙ c.loop-locals-test.false)
+put_held-requires c = puts_end-room c.args.body.now c.requires.0 c.requires.1 c.loop-code.invariant.0 (sym c.more.ensures ∙ c.loop-code-test.false)
 
 pub returns : goal.returns
-returns c = put_end (calls_in (goal.at.returns c).At-loop-locals) (reads (goal.at.returns c).At-loop-locals) (givenBy (goal.at.returns c).At-loop-locals) c.args.code.now (bytes (goal.at.returns c).At-loop-locals) _ _ _ (whole-body _ _ _ _ c.requires.1) c.requires.2 c.loop-locals.c _ _ _ c.loop-locals.invariant.0 (sym c.more.ensures ∙ c.loop-locals-test.false) _ _ c.put_held.ensures
+returns c = record {
+  wrote = puts_end c.args.body.now c.requires.0 c.requires.1 c.loop-code.invariant.0 (sym c.more.ensures ∙ c.loop-code-test.false) c.put_held.ensures.wrote;
+  same = c.put_held.ensures.same ∙ c.loop-code.invariant.1;
+  size = c.put_held.ensures.size ∙ c.loop-code.invariant.2;
+}

@@ -3,4 +3,4 @@ use Rattle.sheet_read.specs.Program.{Begun}
 use Rattle.sheet_read.proofs.take_input.Given as goal
 
 abbrev pub invariant-loop : goal.invariant-loop
-invariant-loop g l = Begun l.len l.mode l.buffer
+invariant-loop g l = Begun l.taking.len l.taking.mode l.taking.buffer.now

@@ -1,13 +1,13 @@
 -- `answer` meets its contract: an input is a font and what is asked of it.
-use Rattle.cases.specs.AnswersLaws.{gives_none, gives_as}
-use Rattle.subset_cases.specs.SubsetCasesLaws.{input_short, input_cut, input_parts}
+use Rattle.std.proofs.Common.{List, None, Some, ap, sym, ◌∙◌, ℕ}
+use Rattle.subset_cases.specs.SubsetCases.{asked_answer}
+use Rattle.subset_cases.specs.SubsetCasesLaws.{subset_parts}
 use Rattle.subset_cases.proofs.answer.Goals as goal
 
-pub returns-then-n-lt2 : goal.returns-then-n-lt2
-returns-then-n-lt2 c = gives_none _ _ (input_short _ _ c.if-n-lt2.true)
+pub returns-in-None : goal.returns-in-None
+returns-in-None c = subset_parts _ _ None (sym c.in-None.is ∙ c.split.ensures)
 
-pub returns-then-n-end : goal.returns-then-n-end
-returns-then-n-end c = gives_none _ _ (input_cut _ _ c.if-n-lt2.false _ c.u16_at-end.ensures.0 c.if-n-end.true)
-
-pub returns : goal.returns
-returns c = gives_as _ _ _ _ c.answer_asked.ensures (input_parts _ _ c.if-n-lt2.false _ c.u16_at-end.ensures.0 c.if-n-end.false)
+pub returns-in-Some : goal.returns-in-Some
+returns-in-Some c =
+    c.answer_asked.ensures ∙ ap (λ (p : List ℕ × List ℕ). asked_answer c.args.kind p.0 p.1) c.parts.view_is
+    ∙ subset_parts _ _ (Some c.in-Some.parts) (sym c.in-Some.is ∙ c.split.ensures)

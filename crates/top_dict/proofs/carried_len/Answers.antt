@@ -5,8 +5,5 @@ use Rattle.top_dict.specs.Writing.{split-length}
 use Rattle.top_dict.specs.TopParts.{carried-parts}
 use Rattle.top_dict.proofs.carried_len.Goals as goal
 
-pub overflow_add-result : goal.overflow_add-result
-overflow_add-result c = omega (arith, c.strings_len.ensures.1, c.entries_len.ensures.1)
-
 pub returns : goal.returns
 returns c = (omega (arith, c.strings_len.ensures.0, c.entries_len.ensures.0, split-length (carried-parts (entries c.args.top.now.dict) c.args.top.now.slots)), omega (arith, c.strings_len.ensures.1, c.entries_len.ensures.1))

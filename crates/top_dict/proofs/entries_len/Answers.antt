@@ -4,9 +4,6 @@ use Rattle.top_dict.specs.Writing.{measuring_turn, measuring_end}
 use Rattle.top_dict.specs.TopLaws.{copied_next, copied-over}
 use Rattle.top_dict.proofs.entries_len.Goals as goal
 
-pub overflow_add-len : goal.overflow_add-len
-overflow_add-len c = omega (arith, c.copied_len-len.ensures.1, c.loop-k.invariant.0, c.loop-k-test.true)
-
 pub loop-k-preserved : goal.loop-k-preserved
 loop-k-preserved c = let l = c.loop-k in (omega (arith, c.copied_len-len.ensures.1, l.invariant.0), measuring_turn (copied_next _ _ c.loop-k-test.true _ c.copied_top_entry.ensures) l.invariant.1 _ c.copied_len-len.ensures.0)
 

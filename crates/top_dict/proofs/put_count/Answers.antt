@@ -10,4 +10,4 @@ pub put_value-requires : goal.put_value-requires
 put_value-requires c = let e = c.cid_count.ensures in (refl, subst (λ (n : ℕ). n < 1000000000000000) (sym e) (count_small _), omega (arith, c.requires, ap (λ (n : ℕ). length (value_entry cid_count n)) e))
 
 pub returns : goal.returns
-returns c = wrote_as c.put_value.ensures (ap (λ (n : ℕ). value_entry cid_count n) c.cid_count.ensures)
+returns c = record { wrote = wrote_as c.put_value.ensures.wrote (ap (λ (n : ℕ). value_entry cid_count n) c.cid_count.ensures); same = c.put_value.ensures.same; size = c.put_value.ensures.size }

@@ -9,4 +9,4 @@ pub put_number-requires : goal.put_number-requires
 put_number-requires c = omega (arith, c.requires, ap (λ (x : Decimal). length (number_bytes x)) c.whole.ensures)
 
 pub returns : goal.returns
-returns c = wrote_as c.put_number.ensures (ap number_bytes c.whole.ensures)
+returns c = record { wrote = wrote_as c.put_number.ensures.wrote (ap number_bytes c.whole.ensures); same = c.put_number.ensures.same; size = c.put_number.ensures.size }

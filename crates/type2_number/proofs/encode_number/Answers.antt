@@ -1,6 +1,6 @@
 -- `type2_number::encode_number` meets its contract: each sign has its forms.
 use Rattle.std.proofs.Common.{Bool, ap, arith, false, length, sym, true, ◌≡◌}
-use Rattle.octets.specs.PutLaws.{wrote_as}
+use Rattle.octets.specs.OutLaws.{writes_as}
 use Rattle.type2_number.specs.Encoding.{integer_bytes}
 use Rattle.type2_number.proofs.encode_number.Goals as goal
 
@@ -13,7 +13,7 @@ put_negative-requires c =
 pub returns-then-neg : goal.returns-then-neg
 returns-then-neg c =
     let a = c.args in
-    wrote_as c.put_negative.ensures (ap (λ (s : Bool). integer_bytes s a.v) (sym c.if-neg.true))
+    writes_as c.put_negative.ensures (ap (λ (s : Bool). integer_bytes s a.v) (sym c.if-neg.true))
 
 pub put_positive-requires : goal.put_positive-requires
 put_positive-requires c =
@@ -24,4 +24,4 @@ put_positive-requires c =
 pub returns : goal.returns
 returns c =
     let a = c.args in
-    wrote_as c.put_positive.ensures (ap (λ (s : Bool). integer_bytes s a.v) (sym c.if-neg.false))
+    writes_as c.put_positive.ensures (ap (λ (s : Bool). integer_bytes s a.v) (sym c.if-neg.false))

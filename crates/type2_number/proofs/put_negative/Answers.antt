@@ -1,42 +1,42 @@
 -- `type2_number::put_negative` meets its contract: each arm writes the bytes of its form.
 use Rattle.std.proofs.Common.{arith, refl, true}
-use Rattle.octets.specs.PutLaws.{wrote_as}
+use Rattle.octets.specs.OutLaws.{writes_as}
 use Rattle.type2_number.specs.EncodingLaws.{length-one, length_two, length_three, one-neg, three-neg}
 use Rattle.type2_number.proofs.FormsLaws.{form_bytes}
 use Rattle.type2_number.proofs.put_negative.Goals as goal
 
-pub put_byte-requires : goal.put_byte-requires
-put_byte-requires c = let a = c.args in omega (arith, length-one true a.v (omega arith))
+pub byte-requires : goal.byte-requires
+byte-requires c = let a = c.args in omega (arith, length-one true a.v (omega arith))
 
-pub put_pair-requires : goal.put_pair-requires
-put_pair-requires c = let a = c.args in omega (arith, length_two true a.v (omega arith) (omega arith))
+pub pair-requires : goal.pair-requires
+pair-requires c = let a = c.args in omega (arith, length_two true a.v (omega arith) (omega arith))
 
-pub put_pair-requires-in-364-to-619 : goal.put_pair-requires-in-364-to-619
-put_pair-requires-in-364-to-619 c = let a = c.args in omega (arith, length_two true a.v (omega arith) (omega arith))
+pub pair-requires-in-364-to-619 : goal.pair-requires-in-364-to-619
+pair-requires-in-364-to-619 c = let a = c.args in omega (arith, length_two true a.v (omega arith) (omega arith))
 
-pub put_pair-requires-in-620-to-875 : goal.put_pair-requires-in-620-to-875
-put_pair-requires-in-620-to-875 c = let a = c.args in omega (arith, length_two true a.v (omega arith) (omega arith))
+pub pair-requires-in-620-to-875 : goal.pair-requires-in-620-to-875
+pair-requires-in-620-to-875 c = let a = c.args in omega (arith, length_two true a.v (omega arith) (omega arith))
 
-pub put_pair-requires-in-876-to-1131 : goal.put_pair-requires-in-876-to-1131
-put_pair-requires-in-876-to-1131 c = let a = c.args in omega (arith, length_two true a.v (omega arith) (omega arith))
+pub pair-requires-in-876-to-1131 : goal.pair-requires-in-876-to-1131
+pair-requires-in-876-to-1131 c = let a = c.args in omega (arith, length_two true a.v (omega arith) (omega arith))
 
 pub put_tagged-requires : goal.put_tagged-requires
 put_tagged-requires c = let a = c.args in omega (arith, length_three true a.v (omega arith))
 
 pub returns-in-0-to-107 : goal.returns-in-0-to-107
-returns-in-0-to-107 c = let a = c.args in wrote_as c.put_byte.ensures (one-neg true a.v refl (omega arith))
+returns-in-0-to-107 c = let a = c.args in writes_as c.byte.ensures (one-neg true a.v refl (omega arith))
 
 pub returns-in-108-to-363 : goal.returns-in-108-to-363
-returns-in-108-to-363 c = let a = c.args in wrote_as c.put_pair.ensures (form_bytes true a.v 0 (omega arith) (omega arith) (omega arith))
+returns-in-108-to-363 c = let a = c.args in writes_as c.pair.ensures (form_bytes true a.v 0 (omega arith) (omega arith) (omega arith))
 
 pub returns-in-364-to-619 : goal.returns-in-364-to-619
-returns-in-364-to-619 c = let a = c.args in wrote_as c.put_pair-in-364-to-619.ensures (form_bytes true a.v 1 (omega arith) (omega arith) (omega arith))
+returns-in-364-to-619 c = let a = c.args in writes_as c.pair-in-364-to-619.ensures (form_bytes true a.v 1 (omega arith) (omega arith) (omega arith))
 
 pub returns-in-620-to-875 : goal.returns-in-620-to-875
-returns-in-620-to-875 c = let a = c.args in wrote_as c.put_pair-in-620-to-875.ensures (form_bytes true a.v 2 (omega arith) (omega arith) (omega arith))
+returns-in-620-to-875 c = let a = c.args in writes_as c.pair-in-620-to-875.ensures (form_bytes true a.v 2 (omega arith) (omega arith) (omega arith))
 
 pub returns-in-876-to-1131 : goal.returns-in-876-to-1131
-returns-in-876-to-1131 c = let a = c.args in wrote_as c.put_pair-in-876-to-1131.ensures (form_bytes true a.v 3 (omega arith) (omega arith) (omega arith))
+returns-in-876-to-1131 c = let a = c.args in writes_as c.pair-in-876-to-1131.ensures (form_bytes true a.v 3 (omega arith) (omega arith) (omega arith))
 
 pub returns-in_default : goal.returns-in_default
-returns-in_default c = let a = c.args in wrote_as c.put_tagged.ensures (three-neg true a.v refl (omega arith))
+returns-in_default c = let a = c.args in writes_as c.put_tagged.ensures (three-neg true a.v refl (omega arith))

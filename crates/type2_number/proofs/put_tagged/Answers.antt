@@ -1,7 +1,7 @@
 -- `type2_number::put_tagged` meets its contract: one write after the other.
 use Rattle.std.proofs.Common.{arith}
-use Rattle.octets.specs.PutLaws.{wrote_then}
+use Rattle.octets.specs.OutLaws.{writes_then}
 use Rattle.type2_number.proofs.put_tagged.Goals as goal
 
 pub returns : goal.returns
-returns c = wrote_then (omega arith) c.put_byte-p.ensures c.put_num.ensures
+returns c = writes_then (omega arith) c.byte.ensures c.num.ensures

@@ -1,6 +1,6 @@
 -- `type2_number::read_number` meets its contract: each `return` is a case of `number_at`.
 use Rattle.std.proofs.Common.{arith}
-use Rattle.type2_number.specs.NumberLaws.{cut_28, got_28, got_op, got_1, cut_2, got-up, got-down, cut_5, got_ff}
+use Rattle.type2_number.specs.NumberLaws.{cut_28, got_28, got_op, got_1, cut_5, got_ff}
 use Rattle.type2_number.proofs.read_number.Goals as goal
 
 pub returns-then-left-lt3 : goal.returns-then-left-lt3
@@ -14,15 +14,6 @@ returns-then-v-lt32 c = got_op _ _ _ c.from-v.ensures (omega arith) c.if-v-eq28.
 
 pub returns-then-v-lt247 : goal.returns-then-v-lt247
 returns-then-v-lt247 c = got_1 _ _ _ c.from-v.ensures (omega arith) (omega arith) _ c.whole.ensures
-
-pub returns-then-left-lt2 : goal.returns-then-left-lt2
-returns-then-left-lt2 c = cut_2 _ _ _ c.from-v.ensures (omega arith) (omega arith) (omega arith)
-
-pub returns-then-v-lt251 : goal.returns-then-v-lt251
-returns-then-v-lt251 c = got-up _ _ _ _ c.from-v.ensures c.from-w.ensures (omega arith) (omega arith) (omega arith) _ c.whole-then-v-lt251.ensures
-
-pub returns-then-v-lt255 : goal.returns-then-v-lt255
-returns-then-v-lt255 c = got-down _ _ _ _ c.from-v.ensures c.from-w.ensures (omega arith) (omega arith) (omega arith) _ c.whole-then-v-lt255.ensures
 
 pub returns-then-left-lt5 : goal.returns-then-left-lt5
 returns-then-left-lt5 c = cut_5 _ _ _ c.from-v.ensures (omega arith) (omega arith)

@@ -1,7 +1,7 @@
 -- `capi::cut::answer_cut` meets its contract: the subset is cut in the room that the answer's words leave, and its two words are written.
 use Rattle.std.proofs.Common.{length}
 use Rattle.outcome.specs.Entry.{size_of}
-use Rattle.write.specs.Call.{is_cid, asks}
+use Rattle.outcome.specs.Call.{is_cid, asks}
 use Rattle.capi.specs.SubsetLaws.{room_there, room-taken, cut_answers}
 use Rattle.capi.proofs.cut.answer_cut.Goals as goal
 
@@ -14,4 +14,5 @@ slice_bounds-cut-end-2 c = room-taken (length c.args.answer.now) c.args.out.now 
 pub returns : goal.returns
 returns c =
     let a = c.args in
-    cut_answers (size_of a.call.small) (is_cid a.call.keying) (asks a.call.keying) a.font.now a.name.now a.keep.now a.rows.now a.traced a.work.now a.out.now a.answer.now _ c.room_for-room.ensures _ _ _ _ _ c.cut-cut.ensures c.put_cut.ensures
+    let ask = a.ask.now in
+    cut_answers (size_of a.call.small) (is_cid a.call.keying) (asks a.call.keying) a.font.now ask.name.now ask.keep.now ask.rows.now ask.traced a.work.now a.out.now a.answer.now _ c.room_for-room.ensures _ _ _ _ _ c.cut-cut.ensures c.put_cut.ensures

@@ -13,7 +13,7 @@ loop-fd-preserved c =
     let i = c.loop-fd.invariant in
     elim c.if-used-fd-ne0.branch [
       | then-used-fd-ne0 w ↦
-          (omega (arith, i.0, w.j-is), rw (w.fds-is, w.j-is) (listing-take _ _ _ _ _ i.1 (is_used c.args.used.now c.loop-fd.fd w.if-used-fd-ne0.true) (omega (arith, i.0, c.loop-fd-test.true))))
+          (omega (arith, i.0, w.j-is), rw (w.fds-is, w.j-is) (listing-take _ _ _ _ _ i.1 (is_used c.args.used.now c.loop-fd.fd w.if-used-fd-ne0.true) (omega (arith, i.0, c.requires.1, c.loop-fd-test.true))))
       | else-used-fd-ne0 w ↦
           (omega (arith, i.0, w.j-is), rw (w.fds-is, w.j-is) (listing-pass _ _ _ _ _ i.1 (not_used c.args.used.now c.loop-fd.fd w.if-used-fd-ne0.false)))
     ]

@@ -31,7 +31,7 @@ loop-fd-preserved c =
     elim c.if-used-fd-ne0.branch [
       | then-used-fd-ne0 w ↦
           let e = w.part_of-part.ensures.0 ∙ ap (λ (n : ℕ). part_by (program a.fds.now.font) n (get_or a.totals.now c.loop-fd.fd 0) c.loop-fd.fd) (w.kept_count-left.ensures ∙ ap (λ (r : Ranks). kept_count a.way r.reached r.count) w.ranks-own.ensures) in
-          (omega (arith, i.0, w.j-is), rw (w.sizes-is, w.lens-is, w.all-is, w.j-is) (measuring_take _ _ _ _ _ _ _ _ _ _ _ _ i.1 (is_used c.args.fds.now.used.now c.loop-fd.fd w.if-used-fd-ne0.true) _ e w.part_of-part.ensures.1 (omega (arith, i.0, t)) (omega (arith, i.0, t))))
+          (omega (arith, i.0, w.j-is), rw (w.sizes-is, w.lens-is, w.all-is, w.j-is) (measuring_take _ _ _ _ _ _ _ _ _ _ _ _ i.1 (is_used c.args.fds.now.used.now c.loop-fd.fd w.if-used-fd-ne0.true) _ e w.part_of-part.ensures.1 (omega (arith, i.0, t, c.requires.2)) (omega (arith, i.0, t, c.requires.3))))
       | else-used-fd-ne0 w ↦
           (omega (arith, i.0, w.j-is), rw (w.sizes-is, w.lens-is, w.all-is, w.j-is) (measuring_pass _ _ _ _ _ _ _ _ _ _ _ _ i.1 (not_used c.args.fds.now.used.now c.loop-fd.fd w.if-used-fd-ne0.false)))
     ]

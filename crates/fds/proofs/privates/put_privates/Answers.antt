@@ -1,6 +1,6 @@
 -- `privates::put_privates` meets its contract.
-use Rattle.std.proofs.Common.{sym, true, ◌≡◌}
-use Rattle.octets.specs.PutLaws.{wrote_none, wrote_as}
+use Rattle.std.proofs.Common.{sym, true, ◌≡◌, ◌∙◌}
+use Rattle.octets.specs.OutLaws.{writes_none, writes_as}
 use Rattle.record.specs.Record.{rows_of}
 use Rattle.cff.specs.Loaded.{program}
 use Rattle.fds.specs.Locals.{in_use_lem}
@@ -16,14 +16,14 @@ in_use e = is_used e.args.fds.now.used.now e.loop-fd.fd e.if-used-fd-ne0.true
 pub loop-fd-init : goal.loop-fd-init
 loop-fd-init c =
     let a = c.args in
-    wrote_as (wrote_none _ _) (sym (parts-start a.how.way (program a.fds.now.font) (rows_of a.rows.now) a.words.now a.fds.now.table.now a.how.globals a.fds.now.used.now))
+    writes_as (writes_none _) (sym (parts-start a.how.way (program a.fds.now.font) (rows_of a.rows.now) a.words.now a.fds.now.table.now a.how.globals a.fds.now.used.now))
 
-pub put_part-p-requires : goal.put_part-p-requires
-put_part-p-requires c =
+pub put_part-requires : goal.put_part-requires
+put_part-requires c =
     let a = c.args in (
-      fd_in _ _ _ _ _ _ _ _ a.fds.now.held c.requires.0 _ c.loop-fd-test.true (in_use (goal.at.put_part-p-requires c).Then-used-fd-ne0) _ c.ranks-own.ensures,
+      fd_in _ _ _ _ _ _ _ _ a.fds.now.held c.requires.0 _ c.loop-fd-test.true (in_use (goal.at.put_part-requires c).Then-used-fd-ne0) _ c.ranks-own.ensures,
       putting_room a.how.way (program a.fds.now.font) (rows_of a.rows.now) a.words.now a.fds.now.table.now a.how.globals a.fds.now.used.now
-          a.out.now a.totals.now a.at c.requires.1 c.loop-fd.out c.loop-fd.p c.loop-fd.fd c.loop-fd.invariant c.loop-fd-test.true (in_use (goal.at.put_part-p-requires c).Then-used-fd-ne0) _ c.ranks-own.ensures,
+          a.out.now.bytes.now a.totals.now a.out.now.at c.requires.1 c.loop-fd.out.bytes.now c.loop-fd.out.at c.loop-fd.fd c.loop-fd.invariant.wrote c.loop-fd-test.true (in_use (goal.at.put_part-requires c).Then-used-fd-ne0) _ c.ranks-own.ensures,
     )
 
 pub loop-fd-preserved : goal.loop-fd-preserved
@@ -32,9 +32,13 @@ loop-fd-preserved c =
     let i = c.loop-fd.invariant in
     elim c.if-used-fd-ne0.branch [
       | then-used-fd-ne0 w ↦
-          rw (w.out-is, w.p-is) (putting_take a.how.way (program a.fds.now.font) (rows_of a.rows.now) a.words.now a.fds.now.table.now a.how.globals a.fds.now.used.now
-          a.out.now a.totals.now a.at c.requires.1 c.loop-fd.out c.loop-fd.p c.loop-fd.fd i c.loop-fd-test.true (is_used c.args.fds.now.used.now c.loop-fd.fd w.if-used-fd-ne0.true) _ w.ranks-own.ensures _ _ w.put_part-p.ensures)
+          rw w.out-is (record {
+            wrote = putting_take a.how.way (program a.fds.now.font) (rows_of a.rows.now) a.words.now a.fds.now.table.now a.how.globals a.fds.now.used.now
+                a.out.now.bytes.now a.totals.now a.out.now.at c.requires.1 c.loop-fd.out.bytes.now c.loop-fd.out.at c.loop-fd.fd i.wrote c.loop-fd-test.true (is_used c.args.fds.now.used.now c.loop-fd.fd w.if-used-fd-ne0.true) _ w.ranks-own.ensures _ _ w.put_part.ensures.wrote;
+            same = w.put_part.ensures.same ∙ i.same;
+            size = w.put_part.ensures.size ∙ i.size;
+          })
       | else-used-fd-ne0 w ↦
-          rw (w.out-is, w.p-is) (wrote_as i (sym (parts-pass a.how.way (program a.fds.now.font) (rows_of a.rows.now) a.words.now a.fds.now.table.now a.how.globals a.fds.now.used.now c.loop-fd.fd
+          rw w.out-is (writes_as i (sym (parts-pass a.how.way (program a.fds.now.font) (rows_of a.rows.now) a.words.now a.fds.now.table.now a.how.globals a.fds.now.used.now c.loop-fd.fd
           (not_used c.args.fds.now.used.now c.loop-fd.fd w.if-used-fd-ne0.false))))
     ]

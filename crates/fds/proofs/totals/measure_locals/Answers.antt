@@ -14,7 +14,7 @@ loop-fd-init c = summing_start _ _ _ _ _ _ _ _
 
 pub locals_total-requires : goal.locals_total-requires
 locals_total-requires c =
-    fd_in _ _ _ _ _ _ _ _ c.args.fds.now.held c.requires _ c.loop-fd-test.true (in_use (goal.at.locals_total-requires c).Then-used-fd-ne0) _ c.ranks-own.ensures
+    fd_in _ _ _ _ _ _ _ _ c.args.fds.now.held c.requires.0 _ c.loop-fd-test.true (in_use (goal.at.locals_total-requires c).Then-used-fd-ne0) _ c.ranks-own.ensures
 
 pub returns-in-None : goal.returns-in-None
 returns-in-None c =
@@ -26,7 +26,7 @@ loop-fd-preserved c =
     elim c.if-used-fd-ne0.branch [
       | then-used-fd-ne0+in-Some w ↦
           rw w.totals-is (summing_take _ _ _ _ _ _ _ _ _ i (is_used c.args.fds.now.used.now c.loop-fd.fd w.if-used-fd-ne0.true) _ w.ranks-own.ensures _ w.locals_total.ensures.0 w.locals_total.ensures.1 _ w.in-Some.is
-          (omega (arith, c.loop-fd-test.true)))
+          (omega (arith, c.loop-fd-test.true, c.loop-fd.auto.totals, c.requires.1)))
       | else-used-fd-ne0 w ↦ rw w.totals-is (summing_pass _ _ _ _ _ _ _ _ _ i (not_used c.args.fds.now.used.now c.loop-fd.fd w.if-used-fd-ne0.false))
     ]
 

@@ -1,14 +1,11 @@
 -- `glyphs::put_ids` meets its contract.
-use Rattle.std.proofs.Common.{ap, arith, drop, length, subst, sym, ◌+◌, ◌<◌, ◌∙◌, ◌≡◌}
-use Rattle.octets.specs.Octets.{Wrote}
-use Rattle.octets.specs.OctetsLaws.{length-bytes}
+use Rattle.std.proofs.Common.{ap, arith, ◌++◌, drop, length, subst, sym, ◌+◌, ◌<◌, ◌∙◌, ◌≡◌}
 use Rattle.index.specs.Write.{table_bytes}
-use Rattle.index.specs.WriteLaws.{length-table}
 use Rattle.charset.specs.CharsetPlaces.{ids_of, StandsId}
 use Rattle.charset.specs.CharsetFound.{good_length, id_start, id_ready, id_step, id_next}
 use Rattle.charset.specs.declared.CharsetCursor.{CharsetCursor}
 use Rattle.charset.specs.declared.IdStep.{IdStep}
-use Rattle.cases.specs.Writing.{writing_start, writing-turn, writing_end}
+use Rattle.cases.specs.Adding.{adding_start, adding-turn, adding_end}
 use Rattle.format_cases.specs.GlyphsLaws.{numbers-next, numbers-none}
 use Rattle.format_cases.proofs.glyphs.put_ids.Goals as goal
 use Rattle.format_cases.proofs.glyphs.put_ids.Invariants.{of}
@@ -20,7 +17,7 @@ loop-init c =
       subst (λ (v : CharsetCursor). StandsId a.glyphs.now.bytes.now v (ids_of a.glyphs.now.bytes.now (of v) a.glyphs.now.n)) (sym e) (id_start a.glyphs.now.bytes.now a.glyphs.now.charset a.glyphs.now.n a.glyphs.now.good),
       subst (λ (v : CharsetCursor). length (ids_of a.glyphs.now.bytes.now (of v) a.glyphs.now.n) ≡ a.glyphs.now.n) (sym e) (good_length a.glyphs.now.bytes.now a.glyphs.now.charset a.glyphs.now.n a.glyphs.now.good),
       omega arith,
-      writing_start _ _ _,
+      adding_start _ _,
     )
 
 pub next_id-step-requires : goal.next_id-step-requires
@@ -36,15 +33,15 @@ loop-preserved c =
     let l = c.loop in
     let i = l.invariant in
     let a = c.args in
-    let w = c.put_num-p.ensures in
+    let w = c.num.ensures in
     let ids = ids_of a.glyphs.now.bytes.now (of c.charset_start-u.result) a.glyphs.now.n in
     let h : l.counter < length ids = omega (arith, i.1, c.loop-test.true) in
     let e = c.next_id-step.ensures.0 in
     let here = ap (λ (s : IdStep). s.id) e ∙ id_step a.glyphs.now.bytes.now l.u ids l.counter h i.0 in (
       subst (λ (s : IdStep). StandsId a.glyphs.now.bytes.now s.next (drop (l.counter + 1) ids)) (sym e) (id_next a.glyphs.now.bytes.now l.u ids l.counter h i.0),
       i.1,
-      omega (arith, w.behind, length-bytes 2 c.next_id-step.result.id, i.2),
-      writing-turn i.3 _ _ (numbers-next 2 ids l.counter _ h here) (omega (arith, length-table 2 ids, i.1, c.requires)) _ _ w,
+      omega (arith, w.1, i.2),
+      adding-turn i.3 _ _ (numbers-next 2 ids l.counter _ h here) w.0,
     )
 
 pub returns : goal.returns
@@ -52,5 +49,5 @@ returns c =
     let l = c.loop in
     let a = c.args in
     let e = c.charset_start-u.ensures in
-    subst (λ (v : CharsetCursor). Wrote a.out.now a.at (table_bytes 2 (ids_of a.glyphs.now.bytes.now (of v) a.glyphs.now.n)) l.out l.p) e
-    (writing_end l.invariant.3 (numbers-none 2 _ l.counter (omega (arith, l.invariant.1, c.loop-test.false))))
+    subst (λ (v : CharsetCursor). l.to ≡ a.to.now ++ table_bytes 2 (ids_of a.glyphs.now.bytes.now (of v) a.glyphs.now.n)) e
+    (adding_end l.invariant.3 (numbers-none 2 _ l.counter (omega (arith, l.invariant.1, c.loop-test.false))))

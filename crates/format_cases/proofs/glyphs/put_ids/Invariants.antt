@@ -4,7 +4,7 @@ use Rattle.index.specs.Write.{table_bytes}
 use Rattle.charset.specs.CharsetPlaces.{ids_of, StandsId}
 use Rattle.charset.specs.declared.Charset.{Charset}
 use Rattle.charset.specs.declared.CharsetCursor.{CharsetCursor}
-use Rattle.cases.specs.Writing.{Writing}
+use Rattle.cases.specs.Adding.{Adding}
 use Rattle.format_cases.proofs.glyphs.put_ids.Given as goal
 
 -- the charset of its first cursor
@@ -13,5 +13,5 @@ of u = record { own = u.left; width = u.width; at = u.at }
 
 abbrev pub invariant-loop : goal.invariant-loop
 invariant-loop l =
-    StandsId l.glyphs.bytes.now l.u (drop l.counter (ids_of l.glyphs.bytes.now (of l.initial.u) l.glyphs.n)) × (length (ids_of l.glyphs.bytes.now (of l.initial.u) l.glyphs.n) ≡ l.glyphs.n) × (l.p ≡ l.at + 2 * l.counter)
-    × Writing l.initial.out l.at (table_bytes 2 (ids_of l.glyphs.bytes.now (of l.initial.u) l.glyphs.n)) l.out l.p (table_bytes 2 (drop l.counter (ids_of l.glyphs.bytes.now (of l.initial.u) l.glyphs.n)))
+    StandsId l.glyphs.bytes.now l.u (drop l.counter (ids_of l.glyphs.bytes.now (of l.initial.u) l.glyphs.n)) × (length (ids_of l.glyphs.bytes.now (of l.initial.u) l.glyphs.n) ≡ l.glyphs.n) × (length l.to ≡ length l.initial.to + 2 * l.counter)
+    × Adding l.initial.to (table_bytes 2 (ids_of l.glyphs.bytes.now (of l.initial.u) l.glyphs.n)) l.to (table_bytes 2 (drop l.counter (ids_of l.glyphs.bytes.now (of l.initial.u) l.glyphs.n)))

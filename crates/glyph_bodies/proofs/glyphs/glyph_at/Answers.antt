@@ -4,4 +4,5 @@ use Rattle.glyph_bodies.proofs.glyphs.glyph_at.Goals as goal
 
 pub returns : goal.returns
 returns c =
-    glyph_read c.args.font.now c.args.select _ _ _ c.word_at-number.ensures.0 c.fd_of-fd.ensures
+    let w = c.word-number in
+    (glyph_read _ _ w.ensures.2 c.args.i c.requires _ _ w.ensures.0 c.fd_of-fd.ensures, w.ensures.2)

@@ -9,17 +9,17 @@ use Rattle.measure.proofs.name_keyed.measure_named.Goals as goal
 pub gather-o-requires : goal.gather-o-requires
 gather-o-requires c =
     let h : 0 < 4096 = omega arith in
-    gather_asked _ _ c.requires.0 c.args.keep.now c.args.words.now (replicate 4096 0) c.requires.1.below c.requires.1.found c.requires.1.room h
+    gather_asked _ _ c.args.font.now.held c.args.keep.now c.args.words.now (replicate 4096 0) c.requires.below c.requires.found c.requires.room h
 
 pub measure_ordered-requires : goal.measure_ordered-requires
 measure_ordered-requires c =
     let g = c.gather-o.ensures in (
-      gathered-asked false _ c.args.rows.now c.args.name.now (flag_of c.args.traced) _ c.requires.0 c.args.keep.now c.args.words.now c.requires.1 c.gather-o.result _ _ g.0 g.1 g.2
+      gathered-asked false _ c.args.rows.now c.args.name.now (flag_of c.args.traced) _ c.args.font.now.held c.args.keep.now c.args.words.now c.requires c.gather-o.result _ _ g.0 g.1 g.2
           c.gather-o.auto.words,
-      c.requires.1.named,
+      c.requires.named,
     )
 
 pub returns : goal.returns
 returns c =
     let g = c.gather-o.ensures in
-    named-gathered _ c.args.rows.now c.args.name.now (flag_of c.args.traced) _ c.requires.0 c.args.keep.now c.args.words.now c.requires.1 c.gather-o.result _ _ g.0 g.1 g.2 _ c.measure_ordered.ensures
+    named-gathered _ c.args.rows.now c.args.name.now (flag_of c.args.traced) _ c.args.font.now.held c.args.keep.now c.args.words.now c.requires c.gather-o.result _ _ g.0 g.1 g.2 _ c.measure_ordered.ensures

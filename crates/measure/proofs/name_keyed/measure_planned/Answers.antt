@@ -4,8 +4,10 @@ use Rattle.measure.proofs.name_keyed.measure_planned.Goals as goal
 
 pub returns-then-end-gt-LONGEST : goal.returns-then-end-gt-LONGEST
 returns-then-end-gt-LONGEST c =
-    named_long _ _ _ _ _ _ _ c.requires.0 c.args.name.now _ _ c.requires.1 _ c.requires.2 _ c.places_named-at.ensures c.if-end-gt-LONGEST.true
+    let h = c.args.c.now.ready in
+    named_long _ _ _ _ _ _ _ h.plan c.args.c.now.parts.name.now _ _ h.strings _ h.codes _ c.places_named-at.ensures c.if-end-gt-LONGEST.true
 
 pub returns : goal.returns
 returns c =
-    named-fits _ _ _ _ _ _ _ c.requires.0 c.args.name.now _ _ c.requires.1 _ c.requires.2 _ c.places_named-at.ensures c.if-end-gt-LONGEST.false
+    let h = c.args.c.now.ready in
+    named-fits _ _ _ _ _ _ _ h.plan c.args.c.now.parts.name.now _ _ h.strings _ h.codes _ c.places_named-at.ensures c.if-end-gt-LONGEST.false

@@ -1,13 +1,11 @@
 -- `plan::sizes::measure` meets its contract: each part is measured, and where one fails, all do.
+use Rattle.order_window.specs.Stays.{stays-refl}
 use Rattle.plan.specs.MeasureLaws.{returns_globals, returns_locals, returns_glyphs, returns_all}
 use Rattle.plan.proofs.sizes.measure.Goals as goal
 
-pub charstrings_total-requires : goal.charstrings_total-requires
-charstrings_total-requires c = (c.args.b.now.asked.glyphs, c.requires)
-
 pub returns-in-None : goal.returns-in-None
 returns-in-None c =
-    (returns_globals _ _ _ _ _ _ _ _ _ _ c.globals_total.ensures.0 c.in-None.is _ c.failed.ensures, c.requires)
+    (returns_globals _ _ _ _ _ _ _ _ _ _ c.globals_total.ensures.0 c.in-None.is _ c.failed.ensures, stays-refl _)
 
 pub returns-in-None-charstrings_total : goal.returns-in-None-charstrings_total
 returns-in-None-charstrings_total c = (
@@ -26,5 +24,5 @@ returns-in-Some-charstrings_total c = (
 pub returns-else-locals_totals : goal.returns-else-locals_totals
 returns-else-locals_totals c = (
   returns_locals _ _ _ _ _ _ _ _ _ _ c.globals_total.ensures.0 _ c.locals_totals.ensures c.if-locals_totals.false _ c.failed-else-locals_totals.ensures,
-  c.requires,
+  stays-refl _,
 )

@@ -6,4 +6,4 @@ use Rattle.renumber.specs.CodeLaws.{call_held}
 use Rattle.renumber.proofs.turns.call.Goals as goal
 
 pub returns-in-Some : goal.returns-in-Some
-returns-in-Some c = call_held (operand_of (numbers_in c.args.words.now c.args.q) (bias_of c.args.q.count) (bias_of c.args.q.reached)) _ _ _ c.in-Some.is c.new_operand.ensures
+returns-in-Some c = call_held (operand_of (numbers_in c.args.of.now.words.now c.args.of.now.q) (bias_of c.args.of.now.q.count) (bias_of c.args.of.now.q.reached)) _ _ _ c.in-Some.is c.new_operand.ensures

@@ -5,4 +5,4 @@ use Rattle.renumber.proofs.turns.rank_at.Goals as goal
 
 pub returns : goal.returns
 returns c =
-    rank-number c.args.words.now c.args.q c.requires.few (numbered (bias_of c.args.q.count) c.args.v) _ _ c.number_at.ensures c.rank_in.ensures
+    rank-number c.args.of.now.words.now c.args.of.now.q c.args.of.now.ranked.few (numbered (bias_of c.args.of.now.q.count) c.args.v) _ _ c.number_at.ensures c.rank_in.ensures

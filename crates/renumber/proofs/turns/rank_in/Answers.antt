@@ -7,8 +7,8 @@ use Rattle.renumber.proofs.turns.rank_in.Goals as goal
 
 pub returns-then-q : goal.returns-then-q
 returns-then-q c =
-    rank-kept c.args.words.now c.args.q c.requires c.if-q.true c.args.i c.if-q-i.false
+    rank-kept c.args.of.now.words.now c.args.of.now.q c.args.of.now.ranked c.if-q.true c.args.i c.if-q-i.false
 
 pub overflow_add-result-then-has_bit : goal.overflow_add-result-then-has_bit
 overflow_add-result-then-has_bit c =
-    omega (arith, c.rank_below.ensures, count-few (bit_in c.args.words.now c.args.q.at) c.args.i, c.requires.few, c.if-q-i.false)
+    omega (arith, c.rank_below.ensures, count-few (bit_in c.args.of.now.words.now c.args.of.now.q.at) c.args.i, c.args.of.now.ranked.few, c.if-q-i.false)

@@ -1,5 +1,5 @@
 -- `reading::put_parts` meets its contract: each part is written to its buffer.
-use Rattle.std.proofs.Common.{arith, subst, List, ℕ}
+use Rattle.std.proofs.Common.{arith, refl, subst, List, ℕ}
 use Rattle.cases.specs.Lines.{lines_of}
 use Rattle.octets.specs.Octets.{Wrote}
 use Rattle.sheet.specs.Sheet.{filled, row_bytes}
@@ -14,24 +14,26 @@ parts s = fine _ _ _ _ _ s.requires.1
 pub put_spelt-m-requires : goal.put_spelt-m-requires
 put_spelt-m-requires c =
     let u = up_to_room 16384 _ (parts (goal.at.put_spelt-m-requires c).Start).font in
-    (u.0, omega (arith, u.1, c.requires.2))
+    (u.0, omega (arith, u.1, c.args.to.now.font_room))
 
 pub put_spelt-n-requires : goal.put_spelt-n-requires
 put_spelt-n-requires c =
     let u = up_to_room 256 _ (parts (goal.at.put_spelt-n-requires c).Start).name in
-    (u.0, omega (arith, u.1, c.requires.3))
+    (u.0, omega (arith, u.1, c.args.to.now.name_room))
 
 pub put_kept-k-requires : goal.put_kept-k-requires
-put_kept-k-requires c = ((parts (goal.at.put_kept-k-requires c).Start).keep, c.requires.4)
+put_kept-k-requires c = ((parts (goal.at.put_kept-k-requires c).Start).keep, c.args.to.now.keep_room)
 
 pub flag_of-flag-requires : goal.flag_of-flag-requires
 flag_of-flag-requires c = (parts (goal.at.flag_of-flag-requires c).Start).flag
 
 pub put_rows-l-requires : goal.put_rows-l-requires
 put_rows-l-requires c =
-    (rw c.rest.ensures (parts (goal.at.put_rows-l-requires c).Start).rows, c.requires.5)
+    (rw c.rest.ensures (parts (goal.at.put_rows-l-requires c).Start).rows, c.args.to.now.rec_room)
 
 pub returns : goal.returns
-returns c =
-    stands c.args.text.now _ _ _ _ c.put_spelt-m.ensures c.put_spelt-n.ensures c.put_kept-k.ensures c.flag_of-flag.ensures
-    (subst (λ (t : List ℕ). Wrote c.args.rec.now 0 (row_bytes (filled (lines_of t))) c.put_rows-l.new.rec c.put_rows-l.result) c.rest.ensures c.put_rows-l.ensures)
+returns c = (
+  stands c.args.text.now _ _ _ _ c.put_spelt-m.ensures c.put_spelt-n.ensures c.put_kept-k.ensures c.flag_of-flag.ensures
+      (subst (λ (t : List ℕ). Wrote c.args.to.now.rec.now 0 (row_bytes (filled (lines_of t))) c.put_rows-l.new.rec c.put_rows-l.result) c.rest.ensures c.put_rows-l.ensures),
+  record { font = refl; name = refl; keep = refl; rec = refl },
+)

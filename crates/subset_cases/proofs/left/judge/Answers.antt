@@ -1,11 +1,10 @@
 -- `left::judge` meets its contract: the answer, where the work words are as they should be.
 use Rattle.std.proofs.Common.{sym, ◌∙◌}
-use Rattle.cases.specs.AnswersLaws.{gives_none, gives_as}
 use Rattle.subset_cases.specs.LeftLaws.{judged-kept, judged-changed}
 use Rattle.subset_cases.proofs.left.judge.Goals as goal
 
 pub returns-then-words_left : goal.returns-then-words_left
-returns-then-words_left c = gives_as _ _ _ _ c.put_answer.ensures (judged-kept _ _ _ _ _ c.zeroed.ensures (sym c.words_left.ensures ∙ c.if-words_left.true))
+returns-then-words_left c = c.of_call.ensures ∙ sym (judged-kept _ _ _ _ _ c.zeroed.ensures (sym c.words_left.ensures ∙ c.if-words_left.true))
 
 pub returns : goal.returns
-returns c = gives_none _ _ (judged-changed _ _ _ _ _ c.zeroed.ensures (sym c.words_left.ensures ∙ c.if-words_left.false))
+returns c = sym (judged-changed _ _ _ _ _ c.zeroed.ensures (sym c.words_left.ensures ∙ c.if-words_left.false))

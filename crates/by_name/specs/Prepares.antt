@@ -1,0 +1,31 @@
+-- What is prepared for the cut of the kept glyphs of a name-keyed font.
+use Rattle.std.specs.Prelude.{ℕ, ◌≤◌, Bool, List, length, Result, Ok, Err}
+use Rattle.record.specs.Record.{rows_of}
+use Rattle.cff.specs.Reads.{program_of}
+use Rattle.order_window.specs.declared.Order.{Order}
+use Rattle.order_window.specs.Window.{glyphs_of, Gathered}
+use Rattle.parts.specs.Ready.{bodies_for}
+use Rattle.named_parts.specs.Named.{coded_for, named_outcome, NamedPlan, NamedStrings, NamedCodes}
+use Rattle.outcome.specs.Entry.{Cut}
+use Rattle.outcome.specs.declared.Subsetted.{Subsetted}
+use Rattle.outcome.specs.declared.tables.Tables.{Tables}
+use Rattle.refusal.specs.declared.Refusal.{Refusal}
+use Rattle.by_name.specs.declared.CodedCut.{CodedCut}
+use Rattle.by_name.specs.NamedKeptLaws.{cut_ordered}
+
+module _ (ask : Bool) (b rec : List ℕ) (flag : ℕ) (o : Order) (ws slots new window : List ℕ) (t : Tables) where
+  -- the slots, the work words, the window and the tables are ready for a cut, and its outcome is that of the kept glyphs
+  pub record IsPrepared (c : CodedCut) : Type 0 where
+    pub plan : NamedPlan b (rows_of rec) t.used new c.cut.plan t.table t.totals
+    pub strings : (m : ℕ) → m ≤ 65535 → NamedStrings (program_of b c.cut.plan.order.f) (glyphs_of b c.cut.plan.order.f new) slots c.cut.own m
+    pub codes : NamedCodes c.encoding slots
+    pub gathered : Gathered b new window c.cut.plan.order
+    pub cuts : (name out out' : List ℕ) (a : Result Subsetted Refusal)
+        → Cut (named_outcome (program_of b c.cut.plan.order.f) (coded_for c.encoding slots) name (glyphs_of b c.cut.plan.order.f new) (length out)
+        (record { way = c.cut.plan.how.way; bodies = bodies_for b (rows_of rec) t.used new c.cut.plan })) out out' a
+        → Cut (cut_ordered ask b rec name flag o ws (length out)) out out' a
+
+  -- or the cut is refused, whatever the new name and the output are
+  abbrev pub Prepares : Result CodedCut Refusal → Type 0
+  Prepares (Ok c) = IsPrepared c
+  Prepares (Err e) = (name out : List ℕ) → Cut (cut_ordered ask b rec name flag o ws (length out)) out out (Err e)

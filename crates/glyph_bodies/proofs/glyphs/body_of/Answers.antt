@@ -1,0 +1,20 @@
+-- `glyph_bodies::glyphs::body_of` meets its contract: the glyph and the tables say which charstring, and which calls.
+use Rattle.std.proofs.Common.{◌∙◌}
+use Rattle.glyph_bodies.specs.GlyphsLaws.{charstring_inputs}
+use Rattle.glyph_bodies.proofs.glyphs.body_of.Goals as goal
+
+pub new-requires : goal.new-requires
+new-requires c = charstring_inputs c.args.one.now.asked _ c.ranks_in-locals.ensures _ c.item-code.ensures.0
+
+pub returns : goal.returns
+returns c =
+    let r = c.new.ensures in
+    record {
+      code_is = r.code_is ∙ c.item-code.ensures.0;
+      words_are = r.words_are;
+      locals_are = r.locals_are ∙ c.ranks_in-locals.ensures;
+      globals_are = r.globals_are;
+      rows_are = r.rows_are;
+      rises_so = r.rises_so;
+      site_is = r.site_is;
+    }
