@@ -27,7 +27,7 @@ use Rattle.traced.specs.Traced.{Traced, refused, traced, record_of, met_all, ans
 use Rattle.traced.specs.Theorem.{kept_rows}
 use Rattle.traced.proofs.Theorem.{trace_fine, kept-fits}
 use Rattle.culprit.specs.Culprit.{cut_traced, traced_cut, has_way}
-use Rattle.failing.specs.Failing.{Recorded, Only}
+use Rattle.failing.specs.Failing.{Recorded}
 use Rattle.blocking.specs.Search.{CanCut, renumbered_in}
 use Rattle.traced.specs.declared.Recorded.{Recorded as AsRecorded}
 use Rattle.early_traced.specs.EarlyLaws.{same_self}
@@ -204,10 +204,6 @@ module _ (file : List ℕ) (f : Font) (b : List ℕ) (octets : Octets file) (hel
 
     pub tried_handed : (r : AsRecorded) → a ≡ Ok r → Handed (trace_program p keep (length old)) r.flag r.len new
     tried_handed = traced_handed old new a t
-
--- where none is found each may be the culprit
-pub each_may : (p : Program) (keep : List ℕ) → Only p keep 65536
-each_may p keep = record { others = λ k. absurd (omega arith) }
 
 -- the way of an answer is its outcome's
 pub way-of : (o : Outcome) → renumbered_in (answer_of o) ≡ has_way Renumbered o

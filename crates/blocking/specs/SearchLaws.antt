@@ -313,20 +313,27 @@ module _ (font : Opened) (keep : List ℕ) (below : all_below font.loaded.f.char
     spread-few = omega (arith, spread_long, few)
 
     -- by the one that alone can be the culprit
-    pub alone-found : (name : List ℕ) (words lent g : ℕ) → Only p keep g → g < n → (r : Option ℕ) → r ≡ pick (frees p name list words lent g) (Some g) None
-        → r ≡ least_culprit p name keep words lent
-    unfolding least_culprit frees
-    alone-found name words lent g only h r q =
-        q ∙ ap (λ (l : List ℕ). pick (frees p name l words lent g) (Some g) None) spread-own
-        ∙ first_alone (is_culprit p name keep words lent) (length p.charstrings - 1) g (λ x. only.others (omega (arith, few)) name words lent x)
-        (frees p name (own keep n below) words lent g)
-        (λ l. freed_is keep n below g h l p name words lent (omega (arith, some, many)))
-        (λ z. ap (λ (k : ℕ). pick (eqb k 0) false (has_way Renumbered (traced_cut p name (set (own keep n below) g 0) words lent))) (own_at keep n below g ∙ at_zero (is_in g keep) z))
-        (omega (arith, h, many))
-      where
-        at_zero : (t : Bool) → g ≡ 0 → pick t g 0 ≡ 0
-        at_zero true z = z
-        at_zero false z = refl
+    module _ (a : Option ℕ) (only : Only p keep a) (g : ℕ) (is : a ≡ Some g) where
+      alone-below : g < n
+      alone-below = omega (arith, only.there g is, many)
+
+      pub alone-inside : g < length list
+      alone-inside = omega (arith, alone-below, spread_long)
+
+      pub alone-found : (name : List ℕ) (words lent : ℕ) (r : Option ℕ) → r ≡ pick (frees p name list words lent g) (Some g) None
+          → r ≡ least_culprit p name keep words lent
+      unfolding least_culprit frees
+      alone-found name words lent r q =
+          q ∙ ap (λ (l : List ℕ). pick (frees p name l words lent g) (Some g) None) spread-own
+          ∙ first_alone (is_culprit p name keep words lent) (length p.charstrings - 1) g (λ x. only.others g is name words lent x)
+          (frees p name (own keep n below) words lent g)
+          (λ l. freed_is keep n below g alone-below l p name words lent (omega (arith, some, many)))
+          (λ z. ap (λ (k : ℕ). pick (eqb k 0) false (has_way Renumbered (traced_cut p name (set (own keep n below) g 0) words lent))) (own_at keep n below g ∙ at_zero (is_in g keep) z))
+          (omega (arith, alone-below, many))
+        where
+          at_zero : (t : Bool) → g ≡ 0 → pick t g 0 ≡ 0
+          at_zero true z = z
+          at_zero false z = refl
 
     pub least-found : (name : List ℕ) (words lent : ℕ) (r : Option ℕ) → r ≡ first_of (those (frees p name list words lent) (length list - 1) 1)
         → r ≡ least_culprit p name keep words lent

@@ -17,6 +17,7 @@ ghost use Rattle.blocking.specs.Search.{spread, renumbered_in, Tried};
 ghost use Rattle.blocking.specs.Stays.{over, cut_by, frees_by, least_by, Stays};
 
 use crate::search::Search;
+use asked::Asked;
 use cff::opened::Opened;
 use failing::list::KeepList;
 use faithful::read::Held;
@@ -31,17 +32,14 @@ fn try_list(search: &mut Search<'_>, keep: &[u16]) -> Result<Subsetted, Refusal>
     let slice = &mut *search.slice;
     let r = tracer::trace_font(&font, keep, &mut *slice)?;
     let rows = &slice[..r.len];
+    let asked = Asked {
+        name: search.name,
+        rows,
+        traced: r.flag == 1,
+    };
     let held = Held::of(&font);
     let words = &mut *search.words;
-    measure::measure(
-        font.loaded.f.cid,
-        &held,
-        search.name,
-        keep,
-        rows,
-        r.flag == 1,
-        words,
-    )
+    measure::measure(font.loaded.f.cid, &held, keep, &asked, words)
 }
 
 // Whether an answer is that of a renumbered subset.
@@ -80,28 +78,29 @@ fn first_freed(search: &mut Search<'_>, list: &mut [u16]) -> Option<u16>
 }
 
 // The same where no glyph but g can be the first.
-fn one_freed(search: &mut Search<'_>, list: &mut [u16], g: usize) -> Option<u16>
-    requires { (g < length list.old) × (length list.old < 65536) }
+fn one_freed(search: &mut Search<'_>, list: &mut [u16], g: u16) -> Option<u16>
+    requires { g < length list.old }
     ensures { (result ≡ pick (over (frees_by list.old) search.old g) (Some g) None) × (Stays search.old search.new) }
 {
-    if list[g] == 0 {
+    let at = g as usize;
+    if list[at] == 0 {
         return None;
     }
-    if is_freed(search, list, g) {
-        return Some(g as u16);
+    if is_freed(search, list, at) {
+        return Some(g);
     }
     None
 }
 
-// The kept glyph that alone can be the culprit, or 65536 where each may be.
-fn candidate(search: &mut Search<'_>, keep: &[u16]) -> usize
+// The kept glyph that alone can be the culprit; none where each may be.
+fn candidate(search: &mut Search<'_>, keep: &[u16]) -> Option<u16>
     requires { all_below search.old.font.loaded.f.charstrings.count keep.now ≡ true }
     ensures { (Only (program search.old.font.loaded) keep.now result) × (Stays search.old search.new) }
 {
     let opened = search.font;
     let slice = &mut *search.slice;
     match tracer::trace_font(&opened, keep, &mut *slice) {
-        Err(_) => 65536,
+        Err(_) => None,
         Ok(r) => {
             if r.flag == 1 {
                 let font = Held::of(&opened);
@@ -109,7 +108,7 @@ fn candidate(search: &mut Search<'_>, keep: &[u16]) -> usize
                 let words = &mut *search.words;
                 return failing::only_culprit(&list, &slice[..r.len], words);
             }
-            65536
+            None
         }
     }
 }
@@ -134,10 +133,10 @@ fn least_culprit(search: &mut Search<'_>, keep: &[u16]) -> Option<u16>
     let mut all = [0u16; 65536];
     let list = &mut all[..n];
     spread(keep, &mut *list);
-    if only < n {
-        return one_freed(search, list, only);
+    match only {
+        Some(g) => one_freed(search, list, g),
+        None => first_freed(search, list),
     }
-    first_freed(search, list)
 }
 
 // The answer by the first W work words, which are used, as the record slice is.

@@ -1,10 +1,9 @@
 -- The kept glyphs of a CID-keyed subset and their FDs, from the order to the plan (document 01, 'Layout'): what each step asks, and what is ready
 -- when the plan is made.
-use Rattle.std.specs.Prelude.{ℕ, suc, ◌≤◌, ◌<◌, ◌≡◌, refl, Bool, true, false, not, eqb, length, get_or, replicate, Result}
+use Rattle.std.specs.Prelude.{ℕ, suc, ◌≤◌, ◌<◌, ◌≡◌, refl, Bool, true, false, not, eqb, length, get_or, Result}
 use Rattle.std.proofs.Math.Path.{sym, ap, subst, fun_ext}
 use Rattle.std.proofs.Common.{◌∙◌, arith}
 use mathlib.Core.List.{List, [], ◌∷◌}
-use Rattle.std.proofs.lemmas.List.{length-replicate}
 use Rattle.octets.specs.Pick.{pick}
 use Rattle.octets.specs.Octets.{put}
 use Rattle.octets.specs.PutLaws.{put-length}
@@ -150,10 +149,6 @@ pub record CidOrdered (b : List ℕ) (o : Order) (ws window : List ℕ) : Type 0
   pub ordered : Gathered b ws window o
   pub room : small_size (program_of b o.f) ≤ length ws
 
--- a new window has room
-pub window-room : (window : List ℕ) → window ≡ replicate 4096 0 → 0 < length window
-window-room window e = omega (arith, ap length e, length-replicate {A = ℕ} 4096 0)
-
 -- ---- the cut of the glyphs that were gathered is the cut
 
 module _ (b rec name : List ℕ) (flag : ℕ) where
@@ -182,8 +177,3 @@ module _ (b rec name : List ℕ) (flag : ℕ) where
         ordered = ordered;
         room = subst (λ (g : Font). small_size (program_of b g) ≤ length ws) (sym same) (omega (arith, room, size));
       }
-
-  -- the cut of the gathered glyphs is written as the cut
-  pub gathered_is : (f : Font) (keep : List ℕ) (o : Order) {ws window : List ℕ} → Gathered b ws window o → o.f ≡ f → kept_in (many_in f) ws ≡ kept_of (many_in f) keep
-      → {out out' : List ℕ} {a : Result Subsetted Refusal} → Cut (cut_ordered o ws (length out)) out out' a → Cut (cut_behind false (program_of b f) name keep rec flag (length out)) out out' a
-  gathered_is f keep o {ws} {window} ordered same is {out} {out'} {a} x = subst (λ (z : Outcome). Cut z out out' a) (gathered-cut f keep o ws same is (length out)) x

@@ -1,16 +1,15 @@
 // The cut of a CID-keyed font (the Rust's subset_cid).
 #![tactic(auto)]
 
-ghost use Rattle.std.specs.Prelude.{true, false, ◌≤◌, length};
-ghost use Rattle.cff.specs.Reads.{program_of};
+ghost use Rattle.std.specs.Prelude.{true, false, ◌≤◌, ◌<◌, length};
 ghost use Rattle.cff.specs.Loaded.{program};
 ghost use Rattle.outcome.specs.Entry.{cut_behind, Cut, Passed};
 ghost use Rattle.subset.specs.Flag.{flag_of};
-ghost use Rattle.cid_parts.specs.Cid.{sized};
-ghost use Rattle.cid_parts.specs.Subset.{subset_in};
-ghost use Rattle.by_cid.specs.CidKeptLaws.{CidOrdered, cut_ordered};
+ghost use Rattle.by_cid.specs.CidKeptLaws.{CidOrdered};
+ghost use Rattle.by_cid.specs.Outcome.{CutsAs, outcome_in};
 ghost use Rattle.by_cid.specs.Prepares.{Prepares};
 
+use asked::Asked;
 use cff::loaded::Loaded;
 use cid_parts::cid::CidSubset;
 use cid_parts::{places_cid, put_parts};
@@ -23,7 +22,7 @@ use refusal::Refusal;
 
 // The subset, measured, and then in the front of the output, if it is not too long for a subset or for the output.
 fn cut_planned(c: &mut CidSubset<'_>, out: &mut [u8]) -> Result<Subsetted, Refusal>
-    ensures { Cut (sized c.old.parts.cut.plan.how.way (subset_in c.old) (length out.old)) out.old out.new result }
+    ensures { Cut (outcome_in c.old (length out.old)) out.old out.new result }
 {
     let how = c.parts.cut.plan.how;
     let at = places_cid(&mut *c);
@@ -41,19 +40,18 @@ fn cut_planned(c: &mut CidSubset<'_>, out: &mut [u8]) -> Result<Subsetted, Refus
     })
 }
 
-// What is prepared of the cut of the kept glyphs: strings, the FDs in use by their new numbers, and the plan of the bodies.
-pub fn prepare(
+// The plan of the cut of the kept glyphs: strings, the FDs in use by their new numbers, and the plan of the bodies.
+fn plan_cut(
     o: Order,
     font: &[u8],
-    rows: &[u8],
-    traced: bool,
+    asked: &Asked<'_>,
     words: &mut [u32],
     window: &mut [u32],
     slots: &mut [usize],
     tables: &mut Tables,
 ) -> Prepared
     requires { (CidOrdered font.now o words.old window.old) × (16 ≤ length slots.old) }
-    ensures { Prepares font.now rows.now (flag_of traced) o words.old slots.new words.new window.new tables.new result }
+    ensures { Prepares font.now asked.now.rows.now (flag_of asked.now.traced) o words.old slots.new words.new window.new tables.new result }
 {
     let loaded = Loaded {
         bytes: font,
@@ -72,8 +70,8 @@ pub fn prepare(
     let plan = parts::plan_all(
         o,
         font,
-        rows,
-        traced,
+        asked.rows,
+        asked.traced,
         &tables.used,
         words,
         window,
@@ -83,63 +81,67 @@ pub fn prepare(
     Prepared { plan, own, count }
 }
 
-// The subset of the kept glyphs in the front of the output, if it is not too long; its string ids cannot be refused, since a CID-keyed subset has at
-// most 8 own strings.
-fn cut_ordered(
-    o: Order,
-    font: &[u8],
-    name: &[u8],
-    rows: &[u8],
-    traced: bool,
-    words: &mut [u32],
-    window: &mut [u32],
-    out: &mut [u8],
-) -> Result<Subsetted, Refusal>
-    requires { (CidOrdered font.now o words.old window.old) × (length name.now ≤ 65535) }
-    ensures { Cut (cut_ordered font.now rows.now name.now (flag_of traced) o words.old (length out.old))
-        out.old out.new result }
+// What the subset of the kept glyphs is written from. Its string ids cannot be refused, since a CID-keyed subset has at most 8 own strings. Three lifetimes,
+// since Rattle shortens none behind a reference: with one, no caller could lend arrays of its own.
+pub fn prepare<'a, 'f: 'a, 'n: 'a>(
+    font: &Held<'f>,
+    keep: &[u16],
+    asked: &Asked<'n>,
+    words: &'a mut [u32],
+    window: &'a mut [u32],
+    slots: &'a mut [usize],
+    tables: &'a mut Tables,
+) -> CidSubset<'a>
+    requires { (Passed true false (program font.now.loaded) (length asked.now.name.now) keep.now asked.now.rows.now (flag_of asked.now.traced) (length words.old))
+        × (0 < length window.old) × (16 ≤ length slots.old) }
+    ensures { CutsAs result (cut_behind false (program font.now.loaded) asked.now.name.now keep.now asked.now.rows.now (flag_of asked.now.traced)) }
 {
-    let mut slots = [0usize; 16];
-    let mut tables = Tables::new();
-    let cut = prepare(
+    let bytes = font.loaded.bytes;
+    let o = order_window::gather(bytes, font.loaded.f, keep, &mut *words, &mut *window);
+    let cut = plan_cut(
         o,
-        font,
-        rows,
-        traced,
+        bytes,
+        asked,
         &mut *words,
         &mut *window,
-        &mut slots,
-        &mut tables,
+        &mut *slots,
+        &mut *tables,
     );
     let parts = Parts {
         cut,
-        name,
-        slots: &slots,
+        name: asked.name,
+        slots: &*slots,
         used: &tables.used,
         table: &tables.table,
         totals: &tables.totals,
-        rows,
+        rows: asked.rows,
     };
-    let mut c = CidSubset::new(font, &*words, window, parts);
-    cut_planned(&mut c, out)
+    CidSubset::new(bytes, &*words, window, parts)
 }
 
 // The subset in the front of the output, if it is not too long. The work words are used.
 pub fn cut_cid(
     font: &Held<'_>,
-    name: &[u8],
     keep: &[u16],
-    rows: &[u8],
-    traced: bool,
+    asked: &Asked<'_>,
     words: &mut [u32],
     out: &mut [u8],
 ) -> Result<Subsetted, Refusal>
-    requires { Passed true false (program font.now.loaded) (length name.now) keep.now rows.now (flag_of traced) (length words.old) }
-    ensures { Cut (cut_behind false (program font.now.loaded) name.now keep.now rows.now (flag_of traced) (length out.old))
+    requires { Passed true false (program font.now.loaded) (length asked.now.name.now) keep.now asked.now.rows.now (flag_of asked.now.traced) (length words.old) }
+    ensures { Cut (cut_behind false (program font.now.loaded) asked.now.name.now keep.now asked.now.rows.now (flag_of asked.now.traced) (length out.old))
         out.old out.new result }
 {
     let mut window = [0u32; 4096];
-    let bytes = font.loaded.bytes;
-    let o = order_window::gather(bytes, font.loaded.f, keep, &mut *words, &mut window);
-    cut_ordered(o, bytes, name, rows, traced, words, &mut window, out)
+    let mut slots = [0usize; 16];
+    let mut tables = Tables::new();
+    let mut c = prepare(
+        font,
+        keep,
+        asked,
+        words,
+        &mut window,
+        &mut slots,
+        &mut tables,
+    );
+    cut_planned(&mut c, out)
 }

@@ -6,7 +6,10 @@ use Rattle.order_window.specs.declared.Order.{Order}
 use Rattle.order_window.specs.Window.{glyphs_of, Gathered}
 use Rattle.parts.specs.Ready.{bodies_for}
 use Rattle.named_parts.specs.Named.{coded_for, named_outcome, NamedPlan, NamedStrings, NamedCodes}
+use Rattle.named_parts.specs.declared.named.NamedSubset.{NamedSubset}
+use Rattle.named_parts.specs.Subset.{outcome_in}
 use Rattle.outcome.specs.Entry.{Cut}
+use Rattle.subset.specs.Cut.{Outcome}
 use Rattle.outcome.specs.declared.Subsetted.{Subsetted}
 use Rattle.outcome.specs.declared.tables.Tables.{Tables}
 use Rattle.refusal.specs.declared.Refusal.{Refusal}
@@ -29,3 +32,8 @@ module _ (ask : Bool) (b rec : List ℕ) (flag : ℕ) (o : Order) (ws slots new 
   abbrev pub Prepares : Result CodedCut Refusal → Type 0
   Prepares (Ok c) = IsPrepared c
   Prepares (Err e) = (name out : List ℕ) → Cut (cut_ordered ask b rec name flag o ws (length out)) out out (Err e)
+
+-- a cut by what a subset is written from is one of an outcome; or the cut is refused
+abbrev pub CutsAs : (ℕ → Outcome) → Result NamedSubset Refusal → Type 0
+CutsAs o (Ok c) = (out out' : List ℕ) (a : Result Subsetted Refusal) → Cut (outcome_in c (length out)) out out' a → Cut (o (length out)) out out' a
+CutsAs o (Err e) = (out : List ℕ) → Cut (o (length out)) out out (Err e)

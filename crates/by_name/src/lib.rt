@@ -1,7 +1,7 @@
 // The cut of a name-keyed font (the Rust's subset).
 #![tactic(auto)]
 
-ghost use Rattle.std.specs.Prelude.{false, ◌≡◌, ◌≤◌, length};
+ghost use Rattle.std.specs.Prelude.{false, ◌≡◌, ◌≤◌, ◌<◌, length};
 ghost use Rattle.cff.specs.Loaded.{program};
 ghost use Rattle.cff.specs.Reads.{program_of};
 ghost use Rattle.subset.specs.Codes.{coded_if};
@@ -12,9 +12,10 @@ ghost use Rattle.encoding.specs.Encoded.{CanRename};
 ghost use Rattle.outcome.specs.Entry.{cut_behind, Cut, Passed};
 ghost use Rattle.named_parts.specs.Named.{NamedCut};
 ghost use Rattle.named_parts.specs.Subset.{outcome_in};
-ghost use Rattle.by_name.specs.NamedKeptLaws.{CodesBehind, cut_ordered};
-ghost use Rattle.by_name.specs.Prepares.{Prepares};
+ghost use Rattle.by_name.specs.NamedKeptLaws.{CodesBehind};
+ghost use Rattle.by_name.specs.Prepares.{CutsAs, Prepares};
 
+use asked::Asked;
 use encoding::{Encoding, encode};
 use faithful::read::Held;
 use named_parts::named::NamedSubset;
@@ -68,21 +69,20 @@ pub fn encode_behind(kept: &mut Kept<'_>, ask: bool, slots: &mut [usize]) -> Enc
     encoding
 }
 
-// What is prepared of the cut of the kept glyphs: strings, encoding where it is asked for, and the plan of the bodies, FD 0 being in use; or refused: a
-// string id, pairs.
-pub fn prepare(
+// The plan of the cut of the kept glyphs: strings, encoding where it is asked for, and the plan of the bodies, FD 0 being in use; or refused: a string id,
+// pairs.
+fn plan_cut(
     o: Order,
     font: &[u8],
     ask: bool,
-    rows: &[u8],
-    traced: bool,
+    asked: &Asked<'_>,
     words: &mut [u32],
     window: &mut [u32],
     slots: &mut [usize],
     tables: &mut Tables,
 ) -> Result<CodedCut, Refusal>
     requires { (NamedCut font.now o words.old window.old) × (length slots.old ≡ 272) }
-    ensures { Prepares ask font.now rows.now (flag_of traced) o words.old slots.new words.new window.new tables.new result }
+    ensures { Prepares ask font.now asked.now.rows.now (flag_of asked.now.traced) o words.old slots.new words.new window.new tables.new result }
 {
     let mut kept = Kept {
         font,
@@ -104,8 +104,8 @@ pub fn prepare(
     let plan = plan_all(
         o,
         font,
-        rows,
-        traced,
+        asked.rows,
+        asked.traced,
         &tables.used,
         words,
         window,
@@ -120,65 +120,70 @@ pub fn prepare(
     Ok(CodedCut { cut, encoding })
 }
 
-// The subset of the kept glyphs in the front of the output, with its encoding where it is asked for; or refused: a string id, pairs, too long.
-fn cut_ordered(
-    o: Order,
-    font: &[u8],
+// What the subset of the kept glyphs is written from, with its encoding where it is asked for; or refused as above. Its lifetimes are as by_cid's.
+pub fn prepare<'a, 'f: 'a, 'n: 'a>(
+    font: &Held<'f>,
     ask: bool,
-    name: &[u8],
-    rows: &[u8],
-    traced: bool,
-    words: &mut [u32],
-    window: &mut [u32],
-    out: &mut [u8],
-) -> Result<Subsetted, Refusal>
-    requires { (NamedCut font.now o words.old window.old) × (length name.now ≤ 65535) }
-    ensures { Cut (cut_ordered ask font.now rows.now name.now (flag_of traced) o words.old (length out.old))
-        out.old out.new result }
+    keep: &[u16],
+    asked: &Asked<'n>,
+    words: &'a mut [u32],
+    window: &'a mut [u32],
+    slots: &'a mut [usize],
+    tables: &'a mut Tables,
+) -> Result<NamedSubset<'a>, Refusal>
+    requires { (Passed false ask (program font.now.loaded) (length asked.now.name.now) keep.now asked.now.rows.now (flag_of asked.now.traced) (length words.old))
+        × (0 < length window.old) × (length slots.old ≡ 272) }
+    ensures { CutsAs (cut_behind ask (program font.now.loaded) asked.now.name.now keep.now asked.now.rows.now (flag_of asked.now.traced)) result }
 {
-    let mut slots = [0usize; 272];
-    let mut tables = Tables::new();
-    let coded = prepare(
+    let bytes = font.loaded.bytes;
+    let o = order_window::gather(bytes, font.loaded.f, keep, &mut *words, &mut *window);
+    let coded = plan_cut(
         o,
-        font,
+        bytes,
         ask,
-        rows,
-        traced,
+        asked,
         &mut *words,
         &mut *window,
-        &mut slots,
-        &mut tables,
+        &mut *slots,
+        &mut *tables,
     )?;
     let parts = Parts {
         cut: coded.cut,
-        name,
-        slots: &slots,
+        name: asked.name,
+        slots: &*slots,
         used: &tables.used,
         table: &tables.table,
         totals: &tables.totals,
-        rows,
+        rows: asked.rows,
     };
-    let mut c = NamedSubset::new(font, &*words, window, parts, coded.encoding);
-    cut_planned(&mut c, out)
+    Ok(NamedSubset::new(bytes, &*words, window, parts, coded.encoding))
 }
 
-// The subset in the front of the output, with its encoding where it is asked for; or refused as above. The work words are used.
+// The subset in the front of the output, with its encoding where it is asked for; or refused as above, or too long. The work words are used.
 pub fn cut_named(
     font: &Held<'_>,
     ask: bool,
-    name: &[u8],
     keep: &[u16],
-    rows: &[u8],
-    traced: bool,
+    asked: &Asked<'_>,
     words: &mut [u32],
     out: &mut [u8],
 ) -> Result<Subsetted, Refusal>
-    requires { Passed false ask (program font.now.loaded) (length name.now) keep.now rows.now (flag_of traced) (length words.old) }
-    ensures { Cut (cut_behind ask (program font.now.loaded) name.now keep.now rows.now (flag_of traced) (length out.old))
+    requires { Passed false ask (program font.now.loaded) (length asked.now.name.now) keep.now asked.now.rows.now (flag_of asked.now.traced) (length words.old) }
+    ensures { Cut (cut_behind ask (program font.now.loaded) asked.now.name.now keep.now asked.now.rows.now (flag_of asked.now.traced) (length out.old))
         out.old out.new result }
 {
     let mut window = [0u32; 4096];
-    let bytes = font.loaded.bytes;
-    let o = order_window::gather(bytes, font.loaded.f, keep, &mut *words, &mut window);
-    cut_ordered(o, bytes, ask, name, rows, traced, words, &mut window, out)
+    let mut slots = [0usize; 272];
+    let mut tables = Tables::new();
+    let mut c = prepare(
+        font,
+        ask,
+        keep,
+        asked,
+        words,
+        &mut window,
+        &mut slots,
+        &mut tables,
+    )?;
+    cut_planned(&mut c, out)
 }

@@ -37,6 +37,11 @@ found_answer (Err n) = refused (number_of n)
 found_answer (Ok None) = given (65536 ∷ [])
 found_answer (Ok (Some g)) = given (g ∷ [])
 
+-- the answer of two words
+abbrev pub two_answer : Result (ℕ × ℕ) Refusal → Answer
+two_answer (Err n) = refused (number_of n)
+two_answer (Ok w) = given (w.0 ∷ w.1 ∷ [])
+
 -- the number that a call returns, by the room that is lent: 0 where the answer is written
 abbrev pub answer_number : Answer → ℕ → ℕ
 answer_number (refused n) room = n

@@ -1,14 +1,13 @@
 // The entries of subsetting for C and Rust to link (document 01, 'Entries and their refusals'). The answer is two words, the way and the
 // length of the subset, which stands at the start of the lent bytes. Fewer than two words are no room, so 11 stands for these too.
-ghost use Rattle.std.specs.Prelude.{◌≡◌, true, false, not, eqb, [], ◌∷◌};
+ghost use Rattle.std.specs.Prelude.{◌≡◌, true, false, not, eqb};
 ghost use Rattle.cff.specs.Find.{work_size};
 ghost use Rattle.small.specs.Small.{small_size};
 ghost use Rattle.outcome.specs.Call.{is_cid, asks};
 ghost use Rattle.outcome.specs.Entry.{size_of};
-ghost use Rattle.capi.specs.Capi.{given, Answers};
-ghost use Rattle.capi.specs.Subset.{room_for, cut_answer, AnswersCut};
+ghost use Rattle.capi.specs.Capi.{two_answer, Answers};
+ghost use Rattle.capi.specs.Subset.{room_for, AnswersCut};
 
-use outcome::Subsetted;
 use outcome::call::{Call, Keying, Request};
 use refusal::Refusal;
 
@@ -22,25 +21,20 @@ pub fn room_for(words: usize, room: usize) -> usize
     room
 }
 
-// Writes two numbers to the lent words.
-pub fn put_two(first: u64, second: u64, answer: &mut [u64]) -> u8
-    ensures { Answers (given (first ∷ second ∷ [])) answer.old answer.new result }
+// Writes two numbers to the lent words, where a call is not refused.
+pub fn put_two(two: Result<(u64, u64), Refusal>, answer: &mut [u64]) -> u8
+    ensures { Answers (two_answer two) answer.old answer.new result }
 {
-    if answer.len() < 2 {
-        return Refusal::Output.number();
-    }
-    answer[0] = first;
-    answer[1] = second;
-    0
-}
-
-// Writes the way and the length of a subset to the lent words.
-fn put_cut(cut: Result<Subsetted, Refusal>, answer: &mut [u64]) -> u8
-    ensures { Answers (cut_answer cut) answer.old answer.new result }
-{
-    match cut {
+    match two {
         Err(e) => e.number(),
-        Ok(c) => put_two(c.way.number() as u64, c.len as u64, answer),
+        Ok(words) => {
+            if answer.len() < 2 {
+                return Refusal::Output.number();
+            }
+            answer[0] = words.0;
+            answer[1] = words.1;
+            0
+        }
     }
 }
 
@@ -58,7 +52,7 @@ fn answer_cut(
 {
     let room = room_for(answer.len(), out.len());
     let cut = write::cut(call, font, ask, work, &mut out[..room]);
-    put_cut(cut, answer)
+    put_two(cut.map(|c| (c.way.number() as u64, c.len as u64)), answer)
 }
 
 // The subset of a name-keyed font: glyph 0 and the glyphs of the keep list; with the font's encoding where `encoding` is not 0.

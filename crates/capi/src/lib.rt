@@ -62,7 +62,7 @@ pub extern "C" fn cff_read(font: &[u8], answer: &mut [u64]) -> u8
     put_counts(cff_entries::read(font), answer)
 }
 
-// Writes the glyph that was found to the lent words.
+// Writes the glyph that was found, or that there is none, to the lent words.
 fn put_found(found: Result<Option<usize>, Refusal>, answer: &mut [u64]) -> u8
     ensures { Answers (found_answer found) answer.old answer.new result }
 {

@@ -1,4 +1,4 @@
-// The counts of lines: two for each kind, and two for lines of no kind.
+// The counts of lines: two for each kind, and two for lines of no kind. They are plain numbers, for the report's definitions speak of one list of them.
 ghost use Rattle.std.specs.Prelude.{◌+◌, ◌*◌, ◌≤◌, ◌≡◌, length, get_or};
 ghost use Rattle.octets.specs.Lists.{before};
 ghost use Rattle.cases.specs.Tally.{is_one_of, counted, earlier, Below};

@@ -133,8 +133,6 @@ fn answer_asked(kind: u8, font: &[u8], asked: &[u8]) -> Option<Answer>
 pub fn answer(kind: u8, input: &[u8]) -> Option<Answer>
     ensures { result ≡ cff_answer kind input.now }
 {
-    match FontInput::split(input) {
-        None => None,
-        Some(parts) => answer_asked(kind, parts.font, parts.asked),
-    }
+    let parts = FontInput::split(input)?;
+    answer_asked(kind, parts.font, parts.asked)
 }

@@ -1,10 +1,11 @@
 -- Laws of answers, by the code's ways out: the kinds of one number, and pairs.
-use Rattle.std.specs.Prelude.{ℕ, zero, suc, ◌+◌, ◌-◌, ◌*◌, ◌≤◌, ◌<◌, ◌≡◌, refl, Bool, List, [], ◌∷◌, ◌++◌, leb, eqb, ℤ, length, take, drop, None, Some}
-use Rattle.std.proofs.Common.{sym, ap, ◌∙◌, arith, length-append, length-drop, take_all}
+use Rattle.std.specs.Prelude.{ℕ, zero, suc, ◌+◌, ◌-◌, ◌*◌, ◌/◌, ◌≤◌, ◌<◌, ◌≡◌, refl, Bool, List, [], ◌∷◌, ◌++◌, leb, eqb, ℤ, length, take, drop, None, Some}
+use Rattle.std.proofs.Common.{sym, ap, ◌∙◌, arith, length-append, length-drop, length-take-le, drop-drop, take_all}
+use Rattle.std.proofs.lemmas.List.{drop-take, take-take}
 use Rattle.std.proofs.Math.ListN.{get_or}
 use borrow.Author.Tests.{eq-eqb, ne_eqb, lt-ltb, le-ltb, le-leb, lt-leb}
 use Rattle.octets.specs.Pick.{pick, pick_ind}
-use Rattle.octets.specs.Octets.{num_at, bytes_of, Wrote}
+use Rattle.octets.specs.Octets.{be, num_at, bytes_of, Wrote}
 use Rattle.octets.specs.OctetsLaws.{length-bytes}
 use Rattle.type2_number.specs.Number.{is_neg, mag, Read, cut, operator, number, number_at}
 use Rattle.type2_number.specs.Floats.{scaled_of}
@@ -145,18 +146,18 @@ pairs-length s p (suc n) = ap suc (pairs-length s (p + 2) n)
 
 -- the numbers from the i-th on
 abbrev pub pairs_left : List ℕ → ℕ → ℕ → List ℕ
-pairs_left s n i = pairs_at s (1 + 2 * i) (n - i)
+pairs_left s n i = pairs_at s (2 * i) (n - i)
 
-pub pairs_next : (s : List ℕ) (n i : ℕ) → i < n → pairs_left s n i ≡ num_at s (1 + 2 * i) 2 ∷ pairs_left s n (i + 1)
+pub pairs_next : (s : List ℕ) (n i : ℕ) → i < n → pairs_left s n i ≡ num_at s (2 * i) 2 ∷ pairs_left s n (i + 1)
 unfolding pairs_at
 pairs_next s n i h =
     let m : n - i ≡ suc (n - (i + 1)) = omega arith in
-    let e : 1 + 2 * i + 2 ≡ 1 + 2 * (i + 1) = omega arith in
-    ap (pairs_at s (1 + 2 * i)) m ∙ ap (λ (p : ℕ). num_at s (1 + 2 * i) 2 ∷ pairs_at s p (n - (i + 1))) e
+    let e : 2 * i + 2 ≡ 2 * (i + 1) = omega arith in
+    ap (pairs_at s (2 * i)) m ∙ ap (λ (p : ℕ). num_at s (2 * i) 2 ∷ pairs_at s p (n - (i + 1))) e
 
 pub pairs-none : (s : List ℕ) (n i : ℕ) → i ≡ n → pairs_left s n i ≡ []
 unfolding pairs_at
-pairs-none s n i e = let z : n - i ≡ 0 = omega arith in ap (pairs_at s (1 + 2 * i)) z
+pairs-none s n i e = let z : n - i ≡ 0 = omega arith in ap (pairs_at s (2 * i)) z
 
 -- ---- kinds t and e: the parts of an input
 
@@ -190,13 +191,37 @@ module _ (t : Bool) (s : List ℕ) where
         stream_found m =
             rw (ne_eqb (length s) 0 h, le-ltb 16 (get_or s 0 0) k, le-ltb (length s) (1 + 4 * get_or s 0 0) l, le-ltb 60 (length s - (1 + 4 * get_or s 0 0)) m)
 
+-- numbers of a part are those of the whole
+num-within : (s : List ℕ) (a m p : ℕ) → p + 2 ≤ m → num_at (take m (drop a s)) p 2 ≡ num_at s (a + p) 2
+unfolding num_at
+num-within s a m p h =
+    let e : m ≡ p + (m - p) = omega arith in
+    ap (λ (k : ℕ). be 0 (take 2 (drop p (take k (drop a s))))) e ∙ ap (λ (l : List ℕ). be 0 (take 2 l)) (drop-take p (m - p) (drop a s))
+    ∙ ap (be 0) (take-take 2 (m - p) (drop p (drop a s)) (omega arith)) ∙ ap (λ (l : List ℕ). be 0 (take 2 l)) (drop-drop p a s)
+
+pairs-within : (s : List ℕ) (a m p n : ℕ) → p + 2 * n ≤ m → pairs_at (take m (drop a s)) p n ≡ pairs_at s (a + p) n
+unfolding pairs_at
+pairs-within s a m p zero h = refl
+pairs-within s a m p (suc n) h =
+    let e : a + (p + 2) ≡ a + p + 2 = omega arith in
+    ap (λ (x : ℕ). x ∷ pairs_at (take m (drop a s)) (p + 2) n) (num-within s a m p (omega arith))
+    ∙ ap (λ (l : List ℕ). num_at s (a + p) 2 ∷ l) (pairs-within s a m (p + 2) n (omega arith) ∙ ap (λ (k : ℕ). pairs_at s k n) e)
+
+-- the bytes of n pairs
+pub part-length : (s : List ℕ) (n : ℕ) → 1 + 4 * n ≤ length s → length (take (1 + 4 * n - 1) (drop 1 s)) ≡ 4 * n
+part-length s n h = let m = length-take-le (1 + 4 * n - 1) (drop 1 s) (rw length-drop (omega arith)) in omega (arith, m)
+
 -- the pairs as they were lent, and the rest of the input
-pub stream_parts : (t : Bool) (s old new : List ℕ) (n k : ℕ) → n ≡ get_or s 0 0 → Wrote old 0 (pairs_at s 1 (2 * n)) new k
+pub stream_parts : (t : Bool) (s old new : List ℕ) (n k : ℕ) → n ≡ get_or s 0 0 → 1 + 4 * n ≤ length s
+    → (let part = take (1 + 4 * n - 1) (drop 1 s) in Wrote old 0 (pairs_at part 0 (length part / 2)) new k)
     → stream_bytes t (lookup (take k new)) (take (length s - (1 + 4 * n)) (drop (1 + 4 * n) s))
     ≡ stream_bytes t (lookup (pairs_at s 1 (2 * get_or s 0 0))) (drop (1 + 4 * get_or s 0 0) s)
-stream_parts t s old new n k e w =
+stream_parts t s old new n k e h w =
+    let part = take (1 + 4 * n - 1) (drop 1 s) in
     let r : take (length s - (1 + 4 * n)) (drop (1 + 4 * n) s) ≡ drop (1 + 4 * n) s = take_all (length s - (1 + 4 * n)) (drop (1 + 4 * n) s) (rw length-drop (omega arith)) in
-    ap (λ (l : List ℕ). stream_bytes t (lookup l) (take (length s - (1 + 4 * n)) (drop (1 + 4 * n) s))) (wrote-front w)
+    let q : length part / 2 ≡ 2 * n = omega (arith, part-length s n h) in
+    let p : pairs_at part 0 (length part / 2) ≡ pairs_at s 1 (2 * n) = ap (pairs_at part 0) q ∙ pairs-within s 1 (1 + 4 * n - 1) 0 (2 * n) (omega arith) in
+    ap (λ (l : List ℕ). stream_bytes t (lookup l) (take (length s - (1 + 4 * n)) (drop (1 + 4 * n) s))) (wrote-front w ∙ p)
     ∙ ap (stream_bytes t (lookup (pairs_at s 1 (2 * n)))) r
     ∙ ap (λ (m : ℕ). stream_bytes t (lookup (pairs_at s 1 (2 * m))) (drop (1 + 4 * m) s)) e
 

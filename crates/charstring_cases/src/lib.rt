@@ -1,7 +1,7 @@
 // What the proved functions answer to the input of a stored case of charstring.rs. An input that is not of its kind's form is Outside, never skipped.
 #![tactic(auto)]
 
-ghost use Rattle.std.specs.Prelude.{◌≡◌, ◌+◌, ◌*◌, ◌≤◌, ◌++◌, length};
+ghost use Rattle.std.specs.Prelude.{◌≡◌, ◌+◌, ◌*◌, ◌/◌, ◌≤◌, ◌++◌, length};
 ghost use Rattle.octets.specs.Octets.{Wrote};
 ghost use Rattle.charstring.specs.Token.{lookup, tokens_of};
 ghost use Rattle.charstring.specs.Answers.{Measurable};
@@ -44,7 +44,7 @@ fn answer_number(input: &[u8]) -> Option<Answer>
     }
 }
 
-// Kind i: an integer written.
+// Kind i: an integer written. Kind f is apart: its width, its limit and its encoder are others, each with its own laws.
 fn answer_integer(input: &[u8]) -> Option<Answer>
     ensures { result ≡ integer_answer input.now }
 {
@@ -185,13 +185,14 @@ fn of_stream(tokens: bool, code: &[u8], pairs: &[u32]) -> Answer
     of_recoded(code, pairs)
 }
 
-// The two-byte numbers from 1 on, n of them.
-fn put_pairs(input: &[u8], n: usize, pairs: &mut [u32]) -> usize
-    requires { (1 + 2 * n ≤ length input.now) × (n ≤ length pairs.old) }
-    ensures { Wrote pairs.old 0 (pairs_at input.now 1 n) pairs.new result }
+// Writes the big-endian numbers of two bytes each to the start of pairs; returns how many they are.
+fn put_pairs(bytes: &[u8], pairs: &mut [u32]) -> usize
+    requires { length bytes.now ≤ 2 * length pairs.old }
+    ensures { Wrote pairs.old 0 (pairs_at bytes.now 0 (length bytes.now / 2)) pairs.new result }
 {
+    let n = bytes.len() / 2;
     for i in 0..n {
-        pairs[i] = octets::u16_at(input, 1 + 2 * i) as u32;
+        pairs[i] = octets::u16_at(bytes, 2 * i) as u32;
     }
     n
 }
@@ -216,7 +217,7 @@ fn answer_stream(tokens: bool, input: &[u8]) -> Option<Answer>
         return None;
     }
     let mut pairs = [0u32; 32];
-    let k = put_pairs(input, 2 * count, &mut pairs);
+    let k = put_pairs(&input[1..at], &mut pairs);
     Some(of_stream(tokens, &input[at..], &pairs[..k]))
 }
 

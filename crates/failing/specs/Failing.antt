@@ -1,5 +1,5 @@
 -- What is asked to find a body that cannot be renumbered (document 02, Wish 12), and what it says: one kept glyph runs it, and no other can be the culprit.
-use Rattle.std.specs.Prelude.{ℕ, ◌≤◌, ◌<◌, ◌≡◌, Bool, true, false, List, [], ◌∷◌, length, get_or, Some}
+use Rattle.std.specs.Prelude.{ℕ, ◌≤◌, ◌<◌, ◌≡◌, Bool, true, false, List, [], ◌∷◌, length, get_or, None, Option, Some}
 use Rattle.octets.specs.Pick.{pick}
 use Rattle.unfold.specs.Unfold.{Row, glyph}
 use Rattle.prune.specs.Bodies.{All}
@@ -35,10 +35,10 @@ pub record Asks (b : List ℕ) (f : Font) (rows : List Row) (used ws : List ℕ)
   pub order : rising ≡ true → rises rows ≡ true
   pub table_long : 1280 ≤ length table
 
--- the first of some glyphs whose charstring cannot be renumbered, or 65536
-unfoldable pub first_failing : Program → List Row → List ℕ → ℕ
-first_failing p rows [] = 65536
-first_failing p rows (g ∷ gs) = pick (holds (body_at p rows (glyph g))) (first_failing p rows gs) g
+-- the first of some glyphs whose charstring cannot be renumbered
+unfoldable pub first_failing : Program → List Row → List ℕ → Option ℕ
+first_failing p rows [] = None
+first_failing p rows (g ∷ gs) = pick (holds (body_at p rows (glyph g))) (first_failing p rows gs) (Some g)
 
 -- a record is that of the rows that the kept glyphs meet, all being plain
 pub record Recorded (p : Program) (keep rec : List ℕ) : Type 0 where
@@ -47,6 +47,7 @@ pub record Recorded (p : Program) (keep rec : List ℕ) : Type 0 where
   pub is : rec ≡ record_of rows
   pub fits : All RowFits rows
 
--- no glyph but g can be the culprit; or nothing is said, where g is no number of a glyph
-pub record Only (p : Program) (keep : List ℕ) (g : ℕ) : Type 0 where
-  pub others : g < 65536 → (name : List ℕ) (words lent h : ℕ) → (g ≡ h → ⊥) → is_culprit p name keep words lent h ≡ false
+-- no glyph but g, which the font has, can be the culprit; or nothing is said, where there is no g
+pub record Only (p : Program) (keep : List ℕ) (only : Option ℕ) : Type 0 where
+  pub there : (g : ℕ) → only ≡ Some g → g < length p.charstrings
+  pub others : (g : ℕ) → only ≡ Some g → (name : List ℕ) (words lent h : ℕ) → (g ≡ h → ⊥) → is_culprit p name keep words lent h ≡ false

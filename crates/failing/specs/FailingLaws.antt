@@ -1,5 +1,5 @@
 -- Laws of finding a body that fails: the FDs that are marked, what the words say of calls, and the first glyph that fails.
-use Rattle.std.specs.Prelude.{ℕ, ◌+◌, ◌≤◌, ◌<◌, ◌≡◌, Bool, true, false, not, eqb, length, get_or, set, replicate, None, Option, Some}
+use Rattle.std.specs.Prelude.{ℕ, ◌+◌, ◌≤◌, ◌<◌, ◌≡◌, Bool, true, false, not, eqb, length, get_or, set, replicate, None, Option, Some, is_some}
 use Rattle.std.proofs.Math.Path.{refl, sym, ap, fun_ext}
 use Rattle.std.proofs.Common.{◌∙◌, subst, inl, inr, ⊎_elim, arith, add-one, eqb-true, length-set, drop-cons, get_or-set_same, get_or-set_other}
 use mathlib.Core.List.{List, [], ◌∷◌}
@@ -193,19 +193,12 @@ module _ (b : List ℕ) (f : Font) (rows : List Row) (used ws : List ℕ) (globa
         ∙ ap (λ (l : List ℕ). renumbered_body rows (calls_by ws (ranks_in table its) globals) (glyph g) l) c
         ∙ ap (λ o. renumbered_body rows o (glyph g) (get_or q.charstrings g [])) (calls_are its (fd-byte b f a.read g h) u)
 
-    pub glyph_made : (r : Option ℕ) → r ≡ sized_of (renumbered_body rows (calls_by ws locals globals) (glyph g) code) → (n : ℕ) → r ≡ Some n → true ≡ holds (body_at q rows (glyph g))
-    glyph_made r s n l = by (renumbered_body rows (calls_by ws locals globals) (glyph g) code) (sym l ∙ s) ∙ ap holds body_is
+    pub glyph_holds : (r : Option ℕ) → r ≡ sized_of (renumbered_body rows (calls_by ws locals globals) (glyph g) code) → is_some r ≡ holds (body_at q rows (glyph g))
+    glyph_holds r s = ap is_some s ∙ by (renumbered_body rows (calls_by ws locals globals) (glyph g) code) ∙ ap holds body_is
       where
-        by : (m : Option (List ℕ)) → Some n ≡ sized_of m → true ≡ holds m
-        by None z = absurd (zero_one cc)
-        by (Some bs) z = refl
-
-    pub glyph_fails : (r : Option ℕ) → r ≡ sized_of (renumbered_body rows (calls_by ws locals globals) (glyph g) code) → r ≡ None → false ≡ holds (body_at q rows (glyph g))
-    glyph_fails r s l = by (renumbered_body rows (calls_by ws locals globals) (glyph g) code) (sym l ∙ s) ∙ ap holds body_is
-      where
-        by : (m : Option (List ℕ)) → None ≡ sized_of m → false ≡ holds m
-        by None z = refl
-        by (Some bs) z = absurd (zero_one cc)
+        by : (m : Option (List ℕ)) → is_some (sized_of m) ≡ holds m
+        by None = refl
+        by (Some bs) = refl
 
 -- ---- the first that fails
 
@@ -224,13 +217,13 @@ pub record Asking (p : Program) (rows : List Row) (keep : List ℕ) (i : ℕ) : 
   pub left : first_failing p rows (drop i keep) ≡ first_failing p rows (0 ∷ keep)
 
 module _ (p : Program) (rows : List Row) (keep : List ℕ) where
-  pub zero-fails : false ≡ holds (body_at p rows (glyph 0)) → 0 ≡ first_failing p rows (0 ∷ keep)
+  pub zero-fails : false ≡ holds (body_at p rows (glyph 0)) → Some 0 ≡ first_failing p rows (0 ∷ keep)
   unfolding first_failing
-  zero-fails e = ap (λ (t : Bool). pick t (first_failing p rows keep) 0) e
+  zero-fails e = ap (λ (t : Bool). pick t (first_failing p rows keep) (Some 0)) e
 
   pub asking_start : true ≡ holds (body_at p rows (glyph 0)) → Asking p rows keep 0
   unfolding first_failing
-  asking_start e = record { within = omega arith; left = ap (λ (t : Bool). pick t (first_failing p rows keep) 0) e }
+  asking_start e = record { within = omega arith; left = ap (λ (t : Bool). pick t (first_failing p rows keep) (Some 0)) e }
 
   module _ (i : ℕ) (a : Asking p rows keep i) where
     split : i < length keep → drop i keep ≡ get_or keep i 0 ∷ drop (i + 1) keep
@@ -241,31 +234,34 @@ module _ (p : Program) (rows : List Row) (keep : List ℕ) where
     asking_next h e =
         record {
           within = omega arith;
-          left = ap (λ (t : Bool). pick t (first_failing p rows (drop (i + 1) keep)) (get_or keep i 0)) e ∙ sym (ap (first_failing p rows) (split h)) ∙ a.left;
+          left = ap (λ (t : Bool). pick t (first_failing p rows (drop (i + 1) keep)) (Some (get_or keep i 0))) e ∙ sym (ap (first_failing p rows) (split h)) ∙ a.left;
         }
 
-    pub asking_found : i < length keep → false ≡ holds (body_at p rows (glyph (get_or keep i 0))) → get_or keep i 0 ≡ first_failing p rows (0 ∷ keep)
+    pub asking_found : i < length keep → false ≡ holds (body_at p rows (glyph (get_or keep i 0))) → Some (get_or keep i 0) ≡ first_failing p rows (0 ∷ keep)
     unfolding first_failing
-    asking_found h e = ap (λ (t : Bool). pick t (first_failing p rows (drop (i + 1) keep)) (get_or keep i 0)) e ∙ sym (ap (first_failing p rows) (split h)) ∙ a.left
+    asking_found h e = ap (λ (t : Bool). pick t (first_failing p rows (drop (i + 1) keep)) (Some (get_or keep i 0))) e ∙ sym (ap (first_failing p rows) (split h)) ∙ a.left
 
-    pub asking_done : length keep ≤ i → 65536 ≡ first_failing p rows (0 ∷ keep)
+    pub asking_done : length keep ≤ i → None ≡ first_failing p rows (0 ∷ keep)
     unfolding first_failing
     asking_done h = let z : drop i keep ≡ [] = drop_of_length-le keep {i = i} h in sym (ap (first_failing p rows) z) ∙ a.left
 
 -- ---- the only culprit
 
+-- where none is found each may be the culprit
+pub each_may : (p : Program) (keep : List ℕ) → Only p keep None
+each_may p keep = record { there = λ g h. absurd (zero_one cc); others = λ g h. absurd (zero_one cc) }
+
 module _ (p : Program) (rows : List Row) where
   -- one that is found is of the list, and fails
-  failing_is : (gs : List ℕ) → first_failing p rows gs < 65536 → (is_in (first_failing p rows gs) gs ≡ true) × (body_at p rows (glyph (first_failing p rows gs)) ≡ None)
+  failing_is : (gs : List ℕ) (g : ℕ) → first_failing p rows gs ≡ Some g → (is_in g gs ≡ true) × (body_at p rows (glyph g) ≡ None)
   unfolding first_failing
-  failing_is [] h = absurd (omega arith)
-  failing_is (g ∷ gs) h = by (body_at p rows (glyph g)) refl (failing_is gs) h
+  failing_is [] g h = absurd (zero_one cc)
+  failing_is (x ∷ gs) g h = by (body_at p rows (glyph x)) refl (failing_is gs g) h
     where
-      by : (m : Option (List ℕ)) → body_at p rows (glyph g) ≡ m → (first_failing p rows gs < 65536 → (is_in (first_failing p rows gs) gs ≡ true) × (body_at p rows (glyph (first_failing p rows gs)) ≡ None))
-          → pick (holds m) (first_failing p rows gs) g < 65536
-          → (is_in (pick (holds m) (first_failing p rows gs) g) (g ∷ gs) ≡ true) × (body_at p rows (glyph (pick (holds m) (first_failing p rows gs) g)) ≡ None)
-      by None e f k = (in_head g g gs refl, e)
-      by (Some bs) e f k = let a = f k in (in_more g (first_failing p rows gs) gs a.0, a.1)
+      by : (m : Option (List ℕ)) → body_at p rows (glyph x) ≡ m → (first_failing p rows gs ≡ Some g → (is_in g gs ≡ true) × (body_at p rows (glyph g) ≡ None))
+          → pick (holds m) (first_failing p rows gs) (Some x) ≡ Some g → (is_in g (x ∷ gs) ≡ true) × (body_at p rows (glyph g) ≡ None)
+      by None e f k = let z : x ≡ g = cc in (in_head x g gs z, ap (λ (y : ℕ). body_at p rows (glyph y)) (sym z) ∙ e)
+      by (Some bs) e f k = let a = f k in (in_more x g gs a.0, a.1)
 
 module _ (b : List ℕ) (f : Font) (read : FontHeld b f) (keep rec : List ℕ) (below : all_below f.charstrings.count keep ≡ true) (r : Recorded (program_of b f) keep rec) where
   abbrev o : Program
@@ -274,26 +270,25 @@ module _ (b : List ℕ) (f : Font) (read : FontHeld b f) (keep rec : List ℕ) (
   fds_there : FdsThere o
   fds_there = record { any = read.program.some; fds = λ x h. fd_there o x read.program h }
 
-  -- glyph 0 and those of the keep list are kept
-  one_kept : (g : ℕ) → is_in g (0 ∷ keep) ≡ true → is_in g (kept_of (length o.charstrings) keep) ≡ true
-  one_kept g h =
-      ⊎_elim (λ z. kept_is o keep g (record { there = omega (arith, read.program.some, z); asked = inl (sym z) }))
-      (λ i. let at = in_place keep g i in
-      kept_is o keep g (record { there = omega (arith, kept-inside b f read keep below at.0 at.1, at.2, items-length b f.charstrings); asked = inr i }))
+  -- glyph 0 and those of the keep list are of the font, and kept
+  one_there : (g : ℕ) → is_in g (0 ∷ keep) ≡ true → g < length o.charstrings
+  one_there g h =
+      ⊎_elim (λ z. omega (arith, read.program.some, z))
+      (λ i. let at = in_place keep g i in omega (arith, kept-inside b f read keep below at.0 at.1, at.2, items-length b f.charstrings))
       (in_cases 0 g keep h)
 
-  pub only-found : (g : ℕ) → g ≡ first_failing o (rows_of rec) (0 ∷ keep) → Only o keep g
-  only-found g e =
-      record {
-        others = λ h name words lent x d.
-            let k : first_failing o (rows_of rec) (0 ∷ keep) < 65536 = omega (arith, h, e) in
-            let a = failing_is o (rows_of rec) (0 ∷ keep) k in
-            charstring_fails o fds_there name keep words lent r.rows r.met r.fits g (ap (λ (y : ℕ). is_in y (kept_of (length o.charstrings) keep)) e ∙ one_kept _ a.0)
-            (ap (λ (l : List ℕ). body_at o (rows_of l) (glyph g)) (sym r.is) ∙ ap (λ (y : ℕ). body_at o (rows_of rec) (glyph y)) e ∙ a.1) x d;
-      }
+  one_kept : (g : ℕ) → is_in g (0 ∷ keep) ≡ true → is_in g (kept_of (length o.charstrings) keep) ≡ true
+  one_kept g h = kept_is o keep g (record { there = one_there g h; asked = ⊎_elim (λ z. inl (sym z)) (λ i. inr i) (in_cases 0 g keep h) })
 
-  pub only_none : (g : ℕ) → 65536 ≤ g → Only o keep g
-  only_none g h = record { others = λ k. absurd (omega arith) }
+  pub only-found : (only : Option ℕ) → only ≡ first_failing o (rows_of rec) (0 ∷ keep) → Only o keep only
+  only-found only e =
+      record {
+        there = λ g h. one_there g (failing_is o (rows_of rec) (0 ∷ keep) g (sym e ∙ h)).0;
+        others = λ g h name words lent x d.
+            let a = failing_is o (rows_of rec) (0 ∷ keep) g (sym e ∙ h) in
+            charstring_fails o fds_there name keep words lent r.rows r.met r.fits g (one_kept g a.0)
+            (ap (λ (l : List ℕ). body_at o (rows_of l) (glyph g)) (sym r.is) ∙ a.1) x d;
+      }
 
   -- there is room for the bits
   pub bits_room : (words : ℕ) → small_size o ≤ words → words_for f.charstrings.count + words_for f.globals.count + locals_words o.privates ≤ words

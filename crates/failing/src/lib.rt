@@ -64,31 +64,27 @@ fn is_made(by: &Renumbering<'_>, g: usize) -> bool
         rising: by.rising,
         site: Site::Glyph(g as u16),
     };
-    match renumbered::renumbered_len(&body) {
-        Some(_) => true,
-        None => false,
-    }
+    renumbered::renumbered_len(&body).is_some()
 }
 
-// The first kept glyph whose charstring cannot be renumbered, or 65536.
-fn first_failing(by: &Renumbering<'_>) -> usize
+// The first kept glyph whose charstring cannot be renumbered.
+fn first_failing(by: &Renumbering<'_>) -> Option<u16>
     ensures { result ≡ first_failing (program by.now.list.font.loaded) (rows_of by.now.rows.now) (0 ∷ by.now.list.keep.now) }
 {
     if !is_made(by, 0) {
-        return 0;
+        return Some(0);
     }
     let keep = by.list.keep;
     for k in keep {
-        let g = *k as usize;
-        if !is_made(by, g) {
-            return g;
+        if !is_made(by, *k as usize) {
+            return Some(*k);
         }
     }
-    65536
+    None
 }
 
-// The glyph that alone can be the culprit, where one is found, or 65536. The work words are used.
-pub fn only_culprit(list: &KeepList<'_, '_>, rows: &[u8], words: &mut [u32]) -> usize
+// The glyph that alone can be the culprit, where one is found. The work words are used.
+pub fn only_culprit(list: &KeepList<'_, '_>, rows: &[u8], words: &mut [u32]) -> Option<u16>
     requires { (small_size (program list.now.font.loaded) ≤ length words.old) × (Recorded (program list.now.font.loaded) list.now.keep.now rows.now) }
     ensures { Only (program list.now.font.loaded) list.now.keep.now result }
 {
@@ -112,5 +108,5 @@ pub fn only_culprit(list: &KeepList<'_, '_>, rows: &[u8], words: &mut [u32]) -> 
         };
         return first_failing(&by);
     }
-    65536
+    None
 }

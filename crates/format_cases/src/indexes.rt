@@ -1,30 +1,30 @@
 // Cases of an INDEX: a position and a font.
 ghost use Rattle.std.specs.Prelude.{◌≡◌, ◌+◌, ◌*◌, ◌≤◌, ◌<◌, ◌++◌, length};
 ghost use Rattle.index.specs.Index.{index_at};
-ghost use Rattle.index.specs.Good.{Good};
 ghost use Rattle.format_cases.specs.Indexes.{item_bytes, items_bytes, head_bytes, index_found, index_answer};
 
 use cases::answer::Answer;
 use index::Index;
+use index::items::Items;
 
 // The k-th item: where it starts in the font, and its length.
-fn put_item(font: &[u8], ix: Index, k: usize, to: &mut Answer)
-    requires { (Good font.now ix) × (k < ix.count) × (length to.old + 6 ≤ 4096) }
-    ensures { (to.new ≡ to.old ++ item_bytes font.now ix k) × (length to.new ≡ length to.old + 6) }
+fn put_item(items: &Items<'_>, k: usize, to: &mut Answer)
+    requires { (k < items.now.ix.count) × (length to.old + 6 ≤ 4096) }
+    ensures { (to.new ≡ to.old ++ item_bytes items.now.bytes.now items.now.ix k) × (length to.new ≡ length to.old + 6) }
 {
-    let start = index::offset(font, ix, k);
-    let end = index::offset(font, ix, k + 1);
-    to.num(ix.base + start, 4);
+    let start = index::offset(items.bytes, items.ix, k);
+    let end = index::offset(items.bytes, items.ix, k + 1);
+    to.num(items.ix.base + start, 4);
     to.num(end - start, 2);
 }
 
 // All items.
-fn put_items(font: &[u8], ix: Index, to: &mut Answer)
-    requires { (Good font.now ix) × (length to.old + 6 * ix.count ≤ 4096) }
-    ensures { to.new ≡ to.old ++ items_bytes font.now ix 0 ix.count }
+fn put_items(items: &Items<'_>, to: &mut Answer)
+    requires { length to.old + 6 * items.now.ix.count ≤ 4096 }
+    ensures { to.new ≡ to.old ++ items_bytes items.now.bytes.now items.now.ix 0 items.now.ix.count }
 {
-    for k in 0..ix.count {
-        put_item(font, ix, k, to);
+    for k in 0..items.ix.count {
+        put_item(items, k, to);
     }
 }
 
@@ -48,8 +48,9 @@ fn index_in(font: &[u8], at: usize) -> Option<Answer>
             if 600 < ix.count {
                 return None;
             }
+            let items = Items { bytes: font, ix };
             let mut answer = of_head(ix);
-            put_items(font, ix, &mut answer);
+            put_items(&items, &mut answer);
             Some(answer)
         }
     }

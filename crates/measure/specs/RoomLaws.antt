@@ -1,11 +1,9 @@
 -- Laws of a cut that is measured: its answer is that of a cut into an output of 67,108,864 bytes, whatever that holds.
-use Rattle.std.specs.Prelude.{ℕ, ◌≤◌, ◌≡◌, refl, Bool, false, List, length, Result}
+use Rattle.std.specs.Prelude.{ℕ, ◌≤◌, ◌≡◌, refl, Bool, List, length, Result}
 use Rattle.std.proofs.Common.{sym, ap, ◌∙◌, subst}
 use Rattle.cff.specs.Font.{Program}
 use Rattle.subset.specs.Cut.{Outcome, leaves_out}
 use Rattle.outcome.specs.Entry.{answer_of, Cut, Passed}
-use Rattle.order_window.specs.declared.Order.{Order}
-use Rattle.by_name.specs.NamedKeptLaws.{cut_ordered}
 use Rattle.measure.specs.Room.{of_length}
 use Rattle.outcome.specs.declared.Subsetted.{Subsetted}
 use Rattle.refusal.specs.declared.Refusal.{Refusal}
@@ -27,11 +25,6 @@ as_measured o out' a c = c.answers ∙ ap (λ (n : ℕ). answer_of (o n)) lent_l
 
 pub as_cut : (o : ℕ → Outcome) (a : Result Subsetted Refusal) → a ≡ answer_of (o 67108864) → Cut (o (length lent)) lent (leaves_out (o (length lent)) lent) a
 as_cut o a e = record { answers = e ∙ sym (ap (λ (n : ℕ). answer_of (o n)) lent_long); output = refl }
-
--- the cut of the kept glyphs of a name-keyed font
-pub ordered-measured : (b rec name : List ℕ) (flag : ℕ) (o : Order) (ws out' : List ℕ) (a : Result Subsetted Refusal) → Cut (cut_ordered false b rec name flag o ws (length lent)) lent out' a
-    → a ≡ answer_of (cut_ordered false b rec name flag o ws 67108864)
-ordered-measured b rec name flag o ws out' a c = as_measured (λ (m : ℕ). cut_ordered false b rec name flag o ws m) out' a c
 
 -- the keying, when it was found
 pub passed-keyed : (cid ask t : Bool) (p : Program) (name : ℕ) (keep rec : List ℕ) (flag words : ℕ) → Passed cid ask p name keep rec flag words → cid ≡ t

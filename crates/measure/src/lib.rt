@@ -9,6 +9,7 @@ ghost use Rattle.cff.specs.Loaded.{program};
 ghost use Rattle.outcome.specs.Entry.{answer_of, cut_behind, Passed};
 ghost use Rattle.subset.specs.Flag.{flag_of};
 
+use asked::Asked;
 use faithful::read::Held;
 use outcome::Subsetted;
 use refusal::Refusal;
@@ -17,17 +18,15 @@ use refusal::Refusal;
 pub fn measure(
     cid: bool,
     font: &Held<'_>,
-    name: &[u8],
     keep: &[u16],
-    rows: &[u8],
-    traced: bool,
+    asked: &Asked<'_>,
     words: &mut [u32],
 ) -> Result<Subsetted, Refusal>
-    requires { Passed cid false (program font.now.loaded) (length name.now) keep.now rows.now (flag_of traced) (length words.old) }
-    ensures { result ≡ answer_of (cut_behind false (program font.now.loaded) name.now keep.now rows.now (flag_of traced) 67108864) }
+    requires { Passed cid false (program font.now.loaded) (length asked.now.name.now) keep.now asked.now.rows.now (flag_of asked.now.traced) (length words.old) }
+    ensures { result ≡ answer_of (cut_behind false (program font.now.loaded) asked.now.name.now keep.now asked.now.rows.now (flag_of asked.now.traced) 67108864) }
 {
     if cid {
-        return cid_keyed::measure_cid(font, name, keep, rows, traced, words);
+        return cid_keyed::measure_cid(font, keep, asked, words);
     }
-    name_keyed::measure_named(font, name, keep, rows, traced, words)
+    name_keyed::measure_named(font, keep, asked, words)
 }

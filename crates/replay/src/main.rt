@@ -15,7 +15,8 @@ use std::fs::File;
 use std::io::Read;
 use std::rt::Files;
 
-// The report of the n bytes that were read into a buffer, written to the start of out; its length.
+// The report of the n bytes that were read into a buffer, written to the start of out; its length. It takes the whole buffer: where they fill it, the file may
+// have more.
 fn put_report_of(kinds: &[u8], buffer: &[u8], n: usize, out: &mut [u8]) -> usize
     requires { (length kinds.now ≤ 24) × (n ≤ length buffer.now) × (2048 ≤ length out.old) }
     ensures { (Wrote out.old 0 (report_of answer_to kinds.now buffer.now n) out.new result) × IsPrefixLen result out.new }

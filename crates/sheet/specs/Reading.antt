@@ -1,18 +1,20 @@
 -- Reading the lines of a sheet (document 01, 'One sheet, whole') in place: what the functions answer.
-use Rattle.std.specs.Prelude.{ℕ, ◌+◌, ◌-◌, ◌≤◌, ◌<◌, ◌≡◌, Bool, List, [], ◌∷◌, leb, eqb, length, take, drop, None, Option, Some}
+use Rattle.std.specs.Prelude.{ℕ, ◌+◌, ◌-◌, ◌≤◌, ◌<◌, ◌≡◌, Bool, true, false, List, [], ◌∷◌, leb, eqb, length, take, drop, None, Option, Some}
 use Rattle.octets.specs.Pick.{pick}
 use Rattle.cases.specs.Lines.{lines_of}
 use Rattle.sheet.specs.Sheet.{Sheet, hex_of, filled, is_sheet_lem, sheet_with, sheet_of}
 use Rattle.sheet.specs.declared.reading.LineEnds.{LineEnds}
 use Rattle.sheet.specs.declared.reading.Parts.{Parts}
 
--- how many rows there are after one more line, 513 for too many or a line that is none
-unfoldable pub rows_after : ℕ → List ℕ → ℕ
-rows_after k l = pick (eqb (length l) 0) k (pick (leb 512 k) 513 (pick (hex_of 20 l) (k + 1) 513))
+-- how many rows there are after one more line; none where they are too many, or the line is no row
+unfoldable pub rows_after : ℕ → List ℕ → Option ℕ
+rows_after k l = pick (eqb (length l) 0) (Some k) (pick (leb 512 k) None (pick (hex_of 20 l) (Some (k + 1)) None))
 
-unfoldable pub count_rows : ℕ → List (List ℕ) → ℕ
-count_rows k [] = k
-count_rows k (l ∷ ls) = count_rows (rows_after k l) ls
+-- are lines rows, behind so many?
+unfoldable pub rows_follow : Option ℕ → List (List ℕ) → Bool
+rows_follow None ls = false
+rows_follow (Some k) [] = true
+rows_follow (Some k) (l ∷ ls) = rows_follow (rows_after k l) ls
 
 -- the elements from f up to t
 abbrev pub part : ℕ → ℕ → List ℕ → List ℕ
@@ -39,11 +41,11 @@ sheet_at text a b c d =
 -- what is said of the first lines of a text
 unfoldable pub HeadIs : List ℕ → Option LineEnds → Type 0
 HeadIs text None = sheet_of text ≡ None
-HeadIs text (Some e) = FourLines text e.font e.name e.keep e.flag
+HeadIs text (Some e) = FourLines text e.font_end e.name_end e.keep_end e.flag_end
 
 -- the code's answers, by their numbers
 abbrev pub ends : ℕ → ℕ → ℕ → ℕ → LineEnds
-ends a b c d = record { font = a; name = b; keep = c; flag = d }
+ends a b c d = record { font_end = a; name_end = b; keep_end = c; flag_end = d }
 
 abbrev pub parts : ℕ → ℕ → ℕ → ℕ → ℕ → Parts
 parts m n k l flag = record { font = m; name = n; keep = k; rec = l; flag = flag }

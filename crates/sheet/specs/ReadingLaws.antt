@@ -1,5 +1,5 @@
 -- Laws of reading a sheet: a line at a time, and what the lines from a place on hold.
-use Rattle.std.specs.Prelude.{ℕ, suc, ◌+◌, ◌-◌, ◌*◌, ◌%◌, ◌≤◌, ◌<◌, ◌≡◌, refl, Bool, true, false, ltb, leb, eqb, length, take, drop, get_or, set, None}
+use Rattle.std.specs.Prelude.{ℕ, suc, ◌+◌, ◌-◌, ◌*◌, ◌%◌, ◌≤◌, ◌<◌, ◌≡◌, refl, Bool, true, false, ltb, leb, eqb, length, take, drop, get_or, set, None, Option, Some}
 use Rattle.std.proofs.Common.{sym, ◌∙◌, arith, length-append, length-drop, take_all, drop-cons}
 use Rattle.std.proofs.Math.Path.{ap}
 use Rattle.std.proofs.lemmas.Bool.{false≢true}
@@ -14,7 +14,7 @@ use Rattle.hexlines.specs.HexlinesLaws.{spelt-length}
 use Rattle.cases.specs.Lines.{lines_of}
 use Rattle.cases.specs.LinesLaws.{lines_next, lines_none}
 use Rattle.sheet.specs.Sheet.{hex_up_to, is_kept, hex_of, all_rows, filled, are_rows, row_bytes, pairs, sheet_in, sheet_of}
-use Rattle.sheet.specs.Reading.{rows_after, count_rows, part, FourLines}
+use Rattle.sheet.specs.Reading.{rows_after, rows_follow, part, FourLines}
 
 -- ---- a line, by the code's tests
 
@@ -56,33 +56,27 @@ unfolding is_kept
 kept_not l n = rw (ne_eqb (length l % 4) 0 n)
 
 module _ (k : ℕ) (l : List ℕ) where
-  pub rows_same : length l ≡ 0 → k ≡ rows_after k l
+  pub rows_same : length l ≡ 0 → Some k ≡ rows_after k l
   unfolding rows_after
   rows_same e = rw (eq-eqb (length l) 0 e)
 
   module _ (n : length l ≡ 0 → ⊥) where
-    pub rows_many : 512 ≤ k → 513 ≡ rows_after k l
+    pub rows_many : 512 ≤ k → None ≡ rows_after k l
     unfolding rows_after
     rows_many h = rw (ne_eqb (length l) 0 n, le-leb 512 k h)
 
-    pub rows-one : k < 512 → hex_of 20 l ≡ true → k + 1 ≡ rows_after k l
+    pub rows-one : k < 512 → hex_of 20 l ≡ true → Some (k + 1) ≡ rows_after k l
     unfolding rows_after
     rows-one h e = rw (ne_eqb (length l) 0 n, lt-leb 512 k h, e)
 
-    pub rows-bad : k < 512 → hex_of 20 l ≡ false → 513 ≡ rows_after k l
+    pub rows-bad : k < 512 → hex_of 20 l ≡ false → None ≡ rows_after k l
     unfolding rows_after
     rows-bad h e = rw (ne_eqb (length l) 0 n, lt-leb 512 k h, e)
 
--- ---- counting rows
+-- ---- rows behind rows
 
 not_empty : (x : ℕ) (l : List ℕ) → length (x ∷ l) ≡ 0 → ⊥
 not_empty x l e = omega arith
-
-count-bad : (ls : List (List ℕ)) → count_rows 513 ls ≡ 513
-unfolding count_rows
-count-bad [] = refl
-count-bad ([] ∷ ls) = ap (λ (j : ℕ). count_rows j ls) (sym (rows_same 513 [] refl)) ∙ count-bad ls
-count-bad ((x ∷ l) ∷ ls) = ap (λ (j : ℕ). count_rows j ls) (sym (rows_many 513 (x ∷ l) (not_empty x l) (omega arith))) ∙ count-bad ls
 
 -- rows that are left, with k before them
 abbrev rows_left : ℕ → List (List ℕ) → Bool
@@ -101,45 +95,51 @@ left_one k l ls e = let m : (k + 1) + length ls ≡ k + length (l ∷ ls) = omeg
 
 -- one more row, where the law holds of the lines behind it
 module _ (x : ℕ) (l : List ℕ) (ls : List (List ℕ)) (k : ℕ) where
-  count_many : 512 ≤ k → leb (count_rows (rows_after k (x ∷ l)) ls) 512 ≡ rows_left k ((x ∷ l) ∷ filled ls)
-  count_many g =
-      ap (λ (j : ℕ). leb (count_rows j ls) 512) (sym (rows_many k (x ∷ l) (not_empty x l) g))
-      ∙ ap (λ (j : ℕ). leb j 512) (count-bad ls) ∙ sym (left-none k (x ∷ l) (filled ls) g)
+  follow_many : 512 ≤ k → rows_follow (rows_after k (x ∷ l)) ls ≡ rows_left k ((x ∷ l) ∷ filled ls)
+  unfolding rows_follow
+  follow_many g =
+      ap (λ (o : Option ℕ). rows_follow o ls) (sym (rows_many k (x ∷ l) (not_empty x l) g)) ∙ sym (left-none k (x ∷ l) (filled ls) g)
 
-  count-one : k < 512 → leb (count_rows (k + 1) ls) 512 ≡ rows_left (k + 1) (filled ls) → (t : Bool) → hex_of 20 (x ∷ l) ≡ t
-      → leb (count_rows (rows_after k (x ∷ l)) ls) 512 ≡ rows_left k ((x ∷ l) ∷ filled ls)
-  count-one g ih true r =
-      ap (λ (j : ℕ). leb (count_rows j ls) 512) (sym (rows-one k (x ∷ l) (not_empty x l) g r)) ∙ ih ∙ left_one k (x ∷ l) (filled ls) r
-  count-one g ih false r =
-      ap (λ (j : ℕ). leb (count_rows j ls) 512) (sym (rows-bad k (x ∷ l) (not_empty x l) g r))
-      ∙ ap (λ (j : ℕ). leb j 512) (count-bad ls) ∙ sym (left-bad k (x ∷ l) (filled ls) r)
+  follow-one : k < 512 → rows_follow (Some (k + 1)) ls ≡ rows_left (k + 1) (filled ls) → (t : Bool) → hex_of 20 (x ∷ l) ≡ t
+      → rows_follow (rows_after k (x ∷ l)) ls ≡ rows_left k ((x ∷ l) ∷ filled ls)
+  unfolding rows_follow
+  follow-one g ih true r =
+      ap (λ (o : Option ℕ). rows_follow o ls) (sym (rows-one k (x ∷ l) (not_empty x l) g r)) ∙ ih ∙ left_one k (x ∷ l) (filled ls) r
+  follow-one g ih false r =
+      ap (λ (o : Option ℕ). rows_follow o ls) (sym (rows-bad k (x ∷ l) (not_empty x l) g r)) ∙ sym (left-bad k (x ∷ l) (filled ls) r)
 
-  count-full : ((j : ℕ) → j ≤ 512 → leb (count_rows j ls) 512 ≡ rows_left j (filled ls)) → (t : Bool) → ltb k 512 ≡ t
-      → leb (count_rows (rows_after k (x ∷ l)) ls) 512 ≡ rows_left k ((x ∷ l) ∷ filled ls)
-  count-full ih true e = let g = ltb-true k 512 e in count-one g (ih (k + 1) (omega (arith, g))) (hex_of 20 (x ∷ l)) refl
-  count-full ih false e = count_many (ltb-false k 512 e)
+  follow-full : ((j : ℕ) → j ≤ 512 → rows_follow (Some j) ls ≡ rows_left j (filled ls)) → (t : Bool) → ltb k 512 ≡ t
+      → rows_follow (rows_after k (x ∷ l)) ls ≡ rows_left k ((x ∷ l) ∷ filled ls)
+  follow-full ih true e = let g = ltb-true k 512 e in follow-one g (ih (k + 1) (omega (arith, g))) (hex_of 20 (x ∷ l)) refl
+  follow-full ih false e = follow_many (ltb-false k 512 e)
 
-count_left : (ls : List (List ℕ)) (k : ℕ) → k ≤ 512 → leb (count_rows k ls) 512 ≡ rows_left k (filled ls)
-unfolding count_rows filled all_rows
-count_left [] k h = let m : k + 0 ≤ 512 = omega arith in rw (le-leb k 512 h, le-leb (k + 0) 512 m)
-count_left ([] ∷ ls) k h = ap (λ (j : ℕ). leb (count_rows j ls) 512) (sym (rows_same k [] refl)) ∙ count_left ls k h
-count_left ((x ∷ l) ∷ ls) k h = count-full x l ls k (λ j g. count_left ls j g) (ltb k 512) refl
+follow_left : (ls : List (List ℕ)) (k : ℕ) → k ≤ 512 → rows_follow (Some k) ls ≡ rows_left k (filled ls)
+unfolding rows_follow filled all_rows
+follow_left [] k h = let m : k + 0 ≤ 512 = omega arith in rw (le-leb (k + 0) 512 m)
+follow_left ([] ∷ ls) k h = ap (λ (o : Option ℕ). rows_follow o ls) (sym (rows_same k [] refl)) ∙ follow_left ls k h
+follow_left ((x ∷ l) ∷ ls) k h = follow-full x l ls k (λ j g. follow_left ls j g) (ltb k 512) refl
 
-pub count-rows : (ls : List (List ℕ)) → leb (count_rows 0 ls) 512 ≡ are_rows (filled ls)
+pub follow-rows : (ls : List (List ℕ)) → rows_follow (Some 0) ls ≡ are_rows (filled ls)
 unfolding are_rows
-count-rows ls =
+follow-rows ls =
     let e : 0 + length (filled ls) ≡ length (filled ls) = omega arith in
-    count_left ls 0 (omega arith) ∙ ap (λ (j : ℕ). pick (leb j 512) (all_rows (filled ls)) false) e
+    follow_left ls 0 (omega arith) ∙ ap (λ (j : ℕ). pick (leb j 512) (all_rows (filled ls)) false) e
 
 -- a line, and the lines behind it
-pub count_next : (s : List ℕ) (p end k : ℕ) → p < length s → end ≡ line_end s p
-    → count_rows (rows_after k (take (end - p) (drop p s))) (lines_of (drop (end + 1) s)) ≡ count_rows k (lines_of (drop p s))
-unfolding count_rows
-count_next s p end k h e = sym (ap (count_rows k) (lines_next s p end h e))
+pub follow_next : (s : List ℕ) (p end k : ℕ) → p < length s → end ≡ line_end s p → (o : Option ℕ) → o ≡ rows_after k (take (end - p) (drop p s))
+    → rows_follow o (lines_of (drop (end + 1) s)) ≡ rows_follow (Some k) (lines_of (drop p s))
+unfolding rows_follow
+follow_next s p end k h e o r =
+    ap (λ (x : Option ℕ). rows_follow x (lines_of (drop (end + 1) s))) r ∙ sym (ap (rows_follow (Some k)) (lines_next s p end h e))
 
-pub count_done : (s : List ℕ) (p k : ℕ) → length s ≤ p → count_rows k (lines_of (drop p s)) ≡ k
-unfolding count_rows
-count_done s p k h = ap (count_rows k) (lines_none s p h)
+pub follow_bad : (s : List ℕ) (p end k : ℕ) → p < length s → end ≡ line_end s p → (o : Option ℕ) → o ≡ rows_after k (take (end - p) (drop p s)) → o ≡ None
+    → false ≡ rows_follow (Some k) (lines_of (drop p s))
+unfolding rows_follow
+follow_bad s p end k h e o r n = follow_next s p end k h e None (sym n ∙ r)
+
+pub follow_done : (s : List ℕ) (p k : ℕ) → length s ≤ p → rows_follow (Some k) (lines_of (drop p s)) ≡ true
+unfolding rows_follow
+follow_done s p k h = ap (rows_follow (Some k)) (lines_none s p h)
 
 -- ---- the bytes of rows
 

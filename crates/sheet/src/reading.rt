@@ -14,10 +14,10 @@ use crate::buffers::Buffers;
 // Where the first four lines of a text end.
 #[derive(Clone, Copy)]
 pub struct LineEnds {
-    pub font: usize,
-    pub name: usize,
-    pub keep: usize,
-    pub flag: usize,
+    pub font_end: usize,
+    pub name_end: usize,
+    pub keep_end: usize,
+    pub flag_end: usize,
 }
 
 // How many bytes the font and the name of a sheet have, how many numbers are kept, how many bytes the record has, and the flag, which may be any byte.
@@ -63,20 +63,20 @@ fn is_kept(line: &[u8]) -> bool
     false
 }
 
-// How many rows there are after one more line, 513 for too many or a line that is none.
-fn rows_after(rows: usize, line: &[u8]) -> usize
+// How many rows there are after one more line; none where they are too many, or the line is no row.
+fn rows_after(rows: usize, line: &[u8]) -> Option<usize>
     ensures { result ≡ rows_after rows line.now }
 {
     if line.len() == 0 {
-        return rows;
+        return Some(rows);
     }
     if 512 <= rows {
-        return 513;
+        return None;
     }
     if hex_of(line, 20) {
-        return rows + 1;
+        return Some(rows + 1);
     }
-    513
+    None
 }
 
 // Whether the lines of a text are rows.
@@ -88,10 +88,15 @@ fn are_rows(text: &[u8]) -> bool
     let mut rows = 0;
     while p < n {
         let end = hexlines::line_end(text, p);
-        rows = rows_after(rows, &text[p..end]);
-        p = end + 1;
+        match rows_after(rows, &text[p..end]) {
+            Some(more) => {
+                rows = more;
+                p = end + 1;
+            }
+            None => return false,
+        }
     }
-    rows <= 512
+    true
 }
 
 // Writes the bytes of the rows of a text to the start of rec; returns how many they are.
@@ -144,10 +149,10 @@ fn first_lines(text: &[u8]) -> Option<LineEnds>
     }
     let d = hexlines::line_end(text, c + 1);
     Some(LineEnds {
-        font: a,
-        name: b,
-        keep: c,
-        flag: d,
+        font_end: a,
+        name_end: b,
+        keep_end: c,
+        flag_end: d,
     })
 }
 
@@ -173,21 +178,21 @@ fn are_kept(kept: &[u8], flag: &[u8], rows: &[u8]) -> bool
 
 // Whether the lines of a text, the first four of which end here, are those of a sheet.
 fn is_sheet(text: &[u8], ends: LineEnds) -> bool
-    requires { FourLines text.now ends.font ends.name ends.keep ends.flag }
-    ensures { result ≡ is_sheet_at text.now ends.font ends.name ends.keep ends.flag }
+    requires { FourLines text.now ends.font_end ends.name_end ends.keep_end ends.flag_end }
+    ensures { result ≡ is_sheet_at text.now ends.font_end ends.name_end ends.keep_end ends.flag_end }
 {
     let LineEnds {
-        font,
-        name,
-        keep,
-        flag,
+        font_end,
+        name_end,
+        keep_end,
+        flag_end,
     } = ends;
-    if hex_up_to(&text[0..font], 16384) {
-        if hex_up_to(&text[font + 1..name], 256) {
+    if hex_up_to(&text[0..font_end], 16384) {
+        if hex_up_to(&text[font_end + 1..name_end], 256) {
             return are_kept(
-                &text[name + 1..keep],
-                &text[keep + 1..flag],
-                rest(text, flag),
+                &text[name_end + 1..keep_end],
+                &text[keep_end + 1..flag_end],
+                rest(text, flag_end),
             );
         }
         return false;
@@ -228,16 +233,16 @@ fn put_kept(line: &[u8], keep: &mut [u16]) -> usize
 
 // Writes the parts of a sheet, the first four lines of which end here, to the start of the buffers.
 fn put_parts(text: &[u8], ends: LineEnds, to: &mut Buffers<'_>) -> Parts
-    requires { (FourLines text.now ends.font ends.name ends.keep ends.flag)
-        × (is_sheet_at text.now ends.font ends.name ends.keep ends.flag ≡ true) }
-    ensures { (Stands (sheet_at text.now ends.font ends.name ends.keep ends.flag) to.new.font.now to.new.name.now to.new.keep.now to.new.rec.now (Some result))
+    requires { (FourLines text.now ends.font_end ends.name_end ends.keep_end ends.flag_end)
+        × (is_sheet_at text.now ends.font_end ends.name_end ends.keep_end ends.flag_end ≡ true) }
+    ensures { (Stands (sheet_at text.now ends.font_end ends.name_end ends.keep_end ends.flag_end) to.new.font.now to.new.name.now to.new.keep.now to.new.rec.now (Some result))
         × (Stay to.old to.new) }
 {
-    let m = hexlines::put_spelt(&mut *to.font, &text[0..ends.font]);
-    let n = hexlines::put_spelt(&mut *to.name, &text[ends.font + 1..ends.name]);
-    let k = put_kept(&text[ends.name + 1..ends.keep], &mut *to.keep);
-    let flag = flag_of(&text[ends.keep + 1..ends.flag]);
-    let l = put_rows(rest(text, ends.flag), &mut *to.rec);
+    let m = hexlines::put_spelt(&mut *to.font, &text[0..ends.font_end]);
+    let n = hexlines::put_spelt(&mut *to.name, &text[ends.font_end + 1..ends.name_end]);
+    let k = put_kept(&text[ends.name_end + 1..ends.keep_end], &mut *to.keep);
+    let flag = flag_of(&text[ends.keep_end + 1..ends.flag_end]);
+    let l = put_rows(rest(text, ends.flag_end), &mut *to.rec);
     Parts {
         font: m,
         name: n,
@@ -262,7 +267,7 @@ pub fn read_sheet(text: &[u8], to: &mut Buffers<'_>) -> Option<Parts>
     }
 }
 
-// Reads the sheet of a text that was taken: len bytes in the buffer, or too many.
+// Reads the sheet of a text that was taken: len bytes in the buffer, or too many. A slice of those bytes could not say that there were more, as len does.
 pub fn read_taken(buffer: &[u8], len: usize, to: &mut Buffers<'_>) -> Option<Parts>
     requires { 48134 ≤ length buffer.now }
     ensures { ((text : List ℕ) (mode : ℕ) → Took text len mode buffer.now → ReadsIn (sheet_of text) to.new result) × (Stay to.old to.new) }

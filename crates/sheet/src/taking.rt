@@ -3,7 +3,7 @@ ghost use Rattle.std.specs.Prelude.{◌≡◌, List, ◌++◌, ℕ, ◌≤◌, l
 ghost use Rattle.sheet.specs.Taking.{next_mode, ends_empty, kept_of, Held};
 
 // A text that is being taken into lent memory: how many bytes are in it, 48,135 for too many, and where the next one stands. Both are 0 at the start.
-// The mode is a number, for it counts the lines of the head.
+// The mode is a number: up to 3 it counts the lines of the head, 4 is the start of a row and 5 is within one.
 #[derive(Drop)]
 pub struct Taking<'a> {
     pub buffer: &'a mut [u8],
@@ -57,7 +57,7 @@ fn ends_empty(mode: usize, b: u8) -> bool
     false
 }
 
-// Keeps a byte; returns how many bytes are in the buffer.
+// Keeps a byte; returns how many bytes are in the buffer. It takes the whole buffer: the byte goes behind them.
 fn keep_byte(buffer: &mut [u8], len: usize, mode: usize, b: u8) -> usize
     requires { 48134 ≤ length buffer.old }
     ensures { (kept : List ℕ) → Held kept len buffer.old → Held (kept ++ kept_of mode b) result buffer.new }

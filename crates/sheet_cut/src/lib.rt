@@ -83,6 +83,7 @@ fn cut_parts(
 }
 
 // Cuts the sheet of a text that was taken, len bytes in the buffer or too many, and writes what is printed to the start of page; returns its length.
+// A slice of those bytes could not say that there were more, as len does.
 pub fn cut_taken(buffer: &[u8], len: usize, page: &mut [u8]) -> usize
     requires { (48134 ≤ length buffer.now) × (Given len buffer.now) × (98316 ≤ length page.old) }
     ensures { (text : List ℕ) (mode : ℕ) → Took text len mode buffer.now

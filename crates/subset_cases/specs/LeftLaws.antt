@@ -1,7 +1,7 @@
 -- Laws of what a call leaves: by the turns of the tests, by the code's ways out, and that a call which keeps its contract is judged by its outcome.
-use Rattle.std.specs.Prelude.{ℕ, zero, suc, ◌+◌, ◌≤◌, ◌<◌, ◌≡◌, refl, Bool, true, false, List, [], ◌∷◌, ◌++◌, ltb, length, take, drop, get_or, replicate, None, Some, Result, Ok, Err}
+use Rattle.std.specs.Prelude.{ℕ, zero, suc, ◌+◌, ◌≤◌, ◌<◌, ◌≡◌, refl, Bool, true, false, List, [], ◌∷◌, ◌++◌, ◌&&◌, ltb, eqb, length, take, drop, get_or, replicate, None, Some, Result, Ok, Err}
 use Rattle.std.proofs.Math.Path.{sym, ap}
-use Rattle.std.proofs.Common.{◌∙◌, not-suc-le-zero, le_of_suc-le-suc, arith, length-append, drop_of_length-le, eq-eqb, ne_eqb, lt-ltb, le-ltb}
+use Rattle.std.proofs.Common.{◌∙◌, not-suc-le-zero, le_of_suc-le-suc, arith, length-append, drop_of_length-le, lt-ltb, le-ltb}
 use Rattle.std.proofs.lemmas.List.{length-replicate}
 use Rattle.std.proofs.Math.Seq.{take-append_seam, drop-append_seam}
 use Rattle.octets.specs.Pick.{pick}
@@ -22,39 +22,18 @@ use Rattle.subset.specs.Way.{way_number}
 
 -- ---- the tests, turn by turn
 
+pub both : (t a b : Bool) → a ≡ b → (t && a) ≡ pick t b false
+both true a b e = e
+both false a b e = refl
+
 module _ (k : ℕ) (work : List ℕ) (i : ℕ) where
   pub words_end : length work ≤ i → words_left_lem i k (drop i work) ≡ true
   unfolding words_left_lem
   words_end h = ap (words_left_lem i k) (drop_of_length-le work h)
 
-  module _ (h : i < length work) (x : ℕ) (e : x ≡ pick (ltb i k) 0 lent_word) where
-    pub words_other : (get_or work i 0 ≡ x → ⊥) → words_left_lem i k (drop i work) ≡ false
-    unfolding words_left_lem
-    words_other d =
-        ap (words_left_lem i k) (ahead work i h)
-        ∙ ap (λ (b : Bool). pick b (words_left_lem (i + 1) k (drop (i + 1) work)) false) (ne_eqb (get_or work i 0) (pick (ltb i k) 0 lent_word) (λ q. d (q ∙ sym e)))
-
-    pub words-next : get_or work i 0 ≡ x → words_left_lem i k (drop i work) ≡ words_left_lem (i + 1) k (drop (i + 1) work)
-    unfolding words_left_lem
-    words-next d =
-        ap (words_left_lem i k) (ahead work i h)
-        ∙ ap (λ (b : Bool). pick b (words_left_lem (i + 1) k (drop (i + 1) work)) false) (eq-eqb (get_or work i 0) (pick (ltb i k) 0 lent_word) (d ∙ e))
-
-module _ (found : List ℕ) (i : ℕ) where
-  pub bytes_end : length found ≤ i → bytes_left_lem (drop i found) ≡ true
-  unfolding bytes_left_lem
-  bytes_end h = ap bytes_left_lem (drop_of_length-le found h)
-
-  module _ (h : i < length found) where
-    pub bytes_other : (get_or found i 0 ≡ lent_byte → ⊥) → bytes_left_lem (drop i found) ≡ false
-    unfolding bytes_left_lem
-    bytes_other d =
-        ap bytes_left_lem (ahead found i h) ∙ ap (λ (b : Bool). pick b (bytes_left_lem (drop (i + 1) found)) false) (ne_eqb (get_or found i 0) lent_byte d)
-
-    pub bytes_next : get_or found i 0 ≡ lent_byte → bytes_left_lem (drop i found) ≡ bytes_left_lem (drop (i + 1) found)
-    unfolding bytes_left_lem
-    bytes_next d =
-        ap bytes_left_lem (ahead found i h) ∙ ap (λ (b : Bool). pick b (bytes_left_lem (drop (i + 1) found)) false) (eq-eqb (get_or found i 0) lent_byte d)
+  pub words_at : i < length work → words_left_lem i k (drop i work) ≡ pick (eqb (get_or work i 0) (pick (ltb i k) 0 lent_word)) (words_left_lem (i + 1) k (drop (i + 1) work)) false
+  unfolding words_left_lem
+  words_at h = ap (words_left_lem i k) (ahead work i h)
 
 -- ---- the code's ways out
 

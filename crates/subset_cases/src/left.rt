@@ -1,6 +1,6 @@
 // What a call of subsetting answered, and what it left in the work words and in the output, as the answer of a stored case: only where all
 // that document 01 says of both holds.
-ghost use Rattle.std.specs.Prelude.{◌≤◌, ◌≡◌, ltb, length, drop};
+ghost use Rattle.std.specs.Prelude.{◌≤◌, ◌≡◌, ltb, length};
 ghost use Rattle.octets.specs.Pick.{pick};
 ghost use Rattle.subset_cases.specs.Left.{lent_word, zeroed, words_left_lem, bytes_left_lem, refused_bytes, subset_bytes, answer_bytes, judged};
 
@@ -22,25 +22,14 @@ fn word_at(i: usize, k: usize) -> u32
 fn words_left(work: &[u32], k: usize) -> bool
     ensures { result ≡ words_left_lem 0 k work.now }
 {
-    for (i, word) in work.iter().enumerate() {
-        if *word != word_at(i, k) {
-            return false;
-        }
-    }
-    true
+    (0..work.len()).all(|i| work[i] == word_at(i, k))
 }
 
-// Whether the bytes from a place on are as they were lent.
-fn bytes_left(found: &[u8], at: usize) -> bool
-    requires { at ≤ length found.now }
-    ensures { result ≡ bytes_left_lem (drop at found.now) }
+// Whether all bytes are as they were lent.
+fn bytes_left(bytes: &[u8]) -> bool
+    ensures { result ≡ bytes_left_lem bytes.now }
 {
-    for b in &found[at..] {
-        if *b != 165 {
-            return false;
-        }
-    }
-    true
+    bytes.iter().all(|b| *b == 165)
 }
 
 // How many work words should be zeros after an answer: w from refusal 9 passed on (14 and 15 are tested before).
@@ -66,13 +55,13 @@ fn zeroed(r: Result<Subsetted, Refusal>, w: usize) -> usize
 fn of_refused(n: u8, found: &[u8]) -> Option<Answer>
     ensures { result ≡ refused_bytes n found.now }
 {
-    if bytes_left(found, 0) {
+    if bytes_left(found) {
         return Some(Answer::one(n));
     }
     None
 }
 
-// A subset: the output behind it is as it was lent.
+// A subset, the first len bytes of the output: what stands behind it there is as it was lent.
 fn of_subset(way: u8, len: usize, found: &[u8]) -> Option<Answer>
     requires { length found.now ≤ 4094 }
     ensures { result ≡ subset_bytes way len found.now }
@@ -80,7 +69,7 @@ fn of_subset(way: u8, len: usize, found: &[u8]) -> Option<Answer>
     if found.len() < len {
         return None;
     }
-    if bytes_left(found, len) {
+    if bytes_left(&found[len..]) {
         let mut answer = Answer::one(0);
         answer.byte(way);
         answer.copy(&found[..len]);

@@ -6,6 +6,7 @@ ghost use Rattle.cff.specs.Loaded.{program};
 ghost use Rattle.outcome.specs.Call.{is_cid, asks};
 ghost use Rattle.outcome.specs.Entry.{size_of, cut_behind, CutsWith, Cut, Passed};
 
+use asked::Asked;
 use cff::opened::Opened;
 use faithful::read::Held;
 use outcome::Subsetted;
@@ -24,15 +25,17 @@ fn cut_glyphs(
     ensures { Cut (cut_behind (asks keying) (program font.now.loaded) ask.now.name.now ask.now.keep.now ask.now.rows.now ask.now.traced (length out.old))
         out.old out.new result }
 {
-    let name = ask.name;
     let keep = ask.keep;
-    let rows = ask.rows;
-    let traced = ask.traced == 1;
+    let asked = Asked {
+        name: ask.name,
+        rows: ask.rows,
+        traced: ask.traced == 1,
+    };
     match keying {
         Keying::Name { encoding } => {
-            by_name::cut_named(font, encoding, name, keep, rows, traced, words, out)
+            by_name::cut_named(font, encoding, keep, &asked, words, out)
         }
-        Keying::Cid => by_cid::cut_cid(font, name, keep, rows, traced, words, out),
+        Keying::Cid => by_cid::cut_cid(font, keep, &asked, words, out),
     }
 }
 

@@ -6,7 +6,8 @@ use Rattle.cff.specs.declared.loaded.Loaded.{Loaded}
 use Rattle.small.specs.Small.{small_size}
 use Rattle.small.specs.Theorem.{small-less}
 use Rattle.failing.specs.Failing.{Recorded, Only}
-use Rattle.blocking.specs.CutLaws.{traced_handed, handed_recorded, each_may}
+use Rattle.failing.specs.FailingLaws.{each_may}
+use Rattle.blocking.specs.CutLaws.{traced_handed, handed_recorded}
 use Rattle.blocking.proofs.candidate.Goals as goal
 
 pub slice_bounds-only_culprit-end : goal.slice_bounds-only_culprit-end

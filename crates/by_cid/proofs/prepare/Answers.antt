@@ -1,30 +1,38 @@
--- `by_cid::prepare` meets its contract: strings, the numbers of the FDs and the bodies, one after the other.
-use Rattle.std.proofs.Common.{refl, rules, sym, subst, ◌≡◌, List, ℕ}
-use Rattle.order_window.specs.Window.{Gathered}
+-- `by_cid::prepare` meets its contract: the kept glyphs are gathered and planned, and what their subset has is a cut of theirs.
+use Rattle.std.proofs.Common.{refl, subst}
 use Rattle.subset.specs.Flag.{flag_of}
-use Rattle.cid_parts.specs.CidPlacesLaws.{table-room}
-use Rattle.by_cid.specs.CidKeptLaws.{plan_asked}
-use Rattle.outcome.specs.Walked.{gathered-stays}
-use Rattle.by_cid.specs.Prepares.{all_prepared}
+use Rattle.subset.specs.Cut.{Outcome}
+use Rattle.cid_parts.specs.Cid.{sized}
+use Rattle.cid_parts.specs.Subset.{made-subset}
+use Rattle.outcome.specs.BothLaws.{gather_asked}
+use Rattle.outcome.specs.Entry.{Cut}
+use Rattle.by_cid.specs.CidKeptLaws.{gathered-asked, gathered-cut}
 use Rattle.by_cid.proofs.prepare.Goals as goal
 
-pub plan_all-plan-requires : goal.plan_all-plan-requires
-plan_all-plan-requires c =
+pub gather-o-requires : goal.gather-o-requires
+gather-o-requires c =
     let a = c.args in
-    let h = c.requires.0 in
-    let k = c.rank_fds-count.ensures in
-    let s = k.2.same in
-    let w : c.window-1.given.0 ≡ c.rank_fds-count.new.kept.window.now = search (rules, s) in
-    let g = subst (λ (l : List ℕ). Gathered a.font.now a.words.now l c.rank_fds-count.new.kept.o) (sym w) (gathered-stays _ _ k.2) in (
-      plan_asked a.font.now a.o h.read a.words.now _ _ (table-room _ refl) k.0 c.rank_fds-count.new.kept.o k.2.f _ g h.room,
-      search rules,
-      search rules,
+    let p = c.requires.0 in
+    gather_asked a.font.now.loaded.bytes.now a.font.now.loaded.f a.font.now.held a.keep.now a.words.now a.window.now p.below p.found p.room c.requires.1
+
+pub plan_cut-cut-requires : goal.plan_cut-cut-requires
+plan_cut-cut-requires c =
+    let a = c.args in (
+      gathered-asked a.font.now.loaded.bytes.now a.asked.now.rows.now a.asked.now.name.now (flag_of a.asked.now.traced) a.font.now.loaded.f a.font.now.held c.requires.0.keying _ c.gather-o.ensures.1 a.words.now _ _
+          c.requires.0.room c.gather-o.auto.words c.gather-o.ensures.0,
+      c.requires.2,
     )
+
+pub new-requires : goal.new-requires
+new-requires c =
+    let p = c.plan_cut-cut.ensures in
+    (p.gathered, record { cid = p.cid; summed = p.summed; strings = p.strings; short = c.requires.0.named; counted = p.counted; walked = record { f = refl; count = refl } })
 
 pub returns : goal.returns
 returns c =
     let a = c.args in
-    let k = c.rank_fds-count.ensures in
-    let p = c.plan_all-plan.ensures in
-    all_prepared a.font.now a.rows.now (flag_of a.traced) a.o a.words.now _ c.requires.0 _ _ c.prepare_cid-own.ensures.0 c.prepare_cid-own.ensures.1 _ (table-room _ refl) _ k.0 _ k.1
-    c.rank_fds-count.new.kept.o k.2.f k.2.count _ _ p.3 p.4 p.5 _ p.0 p.1 p.2 p.6
+    let g = c.gather-o.ensures in
+    λ room out out' r x.
+    subst (λ (z : Outcome). Cut z out out' r)
+    (gathered-cut a.font.now.loaded.bytes.now a.asked.now.rows.now a.asked.now.name.now (flag_of a.asked.now.traced) a.font.now.loaded.f a.keep.now c.gather-o.result _ g.1 g.2 room)
+    (c.plan_cut-cut.ensures.cuts a.asked.now.name.now out out' room r (made-subset c.new.result _ _ _ c.new.ensures (λ p l. Cut (sized p.cut.plan.how.way l room) out out' r) x))

@@ -1,25 +1,27 @@
--- `by_name::cut_named` meets its contract: the glyphs that are gathered are the kept ones, and their cut is the cut.
+-- `by_name::cut_named` meets its contract: what is prepared is cut, or the cut is refused.
+use Rattle.std.proofs.Common.{arith, length, refl, subst, Result, ◌<◌}
+use Rattle.cff.specs.Loaded.{program}
 use Rattle.subset.specs.Flag.{flag_of}
-use Rattle.std.proofs.Common.{arith, replicate, ◌<◌}
-use Rattle.outcome.specs.BothLaws.{gather_asked}
-use Rattle.by_name.specs.NamedKeptLaws.{gathered-asked, gathered-cut}
+use Rattle.outcome.specs.Entry.{cut_behind, Cut}
+use Rattle.outcome.specs.declared.Subsetted.{Subsetted}
+use Rattle.refusal.specs.HandedOn.{handed_on}
+use Rattle.refusal.specs.declared.Refusal.{Refusal}
+use Rattle.by_name.specs.Prepares.{CutsAs}
 use Rattle.by_name.proofs.cut_named.Goals as goal
 
-pub gather-o-requires : goal.gather-o-requires
-gather-o-requires c =
+pub prepare-requires : goal.prepare-requires
+prepare-requires c =
     let h : 0 < 4096 = omega arith in
-    gather_asked _ _ c.args.font.now.held c.args.keep.now c.args.words.now (replicate 4096 0) c.requires.below c.requires.found c.requires.room h
+    (c.requires, h, refl)
 
-pub cut_ordered-requires : goal.cut_ordered-requires
-cut_ordered-requires c =
-    let g = c.gather-o.ensures in (
-      gathered-asked c.args.ask _ c.args.rows.now c.args.name.now (flag_of c.args.traced) _ c.args.font.now.held c.args.keep.now c.args.words.now c.requires c.gather-o.result _ _ g.0 g.1 g.2
-          c.gather-o.auto.words,
-      c.requires.named,
-    )
+pub returns-in_err-c : goal.returns-in_err-c
+returns-in_err-c c =
+    let a = c.args in
+    let o = cut_behind a.ask (program a.font.now.loaded) a.asked.now.name.now a.keep.now a.asked.now.rows.now (flag_of a.asked.now.traced) in
+    handed_on _ _ (λ (r : Result Subsetted Refusal). Cut (o (length a.out.now)) a.out.now a.out.now r) c.from_residual.ensures.1 (subst (CutsAs o) c.in_err-c.was c.prepare.ensures a.out.now)
 
 pub returns : goal.returns
 returns c =
-    let g = c.gather-o.ensures in
-    gathered-cut c.args.ask _ c.args.rows.now c.args.name.now (flag_of c.args.traced) _ c.args.font.now.held c.args.keep.now c.args.words.now c.requires c.gather-o.result _ _ g.0 g.1 g.2
-    c.args.out.now _ _ c.cut_ordered.ensures
+    let a = c.args in
+    let o = cut_behind a.ask (program a.font.now.loaded) a.asked.now.name.now a.keep.now a.asked.now.rows.now (flag_of a.asked.now.traced) in
+    subst (CutsAs o) c.in_ok-c.was c.prepare.ensures _ _ _ c.cut_planned.ensures

@@ -1,50 +1,49 @@
--- `by_name::prepare` meets its contract: the strings are prepared, then the encoding, and where names and pairs are few the bodies are planned.
-use Rattle.std.proofs.Common.{arith, rules, sym, subst, ◌∙◌, ◌≡◌, List, ℕ}
+-- `by_name::prepare` meets its contract: the kept glyphs are gathered and planned, and what their subset has is a cut of theirs, or the cut is refused.
+use Rattle.std.proofs.Common.{refl, subst, length}
 use Rattle.subset.specs.Flag.{flag_of}
-use Rattle.named_parts.specs.Named.{first_fd}
-use Rattle.order_window.specs.Stays.{stays-then}
-use Rattle.order_window.specs.Window.{Gathered}
-use Rattle.by_name.specs.NamedKeptLaws.{named_refused, names-rename, pairs_refused}
-use Rattle.by_name.specs.NamedPlanLaws.{first-only}
-use Rattle.outcome.specs.Walked.{gathered-stays}
-use Rattle.by_name.specs.PrepareLaws.{rename-stays, codes-stay, plan-asked, all_prepared}
+use Rattle.subset.specs.Cut.{Outcome}
+use Rattle.outcome.specs.BothLaws.{gather_asked}
+use Rattle.outcome.specs.Entry.{cut_behind, Cut}
+use Rattle.cff.specs.Loaded.{program}
+use Rattle.refusal.specs.HandedOn.{handed_on}
+use Rattle.named_parts.specs.Subset.{made-outcome}
+use Rattle.by_name.specs.NamedKeptLaws.{gathered-asked, gathered-cut}
+use Rattle.by_name.specs.PrepareLaws.{prepared_ok, prepared-err}
+use Rattle.by_name.specs.Prepares.{CutsAs}
 use Rattle.by_name.proofs.prepare.Goals as goal
 
-pub returns-then-own-gt64609 : goal.returns-then-own-gt64609
-returns-then-own-gt64609 c =
-    let e = c.prepare_named-own.ensures in
-    named_refused c.args.ask _ c.args.rows.now (flag_of c.args.traced) _ _ _ c.requires.0 _ _ e.0 e.1 c.if-own-gt64609.true
+pub gather-o-requires : goal.gather-o-requires
+gather-o-requires c =
+    let p = c.requires.0 in
+    gather_asked _ _ c.args.font.now.held c.args.keep.now c.args.words.now c.args.window.now p.below p.found p.room c.requires.1
 
-pub encode_behind-encoding-requires : goal.encode_behind-encoding-requires
-encode_behind-encoding-requires c =
-    let e = c.prepare_named-own.ensures in (
-      rename-stays _ _ e.2 _ (names-rename c.args.ask _ c.args.rows.now (flag_of c.args.traced) _ _ _ c.requires.0 _ _ e.0 e.1),
-      omega (arith, c.prepare_named-own.auto.slots, c.requires.1),
+pub plan_cut-requires : goal.plan_cut-requires
+plan_cut-requires c =
+    let a = c.args in
+    let g = c.gather-o.ensures in (
+      gathered-asked a.ask _ a.asked.now.rows.now a.asked.now.name.now (flag_of a.asked.now.traced) _ a.font.now.held a.keep.now a.words.now c.requires.0 c.gather-o.result _ _ g.0 g.1 g.2 c.gather-o.auto.words,
+      c.requires.2,
     )
 
-pub returns-then-pairs-gt255 : goal.returns-then-pairs-gt255
-returns-then-pairs-gt255 c =
-    let e = c.prepare_named-own.ensures in
-    pairs_refused c.args.ask _ c.args.rows.now (flag_of c.args.traced) _ _ _ c.requires.0 _ _ e.0 e.1 c.if-own-gt64609.false _ _
-    (codes-stay _ _ e.2 c.args.ask _ _ _ c.encode_behind-encoding.ensures.0) (c.prepare_named-own.auto.slots ∙ c.requires.1) (omega (arith, c.pairs.ensures, c.if-pairs-gt255.true))
+pub returns-in_err-coded : goal.returns-in_err-coded
+returns-in_err-coded c =
+    let a = c.args in
+    let g = c.gather-o.ensures in
+    handed_on _ _ (CutsAs (cut_behind a.ask (program a.font.now.loaded) a.asked.now.name.now a.keep.now a.asked.now.rows.now (flag_of a.asked.now.traced))) c.from_residual.ensures.1
+    (λ out. gathered-cut a.ask _ a.asked.now.rows.now a.asked.now.name.now (flag_of a.asked.now.traced) _ a.font.now.held a.keep.now a.words.now c.requires.0 c.gather-o.result _ _ g.0 g.1 g.2 out _ _
+    (prepared-err a.ask _ a.asked.now.rows.now (flag_of a.asked.now.traced) c.gather-o.result _ _ _ _ _ _ c.plan_cut.ensures _ c.in_err-coded.was a.asked.now.name.now out))
 
-pub plan_all-plan-requires : goal.plan_all-plan-requires
-plan_all-plan-requires c =
-    let s = stays-then _ _ _ c.prepare_named-own.ensures.2 c.encode_behind-encoding.ensures.1 in
-    let w : c.window-2-1.given.0 ≡ c.encode_behind-encoding.new.kept.window.now = search (rules, s.same) in
-    let g = subst (λ (l : List ℕ). Gathered c.args.font.now c.args.words.now l c.encode_behind-encoding.new.kept.o) (sym w) (gathered-stays _ _ s) in (
-      plan-asked c.args.ask _ c.args.rows.now (flag_of c.args.traced) _ _ _ c.requires.0 _ _ s.f g first_fd first-only (omega arith),
-      search rules,
-      search rules,
-    )
+pub new-requires : goal.new-requires
+new-requires c =
+    let a = c.args in
+    let p = prepared_ok a.ask _ a.asked.now.rows.now (flag_of a.asked.now.traced) c.gather-o.result _ _ _ _ _ _ c.plan_cut.ensures _ c.in_ok-coded.was in
+    (p.gathered, record { plan = p.plan; strings = p.strings _ c.requires.0.named; codes = p.codes; walked = record { f = refl; count = refl } })
 
 pub returns : goal.returns
 returns c =
-    let e = c.prepare_named-own.ensures in
-    let s = stays-then _ _ _ e.2 c.encode_behind-encoding.ensures.1 in
-    let w : c.window-2-1.given.0 ≡ c.encode_behind-encoding.new.kept.window.now = search (rules, s.same) in
-    let g = subst (λ (l : List ℕ). Gathered c.args.font.now c.args.words.now l c.encode_behind-encoding.new.kept.o) (sym w) (gathered-stays _ _ s) in
-    let p = c.plan_all-plan.ensures in
-    all_prepared c.args.ask _ c.args.rows.now (flag_of c.args.traced) _ _ _ c.requires.0 _ _ s.f g _ _ e.0 e.1 c.if-own-gt64609.false _ _
-    (codes-stay _ _ e.2 c.args.ask _ _ _ c.encode_behind-encoding.ensures.0) (c.prepare_named-own.auto.slots ∙ c.requires.1) (omega (arith, c.pairs.ensures, c.if-pairs-gt255.false)) _
-    first-only _ _ p.3 p.4 p.5 _ p.0 p.1 p.2 p.6
+    let a = c.args in
+    let g = c.gather-o.ensures in
+    let p = prepared_ok a.ask _ a.asked.now.rows.now (flag_of a.asked.now.traced) c.gather-o.result _ _ _ _ _ _ c.plan_cut.ensures _ c.in_ok-coded.was in
+    λ out out' r x.
+    gathered-cut a.ask _ a.asked.now.rows.now a.asked.now.name.now (flag_of a.asked.now.traced) _ a.font.now.held a.keep.now a.words.now c.requires.0 c.gather-o.result _ _ g.0 g.1 g.2 out _ _
+    (p.cuts a.asked.now.name.now out _ _ (subst (λ (z : Outcome). Cut z out out' r) (made-outcome c.new.result _ _ _ _ c.new.ensures (length out)) x))

@@ -1,8 +1,8 @@
 -- `failing::is_made` meets its contract: the bits by which its calls are renumbered are those of the rows.
-use Rattle.std.proofs.Common.{subst, sym}
+use Rattle.std.proofs.Common.{subst, sym, ◌∙◌}
 use Rattle.octets.specs.Octets.{Octets}
 use Rattle.record.specs.Record.{rows_of}
-use Rattle.failing.specs.FailingLaws.{glyph_asks, glyph_made, glyph_fails}
+use Rattle.failing.specs.FailingLaws.{glyph_asks, glyph_holds}
 use Rattle.failing.proofs.is_made.Goals as goal
 
 pub invariant_of-body : goal.invariant_of-body
@@ -13,12 +13,7 @@ invariant_of-body c =
       inputs = glyph_asks by.list.font.loaded.bytes.now by.list.font.loaded.f (rows_of by.rows.now) by.used.now by.words.now by.globals by.table.now by.rising by.asks c.args.g c.requires.0 c.requires.1 _ c.fd_of-fd.ensures _ c.ranks_in-locals.ensures _ c.item.ensures.0;
     }
 
-pub returns-in-Some : goal.returns-in-Some
-returns-in-Some c =
+pub returns : goal.returns
+returns c =
     let by = c.args.by.now in
-    glyph_made by.list.font.loaded.bytes.now by.list.font.loaded.f (rows_of by.rows.now) by.used.now by.words.now by.globals by.table.now by.rising by.asks c.args.g c.requires.0 c.requires.1 _ c.fd_of-fd.ensures _ c.ranks_in-locals.ensures _ c.item.ensures.0 _ c.renumbered_len.ensures _ c.in-Some.is
-
-pub returns-in-None : goal.returns-in-None
-returns-in-None c =
-    let by = c.args.by.now in
-    glyph_fails by.list.font.loaded.bytes.now by.list.font.loaded.f (rows_of by.rows.now) by.used.now by.words.now by.globals by.table.now by.rising by.asks c.args.g c.requires.0 c.requires.1 _ c.fd_of-fd.ensures _ c.ranks_in-locals.ensures _ c.item.ensures.0 _ c.renumbered_len.ensures c.in-None.is
+    c.is_some.ensures ∙ glyph_holds by.list.font.loaded.bytes.now by.list.font.loaded.f (rows_of by.rows.now) by.used.now by.words.now by.globals by.table.now by.rising by.asks c.args.g c.requires.0 c.requires.1 _ c.fd_of-fd.ensures _ c.ranks_in-locals.ensures _ c.item.ensures.0 _ c.renumbered_len.ensures

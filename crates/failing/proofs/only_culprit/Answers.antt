@@ -2,7 +2,8 @@
 -- glyph it is.
 use Rattle.std.proofs.Common.{arith, length, ℕ}
 use lib.ListN.{length-replicate}
-use Rattle.failing.specs.FailingLaws.{bits_room, asks_made, only-found, only_none}
+use Rattle.cff.specs.Loaded.{program}
+use Rattle.failing.specs.FailingLaws.{bits_room, asks_made, only-found, each_may}
 use Rattle.failing.proofs.only_culprit.Goals as goal
 
 pub invariant_of-fds : goal.invariant_of-fds
@@ -30,4 +31,4 @@ returns-then-ranked c =
 pub returns : goal.returns
 returns c =
     let list = c.args.list.now in
-    only_none list.font.loaded.bytes.now list.font.loaded.f list.font.held list.keep.now c.args.rows.now list.below c.requires.1 65536 (omega arith)
+    each_may (program list.font.loaded) list.keep.now

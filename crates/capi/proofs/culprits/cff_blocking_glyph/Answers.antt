@@ -1,5 +1,5 @@
 -- `capi::culprits::cff_blocking_glyph` meets its contract: what was answered is written.
-use Rattle.std.proofs.Common.{ap, sym}
+use Rattle.std.proofs.Common.{ap, rules, sym}
 use Rattle.capi.specs.Blocking.{culprit_answer}
 use Rattle.capi.specs.CapiLaws.{answers_as}
 use Rattle.capi.proofs.culprits.cff_blocking_glyph.Goals as goal
@@ -7,7 +7,7 @@ use Rattle.capi.proofs.culprits.cff_blocking_glyph.Goals as goal
 pub returns : goal.returns
 returns c =
     record {
-      answers = answers_as c.put_culprit.ensures (ap culprit_answer (sym c.blocking_glyph-c.ensures.answers));
+      answers = answers_as (search rules) (ap culprit_answer (sym c.blocking_glyph-c.ensures.answers));
       words = c.blocking_glyph-c.ensures.words;
       bytes = c.blocking_glyph-c.ensures.bytes;
     }

@@ -1,5 +1,5 @@
 -- `capi::cut::answer_cut` meets its contract: the subset is cut in the room that the answer's words leave, and its two words are written.
-use Rattle.std.proofs.Common.{length}
+use Rattle.std.proofs.Common.{length, rules}
 use Rattle.outcome.specs.Entry.{size_of}
 use Rattle.outcome.specs.Call.{is_cid, asks}
 use Rattle.capi.specs.SubsetLaws.{room_there, room-taken, cut_answers}
@@ -15,4 +15,4 @@ pub returns : goal.returns
 returns c =
     let a = c.args in
     let ask = a.ask.now in
-    cut_answers (size_of a.call.small) (is_cid a.call.keying) (asks a.call.keying) a.font.now ask.name.now ask.keep.now ask.rows.now ask.traced a.work.now a.out.now a.answer.now _ c.room_for-room.ensures _ _ _ _ _ c.cut-cut.ensures c.put_cut.ensures
+    cut_answers (size_of a.call.small) (is_cid a.call.keying) (asks a.call.keying) a.font.now ask.name.now ask.keep.now ask.rows.now ask.traced a.work.now a.out.now a.answer.now _ c.room_for-room.ensures _ _ _ _ _ c.cut-cut.ensures (search rules)

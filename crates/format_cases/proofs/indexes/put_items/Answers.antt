@@ -9,7 +9,7 @@ loop-k-preserved c =
     let l = c.loop-k in
     let a = c.args in
     let w = c.put_item.ensures in
-    (omega (arith, w.1, l.invariant.0), adding-turn l.invariant.1 _ _ (items-next a.font.now a.ix l.k a.ix.count (omega arith)) w.0)
+    (omega (arith, w.1, l.invariant.0), adding-turn l.invariant.1 _ _ (items-next a.items.now.bytes.now a.items.now.ix l.k a.items.now.ix.count (omega arith)) w.0)
 
 pub returns : goal.returns
-returns c = adding_end c.loop-k.invariant.1 (items-none c.args.font.now c.args.ix c.loop-k.k c.args.ix.count (omega arith))
+returns c = adding_end c.loop-k.invariant.1 (items-none c.args.items.now.bytes.now c.args.items.now.ix c.loop-k.k c.args.items.now.ix.count (omega arith))

@@ -1,26 +1,12 @@
--- `measure::cid_keyed::measure_cid` meets its contract: the kept glyphs are gathered, and the measure of these is the measure.
-use Rattle.subset.specs.Flag.{flag_of}
-use Rattle.std.proofs.Common.{refl, replicate}
-use Rattle.outcome.specs.BothLaws.{gather_asked}
-use Rattle.by_cid.specs.CidKeptLaws.{window-room, gathered-asked}
-use Rattle.measure.specs.MeasureLaws.{gathered-measured}
+-- `measure::cid_keyed::measure_cid` meets its contract: what is prepared is measured.
+use Rattle.std.proofs.Common.{[], arith, refl, ◌≤◌, ◌<◌}
 use Rattle.measure.proofs.cid_keyed.measure_cid.Goals as goal
 
-pub gather-o-requires : goal.gather-o-requires
-gather-o-requires c =
-    let a = c.args in
-    gather_asked a.font.now.loaded.bytes.now a.font.now.loaded.f a.font.now.held a.keep.now a.words.now (replicate 4096 0) c.requires.below c.requires.found c.requires.room (window-room (replicate 4096 0) refl)
-
-pub measure_ordered-requires : goal.measure_ordered-requires
-measure_ordered-requires c =
-    let a = c.args in (
-      gathered-asked a.font.now.loaded.bytes.now a.rows.now a.name.now (flag_of a.traced) a.font.now.loaded.f a.font.now.held c.requires.keying _ c.gather-o.ensures.1 a.words.now _ _ c.requires.room
-          c.gather-o.auto.words c.gather-o.ensures.0,
-      c.requires.named,
-    )
+pub prepare-c-requires : goal.prepare-c-requires
+prepare-c-requires c =
+    let window : 0 < 4096 = omega arith in
+    let slots : 16 ≤ 16 = omega arith in
+    (c.requires, window, slots)
 
 pub returns : goal.returns
-returns c =
-    let a = c.args in
-    gathered-measured a.font.now.loaded.bytes.now a.rows.now a.name.now (flag_of a.traced) a.font.now.loaded.f a.keep.now c.gather-o.result c.gather-o.ensures.0 c.gather-o.ensures.1 c.gather-o.ensures.2
-    c.measure_ordered.ensures
+returns c = (c.prepare-c.ensures 67108864 [] _ _ (record { answers = c.measure_planned.ensures; output = refl })).answers

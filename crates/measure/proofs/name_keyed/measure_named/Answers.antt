@@ -1,25 +1,29 @@
--- `measure::name_keyed::measure_named` meets its contract: the glyphs that are gathered are the kept ones, and their measure is the measure.
+-- `measure::name_keyed::measure_named` meets its contract: what is prepared is measured, or the cut is refused.
+use Rattle.std.proofs.Common.{arith, false, refl, subst, Result, ◌<◌, ◌≡◌}
+use Rattle.cff.specs.Loaded.{program}
 use Rattle.subset.specs.Flag.{flag_of}
-use Rattle.std.proofs.Common.{arith, false, replicate, ◌<◌}
-use Rattle.outcome.specs.BothLaws.{gather_asked}
-use Rattle.by_name.specs.NamedKeptLaws.{gathered-asked}
-use Rattle.measure.specs.MeasureLaws.{named-gathered}
+use Rattle.outcome.specs.Entry.{answer_of, cut_behind}
+use Rattle.outcome.specs.declared.Subsetted.{Subsetted}
+use Rattle.refusal.specs.HandedOn.{handed_on}
+use Rattle.refusal.specs.declared.Refusal.{Refusal}
+use Rattle.named_parts.specs.Subset.{outcome_in}
+use Rattle.by_name.specs.Prepares.{CutsAs}
+use Rattle.measure.specs.RoomLaws.{lent, as_measured, as_cut}
 use Rattle.measure.proofs.name_keyed.measure_named.Goals as goal
 
-pub gather-o-requires : goal.gather-o-requires
-gather-o-requires c =
+pub prepare-requires : goal.prepare-requires
+prepare-requires c =
     let h : 0 < 4096 = omega arith in
-    gather_asked _ _ c.args.font.now.held c.args.keep.now c.args.words.now (replicate 4096 0) c.requires.below c.requires.found c.requires.room h
+    (c.requires, h, refl)
 
-pub measure_ordered-requires : goal.measure_ordered-requires
-measure_ordered-requires c =
-    let g = c.gather-o.ensures in (
-      gathered-asked false _ c.args.rows.now c.args.name.now (flag_of c.args.traced) _ c.args.font.now.held c.args.keep.now c.args.words.now c.requires c.gather-o.result _ _ g.0 g.1 g.2
-          c.gather-o.auto.words,
-      c.requires.named,
-    )
+pub returns-in_err-c : goal.returns-in_err-c
+returns-in_err-c c =
+    let a = c.args in
+    let o = cut_behind false (program a.font.now.loaded) a.asked.now.name.now a.keep.now a.asked.now.rows.now (flag_of a.asked.now.traced) in
+    handed_on _ _ (λ (r : Result Subsetted Refusal). r ≡ answer_of (o 67108864)) c.from_residual.ensures.1 (as_measured o _ _ (subst (CutsAs o) c.in_err-c.was c.prepare.ensures lent))
 
 pub returns : goal.returns
 returns c =
-    let g = c.gather-o.ensures in
-    named-gathered _ c.args.rows.now c.args.name.now (flag_of c.args.traced) _ c.args.font.now.held c.args.keep.now c.args.words.now c.requires c.gather-o.result _ _ g.0 g.1 g.2 _ c.measure_ordered.ensures
+    let a = c.args in
+    let o = cut_behind false (program a.font.now.loaded) a.asked.now.name.now a.keep.now a.asked.now.rows.now (flag_of a.asked.now.traced) in
+    as_measured o _ _ (subst (CutsAs o) c.in_ok-c.was c.prepare.ensures lent _ _ (as_cut (outcome_in c.in_ok-c.c) _ c.measure_planned.ensures))

@@ -8,7 +8,7 @@ use Rattle.sheet.proofs.reading.put_parts.Goals as goal
 use Rattle.sheet.proofs.reading.put_parts.Goals.{Start}
 
 -- the lines are those of a sheet
-parts : (s : Start) → (let e = s.args.ends in Fine s.args.text.now e.font e.name e.keep e.flag)
+parts : (s : Start) → (let e = s.args.ends in Fine s.args.text.now e.font_end e.name_end e.keep_end e.flag_end)
 parts s = fine _ _ _ _ _ s.requires.1
 
 pub put_spelt-m-requires : goal.put_spelt-m-requires

@@ -1,18 +1,18 @@
 -- `left::bytes_left` meets its contract.
-use Rattle.std.proofs.Common.{ap, sym, ◌∙◌}
-use Rattle.std.proofs.lemmas.List.{take_rest}
-use Rattle.subset_cases.specs.Left.{bytes_left_lem}
-use Rattle.subset_cases.specs.LeftLaws.{bytes_end, bytes_other, bytes_next}
+use Rattle.std.proofs.Common.{List, [], ◌∷◌, ℕ, ◌∙◌, ◌≡◌, eqb, refl, rules, tests}
+use Rattle.std.proofs.lemmas.Iterator.{YieldsList-from_slice}
+use Rattle.std.proofs.lemmas.Iterator.Search.{all_from_yields_List}
+use Rattle.std.specs.List.{list_all}
+use Rattle.subset_cases.specs.Left.{lent_byte, bytes_left_lem}
+use Rattle.subset_cases.specs.LeftLaws.{both}
 use Rattle.subset_cases.proofs.left.bytes_left.Goals as goal
 
-pub loop-b-init : goal.loop-b-init
-loop-b-init c = ap bytes_left_lem (take_rest c.args.found.now c.args.at)
-
-pub returns-then-b : goal.returns-then-b
-returns-then-b c = sym (sym c.loop-b.invariant ∙ bytes_other _ c.loop-b.b-index c.loop-b-test.true c.if-b.true)
-
-pub loop-b-preserved : goal.loop-b-preserved
-loop-b-preserved c = sym (bytes_next _ c.loop-b.b-index c.loop-b-test.true c.if-b.false) ∙ c.loop-b.invariant
+all-left : (l : List ℕ) → list_all (λ x. eqb x lent_byte) l ≡ bytes_left_lem l
+unfolding bytes_left_lem
+all-left [] = refl
+all-left (x ∷ l) = both (eqb x lent_byte) _ _ (all-left l)
 
 pub returns : goal.returns
-returns c = sym (sym c.loop-b.invariant ∙ bytes_end _ c.loop-b.b-index c.loop-b-test.false)
+returns c =
+    all_from_yields_List (λ x. eqb x lent_byte) _ _ _ c.all.ensures.ran (YieldsList-from_slice c.args.bytes.now c.iter.ensures.rest) (λ x b q k. search (rules, tests))
+    ∙ all-left c.args.bytes.now
